@@ -1,0 +1,17 @@
+pub mod Outcome
+pub mod Owner
+pub mod Facts
+pub mod Content
+pub mod Order
+pub mod Tables
+pub mod WellFormed
+pub mod Candidates
+pub mod Selection
+pub mod Verdict
+pub mod Stands
+pub mod Walk
+pub mod Vertices
+pub mod Axioms
+pub mod Derivation
+pub mod Assignment
+pub mod Search

@@ -1,0 +1,34 @@
+-- The content that a choice of targets stands for: from the root, each enabled dependency leads where the choice says (Cargo book,
+-- "Dependency Resolution").
+use Rattle.std.specs.Prelude.{◌≡◌, ◌↔◌, ℕ, true, false, Some, None, if◌then◌else◌, slice_get, Contains, option_map}
+use Rattle.model.specs.Owner.{Dependency}
+use Rattle.model.specs.Facts.{Fact, Holds, here, enabled, Brings}
+use Rattle.model.specs.Content.{Package, Content, Problem, candidates_of, candidate_at, is_root}
+use Rattle.model.specs.WellFormed.{IsContent}
+use Rattle.model.specs.Vertices.{OwnerName, the_root, version_of, owner_brings}
+
+-- the owner that a package is
+abbrev pub name_of : Problem → Package → OwnerName
+name_of q p = if is_root q p then the_root else version_of p.name p.version
+
+module _ (q : Problem) (LeadsTo : OwnerName → ℕ → Dependency → OwnerName → Type 0) where
+  -- the facts that finite chains of reasons give from the root
+  abbrev pub IsReachedFact : Fact OwnerName → Type 0
+  IsReachedFact = Holds (owner_brings q) (λ n. n ≡ the_root) (λ n. n ≡ the_root) q.root_asks LeadsTo
+
+  -- dependency number i of this package is enabled and leads to that package
+  pub record IsLink (p r : Package) (i : ℕ) (d : Dependency) : Type 0 where
+    pub brings : Brings (owner_brings q) (name_of q p) i d
+    pub is_enabled : IsReachedFact (enabled (name_of q p) i)
+    pub leads : LeadsTo (name_of q p) i d (name_of q r)
+
+  -- the content has a package for each owner that is reached, and in each list the targets
+  pub record StandsFor (content : Content) : Type 0 where
+    pub is_content : IsContent content
+    pub packages : (t : OwnerName) → IsReachedFact (here t) ↔ ((n : ℕ) × (p : Package) × (slice_get content n ≡ Some p) × (name_of q p ≡ t))
+    pub root_checksum : (n : ℕ) (p : Package) → slice_get content n ≡ Some p → is_root q p ≡ true → p.checksum ≡ None
+    pub sources : (n : ℕ) (p : Package) → slice_get content n ≡ Some p → is_root q p ≡ false → p.source ≡ Some q.source
+    pub checksums : (n : ℕ) (p : Package) → slice_get content n ≡ Some p → is_root q p ≡ false
+        → p.checksum ≡ option_map (λ c. c.checksum) (candidate_at (candidates_of q.candidates p.name) p.version)
+    pub lists : (n t : ℕ) (p : Package) → slice_get content n ≡ Some p
+        → Contains p.list t ↔ ((r : Package) × (i : ℕ) × (d : Dependency) × (slice_get content t ≡ Some r) × IsLink p r i d)
