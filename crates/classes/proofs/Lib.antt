@@ -1,0 +1,2 @@
+pub mod TextOrder
+pub mod Numerals

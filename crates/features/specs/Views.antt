@@ -1,0 +1,40 @@
+-- What the entries, dependencies and faults of this crate stand for.
+use Rattle.std.specs.Prelude.{Bool, true, false, List, map}
+use Rattle.semver.specs.Identifiers.{comparator_view}
+use Rattle.semver.specs.Parse.{Held}
+use Rattle.semver.specs.declared.VersionReq.{VersionReq}
+use Rattle.model.specs.Owner as model
+use Rattle.features.specs.declared.dependency.Dependency.{Dependency}
+use Rattle.features.specs.declared.dependency.Owner.{Owner}
+use Rattle.features.specs.declared.entry.EntryFault.{EntryFault}
+use Rattle.features.specs.declared.entry.EntryFault.TheVariants.{OutOfMemory, NotAnEntry}
+use Rattle.features.specs.declared.name.NameFault.{NameFault}
+use Rattle.features.specs.declared.name.NameFault.TheVariants as name
+
+abbrev pub is_memory : EntryFault → Bool
+is_memory OutOfMemory = true
+is_memory NotAnEntry = false
+
+abbrev pub entry_fault_of : NameFault → EntryFault
+entry_fault_of name.OutOfMemory = OutOfMemory
+entry_fault_of name.NotAName = NotAnEntry
+
+-- what a requirement says
+abbrev pub requirement_view : VersionReq → List Held
+requirement_view r = map comparator_view r.comparators.items
+
+abbrev pub dependency_view : Dependency → model.Dependency
+dependency_view d = record {
+  name = d.name;
+  real_name = d.real_name;
+  requirement = requirement_view d.requirement;
+  optional = d.optional;
+  default_features = d.default_features;
+  features = d.features.items;
+}
+
+abbrev pub dependency_views : List Dependency → List model.Dependency
+dependency_views ds = map dependency_view ds
+
+abbrev pub owner_view : Owner → model.Owner
+owner_view o = record { dependencies = dependency_views o.dependencies.items; features = o.features }

@@ -1,0 +1,16 @@
+//! Names of packages and features, the entries of features, and tables of features.
+#![tactic(auto)]
+
+mod dependency;
+mod entry;
+mod feature_name;
+mod name;
+mod table;
+#[cfg(test)]
+mod tests;
+
+pub use dependency::{Dependency, Owner};
+pub use entry::{Entry, EntryFault};
+pub use feature_name::FeatureName;
+pub use name::{NameFault, PackageName};
+pub use table::{DepName, FeatureTable};
