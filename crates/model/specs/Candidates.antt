@@ -51,7 +51,7 @@ oldest_first (r ∷ rs) = place_by_age r (oldest_first rs)
 abbrev pub is_locked : Content → List ℕ → List ℕ → Parts → Bool
 is_locked old source name version = list_any (λ p. same_text name p.name && (same_version version p.version && same_option p.source (Some source))) old
 
--- what the manifest asks to be preferred
+-- which candidates a run prefers, after the locked ones
 pub data Prefer : Type 0 where
   newest : Prefer
   rust_first : Prefer

@@ -92,12 +92,13 @@ abbrev pub serves_if : Dependency → Option Package → Bool
 serves_if d None = false
 serves_if d (Some p) = serves d p
 
--- the last of these places whose package serves the dependency
+-- a later place that serves, else this one if it does
 abbrev pub or_this : Bool → ℕ → Option ℕ → Option ℕ
 or_this serving i (Some j) = Some j
 or_this true i None = Some i
 or_this false i None = None
 
+-- the last of these places whose package serves the dependency
 abbrev pub last_serving : Content → Dependency → List ℕ → Option ℕ
 last_serving content d [] = None
 last_serving content d (i ∷ is) = or_this (serves_if d (slice_get content i)) i (last_serving content d is)

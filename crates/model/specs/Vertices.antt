@@ -59,10 +59,11 @@ same_vertex (feat n c f) (feat m e g) = same_text n m && same_class c e && same_
 same_vertex (ask n v i g) (ask m w j h) = same_text n m && same_version v w && nat_eq i j && same_text g h
 same_vertex _ _ = false
 
--- each class once, in the order of the candidates
+-- a class before others, unless it is among them
 abbrev pub add_class : Class → List Class → List Class
 add_class c cs = if list_any (same_class c) cs then cs else c ∷ cs
 
+-- the classes of candidates, each once
 abbrev pub classes_of : List Candidate → List Class
 classes_of [] = []
 classes_of (c ∷ cs) = add_class (class_of c.version) (classes_of cs)
