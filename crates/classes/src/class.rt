@@ -2,6 +2,7 @@
 
 ghost use Rattle.std.specs.Prelude.{◌≡◌, Some};
 ghost use Rattle.semver.specs.Identifiers.{parts_of};
+ghost use Rattle.model.specs.Axioms.{is_lower};
 ghost use Rattle.model.specs.Selection.{class_of};
 ghost use Rattle.classes.specs.Classes.{class_view, class_text};
 
@@ -32,6 +33,13 @@ impl Class {
         } else {
             Class::Patch(version.patch)
         }
+    }
+
+    /// Whether all versions of this class are older than those of another one: the order of classes.
+    pub fn is_lower(self, other: Class) -> bool
+        ensures { result ≡ is_lower (class_view self) (class_view other) }
+    {
+        self < other
     }
 }
 
