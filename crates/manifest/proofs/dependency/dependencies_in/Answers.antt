@@ -1,0 +1,9 @@
+use Rattle.std.proofs.Common.{rules}
+use Rattle.manifest.specs.Dependencies.{dependencies_in}
+use Rattle.manifest.specs.ShapeViews.{dependency_view}
+use Rattle.manifest.proofs.ReadLemmas.{pushed}
+use Rattle.manifest.proofs.dependency.dependencies_in.Goals as goal
+
+pub members-preserved : goal.members-preserved
+unfolding dependencies_in
+members-preserved c = record { can = tt; finite = tt; told = pushed dependency_view _ _ _ _ _ _ c.in_ok-push.ensures.items c.in_ok-dependency.ensures (search rules) }

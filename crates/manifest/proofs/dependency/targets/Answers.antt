@@ -1,0 +1,9 @@
+use Rattle.std.proofs.Common.{rules}
+use Rattle.manifest.specs.Dependencies.{targets_in}
+use Rattle.manifest.specs.ShapeViews.{dependency_view}
+use Rattle.manifest.proofs.ReadLemmas.{appended}
+use Rattle.manifest.proofs.dependency.targets.Goals as goal
+
+pub members-preserved : goal.members-preserved
+unfolding targets_in
+members-preserved c = record { can = tt; finite = tt; told = appended dependency_view _ c.in_ok-own.own.items _ _ _ _ c.in_ok-append.ensures.items c.in_ok-own.ensures (search rules) }

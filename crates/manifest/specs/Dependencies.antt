@@ -1,0 +1,163 @@
+-- The dependencies that a manifest writes, before their requirements are read (Cargo book, "Specifying Dependencies").
+use Rattle.std.specs.Prelude.{ℕ, Bool, true, false, not, ◌||◌, if◌then◌else◌, List, [], ◌∷◌, ◌++◌, Option, Some, None, Ok, Err, codes, is_some}
+use Rattle.toml.specs.Data.{Data, string, integer, float, boolean, datetime, array, table, as_array, get_member, Items, no_items, item, Members, no_members, member}
+use Rattle.model.specs.Outcome.{◌>>=◌, guard}
+use Rattle.manifest.specs.Values.{Shaped, wanted, if_there, or_absent, text_of, flag_of, table_of, has_key, either_at, package_name_of, feature_name_of}
+use Rattle.manifest.specs.declared.fault.ManifestFault.TheVariants.{Shape}
+use Rattle.manifest.specs.declared.fault.Part.{Part}
+use Rattle.manifest.specs.declared.fault.Part.TheVariants as part
+use Rattle.manifest.specs.declared.fault.Unsupported.{Unsupported}
+use Rattle.manifest.specs.declared.fault.Unsupported.TheVariants as source
+use Rattle.manifest.specs.declared.section.Kind.{Kind}
+use Rattle.manifest.specs.declared.section.Kind.TheVariants.{Normal, Dev, Build}
+use Rattle.manifest.specs.declared.section.Place.{Place}
+use Rattle.manifest.specs.declared.section.Place.TheVariants.{Top, Target}
+
+-- where a dependency is from: the registry, with the text of its requirement, or a source that is left out
+pub data SourceView : Type 0 where
+  registry : List ℕ → SourceView
+  unsupported : Unsupported → SourceView
+
+-- a dependency, with its requirement as it is written
+pub record DependencyShapeView : Type 0 where
+  pub name : List ℕ
+  pub real_name : List ℕ
+  pub renamed : Bool
+  pub source : SourceView
+  pub optional : Bool
+  pub default_features : Bool
+  pub features : List (List ℕ)
+
+-- a dependency of which no more is said than where it is from
+abbrev pub bare : List ℕ → SourceView → DependencyShapeView
+bare name from = record { name = name; real_name = name; renamed = false; source = from; optional = false; default_features = true; features = [] }
+
+-- the first source that is left out and that a key of the dependency asks for
+abbrev pub unsupported_in : Members → Option Unsupported
+unsupported_in t = if has_key (codes "git") t then Some source.Git
+    else if has_key (codes "path") t then Some source.Path
+    else if has_key (codes "registry") t then Some source.Registry
+    else if has_key (codes "registry-index") t then Some source.Registry
+    else None
+
+-- only a dependency of such a source may lack a version
+abbrev pub source_of : Part → Option Unsupported → Option (List ℕ) → Shaped SourceView
+source_of p (Some s) version = Ok (unsupported s)
+source_of p None (Some text) = Ok (registry text)
+source_of p None None = Err (Shape p)
+
+-- the name of the package that a dependency means: `package`, where it is there
+abbrev pub real_name_of : Part → List ℕ → Option (List ℕ) → Shaped (List ℕ)
+real_name_of p name None = Ok name
+real_name_of p name (Some text) = package_name_of p text
+
+-- the feature that a text of a list names: an empty one names none
+abbrev pub named_feature : Part → List ℕ → Shaped (List (List ℕ))
+named_feature p [] = Ok []
+named_feature p (b ∷ bs) = feature_name_of p (b ∷ bs) >>= λ name. Ok (name ∷ [])
+
+-- the features that a list names
+unfoldable pub feature_names : Part → Items → Shaped (List (List ℕ))
+feature_names p no_items = Ok []
+feature_names p (item d ds) = do
+  text ← text_of p d
+  first ← named_feature p text
+  others ← feature_names p ds
+  Ok (first ++ others)
+
+abbrev pub feature_list : Part → Data → Shaped (List (List ℕ))
+feature_list p d = wanted p (as_array d) >>= feature_names p
+
+-- a dev dependency may not be optional
+abbrev pub may_be_optional : Kind → Bool
+may_be_optional Normal = true
+may_be_optional Dev = false
+may_be_optional Build = true
+
+-- a dependency that is written as a table
+unfoldable pub dependency_in : Part → Kind → List ℕ → Members → Shaped DependencyShapeView
+dependency_in p kind name t = do
+  version ← if_there (text_of p) (get_member (codes "version") t)
+  from ← source_of p (unsupported_in t) version
+  given ← if_there (text_of p) (get_member (codes "package") t)
+  real_name ← real_name_of p name given
+  optional ← or_absent false (flag_of p) (get_member (codes "optional") t)
+  allowed ← guard (not optional || may_be_optional kind) (Shape p)
+  default_value ← either_at p (codes "default-features") (codes "default_features") t
+  default_features ← or_absent true (flag_of p) default_value
+  features ← or_absent [] (feature_list p) (get_member (codes "features") t)
+  Ok (record {
+    name = name;
+    real_name = real_name;
+    renamed = is_some given;
+    source = from;
+    optional = optional;
+    default_features = default_features;
+    features = features;
+  })
+
+-- the source of a dependency that a workspace describes
+abbrev pub inherited : SourceView
+inherited = unsupported source.Workspace
+
+-- a dependency: a requirement or a table
+abbrev pub described : Part → Kind → List ℕ → Data → Shaped DependencyShapeView
+described p kind name (string text) = Ok (bare name (registry text))
+described p kind name (table t) = if has_key (codes "workspace") t then Ok (bare name inherited) else dependency_in p kind name t
+described p kind name (integer z) = Err (Shape p)
+described p kind name (float x) = Err (Shape p)
+described p kind name (boolean b) = Err (Shape p)
+described p kind name (datetime dt) = Err (Shape p)
+described p kind name (array ds) = Err (Shape p)
+
+unfoldable pub dependency_of : Part → Kind → List ℕ → Data → Shaped DependencyShapeView
+dependency_of p kind key d = do
+  name ← package_name_of p key
+  described p kind name d
+
+-- the dependencies of a table, in the order of their names
+unfoldable pub dependencies_in : Part → Kind → Members → Shaped (List DependencyShapeView)
+dependencies_in p kind no_members = Ok []
+dependencies_in p kind (member key d rest) = do
+  first ← dependency_of p kind key d
+  others ← dependencies_in p kind rest
+  Ok (first ∷ others)
+
+-- the part that a table of dependencies is
+abbrev pub part_of : Place → Kind → Part
+part_of Top Normal = part.Dependencies
+part_of Top Dev = part.DevDependencies
+part_of Top Build = part.BuildDependencies
+part_of Target kind = part.Target
+
+abbrev pub section_at : Part → Kind → Members → Shaped (Option Data)
+section_at p Normal t = Ok (get_member (codes "dependencies") t)
+section_at p Dev t = either_at p (codes "dev-dependencies") (codes "dev_dependencies") t
+section_at p Build t = either_at p (codes "build-dependencies") (codes "build_dependencies") t
+
+-- the dependencies of one kind
+unfoldable pub section_of : Part → Kind → Members → Shaped (List DependencyShapeView)
+section_of p kind t = do
+  found ← section_at p kind t
+  or_absent [] (λ d. table_of p d >>= dependencies_in p kind) found
+
+-- the dependencies that stand at the top, or in a target: normal, dev and build ones
+unfoldable pub sections_of : Place → Members → Shaped (List DependencyShapeView)
+sections_of place t = do
+  normal ← section_of (part_of place Normal) Normal t
+  dev ← section_of (part_of place Dev) Dev t
+  build ← section_of (part_of place Build) Build t
+  Ok (normal ++ dev ++ build)
+
+-- the dependencies of the targets, in the order of their texts
+unfoldable pub targets_in : Members → Shaped (List DependencyShapeView)
+targets_in no_members = Ok []
+targets_in (member text d rest) = do
+  target ← table_of part.Target d
+  first ← sections_of Target target
+  others ← targets_in rest
+  Ok (first ++ others)
+
+-- `[target]`
+abbrev pub targets_of : Members → Shaped (List DependencyShapeView)
+targets_of top = or_absent [] (λ d. table_of part.Target d >>= targets_in) (get_member (codes "target") top)

@@ -1,0 +1,11 @@
+pub use Rattle.model.specs.Outcome
+pub use Rattle.model.specs.Owner
+pub use Rattle.features.specs.Views
+pub use Rattle.classes.specs.RustVersions
+pub mod Faults
+pub mod Values
+pub mod Packages
+pub mod Dependencies
+pub mod Shapes
+pub mod Manifests
+pub mod ShapeViews

@@ -1,0 +1,316 @@
+//! The dependencies that a manifest writes, before their requirements are read.
+
+ghost use Rattle.std.specs.Prelude.{◌≡◌, ◌++◌, [], codes, option_map, map};
+ghost use Rattle.toml.specs.Data.{get_member};
+ghost use Rattle.toml.specs.View.{view, table_view, array_view};
+ghost use Rattle.model.specs.Outcome.{Gives};
+ghost use Rattle.manifest.specs.Faults.{is_memory};
+ghost use Rattle.manifest.specs.Manifests.{is_from, is_plain};
+ghost use Rattle.manifest.specs.Values.{or_absent};
+ghost use Rattle.manifest.specs.Dependencies.{bare, registry, unsupported_in, source_of, real_name_of, named_feature, feature_names, feature_list, dependency_in, described, dependency_of, dependencies_in, section_at, section_of, sections_of, targets_in, targets_of};
+ghost use Rattle.manifest.specs.ShapeViews.{source_view, dependency_view, dependency_views};
+
+use crate::checks::check;
+use crate::fault::{ManifestFault, Part, Unsupported};
+use crate::section::{Kind, Place};
+use crate::table::{
+    either, feature_name, flag, has_key, list, member, package_name, table, text, text_at,
+};
+use features::{FeatureName, PackageName};
+use std::alloc::Global;
+use toml::value::{Array, Table, Value};
+
+/// Where a dependency is from.
+#[derive(Clone, Copy)]
+pub(crate) enum Source<'a> {
+    /// The registry, with the text of the requirement.
+    Registry(&'a str),
+    /// A source that is left out: the first that its keys ask for.
+    Unsupported(Unsupported),
+}
+
+/// A dependency with its requirement as it is written.
+#[derive(Drop)]
+pub(crate) struct DependencyShape<'a> {
+    /// The name that it is called by.
+    pub name: PackageName,
+    /// The name of the package that it means.
+    pub real_name: PackageName,
+    /// Whether the key `package` is there.
+    pub renamed: bool,
+    pub source: Source<'a>,
+    pub optional: bool,
+    pub default_features: bool,
+    pub features: Vec<FeatureName>,
+}
+
+impl DependencyShape<'_> {
+    /// Whether it is from this source.
+    pub(crate) fn is_from(&self, source: Unsupported) -> bool
+        ensures { result ≡ is_from source (source_view self.now.source) }
+    {
+        match self.source {
+            Source::Registry(_) => false,
+            Source::Unsupported(own) => own == source,
+        }
+    }
+
+    /// Whether it is neither optional nor renamed, and has no list of features.
+    pub(crate) fn is_plain(&self) -> bool
+        ensures { result ≡ is_plain (dependency_view self.now) }
+    {
+        !self.optional && !self.renamed && self.features.is_empty()
+    }
+}
+
+/// The dependencies of the targets, in the order of their texts.
+pub(crate) fn target_dependencies(
+    alloc: Global,
+    top: &Table,
+) -> Result<Vec<DependencyShape<'_>>, ManifestFault>
+    ensures { Gives is_memory (λ v. dependency_views v.items) result (targets_of (table_view top.now)) }
+{
+    match member(top, "target") {
+        Some(value) => targets(alloc, table(value, Part::Target)?),
+        None => Ok(Vec::new(alloc)),
+    }
+}
+
+#[tactic(auto, unfolding(crate::specs::Dependencies::targets_in))]
+fn targets(alloc: Global, targets: &Table) -> Result<Vec<DependencyShape<'_>>, ManifestFault>
+    ensures { Gives is_memory (λ v. dependency_views v.items) result (targets_in (table_view targets.now)) }
+{
+    let mut found = Vec::new(alloc);
+    'members: for (_, value) in targets.iter() {
+        let mut own = sections(alloc, table(value, Part::Target)?, Place::Target)?;
+        found.append(&mut own)?;
+    }
+    Ok(found)
+}
+
+/// The normal, dev and build dependencies of a table, in this order.
+#[tactic(auto, unfolding(crate::specs::Dependencies::sections_of))]
+pub(crate) fn sections(
+    alloc: Global,
+    table: &Table,
+    place: Place,
+) -> Result<Vec<DependencyShape<'_>>, ManifestFault>
+    ensures { Gives is_memory (λ v. dependency_views v.items) result (sections_of place (table_view table.now)) }
+{
+    let mut found = section(alloc, table, place.part(Kind::Normal), Kind::Normal)?;
+    let mut dev = section(alloc, table, place.part(Kind::Dev), Kind::Dev)?;
+    let mut build = section(alloc, table, place.part(Kind::Build), Kind::Build)?;
+    found.append(&mut dev)?;
+    found.append(&mut build)?;
+    Ok(found)
+}
+
+/// The dependencies of one kind.
+#[tactic(auto, unfolding(crate::specs::Dependencies::section_of))]
+fn section(
+    alloc: Global,
+    table_in: &Table,
+    part: Part,
+    kind: Kind,
+) -> Result<Vec<DependencyShape<'_>>, ManifestFault>
+    ensures { Gives is_memory (λ v. dependency_views v.items) result (section_of part kind (table_view table_in.now)) }
+{
+    let Some(value) = section_value(table_in, part, kind)? else {
+        return Ok(Vec::new(alloc));
+    };
+    dependencies_in(alloc, table(value, part)?, part, kind)
+}
+
+fn section_value(table: &Table, part: Part, kind: Kind) -> Result<Option<&Value>, ManifestFault>
+    ensures { Gives is_memory (option_map (λ v. view v.now)) result (section_at part kind (table_view table.now)) }
+{
+    match kind {
+        Kind::Normal => Ok(member(table, "dependencies")),
+        Kind::Dev => either(table, "dev-dependencies", "dev_dependencies", part),
+        Kind::Build => either(table, "build-dependencies", "build_dependencies", part),
+    }
+}
+
+#[tactic(auto, unfolding(crate::specs::Dependencies::dependencies_in))]
+fn dependencies_in(
+    alloc: Global,
+    table: &Table,
+    part: Part,
+    kind: Kind,
+) -> Result<Vec<DependencyShape<'_>>, ManifestFault>
+    ensures { Gives is_memory (λ v. dependency_views v.items) result (dependencies_in part kind (table_view table.now)) }
+{
+    let mut found = Vec::new(alloc);
+    'members: for (key, value) in table.iter() {
+        found.push(dependency(alloc, key.as_str(), value, part, kind)?)?;
+    }
+    Ok(found)
+}
+
+#[tactic(auto, unfolding(crate::specs::Dependencies::dependency_of))]
+fn dependency<'a>(
+    alloc: Global,
+    key: &str,
+    value: &'a Value,
+    part: Part,
+    kind: Kind,
+) -> Result<DependencyShape<'a>, ManifestFault>
+    ensures { Gives is_memory dependency_view result (dependency_of part kind key.now (view value.now)) }
+{
+    let name = package_name(alloc, key, part)?;
+    described(alloc, name, value, part, kind)
+}
+
+/// A dependency of this name: a requirement or a table.
+fn described<'a>(
+    alloc: Global,
+    name: PackageName,
+    value: &'a Value,
+    part: Part,
+    kind: Kind,
+) -> Result<DependencyShape<'a>, ManifestFault>
+    ensures { Gives is_memory dependency_view result (described part kind name (view value.now)) }
+{
+    match value {
+        Value::String(text) => bare(alloc, name, Source::Registry(text.as_str())),
+        Value::Table(table) => {
+            if has_key(table, "workspace") {
+                bare(alloc, name, Source::Unsupported(Unsupported::Workspace))
+            } else {
+                dependency_in(alloc, name, table, part, kind)
+            }
+        }
+        _ => Err(ManifestFault::Shape(part)),
+    }
+}
+
+/// A dependency of which no more is said than where it is from.
+fn bare(
+    alloc: Global,
+    name: PackageName,
+    source: Source<'_>,
+) -> Result<DependencyShape<'_>, ManifestFault>
+    ensures { Gives is_memory dependency_view result (Ok (bare name (source_view source.entry))) }
+{
+    let real_name = name.clone()?;
+    Ok(DependencyShape {
+        name,
+        real_name,
+        renamed: false,
+        source,
+        optional: false,
+        default_features: true,
+        features: Vec::new(alloc),
+    })
+}
+
+/// A dependency that is written as a table.
+#[tactic(auto, unfolding(crate::specs::Dependencies::dependency_in))]
+fn dependency_in<'a>(
+    alloc: Global,
+    name: PackageName,
+    table: &'a Table,
+    part: Part,
+    kind: Kind,
+) -> Result<DependencyShape<'a>, ManifestFault>
+    ensures { Gives is_memory dependency_view result (dependency_in part kind name (table_view table.now)) }
+{
+    let version = text_at(table, "version", part)?;
+    let source = dependency_source(unsupported_source(table), version, part)?;
+    let given = text_at(table, "package", part)?;
+    let real_name = real_name(alloc, &name, given, part)?;
+    let optional = flag(member(table, "optional"), false, part)?;
+    check(
+        !optional || kind.may_be_optional(),
+        ManifestFault::Shape(part),
+    )?;
+    let default_value = either(table, "default-features", "default_features", part)?;
+    let default_features = flag(default_value, true, part)?;
+    let features = feature_list(alloc, table, part)?;
+    Ok(DependencyShape {
+        name,
+        real_name,
+        renamed: given.is_some(),
+        source,
+        optional,
+        default_features,
+        features,
+    })
+}
+
+/// The first source that is left out and that a key of the dependency asks for.
+fn unsupported_source(table: &Table) -> Option<Unsupported>
+    ensures { result ≡ unsupported_in (table_view table.now) }
+{
+    if has_key(table, "git") {
+        Some(Unsupported::Git)
+    } else if has_key(table, "path") {
+        Some(Unsupported::Path)
+    } else if has_key(table, "registry") {
+        Some(Unsupported::Registry)
+    } else if has_key(table, "registry-index") {
+        Some(Unsupported::Registry)
+    } else {
+        None
+    }
+}
+
+/// Only a dependency of such a source may lack a version.
+fn dependency_source(
+    unsupported: Option<Unsupported>,
+    version: Option<&str>,
+    part: Part,
+) -> Result<Source<'_>, ManifestFault>
+    ensures { Gives is_memory source_view result (source_of part unsupported (option_map (λ s. s.now) version.entry)) }
+{
+    match unsupported {
+        Some(unsupported) => Ok(Source::Unsupported(unsupported)),
+        None => match version {
+            Some(text) => Ok(Source::Registry(text)),
+            None => Err(ManifestFault::Shape(part)),
+        },
+    }
+}
+
+/// The name of the package that a dependency means: `package`, where it is there.
+fn real_name(
+    alloc: Global,
+    name: &PackageName,
+    given: Option<&str>,
+    part: Part,
+) -> Result<PackageName, ManifestFault>
+    ensures { Gives is_memory (λ n. n) result (real_name_of part name.now (option_map (λ s. s.now) given.entry)) }
+{
+    match given {
+        Some(text) => package_name(alloc, text, part),
+        None => Ok(name.clone()?),
+    }
+}
+
+/// The features that the key `features` asks for.
+fn feature_list(alloc: Global, table: &Table, part: Part) -> Result<Vec<FeatureName>, ManifestFault>
+    ensures { Gives is_memory (λ v. v.items) result (or_absent [] (feature_list part) (get_member (codes "features") (table_view table.now))) }
+{
+    match member(table, "features") {
+        Some(value) => feature_names(alloc, list(value, part)?, part),
+        None => Ok(Vec::new(alloc)),
+    }
+}
+
+#[tactic(auto, unfolding(crate::specs::Dependencies::feature_names))]
+fn feature_names(
+    alloc: Global,
+    items: &Array,
+    part: Part,
+) -> Result<Vec<FeatureName>, ManifestFault>
+    ensures { Gives is_memory (λ v. v.items) result (feature_names part (array_view items.now)) }
+{
+    let mut found = Vec::new(alloc);
+    'items: for value in items.iter() {
+        let text = text(value, part)?;
+        if !text.is_empty() {
+            found.push(feature_name(alloc, text, part)?)?;
+        }
+    }
+    Ok(found)
+}

@@ -1,0 +1,251 @@
+//! Reading a manifest.
+
+ghost use Rattle.std.specs.Prelude.{◌≡◌, ◌≢◌, ◌⊎◌, Some, option_map, map, not};
+ghost use Rattle.std.specs.List.{list_all, list_any};
+ghost use Rattle.semver.specs.Grammar.{IsValid};
+ghost use Rattle.semver.specs.Identifiers.{parts_of};
+ghost use Rattle.semver.specs.Parse.{memory_error, req_of};
+ghost use Rattle.toml.specs.View.{table_view};
+ghost use Rattle.model.specs.Outcome.{Gives, guard};
+ghost use Rattle.classes.specs.RustVersions.{rust_version_view};
+ghost use Rattle.features.specs.Views.{dependency_view, dependency_views, owner_view};
+ghost use Rattle.manifest.specs.Faults.{is_memory};
+ghost use Rattle.manifest.specs.Manifests.{uses, needs_workspace, sources_allowed, dependency_with, dependencies_of, later_tables, has_table, is_plain, is_plain_manifest, manifest_of, manifest_so_far};
+ghost use Rattle.manifest.specs.ShapeViews as shaped;
+
+use crate::checks::check;
+use crate::dependency::{DependencyShape, Source};
+use crate::fault::{ManifestFault, Unsupported};
+use crate::shape::Shape;
+use crate::table::{has_table, read_table};
+use crate::top::read_shape;
+use classes::RustVersion;
+use features::{Dependency, FeatureTable, Owner, PackageName};
+use semver::{Version, VersionReq};
+use std::alloc::{AllocError, Global};
+use std::marker::Model;
+use toml::Table;
+
+/// The most bytes that a manifest may have: 1 MiB.
+const LIMIT: usize = 1_048_576;
+
+/// What a manifest says of its package: its name and version, the Rust version that it needs, its dependencies and its features (Cargo book, "The
+/// Manifest Format").
+#[derive(Drop)]
+pub struct Manifest {
+    name: PackageName,
+    version: Version,
+    rust_version: Option<RustVersion>,
+    brings: Owner,
+}
+
+impl Model for Manifest {
+    ghost use Rattle.std.specs.Prelude.{option_map};
+    ghost use Rattle.semver.specs.Grammar.{IsValid};
+    ghost use Rattle.semver.specs.Identifiers.{parts_of};
+    ghost use Rattle.classes.specs.RustVersions.{rust_version_view};
+    ghost use Rattle.features.specs.Views.{owner_view};
+    ghost use Rattle.manifest.specs.Manifests.{ManifestView};
+
+    ghost Value = { ManifestView };
+
+    ghost view = { λ m. record { name = m.name; version = parts_of m.version; rust_version = option_map rust_version_view m.rust_version; brings = owner_view m.brings } };
+
+    ghost invariant = { λ m. IsValid (parts_of m.version) };
+}
+
+impl Manifest {
+    /// The manifest that the bytes of a Cargo.toml are, or the first fault.
+    #[tactic(auto, unfolding(crate::specs::Manifests::manifest_so_far))]
+    pub fn read(alloc: Global, bytes: &[u8]) -> Result<Manifest, ManifestFault>
+        ensures { Gives is_memory (λ m. m) result (manifest_so_far bytes.now) }
+    {
+        check(bytes.len() <= LIMIT, ManifestFault::TooLarge)?;
+        let table = read_table(alloc, bytes)?;
+        manifest_in(alloc, &table)
+    }
+
+    /// The name of the package.
+    pub fn name(&self) -> &PackageName
+        ensures { result.now ≡ self.now.name }
+    {
+        &self.name
+    }
+
+    /// The version of the package: 0.0.0 where the manifest has none.
+    pub fn version(&self) -> &Version
+        ensures parts { parts_of result.now ≡ self.now.version }
+        ensures valid { IsValid (parts_of result.now) }
+    {
+        &self.version
+    }
+
+    /// The Rust version that the package needs, where the manifest has one.
+    pub fn rust_version(&self) -> Option<RustVersion>
+        ensures { option_map rust_version_view result ≡ self.now.rust_version }
+    {
+        self.rust_version
+    }
+
+    /// What the package brings: its dependencies by number, and its features.
+    pub fn owner(&self) -> &Owner
+        ensures { owner_view result.now ≡ self.now.brings }
+    {
+        &self.brings
+    }
+
+    /// The dependencies by number: normal, dev and build ones, then those of each target in the same way, each table by the bytes of the names.
+    pub fn dependencies(&self) -> &[Dependency]
+        ensures { dependency_views result.now ≡ self.now.brings.dependencies }
+    {
+        self.brings.dependencies.as_slice()
+    }
+
+    /// The features of the package.
+    pub fn features(&self) -> &FeatureTable
+        ensures { result.now ≡ self.now.brings.features }
+    {
+        &self.brings.features
+    }
+}
+
+/// What a table says as a manifest.
+#[tactic(auto, unfolding(crate::specs::Manifests::manifest_of))]
+fn manifest_in(alloc: Global, top: &Table) -> Result<Manifest, ManifestFault>
+    ensures { Gives is_memory (λ m. m) result (manifest_of (table_view top.now)) }
+{
+    let shape = read_shape(alloc, top)?;
+    check_sources(&shape)?;
+    let is_plain = is_plain(top, &shape);
+    let Shape {
+        own,
+        dependencies,
+        ..
+    } = shape;
+    let dependencies = requirements(alloc, dependencies)?;
+    check(is_plain, ManifestFault::NotYet)?;
+    let Some(package) = own else {
+        return Err(ManifestFault::UnsupportedSource(Unsupported::Workspace));
+    };
+    let features = FeatureTable::plain(alloc)?;
+    Ok(Manifest {
+        name: package.name,
+        version: package.version,
+        rust_version: package.rust_version,
+        brings: Owner {
+            dependencies,
+            features,
+        },
+    })
+}
+
+/// The first source, in the order of `Unsupported`, that is left out and is asked for.
+#[tactic(auto, unfolding(crate::specs::Manifests::sources_allowed))]
+fn check_sources(shape: &Shape<'_>) -> Result<(), ManifestFault>
+    ensures { Gives is_memory (λ u. u) result (sources_allowed (shaped.shape_view shape.now)) }
+{
+    let dependencies = shape.dependencies.as_slice();
+    allow(!shape.patches, Unsupported::Patch)?;
+    allow(!shape.replaces, Unsupported::Replace)?;
+    allow(!needs_workspace(shape), Unsupported::Workspace)?;
+    allow(!uses(dependencies, Unsupported::Git), Unsupported::Git)?;
+    allow(!uses(dependencies, Unsupported::Path), Unsupported::Path)?;
+    allow(
+        !uses(dependencies, Unsupported::Registry),
+        Unsupported::Registry,
+    )
+}
+
+fn allow(passes: bool, source: Unsupported) -> Result<(), ManifestFault>
+    ensures { Gives is_memory (λ u. u) result (guard passes (ManifestFault.UnsupportedSource source)) }
+{
+    check(passes, ManifestFault::UnsupportedSource(source))
+}
+
+fn uses(dependencies: &[DependencyShape<'_>], source: Unsupported) -> bool
+    ensures { result ≡ uses source (shaped.dependency_views dependencies.now) }
+{
+    dependencies.iter().any(|d| d.is_from(source))
+}
+
+/// Whether a workspace has members, or has to say what the package or a dependency is.
+fn needs_workspace(shape: &Shape<'_>) -> bool
+    ensures { result ≡ needs_workspace (shaped.shape_view shape.now) }
+{
+    shape.has_members
+        || shape.own.is_none()
+        || uses(shape.dependencies.as_slice(), Unsupported::Workspace)
+}
+
+/// The dependencies by number, with their requirements read.
+#[tactic(auto, unfolding(crate::specs::Manifests::dependencies_of))]
+fn requirements(
+    alloc: Global,
+    shapes: Vec<DependencyShape<'_>>,
+) -> Result<Vec<Dependency>, ManifestFault>
+    ensures { Gives is_memory (λ v. dependency_views v.items) result (dependencies_of (shaped.dependency_views shapes.entry.items)) }
+{
+    let mut found = Vec::new(alloc);
+    'shapes: for shape in shapes {
+        found.push(with_requirement(alloc, shape)?)?;
+    }
+    Ok(found)
+}
+
+/// A dependency with its requirement read. One of a source that is left out has been refused before.
+#[tactic(auto, unfolding(crate::specs::Manifests::dependency_with))]
+fn with_requirement(alloc: Global, shape: DependencyShape<'_>) -> Result<Dependency, ManifestFault>
+    ensures { Gives is_memory dependency_view result (dependency_with (shaped.dependency_view shape.entry)) }
+{
+    let text = match shape.source {
+        Source::Registry(text) => text,
+        Source::Unsupported(source) => return Err(ManifestFault::UnsupportedSource(source)),
+    };
+    match VersionReq::parse(alloc, text) {
+        Ok(requirement) => Ok(Dependency {
+            name: shape.name,
+            real_name: shape.real_name,
+            requirement,
+            optional: shape.optional,
+            default_features: shape.default_features,
+            features: shape.features,
+        }),
+        Err(e) => Err(requirement_fault(e, shape.name)),
+    }
+}
+
+/// What a refusal of `semver` is as a fault of the dependency of this name.
+fn requirement_fault(e: semver::Error, name: PackageName) -> ManifestFault
+    ensures { (result ≡ ManifestFault.OutOfMemory) ⊎ ((result ≡ ManifestFault.BadRequirement name) × (e ≢ memory_error)) }
+{
+    if e == semver::Error::from(AllocError) {
+        ManifestFault::OutOfMemory
+    } else {
+        ManifestFault::BadRequirement(name)
+    }
+}
+
+/// Whether there are normal, plain dependencies alone, and no features.
+fn is_plain(top: &Table, shape: &Shape<'_>) -> bool
+    ensures { result ≡ is_plain_manifest (table_view top.now) (shaped.shape_view shape.now) }
+{
+    !has_later_tables(top) && are_plain(shape.dependencies.as_slice())
+}
+
+fn are_plain(dependencies: &[DependencyShape<'_>]) -> bool
+    ensures { result ≡ list_all is_plain (shaped.dependency_views dependencies.now) }
+{
+    dependencies.iter().all(|d| d.is_plain())
+}
+
+/// Whether there is a table that isn't read yet.
+fn has_later_tables(top: &Table) -> bool
+    ensures { result ≡ list_any (has_table (table_view top.now)) later_tables }
+{
+    has_table(top, "features")
+        || has_table(top, "target")
+        || has_table(top, "dev-dependencies")
+        || has_table(top, "dev_dependencies")
+        || has_table(top, "build-dependencies")
+        || has_table(top, "build_dependencies")
+}

@@ -1,0 +1,40 @@
+//! The tables at the top of a manifest.
+
+ghost use Rattle.toml.specs.View.{table_view};
+ghost use Rattle.model.specs.Outcome.{Gives};
+ghost use Rattle.manifest.specs.Faults.{is_memory};
+ghost use Rattle.manifest.specs.Shapes.{shape_of};
+ghost use Rattle.manifest.specs.ShapeViews.{shape_view};
+
+use crate::dependency::{sections, target_dependencies};
+use crate::fault::{ManifestFault, Part};
+use crate::feature::written_features;
+use crate::package_table::{own_package, workspace};
+use crate::section::Place;
+use crate::shape::Shape;
+use crate::table::is_written;
+use std::alloc::Global;
+use toml::Table;
+
+/// The shape of a manifest, or the first part that has another one.
+#[tactic(auto, unfolding(crate::specs::Shapes::shape_of))]
+pub(crate) fn read_shape(alloc: Global, top: &Table) -> Result<Shape<'_>, ManifestFault>
+    ensures { Gives is_memory shape_view result (shape_of (table_view top.now)) }
+{
+    let own = own_package(alloc, top)?;
+    let mut dependencies = sections(alloc, top, Place::Top)?;
+    let mut targets = target_dependencies(alloc, top)?;
+    dependencies.append(&mut targets)?;
+    let features = written_features(alloc, top)?;
+    let has_members = workspace(top)?;
+    let patches = is_written(top, "patch", Part::Patch)?;
+    let replaces = is_written(top, "replace", Part::Replace)?;
+    Ok(Shape {
+        own,
+        dependencies,
+        features,
+        has_members,
+        patches,
+        replaces,
+    })
+}
