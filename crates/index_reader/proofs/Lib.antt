@@ -1,0 +1,3 @@
+pub mod ReadLemmas
+pub mod PathLemmas
+pub mod KeptLemmas

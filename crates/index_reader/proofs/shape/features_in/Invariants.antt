@@ -1,0 +1,15 @@
+use Rattle.std.proofs.Common.{◌≡◌}
+use Rattle.serde_json.specs.View.{members_view}
+use Rattle.index_reader.specs.Lines.{features_in}
+use Rattle.index_reader.specs.Shapes.{feature_views}
+use Rattle.index_reader.proofs.ReadLemmas.{with_front}
+use Rattle.index_reader.proofs.shape.features_in.Given as goal
+
+-- the features so far and those of what is left are those of all
+abbrev pub invariant-members : goal.invariant-members
+invariant-members l =
+    record {
+      can : (goal.iterator-members).can_next l.key-iterator;
+      finite : (goal.iterator-members).is_finite l.key-iterator;
+      told : with_front (feature_views l.found.items) (features_in (members_view l.key-iterator)) ≡ features_in (members_view l.fn.members.entries);
+    }

@@ -1,0 +1,89 @@
+-- What a file of an index says: its lines, and of these the records and the skips (Cargo book, "Registry Index"; skipping, and one version of
+-- equal precedence a file, are our own).
+use Rattle.std.specs.Prelude.{ℕ, ◌+◌, ◌-◌, ◌==◌, ◌&&◌, ◌||◌, Bool, true, false, not, if◌then◌else◌, List, [], ◌∷◌, ◌++◌, length, count_by, slice_index, Result, Ok, Err}
+use Rattle.std.specs.List.{list_all, list_any, slice_split}
+use Rattle.std.specs.Ordering.{is_eq}
+use Rattle.semver.specs.Parse.{Parts}
+use Rattle.model.specs.Outcome.{◌>>=◌}
+use Rattle.model.specs.Order.{precedence}
+use Rattle.index_reader.specs.Lines.{Line}
+use Rattle.index_reader.specs.Records.{RecordView, is_checksum, unchecked_so_far}
+use Rattle.index_reader.specs.declared.fault.Reason.{Reason}
+use Rattle.index_reader.specs.declared.fault.Reason.TheVariants.{BadChecksum, Duplicate}
+use Rattle.index_reader.specs.declared.fault.LineFault.TheVariants as line
+use Rattle.index_reader.specs.declared.fault.FileFault.{FileFault}
+use Rattle.index_reader.specs.declared.fault.FileFault.TheVariants.{OutOfMemory, NotYet}
+
+abbrev pub file_wants_memory : FileFault → Bool
+file_wants_memory OutOfMemory = true
+file_wants_memory NotYet = false
+
+-- a line ends with `\n`
+abbrev pub is_line_end : ℕ → Bool
+is_line_end b = b == 10
+
+-- some bytes, the last of which ends no line
+abbrev pub ends_open : List ℕ → Bool
+ends_open bytes = not (length bytes == 0) && not (is_line_end (slice_index bytes (length bytes - 1)))
+
+-- how many lines: the line ends, and one more where bytes follow the last of them
+abbrev pub line_count : List ℕ → ℕ
+line_count bytes = count_by is_line_end bytes + (if ends_open bytes then 1 else 0)
+
+-- a space, a tab or `\r`
+abbrev pub is_blank_byte : ℕ → Bool
+is_blank_byte b = b == 32 || (b == 9 || b == 13)
+
+abbrev pub is_blank : List ℕ → Bool
+is_blank line = list_all is_blank_byte line
+
+-- a line that is skipped: the package of its file, its number from 1, and why
+pub record SkipView : Type 0 where
+  pub name : List ℕ
+  pub line : ℕ
+  pub reason : Reason
+
+pub record FileView : Type 0 where
+  pub records : List RecordView
+  pub skips : List SkipView
+
+abbrev pub no_lines : FileView
+no_lines = record { records = []; skips = [] }
+
+abbrev pub same_precedence : Parts → Parts → Bool
+same_precedence v w = is_eq (precedence v w)
+
+-- one of these records has a version of equal precedence
+abbrev pub has_version : List RecordView → Parts → Bool
+has_version records v = list_any (λ r. same_precedence v r.version) records
+
+abbrev pub with_skip : List ℕ → ℕ → Reason → FileView → FileView
+with_skip name n why file = record { records = file.records; skips = file.skips ++ record { name = name; line = n; reason = why } ∷ [] }
+
+-- a record is kept where no earlier one that is kept has a version of equal precedence
+abbrev pub with_record : List ℕ → ℕ → RecordView → FileView → FileView
+with_record name n r file = if has_version file.records r.version then with_skip name n Duplicate file else record { records = file.records ++ r ∷ []; skips = file.skips }
+
+-- a record whose checksum is none isn't kept; an earlier version of equal precedence is the first reason
+abbrev pub with_found : List ℕ → ℕ → RecordView → FileView → FileView
+with_found name n r file = if is_checksum r.checksum then with_record name n r file
+    else with_skip name n (if has_version file.records r.version then Duplicate else BadChecksum) file
+
+abbrev pub with_read : List ℕ → ℕ → Line RecordView → FileView → Result FileView FileFault
+with_read name n (Ok r) file = Ok (with_found name n r file)
+with_read name n (Err (line.Skipped why)) file = Ok (with_skip name n why file)
+with_read name n (Err line.NotYet) file = Err NotYet
+with_read name n (Err line.OutOfMemory) file = Err OutOfMemory
+
+-- what a file says up to and with one more line: a blank one says nothing
+abbrev pub with_line : List ℕ → ℕ → List ℕ → FileView → Result FileView FileFault
+with_line name n text file = if is_blank text then Ok file else with_read name n (unchecked_so_far name text) file
+
+-- the same with these lines, the first of which has this number
+unfoldable pub with_lines : List ℕ → ℕ → List (List ℕ) → FileView → Result FileView FileFault
+with_lines name n [] file = Ok file
+with_lines name n (text ∷ texts) file = with_line name n text file >>= λ next. with_lines name (n + 1) texts next
+
+-- what the file of a name says, as far as lines are read so far
+abbrev pub file_so_far : List ℕ → List ℕ → Result FileView FileFault
+file_so_far name bytes = with_lines name 1 (slice_split is_line_end bytes) no_lines

@@ -1,0 +1,41 @@
+-- What a folder of files answers for a path, and when a call of it may fail (Cargo book, "Registry Index"; the counting of failures is our own).
+use Rattle.std.specs.Prelude.{◌≡◌, ℕ, ◌<◌, ◌⊎◌, ◌^◌, ◌-◌, List, Option, option_map, Result, Ok, Err, String, Vec, string_bytes}
+use Rattle.std.specs.Ordering.{nat_cmp}
+use Rattle.std.specs.Cmp.Lexicographic.{slice_cmp}
+use Rattle.std.specs.Map.{lookup}
+use Rattle.std.specs.BTreeMap.{is_at}
+use Rattle.std.specs.declared.alloc.Global.{Global}
+use Rattle.index_reader.specs.declared.folder.FolderFault.{FolderFault}
+use Rattle.index_reader.specs.declared.folder.FolderFault.TheVariants.{OutOfMemory, Failed}
+
+-- what a call answered: the bytes of the file, if there is one
+abbrev pub Answer : Type 0
+Answer = Result (Option (List ℕ)) FolderFault
+
+abbrev pub answer_view : Result (Option (Vec ℕ Global)) FolderFault → Answer
+answer_view (Ok o) = Ok (option_map (λ v. v.items) o)
+answer_view (Err e) = Err e
+
+-- a count has risen, or is at its greatest
+abbrev pub IsRisen : ℕ → ℕ → Type 0
+IsRisen old new = (old < new) ⊎ (new ≡ 2 ^ 64 - 1)
+
+-- files by their paths
+abbrev pub Files : Type 0
+Files = List (String Global × Vec ℕ Global)
+
+-- the bytes of the file at a path
+abbrev pub file_at : Files → List ℕ → Option (List ℕ)
+file_at files path = option_map (λ v. v.items) (lookup (is_at (λ k. slice_cmp nat_cmp path (string_bytes k))) files)
+
+-- a call of a folder in memory: its map's answer, and the map stays
+abbrev pub MemoryCalls : Files → List ℕ → Answer → Files → Type 0
+MemoryCalls old path (Ok o) new = (o ≡ file_at old path) × (new ≡ old)
+MemoryCalls old path (Err OutOfMemory) new = new ≡ old
+MemoryCalls old path (Err Failed) new = ⊥
+
+-- a call of a folder on a disk, of which the count of failures alone is known: it rises just where a call fails
+abbrev pub DiskCalls : ℕ → Answer → ℕ → Type 0
+DiskCalls old (Ok o) new = new ≡ old
+DiskCalls old (Err OutOfMemory) new = new ≡ old
+DiskCalls old (Err Failed) new = IsRisen old new

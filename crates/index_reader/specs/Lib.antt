@@ -1,0 +1,9 @@
+pub mod Lines
+pub mod Shapes
+pub mod Records
+pub mod Reasons
+pub mod Files
+pub mod Views
+pub mod Kept
+pub mod Paths
+pub mod Folders

@@ -1,0 +1,95 @@
+//! Reading a file of an index.
+
+ghost use Rattle.std.specs.Prelude.{◌≡◌, ◌+◌, ◌≤◌, IfOk, map};
+ghost use Rattle.std.specs.List.{list_all, slice_split};
+ghost use Rattle.model.specs.Outcome.{Gives};
+ghost use Rattle.index_reader.specs.Files.{file_wants_memory, is_line_end, line_count, is_blank_byte, is_blank, with_skip, with_record, with_line, with_lines, no_lines, file_so_far};
+ghost use Rattle.index_reader.specs.Views.{record_view, file_view, contents_view};
+
+use crate::fault::{FileFault, LineFault, Reason};
+use crate::kept::FileSoFar;
+use crate::line::read_unchecked;
+use crate::record::{Record, Skip};
+use features::PackageName;
+use std::alloc::{AllocError, Global};
+
+/// How many lines bytes have: the number of `\n`, and one more where bytes follow the last of them.
+pub fn lines(bytes: &[u8]) -> usize
+    ensures { result ≡ line_count bytes.now }
+{
+    let ended = bytes.iter().filter(|b| **b == b'\n').count();
+    match bytes.last() {
+        None => ended,
+        Some(b'\n') => ended,
+        Some(_) => ended + 1,
+    }
+}
+
+/// The records of the file of a name, in the order of its lines, and the lines that are skipped.
+///
+/// # Errors
+/// `NotYet` where a line may be right, but has what isn't read yet.
+pub fn read_file(
+    alloc: Global,
+    name: &PackageName,
+    bytes: &[u8],
+) -> Result<(Vec<Record>, Vec<Skip>), FileFault>
+    requires { line_count bytes.now ≤ 65535 }
+    ensures { Gives file_wants_memory contents_view result (file_so_far name.now bytes.now) }
+{
+    let texts = texts_in(alloc, bytes)?;
+    let file = read_texts(alloc, name, &texts)?;
+    Ok((file.records, file.skips))
+}
+
+/// The texts between the line ends: the last is empty where bytes end with a line.
+fn texts_in(alloc: Global, bytes: &[u8]) -> Result<Vec<&[u8]>, AllocError>
+    ensures { IfOk result (λ v. map (λ x. x.now) v.items ≡ slice_split is_line_end bytes.now) }
+{
+    bytes.split(|b| *b == b'\n').collect(alloc)
+}
+
+/// What a file of these lines says.
+#[tactic(auto, unfolding(crate::specs::Files::with_lines))]
+fn read_texts(alloc: Global, name: &PackageName, texts: &[&[u8]]) -> Result<FileSoFar, FileFault>
+    ensures { Gives file_wants_memory (λ f. file_view f.records.items f.skips.items) result (with_lines name.now 1 (map (λ x. x.now) texts.now) no_lines) }
+{
+    let mut file = FileSoFar::new(alloc);
+    'texts: for (index, text) in texts.iter().enumerate() {
+        file = with_line(alloc, name, index as u64 + 1, text, file)?;
+    }
+    Ok(file)
+}
+
+/// A file with one more line.
+fn with_line(
+    alloc: Global,
+    name: &PackageName,
+    number: u64,
+    text: &[u8],
+    file: FileSoFar,
+) -> Result<FileSoFar, FileFault>
+    ensures { Gives file_wants_memory (λ f. file_view f.records.items f.skips.items) result (with_line name.now number text.now (file_view file.records.items file.skips.items)) }
+{
+    if is_blank(text) {
+        return Ok(file);
+    }
+    match read_unchecked(alloc, name, text) {
+        Ok(record) => Ok(file.with_found(name, number, record)?),
+        Err(LineFault::Skipped(reason)) => Ok(file.with_skip(name, number, reason)?),
+        Err(LineFault::NotYet) => Err(FileFault::NotYet),
+        Err(LineFault::OutOfMemory) => Err(FileFault::OutOfMemory),
+    }
+}
+
+fn is_blank(line: &[u8]) -> bool
+    ensures { result ≡ is_blank line.now }
+{
+    line.iter().all(|b| is_blank_byte(*b))
+}
+
+fn is_blank_byte(byte: u8) -> bool
+    ensures { result ≡ is_blank_byte byte }
+{
+    byte == b' ' || byte == b'\t' || byte == b'\r'
+}

@@ -1,0 +1,302 @@
+//! Reading a line.
+
+ghost use Rattle.std.specs.Prelude.{◌≡◌, ◌≢◌, ◌⊎◌, IfOk, unwrap_or};
+ghost use Rattle.std.specs.List.{list_all};
+ghost use Rattle.semver.specs.Grammar.{IsValid};
+ghost use Rattle.semver.specs.Identifiers.{parts_of};
+ghost use Rattle.semver.specs.Parse.{memory_error, req_of, version_parts};
+ghost use Rattle.model.specs.Outcome.{Gives, guard};
+ghost use Rattle.index_reader.specs.Lines.{is_memory};
+ghost use Rattle.features.specs.Views.{requirement_view, dependency_view, dependency_views};
+ghost use Rattle.index_reader.specs.Records.{unless, semver_or, required, is_normal, is_empty_text, is_plain_part, is_plain_dependency, has_no_features, is_plain, feature_name_of, feature_names, dependency_read, dependencies_read, is_of_index, is_hexadecimal, is_checksum, checked, unchecked_of_shape, unchecked_so_far, record_so_far};
+ghost use Rattle.index_reader.specs.Shapes.{texts_view, feature_views, part_view, line_dependency_view, line_dependency_views, shape_view, required_view, required_views};
+ghost use Rattle.index_reader.specs.Views.{record_view};
+
+use crate::fault::{LineFault, Reason};
+use crate::json::read_value;
+use crate::record::Record;
+use crate::shape::{
+    DependencyShape, FeatureShape, Kind, LineShape, PartShape, Required, read_shape,
+};
+use features::{Dependency, FeatureName, FeatureTable, NameFault, Owner, PackageName};
+use semver::{Version, VersionReq};
+use std::alloc::{AllocError, Global};
+
+/// The record that a line of this package's file is, or why it is none (Cargo book, "Registry Index").
+///
+/// # Errors
+/// `Skipped` with the first reason that applies, and `NotYet` for a line to which none applies as far as its requirements, but which has a
+/// feature, or a dependency that is optional, renamed, of another kind than normal or asks for a feature.
+#[tactic(auto, unfolding(crate::specs::Records::record_so_far, crate::specs::Records::checked))]
+pub fn read_line(alloc: Global, name: &PackageName, line: &[u8]) -> Result<Record, LineFault>
+    ensures { Gives is_memory record_view result (record_so_far name.now line.now) }
+{
+    let record = read_unchecked(alloc, name, line)?;
+    check(is_checksum(record.checksum.as_str()), Reason::BadChecksum)?;
+    Ok(record)
+}
+
+/// The same, whatever the checksum is.
+#[tactic(auto, unfolding(crate::specs::Records::unchecked_so_far))]
+pub(crate) fn read_unchecked(
+    alloc: Global,
+    name: &PackageName,
+    line: &[u8],
+) -> Result<Record, LineFault>
+    ensures { Gives is_memory record_view result (unchecked_so_far name.now line.now) }
+{
+    let value = read_value(alloc, line)?;
+    let shape = read_shape(alloc, &value)?;
+    record_in(alloc, name, &shape)
+}
+
+#[tactic(auto, unfolding(crate::specs::Records::unchecked_of_shape))]
+fn record_in(alloc: Global, name: &PackageName, shape: &LineShape<'_>) -> Result<Record, LineFault>
+    ensures { Gives is_memory record_view result (unchecked_of_shape name.now (shape_view shape.now)) }
+{
+    check(shape.format == 1 || shape.format == 2, Reason::NewerFormat)?;
+    check(shape.name == name.as_str(), Reason::OtherName)?;
+    let version = version(alloc, shape.version)?;
+    let parts = requirements(alloc, &shape.dependencies)?;
+    check_plain(shape)?;
+    let dependencies = dependencies(alloc, parts)?;
+    check_registries(&shape.dependencies)?;
+    Ok(Record {
+        version,
+        checksum: String::from_str(alloc, shape.checksum)?,
+        yanked: shape.yanked,
+        rust_version: shape.rust_version,
+        brings: Owner {
+            dependencies,
+            features: FeatureTable::plain(alloc)?,
+        },
+    })
+}
+
+fn check(passes: bool, why: Reason) -> Result<(), LineFault>
+    ensures { Gives is_memory (λ u. u) result (unless passes why) }
+{
+    if passes {
+        Ok(())
+    } else {
+        Err(LineFault::Skipped(why))
+    }
+}
+
+fn version(alloc: Global, text: &str) -> Result<Version, LineFault>
+    ensures read { Gives is_memory parts_of result (semver_or Reason.BadVersion (version_parts text.now)) }
+    ensures valid { IfOk result (λ v. IsValid (parts_of v)) }
+{
+    match Version::parse(alloc, text) {
+        Ok(version) => Ok(version),
+        Err(e) => Err(fault_of(e, Reason::BadVersion)),
+    }
+}
+
+fn requirement(alloc: Global, text: &str) -> Result<VersionReq, LineFault>
+    ensures { Gives is_memory requirement_view result (semver_or Reason.BadRequirement (req_of text.now)) }
+{
+    match VersionReq::parse(alloc, text) {
+        Ok(requirement) => Ok(requirement),
+        Err(e) => Err(fault_of(e, Reason::BadRequirement)),
+    }
+}
+
+/// What a refusal of `semver` is as a reason to skip.
+fn fault_of(e: semver::Error, why: Reason) -> LineFault
+    ensures { (result ≡ LineFault.OutOfMemory) ⊎ ((result ≡ LineFault.Skipped why) × (e ≢ memory_error)) }
+{
+    if e == semver::Error::from(AllocError) {
+        LineFault::OutOfMemory
+    } else {
+        LineFault::Skipped(why)
+    }
+}
+
+/// The dependencies that take part, with their requirements read.
+#[tactic(auto, unfolding(crate::specs::Records::required))]
+fn requirements<'a>(
+    alloc: Global,
+    shapes: &'a [DependencyShape<'a>],
+) -> Result<Vec<Required<'a>>, LineFault>
+    ensures { Gives is_memory (λ v. required_views v.items) result (required (line_dependency_views shapes.now)) }
+{
+    let mut found = Vec::new(alloc);
+    'shapes: for shape in shapes {
+        match shape {
+            DependencyShape::Dev(_) => {}
+            DependencyShape::Part(part) => {
+                let requirement = requirement(alloc, part.requirement)?;
+                found.push(Required { part, requirement })?;
+            }
+        }
+    }
+    Ok(found)
+}
+
+/// What isn't read yet: features, and dependencies that aren't plain.
+fn check_plain(shape: &LineShape<'_>) -> Result<(), LineFault>
+    ensures { Gives is_memory (λ u. u) result (guard (is_plain (shape_view shape.now)) LineFault.NotYet) }
+{
+    if is_plain(shape) {
+        Ok(())
+    } else {
+        Err(LineFault::NotYet)
+    }
+}
+
+#[tactic(auto, using(crate::proofs::ReadLemmas::views))]
+fn is_plain(shape: &LineShape<'_>) -> bool
+    ensures { result ≡ is_plain (shape_view shape.now) }
+{
+    has_no_features(&shape.features)
+        && has_no_features(&shape.features2)
+        && are_plain(&shape.dependencies)
+}
+
+fn has_no_features(features: &[FeatureShape<'_>]) -> bool
+    ensures { result ≡ has_no_features (feature_views features.now) }
+{
+    features.is_empty()
+}
+
+fn are_plain(dependencies: &[DependencyShape<'_>]) -> bool
+    ensures { result ≡ list_all (λ d. is_plain_dependency (line_dependency_view d)) dependencies.now }
+{
+    dependencies.iter().all(|d| is_plain_dependency(d))
+}
+
+fn is_plain_dependency(dependency: &DependencyShape<'_>) -> bool
+    ensures { result ≡ is_plain_dependency (line_dependency_view dependency.now) }
+{
+    match dependency {
+        DependencyShape::Dev(_) => false,
+        DependencyShape::Part(part) => is_plain_part(part),
+    }
+}
+
+#[tactic(auto, using(crate::proofs::ReadLemmas::views))]
+fn is_plain_part(part: &PartShape<'_>) -> bool
+    ensures { result ≡ is_plain_part (part_view part.now) }
+{
+    is_normal(part.kind) && !part.optional && part.real_name.is_none() && are_empty(&part.features)
+}
+
+fn is_normal(kind: Kind) -> bool
+    ensures { result ≡ is_normal kind }
+{
+    match kind {
+        Kind::Normal => true,
+        Kind::Build | Kind::Dev => false,
+    }
+}
+
+fn are_empty(texts: &[&str]) -> bool
+    ensures { result ≡ list_all (λ text. is_empty_text text.now) texts.now }
+{
+    texts.iter().all(|text| text.is_empty())
+}
+
+#[tactic(auto, unfolding(crate::specs::Records::dependencies_read))]
+fn dependencies(alloc: Global, parts: Vec<Required<'_>>) -> Result<Vec<Dependency>, LineFault>
+    ensures { Gives is_memory (λ v. dependency_views v.items) result (dependencies_read (required_views parts.entry.items)) }
+{
+    let mut found = Vec::new(alloc);
+    'parts: for part in parts {
+        found.push(dependency(alloc, part)?)?;
+    }
+    Ok(found)
+}
+
+#[tactic(auto, unfolding(crate::specs::Records::dependency_read))]
+fn dependency(alloc: Global, required: Required<'_>) -> Result<Dependency, LineFault>
+    ensures { Gives is_memory dependency_view result (dependency_read (required_view required.entry)) }
+{
+    let part = required.part;
+    let features = feature_names(alloc, &part.features)?;
+    Ok(Dependency {
+        name: part.name.clone()?,
+        real_name: real_name(part)?,
+        requirement: required.requirement,
+        optional: part.optional,
+        default_features: part.default_features,
+        features,
+    })
+}
+
+/// The name of the package that a dependency means.
+fn real_name(part: &PartShape<'_>) -> Result<PackageName, AllocError>
+    ensures { IfOk result (λ n. n ≡ unwrap_or part.now.real_name part.now.name) }
+{
+    match &part.real_name {
+        Some(name) => name.clone(),
+        None => part.name.clone(),
+    }
+}
+
+/// The features that texts name: empty ones are left out.
+#[tactic(auto, unfolding(crate::specs::Records::feature_names))]
+fn feature_names(alloc: Global, texts: &[&str]) -> Result<Vec<FeatureName>, LineFault>
+    ensures { Gives is_memory (λ v. v.items) result (feature_names (texts_view texts.now)) }
+{
+    let mut found = Vec::new(alloc);
+    'texts: for text in texts {
+        if text.is_empty() {
+            continue;
+        }
+        found.push(feature_name(alloc, text)?)?;
+    }
+    Ok(found)
+}
+
+fn feature_name(alloc: Global, text: &str) -> Result<FeatureName, LineFault>
+    ensures { Gives is_memory (λ n. n) result (feature_name_of text.now) }
+{
+    match FeatureName::parse(alloc, text) {
+        Ok(name) => Ok(name),
+        Err(NameFault::OutOfMemory) => Err(LineFault::OutOfMemory),
+        Err(NameFault::NotAName) => Err(LineFault::Skipped(Reason::BadFeatures)),
+    }
+}
+
+/// A dependency of another registry is one of another index.
+#[tactic(auto, using(crate::proofs::ReadLemmas::views))]
+fn check_registries(dependencies: &[DependencyShape<'_>]) -> Result<(), LineFault>
+    ensures { Gives is_memory (λ u. u) result (unless (list_all is_of_index (line_dependency_views dependencies.now)) Reason.OtherRegistry) }
+{
+    check(are_of_index(dependencies), Reason::OtherRegistry)
+}
+
+fn are_of_index(dependencies: &[DependencyShape<'_>]) -> bool
+    ensures { result ≡ list_all (λ d. is_of_index (line_dependency_view d)) dependencies.now }
+{
+    dependencies.iter().all(|d| is_of_index(d))
+}
+
+fn is_of_index(dependency: &DependencyShape<'_>) -> bool
+    ensures { result ≡ is_of_index (line_dependency_view dependency.now) }
+{
+    match dependency {
+        DependencyShape::Dev(_) => true,
+        DependencyShape::Part(part) => part.registry.is_none(),
+    }
+}
+
+pub(crate) fn is_checksum(text: &str) -> bool
+    ensures { result ≡ is_checksum text.now }
+{
+    text.len() == 64 && are_hexadecimal(text.as_bytes())
+}
+
+fn are_hexadecimal(text: &[u8]) -> bool
+    ensures { result ≡ list_all is_hexadecimal text.now }
+{
+    text.iter().all(|b| is_hexadecimal(*b))
+}
+
+/// A lower-case hexadecimal digit.
+fn is_hexadecimal(byte: u8) -> bool
+    ensures { result ≡ is_hexadecimal byte }
+{
+    matches!(byte, b'0'..=b'9' | b'a'..=b'f')
+}

@@ -1,0 +1,297 @@
+//! The shape of a line, before its texts are read.
+
+ghost use Rattle.std.specs.Prelude.{◌≡◌, Some, None, option_map};
+ghost use Rattle.serde_json.specs.View.{view, items_view, members_view};
+ghost use Rattle.model.specs.Outcome.{Gives};
+ghost use Rattle.index_reader.specs.Lines.{is_memory, value_at, package_name_of, package_name_at, package_name_or_none, kind_of_text, kind_at, part_of, by_kind, dependency_of, dependencies_in, dependencies_at, features_in, features_or_none, rust_version_at, shape_of};
+ghost use Rattle.classes.specs.RustVersions.{rust_version_view};
+ghost use Rattle.index_reader.specs.Shapes.{feature_views, part_view, line_dependency_view, line_dependency_views, shape_view};
+
+use crate::fault::{LineFault, Reason};
+use crate::json::{flag, text, text_if_any, texts, texts_at, value, whole};
+use classes::RustVersion;
+use features::{NameFault, PackageName};
+use semver::VersionReq;
+use serde_json::{Map, Value};
+use std::alloc::Global;
+
+/// What a line says, with its texts as they stand there.
+#[derive(Drop)]
+pub(crate) struct LineShape<'a> {
+    pub name: &'a str,
+    pub version: &'a str,
+    pub checksum: &'a str,
+    pub dependencies: Vec<DependencyShape<'a>>,
+    pub features: Vec<FeatureShape<'a>>,
+    /// The features that older readers are to read over.
+    pub features2: Vec<FeatureShape<'a>>,
+    pub yanked: bool,
+    pub format: u64,
+    pub rust_version: Option<RustVersion>,
+}
+
+/// What a line says of a dependency.
+#[derive(Drop)]
+pub(crate) enum DependencyShape<'a> {
+    /// A dev dependency takes no part: only its name and kind are read.
+    Dev(PackageName),
+    Part(PartShape<'a>),
+}
+
+/// What a line says of a dependency that takes part.
+#[derive(Drop)]
+pub(crate) struct PartShape<'a> {
+    pub name: PackageName,
+    pub kind: Kind,
+    /// The package that a renamed dependency means.
+    pub real_name: Option<PackageName>,
+    pub requirement: &'a str,
+    pub optional: bool,
+    pub default_features: bool,
+    pub features: Vec<&'a str>,
+    pub registry: Option<&'a str>,
+}
+
+/// A dependency that takes part, with its requirement read.
+#[derive(Drop)]
+pub(crate) struct Required<'a> {
+    pub part: &'a PartShape<'a>,
+    pub requirement: VersionReq,
+}
+
+/// When a dependency is needed.
+#[derive(Clone, Copy, PartialEq, Eq)]
+pub(crate) enum Kind {
+    Normal,
+    Build,
+    Dev,
+}
+
+/// What a line says of a feature.
+#[derive(Drop)]
+pub(crate) struct FeatureShape<'a> {
+    pub name: &'a str,
+    pub entries: Vec<&'a str>,
+}
+
+/// The shape of a line.
+#[tactic(auto, unfolding(crate::specs::Lines::shape_of))]
+pub(crate) fn read_shape(alloc: Global, line: &Value) -> Result<LineShape<'_>, LineFault>
+    ensures { Gives is_memory shape_view result (shape_of (view line.now)) }
+{
+    let name = text(line, "name")?;
+    let version = text(line, "vers")?;
+    let checksum = text(line, "cksum")?;
+    let dependencies = dependencies(alloc, line)?;
+    let features = features_at(alloc, line, "features")?;
+    let features2 = features_at(alloc, line, "features2")?;
+    let yanked = flag(line, "yanked", false)?;
+    let format = whole(line, "v", 1)?;
+    Ok(LineShape {
+        name,
+        version,
+        checksum,
+        dependencies,
+        features,
+        features2,
+        yanked,
+        format,
+        rust_version: rust_version(line),
+    })
+}
+
+/// The Rust version of a line: whatever is none counts as absent.
+fn rust_version(line: &Value) -> Option<RustVersion>
+    ensures { option_map rust_version_view result ≡ rust_version_at (view line.now) }
+{
+    match value(line, "rust_version") {
+        Some(found) => match found.as_str() {
+            Some(text) => RustVersion::parse(text),
+            None => None,
+        },
+        None => None,
+    }
+}
+
+/// The package name that a value has to be.
+fn package_name(alloc: Global, value: &Value) -> Result<PackageName, LineFault>
+    ensures { Gives is_memory (λ n. n) result (package_name_of (view value.now)) }
+{
+    let Some(text) = value.as_str() else {
+        return Err(LineFault::Skipped(Reason::Shape));
+    };
+    match PackageName::parse(alloc, text) {
+        Ok(name) => Ok(name),
+        Err(NameFault::OutOfMemory) => Err(LineFault::OutOfMemory),
+        Err(NameFault::NotAName) => Err(LineFault::Skipped(Reason::Shape)),
+    }
+}
+
+/// The package name at a key that has to be there.
+fn package_name_at(alloc: Global, object: &Value, key: &str) -> Result<PackageName, LineFault>
+    ensures { Gives is_memory (λ n. n) result (package_name_at key.now (view object.now)) }
+{
+    match value(object, key) {
+        Some(found) => package_name(alloc, found),
+        None => Err(LineFault::Skipped(Reason::Shape)),
+    }
+}
+
+/// The package name at a key, if it is there.
+fn package_name_if_any(
+    alloc: Global,
+    object: &Value,
+    key: &str,
+) -> Result<Option<PackageName>, LineFault>
+    ensures { Gives is_memory (λ n. n) result (package_name_or_none (value_at key.now (view object.now))) }
+{
+    match value(object, key) {
+        Some(found) => Ok(Some(package_name(alloc, found)?)),
+        None => Ok(None),
+    }
+}
+
+/// The kind that a text names.
+fn kind_of_text(text: &str) -> Option<Kind>
+    ensures { result ≡ kind_of_text text.now }
+{
+    if text == "normal" {
+        Some(Kind::Normal)
+    } else if text == "build" {
+        Some(Kind::Build)
+    } else if text == "dev" {
+        Some(Kind::Dev)
+    } else {
+        None
+    }
+}
+
+/// The kind of a dependency: normal where it says none.
+fn kind_at(dependency: &Value) -> Result<Kind, LineFault>
+    ensures { Gives is_memory (λ k. k) result (kind_at (view dependency.now)) }
+{
+    let Some(found) = value(dependency, "kind") else {
+        return Ok(Kind::Normal);
+    };
+    let Some(text) = found.as_str() else {
+        return Err(LineFault::Skipped(Reason::Shape));
+    };
+    match kind_of_text(text) {
+        Some(kind) => Ok(kind),
+        None => Err(LineFault::Skipped(Reason::Shape)),
+    }
+}
+
+#[tactic(auto, unfolding(crate::specs::Lines::part_of))]
+fn part(
+    alloc: Global,
+    name: PackageName,
+    kind: Kind,
+    dependency: &Value,
+) -> Result<PartShape<'_>, LineFault>
+    ensures { Gives is_memory part_view result (part_of name kind (view dependency.now)) }
+{
+    let real_name = package_name_if_any(alloc, dependency, "package")?;
+    let requirement = text(dependency, "req")?;
+    let optional = flag(dependency, "optional", false)?;
+    let default_features = flag(dependency, "default_features", true)?;
+    let features = texts_at(alloc, dependency, "features")?;
+    let registry = text_if_any(dependency, "registry")?;
+    Ok(PartShape {
+        name,
+        kind,
+        real_name,
+        requirement,
+        optional,
+        default_features,
+        features,
+        registry,
+    })
+}
+
+fn of_kind(
+    alloc: Global,
+    name: PackageName,
+    kind: Kind,
+    dependency: &Value,
+) -> Result<DependencyShape<'_>, LineFault>
+    ensures { Gives is_memory line_dependency_view result (by_kind name kind (view dependency.now)) }
+{
+    match kind {
+        Kind::Dev => Ok(DependencyShape::Dev(name)),
+        Kind::Normal | Kind::Build => {
+            Ok(DependencyShape::Part(part(alloc, name, kind, dependency)?))
+        }
+    }
+}
+
+#[tactic(auto, unfolding(crate::specs::Lines::dependency_of))]
+fn dependency(alloc: Global, value: &Value) -> Result<DependencyShape<'_>, LineFault>
+    ensures { Gives is_memory line_dependency_view result (dependency_of (view value.now)) }
+{
+    let name = package_name_at(alloc, value, "name")?;
+    let kind = kind_at(value)?;
+    of_kind(alloc, name, kind, value)
+}
+
+#[tactic(auto, unfolding(crate::specs::Lines::dependencies_in))]
+fn dependencies_in<'a>(
+    alloc: Global,
+    values: &'a Vec<Value>,
+) -> Result<Vec<DependencyShape<'a>>, LineFault>
+    ensures { Gives is_memory (λ v. line_dependency_views v.items) result (dependencies_in (items_view values.now.items)) }
+{
+    let mut found = Vec::new(alloc);
+    'items: for value in values.iter() {
+        found.push(dependency(alloc, value)?)?;
+    }
+    Ok(found)
+}
+
+#[tactic(auto, unfolding(crate::specs::Lines::dependencies_at))]
+fn dependencies(alloc: Global, line: &Value) -> Result<Vec<DependencyShape<'_>>, LineFault>
+    ensures { Gives is_memory (λ v. line_dependency_views v.items) result (dependencies_at (view line.now)) }
+{
+    match value(line, "deps") {
+        Some(found) => match found.as_array() {
+            Some(values) => dependencies_in(alloc, values),
+            None => Err(LineFault::Skipped(Reason::Shape)),
+        },
+        None => Err(LineFault::Skipped(Reason::Shape)),
+    }
+}
+
+#[tactic(auto, unfolding(crate::specs::Lines::features_in))]
+fn features_in<'a>(
+    alloc: Global,
+    members: &'a Map<String, Value>,
+) -> Result<Vec<FeatureShape<'a>>, LineFault>
+    ensures { Gives is_memory (λ v. feature_views v.items) result (features_in (members_view members.now.entries)) }
+{
+    let mut found = Vec::new(alloc);
+    'members: for (key, value) in members.iter() {
+        let entries = texts(alloc, value)?;
+        found.push(FeatureShape {
+            name: key.as_str(),
+            entries,
+        })?;
+    }
+    Ok(found)
+}
+
+/// The features at a key: none where it is absent.
+fn features_at<'a>(
+    alloc: Global,
+    line: &'a Value,
+    key: &str,
+) -> Result<Vec<FeatureShape<'a>>, LineFault>
+    ensures { Gives is_memory (λ v. feature_views v.items) result (features_or_none (value_at key.now (view line.now))) }
+{
+    match value(line, key) {
+        Some(found) => match found.as_object() {
+            Some(members) => features_in(alloc, members),
+            None => Err(LineFault::Skipped(Reason::Shape)),
+        },
+        None => Ok(Vec::new(alloc)),
+    }
+}
