@@ -1,0 +1,11 @@
+pub mod ReadLemmas
+pub mod Sorting
+pub mod PlaceOrder
+pub mod PackageOrder
+pub mod Ranges
+pub mod Spaces
+pub mod Forms
+pub mod Meant
+pub mod Linking
+pub mod Contents
+pub mod Examples

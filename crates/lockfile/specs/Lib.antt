@@ -1,0 +1,7 @@
+pub use Rattle.model.specs.Outcome
+pub use Rattle.model.specs.Content
+pub use Rattle.model.specs.WellFormed
+pub mod Locks
+pub mod Spelling
+pub mod Views
+pub mod Search

@@ -1,0 +1,255 @@
+-- What a lock says: a function of the bytes of a Cargo.lock (Cargo book, "Cargo.toml vs Cargo.lock"; TOML; SemVer 2.0.0).
+use Rattle.std.specs.Prelude.{ℕ, ◌+◌, ℤ, pos, negsuc, Bool, true, false, not, ◌&&◌, ◌||◌, ◌==◌, nat_le, nat_lt, nat_eq, if◌then◌else◌, List, [], ◌∷◌, ◌++◌, length, map, Option, Some, None, is_some, Result, Ok, Err, codes, option_and_then}
+use Rattle.std.specs.List.{list_all, list_any, zip}
+use Rattle.std.specs.Option.{ok_or}
+use Rattle.std.specs.Ordering.{nat_cmp, is_gt}
+use Rattle.std.specs.Str.{is_utf8}
+use Rattle.std.specs.declared.cmp.Ordering.{Ordering}
+use Rattle.toml.specs.Data.{Data, as_str, as_integer, as_array, as_table, get_member, Items, no_items, item, Members}
+use Rattle.toml.specs.Parse.{parse_document}
+use Rattle.semver.specs.Identifiers.{parts_text}
+use Rattle.semver.specs.Parse.{Parts, version_parts}
+use Rattle.semver.specs.declared.error.Error.{Error}
+use Rattle.model.specs.Outcome.{◌>>=◌, guard}
+use Rattle.model.specs.Owner.{same_text}
+use Rattle.model.specs.Content.{Package, Content, same_version, same_option}
+use Rattle.model.specs.Order.{package_cmp}
+use Rattle.features.specs.Names.{is_package_name}
+use Rattle.lockfile.specs.declared.fault.LockFault.{LockFault}
+use Rattle.lockfile.specs.declared.fault.LockFault.TheVariants.{OutOfMemory, NotToml, LockVersion, LockShape, TooLarge}
+
+abbrev pub is_memory : LockFault → Bool
+is_memory OutOfMemory = true
+is_memory NotToml = false
+is_memory LockVersion = false
+is_memory LockShape = false
+is_memory TooLarge = false
+
+-- ---- the shape of the table
+
+-- the table that the bytes are
+abbrev pub table_of_bytes : List ℕ → Result Members LockFault
+table_of_bytes bytes = ok_or (if is_utf8 bytes then parse_document bytes else None) NotToml
+
+-- the versions of the format that are read: 1 to 4
+abbrev pub is_known_version : ℤ → Bool
+is_known_version (pos n) = nat_le 1 n && nat_le n 4
+is_known_version (negsuc n) = false
+
+abbrev pub version_in : Option Data → Result (Unit {0}) LockFault
+version_in None = Ok tt
+version_in (Some d) = ok_or (as_integer d) LockShape >>= λ n. guard (is_known_version n) LockVersion
+
+-- `version`: absent, or a version of the format that is read
+abbrev pub version_known : Members → Result (Unit {0}) LockFault
+version_known top = version_in (get_member (codes "version") top)
+
+-- the text at a key that has to be there
+abbrev pub text_at : List ℕ → Members → Result (List ℕ) LockFault
+text_at key section = ok_or (option_and_then as_str (get_member key section)) LockShape
+
+-- a text that has to be a package name
+abbrev pub checked_name : List ℕ → Result (List ℕ) LockFault
+checked_name text = if is_package_name text then Ok text else Err LockShape
+
+-- a text that has to be a version
+abbrev pub version_read : Result Parts Error → Result Parts LockFault
+version_read (Ok version) = Ok version
+version_read (Err e) = Err LockShape
+
+abbrev pub checked_version : List ℕ → Result Parts LockFault
+checked_version text = version_read (version_parts text)
+
+-- a printable ASCII byte other than `"` and `\`
+abbrev pub is_plain_byte : ℕ → Bool
+is_plain_byte b = nat_le 32 b && (nat_le b 126 && (not (b == 34) && not (b == 92)))
+
+-- a text of such bytes alone
+abbrev pub checked_plain : List ℕ → Result (List ℕ) LockFault
+checked_plain text = if list_all is_plain_byte text then Ok text else Err LockShape
+
+abbrev pub plain_in : Option Data → Result (Option (List ℕ)) LockFault
+plain_in None = Ok None
+plain_in (Some d) = ok_or (as_str d) LockShape >>= λ text. checked_plain text >>= λ plain. Ok (Some plain)
+
+-- `source` or `checksum`, which may be absent
+abbrev pub plain_at : List ℕ → Members → Result (Option (List ℕ)) LockFault
+plain_at key section = plain_in (get_member key section)
+
+-- an array of texts
+unfoldable pub texts_in : Items → Result (List (List ℕ)) LockFault
+texts_in no_items = Ok []
+texts_in (item d rest) = do
+  text ← ok_or (as_str d) LockShape
+  others ← texts_in rest
+  Ok (text ∷ others)
+
+abbrev pub dependencies_in : Option Data → Result (List (List ℕ)) LockFault
+dependencies_in None = Ok []
+dependencies_in (Some d) = ok_or (as_array d) LockShape >>= texts_in
+
+-- `dependencies`, empty if absent
+abbrev pub dependencies_at : Members → Result (List (List ℕ)) LockFault
+dependencies_at section = dependencies_in (get_member (codes "dependencies") section)
+
+-- a package with the texts of its dependencies: what these mean is still to be found, and its list is empty
+pub record Unlinked : Type 0 where
+  pub locked : Package
+  pub texts : List (List ℕ)
+
+-- one table of `package`
+unfoldable pub unlinked_of : Members → Result Unlinked LockFault
+unlinked_of section = do
+  name_text ← text_at (codes "name") section
+  name ← checked_name name_text
+  version_text ← text_at (codes "version") section
+  version ← checked_version version_text
+  source ← plain_at (codes "source") section
+  checksum ← plain_at (codes "checksum") section
+  texts ← dependencies_at section
+  Ok (record { locked = record { name = name; version = version; source = source; checksum = checksum; list = [] }; texts = texts })
+
+-- the tables of an array, as they stand there
+unfoldable pub unlinked_in : Items → Result (List Unlinked) LockFault
+unlinked_in no_items = Ok []
+unlinked_in (item d rest) = do
+  section ← ok_or (as_table d) LockShape
+  first ← unlinked_of section
+  others ← unlinked_in rest
+  Ok (first ∷ others)
+
+abbrev pub packages_in : Option Data → Result (List Unlinked) LockFault
+packages_in None = Ok []
+packages_in (Some d) = ok_or (as_array d) LockShape >>= unlinked_in
+
+-- `package`, none if absent
+abbrev pub packages_at : Members → Result (List Unlinked) LockFault
+packages_at top = packages_in (get_member (codes "package") top)
+
+-- ---- order, and what may stand once
+
+-- x among xs, before the first that comes after it
+abbrev pub put_in : {X : Type 0} → (X → X → Ordering) → X → List X → List X
+put_in cmp x [] = x ∷ []
+put_in cmp x (y ∷ ys) = if is_gt (cmp x y) then y ∷ put_in cmp x ys else x ∷ (y ∷ ys)
+
+-- the elements by an order
+abbrev pub in_order : {X : Type 0} → (X → X → Ordering) → List X → List X
+in_order cmp [] = []
+in_order cmp (x ∷ xs) = put_in cmp x (in_order cmp xs)
+
+-- whether some two elements are alike
+abbrev pub has_alike : {X : Type 0} → (X → X → Bool) → List X → Bool
+has_alike alike [] = false
+has_alike alike (x ∷ xs) = list_any (alike x) xs || has_alike alike xs
+
+-- two packages are alike if they agree in name, version and source
+abbrev pub is_alike : Package → Package → Bool
+is_alike p r = same_text p.name r.name && (same_version p.version r.version && same_option p.source r.source)
+
+abbrev pub unlinked_alike : Unlinked → Unlinked → Bool
+unlinked_alike p r = is_alike p.locked r.locked
+
+abbrev pub unlinked_cmp : Unlinked → Unlinked → Ordering
+unlinked_cmp p r = package_cmp p.locked r.locked
+
+-- the packages in package order, no two alike
+abbrev pub ordered_packages : List Unlinked → Result (List Unlinked) LockFault
+ordered_packages ps = if has_alike unlinked_alike ps then Err LockShape else Ok (in_order unlinked_cmp ps)
+
+-- ---- what a dependency text means
+
+-- `name version`
+abbrev pub version_form : Package → List ℕ
+version_form p = p.name ++ (32 ∷ parts_text p.version)
+
+-- `name version (source)`
+abbrev pub source_form : Package → List ℕ → List ℕ
+source_form p source = p.name ++ (32 ∷ (parts_text p.version ++ (32 ∷ (40 ∷ (source ++ (41 ∷ []))))))
+
+abbrev pub is_source_form : List ℕ → Package → Option (List ℕ) → Bool
+is_source_form text p None = false
+is_source_form text p (Some source) = same_text text (source_form p source)
+
+-- a package has the forms `name`, `name version` and, where it has a source, `name version (source)`
+abbrev pub is_form : List ℕ → Package → Bool
+is_form text p = same_text text p.name || (same_text text (version_form p) || is_source_form text p p.source)
+
+-- `name version` of a package without a source
+abbrev pub is_form_without_source : List ℕ → Package → Bool
+is_form_without_source text p = not (is_some p.source) && same_text text (version_form p)
+
+-- the places of those that pass a test, the first place being n
+abbrev pub places_from : {X : Type 0} → ℕ → (X → Bool) → List X → List ℕ
+places_from n test [] = []
+places_from n test (x ∷ xs) = if test x then n ∷ places_from (n + 1) test xs else places_from (n + 1) test xs
+
+abbrev pub places : {X : Type 0} → (X → Bool) → List X → List ℕ
+places test xs = places_from 0 test xs
+
+-- the one place, if there is just one
+abbrev pub only : List ℕ → Option ℕ
+only [] = None
+only (i ∷ []) = Some i
+only (i ∷ (j ∷ js)) = None
+
+abbrev pub or_else : Option ℕ → Option ℕ → Option ℕ
+or_else None other = other
+or_else (Some i) other = Some i
+
+-- The place that a text means: of the one package of which it is a form. A `name version` that fits several packages means the one without a
+-- source.
+abbrev pub place_meant : Content → List ℕ → Option ℕ
+place_meant content text = or_else (only (places (is_form text) content)) (only (places (is_form_without_source text) content))
+
+unfoldable pub places_meant : Content → List (List ℕ) → Result (List ℕ) LockFault
+places_meant content [] = Ok []
+places_meant content (text ∷ texts) = do
+  first ← ok_or (place_meant content text) LockShape
+  others ← places_meant content texts
+  Ok (first ∷ others)
+
+-- the places lowest first, none twice
+abbrev pub ordered_places : List ℕ → Result (List ℕ) LockFault
+ordered_places ns = if has_alike nat_eq ns then Err LockShape else Ok (in_order nat_cmp ns)
+
+-- the list of a package that has these texts
+abbrev pub list_of : Content → List (List ℕ) → Result (List ℕ) LockFault
+list_of content texts = places_meant content texts >>= ordered_places
+
+unfoldable pub lists_of : Content → List Unlinked → Result (List (List ℕ)) LockFault
+lists_of content [] = Ok []
+lists_of content (p ∷ ps) = do
+  first ← list_of content p.texts
+  others ← lists_of content ps
+  Ok (first ∷ others)
+
+-- ---- the whole lock
+
+abbrev pub locked_packages : List Unlinked → Content
+locked_packages ps = map (λ p. p.locked) ps
+
+-- a package with its list
+abbrev pub linked : Unlinked × List ℕ → Package
+linked p = record (p.0.locked) { list = p.1 }
+
+-- what packages in order say, once each text means a package
+unfoldable pub content_of : List Unlinked → Result Content LockFault
+content_of ps = do
+  lists ← lists_of (locked_packages ps) ps
+  Ok (map linked (zip ps lists))
+
+unfoldable pub content_of_table : Members → Result Content LockFault
+content_of_table top = do
+  known ← version_known top
+  written ← packages_at top
+  ordered ← ordered_packages written
+  content_of ordered
+
+-- 64 MiB
+abbrev pub most_bytes : ℕ
+most_bytes = 67108864
+
+-- the content that the bytes of a lock say, or why they are refused
+unfoldable pub content_of_bytes : List ℕ → Result Content LockFault
+content_of_bytes bytes = if nat_lt most_bytes (length bytes) then Err TooLarge else (table_of_bytes bytes >>= content_of_table)

@@ -1,0 +1,181 @@
+//! Look-ups in the tables of a lock.
+
+ghost use Rattle.std.specs.Prelude.{◌≡◌, ◌≢◌, ◌⊎◌, true, option_map, string_bytes, IfOk};
+ghost use Rattle.std.specs.List.{list_all};
+ghost use Rattle.features.specs.Names.{is_package_name};
+ghost use Rattle.semver.specs.Grammar.{IsValid};
+ghost use Rattle.semver.specs.Identifiers.{parts_of};
+ghost use Rattle.semver.specs.Parse.{memory_error};
+ghost use Rattle.toml.specs.Data.{get_member};
+ghost use Rattle.toml.specs.View.{view, table_view, items_view};
+ghost use Rattle.model.specs.Outcome.{Gives, guard};
+ghost use Rattle.lockfile.specs.Locks.{is_memory, table_of_bytes, is_known_version, version_known, text_at, checked_name, checked_version, is_plain_byte, checked_plain, plain_at, texts_in, dependencies_at};
+ghost use Rattle.lockfile.specs.Views.{text_views};
+
+use crate::fault::LockFault;
+use features::{NameFault, PackageName};
+use semver::Version;
+use std::alloc::{AllocError, Global};
+use toml::{Table, Value};
+
+/// The table that the bytes are.
+pub(crate) fn read_table(alloc: Global, bytes: &[u8]) -> Result<Table, LockFault>
+    ensures { Gives is_memory table_view result (table_of_bytes bytes.now) }
+{
+    match toml::table_from_slice(alloc, bytes) {
+        Ok(table) => Ok(table),
+        Err(e) => {
+            if e.is_memory() {
+                Err(LockFault::OutOfMemory)
+            } else {
+                Err(LockFault::NotToml)
+            }
+        }
+    }
+}
+
+/// Refuses what doesn't pass.
+pub(crate) fn check(passes: bool, fault: LockFault) -> Result<(), LockFault>
+    ensures { Gives is_memory (λ u. u) result (guard passes fault) }
+{
+    if passes { Ok(()) } else { Err(fault) }
+}
+
+/// The value at a key.
+pub(crate) fn member<'a>(table: &'a Table, key: &str) -> Option<&'a Value>
+    ensures { option_map (λ v. view v.now) result ≡ get_member key.now (table_view table.now) }
+{
+    table.get(key)
+}
+
+/// Refuses a `version` of the format that isn't read.
+pub(crate) fn check_version(table: &Table) -> Result<(), LockFault>
+    ensures { Gives is_memory (λ u. u) result (version_known (table_view table.now)) }
+{
+    let Some(value) = member(table, "version") else {
+        return Ok(());
+    };
+    let Some(version) = value.as_integer() else {
+        return Err(LockFault::LockShape);
+    };
+    check(is_known(version), LockFault::LockVersion)
+}
+
+fn is_known(version: i64) -> bool
+    ensures { result ≡ is_known_version version }
+{
+    1 <= version && version <= 4
+}
+
+/// The text at a key that has to be there.
+pub(crate) fn text<'a>(section: &'a Table, key: &str) -> Result<&'a str, LockFault>
+    ensures { Gives is_memory (λ s. s.now) result (text_at key.now (table_view section.now)) }
+{
+    match member(section, key) {
+        Some(value) => match value.as_str() {
+            Some(text) => Ok(text),
+            None => Err(LockFault::LockShape),
+        },
+        None => Err(LockFault::LockShape),
+    }
+}
+
+/// The package name that a text has to be.
+pub(crate) fn package_name(alloc: Global, text: &str) -> Result<PackageName, LockFault>
+    ensures value { Gives is_memory (λ n. n) result (checked_name text.now) }
+    ensures named { IfOk result (λ n. is_package_name n ≡ true) }
+{
+    match PackageName::parse(alloc, text) {
+        Ok(name) => Ok(name),
+        Err(NameFault::OutOfMemory) => Err(LockFault::OutOfMemory),
+        Err(NameFault::NotAName) => Err(LockFault::LockShape),
+    }
+}
+
+/// The version that a text has to be.
+pub(crate) fn version(alloc: Global, text: &str) -> Result<Version, LockFault>
+    ensures value { Gives is_memory parts_of result (checked_version text.now) }
+    ensures reads { IfOk result (λ v. IsValid (parts_of v)) }
+{
+    match Version::parse(alloc, text) {
+        Ok(version) => Ok(version),
+        Err(e) => Err(fault_of(e)),
+    }
+}
+
+/// What a refusal of `semver` is as a fault.
+fn fault_of(e: semver::Error) -> LockFault
+    ensures { (result ≡ LockFault.OutOfMemory) ⊎ ((result ≡ LockFault.LockShape) × (e ≢ memory_error)) }
+{
+    if e == semver::Error::from(AllocError) {
+        LockFault::OutOfMemory
+    } else {
+        LockFault::LockShape
+    }
+}
+
+/// The text at a key that may be absent, as `source` and `checksum`.
+pub(crate) fn plain_text(
+    alloc: Global,
+    section: &Table,
+    key: &str,
+) -> Result<Option<String>, LockFault>
+    ensures { Gives is_memory (option_map string_bytes) result (plain_at key.now (table_view section.now)) }
+{
+    let Some(value) = member(section, key) else {
+        return Ok(None);
+    };
+    let Some(text) = value.as_str() else {
+        return Err(LockFault::LockShape);
+    };
+    Ok(Some(plain(alloc, text)?))
+}
+
+fn plain(alloc: Global, text: &str) -> Result<String, LockFault>
+    ensures { Gives is_memory string_bytes result (checked_plain text.now) }
+{
+    if is_plain(text.as_bytes()) {
+        Ok(String::from_str(alloc, text)?)
+    } else {
+        Err(LockFault::LockShape)
+    }
+}
+
+fn is_plain(text: &[u8]) -> bool
+    ensures { result ≡ list_all is_plain_byte text.now }
+{
+    text.iter().all(|b| is_plain_ascii(*b))
+}
+
+fn is_plain_ascii(byte: u8) -> bool
+    ensures { result ≡ is_plain_byte byte }
+{
+    byte >= b' ' && byte <= b'~' && byte != b'"' && byte != b'\\'
+}
+
+/// The texts of `dependencies`, none where it is absent.
+pub(crate) fn dependencies(alloc: Global, section: &Table) -> Result<Vec<&str>, LockFault>
+    ensures { Gives is_memory (λ v. text_views v.items) result (dependencies_at (table_view section.now)) }
+{
+    let Some(value) = member(section, "dependencies") else {
+        return Ok(Vec::new(alloc));
+    };
+    let Some(values) = value.as_array() else {
+        return Err(LockFault::LockShape);
+    };
+    texts(alloc, values)
+}
+
+#[tactic(auto, unfolding(crate::specs::Locks::texts_in))]
+fn texts(alloc: Global, values: &Vec<Value>) -> Result<Vec<&str>, LockFault>
+    ensures { Gives is_memory (λ v. text_views v.items) result (texts_in (items_view values.now.items)) }
+{
+    let mut found = Vec::new(alloc);
+    'items: for value in values.iter() {
+        let Some(text) = value.as_str() else {
+            return Err(LockFault::LockShape);
+        };
+        found.push(text)?;
+    }
+    Ok(found)
+}
