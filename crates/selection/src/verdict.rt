@@ -1,0 +1,50 @@
+//! What is said of a lock.
+
+use features::PackageName;
+use semver::Version;
+use std::fmt;
+
+/// What is wrong with a package, in the order in which it is looked for.
+#[derive(Clone, Copy, Debug, PartialEq, Eq)]
+pub enum Fault {
+    /// There is no root package.
+    Root,
+    /// It is not the root, and no candidate of the run with the index's checksum.
+    NotCandidate,
+    /// It is not the root, and an earlier package other than the root has its name and class.
+    TwoInClass,
+    /// An enabled dependency has no target.
+    Unmet,
+    /// A feature that is on here doesn't exist here.
+    NoFeature,
+    /// Its list isn't the set of targets of its enabled dependencies.
+    List,
+    /// No lists lead from the root to it.
+    Unreached,
+}
+
+impl fmt::Display for Fault {
+    fn fmt<W: fmt::Write>(&self, f: &mut fmt::Formatter<W>) -> fmt::Result {
+        f.write_str(match self {
+            Fault::Root => "V1 Root",
+            Fault::NotCandidate => "V2 NotCandidate",
+            Fault::TwoInClass => "V3 TwoInClass",
+            Fault::Unmet => "V4 Unmet",
+            Fault::NoFeature => "V5 NoFeature",
+            Fault::List => "V6 List",
+            Fault::Unreached => "V7 Unreached",
+        })
+    }
+}
+
+/// Whether a lock is a valid selection; if not, the first package in package order with its lowest fault.
+#[derive(Debug, Drop)]
+pub enum Verdict {
+    Valid,
+    /// Where there is no root package, the manifest's name and version stand here.
+    Invalid {
+        fault: Fault,
+        name: PackageName,
+        version: Version,
+    },
+}
