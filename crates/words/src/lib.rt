@@ -1,0 +1,9 @@
+//! What the words of a command line ask for, as `clap` reads them.
+#![tactic(auto)]
+
+mod command;
+mod reading;
+#[cfg(test)]
+mod tests;
+
+pub use reading::{Words, WordsFault, read_words};
