@@ -1,0 +1,145 @@
+//! Why a run has no answer, each with the line that the program prints.
+
+use catalogue::{Limit, LoadFault};
+use features::PackageName;
+use lockfile::LockFault;
+use manifest::{ManifestFault, Part, Unsupported};
+use semver::Version;
+use std::alloc::AllocError;
+use std::fmt;
+
+/// What is larger than its limit.
+#[derive(Debug, Drop)]
+pub enum TooLarge {
+    /// The manifest has more than 1 MiB.
+    Manifest,
+    /// The lock has more than 64 MiB.
+    Lock,
+    /// The names asked for, a file or its lines.
+    Index(Limit),
+}
+
+/// What isn't there yet.
+#[derive(Debug, Drop)]
+pub enum NotYet {
+    /// A manifest with more than plain dependencies.
+    Manifest,
+    /// The index file of this name has more than plain dependencies.
+    Index(PackageName),
+    /// The old lock is missing or isn't a valid selection, so that a new one has to be found.
+    Search,
+}
+
+/// Why a run has no answer. The numbers are those of the printed lines, in the order in which the faults are looked for.
+#[derive(Debug, Drop)]
+pub enum Fault {
+    /// 1: a growth was refused.
+    OutOfMemory,
+    /// 2: the manifest is no TOML.
+    ManifestNotToml,
+    /// 3: this part of the manifest has another shape.
+    ManifestShape(Part),
+    /// 4: the manifest asks for a source of this kind.
+    UnsupportedSource(Unsupported),
+    /// 5: the requirement of the dependency called so doesn't read.
+    BadRequirement(PackageName),
+    /// 7: the lock is no TOML.
+    LockNotToml,
+    /// 8: the lock's `version` is a whole number other than 1 to 4.
+    LockVersion,
+    /// 9: the lock breaks another rule.
+    LockShape,
+    /// 10: the folder failed at this path.
+    FolderFailed(String),
+    /// 11: a limit is passed.
+    TooLarge(TooLarge),
+    /// 12: a locked package has another checksum than the index.
+    ChecksumChanged(PackageName, Version),
+    /// 15: a part of the work that isn't there yet.
+    NotYet(NotYet),
+}
+
+impl fmt::Display for Fault {
+    fn fmt<W: fmt::Write>(&self, f: &mut fmt::Formatter<W>) -> fmt::Result {
+        match self {
+            Fault::OutOfMemory => f.write_str("fault 1 OutOfMemory"),
+            Fault::ManifestNotToml => f.write_str("fault 2 ManifestNotToml"),
+            Fault::ManifestShape(part) => write!(f, "fault 3 ManifestShape {part}"),
+            Fault::UnsupportedSource(kind) => write!(f, "fault 4 UnsupportedSource {kind}"),
+            Fault::BadRequirement(name) => write!(f, "fault 5 BadRequirement at {name}"),
+            Fault::LockNotToml => f.write_str("fault 7 LockNotToml"),
+            Fault::LockVersion => f.write_str("fault 8 LockVersion"),
+            Fault::LockShape => f.write_str("fault 9 LockShape"),
+            Fault::FolderFailed(path) => write!(f, "fault 10 FolderFailed at {path}"),
+            Fault::TooLarge(which) => write!(f, "fault 11 TooLarge {which}"),
+            Fault::ChecksumChanged(name, version) => {
+                write!(f, "fault 12 ChecksumChanged at {name} {version}")
+            }
+            Fault::NotYet(part) => write!(f, "fault 15 NotYet {part}"),
+        }
+    }
+}
+
+impl fmt::Display for TooLarge {
+    fn fmt<W: fmt::Write>(&self, f: &mut fmt::Formatter<W>) -> fmt::Result {
+        match self {
+            TooLarge::Manifest => f.write_str("manifest"),
+            TooLarge::Lock => f.write_str("lock"),
+            TooLarge::Index(limit) => write!(f, "{limit}"),
+        }
+    }
+}
+
+impl fmt::Display for NotYet {
+    fn fmt<W: fmt::Write>(&self, f: &mut fmt::Formatter<W>) -> fmt::Result {
+        match self {
+            NotYet::Manifest => f.write_str("manifest"),
+            NotYet::Index(name) => write!(f, "index {name}"),
+            NotYet::Search => f.write_str("search"),
+        }
+    }
+}
+
+impl From<AllocError> for Fault {
+    fn from(_e: AllocError) -> Fault {
+        Fault::OutOfMemory
+    }
+}
+
+impl From<ManifestFault> for Fault {
+    fn from(fault: ManifestFault) -> Fault {
+        match fault {
+            ManifestFault::OutOfMemory => Fault::OutOfMemory,
+            ManifestFault::TooLarge => Fault::TooLarge(TooLarge::Manifest),
+            ManifestFault::NotToml => Fault::ManifestNotToml,
+            ManifestFault::Shape(part) => Fault::ManifestShape(part),
+            ManifestFault::UnsupportedSource(kind) => Fault::UnsupportedSource(kind),
+            ManifestFault::BadRequirement(name) => Fault::BadRequirement(name),
+            ManifestFault::NotYet => Fault::NotYet(NotYet::Manifest),
+        }
+    }
+}
+
+impl From<LockFault> for Fault {
+    fn from(fault: LockFault) -> Fault {
+        match fault {
+            LockFault::OutOfMemory => Fault::OutOfMemory,
+            LockFault::TooLarge => Fault::TooLarge(TooLarge::Lock),
+            LockFault::NotToml => Fault::LockNotToml,
+            LockFault::LockVersion => Fault::LockVersion,
+            LockFault::LockShape => Fault::LockShape,
+        }
+    }
+}
+
+impl From<LoadFault> for Fault {
+    fn from(fault: LoadFault) -> Fault {
+        match fault {
+            LoadFault::OutOfMemory => Fault::OutOfMemory,
+            LoadFault::FolderFailed(path) => Fault::FolderFailed(path),
+            LoadFault::TooLarge(limit) => Fault::TooLarge(TooLarge::Index(limit)),
+            LoadFault::ChecksumChanged(name, version) => Fault::ChecksumChanged(name, version),
+            LoadFault::NotYet(name) => Fault::NotYet(NotYet::Index(name)),
+        }
+    }
+}

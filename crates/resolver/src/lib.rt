@@ -1,0 +1,10 @@
+//! The calls of the product: resolve a manifest, verify a lock.
+#![tactic(auto)]
+
+mod fault;
+mod resolving;
+mod verifying;
+
+pub use fault::{Fault, NotYet, TooLarge};
+pub use resolving::{Answer, resolve};
+pub use verifying::verify_bytes;
