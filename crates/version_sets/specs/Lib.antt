@@ -1,0 +1,3 @@
+pub mod Sets
+pub mod Listed
+pub mod Words
