@@ -1,0 +1,46 @@
+//! Where an incompatibility came from.
+
+use std::marker::Model;
+
+/// The place of an incompatibility in its store, counted from 0.
+#[derive(Clone, Copy, PartialEq, Eq, PartialOrd, Ord, Debug)]
+pub struct Id {
+    index: usize,
+}
+
+impl Model for Id {
+    ghost use Rattle.std.specs.Prelude.{ℕ};
+
+    ghost Value = { ℕ };
+
+    ghost view = { λ i. i.index };
+
+    ghost inverse = { λ n. record { index = n } };
+}
+
+impl Id {
+    ghost use Rattle.std.specs.Prelude.{◌≡◌};
+
+    /// The place `index`.
+    pub fn new(index: usize) -> Id
+        ensures { result ≡ index }
+    {
+        Id { index }
+    }
+
+    /// The place as a number.
+    pub fn index(self) -> usize
+        ensures { result ≡ self }
+    {
+        self.index
+    }
+}
+
+/// Where an incompatibility came from.
+#[derive(Clone, Copy, PartialEq, Eq, Debug)]
+pub enum Origin {
+    /// It was given, as an instance of the axiom with this number.
+    Axiom(u8),
+    /// It is the combination of two earlier ones at a vertex.
+    Combined(Id, Id, usize),
+}
