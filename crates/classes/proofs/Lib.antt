@@ -1,2 +1,4 @@
 pub mod TextOrder
 pub mod Numerals
+pub mod GroupLemmas
+pub mod LastLemmas

@@ -1,4 +1,4 @@
--- Which texts are Rust versions, and which of two is the older (Cargo book, "The Manifest Format", `rust-version`).
+-- Which texts are Rust versions (Cargo book, "The Manifest Format", `rust-version`).
 use Rattle.std.specs.Prelude.{ℕ, List, Bool, ◌&&◌, ◌||◌, not, ◌==◌, ◌^◌, if◌then◌else◌, nat_lt, nat_le, length, slice_index, Option, Some, None, option_map, option_and_then}
 use Rattle.std.specs.Char.{is_ascii_digit}
 use Rattle.std.specs.List.{list_all}

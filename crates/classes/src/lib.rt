@@ -2,11 +2,11 @@
 #![tactic(auto)]
 
 mod class;
+mod grouping;
 mod order;
 mod rust_version;
-#[cfg(test)]
-mod tests;
 
 pub use class::Class;
-pub use order::version_order;
+pub use grouping::matching;
+pub use order::{rust_version_order, version_order};
 pub use rust_version::RustVersion;

@@ -1,2 +1,5 @@
 pub mod TableLemmas
 pub mod TextLemmas
+pub mod BuildLemmas
+pub mod DraftLemmas
+pub mod NameLemmas

@@ -4,4 +4,6 @@ pub mod Names
 pub mod Entries
 pub mod EntryViews
 pub mod Tables
+pub mod Drafts
+pub mod DraftViews
 pub mod Views

@@ -2,15 +2,14 @@
 #![tactic(auto)]
 
 mod dependency;
+mod draft;
 mod entry;
 mod feature_name;
 mod name;
 mod table;
-#[cfg(test)]
-mod tests;
 
 pub use dependency::{Dependency, Owner};
 pub use entry::{Entry, EntryFault};
 pub use feature_name::FeatureName;
 pub use name::{NameFault, PackageName};
-pub use table::{DepName, FeatureTable};
+pub use table::{DepName, FeatureFault, FeatureTable};

@@ -1,23 +1,55 @@
 //! Tables of features.
 
 ghost use Rattle.std.specs.Prelude.{◌≡◌, [], IfOk, map, unwrap_or};
+ghost use Rattle.model.specs.Outcome.{Gives};
 ghost use Rattle.model.specs.Owner.{entries_at, has_feature};
-ghost use Rattle.features.specs.Tables.{plain_table, rows_of};
+ghost use Rattle.model.specs.Tables.{with_default};
+ghost use Rattle.features.specs.Drafts.{with_rows};
+ghost use Rattle.features.specs.Tables.{dep_names_view, plain_table, rows_of, table_wants_memory, built};
 ghost use Rattle.features.specs.EntryViews.{entry_views};
 
+use crate::draft::implicit_rows;
 use crate::entry::Entry;
 use crate::feature_name::FeatureName;
-use crate::name::{NameFault, PackageName};
+use crate::name::PackageName;
 use std::alloc::{AllocError, Global};
 use std::collections::BTreeMap;
 use std::collections::btree_map::Iter;
 use std::marker::Model;
+use thiserror::Error;
 
 /// The name that a dependency is called by, and whether it is optional.
 #[derive(Drop)]
 pub struct DepName {
     pub name: PackageName,
     pub optional: bool,
+}
+
+/// Why a feature table is refused: the lowest of its faults, at the first feature that has it by the bytes of the names.
+#[derive(Debug, Drop, PartialEq, Error)]
+pub enum FeatureFault {
+    #[error("out of memory")]
+    OutOfMemory,
+    /// An entry of this feature is `g`, and there is no feature g.
+    #[error("feature {0} has an entry that is no feature")]
+    NoSuchFeature(FeatureName),
+    /// An entry of this feature is `dep:d`, `d/g` or `d?/g`, and no dependency is called d.
+    #[error("feature {0} has an entry on no dependency")]
+    NoSuchDependency(FeatureName),
+    /// An entry of this feature is `dep:d`, and the dependency d isn't optional.
+    #[error("feature {0} has an entry on a dependency that isn't optional")]
+    NotOptional(FeatureName),
+}
+
+impl From<AllocError> for FeatureFault {
+    ghost use Rattle.std.specs.Prelude.{◌≡◌};
+    ghost use Rattle.features.specs.declared.table.FeatureFault.TheVariants.{OutOfMemory};
+
+    ghost from_gives = { λ _ e. e ≡ OutOfMemory };
+
+    fn from(_e: AllocError) -> FeatureFault {
+        FeatureFault::OutOfMemory
+    }
 }
 
 /// The features of a package, each with its entries, by the bytes of their names: implicit features and `default` are among them.
@@ -40,12 +72,28 @@ impl FeatureTable {
     pub fn plain(alloc: Global) -> Result<FeatureTable, AllocError>
         ensures { IfOk result (λ t. t ≡ plain_table) }
     {
-        let mut features = BTreeMap::new(alloc);
-        if let Ok(default) = FeatureName::parse(alloc, "default") {
-            features.insert(default, Vec::new(alloc))?;
-            return Ok(FeatureTable { features });
-        }
-        Err(AllocError)
+        Ok(FeatureTable {
+            features: with_default(alloc, BTreeMap::new(alloc))?,
+        })
+    }
+
+    /// The table of a package with these dependencies that writes these features: with an implicit feature for each optional dependency that
+    /// no entry `dep:d` names and no feature is called by, and with `default` (Cargo book, "Features" and "Optional dependencies").
+    ///
+    /// # Errors
+    /// The lowest fault, at the first feature that has it by the bytes of the names.
+    pub fn build(
+        alloc: Global,
+        dependencies: &[DepName],
+        written: BTreeMap<FeatureName, Vec<Entry>>,
+    ) -> Result<FeatureTable, FeatureFault>
+        ensures { Gives table_wants_memory (λ t. t) result (built (dep_names_view dependencies.now) (rows_of written.entries)) }
+    {
+        let implicit = implicit_rows(alloc, dependencies, &written)?;
+        let features = with_rows(written, implicit)?;
+        Ok(FeatureTable {
+            features: with_default(alloc, features)?,
+        })
     }
 
     /// The entries of a feature: none where the table lacks it.
@@ -71,4 +119,32 @@ impl FeatureTable {
     {
         self.features.contains_key(name)
     }
+}
+
+/// A table with these rows too.
+fn with_rows(
+    mut features: BTreeMap<FeatureName, Vec<Entry>>,
+    rows: Vec<(FeatureName, Vec<Entry>)>,
+) -> Result<BTreeMap<FeatureName, Vec<Entry>>, AllocError>
+    ensures { IfOk result (λ m. rows_of m.entries ≡ with_rows (rows_of features.entries) (rows_of rows.items)) }
+{
+    'rows: for (name, entries) in rows {
+        features.insert(name, entries)?;
+    }
+    Ok(features)
+}
+
+/// A table with the feature `default` too, without entries where it isn't there yet.
+fn with_default(
+    alloc: Global,
+    mut features: BTreeMap<FeatureName, Vec<Entry>>,
+) -> Result<BTreeMap<FeatureName, Vec<Entry>>, AllocError>
+    ensures { IfOk result (λ m. rows_of m.entries ≡ with_default (rows_of features.entries)) }
+{
+    let default = FeatureName::default_name(alloc)?;
+    if features.contains_key(&default) {
+        return Ok(features);
+    }
+    features.insert(default, Vec::new(alloc))?;
+    Ok(features)
 }

@@ -1,0 +1,255 @@
+//! What a feature table is built from: what a package writes, its faults, and the features that nobody wrote.
+
+ghost use Rattle.std.specs.Prelude.{◌≡◌, ◌||◌, ℕ, List, IfOk, OnOk, option_copied};
+ghost use Rattle.std.specs.List.{list_any};
+ghost use Rattle.model.specs.Outcome.{Gives};
+ghost use Rattle.model.specs.Owner.{has_feature, same_text};
+ghost use Rattle.model.specs.Tables.{has_dep_entry, has_dependency, has_fault, first_with, is_dep, implicit_entries, is_feature, is_implicit, is_optional};
+ghost use Rattle.features.specs.Drafts.{has_text, HasThose, faultless, implicit_rows, lack_view, rows_or_fault, without};
+ghost use Rattle.features.specs.EntryViews.{entry_view, entry_views};
+ghost use Rattle.features.specs.Tables.{dep_names_view, rows_of, table_wants_memory};
+
+use crate::entry::Entry;
+use crate::feature_name::FeatureName;
+use crate::name::PackageName;
+use crate::table::{DepName, FeatureFault};
+use std::alloc::{AllocError, Global};
+use std::collections::{BTreeMap, BTreeSet};
+
+/// What an entry may lack.
+#[derive(Clone, Copy)]
+enum Lack {
+    /// The feature that it names.
+    Feature,
+    /// A dependency of the name in it.
+    Dependency,
+    /// That the dependency is optional.
+    Optional,
+}
+
+/// The dependencies and the features that a package writes, with the names in them to be looked up.
+#[derive(Drop)]
+struct Draft<'a> {
+    dependencies: &'a [DepName],
+    written: &'a BTreeMap<FeatureName, Vec<Entry>>,
+    /// What the dependencies are called.
+    called: BTreeSet<&'a str>,
+    /// What the optional ones are called.
+    optional: BTreeSet<&'a str>,
+    /// What the entries `dep:d` name.
+    entered: BTreeSet<&'a str>,
+    /// What the features are called.
+    features: BTreeSet<&'a str>,
+    ghost called_is: { HasThose called.keys (has_dependency (dep_names_view dependencies.now)) },
+    ghost optional_is: { HasThose optional.keys (is_optional (dep_names_view dependencies.now)) },
+    ghost entered_is: { HasThose entered.keys (has_dep_entry (rows_of written.now.entries)) },
+    ghost features_is: { HasThose features.keys (has_feature (rows_of written.now.entries)) },
+}
+
+fn has(names: &BTreeSet<&str>, name: &str) -> bool
+    ensures { result ≡ has_text names.now.keys name.now }
+{
+    names.contains(name)
+}
+
+fn put<'a>(names: &mut BTreeSet<&'a str>, name: &'a str) -> Result<(), AllocError>
+    ensures { OnOk result ((d : List ℕ) → has_text names.new.keys d ≡ (has_text names.old.keys d || same_text d name.now)) }
+{
+    names.insert(name)?;
+    Ok(())
+}
+
+/// What the dependencies are called.
+fn called<'a>(alloc: Global, dependencies: &'a [DepName]) -> Result<BTreeSet<&'a str>, AllocError>
+    ensures { IfOk result (λ names. HasThose names.keys (has_dependency (dep_names_view dependencies.entry.now))) }
+{
+    let mut names = BTreeSet::new(alloc);
+    for dependency in dependencies {
+        put(&mut names, dependency.name.as_str())?;
+    }
+    Ok(names)
+}
+
+/// What the optional dependencies are called.
+fn optional<'a>(alloc: Global, dependencies: &'a [DepName]) -> Result<BTreeSet<&'a str>, AllocError>
+    ensures { IfOk result (λ names. HasThose names.keys (is_optional (dep_names_view dependencies.entry.now))) }
+{
+    let mut names = BTreeSet::new(alloc);
+    for dependency in dependencies {
+        if dependency.optional {
+            put(&mut names, dependency.name.as_str())?;
+        }
+    }
+    Ok(names)
+}
+
+/// What the entries `dep:d` name.
+fn entered<'a>(
+    alloc: Global,
+    written: &'a BTreeMap<FeatureName, Vec<Entry>>,
+) -> Result<BTreeSet<&'a str>, AllocError>
+    ensures { IfOk result (λ names. HasThose names.keys (has_dep_entry (rows_of written.entry.now.entries))) }
+{
+    let mut names = BTreeSet::new(alloc);
+    'rows: for (_, entries) in written.iter() {
+        put_entered(&mut names, entries.as_slice())?;
+    }
+    Ok(names)
+}
+
+fn put_entered<'a>(names: &mut BTreeSet<&'a str>, entries: &'a [Entry]) -> Result<(), AllocError>
+    ensures { OnOk result ((d : List ℕ) → has_text names.new.keys d ≡ (has_text names.old.keys d || list_any (is_dep d) (entry_views entries.now))) }
+{
+    for entry in entries {
+        if let Entry::Dependency(name) = entry {
+            put(names, name.as_str())?;
+        }
+    }
+    Ok(())
+}
+
+/// What the features are called.
+fn features<'a>(
+    alloc: Global,
+    written: &'a BTreeMap<FeatureName, Vec<Entry>>,
+) -> Result<BTreeSet<&'a str>, AllocError>
+    ensures { IfOk result (λ names. HasThose names.keys (has_feature (rows_of written.entry.now.entries))) }
+{
+    let mut names = BTreeSet::new(alloc);
+    'rows: for name in written.keys() {
+        put(&mut names, name.as_str())?;
+    }
+    Ok(names)
+}
+
+impl<'a> Draft<'a> {
+    ghost use Rattle.features.specs.DraftViews.{names_in, written_in};
+
+    fn of(
+        alloc: Global,
+        dependencies: &'a [DepName],
+        written: &'a BTreeMap<FeatureName, Vec<Entry>>,
+    ) -> Result<Draft<'a>, AllocError>
+        ensures { IfOk result (λ d. (names_in d ≡ dep_names_view dependencies.entry.now) × (written_in d ≡ rows_of written.entry.now.entries)) }
+    {
+        Ok(Draft {
+            dependencies,
+            written,
+            called: called(alloc, dependencies)?,
+            optional: optional(alloc, dependencies)?,
+            entered: entered(alloc, written)?,
+            features: features(alloc, written)?,
+        })
+    }
+
+    /// Whether an optional dependency of this name brings a feature that nobody wrote.
+    fn is_implicit(&self, name: &str) -> bool
+        ensures { result ≡ is_implicit (names_in self.now) (written_in self.now) name.now }
+    {
+        has(&self.optional, name) && !has(&self.entered, name) && !has(&self.features, name)
+    }
+
+    /// Whether the table has this feature in the end.
+    fn is_feature(&self, name: &str) -> bool
+        ensures { result ≡ is_feature (names_in self.now) (written_in self.now) name.now }
+    {
+        has(&self.features, name) || self.is_implicit(name) || name == "default"
+    }
+
+    /// Whether an entry lacks this.
+    fn is_lacking(&self, lack: Lack, entry: &Entry) -> bool
+        ensures { result ≡ has_fault (names_in self.now) (written_in self.now) (lack_view lack) (entry_view entry.now) }
+    {
+        match lack {
+            Lack::Feature => match entry {
+                Entry::Feature(feature) => !self.is_feature(feature.as_str()),
+                _ => false,
+            },
+            Lack::Dependency => match entry {
+                Entry::Feature(_) => false,
+                Entry::Dependency(name)
+                | Entry::DependencyFeature(name, _)
+                | Entry::WeakFeature(name, _) => !has(&self.called, name.as_str()),
+            },
+            Lack::Optional => match entry {
+                Entry::Dependency(name) => !has(&self.optional, name.as_str()),
+                _ => false,
+            },
+        }
+    }
+
+    fn some_lacking(&self, lack: Lack, entries: &[Entry]) -> bool
+        ensures { result ≡ list_any (λ entry. has_fault (names_in self.now) (written_in self.now) (lack_view lack) (entry_view entry)) entries.now }
+    {
+        entries.iter().any(|entry| self.is_lacking(lack, entry))
+    }
+
+    /// The first feature with an entry that lacks this.
+    fn first_lacking(&self, lack: Lack) -> Option<&'a FeatureName>
+        ensures { option_copied result ≡ first_with (has_fault (names_in self.now) (written_in self.now) (lack_view lack)) (written_in self.now) }
+    {
+        'rows: for (feature, entries) in self.written.iter() {
+            if self.some_lacking(lack, entries.as_slice()) {
+                return Some(feature);
+            }
+        }
+        None
+    }
+
+    fn without(&self, lack: Lack) -> Result<(), FeatureFault>
+        ensures { Gives table_wants_memory (λ u. u) result (without (names_in self.now) (written_in self.now) (lack_view lack)) }
+    {
+        let Some(feature) = self.first_lacking(lack) else {
+            return Ok(());
+        };
+        let feature = feature.clone()?;
+        Err(match lack {
+            Lack::Feature => FeatureFault::NoSuchFeature(feature),
+            Lack::Dependency => FeatureFault::NoSuchDependency(feature),
+            Lack::Optional => FeatureFault::NotOptional(feature),
+        })
+    }
+
+    fn faultless(&self) -> Result<(), FeatureFault>
+        ensures { Gives table_wants_memory (λ u. u) result (faultless (names_in self.now) (written_in self.now)) }
+    {
+        self.without(Lack::Feature)?;
+        self.without(Lack::Dependency)?;
+        self.without(Lack::Optional)
+    }
+
+    /// The rows of the implicit features, dependency after dependency.
+    fn implicit_rows(&self, alloc: Global) -> Result<Vec<(FeatureName, Vec<Entry>)>, AllocError>
+        ensures { IfOk result (λ v. rows_of v.items ≡ implicit_rows (is_implicit (names_in self.now) (written_in self.now)) (names_in self.now)) }
+    {
+        let mut rows = Vec::new(alloc);
+        for dependency in self.dependencies {
+            if self.is_implicit(dependency.name.as_str()) {
+                rows.push(implicit_row(alloc, &dependency.name)?)?;
+            }
+        }
+        Ok(rows)
+    }
+}
+
+/// The implicit feature of a dependency: with the one entry `dep:d`.
+fn implicit_row(alloc: Global, name: &PackageName) -> Result<(FeatureName, Vec<Entry>), AllocError>
+    ensures { IfOk result (λ row. (row.0 ≡ name.now) × (entry_views row.1.items ≡ implicit_entries name.now)) }
+{
+    let mut entries = Vec::new(alloc);
+    entries.push(Entry::Dependency(name.clone()?))?;
+    Ok((FeatureName::of_package(alloc, name)?, entries))
+}
+
+/// The rows of the implicit features, where what is written has no fault.
+pub(crate) fn implicit_rows(
+    alloc: Global,
+    dependencies: &[DepName],
+    written: &BTreeMap<FeatureName, Vec<Entry>>,
+) -> Result<Vec<(FeatureName, Vec<Entry>)>, FeatureFault>
+    ensures { Gives table_wants_memory (λ v. rows_of v.items) result (rows_or_fault (dep_names_view dependencies.now) (rows_of written.now.entries)) }
+{
+    let draft = Draft::of(alloc, dependencies, written)?;
+    draft.faultless()?;
+    Ok(draft.implicit_rows(alloc)?)
+}
