@@ -2,7 +2,7 @@
 use Rattle.std.proofs.Common.{◌≡◌, ◌==◌, ℕ, List, [], ◌∷◌, ◌++◌, length, map, append_assoc, not, String, Global, arith, Result, Bool, true, false, cond, Option, Some, None, Ok, Err, refl, ap, ◌∙◌, IsUtf8}
 use Rattle.std.proofs.lemmas.List.{map-append}
 use Rattle.std.proofs.lemmas.Str.{is_utf8-from_IsUtf8, IsUtf8-from_is_utf8}
-use Rattle.std.specs.List.{list_all, list_any}
+use Rattle.std.specs.List.{list_any}
 use Rattle.std.specs.Str.{is_utf8}
 use Rattle.std.specs.Option.{ok_or}
 use Rattle.std.proofs.lemmas.Bool.Decides.{nat_tests}
@@ -53,11 +53,7 @@ appended view xs more ys first (Err e) whole joined read told = rw read at told
 appended view xs more ys first (Ok others) whole joined read told =
     rw joined (ap Ok (ap (λ l. l ++ others) (map-append view xs more) ∙ append_assoc (map view xs) (map view more) others) ∙ rw read at told)
 
--- tests of views
+-- a test of views
 pub list_any-map : {X A : Type 0} (p : A → Bool) (view : X → A) (xs : List X) → list_any p (map view xs) ≡ list_any (λ x. p (view x)) xs
 list_any-map p view [] = refl
 list_any-map p view (x ∷ xs) = rw (list_any-map p view xs) refl
-
-pub list_all-map : {X A : Type 0} (p : A → Bool) (view : X → A) (xs : List X) → list_all p (map view xs) ≡ list_all (λ x. p (view x)) xs
-list_all-map p view [] = refl
-list_all-map p view (x ∷ xs) = rw (list_all-map p view xs) refl

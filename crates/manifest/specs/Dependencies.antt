@@ -1,5 +1,5 @@
 -- The dependencies that a manifest writes, before their requirements are read (Cargo book, "Specifying Dependencies").
-use Rattle.std.specs.Prelude.{ℕ, Bool, true, false, not, ◌||◌, if◌then◌else◌, List, [], ◌∷◌, ◌++◌, Option, Some, None, Ok, Err, codes, is_some}
+use Rattle.std.specs.Prelude.{ℕ, Bool, true, false, not, ◌||◌, if◌then◌else◌, List, [], ◌∷◌, ◌++◌, Option, Some, None, Ok, Err, codes}
 use Rattle.toml.specs.Data.{Data, string, integer, float, boolean, datetime, array, table, as_array, get_member, Items, no_items, item, Members, no_members, member}
 use Rattle.model.specs.Outcome.{◌>>=◌, guard}
 use Rattle.manifest.specs.Values.{Shaped, wanted, if_there, or_absent, text_of, flag_of, table_of, has_key, either_at, package_name_of, feature_name_of}
@@ -22,7 +22,6 @@ pub data SourceView : Type 0 where
 pub record DependencyShapeView : Type 0 where
   pub name : List ℕ
   pub real_name : List ℕ
-  pub renamed : Bool
   pub source : SourceView
   pub optional : Bool
   pub default_features : Bool
@@ -30,7 +29,7 @@ pub record DependencyShapeView : Type 0 where
 
 -- a dependency of which no more is said than where it is from
 abbrev pub bare : List ℕ → SourceView → DependencyShapeView
-bare name from = record { name = name; real_name = name; renamed = false; source = from; optional = false; default_features = true; features = [] }
+bare name from = record { name = name; real_name = name; source = from; optional = false; default_features = true; features = [] }
 
 -- the first source that is left out and that a key of the dependency asks for
 abbrev pub unsupported_in : Members → Option Unsupported
@@ -68,6 +67,10 @@ feature_names p (item d ds) = do
 abbrev pub feature_list : Part → Data → Shaped (List (List ℕ))
 feature_list p d = wanted p (as_array d) >>= feature_names p
 
+-- whether a dependency asks for `default`: it does where it says nothing
+abbrev pub default_features_in : Part → Members → Shaped Bool
+default_features_in p t = either_at p (codes "default-features") (codes "default_features") t >>= or_absent true (flag_of p)
+
 -- a dev dependency may not be optional
 abbrev pub may_be_optional : Kind → Bool
 may_be_optional Normal = true
@@ -83,13 +86,11 @@ dependency_in p kind name t = do
   real_name ← real_name_of p name given
   optional ← or_absent false (flag_of p) (get_member (codes "optional") t)
   allowed ← guard (not optional || may_be_optional kind) (Shape p)
-  default_value ← either_at p (codes "default-features") (codes "default_features") t
-  default_features ← or_absent true (flag_of p) default_value
+  default_features ← default_features_in p t
   features ← or_absent [] (feature_list p) (get_member (codes "features") t)
   Ok (record {
     name = name;
     real_name = real_name;
-    renamed = is_some given;
     source = from;
     optional = optional;
     default_features = default_features;

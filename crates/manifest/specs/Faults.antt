@@ -1,10 +1,14 @@
--- The faults of a manifest, and the words for its parts and for the sources that are left out (Cargo book, "The Manifest Format" and
--- "Specifying Dependencies").
+-- The faults of a manifest, and the words for its parts, for the sources that are left out and for the faults of its features (Cargo book,
+-- "The Manifest Format", "Specifying Dependencies" and "Features").
 use Rattle.std.specs.Prelude.{ℕ, List, Bool, true, false, codes}
+use Rattle.features.specs.declared.table.FeatureFault.{FeatureFault}
+use Rattle.features.specs.declared.table.FeatureFault.TheVariants as feature
 use Rattle.manifest.specs.declared.fault.ManifestFault.{ManifestFault}
-use Rattle.manifest.specs.declared.fault.ManifestFault.TheVariants.{OutOfMemory, TooLarge, NotToml, Shape, UnsupportedSource, BadRequirement, NotYet}
+use Rattle.manifest.specs.declared.fault.ManifestFault.TheVariants.{OutOfMemory, TooLarge, NotToml, Shape, UnsupportedSource, BadRequirement, RootFeature}
 use Rattle.manifest.specs.declared.fault.Part.{Part}
 use Rattle.manifest.specs.declared.fault.Part.TheVariants as part
+use Rattle.manifest.specs.declared.fault.TableFault.{TableFault}
+use Rattle.manifest.specs.declared.fault.TableFault.TheVariants.{NoSuchFeature, NoSuchDependency, NotOptional}
 use Rattle.manifest.specs.declared.fault.Unsupported.{Unsupported}
 use Rattle.manifest.specs.declared.fault.Unsupported.TheVariants as source
 
@@ -15,7 +19,7 @@ is_memory NotToml = false
 is_memory (Shape p) = false
 is_memory (UnsupportedSource s) = false
 is_memory (BadRequirement name) = false
-is_memory NotYet = false
+is_memory (RootFeature fault f) = false
 
 -- the name of a part: the key of its table
 abbrev pub part_name : Part → List ℕ
@@ -37,3 +41,16 @@ source_name source.Workspace = codes "Workspace"
 source_name source.Git = codes "Git"
 source_name source.Path = codes "Path"
 source_name source.Registry = codes "Registry"
+
+-- the code of a fault of the features
+abbrev pub table_fault_code : TableFault → List ℕ
+table_fault_code NoSuchFeature = codes "F1"
+table_fault_code NoSuchDependency = codes "F2"
+table_fault_code NotOptional = codes "F3"
+
+-- what a refusal of the feature table is as a fault of the manifest
+abbrev pub root_fault : FeatureFault → ManifestFault
+root_fault feature.OutOfMemory = OutOfMemory
+root_fault (feature.NoSuchFeature f) = RootFeature NoSuchFeature f
+root_fault (feature.NoSuchDependency f) = RootFeature NoSuchDependency f
+root_fault (feature.NotOptional f) = RootFeature NotOptional f

@@ -1,20 +1,21 @@
--- What a manifest says: a function of its bytes, or the first fault (Cargo book, "The Manifest Format" and "Specifying Dependencies").
-use Rattle.std.specs.Prelude.{ℕ, Bool, true, false, not, ◌&&◌, ◌||◌, if◌then◌else◌, List, [], ◌∷◌, Option, Some, None, Result, Ok, Err, codes, length, nat_le, is_none, option_and_then}
-use Rattle.std.specs.List.{list_all, list_any}
+-- What a manifest says: a function of its bytes, or the first fault (Cargo book, "The Manifest Format", "Specifying Dependencies" and
+-- "Features").
+use Rattle.std.specs.Prelude.{ℕ, Bool, true, false, not, ◌||◌, if◌then◌else◌, List, [], ◌∷◌, map, Option, None, Result, Ok, Err, length, nat_le, is_none}
+use Rattle.std.specs.List.{list_any, flat_map}
 use Rattle.std.specs.Option.{ok_or}
 use Rattle.std.specs.Str.{is_utf8}
-use Rattle.toml.specs.Data.{as_table, get_member, Members}
+use Rattle.toml.specs.Data.{Members}
 use Rattle.toml.specs.Parse.{parse_document}
 use Rattle.semver.specs.Parse.{Parts, Held, req_of}
 use Rattle.semver.specs.declared.error.Error.{Error}
 use Rattle.model.specs.Outcome.{◌>>=◌, guard}
-use Rattle.model.specs.Owner.{Dependency, Owner}
-use Rattle.features.specs.Tables.{plain_table}
-use Rattle.manifest.specs.Values.{has_rows}
+use Rattle.model.specs.Owner.{Dependency, Owner, Entry, feature, dependency, dependency_feature, weak_feature, Table}
+use Rattle.model.specs.Tables.{DepName, TableFault, no_such_feature, no_such_dependency, not_optional, table_of}
 use Rattle.manifest.specs.Dependencies.{SourceView, registry, unsupported, DependencyShapeView}
 use Rattle.manifest.specs.Shapes.{ShapeView, shape_of}
 use Rattle.manifest.specs.declared.fault.ManifestFault.{ManifestFault}
-use Rattle.manifest.specs.declared.fault.ManifestFault.TheVariants.{TooLarge, NotToml, UnsupportedSource, BadRequirement, NotYet}
+use Rattle.manifest.specs.declared.fault.ManifestFault.TheVariants.{TooLarge, NotToml, UnsupportedSource, BadRequirement, RootFeature}
+use Rattle.manifest.specs.declared.fault.TableFault.TheVariants.{NoSuchFeature, NoSuchDependency, NotOptional}
 use Rattle.manifest.specs.declared.fault.Unsupported.{Unsupported}
 use Rattle.manifest.specs.declared.fault.Unsupported.TheVariants.{Patch, Replace, Workspace, Git, Path, Registry}
 
@@ -90,30 +91,36 @@ dependencies_of (d ∷ ds) = do
   others ← dependencies_of ds
   Ok (first ∷ others)
 
--- ---- what is read so far
+-- ---- features
 
-abbrev pub is_empty : {A : Type 0} → List A → Bool
-is_empty [] = true
-is_empty (x ∷ xs) = false
+-- what the manifest calls a dependency
+abbrev pub dep_name : Dependency → DepName
+dep_name d = record { name = d.name; optional = d.optional }
 
--- neither optional nor renamed, and without a list of features
-abbrev pub is_plain : DependencyShapeView → Bool
-is_plain d = not d.optional && (not d.renamed && is_empty d.features)
+-- what is wrong with the feature table, as a fault of the manifest
+abbrev pub refused_as : TableFault → List ℕ → ManifestFault
+refused_as no_such_feature f = RootFeature NoSuchFeature f
+refused_as no_such_dependency f = RootFeature NoSuchDependency f
+refused_as not_optional f = RootFeature NotOptional f
 
-abbrev pub table_has_rows : Option Members → Bool
-table_has_rows None = false
-table_has_rows (Some t) = has_rows t
+abbrev pub table_or_refused : Result Table (TableFault × List ℕ) → Result Table ManifestFault
+table_or_refused (Ok table) = Ok table
+table_or_refused (Err e) = Err (refused_as e.0 e.1)
 
-abbrev pub has_table : Members → List ℕ → Bool
-has_table top key = table_has_rows (option_and_then as_table (get_member key top))
+-- the feature table of the root: of all its dependencies, dev ones too, and of the features that it writes
+abbrev pub features_with : List Dependency → Table → Result Table ManifestFault
+features_with ds written = table_or_refused (table_of (map dep_name ds) written)
 
--- the tables that aren't read yet
-abbrev pub later_tables : List (List ℕ)
-later_tables = codes "features" ∷ codes "target" ∷ codes "dev-dependencies" ∷ codes "dev_dependencies" ∷ codes "build-dependencies" ∷ codes "build_dependencies" ∷ []
+-- what an entry `d/g` or `d?/g` asks of each dependency called d: all dependencies of the root are enabled
+abbrev pub asked_by : Entry → List (List ℕ × List ℕ)
+asked_by (feature g) = []
+asked_by (dependency d) = []
+asked_by (dependency_feature d g) = (d, g) ∷ []
+asked_by (weak_feature d g) = (d, g) ∷ []
 
--- normal, plain dependencies alone, and no features
-abbrev pub is_plain_manifest : Members → ShapeView → Bool
-is_plain_manifest top shape = not (list_any (has_table top) later_tables) && list_all is_plain shape.dependencies
+-- what the root asks of its dependencies by its features, in the order of the table
+abbrev pub root_asks : Table → List (List ℕ × List ℕ)
+root_asks table = flat_map (λ row. flat_map asked_by row.1) table
 
 -- ---- the whole
 
@@ -126,14 +133,14 @@ unfoldable pub manifest_of : Members → Result ManifestView ManifestFault
 manifest_of top = do
   shape ← shape_of top
   allowed ← sources_allowed shape
-  dependencies ← dependencies_of shape.dependencies
-  plain ← guard (is_plain_manifest top shape) NotYet
   own ← ok_or shape.own (UnsupportedSource Workspace)
+  dependencies ← dependencies_of shape.dependencies
+  features ← features_with dependencies shape.features
   Ok (record {
     name = own.name;
     version = own.version;
     rust_version = own.rust_version;
-    brings = record { dependencies = dependencies; features = plain_table };
+    brings = record { dependencies = dependencies; features = features };
   })
 
 -- a manifest has at most 1 MiB
@@ -141,8 +148,8 @@ abbrev pub limit : ℕ
 limit = 1048576
 
 -- what bytes say as a manifest
-unfoldable pub manifest_so_far : List ℕ → Result ManifestView ManifestFault
-manifest_so_far bytes = do
+unfoldable pub manifest_of_bytes : List ℕ → Result ManifestView ManifestFault
+manifest_of_bytes bytes = do
   small ← guard (nat_le (length bytes) limit) TooLarge
   top ← table_of_bytes bytes
   manifest_of top

@@ -87,6 +87,6 @@ abbrev pub package_at : Shaped Bool → Option Data → Shaped (Option PackageVi
 package_at members None = absent_package (or_false members)
 package_at members (Some d) = table_of part.Package d >>= package_in
 
--- `[package]`, or none where its name or version is left to a workspace
+-- `[package]`, or none where its name or version is left to a workspace, or where it is absent beside a workspace with members
 unfoldable pub package_of : Members → Shaped (Option PackageView)
 package_of top = package_at (workspace_of top) (get_member (codes "package") top)

@@ -1,16 +1,14 @@
 -- What the borrowed structs of a manifest's shape stand for, without where they lie in memory.
-use Rattle.std.specs.Prelude.{ℕ, List, map, option_map}
+use Rattle.std.specs.Prelude.{List, map, option_map}
 use Rattle.semver.specs.Identifiers.{parts_of}
-use Rattle.model.specs.Owner.{Entry}
 use Rattle.classes.specs.RustVersions.{rust_version_view}
-use Rattle.features.specs.EntryViews.{entry_views}
+use Rattle.features.specs.Tables.{rows_of}
 use Rattle.manifest.specs.Packages.{PackageView}
 use Rattle.manifest.specs.Dependencies.{SourceView, registry, unsupported, DependencyShapeView}
 use Rattle.manifest.specs.Shapes.{ShapeView}
 use Rattle.manifest.specs.declared.dependency.Source.{Source}
 use Rattle.manifest.specs.declared.dependency.Source.TheVariants.{Registry, Unsupported}
 use Rattle.manifest.specs.declared.dependency.DependencyShape.{DependencyShape}
-use Rattle.manifest.specs.declared.feature.WrittenFeature.{WrittenFeature}
 use Rattle.manifest.specs.declared.shape.Package.{Package}
 use Rattle.manifest.specs.declared.shape.Shape.{Shape}
 
@@ -22,7 +20,6 @@ abbrev pub dependency_view : DependencyShape → DependencyShapeView
 dependency_view d = record {
   name = d.name;
   real_name = d.real_name;
-  renamed = d.renamed;
   source = source_view d.source;
   optional = d.optional;
   default_features = d.default_features;
@@ -32,12 +29,6 @@ dependency_view d = record {
 abbrev pub dependency_views : List DependencyShape → List DependencyShapeView
 dependency_views ds = map dependency_view ds
 
-abbrev pub written_view : WrittenFeature → List ℕ × List Entry
-written_view f = (f.name, entry_views f.entries.items)
-
-abbrev pub written_views : List WrittenFeature → List (List ℕ × List Entry)
-written_views fs = map written_view fs
-
 abbrev pub package_view : Package → PackageView
 package_view p = record { name = p.name; version = parts_of p.version; rust_version = option_map rust_version_view p.rust_version }
 
@@ -45,7 +36,7 @@ abbrev pub shape_view : Shape → ShapeView
 shape_view s = record {
   own = option_map package_view s.own;
   dependencies = dependency_views s.dependencies.items;
-  features = written_views s.features.items;
+  features = rows_of s.features.entries;
   has_members = s.has_members;
   patches = s.patches;
   replaces = s.replaces;

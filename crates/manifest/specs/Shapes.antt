@@ -1,8 +1,8 @@
 -- The shape of a manifest: what its tables say before requirements are read, part by part (Cargo book, "The Manifest Format" and "Features").
-use Rattle.std.specs.Prelude.{ℕ, Bool, List, [], ◌∷◌, ◌++◌, Option, Ok, codes}
+use Rattle.std.specs.Prelude.{ℕ, Bool, List, [], ◌∷◌, ◌++◌, Option, Ok, codes, option_map}
 use Rattle.toml.specs.Data.{Data, as_array, get_member, Items, no_items, item, Members, no_members, member}
 use Rattle.model.specs.Outcome.{◌>>=◌}
-use Rattle.model.specs.Owner.{Entry, Table}
+use Rattle.model.specs.Owner.{Entry, feature, dependency, dependency_feature, weak_feature, Table}
 use Rattle.features.specs.Entries.{entry_of}
 use Rattle.manifest.specs.Values.{Shaped, wanted, or_absent, text_of, table_of, feature_name_of}
 use Rattle.manifest.specs.Packages.{PackageView, package_of, workspace_of, is_written}
@@ -10,12 +10,23 @@ use Rattle.manifest.specs.Dependencies.{DependencyShapeView, sections_of, target
 use Rattle.manifest.specs.declared.fault.Part.TheVariants as part
 use Rattle.manifest.specs.declared.section.Place.TheVariants.{Top}
 
+-- the root counts with all its dependencies, so in a manifest `d?/g` says what `d/g` does
+abbrev pub strong : Entry → Entry
+strong (feature g) = feature g
+strong (dependency d) = dependency d
+strong (dependency_feature d g) = dependency_feature d g
+strong (weak_feature d g) = dependency_feature d g
+
+-- the entry that a text is in a manifest
+abbrev pub root_entry : List ℕ → Option Entry
+root_entry text = option_map strong (entry_of text)
+
 -- the entries of a feature
 unfoldable pub entries_in : Items → Shaped (List Entry)
 entries_in no_items = Ok []
 entries_in (item d ds) = do
   text ← text_of part.Features d
-  first ← wanted part.Features (entry_of text)
+  first ← wanted part.Features (root_entry text)
   others ← entries_in ds
   Ok (first ∷ others)
 
@@ -27,7 +38,7 @@ feature_of key d = do
   entries ← entries_in items
   Ok (name, entries)
 
--- the features of a table, in the order of their names
+-- the features of a table, by the bytes of their names: a table of TOML has its keys in this order, each once
 unfoldable pub features_in : Members → Shaped Table
 features_in no_members = Ok []
 features_in (member key d rest) = do
@@ -39,8 +50,15 @@ features_in (member key d rest) = do
 abbrev pub features_of : Members → Shaped Table
 features_of top = or_absent [] (λ d. table_of part.Features d >>= features_in) (get_member (codes "features") top)
 
+-- the dependencies by number: those at the top, then those of the targets
+unfoldable pub all_dependencies : Members → Shaped (List DependencyShapeView)
+all_dependencies top = do
+  at_top ← sections_of Top top
+  targets ← targets_of top
+  Ok (at_top ++ targets)
+
 pub record ShapeView : Type 0 where
-  -- none where its name or version is left to a workspace
+  -- none where its name or version is left to a workspace, or where it is absent beside a workspace with members
   pub own : Option PackageView
   -- by number
   pub dependencies : List DependencyShapeView
@@ -57,15 +75,14 @@ pub record ShapeView : Type 0 where
 unfoldable pub shape_of : Members → Shaped ShapeView
 shape_of top = do
   own ← package_of top
-  at_top ← sections_of Top top
-  targets ← targets_of top
+  dependencies ← all_dependencies top
   features ← features_of top
   has_members ← workspace_of top
   patches ← is_written part.Patch (codes "patch") top
   replaces ← is_written part.Replace (codes "replace") top
   Ok (record {
     own = own;
-    dependencies = at_top ++ targets;
+    dependencies = dependencies;
     features = features;
     has_members = has_members;
     patches = patches;

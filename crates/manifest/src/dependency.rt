@@ -5,9 +5,9 @@ ghost use Rattle.toml.specs.Data.{get_member};
 ghost use Rattle.toml.specs.View.{view, table_view, array_view};
 ghost use Rattle.model.specs.Outcome.{Gives};
 ghost use Rattle.manifest.specs.Faults.{is_memory};
-ghost use Rattle.manifest.specs.Manifests.{is_from, is_plain};
+ghost use Rattle.manifest.specs.Manifests.{is_from};
 ghost use Rattle.manifest.specs.Values.{or_absent};
-ghost use Rattle.manifest.specs.Dependencies.{bare, registry, unsupported_in, source_of, real_name_of, named_feature, feature_names, feature_list, dependency_in, described, dependency_of, dependencies_in, section_at, section_of, sections_of, targets_in, targets_of};
+ghost use Rattle.manifest.specs.Dependencies.{bare, registry, unsupported_in, source_of, real_name_of, named_feature, feature_names, feature_list, default_features_in, dependency_in, described, dependency_of, dependencies_in, section_at, section_of, sections_of, targets_in, targets_of};
 ghost use Rattle.manifest.specs.ShapeViews.{source_view, dependency_view, dependency_views};
 
 use crate::checks::check;
@@ -36,8 +36,6 @@ pub(crate) struct DependencyShape<'a> {
     pub name: PackageName,
     /// The name of the package that it means.
     pub real_name: PackageName,
-    /// Whether the key `package` is there.
-    pub renamed: bool,
     pub source: Source<'a>,
     pub optional: bool,
     pub default_features: bool,
@@ -53,13 +51,6 @@ impl DependencyShape<'_> {
             Source::Registry(_) => false,
             Source::Unsupported(own) => own == source,
         }
-    }
-
-    /// Whether it is neither optional nor renamed, and has no list of features.
-    pub(crate) fn is_plain(&self) -> bool
-        ensures { result ≡ is_plain (dependency_view self.now) }
-    {
-        !self.optional && !self.renamed && self.features.is_empty()
     }
 }
 
@@ -196,7 +187,6 @@ fn bare(
     Ok(DependencyShape {
         name,
         real_name,
-        renamed: false,
         source,
         optional: false,
         default_features: true,
@@ -224,18 +214,24 @@ fn dependency_in<'a>(
         !optional || kind.may_be_optional(),
         ManifestFault::Shape(part),
     )?;
-    let default_value = either(table, "default-features", "default_features", part)?;
-    let default_features = flag(default_value, true, part)?;
+    let default_features = default_features(table, part)?;
     let features = feature_list(alloc, table, part)?;
     Ok(DependencyShape {
         name,
         real_name,
-        renamed: given.is_some(),
         source,
         optional,
         default_features,
         features,
     })
+}
+
+/// Whether a dependency asks for `default`: it does where it says nothing.
+fn default_features(table: &Table, part: Part) -> Result<bool, ManifestFault>
+    ensures { Gives is_memory (λ b. b) result (default_features_in part (table_view table.now)) }
+{
+    let value = either(table, "default-features", "default_features", part)?;
+    flag(value, true, part)
 }
 
 /// The first source that is left out and that a key of the dependency asks for.

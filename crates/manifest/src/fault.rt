@@ -1,6 +1,6 @@
 //! Why a manifest is refused.
 
-use features::PackageName;
+use features::{FeatureFault, FeatureName, PackageName};
 use std::alloc::{AllocError, AllocFailed};
 use std::fmt;
 use thiserror::Error;
@@ -76,6 +76,32 @@ impl fmt::Display for Unsupported {
     }
 }
 
+/// What is wrong with a feature of a manifest, in the order in which it is looked for. As text: the fault's code.
+#[derive(Clone, Copy, Debug, PartialEq, Eq)]
+pub enum TableFault {
+    /// An entry `g` names no feature.
+    NoSuchFeature,
+    /// An entry `dep:d`, `d/g` or `d?/g` names no dependency.
+    NoSuchDependency,
+    /// An entry `dep:d` names a dependency that isn't optional.
+    NotOptional,
+}
+
+impl fmt::Display for TableFault {
+    ghost use Rattle.std.specs.Prelude.{Some};
+    ghost use Rattle.manifest.specs.Faults.{table_fault_code};
+
+    ghost output = { λ fault. Some (table_fault_code fault) };
+
+    fn fmt<W: fmt::Write>(&self, f: &mut fmt::Formatter<W>) -> fmt::Result {
+        f.write_str(match self {
+            TableFault::NoSuchFeature => "F1",
+            TableFault::NoSuchDependency => "F2",
+            TableFault::NotOptional => "F3",
+        })
+    }
+}
+
 /// Why a manifest is refused, in the order in which the faults are looked for; memory may be wanting at any point.
 #[derive(Debug, Drop, PartialEq, Error)]
 pub enum ManifestFault {
@@ -95,9 +121,9 @@ pub enum ManifestFault {
     /// The first dependency, by number, whose requirement is none: by the name that the manifest gives it.
     #[error("the requirement of {0} is none")]
     BadRequirement(PackageName),
-    /// Features, dependencies of other kinds, and dependencies that are optional, renamed or ask for features aren't read yet.
-    #[error("the manifest asks for what isn't read yet")]
-    NotYet,
+    /// The lowest fault of the features, at the first feature that has it by the bytes of the names.
+    #[error("the feature {1} is refused: {0}")]
+    RootFeature(TableFault, FeatureName),
 }
 
 impl From<AllocError> for ManifestFault {
@@ -119,5 +145,27 @@ impl<T: Drop> From<AllocFailed<T>> for ManifestFault {
 
     fn from(_e: AllocFailed<T>) -> ManifestFault {
         ManifestFault::OutOfMemory
+    }
+}
+
+impl From<FeatureFault> for ManifestFault {
+    ghost use Rattle.std.specs.Prelude.{◌≡◌};
+    ghost use Rattle.manifest.specs.Faults.{root_fault};
+
+    ghost from_gives = { λ fault e. e ≡ root_fault fault };
+
+    fn from(fault: FeatureFault) -> ManifestFault {
+        match fault {
+            FeatureFault::OutOfMemory => ManifestFault::OutOfMemory,
+            FeatureFault::NoSuchFeature(feature) => {
+                ManifestFault::RootFeature(TableFault::NoSuchFeature, feature)
+            }
+            FeatureFault::NoSuchDependency(feature) => {
+                ManifestFault::RootFeature(TableFault::NoSuchDependency, feature)
+            }
+            FeatureFault::NotOptional(feature) => {
+                ManifestFault::RootFeature(TableFault::NotOptional, feature)
+            }
+        }
     }
 }

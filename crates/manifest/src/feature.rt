@@ -1,60 +1,95 @@
-//! The features that a manifest writes.
+//! The features that a manifest writes, and the table that they are.
 
-ghost use Rattle.std.specs.Prelude.{◌≡◌, map};
-ghost use Rattle.toml.specs.Data.{get_member};
+ghost use Rattle.std.specs.Prelude.{◌≡◌, IfOk, map};
 ghost use Rattle.toml.specs.View.{view, table_view, array_view};
 ghost use Rattle.model.specs.Outcome.{Gives};
 ghost use Rattle.features.specs.EntryViews.{entry_view, entry_views};
-ghost use Rattle.features.specs.Entries.{entry_of};
+ghost use Rattle.features.specs.Tables.{dep_name_view, dep_names_view, rows_of};
+ghost use Rattle.features.specs.Views.{dependency_view, dependency_views};
 ghost use Rattle.manifest.specs.Faults.{is_memory};
 ghost use Rattle.manifest.specs.Values.{wanted};
-ghost use Rattle.manifest.specs.Shapes.{entries_in, feature_of, features_in, features_of};
-ghost use Rattle.manifest.specs.ShapeViews.{written_view, written_views};
+ghost use Rattle.manifest.specs.Manifests.{dep_name, features_with};
+ghost use Rattle.manifest.specs.Shapes.{strong, root_entry, entries_in, feature_of, features_in, features_of};
 
 use crate::fault::{ManifestFault, Part};
 use crate::table::{feature_name, list, member, table, text};
-use features::{Entry, EntryFault, FeatureName};
-use std::alloc::Global;
+use features::{DepName, Dependency, Entry, EntryFault, FeatureName, FeatureTable};
+use std::alloc::{AllocError, Global};
+use std::collections::BTreeMap;
 use toml::value::{Array, Table, Value};
 
-/// A feature as `[features]` writes it.
-#[derive(Drop)]
-pub(crate) struct WrittenFeature {
-    pub name: FeatureName,
-    pub entries: Vec<Entry>,
+/// The feature table of the root: of all its dependencies, dev ones too, and of the features that it writes.
+pub(crate) fn root_features(
+    alloc: Global,
+    dependencies: &[Dependency],
+    written: BTreeMap<FeatureName, Vec<Entry>>,
+) -> Result<FeatureTable, ManifestFault>
+    ensures { Gives is_memory (λ t. t) result (features_with (dependency_views dependencies.now) (rows_of written.entries)) }
+{
+    let names = dep_names(alloc, dependencies)?;
+    Ok(FeatureTable::build(alloc, names.as_slice(), written)?)
 }
 
-/// The features of `[features]`, by the bytes of their names.
+/// What the dependencies are called, and which are optional.
+fn dep_names(alloc: Global, dependencies: &[Dependency]) -> Result<Vec<DepName>, AllocError>
+    ensures { IfOk result (λ v. dep_names_view v.items ≡ map dep_name (dependency_views dependencies.now)) }
+{
+    let mut names = Vec::new(alloc);
+    'dependencies: for dependency in dependencies {
+        names.push(dep_name(dependency)?)?;
+    }
+    Ok(names)
+}
+
+fn dep_name(dependency: &Dependency) -> Result<DepName, AllocError>
+    ensures { IfOk result (λ n. dep_name_view n ≡ dep_name (dependency_view dependency.now)) }
+{
+    Ok(DepName {
+        name: dependency.name.clone()?,
+        optional: dependency.optional,
+    })
+}
+
+/// The features of `[features]`.
 pub(crate) fn written_features(
     alloc: Global,
     top: &Table,
-) -> Result<Vec<WrittenFeature>, ManifestFault>
-    ensures { Gives is_memory (λ v. written_views v.items) result (features_of (table_view top.now)) }
+) -> Result<BTreeMap<FeatureName, Vec<Entry>>, ManifestFault>
+    ensures { Gives is_memory (λ m. rows_of m.entries) result (features_of (table_view top.now)) }
 {
     match member(top, "features") {
         Some(value) => features_in(alloc, table(value, Part::Features)?),
-        None => Ok(Vec::new(alloc)),
+        None => Ok(BTreeMap::new(alloc)),
     }
 }
 
 #[tactic(auto, unfolding(crate::specs::Shapes::features_in))]
-fn features_in(alloc: Global, table: &Table) -> Result<Vec<WrittenFeature>, ManifestFault>
-    ensures { Gives is_memory (λ v. written_views v.items) result (features_in (table_view table.now)) }
+fn features_in(
+    alloc: Global,
+    table: &Table,
+) -> Result<BTreeMap<FeatureName, Vec<Entry>>, ManifestFault>
+    ensures { Gives is_memory (λ m. rows_of m.entries) result (features_in (table_view table.now)) }
 {
-    let mut found = Vec::new(alloc);
+    let mut found = BTreeMap::new(alloc);
     'members: for (key, value) in table.iter() {
-        found.push(one_feature(alloc, key.as_str(), value)?)?;
+        let (name, entries) = one_feature(alloc, key.as_str(), value)?;
+        found.insert(name, entries)?;
     }
     Ok(found)
 }
 
 #[tactic(auto, unfolding(crate::specs::Shapes::feature_of))]
-fn one_feature(alloc: Global, key: &str, value: &Value) -> Result<WrittenFeature, ManifestFault>
-    ensures { Gives is_memory written_view result (feature_of key.now (view value.now)) }
+fn one_feature(
+    alloc: Global,
+    key: &str,
+    value: &Value,
+) -> Result<(FeatureName, Vec<Entry>), ManifestFault>
+    ensures row { Gives is_memory (λ p. (p.0, entry_views p.1.items)) result (feature_of key.now (view value.now)) }
+    ensures name { IfOk result (λ p. p.0 ≡ key.now) }
 {
     let name = feature_name(alloc, key, Part::Features)?;
     let entries = entries(alloc, list(value, Part::Features)?)?;
-    Ok(WrittenFeature { name, entries })
+    Ok((name, entries))
 }
 
 #[tactic(auto, unfolding(crate::specs::Shapes::entries_in))]
@@ -68,13 +103,23 @@ fn entries(alloc: Global, items: &Array) -> Result<Vec<Entry>, ManifestFault>
     Ok(found)
 }
 
-/// A text that has to be an entry of a feature.
+/// A text that has to be an entry of a feature, as the root means it.
 fn entry(alloc: Global, text: &str) -> Result<Entry, ManifestFault>
-    ensures { Gives is_memory entry_view result (wanted Part.Features (entry_of text.now)) }
+    ensures { Gives is_memory entry_view result (wanted Part.Features (root_entry text.now)) }
 {
     match Entry::parse(alloc, text) {
-        Ok(entry) => Ok(entry),
+        Ok(entry) => Ok(strong(entry)),
         Err(EntryFault::OutOfMemory) => Err(ManifestFault::OutOfMemory),
         Err(EntryFault::NotAnEntry) => Err(ManifestFault::Shape(Part::Features)),
+    }
+}
+
+/// All dependencies of the root count, so its entry `d?/g` says what `d/g` does.
+fn strong(entry: Entry) -> Entry
+    ensures { entry_view result ≡ strong (entry_view entry) }
+{
+    match entry {
+        Entry::WeakFeature(name, feature) => Entry::DependencyFeature(name, feature),
+        entry => entry,
     }
 }

@@ -1,4 +1,4 @@
-//! What a Cargo.toml says: the package, its dependencies by number, and why a manifest is refused.
+//! What a Cargo.toml says: the package, its dependencies by number, its features, and why a manifest is refused.
 #![tactic(auto)]
 
 mod checks;
@@ -10,9 +10,7 @@ mod reader;
 mod section;
 mod shape;
 mod table;
-#[cfg(test)]
-mod tests;
 mod top;
 
-pub use fault::{ManifestFault, Part, Unsupported};
+pub use fault::{ManifestFault, Part, TableFault, Unsupported};
 pub use reader::Manifest;

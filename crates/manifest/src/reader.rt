@@ -1,7 +1,6 @@
 //! Reading a manifest.
 
-ghost use Rattle.std.specs.Prelude.{◌≡◌, ◌≢◌, ◌⊎◌, Some, option_map, map, not};
-ghost use Rattle.std.specs.List.{list_all, list_any};
+ghost use Rattle.std.specs.Prelude.{◌≡◌, ◌≢◌, ◌⊎◌, Some, option_map};
 ghost use Rattle.semver.specs.Grammar.{IsValid};
 ghost use Rattle.semver.specs.Identifiers.{parts_of};
 ghost use Rattle.semver.specs.Parse.{memory_error, req_of};
@@ -10,14 +9,15 @@ ghost use Rattle.model.specs.Outcome.{Gives, guard};
 ghost use Rattle.classes.specs.RustVersions.{rust_version_view};
 ghost use Rattle.features.specs.Views.{dependency_view, dependency_views, owner_view};
 ghost use Rattle.manifest.specs.Faults.{is_memory};
-ghost use Rattle.manifest.specs.Manifests.{uses, needs_workspace, sources_allowed, dependency_with, dependencies_of, later_tables, has_table, is_plain, is_plain_manifest, manifest_of, manifest_so_far};
+ghost use Rattle.manifest.specs.Manifests.{uses, needs_workspace, sources_allowed, dependency_with, dependencies_of, manifest_of, manifest_of_bytes};
 ghost use Rattle.manifest.specs.ShapeViews as shaped;
 
 use crate::checks::check;
 use crate::dependency::{DependencyShape, Source};
 use crate::fault::{ManifestFault, Unsupported};
+use crate::feature::root_features;
 use crate::shape::Shape;
-use crate::table::{has_table, read_table};
+use crate::table::read_table;
 use crate::top::read_shape;
 use classes::RustVersion;
 use features::{Dependency, FeatureTable, Owner, PackageName};
@@ -56,9 +56,9 @@ impl Model for Manifest {
 
 impl Manifest {
     /// The manifest that the bytes of a Cargo.toml are, or the first fault.
-    #[tactic(auto, unfolding(crate::specs::Manifests::manifest_so_far))]
+    #[tactic(auto, unfolding(crate::specs::Manifests::manifest_of_bytes))]
     pub fn read(alloc: Global, bytes: &[u8]) -> Result<Manifest, ManifestFault>
-        ensures { Gives is_memory (λ m. m) result (manifest_so_far bytes.now) }
+        ensures { Gives is_memory (λ m. m) result (manifest_of_bytes bytes.now) }
     {
         check(bytes.len() <= LIMIT, ManifestFault::TooLarge)?;
         let table = read_table(alloc, bytes)?;
@@ -116,18 +116,17 @@ fn manifest_in(alloc: Global, top: &Table) -> Result<Manifest, ManifestFault>
 {
     let shape = read_shape(alloc, top)?;
     check_sources(&shape)?;
-    let is_plain = is_plain(top, &shape);
     let Shape {
         own,
         dependencies,
+        features,
         ..
     } = shape;
-    let dependencies = requirements(alloc, dependencies)?;
-    check(is_plain, ManifestFault::NotYet)?;
     let Some(package) = own else {
         return Err(ManifestFault::UnsupportedSource(Unsupported::Workspace));
     };
-    let features = FeatureTable::plain(alloc)?;
+    let dependencies = requirements(alloc, dependencies)?;
+    let features = root_features(alloc, dependencies.as_slice(), features)?;
     Ok(Manifest {
         name: package.name,
         version: package.version,
@@ -223,29 +222,4 @@ fn requirement_fault(e: semver::Error, name: PackageName) -> ManifestFault
     } else {
         ManifestFault::BadRequirement(name)
     }
-}
-
-/// Whether there are normal, plain dependencies alone, and no features.
-fn is_plain(top: &Table, shape: &Shape<'_>) -> bool
-    ensures { result ≡ is_plain_manifest (table_view top.now) (shaped.shape_view shape.now) }
-{
-    !has_later_tables(top) && are_plain(shape.dependencies.as_slice())
-}
-
-fn are_plain(dependencies: &[DependencyShape<'_>]) -> bool
-    ensures { result ≡ list_all is_plain (shaped.dependency_views dependencies.now) }
-{
-    dependencies.iter().all(|d| d.is_plain())
-}
-
-/// Whether there is a table that isn't read yet.
-fn has_later_tables(top: &Table) -> bool
-    ensures { result ≡ list_any (has_table (table_view top.now)) later_tables }
-{
-    has_table(top, "features")
-        || has_table(top, "target")
-        || has_table(top, "dev-dependencies")
-        || has_table(top, "dev_dependencies")
-        || has_table(top, "build-dependencies")
-        || has_table(top, "build_dependencies")
 }

@@ -4,10 +4,10 @@ ghost use Rattle.semver.specs.Grammar.{IsValid};
 ghost use Rattle.semver.specs.Identifiers.{parts_of};
 
 use crate::dependency::DependencyShape;
-use crate::feature::WrittenFeature;
 use classes::RustVersion;
-use features::PackageName;
+use features::{Entry, FeatureName, PackageName};
 use semver::Version;
+use std::collections::BTreeMap;
 
 /// What `[package]` says.
 #[derive(Drop)]
@@ -21,12 +21,12 @@ pub(crate) struct Package {
 /// What the tables of a manifest say.
 #[derive(Drop)]
 pub(crate) struct Shape<'a> {
-    /// None where its name or version is left to a workspace.
+    /// None where its name or version is left to a workspace, or where it is absent beside a workspace with members.
     pub own: Option<Package>,
     /// By number.
     pub dependencies: Vec<DependencyShape<'a>>,
     /// The features that are written.
-    pub features: Vec<WrittenFeature>,
+    pub features: BTreeMap<FeatureName, Vec<Entry>>,
     /// Whether the workspace has members.
     pub has_members: bool,
     /// Whether there are patches.

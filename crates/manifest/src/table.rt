@@ -6,7 +6,7 @@ ghost use Rattle.toml.specs.Text.{has_items};
 ghost use Rattle.toml.specs.View.{view, table_view, array_view};
 ghost use Rattle.model.specs.Outcome.{Gives};
 ghost use Rattle.manifest.specs.Faults.{is_memory};
-ghost use Rattle.manifest.specs.Manifests.{table_of_bytes, has_table};
+ghost use Rattle.manifest.specs.Manifests.{table_of_bytes};
 ghost use Rattle.manifest.specs.Values.{wanted, if_there, or_absent, text_of, flag_of, table_of, either_at, package_name_of, feature_name_of, has_key, has_rows};
 ghost use Rattle.manifest.specs.Packages.{is_written};
 
@@ -131,19 +131,6 @@ fn has_rows(table: &Table) -> bool
     ensures { result ≡ has_rows (table_view table.now) }
 {
     !table.is_empty()
-}
-
-/// Whether the table at a key has entries: what is no table counts as absent.
-pub(crate) fn has_table(top: &Table, key: &str) -> bool
-    ensures { result ≡ has_table (table_view top.now) key.now }
-{
-    match member(top, key) {
-        Some(value) => match value.as_table() {
-            Some(table) => has_rows(table),
-            None => false,
-        },
-        None => false,
-    }
 }
 
 /// Whether the table at a key, which may be absent, has entries.

@@ -3,10 +3,10 @@
 ghost use Rattle.toml.specs.View.{table_view};
 ghost use Rattle.model.specs.Outcome.{Gives};
 ghost use Rattle.manifest.specs.Faults.{is_memory};
-ghost use Rattle.manifest.specs.Shapes.{shape_of};
-ghost use Rattle.manifest.specs.ShapeViews.{shape_view};
+ghost use Rattle.manifest.specs.Shapes.{all_dependencies, shape_of};
+ghost use Rattle.manifest.specs.ShapeViews.{dependency_views, shape_view};
 
-use crate::dependency::{sections, target_dependencies};
+use crate::dependency::{DependencyShape, sections, target_dependencies};
 use crate::fault::{ManifestFault, Part};
 use crate::feature::written_features;
 use crate::package_table::{own_package, workspace};
@@ -22,9 +22,7 @@ pub(crate) fn read_shape(alloc: Global, top: &Table) -> Result<Shape<'_>, Manife
     ensures { Gives is_memory shape_view result (shape_of (table_view top.now)) }
 {
     let own = own_package(alloc, top)?;
-    let mut dependencies = sections(alloc, top, Place::Top)?;
-    let mut targets = target_dependencies(alloc, top)?;
-    dependencies.append(&mut targets)?;
+    let dependencies = all_dependencies(alloc, top)?;
     let features = written_features(alloc, top)?;
     let has_members = workspace(top)?;
     let patches = is_written(top, "patch", Part::Patch)?;
@@ -37,4 +35,15 @@ pub(crate) fn read_shape(alloc: Global, top: &Table) -> Result<Shape<'_>, Manife
         patches,
         replaces,
     })
+}
+
+/// The dependencies by number: those at the top, then those of the targets.
+#[tactic(auto, unfolding(crate::specs::Shapes::all_dependencies))]
+fn all_dependencies(alloc: Global, top: &Table) -> Result<Vec<DependencyShape<'_>>, ManifestFault>
+    ensures { Gives is_memory (λ v. dependency_views v.items) result (all_dependencies (table_view top.now)) }
+{
+    let mut found = sections(alloc, top, Place::Top)?;
+    let mut targets = target_dependencies(alloc, top)?;
+    found.append(&mut targets)?;
+    Ok(found)
 }
