@@ -1,3 +1,5 @@
 pub mod ReadLemmas
 pub mod PathLemmas
+pub mod WrittenLemmas
+pub mod FileLaws
 pub mod KeptLemmas

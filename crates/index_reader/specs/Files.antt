@@ -1,22 +1,15 @@
 -- What a file of an index says: its lines, and of these the records and the skips (Cargo book, "Registry Index"; skipping, and one version of
 -- equal precedence a file, are our own).
-use Rattle.std.specs.Prelude.{ℕ, ◌+◌, ◌-◌, ◌==◌, ◌&&◌, ◌||◌, Bool, true, false, not, if◌then◌else◌, List, [], ◌∷◌, ◌++◌, length, count_by, slice_index, Result, Ok, Err}
+use Rattle.std.specs.Prelude.{ℕ, ◌+◌, ◌-◌, ◌==◌, ◌&&◌, ◌||◌, Bool, not, if◌then◌else◌, List, [], ◌∷◌, ◌++◌, length, count_by, slice_index, Ok, Err}
 use Rattle.std.specs.List.{list_all, list_any, slice_split}
 use Rattle.std.specs.Ordering.{is_eq}
 use Rattle.semver.specs.Parse.{Parts}
-use Rattle.model.specs.Outcome.{◌>>=◌}
 use Rattle.model.specs.Order.{precedence}
 use Rattle.index_reader.specs.Lines.{Line}
-use Rattle.index_reader.specs.Records.{RecordView, is_checksum, unchecked_so_far}
+use Rattle.index_reader.specs.Records.{RecordView, is_checksum, unchecked_of_line}
 use Rattle.index_reader.specs.declared.fault.Reason.{Reason}
 use Rattle.index_reader.specs.declared.fault.Reason.TheVariants.{BadChecksum, Duplicate}
-use Rattle.index_reader.specs.declared.fault.LineFault.TheVariants as line
-use Rattle.index_reader.specs.declared.fault.FileFault.{FileFault}
-use Rattle.index_reader.specs.declared.fault.FileFault.TheVariants.{OutOfMemory, NotYet}
-
-abbrev pub file_wants_memory : FileFault → Bool
-file_wants_memory OutOfMemory = true
-file_wants_memory NotYet = false
+use Rattle.index_reader.specs.declared.fault.LineFault.TheVariants.{OutOfMemory, Skipped}
 
 -- a line ends with `\n`
 abbrev pub is_line_end : ℕ → Bool
@@ -69,21 +62,21 @@ abbrev pub with_found : List ℕ → ℕ → RecordView → FileView → FileVie
 with_found name n r file = if is_checksum r.checksum then with_record name n r file
     else with_skip name n (if has_version file.records r.version then Duplicate else BadChecksum) file
 
-abbrev pub with_read : List ℕ → ℕ → Line RecordView → FileView → Result FileView FileFault
-with_read name n (Ok r) file = Ok (with_found name n r file)
-with_read name n (Err (line.Skipped why)) file = Ok (with_skip name n why file)
-with_read name n (Err line.NotYet) file = Err NotYet
-with_read name n (Err line.OutOfMemory) file = Err OutOfMemory
+-- no line means a want of memory
+abbrev pub with_read : List ℕ → ℕ → Line RecordView → FileView → FileView
+with_read name n (Ok r) file = with_found name n r file
+with_read name n (Err (Skipped why)) file = with_skip name n why file
+with_read name n (Err OutOfMemory) file = file
 
 -- what a file says up to and with one more line: a blank one says nothing
-abbrev pub with_line : List ℕ → ℕ → List ℕ → FileView → Result FileView FileFault
-with_line name n text file = if is_blank text then Ok file else with_read name n (unchecked_so_far name text) file
+abbrev pub with_line : List ℕ → ℕ → List ℕ → FileView → FileView
+with_line name n text file = if is_blank text then file else with_read name n (unchecked_of_line name text) file
 
 -- the same with these lines, the first of which has this number
-unfoldable pub with_lines : List ℕ → ℕ → List (List ℕ) → FileView → Result FileView FileFault
-with_lines name n [] file = Ok file
-with_lines name n (text ∷ texts) file = with_line name n text file >>= λ next. with_lines name (n + 1) texts next
+unfoldable pub with_lines : List ℕ → ℕ → List (List ℕ) → FileView → FileView
+with_lines name n [] file = file
+with_lines name n (text ∷ texts) file = with_lines name (n + 1) texts (with_line name n text file)
 
--- what the file of a name says, as far as lines are read so far
-abbrev pub file_so_far : List ℕ → List ℕ → Result FileView FileFault
-file_so_far name bytes = with_lines name 1 (slice_split is_line_end bytes) no_lines
+-- what the file of a name says
+abbrev pub records_of_file : List ℕ → List ℕ → FileView
+records_of_file name bytes = with_lines name 1 (slice_split is_line_end bytes) no_lines

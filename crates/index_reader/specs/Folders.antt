@@ -1,5 +1,5 @@
 -- What a folder of files answers for a path, and when a call of it may fail (Cargo book, "Registry Index"; the counting of failures is our own).
-use Rattle.std.specs.Prelude.{◌≡◌, ℕ, ◌<◌, ◌⊎◌, ◌^◌, ◌-◌, List, Option, option_map, Result, Ok, Err, String, Vec, string_bytes}
+use Rattle.std.specs.Prelude.{◌≡◌, ℕ, ◌<◌, ◌⊎◌, ◌^◌, ◌-◌, ◌+◌, ◌==◌, nat_le, Bool, true, false, if◌then◌else◌, List, Option, option_map, Result, Ok, Err, String, Vec, string_bytes}
 use Rattle.std.specs.Ordering.{nat_cmp}
 use Rattle.std.specs.Cmp.Lexicographic.{slice_cmp}
 use Rattle.std.specs.Map.{lookup}
@@ -39,3 +39,29 @@ abbrev pub DiskCalls : ℕ → Answer → ℕ → Type 0
 DiskCalls old (Ok o) new = new ≡ old
 DiskCalls old (Err OutOfMemory) new = new ≡ old
 DiskCalls old (Err Failed) new = IsRisen old new
+
+-- a folder in memory that fails from its call of number k on, counted from 1, with its calls and its failures so far
+pub record Failing : Type 0 where
+  pub files : Files
+  pub k : ℕ
+  pub calls : ℕ
+  pub failures : ℕ
+
+-- a count with one more: at its greatest it stays
+abbrev pub counted : ℕ → ℕ
+counted n = if n == 2 ^ 64 - 1 then n else n + 1
+
+-- whether the next call fails
+abbrev pub fails_next : Failing → Bool
+fails_next f = nat_le f.k (counted f.calls)
+
+-- what the next call answers, and what it leaves
+abbrev pub Answers : Bool → Failing → List ℕ → Answer → Failing → Type 0
+Answers true old path answer new = (answer ≡ Err Failed) × (new.files ≡ old.files) × (new.failures ≡ counted old.failures)
+Answers false old path answer new = MemoryCalls old.files path answer new.files × (new.failures ≡ old.failures)
+
+-- a call of such a folder: each is counted
+pub record FailingCalls (old : Failing) (path : List ℕ) (answer : Answer) (new : Failing) : Type 0 where
+  pub answers : Answers (fails_next old) old path answer new
+  pub same_k : new.k ≡ old.k
+  pub counted_calls : new.calls ≡ counted old.calls

@@ -1,5 +1,6 @@
 pub mod Lines
 pub mod Shapes
+pub mod Written
 pub mod Records
 pub mod Reasons
 pub mod Files

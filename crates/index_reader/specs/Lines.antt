@@ -10,7 +10,7 @@ use Rattle.model.specs.Owner.{same_text}
 use Rattle.features.specs.Names.{is_package_name}
 use Rattle.classes.specs.RustVersions.{rust_version_of}
 use Rattle.index_reader.specs.declared.fault.LineFault.{LineFault}
-use Rattle.index_reader.specs.declared.fault.LineFault.TheVariants.{OutOfMemory, Skipped, NotYet}
+use Rattle.index_reader.specs.declared.fault.LineFault.TheVariants.{OutOfMemory, Skipped}
 use Rattle.index_reader.specs.declared.fault.Reason.TheVariants as reason
 use Rattle.index_reader.specs.declared.shape.Kind.{Kind}
 use Rattle.index_reader.specs.declared.shape.Kind.TheVariants.{Normal, Build, Dev}
@@ -18,7 +18,6 @@ use Rattle.index_reader.specs.declared.shape.Kind.TheVariants.{Normal, Build, De
 abbrev pub is_memory : LineFault → Bool
 is_memory OutOfMemory = true
 is_memory (Skipped r) = false
-is_memory NotYet = false
 
 abbrev pub Line : Type 0 → Type 0
 Line A = Result A LineFault

@@ -1,19 +1,17 @@
 -- Which lines of an index file are records, and why the others are skipped (Cargo book, "Registry Index").
-use Rattle.std.specs.Prelude.{ℕ, Bool, true, false, not, ◌==◌, ◌&&◌, ◌||◌, if◌then◌else◌, List, [], ◌∷◌, Option, is_none, unwrap_or, length, Result, Ok, Err}
+use Rattle.std.specs.Prelude.{ℕ, Bool, true, ◌==◌, ◌&&◌, ◌||◌, if◌then◌else◌, List, [], ◌∷◌, Option, is_none, unwrap_or, length, Result, Ok, Err}
 use Rattle.std.specs.List.{list_all}
 use Rattle.semver.specs.Parse.{Parts, Held, version_parts, req_of}
 use Rattle.semver.specs.declared.error.Error.{Error}
 use Rattle.model.specs.Outcome.{◌>>=◌, guard}
 use Rattle.model.specs.Owner as model
 use Rattle.model.specs.Owner.{same_text}
-use Rattle.features.specs.Names.{is_between, is_feature_name}
-use Rattle.features.specs.Tables.{plain_table}
-use Rattle.index_reader.specs.Lines.{Line, FeatureView, PartView, DependencyView, dev, part, ShapeView, data_of_bytes, shape_of}
-use Rattle.index_reader.specs.declared.fault.LineFault.TheVariants.{Skipped, NotYet}
+use Rattle.features.specs.Names.{is_between}
+use Rattle.index_reader.specs.Lines.{Line, PartView, DependencyView, dev, part, ShapeView, data_of_bytes, shape_of}
+use Rattle.index_reader.specs.Written.{feature_name_of, features_of}
+use Rattle.index_reader.specs.declared.fault.LineFault.TheVariants.{Skipped}
 use Rattle.index_reader.specs.declared.fault.Reason.{Reason}
 use Rattle.index_reader.specs.declared.fault.Reason.TheVariants as reason
-use Rattle.index_reader.specs.declared.shape.Kind.{Kind}
-use Rattle.index_reader.specs.declared.shape.Kind.TheVariants.{Normal, Build, Dev}
 
 -- a version of a package, as its line has it
 pub record RecordView : Type 0 where
@@ -41,32 +39,8 @@ required (part p ∷ ds) = do
   others ← required ds
   Ok ((p, requirement) ∷ others)
 
-abbrev pub is_normal : Kind → Bool
-is_normal Normal = true
-is_normal Build = false
-is_normal Dev = false
-
 abbrev pub is_empty_text : List ℕ → Bool
 is_empty_text text = length text == 0
-
--- a normal dependency that isn't optional or renamed and asks for no feature
-abbrev pub is_plain_part : PartView → Bool
-is_plain_part p = is_normal p.kind && (not p.optional && (is_none p.real_name && list_all is_empty_text p.features))
-
-abbrev pub is_plain_dependency : DependencyView → Bool
-is_plain_dependency (dev name) = false
-is_plain_dependency (part p) = is_plain_part p
-
-abbrev pub has_no_features : List FeatureView → Bool
-has_no_features fs = length fs == 0
-
--- a line without features, all of whose dependencies are plain
-abbrev pub is_plain : ShapeView → Bool
-is_plain s = has_no_features s.features && (has_no_features s.features2 && list_all is_plain_dependency s.dependencies)
-
--- a text that names a feature
-abbrev pub feature_name_of : List ℕ → Line (List ℕ)
-feature_name_of text = if is_feature_name text then Ok text else Err (Skipped reason.BadFeatures)
 
 abbrev pub before : {A : Type 0} → Line A → Line (List A) → Line (List A)
 before first others = first >>= λ x. others >>= λ xs. Ok (x ∷ xs)
@@ -107,14 +81,14 @@ unchecked_of_shape asked s = do
   name ← unless (same_text s.name asked) reason.OtherName
   version ← semver_or reason.BadVersion (version_parts s.version)
   parts ← required s.dependencies
-  plain ← guard (is_plain s) NotYet
   dependencies ← dependencies_read parts
+  features ← features_of s
   registries ← unless (list_all is_of_index s.dependencies) reason.OtherRegistry
-  Ok (record { version = version; checksum = s.checksum; yanked = s.yanked; rust_version = s.rust_version; brings = record { dependencies = dependencies; features = plain_table } })
+  Ok (record { version = version; checksum = s.checksum; yanked = s.yanked; rust_version = s.rust_version; brings = record { dependencies = dependencies; features = features } })
 
 -- what a line says, whatever its checksum is
-unfoldable pub unchecked_so_far : List ℕ → List ℕ → Line RecordView
-unchecked_so_far asked line = do
+unfoldable pub unchecked_of_line : List ℕ → List ℕ → Line RecordView
+unchecked_of_line asked line = do
   d ← data_of_bytes line
   s ← shape_of d
   unchecked_of_shape asked s
@@ -125,8 +99,8 @@ checked r = do
   checksum ← unless (is_checksum r.checksum) reason.BadChecksum
   Ok r
 
--- what a line says, as far as lines are read so far
-unfoldable pub record_so_far : List ℕ → List ℕ → Line RecordView
-record_so_far asked line = do
-  r ← unchecked_so_far asked line
+-- what a line says, or the first reason to skip it
+unfoldable pub record_of_line : List ℕ → List ℕ → Line RecordView
+record_of_line asked line = do
+  r ← unchecked_of_line asked line
   checked r

@@ -1,4 +1,4 @@
-//! Why a line or a file gives no records.
+//! Why a line gives no record.
 
 use std::alloc::{AllocError, AllocFailed};
 use std::fmt;
@@ -58,9 +58,6 @@ pub enum LineFault {
     OutOfMemory,
     #[error("{0}")]
     Skipped(Reason),
-    /// The line may be right, but has what isn't read yet.
-    #[error("not read yet")]
-    NotYet,
 }
 
 impl From<AllocError> for LineFault {
@@ -82,37 +79,5 @@ impl<T: Drop> From<AllocFailed<T>> for LineFault {
 
     fn from(_e: AllocFailed<T>) -> LineFault {
         LineFault::OutOfMemory
-    }
-}
-
-/// Why a file isn't read.
-#[derive(Clone, Copy, Debug, PartialEq, Eq, Error)]
-pub enum FileFault {
-    #[error("out of memory")]
-    OutOfMemory,
-    /// One of its lines may be right, but has what isn't read yet.
-    #[error("not read yet")]
-    NotYet,
-}
-
-impl From<AllocError> for FileFault {
-    ghost use Rattle.std.specs.Prelude.{◌≡◌};
-    ghost use Rattle.index_reader.specs.declared.fault.FileFault.TheVariants.{OutOfMemory};
-
-    ghost from_gives = { λ _ e. e ≡ OutOfMemory };
-
-    fn from(_e: AllocError) -> FileFault {
-        FileFault::OutOfMemory
-    }
-}
-
-impl<T: Drop> From<AllocFailed<T>> for FileFault {
-    ghost use Rattle.std.specs.Prelude.{◌≡◌};
-    ghost use Rattle.index_reader.specs.declared.fault.FileFault.TheVariants.{OutOfMemory};
-
-    ghost from_gives = { λ _ e. e ≡ OutOfMemory };
-
-    fn from(_e: AllocFailed<T>) -> FileFault {
-        FileFault::OutOfMemory
     }
 }

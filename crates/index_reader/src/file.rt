@@ -2,11 +2,10 @@
 
 ghost use Rattle.std.specs.Prelude.{◌≡◌, ◌+◌, ◌≤◌, IfOk, map};
 ghost use Rattle.std.specs.List.{list_all, slice_split};
-ghost use Rattle.model.specs.Outcome.{Gives};
-ghost use Rattle.index_reader.specs.Files.{file_wants_memory, is_line_end, line_count, is_blank_byte, is_blank, with_skip, with_record, with_line, with_lines, no_lines, file_so_far};
+ghost use Rattle.index_reader.specs.Files.{is_line_end, line_count, is_blank_byte, is_blank, with_skip, with_record, with_line, with_lines, no_lines, records_of_file};
 ghost use Rattle.index_reader.specs.Views.{record_view, file_view, contents_view};
 
-use crate::fault::{FileFault, LineFault, Reason};
+use crate::fault::{LineFault, Reason};
 use crate::kept::FileSoFar;
 use crate::line::read_unchecked;
 use crate::record::{Record, Skip};
@@ -25,17 +24,14 @@ pub fn lines(bytes: &[u8]) -> usize
     }
 }
 
-/// The records of the file of a name, in the order of its lines, and the lines that are skipped.
-///
-/// # Errors
-/// `NotYet` where a line may be right, but has what isn't read yet.
+/// The records of the file of a name, in the order of its lines, and the lines that are skipped (Cargo book, "Registry Index").
 pub fn read_file(
     alloc: Global,
     name: &PackageName,
     bytes: &[u8],
-) -> Result<(Vec<Record>, Vec<Skip>), FileFault>
+) -> Result<(Vec<Record>, Vec<Skip>), AllocError>
     requires { line_count bytes.now ≤ 65535 }
-    ensures { Gives file_wants_memory contents_view result (file_so_far name.now bytes.now) }
+    ensures { IfOk result (λ c. contents_view c ≡ records_of_file name.now bytes.now) }
 {
     let texts = texts_in(alloc, bytes)?;
     let file = read_texts(alloc, name, &texts)?;
@@ -51,8 +47,8 @@ fn texts_in(alloc: Global, bytes: &[u8]) -> Result<Vec<&[u8]>, AllocError>
 
 /// What a file of these lines says.
 #[tactic(auto, unfolding(crate::specs::Files::with_lines))]
-fn read_texts(alloc: Global, name: &PackageName, texts: &[&[u8]]) -> Result<FileSoFar, FileFault>
-    ensures { Gives file_wants_memory (λ f. file_view f.records.items f.skips.items) result (with_lines name.now 1 (map (λ x. x.now) texts.now) no_lines) }
+fn read_texts(alloc: Global, name: &PackageName, texts: &[&[u8]]) -> Result<FileSoFar, AllocError>
+    ensures { IfOk result (λ f. file_view f.records.items f.skips.items ≡ with_lines name.now 1 (map (λ x. x.now) texts.now) no_lines) }
 {
     let mut file = FileSoFar::new(alloc);
     'texts: for (index, text) in texts.iter().enumerate() {
@@ -68,17 +64,16 @@ fn with_line(
     number: u64,
     text: &[u8],
     file: FileSoFar,
-) -> Result<FileSoFar, FileFault>
-    ensures { Gives file_wants_memory (λ f. file_view f.records.items f.skips.items) result (with_line name.now number text.now (file_view file.records.items file.skips.items)) }
+) -> Result<FileSoFar, AllocError>
+    ensures { IfOk result (λ f. file_view f.records.items f.skips.items ≡ with_line name.now number text.now (file_view file.records.items file.skips.items)) }
 {
     if is_blank(text) {
         return Ok(file);
     }
     match read_unchecked(alloc, name, text) {
-        Ok(record) => Ok(file.with_found(name, number, record)?),
-        Err(LineFault::Skipped(reason)) => Ok(file.with_skip(name, number, reason)?),
-        Err(LineFault::NotYet) => Err(FileFault::NotYet),
-        Err(LineFault::OutOfMemory) => Err(FileFault::OutOfMemory),
+        Ok(record) => file.with_found(name, number, record),
+        Err(LineFault::Skipped(reason)) => file.with_skip(name, number, reason),
+        Err(LineFault::OutOfMemory) => Err(AllocError),
     }
 }
 

@@ -2,22 +2,25 @@
 #![tactic(auto)]
 
 mod disk;
+mod fail_at;
 mod fault;
 mod file;
 mod folder;
 mod json;
 mod kept;
+mod laws;
 mod line;
 mod path;
 mod record;
 mod shape;
-#[cfg(test)]
-mod tests;
+mod written;
 
 pub use disk::DiskFolder;
-pub use fault::{FileFault, LineFault, Reason};
+pub use fail_at::FailAt;
+pub use fault::{LineFault, Reason};
 pub use file::{lines, read_file};
 pub use folder::{Folder, FolderFault, MemoryFolder};
+pub use laws::{records_are_apart, records_know_their_features};
 pub use line::read_line;
 pub use path::index_path;
 pub use record::{Record, Skip};

@@ -5,31 +5,29 @@ ghost use Rattle.std.specs.List.{list_all};
 ghost use Rattle.semver.specs.Grammar.{IsValid};
 ghost use Rattle.semver.specs.Identifiers.{parts_of};
 ghost use Rattle.semver.specs.Parse.{memory_error, req_of, version_parts};
-ghost use Rattle.model.specs.Outcome.{Gives, guard};
+ghost use Rattle.model.specs.Outcome.{Gives};
 ghost use Rattle.index_reader.specs.Lines.{is_memory};
 ghost use Rattle.features.specs.Views.{requirement_view, dependency_view, dependency_views};
-ghost use Rattle.index_reader.specs.Records.{unless, semver_or, required, is_normal, is_empty_text, is_plain_part, is_plain_dependency, has_no_features, is_plain, feature_name_of, feature_names, dependency_read, dependencies_read, is_of_index, is_hexadecimal, is_checksum, checked, unchecked_of_shape, unchecked_so_far, record_so_far};
-ghost use Rattle.index_reader.specs.Shapes.{texts_view, feature_views, part_view, line_dependency_view, line_dependency_views, shape_view, required_view, required_views};
+ghost use Rattle.index_reader.specs.Records.{unless, semver_or, required, feature_names, dependency_read, dependencies_read, is_of_index, is_hexadecimal, is_checksum, checked, unchecked_of_shape, unchecked_of_line, record_of_line};
+ghost use Rattle.index_reader.specs.Shapes.{texts_view, line_dependency_view, line_dependency_views, shape_view, required_view, required_views};
 ghost use Rattle.index_reader.specs.Views.{record_view};
 
 use crate::fault::{LineFault, Reason};
 use crate::json::read_value;
 use crate::record::Record;
-use crate::shape::{
-    DependencyShape, FeatureShape, Kind, LineShape, PartShape, Required, read_shape,
-};
-use features::{Dependency, FeatureName, FeatureTable, NameFault, Owner, PackageName};
+use crate::shape::{DependencyShape, LineShape, PartShape, Required, read_shape};
+use crate::written::{feature_name, features};
+use features::{Dependency, FeatureName, Owner, PackageName};
 use semver::{Version, VersionReq};
 use std::alloc::{AllocError, Global};
 
 /// The record that a line of this package's file is, or why it is none (Cargo book, "Registry Index").
 ///
 /// # Errors
-/// `Skipped` with the first reason that applies, and `NotYet` for a line to which none applies as far as its requirements, but which has a
-/// feature, or a dependency that is optional, renamed, of another kind than normal or asks for a feature.
-#[tactic(auto, unfolding(crate::specs::Records::record_so_far, crate::specs::Records::checked))]
+/// `Skipped` with the first reason that applies; an earlier line of equal precedence is `read_file`'s alone.
+#[tactic(auto, unfolding(crate::specs::Records::record_of_line, crate::specs::Records::checked))]
 pub fn read_line(alloc: Global, name: &PackageName, line: &[u8]) -> Result<Record, LineFault>
-    ensures { Gives is_memory record_view result (record_so_far name.now line.now) }
+    ensures { Gives is_memory record_view result (record_of_line name.now line.now) }
 {
     let record = read_unchecked(alloc, name, line)?;
     check(is_checksum(record.checksum.as_str()), Reason::BadChecksum)?;
@@ -37,13 +35,13 @@ pub fn read_line(alloc: Global, name: &PackageName, line: &[u8]) -> Result<Recor
 }
 
 /// The same, whatever the checksum is.
-#[tactic(auto, unfolding(crate::specs::Records::unchecked_so_far))]
+#[tactic(auto, unfolding(crate::specs::Records::unchecked_of_line))]
 pub(crate) fn read_unchecked(
     alloc: Global,
     name: &PackageName,
     line: &[u8],
 ) -> Result<Record, LineFault>
-    ensures { Gives is_memory record_view result (unchecked_so_far name.now line.now) }
+    ensures { Gives is_memory record_view result (unchecked_of_line name.now line.now) }
 {
     let value = read_value(alloc, line)?;
     let shape = read_shape(alloc, &value)?;
@@ -58,8 +56,8 @@ fn record_in(alloc: Global, name: &PackageName, shape: &LineShape<'_>) -> Result
     check(shape.name == name.as_str(), Reason::OtherName)?;
     let version = version(alloc, shape.version)?;
     let parts = requirements(alloc, &shape.dependencies)?;
-    check_plain(shape)?;
     let dependencies = dependencies(alloc, parts)?;
+    let features = features(alloc, shape)?;
     check_registries(&shape.dependencies)?;
     Ok(Record {
         version,
@@ -68,7 +66,7 @@ fn record_in(alloc: Global, name: &PackageName, shape: &LineShape<'_>) -> Result
         rust_version: shape.rust_version,
         brings: Owner {
             dependencies,
-            features: FeatureTable::plain(alloc)?,
+            features,
         },
     })
 }
@@ -134,69 +132,6 @@ fn requirements<'a>(
     Ok(found)
 }
 
-/// What isn't read yet: features, and dependencies that aren't plain.
-fn check_plain(shape: &LineShape<'_>) -> Result<(), LineFault>
-    ensures { Gives is_memory (λ u. u) result (guard (is_plain (shape_view shape.now)) LineFault.NotYet) }
-{
-    if is_plain(shape) {
-        Ok(())
-    } else {
-        Err(LineFault::NotYet)
-    }
-}
-
-#[tactic(auto, using(crate::proofs::ReadLemmas::views))]
-fn is_plain(shape: &LineShape<'_>) -> bool
-    ensures { result ≡ is_plain (shape_view shape.now) }
-{
-    has_no_features(&shape.features)
-        && has_no_features(&shape.features2)
-        && are_plain(&shape.dependencies)
-}
-
-fn has_no_features(features: &[FeatureShape<'_>]) -> bool
-    ensures { result ≡ has_no_features (feature_views features.now) }
-{
-    features.is_empty()
-}
-
-fn are_plain(dependencies: &[DependencyShape<'_>]) -> bool
-    ensures { result ≡ list_all (λ d. is_plain_dependency (line_dependency_view d)) dependencies.now }
-{
-    dependencies.iter().all(|d| is_plain_dependency(d))
-}
-
-fn is_plain_dependency(dependency: &DependencyShape<'_>) -> bool
-    ensures { result ≡ is_plain_dependency (line_dependency_view dependency.now) }
-{
-    match dependency {
-        DependencyShape::Dev(_) => false,
-        DependencyShape::Part(part) => is_plain_part(part),
-    }
-}
-
-#[tactic(auto, using(crate::proofs::ReadLemmas::views))]
-fn is_plain_part(part: &PartShape<'_>) -> bool
-    ensures { result ≡ is_plain_part (part_view part.now) }
-{
-    is_normal(part.kind) && !part.optional && part.real_name.is_none() && are_empty(&part.features)
-}
-
-fn is_normal(kind: Kind) -> bool
-    ensures { result ≡ is_normal kind }
-{
-    match kind {
-        Kind::Normal => true,
-        Kind::Build | Kind::Dev => false,
-    }
-}
-
-fn are_empty(texts: &[&str]) -> bool
-    ensures { result ≡ list_all (λ text. is_empty_text text.now) texts.now }
-{
-    texts.iter().all(|text| text.is_empty())
-}
-
 #[tactic(auto, unfolding(crate::specs::Records::dependencies_read))]
 fn dependencies(alloc: Global, parts: Vec<Required<'_>>) -> Result<Vec<Dependency>, LineFault>
     ensures { Gives is_memory (λ v. dependency_views v.items) result (dependencies_read (required_views parts.entry.items)) }
@@ -247,16 +182,6 @@ fn feature_names(alloc: Global, texts: &[&str]) -> Result<Vec<FeatureName>, Line
         found.push(feature_name(alloc, text)?)?;
     }
     Ok(found)
-}
-
-fn feature_name(alloc: Global, text: &str) -> Result<FeatureName, LineFault>
-    ensures { Gives is_memory (λ n. n) result (feature_name_of text.now) }
-{
-    match FeatureName::parse(alloc, text) {
-        Ok(name) => Ok(name),
-        Err(NameFault::OutOfMemory) => Err(LineFault::OutOfMemory),
-        Err(NameFault::NotAName) => Err(LineFault::Skipped(Reason::BadFeatures)),
-    }
 }
 
 /// A dependency of another registry is one of another index.

@@ -1,0 +1,18 @@
+//! What holds of the records of every file. A law is a function that does nothing: its contract is the statement.
+
+ghost use Rattle.std.specs.Prelude.{◌≢◌, ℕ, List};
+ghost use Rattle.std.specs.List.{All, AllPairs};
+ghost use Rattle.std.specs.declared.cmp.Ordering.TheVariants.{Equal};
+ghost use Rattle.model.specs.Order.{precedence};
+ghost use Rattle.model.specs.Owner.{KnowsFeatures};
+ghost use Rattle.index_reader.specs.Files.{records_of_file};
+
+/// No two records of a file are of equal precedence.
+pub fn records_are_apart()
+    ensures { (name bytes : List ℕ) → AllPairs (λ a b. precedence a.version b.version ≢ Equal) (records_of_file name bytes).records }
+{}
+
+/// In the feature table that a record brings, an entry that names a feature names one of the same table.
+pub fn records_know_their_features()
+    ensures { (name bytes : List ℕ) → All (λ r. KnowsFeatures r.brings.features) (records_of_file name bytes).records }
+{}

@@ -1,0 +1,167 @@
+//! The features that a line writes, and the table that they make.
+
+ghost use Rattle.std.specs.Prelude.{◌≡◌, IfOk, Ok};
+ghost use Rattle.std.specs.Option.{ok_or};
+ghost use Rattle.model.specs.Outcome.{Gives};
+ghost use Rattle.model.specs.Tables.{table_of};
+ghost use Rattle.features.specs.Entries.{entry_of};
+ghost use Rattle.features.specs.EntryViews.{entry_view, entry_views};
+ghost use Rattle.features.specs.Tables.{built, dep_name_view, dep_names_view, rows_of, table_wants_memory};
+ghost use Rattle.index_reader.specs.Lines.{is_memory};
+ghost use Rattle.index_reader.specs.Shapes.{texts_view, feature_view, feature_views, line_dependency_view, line_dependency_views, shape_view};
+ghost use Rattle.index_reader.specs.Written.{feature_name_of, entry_read, entries_read, feature_read, joined, with_feature, with_features, written_of, dep_name_of, dep_names_of, unless_faulty, features_of, skip_of};
+
+use crate::fault::{LineFault, Reason};
+use crate::shape::{DependencyShape, FeatureShape, LineShape};
+use features::{DepName, Entry, EntryFault, FeatureFault, FeatureName, FeatureTable, NameFault};
+use std::alloc::{AllocError, Global};
+use std::collections::BTreeMap;
+
+/// The feature table of a line.
+#[tactic(auto, unfolding(crate::specs::Written::features_of))]
+pub(crate) fn features(alloc: Global, line: &LineShape<'_>) -> Result<FeatureTable, LineFault>
+    ensures { Gives is_memory (λ t. t) result (features_of (shape_view line.now)) }
+{
+    let written = written(alloc, line)?;
+    let names = dep_names(alloc, &line.dependencies)?;
+    table(alloc, &names, written)
+}
+
+/// The features that a line writes: those of `features2` behind those of `features`.
+fn written(
+    alloc: Global,
+    line: &LineShape<'_>,
+) -> Result<BTreeMap<FeatureName, Vec<Entry>>, LineFault>
+    ensures { Gives is_memory (λ m. rows_of m.entries) result (written_of (shape_view line.now)) }
+{
+    let written = with_features(alloc, BTreeMap::new(alloc), &line.features)?;
+    with_features(alloc, written, &line.features2)
+}
+
+#[tactic(auto, unfolding(crate::specs::Written::with_features))]
+fn with_features(
+    alloc: Global,
+    mut written: BTreeMap<FeatureName, Vec<Entry>>,
+    features: &[FeatureShape<'_>],
+) -> Result<BTreeMap<FeatureName, Vec<Entry>>, LineFault>
+    ensures { Gives is_memory (λ m. rows_of m.entries) result (with_features (rows_of written.entries) (feature_views features.now)) }
+{
+    'features: for feature in features {
+        written = with_feature(alloc, written, feature)?;
+    }
+    Ok(written)
+}
+
+#[tactic(auto, unfolding(crate::specs::Written::feature_read))]
+fn with_feature(
+    alloc: Global,
+    written: BTreeMap<FeatureName, Vec<Entry>>,
+    feature: &FeatureShape<'_>,
+) -> Result<BTreeMap<FeatureName, Vec<Entry>>, LineFault>
+    ensures { Gives is_memory (λ m. rows_of m.entries) result (with_feature (rows_of written.entries) (feature_view feature.now)) }
+{
+    let name = feature_name(alloc, feature.name)?;
+    let entries = entries(alloc, &feature.entries)?;
+    Ok(with_entries(written, name, entries)?)
+}
+
+/// With these entries of a feature too, behind those that it has.
+fn with_entries(
+    mut written: BTreeMap<FeatureName, Vec<Entry>>,
+    name: FeatureName,
+    mut entries: Vec<Entry>,
+) -> Result<BTreeMap<FeatureName, Vec<Entry>>, AllocError>
+    ensures { IfOk result (λ m. rows_of m.entries ≡ joined (rows_of written.entries) (name, entry_views entries.items)) }
+{
+    if let Some(before) = written.get_mut(&name) {
+        before.append(&mut entries)?;
+        return Ok(written);
+    }
+    written.insert(name, entries)?;
+    Ok(written)
+}
+
+#[tactic(auto, unfolding(crate::specs::Written::entries_read))]
+fn entries(alloc: Global, texts: &[&str]) -> Result<Vec<Entry>, LineFault>
+    ensures { Gives is_memory (λ v. entry_views v.items) result (entries_read (texts_view texts.now)) }
+{
+    let mut found = Vec::new(alloc);
+    'texts: for text in texts {
+        found.push(entry(alloc, text)?)?;
+    }
+    Ok(found)
+}
+
+fn entry(alloc: Global, text: &str) -> Result<Entry, LineFault>
+    ensures { Gives is_memory entry_view result (entry_read text.now) }
+{
+    match Entry::parse(alloc, text) {
+        Ok(entry) => Ok(entry),
+        Err(EntryFault::OutOfMemory) => Err(LineFault::OutOfMemory),
+        Err(EntryFault::NotAnEntry) => Err(LineFault::Skipped(Reason::BadFeatures)),
+    }
+}
+
+pub(crate) fn feature_name(alloc: Global, text: &str) -> Result<FeatureName, LineFault>
+    ensures { Gives is_memory (λ n. n) result (feature_name_of text.now) }
+{
+    match FeatureName::parse(alloc, text) {
+        Ok(name) => Ok(name),
+        Err(NameFault::OutOfMemory) => Err(LineFault::OutOfMemory),
+        Err(NameFault::NotAName) => Err(LineFault::Skipped(Reason::BadFeatures)),
+    }
+}
+
+/// What the dependencies are called, of whatever kind.
+fn dep_names(
+    alloc: Global,
+    dependencies: &[DependencyShape<'_>],
+) -> Result<Vec<DepName>, AllocError>
+    ensures { IfOk result (λ v. dep_names_view v.items ≡ dep_names_of (line_dependency_views dependencies.now)) }
+{
+    let mut found = Vec::new(alloc);
+    'dependencies: for dependency in dependencies {
+        found.push(dep_name(dependency)?)?;
+    }
+    Ok(found)
+}
+
+fn dep_name(dependency: &DependencyShape<'_>) -> Result<DepName, AllocError>
+    ensures { IfOk result (λ d. dep_name_view d ≡ dep_name_of (line_dependency_view dependency.now)) }
+{
+    match dependency {
+        DependencyShape::Dev(name) => Ok(DepName {
+            name: name.clone()?,
+            optional: false,
+        }),
+        DependencyShape::Part(part) => Ok(DepName {
+            name: part.name.clone()?,
+            optional: part.optional,
+        }),
+    }
+}
+
+fn table(
+    alloc: Global,
+    names: &[DepName],
+    written: BTreeMap<FeatureName, Vec<Entry>>,
+) -> Result<FeatureTable, LineFault>
+    ensures { Gives is_memory (λ t. t) result (unless_faulty (table_of (dep_names_view names.now) (rows_of written.entries))) }
+{
+    match FeatureTable::build(alloc, names, written) {
+        Ok(table) => Ok(table),
+        Err(fault) => Err(fault_of(fault)),
+    }
+}
+
+/// What a fault of a table is as a reason to skip.
+fn fault_of(fault: FeatureFault) -> LineFault
+    ensures { result ≡ skip_of fault }
+{
+    match fault {
+        FeatureFault::OutOfMemory => LineFault::OutOfMemory,
+        FeatureFault::NoSuchFeature(_)
+        | FeatureFault::NoSuchDependency(_)
+        | FeatureFault::NotOptional(_) => LineFault::Skipped(Reason::BadFeatures),
+    }
+}
