@@ -1,9 +1,13 @@
--- The spellings of two small contents, whole.
-use Rattle.std.proofs.Common.{◌≡◌, ℕ, List, [], ◌∷◌, ◌++◌, Some, None, codes, refl}
+-- The spellings of two small contents, whole, and what TOML reads them as.
+use Rattle.std.proofs.Common.{◌≡◌, ℕ, List, [], ◌∷◌, ◌++◌, Some, None, Ok, codes, refl}
 use Rattle.std.specs.Fmt.{digits}
 use Rattle.std.specs.List.{flat_map}
+use Rattle.std.specs.Str.{is_utf8, chars}
 use Rattle.model.specs.Content.{Package}
+use Rattle.toml.proofs.OnLiterals.{toml_on_literals}
+use Rattle.lockfile.specs.Locks.{table_of_bytes}
 use Rattle.lockfile.specs.Spelling.{spelling}
+use Rattle.lockfile.specs.Table.{table_of}
 
 abbrev lines : List (List ℕ) → List ℕ
 lines ls = flat_map (λ l. l ++ 10 ∷ []) ls
@@ -26,3 +30,12 @@ spelled-used : spelling (used ∷ root (0 ∷ []) ∷ []) ≡ lines (codes "# Th
     ∷ [] ∷ codes "[[package]]" ∷ codes "name = \"demo\"" ∷ codes "version = \"0.1.0\"" ∷ codes "dependencies = [" ∷ codes " \"a\"," ∷ codes "]" ∷ [])
 unfolding spelling digits
 spelled-used = refl
+
+-- the table of a spelling is the one that the content stands for
+read-root : table_of_bytes (spelling (root [] ∷ [])) ≡ Ok (table_of (root [] ∷ []))
+unfolding spelling digits is_utf8 chars toml_on_literals
+read-root = refl
+
+read-used : table_of_bytes (spelling (used ∷ root (0 ∷ []) ∷ [])) ≡ Ok (table_of (used ∷ root (0 ∷ []) ∷ []))
+unfolding spelling digits is_utf8 chars toml_on_literals
+read-used = refl

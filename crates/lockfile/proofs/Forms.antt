@@ -237,7 +237,7 @@ agree : (s t : Package → Bool) (n : ℕ) (ps : Content) → AllByRecursion (λ
 agree s t n [] h = refl
 agree s t n (p ∷ ps) h = rw (h.0, agree s t (n + 1) ps h.1) refl
 
-none : (s : Package → Bool) (n : ℕ) (ps : Content) → AllByRecursion (λ p. s p ≡ false) ps → places_from n s ps ≡ []
+pub none : (s : Package → Bool) (n : ℕ) (ps : Content) → AllByRecursion (λ p. s p ≡ false) ps → places_from n s ps ≡ []
 none s n [] h = refl
 none s n (p ∷ ps) h = rw h.0 (none s (n + 1) ps h.1)
 

@@ -8,4 +8,10 @@ pub mod Forms
 pub mod Meant
 pub mod Linking
 pub mod Contents
+pub mod Alone
+pub mod Writing
+pub mod Stable
+pub mod ListOrder
+pub mod Means
+pub mod Back
 pub mod Examples

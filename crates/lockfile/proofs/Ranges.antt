@@ -202,7 +202,7 @@ only-found r xs first n l h =
     let start : 0 + first ≡ first = omega arith in
     rw start at (only-bands (λ x. is_eq (r x)) 0 xs first n banded)
 
-places-map : {X Y : Type 0} (test : Y → Bool) (f : X → Y) (n : ℕ) (xs : List X) → places_from n test (map f xs) ≡ places_from n (λ x. test (f x)) xs
+pub places-map : {X Y : Type 0} (test : Y → Bool) (f : X → Y) (n : ℕ) (xs : List X) → places_from n test (map f xs) ≡ places_from n (λ x. test (f x)) xs
 places-map test f n [] = refl
 places-map test f n (x ∷ xs) = rw (places-map test f (n + 1) xs) refl
 

@@ -168,7 +168,7 @@ same-members {R = R} o (x ∷ xs) (y ∷ ys) s t i j =
     cc
 
 -- what a sort leaves in strict order has no two that tie, and is `in_order` of what it was given
-distinct-sorted : {X : Type 0} {R : X → X → Ordering} (o : IsTotalOrder R) (xs ys : List X) → IsPermutation xs ys → IsStrictlySortedBy R ys → IsDistinct (eq_by_cmp R) xs
+pub distinct-sorted : {X : Type 0} {R : X → X → Ordering} (o : IsTotalOrder R) (xs ys : List X) → IsPermutation xs ys → IsStrictlySortedBy R ys → IsDistinct (eq_by_cmp R) xs
 distinct-sorted {R = R} o xs ys p s = IsDistinct-IsPermutation (eq_by_cmp R) (eq_by_cmp_equiv o).symm ys xs (IsPermutation-sym xs ys p) (IsDistinct-from_sorted R ys s)
 
 pub in_order-sorted : {X : Type 0} {R : X → X → Ordering} (o : IsTotalOrder R) (xs ys : List X) → IsPermutation xs ys → IsStrictlySortedBy R ys → in_order R xs ≡ ys

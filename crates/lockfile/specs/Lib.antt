@@ -5,3 +5,5 @@ pub mod Locks
 pub mod Spelling
 pub mod Views
 pub mod Search
+pub mod Written
+pub mod Table

@@ -1,6 +1,6 @@
 -- The one text that a content is written as (Cargo book, "Cargo.toml vs Cargo.lock": the lock as Cargo writes it; the order of a list is ours).
-use Rattle.std.specs.Prelude.{ℕ, ◌&&◌, ◌==◌, List, [], ◌∷◌, ◌++◌, length, Option, Some, None, codes, slice_get, if◌then◌else◌}
-use Rattle.std.specs.List.{flat_map, filter}
+use Rattle.std.specs.Prelude.{ℕ, ◌&&◌, ◌==◌, List, [], ◌∷◌, ◌++◌, length, map, Option, Some, None, codes, slice_get, if◌then◌else◌}
+use Rattle.std.specs.List.{flat_map, filter, filter_map}
 use Rattle.std.specs.Ordering.{ordering_then}
 use Rattle.std.specs.declared.cmp.Ordering.{Ordering}
 use Rattle.std.specs.declared.cmp.Ordering.TheVariants.{Less, Equal, Greater}
@@ -53,27 +53,26 @@ listed_source_cmp None None = Equal
 abbrev pub listed_cmp : Package → Package → Ordering
 listed_cmp p r = ordering_then (text_cmp p.name r.name) (ordering_then (text_cmp (parts_text p.version) (parts_text r.version)) (listed_source_cmp p.source r.source))
 
--- the packages at these places
-abbrev pub at_place : Option Package → List Package
-at_place None = []
-at_place (Some p) = p ∷ []
+-- the elements at these places
+abbrev pub at_places : {X : Type 0} → List X → List ℕ → List X
+at_places xs ns = filter_map (slice_get xs) ns
 
-abbrev pub packages_at : Content → List ℕ → List Package
-packages_at content ns = flat_map (λ n. at_place (slice_get content n)) ns
+-- the texts of a package's list
+abbrev pub list_texts : Content → Package → List (List ℕ)
+list_texts content p = map (dependency_text content) (in_order listed_cmp (at_places content p.list))
 
-abbrev pub dependency_line : Content → Package → List ℕ
-dependency_line content p = line (codes " \"" ++ dependency_text content p ++ codes "\",")
+abbrev pub dependency_line : List ℕ → List ℕ
+dependency_line text = line (codes " \"" ++ text ++ codes "\",")
 
-abbrev pub dependency_lines : Content → List Package → List ℕ
-dependency_lines content [] = []
-dependency_lines content (p ∷ ps) = line (codes "dependencies = [") ++ flat_map (dependency_line content) (p ∷ ps) ++ line (codes "]")
+abbrev pub dependency_lines : List (List ℕ) → List ℕ
+dependency_lines [] = []
+dependency_lines (text ∷ texts) = line (codes "dependencies = [") ++ flat_map dependency_line (text ∷ texts) ++ line (codes "]")
 
--- an empty line and the lines of one package
-abbrev pub block : Content → Package → List ℕ
-block content p = line [] ++ line (codes "[[package]]") ++ key_line (codes "name") p.name ++ key_line (codes "version") (parts_text p.version)
-    ++ optional_line (codes "source") p.source ++ optional_line (codes "checksum") p.checksum
-    ++ dependency_lines content (in_order listed_cmp (packages_at content p.list))
+-- an empty line and the lines of one package, whose version and whose list have these texts
+abbrev pub block : Package → List ℕ → List (List ℕ) → List ℕ
+block p version texts = line [] ++ line (codes "[[package]]") ++ key_line (codes "name") p.name ++ key_line (codes "version") version
+    ++ optional_line (codes "source") p.source ++ optional_line (codes "checksum") p.checksum ++ dependency_lines texts
 
 -- the text of a content
 unfoldable pub spelling : Content → List ℕ
-spelling content = head ++ flat_map (block content) content
+spelling content = head ++ flat_map (λ p. block p (parts_text p.version) (list_texts content p)) content

@@ -27,7 +27,7 @@ impl Model for LockContent {
 
 impl LockContent {
     /// The content of packages that stand in package order.
-    pub(crate) fn new(packages: Vec<Package>) -> LockContent
+    pub fn new(packages: Vec<Package>) -> LockContent
         requires { IsContent (package_views packages.items) }
         ensures { result ≡ package_views packages.items }
     {

@@ -2,17 +2,21 @@
 #![tactic(auto)]
 
 mod content;
+mod entry;
 mod fault;
+mod laws;
+mod listed;
 mod locked;
 mod order;
 mod packages;
 mod reader;
 mod search;
 mod table;
-#[cfg(test)]
-mod tests;
+mod writer;
 
 pub use content::LockContent;
 pub use fault::LockFault;
+pub use laws::{spellings_read_back, tables_say_their_contents};
 pub use locked::Package;
 pub use reader::read;
+pub use writer::write;

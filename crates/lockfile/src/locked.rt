@@ -35,4 +35,13 @@ impl Package {
             None => None,
         }
     }
+    /// The checksum, if the package has one.
+    pub fn checksum(&self) -> Option<&str>
+        ensures { option_map (λ s. s.now) result ≡ (package_view self.now).checksum }
+    {
+        match &self.checksum {
+            Some(checksum) => Some(checksum.as_str()),
+            None => None,
+        }
+    }
 }

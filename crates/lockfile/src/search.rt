@@ -5,9 +5,10 @@ ghost use Rattle.std.specs.Option.{ok_or};
 ghost use Rattle.std.specs.Ordering.{ordering_then};
 ghost use Rattle.semver.specs.Identifiers.{parts_of};
 ghost use Rattle.model.specs.Order.{text_cmp, version_cmp};
+ghost use Rattle.model.specs.Content as model;
 ghost use Rattle.model.specs.Outcome.{Gives};
 ghost use Rattle.lockfile.specs.Locks.{is_memory, place_meant, places_meant, list_of, lists_of, only, places, locked_packages};
-ghost use Rattle.lockfile.specs.Search.{wanted_cmp, is_wanted, IsOrdered, HasNoSpace};
+ghost use Rattle.lockfile.specs.Search.{named_cmp, versioned_cmp, wanted_cmp, is_wanted, IsOrdered, HasNoSpace};
 ghost use Rattle.lockfile.specs.Views.{package_view, unlinked_views, list_views, text_views};
 
 use crate::fault::LockFault;
@@ -22,7 +23,7 @@ use std::cmp::Ordering;
 
 /// The packages that are looked for.
 #[derive(Clone, Copy)]
-enum Wanted<'t, 'v> {
+pub(crate) enum Wanted<'t, 'v> {
     /// Those of a name.
     Name(&'t str),
     /// Those of a name and a version.
@@ -31,9 +32,25 @@ enum Wanted<'t, 'v> {
     Source(&'t str, &'v Version, Option<&'t str>),
 }
 
+impl<'p> Wanted<'p, 'p> {
+    /// Those of the name of a package.
+    pub(crate) fn name_of(locked: &'p Package) -> Wanted<'p, 'p>
+        ensures { (r : model.Package) → wanted_cmp result r ≡ named_cmp (package_view locked.now).name r }
+    {
+        Wanted::Name(locked.name.as_str())
+    }
+
+    /// Those of the name and the version of a package.
+    pub(crate) fn version_of(locked: &'p Package) -> Wanted<'p, 'p>
+        ensures { (r : model.Package) → wanted_cmp result r ≡ versioned_cmp (package_view locked.now).name (package_view locked.now).version r }
+    {
+        Wanted::Version(locked.name.as_str(), &locked.version)
+    }
+}
+
 impl Wanted<'_, '_> {
     /// Where a package stands beside the packages that are wanted.
-    fn compare(&self, locked: &Package) -> Ordering
+    pub(crate) fn compare(&self, locked: &Package) -> Ordering
         ensures { result ≡ wanted_cmp self.now (package_view locked.now) }
     {
         match *self {
