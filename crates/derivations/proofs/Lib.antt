@@ -1,0 +1,10 @@
+pub mod Bound
+pub mod Commas
+pub mod ReadLemmas
+pub mod Sorting
+pub mod OrderLaws
+pub mod TextLaws
+pub mod ReadLaws
+pub mod PlainTexts
+pub mod JsonLaws
+pub mod WriteLaws

@@ -1,0 +1,49 @@
+-- What each derivation keeps: the written order, references backwards, and texts that read (the format is this project's).
+use Rattle.std.specs.Prelude.{◌≡◌, ℕ, ◌<◌, ◌+◌, List, [], ◌∷◌, Ok, ⊤}
+use Rattle.std.specs.List.{AllByRecursion}
+use Rattle.std.specs.List.Sorted.{IsStrictlySortedBy}
+use Rattle.std.specs.declared.cmp.Ordering.{Ordering}
+use Rattle.model.specs.Order.{text_cmp}
+use Rattle.model.specs.Vertices.{Vertex, State}
+use Rattle.model.specs.Axioms.{Term}
+use Rattle.model.specs.Derivation.{Step, given, combine, terms_of}
+use Rattle.derivations.specs.Orders.{state_cmp}
+use Rattle.derivations.specs.Texts.{vertex_text, vertex_of_text, state_text, state_of_text}
+
+-- a vertex is what its own text reads as: its names are names, its versions versions, and its numbers within their limits
+abbrev pub IsReadVertex : Vertex → Type 0
+IsReadVertex v = vertex_of_text (vertex_text v) ≡ Ok v
+
+-- so is a state, which its vertex may have
+abbrev pub IsReadState : Vertex → State → Type 0
+IsReadState v s = state_of_text v (state_text s) ≡ Ok s
+
+-- the states in the written order, none twice
+pub record IsTerm (t : Term) : Type 0 where
+  pub vertex : IsReadVertex t.vertex
+  pub states : AllByRecursion (λ s. IsReadState t.vertex s) t.states
+  pub order : IsStrictlySortedBy state_cmp t.states
+
+-- terms by the bytes of their vertices' texts
+abbrev pub term_cmp : Term → Term → Ordering
+term_cmp t u = text_cmp (vertex_text t.vertex) (vertex_text u.vertex)
+
+-- the terms in the written order, no vertex twice
+abbrev pub AreTerms : List Term → Type 0
+AreTerms ts = AllByRecursion IsTerm ts × IsStrictlySortedBy term_cmp ts
+
+-- the step of this number refers to steps before it
+abbrev pub RefersBack : ℕ → Step → Type 0
+RefersBack n (given k ts) = ⊤
+RefersBack n (combine a b v ts) = (a < n) × (b < n) × IsReadVertex v
+
+abbrev pub IsStepAt : ℕ → Step → Type 0
+IsStepAt n s = RefersBack n s × AreTerms (terms_of s)
+
+-- the first of the steps has this number
+abbrev pub AreStepsFrom : ℕ → List Step → Type 0
+AreStepsFrom n [] = ⊤
+AreStepsFrom n (s ∷ ss) = IsStepAt n s × AreStepsFrom (n + 1) ss
+
+abbrev pub IsDerivation : List Step → Type 0
+IsDerivation steps = AreStepsFrom 0 steps

@@ -1,0 +1,52 @@
+-- Which bytes are derivations, and which derivations they are (the format is this project's).
+use Rattle.std.specs.Prelude.{ℕ, ◌+◌, ◌==◌, ◌||◌, Bool, true, false, if◌then◌else◌, List, [], ◌∷◌, ◌++◌, length, Result, Ok, Err}
+use Rattle.std.specs.List.{list_all, slice_split}
+use Rattle.model.specs.Outcome.{◌>>=◌}
+use Rattle.model.specs.Derivation.{Step}
+use Rattle.derivations.specs.Steps.{step_of_line}
+use Rattle.derivations.specs.Texts.{Line}
+use Rattle.derivations.specs.declared.fault.LineFault.{LineFault}
+use Rattle.derivations.specs.declared.fault.LineFault.TheVariants as line
+use Rattle.derivations.specs.declared.fault.DerivationFault.{DerivationFault}
+use Rattle.derivations.specs.declared.fault.DerivationFault.TheVariants.{OutOfMemory, NotALine, Forward, TooMany}
+
+abbrev pub wants_memory : DerivationFault → Bool
+wants_memory OutOfMemory = true
+wants_memory (NotALine n) = false
+wants_memory (Forward n) = false
+wants_memory (TooMany n) = false
+
+-- a line ends with `\n`
+abbrev pub is_line_end : ℕ → Bool
+is_line_end b = b == 10
+
+-- a space, a tab or `\r`
+abbrev pub is_blank_byte : ℕ → Bool
+is_blank_byte b = b == 32 || (b == 9 || b == 13)
+
+abbrev pub is_blank : List ℕ → Bool
+is_blank line = list_all is_blank_byte line
+
+-- a fault of a line, with the line's number
+abbrev pub fault_at : ℕ → LineFault → DerivationFault
+fault_at n line.OutOfMemory = OutOfMemory
+fault_at n line.NotALine = NotALine n
+fault_at n line.Forward = Forward n
+fault_at n line.TooMany = TooMany n
+
+abbrev pub with_read : ℕ → List Step → Line Step → Result (List Step) DerivationFault
+with_read n steps (Ok s) = Ok (steps ++ s ∷ [])
+with_read n steps (Err e) = Err (fault_at n e)
+
+-- the steps up to and with the line of this number: a blank one is read over
+abbrev pub with_line : ℕ → List ℕ → List Step → Result (List Step) DerivationFault
+with_line n text steps = if is_blank text then Ok steps else with_read n steps (step_of_line (length steps) text)
+
+-- the same with these lines, the first of which has this number
+unfoldable pub with_lines : ℕ → List (List ℕ) → List Step → Result (List Step) DerivationFault
+with_lines n [] steps = Ok steps
+with_lines n (text ∷ texts) steps = with_line n text steps >>= λ next. with_lines (n + 1) texts next
+
+-- the derivation that bytes are, or the first line with a fault and the first fault that it has
+abbrev pub derivation_of_bytes : List ℕ → Result (List Step) DerivationFault
+derivation_of_bytes bytes = with_lines 1 (slice_split is_line_end bytes) []

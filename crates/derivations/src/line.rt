@@ -1,0 +1,198 @@
+//! Reading a line as a step.
+
+ghost use Rattle.std.specs.Prelude.{◌≡◌, IfOk};
+ghost use Rattle.std.specs.List.{list_all};
+ghost use Rattle.serde_json.specs.View.{view, items_view};
+ghost use Rattle.serde_json.specs.Find as json;
+ghost use Rattle.model.specs.Outcome.{Gives, guard};
+ghost use Rattle.derivations.specs.Orders.{state_cmp, ordered};
+ghost use Rattle.derivations.specs.Steps.{states_in, states_of, written_cmp, term_of, terms_in, terms_without_texts, terms_of, axiom_of, combination_of, reason_from, reason_of, is_backward, most_steps, step_of, step_of_line};
+ghost use Rattle.derivations.specs.StepViews.{written_view, written_views, reason_view};
+ghost use Rattle.derivations.specs.Texts.{line_wants_memory};
+ghost use Rattle.derivations.specs.Views.{vertex_view, state_views, term_view, term_views, step_view};
+
+use crate::fault::LineFault;
+use crate::kind::Kind;
+use crate::state::{State, read_state, state_order};
+use crate::step::{Cause, Step, Term};
+use crate::values::{array, item, no_item, read_json, text, two, whole};
+use crate::vertex::{Vertex, read_vertex};
+use serde_json::Value;
+use std::alloc::{AllocError, Global};
+use std::cmp::Ordering;
+
+/// How many steps there may be.
+const MOST_STEPS: usize = 16_777_216;
+
+/// A term and the text of its vertex.
+#[derive(Drop)]
+pub(crate) struct WrittenTerm<'a> {
+    pub text: &'a str,
+    pub term: Term,
+}
+
+/// The step of this number that a line is.
+#[tactic(auto, unfolding(crate::specs::Steps::step_of_line))]
+pub(crate) fn read_step(alloc: Global, number: usize, line: &[u8]) -> Result<Step, LineFault>
+    ensures { Gives line_wants_memory step_view result (step_of_line number line.now) }
+{
+    let value = read_json(alloc, line)?;
+    step(alloc, number, &value)
+}
+
+#[tactic(auto, unfolding(crate::specs::Steps::step_of))]
+fn step(alloc: Global, number: usize, value: &Value) -> Result<Step, LineFault>
+    ensures { Gives line_wants_memory step_view result (step_of number (view value.now)) }
+{
+    let cause = cause(alloc, value)?;
+    let terms = terms(alloc, value)?;
+    check(is_backward(number, &cause), LineFault::Forward)?;
+    check(number < MOST_STEPS, LineFault::TooMany)?;
+    Ok(Step { cause, terms })
+}
+
+fn check(passes: bool, why: LineFault) -> Result<(), LineFault>
+    ensures { Gives line_wants_memory (λ u. u) result (guard passes why) }
+{
+    if passes { Ok(()) } else { Err(why) }
+}
+
+/// Whether a cause refers to steps before this number alone.
+fn is_backward(number: usize, cause: &Cause) -> bool
+    ensures { result ≡ is_backward number (reason_view cause.now) }
+{
+    match cause {
+        Cause::Axiom(_) => true,
+        Cause::Combination(first, second, _) => {
+            *first < number as u64 && *second < number as u64
+        }
+    }
+}
+
+/// What `axiom` or `combine` says: just one of them is there.
+fn cause(alloc: Global, value: &Value) -> Result<Cause, LineFault>
+    ensures { Gives line_wants_memory reason_view result (reason_of (view value.now)) }
+{
+    match (value.get("axiom"), value.get("combine")) {
+        (Some(kind), None) => axiom(kind),
+        (None, Some(parts)) => combination(alloc, parts),
+        _ => Err(LineFault::NotALine),
+    }
+}
+
+#[tactic(auto, unfolding(crate::specs::Steps::axiom_of))]
+fn axiom(value: &Value) -> Result<Cause, LineFault>
+    ensures { Gives line_wants_memory reason_view result (axiom_of (view value.now)) }
+{
+    match Kind::of_text(text(value)?) {
+        Some(kind) => Ok(Cause::Axiom(kind)),
+        None => Err(LineFault::NotALine),
+    }
+}
+
+/// `[A,B,"VERTEX"]`
+#[tactic(auto, unfolding(crate::specs::Steps::combination_of))]
+fn combination(alloc: Global, value: &Value) -> Result<Cause, LineFault>
+    ensures { Gives line_wants_memory reason_view result (combination_of (view value.now)) }
+{
+    let first = whole(item(value, 0)?)?;
+    let second = whole(item(value, 1)?)?;
+    let vertex = read_vertex(alloc, text(item(value, 2)?)?)?;
+    no_item(value, 3)?;
+    Ok(Cause::Combination(first, second, vertex))
+}
+
+/// The terms by the bytes of their vertices' texts, no vertex twice.
+#[tactic(auto, unfolding(crate::specs::Steps::terms_of))]
+fn terms(alloc: Global, value: &Value) -> Result<Vec<Term>, LineFault>
+    ensures { Gives line_wants_memory (λ v. term_views v.items) result (terms_of (view value.now)) }
+{
+    let Some(found) = value.get("terms") else {
+        return Err(LineFault::NotALine);
+    };
+    let written = terms_in(alloc, array(found)?)?;
+    let sorted = ordered_terms(written)?;
+    Ok(without_texts(alloc, sorted)?)
+}
+
+#[tactic(auto, unfolding(crate::specs::Steps::terms_in))]
+fn terms_in<'a>(alloc: Global, values: &'a Vec<Value>) -> Result<Vec<WrittenTerm<'a>>, LineFault>
+    ensures { Gives line_wants_memory (λ v. written_views v.items) result (terms_in (items_view values.now.items)) }
+{
+    let mut found = Vec::new(alloc);
+    'items: for value in values.iter() {
+        found.push(term(alloc, value)?)?;
+    }
+    Ok(found)
+}
+
+/// `["VERTEX",["STATE",..]]`
+#[tactic(auto, unfolding(crate::specs::Steps::term_of))]
+fn term(alloc: Global, value: &Value) -> Result<WrittenTerm<'_>, LineFault>
+    ensures { Gives line_wants_memory written_view result (term_of (view value.now)) }
+{
+    let (vertex, states_value) = two(value)?;
+    let text = text(vertex)?;
+    let vertex = read_vertex(alloc, text)?;
+    let states = states(alloc, &vertex, states_value)?;
+    Ok(WrittenTerm {
+        text,
+        term: Term { vertex, states },
+    })
+}
+
+/// The terms in order, no vertex twice.
+fn ordered_terms(mut terms: Vec<WrittenTerm<'_>>) -> Result<Vec<WrittenTerm<'_>>, LineFault>
+    ensures { Gives line_wants_memory (λ v. written_views v.items) result (ordered written_cmp (written_views terms.entry.items)) }
+{
+    terms.sort_by(|a, b| a.text.cmp(b.text))?;
+    if terms.is_sorted_by(|a, b| a.text.cmp(b.text) == Ordering::Less) {
+        Ok(terms)
+    } else {
+        Err(LineFault::NotALine)
+    }
+}
+
+fn without_texts(alloc: Global, written: Vec<WrittenTerm<'_>>) -> Result<Vec<Term>, AllocError>
+    ensures { IfOk result (λ v. term_views v.items ≡ terms_without_texts (written_views written.entry.items)) }
+{
+    written
+        .into_iter()
+        .map(
+            |one: WrittenTerm<'_>| -> Term
+                ensures { term_view result ≡ (written_view one.entry).1 }
+            { one.term },
+        )
+        .collect(alloc)
+}
+
+/// The states in order, none twice.
+#[tactic(auto, unfolding(crate::specs::Steps::states_of))]
+fn states(alloc: Global, vertex: &Vertex, value: &Value) -> Result<Vec<State>, LineFault>
+    ensures { Gives line_wants_memory (λ v. state_views v.items) result (states_of (vertex_view vertex.now) (view value.now)) }
+{
+    let written = states_in(alloc, vertex, array(value)?)?;
+    ordered_states(written)
+}
+
+#[tactic(auto, unfolding(crate::specs::Steps::states_in))]
+fn states_in(alloc: Global, vertex: &Vertex, values: &Vec<Value>) -> Result<Vec<State>, LineFault>
+    ensures { Gives line_wants_memory (λ v. state_views v.items) result (states_in (vertex_view vertex.now) (items_view values.now.items)) }
+{
+    let mut found = Vec::new(alloc);
+    'items: for value in values.iter() {
+        found.push(read_state(alloc, vertex, text(value)?)?)?;
+    }
+    Ok(found)
+}
+
+fn ordered_states(mut states: Vec<State>) -> Result<Vec<State>, LineFault>
+    ensures { Gives line_wants_memory (λ v. state_views v.items) result (ordered state_cmp (state_views states.items)) }
+{
+    states.sort_by(|a, b| state_order(a, b))?;
+    if states.is_sorted_by(|a, b| state_order(a, b) == Ordering::Less) {
+        Ok(states)
+    } else {
+        Err(LineFault::NotALine)
+    }
+}

@@ -1,0 +1,3 @@
+pub mod Between
+pub mod Sweep
+pub mod Counts

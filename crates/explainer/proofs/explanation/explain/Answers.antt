@@ -1,0 +1,11 @@
+use Rattle.std.proofs.Common.{◌≡◌, sym, subst, ◌∙◌}
+use Rattle.std.specs.List.Sorted.{IsNonDecreasing}
+use Rattle.derivations.specs.Views.{step_views}
+use Rattle.explainer.specs.Explanations.{needed}
+use Rattle.explainer.proofs.Counts.{needed-rises}
+use Rattle.explainer.proofs.explanation.explain.Goals as goal
+
+pub lines-requires : goal.lines-requires
+lines-requires c =
+    let same : c.deref.result.now ≡ needed (step_views c.steps-steps.result.now) = c.deref.ensures.value ∙ c.in_ok-needed.ensures in
+    subst IsNonDecreasing (sym same) (needed-rises (step_views c.steps-steps.result.now))

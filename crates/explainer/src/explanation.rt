@@ -1,0 +1,173 @@
+//! The text of a derivation.
+
+ghost use Rattle.std.specs.Prelude.{◌≡◌, ◌++◌, [], IfOk, OnOk, codes, decimal, map, string_bytes};
+ghost use Rattle.std.specs.List.{flat_map};
+ghost use Rattle.std.specs.List.Sorted.{IsNonDecreasing};
+ghost use Rattle.derivations.specs.Kinds.{kind_view};
+ghost use Rattle.derivations.specs.Views.{state_view, state_views, term_view, term_views, step_from, step_view, step_views};
+ghost use Rattle.explainer.specs.Explanations.{text_if, with_between, term_words, claim, kind_name, new_number, reason, line, line_at, explanation_of};
+ghost use Rattle.derivations.specs.Texts.{state_text};
+
+use crate::needed::needed;
+use derivations::{Cause, Derivation, Kind, State, Step, Term};
+use std::alloc::{AllocError, Global};
+
+/// The needed steps of a derivation as a text: the last one, and each that a needed one combines, in order and numbered from 1.
+pub fn explain(alloc: Global, derivation: &Derivation) -> Result<String, AllocError>
+    ensures { IfOk result (λ t. string_bytes t ≡ explanation_of derivation.now) }
+{
+    let steps = derivation.steps();
+    let needed = needed(alloc, steps)?;
+    lines(alloc, steps, &needed)
+}
+
+/// The lines of the steps of these numbers.
+fn lines(alloc: Global, steps: &[Step], needed: &[usize]) -> Result<String, AllocError>
+    requires { IsNonDecreasing needed.now }
+    ensures { IfOk result (λ t. string_bytes t ≡ flat_map (line_at needed.now (step_views steps.now)) needed.now) }
+{
+    let mut text = String::new(alloc);
+    'needed: for number in needed {
+        push_line_at(&mut text, steps, needed, *number)?;
+    }
+    Ok(text)
+}
+
+/// The line of the step of this number.
+fn push_line_at(
+    text: &mut String,
+    steps: &[Step],
+    needed: &[usize],
+    number: usize,
+) -> Result<(), AllocError>
+    requires { IsNonDecreasing needed.now }
+    ensures { OnOk result (string_bytes text.new ≡ string_bytes text.old ++ line_at needed.now (step_views steps.now) number) }
+{
+    match steps.get(number) {
+        Some(step) => push_line(text, needed, number, step),
+        None => Ok(()),
+    }
+}
+
+/// The line of a needed step.
+fn push_line(
+    text: &mut String,
+    needed: &[usize],
+    number: usize,
+    step: &Step,
+) -> Result<(), AllocError>
+    requires { IsNonDecreasing needed.now }
+    ensures { OnOk result (string_bytes text.new ≡ string_bytes text.old ++ line needed.now number (step_view step.now)) }
+{
+    let own = new_number(needed, number as u64);
+    write!(text, "{own}: ")?;
+    push_claim(text, &step.terms)?;
+    text.push_str(", ")?;
+    push_reason(text, needed, &step.cause)?;
+    text.push_str("\n")
+}
+
+/// What can't all hold.
+fn push_claim(text: &mut String, terms: &[Term]) -> Result<(), AllocError>
+    ensures { OnOk result (string_bytes text.new ≡ string_bytes text.old ++ claim (term_views terms.now)) }
+{
+    if terms.is_empty() {
+        text.push_str("no selection is left")
+    } else {
+        text.push_str("never ")?;
+        push_terms(text, terms)
+    }
+}
+
+fn push_terms(text: &mut String, terms: &[Term]) -> Result<(), AllocError>
+    ensures { OnOk result (string_bytes text.new ≡ string_bytes text.old ++ with_between (codes " and ") (map term_words (term_views terms.now))) }
+{
+    let mut later = false;
+    'terms: for term in terms {
+        push_term(text, later, term)?;
+        later = true;
+    }
+    Ok(())
+}
+
+/// A term, after `and` if it is a later one.
+fn push_term(text: &mut String, later: bool, term: &Term) -> Result<(), AllocError>
+    ensures { OnOk result (string_bytes text.new ≡ string_bytes text.old ++ (text_if later (codes " and ") ++ term_words (term_view term.now))) }
+{
+    push_if(text, later, " and ")?;
+    let vertex = &term.vertex;
+    write!(text, "{vertex} in {{")?;
+    push_states(text, &term.states)?;
+    text.push_str("}")
+}
+
+fn push_if(text: &mut String, later: bool, between: &str) -> Result<(), AllocError>
+    ensures { OnOk result (string_bytes text.new ≡ string_bytes text.old ++ text_if later between.now) }
+{
+    if later {
+        text.push_str(between)
+    } else {
+        Ok(())
+    }
+}
+
+fn push_states(text: &mut String, states: &[State]) -> Result<(), AllocError>
+    ensures { OnOk result (string_bytes text.new ≡ string_bytes text.old ++ with_between (codes ", ") (map state_text (state_views states.now))) }
+{
+    let mut later = false;
+    'states: for state in states {
+        push_state(text, later, state)?;
+        later = true;
+    }
+    Ok(())
+}
+
+/// A state, after a comma if it is a later one.
+fn push_state(text: &mut String, later: bool, state: &State) -> Result<(), AllocError>
+    ensures { OnOk result (string_bytes text.new ≡ string_bytes text.old ++ (text_if later (codes ", ") ++ state_text (state_view state.now))) }
+{
+    push_if(text, later, ", ")?;
+    write!(text, "{state}")
+}
+
+fn push_reason(text: &mut String, needed: &[usize], cause: &Cause) -> Result<(), AllocError>
+    requires { IsNonDecreasing needed.now }
+    ensures { OnOk result (string_bytes text.new ≡ string_bytes text.old ++ reason needed.now (step_from cause.now [])) }
+{
+    match cause {
+        Cause::Axiom(kind) => {
+            let name = kind_name(*kind);
+            write!(text, "as {kind} {name}")
+        }
+        Cause::Combination(first, second, _) => {
+            let first = new_number(needed, *first);
+            let second = new_number(needed, *second);
+            write!(text, "from {first} and {second}")
+        }
+    }
+}
+
+/// The number of a needed step among the needed ones, from 1.
+fn new_number(needed: &[usize], step: u64) -> usize
+    requires { IsNonDecreasing needed.now }
+    ensures { result ≡ new_number needed.now step }
+{
+    needed.partition_point(|n| (*n as u64) < step) + 1
+}
+
+fn kind_name(kind: Kind) -> &'static str
+    ensures { result.now ≡ kind_name (kind_view kind) }
+{
+    match kind {
+        Kind::X0 => "root",
+        Kind::X1 => "needed",
+        Kind::X2 => "target",
+        Kind::X3 => "has feature",
+        Kind::X4 => "wants feature",
+        Kind::X5 => "feature on feature",
+        Kind::X6 => "feature on dependency",
+        Kind::X7 => "feature asks",
+        Kind::X8 => "newest listed",
+        Kind::X9 => "weak feature",
+    }
+}

@@ -1,0 +1,7 @@
+//! Why there is no selection, as a text that a person reads.
+#![tactic(auto)]
+
+mod explanation;
+mod needed;
+
+pub use explanation::explain;
