@@ -1,0 +1,16 @@
+pub mod SetLemmas
+pub mod Back
+pub mod LevelLemmas
+pub mod LinkLemmas
+pub mod Soundness
+pub mod Cutting
+pub mod Deciding
+pub mod Starting
+pub mod Standings
+pub mod Vertices
+pub mod Spreading
+pub mod Places
+pub mod Counts
+pub mod Ranking
+pub mod Combining
+pub mod Satisfiers

@@ -1,0 +1,14 @@
+use Rattle.std.proofs.Common.{◌≡◌, List, length}
+use Rattle.propagation.specs.Promises.{IsLonger}
+use Rattle.propagation.specs.Trails.{Above, StepView, trail_view}
+use Rattle.propagation.proofs.trail.Trail.cut.Given as goal
+
+abbrev pub invariant-back : goal.invariant-back
+invariant-back g l = let tests = g.S.States.tests in record {
+  back : (gone : List StepView) × IsLonger (trail_view tests l.self) (trail_view tests l.fn.self) gone × Above l.level gone;
+  level : l.self.level ≡ l.fn.self.level;
+  assigned : l.self.assigned ≡ l.fn.self.assigned;
+}
+
+abbrev pub decreases-back : goal.decreases-back
+decreases-back g l = length l.self.steps.items
