@@ -1,2 +1,7 @@
 pub mod Sources
+pub mod Ranks
+pub mod Views
+pub mod Stores
 pub mod Runs
+pub mod Problems
+pub mod Loads

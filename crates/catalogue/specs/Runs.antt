@@ -7,8 +7,7 @@ use Rattle.model.specs.Candidates.{Record, candidates_among, is_locked}
 use Rattle.index_reader.specs.Folders.{Answer}
 use Rattle.index_reader.specs.Paths.{path_of}
 use Rattle.index_reader.specs.Records.{RecordView}
-use Rattle.index_reader.specs.Files.{FileView, file_so_far}
-use Rattle.index_reader.specs.declared.fault.FileFault.{FileFault}
+use Rattle.index_reader.specs.Files.{records_of_file}
 
 -- a name that was asked for, and what the folder answered: its file, if there is one
 abbrev pub Asked : Type 0
@@ -26,14 +25,10 @@ Chain {S} calls old (a ∷ later) new = (mid : S) × calls old (path_of a.0) (Ok
 abbrev pub as_record : RecordView → Record
 as_record r = record { version = r.version; checksum = r.checksum; yanked = r.yanked; rust_version = r.rust_version; brings = r.brings }
 
-abbrev pub records_or_none : Result FileView FileFault → List Record
-records_or_none (Ok file) = map as_record file.records
-records_or_none (Err fault) = []
-
 -- the records of a name: none where it has no file
 abbrev pub records_of : Asked → List Record
 records_of (name, None) = []
-records_of (name, Some bytes) = records_or_none (file_so_far name bytes)
+records_of (name, Some bytes) = map as_record (records_of_file name bytes).records
 
 -- the names of the packages that dependencies mean, by number
 abbrev pub meant_by : List Dependency → List (List ℕ)
@@ -44,8 +39,8 @@ unfoldable pub once : List (List ℕ) → List (List ℕ)
 once [] = []
 once (x ∷ xs) = x ∷ filter (λ y. not (same_text x y)) (once xs)
 
--- in a run that has this old lock, this source and these dependencies of the root
-module _ (old : Content) (source : List ℕ) (root : List Dependency) where
+-- in a run that has this old lock and this source
+module _ (old : Content) (source : List ℕ) where
   -- the candidates of a name, oldest first: the records that aren't yanked, or are locked
   abbrev pub candidates_in : Asked → List Record
   candidates_in a = candidates_among (is_locked old source a.0) (records_of a)
@@ -54,9 +49,11 @@ module _ (old : Content) (source : List ℕ) (root : List Dependency) where
   abbrev pub needed_by : Asked → List (List ℕ)
   needed_by a = flat_map (λ r. meant_by (r.brings).dependencies) (candidates_in a)
 
+-- in such a run for a root with these dependencies
+module _ (old : Content) (source : List ℕ) (root : List Dependency) where
   -- the names in the order in which they are asked for: what the root needs, then name after name what its candidates need, each once
   abbrev pub names_after : List Asked → List (List ℕ)
-  names_after asked = once (meant_by root ++ flat_map needed_by asked)
+  names_after asked = once (meant_by root ++ flat_map (needed_by old source) asked)
 
   -- the name that is asked for next, if one is left
   abbrev pub next_name : List Asked → Option (List ℕ)

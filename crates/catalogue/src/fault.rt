@@ -40,9 +40,6 @@ pub enum LoadFault {
     /// A locked package has another checksum than the index.
     #[error("the checksum of {0} {1} changed")]
     ChecksumChanged(PackageName, Version),
-    /// The file of this name has a line that isn't read yet.
-    #[error("the index file of {0} isn't read yet")]
-    NotYet(PackageName),
 }
 
 impl From<AllocError> for LoadFault {

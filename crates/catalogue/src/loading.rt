@@ -1,34 +1,35 @@
 //! Loading the index of a run from a folder.
 
+ghost use Rattle.std.specs.Prelude.{◌≡◌, OnOk, Some, map, option_map};
+ghost use Rattle.classes.specs.RustVersions.{rust_version_view};
+ghost use Rattle.index_reader.specs.Views.{skip_view};
+ghost use Rattle.indexmap.specs.IndexSet.{insert_key, insert_all};
+ghost use Rattle.model.specs.Owner.{same_text};
+ghost use Rattle.features.specs.Views.{dependency_views};
+ghost use Rattle.catalogue.specs.Loads.{packages_of, needs_of, Asks, AsksAll, differs, has_changed, Checks, rust_for, Loads};
+ghost use Rattle.catalogue.specs.Stores.{candidates_at, record_at};
+ghost use Rattle.catalogue.specs.Views.{said};
+ghost use Rattle.lockfile.specs.Views.{package_view, package_views};
+ghost use Rattle.model.specs.Content.{same_option};
+ghost use Rattle.catalogue.specs.Runs.{meant_by};
+
+use crate::asking::read_name;
+use crate::candidate::Candidate;
+use crate::candidates::Candidates;
+use crate::choosing::{Run, candidates_of};
 use crate::fault::{Limit, LoadFault};
-use crate::locked::is_locked;
 use crate::source::Source;
-use crate::store::{Candidate, Candidates, Catalogue, Prefer, Rank};
+use crate::store::{Catalogue, Prefer};
 use classes::RustVersion;
 use features::{Dependency, PackageName};
-use index_reader::{FileFault, Folder, FolderFault, Record, Skip, index_path, lines, read_file};
+use index_reader::{Folder, Skip};
 use indexmap::IndexSet;
-use lockfile::LockContent;
+use lockfile::{LockContent, Package};
 use manifest::Manifest;
-use std::alloc::Global;
+use std::alloc::{AllocError, Global};
 
 /// How many names a run asks for at most.
 const MAX_NAMES: usize = 65_536;
-
-/// How many bytes a file has at most.
-const MAX_BYTES: usize = 16_777_216;
-
-/// How many lines a file has at most.
-const MAX_LINES: usize = 65_535;
-
-/// What a run is loaded for: all but the folder.
-#[derive(Drop)]
-struct Run<'a> {
-    old: Option<&'a LockContent>,
-    source: &'a Source,
-    /// The Rust version that candidates are to fit, where that counts.
-    rust_version: Option<RustVersion>,
-}
 
 /// Asks the folder for the names that the root's dependencies and, name after name, those of the candidates mean, each name once.
 ///
@@ -41,171 +42,161 @@ pub fn load<F: Folder>(
     old: Option<&LockContent>,
     source: &Source,
     prefer: Prefer,
-) -> Result<Catalogue, LoadFault> {
+) -> Result<Catalogue, LoadFault>
+    ensures { Loads (packages_of old.entry) source.now (rust_for prefer manifest.now.rust_version) manifest.now.brings.dependencies F.calls folder.old result folder.new }
+{
     let run = Run {
         old,
         source,
-        rust_version: match prefer {
-            Prefer::Newest => None,
-            Prefer::RustFirst => manifest.rust_version(),
-        },
+        rust_version: rust_for(manifest, prefer),
     };
     let catalogue = ask_all(alloc, manifest.dependencies(), folder, &run)?;
     check_checksums(old, &catalogue)?;
     Ok(catalogue)
 }
 
+/// The Rust version that candidates are to fit.
+fn rust_for(manifest: &Manifest, prefer: Prefer) -> Option<RustVersion>
+    ensures { option_map rust_version_view result ≡ rust_for prefer manifest.now.rust_version }
+{
+    match prefer {
+        Prefer::Newest => None,
+        Prefer::RustFirst => manifest.rust_version(),
+    }
+}
+
+/// Asks for name after name, until none is left.
 fn ask_all<F: Folder>(
     alloc: Global,
     dependencies: &[Dependency],
     folder: &mut F,
     run: &Run<'_>,
-) -> Result<Catalogue, LoadFault> {
+) -> Result<Catalogue, LoadFault>
+    ensures { AsksAll (packages_of run.now.old) run.now.source.now (option_map rust_version_view run.now.rust_version) (dependency_views dependencies.now) F.calls folder.old result folder.new }
+{
     let mut names = IndexSet::new(alloc);
     let mut candidates = Vec::new(alloc);
     let mut skips = Vec::new(alloc);
+    let source = String::from_str(alloc, run.source.as_str())?;
     add_names(&mut names, dependencies)?;
-    for place in 0..MAX_NAMES {
-        let Some(name) = names.get_index(place) else {
-            break;
-        };
-        let records = read_name(alloc, folder, name, &mut skips)?;
-        let found = candidates_of(alloc, name, records, run)?;
-        for record in &found.records {
-            add_names(&mut names, record.brings.dependencies.as_slice())?;
+    'names: while candidates.len() < names.len() {
+        if candidates.len() >= MAX_NAMES {
+            return Err(LoadFault::TooLarge(Limit::Names));
         }
+        let found = ask(
+            alloc,
+            folder,
+            &names.as_slice()[candidates.len()],
+            run,
+            &mut skips,
+        )?;
+        add_needed(&mut names, found.records.as_slice())?;
         candidates.push(found)?;
-    }
-    if names.len() > MAX_NAMES {
-        return Err(LoadFault::TooLarge(Limit::Names));
     }
     Ok(Catalogue {
         alloc,
         names,
         candidates,
         skips,
-        source: String::from_str(alloc, run.source.as_str())?,
+        source,
     })
+}
+
+/// The candidates of a name, by one call of the folder; what was skipped is added to the skips.
+fn ask<F: Folder>(
+    alloc: Global,
+    folder: &mut F,
+    name: &PackageName,
+    run: &Run<'_>,
+    skips: &mut Vec<Skip>,
+) -> Result<Candidates, LoadFault>
+    ensures { Asks F.calls (packages_of run.now.old) run.now.source.now (option_map rust_version_view run.now.rust_version) folder.old name.now (map skip_view skips.old.items) result folder.new (map skip_view skips.new.items) }
+{
+    let (records, mut skipped) = read_name(alloc, folder, name)?;
+    skips.append(&mut skipped)?;
+    Ok(candidates_of(alloc, name, records, run)?)
+}
+
+/// Adds the names of the packages that these candidates need, each once.
+fn add_needed(names: &mut IndexSet<PackageName>, records: &[Candidate]) -> Result<(), AllocError>
+    ensures { OnOk result (names.new.keys ≡ insert_all same_text names.old.keys (needs_of records.now)) }
+{
+    'records: for record in records.iter() {
+        add_names(names, record.brings.dependencies.as_slice())?;
+    }
+    Ok(())
 }
 
 /// Adds the names of the packages that these dependencies mean, each once.
 fn add_names(
     names: &mut IndexSet<PackageName>,
     dependencies: &[Dependency],
-) -> Result<(), LoadFault> {
-    for dependency in dependencies {
-        if !names.contains(&dependency.real_name) {
-            names.insert(dependency.real_name.clone()?)?;
-        }
+) -> Result<(), AllocError>
+    ensures { OnOk result (names.new.keys ≡ insert_all same_text names.old.keys (meant_by (dependency_views dependencies.now))) }
+{
+    'dependencies: for dependency in dependencies.iter() {
+        add_name(names, &dependency.real_name)?;
     }
     Ok(())
 }
 
-/// The records of a name, by one call of the folder; what was skipped is added to the skips.
-fn read_name<F: Folder>(
-    alloc: Global,
-    folder: &mut F,
-    name: &PackageName,
-    skips: &mut Vec<Skip>,
-) -> Result<Vec<Record>, LoadFault> {
-    let path = index_path(alloc, name)?;
-    let bytes = match folder.file(path.as_str()) {
-        Ok(Some(bytes)) => bytes,
-        Ok(None) => return Ok(Vec::new(alloc)),
-        Err(FolderFault::OutOfMemory) => return Err(LoadFault::OutOfMemory),
-        Err(FolderFault::Failed) => return Err(LoadFault::FolderFailed(path)),
-    };
-    let (records, mut skipped) = read_bytes(alloc, name, bytes.as_slice())?;
-    skips.append(&mut skipped)?;
-    Ok(records)
-}
-
-/// The records and skips of a file that is within the limits.
-fn read_bytes(
-    alloc: Global,
-    name: &PackageName,
-    bytes: &[u8],
-) -> Result<(Vec<Record>, Vec<Skip>), LoadFault> {
-    if bytes.len() > MAX_BYTES {
-        return Err(LoadFault::TooLarge(Limit::File(name.clone()?)));
+/// Adds a name, unless it is there.
+fn add_name(names: &mut IndexSet<PackageName>, name: &PackageName) -> Result<(), AllocError>
+    ensures { OnOk result (names.new.keys ≡ insert_key same_text names.old.keys name.now) }
+{
+    if !names.contains(name) {
+        names.insert(name.clone()?)?;
     }
-    if lines(bytes) > MAX_LINES {
-        return Err(LoadFault::TooLarge(Limit::Lines(name.clone()?)));
-    }
-    match read_file(alloc, name, bytes) {
-        Ok(found) => Ok(found),
-        Err(FileFault::OutOfMemory) => Err(LoadFault::OutOfMemory),
-        Err(FileFault::NotYet) => Err(LoadFault::NotYet(name.clone()?)),
-    }
-}
-
-/// The candidates among the records of a name, oldest first.
-fn candidates_of(
-    alloc: Global,
-    name: &PackageName,
-    mut records: Vec<Record>,
-    run: &Run<'_>,
-) -> Result<Candidates, LoadFault> {
-    records.sort_by(|a, b| a.version.cmp_precedence(&b.version))?;
-    let mut versions = Vec::new(alloc);
-    let mut kept = Vec::new(alloc);
-    for record in records {
-        let locked = is_locked(run.old, name, &record.version, run.source.as_str());
-        if !record.yanked || locked {
-            let Record {
-                version,
-                checksum,
-                rust_version,
-                brings,
-                ..
-            } = record;
-            versions.push(version)?;
-            kept.push(Candidate {
-                checksum,
-                rust_version,
-                brings,
-                rank: rank_of(locked, rust_version, run.rust_version),
-            })?;
-        }
-    }
-    Ok(Candidates {
-        versions,
-        records: kept,
-    })
-}
-
-/// Where a candidate stands: one without a Rust version fits each.
-fn rank_of(locked: bool, needed: Option<RustVersion>, given: Option<RustVersion>) -> Rank {
-    if locked {
-        return Rank::Locked;
-    }
-    match (needed, given) {
-        (Some(needed), Some(given)) if needed > given => Rank::Rest,
-        _ => Rank::Fits,
-    }
+    Ok(())
 }
 
 /// The first package of the old lock, in package order, with a checksum other than the index's.
-fn check_checksums(old: Option<&LockContent>, catalogue: &Catalogue) -> Result<(), LoadFault> {
-    let Some(content) = old else {
-        return Ok(());
-    };
-    for package in content.packages() {
-        if has_source(&package.source, catalogue.source())
-            && let Some(checksum) = &package.checksum
-            && let Some(candidate) = catalogue.candidate(&package.name, &package.version)
-            && candidate.checksum.as_str() != checksum.as_str()
-        {
-            return Err(LoadFault::ChecksumChanged(package.name.clone()?, package.version.clone()?));
+fn check_checksums(old: Option<&LockContent>, catalogue: &Catalogue) -> Result<(), LoadFault>
+    ensures { Checks catalogue.now (packages_of old.entry) result }
+{
+    match old {
+        Some(content) => check_packages(content.packages(), catalogue),
+        None => Ok(()),
+    }
+}
+
+#[tactic(auto, unfolding(crate::specs::Loads::first_changed))]
+fn check_packages(packages: &[Package], catalogue: &Catalogue) -> Result<(), LoadFault>
+    ensures { Checks catalogue.now (package_views packages.now) result }
+{
+    'packages: for locked in packages.iter() {
+        if has_changed(locked, catalogue) {
+            return Err(LoadFault::ChecksumChanged(locked.name.clone()?, locked.version.clone()?));
         }
     }
     Ok(())
 }
 
+/// Whether a package of the run's source has another checksum than the index.
+fn has_changed(locked: &Package, catalogue: &Catalogue) -> bool
+    ensures { result ≡ has_changed catalogue.now (package_view locked.now) }
+{
+    has_source(locked.source(), catalogue.source()) && differs(locked, catalogue)
+}
+
+fn differs(locked: &Package, catalogue: &Catalogue) -> bool
+    ensures { result ≡ differs (package_view locked.now).checksum (option_map said (record_at (candidates_at catalogue.now locked.now.name) (package_view locked.now).version)) }
+{
+    let Some(checksum) = &locked.checksum else {
+        return false;
+    };
+    match catalogue.candidate(&locked.name, &locked.version) {
+        Some(candidate) => candidate.checksum.as_str() != checksum.as_str(),
+        None => false,
+    }
+}
+
 /// Whether a package is of the run's source.
-fn has_source(source: &Option<String>, text: &str) -> bool {
+fn has_source(source: Option<&str>, text: &str) -> bool
+    ensures { result ≡ same_option (option_map (λ s. s.now) source.entry) (Some text.now) }
+{
     match source {
-        Some(source) => source.as_str() == text,
+        Some(source) => source == text,
         None => false,
     }
 }

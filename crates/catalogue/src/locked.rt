@@ -1,5 +1,14 @@
 //! What an old lock holds.
 
+ghost use Rattle.std.specs.Prelude.{◌≡◌, Some, option_map};
+ghost use Rattle.semver.specs.Grammar.{IsValid};
+ghost use Rattle.semver.specs.Identifiers.{parts_of};
+ghost use Rattle.model.specs.Candidates.{is_locked};
+ghost use Rattle.model.specs.Order.{source_cmp};
+ghost use Rattle.lockfile.specs.Search.{sourced_cmp};
+ghost use Rattle.lockfile.specs.Views.{package_view};
+ghost use Rattle.catalogue.specs.Loads.{packages_of};
+
 use classes::version_order;
 use features::PackageName;
 use lockfile::{LockContent, Package};
@@ -12,29 +21,44 @@ pub(crate) fn is_locked(
     name: &PackageName,
     version: &Version,
     source: &str,
-) -> bool {
+) -> bool
+    requires { IsValid (parts_of version.now) }
+    ensures { result ≡ is_locked (packages_of old.entry) source.now name.now (parts_of version.now) }
+{
     match old {
-        Some(content) => content
-            .packages()
-            .binary_search_by(|package| order_to(package, name, version, source))
-            .is_ok(),
+        Some(content) => is_locked_in(content, name, version, source),
         None => false,
     }
 }
 
+/// Whether a lock has a package of this name, version and source.
+fn is_locked_in(content: &LockContent, name: &PackageName, version: &Version, source: &str) -> bool
+    requires { IsValid (parts_of version.now) }
+    ensures { result ≡ is_locked content.now source.now name.now (parts_of version.now) }
+{
+    let packages = content.packages();
+    packages
+        .binary_search_by(|locked| order_to(locked, name, version, source))
+        .is_ok()
+}
+
 /// The order of a package to one of this name, version and source.
-fn order_to(package: &Package, name: &PackageName, version: &Version, source: &str) -> Ordering {
-    package
+fn order_to(locked: &Package, name: &PackageName, version: &Version, source: &str) -> Ordering
+    ensures { result ≡ sourced_cmp name.now (parts_of version.now) (Some source.now) (package_view locked.now) }
+{
+    locked
         .name
         .cmp(name)
-        .then(version_order(&package.version, version))
-        .then(source_order(package, source))
+        .then_with(|| version_order(&locked.version, version))
+        .then_with(|| source_order(locked.source(), source))
 }
 
 /// A package with a source comes before one without.
-fn source_order(package: &Package, source: &str) -> Ordering {
-    match &package.source {
-        Some(text) => text.as_str().cmp(source),
+fn source_order(a: Option<&str>, source: &str) -> Ordering
+    ensures { result ≡ source_cmp (option_map (λ s. s.now) a.entry) (Some source.now) }
+{
+    match a {
+        Some(text) => text.cmp(source),
         None => Ordering::Greater,
     }
 }

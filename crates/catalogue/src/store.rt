@@ -1,11 +1,28 @@
 //! The store behind a loaded index: for each name that was asked for, its candidates.
 
-use classes::RustVersion;
-use features::{Owner, PackageName};
+ghost use Rattle.std.specs.Prelude.{◌≡◌, ◌<◌, ◌^◌, ◌++◌, [], map, length, option_map, option_and_then, unwrap_or, slice_get, Bool, false, Option, Some, IfOk, OnOk};
+ghost use Rattle.std.specs.List.{All, AllPairs};
+ghost use Rattle.std.specs.List.Sorted.{IsPermutation};
+ghost use Rattle.std.specs.declared.cmp.Ordering.TheVariants.{Less};
+ghost use Rattle.semver.specs.Eval.{precedence_cmp};
+ghost use Rattle.semver.specs.Identifiers.{parts_of};
+ghost use Rattle.semver.specs.Parse.{Parts};
+ghost use Rattle.std.specs.Option.{MatchOption};
+ghost use Rattle.model.specs.Content.{same_version};
+ghost use Rattle.model.specs.Candidates.{RustVersion as Rust, by_preference};
+ghost use Rattle.index_reader.specs.Views.{skip_view};
+ghost use Rattle.catalogue.specs.Ranks.{AreRanked, places_down, places_of, places_by_rank};
+ghost use Rattle.catalogue.specs.Views.{said, said_by, AreRead};
+ghost use Rattle.catalogue.specs.Stores.{row_at, ranked_at, candidates_at, record_at, candidates_view, IsStore};
+
+use crate::candidate::{Candidate, Rank};
+use crate::candidates::Candidates;
+use features::PackageName;
 use index_reader::Skip;
 use indexmap::IndexSet;
 use semver::Version;
 use std::alloc::{AllocError, Global};
+use std::marker::Model;
 
 /// Which candidates are preferred, after the locked ones.
 #[derive(Clone, Copy, Debug, PartialEq, Eq)]
@@ -14,32 +31,6 @@ pub enum Prefer {
     Newest,
     /// Those that the manifest's Rust version fits, the newest first; then the others, the newest first.
     RustFirst,
-}
-
-/// Where a candidate stands in the order of preference; within a rank the newest comes first.
-#[derive(Clone, Copy, Debug, PartialEq, Eq)]
-pub(crate) enum Rank {
-    Locked,
-    Fits,
-    Rest,
-}
-
-/// What the index says of a candidate, beside its version.
-#[derive(Drop)]
-pub struct Candidate {
-    /// 64 lower-case hexadecimal digits.
-    pub checksum: String,
-    /// The Rust version that it needs, if it names one.
-    pub rust_version: Option<RustVersion>,
-    pub brings: Owner,
-    pub(crate) rank: Rank,
-}
-
-/// The candidates of a name, oldest first: their versions, and at the same places what the index says of each.
-#[derive(Drop)]
-pub(crate) struct Candidates {
-    pub(crate) versions: Vec<Version>,
-    pub(crate) records: Vec<Candidate>,
 }
 
 /// The index of a run, once it is loaded.
@@ -53,14 +44,35 @@ pub struct Catalogue {
     pub(crate) source: String,
 }
 
+impl Model for Catalogue {
+    ghost use Rattle.std.specs.Prelude.{◌≡◌, map, length, string_bytes, nat_eq};
+    ghost use Rattle.std.specs.Cmp.Lexicographic.{pointwise};
+    ghost use Rattle.index_reader.specs.Views.{skip_view};
+    ghost use Rattle.indexmap.specs.IndexSet.{IsUnique};
+    ghost use Rattle.catalogue.specs.Stores.{CatalogueView, rows_view, IsStore};
+
+    ghost Value = { CatalogueView };
+
+    ghost view = { λ c. record { rows = rows_view c.names.keys c.candidates.items; skips = map skip_view c.skips.items; source = string_bytes c.source } };
+
+    ghost invariant = { λ c. (length c.names.keys ≡ length c.candidates.items) × IsUnique (pointwise nat_eq) c.names };
+}
+
 impl Catalogue {
     /// The names that were asked for, in order.
-    pub fn names(&self) -> &[PackageName] {
+    pub fn names(&self) -> &[PackageName]
+        ensures names { result.now ≡ map (λ row. row.0) self.now.rows }
+        ensures store { IsStore self.now }
+    {
         self.names.as_slice()
     }
 
     /// The versions of a name's candidates, oldest first; none for a name that wasn't asked for.
-    pub fn versions(&self, name: &PackageName) -> &[Version] {
+    pub fn versions(&self, name: &PackageName) -> &[Version]
+        ensures versions { map parts_of result.now ≡ map (λ r. r.version) (candidates_at self.now name.now) }
+        ensures rising { AllPairs (λ v w. precedence_cmp v w ≡ Less) result.now }
+        ensures read { AreRead result.now }
+    {
         match self.of(name) {
             Some(candidates) => candidates.versions.as_slice(),
             None => &[],
@@ -68,61 +80,112 @@ impl Catalogue {
     }
 
     /// The candidate of a name at a place of its `versions`.
-    pub fn record(&self, name: &PackageName, place: usize) -> Option<&Candidate> {
+    pub fn record(&self, name: &PackageName, place: usize) -> Option<&Candidate>
+        ensures { option_map (λ c. said_by c.now) result ≡ option_map said (slice_get (candidates_at self.now name.now) place) }
+    {
         self.of(name)?.records.get(place)
     }
 
     /// The candidate of a name that has this version, by the whole text.
-    pub fn candidate(&self, name: &PackageName, version: &Version) -> Option<&Candidate> {
-        let candidates = self.of(name)?;
-        let place = candidates
-            .versions
-            .binary_search_by(|v| v.cmp_precedence(version))
-            .ok()?;
-        if candidates.versions.get(place)? != version {
-            return None;
-        }
-        candidates.records.get(place)
+    pub fn candidate(&self, name: &PackageName, version: &Version) -> Option<&Candidate>
+        ensures { option_map (λ c. said_by c.now) result ≡ option_map said (record_at (candidates_at self.now name.now) (parts_of version.now)) }
+    {
+        candidate_in(self.of(name)?, version)
     }
 
     /// The places of a name's candidates in the order of preference.
-    pub fn prefer(&self, name: &PackageName) -> Result<Vec<u32>, AllocError> {
-        let mut order = Vec::new(self.alloc);
-        if let Some(candidates) = self.of(name) {
-            for rank in [Rank::Locked, Rank::Fits, Rank::Rest] {
-                add_rank(&mut order, candidates.records.as_slice(), rank)?;
-            }
+    pub fn prefer(&self, name: &PackageName) -> Result<Vec<u32>, AllocError>
+        ensures places { IfOk result (λ v. v.items ≡ places_by_rank (map (λ c. c.1) (ranked_at self.now name.now))) }
+        ensures once { IfOk result (λ v. IsPermutation (places_down (length (ranked_at self.now name.now))) v.items) }
+        ensures preferred { IfOk result (λ v. (locked : Parts → Bool) (rust : Option Rust) → AreRanked locked rust (ranked_at self.now name.now) → map (slice_get (candidates_at self.now name.now)) v.items ≡ map Some (by_preference locked rust (candidates_at self.now name.now))) }
+    {
+        match self.of(name) {
+            Some(candidates) => places_by_rank(self.alloc, candidates),
+            None => Ok(Vec::new(self.alloc)),
         }
-        Ok(order)
     }
 
     /// The lines that were skipped, in the order of loading.
-    pub fn skips(&self) -> &[Skip] {
+    pub fn skips(&self) -> &[Skip]
+        ensures { map skip_view result.now ≡ self.now.skips }
+    {
         self.skips.as_slice()
     }
 
     /// The skips alone, once nothing else is needed.
-    pub fn into_skips(self) -> Vec<Skip> {
+    pub fn into_skips(self) -> Vec<Skip>
+        ensures { map skip_view result.items ≡ self.skips }
+    {
         self.skips
     }
 
     /// The text of the run's source.
-    pub fn source(&self) -> &str {
+    pub fn source(&self) -> &str
+        ensures { result.now ≡ self.now.source }
+    {
         self.source.as_str()
     }
 
-    fn of(&self, name: &PackageName) -> Option<&Candidates> {
+    fn of(&self, name: &PackageName) -> Option<&Candidates>
+        ensures { option_map (λ c. candidates_view c.now) result ≡ row_at self.now.rows name.now }
+    {
         self.candidates.get(self.names.get_index_of(name)?)
     }
 }
 
+/// The candidate that has this version, by the whole text.
+fn candidate_in<'a>(candidates: &'a Candidates, version: &Version) -> Option<&'a Candidate>
+    ensures { option_map (λ c. said_by c.now) result ≡ option_map said (record_at (map (λ c. c.0) (candidates_view candidates.now)) (parts_of version.now)) }
+{
+    let place = place_of(candidates.versions.as_slice(), version)?;
+    candidates.records.get(place)
+}
+
+/// The place of a version, by its whole text, among versions that rise by precedence.
+fn place_of(versions: &[Version], version: &Version) -> Option<usize>
+    requires { AllPairs (λ v w. precedence_cmp v w ≡ Less) versions.now }
+    ensures { MatchOption result (All (λ v. same_version (parts_of version.now) (parts_of v) ≡ false) versions.now) (λ i. slice_get (map parts_of versions.now) i ≡ Some (parts_of version.now)) }
+{
+    match versions.binary_search_by(|v| v.cmp_precedence(version)) {
+        Ok(place) => {
+            if is_same(version, &versions[place]) {
+                Some(place)
+            } else {
+                None
+            }
+        }
+        Err(_) => None,
+    }
+}
+
+/// Whether two versions are the same, by their whole texts.
+fn is_same(a: &Version, b: &Version) -> bool
+    ensures { result ≡ same_version (parts_of a.now) (parts_of b.now) }
+{
+    a == b
+}
+
+/// The places of candidates by rank, in each rank the newest first.
+fn places_by_rank(alloc: Global, candidates: &Candidates) -> Result<Vec<u32>, AllocError>
+    ensures { IfOk result (λ v. v.items ≡ places_by_rank (map (λ c. c.1) (candidates_view candidates.now))) }
+{
+    let mut order = Vec::new(alloc);
+    add_rank(&mut order, candidates.records.as_slice(), Rank::Locked)?;
+    add_rank(&mut order, candidates.records.as_slice(), Rank::Fits)?;
+    add_rank(&mut order, candidates.records.as_slice(), Rank::Rest)?;
+    Ok(order)
+}
+
 /// Adds the places of this rank, the newest first.
-fn add_rank(order: &mut Vec<u32>, records: &[Candidate], rank: Rank) -> Result<(), AllocError> {
-    for (place, record) in records.iter().enumerate().rev() {
-        if record.rank == rank
-            && let Ok(place) = u32::try_from(place)
-        {
-            order.push(place)?;
+fn add_rank(order: &mut Vec<u32>, records: &[Candidate], rank: Rank) -> Result<(), AllocError>
+    requires { length records.now < 2 ^ 32 }
+    ensures { OnOk result (order.new.items ≡ order.old.items ++ places_of rank (map (λ c. c.rank) records.now)) }
+{
+    let mut place = records.len();
+    'places: while place > 0 {
+        place -= 1;
+        if records[place].rank.is(rank) {
+            order.push(place as u32)?;
         }
     }
     Ok(())

@@ -1,0 +1,89 @@
+-- The packages of a valid selection, in a run over the same index that has it as its old lock: each has a name that is asked for.
+use Rattle.std.proofs.Common.{◌≡◌, ℕ, List, Bool, true, false, not, cond, Contains, Option, Some, slice_get, refl, sym, ap, ◌∙◌, subst, true≢false}
+use Rattle.std.proofs.lemmas.Bool.{or_right}
+use Rattle.std.proofs.lemmas.Option.{same_Some}
+use Rattle.semver.specs.Parse.{Parts}
+use Rattle.model.specs.Owner.{Owner, Dependency}
+use Rattle.model.specs.Content.{Candidate, Content, Package, Problem, candidates_of, candidate_at, candidate_of, is_root, brings_of, owner_if, owner_at}
+use Rattle.model.specs.Candidates.{Record, as_candidate, is_locked}
+use Rattle.model.specs.Selection.{IsValidSelection, IsOther, IsReached}
+use Rattle.model.specs.Selection.IsReached.{root, listed}
+use Rattle.model.proofs.Lists.{to_map}
+use Rattle.model.proofs.Owners.{candidate_at-is, is_candidate, target_is, serves_parts}
+use Rattle.manifest.specs.Manifests.{ManifestView}
+use Rattle.catalogue.specs.Runs.{Asked, candidates_in, meant_by}
+use Rattle.catalogue.specs.Problems.{IsRunOver, names_in, problem_of}
+use Rattle.catalogue.proofs.LawsCandidates.{file_of, with_file, in_candidates, to_candidates, in_index}
+use Rattle.catalogue.proofs.LawsLists.{got_in, to_flat}
+use Rattle.catalogue.proofs.LawsNames.{needed, needed-root, needed-asked, all_asked}
+use Rattle.catalogue.proofs.LawsPackages.{to_locked, of_source, serving_is}
+
+module _ (files : List ℕ → Option (List ℕ)) (manifest : ManifestView) (old : Content) (source : List ℕ) (asked : List Asked) (content : Content) (again : List Asked)
+    (run : IsRunOver files manifest old source asked) (rerun : IsRunOver files manifest content source again)
+    (valid : IsValidSelection (problem_of manifest old source asked) content) where
+  abbrev before : Problem
+  before = problem_of manifest old source asked
+
+  abbrev needs : List Dependency
+  needs = manifest.brings.dependencies
+
+  -- the record that a package is, a candidate of both runs
+  pub record Selected (p : Package) : Type 0 where
+    pub r : Record
+    pub was : Contains (candidates_in old source (file_of files p.name)) r
+    pub is : Contains (candidates_in content source (file_of files p.name)) r
+    pub version : p.version ≡ r.version
+    pub candidate : candidate_of before p ≡ Some (as_candidate r)
+    pub found : candidate_at (candidates_of before.candidates p.name) p.version ≡ Some (as_candidate r)
+
+  pub selected : (n : ℕ) (p : Package) → IsOther before content n p → Selected p
+  selected n p other =
+      let k = is_candidate before content valid n p other in
+      let f = candidate_at-is (candidates_of before.candidates p.name) p.version k.0 k.2 in
+      let i = in_index old source files asked p.name k.0 run.answers f.0 in
+      let same : p.version ≡ (i.0).version = f.1 ∙ ap (λ (c : Candidate). c.version) (sym i.2) in
+      let locked = to_locked content source n p other.0 (of_source before p k.0 k.1) in
+      record {
+        r = i.0;
+        was = i.1;
+        is = to_candidates content source (file_of files p.name) i.0 (in_candidates old source (file_of files p.name) i.0 i.1).0
+            (or_right (not (i.0).yanked) (is_locked content source p.name (i.0).version) (subst (λ (v : Parts). is_locked content source p.name v ≡ true) same locked));
+        version = same;
+        candidate = k.1 ∙ ap Some (sym i.2);
+        found = k.2 ∙ ap Some (sym i.2);
+      }
+
+  -- what a package needs is asked for in the second run, if its own name is
+  needs_asked : (n i : ℕ) (d : Dependency) (p : Package) → slice_get content n ≡ Some p → (is_root before p ≡ false → Contains (names_in again) p.name)
+      → slice_get (owner_at before content n).dependencies i ≡ Some d → Contains (names_in again) d.real_name
+  needs_asked n i d p got named has =
+      all_asked content source needs again rerun.in_turn rerun.ended d.real_name (by (is_root before p) refl)
+    where
+      means : List Dependency → Type 0
+      means ds = Contains (meant_by ds) d.real_name
+
+      meant : (o : Owner) → owner_at before content n ≡ o → means o.dependencies
+      meant o e = to_map (λ (d : Dependency). d.real_name) o.dependencies d (got_in o.dependencies i d (ap (λ (o : Owner). slice_get o.dependencies i) (sym e) ∙ has))
+
+      brought : (b : Bool) → is_root before p ≡ b → owner_at before content n ≡ cond b manifest.brings (brings_of (candidate_of before p))
+      brought b e = ap (owner_if before) got ∙ ap (λ b. cond b manifest.brings (brings_of (candidate_of before p))) e
+
+      by : (b : Bool) → is_root before p ≡ b → Contains (needed content source needs again) d.real_name
+      by true e = needed-root content source needs again d.real_name (meant manifest.brings (brought true e))
+      by false e =
+          let s = selected n p (got, e) in
+          needed-asked content source needs again (file_of files p.name) d.real_name (with_file files again p.name rerun.answers (named e))
+          (to_flat (λ (r : Record). meant_by (r.brings).dependencies) (candidates_in content source (file_of files p.name)) s.r d.real_name s.is
+          (meant (s.r).brings (brought false e ∙ ap brings_of s.candidate)))
+
+  -- each package other than the root has a name that the second run asks for
+  pub named_again : (n : ℕ) → IsReached before content n → (p : Package) → slice_get content n ≡ Some p → is_root before p ≡ false → Contains (names_in again) p.name
+  named_again n (root m r) p got other =
+      absurd (true≢false (sym r.2 ∙ ap (is_root before) (same_Some r.0 p (sym r.1 ∙ got)) ∙ other))
+  named_again n (listed m t l reached had c) p got other =
+      let target = (valid.lists m n l had).0 c in
+      let d : Dependency = target.1 in
+      let s = serving_is d (slice_get content n) (target_is before content valid m n d target.3).serving in
+      let name = (serves_parts before content valid d s.0 s.2).1 in
+      subst (λ x. Contains (names_in again) x) (name ∙ ap (λ (p : Package). p.name) (same_Some s.0 p (sym s.1 ∙ got)))
+      (needs_asked m target.0 d l had (named_again m reached l had) target.2.0)

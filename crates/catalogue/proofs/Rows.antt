@@ -1,0 +1,87 @@
+-- The rows of a store are found by the place of their name.
+use Rattle.std.proofs.Common.{◌≡◌, ◌≢◌, ℕ, suc, ◌+◌, Bool, true, false, cond, List, [], ◌∷◌, map, length, Option, Some, None, option_map, slice_get, Bor, unwrap_or, refl, sym, ap, ◌∙◌, arith, true≢false, add-one}
+use Rattle.std.specs.List.{position, position_from, IsDistinct, AllByRecursion, All, AllPairs}
+use Rattle.std.specs.Option.{option_and_then}
+use Rattle.std.specs.Slice.{IsItemAt}
+use Rattle.std.proofs.lemmas.Iterator.Adapters.{position_from-zero}
+use Rattle.std.proofs.lemmas.Option.{slice_get_past, slice_get-get_or}
+use Rattle.std.proofs.lemmas.List.Kept.{AllPairs-cons}
+use Rattle.index_reader.specs.Files.{SkipView}
+use Rattle.model.specs.Owner.{same_text}
+use Rattle.model.proofs.Lists.{all_none, all_cons, pairs_none}
+use Rattle.model.proofs.Same.{text-refl}
+use Rattle.catalogue.specs.Views.{AreRising}
+use Rattle.catalogue.specs.Ranks.{Ranked}
+use Rattle.catalogue.specs.Stores.{CatalogueView, Row, row_at, ranked_at, rows_view, candidates_view, IsStore}
+use Rattle.catalogue.specs.declared.candidates.Candidates.{Candidates}
+
+-- what lies behind the reference that a look-up gives
+pub item_at : {X Y : Type 0} (f : X → Y) (xs : List X) (i : ℕ) (r : Option (Bor X)) → IsItemAt xs i r → option_map (λ b. f b.now) r ≡ option_map f (slice_get xs i)
+item_at f xs i None h = sym (ap (option_map f) (slice_get_past xs i h.3))
+item_at f xs i (Some b) h = ap (λ x. Some (f x)) (h.3.1 b.now) ∙ sym (ap (option_map f) (slice_get-get_or xs i b.now h.3.0))
+
+position-cons : {X : Type 0} (p : X → Bool) (x : X) (xs : List X) → position p (x ∷ xs) ≡ cond (p x) (Some 0) (option_map suc (position p xs))
+position-cons {X = X} p x xs = position_from-zero p (x ∷ xs) ∙ (by (p x)
+    ∙ sym (ap (λ o. cond (p x) (Some 0) (option_map suc o)) (position_from-zero p xs)))
+  where
+    later : (ys : List X) (i : ℕ) → position_from p (i + 1) ys ≡ option_map suc (position_from p i ys)
+    later [] i = refl
+    later (y ∷ ys) i = step (p y) (later ys (i + 1))
+      where
+        step : (b : Bool) → position_from p (i + 1 + 1) ys ≡ option_map suc (position_from p (i + 1) ys)
+            → cond b (Some (i + 1)) (position_from p (i + 1 + 1) ys) ≡ option_map suc (cond b (Some i) (position_from p (i + 1) ys))
+        step true rest = ap Some (add-one i)
+        step false rest = rest
+
+    by : (b : Bool) → cond b (Some 0) (position_from p (0 + 1) xs) ≡ cond b (Some 0) (option_map suc (position_from p 0 xs))
+    by true = refl
+    by false = later xs 0
+
+pub rows-at : (names : List (List ℕ)) (cs : List Candidates) (name : List ℕ) → length names ≡ length cs
+    → row_at (rows_view names cs) name ≡ option_and_then (λ i. option_map candidates_view (slice_get cs i)) (position (same_text name) names)
+rows-at [] [] name same = refl
+rows-at (n ∷ ns) (c ∷ cs) name same = by (same_text name n) (rows-at ns cs name (omega (arith, same))) ∙ sym (ap (option_and_then (λ i. option_map candidates_view (slice_get (c ∷ cs) i))) (position-cons (same_text name) n ns))
+  where
+    shifted : (o : Option ℕ) → option_and_then (λ i. option_map candidates_view (slice_get cs i)) o ≡ option_and_then (λ i. option_map candidates_view (slice_get (c ∷ cs) i)) (option_map suc o)
+    shifted None = refl
+    shifted (Some i) = refl
+
+    by : (b : Bool) → row_at (rows_view ns cs) name ≡ option_and_then (λ i. option_map candidates_view (slice_get cs i)) (position (same_text name) ns)
+        → cond b (Some (candidates_view c)) (row_at (rows_view ns cs) name) ≡ option_and_then (λ i. option_map candidates_view (slice_get (c ∷ cs) i)) (cond b (Some 0) (option_map suc (position (same_text name) ns)))
+    by true rest = refl
+    by false rest = rest ∙ shifted (position (same_text name) ns)
+rows-at [] (c ∷ cs) name same = absurd (omega (arith, same))
+rows-at (n ∷ ns) [] name same = absurd (omega (arith, same))
+
+-- the names of the rows
+pub row_names : (names : List (List ℕ)) (cs : List Candidates) → length names ≡ length cs → map (λ (row : Row). row.0) (rows_view names cs) ≡ names
+row_names [] [] same = refl
+row_names (n ∷ ns) (c ∷ cs) same = ap (λ zs. n ∷ zs) (row_names ns cs (omega (arith, same)))
+row_names [] (c ∷ cs) same = absurd (omega (arith, same))
+row_names (n ∷ ns) [] same = absurd (omega (arith, same))
+
+-- what unique names and rising versions make of the rows
+distinct_names : (names : List (List ℕ)) (cs : List Candidates) → IsDistinct same_text names → AllPairs (λ (a b : Row). a.0 ≢ b.0) (rows_view names cs)
+unfolding IsDistinct
+distinct_names [] cs d = pairs_none (λ (a b : Row). a.0 ≢ b.0)
+distinct_names (n ∷ ns) [] d = pairs_none (λ (a b : Row). a.0 ≢ b.0)
+distinct_names (n ∷ ns) (c ∷ cs) d = AllPairs-cons (λ (a b : Row). a.0 ≢ b.0) (n, candidates_view c) (rows_view ns cs) (others ns cs d.0) (distinct_names ns cs d.1)
+  where
+    others : (ms : List (List ℕ)) (es : List Candidates) → AllByRecursion (λ y. same_text n y ≡ false) ms → All (λ (b : Row). n ≢ b.0) (rows_view ms es)
+    others [] es h = all_none (λ (b : Row). n ≢ b.0)
+    others (m ∷ ms) [] h = all_none (λ (b : Row). n ≢ b.0)
+    others (m ∷ ms) (e ∷ es) h = all_cons (λ (b : Row). n ≢ b.0) (m, candidates_view e) (rows_view ms es)
+        (λ same. true≢false (sym (text-refl n) ∙ ap (same_text n) same ∙ h.0)) (others ms es h.1)
+
+rising_rows : (names : List (List ℕ)) (cs : List Candidates) → All (λ (row : Row). AreRising row.1) (rows_view names cs)
+rising_rows [] cs = all_none (λ (row : Row). AreRising row.1)
+rising_rows (n ∷ ns) [] = all_none (λ (row : Row). AreRising row.1)
+rising_rows (n ∷ ns) (c ∷ cs) = all_cons (λ (row : Row). AreRising row.1) (n, candidates_view c) (rows_view ns cs) c.rising (rising_rows ns cs)
+
+pub is_store : (names : List (List ℕ)) (cs : List Candidates) (skips : List SkipView) (source : List ℕ) → IsDistinct same_text names
+    → IsStore (record { rows = rows_view names cs; skips = skips; source = source })
+is_store names cs skips source d = record { names_distinct = distinct_names names cs d; versions_rise = rising_rows names cs }
+
+-- the candidates of the row that a name leads to
+pub of_row : (v : CatalogueView) (name : List ℕ) (x : List Ranked) → Some x ≡ row_at v.rows name → ranked_at v name ≡ x
+of_row v name x h = ap (λ o. unwrap_or o []) (sym h)

@@ -1,0 +1,11 @@
+use Rattle.std.proofs.Common.{◌≡◌, drop}
+use Rattle.indexmap.specs.IndexSet.{insert_all}
+use Rattle.model.specs.Owner.{same_text}
+use Rattle.features.specs.Views.{dependency_views}
+use Rattle.catalogue.specs.Runs.{meant_by}
+use Rattle.catalogue.proofs.loading.add_names.Given as goal
+
+-- with the names that are left, the names so far are all of them
+abbrev pub invariant-dependencies : goal.invariant-dependencies
+invariant-dependencies l =
+    insert_all same_text l.names.keys (meant_by (dependency_views (drop l.dependency-index l.dependencies))) ≡ insert_all same_text l.fn.names.keys (meant_by (dependency_views l.dependencies))

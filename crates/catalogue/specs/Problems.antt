@@ -1,0 +1,32 @@
+-- What a selection is held against, in a run for a manifest (Cargo book, "Dependency Resolution"): the model's problem.
+use Rattle.std.specs.Prelude.{◌≡◌, ℕ, List, [], Option, None, map}
+use Rattle.std.specs.List.{All}
+use Rattle.model.specs.Content.{Candidate, Content, Problem}
+use Rattle.model.specs.Candidates.{as_candidate}
+use Rattle.manifest.specs.Manifests.{ManifestView, root_asks}
+use Rattle.catalogue.specs.Runs.{Asked, candidates_in, AreNext, next_name}
+
+-- the names that were asked for
+abbrev pub names_in : List Asked → List (List ℕ)
+names_in asked = map (λ a. a.0) asked
+
+-- the candidates by name, oldest first
+abbrev pub candidates_by_name : Content → List ℕ → List Asked → List (List ℕ × List Candidate)
+candidates_by_name old source asked = map (λ a. (a.0, map as_candidate (candidates_in old source a))) asked
+
+-- what a selection is held against, where the run with this old lock and this source asked for these names
+abbrev pub problem_of : ManifestView → Content → List ℕ → List Asked → Problem
+problem_of manifest old source asked = record {
+  name = manifest.name;
+  version = manifest.version;
+  brings = manifest.brings;
+  root_asks = root_asks manifest.brings.features;
+  source = source;
+  candidates = candidates_by_name old source asked;
+}
+
+-- a run over a fixed index, which has these files by the names of their packages
+pub record IsRunOver (files : List ℕ → Option (List ℕ)) (manifest : ManifestView) (old : Content) (source : List ℕ) (asked : List Asked) : Type 0 where
+  pub answers : All (λ a. a.1 ≡ files a.0) asked
+  pub in_turn : AreNext old source manifest.brings.dependencies [] asked
+  pub ended : next_name old source manifest.brings.dependencies asked ≡ None

@@ -1,0 +1,50 @@
+-- What candidates stand for, without where they lie in memory.
+use Rattle.std.specs.Prelude.{ℕ, Bool, List, map, option_map, Option, string_bytes}
+use Rattle.std.specs.List.{All, AllPairs, zip}
+use Rattle.semver.specs.Identifiers.{parts_of}
+use Rattle.semver.specs.Grammar.{IsValid}
+use Rattle.semver.specs.declared.Version.{Version}
+use Rattle.model.specs.Candidates.{Record, RustVersion, IsOlder}
+use Rattle.model.specs.Owner as model
+use Rattle.features.specs.Views.{owner_view}
+use Rattle.classes.specs.RustVersions.{rust_version_view}
+use Rattle.catalogue.specs.Ranks.{Ranked, records}
+use Rattle.catalogue.specs.declared.candidate.Candidate.{Candidate}
+
+-- what the index says of a version
+abbrev pub record_of : Version → Candidate → Record
+record_of v c = record {
+  version = parts_of v;
+  checksum = string_bytes c.checksum;
+  yanked = c.yanked;
+  rust_version = option_map rust_version_view c.rust_version;
+  brings = owner_view c.brings;
+}
+
+abbrev pub ranked_of : Version × Candidate → Ranked
+ranked_of p = (record_of p.0 p.1, p.1.rank)
+
+-- versions, and at the same places what the index says of each
+abbrev pub ranked_view : List Version → List Candidate → List Ranked
+ranked_view versions cs = map ranked_of (zip versions cs)
+
+-- the same of a record beside its version
+pub record Said : Type 0 where
+  pub checksum : List ℕ
+  pub yanked : Bool
+  pub rust_version : Option RustVersion
+  pub brings : model.Owner
+
+abbrev pub said : Record → Said
+said r = record { checksum = r.checksum; yanked = r.yanked; rust_version = r.rust_version; brings = r.brings }
+
+abbrev pub said_by : Candidate → Said
+said_by c = record { checksum = string_bytes c.checksum; yanked = c.yanked; rust_version = option_map rust_version_view c.rust_version; brings = owner_view c.brings }
+
+-- oldest first, no two of equal precedence
+abbrev pub AreRising : List Ranked → Type 0
+AreRising cs = AllPairs IsOlder (records cs)
+
+-- each version is what its text reads as
+abbrev pub AreRead : List Version → Type 0
+AreRead versions = All (λ v. IsValid (parts_of v)) versions

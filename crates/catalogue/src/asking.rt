@@ -1,0 +1,49 @@
+//! Asking a folder for the file of a name.
+
+ghost use Rattle.std.specs.Prelude.{◌≡◌};
+ghost use Rattle.catalogue.specs.Loads.{Reads, Says};
+
+use crate::fault::{Limit, LoadFault};
+use features::PackageName;
+use index_reader::{Folder, FolderFault, Record, Skip, index_path, lines, read_file};
+use std::alloc::Global;
+
+/// How many bytes a file has at most.
+const MAX_BYTES: usize = 16_777_216;
+
+/// How many lines a file has at most.
+const MAX_LINES: usize = 65_535;
+
+/// The records and skips of a name, by one call of the folder.
+pub(crate) fn read_name<F: Folder>(
+    alloc: Global,
+    folder: &mut F,
+    name: &PackageName,
+) -> Result<(Vec<Record>, Vec<Skip>), LoadFault>
+    ensures { Reads F.calls folder.old name.now result folder.new }
+{
+    let path = index_path(alloc, name)?;
+    match folder.file(path.as_str()) {
+        Ok(Some(bytes)) => read_bytes(alloc, name, bytes.as_slice()),
+        Ok(None) => Ok((Vec::new(alloc), Vec::new(alloc))),
+        Err(FolderFault::OutOfMemory) => Err(LoadFault::OutOfMemory),
+        Err(FolderFault::Failed) => Err(LoadFault::FolderFailed(path)),
+    }
+}
+
+/// The records and skips of a file that is within the limits.
+fn read_bytes(
+    alloc: Global,
+    name: &PackageName,
+    bytes: &[u8],
+) -> Result<(Vec<Record>, Vec<Skip>), LoadFault>
+    ensures { Says name.now bytes.now result }
+{
+    if bytes.len() > MAX_BYTES {
+        return Err(LoadFault::TooLarge(Limit::File(name.clone()?)));
+    }
+    if lines(bytes) > MAX_LINES {
+        return Err(LoadFault::TooLarge(Limit::Lines(name.clone()?)));
+    }
+    Ok(read_file(alloc, name, bytes)?)
+}

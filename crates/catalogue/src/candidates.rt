@@ -1,0 +1,18 @@
+//! The candidates of a name.
+
+ghost use Rattle.std.specs.Prelude.{◌≡◌, ◌<◌, ◌^◌, length};
+ghost use Rattle.catalogue.specs.Views.{ranked_view, AreRising, AreRead};
+
+use crate::candidate::Candidate;
+use semver::Version;
+
+/// The candidates of a name, oldest first: their versions, and at the same places what the index says of each.
+#[derive(Drop)]
+pub(crate) struct Candidates {
+    pub(crate) versions: Vec<Version>,
+    pub(crate) records: Vec<Candidate>,
+    ghost beside: { length versions.items ≡ length records.items },
+    ghost rising: { AreRising (ranked_view versions.items records.items) },
+    ghost read: { AreRead versions.items },
+    ghost few: { length records.items < 2 ^ 32 },
+}

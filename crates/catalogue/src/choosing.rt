@@ -1,0 +1,117 @@
+//! Which records of a name are candidates, and where each stands in the order of preference.
+
+ghost use Rattle.std.specs.Prelude.{◌≡◌, ◌<◌, ◌^◌, ◌||◌, not, length, option_map, filter, IfOk};
+ghost use Rattle.std.specs.List.{AllPairs};
+ghost use Rattle.semver.specs.Identifiers.{parts_of};
+ghost use Rattle.classes.specs.RustVersions.{rust_version_view};
+ghost use Rattle.model.specs.Candidates.{IsApart, IsOlder, is_locked, may_be_locked};
+ghost use Rattle.catalogue.specs.Loads.{packages_of, records_view, with_ranks, ranked_among};
+ghost use Rattle.catalogue.specs.Ranks.{rank_by, fits_given};
+ghost use Rattle.catalogue.specs.Stores.{candidates_view};
+
+use crate::candidate::{Candidate, Rank};
+use crate::candidates::Candidates;
+use crate::locked::is_locked;
+use crate::source::Source;
+use classes::RustVersion;
+use features::PackageName;
+use index_reader::Record;
+use lockfile::LockContent;
+use std::alloc::{AllocError, Global};
+
+/// What a run is loaded for: all but the folder.
+#[derive(Drop)]
+pub(crate) struct Run<'a> {
+    pub(crate) old: Option<&'a LockContent>,
+    pub(crate) source: &'a Source,
+    /// The Rust version that candidates are to fit, where that counts.
+    pub(crate) rust_version: Option<RustVersion>,
+}
+
+/// The candidates among the records of a name, oldest first.
+pub(crate) fn candidates_of(
+    alloc: Global,
+    name: &PackageName,
+    mut records: Vec<Record>,
+    run: &Run<'_>,
+) -> Result<Candidates, AllocError>
+    requires apart { AllPairs IsApart (records_view records.items) }
+    requires few { length records.items < 2 ^ 32 }
+    ensures { IfOk result (λ c. candidates_view c ≡ ranked_among (is_locked (packages_of run.now.old) run.now.source.now name.now) (option_map rust_version_view run.now.rust_version) (records_view records.items)) }
+{
+    records.sort_by(|a, b| a.version.cmp_precedence(&b.version))?;
+    kept(alloc, name, records, run)
+}
+
+/// The candidates among records that stand oldest first.
+fn kept(
+    alloc: Global,
+    name: &PackageName,
+    records: Vec<Record>,
+    run: &Run<'_>,
+) -> Result<Candidates, AllocError>
+    requires rising { AllPairs IsOlder (records_view records.items) }
+    requires few { length records.items < 2 ^ 32 }
+    ensures { IfOk result (λ c. candidates_view c ≡ with_ranks (is_locked (packages_of run.now.old) run.now.source.now name.now) (option_map rust_version_view run.now.rust_version) (filter (may_be_locked (is_locked (packages_of run.now.old) run.now.source.now name.now)) (records_view records.items))) }
+{
+    let mut versions = Vec::new(alloc);
+    let mut kept = Vec::new(alloc);
+    'records: for record in records {
+        let locked = is_locked(run.old, name, &record.version, run.source.as_str());
+        if may_be_locked(record.yanked, locked) {
+            let rank = rank_of(locked, record.rust_version, run.rust_version);
+            let Record {
+                version,
+                checksum,
+                yanked,
+                rust_version,
+                brings,
+            } = record;
+            versions.push(version)?;
+            kept.push(Candidate {
+                checksum,
+                yanked,
+                rust_version,
+                brings,
+                rank,
+            })?;
+        }
+    }
+    Ok(Candidates {
+        versions,
+        records: kept,
+    })
+}
+
+/// Whether a record is a candidate: it isn't yanked, or is locked.
+fn may_be_locked(yanked: bool, locked: bool) -> bool
+    ensures { result ≡ (not yanked || locked) }
+{
+    !yanked || locked
+}
+
+/// The rank of a candidate.
+fn rank_of(locked: bool, needed: Option<RustVersion>, given: Option<RustVersion>) -> Rank
+    ensures { result ≡ rank_by locked (fits_given (option_map rust_version_view given) (option_map rust_version_view needed)) }
+{
+    if locked {
+        Rank::Locked
+    } else if fits(needed, given) {
+        Rank::Fits
+    } else {
+        Rank::Rest
+    }
+}
+
+/// Whether what a record needs fits the Rust version to go by: one that names none fits each, and without one to go by each fits.
+fn fits(needed: Option<RustVersion>, given: Option<RustVersion>) -> bool
+    ensures { result ≡ fits_given (option_map rust_version_view given) (option_map rust_version_view needed) }
+{
+    let Some(given) = given else {
+        return true;
+    };
+    match needed {
+        Some(needed) => needed <= given,
+        None => true,
+    }
+}
