@@ -1,6 +1,5 @@
 //! The files that a run reads.
 
-use std::alloc::Global;
 use std::fs;
 use std::io::{self, ErrorKind, Read};
 use std::rt::Files;

@@ -8,8 +8,19 @@ const ZEROS: &str = "00000000000000000000000000000000000000000000000000000000000
 
 /// A line of the index; the dependencies are JSON.
 fn line(rt: &HostRuntime, name: &str, version: &str, deps: &str) -> Result<String, Fail> {
+    line_with(rt, name, version, deps, "")
+}
+
+/// The same with features, which are JSON too.
+fn line_with(
+    rt: &HostRuntime,
+    name: &str,
+    version: &str,
+    deps: &str,
+    features: &str,
+) -> Result<String, Fail> {
     let text = format!(in rt.alloc();
-        "{{\"name\":\"{name}\",\"vers\":\"{version}\",\"deps\":[{deps}],\"cksum\":\"{ZEROS}\",\"features\":{{}},\"yanked\":false}}\n"
+        "{{\"name\":\"{name}\",\"vers\":\"{version}\",\"deps\":[{deps}],\"cksum\":\"{ZEROS}\",\"features\":{{{features}}},\"yanked\":false}}\n"
     )?;
     Ok(text)
 }
@@ -175,6 +186,40 @@ fn lists_and_what_they_reach(rt: HostRuntime) -> Result<(), Fail> {
 }
 
 #[test]
+fn a_weak_entry_asks_only_an_enabled_dependency(rt: HostRuntime) -> Result<(), Fail> {
+    begin(&rt, "weak", "a = { version = \"1\", features = [\"f\"] }")?;
+    let b = "{\"name\":\"b\",\"req\":\"^1\",\"optional\":true}";
+    let index = line_with(&rt, "a", "1.0.0", b, "\"f\":[\"b?/g\"]")?;
+    put(&rt, "weak", "index/1/a", index.as_str())?;
+    let c = "{\"name\":\"c\",\"req\":\"^1\",\"optional\":true}";
+    let index = line_with(&rt, "b", "1.0.0", c, "\"g\":[\"dep:c\"]")?;
+    put(&rt, "weak", "index/1/b", index.as_str())?;
+    put(
+        &rt,
+        "weak",
+        "index/1/c",
+        line(&rt, "c", "1.0.0", "")?.as_str(),
+    )?;
+    let demo = root(&rt, "\"a\"")?;
+    let alone = format!(in rt.alloc(); "{}{demo}", package(&rt, "a", "1.0.0", "")?)?;
+    put(&rt, "weak", "Cargo.lock", alone.as_str())?;
+    expect(&rt, "verify", "weak", 0, "valid\n", "")?;
+    manifest(
+        &rt,
+        "weak",
+        "a = { version = \"1\", features = [\"f\", \"b\"] }",
+    )?;
+    let line = "invalid V4 Unmet at a 1.0.0\n";
+    expect_invalid(&rt, "weak", alone.as_str(), line)?;
+    let mut whole = package(&rt, "a", "1.0.0", "\"b\"")?;
+    whole.push_str(package(&rt, "b", "1.0.0", "\"c\"")?.as_str())?;
+    whole.push_str(package(&rt, "c", "1.0.0", "")?.as_str())?;
+    whole.push_str(demo.as_str())?;
+    put(&rt, "weak", "Cargo.lock", whole.as_str())?;
+    expect(&rt, "verify", "weak", 0, "valid\n", "")
+}
+
+#[test]
 fn gives_a_valid_lock_back(rt: HostRuntime) -> Result<(), Fail> {
     begin(&rt, "kept", "a = \"1\"")?;
     three_of_a(&rt, "kept")?;
@@ -224,14 +269,14 @@ fn faults_in_their_order(rt: HostRuntime) -> Result<(), Fail> {
         "",
         "fault 5 BadRequirement at a\n",
     )?;
-    manifest(&rt, "faults", "a = { version = \"1\", optional = true }")?;
+    manifest(&rt, "faults", "a = \"1\"\n[features]\nf = [\"g\"]")?;
     expect(
         &rt,
         "resolve",
         "faults",
         2,
         "",
-        "fault 15 NotYet manifest\n",
+        "fault 6 RootFeature F1 at f\n",
     )?;
     manifest(&rt, "faults", "a = \"1\"")?;
     expect(&rt, "verify", "faults", 2, "", "fault 8 LockVersion\n")?;

@@ -1,9 +1,9 @@
 //! Why a run has no answer, each with the line that the program prints.
 
 use catalogue::{Limit, LoadFault};
-use features::PackageName;
+use features::{FeatureName, PackageName};
 use lockfile::LockFault;
-use manifest::{ManifestFault, Part, Unsupported};
+use manifest::{ManifestFault, Part, TableFault, Unsupported};
 use semver::Version;
 use std::alloc::AllocError;
 use std::fmt;
@@ -19,17 +19,6 @@ pub enum TooLarge {
     Index(Limit),
 }
 
-/// What isn't there yet.
-#[derive(Debug, Drop)]
-pub enum NotYet {
-    /// A manifest with more than plain dependencies.
-    Manifest,
-    /// The index file of this name has more than plain dependencies.
-    Index(PackageName),
-    /// The old lock is missing or isn't a valid selection, so that a new one has to be found.
-    Search,
-}
-
 /// Why a run has no answer. The numbers are those of the printed lines, in the order in which the faults are looked for.
 #[derive(Debug, Drop)]
 pub enum Fault {
@@ -43,6 +32,8 @@ pub enum Fault {
     UnsupportedSource(Unsupported),
     /// 5: the requirement of the dependency called so doesn't read.
     BadRequirement(PackageName),
+    /// 6: the feature table has this fault at this feature.
+    RootFeature(TableFault, FeatureName),
     /// 7: the lock is no TOML.
     LockNotToml,
     /// 8: the lock's `version` is a whole number other than 1 to 4.
@@ -55,8 +46,8 @@ pub enum Fault {
     TooLarge(TooLarge),
     /// 12: a locked package has another checksum than the index.
     ChecksumChanged(PackageName, Version),
-    /// 15: a part of the work that isn't there yet.
-    NotYet(NotYet),
+    /// 15: the old lock is missing or isn't a valid selection, and to find a new one isn't there yet.
+    NotYet,
 }
 
 impl fmt::Display for Fault {
@@ -67,6 +58,9 @@ impl fmt::Display for Fault {
             Fault::ManifestShape(part) => write!(f, "fault 3 ManifestShape {part}"),
             Fault::UnsupportedSource(kind) => write!(f, "fault 4 UnsupportedSource {kind}"),
             Fault::BadRequirement(name) => write!(f, "fault 5 BadRequirement at {name}"),
+            Fault::RootFeature(fault, feature) => {
+                write!(f, "fault 6 RootFeature {fault} at {feature}")
+            }
             Fault::LockNotToml => f.write_str("fault 7 LockNotToml"),
             Fault::LockVersion => f.write_str("fault 8 LockVersion"),
             Fault::LockShape => f.write_str("fault 9 LockShape"),
@@ -75,7 +69,7 @@ impl fmt::Display for Fault {
             Fault::ChecksumChanged(name, version) => {
                 write!(f, "fault 12 ChecksumChanged at {name} {version}")
             }
-            Fault::NotYet(part) => write!(f, "fault 15 NotYet {part}"),
+            Fault::NotYet => f.write_str("fault 15 NotYet search"),
         }
     }
 }
@@ -86,16 +80,6 @@ impl fmt::Display for TooLarge {
             TooLarge::Manifest => f.write_str("manifest"),
             TooLarge::Lock => f.write_str("lock"),
             TooLarge::Index(limit) => write!(f, "{limit}"),
-        }
-    }
-}
-
-impl fmt::Display for NotYet {
-    fn fmt<W: fmt::Write>(&self, f: &mut fmt::Formatter<W>) -> fmt::Result {
-        match self {
-            NotYet::Manifest => f.write_str("manifest"),
-            NotYet::Index(name) => write!(f, "index {name}"),
-            NotYet::Search => f.write_str("search"),
         }
     }
 }
@@ -115,7 +99,7 @@ impl From<ManifestFault> for Fault {
             ManifestFault::Shape(part) => Fault::ManifestShape(part),
             ManifestFault::UnsupportedSource(kind) => Fault::UnsupportedSource(kind),
             ManifestFault::BadRequirement(name) => Fault::BadRequirement(name),
-            ManifestFault::NotYet => Fault::NotYet(NotYet::Manifest),
+            ManifestFault::RootFeature(fault, feature) => Fault::RootFeature(fault, feature),
         }
     }
 }
@@ -139,7 +123,6 @@ impl From<LoadFault> for Fault {
             LoadFault::FolderFailed(path) => Fault::FolderFailed(path),
             LoadFault::TooLarge(limit) => Fault::TooLarge(TooLarge::Index(limit)),
             LoadFault::ChecksumChanged(name, version) => Fault::ChecksumChanged(name, version),
-            LoadFault::NotYet(name) => Fault::NotYet(NotYet::Index(name)),
         }
     }
 }

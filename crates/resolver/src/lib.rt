@@ -5,6 +5,6 @@ mod fault;
 mod resolving;
 mod verifying;
 
-pub use fault::{Fault, NotYet, TooLarge};
+pub use fault::{Fault, TooLarge};
 pub use resolving::{Answer, resolve};
 pub use verifying::verify_bytes;
