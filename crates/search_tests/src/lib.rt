@@ -1,5 +1,7 @@
-//! Tests of the algebra under the search, at both bodies of its sets.
+//! Tests of the algebra under the search and of its trail, at both bodies of their sets.
 #![tactic(auto)]
 
 #[cfg(test)]
 mod tests;
+#[cfg(test)]
+mod trails;

@@ -43,7 +43,7 @@ fn with_member<S: States + Drop>(
 }
 
 /// Whether a set has the numbers of a list and no others.
-fn has_exactly<S: States>(set: &S, members: &[u32]) -> bool {
+pub(crate) fn has_exactly<S: States>(set: &S, members: &[u32]) -> bool {
     (0..set.universe()).all(|i| set.member(i) == members.contains(&i))
 }
 
@@ -107,7 +107,7 @@ fn full_sets<S: States + Drop>(rt: &impl Abort, alloc: Global) -> Result<(), All
 }
 
 /// Writes down what a set has.
-fn write_set<S: States>(out: &mut Vec<u32>, set: &S) -> Result<(), AllocError> {
+pub(crate) fn write_set<S: States>(out: &mut Vec<u32>, set: &S) -> Result<(), AllocError> {
     out.push(set.count())?;
     'numbers: for i in 0..set.universe() {
         if set.member(i) {
@@ -164,7 +164,7 @@ fn transcript<S: States + Drop>(
 
 /// The incompatibility of a term on vertex 0, with the universe 2, and one on vertex 1, with 3; handed over the other
 /// way round.
-fn two_terms<S: States + Drop>(
+pub(crate) fn two_terms<S: States + Drop>(
     alloc: Global,
     zero: &[u32],
     one: &[u32],
