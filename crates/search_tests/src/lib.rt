@@ -2,6 +2,8 @@
 #![tactic(auto)]
 
 #[cfg(test)]
+mod against_copies;
+#[cfg(test)]
 mod tests;
 #[cfg(test)]
 mod trails;
