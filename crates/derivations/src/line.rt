@@ -119,7 +119,7 @@ fn terms(alloc: Global, value: &Value) -> Result<Vec<Term>, LineFault>
 fn terms_in<'a>(alloc: Global, values: &'a Vec<Value>) -> Result<Vec<WrittenTerm<'a>>, LineFault>
     ensures { Gives line_wants_memory (λ v. written_views v.items) result (terms_in (items_view values.now.items)) }
 {
-    let mut found = Vec::new(alloc);
+    let mut found = Vec::with_capacity(alloc, values.len())?;
     'items: for value in values.iter() {
         found.push(term(alloc, value)?)?;
     }
@@ -179,7 +179,7 @@ fn states(alloc: Global, vertex: &Vertex, value: &Value) -> Result<Vec<State>, L
 fn states_in(alloc: Global, vertex: &Vertex, values: &Vec<Value>) -> Result<Vec<State>, LineFault>
     ensures { Gives line_wants_memory (λ v. state_views v.items) result (states_in (vertex_view vertex.now) (items_view values.now.items)) }
 {
-    let mut found = Vec::new(alloc);
+    let mut found = Vec::with_capacity(alloc, values.len())?;
     'items: for value in values.iter() {
         found.push(read_state(alloc, vertex, text(value)?)?)?;
     }
