@@ -1,0 +1,8 @@
+//! What finite chains of reasons give.
+#![tactic(auto)]
+
+mod closing;
+mod rule;
+
+pub use closing::close;
+pub use rule::Rule;

@@ -1,0 +1,2 @@
+pub use Rattle.model.specs.Facts
+pub mod Graphs
