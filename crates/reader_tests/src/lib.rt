@@ -4,10 +4,16 @@
 #[cfg(test)]
 mod files;
 #[cfg(test)]
+mod folders;
+#[cfg(test)]
 mod groups;
+#[cfg(test)]
+mod lines;
 #[cfg(test)]
 mod locks;
 #[cfg(test)]
 mod manifests;
 #[cfg(test)]
 mod tables;
+#[cfg(test)]
+mod texts;

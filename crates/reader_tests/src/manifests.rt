@@ -1,9 +1,9 @@
 //! Manifests, and why they are refused.
 
+use crate::texts::{put_dependencies, put_rows};
 use classes::RustVersion;
-use features::{Dependency, Entry, FeatureName, PackageName};
-use manifest::{Manifest, ManifestFault, Part, TableFault, Unsupported};
-use std::alloc::Global;
+use manifest::{Manifest, ManifestFault};
+use std::alloc::{AllocError, Global};
 use std::test::Fail;
 
 /// A small tool with dependencies of all three kinds.
@@ -46,57 +46,40 @@ pcre2 = [\"grep/pcre2\"]
 debug = 1
 ";
 
-/// The dependencies of a manifest by number, each with what it says of itself.
-fn dependencies(alloc: Global, text: &str) -> Result<String, Fail> {
+/// The name, the version and how many dependencies there are, as the manifest says and as its owner does.
+fn head(alloc: Global, text: &str) -> Result<String, Fail> {
     let manifest = Manifest::read(alloc, text.as_bytes())?;
-    let mut found = String::new(alloc);
-    for dependency in manifest.dependencies() {
-        describe(&mut found, dependency)?;
-    }
-    Ok(found)
+    Ok(format!(in alloc;
+        "{} {} {} {}",
+        manifest.name(),
+        manifest.version(),
+        manifest.dependencies().len(),
+        manifest.owner().dependencies.len()
+    )?)
 }
 
-fn describe(found: &mut String, dependency: &Dependency) -> Result<(), Fail> {
-    found.push_str(dependency.name.as_str())?;
-    found.push_str(if dependency.optional { "? " } else { " " })?;
-    if dependency.name != dependency.real_name {
-        found.push_str("is ")?;
-        found.push_str(dependency.real_name.as_str())?;
-        found.push_str(" ")?;
-    }
-    if !dependency.default_features {
-        found.push_str("bare ")?;
-    }
-    add_features(found, dependency.features.as_slice())
-}
-
-fn add_features(found: &mut String, features: &[FeatureName]) -> Result<(), Fail> {
-    for feature in features {
-        found.push_str("+")?;
-        found.push_str(feature.as_str())?;
-        found.push_str(" ")?;
-    }
+#[test]
+fn answers(rt: HostRuntime) -> Result<(), Fail> {
+    let said = head(rt.alloc(), TOOL)?;
+    assert_eq!(rt; said.as_str(), "ripgrep-like 13.0.0 14 14");
     Ok(())
 }
 
-/// Whether a feature of a manifest has this entry and no other.
-fn has_only(alloc: Global, text: &str, feature: &str, entry: &str) -> Result<bool, Fail> {
+/// The dependencies by number, and the features.
+fn brought(alloc: Global, text: &str) -> Result<String, Fail> {
     let manifest = Manifest::read(alloc, text.as_bytes())?;
-    let feature = FeatureName::parse(alloc, feature)?;
-    let entry = Entry::parse(alloc, entry)?;
-    Ok(is_alone(manifest.features().entries(&feature), &entry))
-}
-
-fn is_alone(entries: &[Entry], entry: &Entry) -> bool {
-    entries.len() == 1 && entries.first() == Some(entry)
+    let mut said = String::new(alloc);
+    put_dependencies(&mut said, manifest.dependencies())?;
+    put_rows(alloc, &mut said, manifest.features())?;
+    Ok(said)
 }
 
 #[test]
 fn reads_a_tool(rt: HostRuntime) -> Result<(), Fail> {
-    let found = dependencies(rt.alloc(), TOOL)?;
+    let said = brought(rt.alloc(), TOOL)?;
     assert_eq!(rt;
-        found.as_str(),
-        "bstr clap bare +suggestions grep ignore lazy_static log num_cpus regex serde_json termcolor serde serde_derive walkdir lazy_static "
+        said.as_str(),
+        "bstr clap bare +suggestions grep ignore lazy_static log num_cpus regex serde_json termcolor serde serde_derive walkdir lazy_static default=;pcre2=grep/pcre2,;simd-accel=grep/avx-accel,ignore/simd-accel,;"
     );
     Ok(())
 }
@@ -124,201 +107,127 @@ weak = [\"d?/g\"]
 
 #[test]
 fn reads_each_table(rt: HostRuntime) -> Result<(), Fail> {
-    let found = dependencies(rt.alloc(), EVERYWHERE)?;
-    assert_eq!(rt; found.as_str(), "b is B_2 +std default? d bare e f? g h ");
-    Ok(())
-}
-
-#[test]
-fn makes_features(rt: HostRuntime) -> Result<(), Fail> {
-    let alloc = rt.alloc();
-    assert!(rt; has_only(alloc, EVERYWHERE, "weak", "d/g")?);
-    assert!(rt; has_only(alloc, EVERYWHERE, "default", "dep:default")?);
-    assert!(rt; !has_only(alloc, EVERYWHERE, "f", "dep:f")?);
-    assert!(rt; has_only(alloc, TOOL, "pcre2", "grep/pcre2")?);
-    Ok(())
-}
-
-#[test]
-fn answers(rt: HostRuntime) -> Result<(), Fail> {
-    let alloc = rt.alloc();
-    let manifest = Manifest::read(alloc, TOOL.as_bytes())?;
-    assert_eq!(rt; manifest.name().as_str(), "ripgrep-like");
-    assert!(rt; manifest.version().major == 13);
-    assert!(rt; manifest.owner().dependencies.len() == manifest.dependencies().len());
-    Ok(())
-}
-
-#[test]
-fn reads_rust_versions(rt: HostRuntime) -> Result<(), Fail> {
-    let alloc = rt.alloc();
-    let rows = [
-        ("\"1.70\"", true),
-        ("1.70", false),
-        ("\"1.70.0-x\"", false),
-        ("{ workspace = true }", false),
-    ];
-    for (value, is_read) in rows.iter() {
-        let mut text = String::from_str(alloc, "[package]\nname = \"demo\"\nrust-version = ")?;
-        text.push_str(value)?;
-        let manifest = Manifest::read(alloc, text.as_bytes())?;
-        let wanted = RustVersion {
-            major: 1,
-            minor: 70,
-            patch: 0,
-        };
-        let found = manifest.rust_version();
-        assert!(rt; found == is_read.then_some(wanted), "{value}");
-    }
-    Ok(())
-}
-
-/// The fault of a manifest that is `[package]` with a name, and this text.
-fn fault_with(alloc: Global, text: &str) -> Result<Option<ManifestFault>, Fail> {
-    let mut whole = String::from_str(alloc, "[package]\nname = \"demo\"\n")?;
-    whole.push_str(text)?;
-    Ok(fault(alloc, whole.as_str()))
-}
-
-fn fault(alloc: Global, text: &str) -> Option<ManifestFault> {
-    match Manifest::read(alloc, text.as_bytes()) {
-        Ok(_) => None,
-        Err(fault) => Some(fault),
-    }
-}
-
-#[test]
-fn refuses_shapes(rt: HostRuntime) -> Result<(), Fail> {
-    let alloc = rt.alloc();
-    assert!(rt; fault(alloc, "a =") == Some(ManifestFault::NotToml));
-    let no_text = Manifest::read(alloc, b"a = '\xff'".as_slice());
-    assert!(rt; no_text.err() == Some(ManifestFault::NotToml));
-    let spaces = vec![in alloc; b' '; 1_048_577]?;
-    let large = Manifest::read(alloc, spaces.as_slice());
-    assert!(rt; large.err() == Some(ManifestFault::TooLarge));
-    assert!(rt; fault(alloc, "") == Some(ManifestFault::Shape(Part::Package)));
-    let rows = [
-        ("version = \"1\"", Part::Package),
-        ("[dependencies]\na = {}", Part::Dependencies),
-        ("[dependencies]\n\"a b\" = \"1\"", Part::Dependencies),
-        (
-            "[dev-dependencies]\n[dev_dependencies]",
-            Part::DevDependencies,
-        ),
-        (
-            "[dev-dependencies]\na = { version = \"1\", optional = true }",
-            Part::DevDependencies,
-        ),
-        (
-            "[build_dependencies]\na = { version = \"1\", features = [\"a/b\"] }",
-            Part::BuildDependencies,
-        ),
-        ("[target.x.build-dependencies]\na = 1", Part::Target),
-        (
-            "[target.x.dependencies]\na = { version = \"1\", default-features = true, default_features = true }",
-            Part::Target,
-        ),
-        ("[features]\nf = [\"dep:\"]", Part::Features),
-        ("[features]\nf = [\"\"]", Part::Features),
-        ("[workspace]\nmembers = 1", Part::Workspace),
-        ("[workspace]\n[[patch]]", Part::Patch),
-        ("[[replace]]", Part::Replace),
-    ];
-    for (text, part) in rows.iter() {
-        let found = fault_with(alloc, text)?;
-        assert!(rt; found == Some(ManifestFault::Shape(*part)), "{text}");
-    }
-    Ok(())
-}
-
-#[test]
-fn refuses_sources_and_requirements(rt: HostRuntime) -> Result<(), Fail> {
-    let alloc = rt.alloc();
-    let virtual_workspace = fault(alloc, "[workspace]\nmembers = [\"x\"]");
-    assert!(rt;
-        virtual_workspace == Some(ManifestFault::UnsupportedSource(Unsupported::Workspace))
+    let said = brought(rt.alloc(), EVERYWHERE)?;
+    assert_eq!(rt;
+        said.as_str(),
+        "b is B_2 +std default? d bare e f? g h all=dep:f,weak,default,;default=dep:default,;weak=d/g,;"
     );
-    let named_by_workspace = fault(alloc, "[package]\nname.workspace = true");
-    assert!(rt;
-        named_by_workspace == Some(ManifestFault::UnsupportedSource(Unsupported::Workspace))
-    );
-    let rows = [
-        ("[replace]\na = 1\n[patch.crates-io]", Unsupported::Patch),
-        (
-            "[dependencies]\na = { git = \"x\" }\n[replace]\na = 1",
-            Unsupported::Replace,
-        ),
-        ("version.workspace = true", Unsupported::Workspace),
-        (
-            "[dependencies]\na = { path = \"x\" }\nb = { workspace = 1 }",
-            Unsupported::Workspace,
-        ),
-        (
-            "[dependencies]\na = { path = \"x\" }\n[target.x.dependencies]\nb = { git = \"x\" }",
-            Unsupported::Git,
-        ),
-        (
-            "[dependencies]\na = { path = \"../a\" }\nb = \"one\"",
-            Unsupported::Path,
-        ),
-        (
-            "[dependencies]\na = { registry-index = 1 }",
-            Unsupported::Registry,
-        ),
-    ];
-    for (text, source) in rows.iter() {
-        let found = fault_with(alloc, text)?;
-        assert!(rt;
-            found == Some(ManifestFault::UnsupportedSource(*source)),
-            "{text}"
-        );
-    }
-    let name = PackageName::parse(alloc, "a")?;
-    let found = fault_with(alloc, "[target.x.dependencies]\na = \"one\"")?;
-    assert!(rt; found == Some(ManifestFault::BadRequirement(name)));
     Ok(())
 }
 
+/// The Rust version of a manifest, or why it is refused.
+fn said_by(alloc: Global, text: &[u8]) -> Result<String, AllocError> {
+    match Manifest::read(alloc, text) {
+        Ok(manifest) => rust_version_said(alloc, manifest.rust_version()),
+        Err(fault) => fault_said(alloc, &fault),
+    }
+}
+
+fn rust_version_said(alloc: Global, version: Option<RustVersion>) -> Result<String, AllocError> {
+    match version {
+        Some(v) => format!(in alloc; "{}.{}.{}", v.major, v.minor, v.patch),
+        None => String::from_str(alloc, "any"),
+    }
+}
+
+fn fault_said(alloc: Global, fault: &ManifestFault) -> Result<String, AllocError> {
+    match fault {
+        ManifestFault::OutOfMemory => Err(AllocError),
+        ManifestFault::TooLarge => String::from_str(alloc, "TooLarge"),
+        ManifestFault::NotToml => String::from_str(alloc, "NotToml"),
+        ManifestFault::Shape(part) => format!(in alloc; "Shape {part}"),
+        ManifestFault::UnsupportedSource(source) => format!(in alloc; "UnsupportedSource {source}"),
+        ManifestFault::BadRequirement(name) => format!(in alloc; "BadRequirement at {name}"),
+        ManifestFault::RootFeature(fault, name) => {
+            format!(in alloc; "RootFeature {fault} at {name}")
+        }
+    }
+}
+
+/// Whether a row holds: a text with `;` for the end of each line, and its Rust version or its fault.
+fn row_holds(alloc: Global, row: &str) -> Result<bool, Fail> {
+    let (text, wanted) = row.split_once('|').ok_or("nothing wanted")?;
+    let text = text.replace(alloc, ";", "\n")?;
+    let said = said_by(alloc, text.as_bytes())?;
+    Ok(said.as_str() == wanted)
+}
+
+/// The same of a manifest that begins with the package demo.
+fn demo_row_holds(alloc: Global, row: &str) -> Result<bool, Fail> {
+    let row = format!(in alloc; "[package];name = \"demo\";{row}")?;
+    row_holds(alloc, row.as_str())
+}
+
+/// Texts with no package, and one whose name is elsewhere.
+const NO_PACKAGES: &str = r#"a =|NotToml
+|Shape package
+[workspace];members = ["x"]|UnsupportedSource Workspace
+[package];name.workspace = true|UnsupportedSource Workspace"#;
+
 #[test]
-fn refuses_features(rt: HostRuntime) -> Result<(), Fail> {
-    let alloc = rt.alloc();
-    let rows = [
-        ("[features]\nf = [\"g\"]", TableFault::NoSuchFeature),
-        (
-            "[features]\na = [\"d/g\"]\nf = [\"g\"]",
-            TableFault::NoSuchFeature,
-        ),
-        (
-            "[features]\nf = [\"d?/g\"]\ng = [\"dep:d\"]",
-            TableFault::NoSuchDependency,
-        ),
-        (
-            "[features]\nf = [\"dep:d\"]\n[dev-dependencies]\nd = \"1\"",
-            TableFault::NotOptional,
-        ),
-    ];
-    for (text, wanted) in rows.iter() {
-        let feature = FeatureName::parse(alloc, "f")?;
-        let found = fault_with(alloc, text)?;
-        assert!(rt;
-            found == Some(ManifestFault::RootFeature(*wanted, feature)),
-            "{text}"
-        );
+fn refuses_no_packages(rt: HostRuntime) -> Result<(), Fail> {
+    for row in NO_PACKAGES.lines() {
+        assert!(rt; row_holds(rt.alloc(), row)?, "{row}");
     }
     Ok(())
 }
 
 #[test]
-fn accepts(rt: HostRuntime) -> Result<(), Fail> {
-    let alloc = rt.alloc();
-    let rows = [
-        "[features]\nf = [\"d/g\"]\n[dev-dependencies]\nd = \"1\"",
-        "[workspace]\nmembers = []\n[patch]\n[replace]\n[target.x]",
-        "[dependencies]\na = { version = \"1\", features = [\"\"] }",
-    ];
-    for text in rows.iter() {
-        let found = fault_with(alloc, text)?;
-        assert!(rt; found == None, "{text}");
+fn refuses_bytes(rt: HostRuntime) -> Result<(), Fail> {
+    let said = said_by(rt.alloc(), b"a = '\xff'".as_slice())?;
+    assert_eq!(rt; said.as_str(), "NotToml");
+    Ok(())
+}
+
+#[test]
+fn refuses_a_large_manifest(rt: HostRuntime) -> Result<(), Fail> {
+    let spaces = " ".repeat(rt.alloc(), 1_048_577)?;
+    let said = said_by(rt.alloc(), spaces.as_bytes())?;
+    assert_eq!(rt; said.as_str(), "TooLarge");
+    Ok(())
+}
+
+const RUST_VERSIONS: &str = r#"rust-version = "1.70"|1.70.0
+rust-version = 1.70|any
+rust-version = "1.70.0-x"|any
+rust-version = { workspace = true }|any"#;
+
+const SHAPES: &str = r#"version = "1"|Shape package
+[dependencies];a = {}|Shape dependencies
+[dependencies];"a b" = "1"|Shape dependencies
+[dev-dependencies];[dev_dependencies]|Shape dev-dependencies
+[dev-dependencies];a = { version = "1", optional = true }|Shape dev-dependencies
+[build_dependencies];a = { version = "1", features = ["a/b"] }|Shape build-dependencies
+[target.x.build-dependencies];a = 1|Shape target
+[target.x.dependencies];a = { version = "1", default-features = true, default_features = true }|Shape target
+[features];f = ["dep:"]|Shape features
+[features];f = [""]|Shape features
+[workspace];members = 1|Shape workspace
+[workspace];[[patch]]|Shape patch
+[[replace]]|Shape replace"#;
+
+const SOURCES: &str = r#"[replace];a = 1;[patch.crates-io]|UnsupportedSource Patch
+[dependencies];a = { git = "x" };[replace];a = 1|UnsupportedSource Replace
+version.workspace = true|UnsupportedSource Workspace
+[dependencies];a = { path = "x" };b = { workspace = 1 }|UnsupportedSource Workspace
+[dependencies];a = { path = "x" };[target.x.dependencies];b = { git = "x" }|UnsupportedSource Git
+[dependencies];a = { path = "../a" };b = "one"|UnsupportedSource Path
+[dependencies];a = { registry-index = 1 }|UnsupportedSource Registry
+[target.x.dependencies];a = "one"|BadRequirement at a"#;
+
+const FEATURES: &str = r#"[features];f = ["g"]|RootFeature F1 at f
+[features];a = ["d/g"];f = ["g"]|RootFeature F1 at f
+[features];f = ["d?/g"];g = ["dep:d"]|RootFeature F2 at f
+[features];f = ["dep:d"];[dev-dependencies];d = "1"|RootFeature F3 at f
+[features];f = ["d/g"];[dev-dependencies];d = "1"|any
+[workspace];members = [];[patch];[replace];[target.x]|any
+[dependencies];a = { version = "1", features = [""] }|any"#;
+
+#[test]
+fn reads_and_refuses(rt: HostRuntime) -> Result<(), Fail> {
+    let rows = RUST_VERSIONS.lines().chain(SHAPES.lines());
+    for row in rows.chain(SOURCES.lines()).chain(FEATURES.lines()) {
+        assert!(rt; demo_row_holds(rt.alloc(), row)?, "{row}");
     }
     Ok(())
 }

@@ -1,39 +1,71 @@
 //! Names, entries and feature tables.
 
+use crate::texts::put_rows;
 use features::{DepName, Entry, EntryFault, FeatureName, FeatureTable, NameFault, PackageName};
 use std::alloc::{AllocError, Global};
 use std::collections::BTreeMap;
 use std::test::Fail;
 
+/// A name of a package, or that it is none.
+fn name_said(alloc: Global, text: &str) -> Result<String, AllocError> {
+    match PackageName::parse(alloc, text) {
+        Ok(name) => String::from_str(alloc, name.as_str()),
+        Err(NameFault::NotAName) => String::from_str(alloc, "no name"),
+        Err(NameFault::OutOfMemory) => Err(AllocError),
+    }
+}
+
 #[test]
-fn reads_names_and_entries(rt: HostRuntime) -> Result<(), Fail> {
-    let alloc = rt.alloc();
-    let serde = PackageName::parse(alloc, "serde")?;
-    assert_eq!(rt; serde.as_str(), "serde");
-    assert!(rt; PackageName::parse(alloc, "a.b") == Err(NameFault::NotAName));
-    let std = FeatureName::parse(alloc, "c++.std")?;
-    assert_eq!(rt; std.as_str(), "c++.std");
-    assert!(rt; Entry::parse(alloc, "c++.std")? == Entry::Feature(std.clone()?));
-    assert!(rt; Entry::parse(alloc, "dep:serde")? == Entry::Dependency(serde.clone()?));
-    assert!(rt;
-        Entry::parse(alloc, "serde/c++.std")?
-            == Entry::DependencyFeature(serde.clone()?, std.clone()?)
-    );
-    assert!(rt;
-        Entry::parse(alloc, "serde?/c++.std")? == Entry::WeakFeature(serde.clone()?, std.clone()?)
-    );
-    assert!(rt; Entry::parse(alloc, "dep:a/b") == Err(EntryFault::NotAnEntry));
-    assert!(rt; Entry::parse(alloc, "a/b/c") == Err(EntryFault::NotAnEntry));
+fn reads_names(rt: HostRuntime) -> Result<(), Fail> {
+    for (text, wanted) in [("serde", "serde"), ("a.b", "no name")] {
+        let said = name_said(rt.alloc(), text)?;
+        assert_eq!(rt; said.as_str(), wanted);
+    }
+    Ok(())
+}
+
+/// What an entry is, by its kind.
+fn entry_said(alloc: Global, text: &str) -> Result<String, AllocError> {
+    match Entry::parse(alloc, text) {
+        Ok(entry) => kind_said(alloc, &entry),
+        Err(EntryFault::NotAnEntry) => String::from_str(alloc, "no entry"),
+        Err(EntryFault::OutOfMemory) => Err(AllocError),
+    }
+}
+
+fn kind_said(alloc: Global, entry: &Entry) -> Result<String, AllocError> {
+    match entry {
+        Entry::Feature(g) => format!(in alloc; "feature {g}"),
+        Entry::Dependency(d) => format!(in alloc; "dependency {d}"),
+        Entry::DependencyFeature(d, g) => format!(in alloc; "feature {g} of {d}"),
+        Entry::WeakFeature(d, g) => format!(in alloc; "feature {g} of {d} where it is on"),
+    }
+}
+
+/// Entries, and what they are.
+const ENTRIES: &str = "c++.std|feature c++.std
+dep:serde|dependency serde
+serde/c++.std|feature c++.std of serde
+serde?/c++.std|feature c++.std of serde where it is on
+dep:a/b|no entry
+a/b/c|no entry";
+
+#[test]
+fn reads_entries(rt: HostRuntime) -> Result<(), Fail> {
+    for row in ENTRIES.lines() {
+        let (text, wanted) = row.split_once('|').ok_or("nothing wanted")?;
+        let said = entry_said(rt.alloc(), text)?;
+        assert_eq!(rt; said.as_str(), wanted);
+    }
     Ok(())
 }
 
 #[test]
 fn has_default(rt: HostRuntime) -> Result<(), Fail> {
-    let alloc = rt.alloc();
-    let table = FeatureTable::plain(alloc)?;
-    let default = FeatureName::parse(alloc, "default")?;
+    let table = FeatureTable::plain(rt.alloc())?;
+    let default = FeatureName::parse(rt.alloc(), "default")?;
     assert!(rt; table.has(&default));
-    assert_eq!(rt; table.entries(&default).len(), 0);
+    assert!(rt; table.entries(&default).is_empty());
     Ok(())
 }
 
@@ -42,10 +74,24 @@ fn has_default(rt: HostRuntime) -> Result<(), Fail> {
 fn shown(alloc: Global, dependencies: &str, features: &str) -> Result<String, Fail> {
     let dependencies = read_dependencies(alloc, dependencies)?;
     let written = read_features(alloc, features)?;
-    match FeatureTable::build(alloc, dependencies.as_slice(), written) {
+    Ok(built(alloc, dependencies.as_slice(), written)?)
+}
+
+fn built(
+    alloc: Global,
+    dependencies: &[DepName],
+    written: BTreeMap<FeatureName, Vec<Entry>>,
+) -> Result<String, AllocError> {
+    match FeatureTable::build(alloc, dependencies, written) {
         Ok(table) => rows(alloc, &table),
-        Err(fault) => Ok(format!(in alloc; "{fault}")?),
+        Err(fault) => format!(in alloc; "{fault}"),
     }
+}
+
+fn rows(alloc: Global, table: &FeatureTable) -> Result<String, AllocError> {
+    let mut text = String::new(alloc);
+    put_rows(alloc, &mut text, table)?;
+    Ok(text)
 }
 
 fn read_dependencies(alloc: Global, texts: &str) -> Result<Vec<DepName>, Fail> {
@@ -56,7 +102,7 @@ fn read_dependencies(alloc: Global, texts: &str) -> Result<Vec<DepName>, Fail> {
     Ok(names)
 }
 
-fn dependency(alloc: Global, text: &str) -> Result<DepName, Fail> {
+fn dependency(alloc: Global, text: &str) -> Result<DepName, NameFault> {
     let (name, optional) = match text.strip_suffix("?") {
         Some(name) => (name, true),
         None => (text, false),
@@ -85,84 +131,24 @@ fn read_entries(alloc: Global, texts: &str) -> Result<Vec<Entry>, Fail> {
     Ok(entries)
 }
 
-fn rows(alloc: Global, table: &FeatureTable) -> Result<String, Fail> {
-    let mut text = String::new(alloc);
-    for (feature, entries) in table.iter() {
-        text.push_str(feature.as_str())?;
-        text.push_str("=")?;
-        put_entries(alloc, &mut text, entries.as_slice())?;
-        text.push_str(" ")?;
+/// Dependencies, features, and the table that they make or the fault: implicit features, none where an entry `dep:` or a feature has the
+/// name, a dependency called `default`, a `default` that is written, and the faults in their order.
+const TABLES: &str =
+    "serde? log? url|json=serde/std,log?/std|default=;json=serde/std,log?/std,;log=dep:log,;serde=dep:serde,;
+serde? log?|json=dep:log serde=json|default=;json=dep:log,;serde=json,;
+default?||default=dep:default,;
+|default=std std=|default=std,;std=;
+log|a=gone/x b=gone c=dep:log|feature b has an entry that is no feature
+log|a=dep:log b=gone?/x c=dep:gone|feature b has an entry on no dependency
+log|a=log?/x b=dep:log c=dep:log|feature b has an entry on a dependency that isn't optional";
+
+#[test]
+fn builds_tables(rt: HostRuntime) -> Result<(), Fail> {
+    for row in TABLES.lines() {
+        let (dependencies, rest) = row.split_once('|').ok_or("no features")?;
+        let (features, wanted) = rest.split_once('|').ok_or("nothing wanted")?;
+        let said = shown(rt.alloc(), dependencies, features)?;
+        assert_eq!(rt; said.as_str(), wanted);
     }
-    Ok(text)
-}
-
-fn put_entries(alloc: Global, text: &mut String, entries: &[Entry]) -> Result<(), Fail> {
-    for entry in entries {
-        text.push_str(entry_text(alloc, entry)?.as_str())?;
-    }
-    Ok(())
-}
-
-fn entry_text(alloc: Global, entry: &Entry) -> Result<String, AllocError> {
-    match entry {
-        Entry::Feature(g) => format!(in alloc; "{g},"),
-        Entry::Dependency(d) => format!(in alloc; "dep:{d},"),
-        Entry::DependencyFeature(d, g) => format!(in alloc; "{d}/{g},"),
-        Entry::WeakFeature(d, g) => format!(in alloc; "{d}?/{g},"),
-    }
-}
-
-#[test]
-fn implicit_features(rt: HostRuntime) -> Result<(), Fail> {
-    let text = shown(rt.alloc(), "serde? log? url", "json=serde/std,log?/std")?;
-    assert_eq!(rt;
-        text.as_str(),
-        "default= json=serde/std,log?/std, log=dep:log, serde=dep:serde, "
-    );
-    Ok(())
-}
-
-#[test]
-fn no_implicit_features(rt: HostRuntime) -> Result<(), Fail> {
-    let text = shown(rt.alloc(), "serde? log?", "json=dep:log serde=json")?;
-    assert_eq!(rt; text.as_str(), "default= json=dep:log, serde=json, ");
-    Ok(())
-}
-
-#[test]
-fn dependency_called_default(rt: HostRuntime) -> Result<(), Fail> {
-    let text = shown(rt.alloc(), "default?", "")?;
-    assert_eq!(rt; text.as_str(), "default=dep:default, ");
-    Ok(())
-}
-
-#[test]
-fn written_default(rt: HostRuntime) -> Result<(), Fail> {
-    let text = shown(rt.alloc(), "", "default=std std=")?;
-    assert_eq!(rt; text.as_str(), "default=std, std= ");
-    Ok(())
-}
-
-#[test]
-fn missing_feature_first(rt: HostRuntime) -> Result<(), Fail> {
-    let text = shown(rt.alloc(), "log", "a=gone/x b=gone c=dep:log")?;
-    assert_eq!(rt; text.as_str(), "feature b has an entry that is no feature");
-    Ok(())
-}
-
-#[test]
-fn missing_dependency_next(rt: HostRuntime) -> Result<(), Fail> {
-    let text = shown(rt.alloc(), "log", "a=dep:log b=gone?/x c=dep:gone")?;
-    assert_eq!(rt; text.as_str(), "feature b has an entry on no dependency");
-    Ok(())
-}
-
-#[test]
-fn dependency_not_optional_last(rt: HostRuntime) -> Result<(), Fail> {
-    let text = shown(rt.alloc(), "log", "a=log?/x b=dep:log c=dep:log")?;
-    assert_eq!(rt;
-        text.as_str(),
-        "feature b has an entry on a dependency that isn't optional"
-    );
     Ok(())
 }
