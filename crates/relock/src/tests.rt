@@ -1,313 +1,337 @@
-//! Whole runs of the program: each test writes a folder of its own.
+//! Whole runs of the program: each test takes its steps in a folder of its own.
 
 use crate::run::run;
+use std::alloc::{AllocError, Global};
 use std::fs;
 use std::test::Fail;
 
+/// What stands for `$` in the texts below: a checksum.
 const ZEROS: &str = "0000000000000000000000000000000000000000000000000000000000000000";
 
-/// A line of the index; the dependencies are JSON.
-fn line(rt: &HostRuntime, name: &str, version: &str, deps: &str) -> Result<String, Fail> {
-    line_with(rt, name, version, deps, "")
+const CRATES_IO: &str = "registry+https://github.com/rust-lang/crates.io-index";
+
+/// Takes steps, one a line, where `;` stands for the end of a line or of a row:
+///
+/// - `manifest DEPENDENCIES`: writes the manifest of demo 0.1.0.
+/// - `index PATH ROWS`: writes a file of the index, a row `NAME VERSION DEPENDENCIES|FEATURES` with JSON in it for a line.
+/// - `lock ROWS`: writes the lock, a row `NAME VERSION LIST` for a package of the default source; demo has none.
+/// - `file PATH TEXT`: writes a file.
+/// - `remove PATH` and `folder PATH`: removes a file, makes a folder.
+/// - `verify STATUS TEXT`: runs that on these files; from status 2 on the text is a line of standard error, else of standard output.
+/// - `resolve STATUS TEXT`: the same, where the text is a line of standard error and the lock comes back at status 0.
+fn play(rt: &HostRuntime, folder: &str, steps: &str) -> Result<(), Fail> {
+    for path in ["index/1", "index/3/b", "index/3/f"] {
+        make_folder(rt, folder, path)?;
+    }
+    for step in steps.lines() {
+        take(rt, folder, step)?;
+    }
+    Ok(())
 }
 
-/// The same with features, which are JSON too.
-fn line_with(
-    rt: &HostRuntime,
-    name: &str,
-    version: &str,
-    deps: &str,
-    features: &str,
-) -> Result<String, Fail> {
-    let text = format!(in rt.alloc();
-        "{{\"name\":\"{name}\",\"vers\":\"{version}\",\"deps\":[{deps}],\"cksum\":\"{ZEROS}\",\"features\":{{{features}}},\"yanked\":false}}\n"
-    )?;
-    Ok(text)
-}
-
-/// A locked package of the default source; the list is TOML.
-fn package(rt: &HostRuntime, name: &str, version: &str, list: &str) -> Result<String, Fail> {
-    let text = format!(in rt.alloc();
-        "[[package]]\nname = \"{name}\"\nversion = \"{version}\"\nsource = \"registry+https://github.com/rust-lang/crates.io-index\"\nchecksum = \"{ZEROS}\"\ndependencies = [{list}]\n"
-    )?;
-    Ok(text)
-}
-
-/// The root package of a lock; the list is TOML.
-fn root(rt: &HostRuntime, list: &str) -> Result<String, Fail> {
-    let text = format!(in rt.alloc();
-        "[[package]]\nname = \"demo\"\nversion = \"0.1.0\"\ndependencies = [{list}]\n"
-    )?;
-    Ok(text)
+fn take(rt: &HostRuntime, folder: &str, step: &str) -> Result<(), Fail> {
+    let (word, rest) = step.split_once(' ').unwrap_or((step, ""));
+    match word {
+        "manifest" => put_manifest(rt, folder, rest),
+        "index" => put_index(rt, folder, rest),
+        "lock" => put_lock(rt, folder, rest),
+        "file" => put_file(rt, folder, rest),
+        "remove" => remove(rt, folder, rest),
+        "folder" => make_folder(rt, folder, rest),
+        "verify" => verify(rt, folder, rest),
+        "resolve" => resolve(rt, folder, rest),
+        _ => Err(Fail::from("no such step")),
+    }
 }
 
 fn put(rt: &HostRuntime, folder: &str, path: &str, text: &str) -> Result<(), Fail> {
     let path = format!(in rt.alloc(); "{folder}/{path}")?;
-    fs::write(rt, path.as_str(), text)?;
-    Ok(())
+    Ok(fs::write(rt, path.as_str(), text)?)
 }
 
-/// Writes a folder with a manifest of these dependencies and an empty index.
-fn begin(rt: &HostRuntime, folder: &str, dependencies: &str) -> Result<(), Fail> {
-    for part in ["1", "3/b", "3/f"] {
-        let path = format!(in rt.alloc(); "{folder}/index/{part}")?;
-        fs::create_dir_all(rt, path.as_str())?;
-    }
-    manifest(rt, folder, dependencies)
+/// A text with its line ends and checksums.
+fn expanded(alloc: Global, text: &str) -> Result<String, AllocError> {
+    let text = text.replace(alloc, ";", "\n")?;
+    text.replace(alloc, "$", ZEROS)
 }
 
-fn manifest(rt: &HostRuntime, folder: &str, dependencies: &str) -> Result<(), Fail> {
+fn put_file(rt: &HostRuntime, folder: &str, rest: &str) -> Result<(), Fail> {
+    let (path, text) = rest.split_once(' ').ok_or("no text")?;
+    let text = expanded(rt.alloc(), text)?;
+    put(rt, folder, path, text.as_str())
+}
+
+fn remove(rt: &HostRuntime, folder: &str, path: &str) -> Result<(), Fail> {
+    let path = format!(in rt.alloc(); "{folder}/{path}")?;
+    Ok(fs::remove_file(rt, path.as_str())?)
+}
+
+fn make_folder(rt: &HostRuntime, folder: &str, path: &str) -> Result<(), Fail> {
+    let path = format!(in rt.alloc(); "{folder}/{path}")?;
+    Ok(fs::create_dir_all(rt, path.as_str())?)
+}
+
+fn put_manifest(rt: &HostRuntime, folder: &str, dependencies: &str) -> Result<(), Fail> {
     let text = format!(in rt.alloc();
-        "[package]\nname = \"demo\"\nversion = \"0.1.0\"\n[dependencies]\n{dependencies}\n"
+        "[package];name = \"demo\";version = \"0.1.0\";[dependencies];{dependencies};"
     )?;
+    let text = expanded(rt.alloc(), text.as_str())?;
     put(rt, folder, "Cargo.toml", text.as_str())
 }
 
-/// Writes the file of a: 1.0.0, 1.1.0 and 2.0.0.
-fn three_of_a(rt: &HostRuntime, folder: &str) -> Result<(), Fail> {
-    let mut text = line(rt, "a", "1.0.0", "")?;
-    text.push_str(line(rt, "a", "1.1.0", "")?.as_str())?;
-    text.push_str(line(rt, "a", "2.0.0", "")?.as_str())?;
-    put(rt, folder, "index/1/a", text.as_str())
+fn put_index(rt: &HostRuntime, folder: &str, rest: &str) -> Result<(), Fail> {
+    let (path, rows) = rest.split_once(' ').ok_or("no rows")?;
+    let path = format!(in rt.alloc(); "index/{path}")?;
+    let text = lines(rt.alloc(), rows)?;
+    put(rt, folder, path.as_str(), text.as_str())
 }
 
-/// What a run gave in place of what was wanted.
+fn lines(alloc: Global, rows: &str) -> Result<String, Fail> {
+    let mut text = String::new(alloc);
+    for row in rows.split(';') {
+        text.push_str(line(alloc, row)?.as_str())?;
+    }
+    Ok(text)
+}
+
+/// A line of the index.
+fn line(alloc: Global, row: &str) -> Result<String, Fail> {
+    let (name, rest) = row.split_once(' ').ok_or("no version")?;
+    let (version, brings) = rest.split_once(' ').unwrap_or((rest, ""));
+    let (dependencies, features) = brings.split_once('|').unwrap_or((brings, ""));
+    Ok(format!(in alloc;
+        "{{\"name\":\"{name}\",\"vers\":\"{version}\",\"deps\":[{dependencies}],\"cksum\":\"{ZEROS}\",\"features\":{{{features}}},\"yanked\":false}}\n"
+    )?)
+}
+
+fn put_lock(rt: &HostRuntime, folder: &str, rows: &str) -> Result<(), Fail> {
+    let text = packages(rt.alloc(), rows)?;
+    put(rt, folder, "Cargo.lock", text.as_str())
+}
+
+fn packages(alloc: Global, rows: &str) -> Result<String, Fail> {
+    let mut text = String::new(alloc);
+    for row in rows.split_terminator(';') {
+        text.push_str(package(alloc, row)?.as_str())?;
+    }
+    Ok(text)
+}
+
+/// A package of a lock.
+fn package(alloc: Global, row: &str) -> Result<String, Fail> {
+    let (name, rest) = row.split_once(' ').ok_or("no version")?;
+    let (version, list) = rest.split_once(' ').unwrap_or((rest, ""));
+    let head = head(alloc, name)?;
+    Ok(format!(in alloc;
+        "[[package]]\nname = \"{name}\"\nversion = \"{version}\"\n{head}dependencies = [{list}]\n"
+    )?)
+}
+
+fn head(alloc: Global, name: &str) -> Result<String, AllocError> {
+    if name == "demo" {
+        return Ok(String::new(alloc));
+    }
+    format!(in alloc; "source = \"{CRATES_IO}\"\nchecksum = \"{ZEROS}\"\n")
+}
+
+/// How a run ended.
 #[derive(Debug, Drop)]
-struct Gave {
+struct Ended {
     status: u8,
     out: Vec<u8>,
     err: Vec<u8>,
 }
 
 /// Runs a command on the files of a folder.
-fn expect(
-    rt: &HostRuntime,
-    command: &str,
-    folder: &str,
-    wanted: u8,
-    wanted_out: &str,
-    wanted_err: &str,
-) -> Result<(), Fail> {
-    let mut words = Vec::new(rt.alloc());
-    words.push(String::from_str(rt.alloc(), "relock")?)?;
-    words.push(String::from_str(rt.alloc(), command)?)?;
-    words.push(format!(in rt.alloc(); "--manifest={folder}/Cargo.toml")?)?;
-    words.push(format!(in rt.alloc(); "--index={folder}/index")?)?;
-    words.push(format!(in rt.alloc(); "--lock={folder}/Cargo.lock")?)?;
+fn run_on(rt: &HostRuntime, command: &str, folder: &str) -> Result<Ended, AllocError> {
+    let words = format!(in rt.alloc();
+        "relock {command} --manifest={folder}/Cargo.toml --index={folder}/index --lock={folder}/Cargo.lock"
+    )?;
+    let words = words_of(rt.alloc(), words.as_str())?;
     let mut out = Vec::new(rt.alloc());
     let mut err = Vec::new(rt.alloc());
     let status = run(rt, words.as_slice(), &mut out, &mut err);
-    if status == wanted
-        && out.as_slice() == wanted_out.as_bytes()
-        && err.as_slice() == wanted_err.as_bytes()
-    {
-        return Ok(());
-    }
-    Err(Gave { status, out, err })?
+    Ok(Ended { status, out, err })
 }
 
-/// Verifies a lock that is to be invalid, with this line.
-fn expect_invalid(rt: &HostRuntime, folder: &str, lock: &str, line: &str) -> Result<(), Fail> {
-    put(rt, folder, "Cargo.lock", lock)?;
-    expect(rt, "verify", folder, 1, line, "")
+fn words_of(alloc: Global, text: &str) -> Result<Vec<String>, AllocError> {
+    let mut words = Vec::new(alloc);
+    for word in text.split_whitespace() {
+        words.push(String::from_str(alloc, word)?)?;
+    }
+    Ok(words)
+}
+
+/// Whether a run ended with this status, as a digit, and these texts.
+fn is_as_wanted(ended: &Ended, status: &str, out: &[u8], err: &[u8]) -> bool {
+    status == digit(ended.status) && ended.out.as_slice() == out && ended.err.as_slice() == err
+}
+
+fn digit(status: u8) -> &'static str {
+    match status {
+        0 => "0",
+        1 => "1",
+        2 => "2",
+        _ => "another",
+    }
+}
+
+fn verify(rt: &HostRuntime, folder: &str, rest: &str) -> Result<(), Fail> {
+    let (status, text) = rest.split_once(' ').ok_or("no text")?;
+    let line = format!(in rt.alloc(); "{text}\n")?;
+    let (out, err) = if status == "2" {
+        ("", line.as_str())
+    } else {
+        (line.as_str(), "")
+    };
+    let ended = run_on(rt, "verify", folder)?;
+    if is_as_wanted(&ended, status, out.as_bytes(), err.as_bytes()) {
+        return Ok(());
+    }
+    Err(Fail::from(ended))
+}
+
+fn resolve(rt: &HostRuntime, folder: &str, rest: &str) -> Result<(), Fail> {
+    let (status, text) = rest.split_once(' ').unwrap_or((rest, ""));
+    let out = if status == "0" {
+        lock_of(rt, folder)?
+    } else {
+        Vec::new(rt.alloc())
+    };
+    let err = line_if_any(rt.alloc(), text)?;
+    let ended = run_on(rt, "resolve", folder)?;
+    if is_as_wanted(&ended, status, out.as_slice(), err.as_bytes()) {
+        return Ok(());
+    }
+    Err(Fail::from(ended))
+}
+
+fn line_if_any(alloc: Global, text: &str) -> Result<String, AllocError> {
+    if text.is_empty() {
+        return Ok(String::new(alloc));
+    }
+    format!(in alloc; "{text}\n")
+}
+
+fn lock_of(rt: &HostRuntime, folder: &str) -> Result<Vec<u8>, Fail> {
+    let path = format!(in rt.alloc(); "{folder}/Cargo.lock")?;
+    Ok(fs::read(rt, path.as_str())?)
 }
 
 #[test]
 fn verdicts_on_plain_locks(rt: HostRuntime) -> Result<(), Fail> {
-    begin(&rt, "verdicts", "a = \"1\"")?;
-    three_of_a(&rt, "verdicts")?;
-    let demo = root(&rt, "\"a\"")?;
-    let valid = format!(in rt.alloc(); "{}{demo}", package(&rt, "a", "1.1.0", "")?)?;
-    put(&rt, "verdicts", "Cargo.lock", valid.as_str())?;
-    expect(&rt, "verify", "verdicts", 0, "valid\n", "")?;
-    expect_invalid(&rt, "verdicts", "", "invalid V1 Root at demo 0.1.0\n")?;
-    let unknown = format!(in rt.alloc(); "{}{demo}", package(&rt, "a", "9.9.9", "")?)?;
-    let line = "invalid V2 NotCandidate at a 9.9.9\n";
-    expect_invalid(&rt, "verdicts", unknown.as_str(), line)?;
-    let alone = root(&rt, "")?;
-    expect_invalid(
+    play(
         &rt,
         "verdicts",
-        alone.as_str(),
-        "invalid V4 Unmet at demo 0.1.0\n",
-    )?;
-    let more = format!(in rt.alloc(); "{valid}{}", package(&rt, "a", "2.0.0", "")?)?;
-    let line = "fault 9 LockShape\n";
-    put(&rt, "verdicts", "Cargo.lock", more.as_str())?;
-    expect(&rt, "verify", "verdicts", 2, "", line)
+        r#"manifest a = "1"
+index 1/a a 1.0.0;a 1.1.0;a 2.0.0
+lock a 1.1.0;demo 0.1.0 "a"
+verify 0 valid
+lock
+verify 1 invalid V1 Root at demo 0.1.0
+lock a 9.9.9;demo 0.1.0 "a"
+verify 1 invalid V2 NotCandidate at a 9.9.9
+lock demo 0.1.0
+verify 1 invalid V4 Unmet at demo 0.1.0
+lock a 1.1.0;demo 0.1.0 "a";a 2.0.0
+verify 2 fault 9 LockShape"#,
+    )
 }
 
 #[test]
 fn two_of_a_class(rt: HostRuntime) -> Result<(), Fail> {
-    begin(&rt, "class", "foo = \"^1\"")?;
-    let older = line(&rt, "foo", "1.0.0", "")?;
-    let newer = line(&rt, "foo", "1.1.0", "{\"name\":\"bar\",\"req\":\"^1\"}")?;
-    let foo = format!(in rt.alloc(); "{older}{newer}")?;
-    put(&rt, "class", "index/3/f/foo", foo.as_str())?;
-    let bar = line(&rt, "bar", "1.0.0", "{\"name\":\"foo\",\"req\":\"=1.0.0\"}")?;
-    put(&rt, "class", "index/3/b/bar", bar.as_str())?;
-    let mut lock = package(&rt, "bar", "1.0.0", "\"foo 1.0.0\"")?;
-    lock.push_str(root(&rt, "\"foo 1.1.0\"")?.as_str())?;
-    lock.push_str(package(&rt, "foo", "1.0.0", "")?.as_str())?;
-    lock.push_str(package(&rt, "foo", "1.1.0", "\"bar\"")?.as_str())?;
-    let line = "invalid V3 TwoInClass at foo 1.1.0\n";
-    expect_invalid(&rt, "class", lock.as_str(), line)
+    play(
+        &rt,
+        "class",
+        r#"manifest foo = "^1"
+index 3/f/foo foo 1.0.0;foo 1.1.0 {"name":"bar","req":"^1"}
+index 3/b/bar bar 1.0.0 {"name":"foo","req":"=1.0.0"}
+lock bar 1.0.0 "foo 1.0.0";demo 0.1.0 "foo 1.1.0";foo 1.0.0;foo 1.1.0 "bar"
+verify 1 invalid V3 TwoInClass at foo 1.1.0"#,
+    )
 }
 
 #[test]
 fn lists_and_what_they_reach(rt: HostRuntime) -> Result<(), Fail> {
-    begin(&rt, "lists", "a = \"^1\"")?;
-    let older = line(&rt, "a", "1.0.0", "")?;
-    let newer = line(&rt, "a", "1.1.0", "{\"name\":\"b\",\"req\":\"^1\"}")?;
-    put(
+    play(
         &rt,
         "lists",
-        "index/1/a",
-        format!(in rt.alloc(); "{older}{newer}")?.as_str(),
-    )?;
-    put(
-        &rt,
-        "lists",
-        "index/1/b",
-        line(&rt, "b", "1.0.0", "")?.as_str(),
-    )?;
-    let mut lock = package(&rt, "a", "1.0.0", "")?;
-    lock.push_str(package(&rt, "b", "1.0.0", "")?.as_str())?;
-    let unreached = format!(in rt.alloc(); "{lock}{}", root(&rt, "\"a\"")?)?;
-    let line = "invalid V7 Unreached at b 1.0.0\n";
-    expect_invalid(&rt, "lists", unreached.as_str(), line)?;
-    let more = format!(in rt.alloc(); "{lock}{}", root(&rt, "\"a\", \"b\"")?)?;
-    expect_invalid(
-        &rt,
-        "lists",
-        more.as_str(),
-        "invalid V6 List at demo 0.1.0\n",
+        r#"manifest a = "^1"
+index 1/a a 1.0.0;a 1.1.0 {"name":"b","req":"^1"}
+index 1/b b 1.0.0
+lock a 1.0.0;b 1.0.0;demo 0.1.0 "a"
+verify 1 invalid V7 Unreached at b 1.0.0
+lock a 1.0.0;b 1.0.0;demo 0.1.0 "a", "b"
+verify 1 invalid V6 List at demo 0.1.0"#,
     )
 }
 
 #[test]
 fn a_weak_entry_asks_only_an_enabled_dependency(rt: HostRuntime) -> Result<(), Fail> {
-    begin(&rt, "weak", "a = { version = \"1\", features = [\"f\"] }")?;
-    let b = "{\"name\":\"b\",\"req\":\"^1\",\"optional\":true}";
-    let index = line_with(&rt, "a", "1.0.0", b, "\"f\":[\"b?/g\"]")?;
-    put(&rt, "weak", "index/1/a", index.as_str())?;
-    let c = "{\"name\":\"c\",\"req\":\"^1\",\"optional\":true}";
-    let index = line_with(&rt, "b", "1.0.0", c, "\"g\":[\"dep:c\"]")?;
-    put(&rt, "weak", "index/1/b", index.as_str())?;
-    put(
+    play(
         &rt,
         "weak",
-        "index/1/c",
-        line(&rt, "c", "1.0.0", "")?.as_str(),
-    )?;
-    let demo = root(&rt, "\"a\"")?;
-    let alone = format!(in rt.alloc(); "{}{demo}", package(&rt, "a", "1.0.0", "")?)?;
-    put(&rt, "weak", "Cargo.lock", alone.as_str())?;
-    expect(&rt, "verify", "weak", 0, "valid\n", "")?;
-    manifest(
-        &rt,
-        "weak",
-        "a = { version = \"1\", features = [\"f\", \"b\"] }",
-    )?;
-    let line = "invalid V4 Unmet at a 1.0.0\n";
-    expect_invalid(&rt, "weak", alone.as_str(), line)?;
-    let mut whole = package(&rt, "a", "1.0.0", "\"b\"")?;
-    whole.push_str(package(&rt, "b", "1.0.0", "\"c\"")?.as_str())?;
-    whole.push_str(package(&rt, "c", "1.0.0", "")?.as_str())?;
-    whole.push_str(demo.as_str())?;
-    put(&rt, "weak", "Cargo.lock", whole.as_str())?;
-    expect(&rt, "verify", "weak", 0, "valid\n", "")
+        r#"manifest a = { version = "1", features = ["f"] }
+index 1/a a 1.0.0 {"name":"b","req":"^1","optional":true}|"f":["b?/g"]
+index 1/b b 1.0.0 {"name":"c","req":"^1","optional":true}|"g":["dep:c"]
+index 1/c c 1.0.0
+lock a 1.0.0;demo 0.1.0 "a"
+verify 0 valid
+manifest a = { version = "1", features = ["f", "b"] }
+verify 1 invalid V4 Unmet at a 1.0.0
+lock a 1.0.0 "b";b 1.0.0 "c";c 1.0.0;demo 0.1.0 "a"
+verify 0 valid"#,
+    )
 }
 
 #[test]
 fn gives_a_valid_lock_back(rt: HostRuntime) -> Result<(), Fail> {
-    begin(&rt, "kept", "a = \"1\"")?;
-    three_of_a(&rt, "kept")?;
-    let a = package(&rt, "a", "1.0.0", "")?;
-    let lock = format!(in rt.alloc(); "{a}{}# kept\n", root(&rt, "\"a\"")?)?;
-    put(&rt, "kept", "Cargo.lock", lock.as_str())?;
-    expect(&rt, "resolve", "kept", 0, lock.as_str(), "")?;
-    let other = format!(in rt.alloc(); "{a}{}", root(&rt, "")?)?;
-    put(&rt, "kept", "Cargo.lock", other.as_str())?;
-    expect(&rt, "resolve", "kept", 2, "", "fault 15 NotYet search\n")
+    play(
+        &rt,
+        "kept",
+        r#"manifest a = "1"
+index 1/a a 1.0.0;a 1.1.0;a 2.0.0
+file Cargo.lock [[package]];name = "a";version = "1.0.0";source = "registry+https://github.com/rust-lang/crates.io-index";checksum = "$";dependencies = [];[[package]];name = "demo";version = "0.1.0";dependencies = ["a"];# kept;
+resolve 0
+lock a 1.0.0;demo 0.1.0
+resolve 2 fault 15 NotYet search"#,
+    )
 }
 
 #[test]
 fn a_yanked_version_counts_where_it_is_locked(rt: HostRuntime) -> Result<(), Fail> {
-    begin(&rt, "yanked", "a = \"^1\"")?;
-    let index = format!(in rt.alloc();
-        "{{\"name\":\"a\",\"vers\":\"1.0.0\",\"deps\":[],\"cksum\":\"{ZEROS}\",\"yanked\":true}}\n{{\"name\"\n"
-    )?;
-    put(&rt, "yanked", "index/1/a", index.as_str())?;
-    let a = package(&rt, "a", "1.0.0", "")?;
-    let lock = format!(in rt.alloc(); "{a}{}", root(&rt, "\"a\"")?)?;
-    put(&rt, "yanked", "Cargo.lock", lock.as_str())?;
-    expect(&rt, "verify", "yanked", 0, "valid\n", "")?;
-    let skip = "skip a line 2 S1 NotJson\n";
-    expect(&rt, "resolve", "yanked", 0, lock.as_str(), skip)
+    play(
+        &rt,
+        "yanked",
+        r#"manifest a = "^1"
+file index/1/a {"name":"a","vers":"1.0.0","deps":[],"cksum":"$","yanked":true};{"name";
+lock a 1.0.0;demo 0.1.0 "a"
+verify 0 valid
+resolve 0 skip a line 2 S1 NotJson"#,
+    )
 }
 
 #[test]
 fn faults_in_their_order(rt: HostRuntime) -> Result<(), Fail> {
-    begin(&rt, "faults", "a = { path = \"../a\" }")?;
-    three_of_a(&rt, "faults")?;
-    put(&rt, "faults", "Cargo.lock", "version = 5\n")?;
-    expect(
+    play(
         &rt,
-        "resolve",
         "faults",
-        2,
-        "",
-        "fault 4 UnsupportedSource Path\n",
-    )?;
-    manifest(&rt, "faults", "a = \"one\"")?;
-    expect(
-        &rt,
-        "resolve",
-        "faults",
-        2,
-        "",
-        "fault 5 BadRequirement at a\n",
-    )?;
-    manifest(&rt, "faults", "a = \"1\"\n[features]\nf = [\"g\"]")?;
-    expect(
-        &rt,
-        "resolve",
-        "faults",
-        2,
-        "",
-        "fault 6 RootFeature F1 at f\n",
-    )?;
-    manifest(&rt, "faults", "a = \"1\"")?;
-    expect(&rt, "verify", "faults", 2, "", "fault 8 LockVersion\n")?;
-    let changed =
-        "[[package]]\nname = \"a\"\nversion = \"1.0.0\"\nsource = \"registry+https://github.com/rust-lang/crates.io-index\"\nchecksum = \"1\"\n";
-    put(&rt, "faults", "Cargo.lock", changed)?;
-    expect(
-        &rt,
-        "resolve",
-        "faults",
-        2,
-        "",
-        "fault 12 ChecksumChanged at a 1.0.0\n",
-    )?;
-    fs::remove_file(&rt, "faults/index/1/a")?;
-    fs::create_dir_all(&rt, "faults/index/1/a")?;
-    expect(
-        &rt,
-        "resolve",
-        "faults",
-        2,
-        "",
-        "fault 10 FolderFailed at 1/a\n",
-    )?;
-    fs::remove_file(&rt, "faults/Cargo.lock")?;
-    expect(
-        &rt,
-        "verify",
-        "faults",
-        2,
-        "",
-        "cannot read faults/Cargo.lock\n",
+        r#"manifest a = { path = "../a" }
+index 1/a a 1.0.0;a 1.1.0;a 2.0.0
+file Cargo.lock version = 5;
+resolve 2 fault 4 UnsupportedSource Path
+manifest a = "one"
+resolve 2 fault 5 BadRequirement at a
+manifest a = "1";[features];f = ["g"]
+resolve 2 fault 6 RootFeature F1 at f
+manifest a = "1"
+verify 2 fault 8 LockVersion
+file Cargo.lock [[package]];name = "a";version = "1.0.0";source = "registry+https://github.com/rust-lang/crates.io-index";checksum = "1";
+resolve 2 fault 12 ChecksumChanged at a 1.0.0
+remove index/1/a
+folder index/1/a
+resolve 2 fault 10 FolderFailed at 1/a
+remove Cargo.lock
+verify 2 cannot read faults/Cargo.lock"#,
     )
 }
