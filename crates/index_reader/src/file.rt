@@ -50,7 +50,7 @@ fn texts_in(alloc: Global, bytes: &[u8]) -> Result<Vec<&[u8]>, AllocError>
 fn read_texts(alloc: Global, name: &PackageName, texts: &[&[u8]]) -> Result<FileSoFar, AllocError>
     ensures { IfOk result (λ f. file_view f.records.items f.skips.items ≡ with_lines name.now 1 (map (λ x. x.now) texts.now) no_lines) }
 {
-    let mut file = FileSoFar::new(alloc);
+    let mut file = FileSoFar::with_room(alloc, texts.len())?;
     'texts: for (index, text) in texts.iter().enumerate() {
         file = with_line(alloc, name, index as u64 + 1, text, file)?;
     }

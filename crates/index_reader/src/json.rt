@@ -93,7 +93,7 @@ pub(crate) fn whole(object: &Value, key: &str, absent: u64) -> Result<u64, LineF
 fn texts_in<'a>(alloc: Global, values: &'a Vec<Value>) -> Result<Vec<&'a str>, LineFault>
     ensures { Gives is_memory (λ v. texts_view v.items) result (texts_in (items_view values.now.items)) }
 {
-    let mut found = Vec::new(alloc);
+    let mut found = Vec::with_capacity(alloc, values.len())?;
     'items: for value in values.iter() {
         match value.as_str() {
             Some(text) => found.push(text)?,

@@ -27,14 +27,15 @@ pub(crate) struct FileSoFar {
 }
 
 impl FileSoFar {
-    pub(crate) fn new(alloc: Global) -> FileSoFar
-        ensures { file_view result.records.items result.skips.items ≡ no_lines }
+    /// No lines yet, with room for the records of so many.
+    pub(crate) fn with_room(alloc: Global, lines: usize) -> Result<FileSoFar, AllocError>
+        ensures { IfOk result (λ f. file_view f.records.items f.skips.items ≡ no_lines) }
     {
-        FileSoFar {
-            records: Vec::new(alloc),
+        Ok(FileSoFar {
+            records: Vec::with_capacity(alloc, lines)?,
             skips: Vec::new(alloc),
             kept: BTreeSet::new(alloc),
-        }
+        })
     }
 
     /// With a line that is skipped.

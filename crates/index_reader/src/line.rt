@@ -95,7 +95,10 @@ fn requirement(alloc: Global, text: &str) -> Result<VersionReq, LineFault>
     ensures { Gives is_memory requirement_view result (semver_or Reason.BadRequirement (req_of text.now)) }
 {
     match VersionReq::parse(alloc, text) {
-        Ok(requirement) => Ok(requirement),
+        Ok(mut requirement) => {
+            requirement.comparators.shrink_to_fit();
+            Ok(requirement)
+        }
         Err(e) => Err(fault_of(e, Reason::BadRequirement)),
     }
 }
@@ -119,7 +122,7 @@ fn requirements<'a>(
 ) -> Result<Vec<Required<'a>>, LineFault>
     ensures { Gives is_memory (λ v. required_views v.items) result (required (line_dependency_views shapes.now)) }
 {
-    let mut found = Vec::new(alloc);
+    let mut found = Vec::with_capacity(alloc, shapes.len())?;
     'shapes: for shape in shapes {
         match shape {
             DependencyShape::Dev(_) => {}
@@ -136,7 +139,7 @@ fn requirements<'a>(
 fn dependencies(alloc: Global, parts: Vec<Required<'_>>) -> Result<Vec<Dependency>, LineFault>
     ensures { Gives is_memory (λ v. dependency_views v.items) result (dependencies_read (required_views parts.entry.items)) }
 {
-    let mut found = Vec::new(alloc);
+    let mut found = Vec::with_capacity(alloc, parts.len())?;
     'parts: for part in parts {
         found.push(dependency(alloc, part)?)?;
     }
@@ -174,7 +177,7 @@ fn real_name(part: &PartShape<'_>) -> Result<PackageName, AllocError>
 fn feature_names(alloc: Global, texts: &[&str]) -> Result<Vec<FeatureName>, LineFault>
     ensures { Gives is_memory (λ v. v.items) result (feature_names (texts_view texts.now)) }
 {
-    let mut found = Vec::new(alloc);
+    let mut found = Vec::with_capacity(alloc, texts.len())?;
     'texts: for text in texts {
         if text.is_empty() {
             continue;

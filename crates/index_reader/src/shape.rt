@@ -241,7 +241,7 @@ fn dependencies_in<'a>(
 ) -> Result<Vec<DependencyShape<'a>>, LineFault>
     ensures { Gives is_memory (λ v. line_dependency_views v.items) result (dependencies_in (items_view values.now.items)) }
 {
-    let mut found = Vec::new(alloc);
+    let mut found = Vec::with_capacity(alloc, values.len())?;
     'items: for value in values.iter() {
         found.push(dependency(alloc, value)?)?;
     }
@@ -268,7 +268,7 @@ fn features_in<'a>(
 ) -> Result<Vec<FeatureShape<'a>>, LineFault>
     ensures { Gives is_memory (λ v. feature_views v.items) result (features_in (members_view members.now.entries)) }
 {
-    let mut found = Vec::new(alloc);
+    let mut found = Vec::with_capacity(alloc, members.len())?;
     'members: for (key, value) in members.iter() {
         let entries = texts(alloc, value)?;
         found.push(FeatureShape {

@@ -85,7 +85,7 @@ fn with_entries(
 fn entries(alloc: Global, texts: &[&str]) -> Result<Vec<Entry>, LineFault>
     ensures { Gives is_memory (λ v. entry_views v.items) result (entries_read (texts_view texts.now)) }
 {
-    let mut found = Vec::new(alloc);
+    let mut found = Vec::with_capacity(alloc, texts.len())?;
     'texts: for text in texts {
         found.push(entry(alloc, text)?)?;
     }
@@ -119,7 +119,7 @@ fn dep_names(
 ) -> Result<Vec<DepName>, AllocError>
     ensures { IfOk result (λ v. dep_names_view v.items ≡ dep_names_of (line_dependency_views dependencies.now)) }
 {
-    let mut found = Vec::new(alloc);
+    let mut found = Vec::with_capacity(alloc, dependencies.len())?;
     'dependencies: for dependency in dependencies {
         found.push(dep_name(dependency)?)?;
     }
