@@ -1,6 +1,7 @@
 pub use Rattle.model.specs.Outcome
 pub use Rattle.model.specs.Owner
 pub mod Names
+pub mod NameTexts
 pub mod Entries
 pub mod EntryViews
 pub mod Tables

@@ -6,6 +6,7 @@ mod draft;
 mod entry;
 mod feature_name;
 mod name;
+mod name_text;
 mod table;
 
 pub use dependency::{Dependency, Owner};

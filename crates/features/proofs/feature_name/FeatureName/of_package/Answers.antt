@@ -1,8 +1,9 @@
-use Rattle.std.proofs.Common.{◌≡◌, string_bytes, rules}
+use Rattle.std.proofs.Common.{◌≡◌, rules}
+use Rattle.features.specs.NameTexts.{text_bytes}
 use Rattle.features.proofs.NameLemmas.{feature_name-package}
 use Rattle.features.proofs.feature_name.FeatureName.of_package.Goals as goal
 
 pub invariant_of-result : goal.invariant_of-result
 invariant_of-result c =
-    let same : string_bytes c.in_ok-from_str.field-0 ≡ c.args.name.now = search rules in
+    let same : text_bytes c.in_ok-of.field-0 ≡ c.args.name.now = search rules in
     rw same (feature_name-package c.args.name.now (search rules))

@@ -1,0 +1,45 @@
+//! The text of a name, which lies in the name itself where it is short.
+
+ghost use Rattle.std.specs.Prelude.{◌≡◌, IfOk};
+ghost use Rattle.features.specs.NameTexts.{text_bytes};
+
+use arrayvec::ArrayString;
+use std::alloc::{AllocError, Global};
+
+/// A text: most names have at most 16 bytes, and ask for no memory.
+#[derive(Drop)]
+pub(crate) enum NameText {
+    Short(ArrayString<16>),
+    Long(String),
+}
+
+impl NameText {
+    pub(crate) fn of(alloc: Global, text: &str) -> Result<NameText, AllocError>
+        ensures { IfOk result (λ t. text_bytes t ≡ text.now) }
+    {
+        match ArrayString::from(text) {
+            Ok(short) => Ok(NameText::Short(short)),
+            Err(_) => Ok(NameText::Long(String::from_str(alloc, text)?)),
+        }
+    }
+
+    pub(crate) fn as_str(&self) -> &str
+        ensures { result.now ≡ text_bytes self.now }
+    {
+        match self {
+            NameText::Short(short) => short.as_str(),
+            NameText::Long(long) => long.as_str(),
+        }
+    }
+}
+
+impl Clone for NameText {
+    ghost is_clone = { λ text copy. text_bytes copy ≡ text_bytes text };
+
+    fn clone(&self) -> Result<NameText, AllocError> {
+        match self {
+            NameText::Short(short) => Ok(NameText::Short(*short)),
+            NameText::Long(long) => Ok(NameText::Long(long.clone()?)),
+        }
+    }
+}
