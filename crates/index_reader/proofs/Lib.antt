@@ -3,3 +3,4 @@ pub mod PathLemmas
 pub mod WrittenLemmas
 pub mod FileLaws
 pub mod KeptLemmas
+pub mod SplitLemmas

@@ -10,6 +10,7 @@ use crate::kept::FileSoFar;
 use crate::line::read_unchecked;
 use crate::record::{Record, Skip};
 use features::PackageName;
+use memchr::memchr;
 use std::alloc::{AllocError, Global};
 
 /// How many lines bytes have: the number of `\n`, and one more where bytes follow the last of them.
@@ -42,7 +43,14 @@ pub fn read_file(
 fn texts_in(alloc: Global, bytes: &[u8]) -> Result<Vec<&[u8]>, AllocError>
     ensures { IfOk result (λ v. map (λ x. x.now) v.items ≡ slice_split is_line_end bytes.now) }
 {
-    bytes.split(|b| *b == b'\n').collect(alloc)
+    let mut found = Vec::new(alloc);
+    let mut rest = bytes;
+    'ends: while let Some(end) = memchr(b'\n', rest) {
+        found.push(&rest[..end])?;
+        rest = &rest[end + 1..];
+    }
+    found.push(rest)?;
+    Ok(found)
 }
 
 /// What a file of these lines says.
