@@ -95,17 +95,23 @@ fn requirement(alloc: Global, text: &str) -> Result<VersionReq, LineFault>
     ensures { Gives is_memory requirement_view result (semver_or Reason.BadRequirement (req_of text.now)) }
 {
     match VersionReq::parse(alloc, text) {
-        Ok(mut requirement) => {
-            requirement.comparators.shrink_to_fit();
-            Ok(requirement)
-        }
+        Ok(requirement) => Ok(fitted(alloc, requirement)?),
         Err(e) => Err(fault_of(e, Reason::BadRequirement)),
     }
 }
 
+/// The same requirement in no more room than it needs: `semver` makes room for several comparators.
+fn fitted(alloc: Global, mut requirement: VersionReq) -> Result<VersionReq, AllocError>
+    ensures { IfOk result (λ r. requirement_view r ≡ requirement_view requirement) }
+{
+    let mut comparators = Vec::with_capacity(alloc, requirement.comparators.len())?;
+    comparators.append(&mut requirement.comparators)?;
+    Ok(VersionReq { comparators })
+}
+
 /// What a refusal of `semver` is as a reason to skip.
 fn fault_of(e: semver::Error, why: Reason) -> LineFault
-    ensures { (result ≡ LineFault.OutOfMemory) ⊎ ((result ≡ LineFault.Skipped why) × (e ≢ memory_error)) }
+    ensures { ((result ≡ LineFault.OutOfMemory) × (e ≡ memory_error)) ⊎ ((result ≡ LineFault.Skipped why) × (e ≢ memory_error)) }
 {
     if e == semver::Error::from(AllocError) {
         LineFault::OutOfMemory
