@@ -131,7 +131,6 @@ is_dev Dev = true
 -- a dependency that takes part, with its texts as they stand
 pub record PartView : Type 0 where
   pub name : List ℕ
-  pub kind : Kind
   pub real_name : Option (List ℕ)
   pub requirement : List ℕ
   pub optional : Bool
@@ -144,18 +143,18 @@ pub data DependencyView : Type 0 where
   dev : List ℕ → DependencyView
   part : PartView → DependencyView
 
-unfoldable pub part_of : List ℕ → Kind → Data → Line PartView
-part_of name kind d = do
+unfoldable pub part_of : List ℕ → Data → Line PartView
+part_of name d = do
   real_name ← package_name_or_none (value_at (codes "package") d)
   requirement ← text_at (codes "req") d
   optional_flag ← flag_at (codes "optional") false d
   default_flag ← flag_at (codes "default_features") true d
   features ← texts_or_none (value_at (codes "features") d)
   registry ← optional None text_of (value_at (codes "registry") d)
-  Ok (record { name = name; kind = kind; real_name = real_name; requirement = requirement; optional = optional_flag; default_features = default_flag; features = features; registry = registry })
+  Ok (record { name = name; real_name = real_name; requirement = requirement; optional = optional_flag; default_features = default_flag; features = features; registry = registry })
 
 abbrev pub by_kind : List ℕ → Kind → Data → Line DependencyView
-by_kind name kind d = if is_dev kind then Ok (dev name) else (part_of name kind d >>= λ p. Ok (part p))
+by_kind name kind d = if is_dev kind then Ok (dev name) else (part_of name d >>= λ p. Ok (part p))
 
 unfoldable pub dependency_of : Data → Line DependencyView
 dependency_of d = do

@@ -28,7 +28,6 @@ feature_views fs = map feature_view fs
 abbrev pub part_view : PartShape → PartView
 part_view p = record {
   name = p.name;
-  kind = p.kind;
   real_name = p.real_name;
   requirement = p.requirement.now;
   optional = p.optional;

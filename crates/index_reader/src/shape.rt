@@ -42,7 +42,6 @@ pub(crate) enum DependencyShape<'a> {
 #[derive(Drop)]
 pub(crate) struct PartShape<'a> {
     pub name: PackageName,
-    pub kind: Kind,
     /// The package that a renamed dependency means.
     pub real_name: Option<PackageName>,
     pub requirement: &'a str,
@@ -183,13 +182,8 @@ fn kind_at(dependency: &Value) -> Result<Kind, LineFault>
 }
 
 #[tactic(auto, unfolding(crate::specs::Lines::part_of))]
-fn part(
-    alloc: Global,
-    name: PackageName,
-    kind: Kind,
-    dependency: &Value,
-) -> Result<PartShape<'_>, LineFault>
-    ensures { Gives is_memory part_view result (part_of name kind (view dependency.now)) }
+fn part(alloc: Global, name: PackageName, dependency: &Value) -> Result<PartShape<'_>, LineFault>
+    ensures { Gives is_memory part_view result (part_of name (view dependency.now)) }
 {
     let real_name = package_name_if_any(alloc, dependency, "package")?;
     let requirement = text(dependency, "req")?;
@@ -199,7 +193,6 @@ fn part(
     let registry = text_if_any(dependency, "registry")?;
     Ok(PartShape {
         name,
-        kind,
         real_name,
         requirement,
         optional,
@@ -219,9 +212,7 @@ fn of_kind(
 {
     match kind {
         Kind::Dev => Ok(DependencyShape::Dev(name)),
-        Kind::Normal | Kind::Build => {
-            Ok(DependencyShape::Part(part(alloc, name, kind, dependency)?))
-        }
+        Kind::Normal | Kind::Build => Ok(DependencyShape::Part(part(alloc, name, dependency)?)),
     }
 }
 
