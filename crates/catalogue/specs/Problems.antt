@@ -5,6 +5,7 @@ use Rattle.model.specs.Content.{Candidate, Content, Problem}
 use Rattle.model.specs.Candidates.{as_candidate}
 use Rattle.manifest.specs.Manifests.{ManifestView, root_asks}
 use Rattle.catalogue.specs.Runs.{Asked, candidates_in, AreNext, next_name}
+use Rattle.catalogue.specs.Stores.{CatalogueView, rows_by_name}
 
 -- the names that were asked for
 abbrev pub names_in : List Asked → List (List ℕ)
@@ -23,6 +24,17 @@ problem_of manifest old source asked = record {
   root_asks = root_asks manifest.brings.features;
   source = source;
   candidates = candidates_by_name old source asked;
+}
+
+-- what a selection is held against, for a manifest and a loaded index
+abbrev pub problem_in : ManifestView → CatalogueView → Problem
+problem_in manifest index = record {
+  name = manifest.name;
+  version = manifest.version;
+  brings = manifest.brings;
+  root_asks = root_asks manifest.brings.features;
+  source = index.source;
+  candidates = rows_by_name index;
 }
 
 -- a run over a fixed index, which has these files by the names of their packages
