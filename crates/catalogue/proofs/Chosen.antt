@@ -16,17 +16,23 @@ use Rattle.semver.specs.Parse.{Parts}
 use Rattle.semver.specs.declared.Version.{Version}
 use Rattle.model.specs.Candidates.{RustVersion, Record, fits, IsOlder, IsApart, may_be_locked, oldest_first}
 use Rattle.model.specs.Order.{precedence}
+use Rattle.model.specs.Owner.{KnowsFeatures}
 use Rattle.model.proofs.Candidates as model
 use Rattle.model.proofs.Candidates.{oldest_first-permutes, oldest_first-rises, sorted_is_oldest_first}
 use Rattle.model.proofs.Lists.{in_filter, to_filter, all_none, all_cons, all_first, all_rest}
+use Rattle.catalogue.proofs.LawsLists.{all_in, at_in}
 use Rattle.model.proofs.Permuted.{rising-same}
 use Rattle.index_reader.specs.Views.{record_view}
 use Rattle.index_reader.specs.declared.record.Record as reader
 use Rattle.catalogue.specs.Loads.{records_view, with_ranks}
 use Rattle.catalogue.specs.Runs.{as_record}
 use Rattle.catalogue.specs.Ranks.{Ranked, records, rank_of, rank_by, fits_given}
-use Rattle.catalogue.specs.Views.{ranked_of, ranked_view, AreRising, AreRead}
+use Rattle.catalogue.specs.Views.{ranked_of, ranked_view, AreRising, AreRead, KnowFeatures, AreKnown}
 use Rattle.catalogue.specs.declared.candidate.Candidate.{Candidate}
+
+-- what holds of a record that knows its features
+abbrev pub Knows : Record → Type 0
+Knows r = KnowsFeatures (r.brings).features
 
 -- ---- one more
 
@@ -70,10 +76,20 @@ module _ (locked : Parts → Bool) (rust : Option RustVersion) where
   pub chosen-rise : (all : List reader.Record) → AllPairs IsOlder (records_view all) → AreRising (chosen all)
   chosen-rise all h = subst (AllPairs IsOlder) (sym (records-ranked (filter (may_be_locked locked) (records_view all)))) (AllPairs-filter IsOlder (may_be_locked locked) (records_view all) h)
 
+  pub chosen-known : (all : List reader.Record) → KnowFeatures (records_view all) → AreKnown (chosen all)
+  chosen-known all h =
+      let kept : List Record = filter (may_be_locked locked) (records_view all) in
+      subst KnowFeatures (sym (records-ranked kept))
+      (all_in Knows kept (λ r c. at_in Knows (records_view all) r h (in_filter (may_be_locked locked) (records_view all) r c).0))
+
 -- one more version that is read
 pub read-snoc : (vs : List Version) (v : Version) → AreRead vs → IsValid (parts_of v) → AreRead (vs ++ v ∷ [])
 read-snoc [] v h k = all_cons (λ (w : Version). IsValid (parts_of w)) v [] k (all_none (λ (w : Version). IsValid (parts_of w)))
 read-snoc (w ∷ ws) v h k = all_cons (λ (w : Version). IsValid (parts_of w)) w (ws ++ v ∷ []) (all_first (λ (w : Version). IsValid (parts_of w)) w ws h) (read-snoc ws v (all_rest (λ (w : Version). IsValid (parts_of w)) w ws h) k)
+
+-- records that are moved still know their features
+pub moved-known : (rs ys : List Record) → IsPermutation rs ys → KnowFeatures rs → KnowFeatures ys
+moved-known rs ys moved h = all_in Knows ys (λ r c. at_in Knows rs r h (Contains-permutation ys rs r (IsPermutation-sym rs ys moved) c))
 
 -- ---- sorted records
 

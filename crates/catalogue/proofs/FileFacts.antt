@@ -1,11 +1,10 @@
 -- The records of a file are apart in precedence, and no more than its lines.
-use Rattle.std.proofs.Common.{◌≡◌, ℕ, ◌+◌, ◌<◌, ◌≤◌, ◌^◌, Bool, true, false, ◌||◌, cond, List, [], ◌∷◌, ◌++◌, map, length, Ok, Err, Option, Some, None, refl, sym, ap, ◌∙◌, subst, arith, Ordering}
+use Rattle.std.proofs.Common.{◌≡◌, ℕ, ◌+◌, ◌≤◌, Bool, true, false, ◌||◌, cond, List, [], ◌∷◌, ◌++◌, map, length, Ok, Err, Option, Some, None, refl, sym, ap, ◌∙◌, subst, arith, Ordering}
 use Rattle.std.specs.List.{All, AllPairs, slice_split}
 use Rattle.std.specs.Ordering.{is_eq, ordering_reverse}
 use Rattle.std.specs.declared.cmp.Ordering.TheVariants.{Equal}
 use Rattle.std.proofs.lemmas.List.{map-append, length-append}
 use Rattle.std.proofs.lemmas.List.Quantifiers.{all_pairs_push}
-use Rattle.std.proofs.lemmas.List.Splits.{length-slice_split}
 use Rattle.model.specs.Candidates.{IsApart}
 use Rattle.model.specs.Order.{precedence}
 use Rattle.model.proofs.Candidates.{precedence_total}
@@ -19,6 +18,8 @@ use Rattle.index_reader.specs.Views.{record_view}
 use Rattle.index_reader.specs.declared.record.Record as reader
 use Rattle.catalogue.specs.Runs.{as_record, records_of}
 use Rattle.catalogue.specs.Loads.{IsWithin, file_of, records_view, skips_of}
+use Rattle.catalogue.specs.Views.{most_candidates}
+use Rattle.catalogue.proofs.LineFacts.{full, full-few}
 
 -- so many records at most, no two of equal precedence
 abbrev pub AreFew : ℕ → FileView → Type 0
@@ -69,22 +70,24 @@ line_few name n m text f h = elim (is_blank text) as (λ b. AreFew (m + 1) (cond
   | false ↦ read_few name n m (unchecked_of_line name text) f h
 ]
 
-lines_few : (name : List ℕ) (n m : ℕ) (texts : List (List ℕ)) (f : FileView) → AreFew m f → AreFew (m + length texts) (with_lines name n texts f)
+-- an empty line says nothing
+lines_few : (name : List ℕ) (n m : ℕ) (texts : List (List ℕ)) (f : FileView) → AreFew m f → AreFew (m + full texts) (with_lines name n texts f)
 unfolding with_lines
 lines_few name n m [] f h = (h.0, omega (arith, h.1))
-lines_few name n m (text ∷ texts) f h =
-    let k = lines_few name (n + 1) (m + 1) texts (with_line name n text f) (line_few name n m text f h) in (k.0, omega (arith, k.1))
+lines_few name n m ([] ∷ texts) f h = lines_few name (n + 1) m texts f h
+lines_few name n m ((b ∷ text) ∷ texts) f h =
+    let k = lines_few name (n + 1) (m + 1) texts (with_line name n (b ∷ text) f) (line_few name n m (b ∷ text) f h) in (k.0, omega (arith, k.1))
 
-few_of : (name : List ℕ) (answer : Option (List ℕ)) → IsWithin answer → AllPairs IsApart (map as_record (file_of (name, answer)).records) × (length (file_of (name, answer)).records < 2 ^ 32)
+few_of : (name : List ℕ) (answer : Option (List ℕ)) → IsWithin answer → AllPairs IsApart (map as_record (file_of (name, answer)).records) × (length (file_of (name, answer)).records ≤ most_candidates)
 few_of name None w = (pairs_none IsApart, omega arith)
 few_of name (Some bytes) w =
     let k = lines_few name 1 0 (slice_split is_line_end bytes) no_lines (pairs_none IsApart, omega arith) in
-    let parts = length-slice_split is_line_end bytes in
+    let parts = full-few bytes in
     (k.0, omega (arith, k.1, parts, w.1))
 
 -- what the file of a name says
-pub file_few : (name : List ℕ) (answer : Option (List ℕ)) (file : FileView) → IsWithin answer → file_of (name, answer) ≡ file → AllPairs IsApart (map as_record file.records) × (length file.records < 2 ^ 32)
-file_few name answer file w e = subst (λ (f : FileView). AllPairs IsApart (map as_record f.records) × (length f.records < 2 ^ 32)) e (few_of name answer w)
+pub file_few : (name : List ℕ) (answer : Option (List ℕ)) (file : FileView) → IsWithin answer → file_of (name, answer) ≡ file → AllPairs IsApart (map as_record file.records) × (length file.records ≤ most_candidates)
+file_few name answer file w e = subst (λ (f : FileView). AllPairs IsApart (map as_record f.records) × (length f.records ≤ most_candidates)) e (few_of name answer w)
 
 -- what a file that is read says
 pub views-same : (rs : List reader.Record) → map as_record (map record_view rs) ≡ records_view rs

@@ -3,6 +3,7 @@ pub mod Preferences
 pub mod Found
 pub mod Alike
 pub mod Chosen
+pub mod LineFacts
 pub mod FileFacts
 pub mod SoFar
 pub mod LawsLists

@@ -1,16 +1,17 @@
 -- The rows of a store are found by the place of their name.
-use Rattle.std.proofs.Common.{◌≡◌, ◌≢◌, ℕ, suc, ◌+◌, Bool, true, false, cond, List, [], ◌∷◌, map, length, Option, Some, None, option_map, slice_get, Bor, unwrap_or, refl, sym, ap, ◌∙◌, arith, true≢false, add-one}
-use Rattle.std.specs.List.{position, position_from, IsDistinct, AllByRecursion, All, AllPairs}
+use Rattle.std.proofs.Common.{◌≡◌, ◌≢◌, ℕ, suc, ◌+◌, ◌≤◌, Bool, true, false, cond, List, [], ◌∷◌, map, length, Option, Some, None, option_map, slice_get, Bor, unwrap_or, refl, sym, ap, ◌∙◌, arith, true≢false, add-one}
+use Rattle.std.specs.List.{position, position_from, IsDistinct, AllByRecursion, All, AllPairs, zip}
 use Rattle.std.specs.Option.{option_and_then}
 use Rattle.std.specs.Slice.{IsItemAt}
 use Rattle.std.proofs.lemmas.Iterator.Adapters.{position_from-zero}
 use Rattle.std.proofs.lemmas.Option.{slice_get_past, slice_get-get_or}
+use Rattle.std.proofs.lemmas.List.{length-map}
 use Rattle.std.proofs.lemmas.List.Kept.{AllPairs-cons}
 use Rattle.index_reader.specs.Files.{SkipView}
 use Rattle.model.specs.Owner.{same_text}
 use Rattle.model.proofs.Lists.{all_none, all_cons, pairs_none}
 use Rattle.model.proofs.Same.{text-refl}
-use Rattle.catalogue.specs.Views.{AreRising}
+use Rattle.catalogue.specs.Views.{AreRising, AreKnown, most_candidates, ranked_of}
 use Rattle.catalogue.specs.Ranks.{Ranked}
 use Rattle.catalogue.specs.Stores.{CatalogueView, Row, row_at, ranked_at, rows_view, candidates_view, IsStore}
 use Rattle.catalogue.specs.declared.candidates.Candidates.{Candidates}
@@ -73,14 +74,32 @@ distinct_names (n ∷ ns) (c ∷ cs) d = AllPairs-cons (λ (a b : Row). a.0 ≢ 
     others (m ∷ ms) (e ∷ es) h = all_cons (λ (b : Row). n ≢ b.0) (m, candidates_view e) (rows_view ms es)
         (λ same. true≢false (sym (text-refl n) ∙ ap (same_text n) same ∙ h.0)) (others ms es h.1)
 
-rising_rows : (names : List (List ℕ)) (cs : List Candidates) → All (λ (row : Row). AreRising row.1) (rows_view names cs)
-rising_rows [] cs = all_none (λ (row : Row). AreRising row.1)
-rising_rows (n ∷ ns) [] = all_none (λ (row : Row). AreRising row.1)
-rising_rows (n ∷ ns) (c ∷ cs) = all_cons (λ (row : Row). AreRising row.1) (n, candidates_view c) (rows_view ns cs) c.rising (rising_rows ns cs)
+-- what holds of the candidates of each name
+all_rows : (P : List Ranked → Type 0) (names : List (List ℕ)) (cs : List Candidates) → ((c : Candidates) → P (candidates_view c)) → All (λ (row : Row). P row.1) (rows_view names cs)
+all_rows P [] cs h = all_none (λ (row : Row). P row.1)
+all_rows P (n ∷ ns) [] h = all_none (λ (row : Row). P row.1)
+all_rows P (n ∷ ns) (c ∷ cs) h = all_cons (λ (row : Row). P row.1) (n, candidates_view c) (rows_view ns cs) (h c) (all_rows P ns cs h)
+
+zip-short : {X Y : Type 0} (xs : List X) (ys : List Y) → length (zip xs ys) ≤ length ys
+zip-short [] ys = omega arith
+zip-short (x ∷ xs) [] = omega arith
+zip-short (x ∷ xs) (y ∷ ys) = let rest = zip-short xs ys in omega (arith, rest)
+
+few_candidates : (c : Candidates) → length (candidates_view c) ≤ most_candidates
+few_candidates c =
+    let wide = length-map (zip c.versions.items c.records.items) ranked_of in
+    let short = zip-short c.versions.items c.records.items in
+    let few = c.few in
+    omega (arith, wide, short, few)
 
 pub is_store : (names : List (List ℕ)) (cs : List Candidates) (skips : List SkipView) (source : List ℕ) → IsDistinct same_text names
     → IsStore (record { rows = rows_view names cs; skips = skips; source = source })
-is_store names cs skips source d = record { names_distinct = distinct_names names cs d; versions_rise = rising_rows names cs }
+is_store names cs skips source d = record {
+  names_distinct = distinct_names names cs d;
+  versions_rise = all_rows AreRising names cs (λ c. c.rising);
+  versions_few = all_rows (λ rs. length rs ≤ most_candidates) names cs few_candidates;
+  features_known = all_rows AreKnown names cs (λ c. c.known);
+}
 
 -- the candidates of the row that a name leads to
 pub of_row : (v : CatalogueView) (name : List ℕ) (x : List Ranked) → Some x ≡ row_at v.rows name → ranked_at v name ≡ x

@@ -6,6 +6,7 @@ use Rattle.semver.specs.Grammar.{IsValid}
 use Rattle.semver.specs.declared.Version.{Version}
 use Rattle.model.specs.Candidates.{Record, RustVersion, IsOlder}
 use Rattle.model.specs.Owner as model
+use Rattle.model.specs.Owner.{KnowsFeatures}
 use Rattle.features.specs.Views.{owner_view}
 use Rattle.classes.specs.RustVersions.{rust_version_view}
 use Rattle.catalogue.specs.Ranks.{Ranked, records}
@@ -44,6 +45,17 @@ said_by c = record { checksum = string_bytes c.checksum; yanked = c.yanked; rust
 -- oldest first, no two of equal precedence
 abbrev pub AreRising : List Ranked → Type 0
 AreRising cs = AllPairs IsOlder (records cs)
+
+-- how many candidates a name has at most: as many as its file has lines
+abbrev pub most_candidates : ℕ
+most_candidates = 65535
+
+-- in the feature table of each, an entry `g` names a feature of the same table
+abbrev pub KnowFeatures : List Record → Type 0
+KnowFeatures rs = All (λ r. KnowsFeatures (r.brings).features) rs
+
+abbrev pub AreKnown : List Ranked → Type 0
+AreKnown cs = KnowFeatures (records cs)
 
 -- each version is what its text reads as
 abbrev pub AreRead : List Version → Type 0

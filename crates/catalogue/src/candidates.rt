@@ -1,7 +1,7 @@
 //! The candidates of a name.
 
-ghost use Rattle.std.specs.Prelude.{◌≡◌, ◌<◌, ◌^◌, length};
-ghost use Rattle.catalogue.specs.Views.{ranked_view, AreRising, AreRead};
+ghost use Rattle.std.specs.Prelude.{◌≡◌, ◌≤◌, length};
+ghost use Rattle.catalogue.specs.Views.{ranked_view, AreRising, AreRead, AreKnown, most_candidates};
 
 use crate::candidate::Candidate;
 use semver::Version;
@@ -14,5 +14,6 @@ pub(crate) struct Candidates {
     ghost beside: { length versions.items ≡ length records.items },
     ghost rising: { AreRising (ranked_view versions.items records.items) },
     ghost read: { AreRead versions.items },
-    ghost few: { length records.items < 2 ^ 32 },
+    ghost few: { length records.items ≤ most_candidates },
+    ghost known: { AreKnown (ranked_view versions.items records.items) },
 }

@@ -1,6 +1,6 @@
 //! Which records of a name are candidates, and where each stands in the order of preference.
 
-ghost use Rattle.std.specs.Prelude.{◌≡◌, ◌<◌, ◌^◌, ◌||◌, not, length, option_map, filter, IfOk};
+ghost use Rattle.std.specs.Prelude.{◌≡◌, ◌≤◌, ◌||◌, not, length, option_map, filter, IfOk};
 ghost use Rattle.std.specs.List.{AllPairs};
 ghost use Rattle.semver.specs.Identifiers.{parts_of};
 ghost use Rattle.classes.specs.RustVersions.{rust_version_view};
@@ -8,6 +8,7 @@ ghost use Rattle.model.specs.Candidates.{IsApart, IsOlder, is_locked, may_be_loc
 ghost use Rattle.catalogue.specs.Loads.{packages_of, records_view, with_ranks, ranked_among};
 ghost use Rattle.catalogue.specs.Ranks.{rank_by, fits_given};
 ghost use Rattle.catalogue.specs.Stores.{candidates_view};
+ghost use Rattle.catalogue.specs.Views.{KnowFeatures, most_candidates};
 
 use crate::candidate::{Candidate, Rank};
 use crate::candidates::Candidates;
@@ -36,7 +37,8 @@ pub(crate) fn candidates_of(
     run: &Run<'_>,
 ) -> Result<Candidates, AllocError>
     requires apart { AllPairs IsApart (records_view records.items) }
-    requires few { length records.items < 2 ^ 32 }
+    requires known { KnowFeatures (records_view records.items) }
+    requires few { length records.items ≤ most_candidates }
     ensures { IfOk result (λ c. candidates_view c ≡ ranked_among (is_locked (packages_of run.now.old) run.now.source.now name.now) (option_map rust_version_view run.now.rust_version) (records_view records.items)) }
 {
     records.sort_by(|a, b| a.version.cmp_precedence(&b.version))?;
@@ -51,7 +53,8 @@ fn kept(
     run: &Run<'_>,
 ) -> Result<Candidates, AllocError>
     requires rising { AllPairs IsOlder (records_view records.items) }
-    requires few { length records.items < 2 ^ 32 }
+    requires known { KnowFeatures (records_view records.items) }
+    requires few { length records.items ≤ most_candidates }
     ensures { IfOk result (λ c. candidates_view c ≡ with_ranks (is_locked (packages_of run.now.old) run.now.source.now name.now) (option_map rust_version_view run.now.rust_version) (filter (may_be_locked (is_locked (packages_of run.now.old) run.now.source.now name.now)) (records_view records.items))) }
 {
     let mut versions = Vec::new(alloc);

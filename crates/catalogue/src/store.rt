@@ -1,6 +1,6 @@
 //! The store behind a loaded index: for each name that was asked for, its candidates.
 
-ghost use Rattle.std.specs.Prelude.{◌≡◌, ◌<◌, ◌^◌, ◌++◌, [], map, length, option_map, option_and_then, unwrap_or, slice_get, Bool, false, Option, Some, IfOk, OnOk};
+ghost use Rattle.std.specs.Prelude.{◌≡◌, ◌≤◌, ◌++◌, [], map, length, option_map, option_and_then, unwrap_or, slice_get, Bool, false, Option, Some, IfOk, OnOk};
 ghost use Rattle.std.specs.List.{All, AllPairs};
 ghost use Rattle.std.specs.List.Sorted.{IsPermutation};
 ghost use Rattle.std.specs.declared.cmp.Ordering.TheVariants.{Less};
@@ -12,7 +12,7 @@ ghost use Rattle.model.specs.Content.{same_version};
 ghost use Rattle.model.specs.Candidates.{RustVersion as Rust, by_preference};
 ghost use Rattle.index_reader.specs.Views.{skip_view};
 ghost use Rattle.catalogue.specs.Ranks.{AreRanked, places_down, places_of, places_by_rank};
-ghost use Rattle.catalogue.specs.Views.{said, said_by, AreRead};
+ghost use Rattle.catalogue.specs.Views.{said, said_by, AreRead, most_candidates};
 ghost use Rattle.catalogue.specs.Stores.{row_at, ranked_at, candidates_at, record_at, candidates_view, IsStore};
 
 use crate::candidate::{Candidate, Rank};
@@ -72,6 +72,7 @@ impl Catalogue {
         ensures versions { map parts_of result.now ≡ map (λ r. r.version) (candidates_at self.now name.now) }
         ensures rising { AllPairs (λ v w. precedence_cmp v w ≡ Less) result.now }
         ensures read { AreRead result.now }
+        ensures few { length result.now ≤ 65535 }
     {
         match self.of(name) {
             Some(candidates) => candidates.versions.as_slice(),
@@ -178,7 +179,7 @@ fn places_by_rank(alloc: Global, candidates: &Candidates) -> Result<Vec<u32>, Al
 
 /// Adds the places of this rank, the newest first.
 fn add_rank(order: &mut Vec<u32>, records: &[Candidate], rank: Rank) -> Result<(), AllocError>
-    requires { length records.now < 2 ^ 32 }
+    requires { length records.now ≤ most_candidates }
     ensures { OnOk result (order.new.items ≡ order.old.items ++ places_of rank (map (λ c. c.rank) records.now)) }
 {
     let mut place = records.len();

@@ -9,7 +9,7 @@ use Rattle.index_reader.specs.Views.{record_view}
 use Rattle.catalogue.specs.Loads.{packages_of, with_ranks}
 use Rattle.catalogue.specs.Runs.{as_record}
 use Rattle.catalogue.specs.Stores.{candidates_view}
-use Rattle.catalogue.proofs.Chosen.{sorted-rise, sorted-chosen, sorted-views}
+use Rattle.catalogue.proofs.Chosen.{moved-known, sorted-rise, sorted-chosen, sorted-views}
 use Rattle.catalogue.proofs.choosing.candidates_of.Goals as goal
 
 pub kept-requires-clause-rising : goal.kept-requires-clause-rising
@@ -17,6 +17,9 @@ kept-requires-clause-rising c =
     let sorted = c.in_ok-sort_by.ensures.sorted (λ x y. is_lt (precedence_cmp x.version y.version)) (ranks_by precedence_total (λ r. r.version)) (answers_always _ _ _ (λ f a r g called. search rules)) in
     let moved = IsPermutation-map (λ r. as_record (record_view r)) _ _ c.sort_by.ensures.permutation in
     sorted-rise _ _ c.requires.apart moved (sorted-views _ sorted)
+
+pub kept-requires-clause-known : goal.kept-requires-clause-known
+kept-requires-clause-known c = moved-known _ _ (IsPermutation-map (λ r. as_record (record_view r)) _ _ c.sort_by.ensures.permutation) c.requires.known
 
 pub returns : goal.returns
 returns c =

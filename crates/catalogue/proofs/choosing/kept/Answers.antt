@@ -5,10 +5,10 @@ use Rattle.classes.specs.RustVersions.{rust_version_view}
 use Rattle.model.specs.Candidates.{is_locked}
 use Rattle.index_reader.specs.Views.{record_view}
 use Rattle.catalogue.specs.Loads.{packages_of}
-use Rattle.catalogue.specs.Ranks.{rank_of}
 use Rattle.catalogue.specs.Runs.{as_record}
-use Rattle.catalogue.specs.Views.{AreRising}
-use Rattle.catalogue.proofs.Chosen.{chosen-yes, chosen-no, chosen-done, chosen-rise, read-snoc, rank-is, none-left}
+use Rattle.catalogue.specs.Ranks.{rank_of}
+use Rattle.catalogue.specs.Views.{AreRising, AreKnown}
+use Rattle.catalogue.proofs.Chosen.{chosen-yes, chosen-no, chosen-done, chosen-known, chosen-rise, read-snoc, rank-is, none-left}
 use Rattle.catalogue.proofs.choosing.kept.Goals as goal
 
 pub records-preserved-in-Continue-branch-2 : goal.records-preserved-in-Continue-branch-2
@@ -71,6 +71,7 @@ invariant_of-result c =
       rising = subst AreRising (sym all) (chosen-rise locked rust c.args.records.items c.requires.rising);
       read = c.records.invariant.read;
       few = omega (arith, few, most);
+      known = subst AreKnown (sym all) (chosen-known locked rust c.args.records.items c.requires.known);
     }
 
 pub returns : goal.returns
