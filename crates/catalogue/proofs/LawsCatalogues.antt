@@ -1,17 +1,22 @@
--- The problem of a run is a catalogue.
-use Rattle.std.proofs.Common.{◌≡◌, ◌≢◌, ℕ, List, [], map, filter}
+-- The problem of a run is a catalogue, and so is that of a loaded index, which is the run's.
+use Rattle.std.proofs.Common.{◌≡◌, ◌≢◌, ℕ, List, [], ◌∷◌, map, filter, Option, refl, ap, ap₂, ◌∙◌}
 use Rattle.std.specs.List.{All, AllPairs}
 use Rattle.std.specs.declared.cmp.Ordering.TheVariants.{Less}
 use Rattle.std.proofs.lemmas.List.Kept.{AllPairs-filter}
 use Rattle.model.specs.Owner.{KnowsFeatures}
-use Rattle.model.specs.Content.{Candidate, Content}
+use Rattle.model.specs.Content.{Candidate, Content, Problem}
 use Rattle.model.specs.Order.{precedence}
-use Rattle.model.specs.Candidates.{Record, IsApart, as_candidate, is_locked, may_be_locked}
+use Rattle.model.specs.Candidates.{Record, RustVersion, IsApart, IsOlder, as_candidate, is_locked, may_be_locked}
 use Rattle.model.specs.WellFormed.{IsCatalogue}
 use Rattle.model.proofs.Candidates.{oldest_first-rises}
-use Rattle.manifest.specs.Manifests.{ManifestView}
-use Rattle.catalogue.specs.Runs.{Asked, records_of, candidates_in, AreNext}
-use Rattle.catalogue.specs.Problems.{problem_of}
+use Rattle.manifest.specs.Manifests.{ManifestView, root_asks}
+use Rattle.catalogue.specs.Runs.{Asked, Calls, records_of, candidates_in, AreNext}
+use Rattle.catalogue.specs.Loads.{IsLoaded, store_of, ranked_in}
+use Rattle.catalogue.specs.Problems.{IsProblemOfRun, candidates_by_name, problem_in, problem_of}
+use Rattle.catalogue.specs.Ranks.{records}
+use Rattle.catalogue.specs.Stores.{CatalogueView, Row, IsStore}
+use Rattle.catalogue.specs.Views.{AreRising, AreKnown}
+use Rattle.catalogue.proofs.Chosen.{Knows, records-ranked}
 use Rattle.catalogue.proofs.LawsCandidates.{in_candidates}
 use Rattle.catalogue.proofs.LawsLists.{all_in, at_in, all_map, pairs_map, pairs_mapped}
 use Rattle.catalogue.proofs.LawsNames.{asked-distinct}
@@ -39,4 +44,42 @@ module _ (old : Content) (source : List ℕ) where
         (pairs_mapped (λ (a : Asked). a.0) (λ x y. x ≢ y) asked (asked-distinct old source manifest.brings.dependencies asked in_turn));
     versions_rise = all_map row_of (λ row. AllPairs (λ c e. precedence c.version e.version ≡ Less) row.1) asked (all_in _ asked (λ a c. rise a));
     features_known = all_map row_of (λ row. All (λ c. KnowsFeatures c.brings.features) row.1) asked (all_in _ asked (λ a c. known a));
+  }
+
+-- ---- a loaded index
+
+abbrev by_name : Row → List ℕ × List Candidate
+by_name row = (row.0, map as_candidate (records row.1))
+
+pub store-catalogue : (manifest : ManifestView) (c : CatalogueView) → IsStore c → IsCatalogue (problem_in manifest c)
+store-catalogue manifest c s = record {
+  names_distinct = pairs_map by_name (λ a b. a.0 ≢ b.0) c.rows s.names_distinct;
+  versions_rise = all_map by_name (λ row. AllPairs (λ c e. precedence c.version e.version ≡ Less) row.1) c.rows
+      (all_in _ c.rows (λ row i. pairs_map as_candidate (λ c e. precedence c.version e.version ≡ Less) (records row.1) (at_in (λ (row : Row). AreRising row.1) c.rows row s.versions_rise i)));
+  features_known = all_map by_name (λ row. All (λ c. KnowsFeatures c.brings.features) row.1) c.rows
+      (all_in _ c.rows (λ row i. all_map as_candidate (λ c. KnowsFeatures c.brings.features) (records row.1) (at_in (λ (row : Row). AreKnown row.1) c.rows row s.features_known i)));
+}
+
+module _ (old : Content) (source : List ℕ) (rust : Option RustVersion) where
+  rows-asked : (asked : List Asked) → map by_name (map (λ (a : Asked). (a.0, ranked_in old source rust a)) asked) ≡ candidates_by_name old source asked
+  rows-asked [] = refl
+  rows-asked (a ∷ later) = ap₂ (λ rs rows. (a.0, map as_candidate rs) ∷ rows) (records-ranked (is_locked old source a.0) rust (candidates_in old source a)) (rows-asked later)
+
+  -- its problem is the run's
+  problem-asked : (manifest : ManifestView) (asked : List Asked) → problem_in manifest (store_of old source rust manifest.brings.dependencies asked) ≡ problem_of manifest old source asked
+  problem-asked manifest asked = ap (λ cs. let q : Problem = record {
+    name = manifest.name;
+    version = manifest.version;
+    brings = manifest.brings;
+    root_asks = root_asks manifest.brings.features;
+    source = source;
+    candidates = cs;
+  } in q) (rows-asked asked)
+
+  pub problem-loaded : {S : Type 0} (calls : Calls S) (before : S) (manifest : ManifestView) (index : CatalogueView) (after : S)
+      → IsLoaded old source rust manifest.brings.dependencies calls before index after → IsProblemOfRun calls before manifest old source (problem_in manifest index) after
+  problem-loaded calls before manifest index after loaded = record {
+    asked = loaded.asked;
+    run = record { chain = loaded.so_far.chain; in_turn = loaded.so_far.in_turn; ended = loaded.ended };
+    is = ap (problem_in manifest) loaded.is ∙ problem-asked manifest loaded.asked;
   }

@@ -4,7 +4,7 @@ use Rattle.std.specs.List.{All}
 use Rattle.model.specs.Content.{Candidate, Content, Problem}
 use Rattle.model.specs.Candidates.{as_candidate}
 use Rattle.manifest.specs.Manifests.{ManifestView, root_asks}
-use Rattle.catalogue.specs.Runs.{Asked, candidates_in, AreNext, next_name}
+use Rattle.catalogue.specs.Runs.{Asked, Calls, IsRun, candidates_in, AreNext, next_name}
 use Rattle.catalogue.specs.Stores.{CatalogueView, rows_by_name}
 
 -- the names that were asked for
@@ -36,6 +36,12 @@ problem_in manifest index = record {
   source = index.source;
   candidates = rows_by_name index;
 }
+
+-- a whole run of the folder for this manifest, with this old lock and this source, gives what a selection is held against
+pub record IsProblemOfRun {S : Type 0} (calls : Calls S) (before : S) (manifest : ManifestView) (old : Content) (source : List ℕ) (q : Problem) (after : S) : Type 0 where
+  pub asked : List Asked
+  pub run : IsRun old source manifest.brings.dependencies calls before asked after
+  pub is : q ≡ problem_of manifest old source asked
 
 -- a run over a fixed index, which has these files by the names of their packages
 pub record IsRunOver (files : List ℕ → Option (List ℕ)) (manifest : ManifestView) (old : Content) (source : List ℕ) (asked : List Asked) : Type 0 where

@@ -1,6 +1,7 @@
 //! The laws of a run: what holds of the selections that its index allows.
 //!
-//! A law is a function that does nothing: its contract is the statement, and its body shows that the statement needs no code.
+//! A law is a function that does nothing: its contract is the statement, and its body shows that the statement needs no code, or only a call whose
+//! contract says it.
 
 ghost use Rattle.std.specs.Prelude.{◌≡◌, ◌≤◌, ℕ, List, [], Option, Some, Contains, length};
 ghost use Rattle.model.specs.Content.{Content, Package};
@@ -11,7 +12,18 @@ ghost use Rattle.manifest.specs.Manifests.{ManifestView};
 ghost use Rattle.index_reader.specs.Folders.{Files, MemoryCalls, file_at};
 ghost use Rattle.index_reader.specs.Paths.{path_of};
 ghost use Rattle.catalogue.specs.Runs.{AreNext, Asked, IsRun, records_of};
-ghost use Rattle.catalogue.specs.Problems.{IsRunOver, names_in, problem_of};
+ghost use Rattle.catalogue.specs.Problems.{IsRunOver, names_in, problem_in, problem_of};
+
+use crate::store::Catalogue;
+use manifest::Manifest;
+
+/// What a selection is held against, for a manifest and a loaded index, is a catalogue: each name once, its versions rising by precedence, and
+/// each feature table knowing its features.
+pub fn catalogues_are_well_formed(manifest: &Manifest, catalogue: &Catalogue)
+    ensures { IsCatalogue (problem_in manifest.now catalogue.now) }
+{
+    let _ = catalogue.names();
+}
 
 /// What a run asks for makes a catalogue: each name once, its versions rising by precedence, and each feature table knowing its features.
 pub fn runs_make_catalogues()

@@ -1,12 +1,13 @@
 //! Loading the index of a run from a folder.
 
-ghost use Rattle.std.specs.Prelude.{◌≡◌, OnOk, Some, map, option_map};
+ghost use Rattle.std.specs.Prelude.{◌≡◌, IfOk, OnOk, Some, map, option_map};
 ghost use Rattle.classes.specs.RustVersions.{rust_version_view};
 ghost use Rattle.index_reader.specs.Views.{skip_view};
 ghost use Rattle.indexmap.specs.IndexSet.{insert_key, insert_all};
 ghost use Rattle.model.specs.Owner.{same_text};
 ghost use Rattle.features.specs.Views.{dependency_views};
 ghost use Rattle.catalogue.specs.Loads.{packages_of, needs_of, Asks, AsksAll, differs, has_changed, Checks, rust_for, Loads};
+ghost use Rattle.catalogue.specs.Problems.{IsProblemOfRun, problem_in};
 ghost use Rattle.catalogue.specs.Stores.{candidates_at, record_at};
 ghost use Rattle.catalogue.specs.Views.{said};
 ghost use Rattle.lockfile.specs.Views.{package_view, package_views};
@@ -43,7 +44,8 @@ pub fn load<F: Folder>(
     source: &Source,
     prefer: Prefer,
 ) -> Result<Catalogue, LoadFault>
-    ensures { Loads (packages_of old.entry) source.now (rust_for prefer manifest.now.rust_version) manifest.now.brings.dependencies F.calls folder.old result folder.new }
+    ensures loads { Loads (packages_of old.entry) source.now (rust_for prefer manifest.now.rust_version) manifest.now.brings.dependencies F.calls folder.old result folder.new }
+    ensures problem { IfOk result (λ c. IsProblemOfRun F.calls folder.old manifest.now (packages_of old.entry) source.now (problem_in manifest.now c) folder.new) }
 {
     let run = Run {
         old,
