@@ -6,7 +6,7 @@ use Rattle.std.proofs.lemmas.List.Kept.{AllPairs-filter}
 use Rattle.model.specs.Owner.{KnowsFeatures}
 use Rattle.model.specs.Content.{Candidate, Content, Problem}
 use Rattle.model.specs.Order.{precedence}
-use Rattle.model.specs.Candidates.{Record, RustVersion, IsApart, IsOlder, as_candidate, is_locked, may_be_locked}
+use Rattle.model.specs.Candidates.{Record, RustVersion, IsApart, as_candidate, is_locked, may_be_locked}
 use Rattle.model.specs.WellFormed.{IsCatalogue}
 use Rattle.model.proofs.Candidates.{oldest_first-rises}
 use Rattle.manifest.specs.Manifests.{ManifestView, root_asks}
@@ -16,7 +16,7 @@ use Rattle.catalogue.specs.Problems.{IsProblemOfRun, candidates_by_name, problem
 use Rattle.catalogue.specs.Ranks.{records}
 use Rattle.catalogue.specs.Stores.{CatalogueView, Row, IsStore}
 use Rattle.catalogue.specs.Views.{AreRising, AreKnown}
-use Rattle.catalogue.proofs.Chosen.{Knows, records-ranked}
+use Rattle.catalogue.proofs.Chosen.{records-ranked}
 use Rattle.catalogue.proofs.LawsCandidates.{in_candidates}
 use Rattle.catalogue.proofs.LawsLists.{all_in, at_in, all_map, pairs_map, pairs_mapped}
 use Rattle.catalogue.proofs.LawsNames.{asked-distinct}
