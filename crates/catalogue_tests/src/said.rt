@@ -10,14 +10,15 @@ use std::alloc::Global;
 use std::collections::BTreeMap;
 use std::test::Fail;
 
-/// What a run is loaded for. A row of the index is `NAME;VERSION;DEPENDENCIES;KEYS`, where the last two are JSON.
+/// What a run is loaded for, and what it says. A row of the index is `NAME;VERSION;DEPENDENCIES;KEYS`, where the last two are JSON.
 #[derive(Clone, Copy)]
 pub(crate) struct Case<'a> {
     pub(crate) manifest: &'a str,
     pub(crate) index: &'a str,
-    /// Empty where there is none.
+    /// The locked version of a, as `VERSION;SOURCE;KEYS`, where the last is TOML; empty where there is no lock.
     pub(crate) lock: &'a str,
     pub(crate) prefer: Prefer,
+    pub(crate) expected: &'a str,
 }
 
 /// The folder of an index.
@@ -52,7 +53,7 @@ fn line(alloc: Global, name: &str, rest: &str) -> Result<String, Fail> {
 }
 
 /// What a run over a folder in memory says.
-pub(crate) fn said(alloc: Global, case: Case<'_>) -> Result<String, Fail> {
+pub(crate) fn said(alloc: Global, case: &Case<'_>) -> Result<String, Fail> {
     let mut folder = folder_of(alloc, case.index)?;
     said_over(alloc, case, &mut folder)
 }
@@ -60,17 +61,24 @@ pub(crate) fn said(alloc: Global, case: Case<'_>) -> Result<String, Fail> {
 /// What a run says over another folder than the case's.
 pub(crate) fn said_over<F: Folder>(
     alloc: Global,
-    case: Case<'_>,
+    case: &Case<'_>,
     folder: &mut F,
 ) -> Result<String, Fail> {
     let manifest = Manifest::read(alloc, case.manifest.as_bytes())?;
-    let lock = lockfile::read(alloc, case.lock.as_bytes())?;
-    let old = if case.lock.is_empty() {
-        None
-    } else {
-        Some(&lock)
+    let lock = lock_of(alloc, case.lock)?;
+    let loaded = loaded(alloc, &manifest, folder, lock.as_ref(), case.prefer)?;
+    text_of(alloc, loaded)
+}
+
+fn lock_of(alloc: Global, text: &str) -> Result<Option<LockContent>, Fail> {
+    let Some((version, rest)) = text.split_once(';') else {
+        return Ok(None);
     };
-    text_of(alloc, loaded(alloc, &manifest, folder, old, case.prefer)?)
+    let (source, keys) = rest.split_once(';').ok_or("no keys")?;
+    let text = format!(in alloc;
+        "[[package]]\nname = \"a\"\nversion = \"{version}\"\nsource = \"{source}\"\n{keys}\n"
+    )?;
+    Ok(Some(lockfile::read(alloc, text.as_bytes())?))
 }
 
 fn loaded<F: Folder>(
