@@ -54,6 +54,7 @@ most_candidates = 65535
 abbrev pub KnowFeatures : List Record → Type 0
 KnowFeatures rs = All (λ r. KnowsFeatures (r.brings).features) rs
 
+-- the same of candidates with their ranks
 abbrev pub AreKnown : List Ranked → Type 0
 AreKnown cs = KnowFeatures (records cs)
 

@@ -18,6 +18,11 @@ pub enum Limit {
 }
 
 impl fmt::Display for Limit {
+    ghost use Rattle.std.specs.Prelude.{Some};
+    ghost use Rattle.catalogue.specs.Faults.{limit_text};
+
+    ghost output = { λ limit. Some (limit_text limit) };
+
     fn fmt<W: fmt::Write>(&self, f: &mut fmt::Formatter<W>) -> fmt::Result {
         match self {
             Limit::Names => f.write_str("names"),
