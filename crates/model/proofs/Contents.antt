@@ -15,6 +15,7 @@ use Rattle.model.specs.Content.{Package, Content, Candidate, Problem, candidates
 use Rattle.model.specs.Order.{text_cmp, precedence, version_cmp, source_cmp, package_cmp}
 use Rattle.model.specs.WellFormed.{IsContent, IsCatalogue}
 use Rattle.std.proofs.lemmas.List.Elements.{All-contains}
+use Rattle.model.proofs.Candidates.{precedence_total}
 use Rattle.model.proofs.Lists.{in_none, in_cons, all_get, all_first, all_rest, pairs_get, pairs_first, pairs_rest}
 
 -- a comparison of a thing with itself
@@ -110,7 +111,28 @@ rising_once (x ∷ cs) c e h i j same = elim (in_cons x c cs i) [
     apart c e a j same = less-equal (precedence x.version e.version) (pairs_first (λ c e. precedence c.version e.version ≡ Less) x e cs h j)
         (precedence-equal x.version e.version (ap (λ (x : Candidate). x.version) (sym a) ∙ same))
 
+-- of versions that rise no two tie
+rising_tied : (cs : List Candidate) (c e : Candidate) → AllPairs (λ c e. precedence c.version e.version ≡ Less) cs → Contains cs c → Contains cs e → precedence c.version e.version ≡ Equal → c ≡ e
+rising_tied [] c e h i j tie = absurd (in_none c i)
+rising_tied (x ∷ cs) c e h i j tie = elim (in_cons x c cs i) [
+  | inl a ↦ elim (in_cons x e cs j) [ inl b ↦ sym a ∙ b | inr j ↦ absurd (less-equal (precedence x.version e.version) (first e j) (subst (λ (y : Candidate). precedence y.version e.version ≡ Equal) (sym a) tie)) ]
+  | inr i ↦ elim (in_cons x e cs j) [
+    | inl b ↦ absurd (less-equal (precedence x.version c.version) (first c i)
+        (precedence_total.antisymm x.version c.version ∙ ap ordering_reverse (subst (λ (y : Candidate). precedence c.version y.version ≡ Equal) (sym b) tie)))
+    | inr j ↦ rising_tied cs c e (pairs_rest (λ c e. precedence c.version e.version ≡ Less) x cs h) i j tie
+  ]
+]
+  where
+    first : (y : Candidate) → Contains cs y → precedence x.version y.version ≡ Less
+    first y c = pairs_first (λ c e. precedence c.version e.version ≡ Less) x y cs h c
+
 module _ (q : Problem) (catalogue : IsCatalogue q) where
+  -- of the candidates of a name no two tie
+  pub each_version_tied : (name : List ℕ) (c e : Candidate) → Contains (candidates_of q.candidates name) c → Contains (candidates_of q.candidates name) e
+      → precedence c.version e.version ≡ Equal → c ≡ e
+  each_version_tied name c e i j tie = rising_tied (candidates_of q.candidates name) c e
+      (of_name (λ cs. AllPairs (λ c e. precedence c.version e.version ≡ Less) cs) (λ i j d lt within. absurd (omega arith)) q.candidates name catalogue.versions_rise) i j tie
+
   -- of the candidates of a name each version is there once
   pub each_version_once : (name : List ℕ) (c e : Candidate) → Contains (candidates_of q.candidates name) c → Contains (candidates_of q.candidates name) e
       → c.version ≡ e.version → c ≡ e

@@ -17,4 +17,7 @@ pub mod One
 pub mod Kept
 pub mod Vertices
 pub mod Candidates
+pub mod PackageOrder
+pub mod Ordered
+pub mod Gathered
 pub mod Verdicts

@@ -15,3 +15,4 @@ pub mod Axioms
 pub mod Derivation
 pub mod Assignment
 pub mod Search
+pub mod ContentOf

@@ -3,7 +3,7 @@
 //! A law is a function that does nothing: its contract is the statement, and its body shows that the statement needs no code.
 #![tactic(auto)]
 
-ghost use Rattle.std.specs.Prelude.{◌≡◌, ◌↔◌, ◌⊎◌, Bool, true, false, ℕ, List, Option, Ok};
+ghost use Rattle.std.specs.Prelude.{◌≡◌, ◌≢◌, ◌↔◌, ◌⊎◌, Bool, true, false, ℕ, List, Option, Ok};
 ghost use Rattle.std.specs.List.{All, AllPairs};
 ghost use Rattle.std.specs.List.Sorted.{IsPermutation};
 ghost use Rattle.std.specs.Ordering.{is_gt};
@@ -19,8 +19,10 @@ ghost use Rattle.model.specs.WellFormed.{IsCatalogue, IsContent};
 ghost use Rattle.model.specs.Selection.{Class, IsOther, IsValidSelection};
 ghost use Rattle.model.specs.Verdict.{IsVerdict, Verdict, valid};
 ghost use Rattle.model.specs.Vertices.{OwnerName, State, Vertex, dep, has_state, in_class, owner_brings, pkg, space, version};
-ghost use Rattle.model.specs.Axioms.{AreApart, IsInstance, IsVertex, Kind, Term, is_lower, without_full};
+ghost use Rattle.model.specs.Axioms.{AreApart, IsInstance, IsOwner, IsVertex, Kind, Term, is_lower, without_full};
 ghost use Rattle.model.specs.Stands.{StandsFor};
+ghost use Rattle.model.specs.Walk.{IsWalk, Picks};
+ghost use Rattle.model.specs.ContentOf.{AreKept, Kept, content_of, in_package_order, kept_cmp};
 ghost use Rattle.model.specs.Search.{IsPresent, IsReachedFact, IsUnbroken, LeadsTo, Says};
 ghost use Rattle.model.specs.Assignment.{Assigns, Breaks};
 ghost use Rattle.model.specs.Derivation.{IsAccepted, IsCombined, Step};
@@ -148,4 +150,22 @@ pub fn newest_is_chosen()
 /// The content of what the root reaches in an assignment that breaks no instance is a valid selection.
 pub fn unbroken_assignments_select()
     ensures { (q : Problem) (state : Vertex → State) (c : Content) → IsCatalogue q → IsUnbroken q state → StandsFor q (LeadsTo q state) c → IsValidSelection q c }
+{}
+
+/// Owners that are each there once, in an order in which none is to come before an earlier one, stand in package order.
+pub fn package_order_is_unique()
+    ensures { (q : Problem) (kept sorted : List Kept) → IsCatalogue q → All (λ k. IsOwner q k.owner) kept → AllPairs (λ a b. a.owner ≢ b.owner) kept
+        → IsPermutation kept sorted → AllPairs (λ a b. is_gt (kept_cmp q a b) ≡ false) sorted → sorted ≡ in_package_order q kept }
+{}
+
+/// The content of the owners that the root reaches by the picks of dependencies is the preferred walk.
+pub fn gathered_picks_walk()
+    ensures { (q : Problem) (preferred : List (List ℕ × List Candidate)) (kept : List Kept) → IsCatalogue q → AreKept q (Picks q preferred) kept
+        → IsWalk q preferred (content_of q kept) }
+{}
+
+/// The content of the owners that the root reaches in an assignment that breaks no instance is a valid selection.
+pub fn gathered_contents_select()
+    ensures { (q : Problem) (state : Vertex → State) (kept : List Kept) → IsCatalogue q → IsUnbroken q state → AreKept q (LeadsTo q state) kept
+        → IsValidSelection q (content_of q kept) }
 {}
