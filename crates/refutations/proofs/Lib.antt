@@ -1,0 +1,2 @@
+pub mod Bools
+pub mod Sets
