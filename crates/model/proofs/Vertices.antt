@@ -16,7 +16,7 @@ use Rattle.model.proofs.Contents.{feature_known}
 use Rattle.model.proofs.Owners.{candidate_at-is, candidate_at-there}
 
 -- a class of some candidates is that of one
-class_from : (cs : List Candidate) (k : Class) → Contains (classes_of cs) k → (c : Candidate) × Contains cs c × (class_of c.version ≡ k)
+pub class_from : (cs : List Candidate) (k : Class) → Contains (classes_of cs) k → (c : Candidate) × Contains cs c × (class_of c.version ≡ k)
 class_from [] k i = absurd (in_none k i)
 class_from (e ∷ cs) k i = by (list_any (same_class (class_of e.version)) (classes_of cs)) i (λ i. class_from cs k i)
   where

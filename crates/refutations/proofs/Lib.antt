@@ -1,2 +1,7 @@
 pub mod Bools
 pub mod Sets
+pub mod Named
+pub mod CauseLaws
+pub mod Reading
+pub mod Found
+pub mod Accepting

@@ -1,1 +1,4 @@
 pub mod Terms
+pub mod Causes
+pub mod Instances
+pub mod Checks

@@ -4,12 +4,17 @@
 //! A law is a function that does nothing: its contract is the statement, and its body shows that the statement needs no code.
 #![tactic(auto)]
 
-ghost use Rattle.std.specs.Prelude.{◌≡◌, ◌↔◌, true, List};
-ghost use Rattle.model.specs.Content.{Problem};
+ghost use Rattle.std.specs.Prelude.{◌≡◌, ◌↔◌, true, List, None};
+ghost use Rattle.model.specs.Content.{Content, Problem};
+ghost use Rattle.model.specs.Selection.{IsValidSelection};
+ghost use Rattle.model.specs.WellFormed.{IsCatalogue};
 ghost use Rattle.model.specs.Vertices.{Vertex};
-ghost use Rattle.model.specs.Axioms.{Term};
-ghost use Rattle.model.specs.Derivation.{IsCombined, SameTerms, combined_at, states_at};
+ghost use Rattle.model.specs.Axioms.{AreApart, IsInstance, Kind, Term, without_full};
+ghost use Rattle.model.specs.Derivation.{IsAccepted, IsCombined, SameTerms, Step, combined_at, states_at};
 ghost use Rattle.refutations.specs.Terms.{combination, is_combination, same_terms};
+ghost use Rattle.refutations.specs.Causes.{Cause, is_cause, kind_of, terms_of_cause};
+ghost use Rattle.refutations.specs.Instances.{is_instance};
+ghost use Rattle.refutations.specs.Checks.{ArePlain, refusal};
 
 /// Two lists of terms pass the comparison exactly where they say the same of every vertex.
 pub fn comparisons_decide()
@@ -24,4 +29,30 @@ pub fn combinations_say()
 /// Terms are the combination of two lists exactly where they pass the comparison with it.
 pub fn combinations_decide()
     ensures { (q : Problem) (v : Vertex) (a b ts : List Term) → is_combination q v a b ts ≡ true ↔ IsCombined q v a b ts }
+{}
+
+/// A cause that is there gives rise to an instance of its kind.
+pub fn causes_give_instances()
+    ensures { (q : Problem) (c : Cause) → is_cause q c ≡ true → IsInstance q (kind_of c) (terms_of_cause q c) }
+{}
+
+/// Each instance has a cause.
+pub fn instances_have_causes()
+    ensures { (q : Problem) (k : Kind) (ts : List Term) → IsInstance q k ts → (c : Cause) × (is_cause q c ≡ true) × (kind_of c ≡ k) × (terms_of_cause q c ≡ ts) }
+{}
+
+/// Terms of which no two speak of one vertex pass the test of a kind exactly where they are those of an instance of it, without full ones.
+pub fn instances_decide()
+    ensures { (q : Problem) (k : Kind) (ts : List Term) → AreApart ts
+        → is_instance q k ts ≡ true ↔ ((us : List Term) × IsInstance q k us × SameTerms ts (without_full q us)) }
+{}
+
+/// Nothing is refused of a derivation exactly where it is accepted.
+pub fn refusals_decide()
+    ensures { (q : Problem) (steps : List Step) → ArePlain steps → refusal q steps ≡ None ↔ IsAccepted q steps }
+{}
+
+/// Where nothing is refused of a derivation no content at all is a valid selection.
+pub fn unrefused_derivations_refute()
+    ensures { (q : Problem) (c : Content) (steps : List Step) → IsCatalogue q → ArePlain steps → refusal q steps ≡ None → IsValidSelection q c → ⊥ }
 {}
