@@ -5,3 +5,4 @@ pub mod CauseLaws
 pub mod Reading
 pub mod Found
 pub mod Accepting
+pub mod Examples
