@@ -2,3 +2,4 @@
 pub mod Pieces
 pub mod Kinds
 pub mod Thirteen
+pub mod Listed

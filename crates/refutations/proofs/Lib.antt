@@ -5,4 +5,6 @@ pub mod CauseLaws
 pub mod Reading
 pub mod Found
 pub mod Accepting
+pub mod Listing
+pub mod InOrder
 pub mod Examples

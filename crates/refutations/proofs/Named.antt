@@ -128,7 +128,7 @@ module _ (q : Problem) where
       ((r.0).0, s.0, entry-is name v (r.0).0 s.0 s.1, s.2)
 
   -- a feature with entries has a row
-  row_of : (table : Table) (f : List ℕ) (es : List Entry) → entries_at f table ≡ Some es → (row : List ℕ × List Entry) × Contains table row × (f ≡ row.0)
+  pub row_of : (table : Table) (f : List ℕ) (es : List Entry) → entries_at f table ≡ Some es → (row : List ℕ × List Entry) × Contains table row × (f ≡ row.0)
   row_of [] f es e = absurd (none-some es e)
   row_of (row ∷ rows) f es e = by (λ e. row_of rows f es e) (same_text f row.0) refl e
     where

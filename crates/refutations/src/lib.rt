@@ -4,21 +4,31 @@
 //! A law is a function that does nothing: its contract is the statement, and its body shows that the statement needs no code.
 #![tactic(auto)]
 
-ghost use Rattle.std.specs.Prelude.{◌≡◌, ◌↔◌, true, List, None};
+ghost use Rattle.std.specs.Prelude.{◌≡◌, ◌↔◌, true, Contains, List, None};
+ghost use Rattle.std.specs.Ordering.{ordering_reverse};
+ghost use Rattle.std.specs.declared.cmp.Ordering.{Ordering};
 ghost use Rattle.model.specs.Content.{Content, Problem};
 ghost use Rattle.model.specs.Selection.{IsValidSelection};
 ghost use Rattle.model.specs.WellFormed.{IsCatalogue};
-ghost use Rattle.model.specs.Vertices.{Vertex};
+ghost use Rattle.model.specs.Vertices.{State, Vertex};
 ghost use Rattle.model.specs.Axioms.{AreApart, IsInstance, Kind, Term, without_full};
 ghost use Rattle.model.specs.Derivation.{IsAccepted, IsCombined, SameTerms, Step, combined_at, states_at};
-ghost use Rattle.refutations.specs.Terms.{combination, is_combination, same_terms};
+ghost use Rattle.refutations.specs.Terms.{IsInOrder, combination, is_combination, same_terms};
 ghost use Rattle.refutations.specs.Causes.{Cause, is_cause, kind_of, terms_of_cause};
 ghost use Rattle.refutations.specs.Instances.{is_instance};
 ghost use Rattle.refutations.specs.Checks.{ArePlain, refusal};
+ghost use Rattle.refutations.specs.Listed.{causes};
 
 /// Two lists of terms pass the comparison exactly where they say the same of every vertex.
 pub fn comparisons_decide()
     ensures { (a b : List Term) → same_terms a b ≡ true ↔ SameTerms a b }
+{}
+
+/// Terms in an order, each with its states in an order, are one list where they say the same.
+pub fn ordered_terms_are_one()
+    ensures { (by_vertex : Vertex → Vertex → Ordering) (by_state : State → State → Ordering)
+        → ((v w : Vertex) → by_vertex v w ≡ ordering_reverse (by_vertex w v)) → ((s r : State) → by_state s r ≡ ordering_reverse (by_state r s))
+        → (a b : List Term) → IsInOrder by_vertex by_state a → IsInOrder by_vertex by_state b → SameTerms a b → a ≡ b }
 {}
 
 /// Of every vertex the combination of two lists says what is defined: the union at the one vertex, the intersection at each other.
@@ -39,6 +49,11 @@ pub fn causes_give_instances()
 /// Each instance has a cause.
 pub fn instances_have_causes()
     ensures { (q : Problem) (k : Kind) (ts : List Term) → IsInstance q k ts → (c : Cause) × (is_cause q c ≡ true) × (kind_of c ≡ k) × (terms_of_cause q c ≡ ts) }
+{}
+
+/// A cause is listed exactly where it is there.
+pub fn causes_are_listed()
+    ensures { (q : Problem) (c : Cause) → Contains (causes q) c ↔ (is_cause q c ≡ true) }
 {}
 
 /// Terms of which no two speak of one vertex pass the test of a kind exactly where they are those of an instance of it, without full ones.

@@ -1,13 +1,12 @@
 -- Each kind of axiom once, with its exact terms, and terms that just miss it.
-use Rattle.std.proofs.Common.{◌≡◌, ℕ, List, [], ◌∷◌, Bool, true, false, refl}
+use Rattle.std.proofs.Common.{◌≡◌, ℕ, List, [], ◌∷◌, true, false, refl}
 use Rattle.std.specs.Prelude.{codes}
-use Rattle.semver.specs.Parse.{Parts}
-use Rattle.model.specs.Owner.{Dependency, Entry, feature, dependency, dependency_feature, weak_feature, Table}
+use Rattle.model.specs.Owner.{Dependency, feature, dependency, dependency_feature, weak_feature, Table}
 use Rattle.model.specs.Content.{Problem}
 use Rattle.model.specs.Selection.{major}
 use Rattle.model.specs.Vertices.{OwnerName, the_root, version_of, Vertex, root, pkg, dep, feat, ask, absent, present, version}
-use Rattle.model.specs.Axioms.{Term, at, X0, X1, X2, X3, X4, X5, X6, X7, X8, X9, without_full}
-use Rattle.refutations.specs.Causes.{of_root, of_need, of_target, of_feature, of_list, of_ask, of_entry, of_enabling, of_asking, of_newest, of_weak, is_cause, terms_of_cause}
+use Rattle.model.specs.Axioms.{Term, at, X0, X1, X2, X3, X4, X5, X6, X7, X8, X9}
+use Rattle.refutations.specs.Causes.{of_root, of_need, of_target, of_feature, of_list, of_ask, of_entry, of_enabling, of_asking, of_newest, of_weak, is_cause}
 use Rattle.refutations.specs.Instances.{is_instance}
 use Rattle.refutations.proofs.Examples.Pieces.{plain, exactly, within, from, on, candidate, demo, no_features, class_1, class_2, one, Gives}
 

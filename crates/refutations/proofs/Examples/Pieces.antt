@@ -1,12 +1,12 @@
 -- What the examples are made of.
-use Rattle.std.proofs.Common.{◌≡◌, ℕ, List, [], ◌∷◌, Bool, true, false, Option, Some, None}
+use Rattle.std.proofs.Common.{◌≡◌, ℕ, List, [], ◌∷◌, true, false, Some, None}
 use Rattle.std.specs.Prelude.{codes}
 use Rattle.semver.specs.Parse.{Held, Parts}
 use Rattle.semver.specs.declared.Op.TheVariants as op
 use Rattle.model.specs.Owner.{Dependency, Table}
 use Rattle.model.specs.Content.{Problem, Candidate}
-use Rattle.model.specs.Selection.{Class, major}
-use Rattle.model.specs.Vertices.{OwnerName, Vertex, State, absent, present, version, in_class, pkg, dep, feat, ask, root}
+use Rattle.model.specs.Selection.{major}
+use Rattle.model.specs.Vertices.{Vertex, State, in_class}
 use Rattle.model.specs.Axioms.{Term, at, Kind, without_full}
 use Rattle.refutations.specs.Causes.{Cause, is_cause, kind_of, terms_of_cause}
 use Rattle.refutations.specs.Instances.{is_instance}

@@ -1,7 +1,6 @@
 -- A refusal in thirteen steps: the root needs a 1.0.0, and every b needs a 1.1.0.
-use Rattle.std.proofs.Common.{◌≡◌, ℕ, List, [], ◌∷◌, ◌++◌, Option, Some, None, refl}
+use Rattle.std.proofs.Common.{◌≡◌, ℕ, List, [], ◌∷◌, ◌++◌, Some, None, refl}
 use Rattle.std.specs.Prelude.{codes}
-use Rattle.semver.specs.Parse.{Parts}
 use Rattle.model.specs.Content.{Problem}
 use Rattle.model.specs.Selection.{major}
 use Rattle.model.specs.Vertices.{the_root, version_of, Vertex, root, pkg, dep, absent, present, version}
