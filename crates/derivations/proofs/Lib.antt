@@ -8,3 +8,4 @@ pub mod ReadLaws
 pub mod PlainTexts
 pub mod JsonLaws
 pub mod WriteLaws
+pub mod TableLaws

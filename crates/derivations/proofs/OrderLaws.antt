@@ -1,7 +1,7 @@
 -- The written orders of states and terms are total.
-use Rattle.std.proofs.Common.{◌≡◌, ℕ, List, [], Bool, refl, sym, ap, ◌∙◌, Ordering, Less, Equal, Greater}
+use Rattle.std.proofs.Common.{◌≡◌, [], refl, ap, ◌∙◌, Ordering, Less, Equal, Greater}
 use Rattle.std.specs.Cmp.{IsTotalOrder}
-use Rattle.std.specs.Ordering.{nat_cmp, ordering_then, ordering_reverse}
+use Rattle.std.specs.Ordering.{nat_cmp, ordering_then}
 use Rattle.std.proofs.lemmas.Cmp.{nat_cmp_total, nat_list_cmp_total, on_total, then_total, tied_itself}
 use Rattle.semver.specs.Identifiers.{parts_text}
 use Rattle.semver.specs.OrderLaws.{pre_total}

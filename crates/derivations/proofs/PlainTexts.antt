@@ -1,5 +1,5 @@
 -- The texts of vertices, states and kinds are of plain bytes: JSON escapes none of them, and none ends a line.
-use Rattle.std.proofs.Common.{◌≡◌, ℕ, suc, ◌+◌, ◌%◌, ◌^◌, ◌<◌, ◌≤◌, Bool, true, false, cond, ◌&&◌, ◌||◌, not, ◌==◌, nat_le, nat_lt, List, [], ◌∷◌, ◌++◌, length, slice_index, Option, Some, None, Ok, Err, codes, refl, sym, subst, arith}
+use Rattle.std.proofs.Common.{◌≡◌, ℕ, ◌+◌, ◌%◌, ◌^◌, ◌<◌, ◌≤◌, Bool, true, false, cond, ◌&&◌, not, ◌==◌, nat_le, nat_lt, List, [], ◌∷◌, ◌++◌, Option, Some, None, Ok, Err, codes, refl, sym, subst, arith}
 use Rattle.std.specs.Char.{is_ascii_digit}
 use Rattle.std.specs.Fmt.{decimal}
 use Rattle.std.specs.List.{list_all}
@@ -23,7 +23,7 @@ use Rattle.classes.specs.RustVersions.{is_plain_number, number_of}
 use Rattle.derivations.specs.Kinds.{kind_text}
 use Rattle.derivations.specs.Texts.{needed, parted, package_name_of, feature_name_of, version_of_text, above_zero, lesser_class, class_or, class_of_text, index_of, named_version_of_text, owner_of_text, package_of_text, dependency_of_text, feature_of_text, ask_of_text, kinded_vertex, vertex_of_text, present_of_text, value_of_text, state_of_text}
 use Rattle.derivations.specs.declared.fault.LineFault.TheVariants.{NotALine}
-use Rattle.derivations.proofs.Bound.{Steps, steps, some, chosen}
+use Rattle.derivations.proofs.Bound.{steps, some, chosen}
 use Rattle.derivations.proofs.TextLaws.{front-joins, parted-joins, version-or}
 
 -- a printable ASCII byte other than `"` and `\`

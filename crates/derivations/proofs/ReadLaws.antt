@@ -1,5 +1,5 @@
 -- What is read keeps what each derivation keeps.
-use Rattle.std.proofs.Common.{◌≡◌, ℕ, suc, ◌+◌, ◌<◌, List, [], ◌∷◌, ◌++◌, map, length, Bool, true, false, cond, ◌&&◌, nat_lt, Option, Some, None, Result, Ok, Err, option_and_then, refl, sym, ap, ap₂, ◌∙◌, subst, arith, Ordering, Less, codes}
+use Rattle.std.proofs.Common.{◌≡◌, ℕ, ◌+◌, List, [], ◌∷◌, ◌++◌, map, length, Bool, true, false, cond, ◌&&◌, nat_lt, Option, Some, None, Ok, Err, option_and_then, refl, sym, ap, ap₂, ◌∙◌, subst, arith, Ordering, Less, codes}
 use Rattle.std.specs.Cmp.{IsTotalOrder}
 use Rattle.std.specs.List.{AllByRecursion}
 use Rattle.std.specs.List.Sorted.{IsStrictlySortedBy}
@@ -8,19 +8,18 @@ use Rattle.std.proofs.lemmas.Bool.{ltb-true}
 use Rattle.serde_json.specs.Data.{Data, Items, no_items, item}
 use Rattle.serde_json.specs.Find as json
 use Rattle.model.specs.Order.{text_cmp}
-use Rattle.model.specs.Outcome.{◌>>=◌, guard}
+use Rattle.model.specs.Outcome.{guard}
 use Rattle.model.specs.Vertices.{Vertex, State}
-use Rattle.model.specs.Axioms.{Kind, Term, at}
-use Rattle.model.specs.Derivation.{Step, given, combine, terms_of as terms_in_step}
-use Rattle.derivations.specs.Derivations.{IsReadVertex, IsReadState, IsTerm, term_cmp, AreTerms, RefersBack, IsStepAt, AreStepsFrom, IsDerivation}
-use Rattle.derivations.specs.Files.{is_blank, fault_at, with_read, with_line, with_lines, derivation_of_bytes}
+use Rattle.model.specs.Axioms.{Term}
+use Rattle.model.specs.Derivation.{Step}
+use Rattle.derivations.specs.Derivations.{IsReadVertex, IsReadState, IsTerm, term_cmp, AreTerms, IsStepAt, AreStepsFrom, IsDerivation}
+use Rattle.derivations.specs.Files.{is_blank, with_read, with_line, with_lines}
 use Rattle.derivations.specs.Kinds.{kind_of_text}
 use Rattle.derivations.specs.Orders.{in_order, has_alike, ordered, state_cmp}
 use Rattle.derivations.specs.Steps.{data_of_bytes, text_of, whole_of, item_at, none_at, two_of, states_in, states_of, Written, written_cmp, term_of, terms_in, terms_without_texts, terms_of, Reason, by_axiom, by_combination, axiom_of, combination_of, reason_from, reason_of, is_backward, most_steps, step_by, step_of, step_of_line}
-use Rattle.derivations.specs.Texts.{Line, needed, vertex_text, vertex_of_text, state_text, state_of_text}
-use Rattle.derivations.specs.declared.fault.DerivationFault.{DerivationFault}
+use Rattle.derivations.specs.Texts.{Line, needed, vertex_text, vertex_of_text, state_of_text}
 use Rattle.derivations.specs.declared.fault.LineFault.TheVariants.{NotALine, Forward, TooMany}
-use Rattle.derivations.proofs.Bound.{Steps, steps, same-Ok, passed}
+use Rattle.derivations.proofs.Bound.{steps, same-Ok, passed}
 use Rattle.derivations.proofs.OrderLaws.{state_total, written_total}
 use Rattle.derivations.proofs.Sorting.{each-in_order, sorted-in_order, distinct-from_none}
 use Rattle.derivations.proofs.TextLaws.{vertex-reads, state-reads}

@@ -1,7 +1,6 @@
 -- A text that is read is the text of what it is read as.
-use Rattle.std.proofs.Common.{◌≡◌, ℕ, zero, suc, ◌+◌, ◌<◌, ◌≤◌, ◌^◌, List, [], ◌∷◌, ◌++◌, length, take, drop, get_or, slice_index, Bool, true, false, not, cond, ◌&&◌, ◌||◌, ◌==◌, Option, Some, None, Result, Ok, Err, nat_eq, nat_lt, nat_le, decimal, codes, refl, sym, ap, ap₂, ◌∙◌, arith, append_assoc, subst, true≢false}
+use Rattle.std.proofs.Common.{◌≡◌, ℕ, suc, ◌+◌, ◌<◌, ◌^◌, List, [], ◌∷◌, ◌++◌, length, take, drop, get_or, slice_index, Bool, true, false, not, cond, ◌&&◌, ◌||◌, ◌==◌, Option, Some, None, Result, Ok, Err, nat_eq, nat_lt, nat_le, decimal, codes, refl, sym, ap, ap₂, ◌∙◌, arith, append_assoc, subst, true≢false}
 use Rattle.std.specs.Char.{is_ascii_digit}
-use Rattle.std.specs.Cmp.Lexicographic.{pointwise}
 use Rattle.std.specs.List.{list_all, list_any, position_or_len, before_first, after_first, starts_with}
 use Rattle.std.specs.Str.{all_ascii_digits}
 use Rattle.std.specs.Str.Parse.{digits_value}
@@ -25,7 +24,7 @@ use Rattle.classes.specs.Classes.{class_text}
 use Rattle.classes.specs.RustVersions.{is_plain_number, number_of}
 use Rattle.derivations.specs.Texts.{needed, parted, package_name_of, feature_name_of, version_or, version_of_text, above_zero, lesser_class, class_or, class_of_text, index_of, named_version_of_text, owner_text, owner_of_text, vertex_text, package_of_text, dependency_of_text, feature_of_text, ask_of_text, kinded_vertex, vertex_of_text, state_text, present_of_text, value_of_text, state_of_text}
 use Rattle.derivations.specs.declared.fault.LineFault.TheVariants.{NotALine}
-use Rattle.derivations.proofs.Bound.{Steps, steps, same-Ok, same-Some, some, chosen}
+use Rattle.derivations.proofs.Bound.{steps, same-Ok, same-Some, some, chosen}
 
 -- ---- parts of texts
 

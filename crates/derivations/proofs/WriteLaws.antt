@@ -1,37 +1,35 @@
 -- What is written reads as the derivation that was written.
-use Rattle.std.proofs.Common.{◌≡◌, ℕ, suc, ◌+◌, ◌<◌, ◌≤◌, ◌^◌, max, map, length, List, [], ◌∷◌, ◌++◌, Bool, true, false, cond, ◌&&◌, ◌||◌, ◌==◌, nat_le, nat_lt, Option, Some, None, Ok, Err, codes, decimal, refl, sym, ap, ap₂, ◌∙◌, subst, arith, append_assoc, append-nil, IsUtf8, All, length-append, Ordering, Less}
+use Rattle.std.proofs.Common.{◌≡◌, ℕ, ◌+◌, ◌<◌, ◌≤◌, ◌^◌, map, length, List, [], ◌∷◌, ◌++◌, Bool, true, false, ◌&&◌, nat_le, nat_lt, Some, Ok, codes, decimal, refl, sym, ap, ap₂, ◌∙◌, subst, arith, append_assoc, append-nil, IsUtf8, length-append, Ordering, Less}
 use Rattle.std.specs.Cmp.{IsTotalOrder}
-use Rattle.std.specs.List.{AllByRecursion, list_all, flat_map, slice_split}
+use Rattle.std.specs.List.{AllByRecursion, list_all, slice_split}
 use Rattle.std.specs.List.Sorted.{IsStrictlySortedBy}
-use Rattle.std.specs.Str.{is_utf8}
 use Rattle.std.proofs.lemmas.Bool.{lt-ltb}
 use Rattle.std.proofs.lemmas.Bool.Decides.{nat_tests}
 use Rattle.std.proofs.lemmas.List.Elements.{All-from_recursion}
 use Rattle.std.proofs.lemmas.List.Sorted.{IsPermutation-refl}
 use Rattle.std.proofs.lemmas.List.Splits.{slice_split_at}
-use Rattle.std.proofs.lemmas.Str.{is_utf8-from_IsUtf8}
 use Rattle.json.specs.Print as printed
 use Rattle.json.proofs.Printed.Strings.{escape_byte_plain}
 use Rattle.json.proofs.Printed.Utf8.{are_ascii, IsUtf8-are_ascii}
-use Rattle.serde_json.specs.Data.{Data, number, string, array, object, unsigned, Items, no_items, item, Members, no_members, member, depth, items_depth}
+use Rattle.serde_json.specs.Data.{Data, number, string, array, object, unsigned, Items, no_items, item, no_members, member, items_depth}
 use Rattle.serde_json.specs.Read.{read}
-use Rattle.serde_json.specs.Written.{compact_text, items_text, members_text}
+use Rattle.serde_json.specs.Written.{compact_text, items_text}
 use Rattle.model.specs.Outcome.{◌>>=◌, guard}
 use Rattle.model.specs.Vertices.{Vertex, State}
-use Rattle.model.specs.Axioms.{Kind, X0, X1, X2, X3, X4, X5, X6, X7, X8, X9, Term, at}
+use Rattle.model.specs.Axioms.{Kind, X0, X1, X2, X3, X4, X5, X6, X7, X8, X9, Term}
 use Rattle.model.specs.Derivation.{Step, given, combine, terms_of as terms_in_step}
-use Rattle.derivations.specs.Derivations.{IsReadVertex, IsReadState, IsTerm, term_cmp, AreTerms, RefersBack, IsStepAt, AreStepsFrom, IsDerivation}
-use Rattle.derivations.specs.Files.{is_line_end, is_blank, is_blank_byte, with_read, with_line, with_lines, derivation_of_bytes}
+use Rattle.derivations.specs.Derivations.{IsReadVertex, IsReadState, IsTerm, term_cmp, AreTerms, IsStepAt, AreStepsFrom, IsDerivation}
+use Rattle.derivations.specs.Files.{is_line_end, with_read, with_line, with_lines, derivation_of_bytes}
 use Rattle.derivations.specs.Kinds.{kind_text, kind_of_text}
-use Rattle.derivations.specs.Orders.{in_order, ordered, state_cmp}
-use Rattle.derivations.specs.Steps.{data_of_bytes, text_of, two_of, states_in, states_of, Written, written_cmp, term_of, terms_in, terms_without_texts, terms_of, Reason, by_axiom, by_combination, axiom_of, combination_of, reason_of, is_backward, most_steps, step_by, step_of, step_of_line}
-use Rattle.derivations.specs.Texts.{Line, needed, vertex_text, vertex_of_text, state_text, state_of_text}
-use Rattle.derivations.specs.Written.{quoted, with_commas, comma_if, state_json, term_json, combination_json, reason_json, step_json, lines_of}
-use Rattle.derivations.specs.declared.fault.LineFault.TheVariants.{NotALine, Forward, TooMany}
+use Rattle.derivations.specs.Orders.{ordered}
+use Rattle.derivations.specs.Steps.{two_of, states_in, states_of, Written, written_cmp, term_of, terms_in, terms_without_texts, terms_of, Reason, by_axiom, by_combination, axiom_of, combination_of, reason_of, is_backward, most_steps, step_by, step_of, step_of_line}
+use Rattle.derivations.specs.Texts.{Line, vertex_text, state_text}
+use Rattle.derivations.specs.Written.{quoted, with_commas, state_json, term_json, combination_json, reason_json, step_json, lines_of}
+use Rattle.derivations.specs.declared.fault.LineFault.TheVariants.{Forward, TooMany}
 use Rattle.derivations.proofs.Commas.{separated, separated-commas}
-use Rattle.derivations.proofs.JsonLaws.{IsSimple, AreSimple, two-read}
+use Rattle.derivations.proofs.JsonLaws.{AreSimple, two-read}
 use Rattle.derivations.proofs.OrderLaws.{state_total, written_total}
-use Rattle.derivations.proofs.PlainTexts.{IsPlainByte, IsPlain, literal, vertex-plain, state-plain, kind-plain, decimal-plain}
+use Rattle.derivations.proofs.PlainTexts.{IsPlain, literal, vertex-plain, state-plain, kind-plain, decimal-plain}
 use Rattle.derivations.proofs.ReadLemmas.{data-read}
 use Rattle.derivations.proofs.Sorting.{none-from_distinct, in_order-sorted, distinct-sorted}
 

@@ -5,5 +5,7 @@ pub mod Steps
 pub mod Files
 pub mod Views
 pub mod StepViews
+pub mod Same
+pub mod Tables
 pub mod Derivations
 pub mod Written

@@ -1,7 +1,5 @@
 -- Which lines are steps of a derivation, and which steps they are (JSON, RFC 8259, in the meaning of `serde_json`; the format is this project's).
-use Rattle.std.specs.Prelude.{ℕ, Bool, true, false, if◌then◌else◌, nat_lt, ◌&&◌, List, [], ◌∷◌, map, Option, Some, None, option_and_then, is_none, Result, Ok, Err, codes}
-use Rattle.std.specs.Option.{ok_or}
-use Rattle.std.specs.Ordering.{nat_cmp}
+use Rattle.std.specs.Prelude.{ℕ, Bool, true, if◌then◌else◌, nat_lt, ◌&&◌, List, [], ◌∷◌, map, Option, Some, None, option_and_then, is_none, Ok, Err, codes}
 use Rattle.std.specs.Str.{is_utf8}
 use Rattle.std.specs.declared.cmp.Ordering.{Ordering}
 use Rattle.serde_json.specs.Data.{Data, Items, no_items, item}

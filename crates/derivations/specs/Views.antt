@@ -1,4 +1,4 @@
--- What the vertices, states and steps of this crate stand for.
+-- What vertices and states stand for, and steps that hold their own.
 use Rattle.std.specs.Prelude.{ℕ, List, map}
 use Rattle.semver.specs.Identifiers.{parts_of}
 use Rattle.semver.specs.Parse.{Parts}
@@ -14,10 +14,10 @@ use Rattle.derivations.specs.declared.vertex.Vertex.{Vertex}
 use Rattle.derivations.specs.declared.vertex.Vertex.TheVariants as vertex
 use Rattle.derivations.specs.declared.state.State.{State}
 use Rattle.derivations.specs.declared.state.State.TheVariants as state
-use Rattle.derivations.specs.declared.step.Term.{Term}
-use Rattle.derivations.specs.declared.step.Cause.{Cause}
-use Rattle.derivations.specs.declared.step.Cause.TheVariants as cause
-use Rattle.derivations.specs.declared.step.Step.{Step}
+use Rattle.derivations.specs.declared.whole.WholeTerm.{WholeTerm}
+use Rattle.derivations.specs.declared.whole.WholeCause.{WholeCause}
+use Rattle.derivations.specs.declared.whole.WholeCause.TheVariants as cause
+use Rattle.derivations.specs.declared.whole.WholeStep.{WholeStep}
 
 abbrev pub named_view : List ℕ × Version → List ℕ × Parts
 named_view p = (p.0, parts_of p.1)
@@ -42,18 +42,15 @@ state_view (state.Class c) = model.in_class (class_view c)
 abbrev pub state_views : List State → List model.State
 state_views ss = map state_view ss
 
-abbrev pub term_view : Term → axioms.Term
+abbrev pub term_view : WholeTerm → axioms.Term
 term_view t = axioms.at (vertex_view t.vertex) (state_views t.states.items)
 
-abbrev pub term_views : List Term → List axioms.Term
+abbrev pub term_views : List WholeTerm → List axioms.Term
 term_views ts = map term_view ts
 
-abbrev pub step_from : Cause → List axioms.Term → steps.Step
+abbrev pub step_from : WholeCause → List axioms.Term → steps.Step
 step_from (cause.Axiom k) ts = steps.given (kind_view k) ts
 step_from (cause.Combination a b v) ts = steps.combine a b (vertex_view v) ts
 
-abbrev pub step_view : Step → steps.Step
+abbrev pub step_view : WholeStep → steps.Step
 step_view s = step_from s.cause (term_views s.terms.items)
-
-abbrev pub step_views : List Step → List steps.Step
-step_views ss = map step_view ss

@@ -1,5 +1,5 @@
 -- The one text that a derivation is written as: compact JSON (RFC 8259), a line for each step (the format is this project's).
-use Rattle.std.specs.Prelude.{ℕ, Bool, if◌then◌else◌, List, [], ◌∷◌, ◌++◌, map, codes, decimal}
+use Rattle.std.specs.Prelude.{ℕ, Bool, if◌then◌else◌, List, [], ◌++◌, map, codes, decimal}
 use Rattle.std.specs.List.{flat_map, join_with_byte}
 use Rattle.model.specs.Vertices.{Vertex, State}
 use Rattle.model.specs.Axioms.{Term}

@@ -1,15 +1,18 @@
 //! Derivations, and reading them.
 
-ghost use Rattle.std.specs.Prelude.{◌≡◌, ◌==◌, ◌||◌, [], IfOk, length, map};
+ghost use Rattle.std.specs.Prelude.{◌≡◌, ◌==◌, ◌||◌, ◌++◌, ◌∷◌, [], IfOk, length, map};
 ghost use Rattle.std.specs.List.{list_all, slice_split};
 ghost use Rattle.model.specs.Outcome.{Gives};
 ghost use Rattle.derivations.specs.Derivations.{IsDerivation};
 ghost use Rattle.derivations.specs.Files.{wants_memory, is_line_end, is_blank_byte, is_blank, fault_at, with_line, with_lines, derivation_of_bytes};
-ghost use Rattle.derivations.specs.Views.{step_views};
+ghost use Rattle.derivations.specs.Tables.{AreStepsOf, steps_at};
+ghost use Rattle.derivations.specs.Views.{step_view};
 
 use crate::fault::{DerivationFault, LineFault};
 use crate::line::read_step;
 use crate::step::Step;
+use crate::steps::Steps;
+use crate::tables::Tables;
 use std::alloc::{AllocError, Global};
 use std::marker::Model;
 
@@ -17,37 +20,44 @@ use std::marker::Model;
 /// `absent` first and then oldest or lowest first, none of them twice, and each vertex, state and version is what its own text reads as.
 #[derive(Drop)]
 pub struct Derivation {
-    steps: Vec<Step>,
+    steps: Steps,
 }
 
 impl Model for Derivation {
     ghost use Rattle.std.specs.Prelude.{List};
     ghost use Rattle.model.specs.Derivation.{Step};
     ghost use Rattle.derivations.specs.Derivations.{IsDerivation};
-    ghost use Rattle.derivations.specs.Views.{step_views};
 
     ghost Value = { List Step };
 
-    ghost view = { λ d. step_views d.steps.items };
+    ghost view = { λ d. d.steps };
 
-    ghost invariant = { λ d. IsDerivation (step_views d.steps.items) };
+    ghost invariant = { λ d. IsDerivation d.steps };
 }
 
 impl Derivation {
     /// The derivation of these steps.
-    pub fn new(steps: Vec<Step>) -> Derivation
-        requires { IsDerivation (step_views steps.items) }
-        ensures { result ≡ step_views steps.items }
+    fn new(steps: Steps) -> Derivation
+        requires { IsDerivation steps }
+        ensures { result ≡ steps }
     {
         Derivation { steps }
     }
 
-    /// Its steps, numbered from 0.
-    pub fn steps(&self) -> &[Step]
-        ensures steps { step_views result.now ≡ self.now }
+    /// How many steps it has.
+    pub fn len(&self) -> usize
+        ensures { result ≡ length self.now }
+    {
+        self.parts().1.len()
+    }
+
+    /// Its steps, numbered from 0, and the tables that have their vertices and states.
+    pub fn parts(&self) -> (&Tables, &[Step])
+        ensures steps { steps_at result.0.now result.1.now ≡ self.now }
+        ensures within { AreStepsOf result.0.now result.1.now }
         ensures derivation { IsDerivation self.now }
     {
-        self.steps.as_slice()
+        self.steps.parts()
     }
 }
 
@@ -71,10 +81,10 @@ fn lines_in(alloc: Global, bytes: &[u8]) -> Result<Vec<&[u8]>, AllocError>
 
 /// The steps that lines are.
 #[tactic(auto, unfolding(crate::specs::Files::with_lines))]
-fn read_lines(alloc: Global, lines: &[&[u8]]) -> Result<Vec<Step>, DerivationFault>
-    ensures { Gives wants_memory (λ v. step_views v.items) result (with_lines 1 (map (λ x. x.now) lines.now) []) }
+fn read_lines(alloc: Global, lines: &[&[u8]]) -> Result<Steps, DerivationFault>
+    ensures { Gives wants_memory (λ s. s) result (with_lines 1 (map (λ x. x.now) lines.now) []) }
 {
-    let mut steps = Vec::new(alloc);
+    let mut steps = Steps::new(alloc);
     'lines: for (index, line) in lines.iter().enumerate() {
         steps = with_line(alloc, index as u64 + 1, line, steps)?;
     }
@@ -86,18 +96,15 @@ fn with_line(
     alloc: Global,
     number: u64,
     line: &[u8],
-    mut steps: Vec<Step>,
-) -> Result<Vec<Step>, DerivationFault>
-    ensures { Gives wants_memory (λ v. step_views v.items) result (with_line number line.now (step_views steps.items)) }
+    steps: Steps,
+) -> Result<Steps, DerivationFault>
+    ensures { Gives wants_memory (λ s. s) result (with_line number line.now steps) }
 {
     if is_blank(line) {
         return Ok(steps);
     }
     match read_step(alloc, steps.len(), line) {
-        Ok(step) => {
-            steps.push(step)?;
-            Ok(steps)
-        }
+        Ok(step) => Ok(steps.with_step(alloc, step)?),
         Err(fault) => Err(fault_at(number, fault)),
     }
 }

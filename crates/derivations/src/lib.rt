@@ -3,13 +3,18 @@
 
 mod derivation;
 mod fault;
+mod keeping;
 mod kind;
 mod line;
+mod same;
 mod state;
 mod step;
+mod steps;
+mod tables;
 mod text;
 mod values;
 mod vertex;
+mod whole;
 mod writing;
 
 pub use derivation::{Derivation, read};
@@ -17,5 +22,6 @@ pub use fault::DerivationFault;
 pub use kind::Kind;
 pub use state::State;
 pub use step::{Cause, Step, Term};
+pub use tables::Tables;
 pub use vertex::{OwnerName, Vertex};
 pub use writing::write;

@@ -14,9 +14,9 @@ ghost use Rattle.derivations.specs.Views.{vertex_view, state_views, term_view, t
 use crate::fault::LineFault;
 use crate::kind::Kind;
 use crate::state::{State, read_state, state_order};
-use crate::step::{Cause, Step, Term};
 use crate::values::{array, item, no_item, read_json, text, two, whole};
 use crate::vertex::{Vertex, read_vertex};
+use crate::whole::{WholeCause, WholeStep, WholeTerm};
 use serde_json::Value;
 use std::alloc::{AllocError, Global};
 use std::cmp::Ordering;
@@ -28,12 +28,12 @@ const MOST_STEPS: usize = 16_777_216;
 #[derive(Drop)]
 pub(crate) struct WrittenTerm<'a> {
     pub text: &'a str,
-    pub term: Term,
+    pub term: WholeTerm,
 }
 
 /// The step of this number that a line is.
 #[tactic(auto, unfolding(crate::specs::Steps::step_of_line))]
-pub(crate) fn read_step(alloc: Global, number: usize, line: &[u8]) -> Result<Step, LineFault>
+pub(crate) fn read_step(alloc: Global, number: usize, line: &[u8]) -> Result<WholeStep, LineFault>
     ensures { Gives line_wants_memory step_view result (step_of_line number line.now) }
 {
     let value = read_json(alloc, line)?;
@@ -41,14 +41,14 @@ pub(crate) fn read_step(alloc: Global, number: usize, line: &[u8]) -> Result<Ste
 }
 
 #[tactic(auto, unfolding(crate::specs::Steps::step_of))]
-fn step(alloc: Global, number: usize, value: &Value) -> Result<Step, LineFault>
+fn step(alloc: Global, number: usize, value: &Value) -> Result<WholeStep, LineFault>
     ensures { Gives line_wants_memory step_view result (step_of number (view value.now)) }
 {
     let cause = cause(alloc, value)?;
     let terms = terms(alloc, value)?;
     check(is_backward(number, &cause), LineFault::Forward)?;
     check(number < MOST_STEPS, LineFault::TooMany)?;
-    Ok(Step { cause, terms })
+    Ok(WholeStep { cause, terms })
 }
 
 fn check(passes: bool, why: LineFault) -> Result<(), LineFault>
@@ -58,19 +58,19 @@ fn check(passes: bool, why: LineFault) -> Result<(), LineFault>
 }
 
 /// Whether a cause refers to steps before this number alone.
-fn is_backward(number: usize, cause: &Cause) -> bool
+fn is_backward(number: usize, cause: &WholeCause) -> bool
     ensures { result ≡ is_backward number (reason_view cause.now) }
 {
     match cause {
-        Cause::Axiom(_) => true,
-        Cause::Combination(first, second, _) => {
+        WholeCause::Axiom(_) => true,
+        WholeCause::Combination(first, second, _) => {
             *first < number as u64 && *second < number as u64
         }
     }
 }
 
 /// What `axiom` or `combine` says: just one of them is there.
-fn cause(alloc: Global, value: &Value) -> Result<Cause, LineFault>
+fn cause(alloc: Global, value: &Value) -> Result<WholeCause, LineFault>
     ensures { Gives line_wants_memory reason_view result (reason_of (view value.now)) }
 {
     match (value.get("axiom"), value.get("combine")) {
@@ -81,30 +81,30 @@ fn cause(alloc: Global, value: &Value) -> Result<Cause, LineFault>
 }
 
 #[tactic(auto, unfolding(crate::specs::Steps::axiom_of))]
-fn axiom(value: &Value) -> Result<Cause, LineFault>
+fn axiom(value: &Value) -> Result<WholeCause, LineFault>
     ensures { Gives line_wants_memory reason_view result (axiom_of (view value.now)) }
 {
     match Kind::of_text(text(value)?) {
-        Some(kind) => Ok(Cause::Axiom(kind)),
+        Some(kind) => Ok(WholeCause::Axiom(kind)),
         None => Err(LineFault::NotALine),
     }
 }
 
 /// `[A,B,"VERTEX"]`
 #[tactic(auto, unfolding(crate::specs::Steps::combination_of))]
-fn combination(alloc: Global, value: &Value) -> Result<Cause, LineFault>
+fn combination(alloc: Global, value: &Value) -> Result<WholeCause, LineFault>
     ensures { Gives line_wants_memory reason_view result (combination_of (view value.now)) }
 {
     let first = whole(item(value, 0)?)?;
     let second = whole(item(value, 1)?)?;
     let vertex = read_vertex(alloc, text(item(value, 2)?)?)?;
     no_item(value, 3)?;
-    Ok(Cause::Combination(first, second, vertex))
+    Ok(WholeCause::Combination(first, second, vertex))
 }
 
 /// The terms by the bytes of their vertices' texts, no vertex twice.
 #[tactic(auto, unfolding(crate::specs::Steps::terms_of))]
-fn terms(alloc: Global, value: &Value) -> Result<Vec<Term>, LineFault>
+fn terms(alloc: Global, value: &Value) -> Result<Vec<WholeTerm>, LineFault>
     ensures { Gives line_wants_memory (λ v. term_views v.items) result (terms_of (view value.now)) }
 {
     let Some(found) = value.get("terms") else {
@@ -137,7 +137,7 @@ fn term(alloc: Global, value: &Value) -> Result<WrittenTerm<'_>, LineFault>
     let states = states(alloc, &vertex, states_value)?;
     Ok(WrittenTerm {
         text,
-        term: Term { vertex, states },
+        term: WholeTerm { vertex, states },
     })
 }
 
@@ -153,13 +153,13 @@ fn ordered_terms(mut terms: Vec<WrittenTerm<'_>>) -> Result<Vec<WrittenTerm<'_>>
     }
 }
 
-fn without_texts(alloc: Global, written: Vec<WrittenTerm<'_>>) -> Result<Vec<Term>, AllocError>
+fn without_texts(alloc: Global, written: Vec<WrittenTerm<'_>>) -> Result<Vec<WholeTerm>, AllocError>
     ensures { IfOk result (λ v. term_views v.items ≡ terms_without_texts (written_views written.entry.items)) }
 {
     written
         .into_iter()
         .map(
-            |one: WrittenTerm<'_>| -> Term
+            |one: WrittenTerm<'_>| -> WholeTerm
                 ensures { term_view result ≡ (written_view one.entry).1 }
             { one.term },
         )

@@ -1,22 +1,20 @@
-//! The steps of a derivation.
+//! The steps of a derivation, whose vertices and states are numbers into its tables.
 
 use crate::kind::Kind;
-use crate::state::State;
-use crate::vertex::Vertex;
 
-/// A vertex and a set of its states.
+/// A vertex and a set of its states, by their numbers.
 #[derive(Drop)]
 pub struct Term {
-    pub vertex: Vertex,
-    pub states: Vec<State>,
+    pub vertex: usize,
+    pub states: Vec<usize>,
 }
 
 /// Why the terms of a step can't all hold.
 #[derive(Drop)]
 pub enum Cause {
     Axiom(Kind),
-    /// The numbers of two earlier steps, and the vertex at which they are combined.
-    Combination(u64, u64, Vertex),
+    /// The numbers of two earlier steps, and that of the vertex at which they are combined.
+    Combination(u64, u64, usize),
 }
 
 /// A step: a set of terms that can't all hold, and why.

@@ -1,15 +1,15 @@
 -- Looking at the steps from the last one down finds the needed ones.
-use Rattle.std.proofs.Common.{◌≡◌, ◌≢◌, ℕ, zero, suc, ◌+◌, ◌<◌, ◌≤◌, ◌==◌, ◌||◌, Bool, true, false, cond, List, [], ◌∷◌, ◌++◌, length, get_or, set, Option, Some, None, slice_get, refl, sym, ap, ap₂, ◌∙◌, subst, arith, replicate, reverse}
+use Rattle.std.proofs.Common.{◌≡◌, ℕ, zero, suc, ◌+◌, ◌<◌, ◌==◌, ◌||◌, Bool, true, false, cond, List, [], ◌∷◌, ◌++◌, length, get_or, set, Option, Some, None, slice_get, refl, sym, ap, ◌∙◌, subst, arith, replicate, reverse}
 use Rattle.std.specs.List.{list_any}
 use Rattle.std.proofs.lemmas.Bool.{eqb-true, eq-eqb}
 use Rattle.std.proofs.lemmas.Bool.Decides.{nat_tests}
-use Rattle.std.proofs.lemmas.List.{get_or-set_same, get_or-set_other, length-set, set_past, reverse-append}
+use Rattle.std.proofs.lemmas.List.{get_or-set_same, get_or-set_other, length-set, reverse-append}
 use Rattle.model.specs.Derivation.{Step, given, combine}
 use Rattle.model.specs.Axioms.{Term}
-use Rattle.derivations.specs.Views.{step_from}
+use Rattle.derivations.specs.Tables.{TablesView, step_by_cause}
 use Rattle.derivations.specs.declared.step.Cause.{Cause}
 use Rattle.derivations.specs.declared.step.Cause.TheVariants.{Axiom, Combination}
-use Rattle.explainer.specs.Explanations.{refers_to, refers_at, with_later, needed_from}
+use Rattle.explainer.specs.Explanations.{refers_to, refers_at, needed_from}
 use Rattle.explainer.specs.Marks.{with_marks, is_needed}
 
 abbrev marks_at : Option Step → List Bool → List Bool
@@ -122,9 +122,9 @@ pub last-first : (b : Bool) (l : ℕ) (old new : List ℕ) → new ≡ cond b (o
 last-first true l old new h = ap reverse h ∙ reverse-append old (l ∷ [])
 last-first false l old new h = ap reverse h
 
-pub same-marks : (cause : Cause) (ts : List Term) (marks : List Bool) → with_marks (step_from cause []) marks ≡ with_marks (step_from cause ts) marks
-same-marks (Axiom k) ts marks = refl
-same-marks (Combination a b v) ts marks = refl
+pub same-marks : (t : TablesView) (cause : Cause) (ts : List Term) (marks : List Bool) → with_marks (step_by_cause t cause []) marks ≡ with_marks (step_by_cause t cause ts) marks
+same-marks t (Axiom k) ts marks = refl
+same-marks t (Combination a b v) ts marks = refl
 
 pub kept-length : (b : Bool) (s : Step) (marks : List Bool) → length (cond b (with_marks s marks) marks) ≡ length marks
 kept-length true s marks = marked-length [] s marks

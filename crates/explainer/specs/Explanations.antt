@@ -1,5 +1,5 @@
 -- What a person reads of a derivation: the steps that its end stands on, each as a line (the format is this project's).
-use Rattle.std.specs.Prelude.{ℕ, zero, suc, ◌+◌, ◌==◌, ◌||◌, nat_lt, Bool, true, false, if◌then◌else◌, List, [], ◌∷◌, ◌++◌, length, map, filter, Option, Some, None, slice_get, codes, decimal}
+use Rattle.std.specs.Prelude.{ℕ, zero, suc, ◌+◌, ◌==◌, ◌||◌, nat_lt, Bool, false, if◌then◌else◌, List, [], ◌∷◌, ◌++◌, length, map, filter, Option, Some, None, slice_get, codes, decimal}
 use Rattle.std.specs.List.{flat_map, list_any}
 use Rattle.model.specs.Axioms.{Kind, X0, X1, X2, X3, X4, X5, X6, X7, X8, X9, Term}
 use Rattle.model.specs.Derivation.{Step, given, combine, terms_of}

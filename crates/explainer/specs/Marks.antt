@@ -1,5 +1,5 @@
 -- Which steps are known to be needed while steps are looked at from the last one down.
-use Rattle.std.specs.Prelude.{ℕ, ◌+◌, ◌==◌, ◌||◌, Bool, true, false, if◌then◌else◌, List, ◌∷◌, [], ◌++◌, length, slice_set, slice_index_or}
+use Rattle.std.specs.Prelude.{ℕ, ◌+◌, ◌==◌, ◌||◌, Bool, true, false, List, length, slice_set, slice_index_or}
 use Rattle.model.specs.Derivation.{Step, given, combine}
 
 -- the marks, with those of the steps that a step combines

@@ -1,7 +1,7 @@
 //! Which steps of a derivation are needed.
 
 ghost use Rattle.std.specs.Prelude.{◌≡◌, ◌<◌, ◌++◌, ◌∷◌, [], if◌then◌else◌, true, IfOk, OnOk, length, slice_set};
-ghost use Rattle.derivations.specs.Views.{step_from, step_views};
+ghost use Rattle.derivations.specs.Tables.{TablesView, step_by_cause, steps_at};
 ghost use Rattle.explainer.specs.Explanations.{needed};
 ghost use Rattle.explainer.specs.Marks.{is_needed, with_marks};
 
@@ -10,7 +10,7 @@ use std::alloc::{AllocError, Global};
 
 /// The numbers of the needed steps, lowest first: of the last one, and of each that a needed one combines.
 pub(crate) fn needed(alloc: Global, steps: &[Step]) -> Result<Vec<usize>, AllocError>
-    ensures { IfOk result (λ v. v.items ≡ needed (step_views steps.now)) }
+    ensures { IfOk result (λ v. (t : TablesView) → v.items ≡ needed (steps_at t steps.now)) }
 {
     let mut marks = vec![in alloc; false; steps.len()]?;
     let mut found = Vec::new(alloc);
@@ -31,7 +31,7 @@ fn look_at(
     cause: &Cause,
 ) -> Result<(), AllocError>
     requires { number < length marks.old.items }
-    ensures marks { OnOk result (marks.new.items ≡ (if is_needed marks.old.items number then with_marks (step_from cause.now []) marks.old.items else marks.old.items)) }
+    ensures marks { OnOk result ((t : TablesView) → marks.new.items ≡ (if is_needed marks.old.items number then with_marks (step_by_cause t cause.now []) marks.old.items else marks.old.items)) }
     ensures found { OnOk result (found.new.items ≡ (if is_needed marks.old.items number then found.old.items ++ number ∷ [] else found.old.items)) }
 {
     if is_needed(marks, number) {
@@ -50,7 +50,7 @@ fn is_needed(marks: &[bool], number: usize) -> bool
 
 /// Marks the steps that a cause combines.
 fn mark(marks: &mut Vec<bool>, cause: &Cause)
-    ensures { marks.new.items ≡ with_marks (step_from cause.now []) marks.old.items }
+    ensures { (t : TablesView) → marks.new.items ≡ with_marks (step_by_cause t cause.now []) marks.old.items }
 {
     match cause {
         Cause::Axiom(_) => {}

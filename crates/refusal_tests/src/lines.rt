@@ -32,7 +32,7 @@ const OTHER_SHORT: &str =
 
 /// How many steps the bytes have.
 fn steps(alloc: Global, bytes: &[u8]) -> Result<usize, DerivationFault> {
-    Ok(read(alloc, bytes)?.steps().len())
+    Ok(read(alloc, bytes)?.len())
 }
 
 fn same_text(alloc: Global, text: &str, expected: &str) -> Result<bool, Fail> {

@@ -1,4 +1,3 @@
-use Rattle.std.proofs.Common.{◌≡◌, sym, ◌∙◌}
 use Rattle.derivations.proofs.ReadLaws.{read-is}
 use Rattle.derivations.proofs.derivation.read.Goals as goal
 

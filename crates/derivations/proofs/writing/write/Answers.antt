@@ -7,4 +7,4 @@ use Rattle.derivations.proofs.writing.write.Goals as goal
 pub returns-clause-reads : goal.returns-clause-reads
 returns-clause-reads c few =
     let text : c.into_bytes.result.items ≡ lines_of c.args.derivation.now = search rules in
-    ap derivation_of_bytes text ∙ written-reads c.args.derivation.now c.steps.ensures.derivation few
+    ap derivation_of_bytes text ∙ written-reads c.args.derivation.now c.parts.ensures.derivation few

@@ -1,5 +1,5 @@
 use Rattle.std.proofs.Common.{◌≡◌, ◌≤◌, length, reverse}
-use Rattle.derivations.specs.Views.{step_views}
+use Rattle.derivations.specs.Tables.{TablesView, steps_at}
 use Rattle.explainer.specs.Explanations.{needed}
 use Rattle.explainer.proofs.Sweep.{sweep}
 use Rattle.explainer.proofs.needed.needed.Given as goal
@@ -10,7 +10,7 @@ invariant-steps l =
     record {
       within : l.left ≤ length l.steps;
       long : length l.marks.items ≡ length l.steps;
-      told : sweep (step_views l.steps) l.left l.marks.items (reverse l.found.items) ≡ needed (step_views l.steps);
+      told : (t : TablesView) → sweep (steps_at t l.steps) l.left l.marks.items (reverse l.found.items) ≡ needed (steps_at t l.steps);
     }
 
 abbrev pub decreases-steps : goal.decreases-steps

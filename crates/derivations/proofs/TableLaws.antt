@@ -1,0 +1,127 @@
+-- Tables that grow keep what their numbers stand for.
+use Rattle.std.proofs.Common.{◌≡◌, ℕ, ◌<◌, Bool, true, false, cond, List, [], ◌∷◌, ◌++◌, map, length, get_or, slice_get, Some, refl, ap, ap₂, ◌∙◌, subst, arith}
+use Rattle.std.specs.List.{AllByRecursion, list_any}
+use Rattle.std.proofs.lemmas.List.{append_assoc, length-map, get_or-map, get_or_append_left, length-append, map-append}
+use Rattle.std.proofs.lemmas.Option.{slice_get_within, get_or_from_slice_get}
+use Rattle.indexmap.specs.IndexSet.{insert_key}
+use Rattle.model.specs.Vertices.{Vertex, State, root, absent}
+use Rattle.model.specs.Axioms as axioms
+use Rattle.model.specs.Axioms.{at}
+use Rattle.model.specs.Derivation.{combine}
+use Rattle.model.specs.Derivation as steps
+use Rattle.derivations.specs.Tables.{TablesView, state_at, states_at, term_at, terms_at, step_by_cause, step_at, steps_at, AreStatesOf, IsTermOf, AreTermsOf, IsCauseOf, IsStepOf, AreStepsOf, IsGrown}
+use Rattle.derivations.specs.declared.step.Term.{Term}
+use Rattle.derivations.specs.declared.step.Cause.{Cause}
+use Rattle.derivations.specs.declared.step.Cause.TheVariants.{Axiom, Combination}
+use Rattle.derivations.specs.declared.step.Step.{Step}
+
+-- ---- one more key
+
+-- each number of a list keeps its element after a key is put in
+pub kept-key : {K V : Type 0} (eq : K → K → Bool) (view : K → V) (ks : List K) (k : K) (d : V) (n : ℕ) → n < length (map view ks)
+    → (n < length (map view (insert_key eq ks k))) × (get_or (map view (insert_key eq ks k)) n d ≡ get_or (map view ks) n d)
+kept-key eq view ks k d n lt = by (list_any (eq k) ks)
+  where
+    by : (b : Bool) → (n < length (map view (cond b ks (ks ++ k ∷ [])))) × (get_or (map view (cond b ks (ks ++ k ∷ []))) n d ≡ get_or (map view ks) n d)
+    by true = (lt, refl)
+    by false =
+        let whole = map-append view ks (k ∷ []) in
+        let long = length-append (map view ks) (view k ∷ []) in
+        rw whole (omega (arith, long), get_or_append_left (map view ks) (view k ∷ []) d n lt)
+
+-- the key that is found stands for what was put in
+pub found-key : {K V : Type 0} (view : K → V) (ks : List K) (n : ℕ) (k : K) (v d : V) → slice_get ks n ≡ Some k → view k ≡ v → (n < length (map view ks)) × (get_or (map view ks) n d ≡ v)
+found-key view ks n k v d is same =
+    let lt : n < length ks = slice_get_within ks n k is in
+    let long = length-map ks view in
+    (omega (arith, long), get_or-map view ks n k d lt ∙ ap view (get_or_from_slice_get ks n k k is) ∙ same)
+
+-- ---- growing
+
+pub grown-refl : (t : TablesView) → IsGrown t t
+grown-refl t = record { vertices = λ n lt. (lt, refl); states = λ n lt. (lt, refl) }
+
+pub grown-vertices : {K : Type 0} (eq : K → K → Bool) (view : K → Vertex) (ks : List K) (k : K) (keys : List K) (ss : List State) (t : TablesView) → keys ≡ insert_key eq ks k
+    → (record { vertices = map view ks; states = ss }) ≡ t → IsGrown t (record { vertices = map view keys; states = ss })
+grown-vertices eq view ks k keys ss t new is =
+    let each : (n : ℕ) → n < length (map view ks) → (n < length (map view keys)) × (get_or (map view keys) n root ≡ get_or (map view ks) n root)
+    = rw new (λ n lt. kept-key eq view ks k root n lt) in
+    subst (λ (u : TablesView). IsGrown u (record { vertices = map view keys; states = ss })) is (record { vertices = each; states = λ n lt. (lt, refl) })
+
+pub grown-states : {K : Type 0} (eq : K → K → Bool) (view : K → State) (ks : List K) (k : K) (keys : List K) (vs : List Vertex) (t : TablesView) → keys ≡ insert_key eq ks k
+    → (record { vertices = vs; states = map view ks }) ≡ t → IsGrown t (record { vertices = vs; states = map view keys })
+grown-states eq view ks k keys vs t new is =
+    let each : (n : ℕ) → n < length (map view ks) → (n < length (map view keys)) × (get_or (map view keys) n absent ≡ get_or (map view ks) n absent)
+    = rw new (λ n lt. kept-key eq view ks k absent n lt) in
+    subst (λ (u : TablesView). IsGrown u (record { vertices = vs; states = map view keys })) is (record { vertices = λ n lt. (lt, refl); states = each })
+
+pub grown-trans : (s t u : TablesView) → IsGrown s t → IsGrown t u → IsGrown s u
+grown-trans s t u g h = record {
+  vertices = λ n lt. let a = g.vertices n lt in let b = h.vertices n a.0 in (b.0, b.1 ∙ a.1);
+  states = λ n lt. let a = g.states n lt in let b = h.states n a.0 in (b.0, b.1 ∙ a.1);
+}
+
+module _ (s t : TablesView) (g : IsGrown s t) where
+  pub kept-states : (ns : List ℕ) → AreStatesOf s ns → AreStatesOf t ns × (states_at t ns ≡ states_at s ns)
+  kept-states [] h = (tt, refl)
+  kept-states (n ∷ ns) h =
+      let here = g.states n h.0 in
+      let rest = kept-states ns h.1 in
+      ((here.0, rest.0), ap₂ (λ x xs. x ∷ xs) here.1 rest.1)
+
+  pub kept-term : (term : Term) → IsTermOf s term → IsTermOf t term × (term_at t term ≡ term_at s term)
+  kept-term term h =
+      let here = g.vertices term.vertex h.0 in
+      let rest = kept-states term.states.items h.1 in
+      ((here.0, rest.0), ap₂ at here.1 rest.1)
+
+  pub kept-terms : (terms : List Term) → AreTermsOf s terms → AreTermsOf t terms × (terms_at t terms ≡ terms_at s terms)
+  kept-terms [] h = (tt, refl)
+  kept-terms (x ∷ xs) h =
+      let here = kept-term x h.0 in
+      let rest = kept-terms xs h.1 in
+      ((here.0, rest.0), ap₂ (λ y ys. y ∷ ys) here.1 rest.1)
+
+  pub kept-cause : (c : Cause) (ts : List axioms.Term) → IsCauseOf s c → IsCauseOf t c × (step_by_cause t c ts ≡ step_by_cause s c ts)
+  kept-cause (Axiom k) ts h = (tt, refl)
+  kept-cause (Combination a b v) ts h = let here = g.vertices v h in (here.0, ap (λ w. combine a b w ts) here.1)
+
+  pub kept-step : (x : Step) → IsStepOf s x → IsStepOf t x × (step_at t x ≡ step_at s x)
+  kept-step x h =
+      let cause = kept-cause x.cause (terms_at t x.terms.items) h.0 in
+      let terms = kept-terms x.terms.items h.1 in
+      ((cause.0, terms.0), cause.1 ∙ ap (step_by_cause s x.cause) terms.1)
+
+  pub kept-steps : (xs : List Step) → AreStepsOf s xs → AreStepsOf t xs × (steps_at t xs ≡ steps_at s xs)
+  kept-steps [] h = (tt, refl)
+  kept-steps (x ∷ xs) h =
+      let here = kept-step x h.0 in
+      let rest = kept-steps xs h.1 in
+      ((here.0, rest.0), ap₂ (λ y ys. y ∷ ys) here.1 rest.1)
+
+-- ---- lists of numbers, one more each time
+
+pub with-last : {X : Type 0} (P : X → Type 0) (xs : List X) (x : X) → AllByRecursion P xs → P x → AllByRecursion P (xs ++ x ∷ [])
+with-last P [] x h p = (p, tt)
+with-last P (y ∷ ys) x h p = (h.0, with-last P ys x h.1 p)
+
+pub more-states : (s t : TablesView) (ns : List ℕ) (n : ℕ) (x : State) (rest all : List State) → IsGrown s t → AreStatesOf s ns → n < length t.states → state_at t n ≡ x → states_at s ns ++ (x ∷ rest) ≡ all
+    → AreStatesOf t (ns ++ n ∷ []) × (states_at t (ns ++ n ∷ []) ++ rest ≡ all)
+more-states s t ns n x rest all g h lt is told =
+    let before = kept-states s t g ns h in
+    (with-last (λ n. n < length t.states) ns n before.0 lt,
+    ap (λ xs. xs ++ rest) (map-append (state_at t) ns (n ∷ []) ∙ ap₂ (λ xs y. xs ++ y ∷ []) before.1 is) ∙ append_assoc (states_at s ns) (x ∷ []) rest ∙ told)
+
+pub more-terms : (s t : TablesView) (ns : List Term) (n : Term) (x : axioms.Term) (rest all : List axioms.Term) → IsGrown s t → AreTermsOf s ns → IsTermOf t n → term_at t n ≡ x → terms_at s ns ++ (x ∷ rest) ≡ all
+    → AreTermsOf t (ns ++ n ∷ []) × (terms_at t (ns ++ n ∷ []) ++ rest ≡ all)
+more-terms s t ns n x rest all g h in_t is told =
+    let before = kept-terms s t g ns h in
+    (with-last (IsTermOf t) ns n before.0 in_t,
+    ap (λ xs. xs ++ rest) (map-append (term_at t) ns (n ∷ []) ∙ ap₂ (λ xs y. xs ++ y ∷ []) before.1 is) ∙ append_assoc (terms_at s ns) (x ∷ []) rest ∙ told)
+
+-- one more step, and the tables that it needs
+pub more-steps : (s t : TablesView) (ss : List Step) (x : Step) (step : steps.Step) → IsGrown s t → AreStepsOf s ss → IsStepOf t x → step_at t x ≡ step
+    → AreStepsOf t (ss ++ x ∷ []) × (steps_at t (ss ++ x ∷ []) ≡ steps_at s ss ++ step ∷ [])
+more-steps s t ss x step g h in_t is =
+    let before = kept-steps s t g ss h in
+    (with-last (IsStepOf t) ss x before.0 in_t, map-append (step_at t) ss (x ∷ []) ∙ ap₂ (λ xs y. xs ++ y ∷ []) before.1 is)

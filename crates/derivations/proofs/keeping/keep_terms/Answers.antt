@@ -1,0 +1,21 @@
+use Rattle.std.proofs.Common.{◌≡◌, ◌+◌, ◌∷◌, length, arith, ap}
+use Rattle.std.specs.Vec.Iter.{into_iter_items, into_iter_len}
+use Rattle.derivations.specs.Views.{term_view, term_views}
+use Rattle.derivations.proofs.TableLaws.{grown-trans, more-terms}
+use Rattle.derivations.proofs.keeping.keep_terms.Goals as goal
+
+pub terms-preserved : goal.terms-preserved
+terms-preserved c =
+    let here : into_iter_items c.terms.term-iterator ≡ c.in-Some.term ∷ into_iter_items c.next.new.self = c.in-Some.ensures.steps.0 in
+    let left : into_iter_len c.next.new.self + 1 ≡ into_iter_len c.terms.term-iterator = c.in-Some.ensures.steps.1 in
+    let count = ap length here in
+    let more = more-terms c.terms.tables c.keep_term.new.tables c.terms.kept.items c.in_ok-keep_term.field-0 (term_view c.in-Some.term) (term_views (into_iter_items c.next.new.self)) (term_views c.args.terms.items)
+        c.in_ok-keep_term.ensures.grown c.terms.invariant.within c.in_ok-keep_term.ensures.within c.in_ok-keep_term.ensures.term (rw here at c.terms.invariant.told) in
+    record {
+      can = tt;
+      finite = tt;
+      counted = let before = c.terms.invariant.counted in omega arith;
+      grown = grown-trans c.args.tables.now c.terms.tables c.keep_term.new.tables c.terms.invariant.grown c.in_ok-keep_term.ensures.grown;
+      within = rw c.in_ok-push.ensures.items more.0;
+      told = rw c.in_ok-push.ensures.items more.1;
+    }

@@ -1,0 +1,85 @@
+//! Putting a step's vertices and states into the tables.
+
+ghost use Rattle.std.specs.Prelude.{◌≡◌, [], IfOk};
+ghost use Rattle.derivations.specs.Tables.{IsGrown, AreStatesOf, IsTermOf, AreTermsOf, IsCauseOf, IsStepOf, states_at, term_at, terms_at, step_by_cause, step_at};
+ghost use Rattle.derivations.specs.Views.{state_views, term_view, term_views, step_from, step_view};
+
+use crate::state::State;
+use crate::step::{Cause, Step, Term};
+use crate::tables::Tables;
+use crate::whole::{WholeCause, WholeStep, WholeTerm};
+use std::alloc::{AllocError, Global};
+
+/// The step with the numbers of its vertices and states.
+pub(crate) fn keep_step(
+    alloc: Global,
+    tables: &mut Tables,
+    step: WholeStep,
+) -> Result<Step, AllocError>
+    ensures grown { IfOk result (λ s. IsGrown tables.old tables.new) }
+    ensures within { IfOk result (λ s. IsStepOf tables.new s) }
+    ensures step { IfOk result (λ s. step_at tables.new s ≡ step_view step) }
+{
+    let WholeStep { cause, terms } = step;
+    let cause = keep_cause(tables, cause)?;
+    let terms = keep_terms(alloc, tables, terms)?;
+    Ok(Step { cause, terms })
+}
+
+fn keep_cause(tables: &mut Tables, cause: WholeCause) -> Result<Cause, AllocError>
+    ensures grown { IfOk result (λ c. IsGrown tables.old tables.new) }
+    ensures within { IfOk result (λ c. IsCauseOf tables.new c) }
+    ensures cause { IfOk result (λ c. step_by_cause tables.new c [] ≡ step_from cause []) }
+{
+    match cause {
+        WholeCause::Axiom(kind) => Ok(Cause::Axiom(kind)),
+        WholeCause::Combination(first, second, vertex) => Ok(Cause::Combination(
+            first,
+            second,
+            tables.add_vertex(vertex)?,
+        )),
+    }
+}
+
+fn keep_terms(
+    alloc: Global,
+    tables: &mut Tables,
+    terms: Vec<WholeTerm>,
+) -> Result<Vec<Term>, AllocError>
+    ensures grown { IfOk result (λ v. IsGrown tables.old tables.new) }
+    ensures within { IfOk result (λ v. AreTermsOf tables.new v.items) }
+    ensures terms { IfOk result (λ v. terms_at tables.new v.items ≡ term_views terms.items) }
+{
+    let mut kept = Vec::with_capacity(alloc, terms.len())?;
+    'terms: for term in terms {
+        kept.push(keep_term(alloc, tables, term)?)?;
+    }
+    Ok(kept)
+}
+
+fn keep_term(alloc: Global, tables: &mut Tables, term: WholeTerm) -> Result<Term, AllocError>
+    ensures grown { IfOk result (λ t. IsGrown tables.old tables.new) }
+    ensures within { IfOk result (λ t. IsTermOf tables.new t) }
+    ensures term { IfOk result (λ t. term_at tables.new t ≡ term_view term) }
+{
+    let WholeTerm { vertex, states } = term;
+    let vertex = tables.add_vertex(vertex)?;
+    let states = keep_states(alloc, tables, states)?;
+    Ok(Term { vertex, states })
+}
+
+fn keep_states(
+    alloc: Global,
+    tables: &mut Tables,
+    states: Vec<State>,
+) -> Result<Vec<usize>, AllocError>
+    ensures grown { IfOk result (λ v. IsGrown tables.old tables.new) }
+    ensures within { IfOk result (λ v. AreStatesOf tables.new v.items) }
+    ensures states { IfOk result (λ v. states_at tables.new v.items ≡ state_views states.items) }
+{
+    let mut kept = Vec::with_capacity(alloc, states.len())?;
+    'states: for state in states {
+        kept.push(tables.add_state(state)?)?;
+    }
+    Ok(kept)
+}

@@ -1,0 +1,73 @@
+//! The vertices and states of a derivation, each once: its steps name them by their numbers.
+
+ghost use Rattle.std.specs.Prelude.{◌≡◌, ◌<◌, IfOk, length};
+ghost use Rattle.derivations.specs.Tables.{no_tables, vertex_at, state_at, IsGrown};
+ghost use Rattle.derivations.specs.Views.{vertex_view, state_view};
+
+use crate::state::State;
+use crate::vertex::Vertex;
+use indexmap::IndexSet;
+use std::alloc::{AllocError, Global};
+use std::marker::Model;
+
+/// The vertices and states that steps name by numbers.
+#[derive(Drop)]
+pub struct Tables {
+    vertices: IndexSet<Vertex>,
+    states: IndexSet<State>,
+}
+
+impl Model for Tables {
+    ghost use Rattle.std.specs.Prelude.{map};
+    ghost use Rattle.derivations.specs.Tables.{TablesView};
+    ghost use Rattle.derivations.specs.Views.{vertex_view, state_view};
+
+    ghost Value = { TablesView };
+
+    ghost view = { λ t. record { vertices = map vertex_view t.vertices.keys; states = map state_view t.states.keys } };
+}
+
+impl Tables {
+    pub(crate) fn new(alloc: Global) -> Tables
+        ensures { result ≡ no_tables }
+    {
+        Tables {
+            vertices: IndexSet::new(alloc),
+            states: IndexSet::new(alloc),
+        }
+    }
+
+    /// The vertex of this number.
+    pub fn vertex(&self, number: usize) -> &Vertex
+        requires { number < length self.now.vertices }
+        ensures { vertex_view result.now ≡ vertex_at self.now number }
+    {
+        &self.vertices.as_slice()[number]
+    }
+
+    /// The state of this number.
+    pub fn state(&self, number: usize) -> &State
+        requires { number < length self.now.states }
+        ensures { state_view result.now ≡ state_at self.now number }
+    {
+        &self.states.as_slice()[number]
+    }
+
+    /// The number of a vertex, which is added unless it is there.
+    pub(crate) fn add_vertex(&mut self, vertex: Vertex) -> Result<usize, AllocError>
+        ensures grown { IfOk result (λ n. IsGrown self.old self.new) }
+        ensures number { IfOk result (λ n. (n < length self.new.vertices) × (vertex_at self.new n ≡ vertex_view vertex)) }
+    {
+        let (number, _) = self.vertices.insert_full(vertex)?;
+        Ok(number)
+    }
+
+    /// The number of a state, which is added unless it is there.
+    pub(crate) fn add_state(&mut self, state: State) -> Result<usize, AllocError>
+        ensures grown { IfOk result (λ n. IsGrown self.old self.new) }
+        ensures number { IfOk result (λ n. (n < length self.new.states) × (state_at self.new n ≡ state_view state)) }
+    {
+        let (number, _) = self.states.insert_full(state)?;
+        Ok(number)
+    }
+}

@@ -1,0 +1,27 @@
+//! A step that holds its own vertices and states, as it is read off its line.
+
+use crate::kind::Kind;
+use crate::state::State;
+use crate::vertex::Vertex;
+
+/// A vertex and a set of its states.
+#[derive(Drop)]
+pub(crate) struct WholeTerm {
+    pub vertex: Vertex,
+    pub states: Vec<State>,
+}
+
+/// Why the terms of a step can't all hold.
+#[derive(Drop)]
+pub(crate) enum WholeCause {
+    Axiom(Kind),
+    /// The numbers of two earlier steps, and the vertex at which they are combined.
+    Combination(u64, u64, Vertex),
+}
+
+/// A step: a set of terms that can't all hold, and why.
+#[derive(Drop)]
+pub(crate) struct WholeStep {
+    pub cause: WholeCause,
+    pub terms: Vec<WholeTerm>,
+}
