@@ -1,5 +1,5 @@
 -- Tables that grow keep what their numbers stand for.
-use Rattle.std.proofs.Common.{◌≡◌, ℕ, ◌<◌, Bool, true, false, cond, List, [], ◌∷◌, ◌++◌, map, length, get_or, slice_get, Some, refl, ap, ap₂, ◌∙◌, subst, arith}
+use Rattle.std.proofs.Common.{sym, ◌≡◌, ℕ, ◌<◌, Bool, true, false, cond, List, [], ◌∷◌, ◌++◌, map, length, get_or, slice_get, Some, refl, ap, ap₂, ◌∙◌, subst, arith}
 use Rattle.std.specs.List.{AllByRecursion, list_any}
 use Rattle.std.proofs.lemmas.List.{append_assoc, length-map, get_or-map, get_or_append_left, length-append, map-append}
 use Rattle.std.proofs.lemmas.Option.{slice_get_within, get_or_from_slice_get}
@@ -9,7 +9,7 @@ use Rattle.model.specs.Axioms as axioms
 use Rattle.model.specs.Axioms.{at}
 use Rattle.model.specs.Derivation.{combine}
 use Rattle.model.specs.Derivation as steps
-use Rattle.derivations.specs.Tables.{TablesView, state_at, states_at, term_at, terms_at, step_by_cause, step_at, steps_at, AreStatesOf, IsTermOf, AreTermsOf, IsCauseOf, IsStepOf, AreStepsOf, IsGrown}
+use Rattle.derivations.specs.Tables.{vertex_at, set_at, TablesView, state_at, states_at, term_at, terms_at, step_by_cause, step_at, steps_at, AreStatesOf, IsTermOf, AreTermsOf, IsCauseOf, IsStepOf, AreStepsOf, IsGrown}
 use Rattle.derivations.specs.declared.step.Term.{Term}
 use Rattle.derivations.specs.declared.step.Cause.{Cause}
 use Rattle.derivations.specs.declared.step.Cause.TheVariants.{Axiom, Combination}
@@ -39,26 +39,34 @@ found-key view ks n k v d is same =
 -- ---- growing
 
 pub grown-refl : (t : TablesView) → IsGrown t t
-grown-refl t = record { vertices = λ n lt. (lt, refl); states = λ n lt. (lt, refl) }
+grown-refl t = record { vertices = λ n lt. (lt, refl); states = λ n lt. (lt, refl); sets = λ n lt. (lt, refl) }
 
-pub grown-vertices : {K : Type 0} (eq : K → K → Bool) (view : K → Vertex) (ks : List K) (k : K) (keys : List K) (ss : List State) (t : TablesView) → keys ≡ insert_key eq ks k
-    → (record { vertices = map view ks; states = ss }) ≡ t → IsGrown t (record { vertices = map view keys; states = ss })
-grown-vertices eq view ks k keys ss t new is =
+pub grown-vertices : {K : Type 0} (eq : K → K → Bool) (view : K → Vertex) (ks : List K) (k : K) (keys : List K) (ss : List State) (ns : List (List ℕ)) (t : TablesView) → keys ≡ insert_key eq ks k
+    → (record { vertices = map view ks; states = ss; sets = ns }) ≡ t → IsGrown t (record { vertices = map view keys; states = ss; sets = ns })
+grown-vertices eq view ks k keys ss ns t new is =
     let each : (n : ℕ) → n < length (map view ks) → (n < length (map view keys)) × (get_or (map view keys) n root ≡ get_or (map view ks) n root)
     = rw new (λ n lt. kept-key eq view ks k root n lt) in
-    subst (λ (u : TablesView). IsGrown u (record { vertices = map view keys; states = ss })) is (record { vertices = each; states = λ n lt. (lt, refl) })
+    subst (λ (u : TablesView). IsGrown u (record { vertices = map view keys; states = ss; sets = ns })) is (record { vertices = each; states = λ n lt. (lt, refl); sets = λ n lt. (lt, refl) })
 
-pub grown-states : {K : Type 0} (eq : K → K → Bool) (view : K → State) (ks : List K) (k : K) (keys : List K) (vs : List Vertex) (t : TablesView) → keys ≡ insert_key eq ks k
-    → (record { vertices = vs; states = map view ks }) ≡ t → IsGrown t (record { vertices = vs; states = map view keys })
-grown-states eq view ks k keys vs t new is =
+pub grown-states : {K : Type 0} (eq : K → K → Bool) (view : K → State) (ks : List K) (k : K) (keys : List K) (vs : List Vertex) (ns : List (List ℕ)) (t : TablesView) → keys ≡ insert_key eq ks k
+    → (record { vertices = vs; states = map view ks; sets = ns }) ≡ t → IsGrown t (record { vertices = vs; states = map view keys; sets = ns })
+grown-states eq view ks k keys vs ns t new is =
     let each : (n : ℕ) → n < length (map view ks) → (n < length (map view keys)) × (get_or (map view keys) n absent ≡ get_or (map view ks) n absent)
     = rw new (λ n lt. kept-key eq view ks k absent n lt) in
-    subst (λ (u : TablesView). IsGrown u (record { vertices = vs; states = map view keys })) is (record { vertices = λ n lt. (lt, refl); states = each })
+    subst (λ (u : TablesView). IsGrown u (record { vertices = vs; states = map view keys; sets = ns })) is (record { vertices = λ n lt. (lt, refl); states = each; sets = λ n lt. (lt, refl) })
+
+pub grown-sets : {K : Type 0} (eq : K → K → Bool) (view : K → List ℕ) (ks : List K) (k : K) (keys : List K) (vs : List Vertex) (ss : List State) (t : TablesView) → keys ≡ insert_key eq ks k
+    → (record { vertices = vs; states = ss; sets = map view ks }) ≡ t → IsGrown t (record { vertices = vs; states = ss; sets = map view keys })
+grown-sets eq view ks k keys vs ss t new is =
+    let each : (n : ℕ) → n < length (map view ks) → (n < length (map view keys)) × (get_or (map view keys) n [] ≡ get_or (map view ks) n [])
+    = rw new (λ n lt. kept-key eq view ks k [] n lt) in
+    subst (λ (u : TablesView). IsGrown u (record { vertices = vs; states = ss; sets = map view keys })) is (record { vertices = λ n lt. (lt, refl); states = λ n lt. (lt, refl); sets = each })
 
 pub grown-trans : (s t u : TablesView) → IsGrown s t → IsGrown t u → IsGrown s u
 grown-trans s t u g h = record {
   vertices = λ n lt. let a = g.vertices n lt in let b = h.vertices n a.0 in (b.0, b.1 ∙ a.1);
   states = λ n lt. let a = g.states n lt in let b = h.states n a.0 in (b.0, b.1 ∙ a.1);
+  sets = λ n lt. let a = g.sets n lt in let b = h.sets n a.0 in (b.0, b.1 ∙ a.1);
 }
 
 module _ (s t : TablesView) (g : IsGrown s t) where
@@ -72,8 +80,9 @@ module _ (s t : TablesView) (g : IsGrown s t) where
   pub kept-term : (term : Term) → IsTermOf s term → IsTermOf t term × (term_at t term ≡ term_at s term)
   kept-term term h =
       let here = g.vertices term.vertex h.0 in
-      let rest = kept-states term.states.items h.1 in
-      ((here.0, rest.0), ap₂ at here.1 rest.1)
+      let set = g.sets term.states h.1 in
+      let rest = kept-states (set_at s term.states) h.2 in
+      ((here.0, set.0, subst (AreStatesOf t) (sym set.1) rest.0), ap₂ at here.1 (ap (states_at t) set.1 ∙ rest.1))
 
   pub kept-terms : (terms : List Term) → AreTermsOf s terms → AreTermsOf t terms × (terms_at t terms ≡ terms_at s terms)
   kept-terms [] h = (tt, refl)
@@ -125,3 +134,13 @@ pub more-steps : (s t : TablesView) (ss : List Step) (x : Step) (step : steps.St
 more-steps s t ss x step g h in_t is =
     let before = kept-steps s t g ss h in
     (with-last (IsStepOf t) ss x before.0 in_t, map-append (step_at t) ss (x ∷ []) ∙ ap₂ (λ xs y. xs ++ y ∷ []) before.1 is)
+
+-- a vertex, then its states, and then their set are put in
+pub whole-term : (a b d : TablesView) (v n : ℕ) (ns : List ℕ) (x : Vertex) (ss : List State) → (v < length a.vertices) × (vertex_at a v ≡ x) → IsGrown a b → AreStatesOf b ns → states_at b ns ≡ ss
+    → IsGrown b d → (n < length d.sets) × (set_at d n ≡ ns)
+    → ((v < length d.vertices) × (n < length d.sets) × AreStatesOf d (set_at d n)) × (at (vertex_at d v) (states_at d (set_at d n)) ≡ at x ss)
+whole-term a b d v n ns x ss vertex g within is h set =
+    let first = g.vertices v vertex.0 in
+    let then = h.vertices v first.0 in
+    let kept = kept-states b d h ns within in
+    ((then.0, set.0, subst (AreStatesOf d) (sym set.1) kept.0), ap₂ at (then.1 ∙ first.1 ∙ vertex.1) (ap (states_at d) set.1 ∙ kept.1 ∙ is))

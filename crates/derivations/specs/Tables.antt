@@ -10,13 +10,14 @@ use Rattle.derivations.specs.declared.step.Cause.{Cause}
 use Rattle.derivations.specs.declared.step.Cause.TheVariants.{Axiom, Combination}
 use Rattle.derivations.specs.declared.step.Step.{Step}
 
--- the vertices and the states that numbers stand for
+-- the vertices, the states and the sets of states that numbers stand for: a set has the numbers of its states
 pub record TablesView : Type 0 where
   pub vertices : List model.Vertex
   pub states : List model.State
+  pub sets : List (List ℕ)
 
 abbrev pub no_tables : TablesView
-no_tables = record { vertices = []; states = [] }
+no_tables = record { vertices = []; states = []; sets = [] }
 
 -- ---- what numbers stand for
 
@@ -29,8 +30,11 @@ state_at t n = slice_index_or t.states n model.absent
 abbrev pub states_at : TablesView → List ℕ → List model.State
 states_at t ns = map (state_at t) ns
 
+abbrev pub set_at : TablesView → ℕ → List ℕ
+set_at t n = slice_index_or t.sets n []
+
 abbrev pub term_at : TablesView → Term → axioms.Term
-term_at t term = axioms.at (vertex_at t term.vertex) (states_at t term.states.items)
+term_at t term = axioms.at (vertex_at t term.vertex) (states_at t (set_at t term.states))
 
 abbrev pub terms_at : TablesView → List Term → List axioms.Term
 terms_at t terms = map (term_at t) terms
@@ -51,7 +55,7 @@ abbrev pub AreStatesOf : TablesView → List ℕ → Type 0
 AreStatesOf t ns = AllByRecursion (λ n. n < length t.states) ns
 
 abbrev pub IsTermOf : TablesView → Term → Type 0
-IsTermOf t term = (term.vertex < length t.vertices) × AreStatesOf t term.states.items
+IsTermOf t term = (term.vertex < length t.vertices) × (term.states < length t.sets) × AreStatesOf t (set_at t term.states)
 
 abbrev pub AreTermsOf : TablesView → List Term → Type 0
 AreTermsOf t terms = AllByRecursion (IsTermOf t) terms
@@ -70,3 +74,4 @@ AreStepsOf t ss = AllByRecursion (IsStepOf t) ss
 pub record IsGrown (old new : TablesView) : Type 0 where
   pub vertices : (n : ℕ) → n < length old.vertices → (n < length new.vertices) × (vertex_at new n ≡ vertex_at old n)
   pub states : (n : ℕ) → n < length old.states → (n < length new.states) × (state_at new n ≡ state_at old n)
+  pub sets : (n : ℕ) → n < length old.sets → (n < length new.sets) × (set_at new n ≡ set_at old n)

@@ -1,4 +1,4 @@
-//! Putting a step's vertices and states into the tables.
+//! Putting a step's vertices and sets of states into the tables.
 
 ghost use Rattle.std.specs.Prelude.{◌≡◌, [], IfOk};
 ghost use Rattle.derivations.specs.Tables.{IsGrown, AreStatesOf, IsTermOf, AreTermsOf, IsCauseOf, IsStepOf, states_at, term_at, terms_at, step_by_cause, step_at};
@@ -64,7 +64,8 @@ fn keep_term(alloc: Global, tables: &mut Tables, term: WholeTerm) -> Result<Term
 {
     let WholeTerm { vertex, states } = term;
     let vertex = tables.add_vertex(vertex)?;
-    let states = keep_states(alloc, tables, states)?;
+    let numbers = keep_states(alloc, tables, states)?;
+    let states = tables.add_set(numbers)?;
     Ok(Term { vertex, states })
 }
 

@@ -3,10 +3,10 @@
 use crate::kind::Kind;
 
 /// A vertex and a set of its states, by their numbers.
-#[derive(Drop)]
+#[derive(Clone, Copy)]
 pub struct Term {
     pub vertex: usize,
-    pub states: Vec<usize>,
+    pub states: usize,
 }
 
 /// Why the terms of a step can't all hold.

@@ -1,7 +1,7 @@
-//! The vertices and states of a derivation, each once: its steps name them by their numbers.
+//! The vertices, states and sets of states of a derivation, each once: its steps name them by their numbers.
 
 ghost use Rattle.std.specs.Prelude.{◌≡◌, ◌<◌, IfOk, length};
-ghost use Rattle.derivations.specs.Tables.{no_tables, vertex_at, state_at, IsGrown};
+ghost use Rattle.derivations.specs.Tables.{no_tables, vertex_at, state_at, set_at, IsGrown};
 ghost use Rattle.derivations.specs.Views.{vertex_view, state_view};
 
 use crate::state::State;
@@ -10,11 +10,12 @@ use indexmap::IndexSet;
 use std::alloc::{AllocError, Global};
 use std::marker::Model;
 
-/// The vertices and states that steps name by numbers.
+/// The vertices and the sets of states that steps name by numbers. A set has the numbers of its states.
 #[derive(Drop)]
 pub struct Tables {
     vertices: IndexSet<Vertex>,
     states: IndexSet<State>,
+    sets: IndexSet<Vec<usize>>,
 }
 
 impl Model for Tables {
@@ -24,7 +25,7 @@ impl Model for Tables {
 
     ghost Value = { TablesView };
 
-    ghost view = { λ t. record { vertices = map vertex_view t.vertices.keys; states = map state_view t.states.keys } };
+    ghost view = { λ t. record { vertices = map vertex_view t.vertices.keys; states = map state_view t.states.keys; sets = map (λ v. v.items) t.sets.keys } };
 }
 
 impl Tables {
@@ -34,6 +35,7 @@ impl Tables {
         Tables {
             vertices: IndexSet::new(alloc),
             states: IndexSet::new(alloc),
+            sets: IndexSet::new(alloc),
         }
     }
 
@@ -53,6 +55,14 @@ impl Tables {
         &self.states.as_slice()[number]
     }
 
+    /// The numbers of the states in the set of this number.
+    pub fn set(&self, number: usize) -> &[usize]
+        requires { number < length self.now.sets }
+        ensures { result.now ≡ set_at self.now number }
+    {
+        self.sets.as_slice()[number].as_slice()
+    }
+
     /// The number of a vertex, which is added unless it is there.
     pub(crate) fn add_vertex(&mut self, vertex: Vertex) -> Result<usize, AllocError>
         ensures grown { IfOk result (λ n. IsGrown self.old self.new) }
@@ -68,6 +78,15 @@ impl Tables {
         ensures number { IfOk result (λ n. (n < length self.new.states) × (state_at self.new n ≡ state_view state)) }
     {
         let (number, _) = self.states.insert_full(state)?;
+        Ok(number)
+    }
+
+    /// The number of a set of states, which is added unless it is there.
+    pub(crate) fn add_set(&mut self, states: Vec<usize>) -> Result<usize, AllocError>
+        ensures grown { IfOk result (λ n. IsGrown self.old self.new) }
+        ensures number { IfOk result (λ n. (n < length self.new.sets) × (set_at self.new n ≡ states.items)) }
+    {
+        let (number, _) = self.sets.insert_full(states)?;
         Ok(number)
     }
 }

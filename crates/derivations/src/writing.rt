@@ -112,7 +112,7 @@ fn push_term(
     push_comma(text, later)?;
     let vertex = tables.vertex(term.vertex);
     write!(text, "[\"{vertex}\",[")?;
-    push_states(text, tables, &term.states)?;
+    push_states(text, tables, tables.set(term.states))?;
     text.push_str("]]")
 }
 

@@ -115,7 +115,7 @@ fn push_term(
     push_if(text, later, " and ")?;
     let vertex = tables.vertex(term.vertex);
     write!(text, "{vertex} in {{")?;
-    push_states(text, tables, &term.states)?;
+    push_states(text, tables, tables.set(term.states))?;
     text.push_str("}")
 }
 

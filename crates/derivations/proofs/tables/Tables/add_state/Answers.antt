@@ -7,7 +7,7 @@ use Rattle.derivations.proofs.TableLaws.{found-key, grown-states}
 use Rattle.derivations.proofs.tables.Tables.add_state.Goals as goal
 
 pub returns-clause-grown : goal.returns-clause-grown
-returns-clause-grown c = grown-states (on state_view same_state) state_view c.self.inside.states.keys c.args.state _ _ _ c.in_ok-number.ensures.keys c.self.view_is
+returns-clause-grown c = grown-states (on state_view same_state) state_view c.self.inside.states.keys c.args.state _ _ _ _ c.in_ok-number.ensures.keys c.self.view_is
 
 pub returns-clause-number : goal.returns-clause-number
 returns-clause-number c =
