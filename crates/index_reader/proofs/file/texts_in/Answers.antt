@@ -1,4 +1,4 @@
-use Rattle.std.proofs.Common.{◌≡◌, ◌+◌, ◌-◌, ◌<◌, ◌++◌, ◌∷◌, [], suc, length, take, drop, map, ap, sym, ◌∙◌, arith, append_assoc, take_all, length-drop}
+use Rattle.std.proofs.Common.{◌≡◌, ◌+◌, ◌-◌, ◌++◌, ◌∷◌, [], length, take, drop, map, ap, sym, ◌∙◌, arith, append_assoc, take_all, length-drop}
 use Rattle.std.proofs.lemmas.List.{map-append}
 use Rattle.std.specs.List.{slice_split}
 use Rattle.index_reader.specs.Files.{is_line_end}
