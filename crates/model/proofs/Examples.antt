@@ -10,3 +10,4 @@ pub mod Held
 pub mod Invalid
 pub mod Tables
 pub mod Preference
+pub mod Gathered

@@ -1,21 +1,29 @@
 -- Terms in an order, each with its states in an order, are one list where they say the same.
 use Rattle.std.proofs.Common.{◌≡◌, List, [], ◌∷◌, false, Contains, Option, Some, None, Ordering, Less, Greater, sym, ap, ◌∙◌, subst}
 use Rattle.std.specs.List.{All, AllPairs, AllByRecursion}
+use Rattle.std.specs.List.Sorted.{IsStrictlySortedBy}
 use Rattle.std.specs.Ordering.{ordering_reverse}
-use Rattle.std.proofs.lemmas.List.Elements.{All-contains}
+use Rattle.std.proofs.lemmas.List.Elements.{All-from_recursion}
+use Rattle.std.proofs.lemmas.List.Kept.{AllPairs-cons}
 use Rattle.model.specs.Vertices.{Vertex, State, same_vertex}
 use Rattle.model.specs.Axioms.{Term, AreApart}
 use Rattle.model.specs.Derivation.{SameStates, SameAt, SameTerms, states_at}
-use Rattle.model.proofs.Lists.{all_first, all_rest, pairs_all, pairs_rest}
+use Rattle.model.proofs.Lists.{all_first, all_rest, pairs_all, pairs_none, pairs_rest}
 use Rattle.model.proofs.Permuted.{rising-same}
 use Rattle.model.proofs.Same.{vertex-other}
 use Rattle.model.proofs.Spaces.{state_in, state_from}
 use Rattle.refutations.specs.Terms.{IsInOrder}
-use Rattle.refutations.proofs.Reading.{Alike, alike}
+use Rattle.refutations.proofs.Reading.{Alike, alike, all_in}
 
 -- what comes before another doesn't come after it
 once_before : {X : Type 0} (cmp : X → X → Ordering) → ((x y : X) → cmp x y ≡ ordering_reverse (cmp y x)) → (x y : X) → cmp x y ≡ Less → cmp y x ≡ Less → ⊥
 once_before cmp flips x y h k = let e : Less ≡ Greater = sym h ∙ flips x y ∙ ap ordering_reverse k in cc
+
+-- what is sorted has each two in order
+sorted_pairs : {X : Type 0} (cmp : X → X → Ordering) (xs : List X) → IsStrictlySortedBy cmp xs → AllPairs (λ x y. cmp x y ≡ Less) xs
+unfolding IsStrictlySortedBy
+sorted_pairs cmp [] h = pairs_none (λ x y. cmp x y ≡ Less)
+sorted_pairs cmp (x ∷ xs) h = AllPairs-cons (λ x y. cmp x y ≡ Less) x xs (All-from_recursion (λ y. cmp x y ≡ Less) xs h.0) (sorted_pairs cmp xs h.1)
 
 -- to say the same goes both ways
 same_at-back : (x y : Option (List State)) → SameAt x y → SameAt y x
@@ -52,15 +60,17 @@ module _ (by_vertex : Vertex → Vertex → Ordering) (by_state : State → Stat
   term-in : (a b : List Term) → IsInOrder by_vertex by_state a → IsInOrder by_vertex by_state b → Alike a b → (t : Term) → Contains a t → Contains b t
   term-in a b h k al t c =
       let r = al.forth t c in
-      let states : t.states ≡ (r.0).states = states-one t.states (r.0).states (All-contains (λ (t : Term). AllPairs (λ s r. by_state s r ≡ Less) t.states) a t h.states c)
-      (All-contains (λ (t : Term). AllPairs (λ s r. by_state s r ≡ Less) t.states) b r.0 k.states r.1) r.3 in
+      let states : t.states ≡ (r.0).states = states-one t.states (r.0).states (sorted_pairs by_state t.states (all_in (λ (t : Term). IsStrictlySortedBy by_state t.states) a t h.states c))
+      (sorted_pairs by_state (r.0).states (all_in (λ (t : Term). IsStrictlySortedBy by_state t.states) b r.0 k.states r.1)) r.3 in
       let is : t ≡ r.0 = λ i. record { vertex = r.2 i; states = states i } in
       subst (Contains b) (sym is) r.1
 
   pub one_in_order : (a b : List Term) → IsInOrder by_vertex by_state a → IsInOrder by_vertex by_state b → SameTerms a b → a ≡ b
   one_in_order a b h k same =
-      let x = apart-in_order a h.vertices in
-      let y = apart-in_order b k.vertices in
+      let a_pairs = sorted_pairs (λ t u. by_vertex t.vertex u.vertex) a h.vertices in
+      let b_pairs = sorted_pairs (λ t u. by_vertex t.vertex u.vertex) b k.vertices in
+      let x = apart-in_order a a_pairs in
+      let y = apart-in_order b b_pairs in
       let to = alike a b x y same in
-      rising-same Before (λ t u. once_before by_vertex vertex_flips t.vertex u.vertex) a b h.vertices k.vertices
+      rising-same Before (λ t u. once_before by_vertex vertex_flips t.vertex u.vertex) a b a_pairs b_pairs
       (term-in a b h k to) (term-in b a k h (alike b a y x (same-back a b same)))

@@ -1,8 +1,9 @@
 -- The list of causes has each cause that is there, and no other.
-use Rattle.std.proofs.Common.{◌≡◌, ◌↔◌, ℕ, zero, suc, List, [], ◌∷◌, ◌++◌, map, filter, Bool, true, false, not, cond, ◌&&◌, Contains, Option, Some, None, is_some, slice_get, nat_eq, refl, sym, ◌∙◌, subst, inl, inr, ◌⊎◌, true≢false}
-use Rattle.std.specs.List.{list_any, flat_map}
-use Rattle.std.proofs.lemmas.Bool.{eqb-true}
+use Rattle.std.proofs.Common.{◌≡◌, ◌↔◌, ℕ, zero, suc, List, [], ◌∷◌, ◌++◌, map, filter, Bool, true, false, not, cond, ◌&&◌, Contains, Option, Some, None, is_some, slice_get, nat_eq, refl, sym, ◌∙◌, subst, inl, inr, ◌⊎◌, true≢false, ◌≢◌}
+use Rattle.std.specs.List.{list_any, flat_map, All, AllPairs}
+use Rattle.std.proofs.lemmas.Bool.{eqb-true, and_from, eq-eqb}
 use Rattle.std.proofs.lemmas.Option.{none-some}
+use Rattle.std.proofs.lemmas.List.Kept.{AllPairs-cons}
 use Rattle.semver.specs.Parse.{Parts}
 use Rattle.model.specs.Owner.{Dependency, Entry, feature, dependency, dependency_feature, weak_feature, Table, entries_at, has_feature, asked_of_target, same_text}
 use Rattle.model.specs.Content.{Problem, Candidate, candidates_of}
@@ -11,13 +12,13 @@ use Rattle.model.specs.Vertices.{OwnerName, the_root, version_of, feat, same_ver
 use Rattle.model.specs.Axioms.{is_lower, IsOwner, HasEntry, HasFeatVertex, RootAsks}
 use Rattle.model.specs.Axioms.HasFeatVertex.{had, asked, by_entry}
 use Rattle.model.proofs.Gathered.{at_place}
-use Rattle.model.proofs.Lists.{in_none, in_cons, in_first, in_rest, in_filter, to_filter, to_map, any_of}
-use Rattle.model.proofs.Same.{both, text-same, version-same, class-same, owner-same}
+use Rattle.model.proofs.Lists.{in_none, in_cons, in_first, in_rest, in_filter, to_filter, to_map, any_of, all_none, all_cons, pairs_none, to_any}
+use Rattle.model.proofs.Same.{both, text-same, version-same, class-same, owner-same, owner-refl, class-refl, text-refl, version-refl}
 use Rattle.model.proofs.Spaces.{class_in}
 use Rattle.refutations.specs.Causes.{Cause, of_root, of_need, of_target, of_feature, of_list, of_ask, of_entry, of_enabling, of_asking, of_newest, of_weak, same_entry, enables, passes, is_needed, dependency_at, has_class, has_entry, some_entry, lists_feature, is_overtaken, is_weak_on, entries_of, table_of_owner, owners, is_cause}
 use Rattle.refutations.specs.Listed.{once, same_cause, numbers, asked_by, names_in, numbers_of, classes_if, classes_at, asked_if, class_pool, dep_pool, entry_pool, turned_on, feature_pool, version_pool, owner_pool, entries_ask, asked_of_others, had_by, named_features, class_features, name_pool, causes}
 use Rattle.refutations.proofs.Bools.{in_append-left, in_append-right}
-use Rattle.refutations.proofs.Named.{entry-same, passes-is, dep_owner, has_entry-is, some_entry-is, class-is, lists-is, feature-is, to_owners, to_entry, row_of}
+use Rattle.refutations.proofs.Named.{entry-same, passes-is, dep_owner, has_entry-is, some_entry-is, class-is, lists-is, feature-is, to_owners, to_entry, row_of, entry-refl}
 
 -- ---- lists
 
@@ -52,6 +53,20 @@ module _ {X : Type 0} (same : X → X → Bool) (sure : (x y : X) → same x y �
       by rest true c = in_rest y x xs (rest c)
       by rest false c = elim (in_cons y x (once same xs) c) [ inl s ↦ subst (Contains (y ∷ xs)) s (in_first y xs) | inr c ↦ in_rest y x xs (rest c) ]
 
+  all_each : (P : X → Type 0) (xs : List X) → ((x : X) → Contains xs x → P x) → All P xs
+  all_each P [] h = all_none P
+  all_each P (x ∷ xs) h = all_cons P x xs (h x (in_first x xs)) (all_each P xs (λ y c. h y (in_rest x y xs c)))
+
+  -- no two of them are the same
+  once_distinct : ((x : X) → same x x ≡ true) → (xs : List X) → AllPairs (λ x y. x ≢ y) (once same xs)
+  once_distinct itself [] = pairs_none (λ x y. x ≢ y)
+  once_distinct itself (x ∷ xs) = by (list_any (same x) xs) refl (once_distinct itself xs)
+    where
+      by : (b : Bool) → list_any (same x) xs ≡ b → AllPairs (λ x y. x ≢ y) (once same xs) → AllPairs (λ x y. x ≢ y) (cond b (once same xs) (x ∷ once same xs))
+      by true e rest = rest
+      by false e rest = AllPairs-cons (λ x y. x ≢ y) x (once same xs) (all_each (λ y. x ≢ y) (once same xs)
+          (λ y c is. true≢false (sym (to_any (same x) xs y (from_once xs y c) (subst (λ z. same x z ≡ true) is (itself x))) ∙ e))) rest
+
 -- ---- equal causes
 
 cause-same : (x y : Cause) → same_cause x y ≡ true → x ≡ y
@@ -79,6 +94,23 @@ cause-same (of_weak n v f g i k) (of_weak r w e l j m) h = let a = both _ _ h in
     let n_is = text-same n r a.0 in let v_is = version-same v w b.0 in let f_is = text-same f e c.0 in let g_is = text-same g l d.0 in let i_is = eqb-true i j z.0 in let k_is = class-same k m z.1 in
     λ t. of_weak (n_is t) (v_is t) (f_is t) (g_is t) (i_is t) (k_is t)
 cause-same x y h = absurd (true≢false (sym h))
+
+same_nat : (i : ℕ) → nat_eq i i ≡ true
+same_nat i = eq-eqb i i refl
+
+cause-refl : (x : Cause) → same_cause x x ≡ true
+cause-refl of_root = refl
+cause-refl (of_need o i) = and_from _ _ (owner-refl o) (same_nat i)
+cause-refl (of_target o i k) = and_from _ _ (owner-refl o) (and_from _ _ (same_nat i) (class-refl k))
+cause-refl (of_feature n k f) = and_from _ _ (text-refl n) (and_from _ _ (class-refl k) (text-refl f))
+cause-refl (of_list o i k g) = and_from _ _ (owner-refl o) (and_from _ _ (same_nat i) (and_from _ _ (class-refl k) (text-refl g)))
+cause-refl (of_ask n v i g k) = and_from _ _ (text-refl n) (and_from _ _ (version-refl v) (and_from _ _ (same_nat i) (and_from _ _ (text-refl g) (class-refl k))))
+cause-refl (of_entry n v f g) = and_from _ _ (text-refl n) (and_from _ _ (version-refl v) (and_from _ _ (text-refl f) (text-refl g)))
+cause-refl (of_enabling n v f e i) = and_from _ _ (text-refl n) (and_from _ _ (version-refl v) (and_from _ _ (text-refl f) (and_from _ _ (entry-refl e) (same_nat i))))
+cause-refl (of_asking n v f g i) = and_from _ _ (text-refl n) (and_from _ _ (version-refl v) (and_from _ _ (text-refl f) (and_from _ _ (text-refl g) (same_nat i))))
+cause-refl (of_newest o i j k m) = and_from _ _ (owner-refl o) (and_from _ _ (same_nat i) (and_from _ _ (same_nat j) (and_from _ _ (class-refl k) (class-refl m))))
+cause-refl (of_weak n v f g i k) = and_from _ _ (text-refl n)
+    (and_from _ _ (version-refl v) (and_from _ _ (text-refl f) (and_from _ _ (text-refl g) (and_from _ _ (same_nat i) (class-refl k)))))
 
 module _ (q : Problem) where
   pool : List Cause
@@ -274,3 +306,7 @@ module _ (q : Problem) where
     λ i. (in_filter (is_cause q) pool c (from_once same_cause cause-same (filter (is_cause q) pool) c i)).1,
     λ t. to_once same_cause cause-same (filter (is_cause q) pool) c (to_filter (is_cause q) pool c (pooled c t) t),
   )
+
+  -- and none twice
+  pub listed-once : AllPairs (λ a b. a ≢ b) (causes q)
+  listed-once = once_distinct same_cause cause-same cause-refl (filter (is_cause q) (of_root ∷ (flat_map (owner_pool q) (owners q) ++ flat_map (name_pool q) q.candidates)))

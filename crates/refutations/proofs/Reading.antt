@@ -14,7 +14,7 @@ use Rattle.model.proofs.Spaces.{state_in, state_from, absent_in_space}
 use Rattle.refutations.specs.Instances.{first_of, read_term, first_read}
 use Rattle.refutations.proofs.Sets.{term_at}
 
-all_in : {X : Type 0} (P : X → Type 0) (xs : List X) (x : X) → AllByRecursion P xs → Contains xs x → P x
+pub all_in : {X : Type 0} (P : X → Type 0) (xs : List X) (x : X) → AllByRecursion P xs → Contains xs x → P x
 all_in P [] x h c = absurd (in_none x c)
 all_in P (y ∷ xs) x h c = elim (in_cons y x xs c) [ inl e ↦ subst P e h.0 | inr c ↦ all_in P xs x h.1 c ]
 

@@ -1,8 +1,8 @@
 -- Lists of terms that are compared and combined by going over them (the rule of resolution of Dart pub's `solver.md`, over sets of states).
-use Rattle.std.specs.Prelude.{◌≡◌, List, [], ◌∷◌, ◌++◌, Bool, true, false, not, ◌&&◌, Option, Some, None, is_some, map, filter}
-use Rattle.std.specs.List.{list_all, All, AllPairs}
+use Rattle.std.specs.Prelude.{List, [], ◌∷◌, ◌++◌, Bool, true, false, not, ◌&&◌, Option, Some, None, is_some, map, filter}
+use Rattle.std.specs.List.{list_all, AllByRecursion}
+use Rattle.std.specs.List.Sorted.{IsStrictlySortedBy}
 use Rattle.std.specs.declared.cmp.Ordering.{Ordering}
-use Rattle.std.specs.declared.cmp.Ordering.TheVariants.{Less}
 use Rattle.model.specs.Content.{Problem}
 use Rattle.model.specs.Vertices.{Vertex, State, has_state}
 use Rattle.model.specs.Axioms.{Term, at}
@@ -32,8 +32,8 @@ same_terms a b = list_all (agree a b) a && list_all (agree a b) b
 
 -- terms in an order of vertices, each with its states in an order of states, none twice
 pub record IsInOrder (by_vertex : Vertex → Vertex → Ordering) (by_state : State → State → Ordering) (ts : List Term) : Type 0 where
-  pub vertices : AllPairs (λ t u. by_vertex t.vertex u.vertex ≡ Less) ts
-  pub states : All (λ t. AllPairs (λ s r. by_state s r ≡ Less) t.states) ts
+  pub vertices : IsStrictlySortedBy (λ t u. by_vertex t.vertex u.vertex) ts
+  pub states : AllByRecursion (λ t. IsStrictlySortedBy by_state t.states) ts
 
 abbrev pub speaks_of : List Term → Vertex → Bool
 speaks_of ts v = is_some (states_at ts v)

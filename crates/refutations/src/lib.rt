@@ -4,7 +4,8 @@
 //! A law is a function that does nothing: its contract is the statement, and its body shows that the statement needs no code.
 #![tactic(auto)]
 
-ghost use Rattle.std.specs.Prelude.{◌≡◌, ◌↔◌, true, Contains, List, None};
+ghost use Rattle.std.specs.Prelude.{◌≡◌, ◌≢◌, ◌↔◌, true, Contains, List, None};
+ghost use Rattle.std.specs.List.{AllPairs};
 ghost use Rattle.std.specs.Ordering.{ordering_reverse};
 ghost use Rattle.std.specs.declared.cmp.Ordering.{Ordering};
 ghost use Rattle.model.specs.Content.{Content, Problem};
@@ -51,9 +52,10 @@ pub fn instances_have_causes()
     ensures { (q : Problem) (k : Kind) (ts : List Term) → IsInstance q k ts → (c : Cause) × (is_cause q c ≡ true) × (kind_of c ≡ k) × (terms_of_cause q c ≡ ts) }
 {}
 
-/// A cause is listed exactly where it is there.
+/// A cause is listed exactly where it is there, and none is listed twice.
 pub fn causes_are_listed()
-    ensures { (q : Problem) (c : Cause) → Contains (causes q) c ↔ (is_cause q c ≡ true) }
+    ensures listed { (q : Problem) (c : Cause) → Contains (causes q) c ↔ (is_cause q c ≡ true) }
+    ensures once { (q : Problem) → AllPairs (λ a b. a ≢ b) (causes q) }
 {}
 
 /// Terms of which no two speak of one vertex pass the test of a kind exactly where they are those of an instance of it, without full ones.

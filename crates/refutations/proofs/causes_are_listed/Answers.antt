@@ -1,5 +1,8 @@
-use Rattle.refutations.proofs.Listing.{listed-is}
+use Rattle.refutations.proofs.Listing.{listed-is, listed-once}
 use Rattle.refutations.proofs.causes_are_listed.Goals as goal
 
-pub returns : goal.returns
-returns c = λ q x. listed-is q x
+pub returns-clause-listed : goal.returns-clause-listed
+returns-clause-listed c = λ q x. listed-is q x
+
+pub returns-clause-once : goal.returns-clause-once
+returns-clause-once c = λ q. listed-once q
