@@ -1,5 +1,5 @@
 -- Tests over lists: when each element passes, which is the first, and what two tests that imply each other give.
-use Rattle.std.proofs.Common.{◌≡◌, ℕ, zero, suc, List, [], ◌∷◌, ◌++◌, filter, inl, inr, Bool, true, false, cond, ◌||◌, Contains, Some, option_map, slice_get, refl, sym, ap, ◌∙◌, subst, true≢false}
+use Rattle.std.proofs.Common.{◌≡◌, ℕ, zero, suc, List, [], ◌∷◌, ◌++◌, filter, inl, inr, ◌⊎◌, Bool, true, false, cond, ◌||◌, Contains, Some, option_map, slice_get, refl, sym, ap, ◌∙◌, subst, true≢false}
 use Rattle.std.specs.List.{list_all, list_any, find}
 use Rattle.std.proofs.lemmas.Bool.{and_from, or_parts}
 use Rattle.std.proofs.lemmas.Option.{none-some, same_Some}
@@ -54,3 +54,11 @@ place-there {X = X} p (z ∷ xs) i x e h = by (λ k e. place-there p xs k x e h)
     by rest i e true f = (0, z, refl, refl, f)
     by rest zero e false f = absurd (true≢false (sym h ∙ ap p (sym (same_Some z x e)) ∙ f))
     by rest (suc k) e false f = let r = rest k e in (suc r.0, r.1, ap (option_map suc) r.2, r.3, r.4)
+
+-- what is in two lists together is in one of them
+pub in_either : {X : Type 0} (xs ys : List X) (x : X) → Contains (xs ++ ys) x → Contains xs x ⊎ Contains ys x
+in_either [] ys x c = inr c
+in_either (z ∷ xs) ys x c = elim (in_cons z x (xs ++ ys) c) [
+  | inl e ↦ inl (subst (Contains (z ∷ xs)) e (in_first z xs))
+  | inr c ↦ elim (in_either xs ys x c) [ inl c ↦ inl (in_rest z x xs c) | inr c ↦ inr c ]
+]

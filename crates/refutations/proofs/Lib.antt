@@ -7,4 +7,5 @@ pub mod Found
 pub mod Accepting
 pub mod Listing
 pub mod InOrder
+pub mod Sorting
 pub mod Examples

@@ -19,7 +19,7 @@ all_in P [] x h c = absurd (in_none x c)
 all_in P (y ∷ xs) x h c = elim (in_cons y x xs c) [ inl e ↦ subst P e h.0 | inr c ↦ all_in P xs x h.1 c ]
 
 -- where no vertex stands twice each term is the one that is read at its vertex
-states_own : (ts : List Term) (t : Term) → AreApart ts → Contains ts t → states_at ts t.vertex ≡ Some t.states
+pub states_own : (ts : List Term) (t : Term) → AreApart ts → Contains ts t → states_at ts t.vertex ≡ Some t.states
 states_own [] t apart c = absurd (in_none t c)
 states_own (u ∷ ts) t apart c = elim (in_cons u t ts c) [
   | inl e ↦ subst (λ (x : Term). states_at (u ∷ ts) x.vertex ≡ Some x.states) e (ap (λ b. cond b (Some u.states) (states_at ts u.vertex)) (vertex-refl u.vertex))

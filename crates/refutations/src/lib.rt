@@ -6,6 +6,7 @@
 
 ghost use Rattle.std.specs.Prelude.{◌≡◌, ◌≢◌, ◌↔◌, true, Contains, List, None};
 ghost use Rattle.std.specs.List.{AllPairs};
+ghost use Rattle.std.specs.List.Sorted.{IsPermutation};
 ghost use Rattle.std.specs.Ordering.{ordering_reverse};
 ghost use Rattle.std.specs.declared.cmp.Ordering.{Ordering};
 ghost use Rattle.model.specs.Content.{Content, Problem};
@@ -30,6 +31,16 @@ pub fn ordered_terms_are_one()
     ensures { (by_vertex : Vertex → Vertex → Ordering) (by_state : State → State → Ordering)
         → ((v w : Vertex) → by_vertex v w ≡ ordering_reverse (by_vertex w v)) → ((s r : State) → by_state s r ≡ ordering_reverse (by_state r s))
         → (a b : List Term) → IsInOrder by_vertex by_state a → IsInOrder by_vertex by_state b → SameTerms a b → a ≡ b }
+{}
+
+/// Terms of which no two speak of one vertex say the same in any order.
+pub fn sorted_terms_say_the_same()
+    ensures { (a b : List Term) → IsPermutation a b → AreApart a → SameTerms a b }
+{}
+
+/// In a combination no two terms speak of one vertex, if none do in either list.
+pub fn combinations_are_plain()
+    ensures { (q : Problem) (v : Vertex) (a b : List Term) → AreApart a → AreApart b → AreApart (combination q v a b) }
 {}
 
 /// Of every vertex the combination of two lists says what is defined: the union at the one vertex, the intersection at each other.
