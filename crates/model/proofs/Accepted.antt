@@ -36,12 +36,12 @@ instance_apart q k ts (newest_listed o i j d e m l n has had same c r lower any)
 instance_apart q k ts (weakly name v i d m f g has c e n) = ((refl, (refl, (refl, tt))), ((refl, (vertex-other (feat name (class_of v) f) (feat d.real_name m g) n, tt)), ((refl, tt), (tt, tt))))
 
 module _ {A : Type 0} (P : A → Type 0) where
-  all-slice_get : (xs : List A) (i : ℕ) (x : A) → slice_get xs i ≡ Some x → AllByRecursion P xs → P x
+  pub all-slice_get : (xs : List A) (i : ℕ) (x : A) → slice_get xs i ≡ Some x → AllByRecursion P xs → P x
   all-slice_get [] i x e h = cc
   all-slice_get (y ∷ xs) zero x e h = let same : y ≡ x = cc in subst P same h.0
   all-slice_get (y ∷ xs) (suc i) x e h = all-slice_get xs i x e h.1
 
-  all-push : (xs : List A) (x : A) → AllByRecursion P xs → P x → AllByRecursion P (xs ++ x ∷ [])
+  pub all-push : (xs : List A) (x : A) → AllByRecursion P xs → P x → AllByRecursion P (xs ++ x ∷ [])
   all-push [] x h p = (p, tt)
   all-push (y ∷ xs) x h p = (h.0, all-push xs x h.1 p)
 

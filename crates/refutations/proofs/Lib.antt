@@ -8,4 +8,5 @@ pub mod Accepting
 pub mod Listing
 pub mod InOrder
 pub mod Sorting
+pub mod Kept
 pub mod Examples

@@ -1,11 +1,11 @@
 -- Which step of a derivation is refused first, and why (the rule of resolution of Dart pub's `solver.md`; the reasons are this project's).
-use Rattle.std.specs.Prelude.{ℕ, suc, List, [], ◌∷◌, ◌++◌, Bool, true, false, if◌then◌else◌, Option, Some, None, slice_get, length}
+use Rattle.std.specs.Prelude.{◌≡◌, ℕ, suc, List, [], ◌∷◌, ◌++◌, Bool, true, false, if◌then◌else◌, Option, Some, None, slice_get, length}
 use Rattle.std.specs.List.{AllByRecursion}
 use Rattle.std.specs.Option.{option_or}
 use Rattle.model.specs.Content.{Problem}
-use Rattle.model.specs.Vertices.{Vertex}
-use Rattle.model.specs.Axioms.{Term, AreApart}
-use Rattle.model.specs.Derivation.{Step, given, combine, terms_of}
+use Rattle.model.specs.Vertices.{Vertex, State}
+use Rattle.model.specs.Axioms.{Term, at, AreApart, is_full}
+use Rattle.model.specs.Derivation.{states_at, Step, given, combine, terms_of}
 use Rattle.refutations.specs.Terms.{is_combination}
 use Rattle.refutations.specs.Instances.{is_instance}
 
@@ -29,6 +29,10 @@ combines q v (Some a) None ts = false
 -- each step speaks of each vertex once
 abbrev pub ArePlain : List Step → Type 0
 ArePlain steps = AllByRecursion (λ s. AreApart (terms_of s)) steps
+
+-- none of the terms has all states of its vertex
+abbrev pub HasNoFull : Problem → List Term → Type 0
+HasNoFull q ts = (v : Vertex) (ss : List State) → states_at ts v ≡ Some ss → is_full q (at v ss) ≡ false
 
 -- whether the step is accepted after the earlier ones
 abbrev pub is_step : Problem → List Step → Step → Bool

@@ -5,7 +5,7 @@
 #![tactic(auto)]
 
 ghost use Rattle.std.specs.Prelude.{◌≡◌, ◌≢◌, ◌↔◌, true, Contains, List, None};
-ghost use Rattle.std.specs.List.{AllPairs};
+ghost use Rattle.std.specs.List.{AllByRecursion, AllPairs};
 ghost use Rattle.std.specs.List.Sorted.{IsPermutation};
 ghost use Rattle.std.specs.Ordering.{ordering_reverse};
 ghost use Rattle.std.specs.declared.cmp.Ordering.{Ordering};
@@ -14,11 +14,11 @@ ghost use Rattle.model.specs.Selection.{IsValidSelection};
 ghost use Rattle.model.specs.WellFormed.{IsCatalogue};
 ghost use Rattle.model.specs.Vertices.{State, Vertex};
 ghost use Rattle.model.specs.Axioms.{AreApart, IsInstance, Kind, Term, without_full};
-ghost use Rattle.model.specs.Derivation.{IsAccepted, IsCombined, SameTerms, Step, combined_at, states_at};
+ghost use Rattle.model.specs.Derivation.{AreSteps, IsAccepted, IsCombined, SameTerms, Step, combined_at, states_at, terms_of};
 ghost use Rattle.refutations.specs.Terms.{IsInOrder, combination, is_combination, same_terms};
 ghost use Rattle.refutations.specs.Causes.{Cause, is_cause, kind_of, terms_of_cause};
 ghost use Rattle.refutations.specs.Instances.{is_instance};
-ghost use Rattle.refutations.specs.Checks.{ArePlain, refusal};
+ghost use Rattle.refutations.specs.Checks.{ArePlain, HasNoFull, refusal};
 ghost use Rattle.refutations.specs.Listed.{causes};
 
 /// Two lists of terms pass the comparison exactly where they say the same of every vertex.
@@ -78,6 +78,11 @@ pub fn instances_decide()
 /// Nothing is refused of a derivation exactly where it is accepted.
 pub fn refusals_decide()
     ensures { (q : Problem) (steps : List Step) → ArePlain steps → refusal q steps ≡ None ↔ IsAccepted q steps }
+{}
+
+/// No step that is accepted has a term with all states of its vertex, so that none is ever left to be dropped.
+pub fn accepted_steps_have_no_full_term()
+    ensures { (q : Problem) (steps : List Step) → AreSteps q steps → AllByRecursion (λ s. HasNoFull q (terms_of s)) steps }
 {}
 
 /// Where nothing is refused of a derivation no content at all is a valid selection.
