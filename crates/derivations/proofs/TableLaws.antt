@@ -117,16 +117,18 @@ with-last P (y ∷ ys) x h p = (h.0, with-last P ys x h.1 p)
 pub more-states : (s t : TablesView) (ns : List ℕ) (n : ℕ) (x : State) (rest all : List State) → IsGrown s t → AreStatesOf s ns → n < length t.states → state_at t n ≡ x → states_at s ns ++ (x ∷ rest) ≡ all
     → AreStatesOf t (ns ++ n ∷ []) × (states_at t (ns ++ n ∷ []) ++ rest ≡ all)
 more-states s t ns n x rest all g h lt is told =
-    let before = kept-states s t g ns h in
-    (with-last (λ n. n < length t.states) ns n before.0 lt,
-    ap (λ xs. xs ++ rest) (map-append (state_at t) ns (n ∷ []) ∙ ap₂ (λ xs y. xs ++ y ∷ []) before.1 is) ∙ append_assoc (states_at s ns) (x ∷ []) rest ∙ told)
+    let before = kept-states s t g ns h in (
+      with-last (λ n. n < length t.states) ns n before.0 lt,
+      ap (λ xs. xs ++ rest) (map-append (state_at t) ns (n ∷ []) ∙ ap₂ (λ xs y. xs ++ y ∷ []) before.1 is) ∙ append_assoc (states_at s ns) (x ∷ []) rest ∙ told,
+    )
 
 pub more-terms : (s t : TablesView) (ns : List Term) (n : Term) (x : axioms.Term) (rest all : List axioms.Term) → IsGrown s t → AreTermsOf s ns → IsTermOf t n → term_at t n ≡ x → terms_at s ns ++ (x ∷ rest) ≡ all
     → AreTermsOf t (ns ++ n ∷ []) × (terms_at t (ns ++ n ∷ []) ++ rest ≡ all)
 more-terms s t ns n x rest all g h in_t is told =
-    let before = kept-terms s t g ns h in
-    (with-last (IsTermOf t) ns n before.0 in_t,
-    ap (λ xs. xs ++ rest) (map-append (term_at t) ns (n ∷ []) ∙ ap₂ (λ xs y. xs ++ y ∷ []) before.1 is) ∙ append_assoc (terms_at s ns) (x ∷ []) rest ∙ told)
+    let before = kept-terms s t g ns h in (
+      with-last (IsTermOf t) ns n before.0 in_t,
+      ap (λ xs. xs ++ rest) (map-append (term_at t) ns (n ∷ []) ∙ ap₂ (λ xs y. xs ++ y ∷ []) before.1 is) ∙ append_assoc (terms_at s ns) (x ∷ []) rest ∙ told,
+    )
 
 -- one more step, and the tables that it needs
 pub more-steps : (s t : TablesView) (ss : List Step) (x : Step) (step : steps.Step) → IsGrown s t → AreStepsOf s ss → IsStepOf t x → step_at t x ≡ step

@@ -100,12 +100,7 @@ fn push_terms(text: &mut String, tables: &Tables, terms: &[Term]) -> Result<(), 
 }
 
 /// A term, after a comma if it is a later one.
-fn push_term(
-    text: &mut String,
-    tables: &Tables,
-    later: bool,
-    term: &Term,
-) -> Result<(), AllocError>
+fn push_term(text: &mut String, tables: &Tables, later: bool, term: &Term) -> Result<(), AllocError>
     requires { IsTermOf tables.now term.now }
     ensures { OnOk result (string_bytes text.new ≡ string_bytes text.old ++ (comma_if later ++ term_json (term_at tables.now term.now))) }
 {

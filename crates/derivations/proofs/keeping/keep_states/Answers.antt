@@ -11,7 +11,7 @@ states-preserved c =
     let count = ap length here in
     let number = c.in_ok-add_state.ensures.number in
     let more = more-states c.states.tables c.add_state.new.self c.states.kept.items c.in_ok-add_state.field-0 (state_view c.in-Some.state) (state_views (into_iter_items c.next.new.self)) (state_views c.args.states.items)
-        c.in_ok-add_state.ensures.grown c.states.invariant.within number.0 number.1 (rw here at c.states.invariant.told) in
+    c.in_ok-add_state.ensures.grown c.states.invariant.within number.0 number.1 (rw here at c.states.invariant.told) in
     record {
       can = tt;
       finite = tt;

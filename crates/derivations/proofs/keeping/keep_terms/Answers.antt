@@ -10,7 +10,7 @@ terms-preserved c =
     let left : into_iter_len c.next.new.self + 1 ≡ into_iter_len c.terms.term-iterator = c.in-Some.ensures.steps.1 in
     let count = ap length here in
     let more = more-terms c.terms.tables c.keep_term.new.tables c.terms.kept.items c.in_ok-keep_term.field-0 (term_view c.in-Some.term) (term_views (into_iter_items c.next.new.self)) (term_views c.args.terms.items)
-        c.in_ok-keep_term.ensures.grown c.terms.invariant.within c.in_ok-keep_term.ensures.within c.in_ok-keep_term.ensures.term (rw here at c.terms.invariant.told) in
+    c.in_ok-keep_term.ensures.grown c.terms.invariant.within c.in_ok-keep_term.ensures.within c.in_ok-keep_term.ensures.term (rw here at c.terms.invariant.told) in
     record {
       can = tt;
       finite = tt;
