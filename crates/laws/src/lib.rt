@@ -1,0 +1,46 @@
+//! Why a refusal is right: the laws of refusals, of every manifest and every loaded index.
+//!
+//! A law is a function that does nothing: its contract is the statement. Nothing is asked of the arguments but their types.
+#![tactic(auto)]
+
+ghost use Rattle.std.specs.Prelude.{◌≡◌, List, None};
+ghost use Rattle.model.specs.Assignment.{Breaks};
+ghost use Rattle.model.specs.Axioms.{IsInstance, Kind, Term};
+ghost use Rattle.model.specs.Content.{Content};
+ghost use Rattle.model.specs.ContentOf.{AreKept, Kept, content_of};
+ghost use Rattle.model.specs.Derivation.{IsAccepted, Step};
+ghost use Rattle.model.specs.Search.{IsUnbroken, LeadsTo};
+ghost use Rattle.model.specs.Selection.{IsValidSelection};
+ghost use Rattle.model.specs.Vertices.{State, Vertex};
+ghost use Rattle.catalogue.specs.Problems.{problem_in};
+
+use catalogue::{Catalogue, catalogues_are_well_formed};
+use manifest::Manifest;
+
+/// A valid selection breaks no instance of an axiom.
+pub fn axioms_are_sound(manifest: &Manifest, catalogue: &Catalogue)
+    ensures { (content : Content) (kind : Kind) (terms : List Term) → IsInstance (problem_in manifest.now catalogue.now) kind terms
+        → IsValidSelection (problem_in manifest.now catalogue.now) content → Breaks (problem_in manifest.now catalogue.now) content terms → ⊥ }
+{
+    catalogues_are_well_formed(manifest, catalogue);
+    model::axioms_are_sound();
+}
+
+/// Where a derivation is accepted, no content at all is a valid selection.
+pub fn accepted_derivations_refute(manifest: &Manifest, catalogue: &Catalogue)
+    ensures { (content : Content) (steps : List Step) → IsAccepted (problem_in manifest.now catalogue.now) steps
+        → IsValidSelection (problem_in manifest.now catalogue.now) content → ⊥ }
+{
+    catalogues_are_well_formed(manifest, catalogue);
+    model::accepted_derivations_refute();
+}
+
+/// What the root reaches in an assignment that breaks no instance is a valid selection, put into package order.
+pub fn unbroken_assignments_select(manifest: &Manifest, catalogue: &Catalogue)
+    ensures { (state : Vertex → State) (kept : List Kept) → IsUnbroken (problem_in manifest.now catalogue.now) state
+        → AreKept (problem_in manifest.now catalogue.now) (LeadsTo (problem_in manifest.now catalogue.now) state) kept
+        → IsValidSelection (problem_in manifest.now catalogue.now) (content_of (problem_in manifest.now catalogue.now) kept) }
+{
+    catalogues_are_well_formed(manifest, catalogue);
+    model::gathered_contents_select();
+}
