@@ -1,5 +1,5 @@
 -- What finite chains of reasons give, where facts are numbers and each reason needs at most two facts.
-use Rattle.std.specs.Prelude.{◌≡◌, ◌<◌, ◌↔◌, ℕ, Bool, true, false, List, Contains, slice_index_or}
+use Rattle.std.specs.Prelude.{◌≡◌, ◌<◌, ℕ, Bool, true, false, List, Contains, slice_index_or}
 use Rattle.std.specs.List.{All}
 use Rattle.chains.specs.declared.rule.Rule.{Rule}
 

@@ -1,8 +1,10 @@
 //! Marking all that rules give.
 
-ghost use Rattle.std.specs.Prelude.{◌≡◌, ◌↔◌, ℕ, true, length, OnOk};
+ghost use Rattle.std.specs.Prelude.{◌≡◌, ◌↔◌, ℕ, true, length, OnOk, IfOk};
 ghost use Rattle.chains.specs.Chains.{has, IsGiven, AreBelow};
+ghost use Rattle.chains.specs.Worklists.{IsBelow, is_ready, Marks, Follows, Waits};
 
+use crate::lists::{rules_at, rules_by_fact};
 use crate::rule::Rule;
 use std::alloc::{AllocError, Global};
 
@@ -14,8 +16,55 @@ pub fn close(alloc: Global, marked: &mut [bool], rules: &[Rule]) -> Result<(), A
     ensures length { length marked.new ≡ length marked.old }
     ensures given { OnOk result ((i : ℕ) → (has marked.new i ≡ true) ↔ IsGiven rules.now marked.old i) }
 {
-    let _ = alloc;
-    let _ = marked;
-    let _ = rules;
-    Err(AllocError)
+    let lists = rules_by_fact(alloc, marked.len(), rules)?;
+    let mut waiting = all_marked(alloc, marked)?;
+    'facts: while let Some(fact) = waiting.pop() {
+        follow(marked, &mut waiting, rules_at(lists.as_slice(), fact))?;
+    }
+    Ok(())
+}
+
+/// The facts that are marked.
+fn all_marked(alloc: Global, marked: &[bool]) -> Result<Vec<usize>, AllocError>
+    ensures { IfOk result (λ v. Waits marked.now v.items) }
+{
+    let mut waiting = Vec::new(alloc);
+    'facts: for fact in 0..marked.len() {
+        if marked[fact] {
+            waiting.push(fact)?;
+        }
+    }
+    Ok(waiting)
+}
+
+/// Marks what these rules give from what is marked. What wasn't marked before waits.
+fn follow(marked: &mut [bool], waiting: &mut Vec<usize>, rules: &[Rule]) -> Result<(), AllocError>
+    requires below { AreBelow (length marked.old) rules.now }
+    ensures length { length marked.new ≡ length marked.old }
+    ensures follows { OnOk result (Follows rules.now marked.old waiting.old.items marked.new waiting.new.items) }
+{
+    'rules: for rule in rules {
+        mark(marked, waiting, rule)?;
+    }
+    Ok(())
+}
+
+fn mark(marked: &mut [bool], waiting: &mut Vec<usize>, rule: &Rule) -> Result<(), AllocError>
+    requires below { IsBelow (length marked.old) rule.now }
+    ensures length { length marked.new ≡ length marked.old }
+    ensures marks { OnOk result (Marks rule.now marked.old waiting.old.items marked.new waiting.new.items) }
+{
+    if is_ready(marked, rule) {
+        marked[rule.gives] = true;
+        waiting.push(rule.gives)?;
+    }
+    Ok(())
+}
+
+/// Whether a rule gives something new.
+fn is_ready(marked: &[bool], rule: &Rule) -> bool
+    requires below { IsBelow (length marked.now) rule.now }
+    ensures { result ≡ is_ready marked.now rule.now }
+{
+    marked[rule.first] && marked[rule.second] && !marked[rule.gives]
 }

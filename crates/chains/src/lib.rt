@@ -2,6 +2,7 @@
 #![tactic(auto)]
 
 mod closing;
+mod lists;
 mod rule;
 
 pub use closing::close;
