@@ -1,2 +1,4 @@
 pub use Rattle.model.specs.Facts
 pub mod Graphs
+pub mod Places
+pub mod RuleLists

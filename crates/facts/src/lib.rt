@@ -3,6 +3,9 @@
 
 mod finding;
 mod node;
+mod numbering;
+mod place;
+mod rules;
 
 pub use finding::{Facts, facts_of};
 pub use node::Node;

@@ -1,0 +1,106 @@
+-- What is in the list of rules.
+use Rattle.std.proofs.Common.{◌≡◌, ℕ, zero, suc, ◌<◌, ◌+◌, List, [], ◌∷◌, ◌++◌, map, length, Bool, true, false, cond, nat_eq, Option, Some, None, slice_get, unwrap_or, Contains, refl, sym, ap, ◌∙◌, subst, inl, inr, ◌⊎◌, arith, true≢false}
+use Rattle.std.specs.List.{flat_map}
+use Rattle.std.proofs.lemmas.List.Elements.{Contains-append_cases, Contains-append_left, Contains-append_right}
+use Rattle.std.proofs.lemmas.Option.{slice_get-get_or, slice_get_within, get_or_from_slice_get}
+use Rattle.chains.specs.declared.rule.Rule.{Rule}
+use Rattle.model.specs.Owner.{Entry, Table, entries_at, same_text}
+use Rattle.model.proofs.Same.{text-same}
+use Rattle.model.proofs.Lists.{in_none, in_cons, in_first, in_rest}
+use Rattle.facts.specs.Places.{LinkView, PlaceView}
+use Rattle.facts.specs.RuleLists.{number_on, link_rules, entry_rules, root_rules, entries_rules, feature_rules, place_rules, rules_from, all_rules}
+
+module _ {X Y : Type 0} (f : X → List Y) where
+  pub in_flat : (xs : List X) (y : Y) → Contains (flat_map f xs) y → (x : X) × Contains xs x × Contains (f x) y
+  in_flat [] y c = absurd (in_none y c)
+  in_flat (x ∷ xs) y c = elim (Contains-append_cases (f x) (flat_map f xs) y c) [
+    | inl c ↦ (x, in_first x xs, c)
+    | inr c ↦ let r = in_flat xs y c in (r.0, in_rest x r.0 xs r.1, r.2)
+  ]
+
+  pub to_flat : (xs : List X) (x : X) (y : Y) → Contains xs x → Contains (f x) y → Contains (flat_map f xs) y
+  to_flat [] x y c e = absurd (in_none x c)
+  to_flat (z ∷ xs) x y c e = elim (in_cons z x xs c) [
+    | inl s ↦ Contains-append_left (f z) (flat_map f xs) y (subst (λ w. Contains (f w) y) (sym s) e)
+    | inr c ↦ Contains-append_right (f z) (flat_map f xs) y (to_flat xs x y c e)
+  ]
+
+module _ {X : Type 0} where
+  pub in_one : (x y : X) → Contains (x ∷ []) y → x ≡ y
+  in_one x y c = elim (in_cons x y [] c) [ inl e ↦ e | inr c ↦ absurd (in_none y c) ]
+
+  pub contains_get : (xs : List X) (x : X) → Contains xs x → (i : ℕ) × (slice_get xs i ≡ Some x)
+  contains_get xs x c = (c.0, slice_get-get_or xs c.0 x c.1 ∙ ap Some c.2)
+
+  pub get_contains : (xs : List X) (i : ℕ) (x : X) → slice_get xs i ≡ Some x → Contains xs x
+  get_contains xs i x e = (i, slice_get_within xs i x e, get_or_from_slice_get xs i x x e)
+
+-- the entries of a feature stand in a row of its name
+pub row_of : (f : List ℕ) (rows : Table) (es : List Entry) → entries_at f rows ≡ Some es → (row : List ℕ × List Entry) × Contains rows row × (row.0 ≡ f) × (row.1 ≡ es)
+row_of f [] es e = let z : None ≡ Some es = e in absurd cc
+row_of f (row ∷ rows) es e = by (same_text f row.0) refl e (λ e. row_of f rows es e)
+  where
+    by : (b : Bool) → same_text f row.0 ≡ b → cond b (Some row.1) (entries_at f rows) ≡ Some es
+        → (entries_at f rows ≡ Some es → (r : List ℕ × List Entry) × Contains rows r × (r.0 ≡ f) × (r.1 ≡ es))
+        → (r : List ℕ × List Entry) × Contains (row ∷ rows) r × (r.0 ≡ f) × (r.1 ≡ es)
+    by true x e rest = (row, in_first row rows, sym (text-same f row.0 x), let s : row.1 ≡ es = cc in s)
+    by false x e rest = let r = rest e in (r.0, in_rest row r.0 rows r.1, r.2, r.3)
+
+module _ (ps : List PlaceView) (root : ℕ) where
+  -- a rule is one of some package
+  in_from : (n : ℕ) (qs : List PlaceView) (r : Rule) → Contains (rules_from ps root n qs) r
+      → (j : ℕ) × (p : PlaceView) × (slice_get qs j ≡ Some p) × Contains (place_rules ps (nat_eq (n + j) root) p) r
+  in_from n [] r c = absurd (in_none r c)
+  in_from n (q ∷ qs) r c = elim (Contains-append_cases (place_rules ps (nat_eq n root) q) (rules_from ps root (suc n) qs) r c) [
+    | inl c ↦ (0, q, refl, let e : n ≡ n + 0 = omega arith in subst (λ m. Contains (place_rules ps (nat_eq m root) q) r) e c)
+    | inr c ↦
+        let (j, p, got, has) = in_from (suc n) qs r c in
+        (suc j, p, got, let e : suc n + j ≡ n + suc j = omega arith in subst (λ m. Contains (place_rules ps (nat_eq m root) p) r) e has)
+  ]
+
+  pub in_rules : (r : Rule) → Contains (all_rules root ps) r → (n : ℕ) × (p : PlaceView) × (slice_get ps n ≡ Some p) × Contains (place_rules ps (nat_eq n root) p) r
+  in_rules r c =
+      let (j, p, got, has) = in_from 0 ps r c in
+      (j, p, got, let e : 0 + j ≡ j = omega arith in subst (λ m. Contains (place_rules ps (nat_eq m root) p) r) e has)
+
+  to_from : (n : ℕ) (qs : List PlaceView) (j : ℕ) (p : PlaceView) (r : Rule) → slice_get qs j ≡ Some p → Contains (place_rules ps (nat_eq (n + j) root) p) r
+      → Contains (rules_from ps root n qs) r
+  to_from n [] j p r got c = let z : None ≡ Some p = got in absurd cc
+  to_from n (q ∷ qs) zero p r got c =
+      let s : p ≡ q = cc in
+      let e : n + 0 ≡ n = omega arith in
+      Contains-append_left (place_rules ps (nat_eq n root) q) (rules_from ps root (suc n) qs) r
+      (subst (λ w. Contains (place_rules ps (nat_eq n root) w) r) s (subst (λ m. Contains (place_rules ps (nat_eq m root) p) r) e c))
+  to_from n (q ∷ qs) (suc j) p r got c =
+      let e : n + suc j ≡ suc n + j = omega arith in
+      Contains-append_right (place_rules ps (nat_eq n root) q) (rules_from ps root (suc n) qs) r
+      (to_from (suc n) qs j p r got (subst (λ m. Contains (place_rules ps (nat_eq m root) p) r) e c))
+
+  to_rules : (n : ℕ) (p : PlaceView) (r : Rule) → slice_get ps n ≡ Some p → Contains (place_rules ps (nat_eq n root) p) r → Contains (all_rules root ps) r
+  to_rules n p r got c = let e : n ≡ 0 + n = omega arith in to_from 0 ps n p r got (subst (λ m. Contains (place_rules ps (nat_eq m root) p) r) e c)
+
+  abbrev all_links : Bool → PlaceView → List Rule
+  all_links b p = flat_map (link_rules ps b p.here) p.links
+
+  abbrev all_features : Bool → PlaceView → List Rule
+  all_features b p = flat_map (λ row. feature_rules ps b p p.brings.features row.0) p.brings.features
+
+  -- a rule of a dependency is among all
+  pub to_link : (n : ℕ) (p : PlaceView) (i : ℕ) (l : LinkView) (r : Rule) → slice_get ps n ≡ Some p → slice_get p.links i ≡ Some l
+      → Contains (link_rules ps (nat_eq n root) p.here l) r → Contains (all_rules root ps) r
+  to_link n p i l r got at c = to_rules n p r got
+      (Contains-append_left (all_links (nat_eq n root) p) (all_features (nat_eq n root) p) r
+      (to_flat (link_rules ps (nat_eq n root) p.here) p.links l r (get_contains p.links i l at) c))
+
+  -- a rule of an entry is among all
+  pub to_entry : (n : ℕ) (p : PlaceView) (f : List ℕ) (es : List Entry) (e : Entry) (r : Rule) → slice_get ps n ≡ Some p → entries_at f p.brings.features ≡ Some es → Contains es e
+      → Contains (entry_rules ps p (number_on p f) e ++ root_rules ps (nat_eq n root) p e) r → Contains (all_rules root ps) r
+  to_entry n p f es e r got found has c =
+      let rows = p.brings.features in
+      let b = nat_eq n root in
+      let row = row_of f rows es found in
+      let all : Contains (feature_rules ps b p rows f) r = subst (λ o. Contains (entries_rules ps b p (number_on p f) (unwrap_or o [])) r) (sym found)
+      (to_flat (λ e. entry_rules ps p (number_on p f) e ++ root_rules ps b p e) es e r has c) in
+      to_rules n p r got
+      (Contains-append_right (all_links b p) (all_features b p) r
+      (to_flat (λ row. feature_rules ps b p rows row.0) rows row.0 r row.1 (subst (λ g. Contains (feature_rules ps b p rows g) r) (sym row.2) all)))

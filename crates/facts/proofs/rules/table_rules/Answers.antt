@@ -1,0 +1,32 @@
+use Rattle.std.proofs.Common.{rules, ◌≡◌, ◌++◌, ◌∷◌, [], List, ℕ, Vec, sym, ap, ap₂, ◌∙◌}
+use Rattle.std.specs.List.{flat_map}
+use Rattle.std.specs.declared.alloc.Global.{Global}
+use Rattle.features.specs.Tables.{rows_of}
+use Rattle.features.specs.EntryViews.{entry_views}
+use Rattle.features.specs.declared.entry.Entry.{Entry}
+use Rattle.model.specs.Owner as model
+use Rattle.chains.specs.declared.rule.Rule.{Rule}
+use Rattle.facts.specs.Places.{place_view, place_views}
+use Rattle.facts.specs.RuleLists.{number_on, entries_rules, feature_rules}
+use Rattle.facts.proofs.LoopLemmas.{rest_more}
+use Rattle.facts.proofs.rules.table_rules.Goals as goal
+
+pub rows-preserved : goal.rows-preserved
+rows-preserved c =
+    let ps = place_views c.args.places.now in
+    let p = place_view c.args.place.now in
+    let table = c.args.table.now in
+    let row : List ℕ × Vec Entry Global = (c.in-Some.name.now, c.in-Some.field-0-1.now) in
+    let rest : List (List ℕ × Vec Entry Global) = c.next.new.self in
+    let steps : c.rows.name-iterator ≡ row ∷ rest = search rules in
+    let f : List ℕ × List model.Entry → List Rule = λ r. feature_rules ps c.args.is_root p table r.0 in
+    let first : List ℕ × List model.Entry = (row.0, entry_views row.1.items) in
+    let fact : c.number_on-fact.result ≡ number_on p row.0 = c.number_on-fact.ensures ∙ ap (number_on p) c.as_str.ensures.text in
+    let step : c.entries_rules.new.rules.items ≡ c.rows.rules.items ++ f first
+    = c.in_ok-entries_rules.ensures ∙ ap₂ (λ a es. c.rows.rules.items ++ entries_rules ps c.args.is_root p a es) fact c.entries.ensures in
+    record {
+      can = tt;
+      finite = tt;
+      told = rest_more f c.rows.rules.items c.entries_rules.new.rules.items (c.args.rules.now.items ++ flat_map f table) first (rows_of rest)
+          (ap (λ es. c.rows.rules.items ++ flat_map f (rows_of es)) (sym steps) ∙ c.rows.invariant.told) step;
+    }

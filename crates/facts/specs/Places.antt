@@ -1,0 +1,97 @@
+-- The numbers of facts: each package has its own, one after another.
+use Rattle.std.specs.Prelude.{◌≡◌, ◌+◌, ℕ, zero, suc, Bool, false, if◌then◌else◌, List, [], ◌∷◌, ◌++◌, map, length, Vec, Option, None, Some, slice_get, option_and_then}
+use Rattle.std.specs.List.{filter, flat_map}
+use Rattle.std.specs.Map.{lookup}
+use Rattle.std.specs.Borrow.{Bor}
+use Rattle.std.specs.declared.alloc.Global.{Global}
+use Rattle.model.specs.Owner.{Owner, Dependency, Table, same_text}
+use Rattle.features.specs.Views.{dependency_view}
+use Rattle.facts.specs.declared.place.Link.{Link}
+use Rattle.facts.specs.declared.place.Place.{Place}
+use Rattle.facts.specs.Graphs.{brings_view, NodeView}
+
+-- a dependency with the number of the fact that it is enabled, and the place to which it leads
+pub record LinkView : Type 0 where
+  pub dependency : Dependency
+  pub enabled : ℕ
+  pub target : Option ℕ
+
+abbrev pub link_view : Link → LinkView
+link_view l = record { dependency = dependency_view l.dependency.now; enabled = l.enabled; target = l.target }
+
+abbrev pub link_views : List Link → List LinkView
+link_views ls = map link_view ls
+
+-- what a map has at a text
+abbrev pub at_text : {X : Type 0} → List (Bor (List ℕ) × X) → List ℕ → Option X
+at_text es f = lookup (λ k. same_text f k.now) es
+
+abbrev pub links_if : Option (Vec Link Global) → List LinkView
+links_if None = []
+links_if (Some v) = link_views v.items
+
+pub record PlaceView : Type 0 where
+  pub brings : Owner
+  -- that it is here
+  pub here : ℕ
+  -- that a feature is on which it lacks
+  pub lacks : ℕ
+  -- that a feature is on which it has
+  pub numbers : List ℕ → Option ℕ
+  -- its dependencies by number, and those called so
+  pub links : List LinkView
+  pub called : List ℕ → List LinkView
+
+abbrev pub place_view : Place → PlaceView
+place_view p = record {
+  brings = brings_view p.brings;
+  here = p.here;
+  lacks = p.lacks;
+  numbers = λ f. at_text p.features.entries f;
+  links = link_views p.links.items;
+  called = λ d. links_if (at_text p.called.entries d);
+}
+
+abbrev pub place_views : List Place → List PlaceView
+place_views ps = map place_view ps
+
+-- the number of a feature, where the first row has the number k and o was found before
+abbrev pub number_in : ℕ → Option ℕ → List ℕ → Table → Option ℕ
+number_in k o f [] = o
+number_in k o f (row ∷ rows) = number_in (suc k) (if same_text f row.0 then Some k else o) f rows
+
+-- the dependencies with their numbers, where the first of them is dependency i and has the number k
+abbrev pub links_from : ℕ → List (Option ℕ) → ℕ → List Dependency → List LinkView
+links_from k targets i [] = []
+links_from k targets i (d ∷ ds) =
+    record { dependency = d; enabled = k; target = option_and_then (λ o. o) (slice_get targets i) } ∷ links_from (suc k) targets (suc i) ds
+
+abbrev pub links_called : List ℕ → List LinkView → List LinkView
+links_called d ls = filter (λ l. same_text d l.dependency.name) ls
+
+-- the numbers of a package's facts begin at k
+pub record IsPlaceFrom (k : ℕ) (x : NodeView) (p : PlaceView) : Type 0 where
+  pub brings : p.brings ≡ x.brings
+  pub here : p.here ≡ k
+  pub lacks : p.lacks ≡ suc k
+  pub numbers : (f : List ℕ) → p.numbers f ≡ number_in (suc (suc k)) None f x.brings.features
+  pub links : p.links ≡ links_from (suc (suc k) + length x.brings.features) x.targets 0 x.brings.dependencies
+  pub called : (d : List ℕ) → p.called d ≡ links_called d p.links
+
+-- a flag for something that isn't marked
+abbrev pub unmarked_for : {X : Type 0} → List X → List Bool
+unmarked_for xs = map (λ x. false) xs
+
+-- what is marked of a package's facts from the start
+abbrev pub flags_of : NodeView → List Bool
+flags_of x = x.starts ∷ false ∷ unmarked_for x.brings.features ++ unmarked_for x.brings.dependencies
+
+-- the numbers of the packages' facts, one package after another from k on
+abbrev pub ArePlacesFrom : ℕ → List NodeView → List PlaceView → Type 0
+ArePlacesFrom k [] [] = Unit {0}
+ArePlacesFrom k [] (p ∷ ps) = ⊥
+ArePlacesFrom k (x ∷ xs) [] = ⊥
+ArePlacesFrom k (x ∷ xs) (p ∷ ps) = IsPlaceFrom k x p × ArePlacesFrom (k + length (flags_of x)) xs ps
+
+abbrev pub flags_of_all : List NodeView → List Bool
+flags_of_all xs = flat_map flags_of xs

@@ -1,0 +1,88 @@
+-- The rules of features over the numbers of facts (Cargo book, "Features").
+use Rattle.std.specs.Prelude.{ℕ, suc, Bool, true, false, not, ◌||◌, if◌then◌else◌, List, [], ◌∷◌, ◌++◌, map, Option, None, Some, nat_eq, slice_get, unwrap_or, option_and_then}
+use Rattle.std.specs.List.{flat_map}
+use Rattle.chains.specs.declared.rule.Rule.{Rule}
+use Rattle.model.specs.Owner.{Table, Entry, feature, dependency, dependency_feature, weak_feature, entries_at, asked_of_target}
+use Rattle.facts.specs.Places.{LinkView, PlaceView}
+
+-- a rule that needs one fact
+abbrev pub one : ℕ → ℕ → Rule
+one a g = record { first = a; second = a; gives = g }
+
+abbrev pub both : ℕ → ℕ → ℕ → Rule
+both a b g = record { first = a; second = b; gives = g }
+
+-- the number of the fact that a feature is on at a package
+abbrev pub number_on : PlaceView → List ℕ → ℕ
+number_on p f = unwrap_or (p.numbers f) p.lacks
+
+abbrev pub place_at : List PlaceView → Option ℕ → Option PlaceView
+place_at ps target = option_and_then (λ t. slice_get ps t) target
+
+-- facts ask a target for a feature
+abbrev pub ask : ℕ → ℕ → Option PlaceView → List ℕ → List Rule
+ask a b None g = []
+ask a b (Some q) g = both a b (number_on q g) ∷ []
+
+abbrev pub ask_features : ℕ → PlaceView → List (List ℕ) → List Rule
+ask_features a q fs = flat_map (λ f. one a (number_on q f) ∷ []) fs
+
+-- an enabled dependency brings its target, and asks it for features
+abbrev pub arrive : LinkView → Option PlaceView → List Rule
+arrive l None = []
+arrive l (Some q) = one l.enabled q.here ∷ ask_features l.enabled q (asked_of_target l.dependency)
+
+-- whether the package needs the dependency
+abbrev pub is_needed : Bool → LinkView → Bool
+is_needed is_root l = is_root || not l.dependency.optional
+
+abbrev pub need : Bool → ℕ → LinkView → List Rule
+need is_root here l = if is_needed is_root l then one here l.enabled ∷ [] else []
+
+-- the dependencies are enabled
+abbrev pub enable_all : ℕ → List LinkView → List Rule
+enable_all a ls = flat_map (λ l. one a l.enabled ∷ []) ls
+
+module _ (ps : List PlaceView) where
+  abbrev pub link_rules : Bool → ℕ → LinkView → List Rule
+  link_rules is_root here l = need is_root here l ++ arrive l (place_at ps l.target)
+
+  -- each target is asked for a feature, whether or not its dependency is enabled, or only where it is
+  abbrev pub ask_all : ℕ → List LinkView → List ℕ → List Rule
+  ask_all a ls g = flat_map (λ l. ask a a (place_at ps l.target) g) ls
+
+  abbrev pub ask_enabled : ℕ → List LinkView → List ℕ → List Rule
+  ask_enabled a ls g = flat_map (λ l. ask a l.enabled (place_at ps l.target) g) ls
+
+  -- an entry of a feature whose fact has the number a
+  abbrev pub entry_rules : PlaceView → ℕ → Entry → List Rule
+  entry_rules p a (feature g) = one a (number_on p g) ∷ []
+  entry_rules p a (dependency d) = enable_all a (p.called d)
+  entry_rules p a (dependency_feature d g) = enable_all a (p.called d) ++ ask_all a (p.called d) g
+  entry_rules p a (weak_feature d g) = ask_enabled a (p.called d) g
+
+  -- an entry of the root, which is here
+  abbrev pub root_rules : Bool → PlaceView → Entry → List Rule
+  root_rules false p e = []
+  root_rules true p (feature g) = []
+  root_rules true p (dependency d) = []
+  root_rules true p (dependency_feature d g) = ask_all p.here (p.called d) g
+  root_rules true p (weak_feature d g) = ask_all p.here (p.called d) g
+
+  abbrev pub entries_rules : Bool → PlaceView → ℕ → List Entry → List Rule
+  entries_rules is_root p a es = flat_map (λ e. entry_rules p a e ++ root_rules is_root p e) es
+
+  -- a feature with its entries in the table
+  abbrev pub feature_rules : Bool → PlaceView → Table → List ℕ → List Rule
+  feature_rules is_root p table f = entries_rules is_root p (number_on p f) (unwrap_or (entries_at f table) [])
+
+  abbrev pub place_rules : Bool → PlaceView → List Rule
+  place_rules is_root p = flat_map (link_rules is_root p.here) p.links ++ flat_map (λ row. feature_rules is_root p p.brings.features row.0) p.brings.features
+
+  -- the rules of packages, where the first of them stands at place n
+  abbrev pub rules_from : ℕ → ℕ → List PlaceView → List Rule
+  rules_from root n [] = []
+  rules_from root n (p ∷ qs) = place_rules (nat_eq n root) p ++ rules_from root (suc n) qs
+
+abbrev pub all_rules : ℕ → List PlaceView → List Rule
+all_rules root ps = rules_from ps root 0 ps

@@ -1,0 +1,156 @@
+//! Facts get their numbers: each package's one after another.
+
+ghost use Rattle.std.specs.Prelude.{◌≡◌, ◌++◌, ◌∷◌, [], ℕ, List, None, Some, length, map, OnOk, IfOk};
+ghost use Rattle.features.specs.Views.{dependency_views};
+ghost use Rattle.facts.specs.Graphs.{brings_view, node_view, node_views, target_if};
+ghost use Rattle.facts.specs.Places.{at_text, number_in, link_view, link_views, links_if, links_from, links_called, unmarked_for, flags_of, flags_of_all, place_view, place_views, IsPlaceFrom, ArePlacesFrom};
+
+use crate::node::Node;
+use crate::place::{Link, Place};
+use features::{Dependency, FeatureTable, Owner};
+use std::alloc::{AllocError, Global};
+use std::collections::BTreeMap;
+
+/// The packages with the numbers of their facts. What is marked from the start is put to `marked`, a flag for each fact.
+pub(crate) fn places_of<'a>(
+    alloc: Global,
+    nodes: &[Node<'a>],
+    marked: &mut Vec<bool>,
+) -> Result<Vec<Place<'a>>, AllocError>
+    ensures marked { OnOk result (marked.new.items ≡ marked.old.items ++ flags_of_all (node_views nodes.now)) }
+    ensures places { IfOk result (λ v. ArePlacesFrom (length marked.old.items) (node_views nodes.now) (place_views v.items)) }
+{
+    let mut places = Vec::new(alloc);
+    'nodes: for node in nodes {
+        places.push(place_of(alloc, node, marked)?)?;
+    }
+    Ok(places)
+}
+
+fn place_of<'a>(
+    alloc: Global,
+    node: &Node<'a>,
+    marked: &mut Vec<bool>,
+) -> Result<Place<'a>, AllocError>
+    ensures marked { OnOk result (marked.new.items ≡ marked.old.items ++ flags_of (node_view node.now)) }
+    ensures place { IfOk result (λ p. IsPlaceFrom (length marked.old.items) (node_view node.now) (place_view p)) }
+{
+    let here = marked.len();
+    marked.push(node.starts)?;
+    let lacks = marked.len();
+    marked.push(false)?;
+    let features = features_of(alloc, node.brings, marked)?;
+    let links = links_of(alloc, node, marked)?;
+    let called = by_name(alloc, links.as_slice())?;
+    Ok(Place {
+        brings: node.brings,
+        here,
+        lacks,
+        features,
+        links,
+        called,
+    })
+}
+
+/// The numbers of the features that a package has.
+fn features_of<'a>(
+    alloc: Global,
+    brings: Option<&'a Owner>,
+    marked: &mut Vec<bool>,
+) -> Result<BTreeMap<&'a str, usize>, AllocError>
+    ensures marked { OnOk result (marked.new.items ≡ marked.old.items ++ unmarked_for (brings_view brings.entry).features) }
+    ensures numbers { IfOk result (λ m. (f : List ℕ) → at_text m.entries f ≡ number_in (length marked.old.items) None f (brings_view brings.entry).features) }
+{
+    match brings {
+        Some(owner) => table_numbers(alloc, &owner.features, marked),
+        None => Ok(BTreeMap::new(alloc)),
+    }
+}
+
+fn table_numbers<'a>(
+    alloc: Global,
+    table: &'a FeatureTable,
+    marked: &mut Vec<bool>,
+) -> Result<BTreeMap<&'a str, usize>, AllocError>
+    ensures marked { OnOk result (marked.new.items ≡ marked.old.items ++ unmarked_for table.entry.now) }
+    ensures numbers { IfOk result (λ m. (f : List ℕ) → at_text m.entries f ≡ number_in (length marked.old.items) None f table.entry.now) }
+{
+    let mut numbers = BTreeMap::new(alloc);
+    'rows: for (name, _) in table.iter() {
+        numbers.insert(name.as_str(), marked.len())?;
+        marked.push(false)?;
+    }
+    Ok(numbers)
+}
+
+/// The dependencies of a package by number.
+fn links_of<'a>(
+    alloc: Global,
+    node: &Node<'a>,
+    marked: &mut Vec<bool>,
+) -> Result<Vec<Link<'a>>, AllocError>
+    ensures marked { OnOk result (marked.new.items ≡ marked.old.items ++ unmarked_for (node_view node.now).brings.dependencies) }
+    ensures links { IfOk result (λ v. link_views v.items ≡ links_from (length marked.old.items) node.now.targets.items 0 (node_view node.now).brings.dependencies) }
+{
+    let mut links = Vec::new(alloc);
+    'dependencies: for (number, dependency) in dependencies_of(node.brings).iter().enumerate() {
+        links.push(Link {
+            dependency,
+            enabled: marked.len(),
+            target: target_of(node, number),
+        })?;
+        marked.push(false)?;
+    }
+    Ok(links)
+}
+
+fn dependencies_of(brings: Option<&Owner>) -> &[Dependency]
+    ensures { dependency_views result.now ≡ (brings_view brings.entry).dependencies }
+{
+    match brings {
+        Some(owner) => owner.dependencies.as_slice(),
+        None => &[],
+    }
+}
+
+/// The place to which a dependency leads.
+fn target_of(node: &Node<'_>, number: usize) -> Option<usize>
+    ensures { result ≡ target_if number (Some (node_view node.now)) }
+{
+    match node.targets.get(number) {
+        Some(target) => *target,
+        None => None,
+    }
+}
+
+/// The dependencies by the names that they are called by.
+fn by_name<'a>(
+    alloc: Global,
+    links: &[Link<'a>],
+) -> Result<BTreeMap<&'a str, Vec<Link<'a>>>, AllocError>
+    ensures { IfOk result (λ m. (d : List ℕ) → links_if (at_text m.entries d) ≡ links_called d (link_views links.now)) }
+{
+    let mut called = BTreeMap::new(alloc);
+    'links: for link in links {
+        put(alloc, &mut called, *link)?;
+    }
+    Ok(called)
+}
+
+fn put<'a>(
+    alloc: Global,
+    called: &mut BTreeMap<&'a str, Vec<Link<'a>>>,
+    link: Link<'a>,
+) -> Result<(), AllocError>
+    ensures { OnOk result ((d : List ℕ) → links_if (at_text called.new.entries d) ≡ links_if (at_text called.old.entries d) ++ links_called d (link_views (link.entry ∷ []))) }
+{
+    let name = link.dependency.name.as_str();
+    if let Some(links) = called.get_mut(name) {
+        links.push(link)?;
+        return Ok(());
+    }
+    let mut links = Vec::new(alloc);
+    links.push(link)?;
+    called.insert(name, links)?;
+    Ok(())
+}
