@@ -4,3 +4,4 @@ pub mod PlaceLemmas
 pub mod Numbers
 pub mod Members
 pub mod Sound
+pub mod Complete

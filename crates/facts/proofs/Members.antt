@@ -8,7 +8,7 @@ use Rattle.model.specs.Owner.{Entry, Table, entries_at, same_text}
 use Rattle.model.proofs.Same.{text-same}
 use Rattle.model.proofs.Lists.{in_none, in_cons, in_first, in_rest}
 use Rattle.facts.specs.Places.{LinkView, PlaceView}
-use Rattle.facts.specs.RuleLists.{number_on, link_rules, entry_rules, root_rules, entries_rules, feature_rules, place_rules, rules_from, all_rules}
+use Rattle.facts.specs.RuleLists.{number_on, link_rules, entry_rules, root_rules, root_entries, root_table, entries_rules, feature_rules, features_rules, table_rules, place_rules, rules_from, all_rules}
 
 module _ {X Y : Type 0} (f : X → List Y) where
   pub in_flat : (xs : List X) (y : Y) → Contains (flat_map f xs) y → (x : X) × Contains xs x × Contains (f x) y
@@ -82,25 +82,37 @@ module _ (ps : List PlaceView) (root : ℕ) where
   abbrev all_links : Bool → PlaceView → List Rule
   all_links b p = flat_map (link_rules ps b p.here) p.links
 
-  abbrev all_features : Bool → PlaceView → List Rule
-  all_features b p = flat_map (λ row. feature_rules ps b p p.brings.features row.0) p.brings.features
-
   -- a rule of a dependency is among all
   pub to_link : (n : ℕ) (p : PlaceView) (i : ℕ) (l : LinkView) (r : Rule) → slice_get ps n ≡ Some p → slice_get p.links i ≡ Some l
       → Contains (link_rules ps (nat_eq n root) p.here l) r → Contains (all_rules root ps) r
   to_link n p i l r got at c = to_rules n p r got
-      (Contains-append_left (all_links (nat_eq n root) p) (all_features (nat_eq n root) p) r
+      (Contains-append_left (all_links (nat_eq n root) p) (table_rules ps (nat_eq n root) p p.brings.features) r
       (to_flat (link_rules ps (nat_eq n root) p.here) p.links l r (get_contains p.links i l at) c))
+
+  abbrev root_part : Bool → PlaceView → List Rule
+  root_part b p = cond b (root_table ps p p.brings.features) []
 
   -- a rule of an entry is among all
   pub to_entry : (n : ℕ) (p : PlaceView) (f : List ℕ) (es : List Entry) (e : Entry) (r : Rule) → slice_get ps n ≡ Some p → entries_at f p.brings.features ≡ Some es → Contains es e
-      → Contains (entry_rules ps p (number_on p f) e ++ root_rules ps (nat_eq n root) p e) r → Contains (all_rules root ps) r
+      → Contains (entry_rules ps p (number_on p f) e) r → Contains (all_rules root ps) r
   to_entry n p f es e r got found has c =
       let rows = p.brings.features in
       let b = nat_eq n root in
       let row = row_of f rows es found in
-      let all : Contains (feature_rules ps b p rows f) r = subst (λ o. Contains (entries_rules ps b p (number_on p f) (unwrap_or o [])) r) (sym found)
-      (to_flat (λ e. entry_rules ps p (number_on p f) e ++ root_rules ps b p e) es e r has c) in
+      let all : Contains (feature_rules ps p rows f) r = subst (λ o. Contains (entries_rules ps p (number_on p f) (unwrap_or o [])) r) (sym found)
+          (to_flat (entry_rules ps p (number_on p f)) es e r has c) in
       to_rules n p r got
-      (Contains-append_right (all_links b p) (all_features b p) r
-      (to_flat (λ row. feature_rules ps b p rows row.0) rows row.0 r row.1 (subst (λ g. Contains (feature_rules ps b p rows g) r) (sym row.2) all)))
+      (Contains-append_right (all_links b p) (table_rules ps b p rows) r
+      (Contains-append_left (features_rules ps p rows) (root_part b p) r
+      (to_flat (λ row. feature_rules ps p rows row.0) rows row.0 r row.1 (subst (λ g. Contains (feature_rules ps p rows g) r) (sym row.2) all))))
+
+  -- a rule of an entry of the root is among all
+  pub to_root : (n : ℕ) (p : PlaceView) (row : List ℕ × List Entry) (e : Entry) (r : Rule) → slice_get ps n ≡ Some p → nat_eq n root ≡ true → Contains p.brings.features row
+      → Contains row.1 e → Contains (root_rules ps p e) r → Contains (all_rules root ps) r
+  to_root n p row e r got z has m c =
+      let rows = p.brings.features in
+      let b = nat_eq n root in
+      to_rules n p r got
+      (Contains-append_right (all_links b p) (table_rules ps b p rows) r
+      (Contains-append_right (features_rules ps p rows) (root_part b p) r
+      (subst (λ b. Contains (root_part b p) r) (sym z) (to_flat (λ row. root_entries ps p row.1) rows row r has (to_flat (root_rules ps p) row.1 e r m c)))))

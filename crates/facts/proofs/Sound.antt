@@ -15,7 +15,7 @@ use Rattle.model.proofs.Lists.{in_none, in_cons, in_first, in_filter, to_filter,
 use Rattle.manifest.specs.Manifests.{root_asks, asked_by}
 use Rattle.facts.specs.Graphs.{NodeView, brings_if, starts_if, target_if, brings_at, starts_at, target_at, IsFactOf, LacksFeature, AreWithin, IsGraph}
 use Rattle.facts.specs.Places.{LinkView, PlaceView, links_called}
-use Rattle.facts.specs.RuleLists.{one, both, number_on, place_at, ask, ask_features, arrive, is_needed, need, link_rules, enable_all, ask_all, ask_enabled, entry_rules, root_rules, entries_rules, feature_rules, place_rules, all_rules}
+use Rattle.facts.specs.RuleLists.{one, both, number_on, place_at, ask, ask_features, arrive, is_needed, need, link_rules, enable_all, ask_all, ask_enabled, entry_rules, root_rules, root_entries, root_table, entries_rules, feature_rules, features_rules, table_rules, place_rules, all_rules}
 use Rattle.facts.proofs.Numbers.{Mark, is_here, lacking, is_on, is_enabled, IsLink, IsNumbered}
 use Rattle.facts.proofs.Members.{in_flat, to_flat, in_one, contains_get, get_contains, row_of, in_rules, to_link, to_entry}
 
@@ -244,13 +244,11 @@ module _ (nodes : List NodeView) (root : ℕ) (ps : List PlaceView) (marks : Lis
       weak_step n x p q.0 d g r a f (lists n x p f es (weak_feature d g) h found m) h q.1 at q.2
 
   -- what the root's entries ask of its dependencies
-  root_asked : (n : ℕ) (x : NodeView) (p : PlaceView) (f : List ℕ) (es : List Entry) (e : Entry) (a : List ℕ × List ℕ) → IsAt n x p → n ≡ root → entries_at f p.brings.features ≡ Some es
-      → Contains es e → Contains (asked_by e) a → Contains (root_asks (brings_at nodes root).features) a
-  root_asked n x p f es e a h z found m c =
-      let row = row_of f p.brings.features es found in
+  root_asked : (n : ℕ) (x : NodeView) (p : PlaceView) (row : List ℕ × List Entry) (e : Entry) (a : List ℕ × List ℕ) → IsAt n x p → n ≡ root → Contains p.brings.features row
+      → Contains row.1 e → Contains (asked_by e) a → Contains (root_asks (brings_at nodes root).features) a
+  root_asked n x p row e a h z has m c =
       let rows : p.brings.features ≡ (brings_at nodes root).features = ap (λ (o : Owner). o.features) (h.is.brings ∙ sym (brings_is n x p h) ∙ ap (brings_at nodes) z) in
-      subst (λ (t : Table). Contains (root_asks t) a) rows
-      (to_flat (λ row. flat_map asked_by row.1) p.brings.features row.0 a row.1 (to_flat asked_by (row.0).1 e a (subst (λ xs. Contains xs e) (sym row.3) m) c))
+      subst (λ (t : Table). Contains (root_asks t) a) rows (to_flat (λ row. flat_map asked_by row.1) p.brings.features row a has (to_flat asked_by row.1 e a m c))
 
   root_ask_step : (n : ℕ) (x : NodeView) (p : PlaceView) (d g : List ℕ) (r : Rule) → IsAt n x p → n ≡ root → Contains (root_asks (brings_at nodes root).features) (d, g)
       → Contains (ask_all ps p.here (p.called d) g) r → IsStep r
@@ -259,39 +257,42 @@ module _ (nodes : List NodeView) (root : ℕ) (ps : List PlaceView) (marks : Lis
       ask_step n x p q.0 d g r p.here p.here (is_here n) (is_here n) h q.1 h.is.here h.is.here
       (λ k u s to v w. root_wants n u k.i k.d g v z (brings n x p k.i k.d h k.brings) to (subst (λ y. Contains (root_asks (brings_at nodes root).features) (y, g)) s asked)) q.2
 
-  root_step : (n : ℕ) (x : NodeView) (p : PlaceView) (f : List ℕ) (es : List Entry) (e : Entry) (r : Rule) → IsAt n x p → entries_at f p.brings.features ≡ Some es → Contains es e
-      → Contains (root_rules ps (nat_eq n root) p e) r → IsStep r
-  root_step n x p f es e r h found m c = by (nat_eq n root) e refl m c
-    where
-      by : (b : Bool) (e : Entry) → nat_eq n root ≡ b → Contains es e → Contains (root_rules ps b p e) r → IsStep r
-      by false e z m c = absurd (in_none r c)
-      by true (feature g) z m c = absurd (in_none r c)
-      by true (dependency d) z m c = absurd (in_none r c)
-      by true (dependency_feature d g) z m c = root_ask_step n x p d g r h (is_the_root n z)
-          (root_asked n x p f es (dependency_feature d g) (d, g) h (is_the_root n z) found m (in_first (d, g) [])) c
-      by true (weak_feature d g) z m c = root_ask_step n x p d g r h (is_the_root n z)
-          (root_asked n x p f es (weak_feature d g) (d, g) h (is_the_root n z) found m (in_first (d, g) [])) c
+  root_step : (n : ℕ) (x : NodeView) (p : PlaceView) (row : List ℕ × List Entry) (e : Entry) (r : Rule) → IsAt n x p → n ≡ root → Contains p.brings.features row → Contains row.1 e
+      → Contains (root_rules ps p e) r → IsStep r
+  root_step n x p row (feature g) r h z has m c = absurd (in_none r c)
+  root_step n x p row (dependency d) r h z has m c = absurd (in_none r c)
+  root_step n x p row (dependency_feature d g) r h z has m c = root_ask_step n x p d g r h z (root_asked n x p row (dependency_feature d g) (d, g) h z has m (in_first (d, g) [])) c
+  root_step n x p row (weak_feature d g) r h z has m c = root_ask_step n x p d g r h z (root_asked n x p row (weak_feature d g) (d, g) h z has m (in_first (d, g) [])) c
 
-  feature_step : (n : ℕ) (x : NodeView) (p : PlaceView) (f : List ℕ) (r : Rule) → IsAt n x p → Contains (feature_rules ps (nat_eq n root) p p.brings.features f) r → IsStep r
+  feature_step : (n : ℕ) (x : NodeView) (p : PlaceView) (f : List ℕ) (r : Rule) → IsAt n x p → Contains (feature_rules ps p p.brings.features f) r → IsStep r
   feature_step n x p f r h c = by (entries_at f p.brings.features) refl c
     where
-      by : (o : Option (List Entry)) → entries_at f p.brings.features ≡ o → Contains (entries_rules ps (nat_eq n root) p (number_on p f) (unwrap_or o [])) r → IsStep r
+      by : (o : Option (List Entry)) → entries_at f p.brings.features ≡ o → Contains (entries_rules ps p (number_on p f) (unwrap_or o [])) r → IsStep r
       by None e c = absurd (in_none r c)
-      by (Some es) e c =
-          let m = in_flat (λ e. entry_rules ps p (number_on p f) e ++ root_rules ps (nat_eq n root) p e) es r c in
-          elim (Contains-append_cases (entry_rules ps p (number_on p f) m.0) (root_rules ps (nat_eq n root) p m.0) r m.2) [
-            | inl c ↦ entry_step n x p f es m.0 r h e m.1 c
-            | inr c ↦ root_step n x p f es m.0 r h e m.1 c
-          ]
+      by (Some es) e c = let m = in_flat (entry_rules ps p (number_on p f)) es r c in entry_step n x p f es m.0 r h e m.1 m.2
+
+  root_table_step : (n : ℕ) (x : NodeView) (p : PlaceView) (r : Rule) → IsAt n x p → Contains (cond (nat_eq n root) (root_table ps p p.brings.features) []) r → IsStep r
+  root_table_step n x p r h c = by (nat_eq n root) refl c
+    where
+      by : (b : Bool) → nat_eq n root ≡ b → Contains (cond b (root_table ps p p.brings.features) []) r → IsStep r
+      by false z c = absurd (in_none r c)
+      by true z c =
+          let row = in_flat (λ row. root_entries ps p row.1) p.brings.features r c in
+          let e = in_flat (root_rules ps p) (row.0).1 r row.2 in
+          root_step n x p row.0 e.0 r h (is_the_root n z) row.1 e.1 e.2
 
   pub rule_step : (r : Rule) → Contains (all_rules root ps) r → IsStep r
   rule_step r c =
       let (n, p, had, has) = in_rules ps root r c in
       let (x, got, is) = t.node n p had in
       let h : IsAt n x p = record { got = got; had = had; is = is } in
-      elim (Contains-append_cases (flat_map (link_rules ps (nat_eq n root) p.here) p.links) (flat_map (λ row. feature_rules ps (nat_eq n root) p p.brings.features row.0) p.brings.features) r has) [
+      let rows = p.brings.features in
+      elim (Contains-append_cases (flat_map (link_rules ps (nat_eq n root) p.here) p.links) (table_rules ps (nat_eq n root) p rows) r has) [
         | inl c ↦ let m = in_flat (link_rules ps (nat_eq n root) p.here) p.links r c in link_step n x p m.0 r h m.1 m.2
-        | inr c ↦ let m = in_flat (λ row. feature_rules ps (nat_eq n root) p p.brings.features row.0) p.brings.features r c in feature_step n x p (m.0).0 r h m.2
+        | inr c ↦ elim (Contains-append_cases (features_rules ps p rows) (cond (nat_eq n root) (root_table ps p rows) []) r c) [
+          | inl c ↦ let m = in_flat (λ row. feature_rules ps p rows row.0) rows r c in feature_step n x p (m.0).0 r h m.2
+          | inr c ↦ root_table_step n x p r h c
+        ]
       ]
 
   -- all that is given holds

@@ -62,22 +62,33 @@ module _ (ps : List PlaceView) where
   entry_rules p a (weak_feature d g) = ask_enabled a (p.called d) g
 
   -- an entry of the root, which is here
-  abbrev pub root_rules : Bool → PlaceView → Entry → List Rule
-  root_rules false p e = []
-  root_rules true p (feature g) = []
-  root_rules true p (dependency d) = []
-  root_rules true p (dependency_feature d g) = ask_all p.here (p.called d) g
-  root_rules true p (weak_feature d g) = ask_all p.here (p.called d) g
+  abbrev pub root_rules : PlaceView → Entry → List Rule
+  root_rules p (feature g) = []
+  root_rules p (dependency d) = []
+  root_rules p (dependency_feature d g) = ask_all p.here (p.called d) g
+  root_rules p (weak_feature d g) = ask_all p.here (p.called d) g
 
-  abbrev pub entries_rules : Bool → PlaceView → ℕ → List Entry → List Rule
-  entries_rules is_root p a es = flat_map (λ e. entry_rules p a e ++ root_rules is_root p e) es
+  abbrev pub root_entries : PlaceView → List Entry → List Rule
+  root_entries p es = flat_map (root_rules p) es
+
+  abbrev pub root_table : PlaceView → Table → List Rule
+  root_table p table = flat_map (λ row. root_entries p row.1) table
+
+  abbrev pub entries_rules : PlaceView → ℕ → List Entry → List Rule
+  entries_rules p a es = flat_map (entry_rules p a) es
 
   -- a feature with its entries in the table
-  abbrev pub feature_rules : Bool → PlaceView → Table → List ℕ → List Rule
-  feature_rules is_root p table f = entries_rules is_root p (number_on p f) (unwrap_or (entries_at f table) [])
+  abbrev pub feature_rules : PlaceView → Table → List ℕ → List Rule
+  feature_rules p table f = entries_rules p (number_on p f) (unwrap_or (entries_at f table) [])
+
+  abbrev pub features_rules : PlaceView → Table → List Rule
+  features_rules p table = flat_map (λ row. feature_rules p table row.0) table
+
+  abbrev pub table_rules : Bool → PlaceView → Table → List Rule
+  table_rules is_root p table = features_rules p table ++ (if is_root then root_table p table else [])
 
   abbrev pub place_rules : Bool → PlaceView → List Rule
-  place_rules is_root p = flat_map (link_rules is_root p.here) p.links ++ flat_map (λ row. feature_rules is_root p p.brings.features row.0) p.brings.features
+  place_rules is_root p = flat_map (link_rules is_root p.here) p.links ++ table_rules is_root p p.brings.features
 
   -- the rules of packages, where the first of them stands at place n
   abbrev pub rules_from : ℕ → ℕ → List PlaceView → List Rule

@@ -5,7 +5,7 @@ ghost use Rattle.std.specs.List.{flat_map};
 ghost use Rattle.features.specs.Views.{dependency_view};
 ghost use Rattle.features.specs.EntryViews.{entry_view, entry_views};
 ghost use Rattle.facts.specs.Places.{link_view, link_views, place_view, place_views};
-ghost use Rattle.facts.specs.RuleLists.{one, both, number_on, place_at, ask, ask_features, arrive, need, is_needed, link_rules, enable_all, ask_all, ask_enabled, entry_rules, root_rules, entries_rules, feature_rules, place_rules, all_rules};
+ghost use Rattle.facts.specs.RuleLists.{one, both, number_on, place_at, ask, ask_features, arrive, need, is_needed, link_rules, enable_all, ask_all, ask_enabled, entry_rules, root_rules, root_entries, root_table, entries_rules, features_rules, table_rules, place_rules, all_rules};
 
 use crate::place::{Link, Place};
 use chains::Rule;
@@ -113,7 +113,6 @@ fn ask_features(
     Ok(())
 }
 
-/// What the features of a table do.
 fn table_rules(
     rules: &mut Vec<Rule>,
     places: &[Place<'_>],
@@ -121,11 +120,27 @@ fn table_rules(
     is_root: bool,
     table: &FeatureTable,
 ) -> Result<(), AllocError>
-    ensures { OnOk result (rules.new.items ≡ rules.old.items ++ flat_map (λ row. feature_rules (place_views places.now) is_root (place_view place.now) table.now row.0) table.now) }
+    ensures { OnOk result (rules.new.items ≡ rules.old.items ++ table_rules (place_views places.now) is_root (place_view place.now) table.now) }
+{
+    features_rules(rules, places, place, table)?;
+    if is_root {
+        root_table(rules, places, place, table)?;
+    }
+    Ok(())
+}
+
+/// What the features of a table do.
+fn features_rules(
+    rules: &mut Vec<Rule>,
+    places: &[Place<'_>],
+    place: &Place<'_>,
+    table: &FeatureTable,
+) -> Result<(), AllocError>
+    ensures { OnOk result (rules.new.items ≡ rules.old.items ++ features_rules (place_views places.now) (place_view place.now) table.now) }
 {
     'rows: for (name, _) in table.iter() {
         let fact = number_on(place, name.as_str());
-        entries_rules(rules, places, place, is_root, fact, table.entries(name))?;
+        entries_rules(rules, places, place, fact, table.entries(name))?;
     }
     Ok(())
 }
@@ -135,15 +150,42 @@ fn entries_rules(
     rules: &mut Vec<Rule>,
     places: &[Place<'_>],
     place: &Place<'_>,
-    is_root: bool,
     fact: usize,
     entries: &[Entry],
 ) -> Result<(), AllocError>
-    ensures { OnOk result (rules.new.items ≡ rules.old.items ++ entries_rules (place_views places.now) is_root (place_view place.now) fact (entry_views entries.now)) }
+    ensures { OnOk result (rules.new.items ≡ rules.old.items ++ entries_rules (place_views places.now) (place_view place.now) fact (entry_views entries.now)) }
 {
     'entries: for entry in entries {
         entry_rules(rules, places, place, fact, entry)?;
-        root_rules(rules, places, place, is_root, entry)?;
+    }
+    Ok(())
+}
+
+/// All features of the root count, and its dependencies are enabled: an entry asks whatever else is on.
+fn root_table(
+    rules: &mut Vec<Rule>,
+    places: &[Place<'_>],
+    place: &Place<'_>,
+    table: &FeatureTable,
+) -> Result<(), AllocError>
+    ensures { OnOk result (rules.new.items ≡ rules.old.items ++ root_table (place_views places.now) (place_view place.now) table.now) }
+{
+    'rows: for (_, entries) in table.iter() {
+        root_entries(rules, places, place, entries.as_slice())?;
+    }
+    Ok(())
+}
+
+fn root_entries(
+    rules: &mut Vec<Rule>,
+    places: &[Place<'_>],
+    place: &Place<'_>,
+    entries: &[Entry],
+) -> Result<(), AllocError>
+    ensures { OnOk result (rules.new.items ≡ rules.old.items ++ root_entries (place_views places.now) (place_view place.now) (entry_views entries.now)) }
+{
+    'entries: for entry in entries {
+        root_rules(rules, places, place, entry)?;
     }
     Ok(())
 }
@@ -173,19 +215,14 @@ fn entry_rules(
     }
 }
 
-/// All features of the root count, and its dependencies are enabled: an entry asks whatever else is on.
 fn root_rules(
     rules: &mut Vec<Rule>,
     places: &[Place<'_>],
     place: &Place<'_>,
-    is_root: bool,
     entry: &Entry,
 ) -> Result<(), AllocError>
-    ensures { OnOk result (rules.new.items ≡ rules.old.items ++ root_rules (place_views places.now) is_root (place_view place.now) (entry_view entry.now)) }
+    ensures { OnOk result (rules.new.items ≡ rules.old.items ++ root_rules (place_views places.now) (place_view place.now) (entry_view entry.now)) }
 {
-    if !is_root {
-        return Ok(());
-    }
     match entry {
         Entry::Feature(_) | Entry::Dependency(_) => Ok(()),
         Entry::DependencyFeature(name, feature) | Entry::WeakFeature(name, feature) => {

@@ -3,12 +3,12 @@ use Rattle.std.specs.List.{flat_map}
 use Rattle.features.specs.Tables.{rows_of}
 use Rattle.facts.specs.Places.{place_view, place_views}
 use Rattle.facts.specs.RuleLists.{feature_rules}
-use Rattle.facts.proofs.rules.table_rules.Given as goal
+use Rattle.facts.proofs.rules.features_rules.Given as goal
 
 abbrev pub invariant-rows : goal.invariant-rows
 invariant-rows l = record {
   can : (goal.iterator-rows).can_next l.name-iterator;
   finite : (goal.iterator-rows).is_finite l.name-iterator;
-  told : l.rules.items ++ flat_map (λ row. feature_rules (place_views l.places) l.is_root (place_view l.place) l.table row.0) (rows_of l.name-iterator)
-      ≡ l.fn.rules.items ++ flat_map (λ row. feature_rules (place_views l.places) l.is_root (place_view l.place) l.table row.0) l.table;
+  told : l.rules.items ++ flat_map (λ row. feature_rules (place_views l.places) (place_view l.place) l.table row.0) (rows_of l.name-iterator)
+      ≡ l.fn.rules.items ++ flat_map (λ row. feature_rules (place_views l.places) (place_view l.place) l.table row.0) l.table;
 }

@@ -9,7 +9,7 @@ use Rattle.chains.specs.declared.rule.Rule.{Rule}
 use Rattle.facts.specs.Places.{place_view, place_views}
 use Rattle.facts.specs.RuleLists.{number_on, entries_rules, feature_rules}
 use Rattle.facts.proofs.LoopLemmas.{rest_more}
-use Rattle.facts.proofs.rules.table_rules.Goals as goal
+use Rattle.facts.proofs.rules.features_rules.Goals as goal
 
 pub rows-preserved : goal.rows-preserved
 rows-preserved c =
@@ -19,11 +19,11 @@ rows-preserved c =
     let row : List ℕ × Vec Entry Global = (c.in-Some.name.now, c.in-Some.field-0-1.now) in
     let rest : List (List ℕ × Vec Entry Global) = c.next.new.self in
     let steps : c.rows.name-iterator ≡ row ∷ rest = search rules in
-    let f : List ℕ × List model.Entry → List Rule = λ r. feature_rules ps c.args.is_root p table r.0 in
+    let f : List ℕ × List model.Entry → List Rule = λ r. feature_rules ps p table r.0 in
     let first : List ℕ × List model.Entry = (row.0, entry_views row.1.items) in
     let fact : c.number_on-fact.result ≡ number_on p row.0 = c.number_on-fact.ensures ∙ ap (number_on p) c.as_str.ensures.text in
     let step : c.entries_rules.new.rules.items ≡ c.rows.rules.items ++ f first
-    = c.in_ok-entries_rules.ensures ∙ ap₂ (λ a es. c.rows.rules.items ++ entries_rules ps c.args.is_root p a es) fact c.entries.ensures in
+    = c.in_ok-entries_rules.ensures ∙ ap₂ (λ a es. c.rows.rules.items ++ entries_rules ps p a es) fact c.entries.ensures in
     record {
       can = tt;
       finite = tt;
