@@ -1,7 +1,6 @@
 -- All facts are given by the rules.
 use Rattle.std.proofs.Common.{◌≡◌, ℕ, zero, suc, ◌<◌, List, [], ◌∷◌, ◌++◌, length, Bool, true, false, not, ◌||◌, cond, nat_eq, Option, Some, None, slice_get, is_some, unwrap_or, option_and_then, Contains, refl, sym, ap, ap₂, ◌∙◌, subst, inl, inr, arith, true≢false}
 use Rattle.std.specs.List.{flat_map}
-use Rattle.std.proofs.lemmas.Bool.{eqb-refl}
 use Rattle.std.proofs.lemmas.List.Elements.{Contains-append_left, Contains-append_right}
 use Rattle.chains.specs.declared.rule.Rule.{Rule}
 use Rattle.chains.specs.Chains.{has, IsGiven}
@@ -21,6 +20,9 @@ use Rattle.facts.proofs.Sound.{IsTable, At}
 
 some_inner : {X : Type 0} (x y : X) → Some x ≡ Some y → x ≡ y
 some_inner x y e = cc
+
+eq-refl : (n : ℕ) → nat_eq n n ≡ true
+eq-refl n = ?
 
 get_within : {X : Type 0} (xs : List X) (n : ℕ) → n < length xs → (x : X) × (slice_get xs n ≡ Some x)
 get_within [] n lt = absurd (omega arith)
@@ -165,7 +167,7 @@ module _ (nodes : List NodeView) (root : ℕ) (ps : List PlaceView) (marks : Lis
       let e = got (here n) h in
       let k = dep n e.x e.p i d e.at b in
       enabled_got n e.x e.p i d e.at k
-      (needed n e.x e.p i d e.at k (ap (λ b. b || not (k.l).dependency.optional) (ap (nat_eq n) (sym is) ∙ eqb-refl n)) (here_given n e))
+      (needed n e.x e.p i d e.at k (ap (λ b. b || not (k.l).dependency.optional) (ap (nat_eq n) (sym is) ∙ eq-refl n)) (here_given n e))
   got w (needs n i d h b o) =
       let e = got (here n) h in
       let k = dep n e.x e.p i d e.at b in
@@ -198,7 +200,7 @@ module _ (nodes : List NodeView) (root : ℕ) (ps : List PlaceView) (marks : Lis
       = to_flat (λ l. ask hn hn (place_at ps l.target) g) ((e.p).called d.name) k.l r (called n e.x e.p i d e.at k) (asked hn hn k.l u g q) in
       let hg = here_given n e in
       on_got u g k.l q
-      (by_rule r (to_root ps root n e.p row.0 entry.0 r e.at.had (ap (nat_eq n) (sym is) ∙ eqb-refl n) row.1 entry.1 (root_rule entry.0 e.p d.name g r entry.2 all)) hg hg)
+      (by_rule r (to_root ps root n e.p row.0 entry.0 r e.at.had (ap (nat_eq n) (sym is) ∙ eq-refl n) row.1 entry.1 (root_rule entry.0 e.p d.name g r entry.2 all)) hg hg)
     where
       root_rule : (e : Entry) (p : PlaceView) (d g : List ℕ) (r : Rule) → Contains (asked_by e) (d, g) → Contains (ask_all ps p.here (p.called d) g) r → Contains (root_rules ps p e) r
       root_rule (feature f) p d g r c all = absurd (in_none (d, g) c)

@@ -5,3 +5,4 @@ pub mod Numbers
 pub mod Members
 pub mod Sound
 pub mod Complete
+pub mod Whole

@@ -1,6 +1,7 @@
 -- The rules of features over the numbers of facts (Cargo book, "Features").
 use Rattle.std.specs.Prelude.{ℕ, suc, Bool, true, false, not, ◌||◌, if◌then◌else◌, List, [], ◌∷◌, ◌++◌, map, Option, None, Some, nat_eq, slice_get, unwrap_or, option_and_then}
 use Rattle.std.specs.List.{flat_map}
+use Rattle.chains.specs.Chains.{has}
 use Rattle.chains.specs.declared.rule.Rule.{Rule}
 use Rattle.model.specs.Owner.{Table, Entry, feature, dependency, dependency_feature, weak_feature, entries_at, asked_of_target}
 use Rattle.facts.specs.Places.{LinkView, PlaceView}
@@ -97,3 +98,18 @@ module _ (ps : List PlaceView) where
 
 abbrev pub all_rules : ℕ → List PlaceView → List Rule
 all_rules root ps = rules_from ps root 0 ps
+
+-- ---- the answers
+
+-- which packages are here
+abbrev pub here_flags : List Bool → List PlaceView → List Bool
+here_flags marked ps = map (λ p. has marked p.here) ps
+
+abbrev pub lacks_flags : List Bool → List PlaceView → List Bool
+lacks_flags marked ps = map (λ p. has marked p.lacks) ps
+
+abbrev pub link_flags : List Bool → List LinkView → List Bool
+link_flags marked ls = map (λ l. has marked l.enabled) ls
+
+abbrev pub enabled_flags : List Bool → List PlaceView → List (List Bool)
+enabled_flags marked ps = map (λ p. link_flags marked p.links) ps

@@ -2,9 +2,16 @@
 
 ghost use Rattle.std.specs.Prelude.{◌≡◌, ◌↔◌, ℕ, true, map, IfOk};
 ghost use Rattle.model.specs.Facts.{here, enabled};
+ghost use Rattle.chains.specs.Chains.{has};
 ghost use Rattle.facts.specs.Graphs.{node_views, flag_at, flag_in, IsFactOf, LacksFeature, IsGraph};
+ghost use Rattle.facts.specs.Places.{link_views, place_view, place_views};
+ghost use Rattle.facts.specs.RuleLists.{here_flags, lacks_flags, enabled_flags, link_flags};
 
 use crate::node::Node;
+use crate::numbering::places_of;
+use crate::place::{Link, Place};
+use crate::rules::rules_of;
+use chains::close;
 use std::alloc::{AllocError, Global};
 
 /// What finite chains of reasons give of packages, by their places.
@@ -27,8 +34,78 @@ pub fn facts_of(alloc: Global, nodes: &[Node<'_>], root: usize) -> Result<Facts,
     ensures enabled { IfOk result (λ f. (n i : ℕ) → (flag_in (map (λ v. v.items) f.enabled.items) n i ≡ true) ↔ IsFactOf (node_views nodes.now) root (enabled n i)) }
     ensures lacks { IfOk result (λ f. (n : ℕ) → (flag_at f.lacks.items n ≡ true) ↔ LacksFeature (node_views nodes.now) root n) }
 {
-    let _ = alloc;
-    let _ = nodes;
-    let _ = root;
-    Err(AllocError)
+    let mut marked = Vec::new(alloc);
+    let places = places_of(alloc, nodes, &mut marked)?;
+    let rules = rules_of(alloc, places.as_slice(), root)?;
+    close(alloc, marked.as_mut_slice(), rules.as_slice())?;
+    Ok(Facts {
+        here: here_flags(alloc, marked.as_slice(), places.as_slice())?,
+        enabled: enabled_flags(alloc, marked.as_slice(), places.as_slice())?,
+        lacks: lacks_flags(alloc, marked.as_slice(), places.as_slice())?,
+    })
+}
+
+fn here_flags(
+    alloc: Global,
+    marked: &[bool],
+    places: &[Place<'_>],
+) -> Result<Vec<bool>, AllocError>
+    ensures { IfOk result (λ v. v.items ≡ here_flags marked.now (place_views places.now)) }
+{
+    let mut flags = Vec::new(alloc);
+    'places: for place in places {
+        flags.push(is_marked(marked, place.here))?;
+    }
+    Ok(flags)
+}
+
+fn lacks_flags(
+    alloc: Global,
+    marked: &[bool],
+    places: &[Place<'_>],
+) -> Result<Vec<bool>, AllocError>
+    ensures { IfOk result (λ v. v.items ≡ lacks_flags marked.now (place_views places.now)) }
+{
+    let mut flags = Vec::new(alloc);
+    'places: for place in places {
+        flags.push(is_marked(marked, place.lacks))?;
+    }
+    Ok(flags)
+}
+
+fn enabled_flags(
+    alloc: Global,
+    marked: &[bool],
+    places: &[Place<'_>],
+) -> Result<Vec<Vec<bool>>, AllocError>
+    ensures { IfOk result (λ v. map (λ v. v.items) v.items ≡ enabled_flags marked.now (place_views places.now)) }
+{
+    let mut flags = Vec::new(alloc);
+    'places: for place in places {
+        flags.push(link_flags(alloc, marked, place.links.as_slice())?)?;
+    }
+    Ok(flags)
+}
+
+fn link_flags(
+    alloc: Global,
+    marked: &[bool],
+    links: &[Link<'_>],
+) -> Result<Vec<bool>, AllocError>
+    ensures { IfOk result (λ v. v.items ≡ link_flags marked.now (link_views links.now)) }
+{
+    let mut flags = Vec::new(alloc);
+    'links: for link in links {
+        flags.push(is_marked(marked, link.enabled))?;
+    }
+    Ok(flags)
+}
+
+fn is_marked(marked: &[bool], number: usize) -> bool
+    ensures { result ≡ has marked.now number }
+{
+    match marked.get(number) {
+        Some(flag) => *flag,
+        None => false,
+    }
 }
