@@ -1,6 +1,7 @@
 -- All facts are given by the rules.
 use Rattle.std.proofs.Common.{◌≡◌, ℕ, zero, suc, ◌<◌, List, [], ◌∷◌, ◌++◌, length, Bool, true, false, not, ◌||◌, cond, nat_eq, Option, Some, None, slice_get, is_some, unwrap_or, option_and_then, Contains, refl, sym, ap, ap₂, ◌∙◌, subst, inl, inr, arith, true≢false}
 use Rattle.std.specs.List.{flat_map}
+use Rattle.std.proofs.lemmas.Bool.{eq-eqb}
 use Rattle.std.proofs.lemmas.List.Elements.{Contains-append_left, Contains-append_right}
 use Rattle.chains.specs.declared.rule.Rule.{Rule}
 use Rattle.chains.specs.Chains.{has, IsGiven}
@@ -22,7 +23,7 @@ some_inner : {X : Type 0} (x y : X) → Some x ≡ Some y → x ≡ y
 some_inner x y e = cc
 
 eq-refl : (n : ℕ) → nat_eq n n ≡ true
-eq-refl n = ?
+eq-refl n = eq-eqb n n refl
 
 get_within : {X : Type 0} (xs : List X) (n : ℕ) → n < length xs → (x : X) × (slice_get xs n ≡ Some x)
 get_within [] n lt = absurd (omega arith)

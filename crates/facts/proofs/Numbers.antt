@@ -124,7 +124,7 @@ pub record IsNumbered (marks : List Mark) (n : ℕ) (x : NodeView) (p : PlaceVie
   pub back : (i : ℕ) (l : LinkView) → slice_get p.links i ≡ Some l → (d : Dependency) × (slice_get x.brings.dependencies i ≡ Some d)
   pub called : (d : List ℕ) → p.called d ≡ links_called d p.links
 
-numbered : (front : List Mark) (n : ℕ) (x : NodeView) (p : PlaceView) (rest : List Mark) → IsPlaceFrom (length front) x p → IsNumbered (front ++ (block n x ++ rest)) n x p
+pub numbered : (front : List Mark) (n : ℕ) (x : NodeView) (p : PlaceView) (rest : List Mark) → IsPlaceFrom (length front) x p → IsNumbered (front ++ (block n x ++ rest)) n x p
 numbered front n x p rest h =
     let rows = x.brings.features in
     let ds = x.brings.dependencies in

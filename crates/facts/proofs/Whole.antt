@@ -1,6 +1,6 @@
 -- The answers: what is marked in the end is what holds.
-use Rattle.std.proofs.Common.{◌≡◌, ◌↔◌, ℕ, zero, suc, ◌<◌, ◌+◌, List, [], ◌∷◌, ◌++◌, map, length, Bool, true, false, Option, Some, None, slice_get, get_or, unwrap_or, Contains, refl, sym, ap, ap₂, ◌∙◌, subst, arith, true≢false}
-use Rattle.std.proofs.lemmas.List.{length-append, append_assoc, map-append, length-map}
+use Rattle.std.proofs.Common.{◌≡◌, ◌↔◌, ℕ, zero, suc, ◌<◌, ◌+◌, List, [], ◌∷◌, ◌++◌, map, length, Bool, true, false, Option, Some, None, slice_get, get_or, unwrap_or, Contains, refl, sym, ap, ap₂, ◌∙◌, subst, subst₂, arith, true≢false}
+use Rattle.std.proofs.lemmas.List.{length-append, append_assoc, map-append}
 use Rattle.std.proofs.lemmas.List.Elements.{Contains-get_or}
 use Rattle.std.proofs.lemmas.Option.{slice_get_within}
 use Rattle.chains.specs.declared.rule.Rule.{Rule}
@@ -73,7 +73,7 @@ table nodes ps a = record {
 
 -- ---- what is marked from the start
 
-flag : List NodeView → Mark → Bool
+abbrev flag : List NodeView → Mark → Bool
 flag nodes (is_here n) = starts_at nodes n
 flag nodes (lacking n) = false
 flag nodes (is_on n f) = false
@@ -82,7 +82,6 @@ flag nodes (is_enabled n i) = false
 module _ (all : List NodeView) where
   flags-on : (n : ℕ) (rows : Table) → unmarked_for rows ≡ map (flag all) (on_marks n rows)
   flags-on n [] = refl
-  unfolding flag
   flags-on n (row ∷ rows) = ap (λ r. false ∷ r) (flags-on n rows)
 
   flags-enabled : (n i : ℕ) (ds : List Dependency) → unmarked_for ds ≡ map (flag all) (enabled_marks n i ds)
@@ -122,6 +121,10 @@ lists-back f [] n i h = absurd (true≢false (sym h))
 lists-back f (y ∷ ys) zero i h = (y, refl, h)
 lists-back f (y ∷ ys) (suc n) i h = lists-back f ys n i h
 
+length-mapped : {X Y : Type 0} (f : X → Y) (xs : List X) → length (map f xs) ≡ length xs
+length-mapped f [] = refl
+length-mapped f (x ∷ xs) = ap suc (length-mapped f xs)
+
 some_inner : {X : Type 0} (x y : X) → Some x ≡ Some y → x ≡ y
 some_inner x y e = cc
 
@@ -137,7 +140,7 @@ module _ (nodes : List NodeView) (root : ℕ) (ps : List PlaceView) (a : ArePlac
   below : (k : ℕ) (m : Mark) → slice_get (marks_from 0 nodes) k ≡ Some m → k < length (flags_of_all nodes)
   below k m e =
       let lt = slice_get_within (marks_from 0 nodes) k m e in
-      let long : length (flags_of_all nodes) ≡ length (marks_from 0 nodes) = ap length flags_is ∙ length-map (flag nodes) (marks_from 0 nodes) in
+      let long : length (flags_of_all nodes) ≡ length (marks_from 0 nodes) = ap length flags_is ∙ length-mapped (flag nodes) (marks_from 0 nodes) in
       omega (arith, lt, long)
 
   -- the numbers of the rules are those of facts
@@ -153,14 +156,12 @@ module _ (nodes : List NodeView) (root : ℕ) (ps : List PlaceView) (a : ArePlac
       (r.0, r.1, by r.0 r.2)
     where
       by : (m : Mark) → flag nodes m ≡ true → HoldsMark nodes root ps (marks_from 0 nodes) (table nodes ps a) m
-      unfolding flag
       by (is_here n) e = starts n e
       by (lacking n) e = absurd (true≢false (sym e))
       by (is_on n f) e = absurd (true≢false (sym e))
       by (is_enabled n i) e = absurd (true≢false (sym e))
 
   begun : (n : ℕ) (x : NodeView) (p : PlaceView) → At nodes ps (marks_from 0 nodes) n x p → x.starts ≡ true → has (flags_of_all nodes) p.here ≡ true
-  unfolding flag
   begun n x p h s = ap (λ fs. has fs p.here) flags_is ∙ has-map (flag nodes) (marks_from 0 nodes) p.here (is_here n) h.is.here ∙ ap starts_if h.got ∙ s
 
   module _ (graph : IsGraph nodes) (set : List Bool) (given : (i : ℕ) → (has set i ≡ true) ↔ IsGiven (all_rules root ps) (flags_of_all nodes) i) where
@@ -212,3 +213,37 @@ module _ (nodes : List NodeView) (root : ℕ) (ps : List PlaceView) (a : ArePlac
         ap (λ fs. flag_at fs i) (lists-map (λ p. map (λ l. has set l.enabled) p.links) ps n g.p g.at.had)
         ∙ has-map (λ l. has set l.enabled) (g.p).links i (g.is).0 (g.is).1 ∙ ap (has set) (g.is).2 ∙ (given g.k).1 g.given),
     )
+
+-- ---- the same of what the code has made
+
+-- a set is closed under the rules of the packages
+pub record IsClosed (nodes : List NodeView) (root : ℕ) (ps : List PlaceView) (set : List Bool) : Type 0 where
+  pub places : ArePlacesFrom 0 nodes ps
+  pub graph : IsGraph nodes
+  pub given : (i : ℕ) → (has set i ≡ true) ↔ IsGiven (all_rules root ps) (flags_of_all nodes) i
+
+pub places_made : (nodes : List NodeView) (ps : List PlaceView) (none : List Bool) → none ≡ [] → ArePlacesFrom (length none) nodes ps → ArePlacesFrom 0 nodes ps
+places_made nodes ps none e a = subst (λ m. ArePlacesFrom (length m) nodes ps) e a
+
+pub closed_made : (nodes : List NodeView) (root : ℕ) (ps : List PlaceView) (none flags set : List Bool) (rs : List Rule) → none ≡ [] → ArePlacesFrom (length none) nodes ps
+    → flags ≡ none ++ flags_of_all nodes → rs ≡ all_rules root ps → IsGraph nodes → ((i : ℕ) → (has set i ≡ true) ↔ IsGiven rs flags i) → IsClosed nodes root ps set
+closed_made nodes root ps none flags set rs e a fs is graph given = record {
+  places = places_made nodes ps none e a;
+  graph = graph;
+  given = λ i. subst₂ (λ rs fs. (has set i ≡ true) ↔ IsGiven rs fs i) is (fs ∙ ap (λ m. m ++ flags_of_all nodes) e) (given i);
+}
+
+pub below_made : (nodes : List NodeView) (root : ℕ) (ps : List PlaceView) (none flags : List Bool) (rs : List Rule) → none ≡ [] → ArePlacesFrom (length none) nodes ps
+    → flags ≡ none ++ flags_of_all nodes → rs ≡ all_rules root ps → AreBelow (length flags) rs
+below_made nodes root ps none flags rs e a fs is =
+    subst₂ (λ fs rs. AreBelow (length fs) rs) (sym (fs ∙ ap (λ m. m ++ flags_of_all nodes) e)) (sym is) (rules_below nodes root ps (places_made nodes ps none e a))
+
+module _ (nodes : List NodeView) (root : ℕ) (ps : List PlaceView) (set : List Bool) (k : IsClosed nodes root ps set) where
+  pub here_shown : (fs : List Bool) → fs ≡ here_flags set ps → (n : ℕ) → (flag_at fs n ≡ true) ↔ IsFactOf nodes root (here n)
+  here_shown fs e n = subst (λ fs. (flag_at fs n ≡ true) ↔ IsFactOf nodes root (here n)) (sym e) (here_holds nodes root ps k.places k.graph set k.given n)
+
+  pub lacks_shown : (fs : List Bool) → fs ≡ lacks_flags set ps → (n : ℕ) → (flag_at fs n ≡ true) ↔ LacksFeature nodes root n
+  lacks_shown fs e n = subst (λ fs. (flag_at fs n ≡ true) ↔ LacksFeature nodes root n) (sym e) (lacks_holds nodes root ps k.places k.graph set k.given n)
+
+  pub enabled_shown : (fs : List (List Bool)) → fs ≡ enabled_flags set ps → (n i : ℕ) → (flag_in fs n i ≡ true) ↔ IsFactOf nodes root (enabled n i)
+  enabled_shown fs e n i = subst (λ fs. (flag_in fs n i ≡ true) ↔ IsFactOf nodes root (enabled n i)) (sym e) (enabled_holds nodes root ps k.places k.graph set k.given n i)
