@@ -1,0 +1,3 @@
+pub use Rattle.model.specs.Verdict
+pub use Rattle.catalogue.specs.Problems
+pub mod Verdicts

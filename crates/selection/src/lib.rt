@@ -2,9 +2,6 @@
 #![tactic(auto)]
 
 mod checks;
-mod facts;
-mod owners;
-mod reached;
 mod verdict;
 
 pub use checks::verify;
