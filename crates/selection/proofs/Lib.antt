@@ -1,0 +1,3 @@
+pub mod TargetSearch
+pub mod Lookups
+pub mod Seconds

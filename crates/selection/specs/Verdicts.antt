@@ -34,3 +34,8 @@ module _ (q : Problem) (content : Content) where
   abbrev pub Says : Verdict → Type 0
   Says Valid = IsVerdict q content valid
   Says (Invalid f name version) = IsInvalid f name (parts_of version)
+
+-- what is said is this fault, of a package with this name and version
+abbrev pub IsFaultOf : Fault → List ℕ → Parts → Verdict → Type 0
+IsFaultOf fault name version Valid = ⊥
+IsFaultOf fault name version (Invalid f n v) = (f ≡ fault) × (n ≡ name) × (parts_of v ≡ version)

@@ -5,8 +5,14 @@ ghost use Rattle.model.specs.Selection.{IsValidSelection};
 ghost use Rattle.catalogue.specs.Problems.{problem_in};
 ghost use Rattle.selection.specs.Verdicts.{Says};
 
-use crate::verdict::Verdict;
+use crate::faults::{invalid, verdict_by};
+use crate::findings::Findings;
+use crate::nodes::nodes;
+use crate::reached::reached;
+use crate::roots::root_of;
+use crate::verdict::{Fault, Verdict};
 use catalogue::Catalogue;
+use facts::facts_of;
 use lockfile::LockContent;
 use manifest::Manifest;
 use std::alloc::{AllocError, Global};
@@ -23,9 +29,19 @@ pub fn verify(
     ensures says { IfOk result (λ v. Says (problem_in manifest.now catalogue.now) content.now v) }
     ensures selects { IfOk result (λ v. (v ≡ Verdict.Valid) ↔ IsValidSelection (problem_in manifest.now catalogue.now) content.now) }
 {
-    let _ = alloc;
-    let _ = manifest;
-    let _ = catalogue;
-    let _ = content;
-    Err(AllocError)
+    let content = content.packages();
+    let Some(root) = root_of(manifest, content) else {
+        return invalid(Fault::Root, manifest.name(), manifest.version());
+    };
+    let nodes = nodes(alloc, manifest, catalogue, content)?;
+    let facts = facts_of(alloc, &nodes, root)?;
+    let reached = reached(alloc, content, root)?;
+    let findings = Findings {
+        content,
+        root,
+        nodes,
+        facts,
+        reached,
+    };
+    verdict_by(alloc, &findings)
 }

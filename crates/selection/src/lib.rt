@@ -1,7 +1,17 @@
 //! The verdict on a lock: is it a valid selection, and if not, what is wrong first?
 #![tactic(auto)]
 
+mod checked;
 mod checks;
+mod classes_once;
+mod enabled;
+mod faults;
+mod findings;
+mod nodes;
+mod owners;
+mod reached;
+mod roots;
+mod targets;
 mod verdict;
 
 pub use checks::verify;

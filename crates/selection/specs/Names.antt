@@ -1,0 +1,18 @@
+-- Where names of packages stand beside the name that a dependency means: in a lock the packages of one name stand side by side.
+use Rattle.std.specs.Prelude.{Bool, ◌&&◌, Option, Some, None}
+use Rattle.std.specs.declared.cmp.Ordering.{Ordering}
+use Rattle.std.specs.declared.cmp.Ordering.TheVariants.{Greater}
+use Rattle.model.specs.Owner.{Dependency, same_text}
+use Rattle.model.specs.Content.{Package}
+use Rattle.model.specs.Order.{text_cmp}
+use Rattle.model.specs.Selection.{class_of}
+use Rattle.model.specs.Vertices.{same_class}
+
+-- a place that isn't there comes last
+abbrev pub name_cmp : Dependency → Option Package → Ordering
+name_cmp d None = Greater
+name_cmp d (Some p) = text_cmp p.name d.real_name
+
+-- whether two packages have one name and one class
+abbrev pub is_like : Package → Package → Bool
+is_like p r = same_text p.name r.name && same_class (class_of p.version) (class_of r.version)

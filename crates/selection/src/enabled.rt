@@ -1,0 +1,94 @@
+//! What the enabled dependencies of one package say.
+
+ghost use Rattle.std.specs.Prelude.{◌≡◌, ◌↔◌, ◌<◌, ℕ, true, map, slice_get, unwrap_or, [], IfOk, Contains, if◌then◌else◌, None};
+ghost use Rattle.std.specs.BTreeSet.{contains};
+ghost use Rattle.std.specs.Ordering.{nat_cmp};
+ghost use Rattle.facts.specs.Graphs.{flag_at};
+ghost use Rattle.selection.specs.Places.{AreMet, IsLedTo, target_given};
+
+use std::alloc::{AllocError, Global};
+use std::collections::BTreeSet;
+
+/// Whether there is a flag at a place.
+pub(crate) fn flag(flags: &[bool], at: usize) -> bool
+    ensures { result ≡ flag_at flags.now at }
+{
+    match flags.get(at) {
+        Some(flag) => *flag,
+        None => false,
+    }
+}
+
+/// The flags at a place of lists of them.
+pub(crate) fn flags(lists: &[Vec<bool>], at: usize) -> &[bool]
+    ensures { result.now ≡ unwrap_or (slice_get (map (λ v. v.items) lists.now) at) [] }
+{
+    match lists.get(at) {
+        Some(list) => list.as_slice(),
+        None => &[],
+    }
+}
+
+/// Whether each enabled dependency has a target.
+pub(crate) fn are_met(enabled: &[bool], targets: &[Option<usize>]) -> bool
+    ensures { (result ≡ true) ↔ AreMet enabled.now targets.now }
+{
+    'numbers: for number in 0..targets.len() {
+        if targets[number].is_none() && flag(enabled, number) {
+            return false;
+        }
+    }
+    true
+}
+
+/// Whether an enabled dependency leads to each place of the list.
+pub(crate) fn are_led_to(
+    alloc: Global,
+    enabled: &[bool],
+    targets: &[Option<usize>],
+    list: &[usize],
+) -> Result<bool, AllocError>
+    ensures { IfOk result (λ b. (b ≡ true) ↔ ((t : ℕ) → Contains list.now t → IsLedTo enabled.now targets.now t)) }
+{
+    let places = places_led_to(alloc, enabled, targets)?;
+    Ok(are_among(list, &places))
+}
+
+/// Where enabled dependencies lead.
+fn places_led_to(
+    alloc: Global,
+    enabled: &[bool],
+    targets: &[Option<usize>],
+) -> Result<BTreeSet<usize>, AllocError>
+    ensures { IfOk result (λ s. (t : ℕ) → (contains nat_cmp s t ≡ true) ↔ IsLedTo enabled.now targets.now t) }
+{
+    let mut places = BTreeSet::new(alloc);
+    'numbers: for number in 0..targets.len() {
+        if let Some(target) = target_enabled(enabled, targets, number) {
+            places.insert(target)?;
+        }
+    }
+    Ok(places)
+}
+
+/// Where a dependency leads that is enabled.
+fn target_enabled(enabled: &[bool], targets: &[Option<usize>], number: usize) -> Option<usize>
+    ensures { result ≡ (if flag_at enabled.now number then target_given (slice_get targets.now number) else None) }
+{
+    if !flag(enabled, number) {
+        return None;
+    }
+    *targets.get(number)?
+}
+
+/// Whether each of a list is among these.
+fn are_among(list: &[usize], places: &BTreeSet<usize>) -> bool
+    ensures { (result ≡ true) ↔ ((t : ℕ) → Contains list.now t → contains nat_cmp places.now t ≡ true) }
+{
+    'listed: for place in list {
+        if !places.contains(place) {
+            return false;
+        }
+    }
+    true
+}

@@ -1,0 +1,55 @@
+//! Which packages lists lead to from the root.
+
+ghost use Rattle.std.specs.Prelude.{◌≡◌, ◌↔◌, ◌<◌, ◌++◌, ℕ, length, true, IfOk, OnOk};
+ghost use Rattle.model.specs.Content.{Problem};
+ghost use Rattle.model.specs.Selection.{IsReached};
+ghost use Rattle.model.specs.WellFormed.{IsContent};
+ghost use Rattle.lockfile.specs.Views.{package_views};
+ghost use Rattle.facts.specs.Graphs.{flag_at};
+ghost use Rattle.selection.specs.Graphs.{IsOnlyRoot};
+ghost use Rattle.selection.specs.Places.{rules_at, rules_from};
+
+use chains::{Rule, close};
+use lockfile::Package;
+use std::alloc::{AllocError, Global};
+
+/// By place, whether lists lead from the root to the package there.
+pub(crate) fn reached(
+    alloc: Global,
+    content: &[Package],
+    root: usize,
+) -> Result<Vec<bool>, AllocError>
+    requires content { IsContent (package_views content.now) }
+    requires root { root < length content.now }
+    ensures { IfOk result (λ v. (q : Problem) → IsOnlyRoot q (package_views content.now) root → (n : ℕ) → (flag_at v.items n ≡ true) ↔ IsReached q (package_views content.now) n) }
+{
+    let rules = rules(alloc, content)?;
+    let mut marked = vec![in alloc; false; content.len()]?;
+    marked[root] = true;
+    close(alloc, &mut marked, &rules)?;
+    Ok(marked)
+}
+
+/// Where a package is reached, so is each of its list.
+fn rules(alloc: Global, content: &[Package]) -> Result<Vec<Rule>, AllocError>
+    ensures { IfOk result (λ v. v.items ≡ rules_from 0 (package_views content.now)) }
+{
+    let mut rules = Vec::new(alloc);
+    'places: for at in 0..content.len() {
+        add_rules(&mut rules, at, content[at].list.as_slice())?;
+    }
+    Ok(rules)
+}
+
+fn add_rules(rules: &mut Vec<Rule>, at: usize, list: &[usize]) -> Result<(), AllocError>
+    ensures { OnOk result (rules.new.items ≡ rules.old.items ++ rules_at at list.now) }
+{
+    'listed: for place in list {
+        rules.push(Rule {
+            first: at,
+            second: at,
+            gives: *place,
+        })?;
+    }
+    Ok(())
+}

@@ -1,0 +1,27 @@
+//! The place of the root.
+
+ghost use Rattle.std.specs.Prelude.{◌≡◌, ◌<◌, length, MatchOption, false};
+ghost use Rattle.std.specs.List.{All};
+ghost use Rattle.model.specs.Content.{is_root};
+ghost use Rattle.model.specs.WellFormed.{IsContent};
+ghost use Rattle.lockfile.specs.Views.{package_view, package_views};
+ghost use Rattle.catalogue.specs.Problems.{problem_in};
+ghost use Rattle.catalogue.specs.Stores.{CatalogueView};
+ghost use Rattle.selection.specs.Graphs.{IsOnlyRoot, HasNoRoot};
+
+use crate::owners::is_root;
+use lockfile::Package;
+use manifest::Manifest;
+
+/// The place of the root, if there is one.
+pub(crate) fn root_of(manifest: &Manifest, content: &[Package]) -> Option<usize>
+    requires { IsContent (package_views content.now) }
+    ensures { MatchOption result ((index : CatalogueView) → HasNoRoot (problem_in manifest.now index) (package_views content.now)) (λ n. (n < length content.now) × ((index : CatalogueView) → IsOnlyRoot (problem_in manifest.now index) (package_views content.now) n)) }
+{
+    'places: for at in 0..content.len() {
+        if is_root(manifest, &content[at]) {
+            return Some(at);
+        }
+    }
+    None
+}
