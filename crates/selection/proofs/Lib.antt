@@ -1,3 +1,9 @@
 pub mod TargetSearch
 pub mod Lookups
 pub mod Seconds
+pub mod OnlyRoot
+pub mod Holding
+pub mod Reaching
+pub mod Leading
+pub mod LowestFault
+pub mod Judging

@@ -1,5 +1,6 @@
 -- What is found of a lock and of each of its packages, and which fault of a package is the lowest.
-use Rattle.std.specs.Prelude.{◌≡◌, ◌↔◌, ℕ, suc, Bool, true, false, List, [], ◌∷◌, ◌++◌, Option, Some, None, slice_get, Contains, map}
+use Rattle.std.specs.Prelude.{◌≡◌, ◌↔◌, ℕ, suc, Bool, true, false, not, is_some, if◌then◌else◌, List, [], ◌∷◌, ◌++◌, Option, Some, None, slice_get, Contains, map}
+use Rattle.std.specs.Ordering.{is_eq, nat_cmp}
 use Rattle.chains.specs.declared.rule.Rule.{Rule}
 use Rattle.facts.specs.Graphs.{node_views, flag_at, flag_in}
 use Rattle.lockfile.specs.Views.{package_views}
@@ -70,6 +71,20 @@ AreMet flags targets = (i : ℕ) → flag_at flags i ≡ true → slice_get targ
 abbrev pub target_given : Option (Option ℕ) → Option ℕ
 target_given None = None
 target_given (Some o) = o
+
+-- where a dependency leads that is enabled
+abbrev pub enabled_target : List Bool → List (Option ℕ) → ℕ → Option ℕ
+enabled_target flags targets n = if flag_at flags n then target_given (slice_get targets n) else None
+
+-- whether a set has a place, that had it or not, with one place more
+abbrev pub with_target : Option ℕ → ℕ → Bool → Bool
+with_target None t was = was
+with_target (Some x) t was = if is_eq (nat_cmp x t) then true else was
+
+-- a dependency that is there has no target
+abbrev pub is_missing : Option (Option ℕ) → Bool
+is_missing None = false
+is_missing (Some o) = not (is_some o)
 
 -- an enabled dependency leads there
 abbrev pub IsLedTo : List Bool → List (Option ℕ) → ℕ → Type 0

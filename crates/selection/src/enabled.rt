@@ -1,10 +1,10 @@
 //! What the enabled dependencies of one package say.
 
-ghost use Rattle.std.specs.Prelude.{◌≡◌, ◌↔◌, ◌<◌, ℕ, true, map, slice_get, unwrap_or, [], IfOk, Contains, if◌then◌else◌, None};
+ghost use Rattle.std.specs.Prelude.{◌≡◌, ◌↔◌, ◌<◌, ℕ, true, map, slice_get, unwrap_or, [], IfOk, OnOk, Contains, ◌&&◌};
 ghost use Rattle.std.specs.BTreeSet.{contains};
 ghost use Rattle.std.specs.Ordering.{nat_cmp};
 ghost use Rattle.facts.specs.Graphs.{flag_at};
-ghost use Rattle.selection.specs.Places.{AreMet, IsLedTo, target_given};
+ghost use Rattle.selection.specs.Places.{AreMet, IsLedTo, is_missing, enabled_target, with_target};
 
 use std::alloc::{AllocError, Global};
 use std::collections::BTreeSet;
@@ -34,11 +34,20 @@ pub(crate) fn are_met(enabled: &[bool], targets: &[Option<usize>]) -> bool
     ensures { (result ≡ true) ↔ AreMet enabled.now targets.now }
 {
     'numbers: for number in 0..targets.len() {
-        if targets[number].is_none() && flag(enabled, number) {
+        if lacks_target(enabled, targets, number) {
             return false;
         }
     }
     true
+}
+
+fn lacks_target(enabled: &[bool], targets: &[Option<usize>], number: usize) -> bool
+    ensures { result ≡ (is_missing (slice_get targets.now number) && flag_at enabled.now number) }
+{
+    match targets.get(number) {
+        Some(target) => target.is_none() && flag(enabled, number),
+        None => false,
+    }
 }
 
 /// Whether an enabled dependency leads to each place of the list.
@@ -64,16 +73,24 @@ fn places_led_to(
 {
     let mut places = BTreeSet::new(alloc);
     'numbers: for number in 0..targets.len() {
-        if let Some(target) = target_enabled(enabled, targets, number) {
-            places.insert(target)?;
-        }
+        add_target(&mut places, target_enabled(enabled, targets, number))?;
     }
     Ok(places)
 }
 
+fn add_target(places: &mut BTreeSet<usize>, target: Option<usize>) -> Result<(), AllocError>
+    ensures { OnOk result ((t : ℕ) → contains nat_cmp places.new t ≡ with_target target t (contains nat_cmp places.old t)) }
+{
+    let Some(target) = target else {
+        return Ok(());
+    };
+    places.insert(target)?;
+    Ok(())
+}
+
 /// Where a dependency leads that is enabled.
 fn target_enabled(enabled: &[bool], targets: &[Option<usize>], number: usize) -> Option<usize>
-    ensures { result ≡ (if flag_at enabled.now number then target_given (slice_get targets.now number) else None) }
+    ensures { result ≡ enabled_target enabled.now targets.now number }
 {
     if !flag(enabled, number) {
         return None;

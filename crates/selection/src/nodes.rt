@@ -29,8 +29,8 @@ pub(crate) fn nodes<'a>(
     ensures known { IfOk result (λ v. are_known v.items ≡ map (is_known (problem_in manifest.entry.now catalogue.entry.now)) (package_views content.now)) }
 {
     let mut found = Vec::new(alloc);
-    'packages: for package in content {
-        found.push(node(alloc, manifest, catalogue, content, package)?)?;
+    'packages: for locked in content {
+        found.push(node(alloc, manifest, catalogue, content, locked)?)?;
     }
     Ok(found)
 }

@@ -24,9 +24,19 @@ pub(crate) fn reached(
     ensures { IfOk result (λ v. (q : Problem) → IsOnlyRoot q (package_views content.now) root → (n : ℕ) → (flag_at v.items n ≡ true) ↔ IsReached q (package_views content.now) n) }
 {
     let rules = rules(alloc, content)?;
-    let mut marked = vec![in alloc; false; content.len()]?;
-    marked[root] = true;
+    let mut marked = marked_at(alloc, content.len(), root)?;
     close(alloc, &mut marked, &rules)?;
+    Ok(marked)
+}
+
+/// Marks at so many places, of which one alone is set.
+fn marked_at(alloc: Global, places: usize, at: usize) -> Result<Vec<bool>, AllocError>
+    requires { at < places }
+    ensures length { IfOk result (λ v. length v.items ≡ places) }
+    ensures marks { IfOk result (λ v. (n : ℕ) → (flag_at v.items n ≡ true) ↔ (n ≡ at)) }
+{
+    let mut marked = vec![in alloc; false; places]?;
+    marked[at] = true;
     Ok(marked)
 }
 
