@@ -1,18 +1,17 @@
 -- The facts of the packages of a lock, by the list of what they bring, are the facts of its content.
-use Rattle.std.proofs.Common.{◌≡◌, ℕ, zero, suc, ◌<◌, ◌↔◌, Bool, true, false, cond, List, [], ◌∷◌, map, length, get_or, Contains, Option, Some, None, option_map, option_and_then, slice_get, refl, sym, ap, ◌∙◌, subst, arith, true≢false}
-use Rattle.std.specs.List.{All}
+use Rattle.std.proofs.Common.{◌≡◌, ℕ, zero, suc, ◌<◌, ◌↔◌, true, cond, List, [], ◌∷◌, length, get_or, Contains, Option, Some, None, option_map, option_and_then, slice_get, refl, sym, ap, ◌∙◌, subst, arith, true≢false}
 use Rattle.std.proofs.lemmas.List.{length-map}
 use Rattle.std.proofs.lemmas.List.Elements.{All-map}
 use Rattle.std.proofs.lemmas.Option.{none-some, slice_get-map, slice_get_within}
 use Rattle.model.specs.Owner.{Owner, Dependency, has_feature}
 use Rattle.model.specs.Facts.{Fact, here, on, enabled, Brings}
-use Rattle.model.specs.Content.{Package, Content, Problem, is_root, brings_of, candidate_of, owner_of, owner_if, owner_at, serves_if, last_serving, list_if, target_of}
+use Rattle.model.specs.Content.{Package, Content, Problem, brings_of, candidate_of, owner_of, owner_if, owner_at, serves_if, last_serving, list_if, target_of}
 use Rattle.model.specs.Selection.{IsRootAt, IsPlace, HasTarget, IsFact}
 use Rattle.model.proofs.Orders.{last_is}
 use Rattle.manifest.specs.Manifests.{root_asks}
 use Rattle.facts.specs.Graphs.{NodeView, brings_if, starts_if, target_if, brings_at, starts_at, target_at, IsFactOf, LacksFeature, IsGraph, AreWithin}
 use Rattle.facts.proofs.Mapped.{HoldsFar, holds_far}
-use Rattle.selection.specs.Graphs.{targets_in, node_of, graph_of, IsOnlyRoot}
+use Rattle.selection.specs.Graphs.{node_of, graph_of, IsOnlyRoot}
 use Rattle.selection.specs.Places.{Lacks}
 
 -- what stands at a place of a list
@@ -34,7 +33,7 @@ pub graph_within : (q : Problem) (content : Content) → IsGraph (graph_of q con
 graph_within q content =
     All-map (λ (n : NodeView). AreWithin (length (graph_of q content)) n.targets) (node_of q content) content
     (λ k p lt. All-map (λ o. (t : ℕ) → o ≡ Some t → t < length (graph_of q content)) (λ d. last_serving content d (get_or content k p).list) (owner_of q (get_or content k p)).dependencies
-    (λ j d within t e. subst (λ n. t < n) (sym (length-map content (node_of q content))) (target_within content _ _ t e)))
+    (λ j d within t e. subst (λ n. t < n) (sym (length-map content (node_of q content))) (target_within content (get_or (owner_of q (get_or content k p)).dependencies j d) (get_or content k p).list t e)))
 
 module _ (q : Problem) (content : Content) (root : ℕ) (only : IsOnlyRoot q content root) (asks_are : q.root_asks ≡ root_asks q.brings.features) where
   abbrev nodes : List NodeView
@@ -95,7 +94,7 @@ module _ (q : Problem) (content : Content) (root : ℕ) (only : IsOnlyRoot q con
         one = λ n m l r s. sym r ∙ s;
         owners = λ n m r. brings_are n ∙ ap (owner_at q content) r;
         roots = λ n m r is. (only m).1 (sym r ∙ is);
-        asked = λ n is a c. subst (λ as. Contains as a) asks_same c;
+        asked = λ n is a c. subst (λ pairs. Contains pairs a) asks_same c;
         begun = λ n s. (n, refl, begun_within n s);
         leads = λ n t i d m r b l. (t, refl, leads_here n t i d m r b l);
       }) x h
@@ -110,7 +109,7 @@ module _ (q : Problem) (content : Content) (root : ℕ) (only : IsOnlyRoot q con
         one = λ n m l r s. sym r ∙ s;
         owners = λ n m r. sym (brings_are n) ∙ ap (brings_at nodes) r;
         roots = λ n m r is. sym r ∙ (only n).0 is;
-        asked = λ n is a c. subst (λ as. Contains as a) (sym asks_same) c;
+        asked = λ n is a c. subst (λ pairs. Contains pairs a) (sym asks_same) c;
         begun = λ n s. (n, refl, within_begun n s);
         leads = λ n t i d m r b l. (t, refl, leads_there n t i d m r b l);
       }) x h

@@ -1,17 +1,23 @@
 -- What is tested at the place of a package is what the faults of the model speak of.
-use Rattle.std.proofs.Common.{◌≡◌, ℕ, ◌<◌, ◌↔◌, Bool, true, false, not, ◌||◌, cond, List, [], map, length, get_or, Contains, Option, Some, None, option_map, unwrap_or, is_some, slice_get, refl, sym, ap, ◌∙◌, subst, arith, true≢false}
+use Rattle.std.proofs.Common.{◌≡◌, ℕ, ◌<◌, ◌↔◌, Bool, true, false, not, ◌||◌, List, [], map, length, get_or, Contains, Option, Some, None, option_map, unwrap_or, is_some, slice_get, refl, sym, ap, ◌∙◌, subst, true≢false}
 use Rattle.std.proofs.lemmas.Option.{none-some, same_Some, slice_get-map, slice_get-get_or}
 use Rattle.model.specs.Owner.{Owner, Dependency, has_feature}
-use Rattle.model.specs.Facts.{enabled, on}
+use Rattle.model.specs.Facts.{enabled}
 use Rattle.model.specs.Content.{Package, Content, Problem, is_root, candidate_of, owner_of, owner_if, owner_at, last_serving, list_if, target_of}
-use Rattle.model.specs.Selection.{IsFact, IsEnabled, HasTarget, IsTarget}
-use Rattle.model.specs.Verdict.{VerdictFault, not_candidate, two_in_class, unmet, no_feature, wrong_list, unreached, IsFreeOf}
+use Rattle.model.specs.Selection.{IsFact, HasTarget, IsTarget}
+use Rattle.model.specs.Verdict.{not_candidate, two_in_class, unmet, no_feature, wrong_list, unreached, IsFreeOf}
 use Rattle.model.proofs.Orders.{last_is}
 use Rattle.facts.specs.Graphs.{NodeView, node_view, node_views, flag_at}
 use Rattle.facts.specs.declared.node.Node.{Node}
 use Rattle.selection.specs.Graphs.{targets_in, node_of, graph_of, is_known, are_known}
-use Rattle.selection.specs.Places.{is_free, AreMet, IsLedTo, IsChecked, Lacks}
+use Rattle.selection.specs.Places.{AreMet, IsLedTo, IsChecked, Lacks, content_in, AreFindings}
+use Rattle.selection.specs.declared.findings.Findings.{Findings}
+use Rattle.lockfile.specs.Views.{package_view}
+use Rattle.lockfile.specs.declared.locked.Package as code
 use Rattle.selection.specs.declared.checked.Checked.{Checked}
+
+both_ways : {A B C : Type 0} → A ↔ B → B ↔ C → A ↔ C
+both_ways f g = (λ a. g.0 (f.0 a), λ c. f.1 (g.1 c))
 
 pub negated : (b : Bool) → not b ≡ true → b ≡ false
 negated false e = refl
@@ -139,3 +145,25 @@ checked_is q content n k a b c d e f unmet = c
 checked_is q content n k a b c d e f no_feature = d
 checked_is q content n k a b c d e f wrong_list = e
 checked_is q content n k a b c d e f unreached = f
+
+-- all of it, by what is found of a lock
+pub place_is : (q : Problem) (f : Findings) (n : ℕ) (p : code.Package) (node : Node) (flags : List Bool) (targets : List (Option ℕ)) (list : List ℕ) (second : Bool) (k : Checked)
+    → AreFindings q f → slice_get (content_in f) n ≡ Some (package_view p) → n < length f.nodes.items → get_or f.nodes.items n node ≡ node
+    → flags ≡ unwrap_or (slice_get (map (λ v. v.items) f.facts.enabled.items) n) [] → targets ≡ node.targets.items → list ≡ p.list.items
+    → k.candidate ≡ is_some node.brings → k.alone ≡ not second → (second ≡ false) ↔ IsFreeOf q (content_in f) two_in_class n
+    → (k.met ≡ true) ↔ AreMet flags targets → k.featured ≡ not (flag_at f.facts.lacks.items n)
+    → (k.listed ≡ true) ↔ ((t : ℕ) → Contains list t → IsLedTo flags targets t) → k.reached ≡ flag_at f.reached.items n
+    → IsChecked q (content_in f) n k
+place_is q f n p node flags targets list second k found got lt there flags_is targets_is list_is candidate alone free met featured listed reached =
+    let content = content_in f in
+    let here = package_view p in
+    let flags_are : (i : ℕ) → (flag_at flags i ≡ true) ↔ IsFact q (content_in f) (enabled n i) =
+        λ i. subst (λ fs. (flag_at fs i ≡ true) ↔ IsFact q (content_in f) (enabled n i)) (sym flags_is) (found.enabled_is n i) in
+    let targets_same = targets_is ∙ targets_are q content n here got f.nodes.items node lt there found.graph_is in
+    checked_is q content n k
+    (subst (λ b. (b ≡ true) ↔ IsFreeOf q (content_in f) not_candidate n) (sym candidate) (candidate_is q content n here got f.nodes.items node lt there found.known_is))
+    (subst (λ b. (b ≡ true) ↔ IsFreeOf q (content_in f) two_in_class n) (sym alone) (by_failing second (IsFreeOf q (content_in f) two_in_class n) free))
+    (both_ways met (met_is q content n here got flags targets flags_are targets_same))
+    (subst (λ b. (b ≡ true) ↔ IsFreeOf q (content_in f) no_feature n) (sym featured) (featured_is q content n (flag_at f.facts.lacks.items n) (found.lacks_is n)))
+    (both_ways (subst (λ l. (k.listed ≡ true) ↔ ((t : ℕ) → Contains l t → IsLedTo flags targets t)) list_is listed) (listed_is q content n here got flags targets flags_are targets_same))
+    (subst (λ b. (b ≡ true) ↔ IsFreeOf q (content_in f) unreached n) (sym reached) (found.reached_is n))

@@ -7,3 +7,4 @@ pub mod Reaching
 pub mod Leading
 pub mod LowestFault
 pub mod Judging
+pub mod Composing

@@ -3,7 +3,6 @@ use Rattle.std.proofs.Common.{◌≡◌, ℕ, Bool, true, false, cond, ◌||◌,
 use Rattle.std.specs.Borrow.{Bor}
 use Rattle.std.proofs.lemmas.Option.{none-some, same_Some}
 use Rattle.semver.specs.Parse.{Parts}
-use Rattle.model.specs.Owner as model
 use Rattle.model.specs.Owner.{same_text}
 use Rattle.model.specs.Content.{Candidate, Package, Problem, same_version, same_option, candidates_of, candidate_at, candidate_of, if_checksum, brings_of, is_root, owner_of}
 use Rattle.model.specs.Candidates.{Record, as_candidate}

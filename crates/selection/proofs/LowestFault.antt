@@ -1,12 +1,13 @@
 -- The lowest fault of a package, and what is said of the first package that has one.
-use Rattle.std.proofs.Common.{◌≡◌, ℕ, ◌<◌, ◌↔◌, Bool, true, false, List, Option, Some, None, option_map, Result, Ok, Err, slice_get, refl, sym, ap, ◌∙◌, subst, arith, true≢false, IfOk}
+use Rattle.std.proofs.Common.{◌≡◌, ℕ, ◌<◌, Bool, true, false, List, Option, Some, None, option_map, Result, Ok, Err, slice_get, length, refl, sym, ◌∙◌, subst, arith, true≢false, IfOk}
 use Rattle.std.proofs.lemmas.Option.{none-some, same_Some}
 use Rattle.semver.specs.Identifiers.{parts_of}
 use Rattle.semver.specs.Parse.{Parts}
 use Rattle.model.specs.Content.{Package, Content, Problem}
 use Rattle.model.specs.Selection.{IsPlace}
-use Rattle.model.specs.Verdict.{VerdictFault, not_candidate, two_in_class, unmet, no_feature, wrong_list, unreached, number_of, HasRoot, IsFaultless, IsFirstFault, IsVerdict, at_package}
-use Rattle.selection.specs.Places.{is_free, lowest_of, lowest, fault_of, IsChecked}
+use Rattle.model.specs.Verdict.{VerdictFault, not_candidate, two_in_class, unmet, no_feature, wrong_list, unreached, number_of, HasRoot, IsFaultless, IsFirstFault}
+use Rattle.selection.specs.Places.{is_free, lowest_of, lowest, fault_of, IsChecked, content_in, AreFindings}
+use Rattle.selection.specs.declared.findings.Findings.{Findings}
 use Rattle.selection.specs.Verdicts.{IsAt, IsInvalid, Says, IsFaultOf}
 use Rattle.selection.specs.declared.checked.Checked.{Checked}
 use Rattle.selection.specs.declared.verdict.Fault.{Fault}
@@ -139,10 +140,11 @@ module _ (q : Problem) (content : Content) where
       subst (λ x. IsInvalid q content x name (parts_of version)) (e ∙ sym h.0)
       (invalid_at v name (parts_of version) (record { place = n; there = p; stands = got; name_is = sym h.1; version_is = sym h.2; verdict = (root, first) }))
 
-  -- what is said of the first package with a fault
-  pub first_said : {E : Type 0} (r : Result Verdict E) (n : ℕ) (p : Package) (k : Checked) (f : Fault) → option_map fault_of (lowest k) ≡ Some f → slice_get content n ≡ Some p → HasRoot q content
-      → IsChecked q content n k → IsPlace q content n → ((m : ℕ) → m < n → IsFaultless q content m) → IfOk r (λ w. IsFaultOf f p.name p.version w) → IfOk r (λ w. Says q content w)
-  first_said (Err e) n p k f named_as got root h lt before said = tt
-  first_said (Ok w) n p k f named_as got root h lt before said =
-      let v = named (lowest k) f named_as in
-      said_first n p v.0 f v.2 got root (first_fault k q content n v.0 h v.1 lt before) w said
+-- what is said of the first package with a fault
+pub first_said : {E : Type 0} (r : Result Verdict E) (f : Findings) (n : ℕ) (p : Package) (k : Checked) (x : Fault) → option_map fault_of (lowest k) ≡ Some x → slice_get (content_in f) n ≡ Some p
+    → ((q : Problem) → AreFindings q f → IsChecked q (content_in f) n k) → n < length (content_in f) → ((q : Problem) → AreFindings q f → (m : ℕ) → m < n → IsFaultless q (content_in f) m)
+    → IfOk r (λ w. IsFaultOf x p.name p.version w) → IfOk r (λ w. (q : Problem) → AreFindings q f → Says q (content_in f) w)
+first_said (Err e) f n p k x named_as got h lt before said = tt
+first_said (Ok w) f n p k x named_as got h lt before said =
+    let v = named (lowest k) x named_as in
+    λ q found. said_first q (content_in f) n p v.0 x v.2 got (f.root, (found.only_root f.root).1 refl) (first_fault k q (content_in f) n v.0 (h q found) v.1 lt (before q found)) w said

@@ -1,8 +1,7 @@
 -- No two packages of a lock are its root.
-use Rattle.std.proofs.Common.{◌≡◌, ℕ, ◌<◌, ◌↔◌, Bool, true, false, not, ◌&&◌, List, length, Option, Some, None, is_some, slice_get, refl, sym, ap, ◌∙◌, subst, true≢false}
+use Rattle.std.proofs.Common.{◌≡◌, ℕ, true, not, ◌&&◌, List, Option, Some, None, is_some, slice_get, refl, sym, ap, ◌∙◌, true≢false}
 use Rattle.model.specs.Owner.{same_text}
 use Rattle.model.specs.Content.{Package, Content, Problem, is_root, same_version}
-use Rattle.model.specs.Selection.{IsRootAt}
 use Rattle.model.specs.WellFormed.{IsContent}
 use Rattle.model.proofs.Contents.{no_two_alike}
 use Rattle.model.proofs.Same.{both, text-same, version-same}

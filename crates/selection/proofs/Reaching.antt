@@ -1,5 +1,5 @@
 -- What the rules of the lists give from the root is what lists lead to.
-use Rattle.std.proofs.Common.{◌≡◌, ℕ, zero, suc, ◌+◌, ◌<◌, ◌↔◌, Bool, true, false, List, [], ◌∷◌, ◌++◌, map, length, get_or, take, drop, ◌≤◌, Contains, Option, Some, None, slice_get, slice_set, slice_index_or, append_assoc, refl, sym, ap, ◌∙◌, subst, arith, inl, inr, ◌⊎◌, true≢false}
+use Rattle.std.proofs.Common.{◌≡◌, ℕ, zero, suc, ◌+◌, ◌<◌, ◌↔◌, Bool, true, List, [], ◌∷◌, ◌++◌, length, take, drop, ◌≤◌, Contains, Some, slice_get, append_assoc, refl, sym, ap, ◌∙◌, subst, arith, inl, inr, ◌⊎◌}
 use Rattle.std.specs.List.{All}
 use Rattle.std.proofs.lemmas.List.{append-nil, drop_all, take_all}
 use Rattle.std.proofs.lemmas.Option.{slice_get_within, none-some, same_Some}
@@ -7,7 +7,7 @@ use Rattle.chains.specs.Chains.{has, IsGiven, AreBelow}
 use Rattle.chains.specs.Chains.IsGiven.{begins, follows}
 use Rattle.chains.specs.declared.rule.Rule.{Rule}
 use Rattle.model.specs.Content.{Package, Content, Problem}
-use Rattle.model.specs.Selection.{IsRootAt, IsReached}
+use Rattle.model.specs.Selection.{IsReached}
 use Rattle.model.specs.Selection.IsReached.{root as at_root, listed as by_list}
 use Rattle.model.specs.WellFormed.{IsContent}
 use Rattle.model.proofs.Contents.{within_at}
@@ -106,6 +106,9 @@ module _ (content : Content) (formed : IsContent content) where
   pub rules_below : AreBelow (length content) (rules_from 0 content)
   rules_below = all_of (λ (r : Rule). (r.first < length content) × (r.second < length content) × (r.gives < length content)) (rules_from 0 content) (λ r c. below r (rule_of 0 content r c))
     where
+      contained : (P : ℕ → Type 0) (xs : List ℕ) (x : ℕ) → All P xs → Contains xs x → P x
+      contained P xs x h c = subst P c.2 (h c.0 x c.1)
+
       below : (r : Rule) → IsListed 0 content r → (r.first < length content) × (r.second < length content) × (r.gives < length content)
       below r l =
           let here = slice_get_within content l.offset l.package_there l.stands in
@@ -114,9 +117,6 @@ module _ (content : Content) (formed : IsContent content) where
           let gives : r.gives ≡ l.place = ap (λ (x : Rule). x.gives) (sym l.is) in
           let there = contained (λ t. t < length content) l.package_there.list l.place (within_at content formed l.offset l.package_there l.stands) l.listed in
           (omega arith, omega arith, subst (λ t. t < length content) (sym gives) there)
-
-      contained : (P : ℕ → Type 0) (xs : List ℕ) (x : ℕ) → All P xs → Contains xs x → P x
-      contained P xs x h c = subst P c.2 (h c.0 x c.1)
 
   module _ (q : Problem) (root : ℕ) (only : IsOnlyRoot q content root) (start : List Bool) (begun : (n : ℕ) → (has start n ≡ true) ↔ (n ≡ root)) where
     given_reached : (n : ℕ) → IsGiven (rules_from 0 content) start n → IsReached q content n

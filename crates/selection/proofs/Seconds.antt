@@ -1,5 +1,5 @@
 -- In package order the packages of one name and class stand side by side, but for the root.
-use Rattle.std.proofs.Common.{◌≡◌, ◌≢◌, ◌↔◌, ℕ, ◌<◌, ◌≤◌, Bool, true, false, List, length, Option, Some, None, slice_get, get_or, option_map, map, refl, sym, ap, ◌∙◌, subst, arith, inl, inr, ◌⊎◌, Ordering, Less, Equal, Greater, true≢false, is_gt, nat_lt}
+use Rattle.std.proofs.Common.{◌≡◌, ◌↔◌, ℕ, ◌<◌, ◌≤◌, Bool, true, false, List, length, Some, slice_get, get_or, option_map, refl, sym, ap, ◌∙◌, subst, arith, inl, inr, Ordering, Less, Equal, Greater, true≢false, is_gt, nat_lt}
 use Rattle.std.specs.Ordering.{ordering_then, ordering_reverse}
 use Rattle.std.proofs.lemmas.Bool.{cases_lt, and_from, ltb-false}
 use Rattle.std.proofs.lemmas.Cmp.{nat_list_cmp_total}
@@ -9,7 +9,7 @@ use Rattle.model.specs.Owner.{same_text}
 use Rattle.model.specs.Content.{Package, Content, Problem, is_root}
 use Rattle.model.specs.Selection.{Class, patch, minor, major, class_of, IsOther}
 use Rattle.model.specs.Axioms.{is_lower}
-use Rattle.model.specs.Order.{text_cmp, version_cmp, source_cmp, precedence, package_cmp}
+use Rattle.model.specs.Order.{text_cmp, version_cmp, source_cmp, package_cmp}
 use Rattle.model.specs.Verdict.{IsFreeOf, two_in_class}
 use Rattle.model.specs.Vertices.{same_class}
 use Rattle.model.specs.WellFormed.{IsContent}

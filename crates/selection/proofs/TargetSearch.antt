@@ -1,5 +1,5 @@
 -- The target of a dependency: of a list, those of its real name stand side by side, and the last of these that serves is the target.
-use Rattle.std.proofs.Common.{◌≡◌, ℕ, zero, suc, ◌+◌, ◌-◌, ◌<◌, ◌≤◌, Bool, true, false, cond, not, ◌&&◌, List, [], ◌∷◌, take, length, get_or, Option, Some, None, slice_get, is_some, refl, sym, ap, ◌∙◌, subst, arith, Ordering, inl, inr, true≢false}
+use Rattle.std.proofs.Common.{◌≡◌, ℕ, zero, suc, ◌<◌, ◌≤◌, Bool, true, false, cond, not, ◌&&◌, List, [], ◌∷◌, take, length, get_or, Option, Some, None, slice_get, is_some, refl, sym, ap, ◌∙◌, subst, arith, Ordering, inl, inr, true≢false}
 use Rattle.std.specs.List.{All, AllPairs, AllWithin}
 use Rattle.std.specs.List.Sorted.{IsPartitionedBy, IsNonDecreasingBy}
 use Rattle.std.specs.Ordering.{is_lt, is_gt, ordering_index, ordering_then}
@@ -9,7 +9,7 @@ use Rattle.std.proofs.lemmas.Cmp.{nat_list_cmp_total}
 use Rattle.std.proofs.lemmas.Option.{slice_get-get_or, get_or_from_slice_get}
 use Rattle.semver.specs.EvalViews.{matches_views}
 use Rattle.model.specs.Owner.{Dependency, same_text}
-use Rattle.model.specs.Content.{Package, Content, serves, serves_if, or_this, last_serving}
+use Rattle.model.specs.Content.{Package, Content, serves_if, or_this, last_serving}
 use Rattle.model.specs.Order.{text_cmp, version_cmp, source_cmp, package_cmp}
 use Rattle.model.specs.WellFormed.{IsContent}
 use Rattle.model.proofs.Same.{text-same}

@@ -1,5 +1,5 @@
 -- The packages of a lock as packages whose facts are asked for: what each brings, and where its dependencies lead.
-use Rattle.std.specs.Prelude.{◌≡◌, ◌↔◌, ℕ, Bool, true, false, ◌||◌, List, map, Option, Some, is_some, slice_get, Contains}
+use Rattle.std.specs.Prelude.{◌≡◌, ◌↔◌, ℕ, Bool, true, ◌||◌, List, map, Option, is_some}
 use Rattle.model.specs.Owner.{Dependency}
 use Rattle.model.specs.Content.{Package, Content, Problem, is_root, candidate_of, owner_of, last_serving}
 use Rattle.model.specs.Selection.{IsRootAt}

@@ -1,14 +1,14 @@
 -- What is found of a lock and of each of its packages, and which fault of a package is the lowest.
-use Rattle.std.specs.Prelude.{◌≡◌, ◌↔◌, ℕ, suc, Bool, true, false, not, is_some, if◌then◌else◌, List, [], ◌∷◌, ◌++◌, Option, Some, None, slice_get, Contains, map}
+use Rattle.std.specs.Prelude.{◌≡◌, ◌↔◌, ℕ, suc, Bool, true, false, not, is_some, if◌then◌else◌, List, [], ◌∷◌, ◌++◌, Option, Some, None, slice_get, map}
 use Rattle.std.specs.Ordering.{is_eq, nat_cmp}
 use Rattle.chains.specs.declared.rule.Rule.{Rule}
 use Rattle.facts.specs.Graphs.{node_views, flag_at, flag_in}
 use Rattle.lockfile.specs.Views.{package_views}
 use Rattle.model.specs.Facts.{enabled, on}
-use Rattle.model.specs.Content.{Package, Content, Problem, owner_at}
+use Rattle.model.specs.Content.{Content, Problem, owner_at}
 use Rattle.model.specs.Owner.{has_feature}
 use Rattle.model.specs.Selection.{IsFact, IsReached}
-use Rattle.model.specs.Verdict.{VerdictFault, not_candidate, two_in_class, unmet, no_feature, wrong_list, unreached, number_of, IsFreeOf, HasFault}
+use Rattle.model.specs.Verdict.{VerdictFault, not_candidate, two_in_class, unmet, no_feature, wrong_list, unreached, IsFreeOf}
 use Rattle.selection.specs.Graphs.{graph_of, is_known, are_known, IsOnlyRoot}
 use Rattle.selection.specs.declared.checked.Checked.{Checked}
 use Rattle.selection.specs.declared.findings.Findings.{Findings}

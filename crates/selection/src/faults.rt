@@ -39,16 +39,21 @@ fn checked_at(alloc: Global, findings: &Findings<'_>, at: usize) -> Result<Check
     requires at { at < length findings.now.content.now }
     ensures { IfOk result (λ k. (q : Problem) → AreFindings q findings.now → IsChecked q (content_in findings.now) at k) }
 {
-    let node = &findings.nodes[at];
-    let enabled = flags(&findings.facts.enabled, at);
+    let nodes = findings.nodes.as_slice();
+    let node = &nodes[at];
+    let targets = node.targets.as_slice();
+    let lists = findings.facts.enabled.as_slice();
+    let enabled = flags(lists, at);
     let list = findings.content[at].list.as_slice();
+    let lacks = findings.facts.lacks.as_slice();
+    let reached = findings.reached.as_slice();
     Ok(Checked {
         candidate: node.brings.is_some(),
         alone: !is_second(findings.content, findings.root, at),
-        met: are_met(enabled, &node.targets),
-        featured: !flag(&findings.facts.lacks, at),
-        listed: are_led_to(alloc, enabled, &node.targets, list)?,
-        reached: flag(&findings.reached, at),
+        met: are_met(enabled, targets),
+        featured: !flag(lacks, at),
+        listed: are_led_to(alloc, enabled, targets, list)?,
+        reached: flag(reached, at),
     })
 }
 
