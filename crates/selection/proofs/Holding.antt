@@ -129,6 +129,7 @@ module _ (q : Problem) (content : Content) (root : ℕ) (only : IsOnlyRoot q con
   facts_same x = (to_content x, from_content x)
 
   pub lacks_same : (n : ℕ) → LacksFeature nodes root n ↔ Lacks q content n
-  lacks_same n =
-      (λ h. (h.0, to_content (on n h.0) h.1, ap (λ (o : Owner). has_feature o.features h.0) (sym (brings_are n)) ∙ h.2),
-      λ h. (h.0, from_content (on n h.0) h.1, ap (λ (o : Owner). has_feature o.features h.0) (brings_are n) ∙ h.2))
+  lacks_same n = (
+    λ h. (h.0, to_content (on n h.0) h.1, ap (λ (o : Owner). has_feature o.features h.0) (sym (brings_are n)) ∙ h.2),
+    λ h. (h.0, from_content (on n h.0) h.1, ap (λ (o : Owner). has_feature o.features h.0) (brings_are n) ∙ h.2),
+  )

@@ -40,10 +40,11 @@ module _ (q : Problem) (content : Content) (n : ℕ) (p : Package) (got : slice_
 
   pub candidate_is : (nodes : List Node) (node : Node) → n < length nodes → get_or nodes n node ≡ node → are_known nodes ≡ map (is_known q) content → (is_some node.brings ≡ true) ↔ IsFreeOf q content not_candidate n
   candidate_is nodes node lt e k =
-      let here = known_at nodes node lt e k in
-      (λ h r o. (let one : p ≡ r = same_Some p r (sym got ∙ o.0) in
-          subst (λ x. is_some (candidate_of q x) ≡ true) one (sym (ap (λ b. b || is_some (candidate_of q p)) (ap (is_root q) one ∙ o.1)) ∙ sym here ∙ h)),
-      λ free. here ∙ by (is_root q p) refl free)
+      let here = known_at nodes node lt e k in (
+        λ h r o. (let one : p ≡ r = same_Some p r (sym got ∙ o.0) in
+            subst (λ x. is_some (candidate_of q x) ≡ true) one (sym (ap (λ b. b || is_some (candidate_of q p)) (ap (is_root q) one ∙ o.1)) ∙ sym here ∙ h)),
+        λ free. here ∙ by (is_root q p) refl free,
+      )
     where
       by : (b : Bool) → is_root q p ≡ b → IsFreeOf q content not_candidate n → (b || is_some (candidate_of q p)) ≡ true
       by true e free = refl
@@ -158,7 +159,7 @@ place_is q f n p node flags targets list second k found got lt there flags_is ta
     let content = content_in f in
     let here = package_view p in
     let flags_are : (i : ℕ) → (flag_at flags i ≡ true) ↔ IsFact q (content_in f) (enabled n i) =
-        λ i. subst (λ fs. (flag_at fs i ≡ true) ↔ IsFact q (content_in f) (enabled n i)) (sym flags_is) (found.enabled_is n i) in
+    λ i. subst (λ fs. (flag_at fs i ≡ true) ↔ IsFact q (content_in f) (enabled n i)) (sym flags_is) (found.enabled_is n i) in
     let targets_same = targets_is ∙ targets_are q content n here got f.nodes.items node lt there found.graph_is in
     checked_is q content n k
     (subst (λ b. (b ≡ true) ↔ IsFreeOf q (content_in f) not_candidate n) (sym candidate) (candidate_is q content n here got f.nodes.items node lt there found.known_is))

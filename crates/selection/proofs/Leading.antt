@@ -54,25 +54,27 @@ module _ (flags : List Bool) (targets : List (Option ℕ)) where
       by : (b : Bool) → is_at (nat_cmp x) t ≡ b → (now t ≡ true) ↔ IsLedBelow (n + 1) t
       by true a = (λ h. (n, omega arith, found.0, found.1 ∙ ap (λ s. Some (Some s)) (at_same x t a)), λ h. step t ∙ ap (λ b. cond b true (was t)) a)
       by false a =
-          let now_is : now t ≡ was t = step t ∙ ap (λ b. cond b true (was t)) a in
-          (λ h. (let l = (told t).0 (sym now_is ∙ h) in (l.0, omega (arith, l.1), l.2, l.3)),
-          λ l. elim (cases_lt l.0 n) [
-            | inl lt ↦ now_is ∙ (told t).1 (l.0, lt, l.2, l.3)
-            | inr back ↦
-                let place : l.0 ≡ n = omega (arith, l.1, back) in
-                absurd (true≢false (sym (same_at x t (same t (subst (λ i. flag_at flags i ≡ true) place l.2) (subst (λ i. slice_get targets i ≡ Some (Some t)) place l.3))) ∙ a))
-          ])
+          let now_is : now t ≡ was t = step t ∙ ap (λ b. cond b true (was t)) a in (
+            λ h. (let l = (told t).0 (sym now_is ∙ h) in (l.0, omega (arith, l.1), l.2, l.3)),
+            λ l. elim (cases_lt l.0 n) [
+              | inl lt ↦ now_is ∙ (told t).1 (l.0, lt, l.2, l.3)
+              | inr back ↦
+                  let place : l.0 ≡ n = omega (arith, l.1, back) in
+                  absurd (true≢false (sym (same_at x t (same t (subst (λ i. flag_at flags i ≡ true) place l.2) (subst (λ i. slice_get targets i ≡ Some (Some t)) place l.3))) ∙ a))
+            ],
+          )
 
   -- .. or nowhere
   pub led_same : (n : ℕ) (was : ℕ → Bool) → enabled_target flags targets n ≡ None → ((t : ℕ) → (was t ≡ true) ↔ IsLedBelow n t) → (t : ℕ) → (was t ≡ true) ↔ IsLedBelow (n + 1) t
-  led_same n was e told t =
-      (λ h. (let l = (told t).0 h in (l.0, omega (arith, l.1), l.2, l.3)),
-      λ l. elim (cases_lt l.0 n) [
-        | inl lt ↦ (told t).1 (l.0, lt, l.2, l.3)
-        | inr back ↦
-            let place : l.0 ≡ n = omega (arith, l.1, back) in
-            absurd (none-some t (sym e ∙ some_target n t (subst (λ i. flag_at flags i ≡ true) place l.2) (subst (λ i. slice_get targets i ≡ Some (Some t)) place l.3)))
-      ])
+  led_same n was e told t = (
+    λ h. (let l = (told t).0 h in (l.0, omega (arith, l.1), l.2, l.3)),
+    λ l. elim (cases_lt l.0 n) [
+      | inl lt ↦ (told t).1 (l.0, lt, l.2, l.3)
+      | inr back ↦
+          let place : l.0 ≡ n = omega (arith, l.1, back) in
+          absurd (none-some t (sym e ∙ some_target n t (subst (λ i. flag_at flags i ≡ true) place l.2) (subst (λ i. slice_get targets i ≡ Some (Some t)) place l.3)))
+    ],
+  )
 
   pub led_step : (n : ℕ) (o : Option ℕ) (was now : ℕ → Bool) → o ≡ enabled_target flags targets n → ((t : ℕ) → now t ≡ with_target o t (was t))
       → ((t : ℕ) → (was t ≡ true) ↔ IsLedBelow n t) → (t : ℕ) → (now t ≡ true) ↔ IsLedBelow (n + 1) t

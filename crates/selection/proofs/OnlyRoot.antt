@@ -24,6 +24,7 @@ as_root q p h =
     by (Some s) e = absurd (true≢false (sym e))
 
 pub only_root : (q : Problem) (content : Content) (n : ℕ) (p : Package) → IsContent content → slice_get content n ≡ Some p → is_root q p ≡ true → IsOnlyRoot q content n
-only_root q content n p formed got is m =
-    (λ h. (let r = as_root q h.0 h.2 in let s = as_root q p is in no_two_alike content formed m n h.0 p h.1 got (sym r.name ∙ s.name) (sym r.version ∙ s.version) (r.source ∙ sym s.source)),
-    λ e. (p, ap (slice_get content) e ∙ got, is))
+only_root q content n p formed got is m = (
+  λ h. (let r = as_root q h.0 h.2 in let s = as_root q p is in no_two_alike content formed m n h.0 p h.1 got (sym r.name ∙ s.name) (sym r.version ∙ s.version) (r.source ∙ sym s.source)),
+  λ e. (p, ap (slice_get content) e ∙ got, is),
+)

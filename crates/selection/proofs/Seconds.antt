@@ -74,10 +74,12 @@ module _ (content : Content) (formed : IsContent content) where
       let after : package_cmp s p ≡ Less = pairs_get (λ p r. package_cmp p r ≡ Less) content b n s p formed.in_order le gb gn in
       let same : s.name ≡ p.name = sandwiched s.name p.name (name_first s p after) (subst (λ x. is_gt (text_cmp x s.name) ≡ false) name (name_first r s before)) in
       let older = older_first content formed m b r s gm gb lt (name ∙ sym same) in
-      let newer = older_first content formed b n s p gb gn le same in
-      (same, between (class_of s.version) (class_of p.version)
-      (λ h. true≢false (sym (class_above s.version r.version (subst (λ k. is_lower (class_of s.version) k ≡ true) (sym class) h)) ∙ older))
-      (λ h. true≢false (sym (class_above p.version s.version h) ∙ newer)))
+      let newer = older_first content formed b n s p gb gn le same in (
+        same,
+        between (class_of s.version) (class_of p.version)
+            (λ h. true≢false (sym (class_above s.version r.version (subst (λ k. is_lower (class_of s.version) k ≡ true) (sym class) h)) ∙ older))
+            (λ h. true≢false (sym (class_above p.version s.version h) ∙ newer)),
+      )
 
   stands_between : (n b m : ℕ) (p s r : Package) → slice_get content n ≡ Some p → slice_get content b ≡ Some s → slice_get content m ≡ Some r → m ≤ b → b < n
       → r.name ≡ p.name → class_of r.version ≡ class_of p.version → (s.name ≡ p.name) × (class_of s.version ≡ class_of p.version)

@@ -44,8 +44,8 @@ fn target(content: &[Package], list: &[usize], dependency: &Dependency) -> Optio
     ensures { result ≡ last_serving (package_views content.now) (dependency_view dependency.now) list.now }
 {
     let first = list.partition_point(|at| name_order(content, *at, dependency) == Ordering::Less);
-    let after =
-        list.partition_point(|at| name_order(content, *at, dependency) != Ordering::Greater);
+    let after = list.partition_point(|at| name_order(content, *at, dependency)
+        != Ordering::Greater);
     search(content, list, first, after, dependency)
 }
 

@@ -73,7 +73,10 @@ fn index_line(alloc: Global, name: &str, rest: &str) -> Result<String, Fail> {
     let (dependencies, features) = rest.split_once(';').ok_or("no features")?;
     let mut line = format!(in alloc; "{{\"name\":\"{name}\",\"vers\":\"{version}\",\"deps\":[")?;
     add_dependencies(&mut line, dependencies)?;
-    write!(line, "],\"cksum\":\"{SUM}\",\"features\":{{{features}}}}}\n")?;
+    write!(
+        line,
+        "],\"cksum\":\"{SUM}\",\"features\":{{{features}}}}}\n"
+    )?;
     Ok(line)
 }
 

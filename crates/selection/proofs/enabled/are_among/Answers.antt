@@ -19,6 +19,7 @@ listed-preserved c =
     ]
 
 pub returns : goal.returns
-returns c =
-    (λ e t h. subst (λ x. contains nat_cmp c.args.places.now x ≡ true) h.2 (c.listed.invariant h.0 t (omega (arith, h.1, c.listed-test.false))),
-    λ h. refl)
+returns c = (
+  λ e t h. subst (λ x. contains nat_cmp c.args.places.now x ≡ true) h.2 (c.listed.invariant h.0 t (omega (arith, h.1, c.listed-test.false))),
+  λ h. refl,
+)

@@ -31,6 +31,7 @@ places-preserved c =
 
 pub returns : goal.returns
 returns c =
-    λ q found.
-    ((c.args.findings.now.root, (found.only_root c.args.findings.now.root).1 refl),
-    λ n place. c.places.invariant q found n (omega (arith, place, length-map c.args.findings.now.content.now package_view, c.places-test.false)))
+    λ q found. (
+      (c.args.findings.now.root, (found.only_root c.args.findings.now.root).1 refl),
+      λ n place. c.places.invariant q found n (omega (arith, place, length-map c.args.findings.now.content.now package_view, c.places-test.false)),
+    )

@@ -10,10 +10,11 @@ use Rattle.selection.proofs.Seconds.{view_at}
 use Rattle.selection.proofs.roots.root_of.Goals as goal
 
 pub returns-then-is_root : goal.returns-then-is_root
-returns-then-is_root c =
-    (c.places-test.true,
-    λ index. only_root (problem_in c.args.manifest.now index) (package_views c.args.content.now) c.places.at (package_view c.index-content-at.result) c.requires
-    (view_at c.args.content.now c.places.at c.index-content-at.result c.places-test.true (sym c.index-content-at.is)) (sym (c.is_root.ensures index) ∙ c.if-is_root.true))
+returns-then-is_root c = (
+  c.places-test.true,
+  λ index. only_root (problem_in c.args.manifest.now index) (package_views c.args.content.now) c.places.at (package_view c.index-content-at.result) c.requires
+      (view_at c.args.content.now c.places.at c.index-content-at.result c.places-test.true (sym c.index-content-at.is)) (sym (c.is_root.ensures index) ∙ c.if-is_root.true),
+)
 
 pub places-preserved : goal.places-preserved
 places-preserved c =
