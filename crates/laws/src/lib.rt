@@ -3,7 +3,7 @@
 //! A law is a function that does nothing: its contract is the statement. Nothing is asked of the arguments but their types.
 #![tactic(auto)]
 
-ghost use Rattle.std.specs.Prelude.{◌≡◌, List, None};
+ghost use Rattle.std.specs.Prelude.{List};
 ghost use Rattle.model.specs.Assignment.{Breaks};
 ghost use Rattle.model.specs.Axioms.{IsInstance, Kind, Term};
 ghost use Rattle.model.specs.Content.{Content};
