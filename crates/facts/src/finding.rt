@@ -1,8 +1,9 @@
 //! The facts of packages.
 
-ghost use Rattle.std.specs.Prelude.{◌≡◌, ◌↔◌, ℕ, true, map, IfOk};
+ghost use Rattle.std.specs.Prelude.{◌≡◌, ◌↔◌, ℕ, true, length, map, IfOk};
 ghost use Rattle.model.specs.Facts.{here, enabled};
-ghost use Rattle.chains.specs.Chains.{has};
+ghost use Rattle.chains.specs.Chains.{has, AreBelow};
+ghost use Rattle.facts.specs.Answers.{AreGivenBy};
 ghost use Rattle.facts.specs.Graphs.{node_views, flag_at, flag_in, IsFactOf, LacksFeature, IsGraph};
 ghost use Rattle.facts.specs.Places.{link_views, place_view, place_views};
 ghost use Rattle.facts.specs.RuleLists.{here_flags, lacks_flags, enabled_flags, link_flags};
@@ -11,7 +12,7 @@ use crate::node::Node;
 use crate::numbering::places_of;
 use crate::place::{Link, Place};
 use crate::rules::rules_of;
-use chains::close;
+use chains::{Rule, close};
 use std::alloc::{AllocError, Global};
 
 /// What finite chains of reasons give of packages, by their places.
@@ -37,11 +38,29 @@ pub fn facts_of(alloc: Global, nodes: &[Node<'_>], root: usize) -> Result<Facts,
     let mut marked = Vec::new(alloc);
     let places = places_of(alloc, nodes, &mut marked)?;
     let rules = rules_of(alloc, places.as_slice(), root)?;
-    close(alloc, marked.as_mut_slice(), rules.as_slice())?;
+    facts_by(
+        alloc,
+        marked.as_mut_slice(),
+        places.as_slice(),
+        rules.as_slice(),
+    )
+}
+
+/// The facts that the rules give from what is marked.
+fn facts_by(
+    alloc: Global,
+    marked: &mut [bool],
+    places: &[Place<'_>],
+    rules: &[Rule],
+) -> Result<Facts, AllocError>
+    requires below { AreBelow (length marked.old) rules.now }
+    ensures { IfOk result (AreGivenBy rules.now marked.old (place_views places.now)) }
+{
+    close(alloc, marked, rules)?;
     Ok(Facts {
-        here: here_flags(alloc, marked.as_slice(), places.as_slice())?,
-        enabled: enabled_flags(alloc, marked.as_slice(), places.as_slice())?,
-        lacks: lacks_flags(alloc, marked.as_slice(), places.as_slice())?,
+        here: here_flags(alloc, marked, places)?,
+        enabled: enabled_flags(alloc, marked, places)?,
+        lacks: lacks_flags(alloc, marked, places)?,
     })
 }
 
