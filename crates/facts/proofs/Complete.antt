@@ -161,7 +161,11 @@ module _ (nodes : List NodeView) (root : ℕ) (ps : List PlaceView) (marks : Lis
       let r = one (k.l).enabled (g.q).here in
       let on_it = enabled_given n e.x e.p i d e.at k e in
       record {
-        x = g.y; p = g.q; at = g.at; k = (g.q).here; is = refl;
+        x = g.y;
+        p = g.q;
+        at = g.at;
+        k = (g.q).here;
+        is = refl;
         given = by_rule r (arrived n e.x e.p i d u r e.at k g (in_first r (ask_features (k.l).enabled g.q (asked_of_target (k.l).dependency)))) on_it on_it;
       }
   got w (root_needs n i d h is b) =
@@ -215,7 +219,11 @@ module _ (nodes : List NodeView) (root : ℕ) (ps : List PlaceView) (marks : Lis
       let r = one (number_on e.p f) (number_on e.p g) in
       let o = on_given n f e in
       record {
-        x = e.x; p = e.p; at = e.at; k = number_on e.p g; is = refl;
+        x = e.x;
+        p = e.p;
+        at = e.at;
+        k = number_on e.p g;
+        is = refl;
         given = by_rule r (of_entry n e.x e.p f (feature g) r e.at l (in_first r [])) o o;
       }
   got w (enables n i d f h b l) =

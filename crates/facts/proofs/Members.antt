@@ -100,7 +100,7 @@ module _ (ps : List PlaceView) (root : ℕ) where
       let b = nat_eq n root in
       let row = row_of f rows es found in
       let all : Contains (feature_rules ps p rows f) r = subst (λ o. Contains (entries_rules ps p (number_on p f) (unwrap_or o [])) r) (sym found)
-          (to_flat (entry_rules ps p (number_on p f)) es e r has c) in
+      (to_flat (entry_rules ps p (number_on p f)) es e r has c) in
       to_rules n p r got
       (Contains-append_right (all_links b p) (table_rules ps b p rows) r
       (Contains-append_left (features_rules ps p rows) (root_part b p) r

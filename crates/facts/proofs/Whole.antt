@@ -1,5 +1,5 @@
 -- The answers: what is marked in the end is what holds.
-use Rattle.std.proofs.Common.{◌≡◌, ◌↔◌, ℕ, zero, suc, ◌<◌, ◌+◌, List, [], ◌∷◌, ◌++◌, map, length, Bool, true, false, Option, Some, None, slice_get, get_or, unwrap_or, Contains, refl, sym, ap, ap₂, ◌∙◌, subst, subst₂, arith, true≢false}
+use Rattle.std.proofs.Common.{◌≡◌, ◌↔◌, ℕ, zero, suc, ◌<◌, ◌+◌, List, [], ◌∷◌, ◌++◌, map, length, Bool, true, false, Option, Some, None, slice_get, get_or, unwrap_or, Contains, refl, sym, ap, ap₂, ◌∙◌, subst, subst₂, arith, true≢false, Result, Ok, Err, IfOk}
 use Rattle.std.proofs.lemmas.List.{length-append, append_assoc, map-append}
 use Rattle.std.proofs.lemmas.List.Elements.{Contains-get_or}
 use Rattle.std.proofs.lemmas.Option.{slice_get_within}
@@ -11,6 +11,8 @@ use Rattle.model.specs.Facts.Holds.{starts}
 use Rattle.facts.specs.Graphs.{NodeView, brings_if, starts_if, starts_at, IsFactOf, LacksFeature, IsGraph, flag_at, flag_in}
 use Rattle.facts.specs.Places.{LinkView, PlaceView, unmarked_for, flags_of, flags_of_all, IsPlaceFrom, ArePlacesFrom}
 use Rattle.facts.specs.RuleLists.{number_on, all_rules, here_flags, lacks_flags, enabled_flags}
+use Rattle.facts.specs.Answers.{AreGivenBy}
+use Rattle.facts.specs.declared.finding.Facts.{Facts}
 use Rattle.facts.proofs.Numbers.{Mark, is_here, lacking, is_on, is_enabled, on_marks, enabled_marks, block, marks_from, IsNumbered, numbered}
 use Rattle.facts.proofs.Sound.{IsTable, At, HoldsMark, IsStep, rule_step, sound}
 use Rattle.facts.proofs.Complete.{Got, IsGot, got}
@@ -30,7 +32,7 @@ length-block n x =
     let rows = x.brings.features in
     let ds = x.brings.dependencies in
     ap (λ m. suc (suc m)) (length-append (on_marks n rows) (enabled_marks n 0 ds) ∙ ap₂ (λ a b. a + b) (length-on n rows) (length-enabled n 0 ds)
-      ∙ sym (length-append (unmarked_for rows) (unmarked_for ds)))
+    ∙ sym (length-append (unmarked_for rows) (unmarked_for ds)))
 
 all_numbered : (front : List Mark) (n : ℕ) (xs : List NodeView) (ps : List PlaceView) (j : ℕ) (x : NodeView) (p : PlaceView) → ArePlacesFrom (length front) xs ps
     → slice_get xs j ≡ Some x → slice_get ps j ≡ Some p → IsNumbered (front ++ marks_from n xs) (n + j) x p
@@ -186,9 +188,9 @@ module _ (nodes : List NodeView) (root : ℕ) (ps : List PlaceView) (a : ArePlac
     lacks_holds n = (
       λ h. (let r = has-back (λ p. has set p.lacks) ps n h in let q = at n r.0 r.1 in holds (r.0).lacks (lacking n) q.1.is.lacks r.2),
       λ h. (
-        let g = gets (on n h.0) h.1 in
-        let none : has_feature (g.x).brings.features h.0 ≡ false = ap (λ (o : Owner). has_feature o.features h.0) (sym (ap brings_if g.at.got)) ∙ h.2 in
-        has-map (λ p. has set p.lacks) ps n g.p g.at.had ∙ ap (has set) (is_lacks n g.x g.p h.0 g.at none ∙ g.is) ∙ (given g.k).1 g.given),
+          let g = gets (on n h.0) h.1 in
+          let none : has_feature (g.x).brings.features h.0 ≡ false = ap (λ (o : Owner). has_feature o.features h.0) (sym (ap brings_if g.at.got)) ∙ h.2 in
+          has-map (λ p. has set p.lacks) ps n g.p g.at.had ∙ ap (has set) (is_lacks n g.x g.p h.0 g.at none ∙ g.is) ∙ (given g.k).1 g.given),
     )
       where
         is_lacks : (n : ℕ) (x : NodeView) (p : PlaceView) (f : List ℕ) → At nodes ps (marks_from 0 nodes) n x p → has_feature x.brings.features f ≡ false → p.lacks ≡ number_on p f
@@ -201,17 +203,17 @@ module _ (nodes : List NodeView) (root : ℕ) (ps : List PlaceView) (a : ArePlac
     pub enabled_holds : (n i : ℕ) → (flag_in (enabled_flags set ps) n i ≡ true) ↔ IsFactOf nodes root (enabled n i)
     enabled_holds n i = (
       λ h. (
-        let r = lists-back (λ p. map (λ l. has set l.enabled) p.links) ps n i h in
-        let q = at n r.0 r.1 in
-        let l = has-back (λ l. has set l.enabled) (r.0).links i r.2 in
-        let d = q.1.is.back i l.0 l.1 in
-        let k = q.1.is.link i d.0 d.1 in
-        let same : (k.0).enabled ≡ (l.0).enabled = ap (λ (l : LinkView). l.enabled) (some_inner k.0 l.0 (sym k.1 ∙ l.1)) in
-        holds (l.0).enabled (is_enabled n i) (ap (slice_get (marks_from 0 nodes)) (sym same) ∙ k.2.enabled) l.2),
+          let r = lists-back (λ p. map (λ l. has set l.enabled) p.links) ps n i h in
+          let q = at n r.0 r.1 in
+          let l = has-back (λ l. has set l.enabled) (r.0).links i r.2 in
+          let d = q.1.is.back i l.0 l.1 in
+          let k = q.1.is.link i d.0 d.1 in
+          let same : (k.0).enabled ≡ (l.0).enabled = ap (λ (l : LinkView). l.enabled) (some_inner k.0 l.0 (sym k.1 ∙ l.1)) in
+          holds (l.0).enabled (is_enabled n i) (ap (slice_get (marks_from 0 nodes)) (sym same) ∙ k.2.enabled) l.2),
       λ h. (
-        let g = gets (enabled n i) h in
-        ap (λ fs. flag_at fs i) (lists-map (λ p. map (λ l. has set l.enabled) p.links) ps n g.p g.at.had)
-        ∙ has-map (λ l. has set l.enabled) (g.p).links i (g.is).0 (g.is).1 ∙ ap (has set) (g.is).2 ∙ (given g.k).1 g.given),
+          let g = gets (enabled n i) h in
+          ap (λ fs. flag_at fs i) (lists-map (λ p. map (λ l. has set l.enabled) p.links) ps n g.p g.at.had)
+          ∙ has-map (λ l. has set l.enabled) (g.p).links i (g.is).0 (g.is).1 ∙ ap (has set) (g.is).2 ∙ (given g.k).1 g.given),
     )
 
 -- ---- the same of what the code has made
@@ -247,3 +249,26 @@ module _ (nodes : List NodeView) (root : ℕ) (ps : List PlaceView) (set : List 
 
   pub enabled_shown : (fs : List (List Bool)) → fs ≡ enabled_flags set ps → (n i : ℕ) → (flag_in fs n i ≡ true) ↔ IsFactOf nodes root (enabled n i)
   enabled_shown fs e n i = subst (λ fs. (flag_in fs n i ≡ true) ↔ IsFactOf nodes root (enabled n i)) (sym e) (enabled_holds nodes root ps k.places k.graph set k.given n i)
+
+if_ok : {X E : Type 0} (P Q : X → Type 0) (r : Result X E) → ((x : X) → P x → Q x) → IfOk r P → IfOk r Q
+if_ok P Q (Ok x) h p = h x p
+if_ok P Q (Err e) h p = tt
+
+-- what the answers say, where the rules and the start are those of the packages
+module _ {E : Type 0} (nodes : List NodeView) (root : ℕ) (ps qs : List PlaceView) (none flags : List Bool) (rs : List Rule) (r : Result Facts E) (e : none ≡ [])
+    (a : ArePlacesFrom (length none) nodes ps) (fs : flags ≡ none ++ flags_of_all nodes) (is : rs ≡ all_rules root ps) (graph : IsGraph nodes) (same : qs ≡ ps)
+    (shows : IfOk r (AreGivenBy rs flags qs)) where
+  shown : (f : Facts) → AreGivenBy rs flags qs f → AreGivenBy rs flags ps f
+  shown f g = subst (λ ps. AreGivenBy rs flags ps f) same g
+
+  pub here_made : IfOk r (λ f. (n : ℕ) → (flag_at f.here.items n ≡ true) ↔ IsFactOf nodes root (here n))
+  here_made = if_ok (AreGivenBy rs flags qs) (λ f. (n : ℕ) → (flag_at f.here.items n ≡ true) ↔ IsFactOf nodes root (here n)) r
+      (λ f g. let s = shown f g in here_shown nodes root ps s.set (closed_made nodes root ps none flags s.set rs e a fs is graph s.given) f.here.items s.here) shows
+
+  pub enabled_made : IfOk r (λ f. (n i : ℕ) → (flag_in (map (λ v. v.items) f.enabled.items) n i ≡ true) ↔ IsFactOf nodes root (enabled n i))
+  enabled_made = if_ok (AreGivenBy rs flags qs) (λ f. (n i : ℕ) → (flag_in (map (λ v. v.items) f.enabled.items) n i ≡ true) ↔ IsFactOf nodes root (enabled n i)) r
+      (λ f g. let s = shown f g in enabled_shown nodes root ps s.set (closed_made nodes root ps none flags s.set rs e a fs is graph s.given) (map (λ v. v.items) f.enabled.items) s.enabled) shows
+
+  pub lacks_made : IfOk r (λ f. (n : ℕ) → (flag_at f.lacks.items n ≡ true) ↔ LacksFeature nodes root n)
+  lacks_made = if_ok (AreGivenBy rs flags qs) (λ f. (n : ℕ) → (flag_at f.lacks.items n ≡ true) ↔ LacksFeature nodes root n) r
+      (λ f g. let s = shown f g in lacks_shown nodes root ps s.set (closed_made nodes root ps none flags s.set rs e a fs is graph s.given) f.lacks.items s.lacks) shows

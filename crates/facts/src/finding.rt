@@ -64,11 +64,7 @@ fn facts_by(
     })
 }
 
-fn here_flags(
-    alloc: Global,
-    marked: &[bool],
-    places: &[Place<'_>],
-) -> Result<Vec<bool>, AllocError>
+fn here_flags(alloc: Global, marked: &[bool], places: &[Place<'_>]) -> Result<Vec<bool>, AllocError>
     ensures { IfOk result (λ v. v.items ≡ here_flags marked.now (place_views places.now)) }
 {
     let mut flags = Vec::new(alloc);
@@ -106,11 +102,7 @@ fn enabled_flags(
     Ok(flags)
 }
 
-fn link_flags(
-    alloc: Global,
-    marked: &[bool],
-    links: &[Link<'_>],
-) -> Result<Vec<bool>, AllocError>
+fn link_flags(alloc: Global, marked: &[bool], links: &[Link<'_>]) -> Result<Vec<bool>, AllocError>
     ensures { IfOk result (λ v. v.items ≡ link_flags marked.now (link_views links.now)) }
 {
     let mut flags = Vec::new(alloc);
