@@ -1,5 +1,5 @@
 -- All facts are given by the rules.
-use Rattle.std.proofs.Common.{◌≡◌, ℕ, zero, suc, ◌<◌, List, [], ◌∷◌, ◌++◌, length, Bool, true, false, not, ◌||◌, cond, nat_eq, Option, Some, None, slice_get, is_some, unwrap_or, option_and_then, Contains, refl, sym, ap, ap₂, ◌∙◌, subst, inl, inr, arith, true≢false}
+use Rattle.std.proofs.Common.{◌≡◌, ℕ, zero, suc, ◌<◌, List, [], ◌∷◌, length, Bool, true, false, not, ◌||◌, cond, nat_eq, Option, Some, None, slice_get, option_and_then, Contains, refl, sym, ap, ◌∙◌, subst, arith, true≢false}
 use Rattle.std.specs.List.{flat_map}
 use Rattle.std.proofs.lemmas.Bool.{eq-eqb}
 use Rattle.std.proofs.lemmas.List.Elements.{Contains-append_left, Contains-append_right}
@@ -7,15 +7,15 @@ use Rattle.chains.specs.declared.rule.Rule.{Rule}
 use Rattle.chains.specs.Chains.{has, IsGiven}
 use Rattle.chains.specs.Chains.IsGiven.{begins, follows}
 use Rattle.model.specs.Owner.{Owner, Dependency, Entry, feature, dependency, dependency_feature, weak_feature, same_text, entries_at, asked_of_target}
-use Rattle.model.specs.Facts.{Fact, Holds, here, on, enabled, Brings, Lists}
+use Rattle.model.specs.Facts.{Fact, here, on, enabled, Brings, Lists}
 use Rattle.model.specs.Facts.Holds.{starts, arrives, root_needs, needs, asks, root_wants, turns_on, enables, enables_for, wants, wants_weakly}
 use Rattle.model.proofs.Same.{text-refl}
-use Rattle.model.proofs.Lists.{in_none, in_cons, in_first, in_rest, to_filter, all_get}
+use Rattle.model.proofs.Lists.{in_none, in_first, in_rest, to_filter, all_get}
 use Rattle.manifest.specs.Manifests.{root_asks, asked_by}
-use Rattle.facts.specs.Graphs.{NodeView, brings_if, starts_if, target_if, brings_at, starts_at, target_at, IsFactOf, AreWithin, IsGraph}
-use Rattle.facts.specs.Places.{LinkView, PlaceView, links_called}
-use Rattle.facts.specs.RuleLists.{one, both, number_on, place_at, ask, ask_features, arrive, is_needed, need, link_rules, enable_all, ask_all, ask_enabled, entry_rules, root_rules, all_rules}
-use Rattle.facts.proofs.Numbers.{Mark, IsLink, IsNumbered}
+use Rattle.facts.specs.Graphs.{NodeView, brings_if, starts_if, target_if, brings_at, target_at, IsFactOf, AreWithin, IsGraph}
+use Rattle.facts.specs.Places.{LinkView, PlaceView}
+use Rattle.facts.specs.RuleLists.{one, both, number_on, place_at, ask, ask_features, arrive, is_needed, need, enable_all, ask_all, entry_rules, root_rules, all_rules}
+use Rattle.facts.proofs.Numbers.{Mark, IsLink}
 use Rattle.facts.proofs.Members.{in_flat, to_flat, in_one, get_contains, to_link, to_entry, to_root}
 use Rattle.facts.proofs.Sound.{IsTable, At}
 

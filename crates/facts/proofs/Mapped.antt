@@ -1,5 +1,5 @@
 -- The facts of packages hold of the packages that stand for them.
-use Rattle.std.proofs.Common.{◌≡◌, ℕ, List, Some, slice_get, Contains, refl, sym, ap, ◌∙◌, subst}
+use Rattle.std.proofs.Common.{◌≡◌, ℕ, List, Some, slice_get, Contains, subst}
 use Rattle.model.specs.Owner.{Owner, Dependency, Entry, entries_at}
 use Rattle.model.specs.Facts.{Fact, Holds, here, on, enabled, Brings, Lists}
 use Rattle.model.specs.Facts.Holds.{starts, arrives, root_needs, needs, asks, root_wants, turns_on, enables, enables_for, wants, wants_weakly}

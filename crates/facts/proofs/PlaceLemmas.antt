@@ -1,5 +1,5 @@
 -- How facts get their numbers, step by step.
-use Rattle.std.proofs.Common.{◌≡◌, ℕ, zero, suc, ◌+◌, List, [], ◌∷◌, ◌++◌, map, length, Bool, true, false, cond, Option, Some, None, Vec, Ordering, Less, Equal, Greater, refl, sym, ap, ap₂, ◌∙◌, subst, true≢false, arith}
+use Rattle.std.proofs.Common.{◌≡◌, ℕ, suc, ◌+◌, List, [], ◌∷◌, ◌++◌, length, Bool, true, false, cond, Option, Some, None, Vec, Ordering, Less, Equal, Greater, refl, sym, ap, ap₂, ◌∙◌, subst, true≢false, arith}
 use Rattle.std.specs.Borrow.{Bor}
 use Rattle.std.specs.BTreeMap.{is_at, insert_entry}
 use Rattle.std.specs.Map.{lookup, set_value}
@@ -10,11 +10,11 @@ use Rattle.std.proofs.lemmas.Map.Lookups.{exact_bytes}
 use Rattle.std.proofs.lemmas.List.{length-append, append_assoc, append-nil, map-append}
 use Rattle.features.specs.Tables.{rows_of}
 use Rattle.features.specs.declared.entry.Entry.{Entry}
-use Rattle.model.specs.Owner.{Table, same_text}
-use Rattle.model.proofs.Same.{text-same, text-refl}
+use Rattle.model.specs.Owner.{same_text}
+use Rattle.model.proofs.Same.{text-same}
 use Rattle.facts.specs.Graphs.{NodeView}
 use Rattle.facts.specs.declared.place.Link.{Link}
-use Rattle.facts.specs.Places.{at_text, number_in, unmarked_for, LinkView, link_view, link_views, links_if, links_called, flags_of, flags_of_all, PlaceView, IsPlaceFrom, ArePlacesFrom}
+use Rattle.facts.specs.Places.{at_text, number_in, unmarked_for, link_view, link_views, links_if, links_called, flags_of, flags_of_all, PlaceView, IsPlaceFrom, ArePlacesFrom}
 
 abbrev pub str_cmp : Bor (List ℕ) → Bor (List ℕ) → Ordering
 str_cmp x y = slice_cmp nat_cmp x.now y.now

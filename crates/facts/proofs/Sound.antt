@@ -1,23 +1,22 @@
 -- What the rules give are facts, and all facts are given.
-use Rattle.std.proofs.Common.{◌≡◌, ℕ, zero, suc, ◌<◌, ◌+◌, List, [], ◌∷◌, ◌++◌, map, length, Bool, true, false, not, ◌||◌, cond, nat_eq, Option, Some, None, slice_get, is_some, unwrap_or, option_and_then, Contains, refl, sym, ap, ap₂, ◌∙◌, subst, subst₂, inl, inr, ◌⊎◌, arith, true≢false}
+use Rattle.std.proofs.Common.{◌≡◌, ℕ, List, [], ◌∷◌, Bool, true, false, not, ◌||◌, cond, nat_eq, Option, Some, None, slice_get, is_some, unwrap_or, Contains, refl, sym, ap, ◌∙◌, subst, inl, inr, true≢false}
 use Rattle.std.specs.List.{flat_map}
-use Rattle.std.proofs.lemmas.List.Elements.{Contains-append_cases, Contains-append_left, Contains-append_right}
+use Rattle.std.proofs.lemmas.List.Elements.{Contains-append_cases}
 use Rattle.std.proofs.lemmas.Bool.{eqb-true}
-use Rattle.std.proofs.lemmas.Option.{slice_get_within}
 use Rattle.chains.specs.declared.rule.Rule.{Rule}
 use Rattle.chains.specs.Chains.{has, IsGiven}
 use Rattle.chains.specs.Chains.IsGiven.{begins, follows}
 use Rattle.model.specs.Owner.{Owner, Dependency, Entry, feature, dependency, dependency_feature, weak_feature, Table, same_text, has_feature, entries_at, asked_of_target}
-use Rattle.model.specs.Facts.{Fact, Holds, here, on, enabled, Brings, Lists}
-use Rattle.model.specs.Facts.Holds.{starts, arrives, root_needs, needs, asks, root_wants, turns_on, enables, enables_for, wants, wants_weakly}
-use Rattle.model.proofs.Same.{text-same, text-refl}
-use Rattle.model.proofs.Lists.{in_none, in_cons, in_first, in_filter, to_filter, all_get}
+use Rattle.model.specs.Facts.{Fact, here, on, enabled, Brings, Lists}
+use Rattle.model.specs.Facts.Holds.{arrives, root_needs, needs, asks, root_wants, turns_on, enables, enables_for, wants, wants_weakly}
+use Rattle.model.proofs.Same.{text-same}
+use Rattle.model.proofs.Lists.{in_none, in_cons, in_first, in_filter}
 use Rattle.manifest.specs.Manifests.{root_asks, asked_by}
-use Rattle.facts.specs.Graphs.{NodeView, brings_if, starts_if, target_if, brings_at, starts_at, target_at, IsFactOf, LacksFeature, AreWithin, IsGraph}
-use Rattle.facts.specs.Places.{LinkView, PlaceView, links_called}
-use Rattle.facts.specs.RuleLists.{one, both, number_on, place_at, ask, ask_features, arrive, is_needed, need, link_rules, enable_all, ask_all, ask_enabled, entry_rules, root_rules, root_entries, root_table, entries_rules, feature_rules, features_rules, table_rules, place_rules, all_rules}
+use Rattle.facts.specs.Graphs.{NodeView, brings_if, target_if, brings_at, target_at, IsFactOf, LacksFeature}
+use Rattle.facts.specs.Places.{LinkView, PlaceView}
+use Rattle.facts.specs.RuleLists.{one, both, number_on, place_at, ask, ask_features, arrive, need, link_rules, enable_all, ask_all, entry_rules, root_rules, root_entries, root_table, entries_rules, feature_rules, features_rules, table_rules, all_rules}
 use Rattle.facts.proofs.Numbers.{Mark, is_here, lacking, is_on, is_enabled, IsLink, IsNumbered}
-use Rattle.facts.proofs.Members.{in_flat, to_flat, in_one, contains_get, get_contains, row_of, in_rules, to_link, to_entry}
+use Rattle.facts.proofs.Members.{in_flat, to_flat, in_one, contains_get, in_rules}
 
 -- the packages and the numbers of their facts
 pub record IsTable (nodes : List NodeView) (ps : List PlaceView) (marks : List Mark) : Type 0 where

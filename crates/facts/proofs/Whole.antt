@@ -1,5 +1,5 @@
 -- The answers: what is marked in the end is what holds.
-use Rattle.std.proofs.Common.{◌≡◌, ◌↔◌, ℕ, zero, suc, ◌<◌, ◌+◌, List, [], ◌∷◌, ◌++◌, map, length, Bool, true, false, Option, Some, None, slice_get, get_or, unwrap_or, Contains, refl, sym, ap, ap₂, ◌∙◌, subst, subst₂, arith, true≢false, Result, Ok, Err, IfOk}
+use Rattle.std.proofs.Common.{◌≡◌, ◌↔◌, ℕ, zero, suc, ◌<◌, ◌+◌, List, [], ◌∷◌, ◌++◌, map, length, Bool, true, false, Option, Some, None, slice_get, get_or, unwrap_or, refl, sym, ap, ap₂, ◌∙◌, subst, subst₂, arith, true≢false, Result, Ok, Err, IfOk}
 use Rattle.std.proofs.lemmas.List.{length-append, append_assoc, map-append}
 use Rattle.std.proofs.lemmas.List.Elements.{Contains-get_or}
 use Rattle.std.proofs.lemmas.Option.{slice_get_within}
@@ -9,13 +9,13 @@ use Rattle.model.specs.Owner.{Owner, Dependency, Table, has_feature}
 use Rattle.model.specs.Facts.{Fact, here, on, enabled}
 use Rattle.model.specs.Facts.Holds.{starts}
 use Rattle.facts.specs.Graphs.{NodeView, brings_if, starts_if, starts_at, IsFactOf, LacksFeature, IsGraph, flag_at, flag_in}
-use Rattle.facts.specs.Places.{LinkView, PlaceView, unmarked_for, flags_of, flags_of_all, IsPlaceFrom, ArePlacesFrom}
+use Rattle.facts.specs.Places.{LinkView, PlaceView, unmarked_for, flags_of, flags_of_all, ArePlacesFrom}
 use Rattle.facts.specs.RuleLists.{number_on, all_rules, here_flags, lacks_flags, enabled_flags}
 use Rattle.facts.specs.Answers.{AreGivenBy}
 use Rattle.facts.specs.declared.finding.Facts.{Facts}
 use Rattle.facts.proofs.Numbers.{Mark, is_here, lacking, is_on, is_enabled, on_marks, enabled_marks, block, marks_from, IsNumbered, numbered}
-use Rattle.facts.proofs.Sound.{IsTable, At, HoldsMark, IsStep, rule_step, sound}
-use Rattle.facts.proofs.Complete.{Got, IsGot, got}
+use Rattle.facts.proofs.Sound.{IsTable, At, HoldsMark, rule_step, sound}
+use Rattle.facts.proofs.Complete.{Got, got}
 
 -- ---- each package has its numbers
 

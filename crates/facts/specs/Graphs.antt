@@ -5,7 +5,7 @@ use Rattle.std.specs.List.{All}
 use Rattle.features.specs.Views.{owner_view}
 use Rattle.features.specs.declared.dependency.Owner as code
 use Rattle.std.specs.Borrow.{Bor}
-use Rattle.model.specs.Owner.{Owner, Dependency, nothing, has_feature}
+use Rattle.model.specs.Owner.{Owner, nothing, has_feature}
 use Rattle.model.specs.Facts.{Fact, Holds, on}
 use Rattle.manifest.specs.Manifests.{root_asks}
 use Rattle.facts.specs.declared.node.Node.{Node}

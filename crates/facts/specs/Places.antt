@@ -1,5 +1,5 @@
 -- The numbers of facts: each package has its own, one after another.
-use Rattle.std.specs.Prelude.{◌≡◌, ◌+◌, ℕ, zero, suc, Bool, false, if◌then◌else◌, List, [], ◌∷◌, ◌++◌, map, length, Vec, Option, None, Some, slice_get, option_and_then}
+use Rattle.std.specs.Prelude.{◌≡◌, ◌+◌, ℕ, suc, Bool, false, if◌then◌else◌, List, [], ◌∷◌, ◌++◌, map, length, Vec, Option, None, Some, slice_get, option_and_then}
 use Rattle.std.specs.List.{filter, flat_map}
 use Rattle.std.specs.Map.{lookup}
 use Rattle.std.specs.Borrow.{Bor}

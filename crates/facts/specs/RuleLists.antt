@@ -1,5 +1,5 @@
 -- The rules of features over the numbers of facts (Cargo book, "Features").
-use Rattle.std.specs.Prelude.{ℕ, suc, Bool, true, false, not, ◌||◌, if◌then◌else◌, List, [], ◌∷◌, ◌++◌, map, Option, None, Some, nat_eq, slice_get, unwrap_or, option_and_then}
+use Rattle.std.specs.Prelude.{ℕ, suc, Bool, not, ◌||◌, if◌then◌else◌, List, [], ◌∷◌, ◌++◌, map, Option, None, Some, nat_eq, slice_get, unwrap_or, option_and_then}
 use Rattle.std.specs.List.{flat_map}
 use Rattle.chains.specs.Chains.{has}
 use Rattle.chains.specs.declared.rule.Rule.{Rule}

@@ -1,4 +1,4 @@
-use Rattle.std.proofs.Common.{◌≡◌, ◌++◌, ◌∷◌, ◌+◌, [], length, take, sym, ap, ◌∙◌, subst, subst₂, arith}
+use Rattle.std.proofs.Common.{◌≡◌, ◌∷◌, ◌+◌, [], length, take, sym, ap, ◌∙◌, subst, subst₂}
 use Rattle.std.proofs.lemmas.List.{length-append, map-append}
 use Rattle.facts.specs.Graphs.{node_view, node_views}
 use Rattle.facts.specs.Places.{flags_of, flags_of_all, place_view, place_views, ArePlacesFrom, IsPlaceFrom}

@@ -1,6 +1,6 @@
-use Rattle.std.proofs.Common.{rules, ◌≡◌, ◌++◌, [], Some, None, sym, ap, ◌∙◌}
+use Rattle.std.proofs.Common.{rules, ◌≡◌, ◌++◌, Some, None, sym, ap, ◌∙◌}
 use Rattle.std.proofs.lemmas.List.{append-nil}
-use Rattle.facts.specs.Places.{place_views, link_views, links_if, at_text}
+use Rattle.facts.specs.Places.{link_views, links_if, at_text}
 use Rattle.facts.specs.RuleLists.{enable_all}
 use Rattle.facts.proofs.PlaceLemmas.{at_text-get}
 use Rattle.facts.proofs.rules.enable_called.Goals as goal

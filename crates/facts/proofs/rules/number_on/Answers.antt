@@ -1,4 +1,4 @@
-use Rattle.std.proofs.Common.{rules, ap, ◌∙◌, sym}
+use Rattle.std.proofs.Common.{ap, ◌∙◌}
 use Rattle.std.specs.Option.{unwrap_or}
 use Rattle.facts.proofs.PlaceLemmas.{at_text-get}
 use Rattle.facts.proofs.rules.number_on.Goals as goal
