@@ -81,18 +81,26 @@ fn index_line(alloc: Global, name: &str, rest: &str) -> Result<String, Fail> {
 }
 
 fn add_dependencies(line: &mut String, dependencies: &str) -> Result<(), Fail> {
-    let mut comma = "";
     for text in dependencies.split(',') {
-        if let Some((name, requirement)) = text.split_once(' ') {
-            let optional = name.starts_with('?');
-            let name = name.trim_start_matches('?');
-            write!(
-                line,
-                "{comma}{{\"name\":\"{name}\",\"req\":\"{requirement}\",\"optional\":{optional}}}"
-            )?;
-            comma = ",";
-        }
+        add_dependency(line, text)?;
     }
+    Ok(())
+}
+
+/// Adds a dependency, after a comma where one stands before it.
+fn add_dependency(line: &mut String, text: &str) -> Result<(), Fail> {
+    let Some((name, requirement)) = text.split_once(' ') else {
+        return Ok(());
+    };
+    if line.ends_with("}") {
+        line.push(',')?;
+    }
+    let optional = name.starts_with('?');
+    let name = name.trim_start_matches('?');
+    write!(
+        line,
+        "{{\"name\":\"{name}\",\"req\":\"{requirement}\",\"optional\":{optional}}}"
+    )?;
     Ok(())
 }
 
