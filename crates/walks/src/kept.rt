@@ -1,0 +1,10 @@
+//! A package that the walk has.
+
+use lockfile::Package;
+
+/// A package that the walk has, with its place among the versions met; its list is filled in last.
+#[derive(Drop)]
+pub(crate) struct Kept {
+    pub(crate) locked: Package,
+    pub(crate) place: usize,
+}

@@ -1,0 +1,12 @@
+//! The preferred walk: where each enabled dependency leads to the first candidate that it matches, in the order of preference.
+#![tactic(auto)]
+
+mod building;
+mod finding;
+mod kept;
+mod listing;
+mod meeting;
+mod picking;
+mod stop;
+
+pub use finding::preferred;

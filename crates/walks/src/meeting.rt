@@ -1,0 +1,116 @@
+//! Meeting the versions that picks lead to, from the root on.
+
+ghost use Rattle.std.specs.Prelude.{◌≡◌, IfOk, OnOk, Some, slice_get};
+ghost use Rattle.features.specs.Views.{dependency_view, dependency_views};
+ghost use Rattle.model.specs.Vertices.{OwnerName, owner_brings};
+ghost use Rattle.facts.specs.Graphs.{brings_view, node_views};
+ghost use Rattle.catalogue.specs.Problems.{problem_in};
+ghost use Rattle.walks.specs.Preferred.{preferred_in};
+ghost use Rattle.walks.specs.Met.{AreStops, ArePicks, Grows, IsMet, IsPick, owners_of};
+
+use crate::picking::pick;
+use crate::stop::{Stop, store_holds};
+use catalogue::Catalogue;
+use facts::Node;
+use features::{Dependency, Owner};
+use indexmap::IndexSet;
+use manifest::Manifest;
+use std::alloc::{AllocError, Global};
+
+/// The versions that may be met, with what stands there.
+#[derive(Drop)]
+pub(crate) struct Met<'a> {
+    /// In the order in which they are met; the root is none of them.
+    pub(crate) stops: IndexSet<Stop>,
+    /// The root, then what stands at each stop.
+    pub(crate) nodes: Vec<Node<'a>>,
+}
+
+/// Follows the pick of each dependency, enabled or not, and takes each version once.
+pub(crate) fn meet<'a>(
+    alloc: Global,
+    manifest: &'a Manifest,
+    catalogue: &'a Catalogue,
+) -> Result<Met<'a>, AllocError>
+    ensures met { IfOk result (λ m. IsMet (preferred_in catalogue.entry.now) (owners_of catalogue.entry.now m.stops.keys) (problem_in manifest.entry.now catalogue.entry.now) (node_views m.nodes.items)) }
+    ensures stops { IfOk result (λ m. AreStops catalogue.entry.now m.stops.keys) }
+{
+    let mut stops = IndexSet::new(alloc);
+    let mut nodes = Vec::new(alloc);
+    'stops: while nodes.len() <= stops.len() {
+        let place = nodes.len();
+        let brings = brings_at(manifest, catalogue, stops.as_slice(), place);
+        let targets = targets_of(alloc, catalogue, &mut stops, dependencies_of(brings))?;
+        nodes.push(Node {
+            brings,
+            targets,
+            starts: place == 0,
+        })?;
+    }
+    Ok(Met { stops, nodes })
+}
+
+/// What the root or the version at a place brings.
+fn brings_at<'a>(
+    manifest: &'a Manifest,
+    catalogue: &'a Catalogue,
+    stops: &[Stop],
+    place: usize,
+) -> Option<&'a Owner>
+    requires { AreStops catalogue.now stops.now }
+    ensures { (o : OwnerName) → slice_get (owners_of catalogue.now stops.now) place ≡ Some o → brings_view result ≡ owner_brings (problem_in manifest.now catalogue.now) o }
+{
+    store_holds(catalogue);
+    if place == 0 {
+        return Some(manifest.owner());
+    }
+    let stop = stops.get(place - 1)?;
+    let candidate = catalogue.record(&stop.name, stop.place)?;
+    Some(&candidate.brings)
+}
+
+fn dependencies_of(brings: Option<&Owner>) -> &[Dependency]
+    ensures { dependency_views result.now ≡ (brings_view brings.entry).dependencies }
+{
+    match brings {
+        Some(owner) => owner.dependencies.as_slice(),
+        None => &[],
+    }
+}
+
+/// Where the picks of dependencies stand; those that are new go last.
+fn targets_of(
+    alloc: Global,
+    catalogue: &Catalogue,
+    stops: &mut IndexSet<Stop>,
+    dependencies: &[Dependency],
+) -> Result<Vec<Option<usize>>, AllocError>
+    ensures grows { OnOk result (Grows catalogue.now stops.old.keys stops.new.keys) }
+    ensures picks { IfOk result (λ v. ArePicks (preferred_in catalogue.now) (owners_of catalogue.now stops.new.keys) (dependency_views dependencies.now) v.items) }
+{
+    let mut targets = Vec::new(alloc);
+    'dependencies: for dependency in dependencies.iter() {
+        targets.push(target_of(catalogue, stops, dependency)?)?;
+    }
+    Ok(targets)
+}
+
+/// Where the pick of a dependency stands; if it is new it goes last.
+fn target_of(
+    catalogue: &Catalogue,
+    stops: &mut IndexSet<Stop>,
+    dependency: &Dependency,
+) -> Result<Option<usize>, AllocError>
+    ensures grows { OnOk result (Grows catalogue.now stops.old.keys stops.new.keys) }
+    ensures pick { IfOk result (λ o. IsPick (preferred_in catalogue.now) (owners_of catalogue.now stops.new.keys) (dependency_view dependency.now) o) }
+{
+    let Some(place) = pick(catalogue, dependency)? else {
+        return Ok(None);
+    };
+    let stop = Stop {
+        name: dependency.real_name.clone()?,
+        place,
+    };
+    let (index, _) = stops.insert_full(stop)?;
+    Ok(Some(index + 1))
+}
