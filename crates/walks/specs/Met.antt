@@ -1,10 +1,10 @@
 -- The versions that a walk may meet: from the root, those that the picks of all dependencies lead to, enabled or not (own; a superset of what
 -- the preferred walk reaches, on which the facts are found).
-use Rattle.std.specs.Prelude.{◌≡◌, ◌≢◌, ◌↔◌, ℕ, Bool, true, false, List, [], ◌∷◌, ◌++◌, ◌<◌, map, length, Option, Some, None, option_map, slice_get, nat_eq, not, ◌||◌, is_some, Contains, IsSome, option_and_then, unwrap_or}
+use Rattle.std.specs.Prelude.{suc, Vec, ◌≡◌, ◌≢◌, ◌↔◌, ℕ, Bool, true, false, List, [], ◌∷◌, ◌++◌, ◌<◌, map, length, Option, Some, None, option_map, slice_get, nat_eq, not, ◌||◌, ◌&&◌, is_some, Contains, IsSome, option_and_then, unwrap_or}
 use Rattle.std.specs.List.{All, AllPairs, AllZip, find, list_all, zip}
 use Rattle.semver.specs.Parse.{Held, Parts}
 use Rattle.semver.specs.EvalViews.{matches_views}
-use Rattle.model.specs.Owner.{Owner, Dependency}
+use Rattle.model.specs.Owner.{Owner, Dependency, same_text}
 use Rattle.model.specs.Content.{Candidate, Content, Package, Problem, candidate_at, candidates_of}
 use Rattle.model.specs.WellFormed.{IsContent}
 use Rattle.model.specs.Order.{package_cmp}
@@ -15,6 +15,8 @@ use Rattle.catalogue.specs.Ranks.{places_by_rank}
 use Rattle.catalogue.specs.Stores.{CatalogueView, candidates_at, ranked_at, rows_by_name}
 use Rattle.lockfile.specs.Views.{package_view}
 use Rattle.facts.specs.Graphs.{NodeView, flag_at, flag_in, target_at}
+use Rattle.facts.specs.declared.node.Node.{Node}
+use Rattle.std.specs.declared.alloc.Global.{Global}
 use Rattle.walks.specs.declared.kept.Kept.{Kept}
 use Rattle.walks.specs.declared.stop.Stop.{Stop}
 
@@ -33,6 +35,9 @@ abbrev pub place_picked : CatalogueView → Dependency → Option ℕ
 place_picked index d = find (λ n. is_matched d.requirement (slice_get (versions_at index d.real_name) n)) (places_by_rank (map (λ c. c.1) (ranked_at index d.real_name)))
 
 -- ---- stops
+
+abbrev pub same_stop : Stop → Stop → Bool
+same_stop s t = same_text s.name t.name && nat_eq s.place t.place
 
 -- the version that a candidate is
 abbrev pub owner_if : List ℕ → Option Candidate → OwnerName
@@ -97,8 +102,8 @@ module _ (preferred : List (List ℕ × List Candidate)) (owners : List OwnerNam
 abbrev pub are_met : List (Option ℕ) → List Bool → Bool
 are_met targets enabled = list_all (λ p. is_some p.0 || not p.1) (zip targets enabled)
 
-abbrev pub all_met : List (List (Option ℕ)) → List (List Bool) → Bool
-all_met targets enabled = list_all (λ p. are_met p.0 p.1) (zip targets enabled)
+abbrev pub all_met : List Node → List (Vec Bool Global) → Bool
+all_met nodes enabled = list_all (λ p. are_met (p.0).targets.items (p.1).items) (zip nodes enabled)
 
 -- ---- the content of those that are here
 
@@ -163,11 +168,10 @@ abbrev pub after : Option ℕ → List ℕ → List ℕ
 after None ns = ns
 after (Some n) ns = n ∷ ns
 
--- the ranks of the targets of enabled dependencies
-abbrev pub ranks_enabled : List (Option ℕ) → List Bool → List (Option ℕ) → List ℕ
-ranks_enabled [] enabled ranks = []
-ranks_enabled (t ∷ ts) [] ranks = []
-ranks_enabled (t ∷ ts) (b ∷ bs) ranks = after (rank_if t b ranks) (ranks_enabled ts bs ranks)
+-- the ranks of the targets of enabled dependencies, from number i on
+abbrev pub ranks_from : ℕ → List (Option ℕ) → List Bool → List (Option ℕ) → List ℕ
+ranks_from i [] enabled ranks = []
+ranks_from i (t ∷ ts) enabled ranks = after (rank_if t (flag_at enabled i) ranks) (ranks_from (suc i) ts enabled ranks)
 
 -- the rank of the target of some enabled dependency
 abbrev pub IsListed : List (Option ℕ) → List Bool → List (Option ℕ) → ℕ → Type 0

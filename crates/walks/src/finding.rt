@@ -1,7 +1,6 @@
 //! The preferred walk, where it is complete and valid.
 
-ghost use Rattle.std.specs.Prelude.{◌≡◌, IfOk, IfSome, map};
-ghost use Rattle.facts.specs.Graphs.{node_views};
+ghost use Rattle.std.specs.Prelude.{◌≡◌, IfOk, IfSome};
 ghost use Rattle.catalogue.specs.Problems.{problem_in};
 ghost use Rattle.walks.specs.Preferred.{Answers, HasBareRoot, preferred_in};
 ghost use Rattle.walks.specs.Met.{all_met, are_met};
@@ -41,7 +40,7 @@ pub fn preferred(
 
 /// Whether each enabled dependency has a pick.
 fn is_complete(nodes: &[Node<'_>], enabled: &[Vec<bool>]) -> bool
-    ensures { result ≡ all_met (map (λ n. n.targets) (node_views nodes.now)) (map (λ v. v.items) enabled.now) }
+    ensures { result ≡ all_met nodes.now enabled.now }
 {
     nodes
         .iter()

@@ -2,9 +2,9 @@
 
 ghost use Rattle.std.specs.Prelude.{◌≡◌, ◌≢◌, ◌↔◌, ◌<◌, ℕ, Some, Contains, IfOk, length, map};
 ghost use Rattle.std.specs.List.{All, AllPairs};
-ghost use Rattle.facts.specs.Graphs.{node_views};
+ghost use Rattle.facts.specs.Graphs.{flag_at, node_views};
 ghost use Rattle.lockfile.specs.Views.{package_views};
-ghost use Rattle.walks.specs.Met.{AreListed, AreRanks, HaveLists, IsListed, IsRising, flags_at, kept_views, places_in, rank_if, ranks_enabled, targets_at};
+ghost use Rattle.walks.specs.Met.{AreListed, AreRanks, HaveLists, IsListed, IsRising, flags_at, kept_views, places_in, rank_if, ranks_from, targets_at};
 
 use crate::kept::Kept;
 use facts::{Facts, Node};
@@ -100,15 +100,24 @@ fn ranks_enabled(
     enabled: &[bool],
     ranks: &[Option<usize>],
 ) -> Result<Vec<usize>, AllocError>
-    ensures { IfOk result (λ v. v.items ≡ ranks_enabled targets.now enabled.now ranks.now) }
+    ensures { IfOk result (λ v. v.items ≡ ranks_from 0 targets.now enabled.now ranks.now) }
 {
     let mut list = Vec::new(alloc);
-    'targets: for (target, enabled) in targets.iter().zip(enabled) {
-        if let Some(rank) = rank_if(*target, *enabled, ranks) {
+    'targets: for (number, target) in targets.iter().enumerate() {
+        if let Some(rank) = rank_if(*target, flag(enabled, number), ranks) {
             list.push(rank)?;
         }
     }
     Ok(list)
+}
+
+fn flag(enabled: &[bool], number: usize) -> bool
+    ensures { result ≡ flag_at enabled.now number }
+{
+    match enabled.get(number) {
+        Some(flag) => *flag,
+        None => false,
+    }
 }
 
 /// The rank of a target that is enabled.

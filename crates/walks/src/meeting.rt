@@ -1,6 +1,6 @@
 //! Meeting the versions that picks lead to, from the root on.
 
-ghost use Rattle.std.specs.Prelude.{◌≡◌, IfOk, OnOk, Some, slice_get};
+ghost use Rattle.std.specs.Prelude.{◌≡◌, ◌<◌, ◌^◌, length, IfOk, OnOk, Some, slice_get};
 ghost use Rattle.features.specs.Views.{dependency_view, dependency_views};
 ghost use Rattle.model.specs.Vertices.{OwnerName, owner_brings};
 ghost use Rattle.facts.specs.Graphs.{brings_view, node_views};
@@ -112,5 +112,13 @@ fn target_of(
         place,
     };
     let (index, _) = stops.insert_full(stop)?;
+    stops_are_few(stops);
     Ok(Some(index + 1))
+}
+
+/// A set holds far fewer keys than a number can count.
+fn stops_are_few(stops: &IndexSet<Stop>)
+    ensures { length stops.now.keys < 2 ^ 63 }
+{
+    let _ = stops.len();
 }

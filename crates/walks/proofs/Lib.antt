@@ -1,0 +1,6 @@
+pub mod Lists
+pub mod Unique
+pub mod Completeness
+pub mod Walked
+pub mod Picks
+pub mod Stops

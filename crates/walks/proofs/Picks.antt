@@ -1,0 +1,184 @@
+-- The place that is picked is that of the first candidate, in the order of preference, that matches.
+use Rattle.std.proofs.Common.{◌≡◌, ℕ, zero, suc, ◌<◌, ◌≤◌, Bool, true, false, cond, List, [], ◌∷◌, ◌++◌, map, filter, reverse, length, drop, take, get_or, Option, Some, None, option_map, slice_get, unwrap_or, refl, sym, ap, ap₂, ◌∙◌, subst, arith, add-one}
+use Rattle.std.specs.List.{find}
+use Rattle.std.proofs.Math.Seq.{drop-cons}
+use Rattle.std.proofs.lemmas.List.{map-append, reverse-append, take_more, length-map, take_all}
+use Rattle.std.proofs.lemmas.List.Elements.{filter-append}
+use Rattle.std.proofs.lemmas.Option.{slice_get-map, slice_get-get_or, same_Some, none-some}
+use Rattle.semver.specs.EvalViews.{matches_views}
+use Rattle.model.specs.Owner.{Dependency, same_text}
+use Rattle.model.specs.Content.{Candidate, candidates_of}
+use Rattle.model.specs.Candidates.{Record, as_candidate}
+use Rattle.model.specs.Walk.{first_match}
+use Rattle.catalogue.specs.Ranks.{Ranked, records, same_rank, places_down, is_ranked, places_of, places_by_rank}
+use Rattle.catalogue.specs.Stores.{CatalogueView, Row, row_at, ranked_at, candidates_at, rows_by_name}
+use Rattle.catalogue.specs.declared.candidate.Rank.{Rank}
+use Rattle.catalogue.specs.declared.candidate.Rank.TheVariants.{Locked, Fits, Rest}
+use Rattle.walks.specs.Preferred.{of_rank, by_rank, preferred_in}
+use Rattle.walks.specs.Met.{is_matched, versions_at, place_picked}
+
+-- ---- the loop over the places
+
+pub find_yes : (t : ℕ → Bool) (xs : List ℕ) (i x : ℕ) → i < length xs → get_or xs i x ≡ x → t x ≡ true → find t (drop i xs) ≡ Some x
+find_yes t xs i x lt is e =
+    ap (find t) (drop-cons xs i x lt ∙ ap (λ y. y ∷ drop (suc i) xs) is) ∙ ap (λ b. cond b (Some x) (find t (drop (suc i) xs))) e
+
+pub find_no : (t : ℕ → Bool) (xs : List ℕ) (i x : ℕ) → i < length xs → get_or xs i x ≡ x → t x ≡ false → find t (drop i xs) ≡ find t (drop (suc i) xs)
+find_no t xs i x lt is e =
+    ap (find t) (drop-cons xs i x lt ∙ ap (λ y. y ∷ drop (suc i) xs) is) ∙ ap (λ b. cond b (Some x) (find t (drop (suc i) xs))) e
+
+-- ---- what lies at the places of a rank
+
+filter-same : {X : Type 0} (p q : X → Bool) (xs : List X) → ((x : X) → p x ≡ q x) → filter p xs ≡ filter q xs
+filter-same p q [] same = refl
+filter-same p q (x ∷ xs) same = ap₂ (λ b zs. cond b (x ∷ zs) zs) (same x) (filter-same p q xs same)
+
+map-reverse : {X Y : Type 0} (f : X → Y) (xs : List X) → map f (reverse xs) ≡ reverse (map f xs)
+map-reverse f [] = refl
+map-reverse f (x ∷ xs) = ap (map f) (reverse-append (x ∷ []) xs) ∙ map-append f (reverse xs) (x ∷ []) ∙ ap (λ zs. zs ++ f x ∷ []) (map-reverse f xs) ∙ sym (reverse-append (f x ∷ []) (map f xs))
+
+nil-right : {Z : Type 0} (zs : List Z) → zs ++ [] ≡ zs
+nil-right [] = refl
+nil-right (z ∷ zs) = ap (λ l. z ∷ l) (nil-right zs)
+
+at_places : {X : Type 0} (xs : List X) (t : Option X → Bool) (n : ℕ) → n ≤ length xs
+    → map (slice_get xs) (filter (λ i. t (slice_get xs i)) (places_down n)) ≡ map Some (reverse (filter (λ x. t (Some x)) (take n xs)))
+at_places xs t zero le = refl
+at_places [] t (suc n) le = absurd (omega (arith, le))
+at_places (y ∷ ys) t (suc n) le =
+    let xs = y ∷ ys in
+    let x = get_or xs n y in
+    let here : slice_get xs n ≡ Some x = slice_get-get_or xs n y (omega (arith, le)) in
+    let more : take (suc n) xs ≡ take n xs ++ x ∷ [] = rw add-one at (take_more xs n y (omega (arith, le))) in
+    by x here (t (Some x)) (ap t here) refl (at_places xs t n (omega (arith, le)))
+    ∙ sym (ap (λ zs. map Some (reverse (filter (λ x. t (Some x)) zs))) more ∙ ap (λ zs. map Some (reverse zs)) (filter-append (λ x. t (Some x)) (take n xs) (x ∷ [])))
+  where
+    by : (x : _) → slice_get (y ∷ ys) n ≡ Some x → (b : Bool) → t (slice_get (y ∷ ys) n) ≡ b → t (Some x) ≡ b
+        → map (slice_get (y ∷ ys)) (filter (λ i. t (slice_get (y ∷ ys) i)) (places_down n)) ≡ map Some (reverse (filter (λ x. t (Some x)) (take n (y ∷ ys))))
+        → map (slice_get (y ∷ ys)) (cond (t (slice_get (y ∷ ys) n)) (n ∷ filter (λ i. t (slice_get (y ∷ ys) i)) (places_down n)) (filter (λ i. t (slice_get (y ∷ ys) i)) (places_down n)))
+        ≡ map Some (reverse (filter (λ x. t (Some x)) (take n (y ∷ ys)) ++ cond (t (Some x)) (x ∷ []) []))
+    by x here true e f rest =
+        ap (λ c. map (slice_get (y ∷ ys)) (cond c (n ∷ filter (λ i. t (slice_get (y ∷ ys) i)) (places_down n)) (filter (λ i. t (slice_get (y ∷ ys) i)) (places_down n)))) e
+        ∙ ap₂ (λ o zs. o ∷ zs) here rest
+        ∙ sym (ap (λ c. map Some (reverse (filter (λ x. t (Some x)) (take n (y ∷ ys)) ++ cond c (x ∷ []) []))) f ∙ ap (map Some) (reverse-append (filter (λ x. t (Some x)) (take n (y ∷ ys))) (x ∷ [])))
+    by x here false e f rest =
+        ap (λ c. map (slice_get (y ∷ ys)) (cond c (n ∷ filter (λ i. t (slice_get (y ∷ ys) i)) (places_down n)) (filter (λ i. t (slice_get (y ∷ ys) i)) (places_down n)))) e
+        ∙ rest
+        ∙ sym (ap (λ c. map Some (reverse (filter (λ x. t (Some x)) (take n (y ∷ ys)) ++ cond c (x ∷ []) []))) f ∙ ap (λ zs. map Some (reverse zs)) (nil-right (filter (λ x. t (Some x)) (take n (y ∷ ys)))))
+
+rank_is : (cs : List Ranked) (rank : Rank) → map (slice_get cs) (places_of rank (map (λ c. c.1) cs)) ≡ map Some (reverse (filter (λ c. same_rank c.1 rank) cs))
+rank_is cs rank =
+    ap (map (slice_get cs)) (ap (λ n. filter (λ i. is_ranked rank (slice_get (map (λ (c : Ranked). c.1) cs) i)) (places_down n)) (rw length-map refl)
+    ∙ filter-same (λ i. is_ranked rank (slice_get (map (λ (c : Ranked). c.1) cs) i)) (λ i. ranked (slice_get cs i)) (places_down (length cs)) (λ i. ap (is_ranked rank) (slice_get-map (λ (c : Ranked). c.1) cs i)))
+    ∙ at_places cs ranked (length cs) (omega arith)
+    ∙ ap (λ zs. map Some (reverse (filter (λ c. same_rank c.1 rank) zs))) (take_all (length cs) cs (omega arith))
+  where
+    ranked : Option Ranked → Bool
+    ranked o = is_ranked rank (option_map (λ c. c.1) o)
+
+-- the candidate that a ranked record is
+abbrev pub candidate : Ranked → Candidate
+candidate c = as_candidate c.0
+
+records-candidates : (cs : List Ranked) → map as_candidate (records cs) ≡ map candidate cs
+records-candidates [] = refl
+records-candidates (c ∷ cs) = ap (λ zs. candidate c ∷ zs) (records-candidates cs)
+
+get-mapped : (cs : List Ranked) (ns : List ℕ) → map (slice_get (map candidate cs)) ns ≡ map (option_map candidate) (map (slice_get cs) ns)
+get-mapped cs [] = refl
+get-mapped cs (n ∷ ns) = ap₂ (λ o os. o ∷ os) (slice_get-map candidate cs n) (get-mapped cs ns)
+
+some-mapped : (zs : List Ranked) → map (option_map candidate) (map Some zs) ≡ map Some (map candidate zs)
+some-mapped [] = refl
+some-mapped (z ∷ zs) = ap (λ os. Some (candidate z) ∷ os) (some-mapped zs)
+
+rank_lies : (cs : List Ranked) (rank : Rank) → map (slice_get (map candidate cs)) (places_of rank (map (λ c. c.1) cs)) ≡ map Some (map as_candidate (of_rank rank cs))
+rank_lies cs rank =
+    let kept = filter (λ (c : Ranked). same_rank c.1 rank) cs in
+    get-mapped cs (places_of rank (map (λ c. c.1) cs)) ∙ ap (map (option_map candidate)) (rank_is cs rank) ∙ some-mapped (reverse kept)
+    ∙ ap (map Some) (map-reverse candidate kept ∙ ap reverse (sym (records-candidates kept)) ∙ sym (map-reverse as_candidate (records kept)))
+
+two : {X Y Z : Type 0} (f : X → Z) (g : Y → Z) (xs xs' : List X) (ys ys' : List Y) → map f xs ≡ map g ys → map f xs' ≡ map g ys' → map f (xs ++ xs') ≡ map g (ys ++ ys')
+two f g xs xs' ys ys' e h = map-append f xs xs' ∙ ap₂ (λ a b. a ++ b) e h ∙ sym (map-append g ys ys')
+
+-- what lies at the places in the order of preference
+lies : (cs : List Ranked) → map (slice_get (map candidate cs)) (places_by_rank (map (λ c. c.1) cs)) ≡ map Some (map as_candidate (by_rank cs))
+lies cs =
+    let ranks = map (λ (c : Ranked). c.1) cs in
+    let at = slice_get (map candidate cs) in
+    two at Some (places_of Locked ranks) (places_of Fits ranks ++ places_of Rest ranks) (map as_candidate (of_rank Locked cs)) (map as_candidate (of_rank Fits cs) ++ map as_candidate (of_rank Rest cs))
+        (rank_lies cs Locked)
+        (two at Some (places_of Fits ranks) (places_of Rest ranks) (map as_candidate (of_rank Fits cs)) (map as_candidate (of_rank Rest cs)) (rank_lies cs Fits) (rank_lies cs Rest))
+    ∙ ap (map Some) (sym (map-append as_candidate (of_rank Locked cs) (of_rank Fits cs ++ of_rank Rest cs) ∙ ap (λ zs. map as_candidate (of_rank Locked cs) ++ zs) (map-append as_candidate (of_rank Fits cs) (of_rank Rest cs))))
+
+-- ---- the rows of a name
+
+row_of : (f : List Ranked → List Record) → f [] ≡ [] → (rows : List Row) (name : List ℕ)
+    → candidates_of (map (λ row. (row.0, map as_candidate (f row.1))) rows) name ≡ map as_candidate (f (unwrap_or (row_at rows name) []))
+row_of f none [] name = sym (ap (map as_candidate) none)
+row_of f none (row ∷ rows) name =
+    elim (same_text name row.0) as (λ b. cond b (map as_candidate (f row.1)) (candidates_of (map (λ row. (row.0, map as_candidate (f row.1))) rows) name)
+        ≡ map as_candidate (f (unwrap_or (cond b (Some row.1) (row_at rows name)) []))) [
+      | true ↦ refl
+      | false ↦ row_of f none rows name
+    ]
+
+-- the candidates of a name
+pub candidates_are : (index : CatalogueView) (name : List ℕ) → candidates_of (rows_by_name index) name ≡ map as_candidate (candidates_at index name)
+candidates_are index name = row_of records refl index.rows name
+
+pub preferred_are : (index : CatalogueView) (name : List ℕ) → candidates_of (preferred_in index) name ≡ map as_candidate (by_rank (ranked_at index name))
+preferred_are index name = row_of by_rank refl index.rows name
+
+-- ---- the first that matches
+
+first_of : (cs : List Candidate) (d : Dependency) (ns : List ℕ) (ps : List Candidate) → map (slice_get cs) ns ≡ map Some ps
+    → option_map (slice_get cs) (find (λ n. is_matched d.requirement (slice_get (map (λ c. c.version) cs) n)) ns) ≡ option_map Some (first_match d ps)
+first_of cs d [] [] e = refl
+first_of cs d [] (p ∷ ps) e = cc
+first_of cs d (n ∷ ns) [] e = cc
+first_of cs d (n ∷ ns) (p ∷ ps) e =
+    let first : slice_get cs n ≡ Some p = cc in
+    let rest : map (slice_get cs) ns ≡ map Some ps = cc in
+    let test : is_matched d.requirement (slice_get (map (λ (c : Candidate). c.version) cs) n) ≡ matches_views d.requirement p.version
+    = ap (is_matched d.requirement) (slice_get-map (λ (c : Candidate). c.version) cs n ∙ ap (option_map (λ (c : Candidate). c.version)) first) in
+    ap (λ b. option_map (slice_get cs) (cond b (Some n) (find (λ n. is_matched d.requirement (slice_get (map (λ c. c.version) cs) n)) ns))) test
+    ∙ by first (first_of cs d ns ps rest) (matches_views d.requirement p.version)
+  where
+    by : slice_get cs n ≡ Some p
+        → option_map (slice_get cs) (find (λ n. is_matched d.requirement (slice_get (map (λ c. c.version) cs) n)) ns) ≡ option_map Some (first_match d ps) → (b : Bool)
+        → option_map (slice_get cs) (cond b (Some n) (find (λ n. is_matched d.requirement (slice_get (map (λ c. c.version) cs) n)) ns)) ≡ option_map Some (cond b (Some p) (first_match d ps))
+    by first rest true = ap Some first
+    by first rest false = rest
+
+versions_are : (rs : List Record) → map (λ (r : Record). r.version) rs ≡ map (λ (c : Candidate). c.version) (map as_candidate rs)
+versions_are [] = refl
+versions_are (r ∷ rs) = ap (λ vs. r.version ∷ vs) (versions_are rs)
+
+-- what stands at the place that is picked
+pub picked_is : (index : CatalogueView) (d : Dependency)
+    → option_map (slice_get (candidates_of (rows_by_name index) d.real_name)) (place_picked index d) ≡ option_map Some (first_match d (candidates_of (preferred_in index) d.real_name))
+picked_is index d =
+    let ranked = ranked_at index d.real_name in
+    let cs = map candidate ranked in
+    let all : candidates_of (rows_by_name index) d.real_name ≡ cs = candidates_are index d.real_name ∙ records-candidates ranked in
+    let vs : versions_at index d.real_name ≡ map (λ (c : Candidate). c.version) cs = versions_are (records ranked) ∙ ap (map (λ (c : Candidate). c.version)) (records-candidates ranked) in
+    ap₂ (λ xs ys. option_map (slice_get xs) (find (λ n. is_matched d.requirement (slice_get ys n)) (places_by_rank (map (λ c. c.1) ranked)))) all vs
+    ∙ first_of cs d (places_by_rank (map (λ c. c.1) ranked)) (map as_candidate (by_rank ranked)) (lies ranked)
+    ∙ sym (ap (λ ps. option_map Some (first_match d ps)) (preferred_are index d.real_name))
+
+pub none_picked : (index : CatalogueView) (d : Dependency) → place_picked index d ≡ None → first_match d (candidates_of (preferred_in index) d.real_name) ≡ None
+none_picked index d e = by (first_match d (candidates_of (preferred_in index) d.real_name)) (sym (ap (option_map (slice_get (candidates_of (rows_by_name index) d.real_name))) e) ∙ picked_is index d)
+  where
+    by : (o : Option Candidate) → None ≡ option_map Some o → o ≡ None
+    by None h = refl
+    by (Some c) h = absurd (none-some (Some c) h)
+
+pub one_picked : (index : CatalogueView) (d : Dependency) (n : ℕ) → place_picked index d ≡ Some n
+    → (c : Candidate) × (first_match d (candidates_of (preferred_in index) d.real_name) ≡ Some c) × (slice_get (candidates_of (rows_by_name index) d.real_name) n ≡ Some c)
+one_picked index d n e = by (first_match d (candidates_of (preferred_in index) d.real_name)) (sym (ap (option_map (slice_get (candidates_of (rows_by_name index) d.real_name))) e) ∙ picked_is index d)
+  where
+    by : (o : Option Candidate) → Some (slice_get (candidates_of (rows_by_name index) d.real_name) n) ≡ option_map Some o
+        → (c : Candidate) × (o ≡ Some c) × (slice_get (candidates_of (rows_by_name index) d.real_name) n ≡ Some c)
+    by None h = absurd (none-some (slice_get (candidates_of (rows_by_name index) d.real_name) n) (sym h))
+    by (Some c) h = (c, refl, same_Some (slice_get (candidates_of (rows_by_name index) d.real_name) n) (Some c) h)
