@@ -1,5 +1,5 @@
 -- The place that is picked is that of the first candidate, in the order of preference, that matches.
-use Rattle.std.proofs.Common.{◌≡◌, ℕ, zero, suc, ◌<◌, ◌≤◌, Bool, true, false, cond, List, [], ◌∷◌, ◌++◌, map, filter, reverse, length, drop, take, get_or, Option, Some, None, option_map, slice_get, unwrap_or, refl, sym, ap, ap₂, ◌∙◌, subst, arith, add-one}
+use Rattle.std.proofs.Common.{◌≡◌, ℕ, zero, suc, ◌+◌, ◌<◌, ◌≤◌, Bool, true, false, cond, List, [], ◌∷◌, ◌++◌, map, filter, reverse, length, drop, take, get_or, Option, Some, None, option_map, slice_get, unwrap_or, refl, sym, ap, ap₂, ◌∙◌, subst, arith, add-one}
 use Rattle.std.specs.List.{find}
 use Rattle.std.proofs.Math.Seq.{drop-cons}
 use Rattle.std.proofs.lemmas.List.{map-append, reverse-append, take_more, length-map, take_all}
@@ -19,13 +19,14 @@ use Rattle.walks.specs.Met.{is_matched, versions_at, place_picked}
 
 -- ---- the loop over the places
 
-pub find_yes : (t : ℕ → Bool) (xs : List ℕ) (i x : ℕ) → i < length xs → get_or xs i x ≡ x → t x ≡ true → find t (drop i xs) ≡ Some x
-find_yes t xs i x lt is e =
-    ap (find t) (drop-cons xs i x lt ∙ ap (λ y. y ∷ drop (suc i) xs) is) ∙ ap (λ b. cond b (Some x) (find t (drop (suc i) xs))) e
+pub find_yes : (t : ℕ → Bool) (xs : List ℕ) (i : ℕ) → i < length xs → t (get_or xs i 0) ≡ true → find t (drop i xs) ≡ Some (get_or xs i 0)
+find_yes t xs i lt e = ap (find t) (drop-cons xs i 0 lt) ∙ ap (λ b. cond b (Some (get_or xs i 0)) (find t (drop (suc i) xs))) e
 
-pub find_no : (t : ℕ → Bool) (xs : List ℕ) (i x : ℕ) → i < length xs → get_or xs i x ≡ x → t x ≡ false → find t (drop i xs) ≡ find t (drop (suc i) xs)
-find_no t xs i x lt is e =
-    ap (find t) (drop-cons xs i x lt ∙ ap (λ y. y ∷ drop (suc i) xs) is) ∙ ap (λ b. cond b (Some x) (find t (drop (suc i) xs))) e
+pub find_no : (t : ℕ → Bool) (xs : List ℕ) (i : ℕ) → i < length xs → t (get_or xs i 0) ≡ false → find t (drop i xs) ≡ find t (drop (i + 1) xs)
+find_no t xs i lt e = ap (find t) (drop-cons xs i 0 lt) ∙ ap (λ b. cond b (Some (get_or xs i 0)) (find t (drop (suc i) xs))) e ∙ ap (λ k. find t (drop k xs)) (suc_is i)
+  where
+    suc_is : (i : ℕ) → suc i ≡ i + 1
+    suc_is i = omega arith
 
 -- ---- what lies at the places of a rank
 

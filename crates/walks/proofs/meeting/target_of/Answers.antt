@@ -1,12 +1,8 @@
-use Rattle.std.proofs.Common.{◌≡◌, ℕ, suc, Some, slice_get, sym, ap, ◌∙◌, subst, rules, add-one}
-use Rattle.model.specs.Content.{candidates_of}
-use Rattle.model.specs.Vertices.{version_of}
+use Rattle.std.proofs.Common.{◌≡◌, refl, sym, ◌∙◌}
 use Rattle.features.specs.Views.{dependency_view}
-use Rattle.catalogue.specs.Stores.{rows_by_name}
-use Rattle.walks.specs.Met.{owners_of, owner_if, stop_owner}
-use Rattle.walks.proofs.Picks.{none_picked, one_picked}
-use Rattle.walks.proofs.Lists.{map_at}
-use Rattle.walks.proofs.Stops.{grown, same_is, unchanged}
+use Rattle.walks.specs.declared.stop.Stop.{Stop}
+use Rattle.walks.proofs.Picks.{none_picked}
+use Rattle.walks.proofs.Stops.{target_grows, target_picks, unchanged}
 use Rattle.walks.proofs.meeting.target_of.Goals as goal
 
 pub returns-in_default-clause-pick : goal.returns-in_default-clause-pick
@@ -14,7 +10,11 @@ returns-in_default-clause-pick c =
     none_picked c.args.catalogue.now (dependency_view c.args.dependency.now) (sym c.in_ok-place.ensures ∙ c.in_default.is)
 
 pub returns-clause-grows : goal.returns-clause-grows
-returns-clause-grows c = ?
+returns-clause-grows c =
+    target_grows c.args.catalogue.now (dependency_view c.args.dependency.now) c.in-Some.place (record { name = c.in_ok-clone.field-0; place = c.in-Some.place }) _ _
+        (sym c.in_ok-place.ensures ∙ c.in-Some.is) c.in_ok-clone.ensures.cases refl c.in_ok-index.ensures.keys
 
 pub returns-clause-pick : goal.returns-clause-pick
-returns-clause-pick c = ?
+returns-clause-pick c =
+    target_picks c.args.catalogue.now (dependency_view c.args.dependency.now) c.in-Some.place (record { name = c.in_ok-clone.field-0; place = c.in-Some.place }) _ c.in_ok-index.index
+        (sym c.in_ok-place.ensures ∙ c.in-Some.is) c.in_ok-clone.ensures.cases refl c.in_ok-index.ensures.stored

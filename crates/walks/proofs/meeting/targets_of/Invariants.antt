@@ -1,0 +1,7 @@
+use Rattle.features.specs.Views.{dependency_views}
+use Rattle.walks.proofs.Stops.{TargetsTo}
+use Rattle.walks.proofs.meeting.targets_of.Given as goal
+
+-- the targets of the dependencies so far
+abbrev pub invariant-dependencies : goal.invariant-dependencies
+invariant-dependencies l = TargetsTo l.catalogue l.fn.stops.keys l.stops.keys (dependency_views l.dependencies) l.dependency-index l.targets.items
