@@ -4,3 +4,5 @@ pub mod Completeness
 pub mod Walked
 pub mod Picks
 pub mod Stops
+pub mod MetSoFar
+pub mod RankLists

@@ -28,11 +28,11 @@ use Rattle.walks.proofs.Picks.{candidates_are, one_picked}
 
 -- ---- one stop more
 
-all-snoc : {X : Type 0} (P : X → Type 0) (xs : List X) (x : X) → All P xs → P x → All P (xs ++ x ∷ [])
+pub all-snoc : {X : Type 0} (P : X → Type 0) (xs : List X) (x : X) → All P xs → P x → All P (xs ++ x ∷ [])
 all-snoc P [] x h p = all_cons P x [] p (all_none P)
 all-snoc P (y ∷ ys) x h p = all_cons P y (ys ++ x ∷ []) (all_first P y ys h) (all-snoc P ys x (all_rest P y ys h) p)
 
-pairs-snoc : {X : Type 0} (R : X → X → Type 0) (xs : List X) (x : X) → AllPairs R xs → All (λ y. R y x) xs → AllPairs R (xs ++ x ∷ [])
+pub pairs-snoc : {X : Type 0} (R : X → X → Type 0) (xs : List X) (x : X) → AllPairs R xs → All (λ y. R y x) xs → AllPairs R (xs ++ x ∷ [])
 pairs-snoc R [] x h k = pairs_one R x
 pairs-snoc R (y ∷ ys) x h k = AllPairs-cons R y (ys ++ x ∷ []) (all-snoc (R y) ys x (pairs_all R y ys h) (all_first (λ y. R y x) y ys k)) (pairs-snoc R ys x (pairs_rest R y ys h) (all_rest (λ y. R y x) y ys k))
 
@@ -40,11 +40,10 @@ nil-right : {Z : Type 0} (zs : List Z) → zs ++ [] ≡ zs
 nil-right [] = refl
 nil-right (z ∷ zs) = ap (λ l. z ∷ l) (nil-right zs)
 
-stop_with : List ℕ → ℕ → Stop
+abbrev pub stop_with : List ℕ → ℕ → Stop
 stop_with n p = record { name = n; place = p }
 
 pub same_is : (s t : Stop) → same_stop s t ≡ true → s ≡ t
-unfolding stop_with
 same_is s t h = let e = both (same_text s.name t.name) (nat_eq s.place t.place) h in
     ap₂ (λ n p. stop_with n p) (text-same s.name t.name e.0) (eqb-true s.place t.place e.1)
 
@@ -124,7 +123,7 @@ target_picks index d place s keys i p e f (k, got, same) =
 
 -- ---- the picks of dependencies, one after another
 
-snoc_at : {X : Type 0} (xs : List X) (x : X) (n : ℕ) (y : X) → slice_get (xs ++ x ∷ []) n ≡ Some y → (slice_get xs n ≡ Some y) ⊎ ((n ≡ length xs) × (x ≡ y))
+pub snoc_at : {X : Type 0} (xs : List X) (x : X) (n : ℕ) (y : X) → slice_get (xs ++ x ∷ []) n ≡ Some y → (slice_get xs n ≡ Some y) ⊎ ((n ≡ length xs) × (x ≡ y))
 snoc_at [] x zero y e = inr (refl, same_Some x y e)
 snoc_at [] x (suc n) y e = absurd (none-some y e)
 snoc_at (z ∷ zs) x zero y e = inl e
@@ -173,7 +172,7 @@ rising_at (row ∷ rows) name h = elim (same_text name row.0) as (λ b. AreRisin
 abbrev Rising : List Candidate → Type 0
 Rising cs = AllPairs (λ c e. precedence c.version e.version ≡ Less) cs
 
-rising_of : (index : CatalogueView) (name : List ℕ) → IsStore index → Rising (candidates_of (rows_by_name index) name)
+pub rising_of : (index : CatalogueView) (name : List ℕ) → IsStore index → Rising (candidates_of (rows_by_name index) name)
 rising_of index name s =
     subst Rising (sym (candidates_are index name)) (pairs-map as_candidate (λ c e. precedence c.version e.version ≡ Less) (candidates_at index name) (rising_at index.rows name s.versions_rise))
 
@@ -181,7 +180,7 @@ less-equal : (o : Ordering) → o ≡ Less → o ≡ Equal → ⊥
 less-equal o e f = let x : Less ≡ Equal = sym e ∙ f in cc
 
 -- the version of each is there once
-once_at : (cs : List Candidate) → Rising cs → (n m : ℕ) (c e : Candidate) → slice_get cs n ≡ Some c → slice_get cs m ≡ Some e → precedence c.version e.version ≡ Equal → precedence e.version c.version ≡ Equal → n ≡ m
+pub once_at : (cs : List Candidate) → Rising cs → (n m : ℕ) (c e : Candidate) → slice_get cs n ≡ Some c → slice_get cs m ≡ Some e → precedence c.version e.version ≡ Equal → precedence e.version c.version ≡ Equal → n ≡ m
 once_at cs h n m c e got had same back = elim (cases_order n m) [
   | inl is ↦ is
   | inr o ↦ elim o [

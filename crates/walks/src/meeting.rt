@@ -35,6 +35,7 @@ pub(crate) fn meet<'a>(
     ensures met { IfOk result (λ m. IsMet (preferred_in catalogue.entry.now) (owners_of catalogue.entry.now m.stops.keys) (problem_in manifest.entry.now catalogue.entry.now) (node_views m.nodes.items)) }
     ensures stops { IfOk result (λ m. AreStops catalogue.entry.now m.stops.keys) }
 {
+    store_holds(catalogue);
     let mut stops = IndexSet::new(alloc);
     let mut nodes = Vec::new(alloc);
     'stops: while nodes.len() <= stops.len() {

@@ -1,9 +1,7 @@
-use Rattle.std.proofs.Common.{◌≡◌, ◌≢◌, ◌↔◌, ◌<◌, ℕ, Some, Contains, IfOk, length, map, ◌+◌, ◌-◌, ◌*◌, ◌≤◌}
-use Rattle.std.specs.List.{All, AllPairs}
-use Rattle.facts.specs.Graphs.{node_views}
-use Rattle.lockfile.specs.Views.{package_views}
-use Rattle.walks.specs.Met.{AreListed, AreRanks, HaveLists, IsListed, IsRising, flags_at, kept_views, places_in, rank_if, ranks_enabled, targets_at}
+use Rattle.walks.specs.Met.{kept_views, places_in}
+use Rattle.walks.proofs.RankLists.{RanksTo}
 use Rattle.walks.proofs.listing.ranks_of.Given as goal
 
+-- the ranks of those so far
 abbrev pub invariant-kept : goal.invariant-kept
-invariant-kept l = ?
+invariant-kept l = RanksTo (places_in (kept_views l.kept)) l.count l.rank l.ranks.items

@@ -1,14 +1,12 @@
-use Rattle.std.proofs.Common.{◌≡◌, IfOk, OnOk, Some, slice_get, ℕ, ◌+◌, ◌-◌, ◌*◌, ◌<◌, ◌≤◌, length}
-use Rattle.features.specs.Views.{dependency_view, dependency_views}
-use Rattle.model.specs.Vertices.{OwnerName, owner_brings}
-use Rattle.facts.specs.Graphs.{brings_view, node_views}
+use Rattle.std.proofs.Common.{◌-◌, ◌^◌, length}
+use Rattle.facts.specs.Graphs.{node_views}
 use Rattle.catalogue.specs.Problems.{problem_in}
-use Rattle.walks.specs.Preferred.{preferred_in}
-use Rattle.walks.specs.Met.{AreStops, ArePicks, Grows, IsMet, IsPick, owners_of}
+use Rattle.walks.proofs.MetSoFar.{SoFar}
 use Rattle.walks.proofs.meeting.meet.Given as goal
 
+-- each of those met so far is there once, and the first of them have their nodes
 abbrev pub invariant-stops : goal.invariant-stops
-invariant-stops l = ?
+invariant-stops l = SoFar l.catalogue (problem_in l.manifest l.catalogue) l.stops.keys (node_views l.nodes.items)
 
 abbrev pub decreases-stops : goal.decreases-stops
-decreases-stops l = ?
+decreases-stops l = 2 ^ 64 - length l.nodes.items
