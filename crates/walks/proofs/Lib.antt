@@ -6,3 +6,5 @@ pub mod Picks
 pub mod Stops
 pub mod MetSoFar
 pub mod RankLists
+pub mod Ordered
+pub mod Built

@@ -1,7 +1,7 @@
 -- The versions that a walk may meet: from the root, those that the picks of all dependencies lead to, enabled or not (own; a superset of what
 -- the preferred walk reaches, on which the facts are found).
 use Rattle.std.specs.Prelude.{suc, Vec, ◌≡◌, ◌≢◌, ◌↔◌, ℕ, Bool, true, false, List, [], ◌∷◌, ◌++◌, ◌<◌, map, length, Option, Some, None, option_map, slice_get, nat_eq, not, ◌||◌, ◌&&◌, is_some, Contains, IsSome, option_and_then, unwrap_or}
-use Rattle.std.specs.List.{All, AllPairs, AllZip, find, list_all, zip}
+use Rattle.std.specs.List.{All, AllPairs, find, list_all, zip}
 use Rattle.semver.specs.Parse.{Held, Parts}
 use Rattle.semver.specs.EvalViews.{matches_views}
 use Rattle.model.specs.Owner.{Owner, Dependency, same_text}
@@ -128,6 +128,11 @@ kept_view k = (package_view k.locked, k.place)
 abbrev pub kept_views : List Kept → List Placed
 kept_views ks = map kept_view ks
 
+-- the package at a place that is here
+abbrev pub package_if : Problem → Bool → Option OwnerName → Option Package
+package_if q false o = None
+package_if q true o = option_map (λ n. package_of q n []) o
+
 -- with a package more, if there is one
 abbrev pub kept_with : List Placed → Option Package → ℕ → List Placed
 kept_with ks None n = ks
@@ -168,6 +173,11 @@ abbrev pub after : Option ℕ → List ℕ → List ℕ
 after None ns = ns
 after (Some n) ns = n ∷ ns
 
+-- with a rank more, if there is one
+abbrev pub with_rank : List ℕ → Option ℕ → List ℕ
+with_rank ns None = ns
+with_rank ns (Some n) = ns ++ n ∷ []
+
 -- the ranks of the targets of enabled dependencies, from number i on
 abbrev pub ranks_from : ℕ → List (Option ℕ) → List Bool → List (Option ℕ) → List ℕ
 ranks_from i [] enabled ranks = []
@@ -191,6 +201,11 @@ targets_at nodes n = targets_if (slice_get nodes n)
 abbrev pub flags_at : List (List Bool) → ℕ → List Bool
 flags_at enabled n = unwrap_or (slice_get enabled n) []
 
+-- R holds of what stands at one place of two lists
+pub record AreBeside {X Y : Type 0} (R : X → Y → Type 0) (xs : List X) (ys : List Y) : Type 0 where
+  pub as_many : length xs ≡ length ys
+  pub each : (n : ℕ) (x : X) (y : Y) → slice_get xs n ≡ Some x → slice_get ys n ≡ Some y → R x y
+
 -- the package with a list of the ranks that are so
 pub record IsWithList (IsIn : ℕ → ℕ → Type 0) (k : Placed) (p : Package) : Type 0 where
   pub head : p ≡ record k.0 { list = p.list }
@@ -200,7 +215,7 @@ pub record IsWithList (IsIn : ℕ → ℕ → Type 0) (k : Placed) (p : Package)
 module _ (nodes : List NodeView) (enabled : List (List Bool)) where
   -- the packages with the lists that the ranks give
   abbrev pub HaveLists : List (Option ℕ) → List Placed → Content → Type 0
-  HaveLists ranks ks ps = AllZip (λ k p. IsWithList (λ n r. IsListed (targets_at nodes n) (flags_at enabled n) ranks r) k p) ks ps
+  HaveLists ranks ks ps = AreBeside (λ k p. IsWithList (λ n r. IsListed (targets_at nodes n) (flags_at enabled n) ranks r) k p) ks ps
 
 module _ (nodes : List NodeView) (enabled : List (List Bool)) where
   -- place t is where some enabled dependency of place n leads
@@ -209,7 +224,7 @@ module _ (nodes : List NodeView) (enabled : List (List Bool)) where
 
   -- the packages, and in each list those to which enabled dependencies lead
   abbrev pub AreListed : List Placed → Content → Type 0
-  AreListed ks ps = AllZip (λ k p. IsWithList (λ n r. (s : ℕ) × LeadsFrom n s × (slice_get (places_in ks) r ≡ Some s)) k p) ks ps
+  AreListed ks ps = AreBeside (λ k p. IsWithList (λ n r. (s : ℕ) × LeadsFrom n s × (slice_get (places_in ks) r ≡ Some s)) k p) ks ps
 
   -- The content has the owners at these places, those that are here, and in each list those to which enabled dependencies lead.
   pub record IsBuilt (q : Problem) (owners : List OwnerName) (here : List Bool) (content : Content) : Type 0 where

@@ -9,7 +9,7 @@ ghost use Rattle.catalogue.specs.Problems.{problem_in};
 ghost use Rattle.lockfile.specs.Views.{package_view, package_views};
 ghost use Rattle.model.specs.Vertices.{the_root};
 ghost use Rattle.model.specs.Order.{package_cmp, source_cmp};
-ghost use Rattle.walks.specs.Met.{AreInOrder, AreKept, AreStops, IsBuilt, IsThere, kept_views, kept_with, owners_of, package_of, stop_owner};
+ghost use Rattle.walks.specs.Met.{AreInOrder, AreKept, AreStops, IsBuilt, IsThere, kept_views, kept_with, owners_of, package_if, package_of, stop_owner};
 
 use crate::kept::Kept;
 use crate::listing::listed;
@@ -55,12 +55,29 @@ fn kept_of(
 {
     let mut kept = Vec::new(alloc);
     'places: for (place, here) in here.iter().enumerate() {
-        if *here {
-            let found = package_at(alloc, manifest, catalogue, stops, place)?;
-            keep(&mut kept, found, place)?;
-        }
+        let found = package_if(alloc, manifest, catalogue, stops, place, *here)?;
+        keep(&mut kept, found, place)?;
     }
     Ok(kept)
+}
+
+/// The package at a place that is here.
+fn package_if(
+    alloc: Global,
+    manifest: &Manifest,
+    catalogue: &Catalogue,
+    stops: &[Stop],
+    place: usize,
+    here: bool,
+) -> Result<Option<Package>, AllocError>
+    requires { AreStops catalogue.now stops.now }
+    ensures { IfOk result (λ o. option_map package_view o ≡ package_if (problem_in manifest.now catalogue.now) here (slice_get (owners_of catalogue.now stops.now) place)) }
+{
+    if here {
+        package_at(alloc, manifest, catalogue, stops, place)
+    } else {
+        Ok(None)
+    }
 }
 
 /// Puts a package last, if there is one.

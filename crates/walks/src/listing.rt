@@ -1,10 +1,10 @@
 //! The lists of the packages that the walk has.
 
-ghost use Rattle.std.specs.Prelude.{◌≡◌, ◌≢◌, ◌↔◌, ◌<◌, ℕ, Some, Contains, IfOk, length, map};
+ghost use Rattle.std.specs.Prelude.{◌≡◌, ◌≢◌, ◌↔◌, ◌<◌, ℕ, Some, Contains, IfOk, OnOk, length, map};
 ghost use Rattle.std.specs.List.{All, AllPairs};
 ghost use Rattle.facts.specs.Graphs.{flag_at, node_views};
 ghost use Rattle.lockfile.specs.Views.{package_views};
-ghost use Rattle.walks.specs.Met.{AreListed, AreRanks, HaveLists, IsListed, IsRising, flags_at, kept_views, places_in, rank_if, ranks_from, targets_at};
+ghost use Rattle.walks.specs.Met.{AreListed, AreRanks, HaveLists, IsListed, IsRising, flags_at, kept_views, places_in, rank_if, ranks_from, targets_at, with_rank};
 
 use crate::kept::Kept;
 use facts::{Facts, Node};
@@ -69,11 +69,29 @@ fn list_at(
     ensures rising { IfOk result (λ v. IsRising v.items) }
     ensures members { IfOk result (λ v. (r : ℕ) → Contains v.items r ↔ IsListed (targets_at (node_views nodes.now) place) (flags_at (map (λ v. v.items) enabled.now) place) ranks.now r) }
 {
-    match (nodes.get(place), enabled.get(place)) {
-        (Some(node), Some(enabled)) => {
-            list_of(alloc, node.targets.as_slice(), enabled.as_slice(), ranks)
-        }
-        _ => Ok(Vec::new(alloc)),
+    list_of(
+        alloc,
+        targets_at(nodes, place),
+        flags_at(enabled, place),
+        ranks,
+    )
+}
+
+fn targets_at<'a>(nodes: &'a [Node<'_>], place: usize) -> &'a [Option<usize>]
+    ensures { result.now ≡ targets_at (node_views nodes.now) place }
+{
+    match nodes.get(place) {
+        Some(node) => node.targets.as_slice(),
+        None => &[],
+    }
+}
+
+fn flags_at(enabled: &[Vec<bool>], place: usize) -> &[bool]
+    ensures { result.now ≡ flags_at (map (λ v. v.items) enabled.now) place }
+{
+    match enabled.get(place) {
+        Some(flags) => flags.as_slice(),
+        None => &[],
     }
 }
 
@@ -104,11 +122,19 @@ fn ranks_enabled(
 {
     let mut list = Vec::new(alloc);
     'targets: for (number, target) in targets.iter().enumerate() {
-        if let Some(rank) = rank_if(*target, flag(enabled, number), ranks) {
-            list.push(rank)?;
-        }
+        add(&mut list, rank_if(*target, flag(enabled, number), ranks))?;
     }
     Ok(list)
+}
+
+/// Puts a rank last, if there is one.
+fn add(list: &mut Vec<usize>, rank: Option<usize>) -> Result<(), AllocError>
+    ensures { OnOk result (list.new.items ≡ with_rank list.old.items rank) }
+{
+    if let Some(rank) = rank {
+        list.push(rank)?;
+    }
+    Ok(())
 }
 
 fn flag(enabled: &[bool], number: usize) -> bool

@@ -1,19 +1,17 @@
-use Rattle.std.proofs.Common.{rules, ◌≡◌, ◌≢◌, [], Some, IfOk, OnOk, length, map, option_map, slice_get, ℕ, ◌+◌, ◌-◌, ◌*◌, ◌<◌, ◌≤◌, ◌/◌, ◌%◌, Bool, true, false, nat_eq, nat_lt, List, ◌∷◌, ◌++◌, slice_index_or, slice_set, bit_and, bit_or, Fits, w8, w32, w64, Bor, MutBor}
-use Rattle.std.specs.List.{AllPairs}
-use Rattle.std.specs.List.Sorted.{IsPermutation}
-use Rattle.std.specs.declared.cmp.Ordering.TheVariants.{Equal}
-use Rattle.facts.specs.Graphs.{node_views}
-use Rattle.catalogue.specs.Problems.{problem_in}
-use Rattle.lockfile.specs.Views.{package_view, package_views}
-use Rattle.model.specs.Vertices.{the_root}
-use Rattle.model.specs.Order.{package_cmp, source_cmp}
-use Rattle.walks.specs.Met.{AreInOrder, AreKept, AreStops, IsBuilt, IsThere, kept_views, kept_with, owners_of, package_of, stop_owner}
+use Rattle.std.proofs.Common.{◌≡◌, rules}
+use Rattle.std.specs.Ordering.{is_lt}
+use Rattle.std.proofs.lemmas.List.Sorted.{answers_always, ranks_by, IsPermutation-map}
+use Rattle.model.specs.Order.{package_cmp}
+use Rattle.lockfile.specs.Views.{package_view}
+use Rattle.lockfile.proofs.PackageOrder.{package_total}
+use Rattle.walks.specs.Met.{kept_view}
+use Rattle.walks.proofs.Ordered.{in_order}
 use Rattle.walks.proofs.building.sorted.Goals as goal
 
--- src/building.rt:142:1
 pub returns-clause-permutes : goal.returns-clause-permutes
-returns-clause-permutes c = ?
+returns-clause-permutes c = IsPermutation-map kept_view _ _ c.in_ok-sort_by.ensures.permutation
 
--- src/building.rt:142:1
 pub returns-clause-order : goal.returns-clause-order
-returns-clause-order c = ?
+returns-clause-order c =
+    let sorted = c.in_ok-sort_by.ensures.sorted (λ x y. is_lt (package_cmp (package_view x.locked) (package_view y.locked))) (ranks_by package_total (λ k. package_view k.locked)) (answers_always _ _ _ (λ f a r g called. search rules)) in
+    in_order _ _ c.requires (IsPermutation-map kept_view _ _ c.in_ok-sort_by.ensures.permutation) sorted

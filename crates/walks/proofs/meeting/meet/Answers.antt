@@ -29,13 +29,12 @@ stops-preserved c =
     let nodes = c.stops.nodes.items in
     let place = c.len-place.ensures in
     let even : c.len-place.result ≡ length (node_views nodes) = rw length-map (omega (arith, place)) in
-    let brings = rw c.as_slice.ensures.keys at c.brings_at-brings.ensures in
     let test = c.stops-test.true in
     let len = c.len.ensures in
     let wide = c.len-in-stops.ensures.len in
     one_more index (problem_in c.args.manifest.now index) c.stops.stops.keys c.targets_of.new.stops.keys (node_views nodes) _ _ c.stops.invariant
         (rw length-map (omega (arith, test, len, wide))) c.in_ok-targets.ensures.grows
-        (λ o at. brings o (ap (slice_get (owners_of index c.stops.stops.keys)) even ∙ at))
+        (λ o at. c.brings_at-brings.ensures o (subst (λ ks. slice_get (owners_of index ks) c.len-place.result ≡ Some o) (sym c.as_slice.ensures.keys) (ap (slice_get (owners_of index c.stops.stops.keys)) even ∙ at)))
         (ap (λ k. nat_eq k 0) even)
         (subst (λ ds. ArePicks (preferred_in index) (owners_of index c.targets_of.new.stops.keys) ds c.in_ok-targets.targets.items) c.dependencies_of.ensures c.in_ok-targets.ensures.picks)
         (ap node_views c.in_ok-push.ensures.items ∙ map-append node_view nodes (_ ∷ []))
