@@ -22,12 +22,12 @@ use Rattle.walks.specs.Preferred.{preferred_in}
 use Rattle.walks.specs.Met.{ArePicks, AreNodes, AreStops, Grows, IsMet, IsNode, IsThere, owner_if, owners_of, package_of, stop_owner}
 use Rattle.walks.specs.declared.stop.Stop.{Stop}
 use Rattle.walks.proofs.Lists.{some_at, all-map, pairs-map}
-use Rattle.walks.proofs.Picks.{candidates_are}
+use Rattle.walks.proofs.Picks.{candidates_are, versions_are}
 use Rattle.walks.proofs.Stops.{at_stop, once_at, rising_of, owner_on, picks_on, snoc_at, stop_with}
 
 -- ---- what is read from the catalogue
 
-some_is : {X : Type 0} (o : Option X) → IsSome o → (x : X) × (o ≡ Some x)
+pub some_is : {X : Type 0} (o : Option X) → IsSome o → (x : X) × (o ≡ Some x)
 some_is (Some x) h = (x, refl)
 some_is None h = absurd (true≢false (sym h))
 
@@ -77,10 +77,57 @@ stop_brings manifest index stops n s x store other got h o at =
     let is : version_of s.name c.version ≡ o = sym owner ∙ after_root index stops n o s other got at in
     sym brings ∙ sym (ap brings_of found) ∙ ap (owner_brings (problem_in manifest index)) is
 
+pub owner_at_stop : (index : CatalogueView) (stops : List Stop) (n : ℕ) (s : Stop) → (n ≡ 0 → ⊥) → slice_get stops (n - 1) ≡ Some s → slice_get (owners_of index stops) n ≡ Some (stop_owner index s)
+owner_at_stop index stops zero s other got = absurd (other refl)
+owner_at_stop index stops (suc n) s other got =
+    let is : n ≡ suc n - 1 = omega arith in
+    slice_get-map (stop_owner index) stops n ∙ ap (option_map (stop_owner index)) (ap (slice_get stops) is ∙ got)
+
+pub no_owner : (index : CatalogueView) (stops : List Stop) (n : ℕ) → (n ≡ 0 → ⊥) → slice_get stops (n - 1) ≡ None → slice_get (owners_of index stops) n ≡ None
+no_owner index stops zero other got = absurd (other refl)
+no_owner index stops (suc n) other got =
+    let is : n ≡ suc n - 1 = omega arith in
+    slice_get-map (stop_owner index) stops n ∙ ap (option_map (stop_owner index)) (ap (slice_get stops) is ∙ got)
+
+-- ---- the package that stands at a stop
+
+pub no_version : (index : CatalogueView) (s : Stop) (vs : List Parts) → vs ≡ map (λ (r : Record). r.version) (candidates_at index s.name) → slice_get vs s.place ≡ None → IsThere index s → ⊥
+no_version index s vs e none there =
+    by (slice_get (candidates_at index s.name) s.place) (candidate_get index s.name s.place) (sym (slice_get-map (λ (r : Record). r.version) (candidates_at index s.name) s.place) ∙ ap (λ l. slice_get l s.place) (sym e) ∙ none)
+  where
+    by : (o : Option Record) → slice_get (candidates_of (rows_by_name index) s.name) s.place ≡ option_map as_candidate o → option_map (λ (r : Record). r.version) o ≡ None → ⊥
+    by None e h = true≢false (sym (sym (ap is_some e) ∙ there))
+    by (Some r) e h = none-some r.version (sym h)
+
+abbrev package_with : List ℕ → Parts → Option (List ℕ) → Option (List ℕ) → List ℕ → Package
+package_with name version source checksum list = record { name = name; version = version; source = source; checksum = checksum; list = list }
+
+pub stop_package_is : (manifest : ManifestView) (index : CatalogueView) (s : Stop) (x : Said) (vs : List Parts) (v : Parts) (name source sum list : List ℕ) → IsStore index
+    → Some x ≡ option_map said (slice_get (candidates_at index s.name) s.place) → vs ≡ map (λ (r : Record). r.version) (candidates_at index s.name) → slice_get vs s.place ≡ Some v
+    → name ≡ s.name → source ≡ index.source → sum ≡ x.checksum → list ≡ []
+    → package_with name v (Some source) (Some sum) list ≡ package_of (problem_in manifest index) (stop_owner index s) []
+stop_package_is manifest index s x vs v name source sum list store h e at en es ec el =
+    let (c, there, brings, sums) = said_there index s.name s.place x h in
+    let (owner, found) = at_stop index store s c there in
+    let all : vs ≡ map (λ (c : Candidate). c.version) (candidates_of (rows_by_name index) s.name)
+    = e ∙ versions_are (candidates_at index s.name) ∙ ap (map (λ (c : Candidate). c.version)) (sym (candidates_are index s.name)) in
+    let same : v ≡ c.version = same_Some v c.version (sym at ∙ ap (λ l. slice_get l s.place) all ∙ slice_get-map (λ (c : Candidate). c.version) (candidates_of (rows_by_name index) s.name) s.place
+        ∙ ap (option_map (λ (c : Candidate). c.version)) there) in
+    ap₂ (λ n w. package_with n w (Some source) (Some sum) list) en same
+    ∙ ap₂ (λ o k. package_with s.name c.version o k list) (ap Some es) (ap Some (ec ∙ sym sums) ∙ sym (ap (option_map (λ (c : Candidate). c.checksum)) found))
+    ∙ ap (λ l. package_with s.name c.version (Some index.source) (option_map (λ (c : Candidate). c.checksum) (candidate_at (candidates_of (rows_by_name index) s.name) c.version)) l) el
+    ∙ ap (λ o. package_of (problem_in manifest index) o []) (sym owner)
+
 pub stop_there : (index : CatalogueView) (stops : List Stop) (n : ℕ) (s : Stop) → AreStops index stops → slice_get stops n ≡ Some s → IsThere index s
 stop_there index stops n s h got = all_get (IsThere index) stops n s h.there got
 
 -- ---- each owner once
+
+pub name_in : (a b : List ℕ) (v w : Parts) → version_of a v ≡ version_of b w → a ≡ b
+name_in a b v w e = cc
+
+pub version_in : (a b : List ℕ) (v w : Parts) → version_of a v ≡ version_of b w → v ≡ w
+version_in a b v w e = cc
 
 module _ (index : CatalogueView) (store : IsStore index) where
   apart : (s t : Stop) → IsThere index s → IsThere index t → s ≢ t → stop_owner index s ≢ stop_owner index t
@@ -94,12 +141,6 @@ module _ (index : CatalogueView) (store : IsStore index) where
       let places = once_at (candidates_of (rows_by_name index) s.name) (rising_of index s.name store) s.place t.place c d got beside
           (precedence-equal c.version d.version versions) (precedence-equal d.version c.version (sym versions)) in
       other (ap₂ (λ n p. stop_with n p) names places)
-    where
-      name_in : (a b : List ℕ) (v w : Parts) → version_of a v ≡ version_of b w → a ≡ b
-      name_in a b v w e = cc
-
-      version_in : (a b : List ℕ) (v w : Parts) → version_of a v ≡ version_of b w → v ≡ w
-      version_in a b v w e = cc
 
   not_root : (s : Stop) → IsThere index s → the_root ≢ stop_owner index s
   not_root s h e =

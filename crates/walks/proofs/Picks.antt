@@ -152,7 +152,7 @@ first_of cs d (n ∷ ns) (p ∷ ps) e =
     by first rest true = ap Some first
     by first rest false = rest
 
-versions_are : (rs : List Record) → map (λ (r : Record). r.version) rs ≡ map (λ (c : Candidate). c.version) (map as_candidate rs)
+pub versions_are : (rs : List Record) → map (λ (r : Record). r.version) rs ≡ map (λ (c : Candidate). c.version) (map as_candidate rs)
 versions_are [] = refl
 versions_are (r ∷ rs) = ap (λ vs. r.version ∷ vs) (versions_are rs)
 

@@ -1,5 +1,5 @@
 -- Ranks, and the lists that they make.
-use Rattle.std.proofs.Common.{◌≡◌, ◌≢◌, ◌↔◌, ℕ, zero, suc, ◌+◌, ◌<◌, ◌≤◌, Bool, true, false, cond, List, [], ◌∷◌, ◌++◌, map, length, get_or, drop, nat_eq, Contains, Bor, Vec, Option, Some, None, option_map, slice_get, unwrap_or, refl, sym, ap, ap₂, ◌∙◌, subst, subst₂, inl, inr, ◌⊎◌, arith, true≢false}
+use Rattle.std.proofs.Common.{◌≡◌, ◌≢◌, ◌↔◌, ℕ, zero, suc, ◌+◌, ◌<◌, ◌≤◌, Bool, true, false, cond, List, [], ◌∷◌, ◌++◌, map, length, get_or, drop, nat_eq, Contains, Bor, Vec, Result, Ok, Err, IfOk, Option, Some, None, option_map, slice_get, unwrap_or, refl, sym, ap, ap₂, ◌∙◌, subst, subst₂, inl, inr, ◌⊎◌, arith, true≢false}
 use Rattle.std.specs.List.{All, AllPairs}
 use Rattle.std.specs.Option.{option_and_then}
 use Rattle.std.proofs.Math.Seq.{drop-cons}
@@ -11,6 +11,9 @@ use Rattle.std.specs.List.{dedup}
 use Rattle.std.specs.List.Sorted.{IsPermutation, IsSorted}
 use Rattle.std.specs.List.Retain.{DiffersFromLast, IsFiltered}
 use Rattle.std.specs.declared.alloc.Global.{Global}
+use Rattle.std.specs.declared.alloc.AllocError.{AllocError}
+use Rattle.lockfile.specs.Views.{package_views}
+use Rattle.lockfile.specs.declared.locked.Package.{Package}
 use Rattle.std.proofs.lemmas.List.{append_assoc, length-append, length-set, get_or-set_same, get_or-set_other}
 use Rattle.std.proofs.lemmas.List.Filters.{dedup_is}
 use Rattle.std.proofs.lemmas.List.Kept.{AllPairs-from_increasing, Contains-dedup_nat, Contains-from_dedup}
@@ -139,10 +142,10 @@ one_rank places count n p ranks apart at_p lt h = record {
     here = slice_get-get_or (set ranks p (Some n)) p None (subst (λ k. p < k) (sym (length-set ranks p (Some n))) within) ∙ ap Some (get_or-set_same ranks p (Some n) None within)
 
     other : (t : ℕ) → t ≢ p → slice_get (set ranks p (Some n)) t ≡ slice_get ranks t
-    other t no = elim (cases_order t (length ranks)) [
+    other t different = elim (cases_order t (length ranks)) [
       | inl e ↦ past t (omega (arith, e))
       | inr o ↦ elim o [
-        | inl below ↦ slice_get-get_or (set ranks p (Some n)) t None (subst (λ k. t < k) (sym (length-set ranks p (Some n))) below) ∙ ap Some (get_or-set_other ranks p t (Some n) None no) ∙ sym (slice_get-get_or ranks t None below)
+        | inl below ↦ slice_get-get_or (set ranks p (Some n)) t None (subst (λ k. t < k) (sym (length-set ranks p (Some n))) below) ∙ ap Some (get_or-set_other ranks p t (Some n) None different) ∙ sym (slice_get-get_or ranks t None below)
         | inr above ↦ past t (omega (arith, above))
       ]
     ]
@@ -266,3 +269,8 @@ lists_are nodes enabled ranks ks ps are h = record {
           (λ (s, (i, flag, at), place). (w.members r).1 (i, s, flag, target_back nodes k.1 i s at, (are s r).1 place)));
       };
 }
+
+pub listed_ok : (nodes : List NodeView) (enabled : List (List Bool)) (ranks : List (Option ℕ)) (ks : List Placed) (r : Result (Vec Package Global) AllocError) → AreRanks (places_in ks) ranks
+    → IfOk r (λ v. HaveLists nodes enabled ranks ks (package_views v.items)) → IfOk r (λ v. AreListed nodes enabled ks (package_views v.items))
+listed_ok nodes enabled ranks ks (Ok v) are h = lists_are nodes enabled ranks ks (package_views v.items) are h
+listed_ok nodes enabled ranks ks (Err e) are h = h

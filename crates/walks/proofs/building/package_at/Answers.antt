@@ -1,19 +1,20 @@
-use Rattle.std.proofs.Common.{rules, ◌≡◌, ◌≢◌, [], Some, IfOk, OnOk, length, map, option_map, slice_get, ℕ, ◌+◌, ◌-◌, ◌*◌, ◌<◌, ◌≤◌, ◌/◌, ◌%◌, Bool, true, false, nat_eq, nat_lt, List, ◌∷◌, ◌++◌, slice_index_or, slice_set, bit_and, bit_or, Fits, w8, w32, w64, Bor, MutBor}
-use Rattle.std.specs.List.{AllPairs}
-use Rattle.std.specs.List.Sorted.{IsPermutation}
-use Rattle.std.specs.declared.cmp.Ordering.TheVariants.{Equal}
-use Rattle.facts.specs.Graphs.{node_views}
+use Rattle.std.proofs.Common.{◌≡◌, ◌-◌, [], Some, IfOk, option_map, sym, ap, ◌∙◌, subst}
 use Rattle.catalogue.specs.Problems.{problem_in}
-use Rattle.lockfile.specs.Views.{package_view, package_views}
-use Rattle.model.specs.Vertices.{the_root}
-use Rattle.model.specs.Order.{package_cmp, source_cmp}
-use Rattle.walks.specs.Met.{AreInOrder, AreKept, AreStops, IsBuilt, IsThere, kept_views, kept_with, owners_of, package_of, stop_owner}
+use Rattle.lockfile.specs.Views.{package_view}
+use Rattle.walks.specs.Met.{package_of}
+use Rattle.walks.proofs.MetSoFar.{got_item, owner_at_stop, no_owner}
+use Rattle.walks.proofs.RankLists.{no_item}
 use Rattle.walks.proofs.building.package_at.Goals as goal
 
--- src/building.rt:77:1
 pub returns-in-Some : goal.returns-in-Some
-returns-in-Some c = ?
+returns-in-Some c =
+    let q = problem_in c.args.manifest.now c.args.catalogue.now in
+    let stops = c.args.stops.now in
+    let at = owner_at_stop c.args.catalogue.now stops c.args.place c.in-Some.stop.now c.if-place-eq0.false (got_item stops (c.args.place - 1) c.get.result c.in-Some.stop c.get.ensures.lookup c.in-Some.is) in
+    subst (λ o. IfOk c.stop_package.result (λ p. option_map package_view p ≡ option_map (λ n. package_of q n []) o)) (sym at) c.stop_package.ensures
 
--- src/building.rt:77:1
 pub returns-in-None : goal.returns-in-None
-returns-in-None c = ?
+returns-in-None c =
+    let q = problem_in c.args.manifest.now c.args.catalogue.now in
+    let stops = c.args.stops.now in
+    sym (ap (option_map (λ n. package_of q n [])) (no_owner c.args.catalogue.now stops c.args.place c.if-place-eq0.false (no_item stops (c.args.place - 1) c.get.result c.get.ensures.lookup c.in-None.is)))

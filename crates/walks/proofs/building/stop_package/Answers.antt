@@ -1,23 +1,29 @@
-use Rattle.std.proofs.Common.{rules, ◌≡◌, ◌≢◌, [], Some, IfOk, OnOk, length, map, option_map, slice_get, ℕ, ◌+◌, ◌-◌, ◌*◌, ◌<◌, ◌≤◌, ◌/◌, ◌%◌, Bool, true, false, nat_eq, nat_lt, List, ◌∷◌, ◌++◌, slice_index_or, slice_set, bit_and, bit_or, Fits, w8, w32, w64, Bor, MutBor}
-use Rattle.std.specs.List.{AllPairs}
-use Rattle.std.specs.List.Sorted.{IsPermutation}
-use Rattle.std.specs.declared.cmp.Ordering.TheVariants.{Equal}
-use Rattle.facts.specs.Graphs.{node_views}
-use Rattle.catalogue.specs.Problems.{problem_in}
-use Rattle.lockfile.specs.Views.{package_view, package_views}
-use Rattle.model.specs.Vertices.{the_root}
-use Rattle.model.specs.Order.{package_cmp, source_cmp}
-use Rattle.walks.specs.Met.{AreInOrder, AreKept, AreStops, IsBuilt, IsThere, kept_views, kept_with, owners_of, package_of, stop_owner}
+use Rattle.std.proofs.Common.{rules, ◌≡◌, [], Some, None, map, option_map, slice_get, string_bytes, sym, ap, ◌∙◌}
+use Rattle.std.proofs.lemmas.Option.{slice_get-map}
+use Rattle.semver.specs.Identifiers.{parts_of}
+use Rattle.catalogue.specs.Views.{said_by}
+use Rattle.walks.proofs.MetSoFar.{got_item, no_version, not_said, stop_package_is}
+use Rattle.walks.proofs.Lists.{map_at}
+use Rattle.walks.proofs.RankLists.{no_item}
 use Rattle.walks.proofs.building.stop_package.Goals as goal
 
--- src/building.rt:127:9
 pub returns-in_default : goal.returns-in_default
-returns-in_default c = ?
+returns-in_default c =
+    let vs = c.versions.result.now in
+    let s = c.args.stop.now in
+    absurd (no_version c.args.catalogue.now s (map parts_of vs) c.versions.ensures.versions (slice_get-map parts_of vs s.place ∙ ap (option_map parts_of) (no_item vs s.place c.get.result c.get.ensures.lookup c.in_default.is)) c.requires)
 
--- src/building.rt:130:9
 pub returns-in_default-record : goal.returns-in_default-record
-returns-in_default-record c = ?
+returns-in_default-record c = absurd (not_said c.args.catalogue.now c.args.stop.now c.in_default-record.ensures c.requires)
 
--- src/building.rt:114:1
 pub returns : goal.returns
-returns c = ?
+returns c =
+    let vs = c.versions.result.now in
+    let s = c.args.stop.now in
+    let v : parts_of c.in_ok-clone-2.field-0 ≡ parts_of c.in-Some.version.now = search rules in
+    let name : c.in_ok-clone.field-0 ≡ s.name = search rules in
+    let source : string_bytes c.in_ok-from_str.field-0 ≡ c.args.catalogue.now.source = search rules in
+    let sum : string_bytes c.in_ok-clone-3.field-0 ≡ string_bytes c.in-Some-record.candidate.now.checksum = search rules in
+    ap Some (stop_package_is c.args.manifest.now c.args.catalogue.now s (said_by c.in-Some-record.candidate.now) (map parts_of vs) (parts_of c.in_ok-clone-2.field-0) c.in_ok-clone.field-0 (string_bytes c.in_ok-from_str.field-0)
+        (string_bytes c.in_ok-clone-3.field-0) c.new.result.items c.store_holds.ensures c.in-Some-record.ensures c.versions.ensures.versions
+        (map_at parts_of vs s.place c.in-Some.version.now (got_item vs s.place c.get.result c.in-Some.version c.get.ensures.lookup c.in-Some.is) ∙ ap Some (sym v)) name source sum c.new.ensures.items)
