@@ -175,6 +175,17 @@ flag_within [] n h = absurd (true≢false (sym h))
 flag_within (b ∷ bs) zero h = omega arith
 flag_within (b ∷ bs) (suc n) h = let lt = flag_within bs n h in omega (arith, lt)
 
+module _ (q : Problem) (owners : List OwnerName) (here : List Bool) (first ks : List Placed) (kept : AreKept q owners here (length here) first) (moved : IsPermutation first ks) where
+  pub places_apart : AllPairs (λ m n. m ≢ n) (places_in ks)
+  places_apart = pairs-map (λ (k : Placed). k.1) (λ m n. m ≢ n) ks (pairs-permutation (λ (k m : Placed). k.1 ≢ m.1) (λ k m n e. n (sym e)) first ks moved kept.distinct)
+
+  pub places_within : (count : ℕ) → count ≡ length owners → All (λ n. n < count) (places_in ks)
+  places_within count e = λ k d lt.
+      let c = there_at (places_in ks) k (get_or (places_in ks) k d) (slice_get-get_or (places_in ks) k d lt) in
+      let (below, f, (o, at)) = (kept.members (get_or (places_in ks) k d)).0 (Contains-permutation (places_in ks) (places_in first) (get_or (places_in ks) k d) (IsPermutation-sym (places_in first) (places_in ks) (IsPermutation-map (λ (k : Placed). k.1) first ks moved)) c) in
+      let inside = slice_get_within owners (get_or (places_in ks) k d) o at in
+      omega (arith, inside, e)
+
 module _ (q : Problem) (owners : List OwnerName) (nodes : List NodeView) (enabled : List (List Bool)) (here : List Bool) (first ks : List Placed) (ps : Content)
     (kept : AreKept q owners here (length here) first) (moved : IsPermutation first ks) (order : AreInOrder ks) (listed : AreListed nodes enabled ks ps) where
   package_at : (n : ℕ) (p : Package) → slice_get ps n ≡ Some p → (k : Placed) × (slice_get ks n ≡ Some k)
@@ -238,13 +249,3 @@ module _ (q : Problem) (owners : List OwnerName) (nodes : List NodeView) (enable
     where
       places_moved : IsPermutation (places_in first) (places_in ks)
       places_moved = IsPermutation-map (λ (k : Placed). k.1) first ks moved
-
-  pub places_apart : AllPairs (λ m n. m ≢ n) (places_in ks)
-  places_apart = pairs-map (λ (k : Placed). k.1) (λ m n. m ≢ n) ks (pairs-permutation (λ (k m : Placed). k.1 ≢ m.1) (λ k m n e. n (sym e)) first ks moved kept.distinct)
-
-  pub places_within : (count : ℕ) → count ≡ length owners → All (λ n. n < count) (places_in ks)
-  places_within count e = λ k d lt.
-      let c = there_at (places_in ks) k (get_or (places_in ks) k d) (slice_get-get_or (places_in ks) k d lt) in
-      let (below, f, (o, at)) = (kept.members (get_or (places_in ks) k d)).0 (Contains-permutation (places_in ks) (places_in first) (get_or (places_in ks) k d) (IsPermutation-sym (places_in first) (places_in ks) (IsPermutation-map (λ (k : Placed). k.1) first ks moved)) c) in
-      let inside = slice_get_within owners (get_or (places_in ks) k d) o at in
-      omega (arith, inside, e)

@@ -11,10 +11,15 @@ sorted-requires c =
     no_ties c.args.manifest.now c.args.catalogue.now c.store_holds.ensures c.args.stops.now c.requires.stops _ _ (kept_views c.in_ok-kept.kept.items) c.in_ok-kept.ensures
 
 pub listed-requires-clause-apart : goal.listed-requires-clause-apart
-listed-requires-clause-apart c = ?
+listed-requires-clause-apart c =
+    let kept = rw c.as_slice.ensures.value at c.in_ok-kept.ensures in
+    places_apart (problem_in c.args.manifest.now c.args.catalogue.now) (owners_of c.args.catalogue.now c.args.stops.now) c.args.facts.now.here.items (kept_views c.in_ok-kept.kept.items) (kept_views c.in_ok-kept-2.kept.items) kept c.in_ok-kept-2.ensures.permutes
 
 pub listed-requires-clause-within : goal.listed-requires-clause-within
-listed-requires-clause-within c = ?
+listed-requires-clause-within c =
+    let kept = rw c.as_slice.ensures.value at c.in_ok-kept.ensures in
+    places_within (problem_in c.args.manifest.now c.args.catalogue.now) (owners_of c.args.catalogue.now c.args.stops.now) c.args.facts.now.here.items (kept_views c.in_ok-kept.kept.items) (kept_views c.in_ok-kept-2.kept.items) kept c.in_ok-kept-2.ensures.permutes
+        (length c.args.nodes.now) c.requires.nodes
 
 pub new-requires : goal.new-requires
 new-requires c =
