@@ -1,24 +1,23 @@
 -- The content is built of those that are here.
-use Rattle.std.proofs.Common.{◌≡◌, ◌≢◌, ◌↔◌, ℕ, zero, suc, ◌+◌, ◌<◌, ◌≤◌, Bool, true, false, cond, List, [], ◌∷◌, ◌++◌, map, length, get_or, Contains, Option, Some, None, option_map, slice_get, refl, sym, ap, ap₂, ◌∙◌, subst, subst₂, inl, inr, ◌⊎◌, arith, true≢false, Ordering, rules}
+use Rattle.std.proofs.Common.{◌≡◌, ◌≢◌, ◌↔◌, ℕ, zero, suc, ◌+◌, ◌<◌, Bool, true, false, List, [], ◌∷◌, ◌++◌, length, get_or, Contains, Option, Some, None, option_map, slice_get, refl, sym, ap, ap₂, ◌∙◌, subst, subst₂, inl, inr, arith, true≢false, Ordering}
 use Rattle.std.specs.List.{All, AllPairs}
-use Rattle.std.specs.List.Sorted.{IsPermutation, IsSortedBy}
-use Rattle.std.specs.Ordering.{is_eq, is_gt, is_lt, ordering_reverse, ordering_then}
+use Rattle.std.specs.List.Sorted.{IsPermutation}
+use Rattle.std.specs.Ordering.{is_eq, ordering_reverse, ordering_then}
 use Rattle.std.specs.declared.cmp.Ordering.TheVariants.{Less, Equal, Greater}
 use Rattle.std.proofs.lemmas.Bool.{cases_order}
 use Rattle.std.proofs.lemmas.List.{length-map, map-append}
 use Rattle.std.proofs.lemmas.List.Elements.{Contains-push}
-use Rattle.std.proofs.lemmas.List.Sorted.{All-permutation, Contains-permutation, IsPermutation-map, IsPermutation-sym, sorted_far, ranks_by}
-use Rattle.std.proofs.lemmas.Option.{slice_get_within, slice_get-map, slice_get-get_or, get_or_from_slice_get, same_Some, none-some}
+use Rattle.std.proofs.lemmas.List.Sorted.{All-permutation, Contains-permutation, IsPermutation-map, IsPermutation-sym}
+use Rattle.std.proofs.lemmas.Option.{slice_get_within, slice_get-map, slice_get-get_or, same_Some, none-some}
 use Rattle.semver.specs.Parse.{Parts}
 use Rattle.semver.specs.Identifiers.{parts_text}
 use Rattle.model.specs.Content.{Candidate, Package, Content, Problem, candidates_of}
 use Rattle.model.specs.WellFormed.{IsContent}
 use Rattle.model.specs.Order.{package_cmp, precedence, text_cmp, version_cmp, source_cmp}
 use Rattle.model.specs.Vertices.{OwnerName, the_root, version_of}
-use Rattle.model.proofs.Lists.{all_get, in_none, in_cons, pairs_get, pairs_none, all_none}
+use Rattle.model.proofs.Lists.{all_get, in_none, pairs_get, pairs_none, all_none}
 use Rattle.model.proofs.Permuted.{pairs-permutation}
-use Rattle.lockfile.specs.Views.{package_view}
-use Rattle.lockfile.proofs.PackageOrder.{package_total, precedence_total, text-eq}
+use Rattle.lockfile.proofs.PackageOrder.{precedence_total, text-eq}
 use Rattle.model.proofs.Same.{text-same}
 use Rattle.manifest.specs.Manifests.{ManifestView}
 use Rattle.catalogue.specs.Problems.{problem_in}
@@ -26,8 +25,7 @@ use Rattle.catalogue.specs.Stores.{CatalogueView, IsStore, rows_by_name}
 use Rattle.walks.specs.declared.stop.Stop.{Stop}
 use Rattle.walks.proofs.MetSoFar.{owners_once, some_is, name_in, version_in}
 use Rattle.facts.specs.Graphs.{NodeView, flag_at}
-use Rattle.walks.specs.Met.{AreBeside, AreInOrder, AreKept, AreListed, IsBuilt, IsPackage, IsPlace, IsWithList, LeadsFrom, AreStops, IsThere, owner_if, owners_of, stop_owner, Placed, kept_view, kept_views, kept_with, package_if, package_of, places_in}
-use Rattle.walks.specs.declared.kept.Kept.{Kept}
+use Rattle.walks.specs.Met.{AreInOrder, AreKept, AreListed, IsBuilt, IsPackage, IsPlace, LeadsFrom, AreStops, IsThere, owner_if, owners_of, stop_owner, Placed, kept_with, package_if, package_of, places_in}
 use Rattle.walks.proofs.Lists.{place_of, there_at, some_at, still_at, map_at, pairs-map}
 use Rattle.walks.proofs.Stops.{all-snoc, pairs-snoc, snoc_at, once_at, rising_of}
 
@@ -52,7 +50,8 @@ module _ (q : Problem) (owners : List OwnerName) (here : List Bool) where
       (λ (lt, flag, at). elim (cases_order m n) [
         | inl e ↦ absurd (not_this (subst (λ k. flag_at here k ≡ true) e flag, subst (IsPlace q owners) e at))
         | inr o ↦ elim o [ inl below ↦ (h.members m).1 (below, flag, at) | inr above ↦ absurd (omega (arith, lt, above)) ]
-      ]));
+      ]),
+    );
     packages = h.packages;
     distinct = h.distinct;
   }
@@ -237,7 +236,8 @@ module _ (q : Problem) (owners : List OwnerName) (nodes : List NodeView) (enable
     as_many = let many = listed.as_many in rw length-map many;
     members = λ n. (
       (λ c. let (lt, f, at) = (kept.members n).0 (Contains-permutation (places_in ks) (places_in first) n (IsPermutation-sym (places_in first) (places_in ks) places_moved) c) in (f, at)),
-      (λ (f, at). Contains-permutation (places_in first) (places_in ks) n places_moved ((kept.members n).1 (flag_within here n f, f, at))));
+      (λ (f, at). Contains-permutation (places_in first) (places_in ks) n places_moved ((kept.members n).1 (flag_within here n f, f, at))),
+    );
     packages = λ k n p got at. (
         let (x, there, place) = placed_at k n at in
         let (o, stood, is) = all_get (IsPackage q owners) ks k x (All-permutation (IsPackage q owners) first ks moved kept.packages) there in

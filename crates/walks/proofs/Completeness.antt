@@ -1,6 +1,5 @@
 -- What the test of completeness says.
-use Rattle.std.proofs.Common.{◌≡◌, ℕ, zero, suc, Bool, true, false, not, ◌&&◌, ◌||◌, List, [], ◌∷◌, map, Option, Some, None, Vec, slice_get, is_some, refl, sym, ap, ◌∙◌, subst, true≢false}
-use Rattle.std.specs.List.{list_all, zip}
+use Rattle.std.proofs.Common.{◌≡◌, ℕ, zero, suc, Bool, true, false, not, ◌||◌, List, [], ◌∷◌, map, Option, Some, None, Vec, slice_get, is_some, refl, sym, subst, true≢false}
 use Rattle.std.specs.declared.alloc.Global.{Global}
 use Rattle.std.proofs.lemmas.Bool.{and_from}
 use Rattle.std.proofs.lemmas.Option.{same_Some, none-some}

@@ -1,12 +1,11 @@
 -- The versions met, one after another, until each has its node.
-use Rattle.std.proofs.Common.{◌≡◌, ◌≢◌, ℕ, zero, suc, ◌+◌, ◌-◌, ◌<◌, ◌≤◌, Bool, true, false, List, [], ◌∷◌, ◌++◌, map, length, get_or, nat_eq, Bor, Option, Some, None, IsSome, option_map, slice_get, is_some, refl, sym, ap, ap₂, ◌∙◌, subst, inl, inr, ◌⊎◌, arith, true≢false}
-use Rattle.std.specs.List.{All, AllPairs}
+use Rattle.std.proofs.Common.{◌≡◌, ◌≢◌, ℕ, zero, suc, ◌-◌, ◌<◌, ◌≤◌, List, [], ◌∷◌, ◌++◌, map, length, get_or, nat_eq, Bor, Option, Some, None, IsSome, option_map, slice_get, is_some, refl, sym, ap, ap₂, ◌∙◌, subst, inl, inr, arith, true≢false}
+use Rattle.std.specs.List.{AllPairs}
 use Rattle.std.specs.Slice.{IsItemAt}
 use Rattle.std.proofs.lemmas.List.{length-map, length-append}
 use Rattle.std.proofs.lemmas.List.Kept.{AllPairs-cons}
 use Rattle.std.proofs.lemmas.Option.{slice_get_within, slice_get-map, same_Some, none-some}
 use Rattle.semver.specs.Parse.{Parts}
-use Rattle.model.specs.Owner.{Owner, Dependency}
 use Rattle.model.specs.Content.{Candidate, Package, Problem, brings_of, candidate_at, candidates_of}
 use Rattle.model.specs.Candidates.{Record, as_candidate}
 use Rattle.model.specs.Vertices.{OwnerName, the_root, version_of, owner_brings}
@@ -112,7 +111,7 @@ stop_package_is manifest index s x vs v name source sum list store h e at en es 
     let all : vs ≡ map (λ (c : Candidate). c.version) (candidates_of (rows_by_name index) s.name)
     = e ∙ versions_are (candidates_at index s.name) ∙ ap (map (λ (c : Candidate). c.version)) (sym (candidates_are index s.name)) in
     let same : v ≡ c.version = same_Some v c.version (sym at ∙ ap (λ l. slice_get l s.place) all ∙ slice_get-map (λ (c : Candidate). c.version) (candidates_of (rows_by_name index) s.name) s.place
-        ∙ ap (option_map (λ (c : Candidate). c.version)) there) in
+    ∙ ap (option_map (λ (c : Candidate). c.version)) there) in
     ap₂ (λ n w. package_with n w (Some source) (Some sum) list) en same
     ∙ ap₂ (λ o k. package_with s.name c.version o k list) (ap Some es) (ap Some (ec ∙ sym sums) ∙ sym (ap (option_map (λ (c : Candidate). c.checksum)) found))
     ∙ ap (λ l. package_with s.name c.version (Some index.source) (option_map (λ (c : Candidate). c.checksum) (candidate_at (candidates_of (rows_by_name index) s.name) c.version)) l) el
@@ -139,7 +138,7 @@ module _ (index : CatalogueView) (store : IsStore index) where
       let versions : c.version ≡ d.version = version_in s.name t.name c.version d.version same in
       let beside : slice_get (candidates_of (rows_by_name index) s.name) t.place ≡ Some d = ap (λ n. slice_get (candidates_of (rows_by_name index) n) t.place) names ∙ had in
       let places = once_at (candidates_of (rows_by_name index) s.name) (rising_of index s.name store) s.place t.place c d got beside
-          (precedence-equal c.version d.version versions) (precedence-equal d.version c.version (sym versions)) in
+      (precedence-equal c.version d.version versions) (precedence-equal d.version c.version (sym versions)) in
       other (ap₂ (λ n p. stop_with n p) names places)
 
   not_root : (s : Stop) → IsThere index s → the_root ≢ stop_owner index s

@@ -1,8 +1,8 @@
 -- Packages that are sorted, of which no two tie, are in package order.
-use Rattle.std.proofs.Common.{◌≡◌, ◌≢◌, ℕ, ◌<◌, Bool, true, false, List, [], ◌∷◌, map, length, get_or, Some, slice_get, refl, sym, ap, ap₂, ◌∙◌, subst, subst₂, arith, Ordering}
+use Rattle.std.proofs.Common.{◌≡◌, ◌≢◌, ℕ, ◌<◌, true, false, List, [], ◌∷◌, length, get_or, refl, ap, ap₂, ◌∙◌, arith, Ordering}
 use Rattle.std.specs.List.{AllPairs}
 use Rattle.std.specs.List.Sorted.{IsPermutation, IsSortedBy}
-use Rattle.std.specs.Ordering.{is_gt, is_lt, ordering_reverse}
+use Rattle.std.specs.Ordering.{is_lt, ordering_reverse}
 use Rattle.std.specs.declared.cmp.Ordering.TheVariants.{Less, Equal, Greater}
 use Rattle.std.proofs.lemmas.List.{length-map}
 use Rattle.std.proofs.lemmas.List.Sorted.{sorted_far, ranks_by}
@@ -44,5 +44,5 @@ in_order ks ys apart moved sorted i j d lt within =
         let at_j : get_or (kept_views ys) j d ≡ kept_view b = get_or_from_slice_get (kept_views ys) j (kept_view b) d (map_at kept_view ys j b (slice_get-get_or ys j y inside)) in
         let no_tie = far i j d lt within in
         less (package_cmp (get_or (kept_views ys) i d).0 (get_or (kept_views ys) j d).0) (package_cmp (get_or (kept_views ys) j d).0 (get_or (kept_views ys) i d).0)
-            (package_total.antisymm (get_or (kept_views ys) i d).0 (get_or (kept_views ys) j d).0)
-            (ap₂ (λ (k m : Placed). is_lt (package_cmp k.0 m.0)) at_j at_i ∙ up) no_tie
+        (package_total.antisymm (get_or (kept_views ys) i d).0 (get_or (kept_views ys) j d).0)
+        (ap₂ (λ (k m : Placed). is_lt (package_cmp k.0 m.0)) at_j at_i ∙ up) no_tie

@@ -1,5 +1,5 @@
 -- The place that is picked is that of the first candidate, in the order of preference, that matches.
-use Rattle.std.proofs.Common.{◌≡◌, ℕ, zero, suc, ◌+◌, ◌<◌, ◌≤◌, Bool, true, false, cond, List, [], ◌∷◌, ◌++◌, map, filter, reverse, length, drop, take, get_or, Option, Some, None, option_map, slice_get, unwrap_or, refl, sym, ap, ap₂, ◌∙◌, subst, arith, add-one}
+use Rattle.std.proofs.Common.{◌≡◌, ℕ, zero, suc, ◌+◌, ◌<◌, ◌≤◌, Bool, true, false, cond, List, [], ◌∷◌, ◌++◌, map, filter, reverse, length, drop, take, get_or, Option, Some, None, option_map, slice_get, unwrap_or, refl, sym, ap, ap₂, ◌∙◌, arith, add-one}
 use Rattle.std.specs.List.{find}
 use Rattle.std.proofs.Math.Seq.{drop-cons}
 use Rattle.std.proofs.lemmas.List.{map-append, reverse-append, take_more, length-map, take_all}
@@ -108,8 +108,8 @@ lies cs =
     let ranks = map (λ (c : Ranked). c.1) cs in
     let at = slice_get (map candidate cs) in
     two at Some (places_of Locked ranks) (places_of Fits ranks ++ places_of Rest ranks) (map as_candidate (of_rank Locked cs)) (map as_candidate (of_rank Fits cs) ++ map as_candidate (of_rank Rest cs))
-        (rank_lies cs Locked)
-        (two at Some (places_of Fits ranks) (places_of Rest ranks) (map as_candidate (of_rank Fits cs)) (map as_candidate (of_rank Rest cs)) (rank_lies cs Fits) (rank_lies cs Rest))
+    (rank_lies cs Locked)
+    (two at Some (places_of Fits ranks) (places_of Rest ranks) (map as_candidate (of_rank Fits cs)) (map as_candidate (of_rank Rest cs)) (rank_lies cs Fits) (rank_lies cs Rest))
     ∙ ap (map Some) (sym (map-append as_candidate (of_rank Locked cs) (of_rank Fits cs ++ of_rank Rest cs) ∙ ap (λ zs. map as_candidate (of_rank Locked cs) ++ zs) (map-append as_candidate (of_rank Fits cs) (of_rank Rest cs))))
 
 -- ---- the rows of a name
@@ -119,7 +119,7 @@ row_of : (f : List Ranked → List Record) → f [] ≡ [] → (rows : List Row)
 row_of f none [] name = sym (ap (map as_candidate) none)
 row_of f none (row ∷ rows) name =
     elim (same_text name row.0) as (λ b. cond b (map as_candidate (f row.1)) (candidates_of (map (λ row. (row.0, map as_candidate (f row.1))) rows) name)
-        ≡ map as_candidate (f (unwrap_or (cond b (Some row.1) (row_at rows name)) []))) [
+    ≡ map as_candidate (f (unwrap_or (cond b (Some row.1) (row_at rows name)) []))) [
       | true ↦ refl
       | false ↦ row_of f none rows name
     ]

@@ -1,6 +1,6 @@
 -- Ranks, and the lists that they make.
-use Rattle.std.proofs.Common.{◌≡◌, ◌≢◌, ◌↔◌, ℕ, zero, suc, ◌+◌, ◌<◌, ◌≤◌, Bool, true, false, cond, List, [], ◌∷◌, ◌++◌, map, length, get_or, drop, nat_eq, Contains, Bor, Vec, Result, Ok, Err, IfOk, Option, Some, None, option_map, slice_get, unwrap_or, refl, sym, ap, ap₂, ◌∙◌, subst, subst₂, inl, inr, ◌⊎◌, arith, true≢false}
-use Rattle.std.specs.List.{All, AllPairs}
+use Rattle.std.proofs.Common.{◌≡◌, ◌≢◌, ◌↔◌, ℕ, zero, suc, ◌+◌, ◌<◌, ◌≤◌, Bool, true, false, List, [], ◌∷◌, ◌++◌, map, length, get_or, drop, nat_eq, Contains, Bor, Vec, Result, Ok, Err, IfOk, Option, Some, None, option_map, slice_get, unwrap_or, refl, sym, ap, ap₂, ◌∙◌, subst, subst₂, inl, inr, ◌⊎◌, arith}
+use Rattle.std.specs.List.{AllPairs}
 use Rattle.std.specs.Option.{option_and_then}
 use Rattle.std.proofs.Math.Seq.{drop-cons}
 use Rattle.std.proofs.Math.ListN.{set}
@@ -19,7 +19,7 @@ use Rattle.std.proofs.lemmas.List.Filters.{dedup_is}
 use Rattle.std.proofs.lemmas.List.Kept.{AllPairs-from_increasing, Contains-dedup_nat, Contains-from_dedup}
 use Rattle.std.proofs.lemmas.List.Sorted.{Contains-permutation, IsPermutation-sym}
 use Rattle.std.proofs.lemmas.Map.Keys.{IsStrictlyIncreasing-dedup}
-use Rattle.std.proofs.lemmas.Option.{slice_get_within, slice_get_past, slice_get-map, slice_get-get_or, get_or_from_slice_get, same_Some, none-some}
+use Rattle.std.proofs.lemmas.Option.{slice_get_within, slice_get_past, slice_get-map, slice_get-get_or, same_Some, none-some}
 use Rattle.model.proofs.Lists.{in_none, in_cons, in_first, in_rest, pairs_get}
 use Rattle.catalogue.proofs.Rows.{item_at}
 use Rattle.facts.specs.Graphs.{NodeView, flag_at, node_view, node_views, target_at, target_if}
@@ -27,7 +27,7 @@ use Rattle.facts.specs.declared.node.Node.{Node}
 use Rattle.walks.specs.Met.{AreBeside, AreListed, AreRanks, HaveLists, Placed, places_in, IsListed, IsRising, after, flags_at, targets_at, targets_if, rank_if, ranks_from, with_rank}
 use Rattle.model.specs.Content.{Content}
 use Rattle.walks.proofs.Stops.{snoc_at}
-use Rattle.walks.proofs.Lists.{place_of, there_at, map_at}
+use Rattle.walks.proofs.Lists.{map_at}
 
 -- ---- the ranks of enabled targets
 
@@ -107,8 +107,9 @@ from_listed k (t ∷ ts) bs rs r (suc i, s, b, at, got) =
 
 pub listed_is : (ts : List (Option ℕ)) (bs : List Bool) (rs : List (Option ℕ)) (r : ℕ) → Contains (ranks_from 0 ts bs rs) r ↔ IsListed ts bs rs r
 listed_is ts bs rs r = (
-    (λ c. let (i, s, b, at, got) = listed_from 0 ts bs rs r c in (i, s, ap (flag_at bs) (from_zero i) ∙ b, at, got)),
-    (λ (i, s, b, at, got). from_listed 0 ts bs rs r (i, s, ap (flag_at bs) (sym (from_zero i)) ∙ b, at, got)))
+  (λ c. let (i, s, b, at, got) = listed_from 0 ts bs rs r c in (i, s, ap (flag_at bs) (from_zero i) ∙ b, at, got)),
+  (λ (i, s, b, at, got). from_listed 0 ts bs rs r (i, s, ap (flag_at bs) (sym (from_zero i)) ∙ b, at, got)),
+)
   where
     from_zero : (i : ℕ) → i ≡ 0 + i
     from_zero i = omega arith
@@ -122,8 +123,9 @@ pub record RanksTo (places : List ℕ) (count n : ℕ) (ranks : List (Option ℕ
 
 pub ranks_are : (places : List ℕ) (count n : ℕ) (ranks : List (Option ℕ)) → RanksTo places count n ranks → length places ≤ n → AreRanks places ranks
 ranks_are places count n ranks h le t r = (
-    (λ got. ((h.are t r).0 got).1),
-    (λ at. let lt = slice_get_within places r t at in (h.are t r).1 (omega (arith, lt, le), at)))
+  (λ got. ((h.are t r).0 got).1),
+  (λ at. let lt = slice_get_within places r t at in (h.are t r).1 (omega (arith, lt, le), at)),
+)
 
 pub no_ranks : (places : List ℕ) (count : ℕ) (ranks : List (Option ℕ)) → length ranks ≡ count → ((t : ℕ) (r : ℕ) → slice_get ranks t ≡ Some (Some r) → ⊥) → RanksTo places count 0 ranks
 no_ranks places count ranks e none = record { many = e; are = λ t r. ((λ got. absurd (none t r got)), (λ (lt, at). absurd (omega (arith, lt)))) }
@@ -165,9 +167,9 @@ one_rank places count n p ranks apart at_p lt h = record {
     to : (t r : ℕ) → slice_get (set ranks p (Some n)) t ≡ Some (Some r) → (r < n + 1) × (slice_get places r ≡ Some t)
     to t r got = elim (cases_eq t p) [
       | inl e ↦
-        let is : Some n ≡ Some r = same_Some (Some n) (Some r) (sym (ap (slice_get (set ranks p (Some n))) e ∙ here) ∙ got) in
-        let number : n ≡ r = same_Some n r is in
-        (omega (arith, number), ap (slice_get places) (sym number) ∙ at_p ∙ ap Some (sym e))
+          let is : Some n ≡ Some r = same_Some (Some n) (Some r) (sym (ap (slice_get (set ranks p (Some n))) e ∙ here) ∙ got) in
+          let number : n ≡ r = same_Some n r is in
+          (omega (arith, number), ap (slice_get places) (sym number) ∙ at_p ∙ ap Some (sym e))
       | inr different ↦ let b = (h.are t r).0 (sym (other t different) ∙ got) in let below = b.0 in (omega (arith, below), b.1)
     ]
 
@@ -187,10 +189,10 @@ rising_list xs ys zs sorted kept = subst IsRising (sym (dedup_is nat_eq ys zs ke
 
 pub same_in_list : (xs ys zs : List ℕ) (r : ℕ) → IsPermutation xs ys → IsFiltered (DiffersFromLast nat_eq) [] ys zs → Contains zs r ↔ Contains xs r
 same_in_list xs ys zs r moved kept =
-    let is = dedup_is nat_eq ys zs kept in
-    (
+    let is = dedup_is nat_eq ys zs kept in (
       (λ c. Contains-permutation ys xs r (IsPermutation-sym xs ys moved) (Contains-from_dedup nat_eq ys r (subst (λ l. Contains l r) is c))),
-      (λ c. subst (λ l. Contains l r) (sym is) (Contains-dedup_nat ys r (Contains-permutation xs ys r moved c))))
+      (λ c. subst (λ l. Contains l r) (sym is) (Contains-dedup_nat ys r (Contains-permutation xs ys r moved c))),
+    )
 
 -- ---- what stands at a place
 
@@ -266,7 +268,8 @@ lists_are nodes enabled ranks ks ps are h = record {
         rising = w.rising;
         members = λ r. (
           (λ c. let (i, s, flag, at, rank) = (w.members r).0 c in (s, (i, flag, target_there nodes k.1 i s at), (are s r).0 rank)),
-          (λ (s, (i, flag, at), place). (w.members r).1 (i, s, flag, target_back nodes k.1 i s at, (are s r).1 place)));
+          (λ (s, (i, flag, at), place). (w.members r).1 (i, s, flag, target_back nodes k.1 i s at, (are s r).1 place)),
+        );
       };
 }
 

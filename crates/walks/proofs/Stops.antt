@@ -1,28 +1,26 @@
 -- Stops that grow, and the owners that they are.
-use Rattle.std.proofs.Common.{◌≡◌, ◌≢◌, ℕ, zero, suc, ◌+◌, ◌<◌, Bool, true, false, ◌&&◌, cond, List, [], ◌∷◌, ◌++◌, map, length, Contains, Option, Some, None, IsSome, nat_eq, slice_get, get_or, is_some, unwrap_or, refl, sym, ap, ap₂, ◌∙◌, subst, subst₂, inl, inr, ◌⊎◌, arith, true≢false, Ordering}
+use Rattle.std.proofs.Common.{◌≡◌, ◌≢◌, ℕ, zero, suc, ◌+◌, ◌<◌, Bool, true, false, cond, List, [], ◌∷◌, ◌++◌, map, length, Contains, Option, Some, None, nat_eq, slice_get, get_or, is_some, unwrap_or, refl, sym, ap, ap₂, ◌∙◌, subst, subst₂, inl, inr, ◌⊎◌, arith, true≢false, Ordering}
 use Rattle.std.specs.List.{All, AllPairs, list_any}
 use Rattle.std.specs.declared.cmp.Ordering.TheVariants.{Less, Equal}
 use Rattle.std.proofs.lemmas.Bool.{cases_order, eqb-true, eq-eqb}
 use Rattle.std.proofs.lemmas.List.{append_assoc, map-append, length-append}
 use Rattle.std.proofs.lemmas.List.Kept.{AllPairs-cons}
-use Rattle.std.proofs.lemmas.Option.{slice_get_within, slice_get-map, slice_get-get_or, same_Some, none-some}
+use Rattle.std.proofs.lemmas.Option.{slice_get-get_or, same_Some, none-some}
 use Rattle.indexmap.specs.IndexSet.{insert_key}
-use Rattle.semver.specs.Parse.{Parts}
-use Rattle.model.specs.Owner.{Owner, Dependency, same_text}
-use Rattle.model.specs.Content.{Candidate, Problem, brings_of, candidate_at, candidates_of}
-use Rattle.model.specs.Candidates.{Record, IsOlder, as_candidate}
+use Rattle.model.specs.Owner.{Dependency, same_text}
+use Rattle.model.specs.Content.{Candidate, candidate_at, candidates_of}
+use Rattle.model.specs.Candidates.{IsOlder, as_candidate}
 use Rattle.model.specs.Order.{precedence}
-use Rattle.model.specs.Vertices.{OwnerName, the_root, version_of, owner_brings}
+use Rattle.model.specs.Vertices.{OwnerName, version_of}
 use Rattle.model.proofs.Contents.{precedence-equal}
-use Rattle.model.proofs.Lists.{all_cons, all_none, all_first, all_rest, all_get, pairs_all, pairs_get, pairs_none, pairs_one, pairs_rest, to_any, in_cons, in_first, in_rest}
+use Rattle.model.proofs.Lists.{all_cons, all_none, all_first, all_rest, pairs_all, pairs_get, pairs_none, pairs_one, pairs_rest, to_any}
 use Rattle.model.proofs.Owners.{candidate_at-is, candidate_at-there}
 use Rattle.model.proofs.Same.{both, text-refl, text-same}
-use Rattle.catalogue.specs.Ranks.{records}
-use Rattle.catalogue.specs.Stores.{CatalogueView, IsStore, Row, candidates_at, ranked_at, row_at, rows_by_name}
+use Rattle.catalogue.specs.Stores.{CatalogueView, IsStore, Row, candidates_at, row_at, rows_by_name}
 use Rattle.catalogue.specs.Views.{AreRising}
 use Rattle.walks.specs.Met.{AreStops, Grows, IsThere, IsPick, ArePicks, owner_if, owners_of, place_picked, same_stop, stop_owner}
 use Rattle.walks.specs.declared.stop.Stop.{Stop}
-use Rattle.walks.proofs.Lists.{place_of, there_at, still_at, some_at, pairs-map, map_at}
+use Rattle.walks.proofs.Lists.{place_of, there_at, still_at, pairs-map, map_at}
 use Rattle.walks.specs.Preferred.{preferred_in}
 use Rattle.walks.proofs.Picks.{candidates_are, one_picked}
 

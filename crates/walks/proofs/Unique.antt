@@ -1,16 +1,15 @@
 -- A choice of targets stands for one content at most.
-use Rattle.std.proofs.Common.{◌≡◌, ℕ, suc, ◌<◌, List, [], ◌∷◌, map, Bool, true, false, cond, Contains, Option, Some, None, option_map, slice_get, refl, sym, ap, ap₂, ◌∙◌, subst, arith, Ordering}
-use Rattle.std.specs.List.{AllPairs}
+use Rattle.std.proofs.Common.{◌≡◌, ℕ, suc, ◌<◌, List, [], ◌∷◌, map, Bool, true, false, cond, Contains, Option, Some, None, option_map, slice_get, refl, sym, ap, ap₂, ◌∙◌, subst, arith}
 use Rattle.std.specs.Ordering.{ordering_reverse}
 use Rattle.std.specs.declared.cmp.Ordering.TheVariants.{Less, Greater}
 use Rattle.std.proofs.lemmas.Option.{slice_get-map, same_Some, none-some}
 use Rattle.semver.specs.Parse.{Parts}
 use Rattle.model.specs.Owner.{Dependency}
-use Rattle.model.specs.Facts.{here, enabled, Brings}
+use Rattle.model.specs.Facts.{enabled, Brings}
 use Rattle.model.specs.Content.{Package, Content, Problem, is_root, candidates_of, candidate_at}
 use Rattle.model.specs.Order.{package_cmp}
 use Rattle.model.specs.Vertices.{OwnerName, the_root, version_of, owner_brings}
-use Rattle.model.specs.Stands.{IsLink, IsReachedFact, StandsFor, name_of}
+use Rattle.model.specs.Stands.{IsReachedFact, StandsFor, name_of}
 use Rattle.model.proofs.Contents.{rising_at}
 use Rattle.model.proofs.Lists.{in_map, to_map}
 use Rattle.model.proofs.Owners.{root_parts}
@@ -68,7 +67,7 @@ module _ (q : Problem) (LeadsTo : OwnerName → ℕ → Dependency → OwnerName
           let names = of-name p.name r.name p.version r.version same in
           let versions = of-version p.name r.name p.version r.version same in
           same_parts p r names versions (s.sources n p got e ∙ sym (t.sources m r had f))
-              (s.checksums n p got e ∙ ap₂ (λ k v. option_map (λ c. c.checksum) (candidate_at (candidates_of q.candidates k) v)) names versions ∙ sym (t.checksums m r had f))
+          (s.checksums n p got e ∙ ap₂ (λ k v. option_map (λ c. c.checksum) (candidate_at (candidates_of q.candidates k) v)) names versions ∙ sym (t.checksums m r had f))
 
   -- what the one content has the other has too
   heads_in : (a b : Content) → StandsFor q LeadsTo a → StandsFor q LeadsTo b → (h : Package) → Contains (map head a) h → Contains (map head b) h
@@ -100,11 +99,17 @@ module _ (q : Problem) (LeadsTo : OwnerName → ℕ → Dependency → OwnerName
       let (y, here_too, alike_too) = head_at a b e t x there in
       let names : name_of q p ≡ name_of q r = ap (name_of q) same in
       let others : name_of q x ≡ name_of q y = ap (name_of q) alike_too in
-      (z.lists n t r had).1 (y, i, d, here_too, record {
-        brings = subst (λ o. Brings (owner_brings q) o i d) names link.brings;
-        is_enabled = subst (λ o. IsReachedFact q LeadsTo (enabled o i)) names link.is_enabled;
-        leads = subst (λ o. LeadsTo (name_of q r) i d o) others (subst (λ o. LeadsTo o i d (name_of q x)) names link.leads);
-      })
+      (z.lists n t r had).1 (
+        y,
+        i,
+        d,
+        here_too,
+        record {
+          brings = subst (λ o. Brings (owner_brings q) o i d) names link.brings;
+          is_enabled = subst (λ o. IsReachedFact q LeadsTo (enabled o i)) names link.is_enabled;
+          leads = subst (λ o. LeadsTo (name_of q r) i d o) others (subst (λ o. LeadsTo o i d (name_of q x)) names link.leads);
+        },
+      )
 
   pub one_content : (a b : Content) → StandsFor q LeadsTo a → StandsFor q LeadsTo b → a ≡ b
   one_content a b s t =
@@ -117,4 +122,4 @@ module _ (q : Problem) (LeadsTo : OwnerName → ℕ → Dependency → OwnerName
           let is : y ≡ r = same_Some y r (sym had_y ∙ had) in
           let same_r : head p ≡ head r = same ∙ ap head is in
           rising-same (λ i j. i < j) (λ i j lt gt. omega (arith, lt, gt)) p.list r.list (rising_at a s.is_content n p got) (rising_at b t.is_content n r had)
-              (λ k c. listed_in a b s t e n p r got had same_r k c) (λ k c. listed_in b a t s (sym e) n r p had got (sym same_r) k c)
+          (λ k c. listed_in a b s t e n p r got had same_r k c) (λ k c. listed_in b a t s (sym e) n r p had got (sym same_r) k c)

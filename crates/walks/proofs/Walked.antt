@@ -1,22 +1,20 @@
 -- What is found over the versions met is what the root reaches by picks: the facts, completeness, and the content.
-use Rattle.std.proofs.Common.{◌≡◌, ◌↔◌, ◌≢◌, ℕ, zero, suc, ◌<◌, List, [], ◌∷◌, length, Bool, true, false, not, ◌&&◌, ◌||◌, cond, nat_eq, Contains, Option, Some, None, option_map, slice_get, get_or, is_some, unwrap_or, refl, sym, ap, ap₂, ◌∙◌, subst, subst₂, inl, inr, ◌⊎◌, arith, true≢false}
-use Rattle.std.specs.List.{AllPairs}
+use Rattle.std.proofs.Common.{◌≡◌, ◌↔◌, ◌≢◌, ℕ, List, Bool, true, false, cond, nat_eq, Contains, Option, Some, None, option_map, slice_get, get_or, is_some, refl, sym, ap, ap₂, ◌∙◌, subst, inl, inr, arith, true≢false}
 use Rattle.std.specs.Option.{option_and_then}
 use Rattle.std.proofs.lemmas.Bool.{cases_order, eqb-true}
 use Rattle.std.proofs.lemmas.Option.{slice_get_within, slice_get-get_or, same_Some, none-some}
-use Rattle.semver.specs.Parse.{Parts}
 use Rattle.model.specs.Owner.{Owner, Dependency}
-use Rattle.model.specs.Facts.{Fact, here, on, enabled, Brings}
+use Rattle.model.specs.Facts.{Fact, here, enabled, Brings}
 use Rattle.model.specs.Content.{Candidate, Package, Content, Problem, is_root, candidates_of, candidate_at}
 use Rattle.model.specs.Vertices.{OwnerName, the_root, version_of, owner_brings}
-use Rattle.model.specs.Stands.{IsLink, IsReachedFact, StandsFor, name_of}
-use Rattle.model.specs.Walk.{first_match, pick, Picks, IsComplete, IsWalk}
+use Rattle.model.specs.Stands.{IsLink, IsReachedFact, name_of}
+use Rattle.model.specs.Walk.{pick, Picks, IsComplete, IsWalk}
 use Rattle.model.proofs.Lists.{pairs_get}
 use Rattle.model.proofs.Same.{text-refl, version-refl}
 use Rattle.manifest.specs.Manifests.{root_asks}
 use Rattle.facts.specs.Graphs.{NodeView, brings_if, starts_if, target_if, brings_at, starts_at, target_at, flag_at, flag_in, IsFactOf, IsGraph}
 use Rattle.facts.proofs.Mapped.{Keeps, HoldsFar, holds_far}
-use Rattle.walks.specs.Met.{IsMet, IsNode, IsPick, IsPlace, IsPackage, IsBuilt, package_of}
+use Rattle.walks.specs.Met.{IsMet, IsNode, IsPick, IsBuilt, package_of}
 use Rattle.walks.proofs.Completeness.{AllMet}
 use Rattle.walks.proofs.Lists.{place_of, there_at, some_at}
 
@@ -212,7 +210,7 @@ module _ (q : Problem) (preferred : List (List ℕ × List Candidate)) (owners :
           let lt = slice_get_within (v.brings).dependencies i d brought in
           let many = (is.picks).as_many in
           let (target, stands) = some_at v.targets i (omega (arith, lt, many)) in
-          by o i d target (h n i v target got stands ((all_enabled n i).1 p)) ((is.picks).picks i d target brought stands)
+          by o i d target (h n i v target got stands ((all_enabled n i).1 p)) ((is.picks).picks i d target brought stands);
     }
       where
         by : (o : OwnerName) (i : ℕ) (d : Dependency) (target : Option ℕ) → is_some target ≡ true → IsPick preferred owners d target → (t : OwnerName) × Picks q preferred o i d t
@@ -294,12 +292,17 @@ module _ (q : Problem) (preferred : List (List ℕ × List Candidate)) (owners :
           let wide = (is.picks).as_many in
           let (d, brought) = some_at (v.brings).dependencies i (omega (arith, lt, wide)) in
           let (cand, e, there) = (is.picks).picks i d (Some s) brought stands in
-          let goal : version_of d.real_name cand.version ≡ name_of q r = one_owner s (version_of d.real_name cand.version) y.o there y.stands ∙ sym y.name in
-          (r, i, d, got_r, record {
-            brings = subst (λ o. Brings (owner_brings q) o i d) (sym x.name) (subst (λ (o : Owner). slice_get o.dependencies i ≡ Some d) is.brings brought);
-            is_enabled = subst (λ o. Far (enabled o i)) (sym x.name) (enabled_far x.n i x.o x.stands ((all_enabled x.n i).0 flag));
-            leads = ap (option_map (λ c. version_of d.real_name c.version)) e ∙ ap Some goal;
-          })
+          let goal : version_of d.real_name cand.version ≡ name_of q r = one_owner s (version_of d.real_name cand.version) y.o there y.stands ∙ sym y.name in (
+            r,
+            i,
+            d,
+            got_r,
+            record {
+              brings = subst (λ o. Brings (owner_brings q) o i d) (sym x.name) (subst (λ (o : Owner). slice_get o.dependencies i ≡ Some d) is.brings brought);
+              is_enabled = subst (λ o. Far (enabled o i)) (sym x.name) (enabled_far x.n i x.o x.stands ((all_enabled x.n i).0 flag));
+              leads = ap (option_map (λ c. version_of d.real_name c.version)) e ∙ ap Some goal;
+            },
+          )
 
       from_links : (k t : ℕ) (p : Package) → slice_get content k ≡ Some p → Linked t p → Contains p.list t
       from_links k t p got (r, i, d, got_r, link) =

@@ -4,7 +4,7 @@ use Rattle.std.specs.Prelude.{suc, Vec, ◌≡◌, ◌≢◌, ◌↔◌, ℕ, Bo
 use Rattle.std.specs.List.{All, AllPairs, find, list_all, zip}
 use Rattle.semver.specs.Parse.{Held, Parts}
 use Rattle.semver.specs.EvalViews.{matches_views}
-use Rattle.model.specs.Owner.{Owner, Dependency, same_text}
+use Rattle.model.specs.Owner.{Dependency, same_text}
 use Rattle.model.specs.Content.{Candidate, Content, Package, Problem, candidate_at, candidates_of}
 use Rattle.model.specs.WellFormed.{IsContent}
 use Rattle.model.specs.Order.{package_cmp}

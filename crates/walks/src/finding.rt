@@ -31,7 +31,14 @@ pub fn preferred(
     if !is_complete(nodes.as_slice(), facts.enabled.as_slice()) {
         return Ok(None);
     }
-    let content = content_of(alloc, manifest, catalogue, stops.as_slice(), nodes.as_slice(), &facts)?;
+    let content = content_of(
+        alloc,
+        manifest,
+        catalogue,
+        stops.as_slice(),
+        nodes.as_slice(),
+        &facts,
+    )?;
     match verify(alloc, manifest, catalogue, &content)? {
         Verdict::Valid => Ok(Some(content)),
         Verdict::Invalid { .. } => Ok(None),
@@ -42,10 +49,10 @@ pub fn preferred(
 fn is_complete(nodes: &[Node<'_>], enabled: &[Vec<bool>]) -> bool
     ensures { result ≡ all_met nodes.now enabled.now }
 {
-    nodes
-        .iter()
-        .zip(enabled)
-        .all(|(node, enabled)| are_met(node.targets.as_slice(), enabled.as_slice()))
+    nodes.iter().zip(enabled).all(|(node, enabled)| are_met(
+        node.targets.as_slice(),
+        enabled.as_slice(),
+    ))
 }
 
 fn are_met(targets: &[Option<usize>], enabled: &[bool]) -> bool

@@ -23,7 +23,13 @@ pub(crate) fn listed(
     ensures { IfOk result (λ v. AreListed (node_views nodes.now) (map (λ v. v.items) facts.now.enabled.items) (kept_views kept.items) (package_views v.items)) }
 {
     let ranks = ranks_of(alloc, nodes.len(), kept.as_slice())?;
-    with_lists(alloc, kept, nodes, facts.enabled.as_slice(), ranks.as_slice())
+    with_lists(
+        alloc,
+        kept,
+        nodes,
+        facts.enabled.as_slice(),
+        ranks.as_slice(),
+    )
 }
 
 /// The packages with the lists that the ranks give.

@@ -1,8 +1,7 @@
-use Rattle.std.proofs.Common.{◌≡◌, map, subst, sym, ◌∙◌, length}
-use Rattle.lockfile.specs.Views.{package_views}
+use Rattle.std.proofs.Common.{map, subst, sym, length}
 use Rattle.facts.specs.Graphs.{node_views}
 use Rattle.catalogue.specs.Problems.{problem_in}
-use Rattle.walks.specs.Met.{AreKept, IsBuilt, kept_views, owners_of}
+use Rattle.walks.specs.Met.{IsBuilt, kept_views, owners_of}
 use Rattle.walks.proofs.Built.{no_ties, is_content, is_built, places_apart, places_within}
 use Rattle.walks.proofs.building.content_of.Goals as goal
 
@@ -19,13 +18,13 @@ pub listed-requires-clause-within : goal.listed-requires-clause-within
 listed-requires-clause-within c =
     let kept = rw c.as_slice.ensures.value at c.in_ok-kept.ensures in
     places_within (problem_in c.args.manifest.now c.args.catalogue.now) (owners_of c.args.catalogue.now c.args.stops.now) c.args.facts.now.here.items (kept_views c.in_ok-kept.kept.items) (kept_views c.in_ok-kept-2.kept.items) kept c.in_ok-kept-2.ensures.permutes
-        (length c.args.nodes.now) c.requires.nodes
+    (length c.args.nodes.now) c.requires.nodes
 
 pub new-requires : goal.new-requires
 new-requires c =
     let kept = rw c.as_slice.ensures.value at c.in_ok-kept.ensures in
     is_content (problem_in c.args.manifest.now c.args.catalogue.now) (owners_of c.args.catalogue.now c.args.stops.now) (node_views c.args.nodes.now) (map (λ v. v.items) c.args.facts.now.enabled.items) c.args.facts.now.here.items
-        (kept_views c.in_ok-kept.kept.items) (kept_views c.in_ok-kept-2.kept.items) _ kept c.in_ok-kept-2.ensures.permutes c.in_ok-kept-2.ensures.order c.in_ok-packages.ensures
+    (kept_views c.in_ok-kept.kept.items) (kept_views c.in_ok-kept-2.kept.items) _ kept c.in_ok-kept-2.ensures.permutes c.in_ok-kept-2.ensures.order c.in_ok-packages.ensures
 
 pub returns : goal.returns
 returns c =

@@ -1,4 +1,4 @@
-use Rattle.std.proofs.Common.{◌≡◌, get_or, refl, sym, ap, ◌∙◌}
+use Rattle.std.proofs.Common.{refl}
 use Rattle.catalogue.specs.Problems.{problem_in}
 use Rattle.walks.specs.Met.{kept_views, owners_of}
 use Rattle.walks.proofs.Built.{more_kept}
@@ -7,4 +7,4 @@ use Rattle.walks.proofs.building.kept_of.Goals as goal
 pub places-preserved : goal.places-preserved
 places-preserved c =
     more_kept (problem_in c.args.manifest.now c.args.catalogue.now) (owners_of c.args.catalogue.now c.args.stops.now) c.args.here.now c.places.place (kept_views c.places.kept.items) _ _ _
-        c.places.invariant refl c.in_ok-found.ensures c.in_ok-keep.ensures
+    c.places.invariant refl c.in_ok-found.ensures c.in_ok-keep.ensures

@@ -1,4 +1,4 @@
-use Rattle.std.proofs.Common.{◌≡◌, ◌-◌, [], Some, IfOk, option_map, sym, ap, ◌∙◌, subst}
+use Rattle.std.proofs.Common.{◌≡◌, ◌-◌, [], IfOk, option_map, sym, ap, subst}
 use Rattle.catalogue.specs.Problems.{problem_in}
 use Rattle.lockfile.specs.Views.{package_view}
 use Rattle.walks.specs.Met.{package_of}

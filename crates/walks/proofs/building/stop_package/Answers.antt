@@ -1,4 +1,4 @@
-use Rattle.std.proofs.Common.{rules, ◌≡◌, [], Some, None, map, option_map, slice_get, string_bytes, sym, ap, ◌∙◌}
+use Rattle.std.proofs.Common.{rules, ◌≡◌, Some, map, option_map, string_bytes, sym, ap, ◌∙◌}
 use Rattle.std.proofs.lemmas.Option.{slice_get-map}
 use Rattle.semver.specs.Identifiers.{parts_of}
 use Rattle.catalogue.specs.Views.{said_by}
@@ -25,5 +25,5 @@ returns c =
     let source : string_bytes c.in_ok-from_str.field-0 ≡ c.args.catalogue.now.source = search rules in
     let sum : string_bytes c.in_ok-clone-3.field-0 ≡ string_bytes c.in-Some-record.candidate.now.checksum = search rules in
     ap Some (stop_package_is c.args.manifest.now c.args.catalogue.now s (said_by c.in-Some-record.candidate.now) (map parts_of vs) (parts_of c.in_ok-clone-2.field-0) c.in_ok-clone.field-0 (string_bytes c.in_ok-from_str.field-0)
-        (string_bytes c.in_ok-clone-3.field-0) c.new.result.items c.store_holds.ensures c.in-Some-record.ensures c.versions.ensures.versions
-        (map_at parts_of vs s.place c.in-Some.version.now (got_item vs s.place c.get.result c.in-Some.version c.get.ensures.lookup c.in-Some.is) ∙ ap Some (sym v)) name source sum c.new.ensures.items)
+    (string_bytes c.in_ok-clone-3.field-0) c.new.result.items c.store_holds.ensures c.in-Some-record.ensures c.versions.ensures.versions
+    (map_at parts_of vs s.place c.in-Some.version.now (got_item vs s.place c.get.result c.in-Some.version c.get.ensures.lookup c.in-Some.is) ∙ ap Some (sym v)) name source sum c.new.ensures.items)

@@ -1,12 +1,9 @@
-use Rattle.std.proofs.Common.{rules, ◌≡◌, ◌↔◌, ℕ, map, Bool, true, false, refl, sym, ap, ◌∙◌, subst, true≢false}
-use Rattle.model.specs.Facts.{here, enabled}
-use Rattle.model.specs.Content.{Content}
+use Rattle.std.proofs.Common.{rules, ◌≡◌, map, true, false, refl, sym, ◌∙◌, subst, true≢false}
 use Rattle.model.specs.Selection.{IsValidSelection}
-use Rattle.model.specs.Walk.{IsComplete, IsWalk, Picks}
-use Rattle.manifest.specs.Manifests.{root_asks}
-use Rattle.facts.specs.Graphs.{node_views, flag_at, flag_in, IsFactOf}
+use Rattle.model.specs.Walk.{Picks}
+use Rattle.facts.specs.Graphs.{node_views}
 use Rattle.catalogue.specs.Problems.{problem_in}
-use Rattle.walks.specs.Preferred.{Answers, IsPreferred, HasBareRoot, preferred_in}
+use Rattle.walks.specs.Preferred.{preferred_in}
 use Rattle.walks.specs.Met.{IsBuilt, IsMet, all_met, owners_of}
 use Rattle.walks.proofs.Completeness.{AllMet, all_met_says, if_all_met}
 use Rattle.walks.proofs.Unique.{one_content}

@@ -1,4 +1,4 @@
-use Rattle.std.proofs.Common.{◌≡◌, ◌∙◌, sym}
+use Rattle.std.proofs.Common.{◌∙◌, sym}
 use Rattle.walks.proofs.MetSoFar.{got_item}
 use Rattle.walks.proofs.RankLists.{no_item, flags_got, flags_none}
 use Rattle.walks.proofs.listing.flags_at.Goals as goal

@@ -1,5 +1,4 @@
-use Rattle.std.proofs.Common.{◌≡◌, ◌↔◌, ℕ, Contains, IfOk, map, subst}
-use Rattle.facts.specs.Graphs.{node_views}
+use Rattle.std.proofs.Common.{◌↔◌, ℕ, Contains, IfOk, map, subst}
 use Rattle.walks.specs.Met.{IsListed, flags_at}
 use Rattle.walks.proofs.listing.list_at.Goals as goal
 

@@ -3,7 +3,7 @@ use Rattle.std.proofs.lemmas.List.{append_assoc, map-append}
 use Rattle.std.specs.Vec.Iter.{into_iter_items, into_iter_len}
 use Rattle.facts.specs.Graphs.{node_views}
 use Rattle.lockfile.specs.Views.{package_view, package_views}
-use Rattle.walks.specs.Met.{AreBeside, HaveLists, IsListed, IsWithList, flags_at, kept_view, kept_views, targets_at}
+use Rattle.walks.specs.Met.{HaveLists, IsListed, IsWithList, flags_at, kept_view, kept_views, targets_at}
 use Rattle.walks.proofs.RankLists.{beside_more}
 use Rattle.walks.proofs.listing.with_lists.Goals as goal
 
@@ -21,9 +21,11 @@ kept-preserved c =
       can = tt;
       finite = tt;
       counted = omega (arith, counted, count, left);
-      told = (told.0 ++ k ∷ [],
-          append_assoc told.0 (k ∷ []) (kept_views (into_iter_items c.next.new.self)) ∙ ap (λ ks. told.0 ++ kept_views ks) (sym here) ∙ told.1,
-          subst (HaveLists nodes enabled c.args.ranks.now (told.0 ++ k ∷ [])) (sym (ap package_views c.in_ok-push.ensures.items ∙ map-append package_view c.kept.packages.items (_ ∷ [])))
-          (beside_more (λ k p. IsWithList (λ n r. IsListed (targets_at nodes n) (flags_at enabled n) c.args.ranks.now r) k p) told.0 (package_views c.kept.packages.items) k _ told.2
-          (record { head = refl; rising = c.in_ok-locked.ensures.rising; members = c.in_ok-locked.ensures.members })));
+      told = (
+        told.0 ++ k ∷ [],
+        append_assoc told.0 (k ∷ []) (kept_views (into_iter_items c.next.new.self)) ∙ ap (λ ks. told.0 ++ kept_views ks) (sym here) ∙ told.1,
+        subst (HaveLists nodes enabled c.args.ranks.now (told.0 ++ k ∷ [])) (sym (ap package_views c.in_ok-push.ensures.items ∙ map-append package_view c.kept.packages.items (_ ∷ [])))
+            (beside_more (λ k p. IsWithList (λ n r. IsListed (targets_at nodes n) (flags_at enabled n) c.args.ranks.now r) k p) told.0 (package_views c.kept.packages.items) k _ told.2
+            (record { head = refl; rising = c.in_ok-locked.ensures.rising; members = c.in_ok-locked.ensures.members })),
+      );
     }

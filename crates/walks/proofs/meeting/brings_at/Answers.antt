@@ -1,5 +1,5 @@
-use Rattle.std.proofs.Common.{◌≡◌, ℕ, ◌-◌, Some, None, option_map, slice_get, sym, ap, ◌∙◌}
-use Rattle.catalogue.specs.Views.{said, said_by}
+use Rattle.std.proofs.Common.{◌-◌}
+use Rattle.catalogue.specs.Views.{said_by}
 use Rattle.walks.proofs.MetSoFar.{got_item, not_said, stop_brings, stop_there}
 use Rattle.walks.proofs.meeting.brings_at.Goals as goal
 

@@ -1,10 +1,9 @@
-use Rattle.std.proofs.Common.{◌≡◌, ℕ, ◌∷◌, [], ◌++◌, ◌<◌, ◌≤◌, Some, length, map, nat_eq, slice_get, refl, sym, ap, ◌∙◌, subst, arith}
+use Rattle.std.proofs.Common.{◌≡◌, ◌∷◌, [], Some, length, nat_eq, slice_get, sym, ap, ◌∙◌, subst, arith}
 use Rattle.std.proofs.lemmas.List.{length-map, map-append, length-append}
-use Rattle.model.specs.Vertices.{OwnerName}
 use Rattle.facts.specs.Graphs.{node_view, node_views}
 use Rattle.catalogue.specs.Problems.{problem_in}
 use Rattle.walks.specs.Preferred.{preferred_in}
-use Rattle.walks.specs.Met.{ArePicks, AreStops, owners_of}
+use Rattle.walks.specs.Met.{ArePicks, owners_of}
 use Rattle.walks.proofs.MetSoFar.{begun, one_more, all_met}
 use Rattle.walks.proofs.meeting.meet.Goals as goal
 
@@ -33,11 +32,11 @@ stops-preserved c =
     let len = c.len.ensures in
     let wide = c.len-in-stops.ensures.len in
     one_more index (problem_in c.args.manifest.now index) c.stops.stops.keys c.targets_of.new.stops.keys (node_views nodes) _ _ c.stops.invariant
-        (rw length-map (omega (arith, test, len, wide))) c.in_ok-targets.ensures.grows
-        (λ o at. c.brings_at-brings.ensures o (subst (λ ks. slice_get (owners_of index ks) c.len-place.result ≡ Some o) (sym c.as_slice.ensures.keys) (ap (slice_get (owners_of index c.stops.stops.keys)) even ∙ at)))
-        (ap (λ k. nat_eq k 0) even)
-        (subst (λ ds. ArePicks (preferred_in index) (owners_of index c.targets_of.new.stops.keys) ds c.in_ok-targets.targets.items) c.dependencies_of.ensures c.in_ok-targets.ensures.picks)
-        (ap node_views c.in_ok-push.ensures.items ∙ map-append node_view nodes (_ ∷ []))
+    (rw length-map (omega (arith, test, len, wide))) c.in_ok-targets.ensures.grows
+    (λ o at. c.brings_at-brings.ensures o (subst (λ ks. slice_get (owners_of index ks) c.len-place.result ≡ Some o) (sym c.as_slice.ensures.keys) (ap (slice_get (owners_of index c.stops.stops.keys)) even ∙ at)))
+    (ap (λ k. nat_eq k 0) even)
+    (subst (λ ds. ArePicks (preferred_in index) (owners_of index c.targets_of.new.stops.keys) ds c.in_ok-targets.targets.items) c.dependencies_of.ensures c.in_ok-targets.ensures.picks)
+    (ap node_views c.in_ok-push.ensures.items ∙ map-append node_view nodes (_ ∷ []))
 
 pub returns-clause-met : goal.returns-clause-met
 returns-clause-met c =
@@ -45,7 +44,7 @@ returns-clause-met c =
     let len = c.len.ensures in
     let wide = c.len-in-stops.ensures.len in
     all_met c.args.catalogue.now (problem_in c.args.manifest.now c.args.catalogue.now) c.stops.stops.keys (node_views c.stops.nodes.items) c.store_holds.ensures c.stops.invariant
-        (rw length-map (omega (arith, test, len, wide)))
+    (rw length-map (omega (arith, test, len, wide)))
 
 pub returns-clause-stops : goal.returns-clause-stops
 returns-clause-stops c = c.stops.invariant.are

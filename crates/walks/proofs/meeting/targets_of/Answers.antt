@@ -1,5 +1,5 @@
-use Rattle.std.proofs.Common.{◌≡◌, Some, slice_get, get_or, sym, ap, ◌∙◌}
-use Rattle.std.proofs.lemmas.Option.{slice_get-get_or, slice_get-map}
+use Rattle.std.proofs.Common.{Some, sym, ap, ◌∙◌}
+use Rattle.std.proofs.lemmas.Option.{slice_get-get_or}
 use Rattle.features.specs.Views.{dependency_view, dependency_views}
 use Rattle.walks.proofs.Lists.{map_at}
 use Rattle.walks.proofs.Stops.{more_targets}
@@ -12,4 +12,4 @@ dependencies-preserved c =
     let d = c.dependency-item.result in
     let there = map_at dependency_view ds i d (slice_get-get_or ds i d c.dependencies-test.true ∙ ap Some (sym c.dependency-item.is)) in
     more_targets c.args.catalogue.now c.args.stops.now.keys c.dependencies.stops.keys c.target_of.new.stops.keys (dependency_views ds) i c.dependencies.targets.items _ (dependency_view d) c.in_ok-target_of.field-0
-        c.dependencies.invariant c.in_ok-target_of.ensures.grows there c.in_ok-target_of.ensures.pick c.in_ok-push.ensures.items
+    c.dependencies.invariant c.in_ok-target_of.ensures.grows there c.in_ok-target_of.ensures.pick c.in_ok-push.ensures.items

@@ -1,4 +1,3 @@
-use Rattle.std.proofs.Common.{◌∙◌}
 use Rattle.walks.proofs.picking.is_matched.Goals as goal
 
 pub returns-in-Some : goal.returns-in-Some

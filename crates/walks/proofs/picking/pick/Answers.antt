@@ -1,4 +1,4 @@
-use Rattle.std.proofs.Common.{◌≡◌, map, sym, ap, ap₂, ◌∙◌, slice_get}
+use Rattle.std.proofs.Common.{ap₂, ◌∙◌, slice_get}
 use Rattle.std.specs.List.{find}
 use Rattle.features.specs.Views.{requirement_view}
 use Rattle.walks.specs.Met.{is_matched}
