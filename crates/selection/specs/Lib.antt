@@ -3,4 +3,5 @@ pub use Rattle.catalogue.specs.Problems
 pub mod Verdicts
 pub mod Graphs
 pub mod Names
+pub mod Texts
 pub mod Places
