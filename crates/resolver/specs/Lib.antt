@@ -1,1 +1,4 @@
+pub mod Faults
+pub mod Inputs
+pub mod Same
 pub mod Answers

@@ -46,7 +46,9 @@ pub enum Fault {
     TooLarge(TooLarge),
     /// 12: a locked package has another checksum than the index.
     ChecksumChanged(PackageName, Version),
-    /// 15: the old lock is missing or isn't a valid selection, and to find a new one isn't there yet.
+    /// 14: the spelling of the new lock is past a lock's limit, or doesn't read as the same content.
+    NotReadBack,
+    /// 15: the old lock is missing or isn't a valid selection, nor is the preferred walk, and to find another one isn't there yet.
     NotYet,
 }
 
@@ -69,6 +71,7 @@ impl fmt::Display for Fault {
             Fault::ChecksumChanged(name, version) => {
                 write!(f, "fault 12 ChecksumChanged at {name} {version}")
             }
+            Fault::NotReadBack => f.write_str("fault 14 NotReadBack"),
             Fault::NotYet => f.write_str("fault 15 NotYet search"),
         }
     }
@@ -85,12 +88,22 @@ impl fmt::Display for TooLarge {
 }
 
 impl From<AllocError> for Fault {
+    ghost use Rattle.std.specs.Prelude.{◌≡◌};
+    ghost use Rattle.resolver.specs.declared.fault.Fault.TheVariants.{OutOfMemory};
+
+    ghost from_gives = { λ _ e. e ≡ OutOfMemory };
+
     fn from(_e: AllocError) -> Fault {
         Fault::OutOfMemory
     }
 }
 
 impl From<ManifestFault> for Fault {
+    ghost use Rattle.std.specs.Prelude.{◌≡◌};
+    ghost use Rattle.resolver.specs.Faults.{of_manifest};
+
+    ghost from_gives = { λ e fault. fault ≡ of_manifest e };
+
     fn from(fault: ManifestFault) -> Fault {
         match fault {
             ManifestFault::OutOfMemory => Fault::OutOfMemory,
@@ -105,6 +118,11 @@ impl From<ManifestFault> for Fault {
 }
 
 impl From<LockFault> for Fault {
+    ghost use Rattle.std.specs.Prelude.{◌≡◌};
+    ghost use Rattle.resolver.specs.Faults.{of_lock};
+
+    ghost from_gives = { λ e fault. fault ≡ of_lock e };
+
     fn from(fault: LockFault) -> Fault {
         match fault {
             LockFault::OutOfMemory => Fault::OutOfMemory,
@@ -117,6 +135,11 @@ impl From<LockFault> for Fault {
 }
 
 impl From<LoadFault> for Fault {
+    ghost use Rattle.std.specs.Prelude.{◌≡◌};
+    ghost use Rattle.resolver.specs.Faults.{of_load};
+
+    ghost from_gives = { λ e fault. fault ≡ of_load e };
+
     fn from(fault: LoadFault) -> Fault {
         match fault {
             LoadFault::OutOfMemory => Fault::OutOfMemory,

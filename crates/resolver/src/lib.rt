@@ -2,8 +2,11 @@
 #![tactic(auto)]
 
 mod fault;
+mod inputs;
 mod resolving;
+mod same;
 mod verifying;
+mod writing;
 
 pub use fault::{Fault, TooLarge};
 pub use resolving::{Answer, resolve};

@@ -1,14 +1,17 @@
 //! Resolving a manifest from bytes.
 
-ghost use Rattle.std.specs.Prelude.{◌≡◌, true, Some, IfOk, option_copied};
-ghost use Rattle.resolver.specs.Answers.{bytes_of, kept_of};
+ghost use Rattle.std.specs.Prelude.{◌≡◌, ◌↔◌, true, IfOk, Ok, option_copied};
+ghost use Rattle.resolver.specs.Inputs.{old_of_bytes};
+ghost use Rattle.resolver.specs.Answers.{HoldsOld, Gives, GivesAnew, Resolves};
 
 use crate::fault::Fault;
-use catalogue::{Prefer, Source, load};
+use crate::inputs::{Inputs, Request, read_inputs};
+use crate::writing::written;
+use catalogue::{Prefer, Source};
 use index_reader::{Folder, Skip};
-use manifest::Manifest;
 use selection::{Verdict, verify};
 use std::alloc::{AllocError, Global};
+use walks::preferred;
 
 /// What `resolve` gives.
 #[derive(Drop)]
@@ -23,7 +26,12 @@ pub enum Answer {
     },
 }
 
-/// The old lock's own bytes, if they read as a valid selection. To find a new selection isn't there yet: `NotYet`.
+/// A lock for a manifest: the old lock's own bytes exactly where they read as a valid selection; else the spelling of the preferred walk, where
+/// that is complete and valid. To search for another selection isn't there yet.
+///
+/// # Errors
+/// Want of memory; the first fault of the manifest, of the old lock and of loading, in this order; `NotReadBack` where the new bytes don't read
+/// as what they spell; `NotYet` where there is no lock without a search.
 pub fn resolve<F: Folder>(
     alloc: Global,
     manifest: &[u8],
@@ -32,30 +40,57 @@ pub fn resolve<F: Folder>(
     source: &Source,
     prefer: Prefer,
 ) -> Result<Answer, Fault>
-    ensures own_bytes { IfOk result (λ answer. Some (bytes_of answer) ≡ option_copied old.entry) }
-    ensures kept { IfOk result (λ answer. kept_of answer ≡ true) }
+    ensures { Resolves F.calls (record { manifest = manifest.now; old = option_copied old.entry; source = source.now; prefer = prefer }) folder.old result folder.new }
 {
-    let manifest = Manifest::read(alloc, manifest)?;
-    let Some(bytes) = old else {
-        load(alloc, &manifest, folder, None, source, prefer)?;
-        return Err(Fault::NotYet);
+    let request = Request {
+        manifest,
+        old,
+        source,
+        prefer,
     };
-    let content = lockfile::read(alloc, bytes)?;
-    let catalogue = load(alloc, &manifest, folder, Some(&content), source, prefer)?;
-    match verify(alloc, &manifest, &catalogue, &content)? {
-        Verdict::Valid => Ok(own(alloc, bytes, catalogue.into_skips())?),
-        Verdict::Invalid { .. } => Err(Fault::NotYet),
+    let inputs = read_inputs(alloc, &request, folder)?;
+    let (bytes, kept) = bytes_of(alloc, old, &inputs)?;
+    Ok(Answer::Lock {
+        bytes,
+        kept,
+        skips: inputs.catalogue.into_skips(),
+    })
+}
+
+/// The bytes of the lock, and whether they are the old lock's own.
+fn bytes_of(alloc: Global, old: Option<&[u8]>, inputs: &Inputs) -> Result<(Vec<u8>, bool), Fault>
+    requires { old_of_bytes (option_copied old) ≡ Ok inputs.now.old }
+    ensures { Gives (option_copied old.entry) inputs.now result }
+{
+    if !holds_old(alloc, inputs)? {
+        return Ok((anew(alloc, inputs)?, false));
+    }
+    match old {
+        Some(bytes) => Ok((Vec::from_slice(alloc, bytes)?, true)),
+        None => unreachable!(),
     }
 }
 
-/// The old lock's own bytes as the answer.
-fn own(alloc: Global, bytes: &[u8], skips: Vec<Skip>) -> Result<Answer, AllocError>
-    ensures own_bytes { IfOk result (λ answer. bytes_of answer ≡ bytes.now) }
-    ensures kept { IfOk result (λ answer. kept_of answer ≡ true) }
+/// Whether there is an old lock that is a valid selection.
+fn holds_old(alloc: Global, inputs: &Inputs) -> Result<bool, AllocError>
+    ensures { IfOk result (λ holds. (holds ≡ true) ↔ HoldsOld inputs.now) }
 {
-    Ok(Answer::Lock {
-        bytes: Vec::from_slice(alloc, bytes)?,
-        kept: true,
-        skips,
-    })
+    match &inputs.old {
+        Some(content) => {
+            let verdict = verify(alloc, &inputs.manifest, &inputs.catalogue, content)?;
+            Ok(matches!(verdict, Verdict::Valid))
+        }
+        None => Ok(false),
+    }
+}
+
+/// The spelling of the preferred walk.
+fn anew(alloc: Global, inputs: &Inputs) -> Result<Vec<u8>, Fault>
+    requires not_held { HoldsOld inputs.now → ⊥ }
+    ensures { GivesAnew inputs.now result }
+{
+    match preferred(alloc, &inputs.manifest, &inputs.catalogue)? {
+        Some(content) => written(alloc, &content),
+        None => Err(Fault::NotYet),
+    }
 }

@@ -1,29 +1,38 @@
 //! Verifying a lock from bytes.
 
+ghost use Rattle.std.specs.Prelude.{Some};
+ghost use Rattle.catalogue.specs.declared.store.Prefer.TheVariants.{Newest};
+ghost use Rattle.resolver.specs.Answers.{Verifies};
+
 use crate::fault::Fault;
-use catalogue::{Prefer, Source, load};
+use crate::inputs::{Request, read_inputs};
+use catalogue::{Prefer, Source};
 use index_reader::Folder;
-use manifest::Manifest;
 use selection::{Verdict, verify};
 use std::alloc::Global;
 
 /// The verdict on a lock, for what is loaded from the folder; the lock is also the old lock of the run.
+///
+/// # Errors
+/// Want of memory, or the first fault of the manifest, of the lock and of loading, in this order.
 pub fn verify_bytes<F: Folder>(
     alloc: Global,
     manifest: &[u8],
     folder: &mut F,
     lock: &[u8],
     source: &Source,
-) -> Result<Verdict, Fault> {
-    let manifest = Manifest::read(alloc, manifest)?;
-    let content = lockfile::read(alloc, lock)?;
-    let catalogue = load(
-        alloc,
-        &manifest,
-        folder,
-        Some(&content),
+) -> Result<Verdict, Fault>
+    ensures { Verifies F.calls (record { manifest = manifest.now; old = Some lock.now; source = source.now; prefer = Newest }) folder.old result folder.new }
+{
+    let request = Request {
+        manifest,
+        old: Some(lock),
         source,
-        Prefer::Newest,
-    )?;
-    Ok(verify(alloc, &manifest, &catalogue, &content)?)
+        prefer: Prefer::Newest,
+    };
+    let inputs = read_inputs(alloc, &request, folder)?;
+    match &inputs.old {
+        Some(content) => Ok(verify(alloc, &inputs.manifest, &inputs.catalogue, content)?),
+        None => unreachable!(),
+    }
 }

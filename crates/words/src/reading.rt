@@ -1,8 +1,14 @@
 //! Reading the words of a command line.
 
+ghost use Rattle.std.specs.Prelude.{◌≡◌, IfOk, Some, map, option_map, option_and_then, string_bytes};
+ghost use Rattle.clap.specs.Words.{first_of, found_of, rows_of, subcommand_rows_of};
+ghost use Rattle.words.specs.Asked.{asked, command_of, is_set, parsed, resolve_of, verify_of};
+ghost use Rattle.words.specs.Views.{text_if, words_view};
+
 use crate::command::relock;
 use clap::{ArgMatches, Error};
 use std::alloc::{AllocError, Global};
+use std::convert::AsStr;
 use thiserror::Error as Fault;
 
 /// A command, with the texts of its options.
@@ -52,14 +58,20 @@ impl From<AllocError> for WordsFault {
 static HELP: [&str; 2] = ["relock", "--help"];
 
 /// The command and the options that the words give, the program's name first. A bare name asks for help.
-pub fn read_words<'a>(alloc: Global, words: &'a [String]) -> Result<Words<'a>, WordsFault> {
-    let command = relock(alloc)?;
-    let parsed = if words.len() > 1 {
-        command.try_get_matches_from(words)
+pub fn read_words<'a>(alloc: Global, words: &'a [String]) -> Result<Words<'a>, WordsFault>
+    ensures { IfOk result (λ w. asked (map string_bytes words.entry.now) ≡ Some (words_view w)) }
+{
+    if words.len() > 1 {
+        parsed(alloc, words)
     } else {
-        command.try_get_matches_from(HELP.as_slice())
-    };
-    match parsed {
+        parsed(alloc, HELP.as_slice())
+    }
+}
+
+fn parsed<'a, S: AsStr>(alloc: Global, words: &'a [S]) -> Result<Words<'a>, WordsFault>
+    ensures { IfOk result (λ w. parsed (map S.text words.entry.now) ≡ Some (words_view w)) }
+{
+    match relock(alloc)?.try_get_matches_from(words) {
         Ok(matches) => match words_of(&matches) {
             Some(words) => Ok(words),
             None => Err(WordsFault::Wrong(String::new(alloc))),
@@ -68,24 +80,55 @@ pub fn read_words<'a>(alloc: Global, words: &'a [String]) -> Result<Words<'a>, W
     }
 }
 
-fn words_of<'a>(matches: &ArgMatches<'a>) -> Option<Words<'a>> {
+fn words_of<'a>(matches: &ArgMatches<'a>) -> Option<Words<'a>>
+    ensures { option_map words_view result ≡ option_and_then command_of (subcommand_rows_of matches.now) }
+{
     let (name, found) = matches.subcommand()?;
     match name {
-        "resolve" => Some(Words::Resolve {
-            manifest: found.get_str("manifest")?,
-            index: found.get_str("index")?,
-            lock: found.get_str("lock"),
-            source: found.get_str("source"),
-            proof: found.get_str("proof"),
-            rust_first: found.get_flag("rust-first"),
-        }),
-        "verify" => Some(Words::Verify {
-            manifest: found.get_str("manifest")?,
-            index: found.get_str("index")?,
-            lock: found.get_str("lock")?,
-            source: found.get_str("source"),
-        }),
+        "resolve" => resolve_of(found),
+        "verify" => verify_of(found),
         _ => None,
+    }
+}
+
+fn resolve_of<'a>(found: &ArgMatches<'a>) -> Option<Words<'a>>
+    ensures { option_map words_view result ≡ resolve_of (rows_of (found_of found.now)) }
+{
+    Some(Words::Resolve {
+        manifest: value_of(found, "manifest")?,
+        index: value_of(found, "index")?,
+        lock: value_of(found, "lock"),
+        source: value_of(found, "source"),
+        proof: value_of(found, "proof"),
+        rust_first: is_set(value_of(found, "rust-first")),
+    })
+}
+
+fn verify_of<'a>(found: &ArgMatches<'a>) -> Option<Words<'a>>
+    ensures { option_map words_view result ≡ verify_of (rows_of (found_of found.now)) }
+{
+    Some(Words::Verify {
+        manifest: value_of(found, "manifest")?,
+        index: value_of(found, "index")?,
+        lock: value_of(found, "lock")?,
+        source: value_of(found, "source"),
+    })
+}
+
+/// The value of an option.
+fn value_of<'a>(found: &ArgMatches<'a>, name: &str) -> Option<&'a str>
+    ensures { text_if result ≡ first_of name.now (rows_of (found_of found.now)) }
+{
+    found.get_str(name)
+}
+
+/// Whether the value of a flag says that it stands there.
+fn is_set(value: Option<&str>) -> bool
+    ensures { result ≡ is_set (text_if value.entry) }
+{
+    match value {
+        Some(value) => value == "true",
+        None => false,
     }
 }
 

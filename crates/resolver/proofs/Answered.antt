@@ -1,0 +1,52 @@
+-- How the answer of a run comes of its steps.
+use Rattle.std.proofs.Common.{◌≡◌, ◌≢◌, ℕ, Bool, true, false, List, Vec, Option, Some, Result, Ok, Err, inl, inr, refl, sym, ap, ◌∙◌, subst, true≢false}
+use Rattle.std.specs.declared.alloc.Global.{Global}
+use Rattle.model.specs.Content.{Content}
+use Rattle.lockfile.specs.Locks.{content_of_bytes}
+use Rattle.lockfile.specs.Spelling.{spelling}
+use Rattle.catalogue.specs.Runs.{Calls}
+use Rattle.walks.specs.Preferred.{HasBareRoot}
+use Rattle.resolver.specs.Faults.{is_memory}
+use Rattle.resolver.specs.Inputs.{RequestView, AreRead, UnlessMemory, problem_of}
+use Rattle.resolver.specs.Answers.{HoldsOld, IsPreferredBy, IsWithout, IsWritten, Writes, Gives, GivesAnew, Resolves}
+use Rattle.resolver.specs.Same.{same_content}
+use Rattle.resolver.specs.declared.inputs.Inputs.{Inputs}
+use Rattle.resolver.specs.declared.fault.Fault.{Fault}
+use Rattle.resolver.proofs.Sameness.{content-same, content-refl}
+
+unless : (b : Bool) {A B : Type 0} → (A → B) → UnlessMemory b A → UnlessMemory b B
+unless true f h = tt
+unless false f h = f h
+
+got : {E : Type 0} → Content → Result Content E → Content
+got other (Ok content) = content
+got other (Err e) = other
+
+-- what reads as the same content is written
+pub is_written : (content again : Content) (bytes : List ℕ) → bytes ≡ spelling content → content_of_bytes bytes ≡ Ok again
+    → same_content again content ≡ true → IsWritten content bytes
+is_written content again bytes spelled reads same = record { spelled = spelled; reads = reads ∙ ap Ok (content-same again content same) }
+
+-- what reads as another content doesn't read back
+pub not_written : (content again : Content) (bytes : List ℕ) → bytes ≡ spelling content → content_of_bytes bytes ≡ Ok again
+    → same_content again content ≡ false → content_of_bytes (spelling content) ≡ Ok content → ⊥
+unfolding got
+not_written content again bytes spelled reads other back =
+    let same : again ≡ content = ap (got again) (sym reads ∙ ap content_of_bytes spelled ∙ back) in
+    true≢false (sym (content-refl content) ∙ ap (λ a. same_content a content) (sym same) ∙ other)
+
+-- a walk that is written, or can't be
+pub anew : (inputs : Inputs) (content : Content) (r : Result (Vec ℕ Global) Fault) → (HoldsOld inputs → ⊥) → IsPreferredBy inputs content
+    → HasBareRoot (problem_of inputs) content → Writes content r → GivesAnew inputs r
+anew inputs content (Ok bytes) not_held preferred bare h =
+    record { not_held = not_held; content = content; preferred = preferred; reads = h.reads; spelled = h.spelled; bare_root = bare; is_new = refl }
+anew inputs content (Err f) not_held preferred bare h = unless (is_memory f) (λ w. subst (λ g. IsWithout inputs g) (sym w.0) (content, preferred, w.1)) h
+
+-- why there is no lock
+pub without : (old : Option (List ℕ)) (inputs : Inputs) (f : Fault) → (HoldsOld inputs → ⊥) → GivesAnew inputs (Err f) → Gives old inputs (Err f)
+without old inputs f not_held h = unless (is_memory f) (λ w. (not_held, w)) h
+
+pub unanswered : {S : Type 0} (calls : Calls S) (request : RequestView) (before after : S) (inputs : Inputs) (f : Fault)
+    → AreRead calls request before inputs after → Gives request.old inputs (Err f) → Resolves calls request before (Err f) after
+unanswered calls request before after inputs f read h =
+    unless (is_memory f) (λ w. inr (record { inputs = inputs; read = read; not_held = w.0; why = w.1 })) h

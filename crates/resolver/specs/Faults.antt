@@ -1,0 +1,60 @@
+-- The faults of a run: want of memory, and what is wrong with an input as a fault of the run that read it.
+use Rattle.std.specs.Prelude.{Bool, true, false}
+use Rattle.manifest.specs.declared.fault.ManifestFault.TheVariants as manifest
+use Rattle.lockfile.specs.declared.fault.LockFault.TheVariants as lock
+use Rattle.catalogue.specs.declared.fault.LoadFault.TheVariants as load
+use Rattle.resolver.specs.declared.fault.Fault.TheVariants as fault
+use Rattle.resolver.specs.declared.fault.TooLarge.TheVariants as large
+use Rattle.manifest.specs.declared.fault.ManifestFault.{ManifestFault}
+use Rattle.lockfile.specs.declared.fault.LockFault.{LockFault}
+use Rattle.catalogue.specs.declared.fault.LoadFault.{LoadFault}
+use Rattle.resolver.specs.declared.fault.Fault.{Fault}
+
+abbrev pub is_memory : Fault → Bool
+is_memory fault.OutOfMemory = true
+is_memory fault.ManifestNotToml = false
+is_memory (fault.ManifestShape part) = false
+is_memory (fault.UnsupportedSource kind) = false
+is_memory (fault.BadRequirement name) = false
+is_memory (fault.RootFeature f name) = false
+is_memory fault.LockNotToml = false
+is_memory fault.LockVersion = false
+is_memory fault.LockShape = false
+is_memory (fault.FolderFailed path) = false
+is_memory (fault.TooLarge which) = false
+is_memory (fault.ChecksumChanged name version) = false
+is_memory fault.NotReadBack = false
+is_memory fault.NotYet = false
+
+-- what is wrong with the manifest, as a fault of a run
+abbrev pub of_manifest : ManifestFault → Fault
+of_manifest manifest.OutOfMemory = fault.OutOfMemory
+of_manifest manifest.TooLarge = fault.TooLarge large.Manifest
+of_manifest manifest.NotToml = fault.ManifestNotToml
+of_manifest (manifest.Shape part) = fault.ManifestShape part
+of_manifest (manifest.UnsupportedSource kind) = fault.UnsupportedSource kind
+of_manifest (manifest.BadRequirement name) = fault.BadRequirement name
+of_manifest (manifest.RootFeature f name) = fault.RootFeature f name
+
+-- what is wrong with the old lock
+abbrev pub of_lock : LockFault → Fault
+of_lock lock.OutOfMemory = fault.OutOfMemory
+of_lock lock.TooLarge = fault.TooLarge large.Lock
+of_lock lock.NotToml = fault.LockNotToml
+of_lock lock.LockVersion = fault.LockVersion
+of_lock lock.LockShape = fault.LockShape
+
+-- what is wrong with the index
+abbrev pub of_load : LoadFault → Fault
+of_load load.OutOfMemory = fault.OutOfMemory
+of_load (load.FolderFailed path) = fault.FolderFailed path
+of_load (load.TooLarge limit) = fault.TooLarge (large.Index limit)
+of_load (load.ChecksumChanged name version) = fault.ChecksumChanged name version
+
+-- what is wrong with our own bytes, where they are refused
+abbrev pub not_read_back : LockFault → Fault
+not_read_back lock.OutOfMemory = fault.OutOfMemory
+not_read_back lock.TooLarge = fault.NotReadBack
+not_read_back lock.NotToml = fault.NotReadBack
+not_read_back lock.LockVersion = fault.NotReadBack
+not_read_back lock.LockShape = fault.NotReadBack

@@ -1,0 +1,70 @@
+-- What a call has read before it answers: the manifest, the old lock if there is one, and the index; or the first fault on the way.
+use Rattle.std.specs.Prelude.{◌≡◌, Bool, true, false, List, [], ℕ, Option, Some, None, option_copied, Result, Ok, Err}
+use Rattle.model.specs.Outcome.{◌>>=◌}
+use Rattle.model.specs.Content.{Content, Problem}
+use Rattle.manifest.specs.Manifests.{ManifestView, manifest_of_bytes}
+use Rattle.manifest.specs.declared.fault.ManifestFault.{ManifestFault}
+use Rattle.lockfile.specs.Locks.{content_of_bytes}
+use Rattle.lockfile.specs.declared.fault.LockFault.{LockFault}
+use Rattle.catalogue.specs.Loads.{Loads, rust_for}
+use Rattle.catalogue.specs.Problems.{problem_in}
+use Rattle.catalogue.specs.Runs.{Calls}
+use Rattle.catalogue.specs.Stores.{CatalogueView}
+use Rattle.catalogue.specs.declared.fault.LoadFault.{LoadFault}
+use Rattle.catalogue.specs.declared.store.Prefer.{Prefer}
+use Rattle.resolver.specs.declared.fault.Fault.{Fault}
+use Rattle.resolver.specs.declared.inputs.Inputs.{Inputs}
+use Rattle.resolver.specs.declared.inputs.Request.{Request}
+use Rattle.resolver.specs.Faults.{is_memory, of_manifest, of_lock, of_load}
+
+-- what a call is given, but for the folder
+pub record RequestView : Type 0 where
+  pub manifest : List ℕ
+  pub old : Option (List ℕ)
+  pub source : List ℕ
+  pub prefer : Prefer
+
+abbrev pub request_view : Request → RequestView
+request_view r = record { manifest = r.manifest.now; old = option_copied r.old; source = r.source.now; prefer = r.prefer }
+
+-- what the old lock says, if there is one
+abbrev pub old_of_bytes : Option (List ℕ) → Result (Option Content) LockFault
+old_of_bytes None = Ok None
+old_of_bytes (Some bytes) = content_of_bytes bytes >>= λ content. Ok (Some content)
+
+-- the packages of the old lock: none where there is no old lock
+abbrev pub packages_in : Option Content → Content
+packages_in None = []
+packages_in (Some content) = content
+
+-- what a selection is held against
+abbrev pub problem_of : Inputs → Problem
+problem_of inputs = problem_in inputs.manifest inputs.catalogue
+
+module _ {S : Type 0} (calls : Calls S) (request : RequestView) (before : S) where
+  -- how loading ends for this manifest and this old lock
+  abbrev pub LoadsFor : ManifestView → Option Content → Result CatalogueView LoadFault → S → Type 0
+  LoadsFor m old = Loads (packages_in old) request.source (rust_for request.prefer m.rust_version) m.brings.dependencies calls before
+
+  -- the manifest and the old lock say this, and the folder's answers give this index
+  pub record AreRead (inputs : Inputs) (after : S) : Type 0 where
+    pub manifest_says : manifest_of_bytes request.manifest ≡ Ok inputs.manifest
+    pub lock_says : old_of_bytes request.old ≡ Ok inputs.old
+    pub loads : LoadsFor inputs.manifest inputs.old (Ok inputs.catalogue) after
+
+  -- the manifest is refused; the old lock is, after it; loading ends with a fault, after both
+  pub data IsRefused : Fault → S → Type 0 where
+    by_manifest : (e : ManifestFault) → manifest_of_bytes request.manifest ≡ Err e → IsRefused (of_manifest e) before
+    by_lock : (m : ManifestView) (e : LockFault) → manifest_of_bytes request.manifest ≡ Ok m → old_of_bytes request.old ≡ Err e → IsRefused (of_lock e) before
+    by_index : (m : ManifestView) (old : Option Content) (e : LoadFault) (after : S) → manifest_of_bytes request.manifest ≡ Ok m
+        → old_of_bytes request.old ≡ Ok old → LoadsFor m old (Err e) after → IsRefused (of_load e) after
+
+-- want of memory says nothing
+abbrev pub UnlessMemory : Bool → Type 0 → Type 0
+UnlessMemory true says = Unit {0}
+UnlessMemory false says = says
+
+-- reading all inputs gives them, or the first fault
+abbrev pub Reads : {S : Type 0} → Calls S → RequestView → S → Result Inputs Fault → S → Type 0
+Reads calls request before (Ok inputs) after = AreRead calls request before inputs after
+Reads calls request before (Err f) after = UnlessMemory (is_memory f) (IsRefused calls request before f after)

@@ -1,0 +1,37 @@
+//! Writing a new lock.
+
+ghost use Rattle.std.specs.Prelude.{◌≡◌};
+ghost use Rattle.resolver.specs.Answers.{Writes};
+ghost use Rattle.resolver.specs.Faults.{not_read_back};
+
+use crate::fault::Fault;
+use crate::same::same_content;
+use lockfile::{LockContent, LockFault};
+use std::alloc::Global;
+
+/// The spelling of a content, once it is read again as that content.
+pub(crate) fn written(alloc: Global, content: &LockContent) -> Result<Vec<u8>, Fault>
+    ensures { Writes content.now result }
+{
+    let bytes = lockfile::write(alloc, content)?;
+    match lockfile::read(alloc, bytes.as_slice()) {
+        Ok(again) => {
+            if same_content(&again, content) {
+                Ok(bytes)
+            } else {
+                Err(Fault::NotReadBack)
+            }
+        }
+        Err(fault) => Err(not_read_back(fault)),
+    }
+}
+
+/// That bytes of our own are refused.
+fn not_read_back(fault: LockFault) -> Fault
+    ensures { result ≡ not_read_back fault }
+{
+    match fault {
+        LockFault::OutOfMemory => Fault::OutOfMemory,
+        _ => Fault::NotReadBack,
+    }
+}
