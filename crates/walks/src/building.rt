@@ -117,6 +117,7 @@ fn root_package(
 ) -> Result<Package, AllocError>
     ensures { IfOk result (λ p. package_view p ≡ package_of (problem_in manifest.now catalogue.now) the_root []) }
 {
+    // The contract speaks of the catalogue too; that the name is one is what `as_str` promises.
     let _ = manifest.name().as_str();
     let _ = catalogue;
     Ok(Package {
@@ -138,6 +139,7 @@ fn stop_package(
     ensures { IfOk result (λ o. option_map package_view o ≡ Some (package_of (problem_in manifest.now catalogue.now) (stop_owner catalogue.now stop.now) [])) }
 {
     store_holds(catalogue);
+    // The contract speaks of the manifest too; that the name is one is what `as_str` promises.
     let _ = manifest;
     let _ = stop.name.as_str();
     let Some(version) = catalogue.versions(&stop.name).get(stop.place) else {
