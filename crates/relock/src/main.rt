@@ -1,6 +1,8 @@
-//! `relock`: verifies locks of Cargo manifests, and gives valid ones back.
+//! `relock`: verifies locks of Cargo manifests, and gives valid ones.
 #![tactic(auto)]
 
+#[cfg(test)]
+mod failing;
 mod files;
 mod run;
 #[cfg(test)]
