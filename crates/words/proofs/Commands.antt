@@ -1,6 +1,6 @@
 -- What is known of the commands when the program is written.
 use Rattle.std.proofs.Common.{◌≡◌, ◌&&◌, not, Bool, true, false, is_some, refl}
-use Rattle.clap.specs.Words.{is_simple, rule_of, shape_of}
+use Rattle.clap.specs.Words.{is_simple, is_simple_and_free, rule_of, shape_of}
 use Rattle.clap.specs.Walk.{is_empty}
 use Rattle.clap.specs.declared.builder.arg.Arg.{Arg}
 use Rattle.clap.specs.declared.builder.command.Command.{Command}
@@ -11,6 +11,10 @@ use Rattle.words.specs.Asked.{relock_app}
 pub relock_is_simple : is_simple relock_app ≡ true
 unfolding clap_on_literals
 relock_is_simple = refl
+
+pub relock_is_free : is_simple_and_free relock_app ≡ true
+unfolding clap_on_literals
+relock_is_free = refl
 
 third : (a b c d : Bool) → (a && (b && (not c && d))) ≡ true → c ≡ false
 third a b false d h = refl

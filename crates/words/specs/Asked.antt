@@ -1,6 +1,6 @@
 -- What words ask of the program, by the meaning that `clap` gives them: a command, each of whose options stands at most once.
 use Rattle.std.specs.Prelude.{Bool, true, false, nat_lt, List, [], ◌∷◌, length, if◌then◌else◌, Option, Some, None, option_map, option_and_then, codes}
-use Rattle.clap.specs.Words.{App, Row, Rule, Text, first_of, new_app, new_rule, subcommand_of, with_rule, with_subcommand}
+use Rattle.clap.specs.Words.{App, Kinds, Row, Rule, Text, fault_of, first_of, new_app, new_rule, subcommand_of, with_rule, with_subcommand}
 use Rattle.clap.specs.Simple.{on_top}
 use Rattle.clap.specs.declared.builder.action.ArgAction.TheVariants.{Set, SetTrue}
 use Rattle.model.specs.Owner.{same_text}
@@ -89,3 +89,7 @@ parsed words = option_and_then command_of (subcommand_of relock_app words)
 -- the command and the options that the words give, the program's name first
 abbrev pub asked : List Text → Option WordsView
 asked words = parsed (or_help words)
+
+-- the kinds of error that `clap` gives these words; none where it takes them
+unfoldable pub faults : List Text → Kinds
+faults words = fault_of relock_app words

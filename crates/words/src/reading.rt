@@ -1,11 +1,13 @@
 //! Reading the words of a command line.
 
-ghost use Rattle.std.specs.Prelude.{◌≡◌, IfOk, Some, map, option_map, option_and_then, string_bytes};
-ghost use Rattle.clap.specs.Words.{first_of, found_of, rows_of, subcommand_rows_of};
-ghost use Rattle.words.specs.Asked.{asked, command_of, is_set, parsed, resolve_of, verify_of};
+ghost use Rattle.std.specs.Prelude.{◌≡◌, IfErr, IfOk, [], Some, map, option_map, option_and_then, string_bytes};
+ghost use Rattle.clap.specs.Words.{first_of, found_of, kind_of, rows_of, subcommand_rows_of};
+ghost use Rattle.words.specs.Asked.{asked, command_of, faults, is_set, or_help, parsed, resolve_of, verify_of};
+ghost use Rattle.words.specs.Refusals.{Refuses, Tells};
 ghost use Rattle.words.specs.Views.{text_if, words_view};
 
 use crate::command::relock;
+use clap::error::ErrorKind;
 use clap::{ArgMatches, Error};
 use std::alloc::{AllocError, Global};
 use std::convert::AsStr;
@@ -59,7 +61,9 @@ static HELP: [&str; 2] = ["relock", "--help"];
 
 /// The command and the options that the words give, the program's name first. A bare name asks for help.
 pub fn read_words<'a>(alloc: Global, words: &'a [String]) -> Result<Words<'a>, WordsFault>
-    ensures { IfOk result (λ w. asked (map string_bytes words.entry.now) ≡ Some (words_view w)) }
+    ensures asked { IfOk result (λ w. asked (map string_bytes words.entry.now) ≡ Some (words_view w)) }
+    ensures taken { IfOk result (λ _. faults (or_help (map string_bytes words.entry.now)) ≡ []) }
+    ensures refused { IfErr result (Refuses (or_help (map string_bytes words.entry.now))) }
 {
     if words.len() > 1 {
         parsed(alloc, words)
@@ -69,7 +73,9 @@ pub fn read_words<'a>(alloc: Global, words: &'a [String]) -> Result<Words<'a>, W
 }
 
 fn parsed<'a, S: AsStr>(alloc: Global, words: &'a [S]) -> Result<Words<'a>, WordsFault>
-    ensures { IfOk result (λ w. parsed (map S.text words.entry.now) ≡ Some (words_view w)) }
+    ensures asked { IfOk result (λ w. parsed (map S.text words.entry.now) ≡ Some (words_view w)) }
+    ensures taken { IfOk result (λ _. faults (map S.text words.entry.now) ≡ []) }
+    ensures refused { IfErr result (Refuses (map S.text words.entry.now)) }
 {
     match relock(alloc)?.try_get_matches_from(words) {
         Ok(matches) => match words_of(&matches) {
@@ -132,7 +138,13 @@ fn is_set(value: Option<&str>) -> bool
     }
 }
 
-fn fault_of(alloc: Global, error: &Error) -> WordsFault {
+/// What is said of `clap`'s error.
+fn fault_of(alloc: Global, error: &Error) -> WordsFault
+    ensures { Tells (kind_of error.now) result }
+{
+    if error.kind() == ErrorKind::OutOfMemory {
+        return WordsFault::OutOfMemory;
+    }
     match error.to_string(alloc) {
         Ok(text) => {
             if error.use_stderr() {

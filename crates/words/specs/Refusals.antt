@@ -1,0 +1,28 @@
+-- When words are refused, and how: as `clap` says.
+use Rattle.std.specs.Prelude.{◌≡◌, ◌⊎◌, List, [], None}
+use Rattle.clap.specs.Words.{IsAmong, Kinds, Text}
+use Rattle.clap.specs.declared.error.kind.ErrorKind.{ErrorKind}
+use Rattle.clap.specs.declared.error.kind.ErrorKind.TheVariants as kind
+use Rattle.words.specs.Asked.{faults, parsed}
+use Rattle.words.specs.declared.reading.WordsFault.{WordsFault}
+use Rattle.words.specs.declared.reading.WordsFault.TheVariants.{OutOfMemory, Help, Wrong}
+
+-- the error doesn't only show a text that was asked for
+abbrev pub IsMistake : ErrorKind → Type 0
+IsMistake k = (k ≡ kind.DisplayHelp → ⊥) × (k ≡ kind.DisplayVersion → ⊥)
+
+-- the fault that stands for an error of this kind; memory may run out beside it
+abbrev pub Tells : ErrorKind → WordsFault → Type 0
+Tells k OutOfMemory = Unit {0}
+Tells k (Help text) = IsMistake k → ⊥
+Tells k (Wrong text) = IsMistake k × (k ≡ kind.OutOfMemory → ⊥)
+
+-- the fault stands for one of these kinds
+abbrev pub TellsOne : Kinds → WordsFault → Type 0
+TellsOne kinds fault = (k : ErrorKind) × IsAmong k kinds × Tells k fault
+
+-- the words are refused by `clap`, or they name no command with all that it needs
+abbrev pub Refuses : List Text → WordsFault → Type 0
+Refuses words OutOfMemory = Unit {0}
+Refuses words (Help text) = TellsOne (faults words) (Help text)
+Refuses words (Wrong text) = TellsOne (faults words) (Wrong text) ⊎ ((faults words ≡ []) × (parsed words ≡ None))
