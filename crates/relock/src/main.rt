@@ -12,7 +12,15 @@ use std::process::ExitCode;
 use std::{env, io};
 
 fn main(rt: HostRuntime) -> io::Result<ExitCode> {
-    let words: Vec<String> = env::args(&rt)?.collect(rt.alloc())?;
-    let status = run::run(&rt, words.as_slice(), &mut rt.stdout(), &mut rt.stderr());
+    let status = match words(&rt) {
+        Ok(words) => run::run(&rt, words.as_slice(), &mut rt.stdout(), &mut rt.stderr()),
+        Err(error) => run::without_arguments(&error, &mut rt.stderr()),
+    };
     Ok(ExitCode::from(status))
+}
+
+/// The words of the command line, the program's name first.
+fn words(rt: &HostRuntime) -> io::Result<Vec<String>> {
+    let words = env::args(rt)?.collect(rt.alloc())?;
+    Ok(words)
 }

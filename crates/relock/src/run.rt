@@ -6,7 +6,7 @@ use index_reader::{DiskFolder, Skip};
 use resolver::{Answer, Fault, resolve, verify_bytes};
 use selection::Verdict;
 use std::fmt;
-use std::io::Write;
+use std::io::{self, ErrorKind, Write};
 use std::rt::Files;
 use words::{Words, WordsFault, read_words};
 
@@ -87,6 +87,16 @@ pub fn run<R: Files + AllocGlobal + Clone + Drop>(
             FAILED
         }
     }
+}
+
+/// A command line that can't be read is wrong use, unless memory was refused.
+pub(crate) fn without_arguments(error: &io::Error, err: &mut impl Write) -> u8 {
+    let _ = if error.kind() == ErrorKind::OutOfMemory {
+        writeln!(err, "{}", Fault::OutOfMemory)
+    } else {
+        writeln!(err, "{error}")
+    };
+    FAILED
 }
 
 /// Help goes to standard output, wrong use to standard error.
