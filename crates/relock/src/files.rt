@@ -21,11 +21,16 @@ pub(crate) fn read_at_most<R: Files + AllocGlobal>(
 ) -> Result<Vec<u8>, FileFault> {
     match read_front(rt, path, most) {
         Ok(bytes) => Ok(bytes),
-        Err(error) => Err(match error.kind() {
-            ErrorKind::OutOfMemory => FileFault::OutOfMemory,
-            ErrorKind::NotFound => FileFault::NotFound,
-            _ => FileFault::Unreadable,
-        }),
+        Err(error) => Err(fault_of(&error)),
+    }
+}
+
+/// Only a growth that was refused here is want of memory: what the system lacks makes the file unreadable.
+fn fault_of(error: &io::Error) -> FileFault {
+    match error.kind() {
+        ErrorKind::OutOfMemory if error.raw_os_error().is_none() => FileFault::OutOfMemory,
+        ErrorKind::NotFound => FileFault::NotFound,
+        _ => FileFault::Unreadable,
     }
 }
 
