@@ -1,0 +1,39 @@
+-- What terms stand for, without where their names and versions lie.
+use Rattle.std.specs.Prelude.{List, map}
+use Rattle.semver.specs.Identifiers.{parts_of}
+use Rattle.model.specs.Vertices as model
+use Rattle.model.specs.Axioms as axioms
+use Rattle.classes.specs.Classes.{class_view}
+use Rattle.axioms.specs.declared.term.OwnerName.{OwnerName}
+use Rattle.axioms.specs.declared.term.OwnerName.TheVariants as owner
+use Rattle.axioms.specs.declared.term.Vertex.{Vertex}
+use Rattle.axioms.specs.declared.term.Vertex.TheVariants as vertex
+use Rattle.axioms.specs.declared.term.State.{State}
+use Rattle.axioms.specs.declared.term.State.TheVariants as state
+use Rattle.axioms.specs.declared.term.Term.{Term}
+
+abbrev pub owner_view : OwnerName → model.OwnerName
+owner_view owner.Root = model.the_root
+owner_view (owner.Version n v) = model.version_of n.now (parts_of v.now)
+
+abbrev pub vertex_view : Vertex → model.Vertex
+vertex_view vertex.Root = model.root
+vertex_view (vertex.Package n c) = model.pkg n.now (class_view c)
+vertex_view (vertex.Dependency o i) = model.dep (owner_view o) i
+vertex_view (vertex.Feature n c f) = model.feat n.now (class_view c) f.now
+vertex_view (vertex.Ask n v i g) = model.ask n.now (parts_of v.now) i g.now
+
+abbrev pub state_view : State → model.State
+state_view state.Absent = model.absent
+state_view state.Present = model.present
+state_view (state.Version v) = model.version (parts_of v.now)
+state_view (state.Class c) = model.in_class (class_view c)
+
+abbrev pub state_views : List State → List model.State
+state_views ss = map state_view ss
+
+abbrev pub term_view : Term → axioms.Term
+term_view t = axioms.at (vertex_view t.vertex) (state_views t.states.items)
+
+abbrev pub term_views : List Term → List axioms.Term
+term_views ts = map term_view ts

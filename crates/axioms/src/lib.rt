@@ -1,0 +1,8 @@
+//! Whether terms are those of an instance of an axiom: each cause is looked up in the manifest and in the loaded index.
+#![tactic(auto)]
+
+mod instance;
+mod term;
+
+pub use instance::is_instance;
+pub use term::{OwnerName, State, Term, Vertex};
