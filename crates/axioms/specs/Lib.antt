@@ -1,1 +1,4 @@
 pub mod Views
+pub mod CauseViews
+pub mod Matching
+pub mod Readings

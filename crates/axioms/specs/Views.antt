@@ -1,8 +1,14 @@
 -- What terms stand for, without where their names and versions lie.
-use Rattle.std.specs.Prelude.{List, map}
+use Rattle.std.specs.Prelude.{List, map, Option, Some, None}
+use Rattle.std.specs.Borrow.{Bor}
 use Rattle.semver.specs.Identifiers.{parts_of}
 use Rattle.model.specs.Vertices as model
 use Rattle.model.specs.Axioms as axioms
+use Rattle.model.specs.Owner.{Owner, nothing}
+use Rattle.model.specs.Content.{Problem}
+use Rattle.features.specs.Views as features
+use Rattle.features.specs.declared.dependency.Owner as code
+use Rattle.catalogue.specs.Problems.{problem_in}
 use Rattle.classes.specs.Classes.{class_view}
 use Rattle.axioms.specs.declared.term.OwnerName.{OwnerName}
 use Rattle.axioms.specs.declared.term.OwnerName.TheVariants as owner
@@ -11,6 +17,7 @@ use Rattle.axioms.specs.declared.term.Vertex.TheVariants as vertex
 use Rattle.axioms.specs.declared.term.State.{State}
 use Rattle.axioms.specs.declared.term.State.TheVariants as state
 use Rattle.axioms.specs.declared.term.Term.{Term}
+use Rattle.axioms.specs.declared.known.Known.{Known}
 
 abbrev pub owner_view : OwnerName → model.OwnerName
 owner_view owner.Root = model.the_root
@@ -37,3 +44,13 @@ term_view t = axioms.at (vertex_view t.vertex) (state_views t.states.items)
 
 abbrev pub term_views : List Term → List axioms.Term
 term_views ts = map term_view ts
+
+-- ---- what terms are looked up in
+
+-- what an owner brings, where it is there
+abbrev pub brings_view : Option (Bor code.Owner) → Owner
+brings_view None = nothing
+brings_view (Some o) = features.owner_view o.now
+
+abbrev pub problem : Known → Problem
+problem k = problem_in k.manifest.now k.catalogue.now

@@ -1,7 +1,12 @@
 //! Whether terms are those of an instance of an axiom: each cause is looked up in the manifest and in the loaded index.
 #![tactic(auto)]
 
+mod cause;
 mod instance;
+mod known;
+mod lookups;
+mod matching;
+mod reading;
 mod term;
 
 pub use instance::is_instance;

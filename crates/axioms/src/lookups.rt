@@ -1,0 +1,63 @@
+//! What owners bring, looked up in the manifest and in the loaded index.
+
+ghost use Rattle.std.specs.Prelude.{◌≡◌, option_map};
+ghost use Rattle.semver.specs.Identifiers.{parts_of};
+ghost use Rattle.features.specs.Views.{dependency_view, dependency_views};
+ghost use Rattle.features.specs.EntryViews.{entry_views};
+ghost use Rattle.model.specs.Vertices.{owner_brings};
+ghost use Rattle.refutations.specs.Causes.{dependency_at, entries_of};
+ghost use Rattle.axioms.specs.Views.{owner_view, brings_view, problem};
+
+use crate::known::Known;
+use crate::term::OwnerName;
+use features::{Dependency, Entry, FeatureName, Owner, PackageName};
+use semver::Version;
+
+/// What an owner brings: nothing where it is neither the root nor a candidate.
+pub(crate) fn brings<'a>(known: &Known<'a>, owner: &OwnerName<'_>) -> Option<&'a Owner>
+    ensures { brings_view result ≡ owner_brings (problem known.now) (owner_view owner.now) }
+{
+    match owner {
+        OwnerName::Root => Some(known.manifest.owner()),
+        OwnerName::Version(name, version) => {
+            let candidate = known.catalogue.candidate(name, version)?;
+            Some(&candidate.brings)
+        }
+    }
+}
+
+/// The dependencies of an owner.
+pub(crate) fn dependencies_of<'a>(known: &Known<'a>, owner: &OwnerName<'_>) -> &'a [Dependency]
+    ensures { dependency_views result.now ≡ (owner_brings (problem known.now) (owner_view owner.now)).dependencies }
+{
+    match brings(known, owner) {
+        Some(owner) => owner.dependencies.as_slice(),
+        None => &[],
+    }
+}
+
+/// The dependency of an owner that has this number.
+pub(crate) fn dependency_at<'a>(
+    known: &Known<'a>,
+    owner: &OwnerName<'_>,
+    number: usize,
+) -> Option<&'a Dependency>
+    ensures { option_map (λ d. dependency_view d.now) result ≡ dependency_at (problem known.now) (owner_view owner.now) number }
+{
+    dependencies_of(known, owner).get(number)
+}
+
+/// The entries of a feature of a version.
+pub(crate) fn entries_of<'a>(
+    known: &Known<'a>,
+    name: &PackageName,
+    version: &Version,
+    feature: &FeatureName,
+) -> &'a [Entry]
+    ensures { entry_views result.now ≡ entries_of (problem known.now) name.now (parts_of version.now) feature.now }
+{
+    match brings(known, &OwnerName::Version(name, version)) {
+        Some(owner) => owner.features.entries(feature),
+        None => &[],
+    }
+}

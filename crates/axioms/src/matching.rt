@@ -1,0 +1,79 @@
+//! Which candidates requirements match.
+
+ghost use Rattle.std.specs.Prelude.{◌≡◌, ◌&&◌, not};
+ghost use Rattle.std.specs.List.{list_any};
+ghost use Rattle.semver.specs.EvalViews.{matches_views};
+ghost use Rattle.semver.specs.Identifiers.{parts_of};
+ghost use Rattle.features.specs.Views.{dependency_view, requirement_view};
+ghost use Rattle.classes.specs.Classes.{class_view};
+ghost use Rattle.model.specs.Selection.{class_of};
+ghost use Rattle.model.specs.Vertices.{same_class};
+ghost use Rattle.refutations.specs.Causes.{has_class, is_unmatched};
+ghost use Rattle.axioms.specs.Views.{problem};
+ghost use Rattle.axioms.specs.Matching.{is_matched_in};
+
+use crate::known::Known;
+use classes::Class;
+use features::Dependency;
+use semver::{Version, VersionReq};
+
+/// Whether some candidate of the class is matched.
+pub(crate) fn has_class(known: &Known<'_>, class: Class, dependency: &Dependency) -> bool
+    ensures { result ≡ has_class (problem known.now) (class_view class) (dependency_view dependency.now) }
+{
+    some_matched_in(
+        class,
+        &dependency.requirement,
+        known.catalogue.versions(&dependency.real_name),
+    )
+}
+
+/// Whether no candidate is matched.
+pub(crate) fn is_unmatched(known: &Known<'_>, dependency: &Dependency) -> bool
+    ensures { result ≡ is_unmatched (problem known.now) (dependency_view dependency.now) }
+{
+    !some_matched(
+        &dependency.requirement,
+        known.catalogue.versions(&dependency.real_name),
+    )
+}
+
+fn some_matched_in(class: Class, requirement: &VersionReq, versions: &[Version]) -> bool
+    ensures { result ≡ list_any (λ v. is_matched_in (class_view class) (requirement_view requirement.now) (parts_of v)) versions.now }
+{
+    versions
+        .iter()
+        .any(|version| is_matched_in(class, requirement, version))
+}
+
+fn some_matched(requirement: &VersionReq, versions: &[Version]) -> bool
+    ensures { result ≡ list_any (λ v. matches_views (requirement_view requirement.now) (parts_of v)) versions.now }
+{
+    versions.iter().any(|version| is_matched(requirement, version))
+}
+
+/// Whether a version is of the class and matched.
+pub(crate) fn is_matched_in(class: Class, requirement: &VersionReq, version: &Version) -> bool
+    ensures { result ≡ is_matched_in (class_view class) (requirement_view requirement.now) (parts_of version.now) }
+{
+    is_in(class, version) && is_matched(requirement, version)
+}
+
+pub(crate) fn is_matched(requirement: &VersionReq, version: &Version) -> bool
+    ensures { result ≡ matches_views (requirement_view requirement.now) (parts_of version.now) }
+{
+    requirement.matches(version)
+}
+
+/// Whether a version is of the class.
+pub(crate) fn is_in(class: Class, version: &Version) -> bool
+    ensures { result ≡ same_class (class_view class) (class_of (parts_of version.now)) }
+{
+    is_same(class, Class::of(version))
+}
+
+pub(crate) fn is_same(a: Class, b: Class) -> bool
+    ensures { result ≡ same_class (class_view a) (class_view b) }
+{
+    a == b
+}
