@@ -2,6 +2,7 @@
 #![tactic(auto)]
 
 mod cause;
+mod entries;
 mod instance;
 mod known;
 mod lookups;
