@@ -1,4 +1,5 @@
 pub mod Views
 pub mod CauseViews
 pub mod Matching
+pub mod Needs
 pub mod Readings

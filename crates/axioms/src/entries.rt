@@ -23,7 +23,7 @@ pub(crate) fn enables(name: &PackageName, entry: &Entry) -> bool
 }
 
 pub(crate) fn some_enables(name: &PackageName, entries: &[Entry]) -> bool
-    ensures { result ≡ list_any (λ e. enables name.now (entry_view e)) entries.now }
+    ensures { result ≡ list_any (enables name.now) (entry_views entries.now) }
 {
     entries.iter().any(|entry| enables(name, entry))
 }
@@ -114,25 +114,25 @@ fn is_same(a: &Entry, b: &Entry) -> bool
 }
 
 pub(crate) fn has_feature(feature: &FeatureName, entries: &[Entry]) -> bool
-    ensures { result ≡ list_any (λ e. same_entry (model.feature feature.now) (entry_view e)) entries.now }
+    ensures { result ≡ list_any (same_entry (model.feature feature.now)) (entry_views entries.now) }
 {
     entries.iter().any(|entry| is_feature(feature, entry))
 }
 
 pub(crate) fn has_asking(name: &PackageName, feature: &FeatureName, entries: &[Entry]) -> bool
-    ensures { result ≡ list_any (λ e. same_entry (model.dependency_feature name.now feature.now) (entry_view e)) entries.now }
+    ensures { result ≡ list_any (same_entry (model.dependency_feature name.now feature.now)) (entry_views entries.now) }
 {
     entries.iter().any(|entry| is_asking(name, feature, entry))
 }
 
 pub(crate) fn has_weak(name: &PackageName, feature: &FeatureName, entries: &[Entry]) -> bool
-    ensures { result ≡ list_any (λ e. same_entry (model.weak_feature name.now feature.now) (entry_view e)) entries.now }
+    ensures { result ≡ list_any (same_entry (model.weak_feature name.now feature.now)) (entry_views entries.now) }
 {
     entries.iter().any(|entry| is_weak(name, feature, entry))
 }
 
 pub(crate) fn has_same(entry: &Entry, entries: &[Entry]) -> bool
-    ensures { result ≡ list_any (λ e. same_entry (entry_view entry.now) (entry_view e)) entries.now }
+    ensures { result ≡ list_any (same_entry (entry_view entry.now)) (entry_views entries.now) }
 {
     entries.iter().any(|other| is_same(entry, other))
 }

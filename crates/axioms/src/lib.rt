@@ -3,6 +3,7 @@
 
 mod cause;
 mod entries;
+mod finding;
 mod instance;
 mod known;
 mod lookups;
