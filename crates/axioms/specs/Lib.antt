@@ -1,4 +1,5 @@
 pub mod Views
+pub mod Asking
 pub mod CauseViews
 pub mod Matching
 pub mod Needs

@@ -1,7 +1,9 @@
 //! Whether terms are those of an instance of an axiom: each cause is looked up in the manifest and in the loaded index.
 #![tactic(auto)]
 
+mod asking;
 mod cause;
+mod checks;
 mod entries;
 mod finding;
 mod instance;
@@ -10,6 +12,7 @@ mod lookups;
 mod matching;
 mod reading;
 mod term;
+mod vertices;
 
 pub use instance::is_instance;
 pub use term::{OwnerName, State, Term, Vertex};

@@ -1,0 +1,123 @@
+//! What dependencies are asked for, by their lists and by entries.
+
+ghost use Rattle.std.specs.Prelude.{◌≡◌, ◌&&◌, List, ℕ, codes};
+ghost use Rattle.std.specs.List.{list_any};
+ghost use Rattle.semver.specs.Identifiers.{parts_of};
+ghost use Rattle.features.specs.Views.{dependency_view};
+ghost use Rattle.features.specs.EntryViews.{entry_views};
+ghost use Rattle.model.specs.Owner as model;
+ghost use Rattle.model.specs.Owner.{asked_of_target, dependency_feature, same_text};
+ghost use Rattle.refutations.specs.Causes.{asks_for, root_asks_for, same_entry, same_pair, some_entry};
+ghost use Rattle.axioms.specs.Asking.{row_asks, row_names};
+ghost use Rattle.axioms.specs.Views.{owner_view, problem};
+
+use crate::entries::{asks_for, has_asking};
+use crate::known::Known;
+use crate::lookups::brings;
+use crate::term::OwnerName;
+use features::{Dependency, Entry, FeatureName, FeatureTable, PackageName};
+use semver::Version;
+
+/// Whether a dependency asks for the feature by its list.
+pub(crate) fn is_listed(dependency: &Dependency, feature: &FeatureName) -> bool
+    ensures { result ≡ list_any (same_text feature.now) (asked_of_target (dependency_view dependency.now)) }
+{
+    has_name(feature, dependency.features.as_slice()) || is_default(dependency, feature)
+}
+
+fn has_name(feature: &FeatureName, features: &[FeatureName]) -> bool
+    ensures { result ≡ list_any (same_text feature.now) features.now }
+{
+    features.iter().any(|found| feature == found)
+}
+
+fn is_default(dependency: &Dependency, feature: &FeatureName) -> bool
+    ensures { result ≡ ((dependency_view dependency.now).default_features && same_text feature.now (codes "default")) }
+{
+    dependency.default_features && feature.as_str() == "default"
+}
+
+/// Whether the root asks its dependency for the feature by an entry.
+pub(crate) fn root_asks_for(
+    known: &Known<'_>,
+    owner: &OwnerName<'_>,
+    dependency: &Dependency,
+    feature: &FeatureName,
+) -> bool
+    ensures { result ≡ root_asks_for (problem known.now) (owner_view owner.now) (dependency_view dependency.now) feature.now }
+{
+    match owner {
+        OwnerName::Root => root_asks(known, &dependency.name, feature),
+        OwnerName::Version(_, _) => false,
+    }
+}
+
+fn root_asks(known: &Known<'_>, name: &PackageName, feature: &FeatureName) -> bool
+    ensures { result ≡ list_any (same_pair (name.now, feature.now)) (problem known.now).root_asks }
+{
+    some_row_names(known.manifest.features(), name, feature)
+}
+
+/// Whether some row has an entry `d/g` or `d?/g`.
+fn some_row_names(table: &FeatureTable, name: &PackageName, feature: &FeatureName) -> bool
+    ensures { result ≡ list_any (row_names name.now feature.now) table.now }
+{
+    'rows: for (_, entries) in table.iter() {
+        if some_names(name, feature, entries.as_slice()) {
+            return true;
+        }
+    }
+    false
+}
+
+#[tactic(auto, unfolding(crate::specs::Asking::row_names))]
+fn some_names(name: &PackageName, feature: &FeatureName, entries: &[Entry]) -> bool
+    ensures { (f : List ℕ) → result ≡ row_names name.now feature.now (f, entry_views entries.now) }
+{
+    has_named(name, feature, entries)
+}
+
+fn has_named(name: &PackageName, feature: &FeatureName, entries: &[Entry]) -> bool
+    ensures { result ≡ list_any (asks_for name.now feature.now) (entry_views entries.now) }
+{
+    entries.iter().any(|entry| asks_for(name, feature, entry))
+}
+
+/// Whether an entry `d/g` of the version asks for the feature.
+pub(crate) fn some_entry_asks(
+    known: &Known<'_>,
+    owner: &PackageName,
+    version: &Version,
+    name: &PackageName,
+    feature: &FeatureName,
+) -> bool
+    ensures { result ≡ some_entry (problem known.now) (same_entry (dependency_feature name.now feature.now)) owner.now (parts_of version.now) }
+{
+    match brings(known, &OwnerName::Version(owner, version)) {
+        Some(owner) => some_row_asks(&owner.features, name, feature),
+        None => false,
+    }
+}
+
+fn some_row_asks(table: &FeatureTable, name: &PackageName, feature: &FeatureName) -> bool
+    ensures { result ≡ list_any (row_asks name.now feature.now table.now) table.now }
+{
+    'rows: for (row, _) in table.iter() {
+        if row_asks(table, row, name, feature) {
+            return true;
+        }
+    }
+    false
+}
+
+#[tactic(auto, unfolding(crate::specs::Asking::row_asks))]
+fn row_asks(
+    table: &FeatureTable,
+    row: &FeatureName,
+    name: &PackageName,
+    feature: &FeatureName,
+) -> bool
+    ensures { (es : List model.Entry) → result ≡ row_asks name.now feature.now table.now (row.now, es) }
+{
+    has_asking(name, feature, table.entries(row))
+}
