@@ -1,3 +1,4 @@
 pub mod Brought
 pub mod Versions
 pub mod Places
+pub mod Asked

@@ -4,6 +4,7 @@
 mod asking;
 mod cause;
 mod checks;
+mod compare;
 mod entries;
 mod finding;
 mod instance;

@@ -1,0 +1,12 @@
+use Rattle.std.proofs.Common.{rules, ◌∙◌, sym}
+use Rattle.std.proofs.lemmas.Iterator.{YieldsList-from_slice}
+use Rattle.std.proofs.lemmas.Iterator.Search.{any_from_yields_List}
+use borrow.Author.Tests.{tests}
+use Rattle.features.specs.EntryViews.{entry_view}
+use Rattle.features.specs.declared.entry.Entry.{Entry}
+use Rattle.refutations.specs.Causes.{asks_for}
+use Rattle.axioms.proofs.Versions.{any-map}
+use Rattle.axioms.proofs.asking.has_named.Goals as goal
+
+pub returns : goal.returns
+returns c = any_from_yields_List (λ (e : Entry). asks_for c.args.name.now c.args.feature.now (entry_view e)) _ _ _ c.any.ensures.ran (YieldsList-from_slice c.args.entries.now cc) (λ x b q k. search (rules, tests)) ∙ sym (any-map (asks_for c.args.name.now c.args.feature.now) entry_view c.args.entries.now)

@@ -1,0 +1,114 @@
+//! Comparison of terms, as sets.
+
+ghost use Rattle.std.specs.Prelude.{◌≡◌, ◌&&◌, option_map};
+ghost use Rattle.std.specs.List.{list_all, list_any};
+ghost use Rattle.semver.specs.Identifiers.{parts_of};
+ghost use Rattle.classes.specs.Classes.{class_view};
+ghost use Rattle.model.specs.Content.{same_version};
+ghost use Rattle.model.specs.Derivation.{states_at};
+ghost use Rattle.model.specs.Vertices.{has_state, same_owner, same_state, same_vertex};
+ghost use Rattle.refutations.specs.Terms.{agree, is_within, same_at, same_states, same_terms};
+ghost use Rattle.axioms.specs.Comparing.{states_seen};
+ghost use Rattle.axioms.specs.Views.{owner_view, state_view, state_views, term_view, term_views, vertex_view};
+
+use crate::matching::is_same;
+use crate::term::{OwnerName, State, Term, Vertex};
+use semver::Version;
+
+/// Whether two lists of terms say the same of each vertex that one of them speaks of.
+pub(crate) fn same_terms(a: &[Term<'_>], b: &[Term<'_>]) -> bool
+    ensures { result ≡ same_terms (term_views a.now) (term_views b.now) }
+{
+    all_agree(a, b, a) && all_agree(a, b, b)
+}
+
+fn all_agree(a: &[Term<'_>], b: &[Term<'_>], terms: &[Term<'_>]) -> bool
+    ensures { result ≡ list_all (agree (term_views a.now) (term_views b.now)) (term_views terms.now) }
+{
+    terms.iter().all(|term| agree(a, b, &term.vertex))
+}
+
+fn agree(a: &[Term<'_>], b: &[Term<'_>], vertex: &Vertex<'_>) -> bool
+    ensures { result ≡ same_at (states_at (term_views a.now) (vertex_view vertex.now)) (states_at (term_views b.now) (vertex_view vertex.now)) }
+{
+    match (states_at(a, vertex), states_at(b, vertex)) {
+        (None, None) => true,
+        (Some(a), Some(b)) => same_states(a, b),
+        _ => false,
+    }
+}
+
+/// The states that the terms leave at a vertex.
+fn states_at<'s, 'a>(terms: &'s [Term<'a>], vertex: &Vertex<'_>) -> Option<&'s [State<'a>]>
+    ensures { option_map states_seen result ≡ states_at (term_views terms.entry.now) (vertex_view vertex.now) }
+{
+    'terms: for term in terms.iter() {
+        if same_vertex(vertex, &term.vertex) {
+            return Some(term.states.as_slice());
+        }
+    }
+    None
+}
+
+fn same_states(a: &[State<'_>], b: &[State<'_>]) -> bool
+    ensures { result ≡ same_states (state_views a.now) (state_views b.now) }
+{
+    is_within(a, b) && is_within(b, a)
+}
+
+fn is_within(a: &[State<'_>], b: &[State<'_>]) -> bool
+    ensures { result ≡ is_within (state_views a.now) (state_views b.now) }
+{
+    a.iter().all(|state| has_state(b, state))
+}
+
+pub(crate) fn has_state(states: &[State<'_>], state: &State<'_>) -> bool
+    ensures { result ≡ has_state (state_views states.now) (state_view state.now) }
+{
+    states.iter().any(|other| same_state(state, other))
+}
+
+fn same_state(a: &State<'_>, b: &State<'_>) -> bool
+    ensures { result ≡ same_state (state_view a.now) (state_view b.now) }
+{
+    match (a, b) {
+        (State::Absent, State::Absent) => true,
+        (State::Present, State::Present) => true,
+        (State::Version(a), State::Version(b)) => same_version(a, b),
+        (State::Class(a), State::Class(b)) => is_same(*a, *b),
+        _ => false,
+    }
+}
+
+fn same_version(a: &Version, b: &Version) -> bool
+    ensures { result ≡ same_version (parts_of a.now) (parts_of b.now) }
+{
+    a == b
+}
+
+fn same_owner(a: &OwnerName<'_>, b: &OwnerName<'_>) -> bool
+    ensures { result ≡ same_owner (owner_view a.now) (owner_view b.now) }
+{
+    match (a, b) {
+        (OwnerName::Root, OwnerName::Root) => true,
+        (OwnerName::Version(n, v), OwnerName::Version(m, w)) => *n == *m && same_version(v, w),
+        _ => false,
+    }
+}
+
+fn same_vertex(a: &Vertex<'_>, b: &Vertex<'_>) -> bool
+    ensures { result ≡ same_vertex (vertex_view a.now) (vertex_view b.now) }
+{
+    match (a, b) {
+        (Vertex::Root, Vertex::Root) => true,
+        (Vertex::Package(n, c), Vertex::Package(m, e)) => *n == *m && is_same(*c, *e),
+        (Vertex::Dependency(o, i), Vertex::Dependency(p, j)) => same_owner(o, p) && *i == *j,
+        (Vertex::Feature(n, c, f), Vertex::Feature(m, e, g)) => {
+            *n == *m && is_same(*c, *e) && *f == *g
+        }
+        (Vertex::Ask(n, v, i, g), Vertex::Ask(m, w, j, h)) => {
+            *n == *m && same_version(v, w) && *i == *j && *g == *h
+        }
+        _ => false,
+    }
+}
