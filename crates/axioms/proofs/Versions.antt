@@ -1,6 +1,6 @@
 -- Tests of the versions of a name are tests of its candidates.
 use Rattle.std.proofs.Common.{◌≡◌, Bool, true, false, cond, ◌&&◌, ◌||◌, List, [], ◌∷◌, map, filter, refl, sym, ap, ap₂, ◌∙◌}
-use Rattle.std.specs.List.{list_any}
+use Rattle.std.specs.List.{list_any, list_all}
 use Rattle.std.specs.Prelude.{ℕ}
 use Rattle.semver.specs.Parse.{Parts}
 use Rattle.semver.specs.Identifiers.{parts_of}
@@ -23,7 +23,11 @@ pub any-map : {X A : Type 0} (p : A → Bool) (view : X → A) (xs : List X) →
 any-map p view [] = refl
 any-map p view (x ∷ xs) = ap (λ b. p (view x) || b) (any-map p view xs)
 
-any-filter : {X : Type 0} (p q : X → Bool) (xs : List X) → list_any p (filter q xs) ≡ list_any (λ x. q x && p x) xs
+pub all-map : {X A : Type 0} (p : A → Bool) (view : X → A) (xs : List X) → list_all p (map view xs) ≡ list_all (λ x. p (view x)) xs
+all-map p view [] = refl
+all-map p view (x ∷ xs) = ap (λ b. p (view x) && b) (all-map p view xs)
+
+pub any-filter : {X : Type 0} (p q : X → Bool) (xs : List X) → list_any p (filter q xs) ≡ list_any (λ x. q x && p x) xs
 any-filter p q [] = refl
 any-filter {X = X} p q (x ∷ xs) = by (q x) (any-filter p q xs)
   where

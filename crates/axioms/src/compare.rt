@@ -16,19 +16,19 @@ use crate::term::{OwnerName, State, Term, Vertex};
 use semver::Version;
 
 /// Whether two lists of terms say the same of each vertex that one of them speaks of.
-pub(crate) fn same_terms(a: &[Term<'_>], b: &[Term<'_>]) -> bool
+pub(crate) fn same_terms<'a>(a: &[Term<'a>], b: &[Term<'a>]) -> bool
     ensures { result ≡ same_terms (term_views a.now) (term_views b.now) }
 {
     all_agree(a, b, a) && all_agree(a, b, b)
 }
 
-fn all_agree(a: &[Term<'_>], b: &[Term<'_>], terms: &[Term<'_>]) -> bool
+fn all_agree<'a>(a: &[Term<'a>], b: &[Term<'a>], terms: &[Term<'a>]) -> bool
     ensures { result ≡ list_all (agree (term_views a.now) (term_views b.now)) (term_views terms.now) }
 {
     terms.iter().all(|term| agree(a, b, &term.vertex))
 }
 
-fn agree(a: &[Term<'_>], b: &[Term<'_>], vertex: &Vertex<'_>) -> bool
+fn agree<'a>(a: &[Term<'a>], b: &[Term<'a>], vertex: &Vertex<'a>) -> bool
     ensures { result ≡ same_at (states_at (term_views a.now) (vertex_view vertex.now)) (states_at (term_views b.now) (vertex_view vertex.now)) }
 {
     match (states_at(a, vertex), states_at(b, vertex)) {
@@ -50,13 +50,13 @@ fn states_at<'s, 'a>(terms: &'s [Term<'a>], vertex: &Vertex<'_>) -> Option<&'s [
     None
 }
 
-fn same_states(a: &[State<'_>], b: &[State<'_>]) -> bool
+fn same_states<'a>(a: &[State<'a>], b: &[State<'a>]) -> bool
     ensures { result ≡ same_states (state_views a.now) (state_views b.now) }
 {
     is_within(a, b) && is_within(b, a)
 }
 
-fn is_within(a: &[State<'_>], b: &[State<'_>]) -> bool
+fn is_within<'a>(a: &[State<'a>], b: &[State<'a>]) -> bool
     ensures { result ≡ is_within (state_views a.now) (state_views b.now) }
 {
     a.iter().all(|state| has_state(b, state))
