@@ -2,3 +2,4 @@ pub mod Brought
 pub mod Versions
 pub mod Places
 pub mod Asked
+pub mod Spaces

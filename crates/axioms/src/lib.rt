@@ -7,6 +7,7 @@ mod checks;
 mod compare;
 mod entries;
 mod finding;
+mod full;
 mod instance;
 mod known;
 mod lookups;

@@ -1,0 +1,138 @@
+//! Full terms: those with all states of their vertices.
+
+ghost use Rattle.std.specs.Prelude.{◌≡◌, IfOk, map};
+ghost use Rattle.std.specs.List.{list_all};
+ghost use Rattle.features.specs.Views.{dependency_view};
+ghost use Rattle.model.specs.Axioms.{is_full, without_full};
+ghost use Rattle.model.specs.Vertices.{dep_classes, has_state};
+ghost use Rattle.model.specs.Vertices as model;
+ghost use Rattle.classes.specs.Classes.{class_view};
+ghost use Rattle.semver.specs.Identifiers.{parts_of};
+ghost use Rattle.features.specs.Views.{requirement_view};
+ghost use Rattle.axioms.specs.Full.{has_if_in, has_if_matched, others};
+ghost use Rattle.axioms.specs.Views.{owner_view, problem, state_views, term_view, term_views, vertex_view};
+
+use crate::compare::has_state;
+use crate::known::Known;
+use crate::lookups::dependency_at;
+use crate::matching::{is_in, is_matched};
+use crate::term::{OwnerName, State, Term, Vertex};
+use classes::Class;
+use features::{Dependency, PackageName};
+use semver::{Version, VersionReq};
+use std::alloc::{AllocError, Global};
+
+/// The terms that aren't full.
+pub(crate) fn without_full<'a>(
+    alloc: Global,
+    known: &Known<'a>,
+    terms: Vec<Term<'a>>,
+) -> Result<Vec<Term<'a>>, AllocError>
+    ensures { IfOk result (λ v. term_views v.items ≡ without_full (problem known.now) (term_views terms.entry.items)) }
+{
+    let mut kept = Vec::new(alloc);
+    'terms: for term in terms {
+        if !is_full(known, &term) {
+            kept.push(term)?;
+        }
+    }
+    Ok(kept)
+}
+
+/// Whether all states of the vertex are among these.
+fn is_full<'a>(known: &Known<'a>, term: &Term<'a>) -> bool
+    ensures { result ≡ is_full (problem known.now) (term_view term.now) }
+{
+    has_absent(&term.states) && has_others(known, &term.vertex, &term.states)
+}
+
+fn has_absent(states: &[State<'_>]) -> bool
+    ensures { result ≡ has_state (state_views states.now) model.absent }
+{
+    has_state(states, &State::Absent)
+}
+
+/// Whether the states have all of the vertex but `absent`.
+fn has_others<'a>(known: &Known<'a>, vertex: &Vertex<'a>, states: &[State<'a>]) -> bool
+    ensures { result ≡ list_all (has_state (state_views states.now)) (others (problem known.now) (vertex_view vertex.now)) }
+{
+    match vertex {
+        Vertex::Root => has_state(states, &State::Present),
+        Vertex::Package(name, class) => has_versions(known, name, *class, states),
+        Vertex::Dependency(owner, number) => has_classes(known, owner, *number, states),
+        Vertex::Feature(_, _, _) => has_state(states, &State::Present),
+        Vertex::Ask(_, _, _, _) => has_state(states, &State::Present),
+    }
+}
+
+fn has_versions(known: &Known<'_>, name: &PackageName, class: Class, states: &[State<'_>]) -> bool
+    ensures { result ≡ list_all (has_state (state_views states.now)) (others (problem known.now) (model.pkg name.now (class_view class))) }
+{
+    all_in(known.catalogue.versions(name), class, states)
+}
+
+fn all_in(versions: &[Version], class: Class, states: &[State<'_>]) -> bool
+    ensures { result ≡ list_all (λ v. has_if_in (state_views states.now) (class_view class) (parts_of v)) versions.now }
+{
+    versions
+        .iter()
+        .all(|version| has_if_in(states, class, version))
+}
+
+#[tactic(auto, unfolding(crate::specs::Full::has_if_in))]
+fn has_if_in(states: &[State<'_>], class: Class, version: &Version) -> bool
+    ensures { result ≡ has_if_in (state_views states.now) (class_view class) (parts_of version.now) }
+{
+    !is_in(class, version) || has_version(states, version)
+}
+
+fn has_version(states: &[State<'_>], version: &Version) -> bool
+    ensures { result ≡ has_state (state_views states.now) (model.version (parts_of version.now)) }
+{
+    has_state(states, &State::Version(version))
+}
+
+fn has_classes(
+    known: &Known<'_>,
+    owner: &OwnerName<'_>,
+    number: usize,
+    states: &[State<'_>],
+) -> bool
+    ensures { result ≡ list_all (has_state (state_views states.now)) (others (problem known.now) (model.dep (owner_view owner.now) number)) }
+{
+    match dependency_at(known, owner, number) {
+        Some(dependency) => has_classes_of(known, dependency, states),
+        None => true,
+    }
+}
+
+fn has_classes_of(known: &Known<'_>, dependency: &Dependency, states: &[State<'_>]) -> bool
+    ensures { result ≡ list_all (has_state (state_views states.now)) (map model.in_class (dep_classes (problem known.now) (dependency_view dependency.now))) }
+{
+    all_matched(
+        known.catalogue.versions(&dependency.real_name),
+        &dependency.requirement,
+        states,
+    )
+}
+
+fn all_matched(versions: &[Version], requirement: &VersionReq, states: &[State<'_>]) -> bool
+    ensures { result ≡ list_all (λ v. has_if_matched (state_views states.now) (requirement_view requirement.now) (parts_of v)) versions.now }
+{
+    versions
+        .iter()
+        .all(|version| has_if_matched(states, requirement, version))
+}
+
+#[tactic(auto, unfolding(crate::specs::Full::has_if_matched))]
+fn has_if_matched(states: &[State<'_>], requirement: &VersionReq, version: &Version) -> bool
+    ensures { result ≡ has_if_matched (state_views states.now) (requirement_view requirement.now) (parts_of version.now) }
+{
+    !is_matched(requirement, version) || has_class(states, Class::of(version))
+}
+
+fn has_class(states: &[State<'_>], class: Class) -> bool
+    ensures { result ≡ has_state (state_views states.now) (model.in_class (class_view class)) }
+{
+    has_state(states, &State::Class(class))
+}
