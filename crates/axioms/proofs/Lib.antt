@@ -3,3 +3,4 @@ pub mod Versions
 pub mod Places
 pub mod Asked
 pub mod Spaces
+pub mod Taken

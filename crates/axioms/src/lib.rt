@@ -14,6 +14,7 @@ mod lookups;
 mod matching;
 mod reading;
 mod term;
+mod terms;
 mod vertices;
 
 pub use instance::is_instance;

@@ -10,7 +10,7 @@ ghost use Rattle.model.specs.Selection.{class_of};
 ghost use Rattle.model.specs.Vertices.{same_class};
 ghost use Rattle.refutations.specs.Causes.{has_class, is_unmatched};
 ghost use Rattle.axioms.specs.Views.{problem};
-ghost use Rattle.axioms.specs.Matching.{is_matched_in};
+ghost use Rattle.axioms.specs.Matching.{is_left_in, is_matched_in, is_taken_in};
 
 use crate::known::Known;
 use classes::Class;
@@ -76,4 +76,20 @@ pub(crate) fn is_same(a: Class, b: Class) -> bool
     ensures { result ≡ same_class (class_view a) (class_view b) }
 {
     a == b
+}
+
+/// Whether a version is of the class and not matched.
+#[tactic(auto, unfolding(crate::specs::Matching::is_left_in))]
+pub(crate) fn is_left_in(class: Class, requirement: &VersionReq, version: &Version) -> bool
+    ensures { result ≡ is_left_in (class_view class) (requirement_view requirement.now) (parts_of version.now) }
+{
+    is_in(class, version) && !is_matched(requirement, version)
+}
+
+/// Whether a version is of the class and matched.
+#[tactic(auto, unfolding(crate::specs::Matching::is_taken_in))]
+pub(crate) fn is_taken_in(class: Class, requirement: &VersionReq, version: &Version) -> bool
+    ensures { result ≡ is_taken_in (class_view class) (requirement_view requirement.now) (parts_of version.now) }
+{
+    is_matched_in(class, requirement, version)
 }

@@ -1,0 +1,470 @@
+//! The terms of the instance that a cause gives rise to.
+
+ghost use Rattle.std.specs.Prelude.{◌≡◌, ◌∷◌, [], IfOk, map, not, slice_get};
+ghost use Rattle.semver.specs.Identifiers.{parts_of};
+ghost use Rattle.classes.specs.Classes.{class_view};
+ghost use Rattle.features.specs.Views.{dependency_view, requirement_view};
+ghost use Rattle.model.specs.Axioms.{absent_or, at, matched, owner_holds, versions_that};
+ghost use Rattle.model.specs.Content.{candidates_of};
+ghost use Rattle.model.specs.Owner.{has_feature};
+ghost use Rattle.model.specs.Selection.{class_of};
+ghost use Rattle.model.specs.Vertices as model;
+ghost use Rattle.refutations.specs.Causes as causes;
+ghost use Rattle.refutations.specs.Causes.{feature_holds, terms_of_cause};
+ghost use Rattle.axioms.specs.CauseViews.{cause_view};
+ghost use Rattle.axioms.specs.Matching.{is_left_in, is_taken_in, versions_with};
+ghost use Rattle.axioms.specs.Views.{owner_view, problem, state_view, state_views, term_view, term_views, vertex_view};
+
+use crate::cause::Cause;
+use crate::known::Known;
+use crate::lookups::dependency_at;
+use crate::matching::{is_in, is_left_in, is_taken_in};
+use crate::term::{OwnerName, State, Term, Vertex};
+use classes::Class;
+use features::{Dependency, FeatureName, PackageName};
+use semver::{Version, VersionReq};
+use std::alloc::{AllocError, Global};
+
+/// The terms of the instance.
+pub(crate) fn terms_of_cause<'a>(
+    alloc: Global,
+    known: &Known<'a>,
+    cause: &Cause<'a>,
+) -> Result<Vec<Term<'a>>, AllocError>
+    ensures { IfOk result (λ v. term_views v.items ≡ terms_of_cause (problem known.now) (cause_view cause.now)) }
+{
+    match *cause {
+        Cause::Root => one(alloc, term(alloc, Vertex::Root, State::Absent)?),
+        Cause::Need(owner, number) => need_terms(alloc, owner, number),
+        Cause::Target(owner, number, class) => target_terms(alloc, known, owner, number, class),
+        Cause::Feature(name, class, feature) => {
+            feature_terms(alloc, known, name, class, feature)
+        }
+        Cause::List(owner, number, class, feature) => {
+            list_terms(alloc, known, owner, number, class, feature)
+        }
+        Cause::Ask(name, version, number, feature, class) => {
+            ask_terms(alloc, known, name, version, number, feature, class)
+        }
+        Cause::Entry(name, version, on, off) => entry_terms(alloc, name, version, on, off),
+        Cause::Enabling(name, version, on, _, number) => {
+            enabling_terms(alloc, name, version, on, number)
+        }
+        Cause::Asking(name, version, on, asked, number) => {
+            asking_terms(alloc, name, version, on, asked, number)
+        }
+        Cause::Newest(owner, number, other, class, higher) => {
+            newest_terms(alloc, known, owner, number, other, class, higher)
+        }
+        Cause::Weak(name, version, on, off, number, class) => {
+            weak_terms(alloc, known, name, version, on, off, number, class)
+        }
+    }
+}
+
+/// A vertex with one state.
+fn term<'a>(alloc: Global, vertex: Vertex<'a>, state: State<'a>) -> Result<Term<'a>, AllocError>
+    ensures { IfOk result (λ t. term_view t ≡ at (vertex_view vertex.entry) (state_view state.entry ∷ [])) }
+{
+    let mut states = Vec::new(alloc);
+    states.push(state)?;
+    Ok(Term { vertex, states })
+}
+
+fn one(alloc: Global, a: Term<'_>) -> Result<Vec<Term<'_>>, AllocError>
+    ensures { IfOk result (λ v. term_views v.items ≡ term_view a.entry ∷ []) }
+{
+    let mut terms = Vec::new(alloc);
+    terms.push(a)?;
+    Ok(terms)
+}
+
+fn two<'a>(alloc: Global, a: Term<'a>, b: Term<'a>) -> Result<Vec<Term<'a>>, AllocError>
+    ensures { IfOk result (λ v. term_views v.items ≡ term_view a.entry ∷ term_view b.entry ∷ []) }
+{
+    let mut terms = one(alloc, a)?;
+    terms.push(b)?;
+    Ok(terms)
+}
+
+fn three<'a>(
+    alloc: Global,
+    a: Term<'a>,
+    b: Term<'a>,
+    c: Term<'a>,
+) -> Result<Vec<Term<'a>>, AllocError>
+    ensures { IfOk result (λ v. term_views v.items ≡ term_view a.entry ∷ term_view b.entry ∷ term_view c.entry ∷ []) }
+{
+    let mut terms = two(alloc, a, b)?;
+    terms.push(c)?;
+    Ok(terms)
+}
+
+/// The owner holds.
+fn holds<'a>(alloc: Global, owner: OwnerName<'a>) -> Result<Term<'a>, AllocError>
+    ensures { IfOk result (λ t. term_view t ≡ owner_holds (owner_view owner.entry)) }
+{
+    match owner {
+        OwnerName::Root => term(alloc, Vertex::Root, State::Present),
+        OwnerName::Version(name, version) => chosen(alloc, name, version),
+    }
+}
+
+/// The version is chosen.
+fn chosen<'a>(
+    alloc: Global,
+    name: &'a PackageName,
+    version: &'a Version,
+) -> Result<Term<'a>, AllocError>
+    ensures { IfOk result (λ t. term_view t ≡ at (model.pkg name.entry.now (class_of (parts_of version.entry.now))) (model.version (parts_of version.entry.now) ∷ [])) }
+{
+    term(
+        alloc,
+        Vertex::Package(name, Class::of(version)),
+        State::Version(version),
+    )
+}
+
+/// The feature of the version is on.
+fn on_term<'a>(
+    alloc: Global,
+    name: &'a PackageName,
+    version: &'a Version,
+    feature: &'a FeatureName,
+) -> Result<Term<'a>, AllocError>
+    ensures { IfOk result (λ t. term_view t ≡ at (model.feat name.entry.now (class_of (parts_of version.entry.now)) feature.entry.now) (model.present ∷ [])) }
+{
+    term(
+        alloc,
+        Vertex::Feature(name, Class::of(version), feature),
+        State::Present,
+    )
+}
+
+fn need_terms(alloc: Global, owner: OwnerName<'_>, number: usize) -> Result<Vec<Term<'_>>, AllocError>
+    ensures { IfOk result (λ v. term_views v.items ≡ owner_holds (owner_view owner.entry) ∷ at (model.dep (owner_view owner.entry) number) (model.absent ∷ []) ∷ []) }
+{
+    two(
+        alloc,
+        holds(alloc, owner)?,
+        term(alloc, Vertex::Dependency(owner, number), State::Absent)?,
+    )
+}
+
+fn entry_terms<'a>(
+    alloc: Global,
+    name: &'a PackageName,
+    version: &'a Version,
+    on: &'a FeatureName,
+    off: &'a FeatureName,
+) -> Result<Vec<Term<'a>>, AllocError>
+    ensures { IfOk result (λ v. term_views v.items ≡ feature_holds name.entry.now (parts_of version.entry.now) on.entry.now (at (model.feat name.entry.now (class_of (parts_of version.entry.now)) off.entry.now) (model.absent ∷ []) ∷ [])) }
+{
+    three(
+        alloc,
+        chosen(alloc, name, version)?,
+        on_term(alloc, name, version, on)?,
+        term(
+            alloc,
+            Vertex::Feature(name, Class::of(version), off),
+            State::Absent,
+        )?,
+    )
+}
+
+fn enabling_terms<'a>(
+    alloc: Global,
+    name: &'a PackageName,
+    version: &'a Version,
+    on: &'a FeatureName,
+    number: usize,
+) -> Result<Vec<Term<'a>>, AllocError>
+    ensures { IfOk result (λ v. term_views v.items ≡ feature_holds name.entry.now (parts_of version.entry.now) on.entry.now (at (model.dep (model.version_of name.entry.now (parts_of version.entry.now)) number) (model.absent ∷ []) ∷ [])) }
+{
+    three(
+        alloc,
+        chosen(alloc, name, version)?,
+        on_term(alloc, name, version, on)?,
+        term(
+            alloc,
+            Vertex::Dependency(OwnerName::Version(name, version), number),
+            State::Absent,
+        )?,
+    )
+}
+
+fn asking_terms<'a>(
+    alloc: Global,
+    name: &'a PackageName,
+    version: &'a Version,
+    on: &'a FeatureName,
+    asked: &'a FeatureName,
+    number: usize,
+) -> Result<Vec<Term<'a>>, AllocError>
+    ensures { IfOk result (λ v. term_views v.items ≡ feature_holds name.entry.now (parts_of version.entry.now) on.entry.now (at (model.ask name.entry.now (parts_of version.entry.now) number asked.entry.now) (model.absent ∷ []) ∷ [])) }
+{
+    three(
+        alloc,
+        chosen(alloc, name, version)?,
+        on_term(alloc, name, version, on)?,
+        term(
+            alloc,
+            Vertex::Ask(name, version, number, asked),
+            State::Absent,
+        )?,
+    )
+}
+
+fn target_terms<'a>(
+    alloc: Global,
+    known: &Known<'a>,
+    owner: OwnerName<'a>,
+    number: usize,
+    class: Class,
+) -> Result<Vec<Term<'a>>, AllocError>
+    ensures { IfOk result (λ v. term_views v.items ≡ terms_of_cause (problem known.now) (causes.of_target (owner_view owner.entry) number (class_view class))) }
+{
+    match dependency_at(known, &owner, number) {
+        Some(dependency) => two(
+            alloc,
+            term(alloc, Vertex::Dependency(owner, number), State::Class(class))?,
+            left_term(alloc, known, dependency, class)?,
+        ),
+        None => Ok(Vec::new(alloc)),
+    }
+}
+
+/// The package is absent or has a version of the class that isn't matched.
+fn left_term<'a>(
+    alloc: Global,
+    known: &Known<'a>,
+    dependency: &'a Dependency,
+    class: Class,
+) -> Result<Term<'a>, AllocError>
+    ensures { IfOk result (λ t. term_view t ≡ at (model.pkg (dependency_view dependency.entry.now).real_name (class_view class)) (absent_or (problem known.now) (λ c. not (matched (dependency_view dependency.entry.now) c)) (dependency_view dependency.entry.now).real_name (class_view class))) }
+{
+    let versions = known.catalogue.versions(&dependency.real_name);
+    let states = left_states(alloc, class, &dependency.requirement, versions)?;
+    Ok(Term {
+        vertex: Vertex::Package(&dependency.real_name, class),
+        states,
+    })
+}
+
+/// `absent`, and the versions of the class that aren't matched.
+fn left_states<'a>(
+    alloc: Global,
+    class: Class,
+    requirement: &VersionReq,
+    versions: &'a [Version],
+) -> Result<Vec<State<'a>>, AllocError>
+    ensures { IfOk result (λ v. state_views v.items ≡ model.absent ∷ versions_with (is_left_in (class_view class) (requirement_view requirement.now)) (map parts_of versions.entry.now)) }
+{
+    let mut states = Vec::new(alloc);
+    states.push(State::Absent)?;
+    'versions: for version in versions.iter() {
+        if is_left_in(class, requirement, version) {
+            states.push(State::Version(version))?;
+        }
+    }
+    Ok(states)
+}
+
+/// The package has a version of the class that is matched.
+fn taken_term<'a>(
+    alloc: Global,
+    known: &Known<'a>,
+    dependency: &'a Dependency,
+    class: Class,
+) -> Result<Term<'a>, AllocError>
+    ensures { IfOk result (λ t. term_view t ≡ at (model.pkg (dependency_view dependency.entry.now).real_name (class_view class)) (versions_that (problem known.now) (matched (dependency_view dependency.entry.now)) (dependency_view dependency.entry.now).real_name (class_view class))) }
+{
+    let versions = known.catalogue.versions(&dependency.real_name);
+    let states = taken_states(alloc, class, &dependency.requirement, versions)?;
+    Ok(Term {
+        vertex: Vertex::Package(&dependency.real_name, class),
+        states,
+    })
+}
+
+/// The versions of the class that are matched.
+fn taken_states<'a>(
+    alloc: Global,
+    class: Class,
+    requirement: &VersionReq,
+    versions: &'a [Version],
+) -> Result<Vec<State<'a>>, AllocError>
+    ensures { IfOk result (λ v. state_views v.items ≡ versions_with (is_taken_in (class_view class) (requirement_view requirement.now)) (map parts_of versions.entry.now)) }
+{
+    let mut states = Vec::new(alloc);
+    'versions: for version in versions.iter() {
+        if is_taken_in(class, requirement, version) {
+            states.push(State::Version(version))?;
+        }
+    }
+    Ok(states)
+}
+
+fn list_terms<'a>(
+    alloc: Global,
+    known: &Known<'a>,
+    owner: OwnerName<'a>,
+    number: usize,
+    class: Class,
+    feature: &'a FeatureName,
+) -> Result<Vec<Term<'a>>, AllocError>
+    ensures { IfOk result (λ v. term_views v.items ≡ terms_of_cause (problem known.now) (causes.of_list (owner_view owner.entry) number (class_view class) feature.entry.now)) }
+{
+    match dependency_at(known, &owner, number) {
+        Some(dependency) => two(
+            alloc,
+            term(alloc, Vertex::Dependency(owner, number), State::Class(class))?,
+            off_term(alloc, dependency, class, feature)?,
+        ),
+        None => Ok(Vec::new(alloc)),
+    }
+}
+
+/// The feature is off in the class.
+fn off_term<'a>(
+    alloc: Global,
+    dependency: &'a Dependency,
+    class: Class,
+    feature: &'a FeatureName,
+) -> Result<Term<'a>, AllocError>
+    ensures { IfOk result (λ t. term_view t ≡ at (model.feat (dependency_view dependency.entry.now).real_name (class_view class) feature.entry.now) (model.absent ∷ [])) }
+{
+    term(
+        alloc,
+        Vertex::Feature(&dependency.real_name, class, feature),
+        State::Absent,
+    )
+}
+
+fn ask_terms<'a>(
+    alloc: Global,
+    known: &Known<'a>,
+    name: &'a PackageName,
+    version: &'a Version,
+    number: usize,
+    feature: &'a FeatureName,
+    class: Class,
+) -> Result<Vec<Term<'a>>, AllocError>
+    ensures { IfOk result (λ v. term_views v.items ≡ terms_of_cause (problem known.now) (causes.of_ask name.entry.now (parts_of version.entry.now) number feature.entry.now (class_view class))) }
+{
+    let owner = OwnerName::Version(name, version);
+    match dependency_at(known, &owner, number) {
+        Some(dependency) => three(
+            alloc,
+            term(
+                alloc,
+                Vertex::Ask(name, version, number, feature),
+                State::Present,
+            )?,
+            term(alloc, Vertex::Dependency(owner, number), State::Class(class))?,
+            off_term(alloc, dependency, class, feature)?,
+        ),
+        None => Ok(Vec::new(alloc)),
+    }
+}
+
+fn newest_terms<'a>(
+    alloc: Global,
+    known: &Known<'a>,
+    owner: OwnerName<'a>,
+    number: usize,
+    other: usize,
+    class: Class,
+    higher: Class,
+) -> Result<Vec<Term<'a>>, AllocError>
+    ensures { IfOk result (λ v. term_views v.items ≡ terms_of_cause (problem known.now) (causes.of_newest (owner_view owner.entry) number other (class_view class) (class_view higher))) }
+{
+    match dependency_at(known, &owner, number) {
+        Some(dependency) => three(
+            alloc,
+            term(alloc, Vertex::Dependency(owner, number), State::Class(class))?,
+            term(alloc, Vertex::Dependency(owner, other), State::Class(higher))?,
+            taken_term(alloc, known, dependency, higher)?,
+        ),
+        None => Ok(Vec::new(alloc)),
+    }
+}
+
+fn weak_terms<'a>(
+    alloc: Global,
+    known: &Known<'a>,
+    name: &'a PackageName,
+    version: &'a Version,
+    on: &'a FeatureName,
+    off: &'a FeatureName,
+    number: usize,
+    class: Class,
+) -> Result<Vec<Term<'a>>, AllocError>
+    ensures { IfOk result (λ v. term_views v.items ≡ terms_of_cause (problem known.now) (causes.of_weak name.entry.now (parts_of version.entry.now) on.entry.now off.entry.now number (class_view class))) }
+{
+    let owner = OwnerName::Version(name, version);
+    match dependency_at(known, &owner, number) {
+        Some(dependency) => {
+            let mut terms = three(
+                alloc,
+                chosen(alloc, name, version)?,
+                on_term(alloc, name, version, on)?,
+                term(alloc, Vertex::Dependency(owner, number), State::Class(class))?,
+            )?;
+            terms.push(off_term(alloc, dependency, class, off)?)?;
+            Ok(terms)
+        }
+        None => Ok(Vec::new(alloc)),
+    }
+}
+
+fn feature_terms<'a>(
+    alloc: Global,
+    known: &Known<'a>,
+    name: &'a PackageName,
+    class: Class,
+    feature: &'a FeatureName,
+) -> Result<Vec<Term<'a>>, AllocError>
+    ensures { IfOk result (λ v. term_views v.items ≡ terms_of_cause (problem known.now) (causes.of_feature name.entry.now (class_view class) feature.entry.now)) }
+{
+    let states = lacking_states(alloc, known, name, class, feature)?;
+    let lacking = Term {
+        vertex: Vertex::Package(name, class),
+        states,
+    };
+    two(
+        alloc,
+        term(alloc, Vertex::Feature(name, class, feature), State::Present)?,
+        lacking,
+    )
+}
+
+/// `absent`, and the versions of the class that lack the feature.
+fn lacking_states<'a>(
+    alloc: Global,
+    known: &Known<'a>,
+    name: &PackageName,
+    class: Class,
+    feature: &FeatureName,
+) -> Result<Vec<State<'a>>, AllocError>
+    ensures { IfOk result (λ v. state_views v.items ≡ absent_or (problem known.now) (λ c. not (has_feature c.brings.features feature.now)) name.now (class_view class)) }
+{
+    let mut states = Vec::new(alloc);
+    states.push(State::Absent)?;
+    'versions: for (place, version) in known.catalogue.versions(name).iter().enumerate() {
+        if is_in(class, version) && lacks(known, name, place, feature) {
+            states.push(State::Version(version))?;
+        }
+    }
+    Ok(states)
+}
+
+/// Whether there is a candidate at the place, and it lacks the feature.
+fn lacks(known: &Known<'_>, name: &PackageName, place: usize, feature: &FeatureName) -> bool
+    ensures { result ≡ causes.passes (λ c. not (has_feature c.brings.features feature.now)) (slice_get (candidates_of (problem known.now).candidates name.now) place) }
+{
+    match known.catalogue.record(name, place) {
+        Some(candidate) => !candidate.brings.features.has(feature),
+        None => false,
+    }
+}
