@@ -4,3 +4,4 @@ pub mod Places
 pub mod Asked
 pub mod Spaces
 pub mod Taken
+pub mod Recorded
