@@ -1,0 +1,12 @@
+use Rattle.std.proofs.Common.{◌∙◌, ap, sym}
+use Rattle.semver.specs.Identifiers.{parts_of}
+use Rattle.features.specs.Views as features
+use Rattle.model.specs.Vertices.{owner_brings, version_of}
+use Rattle.axioms.specs.Views.{brings_view, problem}
+use Rattle.axioms.proofs.Asked.{owner_may_ask}
+use Rattle.axioms.proofs.asking.some_entry_names.Goals as goal
+
+pub returns-in-Some : goal.returns-in-Some
+returns-in-Some c = c.some_row_may_ask.ensures
+    ∙ owner_may_ask c.args.name.now c.args.feature.now (features.owner_view c.in-Some.owner.now) (owner_brings (problem c.args.known.now) (version_of c.args.owner.now (parts_of c.args.version.now)))
+    (sym (ap brings_view c.in-Some.is) ∙ c.brings.ensures)
