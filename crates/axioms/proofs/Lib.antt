@@ -5,3 +5,5 @@ pub mod Asked
 pub mod Spaces
 pub mod Taken
 pub mod Recorded
+pub mod Featured
+pub mod Lacking

@@ -12,7 +12,7 @@ ghost use Rattle.model.specs.Vertices as model;
 ghost use Rattle.refutations.specs.Causes as causes;
 ghost use Rattle.refutations.specs.Causes.{feature_holds, terms_of_cause};
 ghost use Rattle.axioms.specs.CauseViews.{cause_view};
-ghost use Rattle.axioms.specs.Matching.{is_left_in, is_taken_in, versions_with};
+ghost use Rattle.axioms.specs.Matching.{is_lacking, is_left_in, is_taken_in, placed_with, versions_with};
 ghost use Rattle.axioms.specs.Views.{owner_view, problem, state_view, state_views, term_view, term_views, vertex_view};
 
 use crate::cause::Cause;
@@ -427,11 +427,7 @@ fn feature_terms<'a>(
 ) -> Result<Vec<Term<'a>>, AllocError>
     ensures { IfOk result (λ v. term_views v.items ≡ terms_of_cause (problem known.now) (causes.of_feature name.entry.now (class_view class) feature.entry.now)) }
 {
-    let states = lacking_states(alloc, known, name, class, feature)?;
-    let lacking = Term {
-        vertex: Vertex::Package(name, class),
-        states,
-    };
+    let lacking = lacking_term(alloc, known, name, class, feature)?;
     two(
         alloc,
         term(alloc, Vertex::Feature(name, class, feature), State::Present)?,
@@ -439,24 +435,57 @@ fn feature_terms<'a>(
     )
 }
 
+/// The package is absent or has a version of the class that lacks the feature.
+fn lacking_term<'a>(
+    alloc: Global,
+    known: &Known<'a>,
+    name: &'a PackageName,
+    class: Class,
+    feature: &FeatureName,
+) -> Result<Term<'a>, AllocError>
+    ensures { IfOk result (λ t. term_view t ≡ at (model.pkg name.entry.now (class_view class)) (absent_or (problem known.now) (λ c. not (has_feature c.brings.features feature.now)) name.entry.now (class_view class))) }
+{
+    let versions = known.catalogue.versions(name);
+    let states = lacking_states(alloc, known, name, class, feature, versions)?;
+    Ok(Term {
+        vertex: Vertex::Package(name, class),
+        states,
+    })
+}
+
 /// `absent`, and the versions of the class that lack the feature.
 fn lacking_states<'a>(
     alloc: Global,
-    known: &Known<'a>,
+    known: &Known<'_>,
     name: &PackageName,
     class: Class,
     feature: &FeatureName,
+    versions: &'a [Version],
 ) -> Result<Vec<State<'a>>, AllocError>
-    ensures { IfOk result (λ v. state_views v.items ≡ absent_or (problem known.now) (λ c. not (has_feature c.brings.features feature.now)) name.now (class_view class)) }
+    ensures { IfOk result (λ v. state_views v.items ≡ model.absent ∷ placed_with (is_lacking (problem known.now) name.now (class_view class) feature.now) 0 (map parts_of versions.entry.now)) }
 {
     let mut states = Vec::new(alloc);
     states.push(State::Absent)?;
-    'versions: for (place, version) in known.catalogue.versions(name).iter().enumerate() {
-        if is_in(class, version) && lacks(known, name, place, feature) {
+    'versions: for (place, version) in versions.iter().enumerate() {
+        if is_lacking(known, name, class, feature, place, version) {
             states.push(State::Version(version))?;
         }
     }
     Ok(states)
+}
+
+#[tactic(auto, unfolding(crate::specs::Matching::is_lacking))]
+fn is_lacking(
+    known: &Known<'_>,
+    name: &PackageName,
+    class: Class,
+    feature: &FeatureName,
+    place: usize,
+    version: &Version,
+) -> bool
+    ensures { result ≡ is_lacking (problem known.now) name.now (class_view class) feature.now place (parts_of version.now) }
+{
+    is_in(class, version) && lacks(known, name, place, feature)
 }
 
 /// Whether there is a candidate at the place, and it lacks the feature.
