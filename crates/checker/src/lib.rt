@@ -1,0 +1,6 @@
+//! Whether a derivation refutes: each step looked up in a manifest and a loaded index, and in the steps before it.
+#![tactic(auto)]
+
+mod sought;
+mod states;
+mod terms;

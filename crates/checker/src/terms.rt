@@ -1,0 +1,118 @@
+//! The terms of a step, which are found by their vertices.
+
+ghost use Rattle.std.specs.Prelude.{◌≡◌, ◌∷◌, [], option_map};
+ghost use Rattle.std.specs.List.Sorted.{IsStrictlySortedBy};
+ghost use Rattle.model.specs.Derivation.{states_at};
+ghost use Rattle.model.specs.Vertices.{same_vertex};
+ghost use Rattle.derivations.specs.Derivations.{term_cmp};
+ghost use Rattle.derivations.specs.Views.{vertex_view};
+
+use crate::states::States;
+use derivations::Vertex;
+use std::cmp::Ordering;
+use std::marker::Model;
+
+/// A term, and the text of its vertex.
+#[derive(Drop)]
+pub(crate) struct Held<'a> {
+    text: String,
+    vertex: &'a Vertex,
+    states: States<'a>,
+}
+
+impl<'a> Model for Held<'a> {
+    ghost use Rattle.std.specs.Prelude.{◌≡◌, string_bytes};
+    ghost use Rattle.model.specs.Axioms.{Term, at};
+    ghost use Rattle.derivations.specs.Texts.{vertex_text};
+    ghost use Rattle.derivations.specs.Views.{vertex_view};
+
+    ghost Value = { Term };
+
+    ghost view = { λ h. at (vertex_view h.vertex.now) h.states };
+
+    ghost invariant = { λ h. string_bytes h.text ≡ vertex_text (vertex_view h.vertex.now) };
+}
+
+impl Held<'_> {
+    /// Whether it is a term of this vertex.
+    pub(crate) fn is_at(&self, vertex: &Vertex) -> bool
+        ensures { result ≡ same_vertex self.now.vertex (vertex_view vertex.now) }
+    {
+        self.vertex == vertex
+    }
+
+    pub(crate) fn vertex(&self) -> &Vertex
+        ensures { vertex_view result.now ≡ self.now.vertex }
+    {
+        self.vertex
+    }
+
+    pub(crate) fn states(&self) -> &States<'_>
+        ensures { result.now ≡ self.now.states }
+    {
+        &self.states
+    }
+
+    /// The written order: by the bytes of the vertices' texts.
+    fn order_to(&self, other: &Held<'_>) -> Ordering
+        ensures { result ≡ term_cmp self.now other.now }
+    {
+        self.text.as_str().cmp(other.text.as_str())
+    }
+}
+
+/// Terms in the written order, no vertex twice.
+#[derive(Drop)]
+pub(crate) struct Terms<'a> {
+    terms: Vec<Held<'a>>,
+}
+
+impl<'a> Model for Terms<'a> {
+    ghost use Rattle.std.specs.Prelude.{List};
+    ghost use Rattle.std.specs.List.Sorted.{IsStrictlySortedBy};
+    ghost use Rattle.model.specs.Axioms.{Term};
+    ghost use Rattle.derivations.specs.Derivations.{term_cmp};
+
+    ghost Value = { List Term };
+
+    ghost view = { λ t. t.terms.items };
+
+    ghost invariant = { λ t. IsStrictlySortedBy term_cmp t.terms.items };
+}
+
+impl Terms<'_> {
+    pub(crate) fn as_slice(&self) -> &[Held<'_>]
+        ensures { result.now ≡ self.now }
+    {
+        self.terms.as_slice()
+    }
+
+    /// The states that the terms leave at the vertex of a term.
+    pub(crate) fn states_at(&self, term: &Held<'_>) -> Option<&States<'_>>
+        ensures { option_map (λ s. s.now) result ≡ states_at self.now term.now.vertex }
+    {
+        find(self.terms.as_slice(), term)
+    }
+}
+
+/// The states at the vertex of a term.
+fn find<'a>(terms: &'a [Held<'a>], term: &Held<'_>) -> Option<&'a States<'a>>
+    requires { IsStrictlySortedBy term_cmp terms.now }
+    ensures { option_map (λ s. s.now) result ≡ states_at terms.entry.now term.now.vertex }
+{
+    match terms.binary_search_by(|held| held.order_to(term)) {
+        Ok(place) => states_if(&terms[place], term),
+        Err(_) => None,
+    }
+}
+
+/// The states of a term, if it has the vertex of the other.
+fn states_if<'a>(held: &'a Held<'a>, term: &Held<'_>) -> Option<&'a States<'a>>
+    ensures { option_map (λ s. s.now) result ≡ states_at (held.entry.now ∷ []) term.now.vertex }
+{
+    if term.is_at(held.vertex()) {
+        Some(&held.states)
+    } else {
+        None
+    }
+}
