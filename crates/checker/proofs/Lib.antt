@@ -1,2 +1,4 @@
 pub mod Searching
 pub mod SetLaws
+pub mod CombinationLaws
+pub mod SpaceLaws

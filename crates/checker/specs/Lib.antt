@@ -1,3 +1,4 @@
 pub mod Views
 pub mod Sets
 pub mod Combinations
+pub mod Spaces

@@ -17,30 +17,44 @@ use derivations::Vertex;
 use manifest::Manifest;
 
 /// Whether terms are the combination of two lists of terms at a vertex, as sets: the union there, unless it is full, and the intersection elsewhere.
-pub(crate) fn is_combination(
+pub(crate) fn is_combination<'a>(
     manifest: &Manifest,
     catalogue: &Catalogue,
     vertex: &Vertex,
-    a: &Terms<'_>,
-    b: &Terms<'_>,
-    terms: &Terms<'_>,
+    a: &Terms<'a>,
+    b: &Terms<'a>,
+    terms: &Terms<'a>,
 ) -> bool
     ensures { result ≡ is_combination (problem_in manifest.now catalogue.now) (vertex_view vertex.now) a.now b.now terms.now }
 {
     all_fit(manifest, catalogue, vertex, a, b, terms, terms)
-        && all_fit(manifest, catalogue, vertex, a, b, terms, a)
+        && both_fit(manifest, catalogue, vertex, a, b, terms)
+}
+
+/// Whether terms say what the combination says at the vertices of both.
+fn both_fit<'a>(
+    manifest: &Manifest,
+    catalogue: &Catalogue,
+    vertex: &Vertex,
+    a: &Terms<'a>,
+    b: &Terms<'a>,
+    terms: &Terms<'a>,
+) -> bool
+    ensures { result ≡ (list_all (fits (problem_in manifest.now catalogue.now) (vertex_view vertex.now) a.now b.now terms.now) a.now && list_all (fits (problem_in manifest.now catalogue.now) (vertex_view vertex.now) a.now b.now terms.now) b.now) }
+{
+    all_fit(manifest, catalogue, vertex, a, b, terms, a)
         && all_fit(manifest, catalogue, vertex, a, b, terms, b)
 }
 
 /// Whether terms say what the combination says at the vertex of each of these.
-fn all_fit(
+fn all_fit<'a>(
     manifest: &Manifest,
     catalogue: &Catalogue,
     vertex: &Vertex,
-    a: &Terms<'_>,
-    b: &Terms<'_>,
-    terms: &Terms<'_>,
-    those: &Terms<'_>,
+    a: &Terms<'a>,
+    b: &Terms<'a>,
+    terms: &Terms<'a>,
+    those: &Terms<'a>,
 ) -> bool
     ensures { result ≡ list_all (fits (problem_in manifest.now catalogue.now) (vertex_view vertex.now) a.now b.now terms.now) those.now }
 {

@@ -71,7 +71,7 @@ fn is_version(a: &Version, b: &Version) -> bool
     a == b
 }
 
-fn is_class(a: &Class, b: &Class) -> bool
+pub(crate) fn is_class(a: &Class, b: &Class) -> bool
     ensures { result ≡ same_class (class_view a.now) (class_view b.now) }
 {
     match (a, b) {

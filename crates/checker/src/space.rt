@@ -1,14 +1,25 @@
 //! Whether a set has all states that its vertex may have.
 
-ghost use Rattle.std.specs.Prelude.{◌≡◌, ◌++◌};
+ghost use Rattle.std.specs.Prelude.{◌≡◌, ◌++◌, ◌∷◌, [], map, slice_get, option_map};
+ghost use Rattle.std.specs.List.{list_all};
+ghost use Rattle.semver.specs.Identifiers.{parts_of};
+ghost use Rattle.semver.specs.EvalViews.{matches_views};
 ghost use Rattle.model.specs.Axioms.{at, is_full};
+ghost use Rattle.model.specs.Vertices.{absent, present, has_state, owner_brings};
+ghost use Rattle.features.specs.Views.{dependency_view, dependency_views, requirement_view};
+ghost use Rattle.classes.specs.Classes.{class_view};
 ghost use Rattle.catalogue.specs.Problems.{problem_in};
-ghost use Rattle.derivations.specs.Views.{vertex_view};
+ghost use Rattle.derivations.specs.Views.{owner_view, vertex_view};
+ghost use Rattle.checker.specs.Spaces.{has_if_classed, has_if_matched};
 
-use crate::states::States;
+use crate::sought::{Sought, is_class};
+use crate::states::{States, is_in_either};
 use catalogue::Catalogue;
-use derivations::Vertex;
+use classes::Class;
+use derivations::{OwnerName, Vertex};
+use features::Dependency;
 use manifest::Manifest;
+use semver::{Version, VersionReq};
 
 /// Whether two sets together have all states of a vertex.
 pub(crate) fn is_full(
@@ -20,5 +31,95 @@ pub(crate) fn is_full(
 ) -> bool
     ensures { result ≡ is_full (problem_in manifest.now catalogue.now) (at (vertex_view vertex.now) (a.now ++ b.now)) }
 {
-    false
+    if !is_in_either(a, b, &Sought::Absent) {
+        return false;
+    }
+    match vertex {
+        Vertex::Root | Vertex::Feature(_, _, _) | Vertex::Ask(_, _, _, _) => {
+            is_in_either(a, b, &Sought::Present)
+        }
+        Vertex::Package(name, class) => has_class(catalogue.versions(name), class, a, b),
+        Vertex::Dependency(owner, number) => {
+            match dependency_at(manifest, catalogue, owner, *number) {
+                Some(dependency) => has_matching(
+                    catalogue.versions(&dependency.real_name),
+                    &dependency.requirement,
+                    a,
+                    b,
+                ),
+                None => true,
+            }
+        }
+    }
+}
+
+/// The dependency of this number.
+fn dependency_at<'a>(
+    manifest: &'a Manifest,
+    catalogue: &'a Catalogue,
+    owner: &OwnerName,
+    number: u32,
+) -> Option<&'a Dependency>
+    ensures { option_map (λ d. dependency_view d.now) result ≡ slice_get (owner_brings (problem_in manifest.entry.now catalogue.entry.now) (owner_view owner.now)).dependencies number }
+{
+    dependencies_of(manifest, catalogue, owner).get(number as usize)
+}
+
+/// The dependencies of an owner: none, where it isn't there.
+fn dependencies_of<'a>(
+    manifest: &'a Manifest,
+    catalogue: &'a Catalogue,
+    owner: &OwnerName,
+) -> &'a [Dependency]
+    ensures { dependency_views result.now ≡ (owner_brings (problem_in manifest.entry.now catalogue.entry.now) (owner_view owner.now)).dependencies }
+{
+    match owner {
+        OwnerName::Root => manifest.dependencies(),
+        OwnerName::Version(name, version) => match catalogue.candidate(name, version) {
+            Some(candidate) => candidate.brings.dependencies.as_slice(),
+            None => &[],
+        },
+    }
+}
+
+/// Whether two sets together have each version of a class.
+fn has_class(versions: &[Version], class: &Class, a: &States<'_>, b: &States<'_>) -> bool
+    ensures { result ≡ list_all (λ v. has_if_classed (a.now ++ b.now) (class_view class.now) (parts_of v)) versions.now }
+{
+    versions.iter().all(|version| has_if_classed(version, class, a, b))
+}
+
+fn has_if_classed(version: &Version, class: &Class, a: &States<'_>, b: &States<'_>) -> bool
+    ensures { result ≡ has_if_classed (a.now ++ b.now) (class_view class.now) (parts_of version.now) }
+{
+    !is_class(class, &Class::of(version)) || is_in_either(a, b, &Sought::Version(version))
+}
+
+/// Whether two sets together have the class of each version that a requirement matches.
+fn has_matching(
+    versions: &[Version],
+    requirement: &VersionReq,
+    a: &States<'_>,
+    b: &States<'_>,
+) -> bool
+    ensures { result ≡ list_all (λ v. has_if_matched (a.now ++ b.now) (requirement_view requirement.now) (parts_of v)) versions.now }
+{
+    versions.iter().all(|version| has_if_matched(version, requirement, a, b))
+}
+
+fn has_if_matched(
+    version: &Version,
+    requirement: &VersionReq,
+    a: &States<'_>,
+    b: &States<'_>,
+) -> bool
+    ensures { result ≡ has_if_matched (a.now ++ b.now) (requirement_view requirement.now) (parts_of version.now) }
+{
+    !is_matched(requirement, version) || is_in_either(a, b, &Sought::Class(Class::of(version)))
+}
+
+fn is_matched(requirement: &VersionReq, version: &Version) -> bool
+    ensures { result ≡ matches_views (requirement_view requirement.now) (parts_of version.now) }
+{
+    requirement.matches(version)
 }
