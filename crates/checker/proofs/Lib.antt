@@ -2,3 +2,4 @@ pub mod Searching
 pub mod SetLaws
 pub mod CombinationLaws
 pub mod SpaceLaws
+pub mod StepLaws

@@ -2,3 +2,5 @@ pub mod Views
 pub mod Sets
 pub mod Combinations
 pub mod Spaces
+pub mod Steps
+pub mod Refusals

@@ -1,18 +1,20 @@
 //! Sets of states in the written order.
 
-ghost use Rattle.std.specs.Prelude.{◌≡◌, ◌++◌, ◌||◌, ◌&&◌, map, not};
+ghost use Rattle.std.specs.Prelude.{◌≡◌, ◌++◌, ◌||◌, ◌&&◌, map, not, IfOk};
 ghost use Rattle.std.specs.List.{list_all};
 ghost use Rattle.std.specs.List.Sorted.{IsStrictlySortedBy};
 ghost use Rattle.model.specs.Derivation.{both};
 ghost use Rattle.model.specs.Vertices.{has_state};
 ghost use Rattle.derivations.specs.Orders.{state_cmp};
+ghost use Rattle.derivations.specs.Tables.{AreStatesOf, states_at};
 ghost use Rattle.derivations.specs.Views.{state_view};
 ghost use Rattle.refutations.specs.Terms.{is_within, same_states};
 ghost use Rattle.checker.specs.Sets.{all_in_either, all_in_both, all_shared_in};
 ghost use Rattle.checker.specs.Views.{sought_view};
 
 use crate::sought::{Sought, is_sought, order_to, sought_of};
-use derivations::State;
+use derivations::{State, Tables};
+use std::alloc::{AllocError, Global};
 use std::marker::Model;
 
 /// A set of states.
@@ -105,6 +107,35 @@ impl States<'_> {
     {
         all_shared_in(self.states.as_slice(), second, third)
     }
+}
+
+/// The states of these numbers.
+pub(crate) fn read_states<'a>(
+    alloc: Global,
+    tables: &'a Tables,
+    numbers: &[usize],
+) -> Result<States<'a>, AllocError>
+    requires within { AreStatesOf tables.now numbers.now }
+    requires ordered { IsStrictlySortedBy state_cmp (states_at tables.now numbers.now) }
+    ensures { IfOk result (λ s. s ≡ states_at tables.entry.now numbers.now) }
+{
+    let states = states_in(alloc, tables, numbers)?;
+    Ok(States { states })
+}
+
+fn states_in<'a>(
+    alloc: Global,
+    tables: &'a Tables,
+    numbers: &[usize],
+) -> Result<Vec<&'a State>, AllocError>
+    requires { AreStatesOf tables.now numbers.now }
+    ensures { IfOk result (λ v. map (λ x. state_view x.now) v.items ≡ states_at tables.entry.now numbers.now) }
+{
+    let mut states = Vec::with_capacity(alloc, numbers.len())?;
+    'numbers: for number in numbers {
+        states.push(tables.state(*number))?;
+    }
+    Ok(states)
 }
 
 /// Whether the state is in one of two sets.

@@ -1,14 +1,18 @@
 //! The terms of a step, which are found by their vertices.
 
-ghost use Rattle.std.specs.Prelude.{◌≡◌, ◌∷◌, [], option_map};
+ghost use Rattle.std.specs.Prelude.{◌≡◌, ◌∷◌, [], option_map, IfOk};
+ghost use Rattle.std.specs.List.{AllByRecursion};
 ghost use Rattle.std.specs.List.Sorted.{IsStrictlySortedBy};
 ghost use Rattle.model.specs.Derivation.{states_at};
 ghost use Rattle.model.specs.Vertices.{same_vertex};
 ghost use Rattle.derivations.specs.Derivations.{term_cmp};
+ghost use Rattle.derivations.specs.Tables.{term_at, terms_at};
 ghost use Rattle.derivations.specs.Views.{vertex_view};
+ghost use Rattle.checker.specs.Steps.{AreOrderedTerms, IsOrderedTerm};
 
-use crate::states::States;
-use derivations::Vertex;
+use crate::states::{States, read_states};
+use derivations::{Tables, Term, Vertex};
+use std::alloc::{AllocError, Global};
 use std::cmp::Ordering;
 use std::marker::Model;
 
@@ -93,6 +97,49 @@ impl Terms<'_> {
     {
         find(self.terms.as_slice(), term)
     }
+}
+
+/// The terms of a step.
+pub(crate) fn read_terms<'a>(
+    alloc: Global,
+    tables: &'a Tables,
+    terms: &[Term],
+) -> Result<Terms<'a>, AllocError>
+    requires { AreOrderedTerms tables.now terms.now }
+    ensures { IfOk result (λ t. t ≡ terms_at tables.entry.now terms.now) }
+{
+    let terms = held_in(alloc, tables, terms)?;
+    Ok(Terms { terms })
+}
+
+fn held_in<'a>(
+    alloc: Global,
+    tables: &'a Tables,
+    terms: &[Term],
+) -> Result<Vec<Held<'a>>, AllocError>
+    requires { AllByRecursion (IsOrderedTerm tables.now) terms.now }
+    ensures { IfOk result (λ v. v.items ≡ terms_at tables.entry.now terms.now) }
+{
+    let mut held = Vec::with_capacity(alloc, terms.len())?;
+    'terms: for term in terms {
+        held.push(read_term(alloc, tables, term)?)?;
+    }
+    Ok(held)
+}
+
+fn read_term<'a>(alloc: Global, tables: &'a Tables, term: &Term) -> Result<Held<'a>, AllocError>
+    requires { IsOrderedTerm tables.now term.now }
+    ensures { IfOk result (λ h. h ≡ term_at tables.entry.now term.now) }
+{
+    let vertex = tables.vertex(term.vertex);
+    let mut text = String::new(alloc);
+    write!(text, "{vertex}")?;
+    let states = read_states(alloc, tables, tables.set(term.states))?;
+    Ok(Held {
+        text,
+        vertex,
+        states,
+    })
 }
 
 /// The states at the vertex of a term.

@@ -1,0 +1,130 @@
+//! The check of a derivation, step by step.
+
+ghost use Rattle.std.specs.Prelude.{◌≡◌, IfOk, List, [], ⊥};
+ghost use Rattle.model.specs.Axioms.{Term};
+ghost use Rattle.model.specs.Content.{Content};
+ghost use Rattle.model.specs.Selection.{IsValidSelection};
+ghost use Rattle.refutations.specs.Checks.{combines, end_refused, first_refused, is_step, reason_of, refusal};
+ghost use Rattle.catalogue.specs.Problems.{problem_in};
+ghost use Rattle.derivations.specs.Tables.{TablesView, step_at, step_by_cause, steps_at};
+ghost use Rattle.derivations.specs.Views.{vertex_view};
+ghost use Rattle.checker.specs.Refusals.{check_view, reason_view};
+ghost use Rattle.checker.specs.Steps.{AreOrderedSteps, IsOrderedStep};
+
+use crate::combination::is_combination;
+use crate::instance::is_instance;
+use crate::outcome::{Check, Reason};
+use crate::terms::read_terms;
+use catalogue::{Catalogue, catalogues_are_well_formed};
+use derivations::{Cause, Derivation, Step, Tables};
+use manifest::Manifest;
+use std::alloc::{AllocError, Global};
+
+/// Whether a derivation shows that a manifest has no valid selection over a loaded index.
+///
+/// # Errors
+/// Want of memory.
+pub fn check(
+    alloc: Global,
+    manifest: &Manifest,
+    catalogue: &Catalogue,
+    derivation: &Derivation,
+) -> Result<Check, AllocError>
+    ensures answer { IfOk result (λ c. check_view c ≡ refusal (problem_in manifest.now catalogue.now) derivation.now) }
+    ensures refutes { IfOk result (λ c. c ≡ Check.Proves → (content : Content) → IsValidSelection (problem_in manifest.now catalogue.now) content → ⊥) }
+{
+    catalogues_are_well_formed(manifest, catalogue);
+    let (tables, steps) = derivation.parts();
+    match first_refused(alloc, manifest, catalogue, tables, steps)? {
+        Check::Proves => Ok(end_of(steps)),
+        refused => Ok(refused),
+    }
+}
+
+/// The first step that doesn't follow, if there is one.
+fn first_refused(
+    alloc: Global,
+    manifest: &Manifest,
+    catalogue: &Catalogue,
+    tables: &Tables,
+    steps: &[Step],
+) -> Result<Check, AllocError>
+    requires { AreOrderedSteps tables.now steps.now }
+    ensures { IfOk result (λ c. check_view c ≡ first_refused (problem_in manifest.now catalogue.now) [] (steps_at tables.now steps.now)) }
+{
+    'steps: for (number, step) in steps.iter().enumerate() {
+        if !is_step(alloc, manifest, catalogue, tables, &steps[..number], step)? {
+            return Ok(Check::Refused {
+                step: number as u64,
+                reason: reason_of(&step.cause),
+            });
+        }
+    }
+    Ok(Check::Proves)
+}
+
+/// Whether a step is accepted after the earlier ones.
+fn is_step(
+    alloc: Global,
+    manifest: &Manifest,
+    catalogue: &Catalogue,
+    tables: &Tables,
+    earlier: &[Step],
+    step: &Step,
+) -> Result<bool, AllocError>
+    requires earlier { AreOrderedSteps tables.now earlier.now }
+    requires step { IsOrderedStep tables.now step.now }
+    ensures { IfOk result (λ b. b ≡ is_step (problem_in manifest.now catalogue.now) (steps_at tables.now earlier.now) (step_at tables.now step.now)) }
+{
+    let terms = read_terms(alloc, tables, &step.terms)?;
+    match &step.cause {
+        Cause::Axiom(kind) => is_instance(alloc, manifest, catalogue, *kind, &terms),
+        Cause::Combination(first, second, vertex) => {
+            let (Some(a), Some(b)) = (earlier.get(*first as usize), earlier.get(*second as usize))
+            else {
+                return Ok(false);
+            };
+            let a = read_terms(alloc, tables, &a.terms)?;
+            let b = read_terms(alloc, tables, &b.terms)?;
+            Ok(is_combination(
+                manifest,
+                catalogue,
+                tables.vertex(*vertex),
+                &a,
+                &b,
+                &terms,
+            ))
+        }
+    }
+}
+
+fn reason_of(cause: &Cause) -> Reason
+    ensures { (t : TablesView) (terms : List Term) → reason_view result ≡ reason_of (step_by_cause t cause.now terms) }
+{
+    match cause {
+        Cause::Axiom(_) => Reason::NotAnAxiom,
+        Cause::Combination(_, _, _) => Reason::BadCombination,
+    }
+}
+
+/// What is wrong with the end: that there is none, or that the last step has a term.
+fn end_of(steps: &[Step]) -> Check
+    ensures { (t : TablesView) → check_view result ≡ end_refused 0 (steps_at t steps.now) }
+{
+    match steps.last() {
+        None => Check::Refused {
+            step: 0,
+            reason: Reason::NotFinal,
+        },
+        Some(last) => {
+            if last.terms.is_empty() {
+                Check::Proves
+            } else {
+                Check::Refused {
+                    step: steps.len() as u64 - 1,
+                    reason: Reason::NotFinal,
+                }
+            }
+        }
+    }
+}
