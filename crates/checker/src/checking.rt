@@ -1,12 +1,12 @@
 //! The check of a derivation, step by step.
 
-ghost use Rattle.std.specs.Prelude.{◌≡◌, IfOk, List, [], ⊥};
-ghost use Rattle.model.specs.Axioms.{Term};
+ghost use Rattle.std.specs.Prelude.{◌≡◌, IfOk, List, []};
+ghost use Rattle.model.specs.Axioms as axioms;
 ghost use Rattle.model.specs.Content.{Content};
 ghost use Rattle.model.specs.Selection.{IsValidSelection};
-ghost use Rattle.refutations.specs.Checks.{combines, end_refused, first_refused, is_step, reason_of, refusal};
+ghost use Rattle.refutations.specs.Checks.{combines, end_refused, first_refused, is_none_left, is_step, reason_of, refusal};
 ghost use Rattle.catalogue.specs.Problems.{problem_in};
-ghost use Rattle.derivations.specs.Tables.{TablesView, step_at, step_by_cause, steps_at};
+ghost use Rattle.derivations.specs.Tables.{TablesView, step_at, step_by_cause, steps_at, terms_at};
 ghost use Rattle.derivations.specs.Views.{vertex_view};
 ghost use Rattle.checker.specs.Refusals.{check_view, reason_view};
 ghost use Rattle.checker.specs.Steps.{AreOrderedSteps, IsOrderedStep};
@@ -16,8 +16,9 @@ use crate::instance::is_instance;
 use crate::outcome::{Check, Reason};
 use crate::terms::read_terms;
 use catalogue::{Catalogue, catalogues_are_well_formed};
-use derivations::{Cause, Derivation, Step, Tables};
+use derivations::{Cause, Derivation, Step, Tables, Term};
 use manifest::Manifest;
+use refutations::unrefused_derivations_refute;
 use std::alloc::{AllocError, Global};
 
 /// Whether a derivation shows that a manifest has no valid selection over a loaded index.
@@ -34,6 +35,7 @@ pub fn check(
     ensures refutes { IfOk result (λ c. c ≡ Check.Proves → (content : Content) → IsValidSelection (problem_in manifest.now catalogue.now) content → ⊥) }
 {
     catalogues_are_well_formed(manifest, catalogue);
+    unrefused_derivations_refute();
     let (tables, steps) = derivation.parts();
     match first_refused(alloc, manifest, catalogue, tables, steps)? {
         Check::Proves => Ok(end_of(steps)),
@@ -99,7 +101,7 @@ fn is_step(
 }
 
 fn reason_of(cause: &Cause) -> Reason
-    ensures { (t : TablesView) (terms : List Term) → reason_view result ≡ reason_of (step_by_cause t cause.now terms) }
+    ensures { (t : TablesView) (terms : List axioms.Term) → reason_view result ≡ reason_of (step_by_cause t cause.now terms) }
 {
     match cause {
         Cause::Axiom(_) => Reason::NotAnAxiom,
@@ -117,7 +119,7 @@ fn end_of(steps: &[Step]) -> Check
             reason: Reason::NotFinal,
         },
         Some(last) => {
-            if last.terms.is_empty() {
+            if has_no_term(&last.terms) {
                 Check::Proves
             } else {
                 Check::Refused {
@@ -127,4 +129,10 @@ fn end_of(steps: &[Step]) -> Check
             }
         }
     }
+}
+
+fn has_no_term(terms: &[Term]) -> bool
+    ensures { (t : TablesView) → result ≡ is_none_left (terms_at t terms.now) }
+{
+    terms.is_empty()
 }
