@@ -1,5 +1,5 @@
 -- Terms that fit at each vertex that is spoken of are the combination.
-use Rattle.std.proofs.Common.{◌≡◌, ◌↔◌, List, Bool, true, false, cond, ◌&&◌, Contains, Option, Some, None, refl, sym, ap, ◌∙◌, subst}
+use Rattle.std.proofs.Common.{◌≡◌, List, Bool, true, false, cond, ◌&&◌, Option, Some, None, refl, sym, ap, ◌∙◌, subst}
 use Rattle.std.specs.List.{list_all}
 use Rattle.std.proofs.lemmas.Bool.{and_from}
 use Rattle.model.specs.Content.{Problem}

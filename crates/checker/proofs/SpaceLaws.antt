@@ -1,17 +1,17 @@
 -- The states of a vertex, read from a manifest and a loaded index.
-use Rattle.std.proofs.Common.{◌≡◌, ℕ, List, [], ◌∷◌, ◌++◌, map, filter, Bool, true, false, not, cond, ◌&&◌, ◌||◌, Option, Some, None, option_map, slice_get, unwrap_or, refl, sym, ap, ◌∙◌, true≢false}
+use Rattle.std.proofs.Common.{◌≡◌, ℕ, List, [], ◌∷◌, map, Bool, true, false, cond, ◌&&◌, ◌||◌, Option, Some, None, option_map, slice_get, unwrap_or, refl, sym, ap, ◌∙◌, true≢false}
 use Rattle.std.specs.List.{list_all, list_any}
 use Rattle.std.proofs.lemmas.Option.{none-some, same_Some}
 use Rattle.semver.specs.Identifiers.{parts_of}
-use Rattle.semver.specs.Parse.{Held, Parts}
+use Rattle.semver.specs.Parse.{Parts}
 use Rattle.semver.specs.EvalViews.{matches_views}
 use Rattle.semver.specs.declared.Version.{Version}
 use Rattle.model.specs.Axioms.{at, is_full}
 use Rattle.model.specs.Candidates.{Record, as_candidate}
 use Rattle.model.specs.Content.{Candidate, candidates_of, candidate_at, brings_of, same_version}
-use Rattle.model.specs.Owner.{Dependency, Owner, nothing, same_text}
+use Rattle.model.specs.Owner.{Dependency, nothing, same_text}
 use Rattle.model.specs.Selection.{Class, class_of}
-use Rattle.model.specs.Vertices.{OwnerName, version_of, Vertex, pkg, dep, State, absent, version, in_class, has_state, same_class, owner_brings, classes_of, add_class, matching, class_candidates, dep_space, in_that_class}
+use Rattle.model.specs.Vertices.{OwnerName, version_of, pkg, dep, State, absent, version, in_class, has_state, same_class, owner_brings, classes_of, matching, class_candidates, dep_space, in_that_class}
 use Rattle.model.proofs.Same.{class-same}
 use Rattle.manifest.specs.Manifests.{ManifestView}
 use Rattle.catalogue.specs.Problems.{problem_in}

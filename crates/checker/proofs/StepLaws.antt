@@ -1,5 +1,5 @@
 -- The steps of a derivation are in order, and what is refused of them.
-use Rattle.std.proofs.Common.{◌≡◌, ℕ, zero, suc, ◌+◌, List, [], ◌∷◌, ◌++◌, map, take, drop, length, Bool, true, false, cond, Option, Some, None, slice_get, option_map, ◌-◌, ◌==◌, arith, refl, sym, ap, ◌∙◌, subst, Less, Equal}
+use Rattle.std.proofs.Common.{◌≡◌, ℕ, suc, ◌+◌, List, [], ◌∷◌, length, Bool, true, false, Option, Some, None, slice_get, option_map, ◌-◌, ◌==◌, arith, refl, sym, ap, ◌∙◌, Less, Equal}
 use Rattle.std.specs.Borrow.{Bor}
 use Rattle.std.specs.List.{AllByRecursion}
 use Rattle.std.specs.List.Sorted.{IsStrictlySortedBy}
@@ -12,19 +12,19 @@ use Rattle.model.specs.Axioms as axioms
 use Rattle.model.specs.Content.{Problem}
 use Rattle.model.specs.Derivation as steps
 use Rattle.model.specs.Order.{text_cmp}
-use Rattle.model.specs.Vertices.{Vertex, same_vertex}
+use Rattle.model.specs.Vertices.{same_vertex}
 use Rattle.model.proofs.Same.{vertex-other}
 use Rattle.refutations.specs.Checks.{ArePlain, combines, is_step, is_none_left, end_if, end_refused}
 use Rattle.refutations.specs.Terms.{is_combination}
 use Rattle.derivations.specs.Texts.{vertex_text}
-use Rattle.derivations.specs.Derivations.{IsTerm, AreTerms, AreStepsFrom, IsDerivation, term_cmp}
-use Rattle.derivations.specs.Tables.{TablesView, AreStepsOf, IsStepOf, IsTermOf, AreTermsOf, term_at, terms_at, step_at, steps_at, step_by_cause, vertex_at}
+use Rattle.derivations.specs.Derivations.{IsTerm, AreTerms, AreStepsFrom, term_cmp}
+use Rattle.derivations.specs.Tables.{TablesView, AreStepsOf, AreTermsOf, terms_at, step_at, steps_at, step_by_cause, vertex_at}
 use Rattle.derivations.specs.declared.step.Cause.{Cause}
 use Rattle.derivations.specs.declared.step.Cause.TheVariants.{Axiom, Combination}
 use Rattle.derivations.specs.declared.step.Step.{Step}
 use Rattle.derivations.specs.declared.step.Term.{Term}
 use Rattle.catalogue.proofs.Rows.{item_at}
-use Rattle.checker.specs.Steps.{IsOrderedTerm, AreOrderedTerms, IsOrderedStep, AreOrderedSteps}
+use Rattle.checker.specs.Steps.{IsOrderedTerm, AreOrderedSteps}
 
 each_term : (t : TablesView) (terms : List Term) → AreTermsOf t terms → AllByRecursion IsTerm (terms_at t terms) → AllByRecursion (IsOrderedTerm t) terms
 each_term t [] h k = tt

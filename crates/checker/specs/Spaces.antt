@@ -1,5 +1,5 @@
 -- When a set has all states that a vertex may have, version by version.
-use Rattle.std.specs.Prelude.{List, [], ◌∷◌, Bool, true, not, ◌&&◌, ◌||◌, Option, Some, None}
+use Rattle.std.specs.Prelude.{List, Bool, not, ◌&&◌, ◌||◌}
 use Rattle.std.specs.List.{list_all}
 use Rattle.semver.specs.Parse.{Held, Parts}
 use Rattle.semver.specs.EvalViews.{matches_views}

@@ -1,5 +1,5 @@
 -- Steps by numbers whose terms and states are in the written order (the format is this project's).
-use Rattle.std.specs.Prelude.{List, ◌∷◌, [], map}
+use Rattle.std.specs.Prelude.{List}
 use Rattle.std.specs.List.{AllByRecursion}
 use Rattle.std.specs.List.Sorted.{IsStrictlySortedBy}
 use Rattle.derivations.specs.Derivations.{term_cmp}

@@ -88,14 +88,7 @@ fn is_step(
             };
             let a = read_terms(alloc, tables, &a.terms)?;
             let b = read_terms(alloc, tables, &b.terms)?;
-            Ok(is_combination(
-                manifest,
-                catalogue,
-                tables.vertex(*vertex),
-                &a,
-                &b,
-                &terms,
-            ))
+            Ok(is_combination(manifest, catalogue, tables.vertex(*vertex), &a, &b, &terms))
         }
     }
 }

@@ -58,10 +58,7 @@ fn all_fit<'a>(
 ) -> bool
     ensures { result ≡ list_all (fits (problem_in manifest.now catalogue.now) (vertex_view vertex.now) a.now b.now terms.now) those.now }
 {
-    those
-        .as_slice()
-        .iter()
-        .all(|term| fits(manifest, catalogue, vertex, a, b, terms, term))
+    those.as_slice().iter().all(|term| fits(manifest, catalogue, vertex, a, b, terms, term))
 }
 
 /// Whether terms say what the combination says at the vertex of one term.
@@ -119,11 +116,7 @@ fn is_said_union(a: &States<'_>, b: &States<'_>, said: Option<&States<'_>>) -> b
 }
 
 /// Whether this is said where two meet.
-fn is_meet(
-    a: Option<&States<'_>>,
-    b: Option<&States<'_>>,
-    said: Option<&States<'_>>,
-) -> bool
+fn is_meet(a: Option<&States<'_>>, b: Option<&States<'_>>, said: Option<&States<'_>>) -> bool
     ensures { result ≡ same_at (option_map (λ s. s.now) said.entry) (meet_at (option_map (λ s. s.now) a.entry) (option_map (λ s. s.now) b.entry)) }
 {
     match (said, a, b) {

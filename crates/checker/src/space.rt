@@ -86,7 +86,9 @@ fn dependencies_of<'a>(
 fn has_class(versions: &[Version], class: &Class, a: &States<'_>, b: &States<'_>) -> bool
     ensures { result ≡ list_all (λ v. has_if_classed (a.now ++ b.now) (class_view class.now) (parts_of v)) versions.now }
 {
-    versions.iter().all(|version| has_if_classed(version, class, a, b))
+    versions
+        .iter()
+        .all(|version| has_if_classed(version, class, a, b))
 }
 
 fn has_if_classed(version: &Version, class: &Class, a: &States<'_>, b: &States<'_>) -> bool
@@ -104,7 +106,9 @@ fn has_matching(
 ) -> bool
     ensures { result ≡ list_all (λ v. has_if_matched (a.now ++ b.now) (requirement_view requirement.now) (parts_of v)) versions.now }
 {
-    versions.iter().all(|version| has_if_matched(version, requirement, a, b))
+    versions
+        .iter()
+        .all(|version| has_if_matched(version, requirement, a, b))
 }
 
 fn has_if_matched(

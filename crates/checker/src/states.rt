@@ -26,7 +26,7 @@ pub(crate) struct States<'a> {
 impl<'a> Model for States<'a> {
     ghost use Rattle.std.specs.Prelude.{List, map};
     ghost use Rattle.std.specs.List.{list_all};
-ghost use Rattle.std.specs.List.Sorted.{IsStrictlySortedBy};
+    ghost use Rattle.std.specs.List.Sorted.{IsStrictlySortedBy};
     ghost use Rattle.model.specs.Vertices.{State};
     ghost use Rattle.derivations.specs.Orders.{state_cmp};
     ghost use Rattle.derivations.specs.Views.{state_view};
@@ -184,7 +184,9 @@ fn all_in_both(states: &[&State], a: &States<'_>, b: &States<'_>) -> bool
 fn all_shared_in(states: &[&State], second: &States<'_>, third: &States<'_>) -> bool
     ensures { result ≡ list_all (λ x. not (has_state second.now (state_view x.now)) || has_state third.now (state_view x.now)) states.now }
 {
-    states.iter().all(|state| has_if_other_has(third, second, state))
+    states
+        .iter()
+        .all(|state| has_if_other_has(third, second, state))
 }
 
 /// Whether the state is one of these.

@@ -1,6 +1,6 @@
-use Rattle.std.proofs.Common.{◌≡◌, ◌∙◌, Option, Some, None, [], sym, ap, subst}
+use Rattle.std.proofs.Common.{◌≡◌, ◌∙◌, None, [], sym, ap, subst}
 use Rattle.std.specs.Option.{option_or}
-use Rattle.refutations.specs.Checks.{Refusal, first_refused, end_refused, refusal}
+use Rattle.refutations.specs.Checks.{first_refused, end_refused, refusal}
 use Rattle.catalogue.specs.Problems.{problem_in}
 use Rattle.derivations.specs.Derivations.{IsDerivation}
 use Rattle.derivations.specs.Tables.{steps_at}

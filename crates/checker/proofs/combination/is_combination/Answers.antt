@@ -1,4 +1,4 @@
-use Rattle.std.proofs.Common.{◌≡◌, ◌∙◌, ◌&&◌, sym, rules, true, false}
+use Rattle.std.proofs.Common.{◌∙◌, ◌&&◌, sym}
 use Rattle.std.specs.List.{list_all}
 use Rattle.catalogue.specs.Problems.{problem_in}
 use Rattle.derivations.specs.Views.{vertex_view}

@@ -1,4 +1,4 @@
-use Rattle.std.proofs.Common.{◌≡◌, ◌∙◌, sym, ap}
+use Rattle.std.proofs.Common.{◌∙◌, sym, ap}
 use Rattle.semver.specs.Identifiers.{parts_of}
 use Rattle.model.specs.Owner.{Owner}
 use Rattle.model.specs.Vertices.{owner_brings}

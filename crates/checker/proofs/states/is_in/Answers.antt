@@ -1,12 +1,7 @@
-use Rattle.std.proofs.Common.{◌≡◌, ◌∙◌, sym, ap, rules, is_some, true}
-use Rattle.std.specs.Borrow.{Bor}
+use Rattle.std.proofs.Common.{◌∙◌, sym, rules}
 use Rattle.std.proofs.lemmas.Fn.{always_returns_same}
-use Rattle.model.specs.Vertices.{same_state}
-use Rattle.model.proofs.Same.{state-same}
 use Rattle.derivations.specs.Orders.{state_cmp}
 use Rattle.derivations.specs.Views.{state_view}
-use Rattle.derivations.specs.declared.state.State.{State}
-use Rattle.derivations.proofs.OrderLaws.{state_total}
 use Rattle.checker.specs.Views.{sought_view}
 use Rattle.checker.proofs.Searching.{state_ends, state_finds}
 use Rattle.checker.proofs.states.is_in.Goals as goal

@@ -1,4 +1,4 @@
-use Rattle.std.proofs.Common.{◌≡◌, ◌∙◌, sym, rules, true, false}
+use Rattle.std.proofs.Common.{◌∙◌, sym}
 use Rattle.checker.specs.Sets.{all_in_both, all_shared_in}
 use Rattle.checker.proofs.SetLaws.{and_then, and_else, meet_is}
 use Rattle.checker.proofs.states.States.is_meet.Goals as goal

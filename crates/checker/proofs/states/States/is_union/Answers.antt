@@ -1,4 +1,4 @@
-use Rattle.std.proofs.Common.{◌≡◌, ◌∙◌, ◌&&◌, sym, rules, true, false}
+use Rattle.std.proofs.Common.{◌∙◌, ◌&&◌, sym}
 use Rattle.refutations.specs.Terms.{is_within}
 use Rattle.checker.specs.Sets.{all_in_either}
 use Rattle.checker.proofs.SetLaws.{and_then, and_else, union_is}

@@ -1,4 +1,4 @@
-use Rattle.std.proofs.Common.{◌∙◌, ◌||◌, ◌&&◌, sym, ap, not}
+use Rattle.std.proofs.Common.{◌∙◌, ◌||◌, sym, ap}
 use Rattle.std.specs.List.{list_all}
 use Rattle.model.specs.Vertices.{State, has_state}
 use Rattle.derivations.specs.Views.{state_view}
