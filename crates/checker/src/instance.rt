@@ -1,19 +1,19 @@
 //! Whether the terms of a step are those of an instance of an axiom.
 
-ghost use Rattle.std.specs.Prelude.{◌≡◌, IfOk};
+ghost use Rattle.std.specs.Prelude.{◌≡◌, IfOk, map};
 ghost use Rattle.refutations.specs.Instances.{is_instance};
 ghost use Rattle.catalogue.specs.Problems.{problem_in};
 ghost use Rattle.derivations.specs.Kinds.{kind_view};
+ghost use Rattle.derivations.specs.Views.{owner_view, state_view, vertex_view};
+ghost use Rattle.axioms.specs.Views as sought;
 
-use crate::terms::Terms;
+use crate::terms::{Held, Terms};
 use catalogue::Catalogue;
-use derivations::Kind;
+use derivations::{Kind, OwnerName, State, Vertex};
 use manifest::Manifest;
 use std::alloc::{AllocError, Global};
 
 /// Whether terms are those of an instance of the kind, without full ones.
-///
-/// It is not written yet: it answers want of memory, so that no derivation with an axiom is judged.
 pub(crate) fn is_instance(
     alloc: Global,
     manifest: &Manifest,
@@ -23,5 +23,75 @@ pub(crate) fn is_instance(
 ) -> Result<bool, AllocError>
     ensures { IfOk result (λ b. b ≡ is_instance (problem_in manifest.now catalogue.now) (kind_view kind) terms.now) }
 {
-    Err(AllocError)
+    let looked_up = terms_in(alloc, terms.as_slice())?;
+    axioms::is_instance(alloc, manifest, catalogue, kind, looked_up.as_slice())
+}
+
+/// The same terms, as they are looked up.
+fn terms_in<'a>(alloc: Global, terms: &'a [Held<'a>]) -> Result<Vec<axioms::Term<'a>>, AllocError>
+    ensures { IfOk result (λ v. sought.term_views v.items ≡ terms.entry.now) }
+{
+    let mut looked_up = Vec::with_capacity(alloc, terms.len())?;
+    'terms: for term in terms {
+        looked_up.push(term_of(alloc, term)?)?;
+    }
+    Ok(looked_up)
+}
+
+fn term_of<'a>(alloc: Global, term: &'a Held<'a>) -> Result<axioms::Term<'a>, AllocError>
+    ensures { IfOk result (λ t. sought.term_view t ≡ term.entry.now) }
+{
+    Ok(axioms::Term {
+        vertex: vertex_of(term.vertex()),
+        states: states_in(alloc, term.states().as_slice())?,
+    })
+}
+
+fn states_in<'a>(
+    alloc: Global,
+    states: &'a [&'a State],
+) -> Result<Vec<axioms::State<'a>>, AllocError>
+    ensures { IfOk result (λ v. sought.state_views v.items ≡ map (λ x. state_view x.now) states.entry.now) }
+{
+    let mut looked_up = Vec::with_capacity(alloc, states.len())?;
+    'states: for state in states {
+        looked_up.push(state_of(state))?;
+    }
+    Ok(looked_up)
+}
+
+fn vertex_of<'a>(vertex: &'a Vertex) -> axioms::Vertex<'a>
+    ensures { sought.vertex_view result ≡ vertex_view vertex.entry.now }
+{
+    match vertex {
+        Vertex::Root => axioms::Vertex::Root,
+        Vertex::Package(name, class) => axioms::Vertex::Package(name, *class),
+        Vertex::Dependency(owner, number) => {
+            axioms::Vertex::Dependency(owner_of(owner), *number as usize)
+        }
+        Vertex::Feature(name, class, feature) => { axioms::Vertex::Feature(name, *class, feature) }
+        Vertex::Ask(name, version, number, feature) => {
+            axioms::Vertex::Ask(name, version, *number as usize, feature)
+        }
+    }
+}
+
+fn owner_of<'a>(owner: &'a OwnerName) -> axioms::OwnerName<'a>
+    ensures { sought.owner_view result ≡ owner_view owner.entry.now }
+{
+    match owner {
+        OwnerName::Root => axioms::OwnerName::Root,
+        OwnerName::Version(name, version) => axioms::OwnerName::Version(name, version),
+    }
+}
+
+fn state_of<'a>(state: &'a State) -> axioms::State<'a>
+    ensures { sought.state_view result ≡ state_view state.entry.now }
+{
+    match state {
+        State::Absent => axioms::State::Absent,
+        State::Present => axioms::State::Present,
+        State::Version(version) => axioms::State::Version(version),
+        State::Class(class) => axioms::State::Class(*class),
+    }
 }

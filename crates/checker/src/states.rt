@@ -39,6 +39,12 @@ impl<'a> Model for States<'a> {
 }
 
 impl States<'_> {
+    pub(crate) fn as_slice(&self) -> &[&State]
+        ensures { map (λ x. state_view x.now) result.now ≡ self.now }
+    {
+        self.states.as_slice()
+    }
+
     /// Whether the state is in the set.
     pub(crate) fn has(&self, sought: &Sought<'_>) -> bool
         ensures { result ≡ has_state self.now (sought_view sought.now) }
