@@ -1,6 +1,5 @@
 -- The versions of a class that lack a feature are those of its candidates that do.
-use Rattle.std.proofs.Common.{◌≡◌, ℕ, suc, ◌+◌, Bool, true, false, cond, not, ◌&&◌, List, [], ◌∷◌, map, filter, Some, slice_get, refl, sym, ap, ◌∙◌, arith}
-use Rattle.semver.specs.Parse.{Parts}
+use Rattle.std.proofs.Common.{◌≡◌, ℕ, suc, ◌+◌, Bool, true, false, cond, not, ◌&&◌, List, [], ◌∷◌, map, filter, slice_get, refl, sym, ap, ◌∙◌, arith}
 use Rattle.semver.specs.Identifiers.{parts_of}
 use Rattle.semver.specs.declared.Version.{Version}
 use Rattle.model.specs.Owner.{has_feature}
@@ -25,18 +24,24 @@ module _ (k : Class) (t : Candidate → Bool) (all : List Candidate) where
     where
       left : List State
       left = placed_with (λ i v. same_class k (class_of v) && passes t (slice_get all i)) (n + 1) (map (λ (c : Candidate). c.version) cs)
+
       none_more : n ≡ n + 0
       none_more = omega arith
+
       one_more : (i : ℕ) → (n + 1) + i ≡ n + suc i
       one_more i = omega arith
+
       here : passes t (slice_get all n) ≡ t c
       here = ap (λ m. passes t (slice_get all m)) none_more ∙ ap (passes t) (h 0)
+
       more : (i : ℕ) → slice_get all ((n + 1) + i) ≡ slice_get cs i
       more i = ap (slice_get all) (one_more i) ∙ h (suc i)
+
       kept : (b : Bool) → left ≡ map (λ (c : Candidate). version c.version) (filter t (filter (in_that_class k) cs))
           → cond b (version c.version ∷ left) left ≡ map (λ (c : Candidate). version c.version) (cond b (c ∷ filter t (filter (in_that_class k) cs)) (filter t (filter (in_that_class k) cs)))
       kept true e = ap (λ ss. version c.version ∷ ss) e
       kept false e = e
+
       by : (a : Bool) → left ≡ map (λ (c : Candidate). version c.version) (filter t (filter (in_that_class k) cs))
           → cond (a && t c) (version c.version ∷ left) left ≡ map (λ (c : Candidate). version c.version) (filter t (cond a (c ∷ filter (in_that_class k) cs) (filter (in_that_class k) cs)))
       by true e = kept (t c) e

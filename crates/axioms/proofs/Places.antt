@@ -1,5 +1,5 @@
 -- The first place of a list that passes, counted from a number.
-use Rattle.std.proofs.Common.{◌≡◌, ℕ, suc, ◌+◌, Bool, true, false, cond, List, [], ◌∷◌, Option, Some, None, option_map, if◌then◌else◌, refl, sym, ap, ◌∙◌, arith}
+use Rattle.std.proofs.Common.{◌≡◌, ℕ, suc, ◌+◌, Bool, true, false, cond, List, [], ◌∷◌, Option, Some, None, option_map, refl, sym, ap, ◌∙◌, arith}
 use Rattle.std.specs.List.{list_any}
 use Rattle.std.specs.Option.{option_or}
 use Rattle.semver.specs.Parse.{Parts}
@@ -17,11 +17,14 @@ from_is {A = A} test n (x ∷ xs) = by (test x) (from_is test (n + 1) xs)
   where
     none_more : n ≡ n + 0
     none_more = omega arith
+
     one_more : (i : ℕ) → (n + 1) + i ≡ n + suc i
     one_more i = omega arith
+
     rest_is : (o : Option ℕ) → option_map (λ i. (n + 1) + i) o ≡ option_map (λ i. n + i) (option_map suc o)
     rest_is None = refl
     rest_is (Some i) = ap Some (one_more i)
+
     by : (b : Bool) → place_from test (n + 1) xs ≡ option_map (λ i. (n + 1) + i) (first_place test xs)
         → cond b (Some n) (place_from test (n + 1) xs) ≡ option_map (λ i. n + i) (cond b (Some 0) (option_map suc (first_place test xs)))
     by true e = ap Some none_more

@@ -1,15 +1,15 @@
 -- Which terms are full, by the versions of a name.
-use Rattle.std.proofs.Common.{◌≡◌, Bool, true, false, cond, not, ◌&&◌, ◌||◌, List, [], ◌∷◌, map, filter, Option, Some, None, refl, sym, ap, ap₂, ◌∙◌, true≢false}
+use Rattle.std.proofs.Common.{◌≡◌, Bool, true, false, cond, not, ◌&&◌, ◌||◌, List, [], ◌∷◌, map, filter, Option, Some, None, refl, sym, ap, ◌∙◌, true≢false}
 use Rattle.std.specs.Prelude.{ℕ}
 use Rattle.std.specs.List.{list_any, list_all}
-use Rattle.semver.specs.Parse.{Parts, Held}
+use Rattle.semver.specs.Parse.{Parts}
 use Rattle.semver.specs.Identifiers.{parts_of}
 use Rattle.semver.specs.EvalViews.{matches_views}
 use Rattle.semver.specs.declared.Version.{Version}
 use Rattle.model.specs.Owner.{Dependency}
 use Rattle.model.specs.Content.{Candidate, Problem, candidates_of}
 use Rattle.model.specs.Selection.{Class, class_of}
-use Rattle.model.specs.Vertices.{Vertex, root, pkg, dep, feat, ask, State, absent, version, in_class, has_state, same_class, in_that_class, class_candidates, classes_of, dep_classes, dep_space}
+use Rattle.model.specs.Vertices.{Vertex, root, pkg, dep, feat, ask, State, absent, version, in_class, has_state, same_class, in_that_class, classes_of, dep_classes, dep_space}
 use Rattle.model.specs.Axioms.{at, is_full, matched}
 use Rattle.model.specs.Candidates.{Record, as_candidate}
 use Rattle.model.proofs.Same.{class-same}

@@ -8,8 +8,8 @@ use Rattle.semver.specs.declared.Version.{Version}
 use Rattle.model.specs.Owner.{Dependency}
 use Rattle.model.specs.Content.{Candidate}
 use Rattle.model.specs.Selection.{Class, class_of}
-use Rattle.model.specs.Vertices.{State, absent, version, same_class, in_that_class}
-use Rattle.model.specs.Axioms.{absent_or, versions_that, matched}
+use Rattle.model.specs.Vertices.{version, same_class, in_that_class}
+use Rattle.model.specs.Axioms.{versions_that, matched}
 use Rattle.model.specs.Candidates.{Record, as_candidate}
 use Rattle.manifest.specs.Manifests.{ManifestView}
 use Rattle.catalogue.specs.Problems.{problem_in}
@@ -27,6 +27,7 @@ passing u t (r ∷ rs) = by (u r.version) (passing u t rs)
         ≡ map (λ (c : Candidate). version c.version) (cond b (as_candidate r ∷ filter (λ c. t c.version) (filter (λ c. u c.version) (map as_candidate rs))) (filter (λ c. t c.version) (filter (λ c. u c.version) (map as_candidate rs))))
     taken true e = ap (λ ss. version r.version ∷ ss) e
     taken false e = e
+
     by : (a : Bool) → map version (filter (λ v. u v && t v) (map (λ r. r.version) rs)) ≡ map (λ (c : Candidate). version c.version) (filter (λ c. t c.version) (filter (λ c. u c.version) (map as_candidate rs)))
         → map version (cond (a && t r.version) (r.version ∷ filter (λ v. u v && t v) (map (λ r. r.version) rs)) (filter (λ v. u v && t v) (map (λ r. r.version) rs)))
         ≡ map (λ (c : Candidate). version c.version) (filter (λ c. t c.version) (cond a (as_candidate r ∷ filter (λ c. u c.version) (map as_candidate rs)) (filter (λ c. u c.version) (map as_candidate rs))))

@@ -1,19 +1,18 @@
 -- Tests of the versions of a name are tests of its candidates.
-use Rattle.std.proofs.Common.{◌≡◌, Bool, true, false, cond, ◌&&◌, ◌||◌, List, [], ◌∷◌, map, filter, refl, sym, ap, ap₂, ◌∙◌}
+use Rattle.std.proofs.Common.{◌≡◌, Bool, true, false, cond, ◌&&◌, ◌||◌, List, [], ◌∷◌, map, filter, refl, sym, ap, ◌∙◌}
 use Rattle.std.specs.List.{list_any, list_all}
-use Rattle.std.specs.Prelude.{ℕ}
 use Rattle.semver.specs.Parse.{Parts}
 use Rattle.semver.specs.Identifiers.{parts_of}
 use Rattle.semver.specs.EvalViews.{matches_views}
 use Rattle.semver.specs.declared.Version.{Version}
 use Rattle.model.specs.Owner.{Dependency}
 use Rattle.model.specs.Content.{Candidate, candidates_of}
-use Rattle.model.specs.Selection.{Class, class_of}
-use Rattle.model.specs.Vertices.{in_that_class, same_class, class_candidates}
+use Rattle.model.specs.Selection.{Class}
+use Rattle.model.specs.Vertices.{in_that_class}
 use Rattle.model.specs.Axioms.{matched}
 use Rattle.model.specs.Candidates.{Record, as_candidate}
 use Rattle.manifest.specs.Manifests.{ManifestView}
-use Rattle.refutations.specs.Causes.{has_class, is_unmatched}
+use Rattle.refutations.specs.Causes.{has_class}
 use Rattle.catalogue.specs.Problems.{problem_in}
 use Rattle.catalogue.specs.Stores.{CatalogueView, candidates_at, rows_by_name}
 use Rattle.axioms.specs.Matching.{is_matched_in}

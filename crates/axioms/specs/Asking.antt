@@ -1,5 +1,5 @@
 -- Whether a row of a feature table asks a dependency for a feature.
-use Rattle.std.specs.Prelude.{ℕ, List, Bool, ◌&&◌, ◌||◌, map}
+use Rattle.std.specs.Prelude.{ℕ, List, Bool, ◌&&◌, ◌||◌}
 use Rattle.semver.specs.Parse.{Parts}
 use Rattle.std.specs.List.{list_any}
 use Rattle.model.specs.Owner.{Dependency, Entry, Table, dependency_feature, entries_at, same_text}

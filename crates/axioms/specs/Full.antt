@@ -1,5 +1,5 @@
 -- The states of vertices but `absent`.
-use Rattle.std.specs.Prelude.{ℕ, List, [], ◌∷◌, Bool, not, ◌||◌, Option, Some, None, map}
+use Rattle.std.specs.Prelude.{List, [], ◌∷◌, Bool, not, ◌||◌, Option, Some, None, map}
 use Rattle.semver.specs.Parse.{Parts, Held}
 use Rattle.semver.specs.EvalViews.{matches_views}
 use Rattle.model.specs.Owner.{Dependency}

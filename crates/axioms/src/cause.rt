@@ -18,45 +18,15 @@ pub(crate) enum Cause<'a> {
     /// A dependency of an owner, a class that it may lead to, and a feature that it asks for by its list.
     List(OwnerName<'a>, usize, Class, &'a FeatureName),
     /// The same, where an entry `d/g` of the version asks for g.
-    Ask(
-        &'a PackageName,
-        &'a Version,
-        usize,
-        &'a FeatureName,
-        Class,
-    ),
+    Ask(&'a PackageName, &'a Version, usize, &'a FeatureName, Class),
     /// An entry `g` of a version's feature f.
-    Entry(
-        &'a PackageName,
-        &'a Version,
-        &'a FeatureName,
-        &'a FeatureName,
-    ),
+    Entry(&'a PackageName, &'a Version, &'a FeatureName, &'a FeatureName),
     /// An entry of a version's feature f that enables a dependency.
-    Enabling(
-        &'a PackageName,
-        &'a Version,
-        &'a FeatureName,
-        &'a Entry,
-        usize,
-    ),
+    Enabling(&'a PackageName, &'a Version, &'a FeatureName, &'a Entry, usize),
     /// An entry `d/g` of a version's feature f, and a dependency called d.
-    Asking(
-        &'a PackageName,
-        &'a Version,
-        &'a FeatureName,
-        &'a FeatureName,
-        usize,
-    ),
+    Asking(&'a PackageName, &'a Version, &'a FeatureName, &'a FeatureName, usize),
     /// Two dependencies of an owner, and a class for each.
     Newest(OwnerName<'a>, usize, usize, Class, Class),
     /// An entry `d?/g` of a version's feature f, a dependency called d, and a class that it may lead to.
-    Weak(
-        &'a PackageName,
-        &'a Version,
-        &'a FeatureName,
-        &'a FeatureName,
-        usize,
-        Class,
-    ),
+    Weak(&'a PackageName, &'a Version, &'a FeatureName, &'a FeatureName, usize, Class),
 }

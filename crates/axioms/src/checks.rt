@@ -87,8 +87,7 @@ fn is_list(
 {
     match dependency_at(known, owner, number) {
         Some(dependency) => {
-            has_class(known, class, dependency)
-                && lists_feature(known, owner, dependency, feature)
+            has_class(known, class, dependency) && lists_feature(known, owner, dependency, feature)
         }
         None => false,
     }
@@ -278,12 +277,15 @@ fn is_weak_on(
     ensures { result ≡ is_weak_on (problem known.now) name.now (parts_of version.now) on.now off.now (class_view class) (dependency_view dependency.now) }
 {
     has_class(known, class, dependency)
-        && has_weak(
-            &dependency.name,
+        && has_weak(&dependency.name, off, entries_of(known, name, version, on))
+        && !is_same_feature(
+            name,
+            Class::of(version),
+            on,
+            &dependency.real_name,
+            class,
             off,
-            entries_of(known, name, version, on),
         )
-        && !is_same_feature(name, Class::of(version), on, &dependency.real_name, class, off)
 }
 
 /// Whether two features of classes are one.

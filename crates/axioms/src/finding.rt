@@ -232,11 +232,7 @@ fn enabled_number(
 }
 
 /// The number of the first dependency that entries enable and no candidate serves.
-fn first_enabled(
-    known: &Known<'_>,
-    dependencies: &[Dependency],
-    entries: &[Entry],
-) -> Option<usize>
+fn first_enabled(known: &Known<'_>, dependencies: &[Dependency], entries: &[Entry]) -> Option<usize>
     ensures { result ≡ place_from (is_enabled_unmatched (problem known.now) (entry_views entries.now)) 0 (dependency_views dependencies.now) }
 {
     'dependencies: for (number, dependency) in dependencies.iter().enumerate() {

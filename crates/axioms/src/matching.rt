@@ -49,7 +49,9 @@ fn some_matched_in(class: Class, requirement: &VersionReq, versions: &[Version])
 fn some_matched(requirement: &VersionReq, versions: &[Version]) -> bool
     ensures { result ≡ list_any (λ v. matches_views (requirement_view requirement.now) (parts_of v)) versions.now }
 {
-    versions.iter().any(|version| is_matched(requirement, version))
+    versions
+        .iter()
+        .any(|version| is_matched(requirement, version))
 }
 
 /// Whether a version is of the class and matched.

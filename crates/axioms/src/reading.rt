@@ -144,7 +144,9 @@ pub(crate) fn first_led<'a>(terms: &[Term<'a>]) -> Option<(OwnerName<'a>, usize,
 }
 
 /// The first feature.
-pub(crate) fn first_feature<'a>(terms: &[Term<'a>]) -> Option<(&'a PackageName, Class, &'a FeatureName)>
+pub(crate) fn first_feature<'a>(
+    terms: &[Term<'a>],
+) -> Option<(&'a PackageName, Class, &'a FeatureName)>
     ensures { option_map feature_seen result ≡ first_read feature_read (term_views terms.now) }
 {
     'terms: for term in terms.iter() {
@@ -180,7 +182,9 @@ pub(crate) fn first_off<'a>(terms: &[Term<'a>]) -> Option<&'a FeatureName>
 }
 
 /// The first that asks.
-pub(crate) fn first_ask<'a>(terms: &[Term<'a>]) -> Option<(&'a PackageName, &'a Version, usize, &'a FeatureName)>
+pub(crate) fn first_ask<'a>(
+    terms: &[Term<'a>],
+) -> Option<(&'a PackageName, &'a Version, usize, &'a FeatureName)>
     ensures { option_map ask_seen result ≡ first_read ask_read (term_views terms.now) }
 {
     'terms: for term in terms.iter() {

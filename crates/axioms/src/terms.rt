@@ -141,7 +141,11 @@ fn on_term<'a>(
     )
 }
 
-fn need_terms(alloc: Global, owner: OwnerName<'_>, number: usize) -> Result<Vec<Term<'_>>, AllocError>
+fn need_terms(
+    alloc: Global,
+    owner: OwnerName<'_>,
+    number: usize,
+) -> Result<Vec<Term<'_>>, AllocError>
     ensures { IfOk result (λ v. term_views v.items ≡ owner_holds (owner_view owner.entry) ∷ at (model.dep (owner_view owner.entry) number) (model.absent ∷ []) ∷ []) }
 {
     two(
@@ -227,7 +231,11 @@ fn target_terms<'a>(
     match dependency_at(known, &owner, number) {
         Some(dependency) => two(
             alloc,
-            term(alloc, Vertex::Dependency(owner, number), State::Class(class))?,
+            term(
+                alloc,
+                Vertex::Dependency(owner, number),
+                State::Class(class),
+            )?,
             left_term(alloc, known, dependency, class)?,
         ),
         None => Ok(Vec::new(alloc)),
@@ -318,7 +326,11 @@ fn list_terms<'a>(
     match dependency_at(known, &owner, number) {
         Some(dependency) => two(
             alloc,
-            term(alloc, Vertex::Dependency(owner, number), State::Class(class))?,
+            term(
+                alloc,
+                Vertex::Dependency(owner, number),
+                State::Class(class),
+            )?,
             off_term(alloc, dependency, class, feature)?,
         ),
         None => Ok(Vec::new(alloc)),
@@ -361,7 +373,11 @@ fn ask_terms<'a>(
                 Vertex::Ask(name, version, number, feature),
                 State::Present,
             )?,
-            term(alloc, Vertex::Dependency(owner, number), State::Class(class))?,
+            term(
+                alloc,
+                Vertex::Dependency(owner, number),
+                State::Class(class),
+            )?,
             off_term(alloc, dependency, class, feature)?,
         ),
         None => Ok(Vec::new(alloc)),
@@ -382,8 +398,16 @@ fn newest_terms<'a>(
     match dependency_at(known, &owner, number) {
         Some(dependency) => three(
             alloc,
-            term(alloc, Vertex::Dependency(owner, number), State::Class(class))?,
-            term(alloc, Vertex::Dependency(owner, other), State::Class(higher))?,
+            term(
+                alloc,
+                Vertex::Dependency(owner, number),
+                State::Class(class),
+            )?,
+            term(
+                alloc,
+                Vertex::Dependency(owner, other),
+                State::Class(higher),
+            )?,
             taken_term(alloc, known, dependency, higher)?,
         ),
         None => Ok(Vec::new(alloc)),
@@ -409,7 +433,11 @@ fn weak_terms<'a>(
                 alloc,
                 chosen(alloc, name, version)?,
                 on_term(alloc, name, version, on)?,
-                term(alloc, Vertex::Dependency(owner, number), State::Class(class))?,
+                term(
+                    alloc,
+                    Vertex::Dependency(owner, number),
+                    State::Class(class),
+                )?,
             )?;
             terms.push(off_term(alloc, dependency, class, off)?)?;
             Ok(terms)

@@ -101,12 +101,7 @@ fn some_row_asks(
     rows.iter().any(|row| row_asks(known, row, name, feature))
 }
 
-fn row_asks(
-    known: &Known<'_>,
-    row: &PackageName,
-    name: &PackageName,
-    feature: &FeatureName,
-) -> bool
+fn row_asks(known: &Known<'_>, row: &PackageName, name: &PackageName, feature: &FeatureName) -> bool
     ensures { result ≡ row_owners_ask (problem known.now) name.now feature.now row.now }
 {
     versions_ask(known, row, known.catalogue.versions(row), name, feature)
@@ -160,9 +155,7 @@ fn some_asks(
 ) -> bool
     ensures { result ≡ list_any (λ d. dependency_asks (problem known.now) name.now feature.now (owner_view owner.now) (dependency_view d)) dependencies.now }
 {
-    dependencies
-        .iter()
-        .any(|dependency| dependency_asks(known, owner, dependency, name, feature))
+    dependencies.iter().any(|dependency| dependency_asks(known, owner, dependency, name, feature))
 }
 
 #[tactic(auto, unfolding(crate::specs::Asking::dependency_asks))]
@@ -186,7 +179,8 @@ fn asks(
 ) -> bool
     ensures { result ≡ (lists_feature (problem known.now) (owner_view owner.now) (dependency_view dependency.now) feature.now || entry_asks (problem known.now) (owner_view owner.now) (dependency_view dependency.now) feature.now) }
 {
-    lists_feature(known, owner, dependency, feature) || entry_asks(known, owner, dependency, feature)
+    lists_feature(known, owner, dependency, feature)
+        || entry_asks(known, owner, dependency, feature)
 }
 
 /// Whether an entry of the version asks the dependency for the feature.

@@ -1,13 +1,11 @@
 use Rattle.std.proofs.Common.{rules, ◌∙◌, sym}
 use Rattle.std.proofs.lemmas.Iterator.{YieldsList-from_slice}
-use Rattle.std.proofs.lemmas.Iterator.Search.{any_from_yields_List, all_from_yields_List}
+use Rattle.std.proofs.lemmas.Iterator.Search.{any_from_yields_List}
 use borrow.Author.Tests.{tests}
-use Rattle.model.specs.Vertices.{has_state, same_state}
-use Rattle.refutations.specs.Terms.{agree}
-use Rattle.axioms.specs.Views.{state_view, state_views, term_view, term_views}
+use Rattle.model.specs.Vertices.{same_state}
+use Rattle.axioms.specs.Views.{state_view}
 use Rattle.axioms.specs.declared.term.State.{State}
-use Rattle.axioms.specs.declared.term.Term.{Term}
-use Rattle.axioms.proofs.Versions.{any-map, all-map}
+use Rattle.axioms.proofs.Versions.{any-map}
 use Rattle.axioms.proofs.compare.has_state.Goals as goal
 
 pub returns : goal.returns

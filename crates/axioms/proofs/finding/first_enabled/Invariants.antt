@@ -2,7 +2,7 @@ use Rattle.std.proofs.Common.{◌≡◌, drop}
 use Rattle.features.specs.Views.{dependency_views}
 use Rattle.features.specs.EntryViews.{entry_views}
 use Rattle.axioms.specs.Needs.{is_enabled_unmatched}
-use Rattle.axioms.specs.Views.{owner_view, problem}
+use Rattle.axioms.specs.Views.{problem}
 use Rattle.axioms.specs.Needs.{place_from}
 use Rattle.axioms.proofs.finding.first_enabled.Given as goal
 

@@ -1,6 +1,5 @@
 use Rattle.std.proofs.Common.{◌≡◌, drop}
 use Rattle.features.specs.Views.{dependency_views}
-use Rattle.features.specs.EntryViews.{entry_views}
 use Rattle.axioms.specs.Needs.{is_needed_unmatched}
 use Rattle.axioms.specs.Views.{owner_view, problem}
 use Rattle.axioms.specs.Needs.{place_from}

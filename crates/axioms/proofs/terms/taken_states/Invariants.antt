@@ -1,8 +1,7 @@
-use Rattle.std.proofs.Common.{◌≡◌, ◌++◌, ◌∷◌, map, drop}
+use Rattle.std.proofs.Common.{◌≡◌, ◌++◌, map, drop}
 use Rattle.semver.specs.Identifiers.{parts_of}
 use Rattle.classes.specs.Classes.{class_view}
 use Rattle.features.specs.Views.{requirement_view}
-use Rattle.model.specs.Vertices.{absent}
 use Rattle.axioms.specs.Matching.{is_taken_in, versions_with}
 use Rattle.axioms.specs.Views.{state_views}
 use Rattle.axioms.proofs.terms.taken_states.Given as goal

@@ -1,8 +1,8 @@
-use Rattle.std.proofs.Common.{◌∙◌, ◌∷◌, ap}
+use Rattle.std.proofs.Common.{◌∙◌, ap}
 use Rattle.features.specs.Views.{dependency_view}
 use Rattle.classes.specs.Classes.{class_view}
 use Rattle.model.specs.Axioms.{at}
-use Rattle.model.specs.Vertices.{absent, pkg}
+use Rattle.model.specs.Vertices.{pkg}
 use Rattle.axioms.proofs.Taken.{taken_is}
 use Rattle.axioms.proofs.terms.taken_term.Goals as goal
 
