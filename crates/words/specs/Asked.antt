@@ -9,6 +9,8 @@ use Rattle.model.specs.Owner.{same_text}
 pub data WordsView : Type 0 where
   resolve : (manifest index : Text) (lock source proof : Option Text) (rust_first : Bool) → WordsView
   verify : (manifest index lock : Text) (source : Option Text) → WordsView
+  check : (manifest index : Text) (lock source : Option Text) (proof : Text) → WordsView
+  explain : (proof : Text) → WordsView
 
 -- ---- the commands and their options
 
@@ -56,9 +58,19 @@ resolve_app = with_rules (new_app (codes "resolve"))
 abbrev pub verify_app : App
 verify_app = with_rules (new_app (codes "verify")) (manifest_option ∷ index_option ∷ required lock_option ∷ source_option ∷ [])
 
--- the whole program: one command has to be named
+abbrev pub check_app : App
+check_app = with_rules (new_app (codes "check")) (manifest_option ∷ index_option ∷ lock_option ∷ required proof_option ∷ source_option ∷ [])
+
+abbrev pub explain_app : App
+explain_app = with_rules (new_app (codes "explain")) (required proof_option ∷ [])
+
+-- one command has to be named
+abbrev pub bare_app : App
+bare_app = on_top (λ s. record s { subcommand_required = true }) (new_app (codes "relock"))
+
+-- the whole program
 abbrev pub relock_app : App
-relock_app = with_subcommand (with_subcommand (on_top (λ s. record s { subcommand_required = true }) (new_app (codes "relock"))) resolve_app.top) verify_app.top
+relock_app = with_subcommand (with_subcommand (with_subcommand (with_subcommand bare_app resolve_app.top) verify_app.top) check_app.top) explain_app.top
 
 -- ---- what the options say
 
@@ -75,8 +87,20 @@ abbrev pub verify_of : List Row → Option WordsView
 verify_of rows = option_and_then (λ m. option_and_then (λ i. option_map (λ l. verify m i l (first_of (codes "source") rows))
     (first_of (codes "lock") rows)) (first_of (codes "index") rows)) (first_of (codes "manifest") rows)
 
+abbrev pub check_of : List Row → Option WordsView
+check_of rows = option_and_then (λ m. option_and_then (λ i. option_map (λ p. check m i (first_of (codes "lock") rows) (first_of (codes "source") rows) p)
+    (first_of (codes "proof") rows)) (first_of (codes "index") rows)) (first_of (codes "manifest") rows)
+
+abbrev pub explain_of : List Row → Option WordsView
+explain_of rows = option_map explain (first_of (codes "proof") rows)
+
 abbrev pub command_of : Text × List Row → Option WordsView
-command_of p = if same_text p.0 (codes "resolve") then resolve_of p.1 else if same_text p.0 (codes "verify") then verify_of p.1 else None
+command_of p =
+    if same_text p.0 (codes "resolve") then resolve_of p.1
+    else if same_text p.0 (codes "verify") then verify_of p.1
+    else if same_text p.0 (codes "check") then check_of p.1
+    else if same_text p.0 (codes "explain") then explain_of p.1
+    else None
 
 -- a bare name asks for help
 abbrev pub or_help : List Text → List Text

@@ -2,7 +2,7 @@
 
 ghost use Rattle.std.specs.Prelude.{◌≡◌, true, IfOk};
 ghost use Rattle.clap.specs.Words.{app_of, rule_of, shape_of, with_rule, with_subcommand};
-ghost use Rattle.words.specs.Asked.{option, manifest_option, index_option, lock_option, source_option, proof_option, rust_first_flag, resolve_app, verify_app, relock_app};
+ghost use Rattle.words.specs.Asked.{option, required, manifest_option, index_option, lock_option, source_option, proof_option, rust_first_flag, resolve_app, verify_app, check_app, explain_app, relock_app};
 
 use clap::{Arg, ArgAction, Command};
 use std::alloc::{AllocError, Global};
@@ -12,10 +12,12 @@ pub(crate) fn relock<'a>(alloc: Global) -> Result<Command<'a>, AllocError>
     ensures { IfOk result (λ c. app_of c ≡ relock_app) }
 {
     let program = Command::new(alloc, "relock")
-        .about("Resolves Cargo manifests and verifies their locks")
+        .about("Resolves Cargo manifests, verifies their locks and checks refusals")
         .subcommand_required(true);
     let program = with_command(program, resolve(alloc)?)?;
-    with_command(program, verify(alloc)?)
+    let program = with_command(program, verify(alloc)?)?;
+    let program = with_command(program, check(alloc)?)?;
+    with_command(program, explain(alloc)?)
 }
 
 fn resolve<'a>(alloc: Global) -> Result<Command<'a>, AllocError>
@@ -38,6 +40,26 @@ fn verify<'a>(alloc: Global) -> Result<Command<'a>, AllocError>
     let command = with_option(command, index(alloc))?;
     let command = with_option(command, lock(alloc).required(true))?;
     with_option(command, source(alloc))
+}
+
+fn check<'a>(alloc: Global) -> Result<Command<'a>, AllocError>
+    ensures { IfOk result (λ c. app_of c ≡ check_app) }
+{
+    let command = Command::new(alloc, "check").about(
+        "Says whether a derivation proves that there is no valid lock",
+    );
+    let command = with_option(command, manifest(alloc))?;
+    let command = with_option(command, index(alloc))?;
+    let command = with_option(command, lock(alloc))?;
+    let command = with_option(command, derivation(alloc))?;
+    with_option(command, source(alloc))
+}
+
+fn explain<'a>(alloc: Global) -> Result<Command<'a>, AllocError>
+    ensures { IfOk result (λ c. app_of c ≡ explain_app) }
+{
+    let command = Command::new(alloc, "explain").about("Tells what a derivation says");
+    with_option(command, derivation(alloc))
 }
 
 /// The program with another command.
@@ -91,6 +113,15 @@ fn proof<'a>(alloc: Global) -> Arg<'a>
     ensures { rule_of result ≡ proof_option }
 {
     option(alloc, "proof").help("Where the derivation of a refusal goes")
+}
+
+/// The derivation that a command reads.
+fn derivation<'a>(alloc: Global) -> Arg<'a>
+    ensures { rule_of result ≡ required proof_option }
+{
+    option(alloc, "proof")
+        .required(true)
+        .help("The derivation of a refusal")
 }
 
 fn rust_first<'a>(alloc: Global) -> Arg<'a>

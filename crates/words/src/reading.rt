@@ -2,7 +2,7 @@
 
 ghost use Rattle.std.specs.Prelude.{◌≡◌, IfErr, IfOk, [], Some, map, option_map, option_and_then, string_bytes};
 ghost use Rattle.clap.specs.Words.{first_of, found_of, kind_of, rows_of, subcommand_rows_of};
-ghost use Rattle.words.specs.Asked.{asked, command_of, faults, is_set, or_help, parsed, resolve_of, verify_of};
+ghost use Rattle.words.specs.Asked.{asked, command_of, faults, is_set, or_help, parsed, resolve_of, verify_of, check_of, explain_of};
 ghost use Rattle.words.specs.Refusals.{Refuses, Tells};
 ghost use Rattle.words.specs.Views.{text_if, words_view};
 
@@ -29,6 +29,16 @@ pub enum Words<'a> {
         index: &'a str,
         lock: &'a str,
         source: Option<&'a str>,
+    },
+    Check {
+        manifest: &'a str,
+        index: &'a str,
+        lock: Option<&'a str>,
+        source: Option<&'a str>,
+        proof: &'a str,
+    },
+    Explain {
+        proof: &'a str,
     },
 }
 
@@ -93,6 +103,8 @@ fn words_of<'a>(matches: &ArgMatches<'a>) -> Option<Words<'a>>
     match name {
         "resolve" => resolve_of(found),
         "verify" => verify_of(found),
+        "check" => check_of(found),
+        "explain" => explain_of(found),
         _ => None,
     }
 }
@@ -119,6 +131,25 @@ fn verify_of<'a>(found: &ArgMatches<'a>) -> Option<Words<'a>>
         lock: value_of(found, "lock")?,
         source: value_of(found, "source"),
     })
+}
+
+fn check_of<'a>(found: &ArgMatches<'a>) -> Option<Words<'a>>
+    ensures { option_map words_view result ≡ check_of (rows_of (found_of found.now)) }
+{
+    Some(Words::Check {
+        manifest: value_of(found, "manifest")?,
+        index: value_of(found, "index")?,
+        lock: value_of(found, "lock"),
+        source: value_of(found, "source"),
+        proof: value_of(found, "proof")?,
+    })
+}
+
+fn explain_of<'a>(found: &ArgMatches<'a>) -> Option<Words<'a>>
+    ensures { option_map words_view result ≡ explain_of (rows_of (found_of found.now)) }
+{
+    let proof = value_of(found, "proof")?;
+    Some(Words::Explain { proof })
 }
 
 /// The value of an option.
