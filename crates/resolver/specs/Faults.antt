@@ -3,12 +3,16 @@ use Rattle.std.specs.Prelude.{Bool, true, false}
 use Rattle.manifest.specs.declared.fault.ManifestFault.TheVariants as manifest
 use Rattle.lockfile.specs.declared.fault.LockFault.TheVariants as lock
 use Rattle.catalogue.specs.declared.fault.LoadFault.TheVariants as load
+use Rattle.derivations.specs.declared.fault.DerivationFault.TheVariants as derivation
 use Rattle.resolver.specs.declared.fault.Fault.TheVariants as fault
 use Rattle.resolver.specs.declared.fault.TooLarge.TheVariants as large
 use Rattle.manifest.specs.declared.fault.ManifestFault.{ManifestFault}
 use Rattle.lockfile.specs.declared.fault.LockFault.{LockFault}
 use Rattle.catalogue.specs.declared.fault.LoadFault.{LoadFault}
+use Rattle.derivations.specs.declared.fault.DerivationFault.{DerivationFault}
 use Rattle.resolver.specs.declared.fault.Fault.{Fault}
+use Rattle.resolver.specs.declared.fault.CheckFault.{CheckFault}
+use Rattle.resolver.specs.declared.fault.CheckFault.TheVariants.{Input, Proof}
 
 abbrev pub is_memory : Fault → Bool
 is_memory fault.OutOfMemory = true
@@ -58,3 +62,10 @@ not_read_back lock.TooLarge = fault.NotReadBack
 not_read_back lock.NotToml = fault.NotReadBack
 not_read_back lock.LockVersion = fault.NotReadBack
 not_read_back lock.LockShape = fault.NotReadBack
+
+-- what is wrong with the bytes of a derivation
+abbrev pub of_derivation : DerivationFault → CheckFault
+of_derivation derivation.OutOfMemory = Input fault.OutOfMemory
+of_derivation (derivation.NotALine line) = Proof (derivation.NotALine line)
+of_derivation (derivation.Forward line) = Proof (derivation.Forward line)
+of_derivation (derivation.TooMany line) = Proof (derivation.TooMany line)

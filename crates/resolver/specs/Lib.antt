@@ -2,3 +2,4 @@ pub mod Faults
 pub mod Inputs
 pub mod Same
 pub mod Answers
+pub mod Checks

@@ -1,6 +1,7 @@
 //! Why a run has no answer, each with the line that the program prints.
 
 use catalogue::{Limit, LoadFault};
+use derivations::DerivationFault;
 use features::{FeatureName, PackageName};
 use lockfile::LockFault;
 use manifest::{ManifestFault, Part, TableFault, Unsupported};
@@ -52,6 +53,15 @@ pub enum Fault {
     NotYet,
 }
 
+/// Why a derivation isn't checked.
+#[derive(Debug, Drop)]
+pub enum CheckFault {
+    /// An input has this fault, or a growth was refused.
+    Input(Fault),
+    /// The bytes are no derivation.
+    Proof(DerivationFault),
+}
+
 impl fmt::Display for Fault {
     fn fmt<W: fmt::Write>(&self, f: &mut fmt::Formatter<W>) -> fmt::Result {
         match self {
@@ -83,6 +93,15 @@ impl fmt::Display for TooLarge {
             TooLarge::Manifest => f.write_str("manifest"),
             TooLarge::Lock => f.write_str("lock"),
             TooLarge::Index(limit) => write!(f, "{limit}"),
+        }
+    }
+}
+
+impl fmt::Display for CheckFault {
+    fn fmt<W: fmt::Write>(&self, f: &mut fmt::Formatter<W>) -> fmt::Result {
+        match self {
+            CheckFault::Input(fault) => write!(f, "{fault}"),
+            CheckFault::Proof(fault) => write!(f, "fault {fault}"),
         }
     }
 }
@@ -146,6 +165,43 @@ impl From<LoadFault> for Fault {
             LoadFault::FolderFailed(path) => Fault::FolderFailed(path),
             LoadFault::TooLarge(limit) => Fault::TooLarge(TooLarge::Index(limit)),
             LoadFault::ChecksumChanged(name, version) => Fault::ChecksumChanged(name, version),
+        }
+    }
+}
+
+impl From<Fault> for CheckFault {
+    ghost use Rattle.std.specs.Prelude.{◌≡◌};
+    ghost use Rattle.resolver.specs.declared.fault.CheckFault.TheVariants.{Input};
+
+    ghost from_gives = { λ fault e. e ≡ Input fault };
+
+    fn from(fault: Fault) -> CheckFault {
+        CheckFault::Input(fault)
+    }
+}
+
+impl From<AllocError> for CheckFault {
+    ghost use Rattle.std.specs.Prelude.{◌≡◌};
+    ghost use Rattle.resolver.specs.declared.fault.CheckFault.TheVariants.{Input};
+    ghost use Rattle.resolver.specs.declared.fault.Fault.TheVariants.{OutOfMemory};
+
+    ghost from_gives = { λ _ e. e ≡ Input OutOfMemory };
+
+    fn from(_e: AllocError) -> CheckFault {
+        CheckFault::Input(Fault::OutOfMemory)
+    }
+}
+
+impl From<DerivationFault> for CheckFault {
+    ghost use Rattle.std.specs.Prelude.{◌≡◌};
+    ghost use Rattle.resolver.specs.Faults.{of_derivation};
+
+    ghost from_gives = { λ fault e. e ≡ of_derivation fault };
+
+    fn from(fault: DerivationFault) -> CheckFault {
+        match fault {
+            DerivationFault::OutOfMemory => CheckFault::Input(Fault::OutOfMemory),
+            fault => CheckFault::Proof(fault),
         }
     }
 }

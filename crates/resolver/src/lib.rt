@@ -1,6 +1,7 @@
-//! The calls of the product: resolve a manifest, verify a lock.
+//! The calls of the product: resolve a manifest, verify a lock, check a refusal.
 #![tactic(auto)]
 
+mod checking;
 mod fault;
 mod inputs;
 mod resolving;
@@ -8,6 +9,7 @@ mod same;
 mod verifying;
 mod writing;
 
-pub use fault::{Fault, TooLarge};
+pub use checking::check_bytes;
+pub use fault::{CheckFault, Fault, TooLarge};
 pub use resolving::{Answer, resolve};
 pub use verifying::verify_bytes;

@@ -1,0 +1,57 @@
+-- What the check of a derivation from bytes answers.
+use Rattle.std.specs.Prelude.{◌≡◌, ◌↔◌, ℕ, true, false, List, Result, Ok, Err}
+use Rattle.model.specs.Content.{Content}
+use Rattle.model.specs.Derivation.{Step, IsAccepted}
+use Rattle.model.specs.Selection.{IsValidSelection}
+use Rattle.refutations.specs.Checks.{refusal}
+use Rattle.catalogue.specs.Runs.{Calls}
+use Rattle.derivations.specs.Files.{derivation_of_bytes, wants_memory}
+use Rattle.derivations.specs.declared.fault.DerivationFault.{DerivationFault}
+use Rattle.checker.specs.Refusals.{check_view}
+use Rattle.checker.specs.declared.outcome.Check.{Check}
+use Rattle.checker.specs.declared.outcome.Check.TheVariants.{Proves}
+use Rattle.resolver.specs.Faults.{is_memory}
+use Rattle.resolver.specs.Inputs.{RequestView, AreRead, IsRefused, UnlessMemory, problem_of}
+use Rattle.resolver.specs.declared.inputs.Inputs.{Inputs}
+use Rattle.resolver.specs.declared.fault.CheckFault.{CheckFault}
+use Rattle.resolver.specs.declared.fault.CheckFault.TheVariants.{Input, Proof}
+
+-- the bytes are a derivation that is accepted for what was loaded
+abbrev pub IsProof : Inputs → List ℕ → Type 0
+IsProof inputs bytes = (steps : List Step) × (derivation_of_bytes bytes ≡ Ok steps) × IsAccepted (problem_of inputs) steps
+
+-- the bytes are a derivation, and this is its first refused step, or that there is none; if there is none, there is no selection at all
+pub record IsChecked (inputs : Inputs) (bytes : List ℕ) (check : Check) : Type 0 where
+  pub steps : List Step
+  pub says : derivation_of_bytes bytes ≡ Ok steps
+  pub refused : check_view check ≡ refusal (problem_of inputs) steps
+  pub proves : (check ≡ Proves) ↔ IsProof inputs bytes
+  pub refutes : check ≡ Proves → (content : Content) → IsValidSelection (problem_of inputs) content → ⊥
+
+-- the bytes are no derivation; want of memory is no fault of theirs
+pub record IsNoDerivation (bytes : List ℕ) (fault : DerivationFault) : Type 0 where
+  pub says : derivation_of_bytes bytes ≡ Err fault
+  pub not_memory : wants_memory fault ≡ false
+
+-- the check of bytes, for what was loaded: of the inputs' faults only want of memory is left
+abbrev pub Decides : Inputs → List ℕ → Result Check CheckFault → Type 0
+Decides inputs bytes (Ok check) = IsChecked inputs bytes check
+Decides inputs bytes (Err (Input f)) = is_memory f ≡ true
+Decides inputs bytes (Err (Proof fault)) = IsNoDerivation bytes fault
+
+module _ {S : Type 0} (calls : Calls S) (request : RequestView) (bytes : List ℕ) (before : S) where
+  pub record IsCheckFor (check : Check) (after : S) : Type 0 where
+    pub inputs : Inputs
+    pub read : AreRead calls request before inputs after
+    pub checked : IsChecked inputs bytes check
+
+  -- the inputs were read, and the bytes are no derivation
+  pub record IsUnread (fault : DerivationFault) (after : S) : Type 0 where
+    pub inputs : Inputs
+    pub read : AreRead calls request before inputs after
+    pub no_derivation : IsNoDerivation bytes fault
+
+  abbrev pub Checks : Result Check CheckFault → S → Type 0
+  Checks (Ok check) after = IsCheckFor check after
+  Checks (Err (Input f)) after = UnlessMemory (is_memory f) (IsRefused calls request before f after)
+  Checks (Err (Proof fault)) after = IsUnread fault after
