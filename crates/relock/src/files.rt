@@ -1,20 +1,90 @@
-//! The files that a run reads.
+//! The files and the folder that a run reads.
 
+use crate::stop::Stop;
+use index_reader::DiskFolder;
+use std::alloc::AllocError;
 use std::fs;
 use std::io::{self, ErrorKind, Read};
 use std::rt::Files;
 
+/// How many bytes of a manifest are read: one more than it may have.
+const MANIFEST_BYTES: u64 = 1_048_577;
+
+/// How many bytes of a lock are read: one more than it may have.
+const LOCK_BYTES: u64 = 67_108_865;
+
 /// Why a file gives no bytes.
 #[derive(Clone, Copy, Debug, PartialEq, Eq)]
-pub(crate) enum FileFault {
+enum FileFault {
     OutOfMemory,
     /// The system calls it not found.
     NotFound,
     Unreadable,
 }
 
+pub(crate) fn read_manifest<'a, R: Files + AllocGlobal>(
+    rt: &R,
+    path: &'a str,
+) -> Result<Vec<u8>, Stop<'a>> {
+    read_file(rt, path, MANIFEST_BYTES)
+}
+
+pub(crate) fn read_lock<'a, R: Files + AllocGlobal>(
+    rt: &R,
+    path: &'a str,
+) -> Result<Vec<u8>, Stop<'a>> {
+    read_file(rt, path, LOCK_BYTES)
+}
+
+/// A derivation is read whole.
+pub(crate) fn read_proof<'a, R: Files + AllocGlobal>(
+    rt: &R,
+    path: &'a str,
+) -> Result<Vec<u8>, Stop<'a>> {
+    read_file(rt, path, u64::MAX)
+}
+
+/// The old lock, if one is named; a file that isn't there is none.
+pub(crate) fn read_old<'a, R: Files + AllocGlobal>(
+    rt: &R,
+    path: Option<&'a str>,
+) -> Result<Option<Vec<u8>>, Stop<'a>> {
+    let Some(path) = path else {
+        return Ok(None);
+    };
+    match read_at_most(rt, path, LOCK_BYTES) {
+        Ok(bytes) => Ok(Some(bytes)),
+        Err(FileFault::NotFound) => Ok(None),
+        Err(FileFault::OutOfMemory) => Err(Stop::from(AllocError)),
+        Err(FileFault::Unreadable) => Err(Stop::CannotRead(path)),
+    }
+}
+
+fn read_file<'a, R: Files + AllocGlobal>(
+    rt: &R,
+    path: &'a str,
+    most: u64,
+) -> Result<Vec<u8>, Stop<'a>> {
+    match read_at_most(rt, path, most) {
+        Ok(bytes) => Ok(bytes),
+        Err(FileFault::OutOfMemory) => Err(Stop::from(AllocError)),
+        Err(FileFault::NotFound | FileFault::Unreadable) => Err(Stop::CannotRead(path)),
+    }
+}
+
+/// The folder of the index.
+pub(crate) fn open<'a, R: Files + AllocGlobal + Clone + Drop>(
+    rt: &R,
+    path: &str,
+) -> Result<DiskFolder<R>, Stop<'a>> {
+    match DiskFolder::open(rt, path) {
+        Ok(folder) => Ok(folder),
+        Err(_) => Err(Stop::from(AllocError)),
+    }
+}
+
 /// The bytes of a file, but at most this many of them.
-pub(crate) fn read_at_most<R: Files + AllocGlobal>(
+fn read_at_most<R: Files + AllocGlobal>(
     rt: &R,
     path: &str,
     most: u64,

@@ -1,10 +1,15 @@
-//! `relock`: verifies locks of Cargo manifests, and gives valid ones.
+//! `relock`: verifies locks of Cargo manifests, gives valid ones, and checks why there is none.
 #![tactic(auto)]
 
 #[cfg(test)]
 mod failing;
 mod files;
+#[cfg(test)]
+mod playing;
+#[cfg(test)]
+mod refusals;
 mod run;
+mod stop;
 #[cfg(test)]
 mod tests;
 

@@ -1,11 +1,15 @@
 //! One run of the program: words in, a status and two texts out.
 
-use crate::files::{FileFault, read_at_most};
+use crate::files::{open, read_lock, read_manifest, read_old, read_proof};
+use crate::stop::Stop;
 use catalogue::{Prefer, Source, SourceFault};
-use index_reader::{DiskFolder, Skip};
-use resolver::{Answer, Fault, resolve, verify_bytes};
+use checker::{Check, Reason};
+use derivations::Derivation;
+use explainer::explain;
+use index_reader::Skip;
+use resolver::{Answer, Fault, check_bytes, resolve, verify_bytes};
 use selection::Verdict;
-use std::fmt;
+use std::alloc::AllocError;
 use std::io::{self, ErrorKind, Write};
 use std::rt::Files;
 use words::{Words, WordsFault, read_words};
@@ -13,47 +17,18 @@ use words::{Words, WordsFault, read_words};
 /// The status of a lock that is no valid selection.
 const INVALID: u8 = 1;
 
+/// The status of a derivation that proves nothing.
+const REFUSED: u8 = 1;
+
 /// The status of wrong use, of a fault, of a file that can't be read and of output that can't be written.
 const FAILED: u8 = 2;
 
 /// The source of packages where the words name none.
 const CRATES_IO: &str = "registry+https://github.com/rust-lang/crates.io-index";
 
-/// How many bytes of a manifest are read: one more than it may have.
-const MANIFEST_BYTES: u64 = 1_048_577;
-
-/// How many bytes of a lock are read: one more than it may have.
-const LOCK_BYTES: u64 = 67_108_865;
-
-/// Why a run ends before its answer: its line and the status 2.
-#[derive(Debug, Drop)]
-enum Stop<'a> {
-    Fault(Fault),
-    BadSource,
-    CannotRead(&'a str),
-    CannotWrite,
-}
-
-impl fmt::Display for Stop<'_> {
-    fn fmt<W: fmt::Write>(&self, f: &mut fmt::Formatter<W>) -> fmt::Result {
-        match self {
-            Stop::Fault(fault) => write!(f, "{fault}"),
-            Stop::BadSource => f.write_str("bad source"),
-            Stop::CannotRead(path) => write!(f, "cannot read {path}"),
-            Stop::CannotWrite => f.write_str("cannot write"),
-        }
-    }
-}
-
-impl From<Fault> for Stop<'_> {
-    fn from(fault: Fault) -> Self {
-        Stop::Fault(fault)
-    }
-}
-
 /// Does what the words ask, the program's name first, and answers the exit status.
 ///
-/// A verdict and a lock go to `out`, help too; every other line goes to `err`. A write to `err` that fails is passed over.
+/// The answer of a command goes to `out`, help too; every other line goes to `err`. A write to `err` that fails is passed over.
 pub fn run<R: Files + AllocGlobal + Clone + Drop>(
     rt: &R,
     words: &[String],
@@ -79,6 +54,14 @@ pub fn run<R: Files + AllocGlobal + Clone + Drop>(
             rust_first,
             ..
         } => run_resolve(rt, manifest, index, *lock, *source, *rust_first, out, err),
+        Words::Check {
+            manifest,
+            index,
+            lock,
+            source,
+            proof,
+        } => run_check(rt, manifest, index, *lock, *source, proof, out),
+        Words::Explain { proof } => run_explain(rt, proof, out),
     };
     match ended {
         Ok(status) => status,
@@ -127,8 +110,8 @@ fn run_verify<'a, R: Files + AllocGlobal + Clone + Drop>(
     out: &mut impl Write,
 ) -> Result<u8, Stop<'a>> {
     let source = source_of(rt, source)?;
-    let manifest = read_file(rt, manifest, MANIFEST_BYTES)?;
-    let lock = read_file(rt, lock, LOCK_BYTES)?;
+    let manifest = read_manifest(rt, manifest)?;
+    let lock = read_lock(rt, lock)?;
     let mut folder = open(rt, index)?;
     let verdict = verify_bytes(
         rt.alloc(),
@@ -169,11 +152,8 @@ fn run_resolve<'a, R: Files + AllocGlobal + Clone + Drop>(
     err: &mut impl Write,
 ) -> Result<u8, Stop<'a>> {
     let source = source_of(rt, source)?;
-    let manifest = read_file(rt, manifest, MANIFEST_BYTES)?;
-    let old = match lock {
-        Some(path) => read_old(rt, path)?,
-        None => None,
-    };
+    let manifest = read_manifest(rt, manifest)?;
+    let old = read_old(rt, lock)?;
     let mut folder = open(rt, index)?;
     let prefer = if rust_first {
         Prefer::RustFirst
@@ -202,45 +182,79 @@ fn print_skips(skips: &[Skip], err: &mut impl Write) {
     }
 }
 
-/// An old lock; a file that isn't there is none.
-fn read_old<'a, R: Files + AllocGlobal>(
+fn run_check<'a, R: Files + AllocGlobal + Clone + Drop>(
     rt: &R,
-    path: &'a str,
-) -> Result<Option<Vec<u8>>, Stop<'a>> {
-    match read_at_most(rt, path, LOCK_BYTES) {
-        Ok(bytes) => Ok(Some(bytes)),
-        Err(FileFault::NotFound) => Ok(None),
-        Err(FileFault::OutOfMemory) => Err(Stop::Fault(Fault::OutOfMemory)),
-        Err(FileFault::Unreadable) => Err(Stop::CannotRead(path)),
+    manifest: &'a str,
+    index: &str,
+    lock: Option<&'a str>,
+    source: Option<&str>,
+    proof: &'a str,
+    out: &mut impl Write,
+) -> Result<u8, Stop<'a>> {
+    let source = source_of(rt, source)?;
+    let manifest = read_manifest(rt, manifest)?;
+    let old = read_old(rt, lock)?;
+    let proof = read_proof(rt, proof)?;
+    let mut folder = open(rt, index)?;
+    let checked = check_bytes(
+        rt.alloc(),
+        manifest.as_slice(),
+        &mut folder,
+        old.as_ref().map(|bytes| bytes.as_slice()),
+        proof.as_slice(),
+        &source,
+    )?;
+    print_check(&checked, out)
+}
+
+fn print_check<'a>(checked: &Check, out: &mut impl Write) -> Result<u8, Stop<'a>> {
+    let (written, status) = match checked {
+        Check::Proves => (writeln!(out, "proves"), 0),
+        Check::Refused { step, reason } => {
+            let reason = reason_line(reason);
+            (writeln!(out, "refused {step} {reason}"), REFUSED)
+        }
+    };
+    match written {
+        Ok(()) => Ok(status),
+        Err(_) => Err(Stop::CannotWrite),
     }
 }
 
-fn read_file<'a, R: Files + AllocGlobal>(
+fn reason_line(reason: &Reason) -> &'static str {
+    match reason {
+        Reason::NotAnAxiom => "C1 NotAnAxiom",
+        Reason::BadCombination => "C2 BadCombination",
+        Reason::NotFinal => "C3 NotFinal",
+    }
+}
+
+fn run_explain<'a, R: Files + AllocGlobal>(
+    rt: &R,
+    proof: &'a str,
+    out: &mut impl Write,
+) -> Result<u8, Stop<'a>> {
+    let derivation = read_derivation(rt, proof)?;
+    let text = explain(rt.alloc(), &derivation)?;
+    match out.write_all(text.as_bytes()) {
+        Ok(()) => Ok(0),
+        Err(_) => Err(Stop::CannotWrite),
+    }
+}
+
+/// The derivation of a file, whose bytes are let go.
+fn read_derivation<'a, R: Files + AllocGlobal>(
     rt: &R,
     path: &'a str,
-    most: u64,
-) -> Result<Vec<u8>, Stop<'a>> {
-    match read_at_most(rt, path, most) {
-        Ok(bytes) => Ok(bytes),
-        Err(FileFault::OutOfMemory) => Err(Stop::Fault(Fault::OutOfMemory)),
-        Err(FileFault::NotFound | FileFault::Unreadable) => Err(Stop::CannotRead(path)),
-    }
+) -> Result<Derivation, Stop<'a>> {
+    let bytes = read_proof(rt, path)?;
+    Ok(derivations::read(rt.alloc(), bytes.as_slice())?)
 }
 
 fn source_of<'a, R: AllocGlobal>(rt: &R, text: Option<&str>) -> Result<Source, Stop<'a>> {
     match Source::parse(rt.alloc(), text.unwrap_or(CRATES_IO)) {
         Ok(source) => Ok(source),
-        Err(SourceFault::OutOfMemory) => Err(Stop::Fault(Fault::OutOfMemory)),
+        Err(SourceFault::OutOfMemory) => Err(Stop::from(AllocError)),
         Err(SourceFault::NotASource) => Err(Stop::BadSource),
-    }
-}
-
-fn open<'a, R: Files + AllocGlobal + Clone + Drop>(
-    rt: &R,
-    path: &str,
-) -> Result<DiskFolder<R>, Stop<'a>> {
-    match DiskFolder::open(rt, path) {
-        Ok(folder) => Ok(folder),
-        Err(_) => Err(Stop::Fault(Fault::OutOfMemory)),
     }
 }
