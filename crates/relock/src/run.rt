@@ -135,10 +135,7 @@ fn print_verdict<'a>(verdict: &Verdict, out: &mut impl Write) -> Result<u8, Stop
             INVALID,
         ),
     };
-    match written {
-        Ok(()) => Ok(status),
-        Err(_) => Err(Stop::CannotWrite),
-    }
+    after(written, status)
 }
 
 fn run_resolve<'a, R: Files + AllocGlobal + Clone + Drop>(
@@ -169,10 +166,7 @@ fn run_resolve<'a, R: Files + AllocGlobal + Clone + Drop>(
         prefer,
     )?;
     print_skips(skips.as_slice(), err);
-    match out.write_all(bytes.as_slice()) {
-        Ok(()) => Ok(0),
-        Err(_) => Err(Stop::CannotWrite),
-    }
+    after(out.write_all(bytes.as_slice()), 0)
 }
 
 fn print_skips(skips: &[Skip], err: &mut impl Write) {
@@ -215,10 +209,7 @@ fn print_check<'a>(checked: &Check, out: &mut impl Write) -> Result<u8, Stop<'a>
             (writeln!(out, "refused {step} {reason}"), REFUSED)
         }
     };
-    match written {
-        Ok(()) => Ok(status),
-        Err(_) => Err(Stop::CannotWrite),
-    }
+    after(written, status)
 }
 
 fn reason_line(reason: &Reason) -> &'static str {
@@ -236,10 +227,7 @@ fn run_explain<'a, R: Files + AllocGlobal>(
 ) -> Result<u8, Stop<'a>> {
     let derivation = read_derivation(rt, proof)?;
     let text = explain(rt.alloc(), &derivation)?;
-    match out.write_all(text.as_bytes()) {
-        Ok(()) => Ok(0),
-        Err(_) => Err(Stop::CannotWrite),
-    }
+    after(out.write_all(text.as_bytes()), 0)
 }
 
 /// The derivation of a file, whose bytes are let go.
@@ -249,6 +237,14 @@ fn read_derivation<'a, R: Files + AllocGlobal>(
 ) -> Result<Derivation, Stop<'a>> {
     let bytes = read_proof(rt, path)?;
     Ok(derivations::read(rt.alloc(), bytes.as_slice())?)
+}
+
+/// This status, where the answer could be written.
+fn after<'a>(written: io::Result<()>, status: u8) -> Result<u8, Stop<'a>> {
+    match written {
+        Ok(()) => Ok(status),
+        Err(_) => Err(Stop::CannotWrite),
+    }
 }
 
 fn source_of<'a, R: AllocGlobal>(rt: &R, text: Option<&str>) -> Result<Source, Stop<'a>> {
