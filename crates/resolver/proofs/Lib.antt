@@ -1,3 +1,4 @@
 pub mod Reading
 pub mod Sameness
 pub mod Answered
+pub mod Checked

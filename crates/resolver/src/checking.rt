@@ -2,12 +2,14 @@
 
 ghost use Rattle.std.specs.Prelude.{option_copied};
 ghost use Rattle.catalogue.specs.declared.store.Prefer.TheVariants.{Newest};
-ghost use Rattle.resolver.specs.Checks.{Checks};
+ghost use Rattle.resolver.specs.Checks.{Checks, Decides};
 
-use crate::fault::{CheckFault, Fault};
-use catalogue::Source;
-use checker::Check;
+use crate::fault::CheckFault;
+use crate::inputs::{Inputs, Request, read_inputs};
+use catalogue::{Prefer, Source};
+use checker::{Check, check};
 use index_reader::Folder;
+use refutations::refusals_decide;
 use std::alloc::Global;
 
 /// Whether the bytes of a derivation show that the manifest has no valid selection over what is loaded from the folder with the old lock.
@@ -24,5 +26,21 @@ pub fn check_bytes<F: Folder>(
 ) -> Result<Check, CheckFault>
     ensures { Checks F.calls (record { manifest = manifest.now; old = option_copied old.entry; source = source.now; prefer = Newest }) derivation.now folder.old result folder.new }
 {
-    Err(CheckFault::Input(Fault::OutOfMemory))
+    let request = Request {
+        manifest,
+        old,
+        source,
+        prefer: Prefer::Newest,
+    };
+    let inputs = read_inputs(alloc, &request, folder)?;
+    check_loaded(alloc, &inputs, derivation)
+}
+
+/// Whether the bytes of a derivation show that there is no valid selection for what was loaded.
+fn check_loaded(alloc: Global, inputs: &Inputs, derivation: &[u8]) -> Result<Check, CheckFault>
+    ensures { Decides inputs.now derivation.now result }
+{
+    refusals_decide();
+    let derivation = derivations::read(alloc, derivation)?;
+    Ok(check(alloc, &inputs.manifest, &inputs.catalogue, &derivation)?)
 }
