@@ -1,5 +1,5 @@
 -- How the answer of a run comes of its steps.
-use Rattle.std.proofs.Common.{◌≡◌, ◌≢◌, ℕ, Bool, true, false, List, Vec, Option, Some, Result, Ok, Err, inl, inr, refl, sym, ap, ◌∙◌, subst, true≢false}
+use Rattle.std.proofs.Common.{◌≡◌, ℕ, Bool, true, false, List, Vec, Option, Result, Ok, Err, inr, refl, sym, ap, ◌∙◌, subst, true≢false}
 use Rattle.std.specs.declared.alloc.Global.{Global}
 use Rattle.model.specs.Content.{Content}
 use Rattle.lockfile.specs.Locks.{content_of_bytes}

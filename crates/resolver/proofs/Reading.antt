@@ -1,5 +1,5 @@
 -- A fault of an input is the fault of the reading of all inputs.
-use Rattle.std.proofs.Common.{◌≡◌, Bool, true, false, List, ℕ, Option, Some, None, Result, Ok, Err, option_map, refl, subst, ap, ◌∙◌}
+use Rattle.std.proofs.Common.{◌≡◌, Option, Some, None, Result, Ok, Err, option_map, refl, subst, ap, ◌∙◌}
 use Rattle.std.specs.Borrow.{Bor}
 use Rattle.catalogue.specs.Loads.{Loads, packages_of, rust_for}
 use Rattle.catalogue.specs.Stores.{CatalogueView}
@@ -15,7 +15,7 @@ use Rattle.catalogue.specs.Runs.{Calls}
 use Rattle.catalogue.specs.declared.fault.LoadFault.{LoadFault}
 use Rattle.catalogue.specs.declared.fault.LoadFault.TheVariants as load
 use Rattle.model.specs.Outcome.{Faults}
-use Rattle.resolver.specs.Faults.{is_memory, of_manifest, of_lock, of_load}
+use Rattle.resolver.specs.Faults.{of_manifest, of_lock, of_load}
 use Rattle.resolver.specs.Inputs.{RequestView, Reads, LoadsFor, old_of_bytes, packages_in}
 use Rattle.resolver.specs.Inputs.IsRefused.{by_manifest, by_lock, by_index}
 

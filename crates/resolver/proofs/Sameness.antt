@@ -1,5 +1,5 @@
 -- What tests as the same is the same.
-use Rattle.std.proofs.Common.{◌≡◌, ℕ, suc, List, [], ◌∷◌, Bool, true, false, ◌&&◌, nat_eq, length, map, Option, Some, None, refl, sym, ap, ap₂, arith, true≢false}
+use Rattle.std.proofs.Common.{◌≡◌, ℕ, suc, List, [], ◌∷◌, Bool, true, ◌&&◌, length, map, Option, Some, None, refl, sym, ap, ap₂, arith, true≢false}
 use Rattle.std.specs.Cmp.Lexicographic.{pointwise}
 use Rattle.std.specs.List.{list_all, zip}
 use Rattle.model.specs.Content.{Package, Content, same_version, same_option}

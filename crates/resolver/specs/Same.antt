@@ -1,5 +1,5 @@
 -- Whether two contents are the same, package by package.
-use Rattle.std.specs.Prelude.{ℕ, List, Bool, ◌&&◌, nat_eq}
+use Rattle.std.specs.Prelude.{Bool, ◌&&◌, nat_eq}
 use Rattle.std.specs.Cmp.Lexicographic.{pointwise}
 use Rattle.model.specs.Content.{Package, Content, same_version, same_option}
 use Rattle.model.specs.Owner.{same_text}

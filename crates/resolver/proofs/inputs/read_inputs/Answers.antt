@@ -1,10 +1,7 @@
-use Rattle.std.proofs.Common.{rules, ◌≡◌, Ok, Err, option_copied, sym, ◌∙◌, ap}
+use Rattle.std.proofs.Common.{Err}
 use Rattle.std.proofs.lemmas.Result.{err_from_is_err_and}
 use Rattle.resolver.proofs.Reading.{manifest_refused, lock_refused, index_refused, loads_with}
-use Rattle.resolver.specs.Faults.{of_manifest, of_lock, of_load}
-use Rattle.resolver.specs.Inputs.{request_view, old_of_bytes}
-use Rattle.lockfile.specs.Locks as locks
-use Rattle.model.specs.Outcome.{Gives}
+use Rattle.resolver.specs.Inputs.{request_view}
 use Rattle.resolver.proofs.inputs.read_inputs.Goals as goal
 
 pub returns-in_err-manifest : goal.returns-in_err-manifest

@@ -1,5 +1,4 @@
-use Rattle.std.proofs.Common.{◌≡◌, Some, IfSome, subst}
-use Rattle.model.specs.Content.{Content}
+use Rattle.std.proofs.Common.{IfSome, subst}
 use Rattle.walks.specs.Preferred.{preferred_in, Answers, HasBareRoot}
 use Rattle.resolver.specs.Inputs.{problem_of}
 use Rattle.resolver.proofs.Answered.{anew}
