@@ -4,6 +4,7 @@ pub mod Places
 pub mod Asked
 pub mod Spaces
 pub mod Taken
+pub mod Pieces
 pub mod Recorded
 pub mod Featured
 pub mod Lacking

@@ -5,4 +5,5 @@ pub mod Comparing
 pub mod Full
 pub mod Matching
 pub mod Needs
+pub mod Ranges
 pub mod Readings

@@ -12,10 +12,12 @@ mod instance;
 mod known;
 mod lookups;
 mod matching;
+mod ranges;
 mod reading;
 mod term;
 mod terms;
 mod vertices;
 
 pub use instance::is_instance;
+pub use ranges::class_versions;
 pub use term::{OwnerName, State, Term, Vertex};
