@@ -1,65 +1,77 @@
 -- The versions of a class that lack a feature are those of its candidates that do.
-use Rattle.std.proofs.Common.{◌≡◌, ℕ, suc, ◌+◌, Bool, true, false, cond, not, ◌&&◌, List, [], ◌∷◌, map, filter, slice_get, refl, sym, ap, ◌∙◌, arith}
+use Rattle.std.proofs.Common.{◌≡◌, Bool, true, false, cond, not, List, [], ◌∷◌, map, filter, Some, refl, sym, ap, ◌∙◌, subst}
+use Rattle.std.specs.Prelude.{ℕ}
+use Rattle.std.specs.List.{AllByRecursion}
+use Rattle.std.specs.List.Sorted.{IsStrictlySortedBy}
+use Rattle.std.specs.declared.cmp.Ordering.TheVariants.{Less, Equal}
+use Rattle.std.proofs.lemmas.Cmp.{tied_itself}
 use Rattle.semver.specs.Identifiers.{parts_of}
+use Rattle.semver.specs.Parse.{Parts}
 use Rattle.semver.specs.declared.Version.{Version}
-use Rattle.model.specs.Owner.{has_feature}
-use Rattle.model.specs.Content.{Candidate, candidates_of}
-use Rattle.model.specs.Selection.{Class, class_of}
-use Rattle.model.specs.Vertices.{State, version, same_class, in_that_class}
 use Rattle.model.specs.Axioms.{versions_that}
 use Rattle.model.specs.Candidates.{Record, as_candidate}
+use Rattle.model.specs.Content.{Candidate, brings_of, candidate_at, candidates_of, same_version}
+use Rattle.model.specs.Order.{version_cmp}
+use Rattle.model.specs.Owner.{Owner, has_feature}
+use Rattle.model.specs.Selection.{Class}
+use Rattle.model.specs.Vertices.{class_candidates, in_that_class, version}
+use Rattle.model.proofs.Same.{version-same, version-refl}
 use Rattle.manifest.specs.Manifests.{ManifestView}
-use Rattle.refutations.specs.Causes.{passes}
+use Rattle.derivations.proofs.OrderLaws.{state_total}
 use Rattle.catalogue.specs.Problems.{problem_in}
 use Rattle.catalogue.specs.Stores.{CatalogueView, candidates_at, rows_by_name}
-use Rattle.axioms.specs.Matching.{is_lacking, placed_with}
+use Rattle.axioms.specs.Matching.{is_lacking, versions_with}
+use Rattle.axioms.specs.Ranges.{AreRising, is_of}
 use Rattle.axioms.proofs.Brought.{candidates_are}
+use Rattle.axioms.proofs.Classed.{with_classed}
+use Rattle.axioms.proofs.Pieces.{parts_filtered}
+use Rattle.axioms.proofs.Rising.{rising_parts}
 
-module _ (k : Class) (t : Candidate → Bool) (all : List Candidate) where
-  placed : (n : ℕ) (cs : List Candidate) → ((i : ℕ) → slice_get all (n + i) ≡ slice_get cs i)
-      → placed_with (λ i v. same_class k (class_of v) && passes t (slice_get all i)) n (map (λ (c : Candidate). c.version) cs)
-      ≡ map (λ (c : Candidate). version c.version) (filter t (filter (in_that_class k) cs))
-  placed n [] h = refl
-  placed n (c ∷ cs) h = ap (λ b. cond (in_that_class k c && b) (version c.version ∷ left) left) here ∙ by (in_that_class k c) (placed (n + 1) cs more)
-    where
-      left : List State
-      left = placed_with (λ i v. same_class k (class_of v) && passes t (slice_get all i)) (n + 1) (map (λ (c : Candidate). c.version) cs)
+apart : (v w : Parts) → version_cmp v w ≡ Less → same_version w v ≡ false
+apart v w h = by (same_version w v) refl
+  where
+    by : (b : Bool) → same_version w v ≡ b → b ≡ false
+    by false e = refl
+    by true e = let k : Less ≡ Equal = sym h ∙ ap (λ x. version_cmp x w) (sym (version-same w v e)) ∙ tied_itself state_total (version w) in cc
 
-      none_more : n ≡ n + 0
-      none_more = omega arith
+-- a candidate is found by its version
+found_itself : (cs : List Candidate) → IsStrictlySortedBy version_cmp (map (λ (e : Candidate). e.version) cs) → AllByRecursion (λ (e : Candidate). candidate_at cs e.version ≡ Some e) cs
+unfolding IsStrictlySortedBy
+found_itself [] h = tt
+found_itself (c ∷ cs) h = (ap (λ b. cond b (Some c) (candidate_at cs c.version)) (version-refl c.version), later cs h.0 (found_itself cs h.1))
+  where
+    later : (es : List Candidate) → AllByRecursion (λ v. version_cmp c.version v ≡ Less) (map (λ (e : Candidate). e.version) es)
+        → AllByRecursion (λ (e : Candidate). candidate_at cs e.version ≡ Some e) es → AllByRecursion (λ (e : Candidate). candidate_at (c ∷ cs) e.version ≡ Some e) es
+    later [] a f = tt
+    later (e ∷ es) a f = (ap (λ b. cond b (Some c) (candidate_at cs e.version)) (apart c.version e.version a.0) ∙ f.0, later es a.1 f.1)
 
-      one_more : (i : ℕ) → (n + 1) + i ≡ n + suc i
-      one_more i = omega arith
+kept_too : {X : Type 0} (P : X → Type 0) (t : X → Bool) (xs : List X) → AllByRecursion P xs → AllByRecursion P (filter t xs)
+kept_too P t [] h = tt
+kept_too P t (x ∷ xs) h = by (t x) (kept_too P t xs h.1)
+  where
+    by : (b : Bool) → AllByRecursion P (filter t xs) → AllByRecursion P (cond b (x ∷ filter t xs) (filter t xs))
+    by true rest = (h.0, rest)
+    by false rest = rest
 
-      here : passes t (slice_get all n) ≡ t c
-      here = ap (λ m. passes t (slice_get all m)) none_more ∙ ap (passes t) (h 0)
+-- what a candidate brings is what is found by its version
+brings_same : (t : Owner → Bool) (all cs : List Candidate) → AllByRecursion (λ (e : Candidate). candidate_at all e.version ≡ Some e) cs
+    → filter (λ (e : Candidate). t (brings_of (candidate_at all e.version))) cs ≡ filter (λ (e : Candidate). t e.brings) cs
+brings_same t all [] h = refl
+brings_same t all (e ∷ cs) h =
+    ap (λ b. cond b (e ∷ filter (λ (e : Candidate). t (brings_of (candidate_at all e.version))) cs) (filter (λ (e : Candidate). t (brings_of (candidate_at all e.version))) cs)) (ap (λ o. t (brings_of o)) h.0)
+    ∙ ap (λ (es : List Candidate). cond (t e.brings) (e ∷ es) es) (brings_same t all cs h.1)
 
-      more : (i : ℕ) → slice_get all ((n + 1) + i) ≡ slice_get cs i
-      more i = ap (slice_get all) (one_more i) ∙ h (suc i)
-
-      kept : (b : Bool) → left ≡ map (λ (c : Candidate). version c.version) (filter t (filter (in_that_class k) cs))
-          → cond b (version c.version ∷ left) left ≡ map (λ (c : Candidate). version c.version) (cond b (c ∷ filter t (filter (in_that_class k) cs)) (filter t (filter (in_that_class k) cs)))
-      kept true e = ap (λ ss. version c.version ∷ ss) e
-      kept false e = e
-
-      by : (a : Bool) → left ≡ map (λ (c : Candidate). version c.version) (filter t (filter (in_that_class k) cs))
-          → cond (a && t c) (version c.version ∷ left) left ≡ map (λ (c : Candidate). version c.version) (filter t (cond a (c ∷ filter (in_that_class k) cs) (filter (in_that_class k) cs)))
-      by true e = kept (t c) e
-      by false e = e
-
-versions_are : (rs : List Record) → map (λ r. r.version) rs ≡ map (λ (c : Candidate). c.version) (map as_candidate rs)
+versions_are : (rs : List Record) → map (λ r. r.version) rs ≡ map (λ (e : Candidate). e.version) (map as_candidate rs)
 versions_are [] = refl
 versions_are (r ∷ rs) = ap (λ vs. r.version ∷ vs) (versions_are rs)
 
-none_less : (i : ℕ) → 0 + i ≡ i
-none_less i = omega arith
-
-pub lacking_is : (m : ManifestView) (c : CatalogueView) (name : List ℕ) (k : Class) (f : List ℕ) (vs : List Version) → map parts_of vs ≡ map (λ r. r.version) (candidates_at c name)
-    → placed_with (is_lacking (problem_in m c) name k f) 0 (map parts_of vs) ≡ versions_that (problem_in m c) (λ e. not (has_feature e.brings.features f)) name k
+pub lacking_is : (m : ManifestView) (c : CatalogueView) (name : List ℕ) (k : Class) (f : List ℕ) (vs ws : List Version)
+    → map parts_of vs ≡ map (λ r. r.version) (candidates_at c name) → AreRising vs → ws ≡ filter (λ v. is_of k (parts_of v)) vs
+    → versions_with (is_lacking (problem_in m c) name f) (map parts_of ws) ≡ versions_that (problem_in m c) (λ e. not (has_feature e.brings.features f)) name k
 unfolding is_lacking
-lacking_is m c name k f vs e =
+lacking_is m c name k f vs ws is rising e =
     let all = candidates_of (rows_by_name c) name in
-    let t : Candidate → Bool = λ (e : Candidate). not (has_feature e.brings.features f) in
-    ap (placed_with (λ i v. same_class k (class_of v) && passes t (slice_get all i)) 0)
-    (e ∙ versions_are (candidates_at c name) ∙ ap (map (λ (c : Candidate). c.version)) (sym (candidates_are c name)))
-    ∙ placed k t all 0 all (λ i. ap (slice_get all) (none_less i))
+    let t : Owner → Bool = λ (o : Owner). not (has_feature o.features f) in
+    let sorted = subst (IsStrictlySortedBy version_cmp) (is ∙ versions_are (candidates_at c name) ∙ ap (map (λ (e : Candidate). e.version)) (sym (candidates_are c name))) (rising_parts vs rising) in
+    with_classed m c name k ws (ap (map parts_of) e ∙ parts_filtered (is_of k) vs ∙ ap (filter (is_of k)) is) (λ v. t (brings_of (candidate_at all v)))
+    ∙ ap (map (λ (e : Candidate). version e.version)) (brings_same t all (class_candidates (problem_in m c) name k) (kept_too (λ (e : Candidate). candidate_at all e.version ≡ Some e) (in_that_class k) all (found_itself all sorted)))

@@ -2,9 +2,12 @@ pub mod Brought
 pub mod Versions
 pub mod Places
 pub mod Asked
-pub mod Spaces
-pub mod Taken
+pub mod Searching
+pub mod SetLaws
 pub mod Pieces
+pub mod Classed
+pub mod Rising
+pub mod Spaces
 pub mod Recorded
 pub mod Featured
 pub mod Lacking

@@ -9,7 +9,7 @@ use Rattle.semver.specs.declared.Version.{Version}
 use Rattle.model.specs.Owner.{Dependency}
 use Rattle.model.specs.Content.{Candidate, Problem, candidates_of}
 use Rattle.model.specs.Selection.{Class, class_of}
-use Rattle.model.specs.Vertices.{Vertex, root, pkg, dep, feat, ask, State, absent, version, in_class, has_state, same_class, in_that_class, classes_of, dep_classes, dep_space}
+use Rattle.model.specs.Vertices.{Vertex, root, pkg, dep, feat, ask, State, absent, version, in_class, has_state, same_class, class_candidates, classes_of, dep_classes, dep_space}
 use Rattle.model.specs.Axioms.{at, is_full, matched}
 use Rattle.model.specs.Candidates.{Record, as_candidate}
 use Rattle.model.proofs.Same.{class-same}
@@ -17,8 +17,10 @@ use Rattle.manifest.specs.Manifests.{ManifestView}
 use Rattle.refutations.specs.Causes.{dependency_at}
 use Rattle.catalogue.specs.Problems.{problem_in}
 use Rattle.catalogue.specs.Stores.{CatalogueView, candidates_at, rows_by_name}
-use Rattle.axioms.specs.Full.{classes_if, others, has_if_in, has_if_matched}
+use Rattle.axioms.specs.Full.{classes_if, others, has_if_matched}
+use Rattle.axioms.specs.Ranges.{is_of}
 use Rattle.axioms.proofs.Brought.{candidates_are}
+use Rattle.axioms.proofs.Classed.{all_classed}
 use Rattle.axioms.proofs.Versions.{all-map}
 
 all-filter : {X : Type 0} (p q : X → Bool) (xs : List X) → list_all p (filter q xs) ≡ list_all (λ x. not (q x) || p x) xs
@@ -33,16 +35,10 @@ all_candidate : (f : Parts → Bool) (vs : List Version) (rs : List Record) → 
     → list_all (λ v. f (parts_of v)) vs ≡ list_all (λ (c : Candidate). f c.version) (map as_candidate rs)
 all_candidate f vs rs e = sym (all-map f parts_of vs) ∙ ap (list_all f) e ∙ all-map f (λ (r : Record). r.version) rs ∙ sym (all-map (λ (c : Candidate). f c.version) as_candidate rs)
 
-pub versions_full : (m : ManifestView) (c : CatalogueView) (name : List ℕ) (k : Class) (ss : List State) (vs : List Version) → map parts_of vs ≡ map (λ r. r.version) (candidates_at c name)
-    → list_all (λ v. has_if_in ss k (parts_of v)) vs ≡ list_all (has_state ss) (others (problem_in m c) (pkg name k))
-unfolding has_if_in
+pub versions_full : (m : ManifestView) (c : CatalogueView) (name : List ℕ) (k : Class) (ss : List State) (vs : List Version) → map parts_of vs ≡ filter (is_of k) (map (λ r. r.version) (candidates_at c name))
+    → list_all (λ v. has_state ss (version (parts_of v))) vs ≡ list_all (has_state ss) (others (problem_in m c) (pkg name k))
 versions_full m c name k ss vs e =
-    let f : Parts → Bool = λ v. not (same_class k (class_of v)) || has_state ss (version v) in
-    let cs = candidates_of (rows_by_name c) name in
-    all_candidate f vs (candidates_at c name) e
-    ∙ ap (list_all (λ (c : Candidate). f c.version)) (sym (candidates_are c name))
-    ∙ sym (all-filter (λ (c : Candidate). has_state ss (version c.version)) (in_that_class k) cs)
-    ∙ sym (all-map (has_state ss) (λ (c : Candidate). version c.version) (filter (in_that_class k) cs))
+    all_classed m c name k vs e (λ v. has_state ss (version v)) ∙ sym (all-map (has_state ss) (λ (c : Candidate). version c.version) (class_candidates (problem_in m c) name k))
 
 twice : (a b : Bool) → (a && b) ≡ (a && (a && b))
 twice true b = refl

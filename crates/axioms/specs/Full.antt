@@ -4,8 +4,8 @@ use Rattle.semver.specs.Parse.{Parts, Held}
 use Rattle.semver.specs.EvalViews.{matches_views}
 use Rattle.model.specs.Owner.{Dependency}
 use Rattle.model.specs.Content.{Problem}
-use Rattle.model.specs.Selection.{Class, class_of}
-use Rattle.model.specs.Vertices.{Vertex, root, pkg, dep, feat, ask, State, present, version, in_class, has_state, same_class, class_candidates, dep_classes}
+use Rattle.model.specs.Selection.{class_of}
+use Rattle.model.specs.Vertices.{Vertex, root, pkg, dep, feat, ask, State, present, version, in_class, has_state, class_candidates, dep_classes}
 use Rattle.refutations.specs.Causes.{dependency_at}
 
 abbrev pub classes_if : Problem → Option Dependency → List State
@@ -19,10 +19,6 @@ others q (pkg name k) = map (λ c. version c.version) (class_candidates q name k
 others q (dep o i) = classes_if q (dependency_at q o i)
 others q (feat name k f) = present ∷ []
 others q (ask name v i g) = present ∷ []
-
--- a version of the class is among the states
-unfoldable pub has_if_in : List State → Class → Parts → Bool
-has_if_in ss k v = not (same_class k (class_of v)) || has_state ss (version v)
 
 -- the class of a version that is matched is among the states
 unfoldable pub has_if_matched : List State → List Held → Parts → Bool

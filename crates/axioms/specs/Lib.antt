@@ -1,9 +1,10 @@
+pub mod StateViews
 pub mod Views
 pub mod Asking
 pub mod CauseViews
-pub mod Comparing
 pub mod Full
 pub mod Matching
 pub mod Needs
 pub mod Ranges
 pub mod Readings
+pub mod Sets

@@ -14,8 +14,6 @@ use Rattle.axioms.specs.declared.term.OwnerName.{OwnerName}
 use Rattle.axioms.specs.declared.term.OwnerName.TheVariants as owner
 use Rattle.axioms.specs.declared.term.Vertex.{Vertex}
 use Rattle.axioms.specs.declared.term.Vertex.TheVariants as vertex
-use Rattle.axioms.specs.declared.term.State.{State}
-use Rattle.axioms.specs.declared.term.State.TheVariants as state
 use Rattle.axioms.specs.declared.term.Term.{Term}
 use Rattle.axioms.specs.declared.known.Known.{Known}
 
@@ -30,17 +28,8 @@ vertex_view (vertex.Dependency o i) = model.dep (owner_view o) i
 vertex_view (vertex.Feature n c f) = model.feat n.now (class_view c) f.now
 vertex_view (vertex.Ask n v i g) = model.ask n.now (parts_of v.now) i g.now
 
-abbrev pub state_view : State → model.State
-state_view state.Absent = model.absent
-state_view state.Present = model.present
-state_view (state.Version v) = model.version (parts_of v.now)
-state_view (state.Class c) = model.in_class (class_view c)
-
-abbrev pub state_views : List State → List model.State
-state_views ss = map state_view ss
-
 abbrev pub term_view : Term → axioms.Term
-term_view t = axioms.at (vertex_view t.vertex) (state_views t.states.items)
+term_view t = axioms.at (vertex_view t.vertex) t.states
 
 abbrev pub term_views : List Term → List axioms.Term
 term_views ts = map term_view ts

@@ -1,19 +1,16 @@
 //! Comparison of terms, as sets.
 
 ghost use Rattle.std.specs.Prelude.{◌≡◌, ◌&&◌, option_map};
-ghost use Rattle.std.specs.List.{list_all, list_any};
-ghost use Rattle.semver.specs.Identifiers.{parts_of};
-ghost use Rattle.classes.specs.Classes.{class_view};
-ghost use Rattle.model.specs.Content.{same_version};
+ghost use Rattle.std.specs.List.{list_all};
 ghost use Rattle.model.specs.Derivation.{states_at};
-ghost use Rattle.model.specs.Vertices.{has_state, same_owner, same_state, same_vertex};
-ghost use Rattle.refutations.specs.Terms.{agree, is_within, same_at, same_states, same_terms};
-ghost use Rattle.axioms.specs.Comparing.{states_seen};
-ghost use Rattle.axioms.specs.Views.{owner_view, state_view, state_views, term_view, term_views, vertex_view};
+ghost use Rattle.model.specs.Vertices.{same_owner, same_vertex};
+ghost use Rattle.refutations.specs.Terms.{agree, same_at, same_terms};
+ghost use Rattle.axioms.specs.Views.{owner_view, term_view, term_views, vertex_view};
 
 use crate::matching::is_same;
-use crate::term::{OwnerName, State, Term, Vertex};
-use semver::Version;
+use crate::order::same_version;
+use crate::states::States;
+use crate::term::{OwnerName, Term, Vertex};
 
 /// Whether two lists of terms say the same of each vertex that one of them speaks of.
 pub(crate) fn same_terms<'a>(a: &[Term<'a>], b: &[Term<'a>]) -> bool
@@ -33,57 +30,21 @@ fn agree<'a>(a: &[Term<'a>], b: &[Term<'a>], vertex: &Vertex<'a>) -> bool
 {
     match (states_at(a, vertex), states_at(b, vertex)) {
         (None, None) => true,
-        (Some(a), Some(b)) => same_states(a, b),
+        (Some(a), Some(b)) => a.is_same(b),
         _ => false,
     }
 }
 
 /// The states that the terms leave at a vertex.
-fn states_at<'s, 'a>(terms: &'s [Term<'a>], vertex: &Vertex<'_>) -> Option<&'s [State<'a>]>
-    ensures { option_map states_seen result ≡ states_at (term_views terms.entry.now) (vertex_view vertex.now) }
+fn states_at<'s, 'a>(terms: &'s [Term<'a>], vertex: &Vertex<'_>) -> Option<&'s States<'a>>
+    ensures { option_map (λ s. s.now) result ≡ states_at (term_views terms.entry.now) (vertex_view vertex.now) }
 {
     'terms: for term in terms.iter() {
         if same_vertex(vertex, &term.vertex) {
-            return Some(term.states.as_slice());
+            return Some(&term.states);
         }
     }
     None
-}
-
-fn same_states<'a>(a: &[State<'a>], b: &[State<'a>]) -> bool
-    ensures { result ≡ same_states (state_views a.now) (state_views b.now) }
-{
-    is_within(a, b) && is_within(b, a)
-}
-
-fn is_within<'a>(a: &[State<'a>], b: &[State<'a>]) -> bool
-    ensures { result ≡ is_within (state_views a.now) (state_views b.now) }
-{
-    a.iter().all(|state| has_state(b, state))
-}
-
-pub(crate) fn has_state(states: &[State<'_>], state: &State<'_>) -> bool
-    ensures { result ≡ has_state (state_views states.now) (state_view state.now) }
-{
-    states.iter().any(|other| same_state(state, other))
-}
-
-fn same_state(a: &State<'_>, b: &State<'_>) -> bool
-    ensures { result ≡ same_state (state_view a.now) (state_view b.now) }
-{
-    match (a, b) {
-        (State::Absent, State::Absent) => true,
-        (State::Present, State::Present) => true,
-        (State::Version(a), State::Version(b)) => same_version(a, b),
-        (State::Class(a), State::Class(b)) => is_same(*a, *b),
-        _ => false,
-    }
-}
-
-fn same_version(a: &Version, b: &Version) -> bool
-    ensures { result ≡ same_version (parts_of a.now) (parts_of b.now) }
-{
-    a == b
 }
 
 fn same_owner(a: &OwnerName<'_>, b: &OwnerName<'_>) -> bool

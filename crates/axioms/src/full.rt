@@ -9,13 +9,14 @@ ghost use Rattle.model.specs.Vertices as model;
 ghost use Rattle.classes.specs.Classes.{class_view};
 ghost use Rattle.semver.specs.Identifiers.{parts_of};
 ghost use Rattle.features.specs.Views.{requirement_view};
-ghost use Rattle.axioms.specs.Full.{has_if_in, has_if_matched, others};
-ghost use Rattle.axioms.specs.Views.{owner_view, problem, state_views, term_view, term_views, vertex_view};
+ghost use Rattle.axioms.specs.Full.{has_if_matched, others};
+ghost use Rattle.axioms.specs.Views.{owner_view, problem, term_view, term_views, vertex_view};
 
-use crate::compare::has_state;
 use crate::known::Known;
 use crate::lookups::dependency_at;
-use crate::matching::{is_in, is_matched};
+use crate::matching::is_matched;
+use crate::ranges::class_versions;
+use crate::states::States;
 use crate::term::{OwnerName, State, Term, Vertex};
 use classes::Class;
 use features::{Dependency, PackageName};
@@ -46,59 +47,51 @@ fn is_full<'a>(known: &Known<'a>, term: &Term<'a>) -> bool
     has_absent(&term.states) && has_others(known, &term.vertex, &term.states)
 }
 
-fn has_absent(states: &[State<'_>]) -> bool
-    ensures { result ≡ has_state (state_views states.now) model.absent }
+fn has_absent(states: &States<'_>) -> bool
+    ensures { result ≡ has_state states.now model.absent }
 {
-    has_state(states, &State::Absent)
+    states.has(&State::Absent)
+}
+
+fn has_present(states: &States<'_>) -> bool
+    ensures { result ≡ has_state states.now model.present }
+{
+    states.has(&State::Present)
 }
 
 /// Whether the states have all of the vertex but `absent`.
-fn has_others<'a>(known: &Known<'a>, vertex: &Vertex<'a>, states: &[State<'a>]) -> bool
-    ensures { result ≡ list_all (has_state (state_views states.now)) (others (problem known.now) (vertex_view vertex.now)) }
+fn has_others<'a>(known: &Known<'a>, vertex: &Vertex<'a>, states: &States<'a>) -> bool
+    ensures { result ≡ list_all (has_state states.now) (others (problem known.now) (vertex_view vertex.now)) }
 {
     match vertex {
-        Vertex::Root => has_state(states, &State::Present),
+        Vertex::Root => has_present(states),
         Vertex::Package(name, class) => has_versions(known, name, *class, states),
         Vertex::Dependency(owner, number) => has_classes(known, owner, *number, states),
-        Vertex::Feature(_, _, _) => has_state(states, &State::Present),
-        Vertex::Ask(_, _, _, _) => has_state(states, &State::Present),
+        Vertex::Feature(_, _, _) => has_present(states),
+        Vertex::Ask(_, _, _, _) => has_present(states),
     }
 }
 
-fn has_versions(known: &Known<'_>, name: &PackageName, class: Class, states: &[State<'_>]) -> bool
-    ensures { result ≡ list_all (has_state (state_views states.now)) (others (problem known.now) (model.pkg name.now (class_view class))) }
+fn has_versions(known: &Known<'_>, name: &PackageName, class: Class, states: &States<'_>) -> bool
+    ensures { result ≡ list_all (has_state states.now) (others (problem known.now) (model.pkg name.now (class_view class))) }
 {
-    all_in(known.catalogue.versions(name), class, states)
+    all_in(class_versions(known.catalogue, name, class), states)
 }
 
-fn all_in(versions: &[Version], class: Class, states: &[State<'_>]) -> bool
-    ensures { result ≡ list_all (λ v. has_if_in (state_views states.now) (class_view class) (parts_of v)) versions.now }
+fn all_in(versions: &[Version], states: &States<'_>) -> bool
+    ensures { result ≡ list_all (λ v. has_state states.now (model.version (parts_of v))) versions.now }
 {
-    versions
-        .iter()
-        .all(|version| has_if_in(states, class, version))
+    versions.iter().all(|version| has_version(states, version))
 }
 
-#[tactic(auto, unfolding(crate::specs::Full::has_if_in))]
-fn has_if_in(states: &[State<'_>], class: Class, version: &Version) -> bool
-    ensures { result ≡ has_if_in (state_views states.now) (class_view class) (parts_of version.now) }
+fn has_version(states: &States<'_>, version: &Version) -> bool
+    ensures { result ≡ has_state states.now (model.version (parts_of version.now)) }
 {
-    !is_in(class, version) || has_version(states, version)
+    states.has(&State::Version(version))
 }
 
-fn has_version(states: &[State<'_>], version: &Version) -> bool
-    ensures { result ≡ has_state (state_views states.now) (model.version (parts_of version.now)) }
-{
-    has_state(states, &State::Version(version))
-}
-
-fn has_classes(
-    known: &Known<'_>,
-    owner: &OwnerName<'_>,
-    number: usize,
-    states: &[State<'_>],
-) -> bool
-    ensures { result ≡ list_all (has_state (state_views states.now)) (others (problem known.now) (model.dep (owner_view owner.now) number)) }
+fn has_classes(known: &Known<'_>, owner: &OwnerName<'_>, number: usize, states: &States<'_>) -> bool
+    ensures { result ≡ list_all (has_state states.now) (others (problem known.now) (model.dep (owner_view owner.now) number)) }
 {
     match dependency_at(known, owner, number) {
         Some(dependency) => has_classes_of(known, dependency, states),
@@ -106,8 +99,8 @@ fn has_classes(
     }
 }
 
-fn has_classes_of(known: &Known<'_>, dependency: &Dependency, states: &[State<'_>]) -> bool
-    ensures { result ≡ list_all (has_state (state_views states.now)) (map model.in_class (dep_classes (problem known.now) (dependency_view dependency.now))) }
+fn has_classes_of(known: &Known<'_>, dependency: &Dependency, states: &States<'_>) -> bool
+    ensures { result ≡ list_all (has_state states.now) (map model.in_class (dep_classes (problem known.now) (dependency_view dependency.now))) }
 {
     all_matched(
         known.catalogue.versions(&dependency.real_name),
@@ -116,8 +109,8 @@ fn has_classes_of(known: &Known<'_>, dependency: &Dependency, states: &[State<'_
     )
 }
 
-fn all_matched(versions: &[Version], requirement: &VersionReq, states: &[State<'_>]) -> bool
-    ensures { result ≡ list_all (λ v. has_if_matched (state_views states.now) (requirement_view requirement.now) (parts_of v)) versions.now }
+fn all_matched(versions: &[Version], requirement: &VersionReq, states: &States<'_>) -> bool
+    ensures { result ≡ list_all (λ v. has_if_matched states.now (requirement_view requirement.now) (parts_of v)) versions.now }
 {
     versions
         .iter()
@@ -125,14 +118,14 @@ fn all_matched(versions: &[Version], requirement: &VersionReq, states: &[State<'
 }
 
 #[tactic(auto, unfolding(crate::specs::Full::has_if_matched))]
-fn has_if_matched(states: &[State<'_>], requirement: &VersionReq, version: &Version) -> bool
-    ensures { result ≡ has_if_matched (state_views states.now) (requirement_view requirement.now) (parts_of version.now) }
+fn has_if_matched(states: &States<'_>, requirement: &VersionReq, version: &Version) -> bool
+    ensures { result ≡ has_if_matched states.now (requirement_view requirement.now) (parts_of version.now) }
 {
     !is_matched(requirement, version) || has_class(states, Class::of(version))
 }
 
-fn has_class(states: &[State<'_>], class: Class) -> bool
-    ensures { result ≡ has_state (state_views states.now) (model.in_class (class_view class)) }
+fn has_class(states: &States<'_>, class: Class) -> bool
+    ensures { result ≡ has_state states.now (model.in_class (class_view class)) }
 {
-    has_state(states, &State::Class(class))
+    states.has(&State::Class(class))
 }

@@ -12,12 +12,15 @@ mod instance;
 mod known;
 mod lookups;
 mod matching;
+mod order;
 mod ranges;
 mod reading;
+mod states;
 mod term;
 mod terms;
 mod vertices;
 
 pub use instance::is_instance;
 pub use ranges::class_versions;
+pub use states::States;
 pub use term::{OwnerName, State, Term, Vertex};

@@ -1,6 +1,6 @@
 //! Which candidates requirements match.
 
-ghost use Rattle.std.specs.Prelude.{◌≡◌, ◌&&◌, not};
+ghost use Rattle.std.specs.Prelude.{◌≡◌, not};
 ghost use Rattle.std.specs.List.{list_any};
 ghost use Rattle.semver.specs.EvalViews.{matches_views};
 ghost use Rattle.semver.specs.Identifiers.{parts_of};
@@ -10,9 +10,10 @@ ghost use Rattle.model.specs.Selection.{class_of};
 ghost use Rattle.model.specs.Vertices.{same_class};
 ghost use Rattle.refutations.specs.Causes.{has_class, is_unmatched};
 ghost use Rattle.axioms.specs.Views.{problem};
-ghost use Rattle.axioms.specs.Matching.{is_left_in, is_matched_in, is_taken_in};
+ghost use Rattle.axioms.specs.Matching.{is_left, is_taken};
 
 use crate::known::Known;
+use crate::ranges::class_versions;
 use classes::Class;
 use features::Dependency;
 use semver::{Version, VersionReq};
@@ -21,10 +22,9 @@ use semver::{Version, VersionReq};
 pub(crate) fn has_class(known: &Known<'_>, class: Class, dependency: &Dependency) -> bool
     ensures { result ≡ has_class (problem known.now) (class_view class) (dependency_view dependency.now) }
 {
-    some_matched_in(
-        class,
+    some_matched(
         &dependency.requirement,
-        known.catalogue.versions(&dependency.real_name),
+        class_versions(known.catalogue, &dependency.real_name, class),
     )
 }
 
@@ -38,27 +38,12 @@ pub(crate) fn is_unmatched(known: &Known<'_>, dependency: &Dependency) -> bool
     )
 }
 
-fn some_matched_in(class: Class, requirement: &VersionReq, versions: &[Version]) -> bool
-    ensures { result ≡ list_any (λ v. is_matched_in (class_view class) (requirement_view requirement.now) (parts_of v)) versions.now }
-{
-    versions
-        .iter()
-        .any(|version| is_matched_in(class, requirement, version))
-}
-
 fn some_matched(requirement: &VersionReq, versions: &[Version]) -> bool
     ensures { result ≡ list_any (λ v. matches_views (requirement_view requirement.now) (parts_of v)) versions.now }
 {
     versions
         .iter()
         .any(|version| is_matched(requirement, version))
-}
-
-/// Whether a version is of the class and matched.
-pub(crate) fn is_matched_in(class: Class, requirement: &VersionReq, version: &Version) -> bool
-    ensures { result ≡ is_matched_in (class_view class) (requirement_view requirement.now) (parts_of version.now) }
-{
-    is_in(class, version) && is_matched(requirement, version)
 }
 
 pub(crate) fn is_matched(requirement: &VersionReq, version: &Version) -> bool
@@ -80,18 +65,16 @@ pub(crate) fn is_same(a: Class, b: Class) -> bool
     a == b
 }
 
-/// Whether a version is of the class and not matched.
-#[tactic(auto, unfolding(crate::specs::Matching::is_left_in))]
-pub(crate) fn is_left_in(class: Class, requirement: &VersionReq, version: &Version) -> bool
-    ensures { result ≡ is_left_in (class_view class) (requirement_view requirement.now) (parts_of version.now) }
+#[tactic(auto, unfolding(crate::specs::Matching::is_left))]
+pub(crate) fn is_left(requirement: &VersionReq, version: &Version) -> bool
+    ensures { result ≡ is_left (requirement_view requirement.now) (parts_of version.now) }
 {
-    is_in(class, version) && !is_matched(requirement, version)
+    !is_matched(requirement, version)
 }
 
-/// Whether a version is of the class and matched.
-#[tactic(auto, unfolding(crate::specs::Matching::is_taken_in))]
-pub(crate) fn is_taken_in(class: Class, requirement: &VersionReq, version: &Version) -> bool
-    ensures { result ≡ is_taken_in (class_view class) (requirement_view requirement.now) (parts_of version.now) }
+#[tactic(auto, unfolding(crate::specs::Matching::is_taken))]
+pub(crate) fn is_taken(requirement: &VersionReq, version: &Version) -> bool
+    ensures { result ≡ is_taken (requirement_view requirement.now) (parts_of version.now) }
 {
-    is_matched_in(class, requirement, version)
+    is_matched(requirement, version)
 }

@@ -17,7 +17,7 @@ fn owner<'a>(term: &Term<'a>) -> Option<OwnerName<'a>>
     match (term.vertex, term.states.first()) {
         (Vertex::Root, _) => Some(OwnerName::Root),
         (Vertex::Package(name, _), Some(State::Version(version))) => {
-            Some(OwnerName::Version(name, *version))
+            Some(OwnerName::Version(name, version))
         }
         _ => None,
     }
@@ -28,7 +28,7 @@ fn version<'a>(term: &Term<'a>) -> Option<(&'a PackageName, &'a Version)>
     ensures { option_map version_seen result ≡ read_term version_read (term_view term.now) }
 {
     match (term.vertex, term.states.first()) {
-        (Vertex::Package(name, _), Some(State::Version(version))) => Some((name, *version)),
+        (Vertex::Package(name, _), Some(State::Version(version))) => Some((name, version)),
         _ => None,
     }
 }
@@ -49,7 +49,7 @@ fn led<'a>(term: &Term<'a>) -> Option<(OwnerName<'a>, usize, Class)>
 {
     match (term.vertex, term.states.first()) {
         (Vertex::Dependency(owner, number), Some(State::Class(class))) => {
-            Some((owner, number, *class))
+            Some((owner, number, class))
         }
         _ => None,
     }

@@ -1,5 +1,6 @@
 //! Terms whose names and versions lie elsewhere: in a derivation, in the manifest or in the loaded index.
 
+use crate::states::States;
 use classes::Class;
 use features::{FeatureName, PackageName};
 use semver::Version;
@@ -42,5 +43,5 @@ pub enum State<'a> {
 #[derive(Drop)]
 pub struct Term<'a> {
     pub vertex: Vertex<'a>,
-    pub states: Vec<State<'a>>,
+    pub states: States<'a>,
 }

@@ -1,24 +1,27 @@
 //! The terms of the instance that a cause gives rise to.
 
-ghost use Rattle.std.specs.Prelude.{◌≡◌, ◌∷◌, [], IfOk, map, not, slice_get};
+ghost use Rattle.std.specs.Prelude.{◌≡◌, ◌∷◌, [], IfOk, map, not};
 ghost use Rattle.semver.specs.Identifiers.{parts_of};
 ghost use Rattle.classes.specs.Classes.{class_view};
 ghost use Rattle.features.specs.Views.{dependency_view, requirement_view};
 ghost use Rattle.model.specs.Axioms.{absent_or, at, matched, owner_holds, versions_that};
-ghost use Rattle.model.specs.Content.{candidates_of};
 ghost use Rattle.model.specs.Owner.{has_feature};
 ghost use Rattle.model.specs.Selection.{class_of};
 ghost use Rattle.model.specs.Vertices as model;
+ghost use Rattle.model.specs.Vertices.{owner_brings};
 ghost use Rattle.refutations.specs.Causes as causes;
 ghost use Rattle.refutations.specs.Causes.{feature_holds, terms_of_cause};
 ghost use Rattle.axioms.specs.CauseViews.{cause_view};
-ghost use Rattle.axioms.specs.Matching.{is_lacking, is_left_in, is_taken_in, placed_with, versions_with};
-ghost use Rattle.axioms.specs.Views.{owner_view, problem, state_view, state_views, term_view, term_views, vertex_view};
+ghost use Rattle.axioms.specs.Matching.{is_lacking, is_left, is_taken, versions_with};
+ghost use Rattle.axioms.specs.StateViews.{state_view, state_views};
+ghost use Rattle.axioms.specs.Views.{owner_view, problem, term_view, term_views, vertex_view};
 
 use crate::cause::Cause;
 use crate::known::Known;
-use crate::lookups::dependency_at;
-use crate::matching::{is_in, is_left_in, is_taken_in};
+use crate::lookups::{brings, dependency_at};
+use crate::matching::{is_left, is_taken};
+use crate::ranges::{class_versions, of_class};
+use crate::states::States;
 use crate::term::{OwnerName, State, Term, Vertex};
 use classes::Class;
 use features::{Dependency, FeatureName, PackageName};
@@ -66,8 +69,7 @@ pub(crate) fn terms_of_cause<'a>(
 fn term<'a>(alloc: Global, vertex: Vertex<'a>, state: State<'a>) -> Result<Term<'a>, AllocError>
     ensures { IfOk result (λ t. term_view t ≡ at (vertex_view vertex.entry) (state_view state.entry ∷ [])) }
 {
-    let mut states = Vec::new(alloc);
-    states.push(state)?;
+    let states = States::one(alloc, state)?;
     Ok(Term { vertex, states })
 }
 
@@ -251,27 +253,26 @@ fn left_term<'a>(
 ) -> Result<Term<'a>, AllocError>
     ensures { IfOk result (λ t. term_view t ≡ at (model.pkg (dependency_view dependency.entry.now).real_name (class_view class)) (absent_or (problem known.now) (λ c. not (matched (dependency_view dependency.entry.now) c)) (dependency_view dependency.entry.now).real_name (class_view class))) }
 {
-    let versions = known.catalogue.versions(&dependency.real_name);
-    let states = left_states(alloc, class, &dependency.requirement, versions)?;
+    let versions = class_versions(known.catalogue, &dependency.real_name, class);
+    let states = left_states(alloc, &dependency.requirement, versions)?;
     Ok(Term {
         vertex: Vertex::Package(&dependency.real_name, class),
-        states,
+        states: States::rising(states),
     })
 }
 
-/// `absent`, and the versions of the class that aren't matched.
+/// `absent`, and the versions that aren't matched.
 fn left_states<'a>(
     alloc: Global,
-    class: Class,
     requirement: &VersionReq,
     versions: &'a [Version],
 ) -> Result<Vec<State<'a>>, AllocError>
-    ensures { IfOk result (λ v. state_views v.items ≡ model.absent ∷ versions_with (is_left_in (class_view class) (requirement_view requirement.now)) (map parts_of versions.entry.now)) }
+    ensures { IfOk result (λ v. state_views v.items ≡ model.absent ∷ versions_with (is_left (requirement_view requirement.now)) (map parts_of versions.entry.now)) }
 {
     let mut states = Vec::new(alloc);
     states.push(State::Absent)?;
     'versions: for version in versions.iter() {
-        if is_left_in(class, requirement, version) {
+        if is_left(requirement, version) {
             states.push(State::Version(version))?;
         }
     }
@@ -287,26 +288,25 @@ fn taken_term<'a>(
 ) -> Result<Term<'a>, AllocError>
     ensures { IfOk result (λ t. term_view t ≡ at (model.pkg (dependency_view dependency.entry.now).real_name (class_view class)) (versions_that (problem known.now) (matched (dependency_view dependency.entry.now)) (dependency_view dependency.entry.now).real_name (class_view class))) }
 {
-    let versions = known.catalogue.versions(&dependency.real_name);
-    let states = taken_states(alloc, class, &dependency.requirement, versions)?;
+    let versions = class_versions(known.catalogue, &dependency.real_name, class);
+    let states = taken_states(alloc, &dependency.requirement, versions)?;
     Ok(Term {
         vertex: Vertex::Package(&dependency.real_name, class),
-        states,
+        states: States::rising(states),
     })
 }
 
-/// The versions of the class that are matched.
+/// The versions that are matched.
 fn taken_states<'a>(
     alloc: Global,
-    class: Class,
     requirement: &VersionReq,
     versions: &'a [Version],
 ) -> Result<Vec<State<'a>>, AllocError>
-    ensures { IfOk result (λ v. state_views v.items ≡ versions_with (is_taken_in (class_view class) (requirement_view requirement.now)) (map parts_of versions.entry.now)) }
+    ensures { IfOk result (λ v. state_views v.items ≡ versions_with (is_taken (requirement_view requirement.now)) (map parts_of versions.entry.now)) }
 {
     let mut states = Vec::new(alloc);
     'versions: for version in versions.iter() {
-        if is_taken_in(class, requirement, version) {
+        if is_taken(requirement, version) {
             states.push(State::Version(version))?;
         }
     }
@@ -474,28 +474,27 @@ fn lacking_term<'a>(
     ensures { IfOk result (λ t. term_view t ≡ at (model.pkg name.entry.now (class_view class)) (absent_or (problem known.now) (λ c. not (has_feature c.brings.features feature.now)) name.entry.now (class_view class))) }
 {
     let versions = known.catalogue.versions(name);
-    let states = lacking_states(alloc, known, name, class, feature, versions)?;
+    let states = lacking_states(alloc, known, name, feature, of_class(class, versions))?;
     Ok(Term {
         vertex: Vertex::Package(name, class),
-        states,
+        states: States::rising(states),
     })
 }
 
-/// `absent`, and the versions of the class that lack the feature.
+/// `absent`, and the versions that lack the feature.
 fn lacking_states<'a>(
     alloc: Global,
     known: &Known<'_>,
     name: &PackageName,
-    class: Class,
     feature: &FeatureName,
     versions: &'a [Version],
 ) -> Result<Vec<State<'a>>, AllocError>
-    ensures { IfOk result (λ v. state_views v.items ≡ model.absent ∷ placed_with (is_lacking (problem known.now) name.now (class_view class) feature.now) 0 (map parts_of versions.entry.now)) }
+    ensures { IfOk result (λ v. state_views v.items ≡ model.absent ∷ versions_with (is_lacking (problem known.now) name.now feature.now) (map parts_of versions.entry.now)) }
 {
     let mut states = Vec::new(alloc);
     states.push(State::Absent)?;
-    'versions: for (place, version) in versions.iter().enumerate() {
-        if is_lacking(known, name, class, feature, place, version) {
+    'versions: for version in versions.iter() {
+        if is_lacking(known, name, feature, version) {
             states.push(State::Version(version))?;
         }
     }
@@ -506,22 +505,25 @@ fn lacking_states<'a>(
 fn is_lacking(
     known: &Known<'_>,
     name: &PackageName,
-    class: Class,
     feature: &FeatureName,
-    place: usize,
     version: &Version,
 ) -> bool
-    ensures { result ≡ is_lacking (problem known.now) name.now (class_view class) feature.now place (parts_of version.now) }
+    ensures { result ≡ is_lacking (problem known.now) name.now feature.now (parts_of version.now) }
 {
-    is_in(class, version) && lacks(known, name, place, feature)
+    !has_feature(known, name, feature, version)
 }
 
-/// Whether there is a candidate at the place, and it lacks the feature.
-fn lacks(known: &Known<'_>, name: &PackageName, place: usize, feature: &FeatureName) -> bool
-    ensures { result ≡ causes.passes (λ c. not (has_feature c.brings.features feature.now)) (slice_get (candidates_of (problem known.now).candidates name.now) place) }
+/// Whether a version has the feature.
+fn has_feature(
+    known: &Known<'_>,
+    name: &PackageName,
+    feature: &FeatureName,
+    version: &Version,
+) -> bool
+    ensures { result ≡ has_feature (owner_brings (problem known.now) (model.version_of name.now (parts_of version.now))).features feature.now }
 {
-    match known.catalogue.record(name, place) {
-        Some(candidate) => !candidate.brings.features.has(feature),
+    match brings(known, &OwnerName::Version(name, version)) {
+        Some(owner) => owner.features.has(feature),
         None => false,
     }
 }

@@ -1,5 +1,5 @@
 -- The states of a vertex, read from a manifest and a loaded index.
-use Rattle.std.proofs.Common.{◌≡◌, ℕ, List, [], ◌∷◌, map, Bool, true, false, cond, ◌&&◌, ◌||◌, Option, Some, None, option_map, slice_get, unwrap_or, refl, sym, ap, ◌∙◌, true≢false}
+use Rattle.std.proofs.Common.{◌≡◌, ℕ, List, [], ◌∷◌, map, filter, Bool, true, false, cond, ◌&&◌, ◌||◌, Option, Some, None, option_map, slice_get, unwrap_or, refl, sym, ap, ◌∙◌, true≢false}
 use Rattle.std.specs.List.{list_all, list_any}
 use Rattle.std.proofs.lemmas.Option.{none-some, same_Some}
 use Rattle.semver.specs.Identifiers.{parts_of}
@@ -11,15 +11,17 @@ use Rattle.model.specs.Candidates.{Record, as_candidate}
 use Rattle.model.specs.Content.{Candidate, candidates_of, candidate_at, brings_of, same_version}
 use Rattle.model.specs.Owner.{Dependency, nothing, same_text}
 use Rattle.model.specs.Selection.{Class, class_of}
-use Rattle.model.specs.Vertices.{OwnerName, version_of, pkg, dep, State, absent, version, in_class, has_state, same_class, owner_brings, classes_of, matching, class_candidates, dep_space, in_that_class}
+use Rattle.model.specs.Vertices.{OwnerName, version_of, pkg, dep, State, absent, version, in_class, has_state, same_class, owner_brings, classes_of, matching, class_candidates, dep_space}
 use Rattle.model.proofs.Same.{class-same}
 use Rattle.manifest.specs.Manifests.{ManifestView}
 use Rattle.catalogue.specs.Problems.{problem_in}
 use Rattle.catalogue.specs.Ranks.{records}
 use Rattle.catalogue.specs.Stores.{CatalogueView, Row, row_at, candidates_at, record_at, rows_by_name}
 use Rattle.catalogue.specs.Views.{Said, said}
-use Rattle.checker.specs.Spaces.{has_if_classed, has_if_matched}
-use Rattle.checker.proofs.SetLaws.{all_map, all_filter}
+use Rattle.axioms.specs.Ranges.{is_of}
+use Rattle.axioms.proofs.Classed.{all_classed}
+use Rattle.axioms.proofs.SetLaws.{all_map, all_filter}
+use Rattle.checker.specs.Spaces.{has_if_matched}
 
 -- ---- candidates
 
@@ -82,15 +84,10 @@ module _ (m : ManifestView) (c : CatalogueView) where
 
   -- ---- spaces
 
-  pub classed : (ss : List State) (name : List ℕ) (k : Class) (vs : List Version) → map parts_of vs ≡ map (λ (r : Record). r.version) (candidates_at c name) → has_state ss absent ≡ true
-      → list_all (λ v. has_if_classed ss k (parts_of v)) vs ≡ is_full (problem_in m c) (at (pkg name k) ss)
+  pub classed : (ss : List State) (name : List ℕ) (k : Class) (vs : List Version) → map parts_of vs ≡ filter (is_of k) (map (λ (r : Record). r.version) (candidates_at c name)) → has_state ss absent ≡ true
+      → list_all (λ v. has_state ss (version (parts_of v))) vs ≡ is_full (problem_in m c) (at (pkg name k) ss)
   classed ss name k vs same here =
-      sym (all_map parts_of (has_if_classed ss k) vs)
-      ∙ ap (list_all (has_if_classed ss k)) same
-      ∙ all_map (λ (r : Record). r.version) (has_if_classed ss k) (candidates_at c name)
-      ∙ sym (all_map as_candidate (λ (e : Candidate). has_if_classed ss k e.version) (candidates_at c name))
-      ∙ ap (list_all (λ (e : Candidate). has_if_classed ss k e.version)) (sym (rows_found c.rows name))
-      ∙ sym (all_filter (in_that_class k) (λ (e : Candidate). has_state ss (version e.version)) (candidates_of (rows_by_name c) name))
+      all_classed m c name k vs same (λ v. has_state ss (version v))
       ∙ sym (all_map (λ (e : Candidate). version e.version) (has_state ss) (class_candidates (problem_in m c) name k))
       ∙ ap (λ b. b && list_all (has_state ss) (map (λ (e : Candidate). version e.version) (class_candidates (problem_in m c) name k))) (sym here)
 

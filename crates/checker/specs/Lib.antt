@@ -1,5 +1,3 @@
-pub mod Views
-pub mod Sets
 pub mod Combinations
 pub mod Spaces
 pub mod Steps

@@ -10,8 +10,8 @@ ghost use Rattle.derivations.specs.Views.{vertex_view};
 ghost use Rattle.checker.specs.Combinations.{fits, all_fit};
 
 use crate::space::is_full;
-use crate::states::States;
 use crate::terms::{Held, Terms};
+use axioms::States;
 use catalogue::Catalogue;
 use derivations::Vertex;
 use manifest::Manifest;

@@ -1,15 +1,15 @@
 //! Whether the terms of a step are those of an instance of an axiom.
 
-ghost use Rattle.std.specs.Prelude.{◌≡◌, IfOk, map};
+ghost use Rattle.std.specs.Prelude.{◌≡◌, IfOk};
 ghost use Rattle.refutations.specs.Instances.{is_instance};
 ghost use Rattle.catalogue.specs.Problems.{problem_in};
 ghost use Rattle.derivations.specs.Kinds.{kind_view};
-ghost use Rattle.derivations.specs.Views.{owner_view, state_view, vertex_view};
+ghost use Rattle.derivations.specs.Views.{owner_view, vertex_view};
 ghost use Rattle.axioms.specs.Views as sought;
 
 use crate::terms::{Held, Terms};
 use catalogue::Catalogue;
-use derivations::{Kind, OwnerName, State, Vertex};
+use derivations::{Kind, OwnerName, Vertex};
 use manifest::Manifest;
 use std::alloc::{AllocError, Global};
 
@@ -43,21 +43,8 @@ fn term_of<'a>(alloc: Global, term: &'a Held<'a>) -> Result<axioms::Term<'a>, Al
 {
     Ok(axioms::Term {
         vertex: vertex_of(term.vertex()),
-        states: states_in(alloc, term.states().as_slice())?,
+        states: term.states().copy(alloc)?,
     })
-}
-
-fn states_in<'a>(
-    alloc: Global,
-    states: &'a [&'a State],
-) -> Result<Vec<axioms::State<'a>>, AllocError>
-    ensures { IfOk result (λ v. sought.state_views v.items ≡ map (λ x. state_view x.now) states.entry.now) }
-{
-    let mut looked_up = Vec::with_capacity(alloc, states.len())?;
-    'states: for state in states {
-        looked_up.push(state_of(state))?;
-    }
-    Ok(looked_up)
 }
 
 fn vertex_of<'a>(vertex: &'a Vertex) -> axioms::Vertex<'a>
@@ -82,16 +69,5 @@ fn owner_of<'a>(owner: &'a OwnerName) -> axioms::OwnerName<'a>
     match owner {
         OwnerName::Root => axioms::OwnerName::Root,
         OwnerName::Version(name, version) => axioms::OwnerName::Version(name, version),
-    }
-}
-
-fn state_of<'a>(state: &'a State) -> axioms::State<'a>
-    ensures { sought.state_view result ≡ state_view state.entry.now }
-{
-    match state {
-        State::Absent => axioms::State::Absent,
-        State::Present => axioms::State::Present,
-        State::Version(version) => axioms::State::Version(version),
-        State::Class(class) => axioms::State::Class(*class),
     }
 }

@@ -5,7 +5,6 @@ mod checking;
 mod combination;
 mod instance;
 mod outcome;
-mod sought;
 mod space;
 mod states;
 mod terms;

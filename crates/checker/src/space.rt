@@ -5,15 +5,16 @@ ghost use Rattle.std.specs.List.{list_all};
 ghost use Rattle.semver.specs.Identifiers.{parts_of};
 ghost use Rattle.semver.specs.EvalViews.{matches_views};
 ghost use Rattle.model.specs.Axioms.{at, is_full};
-ghost use Rattle.model.specs.Vertices.{absent, present, has_state, owner_brings};
+ghost use Rattle.model.specs.Vertices.{has_state, owner_brings};
+ghost use Rattle.model.specs.Vertices as model;
 ghost use Rattle.features.specs.Views.{dependency_view, dependency_views, requirement_view};
 ghost use Rattle.classes.specs.Classes.{class_view};
 ghost use Rattle.catalogue.specs.Problems.{problem_in};
 ghost use Rattle.derivations.specs.Views.{owner_view, vertex_view};
-ghost use Rattle.checker.specs.Spaces.{has_if_classed, has_if_matched};
+ghost use Rattle.axioms.specs.StateViews.{state_view};
+ghost use Rattle.checker.specs.Spaces.{has_if_matched};
 
-use crate::sought::{Sought, is_class};
-use crate::states::{States, is_in_either};
+use axioms::{State, States, class_versions};
 use catalogue::Catalogue;
 use classes::Class;
 use derivations::{OwnerName, Vertex};
@@ -31,14 +32,14 @@ pub(crate) fn is_full(
 ) -> bool
     ensures { result ≡ is_full (problem_in manifest.now catalogue.now) (at (vertex_view vertex.now) (a.now ++ b.now)) }
 {
-    if !is_in_either(a, b, &Sought::Absent) {
+    if !is_in_either(a, b, &State::Absent) {
         return false;
     }
     match vertex {
         Vertex::Root | Vertex::Feature(_, _, _) | Vertex::Ask(_, _, _, _) => {
-            is_in_either(a, b, &Sought::Present)
+            is_in_either(a, b, &State::Present)
         }
-        Vertex::Package(name, class) => has_class(catalogue.versions(name), class, a, b),
+        Vertex::Package(name, class) => has_versions(class_versions(catalogue, name, *class), a, b),
         Vertex::Dependency(owner, number) => {
             match dependency_at(manifest, catalogue, owner, *number) {
                 Some(dependency) => has_matching(
@@ -82,19 +83,17 @@ fn dependencies_of<'a>(
     }
 }
 
-/// Whether two sets together have each version of a class.
-fn has_class(versions: &[Version], class: &Class, a: &States<'_>, b: &States<'_>) -> bool
-    ensures { result ≡ list_all (λ v. has_if_classed (a.now ++ b.now) (class_view class.now) (parts_of v)) versions.now }
+/// Whether two sets together have each of these versions.
+fn has_versions(versions: &[Version], a: &States<'_>, b: &States<'_>) -> bool
+    ensures { result ≡ list_all (λ v. has_state (a.now ++ b.now) (model.version (parts_of v))) versions.now }
 {
-    versions
-        .iter()
-        .all(|version| has_if_classed(version, class, a, b))
+    versions.iter().all(|version| has_version(version, a, b))
 }
 
-fn has_if_classed(version: &Version, class: &Class, a: &States<'_>, b: &States<'_>) -> bool
-    ensures { result ≡ has_if_classed (a.now ++ b.now) (class_view class.now) (parts_of version.now) }
+fn has_version(version: &Version, a: &States<'_>, b: &States<'_>) -> bool
+    ensures { result ≡ has_state (a.now ++ b.now) (model.version (parts_of version.now)) }
 {
-    !is_class(class, &Class::of(version)) || is_in_either(a, b, &Sought::Version(version))
+    is_in_either(a, b, &State::Version(version))
 }
 
 /// Whether two sets together have the class of each version that a requirement matches.
@@ -119,11 +118,18 @@ fn has_if_matched(
 ) -> bool
     ensures { result ≡ has_if_matched (a.now ++ b.now) (requirement_view requirement.now) (parts_of version.now) }
 {
-    !is_matched(requirement, version) || is_in_either(a, b, &Sought::Class(Class::of(version)))
+    !is_matched(requirement, version) || is_in_either(a, b, &State::Class(Class::of(version)))
 }
 
 fn is_matched(requirement: &VersionReq, version: &Version) -> bool
     ensures { result ≡ matches_views (requirement_view requirement.now) (parts_of version.now) }
 {
     requirement.matches(version)
+}
+
+/// Whether the state is in one of two sets.
+fn is_in_either(a: &States<'_>, b: &States<'_>, state: &State<'_>) -> bool
+    ensures { result ≡ has_state (a.now ++ b.now) (state_view state.now) }
+{
+    a.has(state) || b.has(state)
 }

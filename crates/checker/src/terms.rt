@@ -10,7 +10,8 @@ ghost use Rattle.derivations.specs.Tables.{term_at, terms_at};
 ghost use Rattle.derivations.specs.Views.{vertex_view};
 ghost use Rattle.checker.specs.Steps.{AreOrderedTerms, IsOrderedTerm};
 
-use crate::states::{States, read_states};
+use crate::states::read_states;
+use axioms::States;
 use derivations::{Tables, Term, Vertex};
 use std::alloc::{AllocError, Global};
 use std::cmp::Ordering;

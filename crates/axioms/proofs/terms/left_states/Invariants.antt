@@ -1,13 +1,12 @@
 use Rattle.std.proofs.Common.{◌≡◌, ◌++◌, ◌∷◌, map, drop}
 use Rattle.semver.specs.Identifiers.{parts_of}
-use Rattle.classes.specs.Classes.{class_view}
 use Rattle.features.specs.Views.{requirement_view}
 use Rattle.model.specs.Vertices.{absent}
-use Rattle.axioms.specs.Matching.{is_left_in, versions_with}
-use Rattle.axioms.specs.Views.{state_views}
+use Rattle.axioms.specs.Matching.{is_left, versions_with}
+use Rattle.axioms.specs.StateViews.{state_views}
 use Rattle.axioms.proofs.terms.left_states.Given as goal
 
 -- those taken so far, with those among the versions that are left, are those of all
 abbrev pub invariant-versions : goal.invariant-versions
-invariant-versions l = state_views l.states.items ++ versions_with (is_left_in (class_view l.class) (requirement_view l.requirement)) (map parts_of (drop l.version-index l.versions))
-    ≡ absent ∷ versions_with (is_left_in (class_view l.class) (requirement_view l.requirement)) (map parts_of l.versions)
+invariant-versions l = state_views l.states.items ++ versions_with (is_left (requirement_view l.requirement)) (map parts_of (drop l.version-index l.versions))
+    ≡ absent ∷ versions_with (is_left (requirement_view l.requirement)) (map parts_of l.versions)

@@ -1,14 +1,22 @@
-use Rattle.std.proofs.Common.{◌∙◌, ◌∷◌, ap}
-use Rattle.features.specs.Views.{dependency_view}
+use Rattle.std.proofs.Common.{◌∙◌, ◌∷◌, ap, sym, subst}
+use Rattle.std.specs.List.Sorted.{IsStrictlySortedBy}
+use Rattle.features.specs.Views.{dependency_view, requirement_view}
 use Rattle.classes.specs.Classes.{class_view}
+use Rattle.derivations.specs.Orders.{state_cmp}
 use Rattle.model.specs.Axioms.{at}
 use Rattle.model.specs.Vertices.{absent, pkg}
-use Rattle.axioms.proofs.Taken.{left_is}
+use Rattle.axioms.specs.Matching.{is_left}
+use Rattle.axioms.proofs.Rising.{absent_first}
+use Rattle.axioms.proofs.Classed.{left_is}
 use Rattle.axioms.proofs.terms.left_term.Goals as goal
+
+pub rising-requires : goal.rising-requires
+rising-requires c =
+    subst (IsStrictlySortedBy state_cmp) (sym c.in_ok-states.ensures) (absent_first (is_left (requirement_view c.args.dependency.now.requirement)) c.class_versions-versions.result.now c.class_versions-versions.ensures.rising)
 
 pub returns : goal.returns
 returns c =
     let k = c.args.known.now in
     let d = dependency_view c.args.dependency.now in
     ap (at (pkg d.real_name (class_view c.args.class)))
-    (c.in_ok-states.ensures ∙ ap (λ ss. absent ∷ ss) (left_is k.manifest.now k.catalogue.now d (class_view c.args.class) c.versions-versions.result.now c.versions-versions.ensures.versions))
+    (c.rising.ensures ∙ c.in_ok-states.ensures ∙ ap (λ ss. absent ∷ ss) (left_is k.manifest.now k.catalogue.now d (class_view c.args.class) c.class_versions-versions.result.now c.class_versions-versions.ensures.versions))

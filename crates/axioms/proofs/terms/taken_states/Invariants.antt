@@ -1,12 +1,11 @@
 use Rattle.std.proofs.Common.{◌≡◌, ◌++◌, map, drop}
 use Rattle.semver.specs.Identifiers.{parts_of}
-use Rattle.classes.specs.Classes.{class_view}
 use Rattle.features.specs.Views.{requirement_view}
-use Rattle.axioms.specs.Matching.{is_taken_in, versions_with}
-use Rattle.axioms.specs.Views.{state_views}
+use Rattle.axioms.specs.Matching.{is_taken, versions_with}
+use Rattle.axioms.specs.StateViews.{state_views}
 use Rattle.axioms.proofs.terms.taken_states.Given as goal
 
 -- those taken so far, with those among the versions that are left, are those of all
 abbrev pub invariant-versions : goal.invariant-versions
-invariant-versions l = state_views l.states.items ++ versions_with (is_taken_in (class_view l.class) (requirement_view l.requirement)) (map parts_of (drop l.version-index l.versions))
-    ≡ versions_with (is_taken_in (class_view l.class) (requirement_view l.requirement)) (map parts_of l.versions)
+invariant-versions l = state_views l.states.items ++ versions_with (is_taken (requirement_view l.requirement)) (map parts_of (drop l.version-index l.versions))
+    ≡ versions_with (is_taken (requirement_view l.requirement)) (map parts_of l.versions)

@@ -4,7 +4,7 @@ use Rattle.catalogue.specs.Problems.{problem_in}
 use Rattle.derivations.specs.Views.{vertex_view}
 use Rattle.checker.specs.Combinations.{fits}
 use Rattle.checker.proofs.CombinationLaws.{all_fit_is}
-use Rattle.checker.proofs.SetLaws.{and_then, and_else}
+use Rattle.axioms.proofs.SetLaws.{and_then, and_else}
 use Rattle.checker.proofs.combination.is_combination.Goals as goal
 
 pub returns-then-all_fit : goal.returns-then-all_fit

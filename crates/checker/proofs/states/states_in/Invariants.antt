@@ -1,7 +1,7 @@
-use Rattle.std.proofs.Common.{◌≡◌, map, take}
+use Rattle.std.proofs.Common.{◌≡◌, take}
 use Rattle.derivations.specs.Tables.{states_at}
-use Rattle.derivations.specs.Views.{state_view}
+use Rattle.axioms.specs.StateViews.{state_views}
 use Rattle.checker.proofs.states.states_in.Given as goal
 
 abbrev pub invariant-numbers : goal.invariant-numbers
-invariant-numbers l = map (λ x. state_view x.now) l.states.items ≡ states_at l.tables (take l.number-index l.numbers)
+invariant-numbers l = state_views l.states.items ≡ states_at l.tables (take l.number-index l.numbers)

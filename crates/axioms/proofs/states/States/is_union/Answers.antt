@@ -1,8 +1,8 @@
 use Rattle.std.proofs.Common.{◌∙◌, ◌&&◌, sym}
 use Rattle.refutations.specs.Terms.{is_within}
-use Rattle.checker.specs.Sets.{all_in_either}
-use Rattle.checker.proofs.SetLaws.{and_then, and_else, union_is}
-use Rattle.checker.proofs.states.States.is_union.Goals as goal
+use Rattle.axioms.specs.Sets.{all_in_either}
+use Rattle.axioms.proofs.SetLaws.{and_then, and_else, union_is}
+use Rattle.axioms.proofs.states.States.is_union.Goals as goal
 
 pub returns-then-lies_in_either : goal.returns-then-lies_in_either
 returns-then-lies_in_either c =

@@ -5,7 +5,7 @@ use Rattle.model.specs.Derivation.{both}
 use Rattle.model.specs.Vertices.{State, same_state, has_state}
 use Rattle.model.proofs.Same.{state-same}
 use Rattle.refutations.specs.Terms.{is_within, same_states}
-use Rattle.checker.specs.Sets.{all_in_either, all_in_both, all_shared_in}
+use Rattle.axioms.specs.Sets.{all_in_either, all_in_both, all_shared_in}
 
 -- ---- tests
 

@@ -1,7 +1,7 @@
 use Rattle.std.proofs.Common.{◌∙◌, sym}
-use Rattle.checker.specs.Sets.{all_in_both, all_shared_in}
-use Rattle.checker.proofs.SetLaws.{and_then, and_else, meet_is}
-use Rattle.checker.proofs.states.States.is_meet.Goals as goal
+use Rattle.axioms.specs.Sets.{all_in_both, all_shared_in}
+use Rattle.axioms.proofs.SetLaws.{and_then, and_else, meet_is}
+use Rattle.axioms.proofs.states.States.is_meet.Goals as goal
 
 pub returns-then-lies_in_both : goal.returns-then-lies_in_both
 returns-then-lies_in_both c =

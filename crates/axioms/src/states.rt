@@ -1,0 +1,189 @@
+//! Sets of states in the written order.
+
+ghost use Rattle.std.specs.Prelude.{◌≡◌, ◌∷◌, [], ◌++◌, ◌||◌, ◌&&◌, not, option_map, IfOk};
+ghost use Rattle.std.specs.List.{list_all};
+ghost use Rattle.std.specs.List.Sorted.{IsStrictlySortedBy};
+ghost use Rattle.model.specs.Derivation.{both};
+ghost use Rattle.model.specs.Vertices.{has_state};
+ghost use Rattle.derivations.specs.Orders.{state_cmp};
+ghost use Rattle.refutations.specs.Instances.{first_of};
+ghost use Rattle.refutations.specs.Terms.{is_within, same_states};
+ghost use Rattle.axioms.specs.Sets.{all_in_either, all_in_both, all_shared_in};
+ghost use Rattle.axioms.specs.StateViews.{state_view, state_views};
+
+use crate::order::{same_state, state_order};
+use crate::term::State;
+use std::alloc::{AllocError, Global};
+use std::marker::Model;
+
+/// A set of states.
+#[derive(Drop)]
+pub struct States<'a> {
+    states: Vec<State<'a>>,
+}
+
+impl<'a> Model for States<'a> {
+    ghost use Rattle.std.specs.Prelude.{List};
+    ghost use Rattle.std.specs.List.Sorted.{IsStrictlySortedBy};
+    ghost use Rattle.model.specs.Vertices.{State};
+    ghost use Rattle.derivations.specs.Orders.{state_cmp};
+    ghost use Rattle.axioms.specs.StateViews.{state_views};
+
+    ghost Value = { List State };
+
+    ghost view = { λ s. state_views s.states.items };
+
+    ghost invariant = { λ s. IsStrictlySortedBy state_cmp (state_views s.states.items) };
+}
+
+impl<'a> States<'a> {
+    /// The set of states that rise.
+    pub fn rising(states: Vec<State<'a>>) -> States<'a>
+        requires { IsStrictlySortedBy state_cmp (state_views states.items) }
+        ensures { result ≡ state_views states.entry.items }
+    {
+        States { states }
+    }
+
+    /// The set of one state.
+    pub(crate) fn one(alloc: Global, state: State<'a>) -> Result<States<'a>, AllocError>
+        ensures { IfOk result (λ s. s ≡ state_view state.entry ∷ []) }
+    {
+        let mut states = Vec::new(alloc);
+        states.push(state)?;
+        Ok(States { states })
+    }
+
+    /// The same set once more.
+    pub fn copy(&self, alloc: Global) -> Result<States<'a>, AllocError>
+        ensures { IfOk result (λ s. s ≡ self.now) }
+    {
+        let mut states = Vec::with_capacity(alloc, self.states.len())?;
+        states.extend_from_slice(self.states.as_slice())?;
+        Ok(States { states })
+    }
+
+    pub(crate) fn first(&self) -> Option<State<'a>>
+        ensures { option_map state_view result ≡ first_of self.now }
+    {
+        self.states.first().copied()
+    }
+
+    /// Whether the state is in the set.
+    pub fn has(&self, state: &State<'_>) -> bool
+        ensures { result ≡ has_state self.now (state_view state.now) }
+    {
+        is_in(self.states.as_slice(), state)
+    }
+
+    /// Whether the two are one set.
+    pub fn is_same(&self, other: &States<'_>) -> bool
+        ensures { result ≡ same_states self.now other.now }
+    {
+        self.lies_in(other) && other.lies_in(self)
+    }
+
+    /// Whether it is the union of two others.
+    pub fn is_union(&self, a: &States<'_>, b: &States<'_>) -> bool
+        ensures { result ≡ same_states self.now (a.now ++ b.now) }
+    {
+        self.lies_in_either(a, b) && self.has_all(a, b)
+    }
+
+    /// Whether it is the intersection of two others.
+    pub fn is_meet(&self, a: &States<'_>, b: &States<'_>) -> bool
+        ensures { result ≡ same_states self.now (both a.now b.now) }
+    {
+        self.lies_in_both(a, b) && a.shares_in(b, self)
+    }
+
+    fn has_all(&self, a: &States<'_>, b: &States<'_>) -> bool
+        ensures { result ≡ (is_within a.now self.now && is_within b.now self.now) }
+    {
+        a.lies_in(self) && b.lies_in(self)
+    }
+
+    /// Whether each of its states is in the other.
+    fn lies_in(&self, other: &States<'_>) -> bool
+        ensures { result ≡ is_within self.now other.now }
+    {
+        all_in(self.states.as_slice(), other)
+    }
+
+    /// Whether each of its states is in one of the others.
+    fn lies_in_either(&self, a: &States<'_>, b: &States<'_>) -> bool
+        ensures { result ≡ all_in_either self.now a.now b.now }
+    {
+        all_in_either(self.states.as_slice(), a, b)
+    }
+
+    /// Whether each of its states is in both others.
+    fn lies_in_both(&self, a: &States<'_>, b: &States<'_>) -> bool
+        ensures { result ≡ all_in_both self.now a.now b.now }
+    {
+        all_in_both(self.states.as_slice(), a, b)
+    }
+
+    /// Whether each state that it shares with the second is in the third.
+    fn shares_in(&self, second: &States<'_>, third: &States<'_>) -> bool
+        ensures { result ≡ all_shared_in self.now second.now third.now }
+    {
+        all_shared_in(self.states.as_slice(), second, third)
+    }
+}
+
+/// Whether the state is in one of two sets.
+fn either_has(a: &States<'_>, b: &States<'_>, state: &State<'_>) -> bool
+    ensures { result ≡ (has_state a.now (state_view state.now) || has_state b.now (state_view state.now)) }
+{
+    a.has(state) || b.has(state)
+}
+
+fn both_have(a: &States<'_>, b: &States<'_>, state: &State<'_>) -> bool
+    ensures { result ≡ (has_state a.now (state_view state.now) && has_state b.now (state_view state.now)) }
+{
+    a.has(state) && b.has(state)
+}
+
+fn has_if_other_has(states: &States<'_>, other: &States<'_>, state: &State<'_>) -> bool
+    ensures { result ≡ (not (has_state other.now (state_view state.now)) || has_state states.now (state_view state.now)) }
+{
+    !other.has(state) || states.has(state)
+}
+
+fn all_in(states: &[State<'_>], set: &States<'_>) -> bool
+    ensures { result ≡ list_all (λ s. has_state set.now (state_view s)) states.now }
+{
+    states.iter().all(|state| set.has(state))
+}
+
+fn all_in_either(states: &[State<'_>], a: &States<'_>, b: &States<'_>) -> bool
+    ensures { result ≡ list_all (λ s. has_state a.now (state_view s) || has_state b.now (state_view s)) states.now }
+{
+    states.iter().all(|state| either_has(a, b, state))
+}
+
+fn all_in_both(states: &[State<'_>], a: &States<'_>, b: &States<'_>) -> bool
+    ensures { result ≡ list_all (λ s. has_state a.now (state_view s) && has_state b.now (state_view s)) states.now }
+{
+    states.iter().all(|state| both_have(a, b, state))
+}
+
+fn all_shared_in(states: &[State<'_>], second: &States<'_>, third: &States<'_>) -> bool
+    ensures { result ≡ list_all (λ s. not (has_state second.now (state_view s)) || has_state third.now (state_view s)) states.now }
+{
+    states
+        .iter()
+        .all(|state| has_if_other_has(third, second, state))
+}
+
+/// Whether the state is one of these.
+fn is_in(states: &[State<'_>], sought: &State<'_>) -> bool
+    requires { IsStrictlySortedBy state_cmp (state_views states.now) }
+    ensures { result ≡ has_state (state_views states.now) (state_view sought.now) }
+{
+    match states.binary_search_by(|state| state_order(state, sought)) {
+        Ok(place) => same_state(sought, &states[place]),
+        Err(_) => false,
+    }
+}
