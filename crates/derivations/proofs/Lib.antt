@@ -9,3 +9,4 @@ pub mod PlainTexts
 pub mod JsonLaws
 pub mod WriteLaws
 pub mod TableLaws
+pub mod KeptLaws

@@ -1,5 +1,5 @@
 -- What is read keeps what each derivation keeps.
-use Rattle.std.proofs.Common.{◌≡◌, ℕ, ◌+◌, List, [], ◌∷◌, ◌++◌, map, length, Bool, true, false, cond, ◌&&◌, nat_lt, Option, Some, None, Ok, Err, option_and_then, refl, sym, ap, ap₂, ◌∙◌, subst, arith, Ordering, Less, codes}
+use Rattle.std.proofs.Common.{◌≡◌, ℕ, ◌+◌, ◌<◌, List, [], ◌∷◌, ◌++◌, map, length, Bool, true, false, cond, ◌&&◌, nat_lt, Option, Some, None, Ok, Err, option_and_then, refl, sym, ap, ap₂, ◌∙◌, subst, arith, Ordering, Less, codes}
 use Rattle.std.specs.Cmp.{IsTotalOrder}
 use Rattle.std.specs.List.{AllByRecursion}
 use Rattle.std.specs.List.Sorted.{IsStrictlySortedBy}
@@ -151,36 +151,29 @@ step-is n d s h =
     let m = steps (guard (nat_lt n most_steps) TooMany) _ s b.then in
     subst (IsStepAt n) (same-Ok _ _ m.then) (back n r.at t.at (reason-is _ _ r.at r.first) (terms-are d t.at t.first) (passed (is_backward n r.at) Forward b.at b.first))
 
-line-is : (n : ℕ) (text : List ℕ) (s : Step) → step_of_line n text ≡ Ok s → IsStepAt n s
+pub line-is : (n : ℕ) (text : List ℕ) (s : Step) → step_of_line n text ≡ Ok s → IsStepAt n s
 unfolding step_of_line
 line-is n text s h = let d = steps (data_of_bytes text) _ s h in step-is n d.at s d.then
 
+step-few : (n : ℕ) (d : Data) (s : Step) → step_of n d ≡ Ok s → n < most_steps
+unfolding step_of
+step-few n d s h =
+    let r = steps (reason_of d) _ s h in
+    let t = steps (terms_of d) _ s r.then in
+    let b = steps (guard (is_backward n r.at) Forward) _ s t.then in
+    let m = steps (guard (nat_lt n most_steps) TooMany) _ s b.then in
+    ltb-true n most_steps (passed (nat_lt n most_steps) TooMany m.at m.first)
+
+-- there is room for a step that is read
+pub line-few : (n : ℕ) (text : List ℕ) (s : Step) → step_of_line n text ≡ Ok s → n < most_steps
+unfolding step_of_line
+line-few n text s h = let d = steps (data_of_bytes text) _ s h in step-few n d.at s d.then
+
 -- ---- the whole
 
-one-more : (n : ℕ) (ss : List Step) (s : Step) → AreStepsFrom n ss → IsStepAt (n + length ss) s → AreStepsFrom n (ss ++ s ∷ [])
+pub one-more : (n : ℕ) (ss : List Step) (s : Step) → AreStepsFrom n ss → IsStepAt (n + length ss) s → AreStepsFrom n (ss ++ s ∷ [])
 one-more n [] s each h = (subst (λ m. IsStepAt m s) (omega arith) h, tt)
 one-more n (t ∷ ss) s each h = (each.0, one-more (n + 1) ss s each.1 (subst (λ m. IsStepAt m s) (omega arith) h))
-
-with-line : (n : ℕ) (text : List ℕ) (before after : List Step) → IsDerivation before → with_line n text before ≡ Ok after → IsDerivation after
-with-line n text before after each h = by (is_blank text) h
-  where
-    read-by : (r : Line Step) → step_of_line (length before) text ≡ r → with_read n before r ≡ Ok after → IsDerivation after
-    read-by (Ok s) is h = subst IsDerivation (same-Ok _ _ h) (one-more 0 before s each (subst (λ m. IsStepAt m s) (omega arith) (line-is (length before) text s is)))
-    read-by (Err e) is h = cc
-
-    by : (b : Bool) → cond b (Ok before) (with_read n before (step_of_line (length before) text)) ≡ Ok after → IsDerivation after
-    by true h = subst IsDerivation (same-Ok _ _ h) each
-    by false h = read-by (step_of_line (length before) text) refl h
-
-with-lines : (n : ℕ) (texts : List (List ℕ)) (before after : List Step) → IsDerivation before → with_lines n texts before ≡ Ok after → IsDerivation after
-unfolding with_lines
-with-lines n [] before after each h = subst IsDerivation (same-Ok _ _ h) each
-with-lines n (text ∷ texts) before after each h =
-    let t = steps (with_line n text before) _ after h in
-    with-lines (n + 1) texts t.at after (with-line n text before t.at each t.first) t.then
-
-pub read-is : (texts : List (List ℕ)) (ss : List Step) → with_lines 1 texts [] ≡ Ok ss → IsDerivation ss
-read-is texts ss h = with-lines 1 texts [] ss tt h
 
 -- ---- terms without their texts
 

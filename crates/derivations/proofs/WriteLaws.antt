@@ -287,7 +287,7 @@ no-end (b ∷ bs) h = (let low = h.0.0 in grind (arith, nat_tests), no-end bs h.
 
 -- ---- lines
 
-line-back : (n : ℕ) (s : Step) → n < most_steps → IsStepAt n s → step_of_line n (step_json s) ≡ Ok s
+pub line-back : (n : ℕ) (s : Step) → n < most_steps → IsStepAt n s → step_of_line n (step_json s) ≡ Ok s
 unfolding step_of_line
 line-back n s few h =
     let below : n ≤ most_steps = omega arith in
@@ -298,20 +298,32 @@ line-back n s few h =
 with-one : (n : ℕ) (before : List Step) (s : Step) (r : Line Step) → r ≡ Ok s → with_read n before r ≡ Ok (before ++ s ∷ [])
 with-one n before s r h = rw h refl
 
-whole : (n : ℕ) (before ss : List Step) → AreStepsFrom (length before) ss → length before + length ss ≤ most_steps → with_lines n (slice_split is_line_end (lines_of ss)) before ≡ Ok (before ++ ss)
+pub lines-then : (n : ℕ) (before ss : List Step) (rest : List (List ℕ)) → AreStepsFrom (length before) ss → length before + length ss ≤ most_steps
+    → with_lines n (map step_json ss ++ rest) before ≡ with_lines (n + length ss) rest (before ++ ss)
 unfolding with_lines
-whole n before [] h few = ap Ok (sym (append-nil before))
-whole n before (s ∷ ss) h few =
+lines-then n before [] rest h few = ap₂ (λ m steps. with_lines m rest steps) (omega arith) (sym (append-nil before))
+lines-then n before (s ∷ ss) rest h few =
     let below : length before < most_steps = omega arith in
-    let split : slice_split is_line_end (lines_of (s ∷ ss)) ≡ step_json s ∷ slice_split is_line_end (lines_of ss)
-    = ap (slice_split is_line_end) (append_assoc (step_json s) (10 ∷ []) (lines_of ss))
-    ∙ slice_split_at is_line_end (step_json s) 10 (lines_of ss) (All-from_recursion _ (step_json s) (no-end (step_json s) (line-step (length before) s (omega arith) h.0))) refl in
     let here : with_line n (step_json s) before ≡ Ok (before ++ s ∷ []) = with-one n before s (step_of_line (length before) (step_json s)) (line-back (length before) s below h.0) in
     let longer : length before + 1 ≡ length (before ++ s ∷ []) = sym (length-append before (s ∷ [])) in
     let room : length (before ++ s ∷ []) + length ss ≤ most_steps = omega (arith, longer) in
-    ap (λ ts. with_lines n ts before) split ∙ ap (λ r. r >>= λ next. with_lines (n + 1) (slice_split is_line_end (lines_of ss)) next) here
-    ∙ whole (n + 1) (before ++ s ∷ []) ss (subst (λ m. AreStepsFrom m ss) longer h.1) room ∙ ap Ok (append_assoc before (s ∷ []) ss)
+    ap (λ r. r >>= λ next. with_lines (n + 1) (map step_json ss ++ rest) next) here
+    ∙ lines-then (n + 1) (before ++ s ∷ []) ss rest (subst (λ m. AreStepsFrom m ss) longer h.1) room
+    ∙ ap₂ (λ m steps. with_lines m rest steps) (omega arith) (append_assoc before (s ∷ []) ss)
 
--- a derivation of at most so many steps is what its lines read as
+-- the lines of a derivation of at most so many steps read as it
+pub lines-back : (ss : List Step) → IsDerivation ss → length ss ≤ most_steps → with_lines 1 (map step_json ss) [] ≡ Ok ss
+unfolding with_lines
+lines-back ss h few = ap (λ texts. with_lines 1 texts []) (sym (append-nil (map step_json ss))) ∙ lines-then 1 [] ss [] h (omega arith)
+
+split-lines : (n : ℕ) (ss : List Step) → AreStepsFrom n ss → n + length ss ≤ most_steps → slice_split is_line_end (lines_of ss) ≡ map step_json ss ++ [] ∷ []
+split-lines n [] h few = refl
+split-lines n (s ∷ ss) h few =
+    ap (slice_split is_line_end) (append_assoc (step_json s) (10 ∷ []) (lines_of ss))
+    ∙ slice_split_at is_line_end (step_json s) 10 (lines_of ss) (All-from_recursion _ (step_json s) (no-end (step_json s) (line-step n s (omega arith) h.0))) refl
+    ∙ ap (λ texts. step_json s ∷ texts) (split-lines (n + 1) ss h.1 (omega arith))
+
+-- so do the bytes that they are written as
 pub written-reads : (ss : List Step) → IsDerivation ss → length ss ≤ most_steps → derivation_of_bytes (lines_of ss) ≡ Ok ss
-written-reads ss h few = whole 1 [] ss h (omega arith)
+unfolding with_lines
+written-reads ss h few = ap (λ texts. with_lines 1 texts []) (split-lines 0 ss h (omega arith)) ∙ lines-then 1 [] ss ([] ∷ []) h (omega arith)

@@ -9,3 +9,5 @@ pub mod Same
 pub mod Tables
 pub mod Derivations
 pub mod Written
+pub mod References
+pub mod Kept

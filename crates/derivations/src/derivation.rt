@@ -1,63 +1,105 @@
 //! Derivations, and reading them.
 
-ghost use Rattle.std.specs.Prelude.{◌≡◌, ◌==◌, ◌||◌, ◌++◌, ◌∷◌, [], IfOk, length, map};
+ghost use Rattle.std.specs.Prelude.{◌≡◌, ◌<◌, ◌==◌, ◌||◌, ◌++◌, ◌∷◌, [], IfOk, length, map, option_map, slice_get};
 ghost use Rattle.std.specs.List.{list_all, slice_split};
 ghost use Rattle.model.specs.Outcome.{Gives};
-ghost use Rattle.derivations.specs.Derivations.{IsDerivation};
+ghost use Rattle.derivations.specs.Derivations.{IsDerivation, IsStepAt};
 ghost use Rattle.derivations.specs.Files.{wants_memory, is_line_end, is_blank_byte, is_blank, fault_at, with_line, with_lines, derivation_of_bytes};
-ghost use Rattle.derivations.specs.Tables.{AreStepsOf, steps_at};
+ghost use Rattle.derivations.specs.Kept.{AreKept};
+ghost use Rattle.derivations.specs.References.{references_at};
+ghost use Rattle.derivations.specs.Steps.{most_steps};
 ghost use Rattle.derivations.specs.Views.{step_view};
 
 use crate::fault::{DerivationFault, LineFault};
+use crate::kept::{Kept, keep, read_kept};
 use crate::line::read_step;
-use crate::step::Step;
-use crate::steps::Steps;
-use crate::tables::Tables;
+use crate::steps::{Steps, steps_of};
+use crate::whole::WholeStep;
 use std::alloc::{AllocError, Global};
 use std::marker::Model;
 
 /// Why there is no selection: steps, each by an axiom or from two earlier ones. Terms stand by the bytes of their vertices' texts, states
 /// `absent` first and then oldest or lowest first, none of them twice, and each vertex, state and version is what its own text reads as.
+///
+/// It keeps the line of each step, so that it is hardly larger than its file.
 #[derive(Drop)]
 pub struct Derivation {
-    steps: Steps,
+    kept: Vec<Kept>,
 }
 
 impl Model for Derivation {
     ghost use Rattle.std.specs.Prelude.{List};
     ghost use Rattle.model.specs.Derivation.{Step};
-    ghost use Rattle.derivations.specs.Derivations.{IsDerivation};
+    ghost use Rattle.derivations.specs.Kept.{AreKept, steps_kept};
 
     ghost Value = { List Step };
 
-    ghost view = { λ d. d.steps };
+    ghost view = { λ d. steps_kept d.kept.items };
 
-    ghost invariant = { λ d. IsDerivation d.steps };
+    ghost invariant = { λ d. AreKept d.kept.items (steps_kept d.kept.items) };
 }
 
 impl Derivation {
-    /// The derivation of these steps.
-    fn new(steps: Steps) -> Derivation
-        requires { IsDerivation steps }
-        ensures { result ≡ steps }
+    /// No steps yet.
+    fn new(alloc: Global) -> Derivation
+        ensures { result ≡ [] }
     {
-        Derivation { steps }
+        Derivation {
+            kept: Vec::new(alloc),
+        }
     }
 
     /// How many steps it has.
     pub fn len(&self) -> usize
         ensures { result ≡ length self.now }
     {
-        self.parts().1.len()
+        self.kept.len()
     }
 
-    /// Its steps, numbered from 0, and the tables that have their vertices and states.
-    pub fn parts(&self) -> (&Tables, &[Step])
-        ensures steps { steps_at result.0.now result.1.now ≡ self.now }
-        ensures within { AreStepsOf result.0.now result.1.now }
+    /// Its steps as they are kept.
+    pub(crate) fn kept(&self) -> &[Kept]
+        ensures { AreKept result.now self.now }
+    {
+        self.kept.as_slice()
+    }
+
+    /// The numbers of the two steps that the step of this number combines, if it does.
+    pub fn references(&self, number: usize) -> Option<(u64, u64)>
+        ensures { result ≡ references_at self.now number }
+    {
+        match self.kept().get(number) {
+            Some(kept) => kept.references,
+            None => None,
+        }
+    }
+
+    /// The step of this number, if there is one, read off its line.
+    pub fn step(&self, alloc: Global, number: usize) -> Result<Option<WholeStep>, AllocError>
+        ensures { IfOk result (λ o. option_map step_view o ≡ slice_get self.now number) }
+    {
+        match self.kept().get(number) {
+            Some(kept) => Ok(Some(read_kept(alloc, number, kept)?)),
+            None => Ok(None),
+        }
+    }
+
+    /// Its steps with tables of their vertices and states.
+    pub fn steps(&self, alloc: Global) -> Result<Steps, AllocError>
+        ensures steps { IfOk result (λ s. s ≡ self.now) }
         ensures derivation { IsDerivation self.now }
     {
-        self.steps.parts()
+        steps_of(alloc, self)
+    }
+
+    /// The steps with one more, whose line has about so many bytes.
+    fn with_step(self, alloc: Global, room: usize, step: &WholeStep) -> Result<Derivation, AllocError>
+        requires step { IsStepAt (length self) (step_view step.now) }
+        requires few { length self < most_steps }
+        ensures { IfOk result (λ d. d ≡ self ++ step_view step.now ∷ []) }
+    {
+        let Derivation { mut kept } = self;
+        kept.push(keep(alloc, room, step)?)?;
+        Ok(Derivation { kept })
     }
 }
 
@@ -69,7 +111,7 @@ pub fn read(alloc: Global, bytes: &[u8]) -> Result<Derivation, DerivationFault>
     ensures { Gives wants_memory (λ d. d) result (derivation_of_bytes bytes.now) }
 {
     let lines = lines_in(alloc, bytes)?;
-    Ok(Derivation::new(read_lines(alloc, &lines)?))
+    read_lines(alloc, &lines)
 }
 
 /// The texts between the line ends: the last is empty where bytes end with a line.
@@ -81,10 +123,10 @@ fn lines_in(alloc: Global, bytes: &[u8]) -> Result<Vec<&[u8]>, AllocError>
 
 /// The steps that lines are.
 #[tactic(auto, unfolding(crate::specs::Files::with_lines))]
-fn read_lines(alloc: Global, lines: &[&[u8]]) -> Result<Steps, DerivationFault>
-    ensures { Gives wants_memory (λ s. s) result (with_lines 1 (map (λ x. x.now) lines.now) []) }
+fn read_lines(alloc: Global, lines: &[&[u8]]) -> Result<Derivation, DerivationFault>
+    ensures { Gives wants_memory (λ d. d) result (with_lines 1 (map (λ x. x.now) lines.now) []) }
 {
-    let mut steps = Steps::new(alloc);
+    let mut steps = Derivation::new(alloc);
     'lines: for (index, line) in lines.iter().enumerate() {
         steps = with_line(alloc, index as u64 + 1, line, steps)?;
     }
@@ -96,15 +138,15 @@ fn with_line(
     alloc: Global,
     number: u64,
     line: &[u8],
-    steps: Steps,
-) -> Result<Steps, DerivationFault>
-    ensures { Gives wants_memory (λ s. s) result (with_line number line.now steps) }
+    steps: Derivation,
+) -> Result<Derivation, DerivationFault>
+    ensures { Gives wants_memory (λ d. d) result (with_line number line.now steps) }
 {
     if is_blank(line) {
         return Ok(steps);
     }
     match read_step(alloc, steps.len(), line) {
-        Ok(step) => Ok(steps.with_step(alloc, step)?),
+        Ok(step) => Ok(steps.with_step(alloc, line.len(), &step)?),
         Err(fault) => Err(fault_at(number, fault)),
     }
 }

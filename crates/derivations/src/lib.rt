@@ -4,6 +4,7 @@
 mod derivation;
 mod fault;
 mod keeping;
+mod kept;
 mod kind;
 mod line;
 mod same;
@@ -22,6 +23,8 @@ pub use fault::DerivationFault;
 pub use kind::Kind;
 pub use state::State;
 pub use step::{Cause, Step, Term};
+pub use steps::Steps;
 pub use tables::Tables;
 pub use vertex::{OwnerName, Vertex};
+pub use whole::{WholeCause, WholeStep, WholeTerm};
 pub use writing::write;

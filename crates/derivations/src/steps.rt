@@ -1,10 +1,13 @@
 //! Steps and their tables.
 
-ghost use Rattle.std.specs.Prelude.{◌≡◌, ◌++◌, ◌∷◌, [], IfOk, length};
+ghost use Rattle.std.specs.Prelude.{◌≡◌, ◌++◌, ◌∷◌, [], IfOk};
+ghost use Rattle.derivations.specs.Derivations.{IsDerivation};
 ghost use Rattle.derivations.specs.Tables.{AreStepsOf, steps_at};
 ghost use Rattle.derivations.specs.Views.{step_view};
 
+use crate::derivation::Derivation;
 use crate::keeping::keep_step;
+use crate::kept::read_kept;
 use crate::step::Step;
 use crate::tables::Tables;
 use crate::whole::WholeStep;
@@ -13,7 +16,7 @@ use std::marker::Model;
 
 /// Steps, and the tables that have their vertices and states.
 #[derive(Drop)]
-pub(crate) struct Steps {
+pub struct Steps {
     tables: Tables,
     steps: Vec<Step>,
 }
@@ -21,7 +24,8 @@ pub(crate) struct Steps {
 impl Model for Steps {
     ghost use Rattle.std.specs.Prelude.{List};
     ghost use Rattle.model.specs.Derivation as model;
-    ghost use Rattle.derivations.specs.Tables.{AreStepsOf, steps_at};
+    ghost use Rattle.derivations.specs.Derivations.{IsDerivation};
+ghost use Rattle.derivations.specs.Tables.{AreStepsOf, steps_at};
 
     ghost Value = { List model.Step };
 
@@ -31,7 +35,7 @@ impl Model for Steps {
 }
 
 impl Steps {
-    pub(crate) fn new(alloc: Global) -> Steps
+    fn new(alloc: Global) -> Steps
         ensures { result ≡ [] }
     {
         Steps {
@@ -40,14 +44,8 @@ impl Steps {
         }
     }
 
-    pub(crate) fn len(&self) -> usize
-        ensures { result ≡ length self.now }
-    {
-        self.steps.len()
-    }
-
-    /// The tables and the steps.
-    pub(crate) fn parts(&self) -> (&Tables, &[Step])
+    /// The steps, numbered from 0, and the tables that have their vertices and states.
+    pub fn parts(&self) -> (&Tables, &[Step])
         ensures steps { steps_at result.0.now result.1.now ≡ self.now }
         ensures within { AreStepsOf result.0.now result.1.now }
     {
@@ -55,7 +53,7 @@ impl Steps {
     }
 
     /// The steps with one more.
-    pub(crate) fn with_step(self, alloc: Global, step: WholeStep) -> Result<Steps, AllocError>
+    fn with_step(self, alloc: Global, step: WholeStep) -> Result<Steps, AllocError>
         ensures { IfOk result (λ s. s ≡ self ++ step_view step ∷ []) }
     {
         let Steps {
@@ -66,4 +64,17 @@ impl Steps {
         steps.push(kept)?;
         Ok(Steps { tables, steps })
     }
+}
+
+/// The steps of a derivation.
+pub(crate) fn steps_of(alloc: Global, derivation: &Derivation) -> Result<Steps, AllocError>
+    ensures steps { IfOk result (λ s. s ≡ derivation.now) }
+    ensures derivation { IsDerivation derivation.now }
+{
+    let kept = derivation.kept();
+    let mut steps = Steps::new(alloc);
+    'steps: for (number, one) in kept.iter().enumerate() {
+        steps = steps.with_step(alloc, read_kept(alloc, number, one)?)?;
+    }
+    Ok(steps)
 }

@@ -6,14 +6,14 @@ use crate::vertex::Vertex;
 
 /// A vertex and a set of its states.
 #[derive(Drop)]
-pub(crate) struct WholeTerm {
+pub struct WholeTerm {
     pub vertex: Vertex,
     pub states: Vec<State>,
 }
 
 /// Why the terms of a step can't all hold.
 #[derive(Drop)]
-pub(crate) enum WholeCause {
+pub enum WholeCause {
     Axiom(Kind),
     /// The numbers of two earlier steps, and the vertex at which they are combined.
     Combination(u64, u64, Vertex),
@@ -21,7 +21,7 @@ pub(crate) enum WholeCause {
 
 /// A step: a set of terms that can't all hold, and why.
 #[derive(Drop)]
-pub(crate) struct WholeStep {
+pub struct WholeStep {
     pub cause: WholeCause,
     pub terms: Vec<WholeTerm>,
 }

@@ -1,25 +1,19 @@
 -- Looking at the steps from the last one down finds the needed ones.
-use Rattle.std.proofs.Common.{◌≡◌, ℕ, zero, suc, ◌+◌, ◌<◌, ◌==◌, ◌||◌, Bool, true, false, cond, List, [], ◌∷◌, ◌++◌, length, get_or, set, Option, Some, None, slice_get, refl, sym, ap, ◌∙◌, subst, arith, replicate, reverse}
+use Rattle.std.proofs.Common.{◌≡◌, ℕ, zero, suc, ◌+◌, ◌<◌, ◌==◌, ◌||◌, Bool, true, false, cond, List, [], ◌∷◌, ◌++◌, length, get_or, set, Option, Some, None, option_and_then, slice_get, refl, sym, ap, ◌∙◌, subst, arith, replicate, reverse}
 use Rattle.std.specs.List.{list_any}
 use Rattle.std.proofs.lemmas.Bool.{eqb-true, eq-eqb}
 use Rattle.std.proofs.lemmas.Bool.Decides.{nat_tests}
 use Rattle.std.proofs.lemmas.List.{get_or-set_same, get_or-set_other, length-set, reverse-append}
 use Rattle.model.specs.Derivation.{Step, given, combine}
 use Rattle.model.specs.Axioms.{Term}
-use Rattle.derivations.specs.Tables.{TablesView, step_by_cause}
-use Rattle.derivations.specs.declared.step.Cause.{Cause}
-use Rattle.derivations.specs.declared.step.Cause.TheVariants.{Axiom, Combination}
+use Rattle.derivations.specs.References.{references_of, references_at}
 use Rattle.explainer.specs.Explanations.{refers_to, refers_at, needed_from}
-use Rattle.explainer.specs.Marks.{with_marks, is_needed}
-
-abbrev marks_at : Option Step → List Bool → List Bool
-marks_at None marks = marks
-marks_at (Some s) marks = with_marks s marks
+use Rattle.explainer.specs.Marks.{with_two, is_needed}
 
 -- the numbers found, lowest first, once so many steps are left to look at
 abbrev pub sweep : List Step → ℕ → List Bool → List ℕ → List ℕ
 sweep steps zero marks found = found
-sweep steps (suc n) marks found = cond (is_needed marks n) (sweep steps n (marks_at (slice_get steps n) marks) (n ∷ found)) (sweep steps n marks found)
+sweep steps (suc n) marks found = cond (is_needed marks n) (sweep steps n (with_two (references_at steps n) marks) (n ∷ found)) (sweep steps n marks found)
 
 module _ (steps : List Step) where
   -- a step is marked where one that was found combines it
@@ -40,17 +34,17 @@ module _ (steps : List Step) where
   or-swap false true c = refl
   or-swap false false c = refl
 
-  marked : (s : Step) (marks : List Bool) (m : ℕ) → m < length marks → get_or (with_marks s marks) m false ≡ (refers_to s m || get_or marks m false)
+  marked : (s : Step) (marks : List Bool) (m : ℕ) → m < length marks → get_or (with_two (references_of s) marks) m false ≡ (refers_to s m || get_or marks m false)
   marked (given k ts) marks m lt = refl
   marked (combine a b v ts) marks m lt =
       let longer : m < length (set marks a true) = let same = length-set marks a true in omega arith in
       set-one (set marks a true) b m longer ∙ ap (λ c. (b == m) || c) (set-one marks a m lt) ∙ or-swap (a == m) (b == m) (get_or marks m false)
 
-  marked-length : (s : Step) (marks : List Bool) → length (with_marks s marks) ≡ length marks
+  marked-length : (s : Step) (marks : List Bool) → length (with_two (references_of s) marks) ≡ length marks
   marked-length (given k ts) marks = refl
   marked-length (combine a b v ts) marks = length-set (set marks a true) b true ∙ length-set marks a true
 
-  more : (o : Option Step) (n : ℕ) → slice_get steps n ≡ o → (found : List ℕ) (marks : List Bool) → AreMarks found marks → AreMarks (n ∷ found) (marks_at o marks)
+  more : (o : Option Step) (n : ℕ) → slice_get steps n ≡ o → (found : List ℕ) (marks : List Bool) → AreMarks found marks → AreMarks (n ∷ found) (with_two (option_and_then references_of o) marks)
   more None n is found marks h = record { all = h.all; each = λ m lt. rw is (h.each m lt) }
   more (Some s) n is found marks h =
       record {
@@ -83,11 +77,11 @@ module _ (steps : List Step) where
       step : needed_from steps n (suc k) ≡ cond (is_needed marks n) (n ∷ needed_from steps (n + 1) k) (needed_from steps (n + 1) k)
       step = next n k marks (omega arith) marks-here
 
-      by : ((marks : List Bool) → AreMarks (needed_from steps n (suc k)) marks → sweep steps n marks (needed_from steps n (suc k)) ≡ needed_from steps 0 (length steps)) → (b : Bool) → is_needed marks n ≡ b → cond b (sweep steps n (marks_at (slice_get steps n) marks) (n ∷ needed_from steps (suc n) k)) (sweep steps n marks (needed_from steps (suc n) k)) ≡ needed_from steps 0 (length steps)
+      by : ((marks : List Bool) → AreMarks (needed_from steps n (suc k)) marks → sweep steps n marks (needed_from steps n (suc k)) ≡ needed_from steps 0 (length steps)) → (b : Bool) → is_needed marks n ≡ b → cond b (sweep steps n (with_two (references_at steps n) marks) (n ∷ needed_from steps (suc n) k)) (sweep steps n marks (needed_from steps (suc n) k)) ≡ needed_from steps 0 (length steps)
       by rest true is =
           let now : needed_from steps n (suc k) ≡ n ∷ needed_from steps (suc n) k = step ∙ rw (is, from) refl in
-          ap (λ f. sweep steps n (marks_at (slice_get steps n) marks) f) (sym now)
-          ∙ rest (marks_at (slice_get steps n) marks) (subst (λ f. AreMarks f (marks_at (slice_get steps n) marks)) (sym now) (more (slice_get steps n) n refl (needed_from steps (suc n) k) marks h))
+          ap (λ f. sweep steps n (with_two (references_at steps n) marks) f) (sym now)
+          ∙ rest (with_two (references_at steps n) marks) (subst (λ f. AreMarks f (with_two (references_at steps n) marks)) (sym now) (more (slice_get steps n) n refl (needed_from steps (suc n) k) marks h))
       by rest false is =
           let now : needed_from steps n (suc k) ≡ needed_from steps (suc n) k = step ∙ rw (is, from) refl in
           ap (λ f. sweep steps n marks f) (sym now) ∙ rest marks (subst (λ f. AreMarks f marks) (sym now) h)
@@ -108,24 +102,21 @@ unfolding needed_from
 begun steps n marks found whole empty none =
     rw none (swept steps n 0 marks (omega (arith, whole)) (record { all = ap length empty ∙ as-long n ∙ whole; each = λ m lt. ap (λ ms. get_or ms m false) empty ∙ unmarked n m }))
 
-pub went-on : (steps : List Step) (l left : ℕ) (marks marks' : List Bool) (found found' all : List ℕ) (s : Step) → left ≡ suc l → slice_get steps l ≡ Some s
-    → marks' ≡ cond (is_needed marks l) (with_marks s marks) marks → found' ≡ cond (is_needed marks l) (l ∷ found) found
+pub went-on : (steps : List Step) (l left : ℕ) (marks marks' : List Bool) (found found' all : List ℕ) → left ≡ suc l
+    → marks' ≡ cond (is_needed marks l) (with_two (references_at steps l) marks) marks → found' ≡ cond (is_needed marks l) (l ∷ found) found
     → sweep steps left marks found ≡ all → sweep steps l marks' found' ≡ all
-went-on steps l left marks marks' found found' all s next here m f told = by (is_needed marks l) refl m f (subst (λ n. sweep steps n marks found ≡ all) next told)
+went-on steps l left marks marks' found found' all next m f told = by (is_needed marks l) refl m f (subst (λ n. sweep steps n marks found ≡ all) next told)
   where
-    by : (b : Bool) → is_needed marks l ≡ b → marks' ≡ cond b (with_marks s marks) marks → found' ≡ cond b (l ∷ found) found
-        → cond (is_needed marks l) (sweep steps l (marks_at (slice_get steps l) marks) (l ∷ found)) (sweep steps l marks found) ≡ all → sweep steps l marks' found' ≡ all
-    by true is m f told = rw (m, f) (rw (is, here) at told)
+    by : (b : Bool) → is_needed marks l ≡ b → marks' ≡ cond b (with_two (references_at steps l) marks) marks → found' ≡ cond b (l ∷ found) found
+        → cond (is_needed marks l) (sweep steps l (with_two (references_at steps l) marks) (l ∷ found)) (sweep steps l marks found) ≡ all → sweep steps l marks' found' ≡ all
+    by true is m f told = rw (m, f) (rw is at told)
     by false is m f told = rw (m, f) (rw is at told)
 
 pub last-first : (b : Bool) (l : ℕ) (old new : List ℕ) → new ≡ cond b (old ++ l ∷ []) old → reverse new ≡ cond b (l ∷ reverse old) (reverse old)
 last-first true l old new h = ap reverse h ∙ reverse-append old (l ∷ [])
 last-first false l old new h = ap reverse h
 
-pub same-marks : (t : TablesView) (cause : Cause) (ts : List Term) (marks : List Bool) → with_marks (step_by_cause t cause []) marks ≡ with_marks (step_by_cause t cause ts) marks
-same-marks t (Axiom k) ts marks = refl
-same-marks t (Combination a b v) ts marks = refl
-
-pub kept-length : (b : Bool) (s : Step) (marks : List Bool) → length (cond b (with_marks s marks) marks) ≡ length marks
-kept-length true s marks = marked-length [] s marks
-kept-length false s marks = refl
+pub kept-length : (b : Bool) (o : Option (ℕ × ℕ)) (marks : List Bool) → length (cond b (with_two o marks) marks) ≡ length marks
+kept-length true None marks = refl
+kept-length true (Some p) marks = length-set (set marks p.0 true) p.1 true ∙ length-set marks p.0 true
+kept-length false o marks = refl

@@ -1,11 +1,10 @@
 -- Which steps are known to be needed while steps are looked at from the last one down.
-use Rattle.std.specs.Prelude.{ℕ, ◌+◌, ◌==◌, ◌||◌, Bool, true, false, List, length, slice_set, slice_index_or}
-use Rattle.model.specs.Derivation.{Step, given, combine}
+use Rattle.std.specs.Prelude.{ℕ, ◌+◌, ◌==◌, ◌||◌, Bool, true, false, List, length, Option, Some, None, slice_set, slice_index_or}
 
--- the marks, with those of the steps that a step combines
-abbrev pub with_marks : Step → List Bool → List Bool
-with_marks (given k ts) marks = marks
-with_marks (combine a b v ts) marks = slice_set (slice_set marks a true) b true
+-- the marks, with those of two steps
+abbrev pub with_two : Option (ℕ × ℕ) → List Bool → List Bool
+with_two None marks = marks
+with_two (Some p) marks = slice_set (slice_set marks p.0 true) p.1 true
 
 -- the last step, or a marked one
 abbrev pub is_needed : List Bool → ℕ → Bool

@@ -1,58 +1,50 @@
 //! The text of a derivation.
 
-ghost use Rattle.std.specs.Prelude.{◌≡◌, ◌<◌, ◌++◌, [], IfOk, OnOk, codes, decimal, length, map, string_bytes};
+ghost use Rattle.std.specs.Prelude.{◌≡◌, ◌++◌, IfOk, OnOk, codes, length, map, string_bytes};
 ghost use Rattle.std.specs.List.{flat_map};
 ghost use Rattle.std.specs.List.Sorted.{IsNonDecreasing};
 ghost use Rattle.derivations.specs.Kinds.{kind_view};
-ghost use Rattle.derivations.specs.Tables.{no_tables, AreStatesOf, AreStepsOf, AreTermsOf, IsStepOf, IsTermOf, state_at, states_at, step_at, step_by_cause, steps_at, term_at, terms_at};
-ghost use Rattle.explainer.specs.Explanations.{text_if, with_between, term_words, claim, kind_name, new_number, reason, line, line_at, explanation_of};
 ghost use Rattle.derivations.specs.Texts.{state_text};
+ghost use Rattle.derivations.specs.Views.{state_view, state_views, term_view, term_views, step_view};
+ghost use Rattle.explainer.specs.Explanations.{text_if, with_between, term_words, claim, kind_name, new_number, reason, line, line_at, explanation_of};
 
 use crate::needed::needed;
-use derivations::{Cause, Derivation, Kind, Step, Tables, Term};
+use derivations::{Derivation, Kind, State, WholeCause, WholeStep, WholeTerm};
 use std::alloc::{AllocError, Global};
 
 /// The needed steps of a derivation as a text: the last one, and each that a needed one combines, in order and numbered from 1.
 pub fn explain(alloc: Global, derivation: &Derivation) -> Result<String, AllocError>
     ensures { IfOk result (λ t. string_bytes t ≡ explanation_of derivation.now) }
 {
-    let (tables, steps) = derivation.parts();
-    let needed = needed(alloc, steps)?;
-    lines(alloc, tables, steps, &needed)
+    let needed = needed(alloc, derivation)?;
+    lines(alloc, derivation, &needed)
 }
 
 /// The lines of the steps of these numbers.
-fn lines(
-    alloc: Global,
-    tables: &Tables,
-    steps: &[Step],
-    needed: &[usize],
-) -> Result<String, AllocError>
-    requires within { AreStepsOf tables.now steps.now }
-    requires rising { IsNonDecreasing needed.now }
-    ensures { IfOk result (λ t. string_bytes t ≡ flat_map (line_at needed.now (steps_at tables.now steps.now)) needed.now) }
+fn lines(alloc: Global, derivation: &Derivation, needed: &[usize]) -> Result<String, AllocError>
+    requires { IsNonDecreasing needed.now }
+    ensures { IfOk result (λ t. string_bytes t ≡ flat_map (line_at needed.now derivation.now) needed.now) }
 {
     let mut text = String::new(alloc);
     'needed: for number in needed {
-        push_line_at(&mut text, tables, steps, needed, *number)?;
+        push_line_at(alloc, &mut text, derivation, needed, *number)?;
     }
     Ok(text)
 }
 
 /// The line of the step of this number.
 fn push_line_at(
+    alloc: Global,
     text: &mut String,
-    tables: &Tables,
-    steps: &[Step],
+    derivation: &Derivation,
     needed: &[usize],
     number: usize,
 ) -> Result<(), AllocError>
-    requires within { AreStepsOf tables.now steps.now }
-    requires rising { IsNonDecreasing needed.now }
-    ensures { OnOk result (string_bytes text.new ≡ string_bytes text.old ++ line_at needed.now (steps_at tables.now steps.now) number) }
+    requires { IsNonDecreasing needed.now }
+    ensures { OnOk result (string_bytes text.new ≡ string_bytes text.old ++ line_at needed.now derivation.now number) }
 {
-    match steps.get(number) {
-        Some(step) => push_line(text, tables, needed, number, step),
+    match derivation.step(alloc, number)? {
+        Some(step) => push_line(text, needed, number, &step),
         None => Ok(()),
     }
 }
@@ -60,57 +52,52 @@ fn push_line_at(
 /// The line of a needed step.
 fn push_line(
     text: &mut String,
-    tables: &Tables,
     needed: &[usize],
     number: usize,
-    step: &Step,
+    step: &WholeStep,
 ) -> Result<(), AllocError>
-    requires within { IsStepOf tables.now step.now }
-    requires rising { IsNonDecreasing needed.now }
-    ensures { OnOk result (string_bytes text.new ≡ string_bytes text.old ++ line needed.now number (step_at tables.now step.now)) }
+    requires { IsNonDecreasing needed.now }
+    ensures { OnOk result (string_bytes text.new ≡ string_bytes text.old ++ line needed.now number (step_view step.now)) }
 {
     let own = new_number(needed, number as u64);
     write!(text, "{own}: ")?;
-    push_claim(text, tables, &step.terms)?;
+    push_claim(text, &step.terms)?;
     text.push_str(", ")?;
-    push_reason(text, needed, &step.cause)?;
+    push_reason(text, needed, step)?;
     text.push_str("\n")
 }
 
 /// What can't all hold.
-fn push_claim(text: &mut String, tables: &Tables, terms: &[Term]) -> Result<(), AllocError>
-    requires { AreTermsOf tables.now terms.now }
-    ensures { OnOk result (string_bytes text.new ≡ string_bytes text.old ++ claim (terms_at tables.now terms.now)) }
+fn push_claim(text: &mut String, terms: &[WholeTerm]) -> Result<(), AllocError>
+    ensures { OnOk result (string_bytes text.new ≡ string_bytes text.old ++ claim (term_views terms.now)) }
 {
     if terms.is_empty() {
         text.push_str("no selection is left")
     } else {
         text.push_str("never ")?;
-        push_terms(text, tables, terms)
+        push_terms(text, terms)
     }
 }
 
-fn push_terms(text: &mut String, tables: &Tables, terms: &[Term]) -> Result<(), AllocError>
-    requires { AreTermsOf tables.now terms.now }
-    ensures { OnOk result (string_bytes text.new ≡ string_bytes text.old ++ with_between (codes " and ") (map term_words (terms_at tables.now terms.now))) }
+fn push_terms(text: &mut String, terms: &[WholeTerm]) -> Result<(), AllocError>
+    ensures { OnOk result (string_bytes text.new ≡ string_bytes text.old ++ with_between (codes " and ") (map term_words (term_views terms.now))) }
 {
     let mut later = false;
     'terms: for term in terms {
-        push_term(text, tables, later, term)?;
+        push_term(text, later, term)?;
         later = true;
     }
     Ok(())
 }
 
 /// A term, after `and` if it is a later one.
-fn push_term(text: &mut String, tables: &Tables, later: bool, term: &Term) -> Result<(), AllocError>
-    requires { IsTermOf tables.now term.now }
-    ensures { OnOk result (string_bytes text.new ≡ string_bytes text.old ++ (text_if later (codes " and ") ++ term_words (term_at tables.now term.now))) }
+fn push_term(text: &mut String, later: bool, term: &WholeTerm) -> Result<(), AllocError>
+    ensures { OnOk result (string_bytes text.new ≡ string_bytes text.old ++ (text_if later (codes " and ") ++ term_words (term_view term.now))) }
 {
     push_if(text, later, " and ")?;
-    let vertex = tables.vertex(term.vertex);
+    let vertex = &term.vertex;
     write!(text, "{vertex} in {{")?;
-    push_states(text, tables, tables.set(term.states))?;
+    push_states(text, &term.states)?;
     text.push_str("}")
 }
 
@@ -124,43 +111,35 @@ fn push_if(text: &mut String, later: bool, between: &str) -> Result<(), AllocErr
     }
 }
 
-fn push_states(text: &mut String, tables: &Tables, states: &[usize]) -> Result<(), AllocError>
-    requires { AreStatesOf tables.now states.now }
-    ensures { OnOk result (string_bytes text.new ≡ string_bytes text.old ++ with_between (codes ", ") (map state_text (states_at tables.now states.now))) }
+fn push_states(text: &mut String, states: &[State]) -> Result<(), AllocError>
+    ensures { OnOk result (string_bytes text.new ≡ string_bytes text.old ++ with_between (codes ", ") (map state_text (state_views states.now))) }
 {
     let mut later = false;
     'states: for state in states {
-        push_state(text, tables, later, *state)?;
+        push_state(text, later, state)?;
         later = true;
     }
     Ok(())
 }
 
 /// A state, after a comma if it is a later one.
-fn push_state(
-    text: &mut String,
-    tables: &Tables,
-    later: bool,
-    state: usize,
-) -> Result<(), AllocError>
-    requires { state < length tables.now.states }
-    ensures { OnOk result (string_bytes text.new ≡ string_bytes text.old ++ (text_if later (codes ", ") ++ state_text (state_at tables.now state))) }
+fn push_state(text: &mut String, later: bool, state: &State) -> Result<(), AllocError>
+    ensures { OnOk result (string_bytes text.new ≡ string_bytes text.old ++ (text_if later (codes ", ") ++ state_text (state_view state.now))) }
 {
     push_if(text, later, ", ")?;
-    let state = tables.state(state);
     write!(text, "{state}")
 }
 
-fn push_reason(text: &mut String, needed: &[usize], cause: &Cause) -> Result<(), AllocError>
+fn push_reason(text: &mut String, needed: &[usize], step: &WholeStep) -> Result<(), AllocError>
     requires { IsNonDecreasing needed.now }
-    ensures { OnOk result (string_bytes text.new ≡ string_bytes text.old ++ reason needed.now (step_by_cause no_tables cause.now [])) }
+    ensures { OnOk result (string_bytes text.new ≡ string_bytes text.old ++ reason needed.now (step_view step.now)) }
 {
-    match cause {
-        Cause::Axiom(kind) => {
+    match &step.cause {
+        WholeCause::Axiom(kind) => {
             let name = kind_name(*kind);
             write!(text, "as {kind} {name}")
         }
-        Cause::Combination(first, second, _) => {
+        WholeCause::Combination(first, second, _) => {
             let first = new_number(needed, *first);
             let second = new_number(needed, *second);
             write!(text, "from {first} and {second}")

@@ -1,41 +1,40 @@
 //! Which steps of a derivation are needed.
 
 ghost use Rattle.std.specs.Prelude.{◌≡◌, ◌<◌, ◌++◌, ◌∷◌, [], if◌then◌else◌, true, IfOk, OnOk, length, slice_set};
-ghost use Rattle.derivations.specs.Tables.{TablesView, step_by_cause, steps_at};
 ghost use Rattle.explainer.specs.Explanations.{needed};
-ghost use Rattle.explainer.specs.Marks.{is_needed, with_marks};
+ghost use Rattle.explainer.specs.Marks.{is_needed, with_two};
 
-use derivations::{Cause, Step};
+use derivations::Derivation;
 use std::alloc::{AllocError, Global};
 
 /// The numbers of the needed steps, lowest first: of the last one, and of each that a needed one combines.
-pub(crate) fn needed(alloc: Global, steps: &[Step]) -> Result<Vec<usize>, AllocError>
-    ensures { IfOk result (λ v. (t : TablesView) → v.items ≡ needed (steps_at t steps.now)) }
+pub(crate) fn needed(alloc: Global, derivation: &Derivation) -> Result<Vec<usize>, AllocError>
+    ensures { IfOk result (λ v. v.items ≡ needed derivation.now) }
 {
-    let mut marks = vec![in alloc; false; steps.len()]?;
+    let mut marks = vec![in alloc; false; derivation.len()]?;
     let mut found = Vec::new(alloc);
-    let mut left = steps.len();
+    let mut left = derivation.len();
     'steps: while left > 0 {
         left -= 1;
-        look_at(&mut marks, &mut found, left, &steps[left].cause)?;
+        look_at(&mut marks, &mut found, left, derivation.references(left))?;
     }
     found.reverse();
     Ok(found)
 }
 
-/// Takes a step into account, after all later ones.
+/// Takes a step into account, after all later ones, that combines these two.
 fn look_at(
     marks: &mut Vec<bool>,
     found: &mut Vec<usize>,
     number: usize,
-    cause: &Cause,
+    references: Option<(u64, u64)>,
 ) -> Result<(), AllocError>
     requires { number < length marks.old.items }
-    ensures marks { OnOk result ((t : TablesView) → marks.new.items ≡ (if is_needed marks.old.items number then with_marks (step_by_cause t cause.now []) marks.old.items else marks.old.items)) }
+    ensures marks { OnOk result (marks.new.items ≡ (if is_needed marks.old.items number then with_two references marks.old.items else marks.old.items)) }
     ensures found { OnOk result (found.new.items ≡ (if is_needed marks.old.items number then found.old.items ++ number ∷ [] else found.old.items)) }
 {
     if is_needed(marks, number) {
-        mark(marks, cause);
+        mark(marks, references);
         found.push(number)?;
     }
     Ok(())
@@ -48,15 +47,15 @@ fn is_needed(marks: &[bool], number: usize) -> bool
     number + 1 == marks.len() || marks[number]
 }
 
-/// Marks the steps that a cause combines.
-fn mark(marks: &mut Vec<bool>, cause: &Cause)
-    ensures { (t : TablesView) → marks.new.items ≡ with_marks (step_by_cause t cause.now []) marks.old.items }
+/// Marks the two steps, if there are two.
+fn mark(marks: &mut Vec<bool>, references: Option<(u64, u64)>)
+    ensures { marks.new.items ≡ with_two references marks.old.items }
 {
-    match cause {
-        Cause::Axiom(_) => {}
-        Cause::Combination(first, second, _) => {
-            mark_one(marks, *first);
-            mark_one(marks, *second);
+    match references {
+        None => {}
+        Some((first, second)) => {
+            mark_one(marks, first);
+            mark_one(marks, second);
         }
     }
 }

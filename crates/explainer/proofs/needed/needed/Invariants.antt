@@ -1,5 +1,4 @@
 use Rattle.std.proofs.Common.{◌≡◌, ◌≤◌, length, reverse}
-use Rattle.derivations.specs.Tables.{TablesView, steps_at}
 use Rattle.explainer.specs.Explanations.{needed}
 use Rattle.explainer.proofs.Sweep.{sweep}
 use Rattle.explainer.proofs.needed.needed.Given as goal
@@ -8,9 +7,9 @@ use Rattle.explainer.proofs.needed.needed.Given as goal
 abbrev pub invariant-steps : goal.invariant-steps
 invariant-steps l =
     record {
-      within : l.left ≤ length l.steps;
-      long : length l.marks.items ≡ length l.steps;
-      told : (t : TablesView) → sweep (steps_at t l.steps) l.left l.marks.items (reverse l.found.items) ≡ needed (steps_at t l.steps);
+      within : l.left ≤ length l.derivation;
+      long : length l.marks.items ≡ length l.derivation;
+      told : sweep l.derivation l.left l.marks.items (reverse l.found.items) ≡ needed l.derivation;
     }
 
 abbrev pub decreases-steps : goal.decreases-steps
