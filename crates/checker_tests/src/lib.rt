@@ -2,4 +2,12 @@
 #![tactic(auto)]
 
 #[cfg(test)]
-mod tests;
+mod kinds;
+#[cfg(test)]
+mod mutations;
+#[cfg(test)]
+mod said;
+#[cfg(test)]
+mod steps;
+#[cfg(test)]
+mod trial;
