@@ -70,27 +70,36 @@ fn reason_of(step: &str) -> &'static str {
     if step.starts_with('X') { "C1" } else { "C2" }
 }
 
-/// Each combination in the place of the reason, of earlier steps and of the step itself.
+/// Each combination in the place of the reason: of each two earlier steps, and at each vertex.
 fn put_combinations(trial: &Trial<'_>, others: &mut String) -> Result<(), Fail> {
+    let (reason, _) = trial.step.split_once(';').ok_or("no reason")?;
+    match reason.rsplit_once(',') {
+        Some((two, vertex)) => {
+            put_pairs(trial, vertex, others)?;
+            put_vertices(trial, two, others)
+        }
+        None => put_pairs(trial, "root", others),
+    }
+}
+
+/// Each two steps, up to the step itself, which isn't an earlier one.
+fn put_pairs(trial: &Trial<'_>, vertex: &str, others: &mut String) -> Result<(), Fail> {
     for first in 0..=trial.number {
         for second in 0..=trial.number {
-            put_vertices(trial, first, second, others)?;
+            let is_earlier = first < trial.number && second < trial.number;
+            let reason = format!(in trial.alloc; "{first},{second},{vertex}")?;
+            let other = because(trial.alloc, trial.step, &reason)?;
+            put(trial, &other, if is_earlier { "C2" } else { "K2" }, others)?;
         }
     }
     Ok(())
 }
 
-fn put_vertices(
-    trial: &Trial<'_>,
-    first: usize,
-    second: usize,
-    others: &mut String,
-) -> Result<(), Fail> {
-    let is_earlier = first < trial.number && second < trial.number;
+fn put_vertices(trial: &Trial<'_>, two: &str, others: &mut String) -> Result<(), Fail> {
     for vertex in VERTICES.split('|') {
-        let reason = format!(in trial.alloc; "{first},{second},{vertex}")?;
+        let reason = format!(in trial.alloc; "{two},{vertex}")?;
         let other = because(trial.alloc, trial.step, &reason)?;
-        put(trial, &other, if is_earlier { "C2" } else { "K2" }, others)?;
+        put(trial, &other, "C2", others)?;
     }
     Ok(())
 }
