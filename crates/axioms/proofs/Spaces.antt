@@ -57,7 +57,7 @@ among p k (x ∷ xs) h = by (λ h. among p k xs h) (same_class k x) refl h
     by rest true e h = twice (p x) (list_all p xs) ∙ ap (λ j. p j && (p x && list_all p xs)) (sym (class-same k x e))
     by rest false e h = through (p x) (p k) (list_all p xs) (rest h)
 
-classes_all : (p : Class → Bool) (cs : List Candidate) → list_all p (classes_of cs) ≡ list_all (λ c. p (class_of c.version)) cs
+pub classes_all : (p : Class → Bool) (cs : List Candidate) → list_all p (classes_of cs) ≡ list_all (λ c. p (class_of c.version)) cs
 classes_all p [] = refl
 classes_all p (c ∷ cs) = by (classes_all p cs) (list_any (same_class (class_of c.version)) (classes_of cs)) refl
   where

@@ -6,16 +6,16 @@ use Rattle.features.specs.Views.{dependency_views}
 use Rattle.catalogue.specs.Problems.{problem_in}
 use Rattle.catalogue.specs.Views.{said_by}
 use Rattle.derivations.specs.Views.{owner_view}
-use Rattle.checker.proofs.SpaceLaws.{brought_by, brought_by_none}
+use Rattle.axioms.proofs.Brought.{is_there, not_there}
 use Rattle.checker.proofs.space.dependencies_of.Goals as goal
 
 pub returns-in-Some : goal.returns-in-Some
 returns-in-Some c =
     ap dependency_views c.as_slice.ensures.value
-    ∙ sym (ap (λ (o : Owner). o.dependencies) (brought_by c.args.manifest.now c.args.catalogue.now c.in-Version.name (parts_of c.in-Version.version) (said_by c.in-Some.candidate.now) c.in-Some.ensures))
+    ∙ ap (λ (o : Owner). o.dependencies) (is_there c.args.catalogue.now c.args.manifest.now c.in-Version.name (parts_of c.in-Version.version) (said_by c.in-Some.candidate.now) c.in-Some.ensures)
     ∙ ap (λ o. (owner_brings (problem_in c.args.manifest.now c.args.catalogue.now) (owner_view o)).dependencies) (sym c.in-Version.is)
 
 pub returns-in-None : goal.returns-in-None
 returns-in-None c =
-    sym (ap (λ (o : Owner). o.dependencies) (brought_by_none c.args.manifest.now c.args.catalogue.now c.in-Version.name (parts_of c.in-Version.version) c.in-None.ensures))
+    ap (λ (o : Owner). o.dependencies) (not_there c.args.catalogue.now c.args.manifest.now c.in-Version.name (parts_of c.in-Version.version) c.in-None.ensures)
     ∙ ap (λ o. (owner_brings (problem_in c.args.manifest.now c.args.catalogue.now) (owner_view o)).dependencies) (sym c.in-Version.is)
