@@ -36,7 +36,8 @@ pub fn check(
 {
     catalogues_are_well_formed(manifest, catalogue);
     unrefused_derivations_refute();
-    let (tables, steps) = derivation.parts();
+    let steps = derivation.steps(alloc)?;
+    let (tables, steps) = steps.parts();
     match first_refused(alloc, manifest, catalogue, tables, steps)? {
         Check::Proves => Ok(end_of(steps)),
         refused => Ok(refused),

@@ -7,7 +7,7 @@ use Rattle.std.specs.Slice.{IsItemAt}
 use Rattle.model.specs.Derivation.{Step}
 use Rattle.derivations.specs.Derivations.{IsStepAt, AreStepsFrom}
 use Rattle.derivations.specs.Files.{with_lines}
-use Rattle.derivations.specs.Kept.{texts_kept, references_kept, lines_kept, steps_if, steps_kept, IsKept, AreKept}
+use Rattle.derivations.specs.Kept.{texts_kept, lines_kept, steps_if, steps_kept, IsKept, AreKept}
 use Rattle.derivations.specs.References.{references_of, references_at}
 use Rattle.derivations.specs.Steps.{most_steps, step_of_line}
 use Rattle.derivations.specs.Written.{step_json, lines_of}

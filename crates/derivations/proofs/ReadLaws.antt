@@ -12,12 +12,11 @@ use Rattle.model.specs.Outcome.{guard}
 use Rattle.model.specs.Vertices.{Vertex, State}
 use Rattle.model.specs.Axioms.{Term}
 use Rattle.model.specs.Derivation.{Step}
-use Rattle.derivations.specs.Derivations.{IsReadVertex, IsReadState, IsTerm, term_cmp, AreTerms, IsStepAt, AreStepsFrom, IsDerivation}
-use Rattle.derivations.specs.Files.{is_blank, with_read, with_line, with_lines}
+use Rattle.derivations.specs.Derivations.{IsReadVertex, IsReadState, IsTerm, term_cmp, AreTerms, IsStepAt, AreStepsFrom}
 use Rattle.derivations.specs.Kinds.{kind_of_text}
 use Rattle.derivations.specs.Orders.{in_order, has_alike, ordered, state_cmp}
 use Rattle.derivations.specs.Steps.{data_of_bytes, text_of, whole_of, item_at, none_at, two_of, states_in, states_of, Written, written_cmp, term_of, terms_in, terms_without_texts, terms_of, Reason, by_axiom, by_combination, axiom_of, combination_of, reason_from, reason_of, is_backward, most_steps, step_by, step_of, step_of_line}
-use Rattle.derivations.specs.Texts.{Line, needed, vertex_text, vertex_of_text, state_of_text}
+use Rattle.derivations.specs.Texts.{needed, vertex_text, vertex_of_text, state_of_text}
 use Rattle.derivations.specs.declared.fault.LineFault.TheVariants.{NotALine, Forward, TooMany}
 use Rattle.derivations.proofs.Bound.{steps, same-Ok, passed}
 use Rattle.derivations.proofs.OrderLaws.{state_total, written_total}

@@ -92,7 +92,12 @@ impl Derivation {
     }
 
     /// The steps with one more, whose line has about so many bytes.
-    fn with_step(self, alloc: Global, room: usize, step: &WholeStep) -> Result<Derivation, AllocError>
+    fn with_step(
+        self,
+        alloc: Global,
+        room: usize,
+        step: &WholeStep,
+    ) -> Result<Derivation, AllocError>
         requires step { IsStepAt (length self) (step_view step.now) }
         requires few { length self < most_steps }
         ensures { IfOk result (λ d. d ≡ self ++ step_view step.now ∷ []) }

@@ -24,8 +24,7 @@ pub struct Steps {
 impl Model for Steps {
     ghost use Rattle.std.specs.Prelude.{List};
     ghost use Rattle.model.specs.Derivation as model;
-    ghost use Rattle.derivations.specs.Derivations.{IsDerivation};
-ghost use Rattle.derivations.specs.Tables.{AreStepsOf, steps_at};
+    ghost use Rattle.derivations.specs.Tables.{AreStepsOf, steps_at};
 
     ghost Value = { List model.Step };
 

@@ -5,7 +5,7 @@ ghost use Rattle.derivations.specs.Files.{derivation_of_bytes};
 ghost use Rattle.derivations.specs.Kept.{lines_kept};
 ghost use Rattle.derivations.specs.Steps.{most_steps};
 ghost use Rattle.derivations.specs.Texts.{vertex_text};
-ghost use Rattle.derivations.specs.Views.{vertex_view, state_view, state_views, term_view, term_views, step_from, step_view};
+ghost use Rattle.derivations.specs.Views.{vertex_view, state_view, state_views, term_view, term_views, step_view};
 ghost use Rattle.derivations.specs.Written.{quoted, comma_if, with_commas, state_json, term_json, combination_json, reason_json, step_json, lines_of};
 
 use crate::derivation::Derivation;

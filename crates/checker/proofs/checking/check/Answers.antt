@@ -9,7 +9,7 @@ use Rattle.checker.proofs.StepLaws.{each_step, are_plain}
 use Rattle.checker.proofs.checking.check.Goals as goal
 
 pub first_refused-requires : goal.first_refused-requires
-first_refused-requires c = each_step c.parts.result.0.now 0 c.parts.result.1.now c.parts.ensures.within (subst IsDerivation (sym c.parts.ensures.steps) c.parts.ensures.derivation)
+first_refused-requires c = each_step c.parts.result.0.now 0 c.parts.result.1.now c.parts.ensures.within (subst IsDerivation (sym (c.parts.ensures.steps ∙ c.in_ok-steps.ensures.steps)) c.steps.ensures.derivation)
 
 pub returns-in-Proves-clause-refutes : goal.returns-in-Proves-clause-refutes
 returns-in-Proves-clause-refutes c is content valid =
@@ -19,4 +19,4 @@ returns-in-Proves-clause-refutes c is content valid =
     let last : None ≡ end_refused 0 steps = sym (ap check_view is) ∙ c.end_of.ensures c.parts.result.0.now in
     let none : refusal q steps ≡ None = ap (λ o. option_or o (end_refused 0 steps)) (sym first) ∙ sym last in
     c.unrefused_derivations_refute.ensures q content c.args.derivation.now c.catalogues_are_well_formed.ensures
-    (are_plain 0 c.args.derivation.now c.parts.ensures.derivation) (ap (refusal q) (sym c.parts.ensures.steps) ∙ none) valid
+    (are_plain 0 c.args.derivation.now c.steps.ensures.derivation) (ap (refusal q) (sym (c.parts.ensures.steps ∙ c.in_ok-steps.ensures.steps)) ∙ none) valid

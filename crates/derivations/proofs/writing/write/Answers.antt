@@ -1,7 +1,6 @@
 use Rattle.std.proofs.Common.{◌≡◌, rules, ap, ◌∙◌}
 use Rattle.derivations.specs.Files.{derivation_of_bytes}
 use Rattle.derivations.specs.Kept.{lines_kept}
-use Rattle.derivations.specs.Written.{lines_of}
 use Rattle.derivations.proofs.KeptLaws.{written}
 use Rattle.derivations.proofs.WriteLaws.{written-reads}
 use Rattle.derivations.proofs.writing.write.Goals as goal

@@ -1,5 +1,4 @@
-use Rattle.std.proofs.Common.{◌++◌, ◌∷◌, [], length, ap, sym, subst, ◌∙◌}
-use Rattle.derivations.specs.Derivations.{IsStepAt}
+use Rattle.std.proofs.Common.{◌++◌, ◌∷◌, [], ap, sym, subst, ◌∙◌}
 use Rattle.derivations.specs.Kept.{AreKept, steps_kept}
 use Rattle.derivations.specs.Views.{step_view}
 use Rattle.derivations.proofs.KeptLaws.{are-those, one-kept}
