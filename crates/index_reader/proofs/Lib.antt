@@ -1,4 +1,5 @@
 pub mod ReadLemmas
+pub mod TreeLemmas
 pub mod PathLemmas
 pub mod WrittenLemmas
 pub mod FileLaws

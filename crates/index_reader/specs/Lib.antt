@@ -1,4 +1,5 @@
 pub mod Lines
+pub mod Trees
 pub mod Shapes
 pub mod Written
 pub mod Records

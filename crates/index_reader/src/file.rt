@@ -10,6 +10,7 @@ use crate::kept::FileSoFar;
 use crate::line::read_unchecked;
 use crate::record::{Record, Skip};
 use features::PackageName;
+use json::Scratch;
 use memchr::memchr;
 use std::alloc::{AllocError, Global};
 
@@ -59,8 +60,9 @@ fn read_texts(alloc: Global, name: &PackageName, texts: &[&[u8]]) -> Result<File
     ensures { IfOk result (λ f. file_view f.records.items f.skips.items ≡ with_lines name.now 1 (map (λ x. x.now) texts.now) no_lines) }
 {
     let mut file = FileSoFar::with_room(alloc, texts.len())?;
+    let mut scratch = Scratch::new(alloc);
     'texts: for (index, text) in texts.iter().enumerate() {
-        file = with_line(alloc, name, index as u64 + 1, text, file)?;
+        file = with_line(alloc, name, index as u64 + 1, text, file, &mut scratch)?;
     }
     Ok(file)
 }
@@ -72,13 +74,14 @@ fn with_line(
     number: u64,
     text: &[u8],
     file: FileSoFar,
+    scratch: &mut Scratch,
 ) -> Result<FileSoFar, AllocError>
     ensures { IfOk result (λ f. file_view f.records.items f.skips.items ≡ with_line name.now number text.now (file_view file.records.items file.skips.items)) }
 {
     if is_blank(text) {
         return Ok(file);
     }
-    match read_unchecked(alloc, name, text) {
+    match read_unchecked(alloc, name, text, scratch) {
         Ok(record) => file.with_found(name, number, record),
         Err(LineFault::Skipped(reason)) => file.with_skip(name, number, reason),
         Err(LineFault::OutOfMemory) => Err(AllocError),

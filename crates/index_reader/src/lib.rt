@@ -6,13 +6,15 @@ mod fail_at;
 mod fault;
 mod file;
 mod folder;
-mod json;
 mod kept;
 mod laws;
 mod line;
+mod number;
 mod path;
 mod record;
 mod shape;
+mod tree;
+mod values;
 mod written;
 
 pub use disk::DiskFolder;

@@ -13,11 +13,12 @@ ghost use Rattle.index_reader.specs.Shapes.{texts_view, line_dependency_view, li
 ghost use Rattle.index_reader.specs.Views.{record_view};
 
 use crate::fault::{LineFault, Reason};
-use crate::json::read_value;
 use crate::record::Record;
 use crate::shape::{DependencyShape, LineShape, PartShape, Required, read_shape};
+use crate::tree::read_tree;
 use crate::written::{feature_name, features};
 use features::{Dependency, FeatureName, Owner, PackageName};
+use json::Scratch;
 use semver::{Version, VersionReq};
 use std::alloc::{AllocError, Global};
 
@@ -29,22 +30,23 @@ use std::alloc::{AllocError, Global};
 pub fn read_line(alloc: Global, name: &PackageName, line: &[u8]) -> Result<Record, LineFault>
     ensures { Gives is_memory record_view result (record_of_line name.now line.now) }
 {
-    let record = read_unchecked(alloc, name, line)?;
+    let record = read_unchecked(alloc, name, line, &mut Scratch::new(alloc))?;
     check(is_checksum(record.checksum.as_str()), Reason::BadChecksum)?;
     Ok(record)
 }
 
-/// The same, whatever the checksum is.
+/// The same, whatever the checksum is, with room that is kept from line to line.
 #[tactic(auto, unfolding(crate::specs::Records::unchecked_of_line))]
 pub(crate) fn read_unchecked(
     alloc: Global,
     name: &PackageName,
     line: &[u8],
+    scratch: &mut Scratch,
 ) -> Result<Record, LineFault>
     ensures { Gives is_memory record_view result (unchecked_of_line name.now line.now) }
 {
-    let value = read_value(alloc, line)?;
-    let shape = read_shape(alloc, &value)?;
+    let tree = read_tree(alloc, line, scratch)?;
+    let shape = read_shape(alloc, &tree)?;
     record_in(alloc, name, &shape)
 }
 

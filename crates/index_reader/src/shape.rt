@@ -1,18 +1,19 @@
 //! The shape of a line, before its texts are read.
 
 ghost use Rattle.std.specs.Prelude.{◌≡◌, Some, None, option_map};
-ghost use Rattle.serde_json.specs.View.{view, items_view, members_view};
 ghost use Rattle.model.specs.Outcome.{Gives};
 ghost use Rattle.index_reader.specs.Lines.{is_memory, value_at, package_name_of, package_name_at, package_name_or_none, kind_of_text, kind_at, part_of, by_kind, dependency_of, dependencies_in, dependencies_at, features_in, features_or_none, rust_version_at, shape_of};
 ghost use Rattle.classes.specs.RustVersions.{rust_version_view};
 ghost use Rattle.index_reader.specs.Shapes.{feature_views, part_view, line_dependency_view, line_dependency_views, shape_view};
+ghost use Rattle.index_reader.specs.Trees.{tree_view, trees_view, entries_view};
 
 use crate::fault::{LineFault, Reason};
-use crate::json::{flag, text, text_if_any, texts, texts_at, value, whole};
+use crate::tree::{Members, as_list, as_members, as_text, by_key};
+use crate::values::{flag, text, text_if_any, texts, texts_at, value, whole};
 use classes::RustVersion;
 use features::{NameFault, PackageName};
+use json::Value;
 use semver::VersionReq;
-use serde_json::{Map, Value};
 use std::alloc::Global;
 
 /// What a line says, with its texts as they stand there.
@@ -75,8 +76,8 @@ pub(crate) struct FeatureShape<'a> {
 
 /// The shape of a line.
 #[tactic(auto, unfolding(crate::specs::Lines::shape_of))]
-pub(crate) fn read_shape(alloc: Global, line: &Value) -> Result<LineShape<'_>, LineFault>
-    ensures { Gives is_memory shape_view result (shape_of (view line.now)) }
+pub(crate) fn read_shape<'a>(alloc: Global, line: &Value<'a>) -> Result<LineShape<'a>, LineFault>
+    ensures { Gives is_memory shape_view result (shape_of (tree_view line.now)) }
 {
     let name = text(line, "name")?;
     let version = text(line, "vers")?;
@@ -100,11 +101,11 @@ pub(crate) fn read_shape(alloc: Global, line: &Value) -> Result<LineShape<'_>, L
 }
 
 /// The Rust version of a line: whatever is none counts as absent.
-fn rust_version(line: &Value) -> Option<RustVersion>
-    ensures { option_map rust_version_view result ≡ rust_version_at (view line.now) }
+fn rust_version(line: &Value<'_>) -> Option<RustVersion>
+    ensures { option_map rust_version_view result ≡ rust_version_at (tree_view line.now) }
 {
     match value(line, "rust_version") {
-        Some(found) => match found.as_str() {
+        Some(found) => match as_text(found) {
             Some(text) => RustVersion::parse(text),
             None => None,
         },
@@ -113,10 +114,10 @@ fn rust_version(line: &Value) -> Option<RustVersion>
 }
 
 /// The package name that a value has to be.
-fn package_name(alloc: Global, value: &Value) -> Result<PackageName, LineFault>
-    ensures { Gives is_memory (λ n. n) result (package_name_of (view value.now)) }
+fn package_name(alloc: Global, value: &Value<'_>) -> Result<PackageName, LineFault>
+    ensures { Gives is_memory (λ n. n) result (package_name_of (tree_view value.now)) }
 {
-    let Some(text) = value.as_str() else {
+    let Some(text) = as_text(value) else {
         return Err(LineFault::Skipped(Reason::Shape));
     };
     match PackageName::parse(alloc, text) {
@@ -127,8 +128,8 @@ fn package_name(alloc: Global, value: &Value) -> Result<PackageName, LineFault>
 }
 
 /// The package name at a key that has to be there.
-fn package_name_at(alloc: Global, object: &Value, key: &str) -> Result<PackageName, LineFault>
-    ensures { Gives is_memory (λ n. n) result (package_name_at key.now (view object.now)) }
+fn package_name_at(alloc: Global, object: &Value<'_>, key: &str) -> Result<PackageName, LineFault>
+    ensures { Gives is_memory (λ n. n) result (package_name_at key.now (tree_view object.now)) }
 {
     match value(object, key) {
         Some(found) => package_name(alloc, found),
@@ -139,10 +140,10 @@ fn package_name_at(alloc: Global, object: &Value, key: &str) -> Result<PackageNa
 /// The package name at a key, if it is there.
 fn package_name_if_any(
     alloc: Global,
-    object: &Value,
+    object: &Value<'_>,
     key: &str,
 ) -> Result<Option<PackageName>, LineFault>
-    ensures { Gives is_memory (λ n. n) result (package_name_or_none (value_at key.now (view object.now))) }
+    ensures { Gives is_memory (λ n. n) result (package_name_or_none (value_at key.now (tree_view object.now))) }
 {
     match value(object, key) {
         Some(found) => Ok(Some(package_name(alloc, found)?)),
@@ -166,13 +167,13 @@ fn kind_of_text(text: &str) -> Option<Kind>
 }
 
 /// The kind of a dependency: normal where it says none.
-fn kind_at(dependency: &Value) -> Result<Kind, LineFault>
-    ensures { Gives is_memory (λ k. k) result (kind_at (view dependency.now)) }
+fn kind_at(dependency: &Value<'_>) -> Result<Kind, LineFault>
+    ensures { Gives is_memory (λ k. k) result (kind_at (tree_view dependency.now)) }
 {
     let Some(found) = value(dependency, "kind") else {
         return Ok(Kind::Normal);
     };
-    let Some(text) = found.as_str() else {
+    let Some(text) = as_text(found) else {
         return Err(LineFault::Skipped(Reason::Shape));
     };
     match kind_of_text(text) {
@@ -182,8 +183,12 @@ fn kind_at(dependency: &Value) -> Result<Kind, LineFault>
 }
 
 #[tactic(auto, unfolding(crate::specs::Lines::part_of))]
-fn part(alloc: Global, name: PackageName, dependency: &Value) -> Result<PartShape<'_>, LineFault>
-    ensures { Gives is_memory part_view result (part_of name (view dependency.now)) }
+fn part<'a>(
+    alloc: Global,
+    name: PackageName,
+    dependency: &Value<'a>,
+) -> Result<PartShape<'a>, LineFault>
+    ensures { Gives is_memory part_view result (part_of name (tree_view dependency.now)) }
 {
     let real_name = package_name_if_any(alloc, dependency, "package")?;
     let requirement = text(dependency, "req")?;
@@ -202,13 +207,13 @@ fn part(alloc: Global, name: PackageName, dependency: &Value) -> Result<PartShap
     })
 }
 
-fn of_kind(
+fn of_kind<'a>(
     alloc: Global,
     name: PackageName,
     kind: Kind,
-    dependency: &Value,
-) -> Result<DependencyShape<'_>, LineFault>
-    ensures { Gives is_memory line_dependency_view result (by_kind name kind (view dependency.now)) }
+    dependency: &Value<'a>,
+) -> Result<DependencyShape<'a>, LineFault>
+    ensures { Gives is_memory line_dependency_view result (by_kind name kind (tree_view dependency.now)) }
 {
     match kind {
         Kind::Dev => Ok(DependencyShape::Dev(name)),
@@ -217,8 +222,8 @@ fn of_kind(
 }
 
 #[tactic(auto, unfolding(crate::specs::Lines::dependency_of))]
-fn dependency(alloc: Global, value: &Value) -> Result<DependencyShape<'_>, LineFault>
-    ensures { Gives is_memory line_dependency_view result (dependency_of (view value.now)) }
+fn dependency<'a>(alloc: Global, value: &Value<'a>) -> Result<DependencyShape<'a>, LineFault>
+    ensures { Gives is_memory line_dependency_view result (dependency_of (tree_view value.now)) }
 {
     let name = package_name_at(alloc, value, "name")?;
     let kind = kind_at(value)?;
@@ -228,9 +233,9 @@ fn dependency(alloc: Global, value: &Value) -> Result<DependencyShape<'_>, LineF
 #[tactic(auto, unfolding(crate::specs::Lines::dependencies_in))]
 fn dependencies_in<'a>(
     alloc: Global,
-    values: &'a Vec<Value>,
+    values: &Vec<Value<'a>>,
 ) -> Result<Vec<DependencyShape<'a>>, LineFault>
-    ensures { Gives is_memory (λ v. line_dependency_views v.items) result (dependencies_in (items_view values.now.items)) }
+    ensures { Gives is_memory (λ v. line_dependency_views v.items) result (dependencies_in (trees_view values.now.items)) }
 {
     let mut found = Vec::with_capacity(alloc, values.len())?;
     'items: for value in values.iter() {
@@ -240,11 +245,11 @@ fn dependencies_in<'a>(
 }
 
 #[tactic(auto, unfolding(crate::specs::Lines::dependencies_at))]
-fn dependencies(alloc: Global, line: &Value) -> Result<Vec<DependencyShape<'_>>, LineFault>
-    ensures { Gives is_memory (λ v. line_dependency_views v.items) result (dependencies_at (view line.now)) }
+fn dependencies<'a>(alloc: Global, line: &Value<'a>) -> Result<Vec<DependencyShape<'a>>, LineFault>
+    ensures { Gives is_memory (λ v. line_dependency_views v.items) result (dependencies_at (tree_view line.now)) }
 {
     match value(line, "deps") {
-        Some(found) => match found.as_array() {
+        Some(found) => match as_list(found) {
             Some(values) => dependencies_in(alloc, values),
             None => Err(LineFault::Skipped(Reason::Shape)),
         },
@@ -253,19 +258,14 @@ fn dependencies(alloc: Global, line: &Value) -> Result<Vec<DependencyShape<'_>>,
 }
 
 #[tactic(auto, unfolding(crate::specs::Lines::features_in))]
-fn features_in<'a>(
-    alloc: Global,
-    members: &'a Map<String, Value>,
-) -> Result<Vec<FeatureShape<'a>>, LineFault>
-    ensures { Gives is_memory (λ v. feature_views v.items) result (features_in (members_view members.now.entries)) }
+fn features_in<'a>(alloc: Global, members: &Members<'a>) -> Result<Vec<FeatureShape<'a>>, LineFault>
+    ensures { Gives is_memory (λ v. feature_views v.items) result (features_in (entries_view members.now.items)) }
 {
     let mut found = Vec::with_capacity(alloc, members.len())?;
-    'members: for (key, value) in members.iter() {
+    let sorted = by_key(alloc, members)?;
+    'members: for (name, value) in sorted.iter() {
         let entries = texts(alloc, value)?;
-        found.push(FeatureShape {
-            name: key.as_str(),
-            entries,
-        })?;
+        found.push(FeatureShape { name, entries })?;
     }
     Ok(found)
 }
@@ -273,13 +273,13 @@ fn features_in<'a>(
 /// The features at a key: none where it is absent.
 fn features_at<'a>(
     alloc: Global,
-    line: &'a Value,
+    line: &Value<'a>,
     key: &str,
 ) -> Result<Vec<FeatureShape<'a>>, LineFault>
-    ensures { Gives is_memory (λ v. feature_views v.items) result (features_or_none (value_at key.now (view line.now))) }
+    ensures { Gives is_memory (λ v. feature_views v.items) result (features_or_none (value_at key.now (tree_view line.now))) }
 {
     match value(line, key) {
-        Some(found) => match found.as_object() {
+        Some(found) => match as_members(found) {
             Some(members) => features_in(alloc, members),
             None => Err(LineFault::Skipped(Reason::Shape)),
         },

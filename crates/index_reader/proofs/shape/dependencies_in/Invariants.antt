@@ -1,5 +1,5 @@
 use Rattle.std.proofs.Common.{◌≡◌, drop}
-use Rattle.serde_json.specs.View.{items_view}
+use Rattle.index_reader.specs.Trees.{trees_view}
 use Rattle.index_reader.specs.Lines.{dependencies_in}
 use Rattle.index_reader.specs.Shapes.{line_dependency_views}
 use Rattle.index_reader.proofs.ReadLemmas.{with_front}
@@ -7,4 +7,4 @@ use Rattle.index_reader.proofs.shape.dependencies_in.Given as goal
 
 -- the dependencies so far and those of what is left are those of all
 abbrev pub invariant-items : goal.invariant-items
-invariant-items l = with_front (line_dependency_views l.found.items) (dependencies_in (items_view (drop l.value-index l.values.items))) ≡ dependencies_in (items_view l.values.items)
+invariant-items l = with_front (line_dependency_views l.found.items) (dependencies_in (trees_view (drop l.value-index l.values.items))) ≡ dependencies_in (trees_view l.values.items)

@@ -1,7 +1,7 @@
 use Rattle.std.proofs.Common.{◌≡◌}
-use Rattle.serde_json.specs.View.{members_view}
 use Rattle.index_reader.specs.Lines.{features_in}
 use Rattle.index_reader.specs.Shapes.{feature_views}
+use Rattle.index_reader.specs.Trees.{entries_view, sorted_view}
 use Rattle.index_reader.proofs.ReadLemmas.{with_front}
 use Rattle.index_reader.proofs.shape.features_in.Given as goal
 
@@ -9,7 +9,7 @@ use Rattle.index_reader.proofs.shape.features_in.Given as goal
 abbrev pub invariant-members : goal.invariant-members
 invariant-members l =
     record {
-      can : (goal.iterator-members).can_next l.key-iterator;
-      finite : (goal.iterator-members).is_finite l.key-iterator;
-      told : with_front (feature_views l.found.items) (features_in (members_view l.key-iterator)) ≡ features_in (members_view l.fn.members.entries);
+      can : (goal.iterator-members).can_next l.name-iterator;
+      finite : (goal.iterator-members).is_finite l.name-iterator;
+      told : with_front (feature_views l.found.items) (features_in (sorted_view l.name-iterator)) ≡ features_in (entries_view l.fn.members.items);
     }

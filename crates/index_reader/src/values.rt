@@ -1,0 +1,114 @@
+//! Values at the keys of a JSON object.
+
+ghost use Rattle.std.specs.Prelude.{◌≡◌, None, Some, option_map};
+ghost use Rattle.model.specs.Outcome.{Gives};
+ghost use Rattle.index_reader.specs.Lines.{is_memory, value_at, text_at, text_of, flag_at, whole_at, optional, texts_in, texts_of, texts_or_none};
+ghost use Rattle.index_reader.specs.Shapes.{texts_view, text_view};
+ghost use Rattle.index_reader.specs.Trees.{tree_view, trees_view};
+
+use crate::fault::{LineFault, Reason};
+use crate::tree::{as_flag, as_list, as_text, as_whole, member};
+use json::Value;
+use std::alloc::Global;
+
+/// The value at a key: null counts as absent.
+pub(crate) fn value<'v, 'a>(object: &'v Value<'a>, key: &str) -> Option<&'v Value<'a>>
+    ensures { option_map (λ v. tree_view v.now) result ≡ value_at key.now (tree_view object.now) }
+{
+    match member(object, key) {
+        Some(Value::Null) => None,
+        found => found,
+    }
+}
+
+/// The text at a key that has to be there.
+pub(crate) fn text<'a>(object: &Value<'a>, key: &str) -> Result<&'a str, LineFault>
+    ensures { Gives is_memory (λ s. s.now) result (text_at key.now (tree_view object.now)) }
+{
+    match value(object, key) {
+        Some(found) => match as_text(found) {
+            Some(text) => Ok(text),
+            None => Err(LineFault::Skipped(Reason::Shape)),
+        },
+        None => Err(LineFault::Skipped(Reason::Shape)),
+    }
+}
+
+/// The text at a key, if it is there.
+pub(crate) fn text_if_any<'a>(object: &Value<'a>, key: &str) -> Result<Option<&'a str>, LineFault>
+    ensures { Gives is_memory text_view result (optional None text_of (value_at key.now (tree_view object.now))) }
+{
+    match value(object, key) {
+        Some(found) => match as_text(found) {
+            Some(text) => Ok(Some(text)),
+            None => Err(LineFault::Skipped(Reason::Shape)),
+        },
+        None => Ok(None),
+    }
+}
+
+/// The flag at a key, or what it is where the key is absent.
+pub(crate) fn flag(object: &Value<'_>, key: &str, absent: bool) -> Result<bool, LineFault>
+    ensures { Gives is_memory (λ b. b) result (flag_at key.now absent (tree_view object.now)) }
+{
+    match value(object, key) {
+        Some(found) => match as_flag(found) {
+            Some(flag) => Ok(flag),
+            None => Err(LineFault::Skipped(Reason::Shape)),
+        },
+        None => Ok(absent),
+    }
+}
+
+/// The whole number at a key, or what it is where the key is absent.
+pub(crate) fn whole(object: &Value<'_>, key: &str, absent: u64) -> Result<u64, LineFault>
+    ensures { Gives is_memory (λ n. n) result (whole_at key.now absent (tree_view object.now)) }
+{
+    match value(object, key) {
+        Some(found) => match as_whole(found) {
+            Some(number) => Ok(number),
+            None => Err(LineFault::Skipped(Reason::Shape)),
+        },
+        None => Ok(absent),
+    }
+}
+
+/// The texts of a list.
+#[tactic(auto, unfolding(crate::specs::Lines::texts_in))]
+fn texts_in<'a>(alloc: Global, values: &Vec<Value<'a>>) -> Result<Vec<&'a str>, LineFault>
+    ensures { Gives is_memory (λ v. texts_view v.items) result (texts_in (trees_view values.now.items)) }
+{
+    let mut found = Vec::with_capacity(alloc, values.len())?;
+    'items: for value in values.iter() {
+        match as_text(value) {
+            Some(text) => found.push(text)?,
+            None => return Err(LineFault::Skipped(Reason::Shape)),
+        }
+    }
+    Ok(found)
+}
+
+/// The texts of a value that has to be a list of them.
+#[tactic(auto, unfolding(crate::specs::Lines::texts_of))]
+pub(crate) fn texts<'a>(alloc: Global, value: &Value<'a>) -> Result<Vec<&'a str>, LineFault>
+    ensures { Gives is_memory (λ v. texts_view v.items) result (texts_of (tree_view value.now)) }
+{
+    match as_list(value) {
+        Some(values) => texts_in(alloc, values),
+        None => Err(LineFault::Skipped(Reason::Shape)),
+    }
+}
+
+/// The texts at a key: none where it is absent.
+pub(crate) fn texts_at<'a>(
+    alloc: Global,
+    object: &Value<'a>,
+    key: &str,
+) -> Result<Vec<&'a str>, LineFault>
+    ensures { Gives is_memory (λ v. texts_view v.items) result (texts_or_none (value_at key.now (tree_view object.now))) }
+{
+    match value(object, key) {
+        Some(found) => texts(alloc, found),
+        None => Ok(Vec::new(alloc)),
+    }
+}
