@@ -5,7 +5,7 @@ ghost use Rattle.std.specs.List.{list_all};
 ghost use Rattle.model.specs.Derivation.{states_at};
 ghost use Rattle.model.specs.Vertices.{same_owner, same_vertex};
 ghost use Rattle.refutations.specs.Terms.{agree, same_at, same_terms};
-ghost use Rattle.axioms.specs.Views.{owner_view, term_view, term_views, vertex_view};
+ghost use Rattle.axioms.specs.Views.{owner_view, term_views, vertex_view};
 
 use crate::matching::is_same;
 use crate::order::same_version;

@@ -1,13 +1,8 @@
 //! The versions of a name in one class, found by search.
 
 ghost use Rattle.std.specs.Prelude.{◌≡◌, ◌≤◌, true, false, not, length, map, filter};
-ghost use Rattle.std.specs.List.{AllPairs};
 ghost use Rattle.std.specs.List.Sorted.{IsPartitionPoint};
-ghost use Rattle.std.specs.declared.cmp.Ordering.TheVariants.{Less};
-ghost use Rattle.semver.specs.Eval.{precedence_cmp};
 ghost use Rattle.semver.specs.Identifiers.{parts_of};
-ghost use Rattle.model.specs.Axioms.{is_lower};
-ghost use Rattle.model.specs.Selection.{class_of};
 ghost use Rattle.classes.specs.Classes.{class_view};
 ghost use Rattle.catalogue.specs.Stores.{candidates_at};
 ghost use Rattle.axioms.specs.Ranges.{AreRising, is_above, is_below, is_of};

@@ -1,6 +1,6 @@
 //! Whether a set has all states that its vertex may have.
 
-ghost use Rattle.std.specs.Prelude.{◌≡◌, ◌++◌, ◌∷◌, [], map, slice_get, option_map};
+ghost use Rattle.std.specs.Prelude.{◌≡◌, ◌++◌, slice_get, option_map};
 ghost use Rattle.std.specs.List.{list_all};
 ghost use Rattle.semver.specs.Identifiers.{parts_of};
 ghost use Rattle.semver.specs.EvalViews.{matches_views};
@@ -8,7 +8,6 @@ ghost use Rattle.model.specs.Axioms.{at, is_full};
 ghost use Rattle.model.specs.Vertices.{has_state, owner_brings};
 ghost use Rattle.model.specs.Vertices as model;
 ghost use Rattle.features.specs.Views.{dependency_view, dependency_views, requirement_view};
-ghost use Rattle.classes.specs.Classes.{class_view};
 ghost use Rattle.catalogue.specs.Problems.{problem_in};
 ghost use Rattle.derivations.specs.Views.{owner_view, vertex_view};
 ghost use Rattle.axioms.specs.StateViews.{state_view};
