@@ -5,6 +5,7 @@ pub mod Sorting
 pub mod OrderLaws
 pub mod TextLaws
 pub mod ReadLaws
+pub mod FileLaws
 pub mod PlainTexts
 pub mod JsonLaws
 pub mod WriteLaws

@@ -9,7 +9,7 @@ use Rattle.refutations.specs.Checks.{ArePlain, refusal}
 use Rattle.catalogue.specs.Runs.{Calls}
 use Rattle.derivations.specs.Files.{derivation_of_bytes, is_line_end}
 use Rattle.derivations.proofs.Bound.{same-Ok}
-use Rattle.derivations.proofs.ReadLaws.{read-is}
+use Rattle.derivations.proofs.FileLaws.{read-is}
 use Rattle.checker.specs.Refusals.{check_view, reason_view}
 use Rattle.checker.specs.declared.outcome.Check.{Check}
 use Rattle.checker.specs.declared.outcome.Check.TheVariants.{Proves, Refused}
