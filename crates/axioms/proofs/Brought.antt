@@ -48,11 +48,19 @@ some_brings None s e = absurd (none-some s (sym e))
 some_brings (Some r) s e = ap (λ (t : Said). t.brings) (same_Some s (said r) e)
 
 -- there is no such candidate, ..
+pub none_brought : (c : CatalogueView) (name : List ℕ) (v : Parts) → None ≡ option_map said (record_at (candidates_at c name) v)
+    → nothing ≡ brings_of (candidate_at (candidates_of (rows_by_name c) name) v)
+none_brought c name v e = none_brings (record_at (candidates_at c name) v) e ∙ sym (ap brings_of (candidate_found c name v))
+
 pub not_there : (c : CatalogueView) (m : ManifestView) (name : List ℕ) (v : Parts) → None ≡ option_map said (record_at (candidates_at c name) v)
     → nothing ≡ owner_brings (problem_in m c) (version_of name v)
-not_there c m name v e = none_brings (record_at (candidates_at c name) v) e ∙ sym (ap brings_of (candidate_found c name v))
+not_there c m name v e = none_brought c name v e
 
 -- .. or there is one
+pub is_brought : (c : CatalogueView) (name : List ℕ) (v : Parts) (s : Said) → Some s ≡ option_map said (record_at (candidates_at c name) v)
+    → s.brings ≡ brings_of (candidate_at (candidates_of (rows_by_name c) name) v)
+is_brought c name v s e = some_brings (record_at (candidates_at c name) v) s e ∙ sym (ap brings_of (candidate_found c name v))
+
 pub is_there : (c : CatalogueView) (m : ManifestView) (name : List ℕ) (v : Parts) (s : Said) → Some s ≡ option_map said (record_at (candidates_at c name) v)
     → s.brings ≡ owner_brings (problem_in m c) (version_of name v)
-is_there c m name v s e = some_brings (record_at (candidates_at c name) v) s e ∙ sym (ap brings_of (candidate_found c name v))
+is_there c m name v s e = is_brought c name v s e

@@ -1,23 +1,23 @@
 -- Which candidates and owners make the vertex of a feature.
-use Rattle.std.proofs.Common.{◌≡◌, ◌≢◌, ℕ, zero, suc, ◌+◌, ◌≤◌, Bool, true, false, cond, ◌&&◌, ◌||◌, List, [], ◌∷◌, map, filter, drop, length, slice_get, refl, sym, ap, ap₂, ◌∙◌, arith, true≢false}
+use Rattle.std.proofs.Common.{◌≡◌, ◌≢◌, ℕ, zero, suc, ◌+◌, ◌≤◌, Bool, true, false, cond, ◌||◌, List, [], ◌∷◌, map, filter, drop, length, slice_get, refl, sym, ap, ap₂, ◌∙◌, arith, true≢false}
 use Rattle.std.specs.List.{list_any, All, AllPairs}
 use Rattle.std.proofs.lemmas.List.{length-map}
 use Rattle.semver.specs.Identifiers.{parts_of}
 use Rattle.semver.specs.declared.Version.{Version}
-use Rattle.model.specs.Owner.{Dependency, same_text}
-use Rattle.model.specs.Content.{Candidate, Problem, candidates_of}
+use Rattle.model.specs.Owner.{same_text}
+use Rattle.model.specs.Content.{Candidate, candidates_of}
 use Rattle.model.specs.Selection.{Class, class_of}
 use Rattle.model.specs.Vertices.{OwnerName, version_of, same_class, in_that_class, class_candidates}
 use Rattle.model.specs.Candidates.{Record, as_candidate}
 use Rattle.model.proofs.Same.{text-same, text-refl}
 use Rattle.model.proofs.Lists.{all_first, all_rest, pairs_all, pairs_rest}
 use Rattle.manifest.specs.Manifests.{ManifestView}
-use Rattle.refutations.specs.Causes.{entry_asks, lists_feature, owner_asks, owners_in, passes}
+use Rattle.refutations.specs.Causes.{owner_asks, owners_in, passes}
 use Rattle.catalogue.specs.Problems.{problem_in}
 use Rattle.catalogue.specs.Ranks.{records}
 use Rattle.catalogue.specs.Stores.{CatalogueView, IsStore, Row, candidates_at, rows_by_name}
 use Rattle.catalogue.proofs.LawsCatalogues.{store-catalogue}
-use Rattle.axioms.specs.Asking.{dependency_asks, row_owners_ask, version_asks}
+use Rattle.axioms.specs.Asking.{row_owners_ask, version_asks}
 use Rattle.axioms.proofs.Asked.{any-append}
 use Rattle.axioms.proofs.Brought.{candidates_are}
 use Rattle.axioms.proofs.Versions.{any-map, any_candidate}
@@ -70,18 +70,6 @@ counted c name vs e = ap length (candidates_are c name) ∙ length-map (candidat
     ∙ sym (length-map (candidates_at c name) (λ (r : Record). r.version)) ∙ ap length (sym e) ∙ length-map vs parts_of
 
 -- ---- what owners ask for
-
-pub dependencies_ask : (q : Problem) (name f : List ℕ) (o : OwnerName) (ds : List Dependency)
-    → list_any (dependency_asks q name f o) ds ≡ list_any (λ d. same_text d.real_name name && (lists_feature q o d f || entry_asks q o d f)) ds
-unfolding dependency_asks
-dependencies_ask q name f o ds = refl
-
-pub candidates_ask : (m : ManifestView) (c : CatalogueView) (name f n : List ℕ) (vs : List Version) → map parts_of vs ≡ map (λ r. r.version) (candidates_at c n)
-    → list_any (λ v. version_asks (problem_in m c) name f n (parts_of v)) vs ≡ row_owners_ask (problem_in m c) name f n
-unfolding row_owners_ask
-candidates_ask m c name f n vs e =
-    any_candidate (version_asks (problem_in m c) name f n) vs (candidates_at c n) e
-    ∙ ap (list_any (λ (e : Candidate). version_asks (problem_in m c) name f n e.version)) (sym (candidates_are c n))
 
 abbrev Rows : Type 0
 Rows = List (List ℕ × List Candidate)

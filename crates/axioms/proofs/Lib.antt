@@ -11,3 +11,5 @@ pub mod Spaces
 pub mod Recorded
 pub mod Featured
 pub mod Lacking
+pub mod PairLemmas
+pub mod GatherLemmas

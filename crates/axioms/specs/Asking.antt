@@ -1,11 +1,11 @@
--- Whether a row of a feature table asks a dependency for a feature.
-use Rattle.std.specs.Prelude.{ℕ, List, Bool, ◌&&◌, ◌||◌}
+-- Whether a row of a feature table asks a dependency for a feature, and whether candidates do.
+use Rattle.std.specs.Prelude.{ℕ, List, Bool}
 use Rattle.semver.specs.Parse.{Parts}
 use Rattle.std.specs.List.{list_any}
-use Rattle.model.specs.Owner.{Dependency, Entry, Table, dependency_feature, entries_at, same_text}
+use Rattle.model.specs.Owner.{Entry, Table, dependency_feature, entries_at}
 use Rattle.model.specs.Content.{Problem, candidates_of}
-use Rattle.model.specs.Vertices.{OwnerName, version_of}
-use Rattle.refutations.specs.Causes.{asks_for, entries_or_none, entry_asks, lists_feature, owner_asks, same_entry}
+use Rattle.model.specs.Vertices.{version_of}
+use Rattle.refutations.specs.Causes.{asks_for, entries_or_none, owner_asks, same_entry}
 
 -- an entry of the row is `d/g` or `d?/g`
 unfoldable pub row_names : List ℕ → List ℕ → List ℕ × List Entry → Bool
@@ -19,11 +19,7 @@ row_asks d g table row = list_any (same_entry (dependency_feature d g)) (entries
 unfoldable pub row_may_ask : List ℕ → List ℕ → Table → List ℕ × List Entry → Bool
 row_may_ask d g table row = list_any (asks_for d g) (entries_or_none (entries_at row.0 table))
 
--- the owner's dependency asks the package for the feature
-unfoldable pub dependency_asks : Problem → List ℕ → List ℕ → OwnerName → Dependency → Bool
-dependency_asks q name f o d = same_text d.real_name name && (lists_feature q o d f || entry_asks q o d f)
-
--- some dependency of the version does
+-- some dependency of the version asks the package for the feature
 unfoldable pub version_asks : Problem → List ℕ → List ℕ → List ℕ → Parts → Bool
 version_asks q name f n v = owner_asks q name f (version_of n v)
 

@@ -3,8 +3,11 @@ pub mod Views
 pub mod Asking
 pub mod CauseViews
 pub mod Full
+pub mod Gathered
+pub mod GatheredViews
 pub mod Matching
 pub mod Needs
+pub mod Pairs
 pub mod Ranges
 pub mod Readings
 pub mod Sets

@@ -8,7 +8,7 @@ ghost use Rattle.features.specs.EntryViews.{entry_views};
 ghost use Rattle.model.specs.Owner as model;
 ghost use Rattle.model.specs.Owner.{asked_of_target, dependency_feature, same_text};
 ghost use Rattle.refutations.specs.Causes.{asks_for, root_asks_for, same_entry, same_pair, some_entry};
-ghost use Rattle.axioms.specs.Asking.{row_asks, row_may_ask, row_names};
+ghost use Rattle.axioms.specs.Asking.{row_asks, row_names};
 ghost use Rattle.axioms.specs.Views.{owner_view, problem};
 
 use crate::entries::{asks_for, has_asking};
@@ -120,43 +120,4 @@ fn row_asks(
     ensures { (es : List model.Entry) → result ≡ row_asks name.now feature.now table.now (row.now, es) }
 {
     has_asking(name, feature, table.entries(row))
-}
-
-/// Whether an entry `d/g` or `d?/g` of the version asks for the feature.
-pub(crate) fn some_entry_names(
-    known: &Known<'_>,
-    owner: &PackageName,
-    version: &Version,
-    name: &PackageName,
-    feature: &FeatureName,
-) -> bool
-    ensures { result ≡ some_entry (problem known.now) (asks_for name.now feature.now) owner.now (parts_of version.now) }
-{
-    match brings(known, &OwnerName::Version(owner, version)) {
-        Some(owner) => some_row_may_ask(&owner.features, name, feature),
-        None => false,
-    }
-}
-
-fn some_row_may_ask(table: &FeatureTable, name: &PackageName, feature: &FeatureName) -> bool
-    ensures { result ≡ list_any (row_may_ask name.now feature.now table.now) table.now }
-{
-    'rows: for (row, _) in table.iter() {
-        if row_may_ask(table, row, name, feature) {
-            return true;
-        }
-    }
-    false
-}
-
-#[tactic(auto, unfolding(crate::specs::Asking::row_may_ask))]
-fn row_may_ask(
-    table: &FeatureTable,
-    row: &FeatureName,
-    name: &PackageName,
-    feature: &FeatureName,
-) -> bool
-    ensures { (es : List model.Entry) → result ≡ row_may_ask name.now feature.now table.now (row.now, es) }
-{
-    has_named(name, feature, table.entries(row))
 }

@@ -12,12 +12,14 @@ ghost use Rattle.model.specs.Selection.{class_of};
 ghost use Rattle.model.specs.Vertices.{feat, same_vertex, version_of};
 ghost use Rattle.refutations.specs.Causes.{dependency_at, enables, is_cause, is_overtaken, is_weak_on, lists_feature, of_ask, of_asking, of_enabling, of_entry, of_feature, of_list, of_need, of_newest, of_target, of_weak, passes};
 ghost use Rattle.axioms.specs.CauseViews.{cause_view};
+ghost use Rattle.axioms.specs.GatheredViews.{problem_of};
 ghost use Rattle.axioms.specs.Views.{owner_view, problem};
 
 use crate::asking::{is_listed, root_asks_for, some_entry_asks};
 use crate::cause::Cause;
 use crate::entries::{enables, has_asking, has_feature, has_same, has_weak};
 use crate::finding::is_needed;
+use crate::gathered::Gathered;
 use crate::known::Known;
 use crate::lookups::{dependency_at, entries_of};
 use crate::matching::{has_class, is_same};
@@ -28,14 +30,15 @@ use features::{Dependency, Entry, FeatureName, PackageName};
 use semver::Version;
 
 /// Whether all that a cause names is there.
-pub(crate) fn is_cause(known: &Known<'_>, cause: &Cause<'_>) -> bool
-    ensures { result ≡ is_cause (problem known.now) (cause_view cause.now) }
+pub(crate) fn is_cause(gathered: &Gathered<'_>, cause: &Cause<'_>) -> bool
+    ensures { result ≡ is_cause (problem_of gathered.now) (cause_view cause.now) }
 {
+    let known = &gathered.known;
     match cause {
         Cause::Root => true,
         Cause::Need(owner, number) => is_need(known, owner, *number),
         Cause::Target(owner, number, class) => is_target(known, owner, *number, *class),
-        Cause::Feature(name, class, feature) => has_feature_vertex(known, name, *class, feature),
+        Cause::Feature(name, class, feature) => has_feature_vertex(gathered, name, *class, feature),
         Cause::List(owner, number, class, feature) => {
             is_list(known, owner, *number, *class, feature)
         }
@@ -94,7 +97,7 @@ fn is_list(
 }
 
 /// Whether the dependency asks for the feature, by its list or an entry of the root.
-pub(crate) fn lists_feature(
+fn lists_feature(
     known: &Known<'_>,
     owner: &OwnerName<'_>,
     dependency: &Dependency,

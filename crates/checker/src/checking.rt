@@ -8,6 +8,7 @@ ghost use Rattle.refutations.specs.Checks.{combines, end_refused, first_refused,
 ghost use Rattle.catalogue.specs.Problems.{problem_in};
 ghost use Rattle.derivations.specs.Tables.{TablesView, step_at, step_by_cause, steps_at, terms_at};
 ghost use Rattle.derivations.specs.Views.{vertex_view};
+ghost use Rattle.axioms.specs.GatheredViews.{problem_of};
 ghost use Rattle.checker.specs.Refusals.{check_view, reason_view};
 ghost use Rattle.checker.specs.Steps.{AreOrderedSteps, IsOrderedStep};
 
@@ -15,6 +16,7 @@ use crate::combination::is_combination;
 use crate::instance::is_instance;
 use crate::outcome::{Check, Reason};
 use crate::terms::read_terms;
+use axioms::Gathered;
 use catalogue::{Catalogue, catalogues_are_well_formed};
 use derivations::{Cause, Derivation, Step, Tables, Term};
 use manifest::Manifest;
@@ -38,7 +40,8 @@ pub fn check(
     unrefused_derivations_refute();
     let steps = derivation.steps(alloc)?;
     let (tables, steps) = steps.parts();
-    match first_refused(alloc, manifest, catalogue, tables, steps)? {
+    let gathered = Gathered::new(alloc, manifest, catalogue)?;
+    match first_refused(alloc, &gathered, tables, steps)? {
         Check::Proves => Ok(end_of(steps)),
         refused => Ok(refused),
     }
@@ -47,16 +50,15 @@ pub fn check(
 /// The first step that doesn't follow, if there is one.
 fn first_refused(
     alloc: Global,
-    manifest: &Manifest,
-    catalogue: &Catalogue,
+    gathered: &Gathered<'_>,
     tables: &Tables,
     steps: &[Step],
 ) -> Result<Check, AllocError>
     requires { AreOrderedSteps tables.now steps.now }
-    ensures { IfOk result (λ c. check_view c ≡ first_refused (problem_in manifest.now catalogue.now) [] (steps_at tables.now steps.now)) }
+    ensures { IfOk result (λ c. check_view c ≡ first_refused (problem_of gathered.now) [] (steps_at tables.now steps.now)) }
 {
     'steps: for (number, step) in steps.iter().enumerate() {
-        if !is_step(alloc, manifest, catalogue, tables, &steps[..number], step)? {
+        if !is_step(alloc, gathered, tables, &steps[..number], step)? {
             return Ok(Check::Refused {
                 step: number as u64,
                 reason: reason_of(&step.cause),
@@ -69,19 +71,18 @@ fn first_refused(
 /// Whether a step is accepted after the earlier ones.
 fn is_step(
     alloc: Global,
-    manifest: &Manifest,
-    catalogue: &Catalogue,
+    gathered: &Gathered<'_>,
     tables: &Tables,
     earlier: &[Step],
     step: &Step,
 ) -> Result<bool, AllocError>
     requires earlier { AreOrderedSteps tables.now earlier.now }
     requires step { IsOrderedStep tables.now step.now }
-    ensures { IfOk result (λ b. b ≡ is_step (problem_in manifest.now catalogue.now) (steps_at tables.now earlier.now) (step_at tables.now step.now)) }
+    ensures { IfOk result (λ b. b ≡ is_step (problem_of gathered.now) (steps_at tables.now earlier.now) (step_at tables.now step.now)) }
 {
     let terms = read_terms(alloc, tables, &step.terms)?;
     match &step.cause {
-        Cause::Axiom(kind) => is_instance(alloc, manifest, catalogue, *kind, &terms),
+        Cause::Axiom(kind) => is_instance(alloc, gathered, *kind, &terms),
         Cause::Combination(first, second, vertex) => {
             let (Some(a), Some(b)) = (earlier.get(*first as usize), earlier.get(*second as usize))
             else {
@@ -89,6 +90,7 @@ fn is_step(
             };
             let a = read_terms(alloc, tables, &a.terms)?;
             let b = read_terms(alloc, tables, &b.terms)?;
+            let (manifest, catalogue) = (gathered.manifest(), gathered.catalogue());
             Ok(is_combination(manifest, catalogue, tables.vertex(*vertex), &a, &b, &terms))
         }
     }

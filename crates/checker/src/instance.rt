@@ -2,29 +2,27 @@
 
 ghost use Rattle.std.specs.Prelude.{◌≡◌, IfOk};
 ghost use Rattle.refutations.specs.Instances.{is_instance};
-ghost use Rattle.catalogue.specs.Problems.{problem_in};
 ghost use Rattle.derivations.specs.Kinds.{kind_view};
 ghost use Rattle.derivations.specs.Views.{owner_view, vertex_view};
+ghost use Rattle.axioms.specs.GatheredViews.{problem_of};
 ghost use Rattle.axioms.specs.Views as sought;
 
 use crate::terms::{Held, Terms};
-use catalogue::Catalogue;
+use axioms::Gathered;
 use derivations::{Kind, OwnerName, Vertex};
-use manifest::Manifest;
 use std::alloc::{AllocError, Global};
 
 /// Whether terms are those of an instance of the kind, without full ones.
 pub(crate) fn is_instance(
     alloc: Global,
-    manifest: &Manifest,
-    catalogue: &Catalogue,
+    gathered: &Gathered<'_>,
     kind: Kind,
     terms: &Terms<'_>,
 ) -> Result<bool, AllocError>
-    ensures { IfOk result (λ b. b ≡ is_instance (problem_in manifest.now catalogue.now) (kind_view kind) terms.now) }
+    ensures { IfOk result (λ b. b ≡ is_instance (problem_of gathered.now) (kind_view kind) terms.now) }
 {
     let looked_up = terms_in(alloc, terms.as_slice())?;
-    axioms::is_instance(alloc, manifest, catalogue, kind, looked_up.as_slice())
+    axioms::is_instance(alloc, gathered, kind, looked_up.as_slice())
 }
 
 /// The same terms, as they are looked up.

@@ -15,7 +15,7 @@ pub returns-in-Proves-clause-refutes : goal.returns-in-Proves-clause-refutes
 returns-in-Proves-clause-refutes c is content valid =
     let q = problem_in c.args.manifest.now c.args.catalogue.now in
     let steps = steps_at c.parts.result.0.now c.parts.result.1.now in
-    let first : None ≡ first_refused q [] steps = sym (ap check_view c.in-Proves.is) ∙ c.in_ok-refused.ensures in
+    let first : None ≡ first_refused q [] steps = sym (ap check_view c.in-Proves.is) ∙ c.in_ok-refused.ensures ∙ ap (λ p. first_refused p [] steps) c.in_ok-gathered.ensures in
     let last : None ≡ end_refused 0 steps = sym (ap check_view is) ∙ c.end_of.ensures c.parts.result.0.now in
     let none : refusal q steps ≡ None = ap (λ o. option_or o (end_refused 0 steps)) (sym first) ∙ sym last in
     c.unrefused_derivations_refute.ensures q content c.args.derivation.now c.catalogues_are_well_formed.ensures

@@ -1,10 +1,10 @@
 use Rattle.std.proofs.Common.{◌≡◌, [], take, drop}
 use Rattle.refutations.specs.Checks.{first_refused}
-use Rattle.catalogue.specs.Problems.{problem_in}
+use Rattle.axioms.specs.GatheredViews.{problem_of}
 use Rattle.derivations.specs.Tables.{steps_at}
 use Rattle.checker.proofs.checking.first_refused.Given as goal
 
 -- none of the steps so far is refused
 abbrev pub invariant-steps : goal.invariant-steps
 invariant-steps l =
-    first_refused (problem_in l.manifest l.catalogue) (steps_at l.tables (take l.number l.steps)) (steps_at l.tables (drop l.number l.steps)) ≡ first_refused (problem_in l.manifest l.catalogue) [] (steps_at l.tables l.steps)
+    first_refused (problem_of l.gathered) (steps_at l.tables (take l.number l.steps)) (steps_at l.tables (drop l.number l.steps)) ≡ first_refused (problem_of l.gathered) [] (steps_at l.tables l.steps)

@@ -1,5 +1,5 @@
 use Rattle.std.proofs.Common.{◌∙◌}
-use Rattle.catalogue.specs.Problems.{problem_in}
+use Rattle.axioms.specs.GatheredViews.{problem_of}
 use Rattle.checker.proofs.StepLaws.{combined_step, lent}
 use Rattle.checker.proofs.checking.is_step.Goals as goal
 
@@ -10,5 +10,5 @@ returns c =
     let terms = rw c.deref.ensures.value at c.in_ok-terms.ensures in
     let a = rw c.deref-in-Combination.ensures.value at c.in_ok-a-in-Combination.ensures in
     let b = rw c.deref-in-Combination-2.ensures.value at c.in_ok-b-in-Combination.ensures in
-    rw (c.vertex.ensures, terms, a, b) at c.is_combination.ensures
-    ∙ combined_step (problem_in c.args.manifest.now c.args.catalogue.now) c.args.tables.now c.args.earlier.now c.args.step.now c.in-Some-Some.a.now c.in-Some-Some.b.now c.in-Combination.first c.in-Combination.second c.in-Combination.vertex c.in-Combination.is first second
+    rw (c.manifest-manifest.ensures, c.catalogue-catalogue.ensures, c.vertex.ensures, terms, a, b) at c.is_combination.ensures
+    ∙ combined_step (problem_of c.args.gathered.now) c.args.tables.now c.args.earlier.now c.args.step.now c.in-Some-Some.a.now c.in-Some-Some.b.now c.in-Combination.first c.in-Combination.second c.in-Combination.vertex c.in-Combination.is first second
