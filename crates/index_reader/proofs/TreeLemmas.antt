@@ -1,5 +1,5 @@
 -- What is looked up in a tree is what the value that it stands for has there.
-use Rattle.std.proofs.Common.{◌≡◌, ℕ, List, [], ◌∷◌, Bool, true, false, cond, ◌&&◌, Option, Some, None, is_some, unwrap_or, Ok, option_map, option_and_then, Vec, Global, Ordering, Less, Equal, Greater, bytes_eq, Bor, refl, sym, ap, ◌∙◌, true≢false, subst, rules}
+use Rattle.std.proofs.Common.{◌≡◌, ℕ, List, [], ◌∷◌, Bool, true, false, cond, ◌&&◌, Option, Some, None, is_some, unwrap_or, Ok, option_map, option_and_then, Global, Ordering, Less, Equal, Greater, bytes_eq, Bor, refl, sym, ap, ◌∙◌, true≢false, subst}
 use Rattle.std.proofs.lemmas.Slice.Eq.{bytes_eq-Decides}
 use Rattle.std.specs.Option.{ok_or}
 use Rattle.std.specs.BTreeMap.{insert_entry}
@@ -7,12 +7,10 @@ use Rattle.std.specs.Ordering.{nat_cmp, match_ordering}
 use Rattle.std.specs.Cmp.Lexicographic.{slice_cmp}
 use Rattle.json.specs.Json as json
 use Rattle.json.specs.Find as find
-use Rattle.json.specs.Lex.{tokens}
 use Rattle.json.specs.Value.{value_view}
-use Rattle.json.specs.Value as view
-use Rattle.json.specs.declared.value.Value.{Value, Array, Object, the_lemmas}
+use Rattle.json.specs.declared.value.Value.{Value}
 use Rattle.serde_json.specs.Data.{Num, Data, number, array, object, Items, item, Members, no_members, put}
-use Rattle.serde_json.specs.Find.{get, get_member, as_str, as_bool, as_array, as_object, as_number}
+use Rattle.serde_json.specs.Find.{get, get_member, as_str, as_bool, as_number}
 use Rattle.serde_json.specs.Read.{number_of, of_json, of_items, of_members, read}
 use Rattle.serde_json.proofs.Views.{get_member-put, get_member-put_other}
 use Rattle.index_reader.specs.declared.fault.LineFault.{LineFault}

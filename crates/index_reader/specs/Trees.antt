@@ -1,5 +1,5 @@
 -- What a tree of JSON that borrows its texts stands for: the value that `serde_json` reads, where of a key that comes twice the last stays.
-use Rattle.std.specs.Prelude.{ℕ, Bool, true, ◌&&◌, negsuc, List, [], ◌∷◌, map, Option, Some, None, is_some, unwrap_or, option_and_then}
+use Rattle.std.specs.Prelude.{ℕ, Bool, true, ◌&&◌, negsuc, List, [], ◌∷◌, Option, is_some, unwrap_or, option_and_then}
 use Rattle.std.specs.Borrow.{Bor}
 use Rattle.std.specs.declared.alloc.Global.{Global}
 use Rattle.json.specs.Json as json

@@ -1,4 +1,4 @@
-use Rattle.std.proofs.Common.{◌≡◌, option_map, sym, ap, ◌∙◌}
+use Rattle.std.proofs.Common.{option_map, sym, ap, ◌∙◌}
 use Rattle.json.specs.Value.{value_view}
 use Rattle.index_reader.specs.Trees.{data_of}
 use Rattle.index_reader.proofs.TreeLemmas.{through, get-data_of}
