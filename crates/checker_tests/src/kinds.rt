@@ -1,8 +1,9 @@
 //! Steps of each kind of axiom that speaks of features or of two dependencies on one package.
 
-use crate::said::{loaded, said};
-use crate::steps::lines_with;
+use crate::said::{Inputs, loaded, said};
+use crate::steps::lines_of;
 use crate::trial::{Trial, put, put_kinds};
+use std::alloc::Global;
 use std::test::Fail;
 
 /// a as `>=1` with the feature f, and as `2` under another name.
@@ -77,33 +78,37 @@ fn put_fewer(trial: &Trial<'_>, others: &mut String) -> Result<(), Fail> {
     Ok(())
 }
 
-#[test]
-fn each_kind_is_an_axiom_as_it_stands(rt: HostRuntime) -> Result<(), Fail> {
-    let alloc = rt.alloc();
-    let inputs = loaded(alloc, TWICE, EACH_ENTRY, H_IN_ONE)?;
-    let lines = lines_with(alloc, EACH_KIND, 9, "")?;
-    assert_eq!(rt; said(alloc, &inputs, &lines)?.as_str(), "refused 8 C3");
-    let mut others = String::new(alloc);
+/// What is said of the steps, and of each one under another kind or with fewer states where it isn't refused.
+fn answers(alloc: Global, inputs: &Inputs) -> Result<String, Fail> {
+    let mut answers = said(alloc, inputs, &lines_of(alloc, EACH_KIND)?)?;
     for (number, step) in EACH_KIND.lines().enumerate() {
         let trial = Trial {
             alloc,
-            inputs: &inputs,
+            inputs,
             steps: EACH_KIND,
             number,
             step,
         };
-        put_kinds(&trial, &mut others)?;
-        put_fewer(&trial, &mut others)?;
+        put_kinds(&trial, &mut answers)?;
+        put_fewer(&trial, &mut answers)?;
     }
-    assert_eq!(rt; others.as_str(), "");
+    Ok(answers)
+}
+
+#[test]
+fn each_kind_is_an_axiom_as_it_stands(rt: HostRuntime) -> Result<(), Fail> {
+    let inputs = loaded(rt.alloc(), TWICE, EACH_ENTRY, H_IN_ONE)?;
+    assert_eq!(rt; answers(rt.alloc(), &inputs)?.as_str(), "refused 8 C3");
     Ok(())
+}
+
+fn sixteen_answer(alloc: Global, inputs: &Inputs) -> Result<String, Fail> {
+    said(alloc, inputs, &lines_of(alloc, SIXTEEN)?)
 }
 
 #[test]
 fn a_feature_that_is_missing_refutes(rt: HostRuntime) -> Result<(), Fail> {
-    let alloc = rt.alloc();
-    let inputs = loaded(alloc, ONCE, ASKS, WITHOUT_G)?;
-    let lines = lines_with(alloc, SIXTEEN, 16, "")?;
-    assert_eq!(rt; said(alloc, &inputs, &lines)?.as_str(), "proves");
+    let inputs = loaded(rt.alloc(), ONCE, ASKS, WITHOUT_G)?;
+    assert_eq!(rt; sixteen_answer(rt.alloc(), &inputs)?.as_str(), "proves");
     Ok(())
 }

@@ -1,8 +1,9 @@
 //! A refusal in thirteen steps, and what is said of it where one of them is changed in one thing.
 
-use crate::said::{loaded, said};
-use crate::steps::{because, lines_with, without};
+use crate::said::{Inputs, loaded, said};
+use crate::steps::{because, lines_of, without};
 use crate::trial::{Trial, put, put_kinds};
+use std::alloc::Global;
 use std::test::Fail;
 
 const MANIFEST: &str = "package.name = \"demo\"\n[dependencies]\na = \"=1.0.0\"\nb = \"^1\"\n";
@@ -42,9 +43,13 @@ const DEP_SETS: &str = "|absent|1|absent,1|2|absent,2|1,2|absent,1,2";
 const PKG_SETS: &str =
     "|absent|1.0.0|1.1.0|absent,1.0.0|absent,1.1.0|1.0.0,1.1.0|absent,1.0.0,1.1.0|2.0.0|absent,2.0.0|1.0.0,2.0.0|1.1.0,2.0.0|absent,1.0.0,2.0.0|absent,1.1.0,2.0.0|1.0.0,1.1.0,2.0.0|absent,1.0.0,1.1.0,2.0.0";
 
-/// What isn't refused where it is changed. The root needs both dependencies, so that the second and the fifth step are right with either,
-/// and it is the combination that fails. A combination is the same of its two steps in either order.
-const OTHERS: &str = "1 X1;dep root 1=absent;root=present; refused 3 C2
+/// The steps refute; without the last one, or any, they don't. Then what isn't refused where it is changed: the root needs both
+/// dependencies, so that the second and the fifth step are right with either, and it is their combination that fails; and a combination is
+/// the same of its two steps in either order.
+const ANSWERS: &str = "proves
+refused 11 C3
+refused 0 C3
+1 X1;dep root 1=absent;root=present; refused 3 C2
 3 2,1,dep root 0;pkg a 1=absent,1.1.0;root=present; proves
 4 X1;dep root 0=absent;root=present; refused 6 C2
 6 5,4,dep root 1;pkg b 1=absent;root=present; proves
@@ -158,37 +163,37 @@ fn reason_of_move(trial: &Trial<'_>, place: &str, states: &str) -> Result<&'stat
     Ok(if reads { reason_of(trial.step) } else { "K1" })
 }
 
-#[test]
-fn a_changed_step_is_refused(rt: HostRuntime) -> Result<(), Fail> {
-    let alloc = rt.alloc();
-    let inputs = loaded(alloc, MANIFEST, A, B)?;
-    let mut others = String::new(alloc);
+/// What is said of the steps, of all but the last and of none, and then of each change that isn't refused where it is made.
+fn answers(alloc: Global, inputs: &Inputs) -> Result<String, Fail> {
+    let mut answers = String::new(alloc);
+    let (but_one, _) = STEPS.rsplit_once('\n').ok_or("no step")?;
+    for steps in [STEPS, but_one, ""] {
+        let answer = said(alloc, inputs, &lines_of(alloc, steps)?)?;
+        writeln!(answers, "{answer}")?;
+    }
     for (number, step) in STEPS.lines().enumerate() {
         let trial = Trial {
             alloc,
-            inputs: &inputs,
+            inputs,
             steps: STEPS,
             number,
             step,
         };
-        put_kinds(&trial, &mut others)?;
-        put_combinations(&trial, &mut others)?;
-        put_terms(&trial, &mut others)?;
-        put_moves(&trial, &mut others)?;
+        put_all(&trial, &mut answers)?;
     }
-    assert_eq!(rt; others.as_str(), OTHERS);
-    Ok(())
+    Ok(answers)
+}
+
+fn put_all(trial: &Trial<'_>, others: &mut String) -> Result<(), Fail> {
+    put_kinds(trial, others)?;
+    put_combinations(trial, others)?;
+    put_terms(trial, others)?;
+    put_moves(trial, others)
 }
 
 #[test]
-fn thirteen_steps_refute(rt: HostRuntime) -> Result<(), Fail> {
-    let alloc = rt.alloc();
-    let inputs = loaded(alloc, MANIFEST, A, B)?;
-    let lines = lines_with(alloc, STEPS, 13, "")?;
-    assert_eq!(rt; said(alloc, &inputs, &lines)?.as_str(), "proves");
-    let (all_but_one, _) = STEPS.rsplit_once('\n').ok_or("no step")?;
-    let lines = lines_with(alloc, all_but_one, 13, "")?;
-    assert_eq!(rt; said(alloc, &inputs, &lines)?.as_str(), "refused 11 C3");
-    assert_eq!(rt; said(alloc, &inputs, "")?.as_str(), "refused 0 C3");
+fn a_changed_step_is_refused(rt: HostRuntime) -> Result<(), Fail> {
+    let inputs = loaded(rt.alloc(), MANIFEST, A, B)?;
+    assert_eq!(rt; answers(rt.alloc(), &inputs)?.as_str(), ANSWERS);
     Ok(())
 }

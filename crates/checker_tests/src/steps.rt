@@ -3,7 +3,16 @@
 use std::alloc::Global;
 use std::test::Fail;
 
-/// The lines of steps, where the step of this number, if there is one, is put for the other.
+/// The lines of steps.
+pub(crate) fn lines_of(alloc: Global, steps: &str) -> Result<String, Fail> {
+    let mut lines = String::new(alloc);
+    for step in steps.lines() {
+        add_line(alloc, &mut lines, step)?;
+    }
+    Ok(lines)
+}
+
+/// The lines of steps, with another one in the place of that of this number.
 pub(crate) fn lines_with(
     alloc: Global,
     steps: &str,
