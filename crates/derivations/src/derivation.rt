@@ -1,6 +1,6 @@
 //! Derivations, and reading them.
 
-ghost use Rattle.std.specs.Prelude.{◌≡◌, ◌<◌, ◌==◌, ◌||◌, ◌++◌, ◌∷◌, [], IfOk, length, map, option_map, slice_get};
+ghost use Rattle.std.specs.Prelude.{◌≡◌, ◌<◌, ◌==◌, ◌||◌, ◌++◌, ◌∷◌, [], IfOk, length, map, option_map, slice_get, string_bytes};
 ghost use Rattle.std.specs.List.{list_all, slice_split};
 ghost use Rattle.model.specs.Outcome.{Gives};
 ghost use Rattle.derivations.specs.Derivations.{IsDerivation, IsStepAt};
@@ -91,19 +91,15 @@ impl Derivation {
         steps_of(alloc, self)
     }
 
-    /// The steps with one more, whose line has about so many bytes.
-    fn with_step(
-        self,
-        alloc: Global,
-        room: usize,
-        step: &WholeStep,
-    ) -> Result<Derivation, AllocError>
+    /// The steps with one more, whose line goes into an empty text with room.
+    fn with_step(self, room: String, step: &WholeStep) -> Result<Derivation, AllocError>
+        requires room { string_bytes room ≡ [] }
         requires step { IsStepAt (length self) (step_view step.now) }
         requires few { length self < most_steps }
         ensures { IfOk result (λ d. d ≡ self ++ step_view step.now ∷ []) }
     {
         let Derivation { mut kept } = self;
-        kept.push(keep(alloc, room, step)?)?;
+        kept.push(keep(room, step)?)?;
         Ok(Derivation { kept })
     }
 }
@@ -150,8 +146,10 @@ fn with_line(
     if is_blank(line) {
         return Ok(steps);
     }
+    // before what is read, which is let go: so the texts that stay leave no holes between them
+    let room = String::with_capacity(alloc, line.len())?;
     match read_step(alloc, steps.len(), line) {
-        Ok(step) => Ok(steps.with_step(alloc, line.len(), &step)?),
+        Ok(step) => Ok(steps.with_step(room, &step)?),
         Err(fault) => Err(fault_at(number, fault)),
     }
 }

@@ -1,6 +1,6 @@
 //! A step as a derivation keeps it: by its line.
 
-ghost use Rattle.std.specs.Prelude.{◌≡◌, Ok, IfOk, string_bytes};
+ghost use Rattle.std.specs.Prelude.{◌≡◌, [], Ok, IfOk, string_bytes};
 ghost use Rattle.derivations.specs.Kept.{IsKept};
 ghost use Rattle.derivations.specs.References.{references_of};
 ghost use Rattle.derivations.specs.Steps.{step_of_line};
@@ -18,11 +18,11 @@ pub(crate) struct Kept {
     pub line: String,
 }
 
-/// A step as it is kept. Its line has room for so many bytes while it is written, and then for its own alone.
-pub(crate) fn keep(alloc: Global, room: usize, step: &WholeStep) -> Result<Kept, AllocError>
+/// A step as it is kept, with its line in a text that is empty and has room. The line then has no more room than its own.
+pub(crate) fn keep(mut line: String, step: &WholeStep) -> Result<Kept, AllocError>
+    requires { string_bytes line ≡ [] }
     ensures { IfOk result (λ k. IsKept k (step_view step.now)) }
 {
-    let mut line = String::with_capacity(alloc, room)?;
     push_step(&mut line, step)?;
     line.shrink_to_fit();
     let references = references(step);
