@@ -1,13 +1,12 @@
 -- Which candidates and owners make the vertex of a feature.
-use Rattle.std.proofs.Common.{◌≡◌, ◌≢◌, ℕ, zero, suc, ◌+◌, ◌≤◌, Bool, true, false, cond, ◌||◌, List, [], ◌∷◌, map, filter, drop, length, slice_get, refl, sym, ap, ap₂, ◌∙◌, arith, true≢false}
+use Rattle.std.proofs.Common.{◌≡◌, ◌≢◌, ℕ, zero, suc, ◌+◌, ◌≤◌, Bool, true, false, cond, ◌||◌, List, [], ◌∷◌, map, drop, length, slice_get, refl, sym, ap, ap₂, ◌∙◌, arith, true≢false}
 use Rattle.std.specs.List.{list_any, All, AllPairs}
 use Rattle.std.proofs.lemmas.List.{length-map}
 use Rattle.semver.specs.Identifiers.{parts_of}
 use Rattle.semver.specs.declared.Version.{Version}
 use Rattle.model.specs.Owner.{same_text}
 use Rattle.model.specs.Content.{Candidate, candidates_of}
-use Rattle.model.specs.Selection.{Class, class_of}
-use Rattle.model.specs.Vertices.{OwnerName, version_of, same_class, in_that_class, class_candidates}
+use Rattle.model.specs.Vertices.{OwnerName, version_of}
 use Rattle.model.specs.Candidates.{Record, as_candidate}
 use Rattle.model.proofs.Same.{text-same, text-refl}
 use Rattle.model.proofs.Lists.{all_first, all_rest, pairs_all, pairs_rest}
@@ -20,23 +19,7 @@ use Rattle.catalogue.proofs.LawsCatalogues.{store-catalogue}
 use Rattle.axioms.specs.Asking.{row_owners_ask, version_asks}
 use Rattle.axioms.proofs.Asked.{any-append}
 use Rattle.axioms.proofs.Brought.{candidates_are}
-use Rattle.axioms.proofs.Versions.{any-map, any_candidate}
-
-any-where : {X : Type 0} (q : X → Bool) (xs : List X) → list_any q xs ≡ list_any (λ x. true) (filter q xs)
-any-where q [] = refl
-any-where {X = X} q (x ∷ xs) = by (q x) (any-where q xs)
-  where
-    by : (b : Bool) → list_any q xs ≡ list_any (λ x. true) (filter q xs) → (b || list_any q xs) ≡ list_any (λ x. true) (cond b (x ∷ filter q xs) (filter q xs))
-    by true e = refl
-    by false e = e
-
--- some version is of the class
-pub class_there : (m : ManifestView) (c : CatalogueView) (name : List ℕ) (k : Class) (vs : List Version) → map parts_of vs ≡ map (λ r. r.version) (candidates_at c name)
-    → list_any (λ v. same_class k (class_of (parts_of v))) vs ≡ list_any (λ c. true) (class_candidates (problem_in m c) name k)
-class_there m c name k vs e =
-    any_candidate (λ v. same_class k (class_of v)) vs (candidates_at c name) e
-    ∙ ap (list_any (in_that_class k)) (sym (candidates_are c name))
-    ∙ any-where (in_that_class k) (candidates_of (rows_by_name c) name)
+use Rattle.axioms.proofs.Versions.{any-map}
 
 -- ---- the loop over places
 

@@ -6,7 +6,6 @@ ghost use Rattle.semver.specs.EvalViews.{matches_views};
 ghost use Rattle.semver.specs.Identifiers.{parts_of};
 ghost use Rattle.features.specs.Views.{dependency_view, requirement_view};
 ghost use Rattle.classes.specs.Classes.{class_view};
-ghost use Rattle.model.specs.Selection.{class_of};
 ghost use Rattle.model.specs.Vertices.{same_class};
 ghost use Rattle.refutations.specs.Causes.{has_class, is_unmatched};
 ghost use Rattle.axioms.specs.Views.{problem};
@@ -50,13 +49,6 @@ pub(crate) fn is_matched(requirement: &VersionReq, version: &Version) -> bool
     ensures { result ≡ matches_views (requirement_view requirement.now) (parts_of version.now) }
 {
     requirement.matches(version)
-}
-
-/// Whether a version is of the class.
-pub(crate) fn is_in(class: Class, version: &Version) -> bool
-    ensures { result ≡ same_class (class_view class) (class_of (parts_of version.now)) }
-{
-    is_same(class, Class::of(version))
 }
 
 pub(crate) fn is_same(a: Class, b: Class) -> bool

@@ -2,10 +2,8 @@
 
 ghost use Rattle.std.specs.Prelude.{◌≡◌, ◌&&◌, true};
 ghost use Rattle.std.specs.List.{list_any};
-ghost use Rattle.semver.specs.Identifiers.{parts_of};
 ghost use Rattle.classes.specs.Classes.{class_view};
-ghost use Rattle.model.specs.Selection.{class_of};
-ghost use Rattle.model.specs.Vertices.{class_candidates, same_class};
+ghost use Rattle.model.specs.Vertices.{class_candidates};
 ghost use Rattle.refutations.specs.Causes.{has_feature_vertex};
 ghost use Rattle.axioms.specs.Gathered.{is_known_feature};
 ghost use Rattle.axioms.specs.GatheredViews.{problem_of};
@@ -13,7 +11,7 @@ ghost use Rattle.axioms.specs.Views.{problem};
 
 use crate::gathered::Gathered;
 use crate::known::Known;
-use crate::matching::is_in;
+use crate::ranges::class_versions;
 use classes::Class;
 use features::{FeatureName, PackageName};
 use semver::Version;
@@ -40,11 +38,11 @@ fn is_known_feature(gathered: &Gathered<'_>, name: &PackageName, feature: &Featu
 fn has_candidate(known: &Known<'_>, name: &PackageName, class: Class) -> bool
     ensures { result ≡ list_any (λ c. true) (class_candidates (problem known.now) name.now (class_view class)) }
 {
-    some_in(class, known.catalogue.versions(name))
+    has_one(class_versions(known.catalogue, name, class))
 }
 
-fn some_in(class: Class, versions: &[Version]) -> bool
-    ensures { result ≡ list_any (λ v. same_class (class_view class) (class_of (parts_of v))) versions.now }
+fn has_one(versions: &[Version]) -> bool
+    ensures { result ≡ list_any (λ v. true) versions.now }
 {
-    versions.iter().any(|version| is_in(class, version))
+    !versions.is_empty()
 }
