@@ -2,7 +2,7 @@
 use Rattle.std.proofs.Common.{◌≡◌, Bool, true, false, ◌||◌, List, [], ◌∷◌, ◌++◌, refl, sym, ap, ap₂, ◌∙◌}
 use Rattle.std.specs.Prelude.{ℕ}
 use Rattle.std.specs.List.{list_any, flat_map}
-use Rattle.model.specs.Owner.{Owner, Entry, feature, dependency, dependency_feature, weak_feature, Table, entries_at}
+use Rattle.model.specs.Summary.{Summary, Entry, feature, dependency, dependency_feature, weak_feature, Table, entries_at}
 use Rattle.manifest.specs.Manifests.{asked_by, root_asks}
 use Rattle.refutations.specs.Causes.{asks_for, entries_or_none, same_entry, same_pair}
 use Rattle.axioms.specs.Asking.{row_asks, row_may_ask, row_names}
@@ -32,17 +32,17 @@ asks_is : (d g : List ℕ) (table : Table)
 unfolding row_asks
 asks_is d g table = refl
 
-pub owner_asks_is : (d g : List ℕ) (a b : Owner) → a ≡ b
+pub owner_asks_is : (d g : List ℕ) (a b : Summary) → a ≡ b
     → list_any (row_asks d g a.features) a.features ≡ list_any (λ row. list_any (same_entry (dependency_feature d g)) (entries_or_none (entries_at row.0 b.features))) b.features
 owner_asks_is d g a b e = asks_is d g a.features
-    ∙ ap (λ (o : Owner). list_any (λ row. list_any (same_entry (dependency_feature d g)) (entries_or_none (entries_at row.0 o.features))) o.features) e
+    ∙ ap (λ (o : Summary). list_any (λ row. list_any (same_entry (dependency_feature d g)) (entries_or_none (entries_at row.0 o.features))) o.features) e
 
 may_ask_is : (d g : List ℕ) (table : Table)
     → list_any (row_may_ask d g table) table ≡ list_any (λ row. list_any (asks_for d g) (entries_or_none (entries_at row.0 table))) table
 unfolding row_may_ask
 may_ask_is d g table = refl
 
-pub owner_may_ask : (d g : List ℕ) (a b : Owner) → a ≡ b
+pub owner_may_ask : (d g : List ℕ) (a b : Summary) → a ≡ b
     → list_any (row_may_ask d g a.features) a.features ≡ list_any (λ row. list_any (asks_for d g) (entries_or_none (entries_at row.0 b.features))) b.features
 owner_may_ask d g a b e = may_ask_is d g a.features
-    ∙ ap (λ (o : Owner). list_any (λ row. list_any (asks_for d g) (entries_or_none (entries_at row.0 o.features))) o.features) e
+    ∙ ap (λ (o : Summary). list_any (λ row. list_any (asks_for d g) (entries_or_none (entries_at row.0 o.features))) o.features) e

@@ -2,7 +2,7 @@
 use Rattle.std.proofs.Common.{◌≡◌, Bool, true, false, cond, List, [], ◌∷◌, map, Option, Some, None, option_map, unwrap_or, refl, sym, ap, ◌∙◌}
 use Rattle.std.proofs.lemmas.Option.{none-some, same_Some}
 use Rattle.semver.specs.Parse.{Parts}
-use Rattle.model.specs.Owner.{nothing, same_text}
+use Rattle.model.specs.Summary.{nothing, same_text}
 use Rattle.model.specs.Content.{same_version, candidates_of, candidate_at, brings_of}
 use Rattle.model.specs.Candidates.{Record, as_candidate}
 use Rattle.model.specs.Vertices.{version_of, owner_brings}

@@ -9,7 +9,7 @@ use Rattle.semver.specs.declared.Version.{Version}
 use Rattle.model.specs.Axioms.{matched, versions_that}
 use Rattle.model.specs.Candidates.{Record, as_candidate}
 use Rattle.model.specs.Content.{Candidate}
-use Rattle.model.specs.Owner.{Dependency}
+use Rattle.model.specs.Summary.{Dependency}
 use Rattle.model.specs.Selection.{Class}
 use Rattle.model.specs.Vertices.{class_candidates, in_that_class, version}
 use Rattle.manifest.specs.Manifests.{ManifestView}

@@ -4,9 +4,9 @@ use Rattle.std.specs.List.{list_any, All, AllPairs}
 use Rattle.std.proofs.lemmas.List.{length-map}
 use Rattle.semver.specs.Identifiers.{parts_of}
 use Rattle.semver.specs.declared.Version.{Version}
-use Rattle.model.specs.Owner.{same_text}
+use Rattle.model.specs.Summary.{same_text}
 use Rattle.model.specs.Content.{Candidate, candidates_of}
-use Rattle.model.specs.Vertices.{OwnerName, version_of}
+use Rattle.model.specs.Vertices.{Owner, version_of}
 use Rattle.model.specs.Candidates.{Record, as_candidate}
 use Rattle.model.proofs.Same.{text-same, text-refl}
 use Rattle.model.proofs.Lists.{all_first, all_rest, pairs_all, pairs_rest}
@@ -72,7 +72,7 @@ looked_up p [] h = refl
 looked_up p (r ∷ rows) h = ap₂ (λ a b. a || b) (ap (λ b. p r.0 (cond b r.1 (candidates_of rows r.0))) (text-refl r.0))
     (skipped p rows r rows (pairs_all (λ a b. a.0 ≢ b.0) r rows h) ∙ looked_up p rows (pairs_rest (λ a b. a.0 ≢ b.0) r rows h))
 
-owned : (p : OwnerName → Bool) (rows : Rows) → list_any (λ r. list_any (λ (c : Candidate). p (version_of r.0 c.version)) r.1) rows ≡ list_any p (owners_in rows)
+owned : (p : Owner → Bool) (rows : Rows) → list_any (λ r. list_any (λ (c : Candidate). p (version_of r.0 c.version)) r.1) rows ≡ list_any p (owners_in rows)
 owned p [] = refl
 owned p (r ∷ rows) = ap₂ (λ a b. a || b) (sym (any-map p (λ (c : Candidate). version_of r.0 c.version) r.1)) (owned p rows)
     ∙ sym (any-append p (map (λ (c : Candidate). version_of r.0 c.version) r.1) (owners_in rows))

@@ -6,7 +6,7 @@ use Rattle.semver.specs.Parse.{Parts}
 use Rattle.semver.specs.Identifiers.{parts_of}
 use Rattle.semver.specs.declared.Version.{Version}
 use Rattle.features.specs.Drafts.{has_text}
-use Rattle.model.specs.Owner.{Dependency, Entry, Table, nothing, asked_of_target, entries_at, has_feature, same_text}
+use Rattle.model.specs.Summary.{Dependency, Entry, Table, nothing, asked_of_target, entries_at, has_feature, same_text}
 use Rattle.model.specs.Content.{Candidate, candidates_of}
 use Rattle.model.specs.Vertices.{the_root, version_of}
 use Rattle.model.proofs.Same.{text-same}

@@ -12,7 +12,7 @@ use Rattle.model.specs.Axioms.{versions_that}
 use Rattle.model.specs.Candidates.{Record, as_candidate}
 use Rattle.model.specs.Content.{Candidate, brings_of, candidate_at, candidates_of, same_version}
 use Rattle.model.specs.Order.{version_cmp}
-use Rattle.model.specs.Owner.{Owner, has_feature}
+use Rattle.model.specs.Summary.{Summary, has_feature}
 use Rattle.model.specs.Selection.{Class}
 use Rattle.model.specs.Vertices.{class_candidates, in_that_class, version}
 use Rattle.model.proofs.Same.{version-same, version-refl}
@@ -54,7 +54,7 @@ kept_too P t (x ∷ xs) h = by (t x) (kept_too P t xs h.1)
     by false rest = rest
 
 -- what a candidate brings is what is found by its version
-brings_same : (t : Owner → Bool) (all cs : List Candidate) → AllByRecursion (λ (e : Candidate). candidate_at all e.version ≡ Some e) cs
+brings_same : (t : Summary → Bool) (all cs : List Candidate) → AllByRecursion (λ (e : Candidate). candidate_at all e.version ≡ Some e) cs
     → filter (λ (e : Candidate). t (brings_of (candidate_at all e.version))) cs ≡ filter (λ (e : Candidate). t e.brings) cs
 brings_same t all [] h = refl
 brings_same t all (e ∷ cs) h =
@@ -71,7 +71,7 @@ pub lacking_is : (m : ManifestView) (c : CatalogueView) (name : List ℕ) (k : C
 unfolding is_lacking
 lacking_is m c name k f vs ws is rising e =
     let all = candidates_of (rows_by_name c) name in
-    let t : Owner → Bool = λ (o : Owner). not (has_feature o.features f) in
+    let t : Summary → Bool = λ (o : Summary). not (has_feature o.features f) in
     let sorted = subst (IsStrictlySortedBy version_cmp) (is ∙ versions_are (candidates_at c name) ∙ ap (map (λ (e : Candidate). e.version)) (sym (candidates_are c name))) (rising_parts vs rising) in
     with_classed m c name k ws (ap (map parts_of) e ∙ parts_filtered (is_of k) vs ∙ ap (filter (is_of k)) is) (λ v. t (brings_of (candidate_at all v)))
     ∙ ap (map (λ (e : Candidate). version e.version)) (brings_same t all (class_candidates (problem_in m c) name k) (kept_too (λ (e : Candidate). candidate_at all e.version ≡ Some e) (in_that_class k) all (found_itself all sorted)))

@@ -8,7 +8,7 @@ use Rattle.std.specs.Ordering.{nat_cmp}
 use Rattle.std.specs.Cmp.Lexicographic.{slice_cmp, texts_ties, nat_list_eq_equiv}
 use Rattle.features.specs.Drafts.{has_text}
 use Rattle.features.proofs.DraftLemmas.{has_text-insert_key}
-use Rattle.model.specs.Owner.{same_text}
+use Rattle.model.specs.Summary.{same_text}
 use Rattle.model.proofs.Same.{text-same}
 use Rattle.refutations.specs.Causes.{same_pair}
 use Rattle.axioms.specs.Pairs.{text_at, keys_if}

@@ -4,9 +4,9 @@ use Rattle.std.specs.List.{list_any}
 use Rattle.std.specs.Option.{option_or}
 use Rattle.semver.specs.Parse.{Parts}
 use Rattle.std.specs.Prelude.{◌&&◌}
-use Rattle.model.specs.Owner.{Dependency, Entry}
+use Rattle.model.specs.Summary.{Dependency, Entry}
 use Rattle.model.specs.Content.{Problem}
-use Rattle.model.specs.Vertices.{OwnerName, version_of, owner_brings}
+use Rattle.model.specs.Vertices.{Owner, version_of, owner_brings}
 use Rattle.refutations.specs.Causes.{enables, is_needed, is_unmatched, entries_of}
 use Rattle.refutations.specs.Instances.{first_place, needed_unmatched, enabled_unmatched}
 use Rattle.axioms.specs.Needs.{place_from, is_needed_unmatched, is_enabled_unmatched}
@@ -40,7 +40,7 @@ same_option (Some i) = ap Some (none_less i)
 pub from_start : {A : Type 0} (test : A → Bool) (xs : List A) → place_from test 0 xs ≡ first_place test xs
 from_start test xs = from_is test 0 xs ∙ same_option (first_place test xs)
 
-pub needed_is : (q : Problem) (o : OwnerName) (ds : List Dependency) → place_from (is_needed_unmatched q o) 0 ds ≡ first_place (λ d. is_needed o d && is_unmatched q d) ds
+pub needed_is : (q : Problem) (o : Owner) (ds : List Dependency) → place_from (is_needed_unmatched q o) 0 ds ≡ first_place (λ d. is_needed o d && is_unmatched q d) ds
 unfolding is_needed_unmatched
 needed_is q o ds = from_start (λ d. is_needed o d && is_unmatched q d) ds
 
@@ -49,7 +49,7 @@ unfolding is_enabled_unmatched
 enabled_is q es ds = from_start (λ d. list_any (enables d.name) es && is_unmatched q d) ds
 
 -- where no number is written
-pub needed_or : (q : Problem) (o : OwnerName) (ds : List Dependency) (n : Option ℕ) → ds ≡ (owner_brings q o).dependencies → n ≡ None
+pub needed_or : (q : Problem) (o : Owner) (ds : List Dependency) (n : Option ℕ) → ds ≡ (owner_brings q o).dependencies → n ≡ None
     → place_from (is_needed_unmatched q o) 0 ds ≡ option_or n (needed_unmatched q o)
 needed_or q o ds n e f = needed_is q o ds ∙ ap (first_place (λ d. is_needed o d && is_unmatched q d)) e ∙ sym (ap (λ m. option_or m (needed_unmatched q o)) f)
 

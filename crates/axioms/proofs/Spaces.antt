@@ -6,7 +6,7 @@ use Rattle.semver.specs.Parse.{Parts}
 use Rattle.semver.specs.Identifiers.{parts_of}
 use Rattle.semver.specs.EvalViews.{matches_views}
 use Rattle.semver.specs.declared.Version.{Version}
-use Rattle.model.specs.Owner.{Dependency}
+use Rattle.model.specs.Summary.{Dependency}
 use Rattle.model.specs.Content.{Candidate, Problem, candidates_of}
 use Rattle.model.specs.Selection.{Class, class_of}
 use Rattle.model.specs.Vertices.{Vertex, root, pkg, dep, feat, ask, State, absent, version, in_class, has_state, same_class, class_candidates, classes_of, dep_classes, dep_space}

@@ -2,7 +2,7 @@
 use Rattle.std.specs.Prelude.{ℕ, List, Bool}
 use Rattle.semver.specs.Parse.{Parts}
 use Rattle.std.specs.List.{list_any}
-use Rattle.model.specs.Owner.{Entry, Table, dependency_feature, entries_at}
+use Rattle.model.specs.Summary.{Entry, Table, dependency_feature, entries_at}
 use Rattle.model.specs.Content.{Problem, candidates_of}
 use Rattle.model.specs.Vertices.{version_of}
 use Rattle.refutations.specs.Causes.{asks_for, entries_or_none, owner_asks, same_entry}

@@ -2,7 +2,7 @@
 use Rattle.std.specs.Prelude.{List, [], ◌∷◌, Bool, not, ◌||◌, Option, Some, None, map}
 use Rattle.semver.specs.Parse.{Parts, Held}
 use Rattle.semver.specs.EvalViews.{matches_views}
-use Rattle.model.specs.Owner.{Dependency}
+use Rattle.model.specs.Summary.{Dependency}
 use Rattle.model.specs.Content.{Problem}
 use Rattle.model.specs.Selection.{class_of}
 use Rattle.model.specs.Vertices.{Vertex, root, pkg, dep, feat, ask, State, present, version, in_class, has_state, class_candidates, dep_classes}

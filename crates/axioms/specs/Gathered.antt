@@ -3,7 +3,7 @@
 use Rattle.std.specs.Prelude.{ℕ, List, Bool, ◌&&◌, ◌||◌}
 use Rattle.std.specs.List.{list_any}
 use Rattle.semver.specs.Parse.{Parts}
-use Rattle.model.specs.Owner.{Owner, Dependency, asked_of_target, has_feature, same_text}
+use Rattle.model.specs.Summary.{Summary, Dependency, asked_of_target, has_feature, same_text}
 use Rattle.model.specs.Content.{Problem, brings_of, candidate_at, candidates_of}
 use Rattle.refutations.specs.Causes.{owner_asks, owners}
 use Rattle.catalogue.specs.Stores.{CatalogueView, rows_by_name}
@@ -20,21 +20,21 @@ abbrev pub some_asks_by : (List ℕ → List ℕ → Bool) → List Dependency �
 some_asks_by asked ds n f = list_any (λ d. asks_by asked d n f) ds
 
 -- what entries of the root and of a version ask for
-abbrev pub root_entries_ask : Owner → List ℕ → List ℕ → Bool
+abbrev pub root_entries_ask : Summary → List ℕ → List ℕ → Bool
 root_entries_ask o d g = list_any (row_names d g) o.features
 
-abbrev pub version_entries_ask : Owner → List ℕ → List ℕ → Bool
+abbrev pub version_entries_ask : Summary → List ℕ → List ℕ → Bool
 version_entries_ask o d g = list_any (row_may_ask d g o.features) o.features
 
 -- some dependency of the root, or of a version, asks the package for the feature
-abbrev pub is_asked_by_root : Owner → List ℕ → List ℕ → Bool
+abbrev pub is_asked_by_root : Summary → List ℕ → List ℕ → Bool
 is_asked_by_root o n f = some_asks_by (root_entries_ask o) o.dependencies n f
 
-unfoldable pub is_asked_by_version : Owner → List ℕ → List ℕ → Bool
+unfoldable pub is_asked_by_version : Summary → List ℕ → List ℕ → Bool
 is_asked_by_version o n f = some_asks_by (version_entries_ask o) o.dependencies n f
 
 -- what a candidate brings
-abbrev pub brings_in : CatalogueView → List ℕ → Parts → Owner
+abbrev pub brings_in : CatalogueView → List ℕ → Parts → Summary
 brings_in c name v = brings_of (candidate_at (candidates_of (rows_by_name c) name) v)
 
 -- some candidate of this name has the feature, where this is the name

@@ -2,7 +2,7 @@
 use Rattle.std.specs.Prelude.{ℕ, List, Bool, not, map, filter}
 use Rattle.semver.specs.Parse.{Parts, Held}
 use Rattle.semver.specs.EvalViews.{matches_views}
-use Rattle.model.specs.Owner.{has_feature}
+use Rattle.model.specs.Summary.{has_feature}
 use Rattle.model.specs.Content.{Problem}
 use Rattle.model.specs.Vertices.{State, owner_brings, version, version_of}
 

@@ -2,12 +2,12 @@
 use Rattle.std.specs.Prelude.{ℕ, ◌+◌, List, [], ◌∷◌, Bool, ◌&&◌, Option, Some, None, option_and_then, if◌then◌else◌}
 use Rattle.std.specs.List.{list_any, find}
 use Rattle.semver.specs.Parse.{Parts}
-use Rattle.model.specs.Owner.{Dependency, Entry}
+use Rattle.model.specs.Summary.{Dependency, Entry}
 use Rattle.model.specs.Content.{Problem}
-use Rattle.model.specs.Vertices.{OwnerName, version_of}
+use Rattle.model.specs.Vertices.{Owner, version_of}
 use Rattle.refutations.specs.Causes.{Cause, of_enabling, enables, is_needed, is_unmatched, dependency_at, entries_of}
 
-unfoldable pub is_needed_unmatched : Problem → OwnerName → Dependency → Bool
+unfoldable pub is_needed_unmatched : Problem → Owner → Dependency → Bool
 is_needed_unmatched q o d = is_needed o d && is_unmatched q d
 
 unfoldable pub is_enabled_unmatched : Problem → List Entry → Dependency → Bool

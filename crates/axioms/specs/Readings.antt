@@ -8,7 +8,7 @@ use Rattle.model.specs.Vertices as model
 use Rattle.model.specs.Selection as selection
 use Rattle.classes.specs.Classes.{class_view}
 use Rattle.classes.specs.declared.class.Class.{Class}
-use Rattle.axioms.specs.declared.term.OwnerName.{OwnerName}
+use Rattle.axioms.specs.declared.term.Owner.{Owner}
 use Rattle.axioms.specs.Views.{owner_view}
 
 abbrev pub text_seen : Bor (List ℕ) → List ℕ
@@ -17,10 +17,10 @@ text_seen f = f.now
 abbrev pub version_seen : Bor (List ℕ) × Bor Version → List ℕ × Parts
 version_seen p = (p.0.now, parts_of p.1.now)
 
-abbrev pub dep_seen : OwnerName × ℕ → model.OwnerName × ℕ
+abbrev pub dep_seen : Owner × ℕ → model.Owner × ℕ
 dep_seen p = (owner_view p.0, p.1)
 
-abbrev pub led_seen : OwnerName × ℕ × Class → model.OwnerName × ℕ × selection.Class
+abbrev pub led_seen : Owner × ℕ × Class → model.Owner × ℕ × selection.Class
 led_seen p = (owner_view p.0, p.1, class_view p.2)
 
 abbrev pub other_seen : ℕ × Class → ℕ × selection.Class

@@ -4,20 +4,20 @@ use Rattle.std.specs.Borrow.{Bor}
 use Rattle.semver.specs.Identifiers.{parts_of}
 use Rattle.model.specs.Vertices as model
 use Rattle.model.specs.Axioms as axioms
-use Rattle.model.specs.Owner.{Owner, nothing}
+use Rattle.model.specs.Summary.{Summary, nothing}
 use Rattle.model.specs.Content.{Problem}
 use Rattle.features.specs.Views as features
-use Rattle.features.specs.declared.dependency.Owner as code
+use Rattle.features.specs.declared.dependency.Summary as code
 use Rattle.catalogue.specs.Problems.{problem_in}
 use Rattle.classes.specs.Classes.{class_view}
-use Rattle.axioms.specs.declared.term.OwnerName.{OwnerName}
-use Rattle.axioms.specs.declared.term.OwnerName.TheVariants as owner
+use Rattle.axioms.specs.declared.term.Owner.{Owner}
+use Rattle.axioms.specs.declared.term.Owner.TheVariants as owner
 use Rattle.axioms.specs.declared.term.Vertex.{Vertex}
 use Rattle.axioms.specs.declared.term.Vertex.TheVariants as vertex
 use Rattle.axioms.specs.declared.term.Term.{Term}
 use Rattle.axioms.specs.declared.known.Known.{Known}
 
-abbrev pub owner_view : OwnerName → model.OwnerName
+abbrev pub owner_view : Owner → model.Owner
 owner_view owner.Root = model.the_root
 owner_view (owner.Version n v) = model.version_of n.now (parts_of v.now)
 
@@ -37,9 +37,9 @@ term_views ts = map term_view ts
 -- ---- what terms are looked up in
 
 -- what an owner brings, where it is there
-abbrev pub brings_view : Option (Bor code.Owner) → Owner
+abbrev pub brings_view : Option (Bor code.Summary) → Summary
 brings_view None = nothing
-brings_view (Some o) = features.owner_view o.now
+brings_view (Some o) = features.summary_view o.now
 
 abbrev pub problem : Known → Problem
 problem k = problem_in k.manifest.now k.catalogue.now

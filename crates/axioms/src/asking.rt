@@ -5,8 +5,8 @@ ghost use Rattle.std.specs.List.{list_any};
 ghost use Rattle.semver.specs.Identifiers.{parts_of};
 ghost use Rattle.features.specs.Views.{dependency_view};
 ghost use Rattle.features.specs.EntryViews.{entry_views};
-ghost use Rattle.model.specs.Owner as model;
-ghost use Rattle.model.specs.Owner.{asked_of_target, dependency_feature, same_text};
+ghost use Rattle.model.specs.Summary as model;
+ghost use Rattle.model.specs.Summary.{asked_of_target, dependency_feature, same_text};
 ghost use Rattle.refutations.specs.Causes.{asks_for, root_asks_for, same_entry, same_pair, some_entry};
 ghost use Rattle.axioms.specs.Asking.{row_asks, row_names};
 ghost use Rattle.axioms.specs.Views.{owner_view, problem};
@@ -14,7 +14,7 @@ ghost use Rattle.axioms.specs.Views.{owner_view, problem};
 use crate::entries::{asks_for, has_asking};
 use crate::known::Known;
 use crate::lookups::brings;
-use crate::term::OwnerName;
+use crate::term::Owner;
 use features::{Dependency, Entry, FeatureName, FeatureTable, PackageName};
 use semver::Version;
 
@@ -40,15 +40,15 @@ fn is_default(dependency: &Dependency, feature: &FeatureName) -> bool
 /// Whether the root asks its dependency for the feature by an entry.
 pub(crate) fn root_asks_for(
     known: &Known<'_>,
-    owner: &OwnerName<'_>,
+    owner: &Owner<'_>,
     dependency: &Dependency,
     feature: &FeatureName,
 ) -> bool
     ensures { result ≡ root_asks_for (problem known.now) (owner_view owner.now) (dependency_view dependency.now) feature.now }
 {
     match owner {
-        OwnerName::Root => root_asks(known, &dependency.name, feature),
-        OwnerName::Version(_, _) => false,
+        Owner::Root => root_asks(known, &dependency.name, feature),
+        Owner::Version(_, _) => false,
     }
 }
 
@@ -93,7 +93,7 @@ pub(crate) fn some_entry_asks(
 ) -> bool
     ensures { result ≡ some_entry (problem known.now) (same_entry (dependency_feature name.now feature.now)) owner.now (parts_of version.now) }
 {
-    match brings(known, &OwnerName::Version(owner, version)) {
+    match brings(known, &Owner::Version(owner, version)) {
         Some(owner) => some_row_asks(&owner.features, name, feature),
         None => false,
     }

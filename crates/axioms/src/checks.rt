@@ -6,8 +6,8 @@ ghost use Rattle.semver.specs.Identifiers.{parts_of};
 ghost use Rattle.classes.specs.Classes.{class_view};
 ghost use Rattle.features.specs.Views.{dependency_view};
 ghost use Rattle.features.specs.EntryViews.{entry_view};
-ghost use Rattle.model.specs.Owner.{asked_of_target, same_text};
-ghost use Rattle.model.specs.Owner as model;
+ghost use Rattle.model.specs.Summary.{asked_of_target, same_text};
+ghost use Rattle.model.specs.Summary as model;
 ghost use Rattle.model.specs.Selection.{class_of};
 ghost use Rattle.model.specs.Vertices.{feat, same_vertex, version_of};
 ghost use Rattle.refutations.specs.Causes.{dependency_at, enables, is_cause, is_overtaken, is_weak_on, lists_feature, of_ask, of_asking, of_enabling, of_entry, of_feature, of_list, of_need, of_newest, of_target, of_weak, passes};
@@ -23,7 +23,7 @@ use crate::gathered::Gathered;
 use crate::known::Known;
 use crate::lookups::{dependency_at, entries_of};
 use crate::matching::{has_class, is_same};
-use crate::term::OwnerName;
+use crate::term::Owner;
 use crate::vertices::has_feature_vertex;
 use classes::Class;
 use features::{Dependency, Entry, FeatureName, PackageName};
@@ -61,7 +61,7 @@ pub(crate) fn is_cause(gathered: &Gathered<'_>, cause: &Cause<'_>) -> bool
     }
 }
 
-fn is_need(known: &Known<'_>, owner: &OwnerName<'_>, number: usize) -> bool
+fn is_need(known: &Known<'_>, owner: &Owner<'_>, number: usize) -> bool
     ensures { result ≡ is_cause (problem known.now) (of_need (owner_view owner.now) number) }
 {
     match dependency_at(known, owner, number) {
@@ -70,7 +70,7 @@ fn is_need(known: &Known<'_>, owner: &OwnerName<'_>, number: usize) -> bool
     }
 }
 
-fn is_target(known: &Known<'_>, owner: &OwnerName<'_>, number: usize, class: Class) -> bool
+fn is_target(known: &Known<'_>, owner: &Owner<'_>, number: usize, class: Class) -> bool
     ensures { result ≡ is_cause (problem known.now) (of_target (owner_view owner.now) number (class_view class)) }
 {
     match dependency_at(known, owner, number) {
@@ -81,7 +81,7 @@ fn is_target(known: &Known<'_>, owner: &OwnerName<'_>, number: usize, class: Cla
 
 fn is_list(
     known: &Known<'_>,
-    owner: &OwnerName<'_>,
+    owner: &Owner<'_>,
     number: usize,
     class: Class,
     feature: &FeatureName,
@@ -99,7 +99,7 @@ fn is_list(
 /// Whether the dependency asks for the feature, by its list or an entry of the root.
 fn lists_feature(
     known: &Known<'_>,
-    owner: &OwnerName<'_>,
+    owner: &Owner<'_>,
     dependency: &Dependency,
     feature: &FeatureName,
 ) -> bool
@@ -118,7 +118,7 @@ fn is_ask(
 ) -> bool
     ensures { result ≡ is_cause (problem known.now) (of_ask name.now (parts_of version.now) number feature.now (class_view class)) }
 {
-    match dependency_at(known, &OwnerName::Version(name, version), number) {
+    match dependency_at(known, &Owner::Version(name, version), number) {
         Some(dependency) => {
             has_class(known, class, dependency)
                 && some_entry_asks(known, name, version, &dependency.name, feature)
@@ -162,7 +162,7 @@ fn enables_number(
 ) -> bool
     ensures { result ≡ passes (λ d. enables d.name (entry_view entry.now)) (dependency_at (problem known.now) (version_of name.now (parts_of version.now)) number) }
 {
-    match dependency_at(known, &OwnerName::Version(name, version), number) {
+    match dependency_at(known, &Owner::Version(name, version), number) {
         Some(dependency) => enables(&dependency.name, entry),
         None => false,
     }
@@ -178,7 +178,7 @@ fn is_asking(
 ) -> bool
     ensures { result ≡ is_cause (problem known.now) (of_asking name.now (parts_of version.now) on.now asked.now number) }
 {
-    match dependency_at(known, &OwnerName::Version(name, version), number) {
+    match dependency_at(known, &Owner::Version(name, version), number) {
         Some(dependency) => has_asking(
             &dependency.name,
             asked,
@@ -190,7 +190,7 @@ fn is_asking(
 
 fn is_newest(
     known: &Known<'_>,
-    owner: &OwnerName<'_>,
+    owner: &Owner<'_>,
     number: usize,
     other: usize,
     class: Class,
@@ -203,7 +203,7 @@ fn is_newest(
 
 fn are_newest(
     known: &Known<'_>,
-    owner: &OwnerName<'_>,
+    owner: &Owner<'_>,
     number: usize,
     other: usize,
     class: Class,
@@ -219,7 +219,7 @@ fn are_newest(
 
 fn overtakes(
     known: &Known<'_>,
-    owner: &OwnerName<'_>,
+    owner: &Owner<'_>,
     dependency: &Dependency,
     other: usize,
     class: Class,
@@ -261,7 +261,7 @@ fn is_weak(
 ) -> bool
     ensures { result ≡ is_cause (problem known.now) (of_weak name.now (parts_of version.now) on.now off.now number (class_view class)) }
 {
-    match dependency_at(known, &OwnerName::Version(name, version), number) {
+    match dependency_at(known, &Owner::Version(name, version), number) {
         Some(dependency) => is_weak_on(known, name, version, on, off, class, dependency),
         None => false,
     }

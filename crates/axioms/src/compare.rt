@@ -10,7 +10,7 @@ ghost use Rattle.axioms.specs.Views.{owner_view, term_views, vertex_view};
 use crate::matching::is_same;
 use crate::order::same_version;
 use crate::states::States;
-use crate::term::{OwnerName, Term, Vertex};
+use crate::term::{Owner, Term, Vertex};
 
 /// Whether two lists of terms say the same of each vertex that one of them speaks of.
 pub(crate) fn same_terms<'a>(a: &[Term<'a>], b: &[Term<'a>]) -> bool
@@ -47,12 +47,12 @@ fn states_at<'s, 'a>(terms: &'s [Term<'a>], vertex: &Vertex<'_>) -> Option<&'s S
     None
 }
 
-fn same_owner(a: &OwnerName<'_>, b: &OwnerName<'_>) -> bool
+fn same_owner(a: &Owner<'_>, b: &Owner<'_>) -> bool
     ensures { result ≡ same_owner (owner_view a.now) (owner_view b.now) }
 {
     match (a, b) {
-        (OwnerName::Root, OwnerName::Root) => true,
-        (OwnerName::Version(n, v), OwnerName::Version(m, w)) => *n == *m && same_version(v, w),
+        (Owner::Root, Owner::Root) => true,
+        (Owner::Version(n, v), Owner::Version(m, w)) => *n == *m && same_version(v, w),
         _ => false,
     }
 }

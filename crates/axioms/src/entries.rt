@@ -3,8 +3,8 @@
 ghost use Rattle.std.specs.Prelude.{◌≡◌, option_map};
 ghost use Rattle.std.specs.List.{find, list_any};
 ghost use Rattle.std.specs.Prelude.{◌&&◌};
-ghost use Rattle.model.specs.Owner as model;
-ghost use Rattle.model.specs.Owner.{same_text};
+ghost use Rattle.model.specs.Summary as model;
+ghost use Rattle.model.specs.Summary.{same_text};
 ghost use Rattle.features.specs.EntryViews.{entry_view, entry_views};
 ghost use Rattle.refutations.specs.Causes.{asks_for, enables, same_entry};
 

@@ -22,7 +22,7 @@ use crate::reading::{
     first_ask, first_dependency, first_feature, first_led, first_off, first_on, first_other,
     first_owner, first_version,
 };
-use crate::term::{OwnerName, Term};
+use crate::term::{Owner, Term};
 use classes::Class;
 use derivations::Kind;
 use features::{Dependency, Entry, FeatureName, PackageName};
@@ -33,16 +33,16 @@ pub(crate) fn cause_in<'a>(known: &Known<'a>, kind: Kind, terms: &[Term<'a>]) ->
     ensures { option_map cause_view result ≡ cause_in (problem known.now) (kind_view kind) (term_views terms.now) }
 {
     match kind {
-        Kind::X0 => Some(Cause::Root),
-        Kind::X1 => need_in(known, terms),
-        Kind::X2 => target_in(terms),
-        Kind::X3 => feature_in(terms),
-        Kind::X4 => ask_or_list_in(terms),
-        Kind::X5 => entry_in(terms),
-        Kind::X6 => enabling_in(known, terms),
-        Kind::X7 => asking_in(terms),
-        Kind::X8 => newest_in(terms),
-        Kind::X9 => weak_in(terms),
+        Kind::Root => Some(Cause::Root),
+        Kind::Needed => need_in(known, terms),
+        Kind::Target => target_in(terms),
+        Kind::HasFeature => feature_in(terms),
+        Kind::WantsFeature => ask_or_list_in(terms),
+        Kind::FeatureOnFeature => entry_in(terms),
+        Kind::FeatureOnDependency => enabling_in(known, terms),
+        Kind::FeatureAsks => asking_in(terms),
+        Kind::NewestListed => newest_in(terms),
+        Kind::WeakFeature => weak_in(terms),
     }
 }
 
@@ -123,7 +123,7 @@ fn newest_in<'a>(terms: &[Term<'a>]) -> Option<Cause<'a>>
 
 /// The dependency with the lower class comes first.
 fn newest_of(
-    owner: OwnerName<'_>,
+    owner: Owner<'_>,
     number: usize,
     class: Class,
     other: usize,
@@ -146,7 +146,7 @@ fn need_in<'a>(known: &Known<'_>, terms: &[Term<'a>]) -> Option<Cause<'a>>
     Some(Cause::Need(owner, number))
 }
 
-fn needed_number(known: &Known<'_>, owner: &OwnerName<'_>, terms: &[Term<'_>]) -> Option<usize>
+fn needed_number(known: &Known<'_>, owner: &Owner<'_>, terms: &[Term<'_>]) -> Option<usize>
     ensures { result ≡ option_or (number_read (term_views terms.now)) (needed_unmatched (problem known.now) (owner_view owner.now)) }
 {
     match first_dependency(terms) {
@@ -156,11 +156,7 @@ fn needed_number(known: &Known<'_>, owner: &OwnerName<'_>, terms: &[Term<'_>]) -
 }
 
 /// The number of the first dependency that the owner needs and no candidate serves.
-fn first_needed(
-    known: &Known<'_>,
-    owner: &OwnerName<'_>,
-    dependencies: &[Dependency],
-) -> Option<usize>
+fn first_needed(known: &Known<'_>, owner: &Owner<'_>, dependencies: &[Dependency]) -> Option<usize>
     ensures { result ≡ place_from (is_needed_unmatched (problem known.now) (owner_view owner.now)) 0 (dependency_views dependencies.now) }
 {
     'dependencies: for (number, dependency) in dependencies.iter().enumerate() {
@@ -172,19 +168,19 @@ fn first_needed(
 }
 
 #[tactic(auto, unfolding(crate::specs::Needs::is_needed_unmatched))]
-fn is_needed_unmatched(known: &Known<'_>, owner: &OwnerName<'_>, dependency: &Dependency) -> bool
+fn is_needed_unmatched(known: &Known<'_>, owner: &Owner<'_>, dependency: &Dependency) -> bool
     ensures { result ≡ is_needed_unmatched (problem known.now) (owner_view owner.now) (dependency_view dependency.now) }
 {
     is_needed(owner, dependency) && is_unmatched(known, dependency)
 }
 
 /// Whether the owner needs the dependency: the root each one, a version those that aren't optional.
-pub(crate) fn is_needed(owner: &OwnerName<'_>, dependency: &Dependency) -> bool
+pub(crate) fn is_needed(owner: &Owner<'_>, dependency: &Dependency) -> bool
     ensures { result ≡ is_needed (owner_view owner.now) (dependency_view dependency.now) }
 {
     match owner {
-        OwnerName::Root => true,
-        OwnerName::Version(_, _) => !dependency.optional,
+        Owner::Root => true,
+        Owner::Version(_, _) => !dependency.optional,
     }
 }
 
@@ -207,7 +203,7 @@ fn enabling<'a>(
 ) -> Option<Cause<'a>>
     ensures { option_map cause_view result ≡ enabling_by (problem known.now) name.entry.now (parts_of version.entry.now) on.entry.now number }
 {
-    let dependency = dependency_at(known, &OwnerName::Version(name, version), number)?;
+    let dependency = dependency_at(known, &Owner::Version(name, version), number)?;
     let entry = first_enabling(&dependency.name, entries_of(known, name, version, on))?;
     Some(Cause::Enabling(name, version, on, entry, number))
 }
@@ -225,7 +221,7 @@ fn enabled_number(
         Some((_, number)) => Some(number),
         None => first_enabled(
             known,
-            dependencies_of(known, &OwnerName::Version(name, version)),
+            dependencies_of(known, &Owner::Version(name, version)),
             entries_of(known, name, version, on),
         ),
     }

@@ -17,7 +17,7 @@ use crate::lookups::dependency_at;
 use crate::matching::is_matched;
 use crate::ranges::class_versions;
 use crate::states::States;
-use crate::term::{OwnerName, State, Term, Vertex};
+use crate::term::{Owner, State, Term, Vertex};
 use classes::Class;
 use features::{Dependency, PackageName};
 use semver::{Version, VersionReq};
@@ -90,7 +90,7 @@ fn has_version(states: &States<'_>, version: &Version) -> bool
     states.has(&State::Version(version))
 }
 
-fn has_classes(known: &Known<'_>, owner: &OwnerName<'_>, number: usize, states: &States<'_>) -> bool
+fn has_classes(known: &Known<'_>, owner: &Owner<'_>, number: usize, states: &States<'_>) -> bool
     ensures { result ≡ list_all (has_state states.now) (others (problem known.now) (model.dep (owner_view owner.now) number)) }
 {
     match dependency_at(known, owner, number) {

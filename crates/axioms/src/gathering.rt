@@ -3,10 +3,10 @@
 ghost use Rattle.std.specs.Prelude.{◌≡◌, ◌&&◌, ◌||◌, List, ℕ, IfOk, OnOk, codes, slice_get};
 ghost use Rattle.std.specs.List.{list_any};
 ghost use Rattle.semver.specs.Identifiers.{parts_of};
-ghost use Rattle.features.specs.Views.{dependency_view, dependency_views, owner_view};
+ghost use Rattle.features.specs.Views.{dependency_view, dependency_views, summary_view};
 ghost use Rattle.features.specs.EntryViews.{entry_view, entry_views};
 ghost use Rattle.model.specs.Content.{candidates_of};
-ghost use Rattle.model.specs.Owner.{asked_of_target, has_feature, same_text};
+ghost use Rattle.model.specs.Summary.{asked_of_target, has_feature, same_text};
 ghost use Rattle.refutations.specs.Causes.{asks_for, passes, same_pair};
 ghost use Rattle.catalogue.specs.Problems.{problem_in};
 ghost use Rattle.catalogue.specs.Stores.{rows_by_name};
@@ -16,7 +16,7 @@ ghost use Rattle.axioms.specs.Pairs.{Adds, HasThose, has_pair};
 
 use crate::pairs::Pairs;
 use catalogue::Catalogue;
-use features::{Dependency, Entry, FeatureName, FeatureTable, Owner, PackageName};
+use features::{Dependency, Entry, FeatureName, FeatureTable, PackageName, Summary};
 use manifest::Manifest;
 use semver::Version;
 use std::alloc::{AllocError, Global};
@@ -30,14 +30,14 @@ pub(crate) fn known_features<'a>(
     ensures { IfOk result (λ p. HasThose p (is_known_feature (problem_in manifest.entry.now catalogue.entry.now))) }
 {
     let mut known = Pairs::new(alloc);
-    put_root(alloc, &mut known, manifest.owner())?;
+    put_root(alloc, &mut known, manifest.summary())?;
     put_names(alloc, &mut known, catalogue, catalogue.names())?;
     Ok(known)
 }
 
 /// Puts what the root's dependencies ask for.
-fn put_root<'a>(alloc: Global, known: &mut Pairs<'a>, owner: &'a Owner) -> Result<(), AllocError>
-    ensures { OnOk result (Adds known.old known.new (is_asked_by_root (owner_view owner.now))) }
+fn put_root<'a>(alloc: Global, known: &mut Pairs<'a>, owner: &'a Summary) -> Result<(), AllocError>
+    ensures { OnOk result (Adds known.old known.new (is_asked_by_root (summary_view owner.now))) }
 {
     let asked = asked_by_root(alloc, &owner.features)?;
     put_dependencies(known, &asked, owner.dependencies.as_slice())
@@ -157,8 +157,8 @@ fn put_version<'a>(
 }
 
 #[tactic(auto, unfolding(crate::specs::Gathered::is_asked_by_version))]
-fn put_owner<'a>(alloc: Global, known: &mut Pairs<'a>, owner: &'a Owner) -> Result<(), AllocError>
-    ensures { OnOk result (Adds known.old known.new (is_asked_by_version (owner_view owner.now))) }
+fn put_owner<'a>(alloc: Global, known: &mut Pairs<'a>, owner: &'a Summary) -> Result<(), AllocError>
+    ensures { OnOk result (Adds known.old known.new (is_asked_by_version (summary_view owner.now))) }
 {
     let asked = asked_by_version(alloc, &owner.features)?;
     put_dependencies(known, &asked, owner.dependencies.as_slice())

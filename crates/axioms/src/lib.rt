@@ -27,4 +27,4 @@ pub use gathered::Gathered;
 pub use instance::is_instance;
 pub use ranges::class_versions;
 pub use states::States;
-pub use term::{OwnerName, State, Term, Vertex};
+pub use term::{Owner, State, Term, Vertex};

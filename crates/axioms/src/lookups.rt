@@ -9,17 +9,17 @@ ghost use Rattle.refutations.specs.Causes.{dependency_at, entries_of};
 ghost use Rattle.axioms.specs.Views.{owner_view, brings_view, problem};
 
 use crate::known::Known;
-use crate::term::OwnerName;
-use features::{Dependency, Entry, FeatureName, Owner, PackageName};
+use crate::term::Owner;
+use features::{Dependency, Entry, FeatureName, PackageName, Summary};
 use semver::Version;
 
 /// What an owner brings: nothing where it is neither the root nor a candidate.
-pub(crate) fn brings<'a>(known: &Known<'a>, owner: &OwnerName<'_>) -> Option<&'a Owner>
+pub(crate) fn brings<'a>(known: &Known<'a>, owner: &Owner<'_>) -> Option<&'a Summary>
     ensures { brings_view result ≡ owner_brings (problem known.now) (owner_view owner.now) }
 {
     match owner {
-        OwnerName::Root => Some(known.manifest.owner()),
-        OwnerName::Version(name, version) => {
+        Owner::Root => Some(known.manifest.summary()),
+        Owner::Version(name, version) => {
             let candidate = known.catalogue.candidate(name, version)?;
             Some(&candidate.brings)
         }
@@ -27,7 +27,7 @@ pub(crate) fn brings<'a>(known: &Known<'a>, owner: &OwnerName<'_>) -> Option<&'a
 }
 
 /// The dependencies of an owner.
-pub(crate) fn dependencies_of<'a>(known: &Known<'a>, owner: &OwnerName<'_>) -> &'a [Dependency]
+pub(crate) fn dependencies_of<'a>(known: &Known<'a>, owner: &Owner<'_>) -> &'a [Dependency]
     ensures { dependency_views result.now ≡ (owner_brings (problem known.now) (owner_view owner.now)).dependencies }
 {
     match brings(known, owner) {
@@ -39,7 +39,7 @@ pub(crate) fn dependencies_of<'a>(known: &Known<'a>, owner: &OwnerName<'_>) -> &
 /// The dependency of an owner that has this number.
 pub(crate) fn dependency_at<'a>(
     known: &Known<'a>,
-    owner: &OwnerName<'_>,
+    owner: &Owner<'_>,
     number: usize,
 ) -> Option<&'a Dependency>
     ensures { option_map (λ d. dependency_view d.now) result ≡ dependency_at (problem known.now) (owner_view owner.now) number }
@@ -56,7 +56,7 @@ pub(crate) fn entries_of<'a>(
 ) -> &'a [Entry]
     ensures { entry_views result.now ≡ entries_of (problem known.now) name.now (parts_of version.now) feature.now }
 {
-    match brings(known, &OwnerName::Version(name, version)) {
+    match brings(known, &Owner::Version(name, version)) {
         Some(owner) => owner.features.entries(feature),
         None => &[],
     }

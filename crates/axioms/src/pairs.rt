@@ -1,7 +1,7 @@
 //! Pairs of a name and a feature.
 
 ghost use Rattle.std.specs.Prelude.{◌≡◌, ◌&&◌, ◌||◌, false, List, ℕ, OnOk};
-ghost use Rattle.model.specs.Owner.{same_text};
+ghost use Rattle.model.specs.Summary.{same_text};
 ghost use Rattle.refutations.specs.Causes.{same_pair};
 ghost use Rattle.std.specs.List.{list_any};
 

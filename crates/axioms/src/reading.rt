@@ -5,19 +5,19 @@ ghost use Rattle.refutations.specs.Instances.{first_read, other_read, read_term,
 ghost use Rattle.axioms.specs.Views.{term_view, term_views, owner_view};
 ghost use Rattle.axioms.specs.Readings.{version_seen, dep_seen, led_seen, other_seen, feature_seen, text_seen, ask_seen};
 
-use crate::term::{OwnerName, State, Term, Vertex};
+use crate::term::{Owner, State, Term, Vertex};
 use classes::Class;
 use features::{FeatureName, PackageName};
 use semver::Version;
 
 /// The owner that holds.
-fn owner<'a>(term: &Term<'a>) -> Option<OwnerName<'a>>
+fn owner<'a>(term: &Term<'a>) -> Option<Owner<'a>>
     ensures { option_map owner_view result ≡ read_term owner_read (term_view term.now) }
 {
     match (term.vertex, term.states.first()) {
-        (Vertex::Root, _) => Some(OwnerName::Root),
+        (Vertex::Root, _) => Some(Owner::Root),
         (Vertex::Package(name, _), Some(State::Version(version))) => {
-            Some(OwnerName::Version(name, version))
+            Some(Owner::Version(name, version))
         }
         _ => None,
     }
@@ -34,7 +34,7 @@ fn version<'a>(term: &Term<'a>) -> Option<(&'a PackageName, &'a Version)>
 }
 
 /// The owner and number of a dependency.
-fn dependency<'a>(term: &Term<'a>) -> Option<(OwnerName<'a>, usize)>
+fn dependency<'a>(term: &Term<'a>) -> Option<(Owner<'a>, usize)>
     ensures { option_map dep_seen result ≡ read_term dep_read (term_view term.now) }
 {
     match term.vertex {
@@ -44,7 +44,7 @@ fn dependency<'a>(term: &Term<'a>) -> Option<(OwnerName<'a>, usize)>
 }
 
 /// The same with the class that it leads to.
-fn led<'a>(term: &Term<'a>) -> Option<(OwnerName<'a>, usize, Class)>
+fn led<'a>(term: &Term<'a>) -> Option<(Owner<'a>, usize, Class)>
     ensures { option_map led_seen result ≡ read_term led_read (term_view term.now) }
 {
     match (term.vertex, term.states.first()) {
@@ -96,7 +96,7 @@ fn ask<'a>(term: &Term<'a>) -> Option<(&'a PackageName, &'a Version, usize, &'a 
 }
 
 /// The first owner that holds.
-pub(crate) fn first_owner<'a>(terms: &[Term<'a>]) -> Option<OwnerName<'a>>
+pub(crate) fn first_owner<'a>(terms: &[Term<'a>]) -> Option<Owner<'a>>
     ensures { option_map owner_view result ≡ first_read owner_read (term_views terms.now) }
 {
     'terms: for term in terms.iter() {
@@ -120,7 +120,7 @@ pub(crate) fn first_version<'a>(terms: &[Term<'a>]) -> Option<(&'a PackageName, 
 }
 
 /// The first dependency.
-pub(crate) fn first_dependency<'a>(terms: &[Term<'a>]) -> Option<(OwnerName<'a>, usize)>
+pub(crate) fn first_dependency<'a>(terms: &[Term<'a>]) -> Option<(Owner<'a>, usize)>
     ensures { option_map dep_seen result ≡ first_read dep_read (term_views terms.now) }
 {
     'terms: for term in terms.iter() {
@@ -132,7 +132,7 @@ pub(crate) fn first_dependency<'a>(terms: &[Term<'a>]) -> Option<(OwnerName<'a>,
 }
 
 /// The first dependency that leads to a class.
-pub(crate) fn first_led<'a>(terms: &[Term<'a>]) -> Option<(OwnerName<'a>, usize, Class)>
+pub(crate) fn first_led<'a>(terms: &[Term<'a>]) -> Option<(Owner<'a>, usize, Class)>
     ensures { option_map led_seen result ≡ first_read led_read (term_views terms.now) }
 {
     'terms: for term in terms.iter() {

@@ -7,7 +7,7 @@ use semver::Version;
 
 /// Whose dependency it is.
 #[derive(Clone, Copy)]
-pub enum OwnerName<'a> {
+pub enum Owner<'a> {
     Root,
     /// A version of a package.
     Version(&'a PackageName, &'a Version),
@@ -20,7 +20,7 @@ pub enum Vertex<'a> {
     /// The versions of a package in a class.
     Package(&'a PackageName, Class),
     /// A dependency of an owner by its number.
-    Dependency(OwnerName<'a>, usize),
+    Dependency(Owner<'a>, usize),
     /// A feature of the versions of a package in a class.
     Feature(&'a PackageName, Class, &'a FeatureName),
     /// A feature that an entry `d/g` of a version asks for through the dependency of this number.

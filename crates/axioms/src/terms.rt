@@ -5,7 +5,7 @@ ghost use Rattle.semver.specs.Identifiers.{parts_of};
 ghost use Rattle.classes.specs.Classes.{class_view};
 ghost use Rattle.features.specs.Views.{dependency_view, requirement_view};
 ghost use Rattle.model.specs.Axioms.{absent_or, at, matched, owner_holds, versions_that};
-ghost use Rattle.model.specs.Owner.{has_feature};
+ghost use Rattle.model.specs.Summary.{has_feature};
 ghost use Rattle.model.specs.Selection.{class_of};
 ghost use Rattle.model.specs.Vertices as model;
 ghost use Rattle.model.specs.Vertices.{owner_brings};
@@ -22,7 +22,7 @@ use crate::lookups::{brings, dependency_at};
 use crate::matching::{is_left, is_taken};
 use crate::ranges::{class_versions, of_class};
 use crate::states::States;
-use crate::term::{OwnerName, State, Term, Vertex};
+use crate::term::{Owner, State, Term, Vertex};
 use classes::Class;
 use features::{Dependency, FeatureName, PackageName};
 use semver::{Version, VersionReq};
@@ -103,12 +103,12 @@ fn three<'a>(
 }
 
 /// The owner holds.
-fn holds<'a>(alloc: Global, owner: OwnerName<'a>) -> Result<Term<'a>, AllocError>
+fn holds<'a>(alloc: Global, owner: Owner<'a>) -> Result<Term<'a>, AllocError>
     ensures { IfOk result (λ t. term_view t ≡ owner_holds (owner_view owner.entry)) }
 {
     match owner {
-        OwnerName::Root => term(alloc, Vertex::Root, State::Present),
-        OwnerName::Version(name, version) => chosen(alloc, name, version),
+        Owner::Root => term(alloc, Vertex::Root, State::Present),
+        Owner::Version(name, version) => chosen(alloc, name, version),
     }
 }
 
@@ -143,11 +143,7 @@ fn on_term<'a>(
     )
 }
 
-fn need_terms(
-    alloc: Global,
-    owner: OwnerName<'_>,
-    number: usize,
-) -> Result<Vec<Term<'_>>, AllocError>
+fn need_terms(alloc: Global, owner: Owner<'_>, number: usize) -> Result<Vec<Term<'_>>, AllocError>
     ensures { IfOk result (λ v. term_views v.items ≡ owner_holds (owner_view owner.entry) ∷ at (model.dep (owner_view owner.entry) number) (model.absent ∷ []) ∷ []) }
 {
     two(
@@ -193,7 +189,7 @@ fn enabling_terms<'a>(
         on_term(alloc, name, version, on)?,
         term(
             alloc,
-            Vertex::Dependency(OwnerName::Version(name, version), number),
+            Vertex::Dependency(Owner::Version(name, version), number),
             State::Absent,
         )?,
     )
@@ -224,7 +220,7 @@ fn asking_terms<'a>(
 fn target_terms<'a>(
     alloc: Global,
     known: &Known<'a>,
-    owner: OwnerName<'a>,
+    owner: Owner<'a>,
     number: usize,
     class: Class,
 ) -> Result<Vec<Term<'a>>, AllocError>
@@ -316,7 +312,7 @@ fn taken_states<'a>(
 fn list_terms<'a>(
     alloc: Global,
     known: &Known<'a>,
-    owner: OwnerName<'a>,
+    owner: Owner<'a>,
     number: usize,
     class: Class,
     feature: &'a FeatureName,
@@ -364,7 +360,7 @@ fn ask_terms<'a>(
 ) -> Result<Vec<Term<'a>>, AllocError>
     ensures { IfOk result (λ v. term_views v.items ≡ terms_of_cause (problem known.now) (causes.of_ask name.entry.now (parts_of version.entry.now) number feature.entry.now (class_view class))) }
 {
-    let owner = OwnerName::Version(name, version);
+    let owner = Owner::Version(name, version);
     match dependency_at(known, &owner, number) {
         Some(dependency) => three(
             alloc,
@@ -387,7 +383,7 @@ fn ask_terms<'a>(
 fn newest_terms<'a>(
     alloc: Global,
     known: &Known<'a>,
-    owner: OwnerName<'a>,
+    owner: Owner<'a>,
     number: usize,
     other: usize,
     class: Class,
@@ -426,7 +422,7 @@ fn weak_terms<'a>(
 ) -> Result<Vec<Term<'a>>, AllocError>
     ensures { IfOk result (λ v. term_views v.items ≡ terms_of_cause (problem known.now) (causes.of_weak name.entry.now (parts_of version.entry.now) on.entry.now off.entry.now number (class_view class))) }
 {
-    let owner = OwnerName::Version(name, version);
+    let owner = Owner::Version(name, version);
     match dependency_at(known, &owner, number) {
         Some(dependency) => {
             let mut terms = three(
@@ -522,7 +518,7 @@ fn has_feature(
 ) -> bool
     ensures { result ≡ has_feature (owner_brings (problem known.now) (model.version_of name.now (parts_of version.now))).features feature.now }
 {
-    match brings(known, &OwnerName::Version(name, version)) {
+    match brings(known, &Owner::Version(name, version)) {
         Some(owner) => owner.features.has(feature),
         None => false,
     }

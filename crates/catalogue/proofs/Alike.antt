@@ -14,7 +14,7 @@ use Rattle.model.specs.Candidates.{is_locked}
 use Rattle.model.specs.Content as model
 use Rattle.model.specs.Content.{Content, same_version, same_option}
 use Rattle.model.specs.Order.{text_cmp, version_cmp, package_cmp}
-use Rattle.model.specs.Owner.{same_text}
+use Rattle.model.specs.Summary.{same_text}
 use Rattle.model.proofs.Lists.{to_any, to_map, all_first, all_rest}
 use Rattle.model.proofs.Same.{text-same, text-refl, version-same, version-refl}
 use Rattle.lockfile.specs.Locks.{is_alike}

@@ -16,7 +16,7 @@ use Rattle.semver.specs.Parse.{Parts}
 use Rattle.semver.specs.declared.Version.{Version}
 use Rattle.model.specs.Candidates.{RustVersion, Record, fits, IsOlder, IsApart, may_be_locked, oldest_first}
 use Rattle.model.specs.Order.{precedence}
-use Rattle.model.specs.Owner.{KnowsFeatures}
+use Rattle.model.specs.Summary.{KnowsFeatures}
 use Rattle.model.proofs.Candidates as model
 use Rattle.model.proofs.Candidates.{oldest_first-permutes, oldest_first-rises, sorted_is_oldest_first}
 use Rattle.model.proofs.Lists.{in_filter, to_filter, all_none, all_cons, all_first, all_rest}

@@ -3,7 +3,7 @@ use Rattle.std.proofs.Common.{◌≡◌, ◌≢◌, ℕ, List, [], ◌∷◌, ma
 use Rattle.std.specs.List.{All, AllPairs}
 use Rattle.std.specs.declared.cmp.Ordering.TheVariants.{Less}
 use Rattle.std.proofs.lemmas.List.Kept.{AllPairs-filter}
-use Rattle.model.specs.Owner.{KnowsFeatures}
+use Rattle.model.specs.Summary.{KnowsFeatures}
 use Rattle.model.specs.Content.{Candidate, Content, Problem}
 use Rattle.model.specs.Order.{precedence}
 use Rattle.model.specs.Candidates.{Record, RustVersion, IsApart, as_candidate, is_locked, may_be_locked}

@@ -4,7 +4,7 @@ use Rattle.std.specs.List.{All}
 use Rattle.std.proofs.lemmas.Bool.{or_left}
 use Rattle.std.proofs.lemmas.List.Elements.{Contains-push_cases}
 use Rattle.semver.specs.Parse.{Parts}
-use Rattle.model.specs.Owner.{Dependency}
+use Rattle.model.specs.Summary.{Dependency}
 use Rattle.model.specs.Content.{Candidate, Content, Package, Problem, candidates_of, is_root}
 use Rattle.model.specs.Candidates.{Record, is_locked}
 use Rattle.model.specs.Selection.{IsValidSelection}

@@ -1,7 +1,7 @@
 -- What holds of the records of a name: each version is there once, and each record knows its features.
 use Rattle.std.proofs.Common.{◌≡◌, List, [], ◌∷◌, Contains, Some, None, sym, ap, ◌∙◌, inl, inr}
 use Rattle.std.specs.List.{All, AllPairs}
-use Rattle.model.specs.Owner.{KnowsFeatures}
+use Rattle.model.specs.Summary.{KnowsFeatures}
 use Rattle.model.specs.Candidates.{Record, IsApart}
 use Rattle.model.proofs.Contents.{precedence-equal}
 use Rattle.model.proofs.Lists.{in_none, in_cons, all_none, pairs_none, pairs_first, pairs_rest}

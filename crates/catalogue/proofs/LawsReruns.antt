@@ -3,7 +3,7 @@ use Rattle.std.proofs.Common.{◌≡◌, ℕ, zero, suc, ◌+◌, ◌<◌, ◌�
 use Rattle.std.specs.List.{All}
 use Rattle.std.proofs.lemmas.List.{length-append, length-map}
 use Rattle.std.proofs.lemmas.List.Elements.{All-append}
-use Rattle.model.specs.Owner.{Dependency}
+use Rattle.model.specs.Summary.{Dependency}
 use Rattle.model.specs.Content.{Content}
 use Rattle.model.specs.Selection.{IsValidSelection}
 use Rattle.model.proofs.Lists.{in_none, in_map, to_map, all_none, all_cons}

@@ -3,8 +3,8 @@ use Rattle.std.proofs.Common.{◌≡◌, ℕ, List, Bool, true, false, not, cond
 use Rattle.std.proofs.lemmas.Bool.{or_right}
 use Rattle.std.proofs.lemmas.Option.{same_Some}
 use Rattle.semver.specs.Parse.{Parts}
-use Rattle.model.specs.Owner.{Owner, Dependency}
-use Rattle.model.specs.Content.{Candidate, Content, Package, Problem, candidates_of, candidate_at, candidate_of, is_root, brings_of, owner_if, owner_at}
+use Rattle.model.specs.Summary.{Summary, Dependency}
+use Rattle.model.specs.Content.{Candidate, Content, Package, Problem, candidates_of, candidate_at, candidate_of, is_root, brings_of, summary_if, summary_at}
 use Rattle.model.specs.Candidates.{Record, as_candidate, is_locked}
 use Rattle.model.specs.Selection.{IsValidSelection, IsOther, IsReached}
 use Rattle.model.specs.Selection.IsReached.{root, listed}
@@ -55,18 +55,18 @@ module _ (files : List ℕ → Option (List ℕ)) (manifest : ManifestView) (old
 
   -- what a package needs is asked for in the second run, if its own name is
   needs_asked : (n i : ℕ) (d : Dependency) (p : Package) → slice_get content n ≡ Some p → (is_root before p ≡ false → Contains (names_in again) p.name)
-      → slice_get (owner_at before content n).dependencies i ≡ Some d → Contains (names_in again) d.real_name
+      → slice_get (summary_at before content n).dependencies i ≡ Some d → Contains (names_in again) d.real_name
   needs_asked n i d p got named has =
       all_asked content source needs again rerun.in_turn rerun.ended d.real_name (by (is_root before p) refl)
     where
       means : List Dependency → Type 0
       means ds = Contains (meant_by ds) d.real_name
 
-      meant : (o : Owner) → owner_at before content n ≡ o → means o.dependencies
-      meant o e = to_map (λ (d : Dependency). d.real_name) o.dependencies d (got_in o.dependencies i d (ap (λ (o : Owner). slice_get o.dependencies i) (sym e) ∙ has))
+      meant : (o : Summary) → summary_at before content n ≡ o → means o.dependencies
+      meant o e = to_map (λ (d : Dependency). d.real_name) o.dependencies d (got_in o.dependencies i d (ap (λ (o : Summary). slice_get o.dependencies i) (sym e) ∙ has))
 
-      brought : (b : Bool) → is_root before p ≡ b → owner_at before content n ≡ cond b manifest.brings (brings_of (candidate_of before p))
-      brought b e = ap (owner_if before) got ∙ ap (λ b. cond b manifest.brings (brings_of (candidate_of before p))) e
+      brought : (b : Bool) → is_root before p ≡ b → summary_at before content n ≡ cond b manifest.brings (brings_of (candidate_of before p))
+      brought b e = ap (summary_if before) got ∙ ap (λ b. cond b manifest.brings (brings_of (candidate_of before p))) e
 
       by : (b : Bool) → is_root before p ≡ b → Contains (needed content source needs again) d.real_name
       by true e = needed-root content source needs again d.real_name (meant manifest.brings (brought true e))

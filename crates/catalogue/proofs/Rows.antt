@@ -8,7 +8,7 @@ use Rattle.std.proofs.lemmas.Option.{slice_get_past, slice_get-get_or}
 use Rattle.std.proofs.lemmas.List.{length-map}
 use Rattle.std.proofs.lemmas.List.Kept.{AllPairs-cons}
 use Rattle.index_reader.specs.Files.{SkipView}
-use Rattle.model.specs.Owner.{same_text}
+use Rattle.model.specs.Summary.{same_text}
 use Rattle.model.proofs.Lists.{all_none, all_cons, pairs_none}
 use Rattle.model.proofs.Same.{text-refl}
 use Rattle.catalogue.specs.Views.{AreRising, AreKnown, most_candidates, ranked_of}

@@ -8,7 +8,7 @@ use Rattle.indexmap.specs.IndexSet.{insert_key, insert_all}
 use Rattle.semver.specs.declared.Version.{Version}
 use Rattle.model.specs.Candidates.{Record, RustVersion, is_locked}
 use Rattle.model.specs.Content.{Content}
-use Rattle.model.specs.Owner.{Dependency, same_text}
+use Rattle.model.specs.Summary.{Dependency, same_text}
 use Rattle.model.proofs.Lists.{all_none, all_cons, all_first, all_rest}
 use Rattle.model.proofs.Same.{text-same, text-refl}
 use Rattle.features.specs.Views.{dependency_views}

@@ -9,7 +9,7 @@ use Rattle.semver.specs.Identifiers.{parts_of}
 use Rattle.model.specs.Content.{Content, Package, same_option}
 use Rattle.model.specs.Candidates.{Record as ModelRecord, RustVersion, candidates_among, is_locked, preferred_rust}
 use Rattle.model.specs.Candidates.Prefer.{newest, rust_first}
-use Rattle.model.specs.Owner.{Dependency, same_text}
+use Rattle.model.specs.Summary.{Dependency, same_text}
 use Rattle.index_reader.specs.Files.{SkipView, FileView, no_lines, line_count, records_of_file}
 use Rattle.index_reader.specs.Paths.{path_of}
 use Rattle.index_reader.specs.Views.{record_view, contents_view}

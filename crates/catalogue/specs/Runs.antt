@@ -1,7 +1,7 @@
 -- The run of a folder: which names are asked for, in which order, and what the folder answers (Cargo book, "Registry Index"; the order is our
 -- own). The index of a run is the list of names with these answers.
 use Rattle.std.specs.Prelude.{◌≡◌, ℕ, List, [], ◌∷◌, ◌++◌, Option, Some, None, Ok, map, filter, not, length, slice_get, flat_map}
-use Rattle.model.specs.Owner.{Dependency, same_text}
+use Rattle.model.specs.Summary.{Dependency, same_text}
 use Rattle.model.specs.Content.{Content}
 use Rattle.model.specs.Candidates.{Record, candidates_among, is_locked}
 use Rattle.index_reader.specs.Folders.{Answer}

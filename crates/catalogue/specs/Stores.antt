@@ -2,7 +2,7 @@
 use Rattle.std.specs.Prelude.{◌≢◌, ◌≤◌, ℕ, length, if◌then◌else◌, List, [], ◌∷◌, map, Option, Some, None, unwrap_or}
 use Rattle.std.specs.List.{All, AllPairs, zip}
 use Rattle.semver.specs.Parse.{Parts}
-use Rattle.model.specs.Owner.{same_text}
+use Rattle.model.specs.Summary.{same_text}
 use Rattle.model.specs.Content as model
 use Rattle.model.specs.Content.{same_version}
 use Rattle.model.specs.Candidates.{Record, as_candidate}

@@ -5,9 +5,9 @@ use Rattle.semver.specs.Identifiers.{parts_of}
 use Rattle.semver.specs.Grammar.{IsValid}
 use Rattle.semver.specs.declared.Version.{Version}
 use Rattle.model.specs.Candidates.{Record, RustVersion, IsOlder}
-use Rattle.model.specs.Owner as model
-use Rattle.model.specs.Owner.{KnowsFeatures}
-use Rattle.features.specs.Views.{owner_view}
+use Rattle.model.specs.Summary as model
+use Rattle.model.specs.Summary.{KnowsFeatures}
+use Rattle.features.specs.Views.{summary_view}
 use Rattle.classes.specs.RustVersions.{rust_version_view}
 use Rattle.catalogue.specs.Ranks.{Ranked, records}
 use Rattle.catalogue.specs.declared.candidate.Candidate.{Candidate}
@@ -19,7 +19,7 @@ record_of v c = record {
   checksum = string_bytes c.checksum;
   yanked = c.yanked;
   rust_version = option_map rust_version_view c.rust_version;
-  brings = owner_view c.brings;
+  brings = summary_view c.brings;
 }
 
 abbrev pub ranked_of : Version × Candidate → Ranked
@@ -34,13 +34,13 @@ pub record Said : Type 0 where
   pub checksum : List ℕ
   pub yanked : Bool
   pub rust_version : Option RustVersion
-  pub brings : model.Owner
+  pub brings : model.Summary
 
 abbrev pub said : Record → Said
 said r = record { checksum = r.checksum; yanked = r.yanked; rust_version = r.rust_version; brings = r.brings }
 
 abbrev pub said_by : Candidate → Said
-said_by c = record { checksum = string_bytes c.checksum; yanked = c.yanked; rust_version = option_map rust_version_view c.rust_version; brings = owner_view c.brings }
+said_by c = record { checksum = string_bytes c.checksum; yanked = c.yanked; rust_version = option_map rust_version_view c.rust_version; brings = summary_view c.brings }
 
 -- oldest first, no two of equal precedence
 abbrev pub AreRising : List Ranked → Type 0

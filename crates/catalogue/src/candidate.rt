@@ -4,7 +4,7 @@ ghost use Rattle.std.specs.Prelude.{◌≡◌};
 ghost use Rattle.catalogue.specs.Ranks.{same_rank};
 
 use classes::RustVersion;
-use features::Owner;
+use features::Summary;
 
 /// Where a candidate stands in the order of preference; within a rank the newest comes first.
 #[derive(Clone, Copy, Debug)]
@@ -37,6 +37,6 @@ pub struct Candidate {
     pub yanked: bool,
     /// The Rust version that it needs, if it names one.
     pub rust_version: Option<RustVersion>,
-    pub brings: Owner,
+    pub brings: Summary,
     pub(crate) rank: Rank,
 }

@@ -4,7 +4,7 @@ ghost use Rattle.std.specs.Prelude.{◌≡◌, IfOk, OnOk, Some, map, option_map
 ghost use Rattle.classes.specs.RustVersions.{rust_version_view};
 ghost use Rattle.index_reader.specs.Views.{skip_view};
 ghost use Rattle.indexmap.specs.IndexSet.{insert_key, insert_all};
-ghost use Rattle.model.specs.Owner.{same_text};
+ghost use Rattle.model.specs.Summary.{same_text};
 ghost use Rattle.features.specs.Views.{dependency_views};
 ghost use Rattle.catalogue.specs.Loads.{packages_of, needs_of, Asks, AsksAll, differs, has_changed, Checks, rust_for, Loads};
 ghost use Rattle.catalogue.specs.Problems.{IsProblemOfRun, problem_in};

@@ -7,9 +7,9 @@ use Rattle.semver.specs.declared.Version.{Version}
 use Rattle.model.specs.Axioms.{at, is_full}
 use Rattle.model.specs.Candidates.{Record, as_candidate}
 use Rattle.model.specs.Content.{Candidate, candidates_of}
-use Rattle.model.specs.Owner.{Dependency}
+use Rattle.model.specs.Summary.{Dependency}
 use Rattle.model.specs.Selection.{Class, class_of}
-use Rattle.model.specs.Vertices.{OwnerName, pkg, dep, State, absent, version, in_class, has_state, owner_brings, classes_of, matching, class_candidates, dep_space}
+use Rattle.model.specs.Vertices.{Owner, pkg, dep, State, absent, version, in_class, has_state, owner_brings, classes_of, matching, class_candidates, dep_space}
 use Rattle.manifest.specs.Manifests.{ManifestView}
 use Rattle.catalogue.specs.Problems.{problem_in}
 use Rattle.catalogue.specs.Stores.{CatalogueView, candidates_at, rows_by_name}
@@ -28,7 +28,7 @@ module _ (m : ManifestView) (c : CatalogueView) where
       ∙ sym (all_map (λ (e : Candidate). version e.version) (has_state ss) (class_candidates (problem_in m c) name k))
       ∙ ap (λ b. b && list_all (has_state ss) (map (λ (e : Candidate). version e.version) (class_candidates (problem_in m c) name k))) (sym here)
 
-  pub matched_all : (ss : List State) (o : OwnerName) (i : ℕ) (d : Dependency) (vs : List Version) → map parts_of vs ≡ map (λ (r : Record). r.version) (candidates_at c d.real_name)
+  pub matched_all : (ss : List State) (o : Owner) (i : ℕ) (d : Dependency) (vs : List Version) → map parts_of vs ≡ map (λ (r : Record). r.version) (candidates_at c d.real_name)
       → Some d ≡ slice_get (owner_brings (problem_in m c) o).dependencies i → has_state ss absent ≡ true
       → list_all (λ v. has_if_matched ss d.requirement (parts_of v)) vs ≡ is_full (problem_in m c) (at (dep o i) ss)
   matched_all ss o i d vs same is here =
@@ -43,6 +43,6 @@ module _ (m : ManifestView) (c : CatalogueView) where
       ∙ ap (λ b. b && list_all (has_state ss) (map in_class (classes_of (matching (problem_in m c) d)))) (sym here)
       ∙ ap (λ x. list_all (has_state ss) (dep_space (problem_in m c) x)) is
 
-  pub nothing_matched : (ss : List State) (o : OwnerName) (i : ℕ) → None ≡ slice_get (owner_brings (problem_in m c) o).dependencies i → has_state ss absent ≡ true
+  pub nothing_matched : (ss : List State) (o : Owner) (i : ℕ) → None ≡ slice_get (owner_brings (problem_in m c) o).dependencies i → has_state ss absent ≡ true
       → true ≡ is_full (problem_in m c) (at (dep o i) ss)
   nothing_matched ss o i is here = ap (λ b. b && true) (sym here) ∙ ap (λ x. list_all (has_state ss) (dep_space (problem_in m c) x)) is

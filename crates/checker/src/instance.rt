@@ -9,7 +9,7 @@ ghost use Rattle.axioms.specs.Views as sought;
 
 use crate::terms::{Held, Terms};
 use axioms::Gathered;
-use derivations::{Kind, OwnerName, Vertex};
+use derivations::{Kind, Owner, Vertex};
 use std::alloc::{AllocError, Global};
 
 /// Whether terms are those of an instance of the kind, without full ones.
@@ -61,11 +61,11 @@ fn vertex_of<'a>(vertex: &'a Vertex) -> axioms::Vertex<'a>
     }
 }
 
-fn owner_of<'a>(owner: &'a OwnerName) -> axioms::OwnerName<'a>
+fn owner_of<'a>(owner: &'a Owner) -> axioms::Owner<'a>
     ensures { sought.owner_view result ≡ owner_view owner.entry.now }
 {
     match owner {
-        OwnerName::Root => axioms::OwnerName::Root,
-        OwnerName::Version(name, version) => axioms::OwnerName::Version(name, version),
+        Owner::Root => axioms::Owner::Root,
+        Owner::Version(name, version) => axioms::Owner::Version(name, version),
     }
 }

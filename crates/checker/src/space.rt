@@ -16,7 +16,7 @@ ghost use Rattle.checker.specs.Spaces.{has_if_matched};
 use axioms::{State, States, class_versions};
 use catalogue::Catalogue;
 use classes::Class;
-use derivations::{OwnerName, Vertex};
+use derivations::{Owner, Vertex};
 use features::Dependency;
 use manifest::Manifest;
 use semver::{Version, VersionReq};
@@ -57,7 +57,7 @@ pub(crate) fn is_full(
 fn dependency_at<'a>(
     manifest: &'a Manifest,
     catalogue: &'a Catalogue,
-    owner: &OwnerName,
+    owner: &Owner,
     number: u32,
 ) -> Option<&'a Dependency>
     ensures { option_map (λ d. dependency_view d.now) result ≡ slice_get (owner_brings (problem_in manifest.entry.now catalogue.entry.now) (owner_view owner.now)).dependencies number }
@@ -69,13 +69,13 @@ fn dependency_at<'a>(
 fn dependencies_of<'a>(
     manifest: &'a Manifest,
     catalogue: &'a Catalogue,
-    owner: &OwnerName,
+    owner: &Owner,
 ) -> &'a [Dependency]
     ensures { dependency_views result.now ≡ (owner_brings (problem_in manifest.entry.now catalogue.entry.now) (owner_view owner.now)).dependencies }
 {
     match owner {
-        OwnerName::Root => manifest.dependencies(),
-        OwnerName::Version(name, version) => match catalogue.candidate(name, version) {
+        Owner::Root => manifest.dependencies(),
+        Owner::Version(name, version) => match catalogue.candidate(name, version) {
             Some(candidate) => candidate.brings.dependencies.as_slice(),
             None => &[],
         },

@@ -12,11 +12,11 @@ use Rattle.semver.specs.Order.{parts}
 use Rattle.semver.specs.OrderLaws.{join_dots, join-parts, same_text}
 use Rattle.semver.specs.Parse.{Parts, version_parts}
 use Rattle.semver.proofs.Grammar.{version_parts-sound}
-use Rattle.model.specs.Axioms.{Kind, X0, X1, X2, X3, X4, X5, X6, X7, X8, X9}
+use Rattle.model.specs.Axioms.{Kind, Root, Needed, Target, HasFeature, WantsFeature, FeatureOnFeature, FeatureOnDependency, FeatureAsks, NewestListed, WeakFeature}
 use Rattle.model.specs.Outcome.{◌>>=◌}
-use Rattle.model.specs.Owner.{same_text as same_bytes}
+use Rattle.model.specs.Summary.{same_text as same_bytes}
 use Rattle.model.specs.Selection.{Class, minor, major, patch}
-use Rattle.model.specs.Vertices.{OwnerName, the_root, version_of, Vertex, root, pkg, dep, feat, ask, State, absent, present, version, in_class}
+use Rattle.model.specs.Vertices.{Owner, the_root, version_of, Vertex, root, pkg, dep, feat, ask, State, absent, present, version, in_class}
 use Rattle.features.specs.Entries.{after_text}
 use Rattle.features.specs.Names.{is_package_name, is_package_byte, is_feature_name, is_feature_byte}
 use Rattle.classes.specs.RustVersions.{is_plain_number, number_of}
@@ -176,7 +176,7 @@ named-plain text p h =
 is-literal : (text word : List ℕ) → same_bytes text word ≡ true → IsPlain word → IsPlain text
 is-literal text word is h = subst IsPlain (sym (same_text text word is)) h
 
-owner-plain : (text : List ℕ) (o : OwnerName) → owner_of_text text ≡ Ok o → IsPlain text
+owner-plain : (text : List ℕ) (o : Owner) → owner_of_text text ≡ Ok o → IsPlain text
 owner-plain text o h = by (same_bytes text (codes "root")) refl h
   where
     by : (b : Bool) → same_bytes text (codes "root") ≡ b → cond b (Ok the_root) (named_version_of_text text >>= λ p. Ok (version_of p.0 p.1)) ≡ Ok o → IsPlain text
@@ -275,13 +275,13 @@ state-plain v text s h = by (same_bytes text (codes "absent")) refl h
     by false is h = value-plain v text s h
 
 pub kind-plain : (k : Kind) → IsPlain (kind_text k)
-kind-plain X0 = literal (codes "X0") refl
-kind-plain X1 = literal (codes "X1") refl
-kind-plain X2 = literal (codes "X2") refl
-kind-plain X3 = literal (codes "X3") refl
-kind-plain X4 = literal (codes "X4") refl
-kind-plain X5 = literal (codes "X5") refl
-kind-plain X6 = literal (codes "X6") refl
-kind-plain X7 = literal (codes "X7") refl
-kind-plain X8 = literal (codes "X8") refl
-kind-plain X9 = literal (codes "X9") refl
+kind-plain Root = literal (codes "X0") refl
+kind-plain Needed = literal (codes "X1") refl
+kind-plain Target = literal (codes "X2") refl
+kind-plain HasFeature = literal (codes "X3") refl
+kind-plain WantsFeature = literal (codes "X4") refl
+kind-plain FeatureOnFeature = literal (codes "X5") refl
+kind-plain FeatureOnDependency = literal (codes "X6") refl
+kind-plain FeatureAsks = literal (codes "X7") refl
+kind-plain NewestListed = literal (codes "X8") refl
+kind-plain WeakFeature = literal (codes "X9") refl

@@ -15,8 +15,8 @@ use Rattle.semver.specs.Parse.{Parts, version_parts}
 use Rattle.semver.specs.declared.error.Error.{Error}
 use Rattle.semver.proofs.Grammar.{version_parts-sound}
 use Rattle.model.specs.Outcome.{◌>>=◌}
-use Rattle.model.specs.Owner.{same_text as same_bytes}
-use Rattle.model.specs.Vertices.{OwnerName, the_root, version_of, Vertex, root, pkg, dep, feat, ask, State, absent, present, version, in_class}
+use Rattle.model.specs.Summary.{same_text as same_bytes}
+use Rattle.model.specs.Vertices.{Owner, the_root, version_of, Vertex, root, pkg, dep, feat, ask, State, absent, present, version, in_class}
 use Rattle.model.specs.Selection.{Class, patch, minor, major}
 use Rattle.features.specs.Entries.{after_text, around}
 use Rattle.features.specs.Names.{is_package_name, is_feature_name}
@@ -159,7 +159,7 @@ named-text text p h =
     let same : (t.at, u.at) ≡ p = same-Ok _ _ u.then in
     ap (λ (q : List ℕ × Parts). q.0 ++ (64 ∷ parts_text q.1)) (sym same) ∙ joined 64 t.at (parts_text u.at) s.at.0 s.at.1 (sym (name-is _ _ t.first)) (version-reads _ _ u.first) ∙ sym (parted-joins 64 text s.at s.first)
 
-owner-text : (text : List ℕ) (o : OwnerName) → owner_of_text text ≡ Ok o → owner_text o ≡ text
+owner-text : (text : List ℕ) (o : Owner) → owner_of_text text ≡ Ok o → owner_text o ≡ text
 owner-text text o h = by (same_bytes text (codes "root")) refl h
   where
     by : (b : Bool) → same_bytes text (codes "root") ≡ b → cond b (Ok the_root) (named_version_of_text text >>= λ p. Ok (version_of p.0 p.1)) ≡ Ok o → owner_text o ≡ text

@@ -16,7 +16,7 @@ use Rattle.serde_json.specs.Read.{read}
 use Rattle.serde_json.specs.Written.{compact_text, items_text}
 use Rattle.model.specs.Outcome.{◌>>=◌, guard}
 use Rattle.model.specs.Vertices.{Vertex, State}
-use Rattle.model.specs.Axioms.{Kind, X0, X1, X2, X3, X4, X5, X6, X7, X8, X9, Term}
+use Rattle.model.specs.Axioms.{Kind, Root, Needed, Target, HasFeature, WantsFeature, FeatureOnFeature, FeatureOnDependency, FeatureAsks, NewestListed, WeakFeature, Term}
 use Rattle.model.specs.Derivation.{Step, given, combine, terms_of as terms_in_step}
 use Rattle.derivations.specs.Derivations.{IsReadVertex, IsReadState, IsTerm, term_cmp, AreTerms, IsStepAt, AreStepsFrom, IsDerivation}
 use Rattle.derivations.specs.Files.{is_line_end, with_read, with_line, with_lines, derivation_of_bytes}
@@ -169,16 +169,16 @@ all-terms : (key : List ℕ) (d : Data) (ts : List Term) → AreTerms ts → ter
 all-terms key d ts h = rw (terms-back ts h.0, ordered-same written_total (map written ts) (written-sorted ts h.1)) (ap Ok (without-texts ts))
 
 kind-back : (k : Kind) → kind_of_text (kind_text k) ≡ Some k
-kind-back X0 = refl
-kind-back X1 = refl
-kind-back X2 = refl
-kind-back X3 = refl
-kind-back X4 = refl
-kind-back X5 = refl
-kind-back X6 = refl
-kind-back X7 = refl
-kind-back X8 = refl
-kind-back X9 = refl
+kind-back Root = refl
+kind-back Needed = refl
+kind-back Target = refl
+kind-back HasFeature = refl
+kind-back WantsFeature = refl
+kind-back FeatureOnFeature = refl
+kind-back FeatureOnDependency = refl
+kind-back FeatureAsks = refl
+kind-back NewestListed = refl
+kind-back WeakFeature = refl
 
 reason-back : (n : ℕ) (s : Step) → IsStepAt n s → (r : Reason) × (reason_of (step_data s) ≡ Ok r) × (is_backward n r ≡ true) × (step_by r (terms_in_step s) ≡ s)
 unfolding axiom_of combination_of

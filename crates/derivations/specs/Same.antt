@@ -5,14 +5,14 @@ use Rattle.std.specs.Hash.{HashWrites}
 use Rattle.std.specs.Hash as fed
 use Rattle.std.proofs.Common.{sym, ap, subst}
 use Rattle.semver.specs.Parse.{Parts}
-use Rattle.model.specs.Vertices.{OwnerName, the_root, version_of, Vertex, root, pkg, dep, feat, ask, State, absent, present, version, in_class, same_owner, same_vertex, same_state}
+use Rattle.model.specs.Vertices.{Owner, the_root, version_of, Vertex, root, pkg, dep, feat, ask, State, absent, present, version, in_class, same_owner, same_vertex, same_state}
 use Rattle.model.proofs.Same.{owner-same, owner-refl, vertex-same, vertex-refl, state-same, state-refl}
 use Rattle.derivations.specs.Orders.{class_number}
 
 abbrev pub version_fed : Parts → HashWrites
 version_fed v = fed.u64 v.0 ++ (fed.u64 v.1 ++ (fed.u64 v.2 ++ (fed.str v.3 ++ fed.str v.4)))
 
-abbrev pub owner_fed : OwnerName → HashWrites
+abbrev pub owner_fed : Owner → HashWrites
 owner_fed the_root = []
 owner_fed (version_of n v) = fed.str n ++ version_fed v
 
@@ -53,7 +53,7 @@ vertex_equivalence = equivalence same_vertex vertex-same vertex-refl
 pub state_equivalence : IsEquivalence same_state
 state_equivalence = equivalence same_state state-same state-refl
 
-pub owner_alike : (x y : OwnerName) → same_owner x y ≡ true → owner_fed x ≡ owner_fed y
+pub owner_alike : (x y : Owner) → same_owner x y ≡ true → owner_fed x ≡ owner_fed y
 owner_alike x y e = ap owner_fed (owner-same x y e)
 
 pub vertex_alike : (x y : Vertex) → same_vertex x y ≡ true → vertex_fed x ≡ vertex_fed y

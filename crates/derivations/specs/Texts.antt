@@ -5,9 +5,9 @@ use Rattle.semver.specs.Identifiers.{parts_text}
 use Rattle.semver.specs.Parse.{Parts, version_parts}
 use Rattle.semver.specs.declared.error.Error.{Error}
 use Rattle.model.specs.Outcome.{◌>>=◌}
-use Rattle.model.specs.Owner.{same_text}
+use Rattle.model.specs.Summary.{same_text}
 use Rattle.model.specs.Selection.{Class, patch, minor, major}
-use Rattle.model.specs.Vertices.{OwnerName, the_root, version_of, Vertex, root, pkg, dep, feat, ask, State, absent, present, version, in_class}
+use Rattle.model.specs.Vertices.{Owner, the_root, version_of, Vertex, root, pkg, dep, feat, ask, State, absent, present, version, in_class}
 use Rattle.features.specs.Entries.{after_text, around}
 use Rattle.features.specs.Names.{is_package_name, is_feature_name}
 use Rattle.classes.specs.Classes.{class_text}
@@ -17,7 +17,7 @@ use Rattle.derivations.specs.declared.fault.LineFault.TheVariants.{OutOfMemory, 
 
 -- ---- the texts
 
-abbrev pub owner_text : OwnerName → List ℕ
+abbrev pub owner_text : Owner → List ℕ
 owner_text the_root = codes "root"
 owner_text (version_of n v) = n ++ (64 ∷ parts_text v)
 
@@ -99,7 +99,7 @@ named_version_of_text text = do
   Ok (name, v)
 
 -- `root` or `NAME@VERSION`
-abbrev pub owner_of_text : List ℕ → Line OwnerName
+abbrev pub owner_of_text : List ℕ → Line Owner
 owner_of_text text = if same_text text (codes "root") then Ok the_root else (named_version_of_text text >>= λ p. Ok (version_of p.0 p.1))
 
 -- `NAME CLASS`

@@ -8,8 +8,8 @@ use Rattle.model.specs.Axioms as axioms
 use Rattle.model.specs.Derivation as steps
 use Rattle.classes.specs.Classes.{class_view}
 use Rattle.derivations.specs.Kinds.{kind_view}
-use Rattle.derivations.specs.declared.vertex.OwnerName.{OwnerName}
-use Rattle.derivations.specs.declared.vertex.OwnerName.TheVariants as owner
+use Rattle.derivations.specs.declared.vertex.Owner.{Owner}
+use Rattle.derivations.specs.declared.vertex.Owner.TheVariants as owner
 use Rattle.derivations.specs.declared.vertex.Vertex.{Vertex}
 use Rattle.derivations.specs.declared.vertex.Vertex.TheVariants as vertex
 use Rattle.derivations.specs.declared.state.State.{State}
@@ -22,7 +22,7 @@ use Rattle.derivations.specs.declared.whole.WholeStep.{WholeStep}
 abbrev pub named_view : List ℕ × Version → List ℕ × Parts
 named_view p = (p.0, parts_of p.1)
 
-abbrev pub owner_view : OwnerName → model.OwnerName
+abbrev pub owner_view : Owner → model.Owner
 owner_view owner.Root = model.the_root
 owner_view (owner.Version n v) = model.version_of n (parts_of v)
 

@@ -9,26 +9,26 @@ use std::fmt;
 #[derive(Clone, Copy, Debug, PartialEq, Eq)]
 pub enum Kind {
     /// The root is absent.
-    X0,
+    Root,
     /// An owner holds, and a dependency that it needs is absent.
-    X1,
+    Needed,
     /// A dependency has its target in a class, in which no version stands that its requirement matches.
-    X2,
-    /// A feature is on at a version that lacks it.
-    X3,
+    Target,
+    /// A feature is on in a class, in which no version stands that has it.
+    HasFeature,
     /// A dependency has its target in a class, and a feature that it asks for is off there.
-    X4,
+    WantsFeature,
     /// A feature is on, and a feature among its entries is off.
-    X5,
+    FeatureOnFeature,
     /// A feature is on, and a dependency among its entries is absent.
-    X6,
+    FeatureOnDependency,
     /// A feature is on, and doesn't ask for what its entry `d/g` asks for.
-    X7,
-    /// Two dependencies of one owner on one package have their targets in two classes, and the older one is none that an entry of the list
-    /// may mean.
-    X8,
+    FeatureAsks,
+    /// Two dependencies of one owner on one package have their targets in two classes, and the requirement of the one
+    /// with the lower class matches the version in the higher: an entry of the list that may mean two means the newest.
+    NewestListed,
     /// A feature is on, a dependency that its entry `d?/g` names has its target in a class, and the feature is off there.
-    X9,
+    WeakFeature,
 }
 
 impl Kind {
@@ -37,25 +37,25 @@ impl Kind {
         ensures { option_map kind_view result ≡ kind_of_text text.now }
     {
         if text == "X0" {
-            Some(Kind::X0)
+            Some(Kind::Root)
         } else if text == "X1" {
-            Some(Kind::X1)
+            Some(Kind::Needed)
         } else if text == "X2" {
-            Some(Kind::X2)
+            Some(Kind::Target)
         } else if text == "X3" {
-            Some(Kind::X3)
+            Some(Kind::HasFeature)
         } else if text == "X4" {
-            Some(Kind::X4)
+            Some(Kind::WantsFeature)
         } else if text == "X5" {
-            Some(Kind::X5)
+            Some(Kind::FeatureOnFeature)
         } else if text == "X6" {
-            Some(Kind::X6)
+            Some(Kind::FeatureOnDependency)
         } else if text == "X7" {
-            Some(Kind::X7)
+            Some(Kind::FeatureAsks)
         } else if text == "X8" {
-            Some(Kind::X8)
+            Some(Kind::NewestListed)
         } else if text == "X9" {
-            Some(Kind::X9)
+            Some(Kind::WeakFeature)
         } else {
             None
         }
@@ -70,16 +70,16 @@ impl fmt::Display for Kind {
 
     fn fmt<W: fmt::Write>(&self, f: &mut fmt::Formatter<W>) -> fmt::Result {
         f.write_str(match self {
-            Kind::X0 => "X0",
-            Kind::X1 => "X1",
-            Kind::X2 => "X2",
-            Kind::X3 => "X3",
-            Kind::X4 => "X4",
-            Kind::X5 => "X5",
-            Kind::X6 => "X6",
-            Kind::X7 => "X7",
-            Kind::X8 => "X8",
-            Kind::X9 => "X9",
+            Kind::Root => "X0",
+            Kind::Needed => "X1",
+            Kind::Target => "X2",
+            Kind::HasFeature => "X3",
+            Kind::WantsFeature => "X4",
+            Kind::FeatureOnFeature => "X5",
+            Kind::FeatureOnDependency => "X6",
+            Kind::FeatureAsks => "X7",
+            Kind::NewestListed => "X8",
+            Kind::WeakFeature => "X9",
         })
     }
 }

@@ -25,6 +25,6 @@ pub use state::State;
 pub use step::{Cause, Step, Term};
 pub use steps::Steps;
 pub use tables::Tables;
-pub use vertex::{OwnerName, Vertex};
+pub use vertex::{Owner, Vertex};
 pub use whole::{WholeCause, WholeStep, WholeTerm};
 pub use writing::write;

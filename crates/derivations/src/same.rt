@@ -12,7 +12,7 @@ ghost use Rattle.derivations.specs.Same.{owner_equivalence, vertex_equivalence, 
 ghost use Rattle.derivations.specs.Views.{owner_view, vertex_view, state_view};
 
 use crate::state::State;
-use crate::vertex::{OwnerName, Vertex};
+use crate::vertex::{Owner, Vertex};
 use classes::Class;
 use semver::Version;
 use std::hash::{Hash, Hasher};
@@ -73,33 +73,33 @@ impl Hash for Vertex {
     }
 }
 
-impl PartialEq for OwnerName {
+impl PartialEq for Owner {
     ghost eq = { on owner_view same_owner };
 
     ghost laws = { partial_equiv_from_equiv (on_equiv owner_view owner_equivalence) };
 
-    fn eq(&self, other: &OwnerName) -> bool {
+    fn eq(&self, other: &Owner) -> bool {
         match (self, other) {
-            (OwnerName::Root, OwnerName::Root) => true,
-            (OwnerName::Version(a, v), OwnerName::Version(b, w)) => a == b && same_version(v, w),
+            (Owner::Root, Owner::Root) => true,
+            (Owner::Version(a, v), Owner::Version(b, w)) => a == b && same_version(v, w),
             _ => false,
         }
     }
 }
 
-impl Eq for OwnerName {
+impl Eq for Owner {
     ghost laws = { on_equiv owner_view owner_equivalence };
 }
 
-impl Hash for OwnerName {
+impl Hash for Owner {
     ghost hash_input = { λ o. owner_fed (owner_view o) };
 
     ghost respects_eq = { λ x y. owner_alike (owner_view x) (owner_view y) };
 
     fn hash<H: Hasher>(&self, state: &mut H) {
         match self {
-            OwnerName::Root => {}
-            OwnerName::Version(name, version) => {
+            Owner::Root => {}
+            Owner::Version(name, version) => {
                 name.hash(state);
                 version.hash(state);
             }

@@ -15,7 +15,7 @@ use std::fmt;
 
 /// Whose dependency it is.
 #[derive(Drop)]
-pub enum OwnerName {
+pub enum Owner {
     Root,
     /// A version of a package.
     Version(PackageName, Version),
@@ -28,14 +28,14 @@ pub enum Vertex {
     /// The versions of a package in a class.
     Package(PackageName, Class),
     /// A dependency of an owner by its number.
-    Dependency(OwnerName, u32),
+    Dependency(Owner, u32),
     /// A feature of the versions of a package in a class.
     Feature(PackageName, Class, FeatureName),
     /// A feature that an entry `d/g` of a version asks for through the dependency of this number.
     Ask(PackageName, Version, u32, FeatureName),
 }
 
-impl fmt::Display for OwnerName {
+impl fmt::Display for Owner {
     ghost use Rattle.std.specs.Prelude.{Some};
     ghost use Rattle.derivations.specs.Texts.{owner_text};
     ghost use Rattle.derivations.specs.Views.{owner_view};
@@ -44,8 +44,8 @@ impl fmt::Display for OwnerName {
 
     fn fmt<W: fmt::Write>(&self, f: &mut fmt::Formatter<W>) -> fmt::Result {
         match self {
-            OwnerName::Root => f.write_str("root"),
-            OwnerName::Version(name, version) => write!(f, "{name}@{version}"),
+            Owner::Root => f.write_str("root"),
+            Owner::Version(name, version) => write!(f, "{name}@{version}"),
         }
     }
 }
@@ -147,14 +147,14 @@ fn ask(alloc: Global, text: &str) -> Result<Vertex, LineFault>
 }
 
 /// `root` or `NAME@VERSION`
-fn owner(alloc: Global, text: &str) -> Result<OwnerName, LineFault>
+fn owner(alloc: Global, text: &str) -> Result<Owner, LineFault>
     ensures { Gives line_wants_memory owner_view result (owner_of_text text.now) }
 {
     if text == "root" {
-        return Ok(OwnerName::Root);
+        return Ok(Owner::Root);
     }
     let (name, version) = named_version(alloc, text)?;
-    Ok(OwnerName::Version(name, version))
+    Ok(Owner::Version(name, version))
 }
 
 /// `NAME@VERSION`

@@ -1,7 +1,7 @@
 -- What a person reads of a derivation: the steps that its end stands on, each as a line (the format is this project's).
 use Rattle.std.specs.Prelude.{ℕ, zero, suc, ◌+◌, ◌==◌, ◌||◌, nat_lt, Bool, false, if◌then◌else◌, List, [], ◌∷◌, ◌++◌, length, map, filter, Option, Some, None, slice_get, codes, decimal}
 use Rattle.std.specs.List.{flat_map, list_any}
-use Rattle.model.specs.Axioms.{Kind, X0, X1, X2, X3, X4, X5, X6, X7, X8, X9, Term}
+use Rattle.model.specs.Axioms.{Kind, Root, Needed, Target, HasFeature, WantsFeature, FeatureOnFeature, FeatureOnDependency, FeatureAsks, NewestListed, WeakFeature, Term}
 use Rattle.model.specs.Derivation.{Step, given, combine, terms_of}
 use Rattle.derivations.specs.Kinds.{kind_text}
 use Rattle.derivations.specs.Texts.{vertex_text, state_text}
@@ -57,18 +57,18 @@ claim [] = codes "no selection is left"
 claim (t ∷ ts) = codes "never " ++ with_between (codes " and ") (map term_words (t ∷ ts))
 
 abbrev pub kind_name : Kind → List ℕ
-kind_name X0 = codes "root"
-kind_name X1 = codes "needed"
-kind_name X2 = codes "target"
-kind_name X3 = codes "has feature"
-kind_name X4 = codes "wants feature"
-kind_name X5 = codes "feature on feature"
-kind_name X6 = codes "feature on dependency"
-kind_name X7 = codes "feature asks"
-kind_name X8 = codes "newest listed"
-kind_name X9 = codes "weak feature"
+kind_name Root = codes "root"
+kind_name Needed = codes "needed"
+kind_name Target = codes "target"
+kind_name HasFeature = codes "has feature"
+kind_name WantsFeature = codes "wants feature"
+kind_name FeatureOnFeature = codes "feature on feature"
+kind_name FeatureOnDependency = codes "feature on dependency"
+kind_name FeatureAsks = codes "feature asks"
+kind_name NewestListed = codes "newest listed"
+kind_name WeakFeature = codes "weak feature"
 
--- `as X1 needed` or `from A and B`, with the new numbers
+-- `as Needed needed` or `from A and B`, with the new numbers
 abbrev pub reason : List ℕ → Step → List ℕ
 reason all (given k ts) = codes "as " ++ (kind_text k ++ (codes " " ++ kind_name k))
 reason all (combine a b v ts) = codes "from " ++ (decimal (new_number all a) ++ (codes " and " ++ decimal (new_number all b)))

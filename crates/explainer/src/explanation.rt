@@ -159,15 +159,15 @@ fn kind_name(kind: Kind) -> &'static str
     ensures { result.now ≡ kind_name (kind_view kind) }
 {
     match kind {
-        Kind::X0 => "root",
-        Kind::X1 => "needed",
-        Kind::X2 => "target",
-        Kind::X3 => "has feature",
-        Kind::X4 => "wants feature",
-        Kind::X5 => "feature on feature",
-        Kind::X6 => "feature on dependency",
-        Kind::X7 => "feature asks",
-        Kind::X8 => "newest listed",
-        Kind::X9 => "weak feature",
+        Kind::Root => "root",
+        Kind::Needed => "needed",
+        Kind::Target => "target",
+        Kind::HasFeature => "has feature",
+        Kind::WantsFeature => "wants feature",
+        Kind::FeatureOnFeature => "feature on feature",
+        Kind::FeatureOnDependency => "feature on dependency",
+        Kind::FeatureAsks => "feature asks",
+        Kind::NewestListed => "newest listed",
+        Kind::WeakFeature => "weak feature",
     }
 }

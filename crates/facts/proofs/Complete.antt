@@ -6,7 +6,7 @@ use Rattle.std.proofs.lemmas.List.Elements.{Contains-append_left, Contains-appen
 use Rattle.chains.specs.declared.rule.Rule.{Rule}
 use Rattle.chains.specs.Chains.{has, IsGiven}
 use Rattle.chains.specs.Chains.IsGiven.{begins, follows}
-use Rattle.model.specs.Owner.{Owner, Dependency, Entry, feature, dependency, dependency_feature, weak_feature, same_text, entries_at, asked_of_target}
+use Rattle.model.specs.Summary.{Summary, Dependency, Entry, feature, dependency, dependency_feature, weak_feature, same_text, entries_at, asked_of_target}
 use Rattle.model.specs.Facts.{Fact, here, on, enabled, Brings, Lists}
 use Rattle.model.specs.Facts.Holds.{starts, arrives, root_needs, needs, asks, root_wants, turns_on, enables, enables_for, wants, wants_weakly}
 use Rattle.model.proofs.Same.{text-refl}
@@ -65,7 +65,7 @@ module _ (nodes : List NodeView) (root : ℕ) (ps : List PlaceView) (marks : Lis
     pub is : IsLink marks n x.targets i d l
 
   dep : (n : ℕ) (x : NodeView) (p : PlaceView) (i : ℕ) (d : Dependency) → IsAt n x p → Brings (brings_at nodes) n i d → Dep n x p i d
-  dep n x p i d h b = let r = h.is.link i d (ap (λ (o : Owner). slice_get o.dependencies i) (sym (brings_is n x p h)) ∙ b) in record { l = r.0; had = r.1; is = r.2 }
+  dep n x p i d h b = let r = h.is.link i d (ap (λ (o : Summary). slice_get o.dependencies i) (sym (brings_is n x p h)) ∙ b) in record { l = r.0; had = r.1; is = r.2 }
 
   -- the number of an enabled dependency
   enabled_given : (n : ℕ) (x : NodeView) (p : PlaceView) (i : ℕ) (d : Dependency) → IsAt n x p → (k : Dep n x p i d) → Got (enabled n i) → G (k.l).enabled
@@ -139,7 +139,7 @@ module _ (nodes : List NodeView) (root : ℕ) (ps : List PlaceView) (marks : Lis
   -- a rule of an entry of a feature of the package
   of_entry : (n : ℕ) (x : NodeView) (p : PlaceView) (f : List ℕ) (e : Entry) (r : Rule) → IsAt n x p → Lists (brings_at nodes) n f e → Contains (entry_rules ps p (number_on p f) e) r
       → Contains (all_rules root ps) r
-  of_entry n x p f e r h l c = to_entry ps root n p f l.0 e r h.had (ap (λ (o : Owner). entries_at f o.features) (h.is.brings ∙ sym (brings_is n x p h)) ∙ l.1) l.2 c
+  of_entry n x p f e r h l c = to_entry ps root n p f l.0 e r h.had (ap (λ (o : Summary). entries_at f o.features) (h.is.brings ∙ sym (brings_is n x p h)) ∙ l.1) l.2 c
 
   -- asking the target of a dependency
   asked : (a b : ℕ) (l : LinkView) (u : ℕ) (g : List ℕ) (q : To u l) → Contains (ask a b (place_at ps l.target) g) (both a b (number_on q.q g))
@@ -198,7 +198,7 @@ module _ (nodes : List NodeView) (root : ℕ) (ps : List PlaceView) (marks : Lis
       let q = to n e.x e.p i d u e.at k l in
       let hn = (e.p).here in
       let r = both hn hn (number_on q.q g) in
-      let rows : (brings_at nodes root).features ≡ (e.p).brings.features = ap (λ (o : Owner). o.features) (ap (brings_at nodes) (sym is) ∙ brings_is n e.x e.p e.at ∙ sym e.at.is.brings) in
+      let rows : (brings_at nodes root).features ≡ (e.p).brings.features = ap (λ (o : Summary). o.features) (ap (brings_at nodes) (sym is) ∙ brings_is n e.x e.p e.at ∙ sym e.at.is.brings) in
       let row = in_flat (λ row. flat_map asked_by row.1) (e.p).brings.features (d.name, g) (subst (λ t. Contains (root_asks t) (d.name, g)) rows a) in
       let entry = in_flat asked_by (row.0).1 (d.name, g) row.2 in
       let all : Contains (ask_all ps hn ((e.p).called d.name) g) r

@@ -1,12 +1,12 @@
 -- The facts of packages hold of the packages that stand for them.
 use Rattle.std.proofs.Common.{◌≡◌, ℕ, List, Some, slice_get, Contains, subst}
-use Rattle.model.specs.Owner.{Owner, Dependency, Entry, entries_at}
+use Rattle.model.specs.Summary.{Summary, Dependency, Entry, entries_at}
 use Rattle.model.specs.Facts.{Fact, Holds, here, on, enabled, Brings, Lists}
 use Rattle.model.specs.Facts.Holds.{starts, arrives, root_needs, needs, asks, root_wants, turns_on, enables, enables_for, wants, wants_weakly}
 
 -- R n m: the package m of the others stands for n. What R has to keep for the facts of the ones to hold of the others.
-module _ {N M : Type 0} (owner : N → Owner) (IsRoot Starts : N → Type 0) (root_asks : List (List ℕ × List ℕ)) (LeadsTo : N → ℕ → Dependency → N → Type 0)
-    (far_owner : M → Owner) (IsFarRoot FarStarts : M → Type 0) (far_asks : List (List ℕ × List ℕ)) (LeadsFar : M → ℕ → Dependency → M → Type 0)
+module _ {N M : Type 0} (owner : N → Summary) (IsRoot Starts : N → Type 0) (root_asks : List (List ℕ × List ℕ)) (LeadsTo : N → ℕ → Dependency → N → Type 0)
+    (far_owner : M → Summary) (IsFarRoot FarStarts : M → Type 0) (far_asks : List (List ℕ × List ℕ)) (LeadsFar : M → ℕ → Dependency → M → Type 0)
     (R : N → M → Type 0) where
   pub record Keeps : Type 0 where
     -- one package at most stands for another
@@ -31,10 +31,10 @@ module _ {N M : Type 0} (owner : N → Owner) (IsRoot Starts : N → Type 0) (ro
 
   module _ (k : Keeps) where
     brings_far : (n : N) (i : ℕ) (d : Dependency) (m : M) → R n m → Brings owner n i d → Brings far_owner m i d
-    brings_far n i d m r b = subst (λ (o : Owner). slice_get o.dependencies i ≡ Some d) (k.owners n m r) b
+    brings_far n i d m r b = subst (λ (o : Summary). slice_get o.dependencies i ≡ Some d) (k.owners n m r) b
 
     lists_far : (n : N) (f : List ℕ) (e : Entry) (m : M) → R n m → Lists owner n f e → Lists far_owner m f e
-    lists_far n f e m r l = (l.0, subst (λ (o : Owner). entries_at f o.features ≡ Some l.0) (k.owners n m r) l.1, l.2)
+    lists_far n f e m r l = (l.0, subst (λ (o : Summary). entries_at f o.features ≡ Some l.0) (k.owners n m r) l.1, l.2)
 
     enabled_at : (n : N) (i : ℕ) (m : M) → R n m → HoldsFar (enabled n i) → Far (enabled m i)
     enabled_at n i m r (l, s, h) = subst (λ o. Far (enabled o i)) (k.one n l m s r) h

@@ -4,7 +4,7 @@ use Rattle.std.specs.List.{flat_map}
 use Rattle.std.proofs.lemmas.List.Elements.{Contains-append_cases, Contains-append_left, Contains-append_right}
 use Rattle.std.proofs.lemmas.Option.{slice_get-get_or, slice_get_within, get_or_from_slice_get}
 use Rattle.chains.specs.declared.rule.Rule.{Rule}
-use Rattle.model.specs.Owner.{Entry, Table, entries_at, same_text}
+use Rattle.model.specs.Summary.{Entry, Table, entries_at, same_text}
 use Rattle.model.proofs.Same.{text-same}
 use Rattle.model.proofs.Lists.{in_none, in_cons, in_first, in_rest}
 use Rattle.facts.specs.Places.{LinkView, PlaceView}

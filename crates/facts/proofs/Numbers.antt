@@ -1,7 +1,7 @@
 -- Which fact each number stands for: facts and numbers are one to one.
 use Rattle.std.proofs.Common.{◌≡◌, ℕ, zero, suc, ◌+◌, List, [], ◌∷◌, ◌++◌, map, length, Bool, true, false, cond, Option, Some, None, slice_get, is_some, option_and_then, refl, sym, ap, ap₂, ◌∙◌, subst, inl, inr, ◌⊎◌, arith}
 use Rattle.std.proofs.lemmas.List.{length-append, append_assoc}
-use Rattle.model.specs.Owner.{Dependency, Table, same_text, has_feature, entries_at}
+use Rattle.model.specs.Summary.{Dependency, Table, same_text, has_feature, entries_at}
 use Rattle.model.proofs.Same.{text-same}
 use Rattle.facts.specs.Graphs.{NodeView}
 use Rattle.facts.specs.Places.{LinkView, PlaceView, number_in, links_from, links_called, IsPlaceFrom}

@@ -6,7 +6,7 @@ use Rattle.std.proofs.lemmas.Bool.{eqb-true}
 use Rattle.chains.specs.declared.rule.Rule.{Rule}
 use Rattle.chains.specs.Chains.{has, IsGiven}
 use Rattle.chains.specs.Chains.IsGiven.{begins, follows}
-use Rattle.model.specs.Owner.{Owner, Dependency, Entry, feature, dependency, dependency_feature, weak_feature, Table, same_text, has_feature, entries_at, asked_of_target}
+use Rattle.model.specs.Summary.{Summary, Dependency, Entry, feature, dependency, dependency_feature, weak_feature, Table, same_text, has_feature, entries_at, asked_of_target}
 use Rattle.model.specs.Facts.{Fact, here, on, enabled, Brings, Lists}
 use Rattle.model.specs.Facts.Holds.{arrives, root_needs, needs, asks, root_wants, turns_on, enables, enables_for, wants, wants_weakly}
 use Rattle.model.proofs.Same.{text-same}
@@ -70,7 +70,7 @@ module _ (nodes : List NodeView) (root : ℕ) (ps : List PlaceView) (marks : Lis
   brings_is n x p h = ap brings_if h.got
 
   brings : (n : ℕ) (x : NodeView) (p : PlaceView) (i : ℕ) (d : Dependency) → IsAt n x p → slice_get x.brings.dependencies i ≡ Some d → Brings (brings_at nodes) n i d
-  brings n x p i d h e = ap (λ (o : Owner). slice_get o.dependencies i) (brings_is n x p h) ∙ e
+  brings n x p i d h e = ap (λ (o : Summary). slice_get o.dependencies i) (brings_is n x p h) ∙ e
 
   dep_at : (n : ℕ) (x : NodeView) (p : PlaceView) (i : ℕ) (l : LinkView) → IsAt n x p → slice_get p.links i ≡ Some l → Dep n x l
   dep_at n x p i l h e =
@@ -112,7 +112,7 @@ module _ (nodes : List NodeView) (root : ℕ) (ps : List PlaceView) (marks : Lis
     where
       by : (o : Option ℕ) → q.numbers f ≡ o → (c : Mark) × (slice_get marks (unwrap_or o q.lacks) ≡ Some c) × (IsTrue (on u f) → HoldsMark c)
       by (Some k) e = (is_on u f, (h.is.on f k e).0, λ w. w)
-      by None e = (lacking u, h.is.lacks, λ w. (f, w, ap (λ (o : Owner). has_feature o.features f) (brings_is u y q h) ∙ h.is.absent f e))
+      by None e = (lacking u, h.is.lacks, λ w. (f, w, ap (λ (o : Summary). has_feature o.features f) (brings_is u y q h) ∙ h.is.absent f e))
 
   -- the number of a feature that is there
   needs_on : (n : ℕ) (x : NodeView) (p : PlaceView) (f : List ℕ) (es : List Entry) → IsAt n x p → entries_at f p.brings.features ≡ Some es → slice_get marks (number_on p f) ≡ Some (is_on n f)
@@ -120,7 +120,7 @@ module _ (nodes : List NodeView) (root : ℕ) (ps : List PlaceView) (marks : Lis
     where
       by : (o : Option ℕ) → p.numbers f ≡ o → slice_get marks (unwrap_or o p.lacks) ≡ Some (is_on n f)
       by (Some k) z = (h.is.on f k z).0
-      by None z = absurd (true≢false (sym (ap is_some (ap (λ (o : Owner). entries_at f o.features) (sym h.is.brings) ∙ e)) ∙ h.is.absent f z))
+      by None z = absurd (true≢false (sym (ap is_some (ap (λ (o : Summary). entries_at f o.features) (sym h.is.brings) ∙ e)) ∙ h.is.absent f z))
 
   -- a rule that needs one fact
   step_one : (k g : ℕ) (a c : Mark) → slice_get marks k ≡ Some a → slice_get marks g ≡ Some c → (HoldsMark a → HoldsMark c) → IsStep (one k g)
@@ -185,7 +185,7 @@ module _ (nodes : List NodeView) (root : ℕ) (ps : List PlaceView) (marks : Lis
           (record { a = a; b = b; c = o.0; first = fa; second = sb; gives = o.1; step = λ v w. o.2 (step k.0 to.u k.1 to.leads v w) })
 
   lists : (n : ℕ) (x : NodeView) (p : PlaceView) (f : List ℕ) (es : List Entry) (e : Entry) → IsAt n x p → entries_at f p.brings.features ≡ Some es → Contains es e → Lists (brings_at nodes) n f e
-  lists n x p f es e h found c = (es, ap (λ (o : Owner). entries_at f o.features) (brings_is n x p h ∙ sym h.is.brings) ∙ found, c)
+  lists n x p f es e h found c = (es, ap (λ (o : Summary). entries_at f o.features) (brings_is n x p h ∙ sym h.is.brings) ∙ found, c)
 
   enable_step : (n : ℕ) (x : NodeView) (p : PlaceView) (f name : List ℕ) (r : Rule) (a : ℕ) → IsAt n x p → slice_get marks a ≡ Some (is_on n f)
       → ((k : ℕ) (d : Dependency) → name ≡ d.name → Brings (brings_at nodes) n k d → IsTrue (on n f) → IsTrue (enabled n k)) → Contains (enable_all a (p.called name)) r → IsStep r
@@ -246,7 +246,7 @@ module _ (nodes : List NodeView) (root : ℕ) (ps : List PlaceView) (marks : Lis
   root_asked : (n : ℕ) (x : NodeView) (p : PlaceView) (row : List ℕ × List Entry) (e : Entry) (a : List ℕ × List ℕ) → IsAt n x p → n ≡ root → Contains p.brings.features row
       → Contains row.1 e → Contains (asked_by e) a → Contains (root_asks (brings_at nodes root).features) a
   root_asked n x p row e a h z has m c =
-      let rows : p.brings.features ≡ (brings_at nodes root).features = ap (λ (o : Owner). o.features) (h.is.brings ∙ sym (brings_is n x p h) ∙ ap (brings_at nodes) z) in
+      let rows : p.brings.features ≡ (brings_at nodes root).features = ap (λ (o : Summary). o.features) (h.is.brings ∙ sym (brings_is n x p h) ∙ ap (brings_at nodes) z) in
       subst (λ (t : Table). Contains (root_asks t) a) rows (to_flat (λ row. flat_map asked_by row.1) p.brings.features row a has (to_flat asked_by row.1 e a m c))
 
   root_ask_step : (n : ℕ) (x : NodeView) (p : PlaceView) (d g : List ℕ) (r : Rule) → IsAt n x p → n ≡ root → Contains (root_asks (brings_at nodes root).features) (d, g)

@@ -5,7 +5,7 @@ use Rattle.std.proofs.lemmas.List.Elements.{Contains-get_or}
 use Rattle.std.proofs.lemmas.Option.{slice_get_within}
 use Rattle.chains.specs.declared.rule.Rule.{Rule}
 use Rattle.chains.specs.Chains.{has, IsGiven, AreBelow}
-use Rattle.model.specs.Owner.{Owner, Dependency, Table, has_feature}
+use Rattle.model.specs.Summary.{Summary, Dependency, Table, has_feature}
 use Rattle.model.specs.Facts.{Fact, here, on, enabled}
 use Rattle.model.specs.Facts.Holds.{starts}
 use Rattle.facts.specs.Graphs.{NodeView, brings_if, starts_if, starts_at, IsFactOf, LacksFeature, IsGraph, flag_at, flag_in}
@@ -189,7 +189,7 @@ module _ (nodes : List NodeView) (root : ℕ) (ps : List PlaceView) (a : ArePlac
       λ h. (let r = has-back (λ p. has set p.lacks) ps n h in let q = at n r.0 r.1 in holds (r.0).lacks (lacking n) q.1.is.lacks r.2),
       λ h. (
           let g = gets (on n h.0) h.1 in
-          let none : has_feature (g.x).brings.features h.0 ≡ false = ap (λ (o : Owner). has_feature o.features h.0) (sym (ap brings_if g.at.got)) ∙ h.2 in
+          let none : has_feature (g.x).brings.features h.0 ≡ false = ap (λ (o : Summary). has_feature o.features h.0) (sym (ap brings_if g.at.got)) ∙ h.2 in
           has-map (λ p. has set p.lacks) ps n g.p g.at.had ∙ ap (has set) (is_lacks n g.x g.p h.0 g.at none ∙ g.is) ∙ (given g.k).1 g.given),
     )
       where

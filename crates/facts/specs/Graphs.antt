@@ -2,25 +2,25 @@
 -- are, packages of a lock or versions that a walk meets, is said by those who make the list.
 use Rattle.std.specs.Prelude.{◌≡◌, ◌<◌, ℕ, Bool, true, false, List, [], map, Option, Some, None, slice_get, slice_index_or, option_and_then, unwrap_or, length}
 use Rattle.std.specs.List.{All}
-use Rattle.features.specs.Views.{owner_view}
-use Rattle.features.specs.declared.dependency.Owner as code
+use Rattle.features.specs.Views.{summary_view}
+use Rattle.features.specs.declared.dependency.Summary as code
 use Rattle.std.specs.Borrow.{Bor}
-use Rattle.model.specs.Owner.{Owner, nothing, has_feature}
+use Rattle.model.specs.Summary.{Summary, nothing, has_feature}
 use Rattle.model.specs.Facts.{Fact, Holds, on}
 use Rattle.manifest.specs.Manifests.{root_asks}
 use Rattle.facts.specs.declared.node.Node.{Node}
 
 pub record NodeView : Type 0 where
   -- what the package brings
-  pub brings : Owner
+  pub brings : Summary
   -- by number, the place to which each dependency leads
   pub targets : List (Option ℕ)
   -- whether it is here from the start
   pub starts : Bool
 
-abbrev pub brings_view : Option (Bor code.Owner) → Owner
+abbrev pub brings_view : Option (Bor code.Summary) → Summary
 brings_view None = nothing
-brings_view (Some o) = owner_view o.now
+brings_view (Some o) = summary_view o.now
 
 abbrev pub node_view : Node → NodeView
 node_view n = record { brings = brings_view n.brings; targets = n.targets.items; starts = n.starts }
@@ -28,7 +28,7 @@ node_view n = record { brings = brings_view n.brings; targets = n.targets.items;
 abbrev pub node_views : List Node → List NodeView
 node_views nodes = map node_view nodes
 
-abbrev pub brings_if : Option NodeView → Owner
+abbrev pub brings_if : Option NodeView → Summary
 brings_if None = nothing
 brings_if (Some n) = n.brings
 
@@ -49,7 +49,7 @@ abbrev pub flag_in : List (List Bool) → ℕ → ℕ → Bool
 flag_in lists n i = flag_at (unwrap_or (slice_get lists n) []) i
 
 module _ (nodes : List NodeView) where
-  abbrev pub brings_at : ℕ → Owner
+  abbrev pub brings_at : ℕ → Summary
   brings_at n = brings_if (slice_get nodes n)
 
   abbrev pub starts_at : ℕ → Bool

@@ -4,7 +4,7 @@ use Rattle.std.specs.List.{filter, flat_map}
 use Rattle.std.specs.Map.{lookup}
 use Rattle.std.specs.Borrow.{Bor}
 use Rattle.std.specs.declared.alloc.Global.{Global}
-use Rattle.model.specs.Owner.{Owner, Dependency, Table, same_text}
+use Rattle.model.specs.Summary.{Summary, Dependency, Table, same_text}
 use Rattle.features.specs.Views.{dependency_view}
 use Rattle.facts.specs.declared.place.Link.{Link}
 use Rattle.facts.specs.declared.place.Place.{Place}
@@ -31,7 +31,7 @@ links_if None = []
 links_if (Some v) = link_views v.items
 
 pub record PlaceView : Type 0 where
-  pub brings : Owner
+  pub brings : Summary
   -- that it is here
   pub here : ℕ
   -- that a feature is on which it lacks

@@ -3,7 +3,7 @@ use Rattle.std.specs.Prelude.{ℕ, suc, Bool, not, ◌||◌, if◌then◌else◌
 use Rattle.std.specs.List.{flat_map}
 use Rattle.chains.specs.Chains.{has}
 use Rattle.chains.specs.declared.rule.Rule.{Rule}
-use Rattle.model.specs.Owner.{Table, Entry, feature, dependency, dependency_feature, weak_feature, entries_at, asked_of_target}
+use Rattle.model.specs.Summary.{Table, Entry, feature, dependency, dependency_feature, weak_feature, entries_at, asked_of_target}
 use Rattle.facts.specs.Places.{LinkView, PlaceView}
 
 -- a rule that needs one fact

@@ -7,7 +7,7 @@ ghost use Rattle.facts.specs.Places.{at_text, number_in, link_view, link_views, 
 
 use crate::node::Node;
 use crate::place::{Link, Place};
-use features::{Dependency, FeatureTable, Owner};
+use features::{Dependency, FeatureTable, Summary};
 use std::alloc::{AllocError, Global};
 use std::collections::BTreeMap;
 
@@ -55,14 +55,14 @@ fn place_of<'a>(
 /// The numbers of the features that a package has.
 fn features_of<'a>(
     alloc: Global,
-    brings: Option<&'a Owner>,
+    brings: Option<&'a Summary>,
     marked: &mut Vec<bool>,
 ) -> Result<BTreeMap<&'a str, usize>, AllocError>
     ensures marked { OnOk result (marked.new.items ≡ marked.old.items ++ unmarked_for (brings_view brings.entry).features) }
     ensures numbers { IfOk result (λ m. (f : List ℕ) → at_text m.entries f ≡ number_in (length marked.old.items) None f (brings_view brings.entry).features) }
 {
     match brings {
-        Some(owner) => table_numbers(alloc, &owner.features, marked),
+        Some(summary) => table_numbers(alloc, &summary.features, marked),
         None => Ok(BTreeMap::new(alloc)),
     }
 }
@@ -104,11 +104,11 @@ fn links_of<'a>(
     Ok(links)
 }
 
-fn dependencies_of(brings: Option<&Owner>) -> &[Dependency]
+fn dependencies_of(brings: Option<&Summary>) -> &[Dependency]
     ensures { dependency_views result.now ≡ (brings_view brings.entry).dependencies }
 {
     match brings {
-        Some(owner) => owner.dependencies.as_slice(),
+        Some(summary) => summary.dependencies.as_slice(),
         None => &[],
     }
 }

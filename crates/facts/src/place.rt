@@ -1,6 +1,6 @@
 //! The numbers of a package's facts.
 
-use features::{Dependency, Owner};
+use features::{Dependency, Summary};
 use std::collections::BTreeMap;
 
 /// A dependency, with the number of the fact that it is enabled and the place to which it leads.
@@ -14,7 +14,7 @@ pub(crate) struct Link<'a> {
 /// A package with the numbers of its facts.
 #[derive(Drop)]
 pub(crate) struct Place<'a> {
-    pub(crate) brings: Option<&'a Owner>,
+    pub(crate) brings: Option<&'a Summary>,
     /// That it is here.
     pub(crate) here: usize,
     /// That a feature is on which it lacks.

@@ -39,7 +39,7 @@ fn place_rules(
         link_rules(rules, places, place.here, is_root, link)?;
     }
     match place.brings {
-        Some(owner) => table_rules(rules, places, place, is_root, &owner.features),
+        Some(summary) => table_rules(rules, places, place, is_root, &summary.features),
         None => Ok(()),
     }
 }

@@ -4,7 +4,7 @@ use Rattle.std.specs.BTreeMap.{insert_entry, is_at}
 use Rattle.std.specs.Map.{lookup}
 use Rattle.std.specs.List.{filter}
 use Rattle.std.specs.declared.alloc.Global.{Global}
-use Rattle.model.specs.Owner.{Table, has_feature}
+use Rattle.model.specs.Summary.{Table, has_feature}
 use Rattle.model.specs.Order.{text_cmp}
 use Rattle.model.specs.Outcome.{◌>>=◌}
 use Rattle.model.specs.Tables.{DepName, TableFault, no_such_feature, no_such_dependency, not_optional, free_of, is_implicit, default_feature, implicit_entries, with_row, with_implicit, with_default, table_of}

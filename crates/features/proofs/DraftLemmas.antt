@@ -8,8 +8,8 @@ use Rattle.std.specs.Cmp.Lexicographic.{slice_cmp, texts_ties}
 use Rattle.std.specs.List.{list_any}
 use Rattle.std.proofs.lemmas.Map.Lookups.{exact_bytes}
 use Rattle.std.specs.declared.alloc.Global.{Global}
-use Rattle.model.specs.Owner.{entries_at, has_feature, same_text}
-use Rattle.model.specs.Owner as model
+use Rattle.model.specs.Summary.{entries_at, has_feature, same_text}
+use Rattle.model.specs.Summary as model
 use Rattle.model.specs.Tables.{first_with}
 use Rattle.features.specs.Drafts.{has_text}
 use Rattle.features.specs.EntryViews.{entry_view, entry_views}

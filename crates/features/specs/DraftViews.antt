@@ -1,6 +1,6 @@
 -- What a draft of a feature table is of.
 use Rattle.std.specs.Prelude.{List}
-use Rattle.model.specs.Owner.{Table}
+use Rattle.model.specs.Summary.{Table}
 use Rattle.model.specs.Tables as model
 use Rattle.features.specs.Tables.{dep_names_view, rows_of}
 use Rattle.features.specs.declared.draft.Draft.{Draft}

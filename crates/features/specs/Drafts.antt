@@ -3,7 +3,7 @@
 use Rattle.std.specs.Prelude.{◌≡◌, ℕ, List, [], ◌∷◌, map, Bool, Result, Ok, Err}
 use Rattle.std.specs.Borrow.{Bor}
 use Rattle.std.specs.List.{list_any, filter}
-use Rattle.model.specs.Owner.{Table, same_text}
+use Rattle.model.specs.Summary.{Table, same_text}
 use Rattle.model.specs.Outcome.{◌>>=◌}
 use Rattle.model.specs.Tables as model
 use Rattle.features.specs.Tables.{fault_at}

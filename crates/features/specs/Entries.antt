@@ -1,7 +1,7 @@
 -- Which texts are entries of features, and which entries they are (Cargo book, "Features").
 use Rattle.std.specs.Prelude.{ℕ, ◌&&◌, ◌==◌, if◌then◌else◌, List, length, drop, take, ◌-◌, Option, Some, None, nat_eq, codes}
 use Rattle.std.specs.List.{before_first, after_first, list_any, starts_with, ends_with}
-use Rattle.model.specs.Owner.{Entry, feature, dependency, dependency_feature, weak_feature}
+use Rattle.model.specs.Summary.{Entry, feature, dependency, dependency_feature, weak_feature}
 use Rattle.features.specs.Names.{is_package_name, is_feature_name}
 
 -- what stands after a text that it begins with

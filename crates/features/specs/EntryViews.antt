@@ -1,6 +1,6 @@
 -- What the entries of this crate stand for.
 use Rattle.std.specs.Prelude.{List, map}
-use Rattle.model.specs.Owner as model
+use Rattle.model.specs.Summary as model
 use Rattle.features.specs.declared.entry.Entry.{Entry}
 use Rattle.features.specs.declared.entry.Entry.TheVariants.{Feature, Dependency, DependencyFeature, WeakFeature}
 

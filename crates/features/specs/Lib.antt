@@ -1,5 +1,5 @@
 pub use Rattle.model.specs.Outcome
-pub use Rattle.model.specs.Owner
+pub use Rattle.model.specs.Summary
 pub mod Names
 pub mod NameTexts
 pub mod Entries

@@ -3,9 +3,9 @@ use Rattle.std.specs.Prelude.{Bool, true, false, List, map}
 use Rattle.semver.specs.Identifiers.{comparator_view}
 use Rattle.semver.specs.Parse.{Held}
 use Rattle.semver.specs.declared.VersionReq.{VersionReq}
-use Rattle.model.specs.Owner as model
+use Rattle.model.specs.Summary as model
 use Rattle.features.specs.declared.dependency.Dependency.{Dependency}
-use Rattle.features.specs.declared.dependency.Owner.{Owner}
+use Rattle.features.specs.declared.dependency.Summary.{Summary}
 use Rattle.features.specs.declared.entry.EntryFault.{EntryFault}
 use Rattle.features.specs.declared.entry.EntryFault.TheVariants.{OutOfMemory, NotAnEntry}
 use Rattle.features.specs.declared.name.NameFault.{NameFault}
@@ -36,5 +36,5 @@ dependency_view d = record {
 abbrev pub dependency_views : List Dependency → List model.Dependency
 dependency_views ds = map dependency_view ds
 
-abbrev pub owner_view : Owner → model.Owner
-owner_view o = record { dependencies = dependency_views o.dependencies.items; features = o.features }
+abbrev pub summary_view : Summary → model.Summary
+summary_view o = record { dependencies = dependency_views o.dependencies.items; features = o.features }

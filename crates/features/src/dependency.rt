@@ -22,7 +22,7 @@ pub struct Dependency {
 
 /// What the root or a version of a package brings.
 #[derive(Drop)]
-pub struct Owner {
+pub struct Summary {
     /// The dependencies that take part, by number.
     pub dependencies: Vec<Dependency>,
     pub features: FeatureTable,

@@ -3,7 +3,7 @@
 ghost use Rattle.std.specs.Prelude.{◌≡◌, ◌||◌, ℕ, List, IfOk, OnOk, option_copied};
 ghost use Rattle.std.specs.List.{list_any};
 ghost use Rattle.model.specs.Outcome.{Gives};
-ghost use Rattle.model.specs.Owner.{has_feature, same_text};
+ghost use Rattle.model.specs.Summary.{has_feature, same_text};
 ghost use Rattle.model.specs.Tables.{has_dep_entry, has_dependency, has_fault, first_with, is_dep, implicit_entries, is_feature, is_implicit, is_optional};
 ghost use Rattle.features.specs.Drafts.{has_text, HasThose, faultless, implicit_rows, lack_view, rows_or_fault, without};
 ghost use Rattle.features.specs.EntryViews.{entry_view, entry_views};

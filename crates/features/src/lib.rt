@@ -9,7 +9,7 @@ mod name;
 mod name_text;
 mod table;
 
-pub use dependency::{Dependency, Owner};
+pub use dependency::{Dependency, Summary};
 pub use entry::{Entry, EntryFault};
 pub use feature_name::FeatureName;
 pub use name::{NameFault, PackageName};

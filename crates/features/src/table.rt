@@ -2,7 +2,7 @@
 
 ghost use Rattle.std.specs.Prelude.{◌≡◌, [], IfOk, map, unwrap_or};
 ghost use Rattle.model.specs.Outcome.{Gives};
-ghost use Rattle.model.specs.Owner.{entries_at, has_feature};
+ghost use Rattle.model.specs.Summary.{entries_at, has_feature};
 ghost use Rattle.model.specs.Tables.{with_default};
 ghost use Rattle.features.specs.Drafts.{with_rows};
 ghost use Rattle.features.specs.Tables.{dep_names_view, plain_table, rows_of, table_wants_memory, built};
@@ -59,7 +59,7 @@ pub struct FeatureTable {
 }
 
 impl Model for FeatureTable {
-    ghost use Rattle.model.specs.Owner.{Table};
+    ghost use Rattle.model.specs.Summary.{Table};
     ghost use Rattle.features.specs.Tables.{rows_of};
 
     ghost Value = { Table };

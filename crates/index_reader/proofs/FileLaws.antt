@@ -9,7 +9,7 @@ use Rattle.std.specs.declared.cmp.Ordering.TheVariants.{Equal}
 use Rattle.semver.specs.Parse.{version_parts}
 use Rattle.model.specs.Outcome.{◌>>=◌}
 use Rattle.model.specs.Order.{precedence}
-use Rattle.model.specs.Owner.{KnowsFeatures, Table, same_text}
+use Rattle.model.specs.Summary.{KnowsFeatures, Table, same_text}
 use Rattle.model.specs.Tables.{TableFault, table_of}
 use Rattle.model.proofs.Candidates.{precedence_total}
 use Rattle.model.proofs.Lists.{all_none, all_cons, pairs_none, pairs_one, pairs_all, pairs_rest}

@@ -7,8 +7,8 @@ use Rattle.std.specs.declared.cmp.Ordering.TheVariants.{Less, Equal, Greater}
 use Rattle.std.specs.Cmp.Lexicographic.{slice_cmp, texts_ties}
 use Rattle.std.specs.BTreeMap.{is_at, insert_entry}
 use Rattle.std.specs.declared.alloc.Global.{Global}
-use Rattle.model.specs.Owner as model
-use Rattle.model.specs.Owner.{entries_at, same_text}
+use Rattle.model.specs.Summary as model
+use Rattle.model.specs.Summary.{entries_at, same_text}
 use Rattle.model.specs.Order.{text_cmp}
 use Rattle.features.specs.Tables.{rows_of}
 use Rattle.features.specs.EntryViews.{entry_views}

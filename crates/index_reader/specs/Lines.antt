@@ -6,7 +6,7 @@ use Rattle.serde_json.specs.Data.{Data, null, boolean, number, string, array, ob
 use Rattle.serde_json.specs.Read.{read}
 use Rattle.serde_json.specs.Find.{get, as_str, as_bool, as_array, as_object, as_number, as_u64}
 use Rattle.model.specs.Outcome.{◌>>=◌}
-use Rattle.model.specs.Owner.{same_text}
+use Rattle.model.specs.Summary.{same_text}
 use Rattle.features.specs.Names.{is_package_name}
 use Rattle.classes.specs.RustVersions.{rust_version_of}
 use Rattle.index_reader.specs.declared.fault.LineFault.{LineFault}

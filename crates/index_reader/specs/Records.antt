@@ -4,8 +4,8 @@ use Rattle.std.specs.List.{list_all}
 use Rattle.semver.specs.Parse.{Parts, Held, version_parts, req_of}
 use Rattle.semver.specs.declared.error.Error.{Error}
 use Rattle.model.specs.Outcome.{◌>>=◌, guard}
-use Rattle.model.specs.Owner as model
-use Rattle.model.specs.Owner.{same_text}
+use Rattle.model.specs.Summary as model
+use Rattle.model.specs.Summary.{same_text}
 use Rattle.features.specs.Names.{is_between}
 use Rattle.index_reader.specs.Lines.{Line, PartView, DependencyView, dev, part, ShapeView, data_of_bytes, shape_of}
 use Rattle.index_reader.specs.Written.{feature_name_of, features_of}
@@ -19,7 +19,7 @@ pub record RecordView : Type 0 where
   pub checksum : List ℕ
   pub yanked : Bool
   pub rust_version : Option (ℕ × ℕ × ℕ)
-  pub brings : model.Owner
+  pub brings : model.Summary
 
 -- the line goes on only where the test passes
 abbrev pub unless : Bool → Reason → Line (Unit {0})

@@ -2,7 +2,7 @@
 use Rattle.std.specs.Prelude.{List, map, option_map, string_bytes, Vec}
 use Rattle.std.specs.declared.alloc.Global.{Global}
 use Rattle.semver.specs.Identifiers.{parts_of}
-use Rattle.features.specs.Views.{owner_view}
+use Rattle.features.specs.Views.{summary_view}
 use Rattle.classes.specs.RustVersions.{rust_version_view}
 use Rattle.index_reader.specs.Records.{RecordView}
 use Rattle.index_reader.specs.Files.{SkipView, FileView}
@@ -15,7 +15,7 @@ record_view r = record {
   checksum = string_bytes r.checksum;
   yanked = r.yanked;
   rust_version = option_map rust_version_view r.rust_version;
-  brings = owner_view r.brings;
+  brings = summary_view r.brings;
 }
 
 abbrev pub skip_view : Skip → SkipView

@@ -4,7 +4,7 @@ use Rattle.std.specs.Prelude.{ℕ, false, if◌then◌else◌, List, [], ◌∷�
 use Rattle.std.specs.Map.{set_value}
 use Rattle.std.specs.Option.{ok_or}
 use Rattle.model.specs.Outcome.{◌>>=◌}
-use Rattle.model.specs.Owner.{Entry, Table, entries_at, same_text}
+use Rattle.model.specs.Summary.{Entry, Table, entries_at, same_text}
 use Rattle.model.specs.Tables.{DepName, TableFault, Written, table_of, with_row}
 use Rattle.features.specs.Entries.{entry_of}
 use Rattle.features.specs.Names.{is_feature_name}

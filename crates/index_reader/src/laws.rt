@@ -4,7 +4,7 @@ ghost use Rattle.std.specs.Prelude.{◌≢◌, ℕ, List};
 ghost use Rattle.std.specs.List.{All, AllPairs};
 ghost use Rattle.std.specs.declared.cmp.Ordering.TheVariants.{Equal};
 ghost use Rattle.model.specs.Order.{precedence};
-ghost use Rattle.model.specs.Owner.{KnowsFeatures};
+ghost use Rattle.model.specs.Summary.{KnowsFeatures};
 ghost use Rattle.index_reader.specs.Files.{records_of_file};
 
 /// No two records of a file are of equal precedence.

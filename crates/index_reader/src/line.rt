@@ -17,7 +17,7 @@ use crate::record::Record;
 use crate::shape::{DependencyShape, LineShape, PartShape, Required, read_shape};
 use crate::tree::read_tree;
 use crate::written::{feature_name, features};
-use features::{Dependency, FeatureName, Owner, PackageName};
+use features::{Dependency, FeatureName, PackageName, Summary};
 use json::Scratch;
 use semver::{Version, VersionReq};
 use std::alloc::{AllocError, Global};
@@ -66,7 +66,7 @@ fn record_in(alloc: Global, name: &PackageName, shape: &LineShape<'_>) -> Result
         checksum: String::from_str(alloc, shape.checksum)?,
         yanked: shape.yanked,
         rust_version: shape.rust_version,
-        brings: Owner {
+        brings: Summary {
             dependencies,
             features,
         },

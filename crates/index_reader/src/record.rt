@@ -5,7 +5,7 @@ ghost use Rattle.semver.specs.Identifiers.{parts_of};
 
 use crate::fault::Reason;
 use classes::RustVersion;
-use features::{Owner, PackageName};
+use features::{PackageName, Summary};
 use semver::Version;
 
 /// A version of a package, as its line has it.
@@ -17,7 +17,7 @@ pub struct Record {
     pub yanked: bool,
     /// The Rust version that it needs, if it says one.
     pub rust_version: Option<RustVersion>,
-    pub brings: Owner,
+    pub brings: Summary,
     ghost is_read: { IsValid (parts_of version) },
 }
 

@@ -11,7 +11,7 @@ use Rattle.semver.specs.Grammar.{IsValid}
 use Rattle.semver.specs.Parse.{Parts}
 use Rattle.model.specs.Content.{Package, Content, same_version}
 use Rattle.model.specs.Order.{text_cmp, version_cmp, package_cmp}
-use Rattle.model.specs.Owner.{same_text}
+use Rattle.model.specs.Summary.{same_text}
 use Rattle.lockfile.specs.Search.{IsOrdered, IsRead, named_cmp, versioned_cmp, wanted_cmp, is_wanted}
 use Rattle.lockfile.specs.Spelling.{named, versioned}
 use Rattle.lockfile.specs.Views.{package_view, package_views}

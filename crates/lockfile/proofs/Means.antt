@@ -10,7 +10,7 @@ use Rattle.semver.specs.Identifiers.{parts_text}
 use Rattle.semver.proofs.Grammar.{version_parts-complete}
 use Rattle.model.specs.Content.{Package, Content, same_version}
 use Rattle.model.specs.Order.{text_cmp, version_cmp, package_cmp}
-use Rattle.model.specs.Owner.{same_text}
+use Rattle.model.specs.Summary.{same_text}
 use Rattle.lockfile.specs.Locks.{version_form, is_form, is_form_without_source, places_from, places, only, or_else, place_meant}
 use Rattle.lockfile.specs.Search.{IsOrdered, IsRead, is_named, is_versioned, is_sourced}
 use Rattle.lockfile.specs.Spelling.{named, versioned, longest_form, dependency_text}

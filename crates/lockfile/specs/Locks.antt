@@ -11,7 +11,7 @@ use Rattle.semver.specs.Identifiers.{parts_text}
 use Rattle.semver.specs.Parse.{Parts, version_parts}
 use Rattle.semver.specs.declared.error.Error.{Error}
 use Rattle.model.specs.Outcome.{◌>>=◌, guard}
-use Rattle.model.specs.Owner.{same_text}
+use Rattle.model.specs.Summary.{same_text}
 use Rattle.model.specs.Content.{Package, Content, same_version, same_option}
 use Rattle.model.specs.Order.{package_cmp}
 use Rattle.features.specs.Names.{is_package_name}

@@ -6,7 +6,7 @@ use Rattle.std.specs.declared.cmp.Ordering.{Ordering}
 use Rattle.std.specs.declared.cmp.Ordering.TheVariants.{Less, Equal, Greater}
 use Rattle.semver.specs.Identifiers.{parts_text}
 use Rattle.model.specs.Content.{Package, Content, same_version}
-use Rattle.model.specs.Owner.{same_text}
+use Rattle.model.specs.Summary.{same_text}
 use Rattle.model.specs.Order.{text_cmp}
 use Rattle.lockfile.specs.Locks.{version_form, source_form, in_order}
 

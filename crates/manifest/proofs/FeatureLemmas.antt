@@ -12,7 +12,7 @@ use Rattle.std.specs.declared.alloc.Global.{Global}
 use Rattle.std.specs.declared.cmp.Ordering.TheVariants.{Less}
 use Rattle.toml.specs.declared.value.Value.{Value}
 use Rattle.model.specs.Order.{text_cmp}
-use Rattle.model.specs.Owner as model
+use Rattle.model.specs.Summary as model
 use Rattle.features.specs.EntryViews.{entry_views}
 use Rattle.features.specs.declared.entry.Entry.{Entry}
 

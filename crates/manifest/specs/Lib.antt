@@ -1,5 +1,5 @@
 pub use Rattle.model.specs.Outcome
-pub use Rattle.model.specs.Owner
+pub use Rattle.model.specs.Summary
 pub use Rattle.features.specs.Views
 pub use Rattle.classes.specs.RustVersions
 pub mod Faults

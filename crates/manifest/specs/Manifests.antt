@@ -9,7 +9,7 @@ use Rattle.toml.specs.Parse.{parse_document}
 use Rattle.semver.specs.Parse.{Parts, Held, req_of}
 use Rattle.semver.specs.declared.error.Error.{Error}
 use Rattle.model.specs.Outcome.{◌>>=◌, guard}
-use Rattle.model.specs.Owner.{Dependency, Owner, Entry, feature, dependency, dependency_feature, weak_feature, Table}
+use Rattle.model.specs.Summary.{Dependency, Summary, Entry, feature, dependency, dependency_feature, weak_feature, Table}
 use Rattle.model.specs.Tables.{DepName, TableFault, no_such_feature, no_such_dependency, not_optional, table_of}
 use Rattle.manifest.specs.Dependencies.{SourceView, registry, unsupported, DependencyShapeView}
 use Rattle.manifest.specs.Shapes.{ShapeView, shape_of}
@@ -24,7 +24,7 @@ pub record ManifestView : Type 0 where
   pub name : List ℕ
   pub version : Parts
   pub rust_version : Option (ℕ × ℕ × ℕ)
-  pub brings : Owner
+  pub brings : Summary
 
 -- ---- sources that are left out
 

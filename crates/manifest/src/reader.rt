@@ -7,7 +7,7 @@ ghost use Rattle.semver.specs.Parse.{memory_error, req_of};
 ghost use Rattle.toml.specs.View.{table_view};
 ghost use Rattle.model.specs.Outcome.{Gives, guard};
 ghost use Rattle.classes.specs.RustVersions.{rust_version_view};
-ghost use Rattle.features.specs.Views.{dependency_view, dependency_views, owner_view};
+ghost use Rattle.features.specs.Views.{dependency_view, dependency_views, summary_view};
 ghost use Rattle.manifest.specs.Faults.{is_memory};
 ghost use Rattle.manifest.specs.Manifests.{uses, needs_workspace, sources_allowed, dependency_with, dependencies_of, manifest_of, manifest_of_bytes};
 ghost use Rattle.manifest.specs.ShapeViews as shaped;
@@ -20,7 +20,7 @@ use crate::shape::Shape;
 use crate::table::read_table;
 use crate::top::read_shape;
 use classes::RustVersion;
-use features::{Dependency, FeatureTable, Owner, PackageName};
+use features::{Dependency, FeatureTable, PackageName, Summary};
 use semver::{Version, VersionReq};
 use std::alloc::{AllocError, Global};
 use std::marker::Model;
@@ -36,7 +36,7 @@ pub struct Manifest {
     name: PackageName,
     version: Version,
     rust_version: Option<RustVersion>,
-    brings: Owner,
+    brings: Summary,
 }
 
 impl Model for Manifest {
@@ -44,12 +44,12 @@ impl Model for Manifest {
     ghost use Rattle.semver.specs.Grammar.{IsValid};
     ghost use Rattle.semver.specs.Identifiers.{parts_of};
     ghost use Rattle.classes.specs.RustVersions.{rust_version_view};
-    ghost use Rattle.features.specs.Views.{owner_view};
+    ghost use Rattle.features.specs.Views.{summary_view};
     ghost use Rattle.manifest.specs.Manifests.{ManifestView};
 
     ghost Value = { ManifestView };
 
-    ghost view = { λ m. record { name = m.name; version = parts_of m.version; rust_version = option_map rust_version_view m.rust_version; brings = owner_view m.brings } };
+    ghost view = { λ m. record { name = m.name; version = parts_of m.version; rust_version = option_map rust_version_view m.rust_version; brings = summary_view m.brings } };
 
     ghost invariant = { λ m. IsValid (parts_of m.version) };
 }
@@ -88,8 +88,8 @@ impl Manifest {
     }
 
     /// What the package brings: its dependencies by number, and its features.
-    pub fn owner(&self) -> &Owner
-        ensures { owner_view result.now ≡ self.now.brings }
+    pub fn summary(&self) -> &Summary
+        ensures { summary_view result.now ≡ self.now.brings }
     {
         &self.brings
     }
@@ -131,7 +131,7 @@ fn manifest_in(alloc: Global, top: &Table) -> Result<Manifest, ManifestFault>
         name: package.name,
         version: package.version,
         rust_version: package.rust_version,
-        brings: Owner {
+        brings: Summary {
             dependencies,
             features,
         },

@@ -5,7 +5,7 @@ use Rattle.std.proofs.lemmas.Option.{none-some}
 use Rattle.model.specs.Content.{Problem, Content}
 use Rattle.model.specs.Selection.{Class, class_of, IsValidSelection}
 use Rattle.model.specs.WellFormed.{IsCatalogue}
-use Rattle.model.specs.Vertices.{OwnerName, the_root, version_of, dep, feat}
+use Rattle.model.specs.Vertices.{Owner, the_root, version_of, dep, feat}
 use Rattle.model.specs.Axioms.{Kind, Term, AreApart, IsInstance, without_full}
 use Rattle.model.specs.Axioms.IsInstance.{root_is, needed, has_target, has_its_feature, wants_by_list, wants_by_entry, feature_on, dependency_on, feature_asks, newest_listed, weakly}
 use Rattle.model.specs.Derivation.{states_at, Step, given, combine, terms_of, IsStep, AreSteps, none_yet, one_more, IsAccepted}
@@ -17,7 +17,7 @@ use Rattle.model.proofs.Combined.{combined}
 feat-inner : (name : List ℕ) (k : Class) (f g : List ℕ) → feat name k f ≡ feat name k g → f ≡ g
 feat-inner name k f g e = cc
 
-dep-inner : (o : OwnerName) (i j : ℕ) → dep o i ≡ dep o j → i ≡ j
+dep-inner : (o : Owner) (i j : ℕ) → dep o i ≡ dep o j → i ≡ j
 dep-inner o i j e = cc
 
 -- an instance has at most one term a vertex

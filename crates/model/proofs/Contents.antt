@@ -10,7 +10,7 @@ use Rattle.semver.specs.Identifiers.{parts_text}
 use Rattle.semver.specs.Order.{pre_cmp}
 use Rattle.semver.specs.OrderLaws.{pre_total}
 use Rattle.semver.specs.Parse.{Parts}
-use Rattle.model.specs.Owner.{KnowsFeatures, same_text}
+use Rattle.model.specs.Summary.{KnowsFeatures, same_text}
 use Rattle.model.specs.Content.{Package, Content, Candidate, Problem, candidates_of}
 use Rattle.model.specs.Order.{text_cmp, precedence, version_cmp, source_cmp, package_cmp}
 use Rattle.model.specs.WellFormed.{IsContent, IsCatalogue}

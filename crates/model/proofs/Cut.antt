@@ -4,14 +4,14 @@ use Rattle.std.proofs.lemmas.Option.{same_Some, slice_get_within}
 use Rattle.std.proofs.lemmas.Bool.{ltb-false, and_from}
 use Rattle.semver.specs.Parse.{Parts}
 use Rattle.semver.specs.EvalViews.{matches_views}
-use Rattle.model.specs.Owner.{Dependency, Entry, feature, dependency, dependency_feature, weak_feature, entries_at, has_feature, same_text}
+use Rattle.model.specs.Summary.{Dependency, Entry, feature, dependency, dependency_feature, weak_feature, entries_at, has_feature, same_text}
 use Rattle.model.specs.Facts.{Fact, here, on, enabled, Brings, Lists}
 use Rattle.model.specs.Facts.Holds.{starts, arrives, root_needs, needs, asks, root_wants, turns_on, enables, enables_for, wants, wants_weakly}
-use Rattle.model.specs.Content.{Problem, Content, Package, Candidate, candidates_of, candidate_at, candidate_of, if_checksum, same_option, is_root, brings_of, owner_if, owner_of, owner_at, serves, serves_if, last_serving, list_if, target_of}
+use Rattle.model.specs.Content.{Problem, Content, Package, Candidate, candidates_of, candidate_at, candidate_of, if_checksum, same_option, is_root, brings_of, summary_if, summary_of, summary_at, serves, serves_if, last_serving, list_if, target_of}
 use Rattle.model.specs.Selection.{Class, patch, minor, major, class_of, IsValidSelection, IsFact, IsRootAt, HasTarget, IsReached}
 use Rattle.model.specs.Selection.IsReached.{root, listed}
 use Rattle.model.specs.WellFormed.{IsCatalogue}
-use Rattle.model.specs.Vertices.{OwnerName, the_root, version_of, Vertex, pkg, dep, State, version, in_class, owner_brings}
+use Rattle.model.specs.Vertices.{Owner, the_root, version_of, Vertex, pkg, dep, State, version, in_class, owner_brings}
 use Rattle.model.specs.Axioms.{is_lower}
 use Rattle.model.specs.Stands.{name_of, IsLink, StandsFor}
 use Rattle.model.specs.Search.{IsUnbroken, LeadsTo, IsReachedFact, IsPresent}
@@ -102,10 +102,10 @@ module _ (q : Problem) (state : Vertex → State) (ok : IsUnbroken q state) (kno
       )
 
   -- a package brings what its owner does
-  brings_same : (n : ℕ) (p : Package) → At n p → owner_at q content n ≡ owner_brings q (name_of q p)
-  brings_same n p got = ap (owner_if q) got ∙ by (is_root q p) refl
+  brings_same : (n : ℕ) (p : Package) → At n p → summary_at q content n ≡ owner_brings q (name_of q p)
+  brings_same n p got = ap (summary_if q) got ∙ by (is_root q p) refl
     where
-      by : (b : Bool) → is_root q p ≡ b → owner_of q p ≡ owner_brings q (name_of q p)
+      by : (b : Bool) → is_root q p ≡ b → summary_of q p ≡ owner_brings q (name_of q p)
       by true e = ap (λ t. cond t q.brings (brings_of (candidate_of q p))) e ∙ sym (ap (owner_brings q) (name_root p e))
       by false e = let c = is_candidate n p got e in
           ap (λ t. cond t q.brings (brings_of (candidate_of q p))) e ∙ ap brings_of c.1 ∙ sym (ap brings_of c.2) ∙ sym (ap (owner_brings q) (name_other p e))
@@ -214,7 +214,7 @@ module _ (q : Problem) (state : Vertex → State) (ok : IsUnbroken q state) (kno
       let same : x.u ≡ t = same_Some x.u t (sym x.target ∙ h) in
       (x.s, subst (λ k. At k x.s) same x.got, x.link)
 
-  same_lead : (n : OwnerName) (i : ℕ) (d : Dependency) (a b : OwnerName) → LeadsTo q state n i d a → LeadsTo q state n i d b → a ≡ b
+  same_lead : (n : Owner) (i : ℕ) (d : Dependency) (a b : Owner) → LeadsTo q state n i d a → LeadsTo q state n i d b → a ≡ b
   same_lead n i d a b l m =
       let ks : l.k ≡ m.k = class-inner l.k m.k (sym l.chosen ∙ m.chosen) in
       let vs : l.v ≡ m.v = version-inner l.v m.v (sym l.locked ∙ subst (λ k. state (pkg d.real_name k) ≡ version m.v) (sym ks) m.locked) in
@@ -232,10 +232,10 @@ module _ (q : Problem) (state : Vertex → State) (ok : IsUnbroken q state) (kno
   Means (on n f) = (p : Package) × At n p × IsReachedFact q state (on (name_of q p) f)
   Means (enabled n i) = (p : Package) × At n p × IsReachedFact q state (enabled (name_of q p) i)
 
-  brings_there : (n i : ℕ) (p : Package) (d : Dependency) → At n p → Brings (owner_at q content) n i d → Brings (owner_brings q) (name_of q p) i d
+  brings_there : (n i : ℕ) (p : Package) (d : Dependency) → At n p → Brings (summary_at q content) n i d → Brings (owner_brings q) (name_of q p) i d
   brings_there n i p d got b = subst (λ o. slice_get o.dependencies i ≡ Some d) (brings_same n p got) b
 
-  lists_there : (n : ℕ) (p : Package) (f : List ℕ) (e : Entry) → At n p → Lists (owner_at q content) n f e → Lists (owner_brings q) (name_of q p) f e
+  lists_there : (n : ℕ) (p : Package) (f : List ℕ) (e : Entry) → At n p → Lists (summary_at q content) n f e → Lists (owner_brings q) (name_of q p) f e
   lists_there n p f e got l = (l.0, subst (λ o. entries_at f o.features ≡ Some l.0) (brings_same n p got) l.1, l.2)
 
   at_root : (n : ℕ) (p : Package) → At n p → IsRootAt q content n → name_of q p ≡ the_root
@@ -281,41 +281,41 @@ module _ (q : Problem) (state : Vertex → State) (ok : IsUnbroken q state) (kno
       (r.0, r.1, wants_weakly (name_of q x.0) (name_of q r.0) i d g k x.2 c e z (r.2).leads)
 
   -- a place of the owner, which lists lead to
-  pub record Place (n : OwnerName) : Type 0 where
+  pub record Place (n : Owner) : Type 0 where
     pub a : ℕ
     pub p : Package
     pub got : slice_get content a ≡ Some p
     pub named : name_of q p ≡ n
     pub reached : IsReached q content a
 
-  pub record PlaceWith (n : OwnerName) (F : ℕ → Fact ℕ) : Type 0 where
+  pub record PlaceWith (n : Owner) (F : ℕ → Fact ℕ) : Type 0 where
     pub place : Place n
     pub fact : IsFact q content (F place.a)
 
   -- what a fact that the root reaches says of the content
-  abbrev pub Back : Fact OwnerName → Type 0
+  abbrev pub Back : Fact Owner → Type 0
   Back (here n) = Place n
   Back (on n f) = PlaceWith n (λ a. on a f)
   Back (enabled n i) = PlaceWith n (λ a. enabled a i)
 
-  here_back : (n : OwnerName) (x : Place n) → IsFact q content (here x.a)
+  here_back : (n : Owner) (x : Place n) → IsFact q content (here x.a)
   here_back n x = starts x.a (slice_get_within content x.a x.p x.got)
 
-  brings_back : (n : OwnerName) (x : Place n) (i : ℕ) (d : Dependency) → Brings (owner_brings q) n i d → Brings (owner_at q content) x.a i d
+  brings_back : (n : Owner) (x : Place n) (i : ℕ) (d : Dependency) → Brings (owner_brings q) n i d → Brings (summary_at q content) x.a i d
   brings_back n x i d b = subst (λ o. slice_get o.dependencies i ≡ Some d) (sym (brings_same x.a x.p x.got ∙ ap (owner_brings q) x.named)) b
 
-  lists_back : (n : OwnerName) (x : Place n) (f : List ℕ) (e : Entry) → Lists (owner_brings q) n f e → Lists (owner_at q content) x.a f e
+  lists_back : (n : Owner) (x : Place n) (f : List ℕ) (e : Entry) → Lists (owner_brings q) n f e → Lists (summary_at q content) x.a f e
   lists_back n x f e l = (l.0, subst (λ o. entries_at f o.features ≡ Some l.0) (sym (brings_same x.a x.p x.got ∙ ap (owner_brings q) x.named)) l.1, l.2)
 
-  root_back : (n : OwnerName) (x : Place n) → n ≡ the_root → IsRootAt q content x.a
+  root_back : (n : Owner) (x : Place n) → n ≡ the_root → IsRootAt q content x.a
   root_back n x e = (x.p, x.got, root_if x.p (x.named ∙ e))
 
   -- one step along a link
-  pub record Next (n t : OwnerName) (x : Place n) (d : Dependency) : Type 0 where
+  pub record Next (n t : Owner) (x : Place n) (d : Dependency) : Type 0 where
     pub to : Place t
     pub target : HasTarget q content x.a d to.a
 
-  next : (n t : OwnerName) (i : ℕ) (d : Dependency) (x : Place n) → IsReachedFact q state (enabled n i) → Brings (owner_brings q) n i d → LeadsTo q state n i d t → Next n t x d
+  next : (n t : Owner) (i : ℕ) (d : Dependency) (x : Place n) → IsReachedFact q state (enabled n i) → Brings (owner_brings q) n i d → LeadsTo q state n i d t → Next n t x d
   next n t i d x on_it b l =
       let y = (stands.packages t).0 (arrives n t i d on_it b l) in
       let link : IsLink q (LeadsTo q state) x.p y.1 i d = record {
@@ -328,7 +328,7 @@ module _ (q : Problem) (state : Vertex → State) (ok : IsUnbroken q state) (kno
         target = target_from x.a y.0 i x.p y.1 d x.got y.2 link;
       }
 
-  pub back : (f : Fact OwnerName) → IsReachedFact q state f → Back f
+  pub back : (f : Fact Owner) → IsReachedFact q state f → Back f
   back f (starts n e) =
       let x = (stands.packages n).0 (starts n e) in
       record { a = x.0; p = x.1; got = x.2; named = x.3; reached = root x.0 (x.1, x.2, root_if x.1 (x.3 ∙ e)) }

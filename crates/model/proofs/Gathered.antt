@@ -7,12 +7,12 @@ use Rattle.std.proofs.lemmas.List.{length-map}
 use Rattle.std.proofs.lemmas.List.Kept.{AllPairs-cons}
 use Rattle.std.proofs.lemmas.List.Sorted.{IsPermutation-sym, Contains-permutation}
 use Rattle.std.proofs.lemmas.Option.{none-some, same_Some, slice_get-map}
-use Rattle.model.specs.Owner.{Dependency, same_text}
+use Rattle.model.specs.Summary.{Dependency, same_text}
 use Rattle.model.specs.Facts.{enabled, Brings}
 use Rattle.model.specs.Content.{Package, Problem, candidates_of, candidate_at, is_root, same_version}
 use Rattle.model.specs.Order.{package_cmp}
 use Rattle.model.specs.WellFormed.{IsContent, IsCatalogue}
-use Rattle.model.specs.Vertices.{OwnerName, the_root, version_of, same_owner, owner_brings}
+use Rattle.model.specs.Vertices.{Owner, the_root, version_of, same_owner, owner_brings}
 use Rattle.model.specs.Stands.{name_of, IsReachedFact, IsLink, StandsFor}
 use Rattle.model.specs.ContentOf.{Kept, package_of, in_package_order, places_from, content_of, IsTargetOf, AreKept}
 use Rattle.model.proofs.Lists.{in_none, in_cons, in_first, in_rest, to_any, any_of, all_get, all_none, all_cons, all_first, all_rest, pairs_none, pairs_all, pairs_rest}
@@ -50,17 +50,17 @@ module _ {X Y : Type 0} (f : X → Y) where
 -- ---- the places of targets
 
 -- the owner is among the targets
-abbrev IsAmong : List OwnerName → Kept → Type 0
+abbrev IsAmong : List Owner → Kept → Type 0
 IsAmong ts k = list_any (same_owner k.owner) ts ≡ true
 
-pub record Placed (ks : List Kept) (ts : List OwnerName) (n t : ℕ) : Type 0 where
+pub record Placed (ks : List Kept) (ts : List Owner) (n t : ℕ) : Type 0 where
   pub j : ℕ
   pub k : Kept
   pub is : t ≡ n + j
   pub got : slice_get ks j ≡ Some k
   pub among : IsAmong ts k
 
-placed_from : (n t : ℕ) (ks : List Kept) (ts : List OwnerName) → Contains (places_from n ks ts) t → Placed ks ts n t
+placed_from : (n t : ℕ) (ks : List Kept) (ts : List Owner) → Contains (places_from n ks ts) t → Placed ks ts n t
 placed_from n t [] ts c = absurd (in_none t c)
 placed_from n t (k ∷ ks) ts c = by (λ c. placed_from (suc n) t ks ts c) (list_any (same_owner k.owner) ts) refl c
   where
@@ -75,7 +75,7 @@ placed_from n t (k ∷ ks) ts c = by (λ c. placed_from (suc n) t ks ts c) (list
       | inr c ↦ later (rest c)
     ]
 
-to_placed : (n : ℕ) (ks : List Kept) (ts : List OwnerName) (j : ℕ) (k : Kept) → slice_get ks j ≡ Some k → IsAmong ts k → Contains (places_from n ks ts) (n + j)
+to_placed : (n : ℕ) (ks : List Kept) (ts : List Owner) (j : ℕ) (k : Kept) → slice_get ks j ≡ Some k → IsAmong ts k → Contains (places_from n ks ts) (n + j)
 to_placed n [] ts j k e a = absurd (none-some k e)
 to_placed n (m ∷ ks) ts zero k e a =
     let h : list_any (same_owner m.owner) ts ≡ true = subst (IsAmong ts) (sym (same_Some m k e)) a in
@@ -91,7 +91,7 @@ to_placed n (m ∷ ks) ts (suc j) k e a =
     ]
 
 -- they lie between n and n + length ks, and rise
-places_within : (n : ℕ) (ks : List Kept) (ts : List OwnerName) → All (λ t. (n ≤ t) × (t < n + length ks)) (places_from n ks ts)
+places_within : (n : ℕ) (ks : List Kept) (ts : List Owner) → All (λ t. (n ≤ t) × (t < n + length ks)) (places_from n ks ts)
 places_within n [] ts = all_none (λ t. (n ≤ t) × (t < n + 0))
 places_within n (k ∷ ks) ts =
     let later : All (λ t. (n ≤ t) × (t < n + suc (length ks))) (places_from (suc n) ks ts) =
@@ -101,7 +101,7 @@ places_within n (k ∷ ks) ts =
       | false ↦ later
     ]
 
-places_rise : (n : ℕ) (ks : List Kept) (ts : List OwnerName) → AllPairs (λ i j. i < j) (places_from n ks ts)
+places_rise : (n : ℕ) (ks : List Kept) (ts : List Owner) → AllPairs (λ i j. i < j) (places_from n ks ts)
 places_rise n [] ts = pairs_none (λ i j. i < j)
 places_rise n (k ∷ ks) ts =
     elim (list_any (same_owner k.owner) ts) as (λ b. AllPairs (λ i j. i < j) (cond b (n ∷ places_from (suc n) ks ts) (places_from (suc n) ks ts))) [
@@ -112,7 +112,7 @@ places_rise n (k ∷ ks) ts =
 -- ---- packages
 
 module _ (q : Problem) where
-  cmp_lists : (o p : OwnerName) (l m : List ℕ) → package_cmp (package_of q o l) (package_of q p m) ≡ package_cmp (package_of q o []) (package_of q p [])
+  cmp_lists : (o p : Owner) (l m : List ℕ) → package_cmp (package_of q o l) (package_of q p m) ≡ package_cmp (package_of q o []) (package_of q p [])
   cmp_lists the_root the_root l m = refl
   cmp_lists the_root (version_of n v) l m = refl
   cmp_lists (version_of n v) the_root l m = refl
@@ -122,28 +122,28 @@ module _ (q : Problem) where
   root_is l = and_from (same_text q.name q.name) (same_version q.version q.version) (text-refl q.name) (version-refl q.version)
 
   -- the package of an owner has its name
-  pub name_back : (o : OwnerName) (l : List ℕ) → name_of q (package_of q o l) ≡ o
+  pub name_back : (o : Owner) (l : List ℕ) → name_of q (package_of q o l) ≡ o
   name_back the_root l = ap (λ b. cond b the_root (version_of q.name q.version)) (root_is l)
   name_back (version_of n v) l = refl
 
-  list_back : (o : OwnerName) (l : List ℕ) → (package_of q o l).list ≡ l
+  list_back : (o : Owner) (l : List ℕ) → (package_of q o l).list ≡ l
   list_back the_root l = refl
   list_back (version_of n v) l = refl
 
-  root_sum : (o : OwnerName) (l : List ℕ) → is_root q (package_of q o l) ≡ true → (package_of q o l).checksum ≡ None
+  root_sum : (o : Owner) (l : List ℕ) → is_root q (package_of q o l) ≡ true → (package_of q o l).checksum ≡ None
   root_sum the_root l h = refl
   root_sum (version_of n v) l h = absurd (true≢false (sym h))
 
-  source_is : (o : OwnerName) (l : List ℕ) → is_root q (package_of q o l) ≡ false → (package_of q o l).source ≡ Some q.source
+  source_is : (o : Owner) (l : List ℕ) → is_root q (package_of q o l) ≡ false → (package_of q o l).source ≡ Some q.source
   source_is the_root l h = absurd (true≢false (sym (root_is l) ∙ h))
   source_is (version_of n v) l h = refl
 
-  sum_is : (o : OwnerName) (l : List ℕ) → is_root q (package_of q o l) ≡ false
+  sum_is : (o : Owner) (l : List ℕ) → is_root q (package_of q o l) ≡ false
       → (package_of q o l).checksum ≡ option_map (λ c. c.checksum) (candidate_at (candidates_of q.candidates (package_of q o l).name) (package_of q o l).version)
   sum_is the_root l h = absurd (true≢false (sym (root_is l) ∙ h))
   sum_is (version_of n v) l h = refl
 
-  module _ (LeadsTo : OwnerName → ℕ → Dependency → OwnerName → Type 0) (catalogue : IsCatalogue q) (kept : List Kept) (are : AreKept q LeadsTo kept) where
+  module _ (LeadsTo : Owner → ℕ → Dependency → Owner → Type 0) (catalogue : IsCatalogue q) (kept : List Kept) (are : AreKept q LeadsTo kept) where
     pub ks : List Kept
     ks = in_package_order q kept
 
@@ -189,9 +189,9 @@ module _ (q : Problem) where
     to_order k c = Contains-permutation kept ks k permuted c
 
     -- the targets of a kept owner
-    targets_at : (k : Kept) → Contains ks k → (t : OwnerName) → Contains k.targets t ↔ IsTargetOf q LeadsTo k.owner t
+    targets_at : (k : Kept) → Contains ks k → (t : Owner) → Contains k.targets t ↔ IsTargetOf q LeadsTo k.owner t
     targets_at k c = let r = place_in kept k (from_order k c) in
-        all_get (λ k. (t : OwnerName) → Contains k.targets t ↔ IsTargetOf q LeadsTo k.owner t) kept r.0 k are.targets r.1
+        all_get (λ k. (t : Owner) → Contains k.targets t ↔ IsTargetOf q LeadsTo k.owner t) kept r.0 k are.targets r.1
 
     among_target : (k m : Kept) → IsAmong k.targets m → Contains k.targets m.owner
     among_target k m a = let r = any_of (same_owner m.owner) k.targets a in subst (Contains k.targets) (sym (owner-same m.owner r.0 r.2)) r.1

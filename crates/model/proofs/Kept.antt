@@ -1,14 +1,14 @@
 -- A valid selection stays one where other candidates come or go, if its own packages are the same candidates.
 use Rattle.std.proofs.Common.{◌≡◌, ℕ, List, Bool, true, false, cond, Option, Some, None, slice_get, Contains, ◌↔◌, IsSome, refl, ap, subst}
-use Rattle.model.specs.Owner.{Owner, Dependency, has_feature}
+use Rattle.model.specs.Summary.{Summary, Dependency, has_feature}
 use Rattle.model.specs.Facts.{Fact, Holds, on, enabled}
-use Rattle.model.specs.Content.{Problem, with_candidates, Content, Package, Candidate, candidate_of, is_root, brings_of, owner_if, owner_at}
+use Rattle.model.specs.Content.{Problem, with_candidates, Content, Package, Candidate, candidate_of, is_root, brings_of, summary_if, summary_at}
 use Rattle.model.specs.Selection.{IsValidSelection, IsOther, IsPlace, IsReached, IsRootAt, HasTarget}
 use Rattle.model.specs.Selection.IsReached.{root, listed}
 
 module _ (q : Problem) (cs : List (List ℕ × List Candidate)) (content : Content)
     (same : (n : ℕ) (p : Package) → IsOther q content n p → candidate_of q p ≡ candidate_of (with_candidates q cs) p) where
-  owners : (n : ℕ) → owner_at q content n ≡ owner_at (with_candidates q cs) content n
+  owners : (n : ℕ) → summary_at q content n ≡ summary_at (with_candidates q cs) content n
   owners n = by (slice_get content n) refl
     where
       of_package : (p : Package) → slice_get content n ≡ Some p → (b : Bool) → is_root q p ≡ b
@@ -16,7 +16,7 @@ module _ (q : Problem) (cs : List (List ℕ × List Candidate)) (content : Conte
       of_package p got true e = refl
       of_package p got false e = ap brings_of (same n p (got, e))
 
-      by : (o : Option Package) → slice_get content n ≡ o → owner_if q o ≡ owner_if (with_candidates q cs) o
+      by : (o : Option Package) → slice_get content n ≡ o → summary_if q o ≡ summary_if (with_candidates q cs) o
       by None e = refl
       by (Some p) e = of_package p e (is_root q p) refl
 
@@ -24,23 +24,23 @@ module _ (q : Problem) (cs : List (List ℕ × List Candidate)) (content : Conte
   reached_still n (root m r) = root n r
   reached_still n (listed m t p r got c) = listed m n p (reached_still m r) got c
 
-  all_owners : owner_at q content ≡ owner_at (with_candidates q cs) content
+  all_owners : summary_at q content ≡ summary_at (with_candidates q cs) content
   all_owners = λ i n. owners n i
 
   -- the facts, and what rests on them, by what each package brings
-  abbrev Facts : (ℕ → Owner) → Fact ℕ → Type 0
+  abbrev Facts : (ℕ → Summary) → Fact ℕ → Type 0
   Facts o = Holds o (IsRootAt q content) (IsPlace q content) q.root_asks (λ n i d t. HasTarget q content n d t)
 
-  abbrev Enabled : (ℕ → Owner) → ℕ → ℕ → Dependency → Type 0
+  abbrev Enabled : (ℕ → Summary) → ℕ → ℕ → Dependency → Type 0
   Enabled o n i d = (slice_get (o n).dependencies i ≡ Some d) × Facts o (enabled n i)
 
-  abbrev Met : (ℕ → Owner) → Type 0
+  abbrev Met : (ℕ → Summary) → Type 0
   Met o = (n i : ℕ) (d : Dependency) → Enabled o n i d → (t : ℕ) × HasTarget q content n d t
 
-  abbrev Exist : (ℕ → Owner) → Type 0
+  abbrev Exist : (ℕ → Summary) → Type 0
   Exist o = (n : ℕ) (f : List ℕ) → Facts o (on n f) → has_feature (o n).features f ≡ true
 
-  abbrev Listed : (ℕ → Owner) → Type 0
+  abbrev Listed : (ℕ → Summary) → Type 0
   Listed o = (n t : ℕ) (p : Package) → slice_get content n ≡ Some p → Contains p.list t ↔ ((i : ℕ) × (d : Dependency) × Enabled o n i d × HasTarget q content n d t)
 
   pub kept : IsValidSelection q content → IsValidSelection (with_candidates q cs) content

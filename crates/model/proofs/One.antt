@@ -1,7 +1,7 @@
 -- A vertex has at most one state in a valid selection.
 use Rattle.std.proofs.Common.{◌≡◌, slice_get, sym, ap, ◌∙◌, inl, inr}
 use Rattle.std.proofs.lemmas.Option.{same_Some}
-use Rattle.model.specs.Content.{Problem, Content, Package, owner_at, target_of}
+use Rattle.model.specs.Content.{Problem, Content, Package, summary_at, target_of}
 use Rattle.model.specs.Selection.{class_of, IsValidSelection}
 use Rattle.model.specs.Vertices.{Vertex, root, pkg, dep, feat, ask, State, version, in_class}
 use Rattle.model.specs.Assignment.{Has, Assigns}
@@ -13,7 +13,7 @@ module _ (q : Problem) (content : Content) (valid : IsValidSelection q content) 
   has_one (pkg name k) s r (n, p, l, e) (m, o, j, f) = e ∙ ap (λ (x : Package). version x.version) (same_package q content valid name k n m p o l j) ∙ sym f
   has_one (dep o i) s r (n, t, d, p, l, e) (m, u, g, w, j, f) =
       let places : n ≡ m = same_owner_place q content valid o n m l.owner j.owner in
-      let deps : d ≡ g = same_Some d g (sym (l.enabled).0 ∙ ap (λ x. slice_get (owner_at q content x).dependencies i) places ∙ (j.enabled).0) in
+      let deps : d ≡ g = same_Some d g (sym (l.enabled).0 ∙ ap (λ x. slice_get (summary_at q content x).dependencies i) places ∙ (j.enabled).0) in
       let targets : t ≡ u = same_Some t u (sym l.target ∙ (λ x. target_of content (places x) (deps x)) ∙ j.target) in
       let packages : p ≡ w = same_Some p w (sym l.served ∙ ap (slice_get content) targets ∙ j.served) in
       e ∙ ap (λ (x : Package). in_class (class_of x.version)) packages ∙ sym f

@@ -13,7 +13,7 @@ use Rattle.semver.specs.Identifiers.{parts_text}
 use Rattle.model.specs.Content.{Problem, Candidate, candidates_of}
 use Rattle.model.specs.Order.{text_cmp, precedence, version_cmp, source_cmp, package_cmp}
 use Rattle.model.specs.WellFormed.{IsCatalogue}
-use Rattle.model.specs.Vertices.{OwnerName, the_root, version_of}
+use Rattle.model.specs.Vertices.{Owner, the_root, version_of}
 use Rattle.model.specs.Axioms.{IsOwner}
 use Rattle.model.specs.ContentOf.{Kept, package_of, kept_cmp, place_in_order, in_package_order}
 use Rattle.model.proofs.Contents.{each_version_tied}
@@ -107,7 +107,7 @@ module _ (q : Problem) where
 
   module _ (catalogue : IsCatalogue q) where
     -- two owners that differ don't tie
-    owners-differ : (a b : OwnerName) → IsOwner q a → IsOwner q b → a ≢ b → package_cmp (package_of q a []) (package_of q b []) ≢ Equal
+    owners-differ : (a b : Owner) → IsOwner q a → IsOwner q b → a ≢ b → package_cmp (package_of q a []) (package_of q b []) ≢ Equal
     owners-differ the_root the_root o p n e = n refl
     owners-differ the_root (version_of m w) o p n e =
         let x = then-tie (text_cmp q.name m) (ordering_then (version_cmp q.version w) Greater) e in

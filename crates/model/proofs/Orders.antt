@@ -7,7 +7,7 @@ use Rattle.std.proofs.lemmas.Bool.{ltb-true, ltb-false}
 use Rattle.std.proofs.lemmas.Option.{none-some, same_Some}
 use Rattle.semver.specs.Parse.{Parts}
 use Rattle.semver.specs.Order.{pre_cmp}
-use Rattle.model.specs.Owner.{Dependency}
+use Rattle.model.specs.Summary.{Dependency}
 use Rattle.model.specs.Content.{Content, serves_if, or_this, last_serving}
 use Rattle.model.specs.Selection.{Class, patch, minor, major, class_of}
 use Rattle.model.specs.Axioms.{is_lower}

@@ -4,12 +4,12 @@ use Rattle.std.proofs.lemmas.Bool.{and_from}
 use Rattle.std.proofs.lemmas.Option.{none-some, same_Some, slice_get_within}
 use Rattle.semver.specs.Parse.{Parts}
 use Rattle.semver.specs.EvalViews.{matches_views}
-use Rattle.model.specs.Owner.{Dependency, same_text}
+use Rattle.model.specs.Summary.{Dependency, same_text}
 use Rattle.model.specs.Facts.{here, enabled}
 use Rattle.model.specs.Facts.Holds.{starts}
-use Rattle.model.specs.Content.{Problem, Content, Package, Candidate, candidates_of, candidate_at, candidate_of, if_checksum, same_option, same_version, is_root, brings_of, owner_if, owner_at, serves, serves_if, list_if}
+use Rattle.model.specs.Content.{Problem, Content, Package, Candidate, candidates_of, candidate_at, candidate_of, if_checksum, same_option, same_version, is_root, brings_of, summary_if, summary_at, serves, serves_if, list_if}
 use Rattle.model.specs.Selection.{Class, class_of, IsValidSelection, IsFact, IsRootAt, IsOther, HasTarget}
-use Rattle.model.specs.Vertices.{OwnerName, the_root, version_of, State, in_class, owner_brings, dep}
+use Rattle.model.specs.Vertices.{Owner, the_root, version_of, State, in_class, owner_brings, dep}
 use Rattle.model.specs.Assignment.{Locks, IsOwnerAt, Leads, Has}
 use Rattle.model.proofs.Same.{both, text-same, text-refl, version-same, version-refl}
 use Rattle.model.proofs.Lists.{in_none, in_cons, in_first, in_rest}
@@ -76,13 +76,13 @@ module _ (q : Problem) where
     is_candidate n p other = let r = some_is (candidate_of q p) (valid.candidates n p other) in (r.0, r.1, candidate_of-is p r.0 r.1)
 
     -- an owner brings at its place what it brings
-    pub owner_is : (o : OwnerName) (n : ℕ) → IsOwnerAt q content o n → owner_at q content n ≡ owner_brings q o
-    owner_is the_root n (p, got, is) = ap (owner_if q) got ∙ ap (λ b. cond b q.brings (brings_of (candidate_of q p))) is
+    pub owner_is : (o : Owner) (n : ℕ) → IsOwnerAt q content o n → summary_at q content n ≡ owner_brings q o
+    owner_is the_root n (p, got, is) = ap (summary_if q) got ∙ ap (λ b. cond b q.brings (brings_of (candidate_of q p))) is
     owner_is (version_of name v) n (p, l, is) =
         let c = is_candidate n p l.other in
         let sought : candidate_at (candidates_of q.candidates name) v ≡ Some c.0 =
         subst (λ m. candidate_at (candidates_of q.candidates m) v ≡ Some c.0) l.named (subst (λ w. candidate_at (candidates_of q.candidates p.name) w ≡ Some c.0) is c.2) in
-        ap (owner_if q) l.other.0 ∙ ap (λ b. cond b q.brings (brings_of (candidate_of q p))) l.other.1 ∙ ap brings_of c.1 ∙ sym (ap brings_of sought)
+        ap (summary_if q) l.other.0 ∙ ap (λ b. cond b q.brings (brings_of (candidate_of q p))) l.other.1 ∙ ap brings_of c.1 ∙ sym (ap brings_of sought)
 
     -- of a name and class there is one package
     pub same_locked : (name : List ℕ) (k : Class) (n m : ℕ) (p r : Package) → Locks q content name k n p → Locks q content name k m r → n ≡ m
@@ -102,7 +102,7 @@ module _ (q : Problem) where
         let f = root_parts r was in
         no_two_alike content valid.is_content n m p r got had (sym e.1 ∙ f.1) (sym e.2 ∙ f.2) (e.0 ∙ sym f.0)
 
-    pub same_owner_place : (o : OwnerName) (n m : ℕ) → IsOwnerAt q content o n → IsOwnerAt q content o m → n ≡ m
+    pub same_owner_place : (o : Owner) (n m : ℕ) → IsOwnerAt q content o n → IsOwnerAt q content o m → n ≡ m
     same_owner_place the_root n m a b = same_root n m a b
     same_owner_place (version_of name v) n m a b = same_place name v n m a b
 
@@ -119,7 +119,7 @@ module _ (q : Problem) where
     serving_is d (Some p) h = (p, refl, h)
 
     -- an enabled dependency leads to a package
-    pub to_lead : (o : OwnerName) (i n : ℕ) (d : Dependency) → IsOwnerAt q content o n → slice_get (owner_at q content n).dependencies i ≡ Some d
+    pub to_lead : (o : Owner) (i n : ℕ) (d : Dependency) → IsOwnerAt q content o n → slice_get (summary_at q content n).dependencies i ≡ Some d
         → IsFact q content (enabled n i) → (s : State) × Has q content (dep o i) s
     to_lead o i n d owner has fact =
         let t = valid.met n i d (has, fact) in
@@ -138,18 +138,18 @@ module _ (q : Problem) where
     serves_from d p s n m = and_from (is_some p.source && same_text d.real_name p.name) (matches_views d.requirement p.version)
         (and_from (is_some p.source) (same_text d.real_name p.name) s (subst (λ x. same_text d.real_name x ≡ true) n (text-refl d.real_name))) m
 
-    pub lead_serves : (o : OwnerName) (i n t : ℕ) (d : Dependency) (p : Package) → Leads q content o i n t d p → serves d p ≡ true
+    pub lead_serves : (o : Owner) (i n t : ℕ) (d : Dependency) (p : Package) → Leads q content o i n t d p → serves d p ≡ true
     lead_serves o i n t d p l =
         let s = serving_is d (slice_get content t) (target_is n t d l.target).serving in
         let is : s.0 ≡ p = same_Some s.0 p (sym s.1 ∙ l.served) in
         subst (λ r. serves d r ≡ true) is s.2
 
-    pub owner_package : (o : OwnerName) (n : ℕ) → IsOwnerAt q content o n → (p : Package) × (slice_get content n ≡ Some p)
+    pub owner_package : (o : Owner) (n : ℕ) → IsOwnerAt q content o n → (p : Package) × (slice_get content n ≡ Some p)
     owner_package the_root n (p, got, is) = (p, got)
     owner_package (version_of name v) n (p, l, is) = (p, (l.other).0)
 
     -- the package that a dependency leads to
-    pub served_is : (o : OwnerName) (i n t : ℕ) (d : Dependency) (p : Package) → Leads q content o i n t d p
+    pub served_is : (o : Owner) (i n t : ℕ) (d : Dependency) (p : Package) → Leads q content o i n t d p
         → Locks q content d.real_name (class_of p.version) t p × (matches_views d.requirement p.version ≡ true)
     served_is o i n t d p l =
         let e = serves_parts d p (lead_serves o i n t d p l) in

@@ -3,13 +3,13 @@ use Rattle.std.proofs.Common.{◌≡◌, ℕ, List, [], ◌∷◌, filter, Bool,
 use Rattle.std.proofs.lemmas.Option.{same_Some}
 use Rattle.semver.specs.Parse.{Parts}
 use Rattle.semver.specs.EvalViews.{matches_views}
-use Rattle.model.specs.Owner.{Owner, Dependency, Entry, feature, dependency, dependency_feature, weak_feature, entries_at, has_feature, asked_of_target}
+use Rattle.model.specs.Summary.{Summary, Dependency, Entry, feature, dependency, dependency_feature, weak_feature, entries_at, has_feature, asked_of_target}
 use Rattle.model.specs.Facts.{on, enabled, Lists}
 use Rattle.model.specs.Facts.Holds.{root_needs, needs, asks, root_wants, turns_on, enables, enables_for, wants, wants_weakly}
-use Rattle.model.specs.Content.{Problem, Content, Package, Candidate, candidates_of, candidate_at, brings_of, owner_at, serves_if, list_if}
+use Rattle.model.specs.Content.{Problem, Content, Package, Candidate, candidates_of, candidate_at, brings_of, summary_at, serves_if, list_if}
 use Rattle.model.specs.Selection.{Class, class_of, IsValidSelection, IsFact, IsTarget}
 use Rattle.model.specs.WellFormed.{IsCatalogue}
-use Rattle.model.specs.Vertices.{OwnerName, the_root, version_of, Vertex, root, pkg, dep, feat, ask, State, absent, present, version, in_class, same_state, has_state, class_candidates, in_that_class}
+use Rattle.model.specs.Vertices.{Owner, the_root, version_of, Vertex, root, pkg, dep, feat, ask, State, absent, present, version, in_class, same_state, has_state, class_candidates, in_that_class}
 use Rattle.model.specs.Axioms.{Term, at, Kind, is_lower, owner_holds, HasDep, HasEntry, absent_or, versions_that, matched, RootAsks, IsNeeded, IsInstance}
 use Rattle.model.specs.Axioms.IsInstance.{root_is, needed, has_target, has_its_feature, wants_by_list, wants_by_entry, feature_on, dependency_on, feature_asks, newest_listed, weakly}
 use Rattle.model.specs.Assignment.{Locks, Leads, Has, IsOwnerAt, Meets, Breaks}
@@ -95,23 +95,23 @@ module _ (q : Problem) (content : Content) where
         subst (λ k. IsFact q content (on k f)) (same_locked q content valid name (class_of v) h.0 n h.1 p h.2 l) h.3
 
     -- what the owner brings, at its place
-    dep_here : (o : OwnerName) (i n : ℕ) (d : Dependency) → HasDep q o i d → IsOwnerAt q content o n → slice_get (owner_at q content n).dependencies i ≡ Some d
+    dep_here : (o : Owner) (i n : ℕ) (d : Dependency) → HasDep q o i d → IsOwnerAt q content o n → slice_get (summary_at q content n).dependencies i ≡ Some d
     dep_here o i n d has owner = subst (λ w. slice_get w.dependencies i ≡ Some d) (sym (owner_is q content valid o n owner)) has.1
 
     entry_here : (name : List ℕ) (v : Parts) (f : List ℕ) (e : Entry) (n : ℕ) → HasEntry q name v f e → IsOwnerAt q content (version_of name v) n
-        → Lists (owner_at q content) n f e
+        → Lists (summary_at q content) n f e
     entry_here name v f e n has owner =
         (has.1, subst (λ w. entries_at f w.features ≡ Some has.1) (sym (owner_is q content valid (version_of name v) n owner)) has.2, has.3)
 
     -- where the dependency leads
-    pub record Leading (o : OwnerName) (i : ℕ) (d : Dependency) (k : Class) : Type 0 where
+    pub record Leading (o : Owner) (i : ℕ) (d : Dependency) (k : Class) : Type 0 where
       pub n : ℕ
       pub t : ℕ
       pub p : Package
       pub lead : Leads q content o i n t d p
       pub classed : class_of p.version ≡ k
 
-    met_lead : (o : OwnerName) (i : ℕ) (d : Dependency) (k : Class) → HasDep q o i d → Meets q content (dep o i) (in_class k ∷ []) → Leading o i d k
+    met_lead : (o : Owner) (i : ℕ) (d : Dependency) (k : Class) → HasDep q o i d → Meets q content (dep o i) (in_class k ∷ []) → Leading o i d k
     met_lead o i d k has m =
         let h = met_has (dep o i) (in_class k) (λ e. cc) m in
         let l = h.4 in
@@ -119,7 +119,7 @@ module _ (q : Problem) (content : Content) where
         record { n = h.0; t = h.1; p = h.3; lead = subst (λ e. Leads q content o i h.0 h.1 e h.3) is l; classed = sym (class-inner k (class_of (h.3).version) h.5) }
 
     -- the target, as the locked version of its name and class
-    leading_locks : (o : OwnerName) (i : ℕ) (d : Dependency) (k : Class) (l : Leading o i d k) → Locks q content d.real_name k l.t l.p
+    leading_locks : (o : Owner) (i : ℕ) (d : Dependency) (k : Class) (l : Leading o i d k) → Locks q content d.real_name k l.t l.p
     leading_locks o i d k l = subst (λ m. Locks q content d.real_name m l.t l.p) l.classed (served_is q content valid o i l.n l.t d l.p l.lead).0
 
     -- what is met at absent isn't on
@@ -127,7 +127,7 @@ module _ (q : Problem) (content : Content) where
     off name k g n p l fact m = met_absent (feat name k g) present m (n, p, l, fact, refl)
 
     -- what is met at absent isn't enabled
-    not_enabled : (o : OwnerName) (i n : ℕ) (d : Dependency) → HasDep q o i d → IsOwnerAt q content o n → IsFact q content (enabled n i) → Meets q content (dep o i) (absent ∷ []) → ⊥
+    not_enabled : (o : Owner) (i n : ℕ) (d : Dependency) → HasDep q o i d → IsOwnerAt q content o n → IsFact q content (enabled n i) → Meets q content (dep o i) (absent ∷ []) → ⊥
     not_enabled o i n d has owner fact m =
         let r = to_lead q content valid o i n d owner (dep_here o i n d has owner) fact in
         met_absent (dep o i) r.0 m r.1
@@ -135,7 +135,7 @@ module _ (q : Problem) (content : Content) where
     pub sound_X0 : Breaks q content (at root (absent ∷ []) ∷ []) → ⊥
     sound_X0 b = met_absent root present b.0 refl
 
-    pub sound_X1 : (o : OwnerName) (i : ℕ) (d : Dependency) → HasDep q o i d → IsNeeded o d
+    pub sound_X1 : (o : Owner) (i : ℕ) (d : Dependency) → HasDep q o i d → IsNeeded o d
         → Breaks q content (owner_holds o ∷ at (dep o i) (absent ∷ []) ∷ []) → ⊥
     sound_X1 the_root i d has because (_, (m, _)) =
         let (n, owner) = valid.root in
@@ -145,7 +145,7 @@ module _ (q : Problem) (content : Content) where
         let l = owner.1 in
         not_enabled (version_of name v) i n d has owner (needs n i d (is_here q content valid n owner.0 (l.other).0) (dep_here (version_of name v) i n d has owner) because) a
 
-    pub sound_X2 : (o : OwnerName) (i : ℕ) (d : Dependency) (k : Class) → HasDep q o i d
+    pub sound_X2 : (o : Owner) (i : ℕ) (d : Dependency) (k : Class) → HasDep q o i d
         → Breaks q content (at (dep o i) (in_class k ∷ []) ∷ at (pkg d.real_name k) (absent_or q (λ c. not (matched d c)) d.real_name k) ∷ []) → ⊥
     sound_X2 o i d k has (m, (w, _)) =
         let l = met_lead o i d k has m in
@@ -165,13 +165,13 @@ module _ (q : Problem) (content : Content) where
         let e = is_candidate q content valid h.0 p l.other in
         let r = candidate_at-is (candidates_of q.candidates p.name) p.version e.0 e.2 in
         let is : c.0 ≡ e.0 = each_version_once q formed name c.0 e.0 c.1 (subst (λ m. Contains (candidates_of q.candidates m) e.0) l.named r.0) (c.3 ∙ r.1) in
-        let brings : owner_at q content h.0 ≡ (e.0).brings = owner_is q content valid (version_of name p.version) h.0 (p, record { other = l.other; named = l.named; classed = refl }, refl)
+        let brings : summary_at q content h.0 ≡ (e.0).brings = owner_is q content valid (version_of name p.version) h.0 (p, record { other = l.other; named = l.named; classed = refl }, refl)
         ∙ ap brings_of (subst (λ m. candidate_at (candidates_of q.candidates m) p.version ≡ Some e.0) l.named e.2) in
         let there : has_feature ((c.0).brings).features f ≡ true =
-        subst (λ (b : Owner). has_feature b.features f ≡ true) (brings ∙ ap (λ (x : Candidate). x.brings) (sym is)) (valid.features_exist h.0 f h.3) in
+        subst (λ (b : Summary). has_feature b.features f ≡ true) (brings ∙ ap (λ (x : Candidate). x.brings) (sym is)) (valid.features_exist h.0 f h.3) in
         true≢false (sym c.2 ∙ ap not there)
 
-    pub sound_X4 : (o : OwnerName) (i : ℕ) (d : Dependency) (k : Class) (g : List ℕ) → HasDep q o i d → Contains (asked_of_target d) g ⊎ RootAsks q o d g
+    pub sound_X4 : (o : Owner) (i : ℕ) (d : Dependency) (k : Class) (g : List ℕ) → HasDep q o i d → Contains (asked_of_target d) g ⊎ RootAsks q o d g
         → Breaks q content (at (dep o i) (in_class k ∷ []) ∷ at (feat d.real_name k g) (absent ∷ []) ∷ []) → ⊥
     sound_X4 o i d k g has (inl asked) (m, (a, _)) =
         let l = met_lead o i d k has m in
@@ -239,7 +239,7 @@ module _ (q : Problem) (content : Content) where
       | inr lt ↦ true≢false (sym (class_above p.version r.version lower) ∙ older_first content valid.is_content u t r p had got lt (sym same))
     ]
 
-    pub sound_X8 : (o : OwnerName) (i j : ℕ) (d e : Dependency) (k m : Class) → HasDep q o i d → HasDep q o j e → d.real_name ≡ e.real_name → is_lower k m ≡ true
+    pub sound_X8 : (o : Owner) (i j : ℕ) (d e : Dependency) (k m : Class) → HasDep q o i d → HasDep q o j e → d.real_name ≡ e.real_name → is_lower k m ≡ true
         → Breaks q content (at (dep o i) (in_class k ∷ []) ∷ at (dep o j) (in_class m ∷ []) ∷ at (pkg d.real_name m) (versions_that q (matched d) d.real_name m) ∷ []) → ⊥
     sound_X8 o i j d e k m has had same lower (x, (y, (w, _))) =
         let a = met_lead o i d k has x in

@@ -8,7 +8,7 @@ use Rattle.std.specs.Ordering.{match_ordering, ordering_reverse}
 use Rattle.std.specs.Option.{option_or}
 use Rattle.std.proofs.lemmas.Map.Lookups.{exact_bytes}
 use Rattle.std.proofs.lemmas.Option.{none-some, same_Some}
-use Rattle.model.specs.Owner.{Entry, feature, dependency, Table, entries_at, has_feature, same_text, KnowsFeatures}
+use Rattle.model.specs.Summary.{Entry, feature, dependency, Table, entries_at, has_feature, same_text, KnowsFeatures}
 use Rattle.model.specs.Order.{text_cmp}
 use Rattle.model.specs.Outcome.{◌>>=◌}
 use Rattle.model.specs.Tables.{Before, IsInOrder, DepName, Written, default_feature, is_optional, has_dep_entry, is_implicit, implicit_entries, is_feature, entries_meant, with_row, with_implicit, with_default, completed, no_such_feature, no_such_dependency, not_optional, has_fault, first_with, refused_at, table_of}

@@ -2,10 +2,10 @@
 use Rattle.std.proofs.Common.{◌≡◌, ℕ, ◌<◌, ◌↔◌, List, length, true, cond, nat_eq, Option, Some, None, slice_get, is_some, false, refl, sym, ap, ap₂, ◌∙◌, subst, inl, inr, arith, true≢false}
 use Rattle.std.proofs.lemmas.Bool.{cases_order}
 use Rattle.std.proofs.lemmas.Option.{none-some, slice_get_within}
-use Rattle.model.specs.Owner.{Dependency, has_feature}
+use Rattle.model.specs.Summary.{Dependency, has_feature}
 use Rattle.model.specs.Facts.{Fact, here, on, enabled, Brings}
 use Rattle.model.specs.Facts.Holds.{starts, arrives, root_needs, needs, asks, root_wants, turns_on, enables, enables_for, wants, wants_weakly}
-use Rattle.model.specs.Content.{Problem, Content, Package, candidate_of, owner_if, owner_at, serves_if, list_if, target_of}
+use Rattle.model.specs.Content.{Problem, Content, Package, candidate_of, summary_if, summary_at, serves_if, list_if, target_of}
 use Rattle.model.specs.Selection.{class_of, IsValidSelection, IsFact, IsPlace, IsOther, IsEnabled, HasTarget}
 use Rattle.model.specs.WellFormed.{IsContent}
 use Rattle.model.specs.Verdict.{VerdictFault, not_candidate, two_in_class, unmet, no_feature, wrong_list, unreached, number_of, Verdict, valid, no_root, at_package, HasFault, IsFaultless, IsFirstFault, IsVerdict}
@@ -34,10 +34,10 @@ module _ (q : Problem) (content : Content) where
       by (Some p) e s = slice_get_within content t p e
 
   -- what brings a dependency is in the content
-  owner_within : (n i : ℕ) (d : Dependency) → Brings (owner_at q content) n i d → n < length content
+  owner_within : (n i : ℕ) (d : Dependency) → Brings (summary_at q content) n i d → n < length content
   owner_within n i d b = by (slice_get content n) refl b
     where
-      by : (o : Option Package) → slice_get content n ≡ o → slice_get (owner_if q o).dependencies i ≡ Some d → n < length content
+      by : (o : Option Package) → slice_get content n ≡ o → slice_get (summary_if q o).dependencies i ≡ Some d → n < length content
       by None e b = absurd (none-some d b)
       by (Some p) e b = slice_get_within content n p e
 
@@ -67,7 +67,7 @@ module _ (q : Problem) (content : Content) where
   pub no_target : (n i : ℕ) (d : Dependency) → IsEnabled q content n i d → target_of content n d ≡ None → HasFault q content unmet n
   no_target n i d h e free = let t = free i d h in none-some t.0 (sym e ∙ t.1)
 
-  pub lacks_feature : (n : ℕ) (f : List ℕ) → IsFact q content (on n f) → has_feature (owner_at q content n).features f ≡ false → HasFault q content no_feature n
+  pub lacks_feature : (n : ℕ) (f : List ℕ) → IsFact q content (on n f) → has_feature (summary_at q content n).features f ≡ false → HasFault q content no_feature n
   lacks_feature n f h e free = true≢false (sym (free f h) ∙ e)
 
   -- a valid selection has no fault

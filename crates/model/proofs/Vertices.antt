@@ -2,11 +2,11 @@
 use Rattle.std.proofs.Common.{◌≡◌, ℕ, List, [], ◌∷◌, Bool, true, false, cond, Contains, Some, is_some, sym, ap, ◌∙◌, subst, inl, inr, ◌⊎◌}
 use Rattle.std.specs.List.{list_any, All}
 use Rattle.semver.specs.Parse.{Parts}
-use Rattle.model.specs.Owner.{Owner, Dependency, Entry, asked_of_target, feature, dependency, dependency_feature, weak_feature, entries_at, has_feature}
+use Rattle.model.specs.Summary.{Summary, Dependency, Entry, asked_of_target, feature, dependency, dependency_feature, weak_feature, entries_at, has_feature}
 use Rattle.model.specs.Content.{Candidate, Problem, candidates_of, candidate_at, brings_of}
 use Rattle.model.specs.Selection.{Class, class_of}
 use Rattle.model.specs.WellFormed.{IsCatalogue}
-use Rattle.model.specs.Vertices.{OwnerName, the_root, version_of, pkg, same_class, classes_of, in_that_class, class_candidates, owner_brings, matching}
+use Rattle.model.specs.Vertices.{Owner, the_root, version_of, pkg, same_class, classes_of, in_that_class, class_candidates, owner_brings, matching}
 use Rattle.model.specs.Axioms.{Term, Kind, IsOwner, HasDep, HasClass, HasEntry, HasFeatVertex, RootAsks, IsVertex, owner_holds, IsInstance}
 use Rattle.model.specs.Axioms.IsInstance.{root_is, needed, has_target, has_its_feature, wants_by_list, wants_by_entry, feature_on, dependency_on, feature_asks, newest_listed, weakly}
 use Rattle.model.specs.Axioms.HasFeatVertex.{had, asked, by_entry}
@@ -68,20 +68,20 @@ module _ (q : Problem) where
   entry_feature : (name : List ℕ) (v : Parts) (f : List ℕ) (e : Entry) → HasEntry q name v f e → HasFeatVertex q name (class_of v) f
   entry_feature name v f e has =
       let x = found name v has.0 in
-      feature_there name v x.c f x.there x.is (ap (λ (o : Owner). has_feature o.features f) (sym x.brings) ∙ ap is_some has.2)
+      feature_there name v x.c f x.there x.is (ap (λ (o : Summary). has_feature o.features f) (sym x.brings) ∙ ap is_some has.2)
 
   entry_names : IsCatalogue q → (name : List ℕ) (v : Parts) (f g : List ℕ) → HasEntry q name v f (feature g) → HasFeatVertex q name (class_of v) g
   entry_names known name v f g has =
       let x = found name v has.0 in
-      let entries : entries_at f (x.c.brings).features ≡ Some has.1 = subst (λ (o : Owner). entries_at f o.features ≡ Some has.1) x.brings has.2 in
+      let entries : entries_at f (x.c.brings).features ≡ Some has.1 = subst (λ (o : Summary). entries_at f o.features ≡ Some has.1) x.brings has.2 in
       feature_there name v x.c g x.there x.is (feature_known q known name x.c x.there f g has.1 entries has.3)
 
-  owner_vertex : (o : OwnerName) → IsOwner q o → IsVertex q (owner_holds o).vertex
+  owner_vertex : (o : Owner) → IsOwner q o → IsVertex q (owner_holds o).vertex
   owner_vertex the_root h = tt
   owner_vertex (version_of name v) h = owner_there name v h
 
   -- the feature of a class that a dependency asks for
-  asked_there : (o : OwnerName) (i : ℕ) (d : Dependency) (k : Class) (g : List ℕ) → HasDep q o i d → HasClass q d k → Contains (asked_of_target d) g ⊎ RootAsks q o d g
+  asked_there : (o : Owner) (i : ℕ) (d : Dependency) (k : Class) (g : List ℕ) → HasDep q o i d → HasClass q d k → Contains (asked_of_target d) g ⊎ RootAsks q o d g
       → HasFeatVertex q d.real_name k g
   asked_there o i d k g has class a = let c = class_there d k class in asked o i d k g c.0 has c.1 a
 

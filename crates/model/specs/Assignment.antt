@@ -2,11 +2,11 @@
 -- It is the only bridge between what a valid selection is and the search.
 use Rattle.std.specs.Prelude.{◌≡◌, ◌⊎◌, ℕ, List, Some, slice_get}
 use Rattle.semver.specs.Parse.{Parts}
-use Rattle.model.specs.Owner.{Dependency, dependency_feature}
+use Rattle.model.specs.Summary.{Dependency, dependency_feature}
 use Rattle.model.specs.Facts.{on}
-use Rattle.model.specs.Content.{Package, Content, Problem, owner_at}
+use Rattle.model.specs.Content.{Package, Content, Problem, summary_at}
 use Rattle.model.specs.Selection.{Class, class_of, IsFact, IsEnabled, HasTarget, IsRootAt, IsOther}
-use Rattle.model.specs.Vertices.{OwnerName, the_root, version_of, Vertex, root, pkg, dep, feat, ask, State, absent, present, version, in_class}
+use Rattle.model.specs.Vertices.{Owner, the_root, version_of, Vertex, root, pkg, dep, feat, ask, State, absent, present, version, in_class}
 use Rattle.model.specs.Axioms.{Term, HasOneOf, IsBroken, HasEntry}
 
 module _ (q : Problem) (content : Content) where
@@ -17,12 +17,12 @@ module _ (q : Problem) (content : Content) where
     pub classed : class_of p.version ≡ k
 
   -- the package at place n is this owner
-  abbrev pub IsOwnerAt : OwnerName → ℕ → Type 0
+  abbrev pub IsOwnerAt : Owner → ℕ → Type 0
   IsOwnerAt the_root n = IsRootAt q content n
   IsOwnerAt (version_of name v) n = (p : Package) × Locks name (class_of v) n p × (p.version ≡ v)
 
   -- the owner's dependency number i is enabled, and its target is p at place t
-  pub record Leads (o : OwnerName) (i n t : ℕ) (d : Dependency) (p : Package) : Type 0 where
+  pub record Leads (o : Owner) (i n t : ℕ) (d : Dependency) (p : Package) : Type 0 where
     pub owner : IsOwnerAt o n
     pub enabled : IsEnabled q content n i d
     pub target : HasTarget q content n d t
@@ -31,7 +31,7 @@ module _ (q : Problem) (content : Content) where
   -- an entry `d/g` of a feature that is on at the owner asks through its dependency number i, which is d
   pub record Asks (name : List ℕ) (v : Parts) (i : ℕ) (g : List ℕ) (n : ℕ) (d : Dependency) (f : List ℕ) : Type 0 where
     pub owner : IsOwnerAt (version_of name v) n
-    pub dependency : slice_get (owner_at q content n).dependencies i ≡ Some d
+    pub dependency : slice_get (summary_at q content n).dependencies i ≡ Some d
     pub is_on : IsFact q content (on n f)
     pub entry : HasEntry q name v f (dependency_feature d.name g)
 

@@ -6,7 +6,7 @@ use Rattle.std.specs.Ordering.{nat_cmp, ordering_then, is_gt}
 use Rattle.std.specs.declared.cmp.Ordering.{Ordering}
 use Rattle.std.specs.declared.cmp.Ordering.TheVariants.{Less, Equal}
 use Rattle.semver.specs.Parse.{Parts}
-use Rattle.model.specs.Owner.{Owner, same_text}
+use Rattle.model.specs.Summary.{Summary, same_text}
 use Rattle.model.specs.Content.{Content, Candidate, same_version, same_option}
 use Rattle.model.specs.Order.{precedence}
 
@@ -24,7 +24,7 @@ pub record Record : Type 0 where
   pub checksum : List ℕ
   pub yanked : Bool
   pub rust_version : Option RustVersion
-  pub brings : Owner
+  pub brings : Summary
 
 abbrev pub as_candidate : Record → Candidate
 as_candidate r = record { version = r.version; checksum = r.checksum; brings = r.brings }

@@ -3,7 +3,7 @@
 use Rattle.std.specs.Prelude.{ℕ, List, [], ◌∷◌, Bool, true, false, not, ◌&&◌, if◌then◌else◌, Option, Some, None, nat_eq, is_some, slice_get, option_and_then}
 use Rattle.semver.specs.Parse.{Parts}
 use Rattle.semver.specs.EvalViews.{matches_views}
-use Rattle.model.specs.Owner.{Owner, Dependency, same_text, nothing}
+use Rattle.model.specs.Summary.{Summary, Dependency, same_text, nothing}
 
 -- a locked package; its list has the places of packages of the same content
 pub record Package : Type 0 where
@@ -21,14 +21,14 @@ Content = List Package
 pub record Candidate : Type 0 where
   pub version : Parts
   pub checksum : List ℕ
-  pub brings : Owner
+  pub brings : Summary
 
 -- What a selection is held against: the manifest, the run's source, and the candidates by name, oldest first.
 -- An entry `d/g` of the manifest is the pair (d, g) of `root_asks`.
 pub record Problem : Type 0 where
   pub name : List ℕ
   pub version : Parts
-  pub brings : Owner
+  pub brings : Summary
   pub root_asks : List (List ℕ × List ℕ)
   pub source : List ℕ
   pub candidates : List (List ℕ × List Candidate)
@@ -68,21 +68,21 @@ candidate_of q p = if same_option p.source (Some q.source)
     then option_and_then (if_checksum p.checksum) (candidate_at (candidates_of q.candidates p.name) p.version)
     else None
 
-abbrev pub brings_of : Option Candidate → Owner
+abbrev pub brings_of : Option Candidate → Summary
 brings_of None = nothing
 brings_of (Some c) = c.brings
 
 -- what a package brings: nothing, where it is neither the root nor a candidate
-abbrev pub owner_of : Problem → Package → Owner
-owner_of q p = if is_root q p then q.brings else brings_of (candidate_of q p)
+abbrev pub summary_of : Problem → Package → Summary
+summary_of q p = if is_root q p then q.brings else brings_of (candidate_of q p)
 
-abbrev pub owner_if : Problem → Option Package → Owner
-owner_if q None = nothing
-owner_if q (Some p) = owner_of q p
+abbrev pub summary_if : Problem → Option Package → Summary
+summary_if q None = nothing
+summary_if q (Some p) = summary_of q p
 
 -- the same at a place of the content
-abbrev pub owner_at : Problem → Content → ℕ → Owner
-owner_at q content n = owner_if q (slice_get content n)
+abbrev pub summary_at : Problem → Content → ℕ → Summary
+summary_at q content n = summary_if q (slice_get content n)
 
 -- whether a package serves a dependency
 abbrev pub serves : Dependency → Package → Bool

@@ -1,5 +1,5 @@
 pub mod Outcome
-pub mod Owner
+pub mod Summary
 pub mod Facts
 pub mod Content
 pub mod Order

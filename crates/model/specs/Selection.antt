@@ -1,9 +1,9 @@
 -- When a content is a valid selection (Cargo book, "Dependency Resolution").
 use Rattle.std.specs.Prelude.{◌≡◌, ◌<◌, ◌↔◌, ℕ, List, true, false, Some, slice_get, Contains, length, IsSome, nat_lt, if◌then◌else◌}
 use Rattle.semver.specs.Parse.{Parts}
-use Rattle.model.specs.Owner.{Dependency, has_feature}
+use Rattle.model.specs.Summary.{Dependency, has_feature}
 use Rattle.model.specs.Facts.{Fact, Holds, on, enabled}
-use Rattle.model.specs.Content.{Package, Content, Problem, is_root, candidate_of, owner_at, target_of}
+use Rattle.model.specs.Content.{Package, Content, Problem, is_root, candidate_of, summary_at, target_of}
 use Rattle.model.specs.WellFormed.{IsContent}
 
 -- the leftmost nonzero number with the zeros before it
@@ -27,11 +27,11 @@ module _ (q : Problem) (content : Content) where
 
   -- the facts of the content: all its packages are here from the start
   abbrev pub IsFact : Fact ℕ → Type 0
-  IsFact = Holds (owner_at q content) IsRootAt IsPlace q.root_asks (λ n i d t. HasTarget n d t)
+  IsFact = Holds (summary_at q content) IsRootAt IsPlace q.root_asks (λ n i d t. HasTarget n d t)
 
   -- d is dependency number i of the package at place n, and is enabled
   abbrev pub IsEnabled : ℕ → ℕ → Dependency → Type 0
-  IsEnabled n i d = (slice_get (owner_at q content n).dependencies i ≡ Some d) × IsFact (enabled n i)
+  IsEnabled n i d = (slice_get (summary_at q content n).dependencies i ≡ Some d) × IsFact (enabled n i)
 
   -- t is the target of an enabled dependency of the package at place n
   abbrev pub IsTarget : ℕ → ℕ → Type 0
@@ -53,6 +53,6 @@ module _ (q : Problem) (content : Content) where
     pub one_in_class : (n m : ℕ) (p r : Package) → IsOther n p → IsOther m r
         → p.name ≡ r.name → class_of p.version ≡ class_of r.version → n ≡ m
     pub met : (n i : ℕ) (d : Dependency) → IsEnabled n i d → (t : ℕ) × HasTarget n d t
-    pub features_exist : (n : ℕ) (f : List ℕ) → IsFact (on n f) → has_feature (owner_at q content n).features f ≡ true
+    pub features_exist : (n : ℕ) (f : List ℕ) → IsFact (on n f) → has_feature (summary_at q content n).features f ≡ true
     pub lists : (n t : ℕ) (p : Package) → slice_get content n ≡ Some p → Contains p.list t ↔ IsTarget n t
     pub reached : (n : ℕ) → n < length content → IsReached n

@@ -1,19 +1,19 @@
 -- The content that a choice of targets stands for: from the root, each enabled dependency leads where the choice says (Cargo book,
 -- "Dependency Resolution").
 use Rattle.std.specs.Prelude.{◌≡◌, ◌↔◌, ℕ, true, false, Some, None, if◌then◌else◌, slice_get, Contains, option_map}
-use Rattle.model.specs.Owner.{Dependency}
+use Rattle.model.specs.Summary.{Dependency}
 use Rattle.model.specs.Facts.{Fact, Holds, here, enabled, Brings}
 use Rattle.model.specs.Content.{Package, Content, Problem, candidates_of, candidate_at, is_root}
 use Rattle.model.specs.WellFormed.{IsContent}
-use Rattle.model.specs.Vertices.{OwnerName, the_root, version_of, owner_brings}
+use Rattle.model.specs.Vertices.{Owner, the_root, version_of, owner_brings}
 
 -- the owner that a package is
-abbrev pub name_of : Problem → Package → OwnerName
+abbrev pub name_of : Problem → Package → Owner
 name_of q p = if is_root q p then the_root else version_of p.name p.version
 
-module _ (q : Problem) (LeadsTo : OwnerName → ℕ → Dependency → OwnerName → Type 0) where
+module _ (q : Problem) (LeadsTo : Owner → ℕ → Dependency → Owner → Type 0) where
   -- the facts that finite chains of reasons give from the root
-  abbrev pub IsReachedFact : Fact OwnerName → Type 0
+  abbrev pub IsReachedFact : Fact Owner → Type 0
   IsReachedFact = Holds (owner_brings q) (λ n. n ≡ the_root) (λ n. n ≡ the_root) q.root_asks LeadsTo
 
   -- dependency number i of this package is enabled and leads to that package
@@ -25,7 +25,7 @@ module _ (q : Problem) (LeadsTo : OwnerName → ℕ → Dependency → OwnerName
   -- the content has a package for each owner that is reached, and in each list the targets
   pub record StandsFor (content : Content) : Type 0 where
     pub is_content : IsContent content
-    pub packages : (t : OwnerName) → IsReachedFact (here t) ↔ ((n : ℕ) × (p : Package) × (slice_get content n ≡ Some p) × (name_of q p ≡ t))
+    pub packages : (t : Owner) → IsReachedFact (here t) ↔ ((n : ℕ) × (p : Package) × (slice_get content n ≡ Some p) × (name_of q p ≡ t))
     pub root_checksum : (n : ℕ) (p : Package) → slice_get content n ≡ Some p → is_root q p ≡ true → p.checksum ≡ None
     pub sources : (n : ℕ) (p : Package) → slice_get content n ≡ Some p → is_root q p ≡ false → p.source ≡ Some q.source
     pub checksums : (n : ℕ) (p : Package) → slice_get content n ≡ Some p → is_root q p ≡ false

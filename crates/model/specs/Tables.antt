@@ -5,7 +5,7 @@ use Rattle.std.specs.BTreeMap.{insert_entry}
 use Rattle.std.specs.List.{list_any, AllPairs}
 use Rattle.std.specs.Option.{option_or}
 use Rattle.std.specs.declared.cmp.Ordering.TheVariants.{Less}
-use Rattle.model.specs.Owner.{Entry, feature, dependency, dependency_feature, weak_feature, Table, entries_at, has_feature, same_text}
+use Rattle.model.specs.Summary.{Entry, feature, dependency, dependency_feature, weak_feature, Table, entries_at, has_feature, same_text}
 use Rattle.model.specs.Order.{text_cmp}
 use Rattle.model.specs.Outcome.{◌>>=◌}
 

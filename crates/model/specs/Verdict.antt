@@ -1,9 +1,9 @@
 -- The verdict on a content: that it is a valid selection, or the first package that breaks a rule, with the first rule that it breaks
 -- (Cargo book, "Dependency Resolution" and "Features").
 use Rattle.std.specs.Prelude.{◌≡◌, ◌<◌, ◌↔◌, ℕ, List, true, Some, slice_get, Contains, IsSome}
-use Rattle.model.specs.Owner.{Dependency, has_feature}
+use Rattle.model.specs.Summary.{Dependency, has_feature}
 use Rattle.model.specs.Facts.{on}
-use Rattle.model.specs.Content.{Package, Content, Problem, candidate_of, owner_at}
+use Rattle.model.specs.Content.{Package, Content, Problem, candidate_of, summary_at}
 use Rattle.model.specs.Selection.{class_of, IsRootAt, IsPlace, IsOther, IsFact, IsEnabled, HasTarget, IsTarget, IsReached}
 
 -- what may be wrong at a package
@@ -47,7 +47,7 @@ module _ (q : Problem) (content : Content) where
   IsFreeOf two_in_class n = (m : ℕ) (p r : Package) → m < n → IsOther q content n p → IsOther q content m r
       → r.name ≡ p.name → class_of r.version ≡ class_of p.version → ⊥
   IsFreeOf unmet n = (i : ℕ) (d : Dependency) → IsEnabled q content n i d → (t : ℕ) × HasTarget q content n d t
-  IsFreeOf no_feature n = (f : List ℕ) → IsFact q content (on n f) → has_feature (owner_at q content n).features f ≡ true
+  IsFreeOf no_feature n = (f : List ℕ) → IsFact q content (on n f) → has_feature (summary_at q content n).features f ≡ true
   IsFreeOf wrong_list n = (t : ℕ) (p : Package) → slice_get content n ≡ Some p → Contains p.list t ↔ IsTarget q content n t
   IsFreeOf unreached n = IsReached q content n
 

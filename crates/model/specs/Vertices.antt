@@ -3,21 +3,21 @@ use Rattle.std.specs.Prelude.{ℕ, List, [], ◌∷◌, Bool, true, false, ◌&&
 use Rattle.std.specs.List.{list_any}
 use Rattle.semver.specs.Parse.{Parts}
 use Rattle.semver.specs.EvalViews.{matches_views}
-use Rattle.model.specs.Owner.{Owner, Dependency, same_text}
+use Rattle.model.specs.Summary.{Summary, Dependency, same_text}
 use Rattle.model.specs.Content.{Candidate, Problem, candidates_of, candidate_at, brings_of, same_version}
 use Rattle.model.specs.Selection.{Class, patch, minor, major, class_of}
 
 -- the root, or a version of a package
-pub data OwnerName : Type 0 where
-  the_root : OwnerName
-  version_of : List ℕ → Parts → OwnerName
+pub data Owner : Type 0 where
+  the_root : Owner
+  version_of : List ℕ → Parts → Owner
 
 pub data Vertex : Type 0 where
   root : Vertex
   -- a name and a class of it
   pkg : List ℕ → Class → Vertex
   -- an owner and the number of one of its dependencies
-  dep : OwnerName → ℕ → Vertex
+  dep : Owner → ℕ → Vertex
   -- a name, a class of it and a feature
   feat : List ℕ → Class → List ℕ → Vertex
   -- a version, the number of one of its dependencies and a feature that an entry `d/g` asks there
@@ -46,7 +46,7 @@ same_state _ _ = false
 abbrev pub has_state : List State → State → Bool
 has_state ss s = list_any (same_state s) ss
 
-abbrev pub same_owner : OwnerName → OwnerName → Bool
+abbrev pub same_owner : Owner → Owner → Bool
 same_owner the_root the_root = true
 same_owner (version_of n v) (version_of m w) = same_text n m && same_version v w
 same_owner _ _ = false
@@ -73,7 +73,7 @@ in_that_class k c = same_class k (class_of c.version)
 
 module _ (q : Problem) where
   -- what an owner brings
-  abbrev pub owner_brings : OwnerName → Owner
+  abbrev pub owner_brings : Owner → Summary
   owner_brings the_root = q.brings
   owner_brings (version_of name v) = brings_of (candidate_at (candidates_of q.candidates name) v)
 

@@ -3,7 +3,7 @@
 use Rattle.std.specs.Prelude.{◌≡◌, ◌≢◌, ◌<◌, length}
 use Rattle.std.specs.List.{All, AllPairs}
 use Rattle.std.specs.declared.cmp.Ordering.TheVariants.{Less}
-use Rattle.model.specs.Owner.{KnowsFeatures}
+use Rattle.model.specs.Summary.{KnowsFeatures}
 use Rattle.model.specs.Content.{Content, Problem}
 use Rattle.model.specs.Order.{package_cmp, precedence}
 

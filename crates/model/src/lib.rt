@@ -9,7 +9,7 @@ ghost use Rattle.std.specs.List.Sorted.{IsPermutation};
 ghost use Rattle.std.specs.Ordering.{is_gt};
 ghost use Rattle.semver.specs.Parse.{Parts};
 ghost use Rattle.semver.specs.EvalViews.{matches_views};
-ghost use Rattle.model.specs.Owner.{Dependency, KnowsFeatures, Table, entries_at, has_feature};
+ghost use Rattle.model.specs.Summary.{Dependency, KnowsFeatures, Table, entries_at, has_feature};
 ghost use Rattle.model.specs.Tables.{DepName, IsInOrder, Written, entries_meant, table_of};
 ghost use Rattle.model.specs.Facts.{Brings, Fact, enabled, on};
 ghost use Rattle.model.specs.Content.{Candidate, Content, Package, Problem, candidate_of, with_candidates};
@@ -18,7 +18,7 @@ ghost use Rattle.model.specs.Candidates.{IsApart, IsOlder, Record, RustVersion, 
 ghost use Rattle.model.specs.WellFormed.{IsCatalogue, IsContent};
 ghost use Rattle.model.specs.Selection.{Class, IsOther, IsValidSelection};
 ghost use Rattle.model.specs.Verdict.{IsVerdict, Verdict, valid};
-ghost use Rattle.model.specs.Vertices.{OwnerName, State, Vertex, dep, has_state, in_class, owner_brings, pkg, space, version};
+ghost use Rattle.model.specs.Vertices.{Owner, State, Vertex, dep, has_state, in_class, owner_brings, pkg, space, version};
 ghost use Rattle.model.specs.Axioms.{AreApart, IsInstance, IsOwner, IsVertex, Kind, Term, is_lower, without_full};
 ghost use Rattle.model.specs.Stands.{StandsFor};
 ghost use Rattle.model.specs.Walk.{IsWalk, Picks};
@@ -124,25 +124,25 @@ pub fn accepted_derivations_refute()
 
 /// An assignment that breaks no instance says so itself of each package, feature and dependency that the root reaches in it.
 pub fn reached_facts_hold()
-    ensures { (q : Problem) (state : Vertex → State) (f : Fact OwnerName) → IsUnbroken q state → IsReachedFact q state f → Says q state f }
+    ensures { (q : Problem) (state : Vertex → State) (f : Fact Owner) → IsUnbroken q state → IsReachedFact q state f → Says q state f }
 {}
 
 /// In an assignment that breaks no instance, each enabled dependency that the root reaches leads to a version that it matches.
 pub fn reached_dependencies_are_met()
-    ensures { (q : Problem) (state : Vertex → State) (n : OwnerName) (i : ℕ) (d : Dependency) → IsUnbroken q state → IsReachedFact q state (enabled n i)
-        → Brings (owner_brings q) n i d → (t : OwnerName) × (l : LeadsTo q state n i d t) × (matches_views d.requirement l.v ≡ true) }
+    ensures { (q : Problem) (state : Vertex → State) (n : Owner) (i : ℕ) (d : Dependency) → IsUnbroken q state → IsReachedFact q state (enabled n i)
+        → Brings (owner_brings q) n i d → (t : Owner) × (l : LeadsTo q state n i d t) × (matches_views d.requirement l.v ≡ true) }
 {}
 
 /// In an assignment that breaks no instance, each feature that the root reaches exists where it is on.
 pub fn reached_features_exist()
-    ensures { (q : Problem) (state : Vertex → State) (n : OwnerName) (f : List ℕ) → IsCatalogue q → IsUnbroken q state → IsReachedFact q state (on n f)
+    ensures { (q : Problem) (state : Vertex → State) (n : Owner) (f : List ℕ) → IsCatalogue q → IsUnbroken q state → IsReachedFact q state (on n f)
         → has_feature (owner_brings q n).features f ≡ true }
 {}
 
 /// In an assignment that breaks no instance, a dependency doesn't lead to a lower class than another dependency of the same package does,
 /// if it matches the version there too.
 pub fn newest_is_chosen()
-    ensures { (q : Problem) (state : Vertex → State) (n : OwnerName) (i j : ℕ) (d e : Dependency) (k m : Class) (v : Parts) → IsUnbroken q state → IsPresent q state n
+    ensures { (q : Problem) (state : Vertex → State) (n : Owner) (i j : ℕ) (d e : Dependency) (k m : Class) (v : Parts) → IsUnbroken q state → IsPresent q state n
         → Brings (owner_brings q) n i d → Brings (owner_brings q) n j e → d.real_name ≡ e.real_name → state (dep n i) ≡ in_class k → state (dep n j) ≡ in_class m
         → state (pkg d.real_name m) ≡ version v → matches_views d.requirement v ≡ true → is_lower k m ≡ true → ⊥ }
 {}

@@ -54,7 +54,7 @@ fn head(alloc: Global, text: &str) -> Result<String, Fail> {
         manifest.name(),
         manifest.version(),
         manifest.dependencies().len(),
-        manifest.owner().dependencies.len()
+        manifest.summary().dependencies.len()
     )?)
 }
 

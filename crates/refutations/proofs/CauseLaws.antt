@@ -3,11 +3,11 @@ use Rattle.std.proofs.Common.{◌≡◌, ◌≢◌, ℕ, List, Bool, true, false
 use Rattle.std.specs.List.{list_any}
 use Rattle.std.proofs.lemmas.Bool.{and_from, eqb-true, eq-eqb, false_from_ne_true}
 use Rattle.semver.specs.Parse.{Parts}
-use Rattle.model.specs.Owner.{Dependency, Entry, feature, dependency, dependency_feature, weak_feature, asked_of_target, same_text}
+use Rattle.model.specs.Summary.{Dependency, Entry, feature, dependency, dependency_feature, weak_feature, asked_of_target, same_text}
 use Rattle.model.specs.Content.{Problem}
 use Rattle.model.specs.Selection.{Class, class_of}
-use Rattle.model.specs.Vertices.{OwnerName, version_of, Vertex, feat, same_vertex, class_candidates}
-use Rattle.model.specs.Axioms.{Term, Kind, X2, X4, X8, X9, is_lower, matched, IsNeeded, HasDep, HasClass, HasEntry, RootAsks, IsInstance}
+use Rattle.model.specs.Vertices.{Owner, version_of, Vertex, feat, same_vertex, class_candidates}
+use Rattle.model.specs.Axioms.{Term, Kind, Target, WantsFeature, NewestListed, WeakFeature, is_lower, matched, IsNeeded, HasDep, HasClass, HasEntry, RootAsks, IsInstance}
 use Rattle.model.specs.Axioms.IsInstance.{root_is, needed, has_target, has_its_feature, wants_by_list, wants_by_entry, feature_on, dependency_on, feature_asks, newest_listed, weakly}
 use Rattle.model.proofs.Same.{both, text-same, text-refl, vertex-same, vertex-refl}
 use Rattle.refutations.specs.Causes.{Cause, of_root, of_need, of_target, of_feature, of_list, of_ask, of_entry, of_enabling, of_asking, of_newest, of_weak, kind_of, same_entry, enables, passes, is_needed, dependency_at, has_class, has_entry, some_entry, lists_feature, is_overtaken, is_weak_on, is_cause, terms_with, terms_of_cause}
@@ -39,7 +39,7 @@ to_vertex-differs v w n = ap not (false_from_ne_true (same_vertex v w) (λ t. n 
 
 module _ (q : Problem) where
   -- what is known of a dependency's terms, once the dependency is
-  with_dep : (terms : Dependency → List Term) (k : Kind) (o : OwnerName) (i : ℕ) (d : Dependency) → dependency_at q o i ≡ Some d
+  with_dep : (terms : Dependency → List Term) (k : Kind) (o : Owner) (i : ℕ) (d : Dependency) → dependency_at q o i ≡ Some d
       → IsInstance q k (terms d) → IsInstance q k (terms_with terms (dependency_at q o i))
   with_dep terms k o i d e h = subst (λ x. IsInstance q k (terms_with terms x)) (sym e) h
 
@@ -56,17 +56,17 @@ module _ (q : Problem) where
   cause_instance (of_need o i) t = let r = passes-is (is_needed o) (dependency_at q o i) t in needed o i r.0 (dep_owner q o i r.0 r.1) (needed-is o r.0 r.2)
   cause_instance (of_target o i k) t =
       let r = passes-is (has_class q k) (dependency_at q o i) t in
-      with_dep _ X2 o i r.0 r.1 (has_target o i r.0 k (dep_owner q o i r.0 r.1) (class-is q r.0 k r.2))
+      with_dep _ Target o i r.0 r.1 (has_target o i r.0 k (dep_owner q o i r.0 r.1) (class-is q r.0 k r.2))
   cause_instance (of_feature name k f) t = has_its_feature name k f (feature-is q name k f t)
   cause_instance (of_list o i k g) t =
       let r = passes-is (λ d. has_class q k d && lists_feature q o d g) (dependency_at q o i) t in
       let e = both (has_class q k r.0) (lists_feature q o r.0 g) r.2 in
-      with_dep _ X4 o i r.0 r.1 (wants_by_list o i r.0 k g (dep_owner q o i r.0 r.1) (class-is q r.0 k e.0) (lists-is q o r.0 g e.1))
+      with_dep _ WantsFeature o i r.0 r.1 (wants_by_list o i r.0 k g (dep_owner q o i r.0 r.1) (class-is q r.0 k e.0) (lists-is q o r.0 g e.1))
   cause_instance (of_ask name v i g k) t =
       let r = passes-is (λ d. has_class q k d && some_entry q (same_entry (dependency_feature d.name g)) name v) (dependency_at q (version_of name v) i) t in
       let e = both (has_class q k r.0) (some_entry q (same_entry (dependency_feature (r.0).name g)) name v) r.2 in
       let s = some_entry-is q (same_entry (dependency_feature (r.0).name g)) name v e.1 in
-      with_dep _ X4 (version_of name v) i r.0 r.1 (wants_by_entry name v i r.0 k s.0 g (dep_owner q (version_of name v) i r.0 r.1) (class-is q r.0 k e.0)
+      with_dep _ WantsFeature (version_of name v) i r.0 r.1 (wants_by_entry name v i r.0 k s.0 g (dep_owner q (version_of name v) i r.0 r.1) (class-is q r.0 k e.0)
       (subst (HasEntry q name v s.0) (sym (entry-same (dependency_feature (r.0).name g) s.1 s.3)) s.2))
   cause_instance (of_entry name v f g) t =
       let e = both (has_entry q name v f (feature g)) (not (same_text f g)) t in
@@ -86,24 +86,24 @@ module _ (q : Problem) where
       let b = both (has_class q k r.0) (has_class q m s.0 && (is_lower k m && has_class q m r.0)) a.1 in
       let c = both (has_class q m s.0) (is_lower k m && has_class q m r.0) b.1 in
       let e = both (is_lower k m) (has_class q m r.0) c.1 in
-      with_dep _ X8 o i r.0 r.1 (newest_listed o i j r.0 s.0 k m (nat-differs i j x.0) (dep_owner q o i r.0 r.1) (dep_owner q o j s.0 s.1)
+      with_dep _ NewestListed o i r.0 r.1 (newest_listed o i j r.0 s.0 k m (nat-differs i j x.0) (dep_owner q o i r.0 r.1) (dep_owner q o j s.0 s.1)
       (text-same (r.0).real_name (s.0).real_name a.0) (class-is q r.0 k b.0) (class-is q s.0 m c.0) e.0 e.1)
   cause_instance (of_weak name v f g i k) t =
       let r = passes-is (is_weak_on q name v f g k) (dependency_at q (version_of name v) i) t in
       let a = both (has_class q k r.0) (has_entry q name v f (weak_feature (r.0).name g) && not (same_vertex (feat name (class_of v) f) (feat (r.0).real_name k g))) r.2 in
       let b = both (has_entry q name v f (weak_feature (r.0).name g)) (not (same_vertex (feat name (class_of v) f) (feat (r.0).real_name k g))) a.1 in
-      with_dep _ X9 (version_of name v) i r.0 r.1 (weakly name v i r.0 k f g (dep_owner q (version_of name v) i r.0 r.1) (class-is q r.0 k a.0)
+      with_dep _ WeakFeature (version_of name v) i r.0 r.1 (weakly name v i r.0 k f g (dep_owner q (version_of name v) i r.0 r.1) (class-is q r.0 k a.0)
       (has_entry-is q name v f (weak_feature (r.0).name g) b.0) (vertex-differs (feat name (class_of v) f) (feat (r.0).real_name k g) b.1))
 
   -- ---- the cause of each instance
 
-  pub need-there : (o : OwnerName) (i : ℕ) (d : Dependency) → HasDep q o i d → IsNeeded o d → is_cause q (of_need o i) ≡ true
+  pub need-there : (o : Owner) (i : ℕ) (d : Dependency) → HasDep q o i d → IsNeeded o d → is_cause q (of_need o i) ≡ true
   need-there o i d h n = to_passes (is_needed o) (dependency_at q o i) d h.1 (to_needed o d n)
 
-  pub target-there : (o : OwnerName) (i : ℕ) (d : Dependency) (k : Class) → HasDep q o i d → HasClass q d k → is_cause q (of_target o i k) ≡ true
+  pub target-there : (o : Owner) (i : ℕ) (d : Dependency) (k : Class) → HasDep q o i d → HasClass q d k → is_cause q (of_target o i k) ≡ true
   target-there o i d k h c = to_passes (has_class q k) (dependency_at q o i) d h.1 (to_class q d k c)
 
-  pub list-there : (o : OwnerName) (i : ℕ) (d : Dependency) (k : Class) (g : List ℕ) → HasDep q o i d → HasClass q d k → Contains (asked_of_target d) g ⊎ RootAsks q o d g
+  pub list-there : (o : Owner) (i : ℕ) (d : Dependency) (k : Class) (g : List ℕ) → HasDep q o i d → HasClass q d k → Contains (asked_of_target d) g ⊎ RootAsks q o d g
       → is_cause q (of_list o i k g) ≡ true
   list-there o i d k g h c a = to_passes (λ d. has_class q k d && lists_feature q o d g) (dependency_at q o i) d h.1
       (and_from (has_class q k d) (lists_feature q o d g) (to_class q d k c) (to_lists q o d g a))
@@ -127,7 +127,7 @@ module _ (q : Problem) where
   asking-there name v i d f g h e = to_passes (λ d. has_entry q name v f (dependency_feature d.name g)) (dependency_at q (version_of name v) i) d h.1
       (to_has_entry q name v f (dependency_feature d.name g) e)
 
-  pub newest-there : (o : OwnerName) (i j : ℕ) (d e : Dependency) (k m : Class) → i ≢ j → HasDep q o i d → HasDep q o j e → d.real_name ≡ e.real_name
+  pub newest-there : (o : Owner) (i j : ℕ) (d e : Dependency) (k m : Class) → i ≢ j → HasDep q o i d → HasDep q o j e → d.real_name ≡ e.real_name
       → HasClass q d k → HasClass q e m → is_lower k m ≡ true → list_any (matched d) (class_candidates q d.real_name m) ≡ true → is_cause q (of_newest o i j k m) ≡ true
   newest-there o i j d e k m n h had same c r lower any =
       and_from (not (nat_eq i j)) (passes (λ d. passes (is_overtaken q k m d) (dependency_at q o j)) (dependency_at q o i)) (to_nat-differs i j n)

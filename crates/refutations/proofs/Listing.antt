@@ -5,10 +5,10 @@ use Rattle.std.proofs.lemmas.Bool.{eqb-true, and_from, eq-eqb}
 use Rattle.std.proofs.lemmas.Option.{none-some}
 use Rattle.std.proofs.lemmas.List.Kept.{AllPairs-cons}
 use Rattle.semver.specs.Parse.{Parts}
-use Rattle.model.specs.Owner.{Dependency, Entry, feature, dependency, dependency_feature, weak_feature, Table, entries_at, has_feature, asked_of_target, same_text}
+use Rattle.model.specs.Summary.{Dependency, Entry, feature, dependency, dependency_feature, weak_feature, Table, entries_at, has_feature, asked_of_target, same_text}
 use Rattle.model.specs.Content.{Problem, Candidate, candidates_of}
 use Rattle.model.specs.Selection.{Class, class_of}
-use Rattle.model.specs.Vertices.{OwnerName, the_root, version_of, feat, same_vertex, in_that_class, owner_brings, classes_of, class_candidates}
+use Rattle.model.specs.Vertices.{Owner, the_root, version_of, feat, same_vertex, in_that_class, owner_brings, classes_of, class_candidates}
 use Rattle.model.specs.Axioms.{is_lower, IsOwner, HasEntry, HasFeatVertex, RootAsks}
 use Rattle.model.specs.Axioms.HasFeatVertex.{had, asked, by_entry}
 use Rattle.model.proofs.Gathered.{at_place}
@@ -118,20 +118,20 @@ module _ (q : Problem) where
 
   -- ---- by owner
 
-  of_owner : (o : OwnerName) (c : Cause) → IsOwner q o → Contains (owner_pool q o) c → Contains pool c
+  of_owner : (o : Owner) (c : Cause) → IsOwner q o → Contains (owner_pool q o) c → Contains pool c
   unfolding pool
   of_owner o c h i = in_rest of_root c (flat_map (owner_pool q) (owners q) ++ flat_map (name_pool q) q.candidates)
       (in_append-left (flat_map (owner_pool q) (owners q)) (flat_map (name_pool q) q.candidates) c (in_flat_map (owner_pool q) (owners q) o c (to_owners q o h) i))
 
-  of_dep : (o : OwnerName) (i : ℕ) (d : Dependency) (c : Cause) → dependency_at q o i ≡ Some d → Contains (dep_pool q o i) c → Contains pool c
+  of_dep : (o : Owner) (i : ℕ) (d : Dependency) (c : Cause) → dependency_at q o i ≡ Some d → Contains (dep_pool q o i) c → Contains pool c
   of_dep o i d c e h = of_owner o c (dep_owner q o i d e).0
       (in_append-left (flat_map (dep_pool q o) (numbers_of q o)) (version_pool q o) c
       (in_flat_map (dep_pool q o) (numbers_of q o) i c (in_numbers (owner_brings q o).dependencies i d e) h))
 
-  class_there : (o : OwnerName) (i : ℕ) (d : Dependency) (k : Class) → dependency_at q o i ≡ Some d → has_class q k d ≡ true → Contains (classes_at q o i) k
+  class_there : (o : Owner) (i : ℕ) (d : Dependency) (k : Class) → dependency_at q o i ≡ Some d → has_class q k d ≡ true → Contains (classes_at q o i) k
   class_there o i d k e h = subst (λ x. Contains (classes_if q x) k) (sym e) (class-is q d k h)
 
-  of_class : (o : OwnerName) (i : ℕ) (d : Dependency) (k : Class) (c : Cause) → dependency_at q o i ≡ Some d → has_class q k d ≡ true → Contains (class_pool q o i k) c → Contains pool c
+  of_class : (o : Owner) (i : ℕ) (d : Dependency) (k : Class) (c : Cause) → dependency_at q o i ≡ Some d → has_class q k d ≡ true → Contains (class_pool q o i k) c → Contains pool c
   of_class o i d k c e h m = of_dep o i d c e (in_rest (of_need o i) c (flat_map (class_pool q o i) (classes_at q o i))
       (in_flat_map (class_pool q o i) (classes_at q o i) k c (class_there o i d k e h) m))
 
@@ -183,7 +183,7 @@ module _ (q : Problem) where
   Names : List (List ℕ)
   Names = map (λ p. p.1) q.root_asks ++ (flat_map (asked_of_others q) (owners q) ++ flat_map (had_by q) q.candidates)
 
-  asked_named : (o : OwnerName) (f : List ℕ) → IsOwner q o → Contains (asked_of_others q o) f → Contains Names f
+  asked_named : (o : Owner) (f : List ℕ) → IsOwner q o → Contains (asked_of_others q o) f → Contains Names f
   unfolding Names
   asked_named o f h c = in_append-right (map (λ p. p.1) q.root_asks) (flat_map (asked_of_others q) (owners q) ++ flat_map (had_by q) q.candidates) f
       (in_append-left (flat_map (asked_of_others q) (owners q)) (flat_map (had_by q) q.candidates) f (in_flat_map (asked_of_others q) (owners q) o f (to_owners q o h) c))
@@ -254,7 +254,7 @@ module _ (q : Problem) where
       (in_append-left (map (of_list o i k) (asked_if q (dependency_at q o i))) (flat_map (λ j. map (of_newest o i j k) (classes_at q o j)) (numbers_of q o)) (of_list o i k g)
       (to_map (of_list o i k) (asked_if q (dependency_at q o i)) g (subst (λ x. Contains (asked_if q x) g) (sym r.1) g_in))))
     where
-      listed : (o : OwnerName) (d : Dependency) (g : List ℕ) → Contains (asked_of_target d) g ⊎ RootAsks q o d g → Contains (asked_of_target d ++ map (λ p. p.1) q.root_asks) g
+      listed : (o : Owner) (d : Dependency) (g : List ℕ) → Contains (asked_of_target d) g ⊎ RootAsks q o d g → Contains (asked_of_target d ++ map (λ p. p.1) q.root_asks) g
       listed o d g (inl a) = in_append-left (asked_of_target d) (map (λ p. p.1) q.root_asks) g a
       listed the_root d g (inr a) = in_append-right (asked_of_target d) (map (λ p. p.1) q.root_asks) g (to_map (λ (p : List ℕ × List ℕ). p.1) q.root_asks (d.name, g) a)
       listed (version_of m v) d g (inr a) = absurd a

@@ -4,10 +4,10 @@ use Rattle.std.specs.List.{list_any}
 use Rattle.std.proofs.lemmas.Bool.{and_from, or_left, or_right}
 use Rattle.std.proofs.lemmas.Option.{none-some}
 use Rattle.semver.specs.Parse.{Parts}
-use Rattle.model.specs.Owner.{Dependency, Entry, feature, dependency, dependency_feature, weak_feature, Table, entries_at, has_feature, asked_of_target, same_text}
+use Rattle.model.specs.Summary.{Dependency, Entry, feature, dependency, dependency_feature, weak_feature, Table, entries_at, has_feature, asked_of_target, same_text}
 use Rattle.model.specs.Content.{Candidate, Problem, candidates_of, candidate_at, brings_of}
 use Rattle.model.specs.Selection.{Class, class_of}
-use Rattle.model.specs.Vertices.{OwnerName, the_root, version_of, same_class, in_that_class, owner_brings, matching, dep_classes, class_candidates}
+use Rattle.model.specs.Vertices.{Owner, the_root, version_of, same_class, in_that_class, owner_brings, matching, dep_classes, class_candidates}
 use Rattle.model.specs.Axioms.{matched, IsNeeded, IsOwner, HasDep, HasClass, HasEntry, RootAsks, HasFeatVertex}
 use Rattle.model.specs.Axioms.HasFeatVertex.{had, asked, by_entry}
 use Rattle.model.proofs.Same.{both, text-same, text-refl, class-refl, class-same}
@@ -70,7 +70,7 @@ passes-is p (Some x) t = (x, refl, t)
 pub to_passes : {X : Type 0} (p : X → Bool) (o : Option X) (x : X) → o ≡ Some x → p x ≡ true → passes p o ≡ true
 to_passes p o x e t = ap (passes p) e ∙ t
 
-pub needed-is : (o : OwnerName) (d : Dependency) → is_needed o d ≡ true → IsNeeded o d
+pub needed-is : (o : Owner) (d : Dependency) → is_needed o d ≡ true → IsNeeded o d
 needed-is the_root d t = tt
 needed-is (version_of name v) d t = by d.optional t
   where
@@ -78,7 +78,7 @@ needed-is (version_of name v) d t = by d.optional t
     by true t = sym t
     by false t = refl
 
-pub to_needed : (o : OwnerName) (d : Dependency) → IsNeeded o d → is_needed o d ≡ true
+pub to_needed : (o : Owner) (d : Dependency) → IsNeeded o d → is_needed o d ≡ true
 to_needed the_root d h = refl
 to_needed (version_of name v) d h = ap not h
 
@@ -88,7 +88,7 @@ module _ (q : Problem) where
   owner_if_found : (name : List ℕ) (v : Parts) (c : Candidate) → candidate_at (candidates_of q.candidates name) v ≡ Some c → IsOwner q (version_of name v)
   owner_if_found name v c e = let r = candidate_at-is (candidates_of q.candidates name) v c e in (c, r.0, sym r.1)
 
-  pub dep_owner : (o : OwnerName) (i : ℕ) (d : Dependency) → dependency_at q o i ≡ Some d → HasDep q o i d
+  pub dep_owner : (o : Owner) (i : ℕ) (d : Dependency) → dependency_at q o i ≡ Some d → HasDep q o i d
   dep_owner the_root i d e = (tt, e)
   dep_owner (version_of name v) i d e = (by (candidate_at (candidates_of q.candidates name) v) refl e, e)
     where
@@ -161,22 +161,22 @@ module _ (q : Problem) where
 
   -- ---- what is asked for
 
-  pub root_asks-is : (o : OwnerName) (d : Dependency) (g : List ℕ) → root_asks_for q o d g ≡ true → RootAsks q o d g
+  pub root_asks-is : (o : Owner) (d : Dependency) (g : List ℕ) → root_asks_for q o d g ≡ true → RootAsks q o d g
   root_asks-is the_root d g t = let r = any_of (same_pair (d.name, g)) q.root_asks t in subst (Contains q.root_asks) (sym (pair-same (d.name, g) r.0 r.2)) r.1
   root_asks-is (version_of name v) d g t = true≢false (sym t)
 
-  pub to_root_asks : (o : OwnerName) (d : Dependency) (g : List ℕ) → RootAsks q o d g → root_asks_for q o d g ≡ true
+  pub to_root_asks : (o : Owner) (d : Dependency) (g : List ℕ) → RootAsks q o d g → root_asks_for q o d g ≡ true
   to_root_asks the_root d g c = to_any (same_pair (d.name, g)) q.root_asks (d.name, g) c (pair-refl (d.name, g))
   to_root_asks (version_of name v) d g c = absurd c
 
-  pub lists-is : (o : OwnerName) (d : Dependency) (g : List ℕ) → lists_feature q o d g ≡ true → Contains (asked_of_target d) g ⊎ RootAsks q o d g
+  pub lists-is : (o : Owner) (d : Dependency) (g : List ℕ) → lists_feature q o d g ≡ true → Contains (asked_of_target d) g ⊎ RootAsks q o d g
   lists-is o d g t = by (list_any (same_text g) (asked_of_target d)) refl t
     where
       by : (b : Bool) → list_any (same_text g) (asked_of_target d) ≡ b → (b || root_asks_for q o d g) ≡ true → Contains (asked_of_target d) g ⊎ RootAsks q o d g
       by true e t = let r = any_of (same_text g) (asked_of_target d) e in inl (subst (Contains (asked_of_target d)) (sym (text-same g r.0 r.2)) r.1)
       by false e t = inr (root_asks-is o d g t)
 
-  pub to_lists : (o : OwnerName) (d : Dependency) (g : List ℕ) → Contains (asked_of_target d) g ⊎ RootAsks q o d g → lists_feature q o d g ≡ true
+  pub to_lists : (o : Owner) (d : Dependency) (g : List ℕ) → Contains (asked_of_target d) g ⊎ RootAsks q o d g → lists_feature q o d g ≡ true
   to_lists o d g (inl c) = or_left (list_any (same_text g) (asked_of_target d)) (root_asks_for q o d g) (to_any (same_text g) (asked_of_target d) g c (text-refl g))
   to_lists o d g (inr c) = or_right (list_any (same_text g) (asked_of_target d)) (root_asks_for q o d g) (to_root_asks o d g c)
 
@@ -193,7 +193,7 @@ module _ (q : Problem) where
           (to_map (λ (x : Candidate). version_of row.0 x.version) row.1 c i))
       by rest false s i = in_append-right (map (λ x. version_of row.0 x.version) row.1) (owners_in rows) (version_of name c.version) (rest i)
 
-  pub to_owners : (o : OwnerName) → IsOwner q o → Contains (owners q) o
+  pub to_owners : (o : Owner) → IsOwner q o → Contains (owners q) o
   to_owners the_root h = in_first the_root (owners_in q.candidates)
   to_owners (version_of name v) (c, i, e) = in_rest the_root (version_of name v) (owners_in q.candidates)
       (subst (λ w. Contains (owners_in q.candidates) (version_of name w)) e (owner_in q.candidates name c i))
@@ -216,7 +216,7 @@ module _ (q : Problem) where
       renamed : (d : Dependency) → same_text d.real_name name ≡ true → HasFeatVertex q d.real_name k f → HasFeatVertex q name k f
       renamed d s h = subst (λ n. HasFeatVertex q n k f) (text-same d.real_name name s) h
 
-      of_entry : (o : OwnerName) (i : ℕ) (d : Dependency) → dependency_at q o i ≡ Some d → same_text d.real_name name ≡ true → entry_asks q o d f ≡ true → HasFeatVertex q name k f
+      of_entry : (o : Owner) (i : ℕ) (d : Dependency) → dependency_at q o i ≡ Some d → same_text d.real_name name ≡ true → entry_asks q o d f ≡ true → HasFeatVertex q name k f
       of_entry the_root i d at s t = absurd (true≢false (sym t))
       of_entry (version_of m v) i d at s t =
           let r = some_entry-is (asks_for d.name f) m v t in
@@ -225,7 +225,7 @@ module _ (q : Problem) where
             | inr x ↦ inr (subst (HasEntry q m v r.0) x r.2)
           ]))
 
-      of_dep : (o : OwnerName) (i : ℕ) (d : Dependency) → dependency_at q o i ≡ Some d → same_text d.real_name name ≡ true → (b : Bool) → lists_feature q o d f ≡ b
+      of_dep : (o : Owner) (i : ℕ) (d : Dependency) → dependency_at q o i ≡ Some d → same_text d.real_name name ≡ true → (b : Bool) → lists_feature q o d f ≡ b
           → (b || entry_asks q o d f) ≡ true → HasFeatVertex q name k f
       of_dep o i d at s true l t = renamed d s (asked o i d k f there.0 (dep_owner o i d at) (at_name d s) (lists-is o d f l))
       of_dep o i d at s false l t = of_entry o i d at s t
@@ -240,7 +240,7 @@ module _ (q : Problem) where
           let x = both (same_text (d.0).real_name name) (lists_feature q r.0 d.0 f || entry_asks q r.0 d.0 f) d.2 in
           of_dep r.0 p.0 d.0 p.1 x.0 (lists_feature q r.0 d.0 f) refl x.1
 
-  asked_by_owner : (o : OwnerName) (i : ℕ) (d : Dependency) (k : Class) (f : List ℕ) (e : Candidate) → HasDep q o i d → Contains (class_candidates q d.real_name k) e
+  asked_by_owner : (o : Owner) (i : ℕ) (d : Dependency) (k : Class) (f : List ℕ) (e : Candidate) → HasDep q o i d → Contains (class_candidates q d.real_name k) e
       → (lists_feature q o d f || entry_asks q o d f) ≡ true → has_feature_vertex q d.real_name k f ≡ true
   asked_by_owner o i d k f e h c t = and_from _ _ (to_any (λ c. true) (class_candidates q d.real_name k) e c refl)
       (or_right (list_any (λ c. has_feature c.brings.features f) (candidates_of q.candidates d.real_name)) (list_any (owner_asks q d.real_name f) (owners q))

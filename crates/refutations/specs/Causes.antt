@@ -3,22 +3,22 @@
 use Rattle.std.specs.Prelude.{ℕ, List, [], ◌∷◌, Bool, true, false, not, ◌&&◌, ◌||◌, Option, Some, None, nat_eq, slice_get, map}
 use Rattle.std.specs.List.{list_any, flat_map}
 use Rattle.semver.specs.Parse.{Parts}
-use Rattle.model.specs.Owner.{Dependency, Entry, feature, dependency, dependency_feature, weak_feature, Table, entries_at, has_feature, asked_of_target, same_text}
+use Rattle.model.specs.Summary.{Dependency, Entry, feature, dependency, dependency_feature, weak_feature, Table, entries_at, has_feature, asked_of_target, same_text}
 use Rattle.model.specs.Content.{Candidate, Problem, candidates_of}
 use Rattle.model.specs.Selection.{Class, class_of}
-use Rattle.model.specs.Vertices.{OwnerName, the_root, version_of, root, pkg, dep, feat, ask, absent, present, version, in_class, same_vertex, owner_brings, class_candidates}
-use Rattle.model.specs.Axioms.{Term, at, Kind, X0, X1, X2, X3, X4, X5, X6, X7, X8, X9, is_lower, owner_holds, matched, absent_or, versions_that}
+use Rattle.model.specs.Vertices.{Owner, the_root, version_of, root, pkg, dep, feat, ask, absent, present, version, in_class, same_vertex, owner_brings, class_candidates}
+use Rattle.model.specs.Axioms.{Term, at, Kind, Root, Needed, Target, HasFeature, WantsFeature, FeatureOnFeature, FeatureOnDependency, FeatureAsks, NewestListed, WeakFeature, is_lower, owner_holds, matched, absent_or, versions_that}
 
 pub data Cause : Type 0 where
   of_root : Cause
   -- an owner, and the number of a dependency that it needs
-  of_need : OwnerName → ℕ → Cause
+  of_need : Owner → ℕ → Cause
   -- a dependency of an owner, and a class that it may lead to
-  of_target : OwnerName → ℕ → Class → Cause
+  of_target : Owner → ℕ → Class → Cause
   -- a feature that is asked of a class
   of_feature : List ℕ → Class → List ℕ → Cause
   -- a dependency of an owner, a class that it may lead to, and a feature that it asks for by its list
-  of_list : OwnerName → ℕ → Class → List ℕ → Cause
+  of_list : Owner → ℕ → Class → List ℕ → Cause
   -- the same, where an entry `d/g` of the version asks for g
   of_ask : List ℕ → Parts → ℕ → List ℕ → Class → Cause
   -- an entry `g` of a version's feature f
@@ -28,22 +28,22 @@ pub data Cause : Type 0 where
   -- an entry `d/g` of a version's feature f, and a dependency called d
   of_asking : List ℕ → Parts → List ℕ → List ℕ → ℕ → Cause
   -- two dependencies of an owner, and a class for each
-  of_newest : OwnerName → ℕ → ℕ → Class → Class → Cause
+  of_newest : Owner → ℕ → ℕ → Class → Class → Cause
   -- an entry `d?/g` of a version's feature f, a dependency called d, and a class that it may lead to
   of_weak : List ℕ → Parts → List ℕ → List ℕ → ℕ → Class → Cause
 
 abbrev pub kind_of : Cause → Kind
-kind_of of_root = X0
-kind_of (of_need o i) = X1
-kind_of (of_target o i k) = X2
-kind_of (of_feature name k f) = X3
-kind_of (of_list o i k g) = X4
-kind_of (of_ask name v i g k) = X4
-kind_of (of_entry name v f g) = X5
-kind_of (of_enabling name v f e i) = X6
-kind_of (of_asking name v f g i) = X7
-kind_of (of_newest o i j k m) = X8
-kind_of (of_weak name v f g i k) = X9
+kind_of of_root = Root
+kind_of (of_need o i) = Needed
+kind_of (of_target o i k) = Target
+kind_of (of_feature name k f) = HasFeature
+kind_of (of_list o i k g) = WantsFeature
+kind_of (of_ask name v i g k) = WantsFeature
+kind_of (of_entry name v f g) = FeatureOnFeature
+kind_of (of_enabling name v f e i) = FeatureOnDependency
+kind_of (of_asking name v f g i) = FeatureAsks
+kind_of (of_newest o i j k m) = NewestListed
+kind_of (of_weak name v f g i k) = WeakFeature
 
 -- ---- tests of what a cause names
 
@@ -78,7 +78,7 @@ passes test None = false
 passes test (Some x) = test x
 
 -- whether the owner needs the dependency
-abbrev pub is_needed : OwnerName → Dependency → Bool
+abbrev pub is_needed : Owner → Dependency → Bool
 is_needed the_root d = true
 is_needed (version_of name v) d = not d.optional
 
@@ -95,11 +95,11 @@ abbrev pub feature_holds : List ℕ → Parts → List ℕ → List Term → Lis
 feature_holds name v f ts = at (pkg name (class_of v)) (version v ∷ []) ∷ at (feat name (class_of v) f) (present ∷ []) ∷ ts
 
 -- the candidates by their names and versions
-abbrev pub owners_in : List (List ℕ × List Candidate) → List OwnerName
+abbrev pub owners_in : List (List ℕ × List Candidate) → List Owner
 owners_in rows = flat_map (λ row. map (λ c. version_of row.0 c.version) row.1) rows
 
 module _ (q : Problem) where
-  abbrev pub dependency_at : OwnerName → ℕ → Option Dependency
+  abbrev pub dependency_at : Owner → ℕ → Option Dependency
   dependency_at o i = slice_get (owner_brings q o).dependencies i
 
   -- some candidate of the class is matched
@@ -110,7 +110,7 @@ module _ (q : Problem) where
   abbrev pub is_unmatched : Dependency → Bool
   is_unmatched d = not (list_any (matched d) (candidates_of q.candidates d.real_name))
 
-  abbrev pub table_of_owner : OwnerName → Table
+  abbrev pub table_of_owner : Owner → Table
   table_of_owner o = (owner_brings q o).features
 
   -- the entries of a feature of a version
@@ -125,25 +125,25 @@ module _ (q : Problem) where
   some_entry test name v = list_any (λ row. list_any test (entries_of name v row.0)) (table_of_owner (version_of name v))
 
   -- what the root's dependency is asked for by entries
-  abbrev pub root_asks_for : OwnerName → Dependency → List ℕ → Bool
+  abbrev pub root_asks_for : Owner → Dependency → List ℕ → Bool
   root_asks_for the_root d g = list_any (same_pair (d.name, g)) q.root_asks
   root_asks_for (version_of name v) d g = false
 
   -- the dependency asks for the feature, by its list or an entry of the root
-  abbrev pub lists_feature : OwnerName → Dependency → List ℕ → Bool
+  abbrev pub lists_feature : Owner → Dependency → List ℕ → Bool
   lists_feature o d g = list_any (same_text g) (asked_of_target d) || root_asks_for o d g
 
   -- an entry of the version asks the dependency for the feature
-  abbrev pub entry_asks : OwnerName → Dependency → List ℕ → Bool
+  abbrev pub entry_asks : Owner → Dependency → List ℕ → Bool
   entry_asks the_root d g = false
   entry_asks (version_of name v) d g = some_entry (asks_for d.name g) name v
 
   -- the root and the candidates
-  abbrev pub owners : List OwnerName
+  abbrev pub owners : List Owner
   owners = the_root ∷ owners_in q.candidates
 
   -- some dependency of the owner on this package asks for the feature
-  abbrev pub owner_asks : List ℕ → List ℕ → OwnerName → Bool
+  abbrev pub owner_asks : List ℕ → List ℕ → Owner → Bool
   owner_asks name f o = list_any (λ d. same_text d.real_name name && (lists_feature o d f || entry_asks o d f)) (owner_brings q o).dependencies
 
   -- whether the vertex of the feature is there: a candidate is of the class, and some candidate has the feature or some dependency asks for it

@@ -5,8 +5,8 @@ use Rattle.std.specs.Option.{option_or}
 use Rattle.semver.specs.Parse.{Parts}
 use Rattle.model.specs.Content.{Problem}
 use Rattle.model.specs.Selection.{Class}
-use Rattle.model.specs.Vertices.{OwnerName, the_root, version_of, Vertex, root, pkg, dep, feat, ask, State, absent, present, version, in_class, owner_brings}
-use Rattle.model.specs.Axioms.{Term, Kind, X0, X1, X2, X3, X4, X5, X6, X7, X8, X9, is_lower, without_full}
+use Rattle.model.specs.Vertices.{Owner, the_root, version_of, Vertex, root, pkg, dep, feat, ask, State, absent, present, version, in_class, owner_brings}
+use Rattle.model.specs.Axioms.{Term, Kind, Root, Needed, Target, HasFeature, WantsFeature, FeatureOnFeature, FeatureOnDependency, FeatureAsks, NewestListed, WeakFeature, is_lower, without_full}
 use Rattle.refutations.specs.Terms.{same_terms}
 use Rattle.refutations.specs.Causes.{Cause, of_root, of_need, of_target, of_feature, of_list, of_ask, of_entry, of_enabling, of_asking, of_newest, of_weak, enables, is_needed, dependency_at, is_unmatched, entries_of, is_cause, terms_of_cause}
 
@@ -22,7 +22,7 @@ first_of (s ∷ ss) = Some s
 -- ---- what a vertex and the first of its states read as
 
 -- the owner that holds
-abbrev pub owner_read : Vertex → Option State → Option OwnerName
+abbrev pub owner_read : Vertex → Option State → Option Owner
 owner_read root s = Some the_root
 owner_read (pkg name k) (Some (version v)) = Some (version_of name v)
 owner_read _ _ = None
@@ -33,12 +33,12 @@ version_read (pkg name k) (Some (version v)) = Some (name, v)
 version_read _ _ = None
 
 -- the owner and number of a dependency
-abbrev pub dep_read : Vertex → Option State → Option (OwnerName × ℕ)
+abbrev pub dep_read : Vertex → Option State → Option (Owner × ℕ)
 dep_read (dep o i) s = Some (o, i)
 dep_read _ _ = None
 
 -- with the class that it leads to
-abbrev pub led_read : Vertex → Option State → Option (OwnerName × ℕ × Class)
+abbrev pub led_read : Vertex → Option State → Option (Owner × ℕ × Class)
 led_read (dep o i) (Some (in_class k)) = Some (o, i, k)
 led_read _ _ = None
 
@@ -124,7 +124,7 @@ asking_in ts = do
   Some (of_asking p.0 p.1 f a.3 a.2)
 
 -- the dependency with the lower class comes first
-abbrev pub newest_of : OwnerName → ℕ → Class → ℕ → Class → Cause
+abbrev pub newest_of : Owner → ℕ → Class → ℕ → Class → Cause
 newest_of o i k j m = if is_lower k m then of_newest o i j k m else of_newest o j i m k
 
 abbrev pub newest_in : List Term → Option Cause
@@ -144,7 +144,7 @@ weak_in ts = do
 module _ (q : Problem) where
   -- ---- the number of a dependency on which there is no term: each of its states would be full
 
-  abbrev pub needed_unmatched : OwnerName → Option ℕ
+  abbrev pub needed_unmatched : Owner → Option ℕ
   needed_unmatched o = first_place (λ d. is_needed o d && is_unmatched q d) (owner_brings q o).dependencies
 
   abbrev pub enabled_unmatched : List ℕ → Parts → List ℕ → Option ℕ
@@ -168,16 +168,16 @@ module _ (q : Problem) where
     Some (of_enabling p.0 p.1 f e i)
 
   abbrev pub cause_in : Kind → List Term → Option Cause
-  cause_in X0 ts = Some of_root
-  cause_in X1 ts = need_in ts
-  cause_in X2 ts = target_in ts
-  cause_in X3 ts = feature_in ts
-  cause_in X4 ts = option_or (ask_in ts) (list_in ts)
-  cause_in X5 ts = entry_in ts
-  cause_in X6 ts = enabling_in ts
-  cause_in X7 ts = asking_in ts
-  cause_in X8 ts = newest_in ts
-  cause_in X9 ts = weak_in ts
+  cause_in Root ts = Some of_root
+  cause_in Needed ts = need_in ts
+  cause_in Target ts = target_in ts
+  cause_in HasFeature ts = feature_in ts
+  cause_in WantsFeature ts = option_or (ask_in ts) (list_in ts)
+  cause_in FeatureOnFeature ts = entry_in ts
+  cause_in FeatureOnDependency ts = enabling_in ts
+  cause_in FeatureAsks ts = asking_in ts
+  cause_in NewestListed ts = newest_in ts
+  cause_in WeakFeature ts = weak_in ts
 
   -- ---- the test
 

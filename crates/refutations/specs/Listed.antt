@@ -2,10 +2,10 @@
 use Rattle.std.specs.Prelude.{ℕ, suc, List, [], ◌∷◌, ◌++◌, Bool, true, false, ◌&&◌, if◌then◌else◌, Option, Some, None, nat_eq, map, filter}
 use Rattle.std.specs.List.{list_any, flat_map}
 use Rattle.semver.specs.Parse.{Parts}
-use Rattle.model.specs.Owner.{Dependency, Entry, feature, dependency, dependency_feature, weak_feature, Table, asked_of_target, same_text}
+use Rattle.model.specs.Summary.{Dependency, Entry, feature, dependency, dependency_feature, weak_feature, Table, asked_of_target, same_text}
 use Rattle.model.specs.Content.{Problem, Candidate, candidates_of, same_version}
 use Rattle.model.specs.Selection.{Class}
-use Rattle.model.specs.Vertices.{OwnerName, the_root, version_of, same_class, same_owner, owner_brings, classes_of, dep_classes}
+use Rattle.model.specs.Vertices.{Owner, the_root, version_of, same_class, same_owner, owner_brings, classes_of, dep_classes}
 use Rattle.refutations.specs.Causes.{Cause, of_root, of_need, of_target, of_feature, of_list, of_ask, of_entry, of_enabling, of_asking, of_newest, of_weak, same_entry, dependency_at, entries_of, table_of_owner, owners, is_cause}
 
 -- the elements without those that come again later
@@ -48,7 +48,7 @@ turned_on name v f (feature g) = of_entry name v f g ∷ []
 turned_on name v f _ = []
 
 module _ (q : Problem) where
-  abbrev pub numbers_of : OwnerName → List ℕ
+  abbrev pub numbers_of : Owner → List ℕ
   numbers_of o = numbers (owner_brings q o).dependencies
 
   abbrev pub classes_if : Option Dependency → List Class
@@ -56,7 +56,7 @@ module _ (q : Problem) where
   classes_if (Some d) = dep_classes q d
 
   -- the classes that a dependency may lead to
-  abbrev pub classes_at : OwnerName → ℕ → List Class
+  abbrev pub classes_at : Owner → ℕ → List Class
   classes_at o i = classes_if (dependency_at q o i)
 
   abbrev pub asked_if : Option Dependency → List (List ℕ)
@@ -65,10 +65,10 @@ module _ (q : Problem) where
 
   -- ---- what may be a cause, owner by owner
 
-  abbrev pub class_pool : OwnerName → ℕ → Class → List Cause
+  abbrev pub class_pool : Owner → ℕ → Class → List Cause
   class_pool o i k = of_target o i k ∷ (map (of_list o i k) (asked_if (dependency_at q o i)) ++ flat_map (λ j. map (of_newest o i j k) (classes_at o j)) (numbers_of o))
 
-  abbrev pub dep_pool : OwnerName → ℕ → List Cause
+  abbrev pub dep_pool : Owner → ℕ → List Cause
   dep_pool o i = of_need o i ∷ flat_map (class_pool o i) (classes_at o i)
 
   abbrev pub entry_pool : List ℕ → Parts → List ℕ → Entry → ℕ → List Cause
@@ -81,21 +81,21 @@ module _ (q : Problem) where
   abbrev pub feature_pool : List ℕ → Parts → List ℕ → List Cause
   feature_pool name v f = flat_map (λ e. turned_on name v f e ++ flat_map (entry_pool name v f e) (numbers_of (version_of name v))) (entries_of q name v f)
 
-  abbrev pub version_pool : OwnerName → List Cause
+  abbrev pub version_pool : Owner → List Cause
   version_pool the_root = []
   version_pool (version_of name v) = flat_map (feature_pool name v) (names_in (table_of_owner q (version_of name v)))
 
-  abbrev pub owner_pool : OwnerName → List Cause
+  abbrev pub owner_pool : Owner → List Cause
   owner_pool o = flat_map (dep_pool o) (numbers_of o) ++ version_pool o
 
   -- ---- the features of classes
 
-  abbrev pub entries_ask : OwnerName → List (List ℕ)
+  abbrev pub entries_ask : Owner → List (List ℕ)
   entries_ask the_root = []
   entries_ask (version_of name v) = flat_map (λ f. flat_map asked_by (entries_of q name v f)) (names_in (table_of_owner q (version_of name v)))
 
   -- the features that an owner asks for
-  abbrev pub asked_of_others : OwnerName → List (List ℕ)
+  abbrev pub asked_of_others : Owner → List (List ℕ)
   asked_of_others o = flat_map asked_of_target (owner_brings q o).dependencies ++ entries_ask o
 
   -- the features that the candidates of a name have

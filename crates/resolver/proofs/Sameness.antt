@@ -3,7 +3,7 @@ use Rattle.std.proofs.Common.{◌≡◌, ℕ, suc, List, [], ◌∷◌, Bool, tr
 use Rattle.std.specs.Cmp.Lexicographic.{pointwise}
 use Rattle.std.specs.List.{list_all, zip}
 use Rattle.model.specs.Content.{Package, Content, same_version, same_option}
-use Rattle.model.specs.Owner.{same_text}
+use Rattle.model.specs.Summary.{same_text}
 use Rattle.model.proofs.Same.{both, text-same, text-refl, version-same, version-refl}
 use Rattle.resolver.specs.Same.{same_package, same_content}
 

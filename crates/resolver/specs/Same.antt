@@ -2,7 +2,7 @@
 use Rattle.std.specs.Prelude.{Bool, ◌&&◌, nat_eq}
 use Rattle.std.specs.Cmp.Lexicographic.{pointwise}
 use Rattle.model.specs.Content.{Package, Content, same_version, same_option}
-use Rattle.model.specs.Owner.{same_text}
+use Rattle.model.specs.Summary.{same_text}
 
 abbrev pub same_package : Package → Package → Bool
 same_package p r = same_text p.name r.name && (same_version p.version r.version && (same_option p.source r.source

@@ -1,9 +1,9 @@
 -- What is tested at the place of a package is what the faults of the model speak of.
 use Rattle.std.proofs.Common.{◌≡◌, ℕ, ◌<◌, ◌↔◌, Bool, true, false, not, ◌||◌, List, [], map, length, get_or, Contains, Option, Some, None, option_map, unwrap_or, is_some, slice_get, refl, sym, ap, ◌∙◌, subst, true≢false}
 use Rattle.std.proofs.lemmas.Option.{none-some, same_Some, slice_get-map, slice_get-get_or}
-use Rattle.model.specs.Owner.{Owner, Dependency, has_feature}
+use Rattle.model.specs.Summary.{Summary, Dependency, has_feature}
 use Rattle.model.specs.Facts.{enabled}
-use Rattle.model.specs.Content.{Package, Content, Problem, is_root, candidate_of, owner_of, owner_if, owner_at, last_serving, list_if, target_of}
+use Rattle.model.specs.Content.{Package, Content, Problem, is_root, candidate_of, summary_of, summary_if, summary_at, last_serving, list_if, target_of}
 use Rattle.model.specs.Selection.{IsFact, HasTarget, IsTarget}
 use Rattle.model.specs.Verdict.{not_candidate, two_in_class, unmet, no_feature, wrong_list, unreached, IsFreeOf}
 use Rattle.model.proofs.Orders.{last_is}
@@ -57,33 +57,33 @@ module _ (q : Problem) (content : Content) (n : ℕ) (p : Package) (got : slice_
       (sym (slice_get-map node_view nodes n ∙ ap (option_map node_view) (slice_get-get_or nodes n node lt ∙ ap Some e))
       ∙ ap (λ ns. slice_get ns n) g ∙ slice_get-map (node_of q content) content n ∙ ap (option_map (node_of q content)) got)
 
-  pub targets_are : (nodes : List Node) (node : Node) → n < length nodes → get_or nodes n node ≡ node → node_views nodes ≡ graph_of q content → node.targets.items ≡ targets_in content p.list (owner_of q p).dependencies
+  pub targets_are : (nodes : List Node) (node : Node) → n < length nodes → get_or nodes n node ≡ node → node_views nodes ≡ graph_of q content → node.targets.items ≡ targets_in content p.list (summary_of q p).dependencies
   targets_are nodes node lt e g = ap (λ (v : NodeView). v.targets) (node_there nodes node lt e g)
 
-  owner_here : owner_at q content n ≡ owner_of q p
-  owner_here = ap (owner_if q) got
+  owner_here : summary_at q content n ≡ summary_of q p
+  owner_here = ap (summary_if q) got
 
   target_here : (d : Dependency) → target_of content n d ≡ last_serving content d p.list
   target_here d = ap (λ o. last_serving content d (list_if o)) got
 
   module _ (flags : List Bool) (targets : List (Option ℕ)) (flags_are : (i : ℕ) → (flag_at flags i ≡ true) ↔ IsFact q content (enabled n i))
-      (targets_is : targets ≡ targets_in content p.list (owner_of q p).dependencies) where
-    target_at_number : (i : ℕ) → slice_get targets i ≡ option_map (λ d. last_serving content d p.list) (slice_get (owner_of q p).dependencies i)
-    target_at_number i = ap (λ ts. slice_get ts i) targets_is ∙ slice_get-map (λ d. last_serving content d p.list) (owner_of q p).dependencies i
+      (targets_is : targets ≡ targets_in content p.list (summary_of q p).dependencies) where
+    target_at_number : (i : ℕ) → slice_get targets i ≡ option_map (λ d. last_serving content d p.list) (slice_get (summary_of q p).dependencies i)
+    target_at_number i = ap (λ ts. slice_get ts i) targets_is ∙ slice_get-map (λ d. last_serving content d p.list) (summary_of q p).dependencies i
 
     -- of a dependency that is there
-    its_target : (i : ℕ) (d : Dependency) → slice_get (owner_at q content n).dependencies i ≡ Some d → slice_get targets i ≡ Some (last_serving content d p.list)
+    its_target : (i : ℕ) (d : Dependency) → slice_get (summary_at q content n).dependencies i ≡ Some d → slice_get targets i ≡ Some (last_serving content d p.list)
     its_target i d b =
-        target_at_number i ∙ ap (option_map (λ e. last_serving content e p.list)) (subst (λ (o : Owner). slice_get o.dependencies i ≡ Some d) owner_here b)
+        target_at_number i ∙ ap (option_map (λ e. last_serving content e p.list)) (subst (λ (o : Summary). slice_get o.dependencies i ≡ Some d) owner_here b)
 
     -- a target is that of a dependency
-    its_dependency : (i : ℕ) (o : Option ℕ) → slice_get targets i ≡ Some o → (d : Dependency) × (slice_get (owner_at q content n).dependencies i ≡ Some d) × (last_serving content d p.list ≡ o)
-    its_dependency i o e = by (slice_get (owner_of q p).dependencies i) refl (sym (target_at_number i) ∙ e)
+    its_dependency : (i : ℕ) (o : Option ℕ) → slice_get targets i ≡ Some o → (d : Dependency) × (slice_get (summary_at q content n).dependencies i ≡ Some d) × (last_serving content d p.list ≡ o)
+    its_dependency i o e = by (slice_get (summary_of q p).dependencies i) refl (sym (target_at_number i) ∙ e)
       where
-        by : (s : Option Dependency) → slice_get (owner_of q p).dependencies i ≡ s → option_map (λ d. last_serving content d p.list) s ≡ Some o
-            → (d : Dependency) × (slice_get (owner_at q content n).dependencies i ≡ Some d) × (last_serving content d p.list ≡ o)
+        by : (s : Option Dependency) → slice_get (summary_of q p).dependencies i ≡ s → option_map (λ d. last_serving content d p.list) s ≡ Some o
+            → (d : Dependency) × (slice_get (summary_at q content n).dependencies i ≡ Some d) × (last_serving content d p.list ≡ o)
         by None g h = absurd (none-some o h)
-        by (Some d) g h = (d, subst (λ (w : Owner). slice_get w.dependencies i ≡ Some d) (sym owner_here) g, same_Some (last_serving content d p.list) o h)
+        by (Some d) g h = (d, subst (λ (w : Summary). slice_get w.dependencies i ≡ Some d) (sym owner_here) g, same_Some (last_serving content d p.list) o h)
 
     pub met_is : AreMet flags targets ↔ IsFreeOf q content unmet n
     met_is = (to, from)
@@ -126,9 +126,9 @@ pub featured_is : (q : Problem) (content : Content) (n : ℕ) (b : Bool) → (b 
 featured_is q content n b h = by_failing b (IsFreeOf q content no_feature n) (to, from b refl)
   where
     to : b ≡ false → IsFreeOf q content no_feature n
-    to e f on_here = has (has_feature (owner_at q content n).features f) refl
+    to e f on_here = has (has_feature (summary_at q content n).features f) refl
       where
-        has : (x : Bool) → has_feature (owner_at q content n).features f ≡ x → x ≡ true
+        has : (x : Bool) → has_feature (summary_at q content n).features f ≡ x → x ≡ true
         has true g = refl
         has false g = absurd (true≢false (sym (h.1 (f, on_here, g)) ∙ e))
 

@@ -3,11 +3,11 @@ use Rattle.std.proofs.Common.{◌≡◌, ℕ, Bool, true, false, cond, ◌||◌,
 use Rattle.std.specs.Borrow.{Bor}
 use Rattle.std.proofs.lemmas.Option.{none-some, same_Some}
 use Rattle.semver.specs.Parse.{Parts}
-use Rattle.model.specs.Owner.{same_text}
-use Rattle.model.specs.Content.{Candidate, Package, Problem, same_version, same_option, candidates_of, candidate_at, candidate_of, if_checksum, brings_of, is_root, owner_of}
+use Rattle.model.specs.Summary.{same_text}
+use Rattle.model.specs.Content.{Candidate, Package, Problem, same_version, same_option, candidates_of, candidate_at, candidate_of, if_checksum, brings_of, is_root, summary_of}
 use Rattle.model.specs.Candidates.{Record, as_candidate}
-use Rattle.features.specs.Views.{owner_view}
-use Rattle.features.specs.declared.dependency.Owner.{Owner}
+use Rattle.features.specs.Views.{summary_view}
+use Rattle.features.specs.declared.dependency.Summary.{Summary}
 use Rattle.manifest.specs.Manifests.{ManifestView}
 use Rattle.catalogue.specs.Problems.{problem_in}
 use Rattle.catalogue.specs.Ranks.{records}
@@ -73,14 +73,14 @@ is_found c m p s h e b sum =
     sym (ap (option_map (λ (e : Candidate). e.brings)) (of_source c m p h) ∙ by_record (record_at (candidates_at c p.name) p.version) s e p.checksum ∙ ap (λ b. cond b (Some s.brings) None) sum)
 
 -- what a candidate brings, as the program has it
-pub brings_seen : (r : Option (Bor Owner)) (o : Option Candidate) → option_map (λ w. owner_view w.now) r ≡ option_map (λ (e : Candidate). e.brings) o → (brings_view r ≡ brings_of o) × (is_some r ≡ is_some o)
+pub brings_seen : (r : Option (Bor Summary)) (o : Option Candidate) → option_map (λ w. summary_view w.now) r ≡ option_map (λ (e : Candidate). e.brings) o → (brings_view r ≡ brings_of o) × (is_some r ≡ is_some o)
 brings_seen None None e = (refl, refl)
 brings_seen None (Some c) e = absurd (none-some c.brings e)
-brings_seen (Some w) None e = absurd (none-some (owner_view w.now) (sym e))
-brings_seen (Some w) (Some c) e = (same_Some (owner_view w.now) c.brings e, refl)
+brings_seen (Some w) None e = absurd (none-some (summary_view w.now) (sym e))
+brings_seen (Some w) (Some c) e = (same_Some (summary_view w.now) c.brings e, refl)
 
-pub root_brings : (q : Problem) (p : Package) → is_root q p ≡ true → (owner_of q p ≡ q.brings) × (is_known q p ≡ true)
+pub root_brings : (q : Problem) (p : Package) → is_root q p ≡ true → (summary_of q p ≡ q.brings) × (is_known q p ≡ true)
 root_brings q p h = (ap (λ b. cond b q.brings (brings_of (candidate_of q p))) h, ap (λ b. b || is_some (candidate_of q p)) h)
 
-pub other_brings : (q : Problem) (p : Package) → is_root q p ≡ false → (owner_of q p ≡ brings_of (candidate_of q p)) × (is_known q p ≡ is_some (candidate_of q p))
+pub other_brings : (q : Problem) (p : Package) → is_root q p ≡ false → (summary_of q p ≡ brings_of (candidate_of q p)) × (is_known q p ≡ is_some (candidate_of q p))
 other_brings q p h = (ap (λ b. cond b q.brings (brings_of (candidate_of q p))) h, ap (λ b. b || is_some (candidate_of q p)) h)

@@ -1,6 +1,6 @@
 -- No two packages of a lock are its root.
 use Rattle.std.proofs.Common.{◌≡◌, ℕ, true, not, ◌&&◌, List, Option, Some, None, is_some, slice_get, refl, sym, ap, ◌∙◌, true≢false}
-use Rattle.model.specs.Owner.{same_text}
+use Rattle.model.specs.Summary.{same_text}
 use Rattle.model.specs.Content.{Package, Content, Problem, is_root, same_version}
 use Rattle.model.specs.WellFormed.{IsContent}
 use Rattle.model.proofs.Contents.{no_two_alike}

@@ -5,7 +5,7 @@ use Rattle.std.proofs.lemmas.Bool.{cases_lt, and_from, ltb-false}
 use Rattle.std.proofs.lemmas.Cmp.{nat_list_cmp_total}
 use Rattle.std.proofs.lemmas.Map.Lookups.{exact_bytes}
 use Rattle.std.proofs.lemmas.Option.{slice_get-get_or, slice_get-map, same_Some}
-use Rattle.model.specs.Owner.{same_text}
+use Rattle.model.specs.Summary.{same_text}
 use Rattle.model.specs.Content.{Package, Content, Problem, is_root}
 use Rattle.model.specs.Selection.{Class, patch, minor, major, class_of, IsOther}
 use Rattle.model.specs.Axioms.{is_lower}

@@ -1,7 +1,7 @@
 -- The packages of a lock as packages whose facts are asked for: what each brings, and where its dependencies lead.
 use Rattle.std.specs.Prelude.{◌≡◌, ◌↔◌, ℕ, Bool, true, ◌||◌, List, map, Option, is_some}
-use Rattle.model.specs.Owner.{Dependency}
-use Rattle.model.specs.Content.{Package, Content, Problem, is_root, candidate_of, owner_of, last_serving}
+use Rattle.model.specs.Summary.{Dependency}
+use Rattle.model.specs.Content.{Package, Content, Problem, is_root, candidate_of, summary_of, last_serving}
 use Rattle.model.specs.Selection.{IsRootAt}
 use Rattle.facts.specs.Graphs.{NodeView}
 use Rattle.facts.specs.declared.node.Node.{Node}
@@ -11,7 +11,7 @@ abbrev pub targets_in : Content → List ℕ → List Dependency → List (Optio
 targets_in content list ds = map (λ d. last_serving content d list) ds
 
 abbrev pub node_of : Problem → Content → Package → NodeView
-node_of q content p = record { brings = owner_of q p; targets = targets_in content p.list (owner_of q p).dependencies; starts = true }
+node_of q content p = record { brings = summary_of q p; targets = targets_in content p.list (summary_of q p).dependencies; starts = true }
 
 abbrev pub graph_of : Problem → Content → List NodeView
 graph_of q content = map (node_of q content) content

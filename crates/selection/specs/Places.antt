@@ -5,8 +5,8 @@ use Rattle.chains.specs.declared.rule.Rule.{Rule}
 use Rattle.facts.specs.Graphs.{node_views, flag_at, flag_in}
 use Rattle.lockfile.specs.Views.{package_views}
 use Rattle.model.specs.Facts.{enabled, on}
-use Rattle.model.specs.Content.{Content, Problem, owner_at}
-use Rattle.model.specs.Owner.{has_feature}
+use Rattle.model.specs.Content.{Content, Problem, summary_at}
+use Rattle.model.specs.Summary.{has_feature}
 use Rattle.model.specs.Selection.{IsFact, IsReached}
 use Rattle.model.specs.Verdict.{VerdictFault, not_candidate, two_in_class, unmet, no_feature, wrong_list, unreached, IsFreeOf}
 use Rattle.selection.specs.Graphs.{graph_of, is_known, are_known, IsOnlyRoot}
@@ -97,7 +97,7 @@ content_in f = package_views f.content.now
 
 -- a feature is on that doesn't exist there
 abbrev pub Lacks : Problem → Content → ℕ → Type 0
-Lacks q content n = (g : List ℕ) × IsFact q content (on n g) × (has_feature (owner_at q content n).features g ≡ false)
+Lacks q content n = (g : List ℕ) × IsFact q content (on n g) × (has_feature (summary_at q content n).features g ≡ false)
 
 -- what is found of a lock is what holds of it
 pub record AreFindings (q : Problem) (f : Findings) : Type 0 where

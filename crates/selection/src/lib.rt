@@ -8,9 +8,9 @@ mod enabled;
 mod faults;
 mod findings;
 mod nodes;
-mod owners;
 mod reached;
 mod roots;
+mod summaries;
 mod targets;
 mod verdict;
 

@@ -8,11 +8,11 @@ ghost use Rattle.catalogue.specs.Problems.{problem_in};
 ghost use Rattle.facts.specs.Graphs.{node_view, node_views};
 ghost use Rattle.selection.specs.Graphs.{node_of, graph_of, is_known, are_known};
 
-use crate::owners::owner_of;
+use crate::summaries::summary_of;
 use crate::targets::targets;
 use catalogue::Catalogue;
 use facts::Node;
-use features::{Dependency, Owner};
+use features::{Dependency, Summary};
 use lockfile::Package;
 use manifest::Manifest;
 use std::alloc::{AllocError, Global};
@@ -49,10 +49,10 @@ fn node<'a>(
     ensures node { IfOk result (λ n. node_view n ≡ node_of (problem_in manifest.entry.now catalogue.entry.now) (package_views content.now) (package_view locked.now)) }
     ensures known { IfOk result (λ n. is_some n.brings ≡ is_known (problem_in manifest.entry.now catalogue.entry.now) (package_view locked.now)) }
 {
-    let brings = owner_of(manifest, catalogue, locked);
+    let brings = summary_of(manifest, catalogue, locked);
     let list = locked.list.as_slice();
     let targets = match brings {
-        Some(owner) => targets(alloc, content, list, owner.dependencies.as_slice())?,
+        Some(summary) => targets(alloc, content, list, summary.dependencies.as_slice())?,
         None => Vec::new(alloc),
     };
     Ok(Node {

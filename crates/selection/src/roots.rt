@@ -9,7 +9,7 @@ ghost use Rattle.catalogue.specs.Problems.{problem_in};
 ghost use Rattle.catalogue.specs.Stores.{CatalogueView};
 ghost use Rattle.selection.specs.Graphs.{IsOnlyRoot, HasNoRoot};
 
-use crate::owners::is_root;
+use crate::summaries::is_root;
 use lockfile::Package;
 use manifest::Manifest;
 

@@ -14,7 +14,7 @@ use Rattle.semver.specs.Identifiers.{parts_text}
 use Rattle.model.specs.Content.{Candidate, Package, Content, Problem, candidates_of}
 use Rattle.model.specs.WellFormed.{IsContent}
 use Rattle.model.specs.Order.{package_cmp, precedence, text_cmp, version_cmp, source_cmp}
-use Rattle.model.specs.Vertices.{OwnerName, the_root, version_of}
+use Rattle.model.specs.Vertices.{Owner, the_root, version_of}
 use Rattle.model.proofs.Lists.{all_get, in_none, pairs_get, pairs_none, all_none}
 use Rattle.model.proofs.Permuted.{pairs-permutation}
 use Rattle.lockfile.proofs.PackageOrder.{precedence_total, text-eq}
@@ -31,11 +31,11 @@ use Rattle.walks.proofs.Stops.{all-snoc, pairs-snoc, snoc_at, once_at, rising_of
 
 -- ---- one place more
 
-of_itself : (q : Problem) (o : OwnerName) → package_of q o [] ≡ package_of q o (package_of q o []).list
+of_itself : (q : Problem) (o : Owner) → package_of q o [] ≡ package_of q o (package_of q o []).list
 of_itself q the_root = refl
 of_itself q (version_of n v) = refl
 
-module _ (q : Problem) (owners : List OwnerName) (here : List Bool) where
+module _ (q : Problem) (owners : List Owner) (here : List Bool) where
   pub none_kept : (ks : List Placed) → ks ≡ [] → AreKept q owners here 0 ks
   none_kept ks e = subst (AreKept q owners here 0) (sym e) (record {
     members = λ m. ((λ c. absurd (in_none m c)), (λ (lt, f, x). absurd (omega (arith, lt))));
@@ -56,7 +56,7 @@ module _ (q : Problem) (owners : List OwnerName) (here : List Bool) where
     distinct = h.distinct;
   }
 
-  one_kept : (n : ℕ) (ks : List Placed) (o : OwnerName) → AreKept q owners here n ks → flag_at here n ≡ true → slice_get owners n ≡ Some o
+  one_kept : (n : ℕ) (ks : List Placed) (o : Owner) → AreKept q owners here n ks → flag_at here n ≡ true → slice_get owners n ≡ Some o
       → AreKept q owners here (n + 1) (ks ++ (package_of q o [], n) ∷ [])
   one_kept n ks o h flag at = record {
     members = λ m. (to m, from m);
@@ -94,7 +94,7 @@ module _ (q : Problem) (owners : List OwnerName) (here : List Bool) where
       → AreKept q owners here (n + 1) more
   more_kept n ks more b found h flag e f = subst (AreKept q owners here (n + 1)) (sym (f ∙ ap (λ o. kept_with ks o n) e)) (by b (slice_get owners n) flag refl)
     where
-      by : (b : Bool) (o : Option OwnerName) → flag_at here n ≡ b → slice_get owners n ≡ o → AreKept q owners here (n + 1) (kept_with ks (package_if q b o) n)
+      by : (b : Bool) (o : Option Owner) → flag_at here n ≡ b → slice_get owners n ≡ o → AreKept q owners here (n + 1) (kept_with ks (package_if q b o) n)
       by false o flag at = same_kept n ks h (λ (on, p). true≢false (sym on ∙ flag))
       by true None flag at = same_kept n ks h (λ (on, p). none-some p.0 (sym at ∙ p.1))
       by true (Some o) flag at = one_kept n ks o h flag at
@@ -131,7 +131,7 @@ module _ (manifest : ManifestView) (index : CatalogueView) (store : IsStore inde
           = sym (ap (owner_if s.name) got) ∙ same_Some (stop_owner index s) (version_of n v) (sym (ap (option_map (stop_owner index)) e) ∙ h) in
           (s.place, c, ap (λ k. slice_get (candidates_of (rows_by_name index) k) s.place) (sym (name_in s.name n c.version v is)) ∙ got, version_in s.name n c.version v is)
 
-  tie_is_same : (t r : ℕ) (o u : OwnerName) (l m : List ℕ) → slice_get (owners_of index stops) t ≡ Some o → slice_get (owners_of index stops) r ≡ Some u → package_cmp (package_of Q o l) (package_of Q u m) ≡ Equal → o ≡ u
+  tie_is_same : (t r : ℕ) (o u : Owner) (l m : List ℕ) → slice_get (owners_of index stops) t ≡ Some o → slice_get (owners_of index stops) r ≡ Some u → package_cmp (package_of Q o l) (package_of Q u m) ≡ Equal → o ≡ u
   tie_is_same t r the_root the_root l m at there h = refl
   tie_is_same t r the_root (version_of n v) l m at there h = let x : Greater ≡ Equal = (ties (package_of Q the_root l) (package_of Q (version_of n v) m) h).2 in cc
   tie_is_same t r (version_of n v) the_root l m at there h = let x : Less ≡ Equal = (ties (package_of Q (version_of n v) l) (package_of Q the_root m) h).2 in cc
@@ -154,7 +154,7 @@ module _ (manifest : ManifestView) (index : CatalogueView) (store : IsStore inde
       let same : o ≡ u = tie_is_same k.1 m.1 o u (k.0).list (m.0).list at there (subst₂ (λ p r. package_cmp p r ≡ Equal) is has_it e) in
       h.distinct i j d lt within (place_is k.1 m.1 o at (there ∙ ap Some (sym same)))
     where
-      place_is : (a b : ℕ) (o : OwnerName) → slice_get (owners_of index stops) a ≡ Some o → slice_get (owners_of index stops) b ≡ Some o → a ≡ b
+      place_is : (a b : ℕ) (o : Owner) → slice_get (owners_of index stops) a ≡ Some o → slice_get (owners_of index stops) b ≡ Some o → a ≡ b
       place_is a b o at there = elim (cases_order a b) [
         | inl e ↦ e
         | inr r ↦ elim r [
@@ -165,7 +165,7 @@ module _ (manifest : ManifestView) (index : CatalogueView) (store : IsStore inde
 
 -- ---- the content
 
-with_other : (q : Problem) (o : OwnerName) (l m : List ℕ) → record (package_of q o l) { list = m } ≡ package_of q o m
+with_other : (q : Problem) (o : Owner) (l m : List ℕ) → record (package_of q o l) { list = m } ≡ package_of q o m
 with_other q the_root l m = refl
 with_other q (version_of n v) l m = refl
 
@@ -174,7 +174,7 @@ flag_within [] n h = absurd (true≢false (sym h))
 flag_within (b ∷ bs) zero h = omega arith
 flag_within (b ∷ bs) (suc n) h = let lt = flag_within bs n h in omega (arith, lt)
 
-module _ (q : Problem) (owners : List OwnerName) (here : List Bool) (first ks : List Placed) (kept : AreKept q owners here (length here) first) (moved : IsPermutation first ks) where
+module _ (q : Problem) (owners : List Owner) (here : List Bool) (first ks : List Placed) (kept : AreKept q owners here (length here) first) (moved : IsPermutation first ks) where
   pub places_apart : AllPairs (λ m n. m ≢ n) (places_in ks)
   places_apart = pairs-map (λ (k : Placed). k.1) (λ m n. m ≢ n) ks (pairs-permutation (λ (k m : Placed). k.1 ≢ m.1) (λ k m n e. n (sym e)) first ks moved kept.distinct)
 
@@ -185,7 +185,7 @@ module _ (q : Problem) (owners : List OwnerName) (here : List Bool) (first ks : 
       let inside = slice_get_within owners (get_or (places_in ks) k d) o at in
       omega (arith, inside, e)
 
-module _ (q : Problem) (owners : List OwnerName) (nodes : List NodeView) (enabled : List (List Bool)) (here : List Bool) (first ks : List Placed) (ps : Content)
+module _ (q : Problem) (owners : List Owner) (nodes : List NodeView) (enabled : List (List Bool)) (here : List Bool) (first ks : List Placed) (ps : Content)
     (kept : AreKept q owners here (length here) first) (moved : IsPermutation first ks) (order : AreInOrder ks) (listed : AreListed nodes enabled ks ps) where
   package_at : (n : ℕ) (p : Package) → slice_get ps n ≡ Some p → (k : Placed) × (slice_get ks n ≡ Some k)
   package_at n p got = let lt = slice_get_within ps n p got in let many = listed.as_many in some_at ks n (omega (arith, lt, many))

@@ -8,7 +8,7 @@ use Rattle.std.proofs.lemmas.Option.{slice_get_within, slice_get-map, same_Some,
 use Rattle.semver.specs.Parse.{Parts}
 use Rattle.model.specs.Content.{Candidate, Package, Problem, brings_of, candidate_at, candidates_of}
 use Rattle.model.specs.Candidates.{Record, as_candidate}
-use Rattle.model.specs.Vertices.{OwnerName, the_root, version_of, owner_brings}
+use Rattle.model.specs.Vertices.{Owner, the_root, version_of, owner_brings}
 use Rattle.model.proofs.Contents.{precedence-equal}
 use Rattle.model.proofs.Lists.{all_get, all_none, pairs_none}
 use Rattle.manifest.specs.Manifests.{ManifestView}
@@ -61,7 +61,7 @@ not_said index s h there = by (slice_get (candidates_at index s.name) s.place) (
 
 -- ---- what an owner brings
 
-after_root : (index : CatalogueView) (stops : List Stop) (n : ℕ) (o : OwnerName) (s : Stop) → (n ≡ 0 → ⊥) → slice_get stops (n - 1) ≡ Some s → slice_get (owners_of index stops) n ≡ Some o → stop_owner index s ≡ o
+after_root : (index : CatalogueView) (stops : List Stop) (n : ℕ) (o : Owner) (s : Stop) → (n ≡ 0 → ⊥) → slice_get stops (n - 1) ≡ Some s → slice_get (owners_of index stops) n ≡ Some o → stop_owner index s ≡ o
 after_root index stops zero o s other got at = absurd (other refl)
 after_root index stops (suc n) o s other got at =
     let is : suc n - 1 ≡ n = omega arith in
@@ -69,7 +69,7 @@ after_root index stops (suc n) o s other got at =
 
 pub stop_brings : (manifest : ManifestView) (index : CatalogueView) (stops : List Stop) (n : ℕ) (s : Stop) (x : Said) → IsStore index → (n ≡ 0 → ⊥) → slice_get stops (n - 1) ≡ Some s
     → Some x ≡ option_map said (slice_get (candidates_at index s.name) s.place)
-    → (o : OwnerName) → slice_get (owners_of index stops) n ≡ Some o → x.brings ≡ owner_brings (problem_in manifest index) o
+    → (o : Owner) → slice_get (owners_of index stops) n ≡ Some o → x.brings ≡ owner_brings (problem_in manifest index) o
 stop_brings manifest index stops n s x store other got h o at =
     let (c, there, brings, sum) = said_there index s.name s.place x h in
     let (owner, found) = at_stop index store s c there in
@@ -148,7 +148,7 @@ module _ (index : CatalogueView) (store : IsStore index) where
       cc
 
   pub owners_once : (stops : List Stop) → AreStops index stops → AllPairs (λ a b. a ≢ b) (owners_of index stops)
-  owners_once stops h = AllPairs-cons (λ (a b : OwnerName). a ≢ b) the_root (map (stop_owner index) stops)
+  owners_once stops h = AllPairs-cons (λ (a b : Owner). a ≢ b) the_root (map (stop_owner index) stops)
       (all-map (stop_owner index) (λ b. the_root ≢ b) stops (λ k d lt. not_root (get_or stops k d) (h.there k d lt)))
       (pairs-map (stop_owner index) (λ a b. a ≢ b) stops (λ i j d lt within. apart (get_or stops i d) (get_or stops j d) (h.there i d (omega (arith, lt, within))) (h.there j d within) (h.distinct i j d lt within)))
 
@@ -171,7 +171,7 @@ begun index q stops nodes e f = record {
 }
 
 pub one_more : (index : CatalogueView) (q : Problem) (old new : List Stop) (nodes more : List NodeView) (v : NodeView) → SoFar index q old nodes → length nodes ≤ length old → Grows index old new
-    → ((o : OwnerName) → slice_get (owners_of index old) (length nodes) ≡ Some o → v.brings ≡ owner_brings q o) → v.starts ≡ nat_eq (length nodes) 0
+    → ((o : Owner) → slice_get (owners_of index old) (length nodes) ≡ Some o → v.brings ≡ owner_brings q o) → v.starts ≡ nat_eq (length nodes) 0
     → ArePicks (preferred_in index) (owners_of index new) (v.brings).dependencies v.targets → more ≡ nodes ++ v ∷ [] → SoFar index q new more
 one_more index q old new nodes more v h lt g brings starts picks e = record {
   are = g.still h.are;
@@ -185,19 +185,19 @@ one_more index q old new nodes more v h lt g brings starts picks e = record {
   ];
 }
   where
-    owner_before : (n : ℕ) (o : OwnerName) → n ≤ length nodes → slice_get (owners_of index new) n ≡ Some o → slice_get (owners_of index old) n ≡ Some o
+    owner_before : (n : ℕ) (o : Owner) → n ≤ length nodes → slice_get (owners_of index new) n ≡ Some o → slice_get (owners_of index old) n ≡ Some o
     owner_before n o le at =
         let wide = many_owners index old in
         let (u, there) = some_at (owners_of index old) n (omega (arith, le, lt, wide)) in
         there ∙ (sym (owner_on index old new g n u there) ∙ at)
 
-    earlier : (n : ℕ) (o : OwnerName) (w : NodeView) → slice_get (owners_of index new) n ≡ Some o → slice_get nodes n ≡ Some w → IsNode (preferred_in index) (owners_of index new) q n o w
+    earlier : (n : ℕ) (o : Owner) (w : NodeView) → slice_get (owners_of index new) n ≡ Some o → slice_get nodes n ≡ Some w → IsNode (preferred_in index) (owners_of index new) q n o w
     earlier n o w at before =
         let below = slice_get_within nodes n w before in
         let node = h.each n o w (owner_before n o (omega (arith, below)) at) before in
         record { brings = node.brings; starts = node.starts; picks = picks_on index (preferred_in index) old new g (w.brings).dependencies w.targets node.picks }
 
-    later : (n : ℕ) (o : OwnerName) (w : NodeView) → slice_get (owners_of index new) n ≡ Some o → n ≡ length nodes → v ≡ w → IsNode (preferred_in index) (owners_of index new) q n o w
+    later : (n : ℕ) (o : Owner) (w : NodeView) → slice_get (owners_of index new) n ≡ Some o → n ≡ length nodes → v ≡ w → IsNode (preferred_in index) (owners_of index new) q n o w
     later n o w at last is =
         subst (IsNode (preferred_in index) (owners_of index new) q n o) is (record {
           brings = brings o (ap (slice_get (owners_of index old)) (sym last) ∙ owner_before n o (omega (arith, last)) at);

@@ -6,7 +6,7 @@ use Rattle.std.proofs.lemmas.List.{map-append, reverse-append, take_more, length
 use Rattle.std.proofs.lemmas.List.Elements.{filter-append}
 use Rattle.std.proofs.lemmas.Option.{slice_get-map, slice_get-get_or, same_Some, none-some}
 use Rattle.semver.specs.EvalViews.{matches_views}
-use Rattle.model.specs.Owner.{Dependency, same_text}
+use Rattle.model.specs.Summary.{Dependency, same_text}
 use Rattle.model.specs.Content.{Candidate, candidates_of}
 use Rattle.model.specs.Candidates.{Record, as_candidate}
 use Rattle.model.specs.Walk.{first_match}

@@ -7,11 +7,11 @@ use Rattle.std.proofs.lemmas.List.{append_assoc, map-append, length-append}
 use Rattle.std.proofs.lemmas.List.Kept.{AllPairs-cons}
 use Rattle.std.proofs.lemmas.Option.{slice_get-get_or, same_Some, none-some}
 use Rattle.indexmap.specs.IndexSet.{insert_key}
-use Rattle.model.specs.Owner.{Dependency, same_text}
+use Rattle.model.specs.Summary.{Dependency, same_text}
 use Rattle.model.specs.Content.{Candidate, candidate_at, candidates_of}
 use Rattle.model.specs.Candidates.{IsOlder, as_candidate}
 use Rattle.model.specs.Order.{precedence}
-use Rattle.model.specs.Vertices.{OwnerName, version_of}
+use Rattle.model.specs.Vertices.{Owner, version_of}
 use Rattle.model.proofs.Contents.{precedence-equal}
 use Rattle.model.proofs.Lists.{all_cons, all_none, all_first, all_rest, pairs_all, pairs_get, pairs_none, pairs_one, pairs_rest, to_any}
 use Rattle.model.proofs.Owners.{candidate_at-is, candidate_at-there}
@@ -83,7 +83,7 @@ grows_on index a b c g h = record {
 }
 
 -- the owners of stops that grow: those at their places stay
-pub owner_on : (index : CatalogueView) (a b : List Stop) → Grows index a b → (n : ℕ) (o : OwnerName) → slice_get (owners_of index a) n ≡ Some o → slice_get (owners_of index b) n ≡ Some o
+pub owner_on : (index : CatalogueView) (a b : List Stop) → Grows index a b → (n : ℕ) (o : Owner) → slice_get (owners_of index a) n ≡ Some o → slice_get (owners_of index b) n ≡ Some o
 owner_on index a b g n o at = subst (λ ks. slice_get (owners_of index ks) n ≡ Some o) (sym g.is) (longer n at)
   where
     longer : (n : ℕ) → slice_get (owners_of index a) n ≡ Some o → slice_get (owners_of index (a ++ g.more)) n ≡ Some o
@@ -116,7 +116,7 @@ target_picks index d place s keys i p e f (k, got, same) =
     let owner : stop_owner index k ≡ version_of d.real_name x.version = ap (stop_owner index) (sym (same_is s k same)) ∙ ap (owner_if s.name) stands ∙ ap (λ n. version_of n x.version) e in
     (x, is, next_at (owners_of index keys) i ∙ (map_at (stop_owner index) keys i k got ∙ ap Some owner))
   where
-    next_at : (xs : List OwnerName) (i : ℕ) → slice_get xs (i + 1) ≡ slice_get xs (suc i)
+    next_at : (xs : List Owner) (i : ℕ) → slice_get xs (i + 1) ≡ slice_get xs (suc i)
     next_at xs i = ap (slice_get xs) (omega arith)
 
 -- ---- the picks of dependencies, one after another

@@ -4,11 +4,11 @@ use Rattle.std.specs.Ordering.{ordering_reverse}
 use Rattle.std.specs.declared.cmp.Ordering.TheVariants.{Less, Greater}
 use Rattle.std.proofs.lemmas.Option.{slice_get-map, same_Some, none-some}
 use Rattle.semver.specs.Parse.{Parts}
-use Rattle.model.specs.Owner.{Dependency}
+use Rattle.model.specs.Summary.{Dependency}
 use Rattle.model.specs.Facts.{enabled, Brings}
 use Rattle.model.specs.Content.{Package, Content, Problem, is_root, candidates_of, candidate_at}
 use Rattle.model.specs.Order.{package_cmp}
-use Rattle.model.specs.Vertices.{OwnerName, the_root, version_of, owner_brings}
+use Rattle.model.specs.Vertices.{Owner, the_root, version_of, owner_brings}
 use Rattle.model.specs.Stands.{IsReachedFact, StandsFor, name_of}
 use Rattle.model.proofs.Contents.{rising_at}
 use Rattle.model.proofs.Lists.{in_map, to_map}
@@ -50,7 +50,7 @@ same_packages (x ∷ xs) (y ∷ ys) e h =
     let rest : map head xs ≡ map head ys = cc in
     ap₂ (λ p ps. p ∷ ps) (ap₂ (λ p l. with_list p l) first (h 0 x y refl refl)) (same_packages xs ys rest (λ n p r got had. h (suc n) p r got had))
 
-module _ (q : Problem) (LeadsTo : OwnerName → ℕ → Dependency → OwnerName → Type 0) where
+module _ (q : Problem) (LeadsTo : Owner → ℕ → Dependency → Owner → Type 0) where
   -- packages of one owner
   alike : (a b : Content) → StandsFor q LeadsTo a → StandsFor q LeadsTo b → (n m : ℕ) (p r : Package) → slice_get a n ≡ Some p → slice_get b m ≡ Some r
       → name_of q p ≡ name_of q r → head p ≡ head r

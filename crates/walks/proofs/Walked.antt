@@ -3,10 +3,10 @@ use Rattle.std.proofs.Common.{◌≡◌, ◌↔◌, ◌≢◌, ℕ, List, Bool, 
 use Rattle.std.specs.Option.{option_and_then}
 use Rattle.std.proofs.lemmas.Bool.{cases_order, eqb-true}
 use Rattle.std.proofs.lemmas.Option.{slice_get_within, slice_get-get_or, same_Some, none-some}
-use Rattle.model.specs.Owner.{Owner, Dependency}
+use Rattle.model.specs.Summary.{Summary, Dependency}
 use Rattle.model.specs.Facts.{Fact, here, enabled, Brings}
 use Rattle.model.specs.Content.{Candidate, Package, Content, Problem, is_root, candidates_of, candidate_at}
-use Rattle.model.specs.Vertices.{OwnerName, the_root, version_of, owner_brings}
+use Rattle.model.specs.Vertices.{Owner, the_root, version_of, owner_brings}
 use Rattle.model.specs.Stands.{IsLink, IsReachedFact, name_of}
 use Rattle.model.specs.Walk.{pick, Picks, IsComplete, IsWalk}
 use Rattle.model.proofs.Lists.{pairs_get}
@@ -23,19 +23,19 @@ use Rattle.walks.proofs.Lists.{place_of, there_at, some_at}
 root_is_root : (q : Problem) (l : List ℕ) → is_root q (package_of q the_root l) ≡ true
 root_is_root q l = rw (text-refl q.name, version-refl q.version) refl
 
-named : (q : Problem) (o : OwnerName) (l : List ℕ) → name_of q (package_of q o l) ≡ o
+named : (q : Problem) (o : Owner) (l : List ℕ) → name_of q (package_of q o l) ≡ o
 named q the_root l = ap (λ b. cond b the_root (version_of q.name q.version)) (root_is_root q l)
 named q (version_of n v) l = refl
 
-bare : (q : Problem) (o : OwnerName) (p : Package) → p ≡ package_of q o p.list → is_root q p ≡ true → p.checksum ≡ None
+bare : (q : Problem) (o : Owner) (p : Package) → p ≡ package_of q o p.list → is_root q p ≡ true → p.checksum ≡ None
 bare q the_root p e h = ap (λ (p : Package). p.checksum) e
 bare q (version_of n v) p e h = absurd (true≢false (sym h ∙ ap (is_root q) e))
 
-sourced : (q : Problem) (o : OwnerName) (p : Package) → p ≡ package_of q o p.list → is_root q p ≡ false → p.source ≡ Some q.source
+sourced : (q : Problem) (o : Owner) (p : Package) → p ≡ package_of q o p.list → is_root q p ≡ false → p.source ≡ Some q.source
 sourced q the_root p e h = absurd (true≢false (sym (root_is_root q p.list) ∙ sym (ap (is_root q) e) ∙ h))
 sourced q (version_of n v) p e h = ap (λ (p : Package). p.source) e
 
-summed : (q : Problem) (o : OwnerName) (p : Package) → p ≡ package_of q o p.list → is_root q p ≡ false
+summed : (q : Problem) (o : Owner) (p : Package) → p ≡ package_of q o p.list → is_root q p ≡ false
     → p.checksum ≡ option_map (λ c. c.checksum) (candidate_at (candidates_of q.candidates p.name) p.version)
 summed q the_root p e h = absurd (true≢false (sym (root_is_root q p.list) ∙ sym (ap (is_root q) e) ∙ h))
 summed q (version_of n v) p e h =
@@ -49,42 +49,42 @@ joined None t h = absurd (none-some t h)
 joined (Some None) t h = absurd (none-some t h)
 joined (Some (Some s)) t h = ap Some h
 
-picked : (name : List ℕ) (o : Option Candidate) (t : OwnerName) → option_map (λ c. version_of name c.version) o ≡ Some t → (c : Candidate) × (o ≡ Some c) × (version_of name c.version ≡ t)
+picked : (name : List ℕ) (o : Option Candidate) (t : Owner) → option_map (λ c. version_of name c.version) o ≡ Some t → (c : Candidate) × (o ≡ Some c) × (version_of name c.version ≡ t)
 picked name None t h = absurd (none-some t h)
 picked name (Some c) t h = (c, refl, same_Some (version_of name c.version) t h)
 
 is_zero : (n : ℕ) → nat_eq n 0 ≡ true → n ≡ 0
 is_zero n h = eqb-true n 0 h
 
-module _ (q : Problem) (preferred : List (List ℕ × List Candidate)) (owners : List OwnerName) (nodes : List NodeView) (met : IsMet preferred owners q nodes)
+module _ (q : Problem) (preferred : List (List ℕ × List Candidate)) (owners : List Owner) (nodes : List NodeView) (met : IsMet preferred owners q nodes)
     (asks : q.root_asks ≡ root_asks q.brings.features) where
   abbrev Near : Fact ℕ → Type 0
   Near = IsFactOf nodes 0
 
-  abbrev Far : Fact OwnerName → Type 0
+  abbrev Far : Fact Owner → Type 0
   Far = IsReachedFact q (Picks q preferred)
 
-  abbrev At : ℕ → OwnerName → Type 0
+  abbrev At : ℕ → Owner → Type 0
   At n o = slice_get owners n ≡ Some o
 
   -- what stands at the place of an owner
-  node_at : (n : ℕ) (o : OwnerName) → At n o → (v : NodeView) × (slice_get nodes n ≡ Some v) × IsNode preferred owners q n o v
+  node_at : (n : ℕ) (o : Owner) → At n o → (v : NodeView) × (slice_get nodes n ≡ Some v) × IsNode preferred owners q n o v
   node_at n o at =
       let lt = slice_get_within owners n o at in
       let many = met.as_many in
       let (v, got) = some_at nodes n (omega (arith, lt, many)) in
       (v, got, met.each n o v at got)
 
-  owner_there : (n : ℕ) (v : NodeView) → slice_get nodes n ≡ Some v → (o : OwnerName) × At n o
+  owner_there : (n : ℕ) (v : NodeView) → slice_get nodes n ≡ Some v → (o : Owner) × At n o
   owner_there n v got =
       let lt = slice_get_within nodes n v got in
       let many = met.as_many in
       some_at owners n (omega (arith, lt, many))
 
-  one_owner : (n : ℕ) (o u : OwnerName) → At n o → At n u → o ≡ u
+  one_owner : (n : ℕ) (o u : Owner) → At n o → At n u → o ≡ u
   one_owner n o u at there = same_Some o u (sym at ∙ there)
 
-  pub one_place : (o : OwnerName) (n m : ℕ) → At n o → At m o → n ≡ m
+  pub one_place : (o : Owner) (n m : ℕ) → At n o → At m o → n ≡ m
   one_place o n m at there = elim (cases_order n m) [
     | inl e ↦ e
     | inr h ↦ elim h [
@@ -93,11 +93,11 @@ module _ (q : Problem) (preferred : List (List ℕ × List Candidate)) (owners :
     ]
   ]
 
-  brings_is : (n : ℕ) (o : OwnerName) → At n o → brings_at nodes n ≡ owner_brings q o
+  brings_is : (n : ℕ) (o : Owner) → At n o → brings_at nodes n ≡ owner_brings q o
   brings_is n o at = let (v, got, is) = node_at n o at in ap brings_if got ∙ is.brings
 
   asks_are : root_asks (brings_at nodes 0).features ≡ q.root_asks
-  asks_are = ap (λ (o : Owner). root_asks o.features) (brings_is 0 the_root met.root) ∙ sym asks
+  asks_are = ap (λ (o : Summary). root_asks o.features) (brings_is 0 the_root met.root) ∙ sym asks
 
   target_is : (n i t : ℕ) (v : NodeView) → slice_get nodes n ≡ Some v → target_at nodes n i ≡ Some t → slice_get v.targets i ≡ Some (Some t)
   target_is n i t v got h = joined (slice_get v.targets i) t (sym (ap (target_if i) got) ∙ h)
@@ -129,20 +129,20 @@ module _ (q : Problem) (preferred : List (List ℕ × List Candidate)) (owners :
     leads = lead;
   }
     where
-      begins : (n : ℕ) → starts_at nodes n ≡ true → (m : OwnerName) × At n m × (m ≡ the_root)
+      begins : (n : ℕ) → starts_at nodes n ≡ true → (m : Owner) × At n m × (m ≡ the_root)
       begins n h = by (slice_get nodes n) refl h
         where
-          by : (o : Option NodeView) → slice_get nodes n ≡ o → starts_if o ≡ true → (m : OwnerName) × At n m × (m ≡ the_root)
+          by : (o : Option NodeView) → slice_get nodes n ≡ o → starts_if o ≡ true → (m : Owner) × At n m × (m ≡ the_root)
           by None e s = absurd (true≢false (sym s))
           by (Some v) e s =
               let (o, at) = owner_there n v e in
               let zero_is = is_zero n (sym (met.each n o v at e).starts ∙ s) in
               (the_root, subst (λ k. At k the_root) (sym zero_is) met.root, refl)
 
-      lead : (n t i : ℕ) (d : Dependency) (m : OwnerName) → At n m → Brings (brings_at nodes) n i d → target_at nodes n i ≡ Some t → (u : OwnerName) × At t u × Picks q preferred m i d u
+      lead : (n t i : ℕ) (d : Dependency) (m : Owner) → At n m → Brings (brings_at nodes) n i d → target_at nodes n i ≡ Some t → (u : Owner) × At t u × Picks q preferred m i d u
       lead n t i d m at b l =
           let (v, got, is) = node_at n m at in
-          let brought : slice_get (v.brings).dependencies i ≡ Some d = subst (λ (o : Owner). slice_get o.dependencies i ≡ Some d) (ap brings_if got) b in
+          let brought : slice_get (v.brings).dependencies i ≡ Some d = subst (λ (o : Summary). slice_get o.dependencies i ≡ Some d) (ap brings_if got) b in
           let (c, e, stands) = (is.picks).picks i d (Some t) brought (target_is n i t v got l) in
           (version_of d.real_name c.version, stands, ap (option_map (λ c. version_of d.real_name c.version)) e)
 
@@ -157,10 +157,10 @@ module _ (q : Problem) (preferred : List (List ℕ × List Candidate)) (owners :
     leads = lead;
   }
     where
-      lead : (o t : OwnerName) (i : ℕ) (d : Dependency) (n : ℕ) → At n o → Brings (owner_brings q) o i d → Picks q preferred o i d t → (s : ℕ) × At s t × (target_at nodes n i ≡ Some s)
+      lead : (o t : Owner) (i : ℕ) (d : Dependency) (n : ℕ) → At n o → Brings (owner_brings q) o i d → Picks q preferred o i d t → (s : ℕ) × At s t × (target_at nodes n i ≡ Some s)
       lead o t i d n at b l =
           let (v, got, is) = node_at n o at in
-          let brought : slice_get (v.brings).dependencies i ≡ Some d = subst (λ (o : Owner). slice_get o.dependencies i ≡ Some d) (sym is.brings) b in
+          let brought : slice_get (v.brings).dependencies i ≡ Some d = subst (λ (o : Summary). slice_get o.dependencies i ≡ Some d) (sym is.brings) b in
           let lt = slice_get_within (v.brings).dependencies i d brought in
           let many = (is.picks).as_many in
           let (target, stands) = some_at v.targets i (omega (arith, lt, many)) in
@@ -181,18 +181,18 @@ module _ (q : Problem) (preferred : List (List ℕ × List Candidate)) (owners :
   far_of x h = holds_far (brings_at nodes) (λ n. n ≡ 0) (λ n. starts_at nodes n ≡ true) (root_asks (brings_at nodes 0).features) (λ n i d t. target_at nodes n i ≡ Some t)
       (owner_brings q) (λ o. o ≡ the_root) (λ o. o ≡ the_root) q.root_asks (Picks q preferred) At to_names x h
 
-  near_of : (x : Fact OwnerName) → Far x → HoldsFar (owner_brings q) (λ o. o ≡ the_root) (λ o. o ≡ the_root) q.root_asks (Picks q preferred)
+  near_of : (x : Fact Owner) → Far x → HoldsFar (owner_brings q) (λ o. o ≡ the_root) (λ o. o ≡ the_root) q.root_asks (Picks q preferred)
       (brings_at nodes) (λ n. n ≡ 0) (λ n. starts_at nodes n ≡ true) (root_asks (brings_at nodes 0).features) (λ n i d t. target_at nodes n i ≡ Some t) (λ o n. At n o) x
   near_of x h = holds_far (owner_brings q) (λ o. o ≡ the_root) (λ o. o ≡ the_root) q.root_asks (Picks q preferred)
       (brings_at nodes) (λ n. n ≡ 0) (λ n. starts_at nodes n ≡ true) (root_asks (brings_at nodes 0).features) (λ n i d t. target_at nodes n i ≡ Some t) (λ o n. At n o) to_places x h
 
-  here_far : (n : ℕ) (o : OwnerName) → At n o → Near (here n) → Far (here o)
+  here_far : (n : ℕ) (o : Owner) → At n o → Near (here n) → Far (here o)
   here_far n o at h = let (m, r, p) = far_of (here n) h in subst (λ x. Far (here x)) (one_owner n m o r at) p
 
-  enabled_far : (n i : ℕ) (o : OwnerName) → At n o → Near (enabled n i) → Far (enabled o i)
+  enabled_far : (n i : ℕ) (o : Owner) → At n o → Near (enabled n i) → Far (enabled o i)
   enabled_far n i o at h = let (m, r, p) = far_of (enabled n i) h in subst (λ x. Far (enabled x i)) (one_owner n m o r at) p
 
-  enabled_near : (n i : ℕ) (o : OwnerName) → At n o → Far (enabled o i) → Near (enabled n i)
+  enabled_near : (n i : ℕ) (o : Owner) → At n o → Far (enabled o i) → Near (enabled n i)
   enabled_near n i o at h = let (m, r, p) = near_of (enabled o i) h in subst (λ x. Near (enabled x i)) (one_place o m n r at) p
 
   -- ---- the facts that were found
@@ -206,14 +206,14 @@ module _ (q : Problem) (preferred : List (List ℕ × List Candidate)) (owners :
       picks = λ o i d on_it b.
           let (n, at, p) = near_of (enabled o i) on_it in
           let (v, got, is) = node_at n o at in
-          let brought : slice_get (v.brings).dependencies i ≡ Some d = subst (λ (o : Owner). slice_get o.dependencies i ≡ Some d) (sym is.brings) b in
+          let brought : slice_get (v.brings).dependencies i ≡ Some d = subst (λ (o : Summary). slice_get o.dependencies i ≡ Some d) (sym is.brings) b in
           let lt = slice_get_within (v.brings).dependencies i d brought in
           let many = (is.picks).as_many in
           let (target, stands) = some_at v.targets i (omega (arith, lt, many)) in
           by o i d target (h n i v target got stands ((all_enabled n i).1 p)) ((is.picks).picks i d target brought stands);
     }
       where
-        by : (o : OwnerName) (i : ℕ) (d : Dependency) (target : Option ℕ) → is_some target ≡ true → IsPick preferred owners d target → (t : OwnerName) × Picks q preferred o i d t
+        by : (o : Owner) (i : ℕ) (d : Dependency) (target : Option ℕ) → is_some target ≡ true → IsPick preferred owners d target → (t : Owner) × Picks q preferred o i d t
         by o i d None e p = absurd (true≢false (sym e))
         by o i d (Some t) e (c, f, at) = (version_of d.real_name c.version, ap (option_map (λ c. version_of d.real_name c.version)) f)
 
@@ -226,10 +226,10 @@ module _ (q : Problem) (preferred : List (List ℕ × List Candidate)) (owners :
         let many = (is.picks).as_many in
         let (d, brought) = some_at (v.brings).dependencies i (omega (arith, lt, many)) in
         let far = enabled_far n i o at ((all_enabled n i).0 flag) in
-        let (t, l) = all.picks o i d far (subst (λ (o : Owner). slice_get o.dependencies i ≡ Some d) is.brings brought) in
+        let (t, l) = all.picks o i d far (subst (λ (o : Summary). slice_get o.dependencies i ≡ Some d) is.brings brought) in
         by d t target l ((is.picks).picks i d target brought stands)
       where
-        by : (d : Dependency) (t : OwnerName) (target : Option ℕ) → option_map (λ c. version_of d.real_name c.version) (pick q preferred d) ≡ Some t → IsPick preferred owners d target → is_some target ≡ true
+        by : (d : Dependency) (t : Owner) (target : Option ℕ) → option_map (λ c. version_of d.real_name c.version) (pick q preferred d) ≡ Some t → IsPick preferred owners d target → is_some target ≡ true
         by d t None l none = let (c, e, is) = picked d.real_name (pick q preferred d) t l in absurd (none-some c (sym none ∙ e))
         by d t (Some s) l p = refl
 
@@ -238,7 +238,7 @@ module _ (q : Problem) (preferred : List (List ℕ × List Candidate)) (owners :
       record Placed (k : ℕ) (p : Package) : Type 0 where
         n : ℕ
         at : slice_get (built.places) k ≡ Some n
-        o : OwnerName
+        o : Owner
         stands : At n o
         is : p ≡ package_of q o p.list
         name : name_of q p ≡ o
@@ -255,7 +255,7 @@ module _ (q : Problem) (preferred : List (List ℕ × List Candidate)) (owners :
           let (n, at) = some_at (built.places) k (omega (arith, lt, many)) in
           placed_with k n p got at
 
-      to_packages : (t : OwnerName) → Far (here t) → (k : ℕ) × (p : Package) × (slice_get content k ≡ Some p) × (name_of q p ≡ t)
+      to_packages : (t : Owner) → Far (here t) → (k : ℕ) × (p : Package) × (slice_get content k ≡ Some p) × (name_of q p ≡ t)
       unfolding near_of placed_with
       to_packages t h =
           let (n, at, near) = near_of (here t) h in
@@ -267,7 +267,7 @@ module _ (q : Problem) (preferred : List (List ℕ × List Candidate)) (owners :
           let x = placed_with k n p got got_n in
           (k, p, got, x.name ∙ one_owner n x.o t x.stands at)
 
-      from_packages : (t : OwnerName) → (k : ℕ) × (p : Package) × (slice_get content k ≡ Some p) × (name_of q p ≡ t) → Far (here t)
+      from_packages : (t : Owner) → (k : ℕ) × (p : Package) × (slice_get content k ≡ Some p) × (name_of q p ≡ t) → Far (here t)
       from_packages t (k, p, got, e) =
           let x = placed k p got in
           let m = (built.members x.n).0 (there_at (built.places) k x.n x.at) in
@@ -298,7 +298,7 @@ module _ (q : Problem) (preferred : List (List ℕ × List Candidate)) (owners :
             d,
             got_r,
             record {
-              brings = subst (λ o. Brings (owner_brings q) o i d) (sym x.name) (subst (λ (o : Owner). slice_get o.dependencies i ≡ Some d) is.brings brought);
+              brings = subst (λ o. Brings (owner_brings q) o i d) (sym x.name) (subst (λ (o : Summary). slice_get o.dependencies i ≡ Some d) is.brings brought);
               is_enabled = subst (λ o. Far (enabled o i)) (sym x.name) (enabled_far x.n i x.o x.stands ((all_enabled x.n i).0 flag));
               leads = ap (option_map (λ c. version_of d.real_name c.version)) e ∙ ap Some goal;
             },

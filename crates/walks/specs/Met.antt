@@ -4,12 +4,12 @@ use Rattle.std.specs.Prelude.{suc, Vec, ◌≡◌, ◌≢◌, ◌↔◌, ℕ, Bo
 use Rattle.std.specs.List.{All, AllPairs, find, list_all, zip}
 use Rattle.semver.specs.Parse.{Held, Parts}
 use Rattle.semver.specs.EvalViews.{matches_views}
-use Rattle.model.specs.Owner.{Dependency, same_text}
+use Rattle.model.specs.Summary.{Dependency, same_text}
 use Rattle.model.specs.Content.{Candidate, Content, Package, Problem, candidate_at, candidates_of}
 use Rattle.model.specs.WellFormed.{IsContent}
 use Rattle.model.specs.Order.{package_cmp}
 use Rattle.std.specs.declared.cmp.Ordering.TheVariants.{Less}
-use Rattle.model.specs.Vertices.{OwnerName, the_root, version_of, owner_brings}
+use Rattle.model.specs.Vertices.{Owner, the_root, version_of, owner_brings}
 use Rattle.model.specs.Walk.{first_match}
 use Rattle.catalogue.specs.Ranks.{places_by_rank}
 use Rattle.catalogue.specs.Stores.{CatalogueView, candidates_at, ranked_at, rows_by_name}
@@ -40,16 +40,16 @@ abbrev pub same_stop : Stop → Stop → Bool
 same_stop s t = same_text s.name t.name && nat_eq s.place t.place
 
 -- the version that a candidate is
-abbrev pub owner_if : List ℕ → Option Candidate → OwnerName
+abbrev pub owner_if : List ℕ → Option Candidate → Owner
 owner_if name None = the_root
 owner_if name (Some c) = version_of name c.version
 
 -- the version that stands at a place of the candidates
-abbrev pub stop_owner : CatalogueView → Stop → OwnerName
+abbrev pub stop_owner : CatalogueView → Stop → Owner
 stop_owner index s = owner_if s.name (slice_get (candidates_of (rows_by_name index) s.name) s.place)
 
 -- the root, then the versions met
-abbrev pub owners_of : CatalogueView → List Stop → List OwnerName
+abbrev pub owners_of : CatalogueView → List Stop → List Owner
 owners_of index stops = the_root ∷ map (stop_owner index) stops
 
 -- a candidate stands there
@@ -69,7 +69,7 @@ pub record Grows (index : CatalogueView) (old new : List Stop) : Type 0 where
 
 -- ---- the versions met, with their dependencies
 
-module _ (preferred : List (List ℕ × List Candidate)) (owners : List OwnerName) where
+module _ (preferred : List (List ℕ × List Candidate)) (owners : List Owner) where
   -- the pick of a dependency is the owner at this place, or there is none
   abbrev pub IsPick : Dependency → Option ℕ → Type 0
   IsPick d None = first_match d (candidates_of preferred d.real_name) ≡ None
@@ -81,13 +81,13 @@ module _ (preferred : List (List ℕ × List Candidate)) (owners : List OwnerNam
     pub picks : (i : ℕ) (d : Dependency) (target : Option ℕ) → slice_get ds i ≡ Some d → slice_get targets i ≡ Some target → IsPick d target
 
   -- what stands at place n: the owner with the picks of all its dependencies; the root alone is here from the start
-  pub record IsNode (q : Problem) (n : ℕ) (o : OwnerName) (v : NodeView) : Type 0 where
+  pub record IsNode (q : Problem) (n : ℕ) (o : Owner) (v : NodeView) : Type 0 where
     pub brings : v.brings ≡ owner_brings q o
     pub starts : v.starts ≡ nat_eq n 0
     pub picks : ArePicks (v.brings).dependencies v.targets
 
   abbrev pub AreNodes : Problem → List NodeView → Type 0
-  AreNodes q nodes = (n : ℕ) (o : OwnerName) (v : NodeView) → slice_get owners n ≡ Some o → slice_get nodes n ≡ Some v → IsNode q n o v
+  AreNodes q nodes = (n : ℕ) (o : Owner) (v : NodeView) → slice_get owners n ≡ Some o → slice_get nodes n ≡ Some v → IsNode q n o v
 
   -- the root and versions, each once, and all that their picks lead to
   pub record IsMet (q : Problem) (nodes : List NodeView) : Type 0 where
@@ -108,7 +108,7 @@ all_met nodes enabled = list_all (λ p. are_met (p.0).targets.items (p.1).items)
 -- ---- the content of those that are here
 
 -- the package that an owner is, with this list
-abbrev pub package_of : Problem → OwnerName → List ℕ → Package
+abbrev pub package_of : Problem → Owner → List ℕ → Package
 package_of q the_root list = record { name = q.name; version = q.version; source = None; checksum = None; list = list }
 package_of q (version_of name v) list = record {
   name = name;
@@ -129,7 +129,7 @@ abbrev pub kept_views : List Kept → List Placed
 kept_views ks = map kept_view ks
 
 -- the package at a place that is here
-abbrev pub package_if : Problem → Bool → Option OwnerName → Option Package
+abbrev pub package_if : Problem → Bool → Option Owner → Option Package
 package_if q false o = None
 package_if q true o = option_map (λ n. package_of q n []) o
 
@@ -141,14 +141,14 @@ kept_with ks (Some p) n = ks ++ (p, n) ∷ []
 abbrev pub places_in : List Placed → List ℕ
 places_in ks = map (λ k. k.1) ks
 
-module _ (q : Problem) (owners : List OwnerName) where
+module _ (q : Problem) (owners : List Owner) where
   -- some owner stands at place n
   abbrev pub IsPlace : ℕ → Type 0
-  IsPlace n = (o : OwnerName) × (slice_get owners n ≡ Some o)
+  IsPlace n = (o : Owner) × (slice_get owners n ≡ Some o)
 
   -- the package is the owner at its place
   abbrev pub IsPackage : Placed → Type 0
-  IsPackage k = (o : OwnerName) × (slice_get owners k.1 ≡ Some o) × (k.0 ≡ package_of q o (k.0).list)
+  IsPackage k = (o : Owner) × (slice_get owners k.1 ≡ Some o) × (k.0 ≡ package_of q o (k.0).list)
 
   -- a package for each owner that is here, among the first n
   pub record AreKept (here : List Bool) (n : ℕ) (ks : List Placed) : Type 0 where
@@ -227,7 +227,7 @@ module _ (nodes : List NodeView) (enabled : List (List Bool)) where
   AreListed ks ps = AreBeside (λ k p. IsWithList (λ n r. (s : ℕ) × LeadsFrom n s × (slice_get (places_in ks) r ≡ Some s)) k p) ks ps
 
   -- The content has the owners at these places, those that are here, and in each list those to which enabled dependencies lead.
-  pub record IsBuilt (q : Problem) (owners : List OwnerName) (here : List Bool) (content : Content) : Type 0 where
+  pub record IsBuilt (q : Problem) (owners : List Owner) (here : List Bool) (content : Content) : Type 0 where
     pub is_content : IsContent content
     -- where each package stood among those met
     pub places : List ℕ

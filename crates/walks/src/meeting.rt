@@ -2,7 +2,7 @@
 
 ghost use Rattle.std.specs.Prelude.{◌≡◌, ◌<◌, ◌^◌, length, IfOk, OnOk, Some, slice_get};
 ghost use Rattle.features.specs.Views.{dependency_view, dependency_views};
-ghost use Rattle.model.specs.Vertices.{OwnerName, owner_brings};
+ghost use Rattle.model.specs.Vertices.{Owner, owner_brings};
 ghost use Rattle.facts.specs.Graphs.{brings_view, node_views};
 ghost use Rattle.catalogue.specs.Problems.{problem_in};
 ghost use Rattle.walks.specs.Preferred.{preferred_in};
@@ -12,7 +12,7 @@ use crate::picking::pick;
 use crate::stop::{Stop, store_holds};
 use catalogue::Catalogue;
 use facts::Node;
-use features::{Dependency, Owner};
+use features::{Dependency, Summary};
 use indexmap::IndexSet;
 use manifest::Manifest;
 use std::alloc::{AllocError, Global};
@@ -57,24 +57,24 @@ fn brings_at<'a>(
     catalogue: &'a Catalogue,
     stops: &[Stop],
     place: usize,
-) -> Option<&'a Owner>
+) -> Option<&'a Summary>
     requires { AreStops catalogue.now stops.now }
-    ensures { (o : OwnerName) → slice_get (owners_of catalogue.now stops.now) place ≡ Some o → brings_view result ≡ owner_brings (problem_in manifest.now catalogue.now) o }
+    ensures { (o : Owner) → slice_get (owners_of catalogue.now stops.now) place ≡ Some o → brings_view result ≡ owner_brings (problem_in manifest.now catalogue.now) o }
 {
     store_holds(catalogue);
     if place == 0 {
-        return Some(manifest.owner());
+        return Some(manifest.summary());
     }
     let stop = stops.get(place - 1)?;
     let candidate = catalogue.record(&stop.name, stop.place)?;
     Some(&candidate.brings)
 }
 
-fn dependencies_of(brings: Option<&Owner>) -> &[Dependency]
+fn dependencies_of(brings: Option<&Summary>) -> &[Dependency]
     ensures { dependency_views result.now ≡ (brings_view brings.entry).dependencies }
 {
     match brings {
-        Some(owner) => owner.dependencies.as_slice(),
+        Some(summary) => summary.dependencies.as_slice(),
         None => &[],
     }
 }

@@ -1,10 +1,10 @@
 -- A package that the root doesn't need can hold itself: a lists b, and only b asks a for the feature that enables b.
 use Rattle.std.proofs.Common.{◌≡◌, ◌⊎◌, ◌<◌, ℕ, zero, suc, List, [], ◌∷◌, Contains, Some, slice_get, is_some, refl, sym, ap, ◌∙◌, subst, subst₂, inl, inr, true, true≢false, arith}
 use Rattle.std.proofs.lemmas.Option.{none-some, same_Some}
-use Rattle.model.specs.Owner.{Dependency, Entry, Table, feature, dependency, dependency_feature, weak_feature, entries_at, asked_of_target, has_feature, same_text}
+use Rattle.model.specs.Summary.{Dependency, Entry, Table, feature, dependency, dependency_feature, weak_feature, entries_at, asked_of_target, has_feature, same_text}
 use Rattle.model.specs.Facts.{Fact, here, on, enabled, Brings, Lists}
 use Rattle.model.specs.Facts.Holds.{starts, arrives, root_needs, needs, asks, root_wants, turns_on, enables, enables_for, wants, wants_weakly}
-use Rattle.model.specs.Content.{Problem, Content, Package, candidate_of, is_root, owner_at, target_of}
+use Rattle.model.specs.Content.{Problem, Content, Package, candidate_of, is_root, summary_at, target_of}
 use Rattle.model.specs.Selection.{IsValidSelection, IsFact, IsTarget, HasTarget, IsRootAt, IsOther, IsReached}
 use Rattle.model.specs.Selection.IsReached.{root as at_root, listed}
 use Rattle.model.proofs.Lists.{in_none, in_first}
@@ -33,7 +33,7 @@ data IsDep (n i : ℕ) (d : Dependency) : Type 0 where
   of_b : n ≡ 1 → i ≡ 0 → asking text_a (text_f ∷ []) ≡ d → IsDep n i d
   of_demo : n ≡ 2 → i ≡ 0 → on_any text_a ≡ d → IsDep n i d
 
-dep_here : (n i : ℕ) (d : Dependency) → Brings (owner_at held ring) n i d → IsDep n i d
+dep_here : (n i : ℕ) (d : Dependency) → Brings (summary_at held ring) n i d → IsDep n i d
 dep_here zero zero d e = of_a refl refl (same_Some (optional_on text_b) d e)
 dep_here zero (suc i) d e = absurd (none-some d e)
 dep_here (suc zero) zero d e = of_b refl refl (same_Some (asking text_a (text_f ∷ [])) d e)
@@ -59,9 +59,9 @@ asked n t i d g (of_b p k e) to a = (
 )
 asked n t i d g (of_demo p k e) to a = absurd (in_none g (subst (λ (x : Dependency). Contains (asked_of_target x) g) (sym e) a))
 
-entry_of : (n : ℕ) (f : List ℕ) (e : Entry) → (n ≡ 0) × (f ≡ text_f) → Lists (owner_at held ring) n f e → dependency text_b ≡ e
+entry_of : (n : ℕ) (f : List ℕ) (e : Entry) → (n ≡ 0) × (f ≡ text_f) → Lists (summary_at held ring) n f e → dependency text_b ≡ e
 entry_of n f e h (es, at_f, c) =
-    let there : Some (dependency text_b ∷ []) ≡ Some es = subst₂ (λ m g. entries_at g (owner_at held ring m).features ≡ Some es) h.0 h.1 at_f in
+    let there : Some (dependency text_b ∷ []) ≡ Some es = subst₂ (λ m g. entries_at g (summary_at held ring m).features ≡ Some es) h.0 h.1 at_f in
     in_one (dependency text_b) e (subst (λ xs. Contains xs e) (sym (same_Some (dependency text_b ∷ []) es there)) c)
 
 only : (f : Fact ℕ) → IsFact held ring f → Only f
@@ -148,7 +148,7 @@ ring-valid = record {
     | inr h ↦ elim (other_at m r u) [ inl k ↦ absurd (names_differ r p k.1 h.1 (sym name)) | inr k ↦ h.0 ∙ sym k.0 ]
   ];
   met = λ n i d e. met_here n i d (dep_here n i d e.0);
-  features_exist = λ n f h. let x = only (on n f) h in subst₂ (λ m g. has_feature (owner_at held ring m).features g ≡ true) (sym x.0) (sym x.1) refl;
+  features_exist = λ n f h. let x = only (on n f) h in subst₂ (λ m g. has_feature (summary_at held ring m).features g ≡ true) (sym x.0) (sym x.1) refl;
   lists = λ n t p got. (lists_at n t p got, λ x. lists_back n t x.0 p x.1 got (dep_here n x.0 x.1 (x.2).0) x.3);
   reached = reached_at;
 }

@@ -1,7 +1,7 @@
 -- Contents that are no valid selection: two versions of one class, a package that nobody needs, an older package beside the target, no root.
 use Rattle.std.proofs.Common.{◌≡◌, ◌⊎◌, ℕ, zero, suc, [], ◌∷◌, Contains, Some, slice_get, refl, sym, ap, ◌∙◌, subst, inl, inr, true≢false, arith}
 use Rattle.std.proofs.lemmas.Option.{none-some, same_Some}
-use Rattle.model.specs.Owner.{Dependency}
+use Rattle.model.specs.Summary.{Dependency}
 use Rattle.model.specs.Content.{Problem, Content, Package, is_root, target_of}
 use Rattle.model.specs.Selection.{IsValidSelection, IsRootAt, IsReached}
 use Rattle.model.specs.Selection.IsReached.{root, listed}

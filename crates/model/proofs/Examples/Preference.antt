@@ -1,7 +1,7 @@
 -- Which records are candidates, and how they are preferred.
 use Rattle.std.proofs.Common.{◌≡◌, List, [], ◌∷◌, Bool, true, false, Option, Some, None, refl}
 use Rattle.semver.specs.Parse.{Parts}
-use Rattle.model.specs.Owner.{nothing}
+use Rattle.model.specs.Summary.{nothing}
 use Rattle.model.specs.Candidates.{RustVersion, Record, newest, rust_first, preferred_rust, is_locked, oldest_first, candidates_among, by_preference}
 use Rattle.model.proofs.Examples.Small.{text_a, registry, digits, version_1_0, version_1_1, version_2_0, locked}
 

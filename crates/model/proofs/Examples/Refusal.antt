@@ -2,7 +2,7 @@
 use Rattle.std.proofs.Common.{[], ◌∷◌, List, refl}
 use Rattle.model.specs.Content.{Problem}
 use Rattle.model.specs.Vertices.{the_root, root, pkg, dep, feat, ask, absent, present}
-use Rattle.model.specs.Axioms.{X0, X1, at, without_full}
+use Rattle.model.specs.Axioms.{Root, Needed, at, without_full}
 use Rattle.model.specs.Axioms.IsInstance.{root_is, needed}
 use Rattle.model.specs.Derivation.{SameTerms, IsCombined, Step, given, combine, none_yet, one_more, IsAccepted}
 use Rattle.model.proofs.Examples.Small.{text_a, on_any, asked_by_demo}
@@ -12,10 +12,10 @@ abbrev without : Problem
 without = asked_by_demo (on_any text_a ∷ []) []
 
 abbrev step0 : Step
-step0 = given X0 (at root (absent ∷ []) ∷ [])
+step0 = given Root (at root (absent ∷ []) ∷ [])
 
 abbrev step1 : Step
-step1 = given X1 (at root (present ∷ []) ∷ [])
+step1 = given Needed (at root (present ∷ []) ∷ [])
 
 abbrev step2 : Step
 step2 = combine 0 1 root []
@@ -23,7 +23,7 @@ step2 = combine 0 1 root []
 abbrev refusal : List Step
 refusal = step0 ∷ step1 ∷ step2 ∷ []
 
--- the instance of X1 without its full term
+-- the instance of Needed without its full term
 same1 : SameTerms (at root (present ∷ []) ∷ []) (without_full without (at root (present ∷ []) ∷ at (dep the_root 0) (absent ∷ []) ∷ []))
 same1 root = λ s. refl
 same1 (pkg n k) = tt

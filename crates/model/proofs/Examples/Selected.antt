@@ -2,11 +2,11 @@
 use Rattle.std.proofs.Common.{◌≡◌, ◌≢◌, ◌⊎◌, ℕ, zero, suc, List, [], ◌∷◌, ◌<◌, Less, Contains, Some, slice_get, is_some, refl, sym, ap, ◌∙◌, subst, inl, inr, true, true≢false, arith}
 use Rattle.std.specs.List.{All, AllPairs}
 use Rattle.std.proofs.lemmas.Option.{none-some, same_Some}
-use Rattle.model.specs.Owner.{Dependency, KnowsFeatures, asked_of_target}
+use Rattle.model.specs.Summary.{Dependency, KnowsFeatures, asked_of_target}
 use Rattle.model.specs.Order.{precedence}
 use Rattle.model.specs.Facts.{enabled}
 use Rattle.model.specs.Facts.Holds.{starts, root_needs}
-use Rattle.model.specs.Content.{Problem, Content, Package, Candidate, candidate_of, is_root, owner_at, target_of}
+use Rattle.model.specs.Content.{Problem, Content, Package, Candidate, candidate_of, is_root, summary_at, target_of}
 use Rattle.model.specs.Selection.{IsValidSelection, IsFact, IsTarget, IsRootAt, IsOther, IsReached}
 use Rattle.model.specs.Selection.IsReached.{root as at_root, listed}
 use Rattle.model.specs.WellFormed.{IsCatalogue}
@@ -22,13 +22,13 @@ serving = asked_by_demo (on_any text_a ∷ []) ((text_a, one_candidate ∷ []) �
 abbrev pub selected : Content
 selected = locked text_a version_1_0 [] ∷ demo (0 ∷ []) ∷ []
 
-one_dep : (n i : ℕ) (d : Dependency) → slice_get (owner_at serving selected n).dependencies i ≡ Some d → (n ≡ 1) × (i ≡ 0) × (on_any text_a ≡ d)
+one_dep : (n i : ℕ) (d : Dependency) → slice_get (summary_at serving selected n).dependencies i ≡ Some d → (n ≡ 1) × (i ≡ 0) × (on_any text_a ≡ d)
 one_dep zero i d e = absurd (none-some d e)
 one_dep (suc zero) zero d e = (refl, refl, same_Some (on_any text_a) d e)
 one_dep (suc zero) (suc i) d e = absurd (none-some d e)
 one_dep (suc (suc n)) i d e = absurd (none-some d e)
 
-asks_none : (n i : ℕ) (d : Dependency) (f : List ℕ) → slice_get (owner_at serving selected n).dependencies i ≡ Some d → Contains (asked_of_target d) f → ⊥
+asks_none : (n i : ℕ) (d : Dependency) (f : List ℕ) → slice_get (summary_at serving selected n).dependencies i ≡ Some d → Contains (asked_of_target d) f → ⊥
 asks_none n i d f b c = in_none f (subst (λ x. Contains (asked_of_target x) f) (sym (one_dep n i d b).2) c)
 
 root_at : IsRootAt serving selected 1

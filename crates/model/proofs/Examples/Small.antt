@@ -5,10 +5,10 @@ use Rattle.std.specs.List.{All, AllPairs, list_all}
 use Rattle.std.proofs.lemmas.Bool.{ltb-true}
 use Rattle.std.proofs.lemmas.List.Kept.{AllPairs-cons}
 use Rattle.semver.specs.Parse.{Parts}
-use Rattle.model.specs.Owner.{Dependency, Table, asked_of_target}
+use Rattle.model.specs.Summary.{Dependency, Table, asked_of_target}
 use Rattle.model.specs.Facts.{Brings, Fact, here, on, enabled}
 use Rattle.model.specs.Facts.Holds.{starts, arrives, root_needs, needs, asks, root_wants, turns_on, enables, enables_for, wants, wants_weakly}
-use Rattle.model.specs.Content.{Package, Content, Candidate, Problem, owner_at}
+use Rattle.model.specs.Content.{Package, Content, Candidate, Problem, summary_at}
 use Rattle.model.specs.Selection.{IsFact}
 use Rattle.model.specs.Order.{package_cmp}
 use Rattle.model.specs.WellFormed.{IsContent}
@@ -117,7 +117,7 @@ formed content h =
     }
 
 -- where nothing asks for a feature, none is on
-module _ (q : Problem) (content : Content) (asks_none : (n i : ℕ) (d : Dependency) (f : List ℕ) → Brings (owner_at q content) n i d → Contains (asked_of_target d) f → ⊥)
+module _ (q : Problem) (content : Content) (asks_none : (n i : ℕ) (d : Dependency) (f : List ℕ) → Brings (summary_at q content) n i d → Contains (asked_of_target d) f → ⊥)
     (root_asks_none : q.root_asks ≡ []) where
   abbrev NoFeature : Fact ℕ → Type 0
   NoFeature (here n) = Unit {0}

@@ -1,6 +1,6 @@
 -- Feature tables with implicit features and `default`, and each of their faults.
 use Rattle.std.proofs.Common.{◌≡◌, List, [], ◌∷◌, true, false, Ok, Err, refl}
-use Rattle.model.specs.Owner.{feature, dependency, weak_feature}
+use Rattle.model.specs.Summary.{feature, dependency, weak_feature}
 use Rattle.model.specs.Tables.{DepName, default_feature, with_implicit, no_such_feature, no_such_dependency, not_optional, first_with, table_of}
 use Rattle.model.proofs.Examples.Small.{text_b, text_f, text_g, text_h}
 

@@ -1,10 +1,10 @@
 -- A weak entry asks the target of its dependency for a feature where something else enables the dependency, and does nothing where not.
 use Rattle.std.proofs.Common.{◌≡◌, ◌⊎◌, ℕ, zero, suc, List, [], ◌∷◌, Contains, Some, refl, sym, ap, ◌∙◌, subst, subst₂, inl, inr, true≢false, arith}
 use Rattle.std.proofs.lemmas.Option.{none-some, same_Some}
-use Rattle.model.specs.Owner.{Dependency, Entry, Table, feature, dependency, dependency_feature, weak_feature, entries_at, asked_of_target}
+use Rattle.model.specs.Summary.{Dependency, Entry, Table, feature, dependency, dependency_feature, weak_feature, entries_at, asked_of_target}
 use Rattle.model.specs.Facts.{Fact, here, on, enabled, Brings, Lists}
 use Rattle.model.specs.Facts.Holds.{starts, arrives, root_needs, needs, asks, root_wants, turns_on, enables, enables_for, wants, wants_weakly}
-use Rattle.model.specs.Content.{Problem, Content, is_root, owner_at, target_of}
+use Rattle.model.specs.Content.{Problem, Content, is_root, summary_at, target_of}
 use Rattle.model.specs.Selection.{IsFact, IsRootAt, HasTarget}
 use Rattle.model.proofs.Lists.{in_none, in_first, in_rest}
 use Rattle.model.proofs.Examples.Small.{text_a, text_b, text_f, text_g, text_h, version_1_0, asking, optional_on, candidate, asked_by_demo, locked, demo, in_one}
@@ -56,7 +56,7 @@ Alone (here n) = Unit {0}
 Alone (on n f) = (n ≡ 0) × (f ≡ text_f)
 Alone (enabled n i) = n ≡ 2
 
-dep_here : (n i : ℕ) (d : Dependency) → Brings (owner_at with_f listing) n i d → ((n ≡ 0) × (optional_on text_b ≡ d)) ⊎ ((n ≡ 2) × (asking text_a (text_f ∷ []) ≡ d))
+dep_here : (n i : ℕ) (d : Dependency) → Brings (summary_at with_f listing) n i d → ((n ≡ 0) × (optional_on text_b ≡ d)) ⊎ ((n ≡ 2) × (asking text_a (text_f ∷ []) ≡ d))
 dep_here zero zero d e = inl (refl, same_Some (optional_on text_b) d e)
 dep_here zero (suc i) d e = absurd (none-some d e)
 dep_here (suc zero) i d e = absurd (none-some d e)
@@ -71,7 +71,7 @@ root_place (suc (suc zero)) r = refl
 root_place (suc (suc (suc n))) (p, got, is) = absurd (none-some p got)
 
 -- the root's dependency asks a for f
-asked_by_root : (n t i : ℕ) (d : Dependency) (g : List ℕ) → n ≡ 2 → Brings (owner_at with_f listing) n i d → HasTarget with_f listing n d t → Contains (asked_of_target d) g
+asked_by_root : (n t i : ℕ) (d : Dependency) (g : List ℕ) → n ≡ 2 → Brings (summary_at with_f listing) n i d → HasTarget with_f listing n d t → Contains (asked_of_target d) g
     → (t ≡ 0) × (g ≡ text_f)
 asked_by_root n t i d g at_root b to a = elim (dep_here n i d b) [
   | inl h ↦ absurd (let x : 0 ≡ 2 = sym h.0 ∙ at_root in omega arith)
@@ -82,9 +82,9 @@ asked_by_root n t i d g at_root b to a = elim (dep_here n i d b) [
 ]
 
 -- f has the one entry
-entry_of : (n : ℕ) (f : List ℕ) (e : Entry) → (n ≡ 0) × (f ≡ text_f) → Lists (owner_at with_f listing) n f e → weak_entry ≡ e
+entry_of : (n : ℕ) (f : List ℕ) (e : Entry) → (n ≡ 0) × (f ≡ text_f) → Lists (summary_at with_f listing) n f e → weak_entry ≡ e
 entry_of n f e h (es, at_f, c) =
-    let here : Some (weak_entry ∷ []) ≡ Some es = subst₂ (λ m g. entries_at g (owner_at with_f listing m).features ≡ Some es) h.0 h.1 at_f in
+    let here : Some (weak_entry ∷ []) ≡ Some es = subst₂ (λ m g. entries_at g (summary_at with_f listing m).features ≡ Some es) h.0 h.1 at_f in
     in_one weak_entry e (subst (λ xs. Contains xs e) (sym (same_Some (weak_entry ∷ []) es here)) c)
 
 alone : (f : Fact ℕ) → IsFact with_f listing f → Alone f

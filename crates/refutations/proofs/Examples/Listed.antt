@@ -3,14 +3,14 @@ use Rattle.std.proofs.Common.{◌≡◌, [], ◌∷◌, filter, Bool, true, fals
 use Rattle.std.specs.Prelude.{codes}
 use Rattle.model.specs.Content.{Problem}
 use Rattle.model.specs.Selection.{major}
-use Rattle.model.specs.Vertices.{OwnerName, the_root, version_of}
+use Rattle.model.specs.Vertices.{Owner, the_root, version_of}
 use Rattle.model.specs.Tables.{default_feature}
 use Rattle.refutations.specs.Causes.{Cause, of_root, of_need, of_target, of_feature, of_list, of_newest}
 use Rattle.refutations.specs.Listed.{causes}
 use Rattle.refutations.proofs.Examples.Pieces.{plain, within, from, on, candidate, demo, no_features}
 use Rattle.refutations.proofs.Examples.Thirteen.{text_a, text_b, unmeetable}
 
-abbrev b_1_0_0 : OwnerName
+abbrev b_1_0_0 : Owner
 b_1_0_0 = version_of text_b (plain 1 0 0)
 
 -- the input of the refusal in thirteen steps has twelve

@@ -3,7 +3,7 @@ use Rattle.std.proofs.Common.{◌≡◌, ℕ, List, [], ◌∷◌, true, false, 
 use Rattle.std.specs.Prelude.{codes}
 use Rattle.semver.specs.Parse.{Held, Parts}
 use Rattle.semver.specs.declared.Op.TheVariants as op
-use Rattle.model.specs.Owner.{Dependency, Table}
+use Rattle.model.specs.Summary.{Dependency, Table}
 use Rattle.model.specs.Content.{Problem, Candidate}
 use Rattle.model.specs.Selection.{major}
 use Rattle.model.specs.Vertices.{Vertex, State, in_class}

@@ -4,7 +4,7 @@ use Rattle.std.specs.Prelude.{codes}
 use Rattle.model.specs.Content.{Problem}
 use Rattle.model.specs.Selection.{major}
 use Rattle.model.specs.Vertices.{the_root, version_of, Vertex, root, pkg, dep, absent, present, version}
-use Rattle.model.specs.Axioms.{Term, at, X0, X1, X2}
+use Rattle.model.specs.Axioms.{Term, at, Root, Needed, Target}
 use Rattle.model.specs.Derivation.{Step, given, combine}
 use Rattle.refutations.specs.Checks.{not_an_axiom, not_combined, not_final, refusal}
 use Rattle.refutations.proofs.Examples.Pieces.{plain, exactly, within, on, candidate, demo, no_features, class_1, one}
@@ -31,18 +31,18 @@ b_needs_a = dep (version_of text_b (plain 1 0 0)) 0
 
 -- the steps before the last but two, those, and the end
 abbrev on_a : List Step
-on_a = given X0 (one root absent ∷ [])
-    ∷ given X1 (one (dep the_root 0) absent ∷ one root present ∷ [])
-    ∷ given X2 (one (dep the_root 0) class_1 ∷ at a (absent ∷ version (plain 1 1 0) ∷ []) ∷ [])
+on_a = given Root (one root absent ∷ [])
+    ∷ given Needed (one (dep the_root 0) absent ∷ one root present ∷ [])
+    ∷ given Target (one (dep the_root 0) class_1 ∷ at a (absent ∷ version (plain 1 1 0) ∷ []) ∷ [])
     ∷ combine 1 2 (dep the_root 0) (at a (absent ∷ version (plain 1 1 0) ∷ []) ∷ one root present ∷ [])
     ∷ []
 
 abbrev on_b : List Step
-on_b = given X1 (one (dep the_root 1) absent ∷ one root present ∷ [])
-    ∷ given X2 (one (dep the_root 1) class_1 ∷ one b absent ∷ [])
+on_b = given Needed (one (dep the_root 1) absent ∷ one root present ∷ [])
+    ∷ given Target (one (dep the_root 1) class_1 ∷ one b absent ∷ [])
     ∷ combine 4 5 (dep the_root 1) (one b absent ∷ one root present ∷ [])
-    ∷ given X1 (one b_needs_a absent ∷ one b (version (plain 1 0 0)) ∷ [])
-    ∷ given X2 (one b_needs_a class_1 ∷ at a (absent ∷ version (plain 1 0 0) ∷ []) ∷ [])
+    ∷ given Needed (one b_needs_a absent ∷ one b (version (plain 1 0 0)) ∷ [])
+    ∷ given Target (one b_needs_a class_1 ∷ at a (absent ∷ version (plain 1 0 0) ∷ []) ∷ [])
     ∷ combine 7 8 b_needs_a (at a (absent ∷ version (plain 1 0 0) ∷ []) ∷ one b (version (plain 1 0 0)) ∷ [])
     ∷ []
 
@@ -67,11 +67,11 @@ pub state_missing : refusal unmeetable (with_eleventh (one a absent ∷ one root
 state_missing = refl
 
 -- a state less in an axiom's step
-pub axiom_missing : refusal unmeetable (given X2 (one (dep the_root 0) class_1 ∷ one a absent ∷ []) ∷ []) ≡ Some (0, not_an_axiom)
+pub axiom_missing : refusal unmeetable (given Target (one (dep the_root 0) class_1 ∷ one a absent ∷ []) ∷ []) ≡ Some (0, not_an_axiom)
 axiom_missing = refl
 
 -- one kind taken for another
-pub other_kind : refusal unmeetable (given X1 (one root absent ∷ []) ∷ []) ≡ Some (0, not_an_axiom)
+pub other_kind : refusal unmeetable (given Needed (one root absent ∷ []) ∷ []) ≡ Some (0, not_an_axiom)
 other_kind = refl
 
 -- the last step has a term
@@ -82,9 +82,9 @@ pub nothing_said : refusal unmeetable [] ≡ Some (0, not_final)
 nothing_said = refl
 
 -- a step that combines itself
-pub itself : refusal unmeetable (given X0 (one root absent ∷ []) ∷ combine 0 1 root [] ∷ []) ≡ Some (1, not_combined)
+pub itself : refusal unmeetable (given Root (one root absent ∷ []) ∷ combine 0 1 root [] ∷ []) ≡ Some (1, not_combined)
 itself = refl
 
 -- the vertex need not be spoken of, nor be there: both terms stay
-pub elsewhere : refusal unmeetable (given X0 (one root absent ∷ []) ∷ combine 0 0 (pkg (codes "z") (major 7)) (one root absent ∷ []) ∷ []) ≡ Some (1, not_final)
+pub elsewhere : refusal unmeetable (given Root (one root absent ∷ []) ∷ combine 0 0 (pkg (codes "z") (major 7)) (one root absent ∷ []) ∷ []) ≡ Some (1, not_final)
 elsewhere = refl

@@ -8,5 +8,5 @@ use Rattle.axioms.proofs.asking.some_entry_asks.Goals as goal
 
 pub returns-in-Some : goal.returns-in-Some
 returns-in-Some c = c.some_row_asks.ensures
-    ∙ owner_asks_is c.args.name.now c.args.feature.now (features.owner_view c.in-Some.owner.now) (owner_brings (problem c.args.known.now) (version_of c.args.owner.now (parts_of c.args.version.now)))
+    ∙ owner_asks_is c.args.name.now c.args.feature.now (features.summary_view c.in-Some.owner.now) (owner_brings (problem c.args.known.now) (version_of c.args.owner.now (parts_of c.args.version.now)))
     (sym (ap brings_view c.in-Some.is) ∙ c.brings.ensures)

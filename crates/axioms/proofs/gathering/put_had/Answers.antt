@@ -1,6 +1,6 @@
 use Rattle.std.proofs.Common.{◌≤◌, sym, subst}
 use Rattle.model.specs.Content.{Candidate, candidates_of}
-use Rattle.model.specs.Owner.{has_feature, same_text}
+use Rattle.model.specs.Summary.{has_feature, same_text}
 use Rattle.catalogue.specs.Stores.{rows_by_name}
 use Rattle.axioms.specs.Pairs.{has_pair}
 use Rattle.axioms.proofs.Featured.{counted}

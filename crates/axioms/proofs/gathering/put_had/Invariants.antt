@@ -1,7 +1,7 @@
 use Rattle.std.proofs.Common.{◌≡◌, ◌||◌, ◌&&◌, ℕ, List, drop}
 use Rattle.std.specs.List.{list_any}
 use Rattle.model.specs.Content.{Candidate, candidates_of}
-use Rattle.model.specs.Owner.{has_feature, same_text}
+use Rattle.model.specs.Summary.{has_feature, same_text}
 use Rattle.catalogue.specs.Stores.{rows_by_name}
 use Rattle.axioms.specs.Gathered.{is_had}
 use Rattle.axioms.specs.Pairs.{has_pair}

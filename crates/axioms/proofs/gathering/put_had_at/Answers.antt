@@ -1,7 +1,7 @@
 use Rattle.std.proofs.Common.{◌∙◌, ◌&&◌, ap, sym, option_map}
 use Rattle.std.specs.Borrow.{Bor}
 use Rattle.std.specs.List.{list_any}
-use Rattle.model.specs.Owner.{Owner, has_feature, same_text}
+use Rattle.model.specs.Summary.{Summary, has_feature, same_text}
 use Rattle.refutations.specs.Causes.{same_pair}
 use Rattle.catalogue.specs.Views.{said_by}
 use Rattle.catalogue.specs.declared.candidate.Candidate.{Candidate}
@@ -15,12 +15,12 @@ returns-in-Some c =
     adds_ok c.put_table.result c.args.known.now c.put_table.new.known _ _
     (λ n f. ap (λ name. list_any (λ row. same_pair (n, f) (name, row.0)) table) c.as_str.ensures.text ∙ named_rows n f c.args.name.now table
     ∙ ap (λ b. same_text n c.args.name.now && b)
-    (one_at (λ (o : Owner). has_feature o.features f) c.args.catalogue.now c.args.name.now c.args.place (said_by c.in-Some.candidate.now)
+    (one_at (λ (o : Summary). has_feature o.features f) c.args.catalogue.now c.args.name.now c.args.place (said_by c.in-Some.candidate.now)
     (sym (ap (option_map (λ (x : Bor Candidate). said_by x.now)) c.in-Some.is) ∙ c.record.ensures)))
     c.put_table.ensures
 
 pub returns-in-None : goal.returns-in-None
 returns-in-None c =
     adds_none c.args.known.now _ (λ n f. and-none (same_text n c.args.name.now) _
-    (none_at (λ (o : Owner). has_feature o.features f) c.args.catalogue.now c.args.name.now c.args.place
+    (none_at (λ (o : Summary). has_feature o.features f) c.args.catalogue.now c.args.name.now c.args.place
     (sym (ap (option_map (λ (x : Bor Candidate). said_by x.now)) c.in-None.is) ∙ c.record.ensures)))

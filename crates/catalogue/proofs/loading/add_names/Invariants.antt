@@ -1,6 +1,6 @@
 use Rattle.std.proofs.Common.{◌≡◌, drop}
 use Rattle.indexmap.specs.IndexSet.{insert_all}
-use Rattle.model.specs.Owner.{same_text}
+use Rattle.model.specs.Summary.{same_text}
 use Rattle.features.specs.Views.{dependency_views}
 use Rattle.catalogue.specs.Runs.{meant_by}
 use Rattle.catalogue.proofs.loading.add_names.Given as goal

@@ -1,6 +1,6 @@
 use Rattle.std.proofs.Common.{◌≡◌, drop}
 use Rattle.indexmap.specs.IndexSet.{insert_all}
-use Rattle.model.specs.Owner.{same_text}
+use Rattle.model.specs.Summary.{same_text}
 use Rattle.catalogue.specs.Loads.{needs_of}
 use Rattle.catalogue.proofs.loading.add_needed.Given as goal
 

@@ -5,7 +5,7 @@ use Rattle.indexmap.specs.IndexSet.{insert_all}
 use Rattle.classes.specs.RustVersions.{rust_version_view}
 use Rattle.features.specs.Views.{dependency_views}
 use Rattle.index_reader.specs.Views.{skip_view}
-use Rattle.model.specs.Owner.{same_text}
+use Rattle.model.specs.Summary.{same_text}
 use Rattle.catalogue.specs.Loads.{packages_of, needs_of, IsLoaded}
 use Rattle.catalogue.specs.Stores.{rows_view}
 use Rattle.catalogue.specs.Runs.{meant_by}

@@ -1,6 +1,6 @@
 use Rattle.std.proofs.Common.{◌∙◌, nat_eq}
 use Rattle.semver.specs.Identifiers.{parts_of}
-use Rattle.model.specs.Owner.{same_text}
+use Rattle.model.specs.Summary.{same_text}
 use Rattle.catalogue.proofs.Found.{and-five}
 use Rattle.catalogue.proofs.store.is_same.Goals as goal
 

@@ -4,7 +4,7 @@ use Rattle.std.specs.declared.alloc.Global.{Global}
 use Rattle.features.specs.Tables.{rows_of}
 use Rattle.features.specs.EntryViews.{entry_views}
 use Rattle.features.specs.declared.entry.Entry.{Entry}
-use Rattle.model.specs.Owner as model
+use Rattle.model.specs.Summary as model
 use Rattle.chains.specs.declared.rule.Rule.{Rule}
 use Rattle.facts.specs.Places.{place_view, place_views}
 use Rattle.facts.specs.RuleLists.{number_on, entries_rules, feature_rules}

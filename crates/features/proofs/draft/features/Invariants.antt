@@ -1,6 +1,6 @@
 use Rattle.std.proofs.Common.{◌≡◌, ◌||◌, ℕ, List}
 use Rattle.std.specs.List.{list_any}
-use Rattle.model.specs.Owner.{has_feature, same_text}
+use Rattle.model.specs.Summary.{has_feature, same_text}
 use Rattle.features.specs.Drafts.{has_text}
 use Rattle.features.specs.Tables.{rows_of}
 use Rattle.features.proofs.draft.features.Given as goal

@@ -1,5 +1,5 @@
 use Rattle.std.proofs.Common.{◌∙◌, ◌&&◌, ap}
-use Rattle.model.specs.Owner.{same_text}
+use Rattle.model.specs.Summary.{same_text}
 use Rattle.features.specs.Drafts.{has_text}
 use Rattle.axioms.specs.Pairs.{keys_if}
 use Rattle.axioms.proofs.GatherLemmas.{adds_none, adds_ok, and-none, named_keys}

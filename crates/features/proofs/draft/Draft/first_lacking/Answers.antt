@@ -1,6 +1,6 @@
 use Rattle.std.proofs.Common.{rules, ◌≡◌, Bool, true, false, ◌∙◌}
 use Rattle.std.specs.List.{list_any}
-use Rattle.model.specs.Owner as model
+use Rattle.model.specs.Summary as model
 use Rattle.model.specs.Tables.{has_fault}
 use Rattle.features.specs.Drafts.{lack_view}
 use Rattle.features.specs.EntryViews.{entry_view}

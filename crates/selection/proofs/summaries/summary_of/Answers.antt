@@ -3,7 +3,7 @@ use Rattle.lockfile.specs.Views.{package_view}
 use Rattle.catalogue.specs.Problems.{problem_in}
 use Rattle.selection.proofs.Lookups.{brings_seen, root_brings, other_brings}
 use Rattle.model.specs.Content.{candidate_of}
-use Rattle.selection.proofs.owners.owner_of.Goals as goal
+use Rattle.selection.proofs.summaries.summary_of.Goals as goal
 
 pub returns-then-is_root : goal.returns-then-is_root
 returns-then-is_root c =

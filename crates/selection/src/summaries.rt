@@ -2,8 +2,8 @@
 
 ghost use Rattle.std.specs.Prelude.{◌≡◌, Some, option_map, is_some};
 ghost use Rattle.semver.specs.Identifiers.{parts_of};
-ghost use Rattle.model.specs.Content.{is_root, candidate_of, owner_of, same_option, same_version};
-ghost use Rattle.features.specs.Views.{owner_view};
+ghost use Rattle.model.specs.Content.{is_root, candidate_of, summary_of, same_option, same_version};
+ghost use Rattle.features.specs.Views.{summary_view};
 ghost use Rattle.lockfile.specs.Views.{package_view};
 ghost use Rattle.manifest.specs.Manifests.{ManifestView};
 ghost use Rattle.catalogue.specs.Problems.{problem_in};
@@ -12,7 +12,7 @@ ghost use Rattle.facts.specs.Graphs.{brings_view};
 ghost use Rattle.selection.specs.Graphs.{is_known};
 
 use catalogue::Catalogue;
-use features::Owner;
+use features::Summary;
 use lockfile::Package;
 use manifest::Manifest;
 use semver::Version;
@@ -34,24 +34,24 @@ fn is_same(a: &Version, b: &Version) -> bool
 }
 
 /// What a package brings that is the root or a candidate.
-pub(crate) fn owner_of<'a>(
+pub(crate) fn summary_of<'a>(
     manifest: &'a Manifest,
     catalogue: &'a Catalogue,
     locked: &Package,
-) -> Option<&'a Owner>
-    ensures brings { brings_view result ≡ owner_of (problem_in manifest.entry.now catalogue.entry.now) (package_view locked.now) }
+) -> Option<&'a Summary>
+    ensures brings { brings_view result ≡ summary_of (problem_in manifest.entry.now catalogue.entry.now) (package_view locked.now) }
     ensures known { is_some result ≡ is_known (problem_in manifest.entry.now catalogue.entry.now) (package_view locked.now) }
 {
     if is_root(manifest, locked) {
-        Some(manifest.owner())
+        Some(manifest.summary())
     } else {
         candidate_of(catalogue, locked)
     }
 }
 
 /// What a package brings that is a candidate: of the run's source, with the index's checksum.
-fn candidate_of<'a>(catalogue: &'a Catalogue, locked: &Package) -> Option<&'a Owner>
-    ensures { (m : ManifestView) → option_map (λ o. owner_view o.now) result ≡ option_map (λ c. c.brings) (candidate_of (problem_in m catalogue.entry.now) (package_view locked.now)) }
+fn candidate_of<'a>(catalogue: &'a Catalogue, locked: &Package) -> Option<&'a Summary>
+    ensures { (m : ManifestView) → option_map (λ o. summary_view o.now) result ≡ option_map (λ c. c.brings) (candidate_of (problem_in m catalogue.entry.now) (package_view locked.now)) }
 {
     if !is_text(locked.source(), catalogue.source()) {
         return None;

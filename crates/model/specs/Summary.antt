@@ -40,12 +40,12 @@ abbrev pub KnowsFeatures : Table → Type 0
 KnowsFeatures table = (f g : List ℕ) (es : List Entry) → entries_at f table ≡ Some es → Contains es (feature g) → has_feature table g ≡ true
 
 -- the root or a candidate: what it brings, without the dependencies that take no part
-pub record Owner : Type 0 where
+pub record Summary : Type 0 where
   pub dependencies : List Dependency
   pub features : Table
 
 -- what a package brings that is neither
-abbrev pub nothing : Owner
+abbrev pub nothing : Summary
 nothing = record { dependencies = []; features = [] }
 
 -- the features that a dependency asks its target for

@@ -2,7 +2,7 @@ use Rattle.std.proofs.Common.{◌∙◌, sym, true, false}
 use Rattle.lockfile.specs.Views.{package_view}
 use Rattle.catalogue.specs.Views.{said_by}
 use Rattle.selection.proofs.Lookups.{not_found, is_found}
-use Rattle.selection.proofs.owners.candidate_of.Goals as goal
+use Rattle.selection.proofs.summaries.candidate_of.Goals as goal
 
 pub returns-in_err-candidate : goal.returns-in_err-candidate
 returns-in_err-candidate c =
