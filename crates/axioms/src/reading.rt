@@ -11,7 +11,7 @@ use features::{FeatureName, PackageName};
 use semver::Version;
 
 /// The owner that holds.
-fn owner<'a>(term: &Term<'a>) -> Option<Owner<'a>>
+fn owner_in<'a>(term: &Term<'a>) -> Option<Owner<'a>>
     ensures { option_map owner_view result ≡ read_term owner_read (term_view term.now) }
 {
     match (term.vertex, term.states.first()) {
@@ -100,7 +100,7 @@ pub(crate) fn first_owner<'a>(terms: &[Term<'a>]) -> Option<Owner<'a>>
     ensures { option_map owner_view result ≡ first_read owner_read (term_views terms.now) }
 {
     'terms: for term in terms.iter() {
-        if let Some(found) = owner(term) {
+        if let Some(found) = owner_in(term) {
             return Some(found);
         }
     }

@@ -115,7 +115,7 @@ fn dependency(alloc: Global, text: &str) -> Result<Vertex, LineFault>
     ensures { Gives line_wants_memory vertex_view result (dependency_of_text text.now) }
 {
     let (owner_text, index_text) = around_space(text)?;
-    let owner = owner(alloc, owner_text)?;
+    let owner = read_owner(alloc, owner_text)?;
     let index = index(index_text)?;
     Ok(Vertex::Dependency(owner, index))
 }
@@ -147,7 +147,7 @@ fn ask(alloc: Global, text: &str) -> Result<Vertex, LineFault>
 }
 
 /// `root` or `NAME@VERSION`
-fn owner(alloc: Global, text: &str) -> Result<Owner, LineFault>
+fn read_owner(alloc: Global, text: &str) -> Result<Owner, LineFault>
     ensures { Gives line_wants_memory owner_view result (owner_of_text text.now) }
 {
     if text == "root" {
