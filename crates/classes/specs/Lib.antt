@@ -2,4 +2,5 @@ pub use Rattle.model.specs.Order
 pub use Rattle.model.specs.Selection
 pub mod Classes
 pub mod Groups
+pub mod Numbers
 pub mod RustVersions

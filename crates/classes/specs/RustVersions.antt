@@ -1,18 +1,8 @@
 -- Which texts are Rust versions (Cargo book, "The Manifest Format", `rust-version`).
-use Rattle.std.specs.Prelude.{ℕ, List, Bool, ◌&&◌, ◌||◌, not, ◌==◌, ◌^◌, if◌then◌else◌, nat_lt, nat_le, length, slice_index, Option, Some, None, option_map, option_and_then}
-use Rattle.std.specs.Char.{is_ascii_digit}
-use Rattle.std.specs.List.{list_all}
-use Rattle.std.specs.Str.Parse.{digits_value}
+use Rattle.std.specs.Prelude.{ℕ, List, Option, Some, None, option_map, option_and_then}
 use Rattle.features.specs.Entries.{around}
+use Rattle.classes.specs.Numbers.{number_of}
 use Rattle.classes.specs.declared.rust_version.RustVersion.{RustVersion}
-
--- digits without a leading zero
-abbrev pub is_plain_number : List ℕ → Bool
-is_plain_number text = nat_le 1 (length text) && (list_all is_ascii_digit text && (nat_le (length text) 1 || not (slice_index text 0 == 48)))
-
--- a whole number of 64 bits in decimal without leading zeros
-abbrev pub number_of : List ℕ → Option ℕ
-number_of text = if is_plain_number text && nat_lt (digits_value 10 text) (2 ^ 64) then Some (digits_value 10 text) else None
 
 abbrev pub Numbers : Type 0
 Numbers = ℕ × ℕ × ℕ

@@ -1,10 +1,10 @@
 //! The Rust version that a package needs.
 
-ghost use Rattle.std.specs.Prelude.{◌≡◌, ◌&&◌, ◌||◌, not, ◌==◌, length, nat_le, option_map, slice_index};
-ghost use Rattle.std.specs.Char.{is_ascii_digit};
-ghost use Rattle.std.specs.List.{list_all};
+ghost use Rattle.std.specs.Prelude.{◌≡◌, option_map};
 ghost use Rattle.features.specs.Entries.{around};
-ghost use Rattle.classes.specs.RustVersions.{is_plain_number, number_of, patch_after, rust_version_of, rust_version_view};
+ghost use Rattle.classes.specs.RustVersions.{patch_after, rust_version_of, rust_version_view};
+
+use crate::numbers::whole_number;
 
 /// A version of Rust: three numbers, compared one by one (Cargo book, "The Manifest Format", `rust-version`).
 #[derive(Clone, Copy, Debug, PartialEq, Eq, PartialOrd, Ord)]
@@ -23,7 +23,7 @@ impl RustVersion {
         match around_dot(text) {
             Some((major, rest)) => with_major(major, rest),
             None => {
-                let major = number(text)?;
+                let major = whole_number(text)?;
                 Some(RustVersion {
                     major,
                     minor: 0,
@@ -38,11 +38,11 @@ impl RustVersion {
 fn with_major(major: &str, rest: &str) -> Option<RustVersion>
     ensures { option_map rust_version_view result ≡ patch_after major.now rest.now (around 46 rest.now) }
 {
-    let major = number(major)?;
+    let major = whole_number(major)?;
     match around_dot(rest) {
         Some((minor, patch)) => {
-            let minor = number(minor)?;
-            let patch = number(patch)?;
+            let minor = whole_number(minor)?;
+            let patch = whole_number(patch)?;
             Some(RustVersion {
                 major,
                 minor,
@@ -50,7 +50,7 @@ fn with_major(major: &str, rest: &str) -> Option<RustVersion>
             })
         }
         None => {
-            let minor = number(rest)?;
+            let minor = whole_number(rest)?;
             Some(RustVersion {
                 major,
                 minor,
@@ -64,35 +64,4 @@ fn around_dot(text: &str) -> Option<(&str, &str)>
     ensures { option_map (λ p. (p.0.now, p.1.now)) result ≡ around 46 text.now }
 {
     text.split_once('.')
-}
-
-/// The number of 64 bits that digits without a leading zero are.
-fn number(text: &str) -> Option<u64>
-    ensures { result ≡ number_of text.now }
-{
-    if !is_plain(text.as_bytes()) {
-        return None;
-    }
-    match text.parse::<u64>() {
-        Ok(number) => Some(number),
-        Err(_) => None,
-    }
-}
-
-fn is_plain(text: &[u8]) -> bool
-    ensures { result ≡ is_plain_number text.now }
-{
-    !text.is_empty() && is_digits(text) && has_no_leading_zero(text)
-}
-
-fn is_digits(text: &[u8]) -> bool
-    ensures { result ≡ list_all is_ascii_digit text.now }
-{
-    text.iter().all(|b| b.is_ascii_digit())
-}
-
-fn has_no_leading_zero(text: &[u8]) -> bool
-    ensures { result ≡ (nat_le (length text.now) 1 || not (slice_index text.now 0 == 48)) }
-{
-    text.len() <= 1 || text[0] != b'0'
 }

@@ -19,7 +19,7 @@ use Rattle.model.specs.Selection.{Class, minor, major, patch}
 use Rattle.model.specs.Vertices.{Owner, the_root, version_of, Vertex, root, pkg, dep, feat, ask, State, absent, present, version, in_class}
 use Rattle.features.specs.Entries.{after_text}
 use Rattle.features.specs.Names.{is_package_name, is_package_byte, is_feature_name, is_feature_byte}
-use Rattle.classes.specs.RustVersions.{is_plain_number, number_of}
+use Rattle.classes.specs.Numbers.{is_plain_number, number_of}
 use Rattle.derivations.specs.Kinds.{kind_text}
 use Rattle.derivations.specs.Texts.{needed, parted, package_name_of, feature_name_of, version_of_text, above_zero, lesser_class, class_or, class_of_text, index_of, named_version_of_text, owner_of_text, package_of_text, dependency_of_text, feature_of_text, ask_of_text, kinded_vertex, vertex_of_text, present_of_text, value_of_text, state_of_text}
 use Rattle.derivations.specs.declared.fault.LineFault.TheVariants.{NotALine}

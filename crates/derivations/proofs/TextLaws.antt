@@ -21,7 +21,7 @@ use Rattle.model.specs.Selection.{Class, patch, minor, major}
 use Rattle.features.specs.Entries.{after_text, around}
 use Rattle.features.specs.Names.{is_package_name, is_feature_name}
 use Rattle.classes.specs.Classes.{class_text}
-use Rattle.classes.specs.RustVersions.{is_plain_number, number_of}
+use Rattle.classes.specs.Numbers.{is_plain_number, number_of}
 use Rattle.derivations.specs.Texts.{needed, parted, package_name_of, feature_name_of, version_or, version_of_text, above_zero, lesser_class, class_or, class_of_text, index_of, named_version_of_text, owner_text, owner_of_text, vertex_text, package_of_text, dependency_of_text, feature_of_text, ask_of_text, kinded_vertex, vertex_of_text, state_text, present_of_text, value_of_text, state_of_text}
 use Rattle.derivations.specs.declared.fault.LineFault.TheVariants.{NotALine}
 use Rattle.derivations.proofs.Bound.{steps, same-Ok, same-Some, some, chosen}

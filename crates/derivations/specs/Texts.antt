@@ -11,7 +11,7 @@ use Rattle.model.specs.Vertices.{Owner, the_root, version_of, Vertex, root, pkg,
 use Rattle.features.specs.Entries.{after_text, around}
 use Rattle.features.specs.Names.{is_package_name, is_feature_name}
 use Rattle.classes.specs.Classes.{class_text}
-use Rattle.classes.specs.RustVersions.{number_of}
+use Rattle.classes.specs.Numbers.{number_of}
 use Rattle.derivations.specs.declared.fault.LineFault.{LineFault}
 use Rattle.derivations.specs.declared.fault.LineFault.TheVariants.{OutOfMemory, NotALine, Forward, TooMany}
 

@@ -8,7 +8,7 @@ ghost use Rattle.semver.specs.Parse.{memory_error};
 ghost use Rattle.model.specs.Outcome.{Gives};
 ghost use Rattle.features.specs.Entries.{after_text, around};
 ghost use Rattle.classes.specs.Classes.{class_view};
-ghost use Rattle.classes.specs.RustVersions.{is_plain_number, number_of};
+ghost use Rattle.classes.specs.Numbers.{is_plain_number, number_of};
 ghost use Rattle.derivations.specs.Texts.{line_wants_memory, needed, parted, package_name_of, feature_name_of, version_of_text, class_of_text, lesser_class, above_zero, index_of};
 
 use crate::fault::LineFault;

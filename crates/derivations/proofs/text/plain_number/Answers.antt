@@ -1,5 +1,5 @@
 use Rattle.std.proofs.Common.{◌≡◌, true, rules}
-use Rattle.classes.specs.RustVersions.{is_plain_number}
+use Rattle.classes.specs.Numbers.{is_plain_number}
 use Rattle.classes.proofs.Numerals.{refused}
 use Rattle.derivations.proofs.text.plain_number.Goals as goal
 

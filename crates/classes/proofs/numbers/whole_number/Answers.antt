@@ -1,7 +1,7 @@
 use Rattle.std.proofs.Common.{◌≡◌, true, rules}
-use Rattle.classes.specs.RustVersions.{is_plain_number}
+use Rattle.classes.specs.Numbers.{is_plain_number}
 use Rattle.classes.proofs.Numerals.{refused}
-use Rattle.classes.proofs.rust_version.number.Goals as goal
+use Rattle.classes.proofs.numbers.whole_number.Goals as goal
 
 pub returns-in-Err : goal.returns-in-Err
 returns-in-Err c =
