@@ -1,0 +1,6 @@
+pub mod Kinds
+pub mod Texts
+pub mod Orders
+pub mod Views
+pub mod RefViews
+pub mod Same

@@ -1,0 +1,25 @@
+//! What the search gives states to: vertices, what each may be, the kinds of axioms on them, and their texts.
+//!
+//! A vertex stands for the root, for the versions of a package in a class, for a dependency of an owner, for a feature,
+//! or for what an entry of a feature asks a dependency for. `Owner`, `Vertex` and `State` come in two forms with one
+//! meaning: one owns its names and versions, as it is read off a text; the other borrows them (`OwnerRef`, `VertexRef`,
+//! `StateRef`) and is copied freely. Order, equality and hash stand at the borrowed form, and the owned one goes
+//! through it.
+//!
+//! What a layer above may rely on: two vertices are equal just where the model's are.
+#![tactic(auto)]
+
+mod fault;
+mod kind;
+mod order;
+mod reading;
+mod same;
+mod state;
+mod text;
+mod vertex;
+
+pub use fault::TextFault;
+pub use kind::Kind;
+pub use order::state_order;
+pub use state::{State, StateRef};
+pub use vertex::{Owner, OwnerRef, Vertex, VertexRef};
