@@ -11,7 +11,7 @@ use std::fmt;
 
 /// The leftmost nonzero number of a version with the numbers before it: a lock holds at most one version of a name in each class (Cargo book,
 /// "Dependency Resolution", "SemVer compatibility"). Classes are ordered as their versions are.
-#[derive(Clone, Copy, Debug, PartialEq, Eq, PartialOrd, Ord)]
+#[derive(Clone, Copy, Debug, PartialEq, Eq, PartialOrd, Ord, Hash)]
 pub enum Class {
     /// `0.0.N`
     Patch(u64),
