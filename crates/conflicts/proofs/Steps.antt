@@ -1,5 +1,5 @@
 -- The steps of the resolution of a conflict: what each combination keeps, and what the last incompatibility promises.
-use Rattle.std.proofs.Common.{◌≡◌, ℕ, zero, suc, ◌+◌, ◌<◌, ◌≤◌, Bool, true, false, List, [], ◌∷◌, ◌++◌, length, append_assoc, Option, Some, None, refl, sym, ap, ◌∙◌, subst, arith, inl, inr}
+use Rattle.std.proofs.Common.{◌≡◌, ℕ, suc, ◌+◌, ◌<◌, ◌≤◌, Bool, true, false, List, [], ◌∷◌, ◌++◌, length, append_assoc, Option, Some, None, refl, sym, ap, ◌∙◌, subst, arith, inl, inr}
 use Rattle.std.specs.Option.{is_some}
 use Rattle.std.proofs.lemmas.Bool.{cases_eq, cases_lt}
 use Rattle.std.proofs.lemmas.List.{get_or_append_left, length-append}
@@ -12,7 +12,7 @@ use Rattle.incompatibilities.specs.declared.origin.Origin.{Origin}
 use Rattle.incompatibilities.specs.declared.origin.Origin.TheVariants.{Axiom, Combined}
 use Rattle.incompatibilities.proofs.Broken.{lies_combined}
 use Rattle.propagation.specs.Satisfaction.{HoldsAt, IsOneOpen, OthersHold, Sat}
-use Rattle.propagation.specs.Trails.{StepView, TrailView, end_sets, set_of, sets_at, space_of, step_at}
+use Rattle.propagation.specs.Trails.{StepView, TrailView, end_sets, set_of, sets_at, space_of}
 use Rattle.propagation.specs.Promises.{CauseFits, IsCut, IsSound, IsTrail, LieIn}
 use Rattle.propagation.specs.declared.satisfying.Satisfier.{Satisfier}
 use Rattle.propagation.proofs.Back.{sets_now}
