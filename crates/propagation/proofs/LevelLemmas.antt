@@ -1,5 +1,5 @@
 -- Levels, along a trail's places.
-use Rattle.std.proofs.Common.{◌≡◌, ℕ, suc, ◌+◌, ◌-◌, ◌<◌, ◌≤◌, List, [], ◌∷◌, ◌++◌, length, Option, Some, None, refl, sym, ap, ◌∙◌, subst, arith, inl, inr}
+use Rattle.std.proofs.Common.{◌≡◌, ℕ, zero, suc, ◌+◌, ◌-◌, ◌<◌, ◌≤◌, List, [], ◌∷◌, ◌++◌, length, Option, Some, None, refl, sym, ap, ◌∙◌, subst, arith, inl, inr}
 use Rattle.std.proofs.lemmas.Bool.{cases_lt, le-leb, lt-leb}
 use Rattle.propagation.specs.Trails.{Above, StepView, past, step_at}
 use Rattle.propagation.specs.Promises.{Levels, NextLevel}
@@ -67,3 +67,18 @@ levels_cut l low high (s ∷ ss) gone v above top first last = elim (cases_lt l 
 pub above_append : (l : ℕ) (xs ys : List StepView) → Above l xs → Above l ys → Above l (xs ++ ys)
 above_append l [] ys a b = b
 above_append l (x ∷ xs) ys a b = (a.0, above_append l xs ys a.1 b)
+
+-- what is past a level, where all that follows is above it
+pub past_append : (l : ℕ) (xs ys : List StepView) → Above l ys → past l (xs ++ ys) ≡ past l xs ++ ys
+past_append l [] [] a = refl
+past_append l [] (y ∷ ys) a = rw (lt-leb y.level l a.0) refl
+past_append l (x ∷ xs) ys a = elim (cases_lt l x.level) [
+  | inl lt ↦ rw (lt-leb x.level l lt) refl
+  | inr le ↦ rw (le-leb x.level l le) (past_append l xs ys a)
+]
+
+-- no place is of a level past the last
+pub place_low : (low high k : ℕ) (ss : List StepView) → Levels low ss high → k < length ss → (step_at ss k).level ≤ high
+place_low low high k [] v lt = absurd (omega (arith, lt))
+place_low low high zero (s ∷ ss) v lt = levels_le s.level high ss v.1
+place_low low high (suc k) (s ∷ ss) v lt = place_low s.level high k ss v.1 (omega (arith, lt))

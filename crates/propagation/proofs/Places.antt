@@ -1,13 +1,16 @@
--- What the places of a trail say of each other: sets only shrink, and levels end at places.
-use Rattle.std.proofs.Common.{◌≡◌, ◌≢◌, ℕ, zero, suc, ◌+◌, ◌-◌, ◌<◌, ◌≤◌, true, leb, List, [], ◌∷◌, length, get_or, drop, take, cond, None, refl, sym, ap, ◌∙◌, subst, arith, inl, inr}
+-- What the places of a trail say of each other: sets only shrink, what is satisfied stays so, and levels end at places.
+use Rattle.std.proofs.Common.{◌≡◌, ◌≢◌, ℕ, zero, suc, ◌+◌, ◌-◌, ◌<◌, ◌≤◌, true, leb, List, [], ◌∷◌, ◌++◌, length, get_or, drop, take, cond, Option, Some, None, refl, sym, ap, ◌∙◌, subst, arith, inl, inr}
 use Rattle.std.proofs.lemmas.Bool.{cases_eq, cases_lt, le-leb, lt-leb}
 use Rattle.std.proofs.lemmas.List.{get_or-set_same}
-use Rattle.version_sets.specs.Sets.{inside, size}
+use Rattle.version_sets.specs.Sets.{Members, inside, size}
+use Rattle.incompatibilities.specs.Incompatibilities.{Terms}
+use Rattle.propagation.specs.Satisfaction.{HoldsAt, Sat}
 use Rattle.propagation.specs.Trails.{StepView, TrailView, end_sets, latest_at, level_after, past, set_of, sets_at, space_of, step_at, undo, unlink}
-use Rattle.propagation.specs.Promises.{IsSound, IsTaken, LatestOf, Levels, NextLevel}
+use Rattle.propagation.specs.Promises.{IsCut, IsSound, IsTaken, LatestOf, Levels, NextLevel}
 use Rattle.propagation.proofs.Back.{length-put_back}
-use Rattle.propagation.proofs.LevelLemmas.{next_low}
-use Rattle.propagation.proofs.SetLemmas.{inside_same, inside_through, size_every}
+use Rattle.propagation.proofs.LevelLemmas.{next_low, past_append}
+use Rattle.propagation.proofs.SetLemmas.{inside_same, inside_through, size_every, size_le}
+use Rattle.propagation.proofs.Soundness.{same_space}
 
 -- a vertex that no place between two is on keeps its set
 unchanged_by : (t : TrailView) → IsSound t → (v j m : ℕ) → m + j ≤ length t.steps → ((i : ℕ) → j ≤ i → i < m + j → (step_at t.steps i).vertex ≢ v) → set_of (sets_at t (m + j)) v ≡ set_of (sets_at t j) v
@@ -52,7 +55,7 @@ some_at t sound v (suc k) le some = elim (cases_eq v (step_at t.steps k).vertex)
 ]
 
 -- the link of a place leads to the last place before it on its vertex
-drop_step : (ss : List StepView) (k : ℕ) → k < length ss → drop k ss ≡ step_at ss k ∷ drop (suc k) ss
+pub drop_step : (ss : List StepView) (k : ℕ) → k < length ss → drop k ss ≡ step_at ss k ∷ drop (suc k) ss
 drop_step [] k lt = absurd (omega (arith, lt))
 drop_step (s ∷ ss) zero lt = refl
 drop_step (s ∷ ss) (suc k) lt = drop_step ss k (omega (arith, lt))
@@ -155,3 +158,31 @@ pub levels_rise : (high j k : ℕ) (ss : List StepView) → Levels 0 ss high →
 levels_rise high j k ss r jk le =
     let e : (k - j) + j ≡ k = omega (arith, jk) in
     subst (λ n. level_after ss j ≤ level_after ss n) e (levels_up high (k - j) j ss r (omega (arith, le, jk)))
+
+-- what is satisfied after some places stays so
+pub holds_later : (t : TrailView) → IsSound t → (u j k : ℕ) → j ≤ k → k ≤ length t.steps → (o : Option Members) → HoldsAt (set_of (sets_at t j) u) o → HoldsAt (set_of (sets_at t k) u) o
+holds_later t sound u j k jk le None h = tt
+holds_later t sound u j k jk le (Some x) h = (
+  some_at t sound u k le (let some = h.0 in omega (arith, some, size_le (set_of (sets_at t j) u), same_space t sound j (omega (arith, jk, le)) u)),
+  inside_through (set_of (sets_at t k) u) (set_of (sets_at t j) u) x (shrinks t sound u j k jk le) h.1,
+)
+
+pub sat_later : (t : TrailView) → IsSound t → (f : Terms) (j k : ℕ) → j ≤ k → k ≤ length t.steps → Sat (sets_at t j) f → Sat (sets_at t k) f
+sat_later t sound f j k jk le sat u = holds_later t sound u j k jk le (f u) (sat u)
+
+-- a later level ends at a later place
+kept_rise : (l m : ℕ) (ss : List StepView) → l ≤ m → kept l ss ≤ kept m ss
+unfolding kept
+kept_rise l m [] le = omega arith
+kept_rise l m (s ∷ ss) le = elim (cases_lt l s.level) [
+  | inl lt ↦ omega (arith, kept_out l s ss lt)
+  | inr ge ↦ omega (arith, kept_in l s ss ge, kept_in m s ss (omega (arith, le, ge)), kept_rise l m ss le)
+]
+
+pub holds_at_ends : (t : TrailView) → IsSound t → (u l m : ℕ) → l ≤ m → (o : Option Members) → HoldsAt (set_of (end_sets t l) u) o → HoldsAt (set_of (end_sets t m) u) o
+holds_at_ends t sound u l m le o h = subst (λ (ss : List Members). HoldsAt (set_of ss u) o) (sym (end_is_place t m))
+    (holds_later t sound u (kept l t.steps) (kept m t.steps) (kept_rise l m t.steps le) (kept_le m t.steps) o (subst (λ (ss : List Members). HoldsAt (set_of ss u) o) (end_is_place t l) h))
+
+-- after a cut, the sets are those at the end of the level
+pub cut_sets : (l : ℕ) (old new : TrailView) (gone : List StepView) → IsCut l old new gone → end_sets old l ≡ new.sets
+cut_sets l old new gone c = ap (λ ss. undo ss old.sets) (ap (past l) c.steps ∙ past_append l new.steps gone c.above ∙ ap (λ ss. ss ++ gone) c.top) ∙ sym c.sets

@@ -115,6 +115,68 @@ pub length-rest : (x : Members) → length (rest x) ≡ length x
 length-rest [] = refl
 length-rest (b ∷ x) = omega (arith, length-rest x)
 
+-- how many numbers a set has, by its universe, by a set around it, and by a number that it has
+pub size_le : (s : Members) → size s ≤ length s
+size_le [] = omega arith
+size_le (true ∷ s) = omega (arith, size_le s)
+size_le (false ∷ s) = omega (arith, size_le s)
+
+pub inside_size : (s x : Members) → inside s x ≡ true → size s ≤ size x
+inside_size [] x h = omega arith
+inside_size (true ∷ s) [] h = absurd (false≢true h)
+inside_size (false ∷ s) [] h = inside_size s [] h
+inside_size (true ∷ s) (true ∷ x) h = omega (arith, inside_size s x h)
+inside_size (true ∷ s) (false ∷ x) h = absurd (false≢true h)
+inside_size (false ∷ s) (true ∷ x) h = omega (arith, inside_size s x h)
+inside_size (false ∷ s) (false ∷ x) h = inside_size s x h
+
+pub has_some : (s : Members) (i : ℕ) → has s i ≡ true → 0 < size s
+has_some [] i h = absurd (false≢true h)
+has_some (true ∷ s) i h = omega arith
+has_some (false ∷ s) zero h = absurd (false≢true h)
+has_some (false ∷ s) (suc i) h = has_some s i h
+
+-- a set that is not empty, inside a set of one number, has that number
+pub only_inside : (s x : Members) (i : ℕ) → inside s x ≡ true → size x ≡ 1 → has x i ≡ true → 0 < size s → has s i ≡ true
+only_inside [] x i h one there some = absurd (omega (arith, some))
+only_inside (b ∷ s) [] i h one there some = absurd (false≢true there)
+only_inside (true ∷ s) (true ∷ x) zero h one there some = refl
+only_inside (false ∷ s) (true ∷ x) zero h one there some = absurd (omega (arith, one, some, inside_size s x h))
+only_inside (b ∷ s) (false ∷ x) zero h one there some = absurd (false≢true there)
+only_inside (b ∷ s) (true ∷ x) (suc i) h one there some = absurd (omega (arith, one, has_some x i there))
+only_inside (true ∷ s) (false ∷ x) (suc i) h one there some = absurd (false≢true h)
+only_inside (false ∷ s) (false ∷ x) (suc i) h one there some = only_inside s x i h one there some
+
+-- a set of one number lies inside each set that has the number
+none_inside : (s x : Members) → size s ≡ 0 → inside s x ≡ true
+none_inside [] x e = refl
+none_inside (true ∷ s) x e = absurd (omega (arith, e))
+none_inside (false ∷ s) [] e = none_inside s [] e
+none_inside (false ∷ s) (y ∷ x) e = none_inside s x e
+
+pub one_inside : (s x : Members) (i : ℕ) → size s ≡ 1 → has s i ≡ true → has x i ≡ true → inside s x ≡ true
+one_inside [] x i e h k = refl
+one_inside (b ∷ s) [] i e h k = absurd (false≢true k)
+one_inside (true ∷ s) (true ∷ x) zero e h k = none_inside s x (omega (arith, e))
+one_inside (true ∷ s) (false ∷ x) zero e h k = absurd (false≢true k)
+one_inside (false ∷ s) (y ∷ x) zero e h k = absurd (false≢true h)
+one_inside (true ∷ s) (y ∷ x) (suc i) e h k = absurd (omega (arith, e, has_some s i h))
+one_inside (false ∷ s) (y ∷ x) (suc i) e h k = one_inside s x i e h k
+
+-- what a part of both has some of, both have
+pub meets_of : (s b x : Members) → 0 < size s → inside s b ≡ true → inside s x ≡ true → meets b x ≡ true
+meets_of [] b x some hb hx = absurd (omega (arith, some))
+meets_of (true ∷ s) [] x some hb hx = absurd (false≢true hb)
+meets_of (true ∷ s) (true ∷ b) [] some hb hx = absurd (false≢true hx)
+meets_of (true ∷ s) (true ∷ b) (true ∷ x) some hb hx = refl
+meets_of (true ∷ s) (true ∷ b) (false ∷ x) some hb hx = absurd (false≢true hx)
+meets_of (true ∷ s) (false ∷ b) x some hb hx = absurd (false≢true hb)
+meets_of (false ∷ s) [] x some hb hx = absurd (omega (arith, some, inside_size s [] hb))
+meets_of (false ∷ s) (b ∷ bs) [] some hb hx = absurd (omega (arith, some, inside_size s [] hx))
+meets_of (false ∷ s) (true ∷ b) (true ∷ x) some hb hx = refl
+meets_of (false ∷ s) (true ∷ b) (false ∷ x) some hb hx = meets_of s b x some hb hx
+meets_of (false ∷ s) (false ∷ b) (x ∷ xs) some hb hx = meets_of s b xs some hb hx
+
 -- the sum of all sets, with one of them smaller
 pub total_set : (sets : List Members) (v : ℕ) (x : Members) → size x < size (set_of sets v) → total (set sets v x) < total sets
 total_set [] v x lt = absurd (omega (arith, lt))

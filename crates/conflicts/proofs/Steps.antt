@@ -1,0 +1,265 @@
+-- The steps of the resolution of a conflict: what each combination keeps, and what the last incompatibility promises.
+use Rattle.std.proofs.Common.{◌≡◌, ℕ, suc, ◌+◌, ◌<◌, ◌≤◌, Bool, true, false, List, [], ◌∷◌, ◌++◌, length, append_assoc, Option, Some, None, refl, sym, ap, ◌∙◌, subst, arith, inl, inr}
+use Rattle.std.specs.Option.{is_some}
+use Rattle.std.proofs.lemmas.Bool.{cases_eq, cases_lt}
+use Rattle.std.proofs.lemmas.List.{get_or_append_left, length-append}
+use Rattle.std.proofs.Math.Seq.{get_or-append_seam}
+use Rattle.version_sets.specs.Sets.{Members, inside, size}
+use Rattle.terms.specs.Terms.{TermView}
+use Rattle.incompatibilities.specs.Incompatibilities.{IsCombination, LiesIn, Terms, states_at}
+use Rattle.incompatibilities.specs.Stores.{EntryView, IsAxiom, entry, terms_of, touches}
+use Rattle.incompatibilities.specs.declared.origin.Origin.{Origin}
+use Rattle.incompatibilities.specs.declared.origin.Origin.TheVariants.{Axiom, Combined}
+use Rattle.incompatibilities.proofs.Broken.{lies_combined}
+use Rattle.propagation.specs.Satisfaction.{HoldsAt, IsOneOpen, OthersHold, Sat}
+use Rattle.propagation.specs.Trails.{StepView, TrailView, end_sets, set_of, sets_at, space_of}
+use Rattle.propagation.specs.Promises.{CauseFits, IsCut, IsSound, IsTrail, LieIn}
+use Rattle.propagation.specs.declared.satisfying.Satisfier.{Satisfier}
+use Rattle.propagation.proofs.Back.{sets_now}
+use Rattle.propagation.proofs.Combining.{combined_others}
+use Rattle.propagation.proofs.LevelLemmas.{place_low}
+use Rattle.propagation.proofs.Places.{cut_sets, holds_at_ends, sat_later}
+use Rattle.propagation.proofs.SetLemmas.{meets_of}
+use Rattle.propagation.proofs.Soundness.{trail_grown}
+use Rattle.conflicts.specs.Resolving.{IsAsked, IsCombined, IsFound, IsGained, IsLearned, IsSatisfierOf, Quiet}
+
+-- how many places there are up to the satisfier
+abbrev pub places_left : Option Satisfier → ℕ
+places_left None = 0
+places_left (Some s) = suc s.place
+
+-- what was combined so far
+pub record IsResolving (old : List EntryView) (t : TrailView) (es : List EntryView) (current : ℕ) (found : Option Satisfier) : Type 0 where
+  pub gained : List EntryView
+  pub grown : es ≡ old ++ gained
+  pub few : length gained + places_left found ≤ length t.steps
+  pub combined : (id : ℕ) → length old ≤ id → id < length es → IsCombined es id
+  pub quiet : Quiet es t t.level
+  pub trail : IsTrail es t
+  pub within : current < length es
+  pub here : IsFound es t current found
+
+pub level_low : (es : List EntryView) (t : TrailView) (id : ℕ) (s : Satisfier) → IsSound t → IsSatisfierOf es t id s → s.level ≤ t.level
+level_low es t id s sound found = let e = found.satisfied.level in omega (arith, e, place_low 0 t.level s.place t.steps sound.levels found.satisfied.within)
+
+-- where nothing is satisfied at the end of a lower level, the satisfier stands at the trail's own
+pub level_top : (es : List EntryView) (t : TrailView) (id : ℕ) (s : Satisfier) → IsSound t → Quiet es t t.level → id < length es → IsSatisfierOf es t id s → s.before ≡ s.level → s.before ≡ t.level
+level_top es t id s sound quiet within found e = elim (cases_lt s.level t.level) [
+  | inl lt ↦ absurd (quiet s.level lt id within (found.opens.held e))
+  | inr le ↦ omega (arith, e, le, level_low es t id s sound found)
+]
+
+-- the satisfier's vertex has a term: its assignment changes no other vertex, and made the difference
+term_there : (es : List EntryView) (t : TrailView) (id : ℕ) (s : Satisfier) → IsSound t → IsSatisfierOf es t id s → (o : Option Members) → terms_of es id s.vertex ≡ o → is_some o ≡ true
+term_there es t id s sound found (Some x) e = refl
+term_there es t id s sound found None e = absurd (found.satisfied.first s.place (omega arith) (λ u. elim (cases_eq u s.vertex) [
+  | inl same ↦ subst (λ w. HoldsAt (set_of (sets_at t s.place) w) (terms_of es id w)) (sym same) (subst (HoldsAt (set_of (sets_at t s.place) s.vertex)) (sym e) tt)
+  | inr ne ↦ subst (λ x. HoldsAt x (terms_of es id u)) ((sound.places s.place found.satisfied.within).there u (λ at. ne (at ∙ sym found.satisfied.vertex))) (found.satisfied.after u)
+]))
+
+pub vertex_touched : (es : List EntryView) (t : TrailView) (id : ℕ) (s : Satisfier) → IsSound t → IsSatisfierOf es t id s → touches s.vertex (entry es id).terms ≡ true
+vertex_touched es t id s sound found = term_there es t id s sound found (terms_of es id s.vertex) refl
+
+-- a combination is no axiom
+axiom_not_combined : (o : Origin) (i j v : ℕ) → o ≡ Combined i j v → IsAxiom o → ⊥
+axiom_not_combined (Axiom kind) i j v e given = absurd cc
+axiom_not_combined (Combined a b w) i j v e given = given
+
+pub combined_not_given : (es : List EntryView) (id : ℕ) → IsCombined es id → IsAxiom (entry es id).origin → ⊥
+combined_not_given es id c = axiom_not_combined (entry es id).origin c.first c.second c.vertex c.origin
+
+-- one combination more
+pub record IsStep (old : List EntryView) (t : TrailView) (es : List EntryView) (current : ℕ) (s : Satisfier) (c : ℕ) (made : List TermView) (new : List EntryView) (id : ℕ) : Type 0 where
+  pub way : IsResolving old t es current (Some s)
+  pub asked : IsAsked s (Some c)
+  pub id_is : id ≡ length es
+  pub combination : IsCombination s.vertex (entry es current).terms (entry es c).terms made
+  pub grown : new ≡ es ++ record { terms = made; origin = Combined current c s.vertex } ∷ []
+
+-- the cause of the satisfier, of an entry that is being resolved
+pub cause_of : (old : List EntryView) (t : TrailView) (es : List EntryView) (current : ℕ) (s : Satisfier) (c : ℕ) → IsResolving old t es current (Some s) → IsAsked s (Some c) → CauseFits es t (entry es current).terms s (Some c)
+cause_of old t es current s c way asked = subst (CauseFits es t (entry es current).terms s) asked.1 way.here.satisfier.cause
+
+module _ (old : List EntryView) (t : TrailView) (es : List EntryView) (current : ℕ) (s : Satisfier) (c : ℕ) (made : List TermView) (new : List EntryView) (id : ℕ) (d : IsStep old t es current s c made new id) where
+  abbrev last : EntryView
+  last = record { terms = made; origin = Combined current c s.vertex }
+
+  at_new : entry new id ≡ last
+  at_new = ap (λ (xs : List EntryView). entry xs id) d.grown ∙ ap (entry (es ++ last ∷ [])) d.id_is ∙ get_or-append_seam es last [] (record { terms = []; origin = Axiom 0 })
+
+  at_old : (i : ℕ) → i < length es → entry new i ≡ entry es i
+  at_old i lt = ap (λ (xs : List EntryView). entry xs i) d.grown ∙ get_or_append_left es (last ∷ []) (record { terms = []; origin = Axiom 0 }) i lt
+
+  long : length new ≡ suc (length es)
+  long = ap length d.grown ∙ length-append es (last ∷ []) ∙ omega arith
+
+  -- an id is an earlier one or the new one
+  by_id : (P : ℕ → Type 0) → ((i : ℕ) → i < length es → P i) → P id → (i : ℕ) → i < length new → P i
+  by_id P was here i lt = elim (cases_lt i (length es)) [
+    | inl less ↦ was i less
+    | inr ge ↦ subst P (let e : id ≡ i = (let k = d.id_is in omega (arith, ge, lt, long, k)) in e) here
+  ]
+
+  sound : IsSound t
+  sound = d.way.trail.sound
+
+  cause : CauseFits es t (entry es current).terms s (Some c)
+  cause = cause_of old t es current s c d.way d.asked
+
+  sat_before : Sat (sets_at t s.place) (terms_of new id)
+  sat_before = subst (λ (e : EntryView). Sat (sets_at t s.place) (states_at e.terms)) (sym at_new) (cause.1 made d.combination)
+
+  pub sat_now : Sat t.sets (terms_of new id)
+  sat_now = subst (λ (ss : List Members). Sat ss (terms_of new id)) (sets_now t)
+      (sat_later t sound (terms_of new id) s.place (length t.steps) (let w = d.way.here.satisfier.satisfied.within in omega (arith, w)) (omega arith) sat_before)
+
+  lies_made : LiesIn (space_of t) (states_at made)
+  lies_made = lies_combined s.vertex (terms_of es current) (terms_of es c) (states_at made) d.combination.each (space_of t) (d.way.trail.lies current d.way.within) (d.way.trail.lies c cause.0.within)
+
+  lies_new : LieIn t new
+  lies_new = by_id (λ i. LiesIn (space_of t) (terms_of new i))
+      (λ i less. subst (λ (e : EntryView). LiesIn (space_of t) (states_at e.terms)) (sym (at_old i less)) (d.way.trail.lies i less))
+      (subst (λ (e : EntryView). LiesIn (space_of t) (states_at e.terms)) (sym at_new) lies_made)
+
+  pub trail_new : IsTrail new t
+  trail_new = subst (λ (xs : List EntryView). IsTrail xs t) (sym d.grown) (trail_grown es (last ∷ []) t d.way.trail (subst (λ (xs : List EntryView). LieIn t xs) d.grown lies_new))
+
+  -- were the combination satisfied at the end of a lower level, the other terms of the current entry would be satisfied there
+  quiet_new : Quiet new t t.level
+  quiet_new l lt = by_id (λ i. ¬ Sat (end_sets t l) (terms_of new i))
+      (λ i less sat. d.way.quiet l lt i less (subst (λ (e : EntryView). Sat (end_sets t l) (states_at e.terms)) (at_old i less) sat))
+      (λ sat. d.way.here.satisfier.satisfied.others_no l (let top = level_top es t current s sound d.way.quiet d.way.within d.way.here.satisfier d.asked.0 in omega (arith, lt, top))
+      (combined_others (space_of t) (end_sets t l) s.vertex (entry es current).terms (entry es c).terms made d.way.here.is (d.way.trail.lies current d.way.within) (d.way.trail.lies c cause.0.within) d.combination
+      (subst (λ (e : EntryView). Sat (end_sets t l) (states_at e.terms)) at_new sat)))
+
+  combined_was : (i : ℕ) → i < length es → IsCombined es i → IsCombined new i
+  combined_was i lt was = record {
+    first = was.first;
+    second = was.second;
+    vertex = was.vertex;
+    origin = ap (λ (e : EntryView). e.origin) (at_old i lt) ∙ was.origin;
+    first_earlier = was.first_earlier;
+    second_earlier = was.second_earlier;
+    term = ap (λ (e : EntryView). touches was.vertex e.terms) (at_old was.first (let f = was.first_earlier in omega (arith, f, lt))) ∙ was.term;
+    is = subst (λ (e : EntryView). IsCombination was.vertex (entry new was.first).terms (entry new was.second).terms e.terms) (sym (at_old i lt))
+        (subst (λ (e : EntryView). IsCombination was.vertex e.terms (entry new was.second).terms (entry es i).terms) (sym (at_old was.first (let f = was.first_earlier in omega (arith, f, lt))))
+        (subst (λ (e : EntryView). IsCombination was.vertex (entry es was.first).terms e.terms (entry es i).terms) (sym (at_old was.second (let f = was.second_earlier in omega (arith, f, lt)))) was.is));
+  }
+
+  combined_here : IsCombined new id
+  combined_here = record {
+    first = current;
+    second = c;
+    vertex = s.vertex;
+    origin = ap (λ (e : EntryView). e.origin) at_new;
+    first_earlier = (let w = d.way.within in let k = d.id_is in omega (arith, w, k));
+    second_earlier = (let w = cause.0.within in let k = d.id_is in omega (arith, w, k));
+    term = ap (λ (e : EntryView). touches s.vertex e.terms) (at_old current d.way.within) ∙ vertex_touched es t current s sound d.way.here.satisfier;
+    is = subst (λ (e : EntryView). IsCombination s.vertex (entry new current).terms (entry new c).terms e.terms) (sym at_new)
+        (subst (λ (e : EntryView). IsCombination s.vertex e.terms (entry new c).terms made) (sym (at_old current d.way.within))
+        (subst (λ (e : EntryView). IsCombination s.vertex (entry es current).terms e.terms made) (sym (at_old c cause.0.within)) d.combination));
+  }
+
+  combined_new : (i : ℕ) → length old ≤ i → i < length new → IsCombined new i
+  combined_new i from lt = by_id (λ j. length old ≤ j → IsCombined new j) (λ j less ge. combined_was j less (d.way.combined j ge less)) (λ ge. combined_here) i lt from
+
+  -- the satisfier of the combination stands earlier on the trail
+  pub nearer : (found : Option Satisfier) → IsFound new t id found → places_left found ≤ s.place
+  nearer None f = omega arith
+  nearer (Some r) f = elim (cases_lt r.place s.place) [
+    | inl lt ↦ lt
+    | inr le ↦ absurd (f.satisfier.satisfied.first s.place le sat_before)
+  ]
+
+  pub step_is : (found : Option Satisfier) → IsFound new t id found → IsResolving old t new id found
+  step_is found f = record {
+    gained = d.way.gained ++ last ∷ [];
+    grown = d.grown ∙ ap (λ xs. xs ++ last ∷ []) d.way.grown ∙ append_assoc old d.way.gained (last ∷ []);
+    few = (let k = d.way.few in omega (arith, k, nearer found f, length-append d.way.gained (last ∷ [])));
+    combined = combined_new;
+    quiet = quiet_new;
+    trail = trail_new;
+    within = (let k = d.id_is in omega (arith, k, long));
+    here = f;
+  }
+
+-- at the level before, the term at the satisfier's vertex is open
+open_by : (sets : List Members) (f : Terms) (s : Satisfier) (after : Members) (o : Option Members) → f s.vertex ≡ o → HoldsAt after o → inside after (set_of sets s.vertex) ≡ true → 0 < size (set_of sets s.vertex) → OthersHold sets f s.vertex → (Sat sets f → ⊥) → (x : Members) × IsOneOpen sets f s.vertex x
+open_by sets f s after None is h shrinks some others not = absurd (not (λ u. elim (cases_eq u s.vertex) [
+  | inl e ↦ subst (λ w. HoldsAt (set_of sets w) (f w)) (sym e) (subst (HoldsAt (set_of sets s.vertex)) (sym is) tt)
+  | inr ne ↦ others u ne
+]))
+open_by sets f s after (Some x) is h shrinks some others not = (
+  x,
+  record {
+    term = is;
+    common = meets_of after (set_of sets s.vertex) x h.0 shrinks h.1;
+    apart = apart (inside (set_of sets s.vertex) x) refl;
+    others = others;
+  },
+)
+  where
+    apart : (b : Bool) → inside (set_of sets s.vertex) x ≡ b → inside (set_of sets s.vertex) x ≡ false
+    apart true e = absurd (not (λ u. elim (cases_eq u s.vertex) [
+      | inl at ↦ subst (λ w. HoldsAt (set_of sets w) (f w)) (sym at) (subst (HoldsAt (set_of sets s.vertex)) (sym is) (some, e))
+      | inr ne ↦ others u ne
+    ]))
+    apart false e = e
+
+-- no lower level has one open term: at the satisfier's vertex, the others would be satisfied before the level where they came to be; elsewhere, all would be satisfied at that level, below the trail's own
+least_is : (es : List EntryView) (t : TrailView) (id : ℕ) (s : Satisfier) → IsSound t → Quiet es t t.level → id < length es → IsSatisfierOf es t id s → s.before < t.level → (l : ℕ) → l < s.before → (v : ℕ) (x : Members) → IsOneOpen (end_sets t l) (terms_of es id) v x → ⊥
+least_is es t id s sound quiet within found low l lt v x one = elim (cases_eq v s.vertex) [
+  | inl e ↦ found.satisfied.others_no l lt (subst (OthersHold (end_sets t l) (terms_of es id)) e one.others)
+  | inr ne ↦ quiet s.before low id within (λ u. elim (cases_eq u s.vertex) [
+    | inl e ↦ subst (λ w. HoldsAt (set_of (end_sets t s.before) w) (terms_of es id w)) (sym e) (holds_at_ends t sound s.vertex l s.before (omega (arith, lt)) (terms_of es id s.vertex) (one.others s.vertex (λ at. ne (sym at))))
+    | inr apart ↦ found.satisfied.others_at u apart
+  ])
+]
+
+pub learned_is : (old : List EntryView) (t : TrailView) (es : List EntryView) (current : ℕ) (s : Satisfier) (new : TrailView) (gone : List StepView) → IsResolving old t es current (Some s) → s.before < s.level → IsCut s.before t new gone → IsLearned t es new current s.before
+learned_is old t es current s new gone way lt cut =
+    let found = way.here.satisfier in
+    let low : s.before < t.level = omega (arith, lt, level_low es t current s way.trail.sound found) in
+    let one = open_by (end_sets t s.before) (terms_of es current) s (set_of (sets_at t (suc s.place)) s.vertex) (terms_of es current s.vertex) refl (found.satisfied.after s.vertex) (found.opens.shrinks lt) found.opens.some found.satisfied.others_at (way.quiet s.before low current way.within) in
+    record {
+      within = way.within;
+      follows = way.here.follows;
+      lower = low;
+      gone = gone;
+      cut = cut;
+      vertex = s.vertex;
+      states = one.0;
+      one = subst (λ (ss : List Members). IsOneOpen ss (terms_of es current) s.vertex one.0) (cut_sets s.before t new gone cut) one.1;
+      least = least_is es t current s way.trail.sound way.quiet way.within found low;
+    }
+
+pub gained_is : (old : List EntryView) (t : TrailView) (es : List EntryView) (current : ℕ) (found : Option Satisfier) → IsResolving old t es current found → (gained : List EntryView) × IsGained old t es gained
+gained_is old t es current found way = (
+  way.gained,
+  record {
+    grown = way.grown;
+    few = (let k = way.few in omega (arith, k));
+    combined = way.combined;
+    quiet = way.quiet;
+  },
+)
+
+pub start_is : (es : List EntryView) (t : TrailView) (id : ℕ) (found : Option Satisfier) → IsTrail es t → id < length es → Quiet es t t.level → IsFound es t id found → IsResolving es t es id found
+start_is es t id found trail within quiet f = record {
+  gained = [];
+  grown = sym (nothing es);
+  few = within_all found f;
+  combined = λ i from lt. absurd (omega (arith, from, lt));
+  quiet = quiet;
+  trail = trail;
+  within = within;
+  here = f;
+}
+  where
+    nothing : (xs : List EntryView) → xs ++ [] ≡ xs
+    nothing [] = refl
+    nothing (x ∷ xs) = ap (λ ys. x ∷ ys) (nothing xs)
+
+    within_all : (o : Option Satisfier) → IsFound es t id o → 0 + places_left o ≤ length t.steps
+    within_all None g = omega arith
+    within_all (Some s) g = let w = g.satisfier.satisfied.within in omega (arith, w)

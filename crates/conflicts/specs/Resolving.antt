@@ -1,0 +1,77 @@
+-- What the resolution of a conflict finds, learns and leaves (Dart pub's `solver.md`, "Conflict Resolution").
+use Rattle.std.specs.Prelude.{◌≡◌, ℕ, ◌<◌, ◌≤◌, true, List, [], ◌++◌, length, Option, Some, None}
+use Rattle.version_sets.specs.Sets.{Members}
+use Rattle.incompatibilities.specs.Incompatibilities.{IsCombination, IsIncompatibility}
+use Rattle.incompatibilities.specs.Stores.{EntryView, Follows, entry, terms_of, touches}
+use Rattle.incompatibilities.specs.declared.origin.Origin.TheVariants.{Combined}
+use Rattle.propagation.specs.Trails.{StepView, TrailView, end_sets}
+use Rattle.propagation.specs.Satisfaction.{IsOneOpen, Sat}
+use Rattle.propagation.specs.Promises.{CauseFits, IsCut, IsSatisfied, OpenFits}
+use Rattle.propagation.specs.declared.satisfying.Satisfier.{Satisfier}
+use Rattle.conflicts.specs.declared.resolving.Outcome.{Outcome}
+use Rattle.conflicts.specs.declared.resolving.Outcome.TheVariants.{Learned, Unsolvable}
+
+-- no entry of a store is satisfied at the end of a level below one
+abbrev pub Quiet : List EntryView → TrailView → ℕ → Type 0
+Quiet es t level = (l : ℕ) → l < level → (id : ℕ) → id < length es → ¬ Sat (end_sets t l) (terms_of es id)
+
+-- the satisfier of an entry that has a term
+pub record IsSatisfierOf (es : List EntryView) (t : TrailView) (id : ℕ) (s : Satisfier) : Type 0 where
+  pub satisfied : IsSatisfied t (terms_of es id) s
+  pub cause : CauseFits es t (entry es id).terms s s.cause
+  pub opens : OpenFits t (terms_of es id) s
+
+abbrev pub Satisfies : List EntryView → TrailView → ℕ → Option Satisfier → Type 0
+Satisfies es t id None = (entry es id).terms ≡ []
+Satisfies es t id (Some s) = IsSatisfierOf es t id s
+
+pub record IsFound (es : List EntryView) (t : TrailView) (id : ℕ) (found : Option Satisfier) : Type 0 where
+  pub satisfier : Satisfies es t id found
+  pub is : IsIncompatibility (entry es id).terms
+  pub follows : Follows es (terms_of es id)
+
+-- the cause of a satisfier, where the other terms were satisfied at its own level
+abbrev pub IsAsked : Satisfier → Option ℕ → Type 0
+IsAsked s None = s.before < s.level
+IsAsked s (Some c) = (s.before ≡ s.level) × (s.cause ≡ Some c)
+
+-- an entry is the combination of two earlier ones, at a vertex at which the first has a term
+pub record IsCombined (es : List EntryView) (id : ℕ) : Type 0 where
+  pub first : ℕ
+  pub second : ℕ
+  pub vertex : ℕ
+  pub origin : (entry es id).origin ≡ Combined first second vertex
+  pub first_earlier : first < id
+  pub second_earlier : second < id
+  pub term : touches vertex (entry es first).terms ≡ true
+  pub is : IsCombination vertex (entry es first).terms (entry es second).terms (entry es id).terms
+
+-- a store gains combinations, at most one for each assignment of the trail, and no entry is satisfied at the end of an earlier level of that trail
+pub record IsGained (old : List EntryView) (t : TrailView) (new gained : List EntryView) : Type 0 where
+  pub grown : new ≡ old ++ gained
+  pub few : length gained ≤ length t.steps
+  pub combined : (id : ℕ) → length old ≤ id → id < length new → IsCombined new id
+  pub quiet : Quiet new t t.level
+
+-- the learned entry follows; the trail is cut to a level below its own, where one term of the entry is open and all others are satisfied, and no lower level has that
+pub record IsLearned (t : TrailView) (es : List EntryView) (new : TrailView) (id back_to : ℕ) : Type 0 where
+  pub within : id < length es
+  pub follows : Follows es (terms_of es id)
+  pub lower : back_to < t.level
+  pub gone : List StepView
+  pub cut : IsCut back_to t new gone
+  pub vertex : ℕ
+  pub states : Members
+  pub one : IsOneOpen new.sets (terms_of es id) vertex states
+  pub least : (l : ℕ) → l < back_to → (v : ℕ) (x : Members) → ¬ IsOneOpen (end_sets t l) (terms_of es id) v x
+
+-- the entry has no term, and follows; the trail stays
+pub record IsRefuted (t : TrailView) (es : List EntryView) (new : TrailView) (id : ℕ) : Type 0 where
+  pub within : id < length es
+  pub follows : Follows es (terms_of es id)
+  pub none : (entry es id).terms ≡ []
+  pub stays : new ≡ t
+
+abbrev pub Resolved : TrailView → List EntryView → TrailView → Outcome → Type 0
+Resolved t es new (Learned id back_to) = IsLearned t es new id back_to
+Resolved t es new (Unsolvable id) = IsRefuted t es new id
