@@ -1,0 +1,85 @@
+-- Terms that come one by one at rising vertices, and a store with one entry more.
+use Rattle.std.proofs.Common.{◌≡◌, ◌≢◌, ℕ, ◌+◌, ◌≤◌, ◌⊎◌, Bool, true, false, cond, eqb, List, [], ◌∷◌, ◌++◌, length, Option, Some, None, refl, sym, ap, ◌∙◌, subst, arith, inl, inr}
+use Rattle.std.proofs.lemmas.Bool.{cases_eq, cases_lt, ne_eqb}
+use Rattle.std.proofs.lemmas.List.{get_or_append_left, length-append}
+use Rattle.std.proofs.lemmas.Option.{same_Some}
+use Rattle.version_sets.specs.Sets.{Members, every}
+use Rattle.terms.specs.Terms.{TermView}
+use Rattle.incompatibilities.specs.Incompatibilities.{LiesIn, OneEach, states_at, terms_on}
+use Rattle.incompatibilities.specs.Stores.{EntryView, entry}
+use Rattle.incompatibilities.specs.declared.origin.Origin.TheVariants.{Axiom}
+use Rattle.incompatibilities.proofs.Lookups.{at_first, at_later, or_else, states_at-append}
+use Rattle.propagation.specs.Promises.{LieIn}
+use Rattle.propagation.specs.Trails.{TrailView, space_of}
+use Rattle.propagation.specs.Widening.{IsWider}
+use Rattle.propagation.proofs.Soundness.{trail_grown}
+use Rattle.search_trials.specs.Meeting.{AreFit, IsMeeting}
+
+-- the terms so far, all at vertices below a number
+pub record AreSoFar (space : ℕ → ℕ) (low : ℕ) (ts : List TermView) : Type 0 where
+  pub one : OneEach ts
+  pub past : (v : ℕ) → low ≤ v → terms_on v ts ≡ 0
+  pub lies : LiesIn space (states_at ts)
+
+pub none_so_far : (space : ℕ → ℕ) → AreSoFar space 0 []
+none_so_far space = record { one = λ v. omega arith; past = λ v le. refl; lies = λ u s e. (let clash : None ≡ Some s = e in cc) }
+
+abbrev here : ℕ → TermView → ℕ
+here v t = cond (eqb t.vertex v) 1 0
+
+on_append : (v : ℕ) (ts : List TermView) (t : TermView) → terms_on v (ts ++ t ∷ []) ≡ terms_on v ts + here v t
+on_append v [] t = omega arith
+on_append v (x ∷ ts) t = omega (arith, on_append v ts t)
+
+at_most : (b : Bool) → cond b 1 0 ≤ 1
+at_most true = omega arith
+at_most false = omega arith
+
+elsewhere : (v : ℕ) (t : TermView) → t.vertex ≢ v → here v t ≡ 0
+elsewhere v t o = rw (ne_eqb t.vertex v o) refl
+
+either : (o p : Option Members) (s : Members) → or_else o p ≡ Some s → (o ≡ Some s) ⊎ (p ≡ Some s)
+either None p s e = inr e
+either (Some x) p s e = inl e
+
+alone : (t : TermView) (u : ℕ) (s : Members) → states_at (t ∷ []) u ≡ Some s → (t.vertex ≡ u) × (t.states ≡ s)
+alone t u s e = elim (cases_eq t.vertex u) [
+  | inl h ↦ (h, same_Some t.states s (sym (at_first t [] u h) ∙ e))
+  | inr o ↦ (let clash : None ≡ Some s = sym (at_later t [] u o) ∙ e in cc)
+]
+
+pub one_more : (space : ℕ → ℕ) (low next : ℕ) (ts : List TermView) (t : TermView) → AreSoFar space low ts → low ≤ t.vertex → next ≡ t.vertex + 1 → length t.states ≡ space t.vertex → AreSoFar space next (ts ++ t ∷ [])
+one_more space low next ts t far le is fits = record {
+  one = λ v. elim (cases_eq t.vertex v) [
+    | inl h ↦ omega (arith, on_append v ts t, far.past v (omega (arith, le, h)), at_most (eqb t.vertex v))
+    | inr o ↦ (let one = far.one v in omega (arith, on_append v ts t, elsewhere v t o, one))
+  ];
+  past = λ v past. omega (arith, on_append v ts t, elsewhere v t (λ e. omega (arith, e, past, is)), far.past v (omega (arith, le, past, is)));
+  lies = λ u s e. elim (either (states_at ts u) (states_at (t ∷ []) u) s (sym (states_at-append ts (t ∷ []) u) ∙ e)) [
+    | inl was ↦ far.lies u s was
+    | inr new ↦ (let a = alone t u s new in ap length (sym a.1) ∙ fits ∙ ap space a.0)
+  ];
+}
+
+pub all_fit : (space : ℕ → ℕ) (low : ℕ) (ts : List TermView) → AreSoFar space low ts → AreFit space ts
+all_fit space low ts far = record { one = far.one; lies = far.lies }
+
+-- a store with one entry more
+pub meets_more : (n : ℕ) (es : List EntryView) (e : EntryView) (t : TrailView) → IsMeeting n es t → LiesIn (space_of t) (states_at e.terms) → IsMeeting n (es ++ e ∷ []) t
+meets_more n es e t m lies = record { trail = trail_grown es (e ∷ []) t m.trail all; vertices = m.vertices }
+  where
+    last : (es : List EntryView) (d : EntryView) → entry (es ++ d ∷ []) (length es) ≡ d
+    last [] d = refl
+    last (x ∷ es) d = last es d
+
+    all : LieIn t (es ++ e ∷ [])
+    all id lt = elim (cases_lt id (length es)) [
+      | inl low ↦ subst (λ (x : EntryView). LiesIn (space_of t) (states_at x.terms)) (sym (get_or_append_left es (e ∷ []) (record { terms = []; origin = Axiom 0 }) id low)) (m.trail.lies id low)
+      | inr high ↦
+          let this : id ≡ length es = omega (arith, high, lt, length-append es (e ∷ [])) in
+          subst (λ (x : EntryView). LiesIn (space_of t) (states_at x.terms)) (sym (ap (entry (es ++ e ∷ [])) this ∙ last es e)) lies
+    ]
+
+-- one vertex more
+pub one_wider : (n universe : ℕ) (old new : TrailView) → length old.sets ≡ n → IsWider (universe ∷ []) old new → length new.sets ≡ n + 1
+one_wider n universe old new is wider = ap length wider.sets ∙ omega (arith, length-append old.sets (every universe ∷ []), is)

@@ -1,0 +1,16 @@
+use Rattle.incompatibilities.specs.Stores.{entries_view}
+use Rattle.propagation.specs.Trails.{trail_view}
+use Rattle.propagation.proofs.Widened.{below_proper}
+use Rattle.search_trials.proofs.Fitting.{one_wider}
+use Rattle.search_trials.proofs.trial.Trial.grow.Goals as goal
+
+pub invariant_of-self-2 : goal.invariant_of-self-2
+invariant_of-self-2 g c =
+    let tests = g.S.States.tests in
+    let es = entries_view tests c.self.inside.store in
+    let old = trail_view tests c.self.inside.trail in
+    let new = trail_view tests c.grow.new.self in
+    record {
+      trail = c.grow.ensures.trail es (below_proper old es c.is_proper.ensures c.self.invariant.trail.lies) c.self.invariant.trail;
+      vertices = one_wider c.self.inside.vertices c.args.universe old new c.self.invariant.vertices c.in_ok-grow.ensures.wider;
+    }

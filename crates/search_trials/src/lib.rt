@@ -1,0 +1,7 @@
+//! A store and a trail that meets it, whose calls may be made at any time: for tests and for what times the search.
+#![tactic(auto)]
+
+mod terms_of;
+mod trial;
+
+pub use trial::Trial;

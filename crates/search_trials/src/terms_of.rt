@@ -1,0 +1,79 @@
+//! Terms made of vertices and bits.
+
+ghost use Rattle.propagation.specs.Trails.{space_of, trail_view};
+ghost use Rattle.search_trials.specs.Meeting.{AreFit};
+ghost use Rattle.std.specs.Option.{IfSome};
+ghost use Rattle.std.specs.Prelude.{◌≡◌, ◌≤◌, IfOk, length};
+ghost use Rattle.terms.specs.Terms.{terms_view};
+
+use propagation::Trail;
+use std::alloc::{AllocError, Global};
+use terms::Term;
+use version_sets::States;
+
+/// A set with one number more, if that is asked for and lies below the universe.
+fn with_state<S: States + Drop>(
+    alloc: Global,
+    set: S,
+    universe: u32,
+    state: u32,
+    asked: bool,
+) -> Result<S, AllocError>
+    requires small { universe ≤ 65536 }
+    requires universe { length (S.tests set) ≡ universe }
+    ensures { IfOk result (λ s. length (S.tests s) ≡ universe) }
+{
+    if !asked {
+        return Ok(set);
+    }
+    if state >= universe {
+        return Ok(set);
+    }
+    let one = S::single(alloc, universe, state)?;
+    set.union(alloc, &one)
+}
+
+/// The set of the numbers below a universe whose bits are set, counted modulo 64.
+pub(crate) fn of_bits<S: States + Drop>(
+    alloc: Global,
+    universe: u32,
+    bits: u64,
+) -> Result<S, AllocError>
+    requires { universe ≤ 65536 }
+    ensures { IfOk result (λ s. length (S.tests s) ≡ universe) }
+{
+    let mut set = S::empty(alloc, universe)?;
+    'states: for state in 0..universe {
+        set = with_state(alloc, set, universe, state, (bits >> (state % 64)) & 1 == 1)?;
+    }
+    Ok(set)
+}
+
+/// The terms of these vertices and bits; none if the vertices don't rise or one isn't on the trail.
+pub(crate) fn terms_of<S: States + Drop>(
+    alloc: Global,
+    trail: &Trail<S>,
+    vertices: usize,
+    said: &[(usize, u64)],
+) -> Result<Option<Vec<Term<S>>>, AllocError>
+    requires { length (trail_view S.tests trail.now).sets ≡ vertices }
+    ensures { IfOk result (λ o. IfSome o (λ v. AreFit (space_of (trail_view S.tests trail.now)) (terms_view S.tests v.items))) }
+{
+    let mut terms = Vec::new(alloc);
+    let mut low = 0;
+    'said: for (vertex, bits) in said {
+        if *vertex < low {
+            return Ok(None);
+        }
+        if *vertex >= vertices {
+            return Ok(None);
+        }
+        let universe = trail.states(*vertex).universe();
+        terms.push(Term {
+            vertex: *vertex,
+            states: of_bits(alloc, universe, *bits)?,
+        })?;
+        low = *vertex + 1;
+    }
+    Ok(Some(terms))
+}

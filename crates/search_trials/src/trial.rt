@@ -1,0 +1,124 @@
+//! A store with the trail that meets it.
+
+ghost use Rattle.std.specs.Prelude.{◌≤◌};
+
+use crate::terms_of::terms_of;
+use incompatibilities::{Id, Incompatibility, Origin, Store};
+use propagation::{Progress, Trail};
+use std::alloc::{AllocError, Global};
+use std::marker::Model;
+use version_sets::States;
+
+/// A store and a trail that meets it. A call that asks for what can't be is left undone, and says so.
+#[derive(Drop)]
+pub struct Trial<S: States> {
+    alloc: Global,
+    store: Store<S>,
+    trail: Trail<S>,
+    vertices: usize,
+}
+
+impl<S: States> Model for Trial<S> {
+    ghost use Rattle.incompatibilities.specs.Stores.{entries_view};
+    ghost use Rattle.propagation.specs.Trails.{TrailView, trail_view};
+    ghost use Rattle.search_trials.specs.Meeting.{IsMeeting};
+
+    ghost Value = { TrailView };
+
+    ghost view = { λ t. trail_view S.tests t.trail };
+
+    ghost invariant = { λ t. IsMeeting t.vertices (entries_view S.tests t.store) (trail_view S.tests t.trail) };
+}
+
+impl<S: States + Drop> Trial<S> {
+    /// The empty store, and the trail without vertices.
+    pub fn new(alloc: Global) -> Result<Trial<S>, AllocError> {
+        let spaces: [u32; 0] = [];
+        Ok(Trial {
+            alloc,
+            store: Store::new(alloc),
+            trail: Trail::new(alloc, &spaces)?,
+            vertices: 0,
+        })
+    }
+
+    /// One vertex more, with so many states.
+    pub fn grow(&mut self, universe: u32) -> Result<(), AllocError>
+        requires { universe ≤ 65536 }
+    {
+        self.store.is_proper();
+        self.trail.grow(universe)?;
+        self.vertices += 1;
+        Ok(())
+    }
+
+    /// Puts an entry into the store: not each of these vertices has one of the states whose bits are set. Whether it did:
+    /// the vertices have to rise and to be there.
+    pub fn forbid(&mut self, said: &[(usize, u64)]) -> Result<bool, AllocError> {
+        match terms_of(self.alloc, &self.trail, self.vertices, said)? {
+            Some(terms) => {
+                self.store.add(Incompatibility::new(terms), Origin::Axiom(0))?;
+                Ok(true)
+            }
+            None => Ok(false),
+        }
+    }
+
+    /// Decides, if the vertex has that state among several; whether it did.
+    pub fn decide(&mut self, vertex: usize, state: u32) -> Result<bool, AllocError> {
+        if vertex >= self.vertices {
+            return Ok(false);
+        }
+        if self.trail.states(vertex).count() <= 1 {
+            return Ok(false);
+        }
+        if !self.trail.states(vertex).member(state) {
+            return Ok(false);
+        }
+        self.trail.decide(vertex, state)?;
+        Ok(true)
+    }
+
+    /// Propagates.
+    pub fn propagate(&mut self) -> Result<Progress, AllocError> {
+        self.trail.propagate(&self.store)
+    }
+
+    /// Cuts, if the trail has that level.
+    pub fn cut(&mut self, level: usize) {
+        if level <= self.trail.level() {
+            self.trail.cut(level);
+        }
+    }
+
+    /// How many vertices there are.
+    pub fn vertices(&self) -> usize {
+        self.vertices
+    }
+
+    /// The level.
+    pub fn level(&self) -> usize {
+        self.trail.level()
+    }
+
+    /// How many assignments there were.
+    pub fn assigned(&self) -> u64 {
+        self.trail.assigned()
+    }
+
+    /// How many states a vertex has left; none if it isn't there.
+    pub fn count(&self, vertex: usize) -> u32 {
+        if vertex >= self.vertices {
+            return 0;
+        }
+        self.trail.states(vertex).count()
+    }
+
+    /// Whether a vertex has a state left.
+    pub fn has(&self, vertex: usize, state: u32) -> bool {
+        if vertex >= self.vertices {
+            return false;
+        }
+        self.trail.states(vertex).member(state)
+    }
+}
