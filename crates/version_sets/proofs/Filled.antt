@@ -60,48 +60,51 @@ module _ (n : ℕ) (ws : List ℕ) (r c v : ℕ) (long : length ws ≡ r + 1) (r
       and_false true = refl
       and_false false = refl
 
+word_fits : (x : ℕ) → x < 2 ^ 64 → (k : ℕ) → get_or (x ∷ []) k 0 < 2 ^ 64
+word_fits x h zero = h
+word_fits x h (suc k) = omega arith
+
 -- the same words, cut
 pub record IsTrimmed (n : ℕ) (ws now : List ℕ) : Type 0 where
   pub words : IsWords n now
   pub same : set_where n (has_bit now) ≡ set_where n (has_bit ws)
 
-fits_next : (x : ℕ) (rest : List ℕ) → x < 2 ^ 64 → ((k : ℕ) → get_or rest k 0 < 2 ^ 64) → (k : ℕ) → get_or (x ∷ rest) k 0 < 2 ^ 64
-fits_next x rest h fits zero = h
-fits_next x rest h fits (suc k) = fits k
-
-pub trim_first : (n x low past : ℕ) (rest : List ℕ) → n ≤ 65536 → x < 2 ^ 64 → ((k : ℕ) → get_or rest k 0 < 2 ^ 64) → length rest ≡ (n - 1) / 64 → past ≡ length rest → past ≡ 0 → low ≡ 2 ^ n - 1 → IsTrimmed n (x ∷ rest) (bit_and x low ∷ rest)
-trim_first n x low past rest small h fits long past_is none low_is = record {
-  words = trim_is n (x ∷ rest) 0 n (bit_and x low) (omega arith) (omega arith) (omega arith) (ap (bit_and x) low_is) small (fits_next x rest h fits);
-  same = set_agree (has_bit (bit_and x low ∷ rest)) (has_bit (x ∷ rest)) n (trim_has n (x ∷ rest) 0 n (bit_and x low) (omega arith) (omega arith) (omega arith) (ap (bit_and x) low_is));
-}
-
-pub trim_later : (n x low past y : ℕ) (rest : List ℕ) → n ≤ 65536 → x < 2 ^ 64 → ((k : ℕ) → get_or rest k 0 < 2 ^ 64) → length rest ≡ (n - 1) / 64 → past ≡ length rest → (past ≡ 0 → ⊥) → y ≡ get_or rest (past - 1) y → low ≡ 2 ^ (n - 64 * past) - 1 → IsTrimmed n (x ∷ rest) (x ∷ set rest (past - 1) (bit_and y low))
-trim_later n x low past y rest small h fits long past_is some y_is low_is =
-    let some_words : past ≢ 0 = some in
-    let last : suc (past - 1) ≡ past = omega arith in
-    let long_is : length (x ∷ rest) ≡ suc (past - 1) + 1 = omega arith in
-    let r_is : suc (past - 1) ≡ (n - 1) / 64 = omega arith in
-    let c_is : n - 64 * past ≡ n - 64 * suc (past - 1) = omega arith in
-    let v_is : bit_and y low ≡ bit_and (get_or rest (past - 1) 0) (2 ^ (n - 64 * past) - 1) = ap₂ bit_and (y_is ∙ get_or_default rest (past - 1) y 0 (omega arith)) low_is in
+pub trim_last : (n last y low : ℕ) (ws : List ℕ) → n ≤ 65536 → length ws ≡ (n - 1) / 64 + 1 → ((k : ℕ) → get_or ws k 0 < 2 ^ 64) → last ≡ length ws - 1 → y ≡ get_or ws last y → low ≡ 2 ^ (n - 64 * last) - 1 → IsTrimmed n ws (set ws last (bit_and y low))
+trim_last n last y low ws small long fits last_is y_is low_is =
+    let long_is : length ws ≡ last + 1 = omega arith in
+    let place : last ≡ (n - 1) / 64 = omega arith in
+    let v_is : bit_and y low ≡ bit_and (get_or ws last 0) (2 ^ (n - 64 * last) - 1) = ap₂ bit_and (y_is ∙ get_or_default ws last y 0 (omega arith)) low_is in
     record {
-      words = trim_is n (x ∷ rest) (suc (past - 1)) (n - 64 * past) (bit_and y low) long_is r_is c_is v_is small (fits_next x rest h fits);
-      same = set_agree (has_bit (x ∷ set rest (past - 1) (bit_and y low))) (has_bit (x ∷ rest)) n (trim_has n (x ∷ rest) (suc (past - 1)) (n - 64 * past) (bit_and y low) long_is r_is c_is v_is);
+      words = trim_is n ws last (n - 64 * last) (bit_and y low) long_is place refl v_is small fits;
+      same = set_agree (has_bit (set ws last (bit_and y low))) (has_bit ws) n (trim_has n ws last (n - 64 * last) (bit_and y low) long_is place refl v_is);
     }
+
+pub trim_lone : (n x low : ℕ) → n ≤ 64 → x < 2 ^ 64 → low ≡ 2 ^ n - 1 → IsTrimmed n (x ∷ []) (bit_and x low ∷ [])
+trim_lone n x low small fits low_is = trim_last n 0 x low (x ∷ []) (omega arith) long (word_fits x fits) refl refl (low_is ∙ ap (λ k. 2 ^ k - 1) none)
+  where
+    long : 1 ≡ (n - 1) / 64 + 1
+    long = omega arith
+
+    none : n ≡ n - 64 * 0
+    none = omega arith
 
 -- one word for all
 get_or-all : (k v i : ℕ) → i < k → get_or (replicate k v) i 0 ≡ v
 get_or-all k v i low = get_or-replicate k i v 0 low
 
-pub zeros_are : (n r : ℕ) → set_where n (has_bit (replicate (suc r) 0)) ≡ none n
-zeros_are n r = set_agree (has_bit (replicate (suc r) 0)) (λ _. false) n (λ i within. elim (cases_lt (i / 64) (suc r)) [
-  | inl low ↦ ap (λ w. bit_is w (i % 64)) (get_or-all (suc r) 0 (i / 64) low) ∙ ap (λ k. eqb k 1) (bit_at-zero (i % 64))
-  | inr past ↦ none_past (replicate (suc r) 0) i (omega (arith, length-replicate {A = ℕ} (suc r) 0))
-]) ∙ sym (none_where n)
+zero_bits : (k i : ℕ) → has_bit (replicate k 0) i ≡ false
+zero_bits k i = elim (cases_lt (i / 64) k) [
+  | inl low ↦ ap (λ w. bit_is w (i % 64)) (get_or-all k 0 (i / 64) low) ∙ ap (λ b. eqb b 1) (bit_at-zero (i % 64))
+  | inr past ↦ none_past (replicate k 0) i (omega (arith, length-replicate {A = ℕ} k 0))
+]
 
-pub ones_are : (n r : ℕ) → r ≡ (n - 1) / 64 → set_where n (has_bit (replicate (suc r) (2 ^ 64 - 1))) ≡ every n
-ones_are n r e = set_agree (has_bit (replicate (suc r) (2 ^ 64 - 1))) (λ _. true) n (λ i within.
-    let place : i / 64 < suc r = omega arith in
-    ap (λ w. bit_is w (i % 64)) (get_or-all (suc r) (2 ^ 64 - 1) (i / 64) place) ∙ ap (λ k. eqb k 1) (bit_at_ones 64 (i % 64) (omega arith)))
+pub zeros_are : (n k : ℕ) → set_where n (has_bit (replicate k 0)) ≡ none n
+zeros_are n k = set_agree (has_bit (replicate k 0)) (λ _. false) n (λ i within. zero_bits k i) ∙ sym (none_where n)
+
+pub ones_are : (n k : ℕ) → k ≡ (n - 1) / 64 + 1 → set_where n (has_bit (replicate k (2 ^ 64 - 1))) ≡ every n
+ones_are n k e = set_agree (has_bit (replicate k (2 ^ 64 - 1))) (λ _. true) n (λ i within.
+    let place : i / 64 < k = omega arith in
+    ap (λ w. bit_is w (i % 64)) (get_or-all k (2 ^ 64 - 1) (i / 64) place) ∙ ap (λ b. eqb b 1) (bit_at_ones 64 (i % 64) (omega arith)))
     ∙ sym (every_where n)
 
 -- such words fit
@@ -111,64 +114,75 @@ filled_fits r v h k = elim (cases_lt k r) [
   | inr past ↦ subst (λ w. w < 2 ^ 64) (sym (get_or_past (replicate r v) k 0 (omega (arith, length-replicate {A = ℕ} r v)))) (omega arith)
 ]
 
+pub zero_words : (n k : ℕ) → n ≤ 65536 → k ≡ (n - 1) / 64 + 1 → IsWords n (replicate k 0)
+zero_words n k small e = record {
+  small = small;
+  long = length-replicate {A = ℕ} k 0 ∙ e;
+  fits = filled_fits k 0 (omega arith);
+  clear = λ i past. zero_bits k i;
+}
+
 pub turned_fits : (ws : List ℕ) (k : ℕ) → get_or (map (bit_not w64) ws) k 0 < 2 ^ 64
 turned_fits [] k = omega arith
 turned_fits (w ∷ ws) zero = omega arith
 turned_fits (w ∷ ws) (suc k) = turned_fits ws k
 
 -- one bit
-module _ (n m r v : ℕ) (small : n ≤ 65536) (below : m < n) (r_is : r ≡ (n - 1) / 64) (v_is : v ≡ 2 ^ (m % 64)) where
-  one_word : List ℕ
-  one_word = set (replicate (suc r) 0) (m / 64) v
+module _ (n m r v : ℕ) (small : n ≤ 65536) (below : m < n) (r_is : r ≡ (n - 1) / 64 + 1) (v_is : v ≡ 2 ^ (m % 64)) where
+  place : m / 64 < length (replicate {A = ℕ} r 0)
+  place = omega (arith, length-replicate {A = ℕ} r 0)
 
-  place : m / 64 < length (replicate {A = ℕ} (suc r) 0)
-  place = omega (arith, length-replicate {A = ℕ} (suc r) 0)
-
-  one_bit : (i : ℕ) → has_bit (set (replicate (suc r) 0) (m / 64) v) i ≡ eqb m i
+  one_bit : (i : ℕ) → has_bit (set (replicate r 0) (m / 64) v) i ≡ eqb m i
   one_bit i = elim (cases_eq (i / 64) (m / 64)) [
     | inl e ↦
-        ap (λ k. bit_is (get_or (set (replicate (suc r) 0) (m / 64) v) k 0) (i % 64)) e
-        ∙ ap (λ w. bit_is w (i % 64)) (get_or-set_same (replicate (suc r) 0) (m / 64) v 0 place ∙ v_is)
+        ap (λ k. bit_is (get_or (set (replicate r 0) (m / 64) v) k 0) (i % 64)) e
+        ∙ ap (λ w. bit_is w (i % 64)) (get_or-set_same (replicate r 0) (m / 64) v 0 place ∙ v_is)
         ∙ elim (cases_eq (i % 64) (m % 64)) as (λ _. bit_is (2 ^ (m % 64)) (i % 64) ≡ eqb m i) [
           | inl s ↦ ap (λ k. eqb k 1) (ap (bit_at (2 ^ (m % 64))) s ∙ bit_at-pow_same (m % 64)) ∙ sym (eq-eqb m i (omega arith))
           | inr o ↦ ap (λ k. eqb k 1) (bit_at-pow_other (m % 64) (i % 64) o) ∙ sym (ne_eqb m i (λ (s : m ≡ i). o (omega arith)))
         ]
     | inr o ↦
-        ap (λ w. bit_is w (i % 64)) (get_or-set_other (replicate (suc r) 0) (m / 64) (i / 64) v 0 o)
+        ap (λ w. bit_is w (i % 64)) (get_or-set_other (replicate r 0) (m / 64) (i / 64) v 0 o)
         ∙ zero_word ∙ sym (ne_eqb m i (λ (s : m ≡ i). o (ap (λ k. k / 64) (sym s))))
   ]
     where
-      zero_word : bit_is (get_or (replicate (suc r) 0) (i / 64) 0) (i % 64) ≡ false
-      zero_word = elim (cases_lt (i / 64) (suc r)) [
-        | inl low ↦ ap (λ w. bit_is w (i % 64)) (get_or-all (suc r) 0 (i / 64) low) ∙ ap (λ k. eqb k 1) (bit_at-zero (i % 64))
-        | inr past ↦ none_past (replicate (suc r) 0) i (omega (arith, length-replicate {A = ℕ} (suc r) 0))
+      zero_word : bit_is (get_or (replicate r 0) (i / 64) 0) (i % 64) ≡ false
+      zero_word = elim (cases_lt (i / 64) r) [
+        | inl low ↦ ap (λ w. bit_is w (i % 64)) (get_or-all r 0 (i / 64) low) ∙ ap (λ k. eqb k 1) (bit_at-zero (i % 64))
+        | inr past ↦ none_past (replicate r 0) i (omega (arith, length-replicate {A = ℕ} r 0))
       ]
 
-  pub one_is : IsWords n (set (replicate (suc r) 0) (m / 64) v)
+  pub one_is : IsWords n (set (replicate r 0) (m / 64) v)
   one_is = record {
     small = small;
-    long = length-set (replicate (suc r) 0) (m / 64) v ∙ length-replicate {A = ℕ} (suc r) 0 ∙ omega arith;
+    long = length-set (replicate r 0) (m / 64) v ∙ length-replicate {A = ℕ} r 0 ∙ omega arith;
     fits = λ k. elim (cases_eq k (m / 64)) [
-      | inl e ↦ subst (λ w. w < 2 ^ 64) (sym (ap (λ k. get_or (set (replicate (suc r) 0) (m / 64) v) k 0) e ∙ get_or-set_same (replicate (suc r) 0) (m / 64) v 0 place ∙ v_is)) (pow-lt {i = m % 64} {j = 64} (omega arith))
-      | inr o ↦ subst (λ w. w < 2 ^ 64) (sym (get_or-set_other (replicate (suc r) 0) (m / 64) k v 0 o)) (zero_fits k)
+      | inl e ↦ subst (λ w. w < 2 ^ 64) (sym (ap (λ k. get_or (set (replicate r 0) (m / 64) v) k 0) e ∙ get_or-set_same (replicate r 0) (m / 64) v 0 place ∙ v_is)) (pow-lt {i = m % 64} {j = 64} (omega arith))
+      | inr o ↦ subst (λ w. w < 2 ^ 64) (sym (get_or-set_other (replicate r 0) (m / 64) k v 0 o)) (zero_fits k)
     ];
     clear = λ i past. one_bit i ∙ ne_eqb m i (λ (s : m ≡ i). omega arith);
   }
     where
-      zero_fits : (k : ℕ) → get_or (replicate (suc r) 0) k 0 < 2 ^ 64
-      zero_fits k = elim (cases_lt k (suc r)) [
-        | inl low ↦ subst (λ w. w < 2 ^ 64) (sym (get_or-all (suc r) 0 k low)) (omega arith)
-        | inr past ↦ subst (λ w. w < 2 ^ 64) (sym (get_or_past (replicate (suc r) 0) k 0 (omega (arith, length-replicate {A = ℕ} (suc r) 0)))) (omega arith)
+      zero_fits : (k : ℕ) → get_or (replicate r 0) k 0 < 2 ^ 64
+      zero_fits k = elim (cases_lt k r) [
+        | inl low ↦ subst (λ w. w < 2 ^ 64) (sym (get_or-all r 0 k low)) (omega arith)
+        | inr past ↦ subst (λ w. w < 2 ^ 64) (sym (get_or_past (replicate r 0) k 0 (omega (arith, length-replicate {A = ℕ} r 0)))) (omega arith)
       ]
 
-  pub one_set : set_where n (has_bit (set (replicate (suc r) 0) (m / 64) v)) ≡ only n m
-  one_set = set_agree (has_bit (set (replicate (suc r) 0) (m / 64) v)) (λ i. eqb m i) n (λ i low. one_bit i) ∙ sym (only_where n m)
+  pub one_set : set_where n (has_bit (set (replicate r 0) (m / 64) v)) ≡ only n m
+  one_set = set_agree (has_bit (set (replicate r 0) (m / 64) v)) (λ i. eqb m i) n (λ i low. one_bit i) ∙ sym (only_where n m)
 
-pub one_later : (r place v : ℕ) (rest : List ℕ) → rest ≡ replicate r 0 → (place ≡ 0 → ⊥) → set (replicate (suc r) 0) place v ≡ 0 ∷ set rest (place - 1) v
-one_later r place v rest e some =
-    let some_place : place ≢ 0 = some in
-    let next : place ≡ suc (place - 1) = omega arith in
-    ap (λ k. set (replicate (suc r) 0) k v) next ∙ ap (λ l. 0 ∷ set l (place - 1) v) (sym e)
+-- the same in one word
+pub lone_bit : (n m v : ℕ) → n ≤ 64 → m < n → v ≡ 2 ^ (m % 64) → IsWords n (v ∷ []) × (set_where n (has_bit (v ∷ [])) ≡ only n m)
+lone_bit n m v small below v_is =
+    let words : set (replicate 1 0) (m / 64) v ≡ v ∷ [] = ap (λ k. set (replicate 1 0) k v) first in
+    (subst (IsWords n) words (one_is n m 1 v (omega arith) below long v_is), ap (λ ws. set_where n (has_bit ws)) (sym words) ∙ one_set n m 1 v (omega arith) below long v_is)
+  where
+    first : m / 64 ≡ 0
+    first = omega arith
+
+    long : 1 ≡ (n - 1) / 64 + 1
+    long = omega arith
 
 -- counting
 count_step : (b : Bool) (xs : Members) → size (b ∷ xs) ≡ cond b (1 + size xs) (size xs)

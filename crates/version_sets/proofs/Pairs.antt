@@ -1,63 +1,110 @@
--- Two sets of one universe, as words.
-use Rattle.std.proofs.Common.{◌≡◌, ℕ, false, not, ◌&&◌, List, ◌∷◌, length, bit_and, bit_or, ap, ap₂, sym, ◌∙◌, subst, arith, eq-eqb}
-use Rattle.std.proofs.lemmas.Bool.{ne_eqb}
+-- What holds of a set by its words, and of two sets of one universe.
+use Rattle.std.proofs.Common.{◌≡◌, ℕ, ◌+◌, ◌-◌, ◌/◌, ◌^◌, ◌<◌, ◌≤◌, ◌↔◌, Bool, true, false, not, ◌&&◌, List, [], ◌∷◌, length, map, get_or, bit_and, bit_or, eqb, refl, ap, ap₂, sym, ◌∙◌, subst, arith, eq-eqb, Result}
+use Rattle.std.proofs.lemmas.Bool.{eqb-true}
+use Rattle.std.proofs.lemmas.Result.{IfOk-weaker}
+use Rattle.std.specs.Int.{bit_not, w64}
+use Rattle.std.specs.Int.RustNames.{count_ones}
+use Rattle.std.specs.Prelude.{IfOk, IsTrue}
 use Rattle.std.specs.Simd.Lanes.{zip2}
-use Rattle.version_sets.specs.Sets.{Members, has, inside, join, meet, meets}
+use Rattle.version_sets.specs.Forms.{universe_in, words_in}
 use Rattle.version_sets.specs.Listed.{set_where}
-use Rattle.version_sets.specs.Words.{IsWords, all_zero, and_not, has_bit}
-use Rattle.version_sets.proofs.Bits.{and_is, apart_is, has_is, or_is, same_words, within_is, words_and, words_or}
+use Rattle.version_sets.specs.Sets.{Members, has, inside, join, meet, meets, rest, size}
+use Rattle.version_sets.specs.Words.{AreWords, IsWords, all_zero, and_not, has_bit, ones_in}
+use Rattle.version_sets.specs.declared.words.Form.{Form}
+use Rattle.version_sets.proofs.Bits.{and_is, apart_is, has_is, or_is, same_words, turned_is, within_is, words_and, words_or}
+use Rattle.version_sets.proofs.Filled.{ones_are_size, ones_bound}
 use Rattle.version_sets.proofs.Listing.{length-set_where}
 
-module _ (m n x y : ℕ) (left right : List ℕ) (xs ys : Members) (p : IsWords m (x ∷ left)) (q : IsWords n (y ∷ right))
-    (here : set_where m (has_bit (x ∷ left)) ≡ xs) (there : set_where n (has_bit (y ∷ right)) ≡ ys) (same : length xs ≡ length ys) where
-  universe : n ≡ m
-  universe = sym (length-set_where n (has_bit (y ∷ right))) ∙ ap length there ∙ sym same ∙ sym (ap length here) ∙ length-set_where m (has_bit (x ∷ left))
+-- a set as it lies in memory, by its words
+module _ (f : Form) (s : Members) (is : IsWords (universe_in f) (words_in f)) (view : set_where (universe_in f) (has_bit (words_in f)) ≡ s) where
+  pub form_universe : universe_in f ≡ length s
+  form_universe = sym (length-set_where (universe_in f) (has_bit (words_in f))) ∙ ap length view
 
-  second : IsWords m (y ∷ right)
-  second = subst (λ k. IsWords k (y ∷ right)) universe q
+  pub form_words : AreWords s (words_in f)
+  form_words = record {
+    is = subst (λ n. IsWords n (words_in f)) form_universe is;
+    same = ap (λ n. set_where n (has_bit (words_in f))) (sym form_universe) ∙ view;
+  }
 
-  second_is : set_where m (has_bit (y ∷ right)) ≡ ys
-  second_is = ap (λ k. set_where k (has_bit (y ∷ right))) (sym universe) ∙ there
+  pub form_small : length s ≤ 65536
+  form_small = omega (arith, form_universe, is.small)
 
-  pub pair_long : length left ≡ length right
-  pair_long = omega (arith, p.long, second.long)
+-- one set
+module _ (s : Members) (ws : List ℕ) (p : AreWords s ws) (n : ℕ) (n_is : n ≡ length s) where
+  pub its_words : IsWords n ws
+  its_words = subst (λ k. IsWords k ws) (sym n_is) p.is
 
-  pub pair_or : set_where m (has_bit (bit_or x y ∷ zip2 bit_or left right)) ≡ join xs ys
-  pair_or = or_is m (x ∷ left) (y ∷ right) p second ∙ ap₂ join here second_is
+  pub its_set : set_where n (has_bit ws) ≡ s
+  its_set = ap (λ k. set_where k (has_bit ws)) n_is ∙ p.same
 
-  pub pair_and : set_where m (has_bit (bit_and x y ∷ zip2 bit_and left right)) ≡ meet xs ys
-  pair_and = and_is m (x ∷ left) (y ∷ right) p second ∙ ap₂ meet here second_is
+pub member_is : (s : Members) (ws : List ℕ) (i : ℕ) → AreWords s ws → has_bit ws i ≡ has s i
+member_is s ws i p = sym (has_is (length s) ws ws p.is p.is ws p.is i) ∙ ap (λ t. has t i) p.same
 
-  pub pair_or_words : IsWords m (bit_or x y ∷ zip2 bit_or left right)
-  pair_or_words = words_or m (x ∷ left) (y ∷ right) p second
+pub count_is : (s : Members) (ws : List ℕ) → AreWords s ws → ones_in ws ≡ size s
+count_is s ws p = ones_are_size (length s) ws p.is ∙ ap size p.same
 
-  pub pair_and_words : IsWords m (bit_and x y ∷ zip2 bit_and left right)
-  pair_and_words = words_and m (x ∷ left) (y ∷ right) p second
+pub count_fits : (s : Members) (ws : List ℕ) → AreWords s ws → ones_in ws < 2 ^ 32
+count_fits s ws p = (let bound : ones_in ws ≤ 65536 = ones_bound (length s) ws p.is in omega arith)
 
-  -- the first word decides, or the rest do
-  pub pair_not_within : (and_not x y ≡ 0 → ⊥) → false ≡ inside xs ys
-  pair_not_within some = sym (ap (λ b. b && all_zero (zip2 and_not left right)) (ne_eqb (and_not x y) 0 some)) ∙ within_is m (x ∷ left) (y ∷ right) p second ∙ ap₂ inside here second_is
+pub lone_count : (s : Members) (w : ℕ) → AreWords s (w ∷ []) → count_ones w ≡ size s
+lone_count s w p = (let counted : count_ones w + 0 ≡ size s = count_is s (w ∷ []) p in omega arith)
 
-  pub pair_within : and_not x y ≡ 0 → all_zero (zip2 and_not left right) ≡ inside xs ys
-  pair_within none = sym (ap (λ b. b && all_zero (zip2 and_not left right)) (eq-eqb (and_not x y) 0 none)) ∙ within_is m (x ∷ left) (y ∷ right) p second ∙ ap₂ inside here second_is
+pub turned_set : (s : Members) (ws : List ℕ) → AreWords s ws → (n : ℕ) → n ≡ length s → set_where n (has_bit (map (bit_not w64) ws)) ≡ rest s
+turned_set s ws p n n_is = turned_is n ws (its_words s ws p n n_is) ∙ ap rest (its_set s ws p n n_is)
 
-  pub pair_not_apart : (bit_and x y ≡ 0 → ⊥) → false ≡ not (meets xs ys)
-  pair_not_apart some = sym (ap (λ b. b && all_zero (zip2 bit_and left right)) (ne_eqb (bit_and x y) 0 some)) ∙ apart_is m (x ∷ left) (y ∷ right) p second ∙ ap not (ap₂ meets here second_is)
+-- a set that was made is another, if that is the same
+pub made_is : {E : Type 0} (r : Result Members E) (s t : Members) → IfOk r (λ x. x ≡ s) → s ≡ t → IfOk r (λ x. x ≡ t)
+made_is r s t made e = IfOk-weaker r (λ x. x ≡ s) (λ x. x ≡ t) (λ x is. is ∙ e) made
 
-  pub pair_apart : bit_and x y ≡ 0 → all_zero (zip2 bit_and left right) ≡ not (meets xs ys)
-  pair_apart none = sym (ap (λ b. b && all_zero (zip2 bit_and left right)) (eq-eqb (bit_and x y) 0 none)) ∙ apart_is m (x ∷ left) (y ∷ right) p second ∙ ap not (ap₂ meets here second_is)
+-- two sets of one universe
+module _ (xs ys : Members) (a b : List ℕ) (p : AreWords xs a) (q : AreWords ys b) (same : length xs ≡ length ys) where
+  second : IsWords (length xs) b
+  second = subst (λ k. IsWords k b) (sym same) q.is
 
-  pub pair_from : x ≡ y → left ≡ right → xs ≡ ys
-  pair_from e f = sym here ∙ ap₂ (λ w ws. set_where m (has_bit (w ∷ ws))) e f ∙ second_is
+  second_is : set_where (length xs) (has_bit b) ≡ ys
+  second_is = ap (λ k. set_where k (has_bit b)) same ∙ q.same
 
-  pub pair_words : xs ≡ ys → x ∷ left ≡ y ∷ right
-  pair_words e = same_words m (x ∷ left) (y ∷ right) p second (here ∙ e ∙ sym second_is)
+  pub pair_long : length a ≡ length b
+  pair_long = omega (arith, p.is.long, second.long)
 
-  pub pair_first : xs ≡ ys → x ≡ y
-  pair_first e = let words = pair_words e in cc
+  pub pair_within : all_zero (zip2 and_not a b) ≡ inside xs ys
+  pair_within = within_is (length xs) a b p.is second ∙ ap₂ inside p.same second_is
 
-  pub pair_rest : xs ≡ ys → left ≡ right
-  pair_rest e = let words = pair_words e in cc
+  pub pair_apart : all_zero (zip2 bit_and a b) ≡ not (meets xs ys)
+  pair_apart = apart_is (length xs) a b p.is second ∙ ap not (ap₂ meets p.same second_is)
 
-pub member_is : (n : ℕ) (ws : List ℕ) (xs : Members) (i : ℕ) → IsWords n ws → set_where n (has_bit ws) ≡ xs → has_bit ws i ≡ has xs i
-member_is n ws xs i p e = sym (has_is n ws ws p p ws p i) ∙ ap (λ s. has s i) e
+  pub pair_from : a ≡ b → xs ≡ ys
+  pair_from e = sym p.same ∙ ap (λ ws. set_where (length xs) (has_bit ws)) e ∙ second_is
+
+  pub pair_words : xs ≡ ys → a ≡ b
+  pair_words e = same_words (length xs) a b p.is second (p.same ∙ e ∙ sym second_is)
+
+  module _ (n : ℕ) (n_is : n ≡ length xs) where
+    pub pair_or : set_where n (has_bit (zip2 bit_or a b)) ≡ join xs ys
+    pair_or = ap (λ k. set_where k (has_bit (zip2 bit_or a b))) n_is ∙ or_is (length xs) a b p.is second ∙ ap₂ join p.same second_is
+
+    pub pair_and : set_where n (has_bit (zip2 bit_and a b)) ≡ meet xs ys
+    pair_and = ap (λ k. set_where k (has_bit (zip2 bit_and a b))) n_is ∙ and_is (length xs) a b p.is second ∙ ap₂ meet p.same second_is
+
+    pub pair_or_words : IsWords n (zip2 bit_or a b)
+    pair_or_words = subst (λ k. IsWords k (zip2 bit_or a b)) (sym n_is) (words_or (length xs) a b p.is second)
+
+    pub pair_and_words : IsWords n (zip2 bit_and a b)
+    pair_and_words = subst (λ k. IsWords k (zip2 bit_and a b)) (sym n_is) (words_and (length xs) a b p.is second)
+
+-- the test of one word
+and_true : (b : Bool) → b ≡ (b && true)
+and_true true = refl
+and_true false = refl
+
+pub lone_within : (xs ys : Members) (x y : ℕ) → AreWords xs (x ∷ []) → AreWords ys (y ∷ []) → length xs ≡ length ys → eqb (and_not x y) 0 ≡ inside xs ys
+lone_within xs ys x y p q same = and_true (eqb (and_not x y) 0) ∙ pair_within xs ys (x ∷ []) (y ∷ []) p q same
+
+pub lone_apart : (xs ys : Members) (x y : ℕ) → AreWords xs (x ∷ []) → AreWords ys (y ∷ []) → length xs ≡ length ys → eqb (bit_and x y) 0 ≡ not (meets xs ys)
+lone_apart xs ys x y p q same = and_true (eqb (bit_and x y) 0) ∙ pair_apart xs ys (x ∷ []) (y ∷ []) p q same
+
+pub lone_same : (xs ys : Members) (x y : ℕ) → AreWords xs (x ∷ []) → AreWords ys (y ∷ []) → length xs ≡ length ys → IsTrue (eqb x y) ↔ (xs ≡ ys)
+lone_same xs ys x y p q same = (
+  (λ t. pair_from xs ys (x ∷ []) (y ∷ []) p q same (ap (λ w. w ∷ []) (eqb-true x y t))),
+  (λ e. (let words = pair_words xs ys (x ∷ []) (y ∷ []) p q same e in eq-eqb x y cc)),
+)

@@ -46,19 +46,19 @@ word_more tests from place made new now is = by (has tests (from + place)) refl
           others = λ j le. ap (λ w. bit_is w j) n ∙ now.others j (omega (arith, le));
         }
 
--- the words past the first
+-- words one after another
 
 pub no_words : (tests : Members) → AreWordsOf tests 0 []
 no_words tests = record { long = refl; fits = λ k. omega arith; bits = λ k j lt. absurd (omega (arith, lt)) }
 
-pub one_word : (tests : Members) (n w : ℕ) (ws new : List ℕ) → AreWordsOf tests n ws → w < 2 ^ 64 → ((j : ℕ) → j < 64 → bit_is w j ≡ has tests (64 * (n + 1) + j)) → new ≡ ws ++ w ∷ [] → AreWordsOf tests (n + 1) new
+pub one_word : (tests : Members) (n w : ℕ) (ws new : List ℕ) → AreWordsOf tests n ws → w < 2 ^ 64 → ((j : ℕ) → j < 64 → bit_is w j ≡ has tests (64 * n + j)) → new ≡ ws ++ w ∷ [] → AreWordsOf tests (n + 1) new
 one_word tests n w ws new now fits bits is = subst (AreWordsOf tests (n + 1)) (sym is) (record {
   long = (let e : length (ws ++ w ∷ []) ≡ length ws + 1 = length-append ws (w ∷ []) in omega (arith, e, now.long));
   fits = λ k. all_fit ws k now.fits;
   bits = λ k j lt low. elim (cases_lt k (length ws)) [
     | inl here ↦ ap (λ x. bit_is x j) (get_or_append_left ws (w ∷ []) 0 k here) ∙ now.bits k j here low
     | inr past ↦ (let e : length (ws ++ w ∷ []) ≡ length ws + 1 = length-append ws (w ∷ []) in let s : k ≡ length ws = omega (arith, e, lt, past) in
-        ap (λ m. bit_is (get_or (ws ++ w ∷ []) m 0) j) s ∙ ap (λ x. bit_is x j) (at_end ws) ∙ bits j low ∙ ap (λ m. has tests (64 * (m + 1) + j)) (sym (s ∙ now.long)))
+        ap (λ m. bit_is (get_or (ws ++ w ∷ []) m 0) j) s ∙ ap (λ x. bit_is x j) (at_end ws) ∙ bits j low ∙ ap (λ m. has tests (64 * m + j)) (sym (s ∙ now.long)))
   ];
 })
   where
@@ -79,29 +79,27 @@ no_test [] i le = refl
 no_test (t ∷ tests) zero le = absurd (omega (arith, le))
 no_test (t ∷ tests) (suc i) le = no_test tests i (omega (arith, le))
 
-module _ (tests : Members) (n first : ℕ) (ws : List ℕ) (long : n ≡ length tests) (small : length tests ≤ 65536) (rest : AreWordsOf tests ((length tests - 1) / 64) ws)
-    (first_fits : first < 2 ^ 64) (first_bits : (j : ℕ) → j < 64 → bit_is first j ≡ has tests (64 * 0 + j)) where
-  bits_are : (i : ℕ) → has_bit (first ∷ ws) i ≡ has tests i
-  bits_are i = by (i / 64) refl
-    where
-      by : (k : ℕ) → i / 64 ≡ k → has_bit (first ∷ ws) i ≡ has tests i
-      by zero e = let s : 64 * 0 + i % 64 ≡ i = omega (arith, e) in ap (λ k. bit_is (get_or (first ∷ ws) k 0) (i % 64)) e ∙ first_bits (i % 64) (omega arith) ∙ ap (has tests) s
-      by (suc k) e = elim (cases_lt k (length ws)) [
-        | inl here ↦ (let s : 64 * (k + 1) + i % 64 ≡ i = omega (arith, e) in ap (λ k. bit_is (get_or (first ∷ ws) k 0) (i % 64)) e ∙ rest.bits k (i % 64) here (omega arith) ∙ ap (has tests) s)
-        | inr past ↦ (let l : length ws ≡ (length tests - 1) / 64 = rest.long in none_past (first ∷ ws) i (omega (arith, e, past)) ∙ sym (no_test tests i (omega (arith, e, past, l))))
-      ]
+module _ (tests : Members) (n : ℕ) (ws : List ℕ) (long : n ≡ length tests) (small : length tests ≤ 65536) (all : AreWordsOf tests ((length tests - 1) / 64 + 1) ws) where
+  bits_are : (i : ℕ) → has_bit ws i ≡ has tests i
+  bits_are i = elim (cases_lt (i / 64) (length ws)) [
+    | inl here ↦ (let s : 64 * (i / 64) + i % 64 ≡ i = omega arith in all.bits (i / 64) (i % 64) here (omega arith) ∙ ap (has tests) s)
+    | inr past ↦ (let l : length ws ≡ (length tests - 1) / 64 + 1 = all.long in none_past ws i past ∙ sym (no_test tests i (omega (arith, past, l))))
+  ]
 
-  pub tested_words : IsWords n (first ∷ ws)
+  pub tested_words : IsWords n ws
   tested_words = record {
     small = omega (arith, long, small);
-    long = (let l : length ws ≡ (length tests - 1) / 64 = rest.long in omega (arith, l, long));
-    fits = all_fit;
+    long = (let l : length ws ≡ (length tests - 1) / 64 + 1 = all.long in omega (arith, l, long));
+    fits = all.fits;
     clear = λ i le. bits_are i ∙ no_test tests i (omega (arith, le, long));
   }
-    where
-      all_fit : (k : ℕ) → get_or (first ∷ ws) k 0 < 2 ^ 64
-      all_fit zero = first_fits
-      all_fit (suc k) = rest.fits k
 
-  pub tested_set : set_where n (has_bit (first ∷ ws)) ≡ tests
-  tested_set = set_agree (has_bit (first ∷ ws)) (has tests) n (λ i lt. bits_are i) ∙ sym (set_of_tests tests n (sym long))
+  pub tested_set : set_where n (has_bit ws) ≡ tests
+  tested_set = set_agree (has_bit ws) (has tests) n (λ i lt. bits_are i) ∙ sym (set_of_tests tests n (sym long))
+
+-- the tests of one word
+pub lone_tests : (tests : Members) (w : ℕ) → length tests ≤ 64 → w < 2 ^ 64 → ((j : ℕ) → j < 64 → bit_is w j ≡ has tests (64 * 0 + j)) → AreWordsOf tests ((length tests - 1) / 64 + 1) (w ∷ [])
+lone_tests tests w small fits bits = subst (λ k. AreWordsOf tests k (w ∷ [])) long (one_word tests 0 w [] (w ∷ []) (no_words tests) fits bits refl)
+  where
+    long : 0 + 1 ≡ (length tests - 1) / 64 + 1
+    long = omega arith

@@ -1,3 +1,4 @@
 pub mod Sets
 pub mod Listed
 pub mod Words
+pub mod Forms

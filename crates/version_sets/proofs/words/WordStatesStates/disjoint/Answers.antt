@@ -1,14 +1,9 @@
-use Rattle.std.proofs.Common.{◌∙◌, ap₂, bit_and}
-use Rattle.std.specs.Simd.Lanes.{zip2}
-use Rattle.version_sets.specs.Words.{all_zero}
-use Rattle.version_sets.proofs.Pairs.{pair_apart, pair_long, pair_not_apart}
+use Rattle.std.proofs.Common.{◌∙◌}
+use Rattle.version_sets.proofs.Pairs.{lone_apart, pair_apart}
 use Rattle.version_sets.proofs.words.WordStatesStates.disjoint.Goals as goal
 
-pub returns-then-self-other-ne0 : goal.returns-then-self-other-ne0
-returns-then-self-other-ne0 c = pair_not_apart c.self.inside.universe c.other.inside.universe c.self.inside.first c.other.inside.first c.self.inside.rest.items c.other.inside.rest.items c.args.self.now c.args.other.now c.self.invariant c.other.invariant c.self.view_is c.other.view_is c.requires c.if-self-other-ne0.true
-
-pub are_disjoint-requires : goal.are_disjoint-requires
-are_disjoint-requires c = rw (c.deref.ensures.value, c.deref-2.ensures.value) (pair_long c.self.inside.universe c.other.inside.universe c.self.inside.first c.other.inside.first c.self.inside.rest.items c.other.inside.rest.items c.args.self.now c.args.other.now c.self.invariant c.other.invariant c.self.view_is c.other.view_is c.requires)
+pub returns-in-Some : goal.returns-in-Some
+returns-in-Some c = lone_apart c.args.self.now c.args.other.now c.in-Some.a c.in-Some.b c.in-Some.ensures.0 c.in-Some.ensures.1 c.requires
 
 pub returns : goal.returns
-returns c = c.are_disjoint.ensures ∙ ap₂ (λ a b. all_zero (zip2 bit_and a b)) c.deref.ensures.value c.deref-2.ensures.value ∙ pair_apart c.self.inside.universe c.other.inside.universe c.self.inside.first c.other.inside.first c.self.inside.rest.items c.other.inside.rest.items c.args.self.now c.args.other.now c.self.invariant c.other.invariant c.self.view_is c.other.view_is c.requires c.if-self-other-ne0.false
+returns c = c.are_disjoint.ensures ∙ pair_apart c.args.self.now c.args.other.now c.words.result.now c.words-2.result.now c.words.ensures c.words-2.ensures c.requires

@@ -1,18 +1,21 @@
-use Rattle.std.proofs.Common.{◌≡◌, ◌∙◌, ◌∷◌, ap, ap₂, bit_and}
+use Rattle.std.proofs.Common.{◌≡◌, ◌∷◌, ◌∙◌, [], ap, sym, subst, bit_and}
 use Rattle.std.specs.Simd.Lanes.{zip2}
 use Rattle.version_sets.specs.Listed.{set_where}
-use Rattle.version_sets.specs.Words.{has_bit}
-use Rattle.version_sets.proofs.Pairs.{pair_and, pair_and_words, pair_long}
+use Rattle.version_sets.specs.Sets.{meet}
+use Rattle.version_sets.specs.Words.{IsWords, has_bit}
+use Rattle.version_sets.proofs.Pairs.{made_is, pair_and, pair_and_words}
 use Rattle.version_sets.proofs.words.WordStatesStates.intersect.Goals as goal
 
-pub common-requires : goal.common-requires
-common-requires c = rw (c.deref.ensures.value, c.deref-2.ensures.value) (pair_long c.self.inside.universe c.other.inside.universe c.self.inside.first c.other.inside.first c.self.inside.rest.items c.other.inside.rest.items c.args.self.now c.args.other.now c.self.invariant c.other.invariant c.self.view_is c.other.view_is c.requires)
+pub of_word-requires : goal.of_word-requires
+of_word-requires c = pair_and_words c.args.self.now c.args.other.now (c.in-Some.a ∷ []) (c.in-Some.b ∷ []) c.in-Some.ensures.0 c.in-Some.ensures.1 c.requires c.universe.result c.universe.ensures.universe
 
-items : (c : goal.In_ok-common) → c.in_ok-common.field-0.items ≡ zip2 bit_and c.self.inside.rest.items c.other.inside.rest.items
-items c = c.in_ok-common.ensures ∙ ap₂ (zip2 bit_and) c.deref.ensures.value c.deref-2.ensures.value
+pub returns-in-Some : goal.returns-in-Some
+returns-in-Some c = c.of_word.ensures ∙ pair_and c.args.self.now c.args.other.now (c.in-Some.a ∷ []) (c.in-Some.b ∷ []) c.in-Some.ensures.0 c.in-Some.ensures.1 c.requires c.universe.result c.universe.ensures.universe
 
-pub invariant_of-result : goal.invariant_of-result
-invariant_of-result c = rw (items c) (pair_and_words c.self.inside.universe c.other.inside.universe c.self.inside.first c.other.inside.first c.self.inside.rest.items c.other.inside.rest.items c.args.self.now c.args.other.now c.self.invariant c.other.invariant c.self.view_is c.other.view_is c.requires)
+pub of_words-requires : goal.of_words-requires
+of_words-requires c = subst (IsWords c.universe-2.result) (sym c.in_ok-words.ensures) (pair_and_words c.args.self.now c.args.other.now c.words.result.now c.words-2.result.now c.words.ensures c.words-2.ensures c.requires c.universe-2.result c.universe-2.ensures.universe)
 
 pub returns : goal.returns
-returns c = ap (λ l. set_where c.self.inside.universe (has_bit (bit_and c.self.inside.first c.other.inside.first ∷ l))) (items c) ∙ pair_and c.self.inside.universe c.other.inside.universe c.self.inside.first c.other.inside.first c.self.inside.rest.items c.other.inside.rest.items c.args.self.now c.args.other.now c.self.invariant c.other.invariant c.self.view_is c.other.view_is c.requires
+returns c =
+    made_is c.of_words.result (set_where c.universe-2.result (has_bit c.in_ok-words.words.items)) (meet c.args.self.now c.args.other.now) c.of_words.ensures
+    (ap (λ l. set_where c.universe-2.result (has_bit l)) c.in_ok-words.ensures ∙ pair_and c.args.self.now c.args.other.now c.words.result.now c.words-2.result.now c.words.ensures c.words-2.ensures c.requires c.universe-2.result c.universe-2.ensures.universe)

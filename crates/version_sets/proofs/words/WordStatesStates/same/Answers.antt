@@ -1,13 +1,11 @@
-use Rattle.std.proofs.Common.{◌∙◌, sym}
-use Rattle.std.proofs.lemmas.Bool.{false≢true}
-use Rattle.version_sets.proofs.Pairs.{pair_first, pair_from, pair_rest}
+use Rattle.version_sets.proofs.Pairs.{lone_same, pair_from, pair_words}
 use Rattle.version_sets.proofs.words.WordStatesStates.same.Goals as goal
 
-pub returns-then-self-other : goal.returns-then-self-other
-returns-then-self-other c = ((λ t. absurd (false≢true t)), (λ e. absurd (c.if-self-other.true (pair_first c.self.inside.universe c.other.inside.universe c.self.inside.first c.other.inside.first c.self.inside.rest.items c.other.inside.rest.items c.args.self.now c.args.other.now c.self.invariant c.other.invariant c.self.view_is c.other.view_is c.requires e))))
+pub returns-in-Some : goal.returns-in-Some
+returns-in-Some c = lone_same c.args.self.now c.args.other.now c.in-Some.a c.in-Some.b c.in-Some.ensures.0 c.in-Some.ensures.1 c.requires
 
 pub returns : goal.returns
 returns c = (
-  (λ t. pair_from c.self.inside.universe c.other.inside.universe c.self.inside.first c.other.inside.first c.self.inside.rest.items c.other.inside.rest.items c.args.self.now c.args.other.now c.self.invariant c.other.invariant c.self.view_is c.other.view_is c.requires c.if-self-other.false (sym c.deref.ensures.value ∙ c.same_words.ensures.0 t ∙ c.deref-2.ensures.value)),
-  (λ e. c.same_words.ensures.1 (c.deref.ensures.value ∙ pair_rest c.self.inside.universe c.other.inside.universe c.self.inside.first c.other.inside.first c.self.inside.rest.items c.other.inside.rest.items c.args.self.now c.args.other.now c.self.invariant c.other.invariant c.self.view_is c.other.view_is c.requires e ∙ sym c.deref-2.ensures.value)),
+  (λ t. pair_from c.args.self.now c.args.other.now c.words.result.now c.words-2.result.now c.words.ensures c.words-2.ensures c.requires (c.same_words.ensures.0 t)),
+  (λ e. c.same_words.ensures.1 (pair_words c.args.self.now c.args.other.now c.words.result.now c.words-2.result.now c.words.ensures c.words-2.ensures c.requires e)),
 )

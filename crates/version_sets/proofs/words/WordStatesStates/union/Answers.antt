@@ -1,18 +1,21 @@
-use Rattle.std.proofs.Common.{◌≡◌, ◌∙◌, ◌∷◌, ap, ap₂, bit_or}
+use Rattle.std.proofs.Common.{◌≡◌, ◌∷◌, ◌∙◌, [], ap, sym, subst, bit_or}
 use Rattle.std.specs.Simd.Lanes.{zip2}
 use Rattle.version_sets.specs.Listed.{set_where}
-use Rattle.version_sets.specs.Words.{has_bit}
-use Rattle.version_sets.proofs.Pairs.{pair_long, pair_or, pair_or_words}
+use Rattle.version_sets.specs.Sets.{join}
+use Rattle.version_sets.specs.Words.{IsWords, has_bit}
+use Rattle.version_sets.proofs.Pairs.{made_is, pair_or, pair_or_words}
 use Rattle.version_sets.proofs.words.WordStatesStates.union.Goals as goal
 
-pub joined-requires : goal.joined-requires
-joined-requires c = rw (c.deref.ensures.value, c.deref-2.ensures.value) (pair_long c.self.inside.universe c.other.inside.universe c.self.inside.first c.other.inside.first c.self.inside.rest.items c.other.inside.rest.items c.args.self.now c.args.other.now c.self.invariant c.other.invariant c.self.view_is c.other.view_is c.requires)
+pub of_word-requires : goal.of_word-requires
+of_word-requires c = pair_or_words c.args.self.now c.args.other.now (c.in-Some.a ∷ []) (c.in-Some.b ∷ []) c.in-Some.ensures.0 c.in-Some.ensures.1 c.requires c.universe.result c.universe.ensures.universe
 
-items : (c : goal.In_ok-joined) → c.in_ok-joined.field-0.items ≡ zip2 bit_or c.self.inside.rest.items c.other.inside.rest.items
-items c = c.in_ok-joined.ensures ∙ ap₂ (zip2 bit_or) c.deref.ensures.value c.deref-2.ensures.value
+pub returns-in-Some : goal.returns-in-Some
+returns-in-Some c = c.of_word.ensures ∙ pair_or c.args.self.now c.args.other.now (c.in-Some.a ∷ []) (c.in-Some.b ∷ []) c.in-Some.ensures.0 c.in-Some.ensures.1 c.requires c.universe.result c.universe.ensures.universe
 
-pub invariant_of-result : goal.invariant_of-result
-invariant_of-result c = rw (items c) (pair_or_words c.self.inside.universe c.other.inside.universe c.self.inside.first c.other.inside.first c.self.inside.rest.items c.other.inside.rest.items c.args.self.now c.args.other.now c.self.invariant c.other.invariant c.self.view_is c.other.view_is c.requires)
+pub of_words-requires : goal.of_words-requires
+of_words-requires c = subst (IsWords c.universe-2.result) (sym c.in_ok-words.ensures) (pair_or_words c.args.self.now c.args.other.now c.words.result.now c.words-2.result.now c.words.ensures c.words-2.ensures c.requires c.universe-2.result c.universe-2.ensures.universe)
 
 pub returns : goal.returns
-returns c = ap (λ l. set_where c.self.inside.universe (has_bit (bit_or c.self.inside.first c.other.inside.first ∷ l))) (items c) ∙ pair_or c.self.inside.universe c.other.inside.universe c.self.inside.first c.other.inside.first c.self.inside.rest.items c.other.inside.rest.items c.args.self.now c.args.other.now c.self.invariant c.other.invariant c.self.view_is c.other.view_is c.requires
+returns c =
+    made_is c.of_words.result (set_where c.universe-2.result (has_bit c.in_ok-words.words.items)) (join c.args.self.now c.args.other.now) c.of_words.ensures
+    (ap (λ l. set_where c.universe-2.result (has_bit l)) c.in_ok-words.ensures ∙ pair_or c.args.self.now c.args.other.now c.words.result.now c.words-2.result.now c.words.ensures c.words-2.ensures c.requires c.universe-2.result c.universe-2.ensures.universe)

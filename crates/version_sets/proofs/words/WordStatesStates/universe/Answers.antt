@@ -1,10 +1,16 @@
-use Rattle.std.proofs.Common.{◌≤◌, ◌∙◌, ◌∷◌, ap, sym, subst, length}
-use Rattle.version_sets.specs.Words.{has_bit}
-use Rattle.version_sets.proofs.Listing.{length-set_where}
+use Rattle.std.proofs.Common.{◌∙◌, ap, sym}
+use Rattle.version_sets.specs.Forms.{universe_in}
+use Rattle.version_sets.proofs.Pairs.{form_small, form_universe}
 use Rattle.version_sets.proofs.words.WordStatesStates.universe.Goals as goal
 
-pub returns-clause-universe : goal.returns-clause-universe
-returns-clause-universe c = sym (length-set_where c.self.inside.universe (has_bit (c.self.inside.first ∷ c.self.inside.rest.items))) ∙ ap length c.self.view_is
+pub returns-in-One-clause-universe : goal.returns-in-One-clause-universe
+returns-in-One-clause-universe c = ap universe_in (sym c.in-One.is) ∙ form_universe c.self.inside.form c.args.self.now c.self.invariant c.self.view_is
 
-pub returns-clause-small : goal.returns-clause-small
-returns-clause-small c = subst (λ n. n ≤ 65536) (sym (length-set_where c.self.inside.universe (has_bit (c.self.inside.first ∷ c.self.inside.rest.items))) ∙ ap length c.self.view_is) c.self.invariant.small
+pub returns-in-One-clause-small : goal.returns-in-One-clause-small
+returns-in-One-clause-small c = form_small c.self.inside.form c.args.self.now c.self.invariant c.self.view_is
+
+pub returns-in-Many-clause-universe : goal.returns-in-Many-clause-universe
+returns-in-Many-clause-universe c = ap universe_in (sym c.in-Many.is) ∙ form_universe c.self.inside.form c.args.self.now c.self.invariant c.self.view_is
+
+pub returns-in-Many-clause-small : goal.returns-in-Many-clause-small
+returns-in-Many-clause-small c = form_small c.self.inside.form c.args.self.now c.self.invariant c.self.view_is
