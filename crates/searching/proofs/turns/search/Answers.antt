@@ -1,0 +1,58 @@
+use Rattle.std.proofs.Common.{◌+◌, arith, subst}
+use Rattle.incompatibilities.specs.Stores.{entries_view}
+use Rattle.propagation.specs.Trails.{trail_view}
+use Rattle.searching.specs.Counting.{combinations}
+use Rattle.searching.specs.Searching.{space}
+use Rattle.searching.specs.Turning.{HasGone, HasTurned}
+use Rattle.searching.specs.Walking.{RefutesNothing}
+use Rattle.searching.proofs.Each.{each_falls}
+use Rattle.searching.proofs.turns.search.Goals as goal
+
+pub turns-preserved : goal.turns-preserved
+turns-preserved g c =
+    let tests = g.S.States.tests in
+    let left = g.G.Guide.left c.turns.guide in
+    let old = trail_view tests c.turns.trail in
+    let more = g.G.Guide.asked c.one_turn.new.guide in
+    let fewer = g.G.Guide.left c.one_turn.new.guide in
+    let es = entries_view tests c.one_turn.new.store in
+    let new = trail_view tests c.one_turn.new.trail in
+    let late = g.G.Guide.late c.turns.guide in
+    let later = g.G.Guide.late c.one_turn.new.guide in
+    let gone : HasGone (space late old + left) more fewer later es new c.in-Goes.next = subst (HasTurned (g.G.Guide.done c.one_turn.new.guide new) (space late old + left) more fewer later es new) c.in-Goes.is c.in_ok-next.ensures.turned in
+    let was = c.turns.invariant in
+    let turn = c.in_ok-next.ensures in
+    record {
+      searching = gone.searching;
+      caught = gone.caught;
+      spaces = turn.spaces;
+      keeps = g.G.Guide.keeps_on _ _ _ was.keeps turn.keeps;
+      given = λ given. turn.given (was.given given);
+      counted = turn.counted (combinations (entries_view tests c.args.store.now)) was.counted;
+      walks = λ x is. let mid = turn.walks x is in let first = was.walks x mid.0 in (first.0, λ walked. mid.1 (first.1 walked));
+    }
+
+pub returns-in-Ends-clause-given : goal.returns-in-Ends-clause-given
+returns-in-Ends-clause-given g c given = c.in_ok-next.ensures.given (c.turns.invariant.given given)
+
+pub returns-in-Ends-clause-walks : goal.returns-in-Ends-clause-walks
+returns-in-Ends-clause-walks g c x is = let mid = c.in_ok-next.ensures.walks x is in let first = c.turns.invariant.walks x mid.0 in (first.0, λ walked. mid.1 (first.1 walked))
+
+pub returns-in-Ends-clause-selects : goal.returns-in-Ends-clause-selects
+returns-in-Ends-clause-selects g c x is walked =
+    let mid = c.in_ok-next.ensures.walks x is in
+    subst RefutesNothing c.in-Ends.is (c.in_ok-next.ensures.turns x is ((c.turns.invariant.walks x mid.0).1 walked))
+
+pub returns-in-Ends-clause-each : goal.returns-in-Ends-clause-each
+returns-in-Ends-clause-each g c = each_falls (g.G.Guide.late c.one_turn.new.guide) (trail_view g.S.States.tests c.one_turn.new.trail) c.in_ok-next.ensures.trail.sound
+
+pub returns-in-Ends-clause-keeps : goal.returns-in-Ends-clause-keeps
+returns-in-Ends-clause-keeps g c = g.G.Guide.keeps_on _ _ _ c.turns.invariant.keeps c.in_ok-next.ensures.keeps
+
+pub returns-in-Ends-clause-counted : goal.returns-in-Ends-clause-counted
+returns-in-Ends-clause-counted g c =
+    let more = c.in_ok-next.ensures.counted (combinations (entries_view g.S.States.tests c.args.store.now)) c.turns.invariant.counted in
+    record {
+      combined = omega (arith, more, c.with_assignments.ensures.steps);
+      assigned = omega (arith, c.assigned.ensures, c.with_assignments.ensures.assigned);
+    }

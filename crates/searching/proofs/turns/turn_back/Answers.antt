@@ -1,0 +1,75 @@
+use Rattle.std.proofs.Common.{◌+◌, ◌<◌, ◌≤◌, ◌⊎◌, refl, subst}
+use Rattle.incompatibilities.specs.Stores.{entries_view, entry}
+use Rattle.propagation.specs.Trails.{trail_view}
+use Rattle.conflicts.specs.Resolving.{Resolved}
+use Rattle.conflicts.specs.declared.resolving.Outcome.TheVariants.{Learned}
+use Rattle.searching.specs.Searching.{space}
+use Rattle.searching.proofs.Counts.{counts_gained}
+use Rattle.searching.proofs.Falls.{turn_jump, turn_noted}
+use Rattle.searching.proofs.Walks.{given_more, no_conflict, spaces_same}
+use Rattle.searching.proofs.turns.turn_back.Goals as goal
+
+pub returns-in_ok-propagate-in-Learned-clause-turned : goal.returns-in_ok-propagate-in-Learned-clause-turned
+returns-in_ok-propagate-in-Learned-clause-turned g c =
+    let tests = g.S.States.tests in
+    let es = entries_view tests c.resolve_conflict.new.store in
+    let old = trail_view tests c.args.trail.now in
+    let mid = trail_view tests c.resolve_conflict.new.trail in
+    let new = trail_view tests c.propagate.new.self in
+    let was = c.args.guide.now in
+    let now = c.noted.new.self in
+    let learned : Resolved old es mid (Learned c.in-Learned.learned c.in-Learned.back_to) = subst (Resolved old es mid) c.in-Learned.is c.in_ok-outcome.ensures.resolved in
+    let more = c.in_ok-propagate-in-Learned.ensures.propagated in
+    let next = c.in_ok-propagate-in-Learned.field-0 in
+    turn_noted (space (g.G.Guide.late was) old + g.G.Guide.left was) (g.G.Guide.left was) (g.G.Guide.left now) (g.G.Guide.late was) (g.G.Guide.late now) (g.G.Guide.asked was) (g.G.Guide.asked now) es new next
+    c.in_ok-noted-in-Learned.ensures.asked c.in_ok-noted-in-Learned.ensures.left c.in_ok-noted-in-Learned.ensures.late
+    (turn_jump (g.G.Guide.asked was) (g.G.Guide.left was) (g.G.Guide.late was) es old mid new c.in-Learned.learned c.in-Learned.back_to learned c.in_ok-outcome.ensures.gained.1.quiet next more.0 more.1
+    c.requires.searching.falling c.requires.caught c.in_ok-propagate-in-Learned.ensures.trail)
+
+pub returns-in_ok-propagate-in-Learned-clause-walks : goal.returns-in_ok-propagate-in-Learned-clause-walks
+returns-in_ok-propagate-in-Learned-clause-walks g c x is = (c.in_ok-noted-in-Learned.ensures.walks x is, λ walked. absurd (no_conflict x (entries_view g.S.States.tests c.args.store.now) (trail_view g.S.States.tests c.args.trail.now) c.args.id c.requires.searching.stops walked))
+
+pub returns-in-Unsolvable-clause-walks : goal.returns-in-Unsolvable-clause-walks
+returns-in-Unsolvable-clause-walks g c x was = (was, λ walked. absurd (no_conflict x (entries_view g.S.States.tests c.args.store.now) (trail_view g.S.States.tests c.args.trail.now) c.args.id c.requires.searching.stops walked))
+
+pub returns-in-Unsolvable-clause-turns : goal.returns-in-Unsolvable-clause-turns
+returns-in-Unsolvable-clause-turns g c x was walked = absurd (no_conflict x (entries_view g.S.States.tests c.args.store.now) (trail_view g.S.States.tests c.args.trail.now) c.args.id c.requires.searching.stops walked)
+
+pub returns-in-Unsolvable-clause-keeps : goal.returns-in-Unsolvable-clause-keeps
+returns-in-Unsolvable-clause-keeps g c = g.G.Guide.keeps_same c.args.guide.now
+
+pub returns-in-Unsolvable-clause-given : goal.returns-in-Unsolvable-clause-given
+returns-in-Unsolvable-clause-given g c = given_more (g.G.Guide.given c.args.guide.now) (entries_view g.S.States.tests c.args.store.now) (trail_view g.S.States.tests c.args.trail.now) (entries_view g.S.States.tests c.resolve_conflict.new.store) c.in_ok-outcome.ensures.gained.0 c.in_ok-outcome.ensures.gained.1
+
+pub returns-in_ok-propagate-in-Learned-clause-given : goal.returns-in_ok-propagate-in-Learned-clause-given
+returns-in_ok-propagate-in-Learned-clause-given g c was id within origin =
+    let es = entries_view g.S.States.tests c.resolve_conflict.new.store in
+    c.in_ok-noted-in-Learned.ensures.given (entry es id)
+    (given_more (g.G.Guide.given c.args.guide.now) (entries_view g.S.States.tests c.args.store.now) (trail_view g.S.States.tests c.args.trail.now) es c.in_ok-outcome.ensures.gained.0 c.in_ok-outcome.ensures.gained.1 was id within origin)
+
+pub returns-in_ok-propagate-in-Learned-clause-spaces : goal.returns-in_ok-propagate-in-Learned-clause-spaces
+returns-in_ok-propagate-in-Learned-clause-spaces g c =
+    let tests = g.S.States.tests in
+    let spaces = g.G.Guide.spaces c.args.guide.now in
+    let more = g.G.Guide.spaces c.noted.new.self in
+    let mid = trail_view tests c.resolve_conflict.new.trail in
+    spaces_same spaces more mid (trail_view tests c.propagate.new.self) c.in_ok-noted-in-Learned.ensures.spaces c.propagate.ensures.spaces
+    (spaces_same spaces spaces (trail_view tests c.args.trail.now) mid refl c.resolve_conflict.ensures.spaces c.requires.spaces)
+
+pub returns-in-Unsolvable-clause-spaces : goal.returns-in-Unsolvable-clause-spaces
+returns-in-Unsolvable-clause-spaces g c =
+    let tests = g.S.States.tests in
+    let spaces = g.G.Guide.spaces c.args.guide.now in
+    spaces_same spaces spaces (trail_view tests c.args.trail.now) (trail_view tests c.resolve_conflict.new.trail) refl c.resolve_conflict.ensures.spaces c.requires.spaces
+
+pub returns-in_ok-propagate-in-Learned-clause-counted : goal.returns-in_ok-propagate-in-Learned-clause-counted
+returns-in_ok-propagate-in-Learned-clause-counted g c =
+    let tests = g.S.States.tests in
+    counts_gained (entries_view tests c.args.store.now) (entries_view tests c.resolve_conflict.new.store) c.in_ok-outcome.ensures.gained.0 c.args.steps.now c.with_conflict.result c.len-before.result c.in_ok-outcome.ensures.gained.1.grown c.len-before.ensures
+    (subst (λ n. (c.args.steps.now + n < c.with_conflict.result + c.len-before.result) ⊎ (n ≤ c.with_conflict.result)) c.len.ensures c.with_conflict.ensures)
+
+pub returns-in-Unsolvable-clause-counted : goal.returns-in-Unsolvable-clause-counted
+returns-in-Unsolvable-clause-counted g c =
+    let tests = g.S.States.tests in
+    counts_gained (entries_view tests c.args.store.now) (entries_view tests c.resolve_conflict.new.store) c.in_ok-outcome.ensures.gained.0 c.args.steps.now c.with_conflict.result c.len-before.result c.in_ok-outcome.ensures.gained.1.grown c.len-before.ensures
+    (subst (λ n. (c.args.steps.now + n < c.with_conflict.result + c.len-before.result) ⊎ (n ≤ c.with_conflict.result)) c.len.ensures c.with_conflict.ensures)

@@ -1,0 +1,5 @@
+pub mod Counting
+pub mod Measures
+pub mod Searching
+pub mod Turning
+pub mod Walking

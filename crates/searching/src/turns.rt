@@ -1,0 +1,194 @@
+//! The loop of a search (Dart pub's `solver.md`, "The Algorithm").
+
+ghost use Rattle.incompatibilities.specs.Incompatibilities.{Assignment};
+ghost use Rattle.incompatibilities.specs.Stores.{entries_view};
+ghost use Rattle.propagation.specs.Promises.{IsTrail};
+ghost use Rattle.propagation.specs.Trails.{trail_view};
+ghost use Rattle.propagation.specs.declared.propagating.Progress.TheVariants.{Conflict, Fixpoint};
+ghost use Rattle.searching.specs.Counting.{CountsOn, IsCount};
+ghost use Rattle.searching.specs.Searching.{EachFalls, HasSpaces, IsCaught, IsSearching, space};
+ghost use Rattle.searching.specs.Turning.{HasEnded, HasTurned};
+ghost use Rattle.searching.specs.Walking.{AreGiven, IsSelection, IsWalked, KeepsWalks, TurnsOn};
+ghost use Rattle.std.specs.Prelude.{◌≡◌, ℕ, ◌+◌, ◌<◌, ◌≤◌, ◌⊎◌, [], IfOk};
+
+use crate::guide::Guide;
+use conflicts::{Outcome, resolve_conflict};
+use incompatibilities::{Id, Store};
+use propagation::{Progress, Trail};
+use std::alloc::{AllocError, Global};
+use version_sets::States;
+
+/// How a search ends.
+#[derive(Clone, Copy, PartialEq, Eq, Debug)]
+pub enum Answer {
+    /// Nothing is left to decide, and no incompatibility of the store is satisfied.
+    Selection,
+    /// This incompatibility of the store has no term.
+    Unsolvable(Id),
+}
+
+/// What a search found, and how long it took.
+#[derive(Clone, Copy, PartialEq, Eq, Debug)]
+pub struct Found {
+    /// How it ended.
+    pub answer: Answer,
+    /// The assignments that the trail ever had, the conflicts that were resolved, and the combinations that these took;
+    /// 2^64 - 1 if there are more.
+    pub steps: u64,
+}
+
+/// What a turn gives.
+#[derive(Clone, Copy)]
+enum Turn {
+    /// The search goes on from here.
+    Goes(Progress),
+    /// It ends.
+    Ends(Answer),
+}
+
+/// The steps with one conflict more, which brought the store from so many entries to so many.
+fn with_conflict(steps: u64, before: usize, after: usize) -> u64
+    requires { before ≤ after }
+    ensures { (steps + after < result + before) ⊎ (after ≤ result) }
+{
+    let combinations = (after - before) as u64;
+    steps.saturating_add(1).saturating_add(combinations)
+}
+
+/// The steps with the assignments.
+fn with_assignments(steps: u64, assigned: u64) -> u64
+    ensures steps { steps ≤ result }
+    ensures assigned { assigned ≤ result }
+{
+    steps.saturating_add(assigned)
+}
+
+/// After a conflict: learns from it, goes back, tells the guide and propagates.
+fn turn_back<S: States + Drop, G: Guide<S>>(
+    alloc: Global,
+    guide: &mut G,
+    trail: &mut Trail<S>,
+    store: &mut Store<S>,
+    steps: &mut u64,
+    id: Id,
+) -> Result<Turn, AllocError>
+    requires spaces { HasSpaces (G.spaces guide.old) (trail_view S.tests trail.old) }
+    requires searching { IsSearching (G.late guide.old) (entries_view S.tests store.old) (trail_view S.tests trail.old) (Conflict id) }
+    requires caught { IsCaught (G.asked guide.old) (trail_view S.tests trail.old) }
+    ensures turned { IfOk result (λ r. HasTurned (G.done guide.new (trail_view S.tests trail.new)) (space (G.late guide.old) (trail_view S.tests trail.old) + G.left guide.old) (G.asked guide.new) (G.left guide.new) (G.late guide.new) (entries_view S.tests store.new) (trail_view S.tests trail.new) r) }
+    ensures counted { IfOk result (λ r. CountsOn (entries_view S.tests store.old) steps.old (entries_view S.tests store.new) steps.new) }
+    ensures trail { IfOk result (λ r. IsTrail (entries_view S.tests store.new) (trail_view S.tests trail.new)) }
+    ensures spaces { IfOk result (λ r. HasSpaces (G.spaces guide.new) (trail_view S.tests trail.new)) }
+    ensures keeps { IfOk result (λ r. G.keeps guide.old guide.new) }
+    ensures given { IfOk result (λ r. AreGiven (G.given guide.old) (entries_view S.tests store.old) → AreGiven (G.given guide.new) (entries_view S.tests store.new)) }
+    ensures walks { IfOk result (λ r. KeepsWalks (G.walks guide.old) (entries_view S.tests store.old) (trail_view S.tests trail.old) (G.walks guide.new) (entries_view S.tests store.new) (trail_view S.tests trail.new)) }
+    ensures turns { IfOk result (λ r. TurnsOn (G.walks guide.new) (entries_view S.tests store.old) (trail_view S.tests trail.old) r) }
+{
+    let before = store.len();
+    let outcome = resolve_conflict(alloc, trail, store, id)?;
+    *steps = with_conflict(*steps, before, store.len());
+    match outcome {
+        Outcome::Learned { id: learned, .. } => {
+            guide.noted(trail, store, id, learned)?;
+            Ok(Turn::Goes(trail.propagate(store)?))
+        }
+        Outcome::Unsolvable(none) => Ok(Turn::Ends(Answer::Unsolvable(none))),
+    }
+}
+
+/// Where nothing is open: adds axioms, or decides, and propagates.
+fn turn_on<S: States + Drop, G: Guide<S>>(
+    guide: &mut G,
+    trail: &mut Trail<S>,
+    store: &mut Store<S>,
+) -> Result<Turn, AllocError>
+    requires spaces { HasSpaces (G.spaces guide.old) (trail_view S.tests trail.old) }
+    requires searching { IsSearching (G.late guide.old) (entries_view S.tests store.old) (trail_view S.tests trail.old) Fixpoint }
+    requires caught { IsCaught (G.asked guide.old) (trail_view S.tests trail.old) }
+    ensures turned { IfOk result (λ r. HasTurned (G.done guide.new (trail_view S.tests trail.new)) (space (G.late guide.old) (trail_view S.tests trail.old) + G.left guide.old) (G.asked guide.new) (G.left guide.new) (G.late guide.new) (entries_view S.tests store.new) (trail_view S.tests trail.new) r) }
+    // The combinations stay.
+    ensures counted { IfOk result (λ r. (steps : ℕ) → CountsOn (entries_view S.tests store.old) steps (entries_view S.tests store.new) steps) }
+    ensures trail { IfOk result (λ r. IsTrail (entries_view S.tests store.new) (trail_view S.tests trail.new)) }
+    ensures spaces { IfOk result (λ r. HasSpaces (G.spaces guide.new) (trail_view S.tests trail.new)) }
+    ensures keeps { IfOk result (λ r. G.keeps guide.old guide.new) }
+    ensures given { IfOk result (λ r. AreGiven (G.given guide.old) (entries_view S.tests store.old) → AreGiven (G.given guide.new) (entries_view S.tests store.new)) }
+    ensures walks { IfOk result (λ r. KeepsWalks (G.walks guide.old) (entries_view S.tests store.old) (trail_view S.tests trail.old) (G.walks guide.new) (entries_view S.tests store.new) (trail_view S.tests trail.new)) }
+    ensures turns { IfOk result (λ r. TurnsOn (G.walks guide.new) (entries_view S.tests store.old) (trail_view S.tests trail.old) r) }
+{
+    if guide.axioms(trail, store)? {
+        return Ok(Turn::Goes(trail.propagate(store)?));
+    }
+    match guide.choose(trail)? {
+        Some((vertex, state)) => {
+            trail.decide(vertex, state)?;
+            Ok(Turn::Goes(trail.propagate(store)?))
+        }
+        None => Ok(Turn::Ends(Answer::Selection)),
+    }
+}
+
+/// One turn.
+fn one_turn<S: States + Drop, G: Guide<S>>(
+    alloc: Global,
+    guide: &mut G,
+    trail: &mut Trail<S>,
+    store: &mut Store<S>,
+    steps: &mut u64,
+    progress: Progress,
+) -> Result<Turn, AllocError>
+    requires spaces { HasSpaces (G.spaces guide.old) (trail_view S.tests trail.old) }
+    requires searching { IsSearching (G.late guide.old) (entries_view S.tests store.old) (trail_view S.tests trail.old) progress }
+    requires caught { IsCaught (G.asked guide.old) (trail_view S.tests trail.old) }
+    ensures turned { IfOk result (λ r. HasTurned (G.done guide.new (trail_view S.tests trail.new)) (space (G.late guide.old) (trail_view S.tests trail.old) + G.left guide.old) (G.asked guide.new) (G.left guide.new) (G.late guide.new) (entries_view S.tests store.new) (trail_view S.tests trail.new) r) }
+    ensures counted { IfOk result (λ r. CountsOn (entries_view S.tests store.old) steps.old (entries_view S.tests store.new) steps.new) }
+    ensures trail { IfOk result (λ r. IsTrail (entries_view S.tests store.new) (trail_view S.tests trail.new)) }
+    ensures spaces { IfOk result (λ r. HasSpaces (G.spaces guide.new) (trail_view S.tests trail.new)) }
+    ensures keeps { IfOk result (λ r. G.keeps guide.old guide.new) }
+    ensures given { IfOk result (λ r. AreGiven (G.given guide.old) (entries_view S.tests store.old) → AreGiven (G.given guide.new) (entries_view S.tests store.new)) }
+    ensures walks { IfOk result (λ r. KeepsWalks (G.walks guide.old) (entries_view S.tests store.old) (trail_view S.tests trail.old) (G.walks guide.new) (entries_view S.tests store.new) (trail_view S.tests trail.new)) }
+    ensures turns { IfOk result (λ r. TurnsOn (G.walks guide.new) (entries_view S.tests store.old) (trail_view S.tests trail.old) r) }
+{
+    match progress {
+        Progress::Conflict(id) => turn_back(alloc, guide, trail, store, steps, id),
+        Progress::Fixpoint => turn_on(guide, trail, store),
+    }
+}
+
+/// Searches until there is an answer, from a trail without assignments; vertices and axioms may come as it goes.
+///
+/// It ends without a budget, since every turn brings a number down. Where memory is refused, nothing is promised of the
+/// guide, the trail and the store but that they are sound.
+pub fn search<S: States + Drop, G: Guide<S>>(
+    alloc: Global,
+    guide: &mut G,
+    trail: &mut Trail<S>,
+    store: &mut Store<S>,
+) -> Result<Found, AllocError>
+    requires spaces { HasSpaces (G.spaces guide.old) (trail_view S.tests trail.old) }
+    requires trail { IsTrail (entries_view S.tests store.old) (trail_view S.tests trail.old) }
+    requires steps { (trail_view S.tests trail.old).steps ≡ [] }
+    ensures ended { IfOk result (λ f. HasEnded (G.done guide.new (trail_view S.tests trail.new)) (G.asked guide.new) (entries_view S.tests store.new) (trail_view S.tests trail.new) f.answer) }
+    ensures counted { IfOk result (λ f. IsCount (entries_view S.tests store.old) (entries_view S.tests store.new) (trail_view S.tests trail.new) f.steps) }
+    ensures trail { IfOk result (λ r. IsTrail (entries_view S.tests store.new) (trail_view S.tests trail.new)) }
+    // Each assignment and each decision that stands brought the number down.
+    ensures each { IfOk result (λ r. EachFalls (G.late guide.new) (trail_view S.tests trail.new)) }
+    ensures spaces { IfOk result (λ r. HasSpaces (G.spaces guide.new) (trail_view S.tests trail.new)) }
+    ensures keeps { IfOk result (λ r. G.keeps guide.old guide.new) }
+    ensures given { IfOk result (λ r. AreGiven (G.given guide.old) (entries_view S.tests store.old) → AreGiven (G.given guide.new) (entries_view S.tests store.new)) }
+    ensures walks { IfOk result (λ r. KeepsWalks (G.walks guide.old) (entries_view S.tests store.old) (trail_view S.tests trail.old) (G.walks guide.new) (entries_view S.tests store.new) (trail_view S.tests trail.new)) }
+    ensures selects { IfOk result (λ f. (x : Assignment) → G.walks guide.new x → IsWalked x (entries_view S.tests store.old) (trail_view S.tests trail.old) → IsSelection f.answer) }
+{
+    let mut steps = 0;
+    let mut progress = trail.propagate(store)?;
+    'turns: loop {
+        match one_turn(alloc, guide, trail, store, &mut steps, progress)? {
+            Turn::Goes(next) => progress = next,
+            Turn::Ends(answer) => {
+                return Ok(Found {
+                    answer,
+                    steps: with_assignments(steps, trail.assigned()),
+                });
+            }
+        }
+    }
+}
