@@ -20,4 +20,5 @@ pub mod Candidates
 pub mod PackageOrder
 pub mod Ordered
 pub mod Gathered
+pub mod Unique
 pub mod Verdicts

@@ -164,6 +164,11 @@ pub fn gathered_picks_walk()
         → IsWalk q preferred (content_of q kept) }
 {}
 
+/// There is one preferred walk at most.
+pub fn walks_are_unique()
+    ensures { (q : Problem) (preferred : List (List ℕ × List Candidate)) (a b : Content) → IsWalk q preferred a → IsWalk q preferred b → a ≡ b }
+{}
+
 /// The content of the owners that the root reaches in an assignment that breaks no instance is a valid selection.
 pub fn gathered_contents_select()
     ensures { (q : Problem) (state : Vertex → State) (kept : List Kept) → IsCatalogue q → IsUnbroken q state → AreKept q (LeadsTo q state) kept
