@@ -12,6 +12,7 @@ pub mod Combined
 pub mod Accepted
 pub mod Reached
 pub mod Cut
+pub mod CutDown
 pub mod Examples
 pub mod One
 pub mod Kept

@@ -23,7 +23,7 @@ ghost use Rattle.model.specs.Axioms.{AreApart, IsInstance, IsOwner, IsVertex, Ki
 ghost use Rattle.model.specs.Stands.{StandsFor};
 ghost use Rattle.model.specs.Walk.{IsWalk, Picks};
 ghost use Rattle.model.specs.ContentOf.{AreKept, Kept, content_of, in_package_order, kept_cmp};
-ghost use Rattle.model.specs.Search.{IsPresent, IsReachedFact, IsUnbroken, LeadsTo, Says};
+ghost use Rattle.model.specs.Search.{AssignsReached, IsPresent, IsReachedFact, IsUnbroken, LeadsTo, Says};
 ghost use Rattle.model.specs.Assignment.{Assigns, Breaks};
 ghost use Rattle.model.specs.Derivation.{IsAccepted, IsCombined, Step};
 
@@ -150,6 +150,13 @@ pub fn newest_is_chosen()
 /// The content of what the root reaches in an assignment that breaks no instance is a valid selection.
 pub fn unbroken_assignments_select()
     ensures { (q : Problem) (state : Vertex → State) (c : Content) → IsCatalogue q → IsUnbroken q state → StandsFor q (LeadsTo q state) c → IsValidSelection q c }
+{}
+
+/// In the content of what the root reaches in an assignment that breaks no instance, each vertex has the state that it has in the
+/// assignment cut down to what the root reaches.
+pub fn reached_states_stay()
+    ensures { (q : Problem) (state : Vertex → State) (c : Content) (v : Vertex) (s : State) → IsCatalogue q → IsUnbroken q state → StandsFor q (LeadsTo q state) c
+        → Assigns q c v s ↔ AssignsReached q state v s }
 {}
 
 /// Owners that are each there once, in an order in which none is to come before an earlier one, stand in package order.
