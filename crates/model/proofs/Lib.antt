@@ -22,4 +22,7 @@ pub mod PackageOrder
 pub mod Ordered
 pub mod Gathered
 pub mod Unique
+pub mod Closed
+pub mod AllKept
+pub mod Choices
 pub mod Verdicts
