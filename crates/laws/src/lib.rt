@@ -3,13 +3,13 @@
 //! A law is a function that does nothing: its contract is the statement. Nothing is asked of the arguments but their types.
 #![tactic(auto)]
 
-ghost use Rattle.std.specs.Prelude.{List};
-ghost use Rattle.model.specs.Assignment.{Breaks};
+ghost use Rattle.std.specs.Prelude.{◌↔◌, List};
+ghost use Rattle.model.specs.Assignment.{Assigns, Breaks};
 ghost use Rattle.model.specs.Axioms.{IsInstance, Kind, Term};
 ghost use Rattle.model.specs.Content.{Content};
 ghost use Rattle.model.specs.ContentOf.{AreKept, Kept, content_of};
 ghost use Rattle.model.specs.Derivation.{IsAccepted, Step};
-ghost use Rattle.model.specs.Search.{IsUnbroken, LeadsTo};
+ghost use Rattle.model.specs.Search.{AssignsReached, IsUnbroken, LeadsTo};
 ghost use Rattle.model.specs.Selection.{IsValidSelection};
 ghost use Rattle.model.specs.Vertices.{State, Vertex};
 ghost use Rattle.catalogue.specs.Problems.{problem_in};
@@ -43,4 +43,15 @@ pub fn unbroken_assignments_select(manifest: &Manifest, catalogue: &Catalogue)
 {
     catalogues_are_well_formed(manifest, catalogue);
     model::gathered_contents_select();
+}
+
+/// Wherever an assignment breaks no instance there is a valid selection, in which each vertex has just the state that it has in the assignment
+/// cut down to what the root reaches.
+pub fn unbroken_assignments_have_selections(manifest: &Manifest, catalogue: &Catalogue)
+    ensures { (state : Vertex → State) → IsUnbroken (problem_in manifest.now catalogue.now) state
+        → (content : Content) × IsValidSelection (problem_in manifest.now catalogue.now) content
+        × ((v : Vertex) (s : State) → Assigns (problem_in manifest.now catalogue.now) content v s ↔ AssignsReached (problem_in manifest.now catalogue.now) state v s) }
+{
+    catalogues_are_well_formed(manifest, catalogue);
+    model::unbroken_assignments_have_selections();
 }

@@ -46,7 +46,7 @@ version-inner v w e = cc
 class-inner : (k m : Class) → in_class k ≡ in_class m → k ≡ m
 class-inner k m e = cc
 
-package_at : (content : Content) (n : ℕ) → n < length content → (p : Package) × (slice_get content n ≡ Some p)
+pub package_at : (content : Content) (n : ℕ) → n < length content → (p : Package) × (slice_get content n ≡ Some p)
 package_at [] n lt = absurd (omega arith)
 package_at (p ∷ ps) zero lt = (p, refl)
 package_at (p ∷ ps) (suc n) lt = package_at ps n (omega arith)
@@ -62,13 +62,13 @@ module _ (q : Problem) (state : Vertex → State) (ok : IsUnbroken q state) (kno
   At n p = slice_get content n ≡ Some p
 
   -- each package is reached
-  package_here : (n : ℕ) (p : Package) → At n p → IsReachedFact q state (here (name_of q p))
+  pub package_here : (n : ℕ) (p : Package) → At n p → IsReachedFact q state (here (name_of q p))
   package_here n p got = (stands.packages (name_of q p)).1 (n, p, got, refl)
 
   name_root : (p : Package) → is_root q p ≡ true → name_of q p ≡ the_root
   name_root p e = ap (λ b. cond b the_root (version_of p.name p.version)) e
 
-  name_other : (p : Package) → is_root q p ≡ false → name_of q p ≡ version_of p.name p.version
+  pub name_other : (p : Package) → is_root q p ≡ false → name_of q p ≡ version_of p.name p.version
   name_other p e = ap (λ b. cond b the_root (version_of p.name p.version)) e
 
   root_if : (p : Package) → name_of q p ≡ the_root → is_root q p ≡ true
@@ -79,7 +79,7 @@ module _ (q : Problem) (state : Vertex → State) (ok : IsUnbroken q state) (kno
       by false h = let x : version_of p.name p.version ≡ the_root = sym (name_other p h) ∙ e in cc
 
   -- a package other than the root is present
-  is_present : (n : ℕ) (p : Package) → At n p → is_root q p ≡ false → state (pkg p.name (class_of p.version)) ≡ version p.version
+  pub is_present : (n : ℕ) (p : Package) → At n p → is_root q p ≡ false → state (pkg p.name (class_of p.version)) ≡ version p.version
   is_present n p got e = subst (IsPresent q state) (name_other p e) (reached_says q state ok (here (name_of q p)) (package_here n p got))
 
   is_found : (n : ℕ) (p : Package) → At n p → is_root q p ≡ false → (c : Candidate) × (candidate_at (candidates_of q.candidates p.name) p.version ≡ Some c)
@@ -111,7 +111,7 @@ module _ (q : Problem) (state : Vertex → State) (ok : IsUnbroken q state) (kno
           ap (λ t. cond t q.brings (brings_of (candidate_of q p))) e ∙ ap brings_of c.1 ∙ sym (ap brings_of c.2) ∙ sym (ap (owner_brings q) (name_other p e))
 
   -- an owner has one place
-  one_place : (n m : ℕ) (p r : Package) → At n p → At m r → name_of q p ≡ name_of q r → n ≡ m
+  pub one_place : (n m : ℕ) (p r : Package) → At n p → At m r → name_of q p ≡ name_of q r → n ≡ m
   one_place n m p r got had e = by (is_root q p) (is_root q r) refl refl
     where
       by : (a b : Bool) → is_root q p ≡ a → is_root q r ≡ b → n ≡ m
@@ -138,7 +138,7 @@ module _ (q : Problem) (state : Vertex → State) (ok : IsUnbroken q state) (kno
     pub link : IsLink q (LeadsTo q state) p s i d
     pub target : target_of content n d ≡ Some u
 
-  named_of : (s : Package) (name : List ℕ) (v : Parts) → name_of q s ≡ version_of name v → (is_root q s ≡ false) × (s.name ≡ name) × (s.version ≡ v)
+  pub named_of : (s : Package) (name : List ℕ) (v : Parts) → name_of q s ≡ version_of name v → (is_root q s ≡ false) × (s.name ≡ name) × (s.version ≡ v)
   named_of s name v e = by (is_root q s) refl
     where
       by : (b : Bool) → is_root q s ≡ b → (b ≡ false) × (s.name ≡ name) × (s.version ≡ v)
@@ -232,13 +232,13 @@ module _ (q : Problem) (state : Vertex → State) (ok : IsUnbroken q state) (kno
   Means (on n f) = (p : Package) × At n p × IsReachedFact q state (on (name_of q p) f)
   Means (enabled n i) = (p : Package) × At n p × IsReachedFact q state (enabled (name_of q p) i)
 
-  brings_there : (n i : ℕ) (p : Package) (d : Dependency) → At n p → Brings (summary_at q content) n i d → Brings (owner_brings q) (name_of q p) i d
+  pub brings_there : (n i : ℕ) (p : Package) (d : Dependency) → At n p → Brings (summary_at q content) n i d → Brings (owner_brings q) (name_of q p) i d
   brings_there n i p d got b = subst (λ o. slice_get o.dependencies i ≡ Some d) (brings_same n p got) b
 
-  lists_there : (n : ℕ) (p : Package) (f : List ℕ) (e : Entry) → At n p → Lists (summary_at q content) n f e → Lists (owner_brings q) (name_of q p) f e
+  pub lists_there : (n : ℕ) (p : Package) (f : List ℕ) (e : Entry) → At n p → Lists (summary_at q content) n f e → Lists (owner_brings q) (name_of q p) f e
   lists_there n p f e got l = (l.0, subst (λ o. entries_at f o.features ≡ Some l.0) (brings_same n p got) l.1, l.2)
 
-  at_root : (n : ℕ) (p : Package) → At n p → IsRootAt q content n → name_of q p ≡ the_root
+  pub at_root : (n : ℕ) (p : Package) → At n p → IsRootAt q content n → name_of q p ≡ the_root
   at_root n p got (r, had, is) = name_root p (ap (is_root q) (same_Some p r (sym got ∙ had)) ∙ is)
 
   -- each fact of the content is one that the root reaches
@@ -301,13 +301,13 @@ module _ (q : Problem) (state : Vertex → State) (ok : IsUnbroken q state) (kno
   here_back : (n : Owner) (x : Place n) → IsFact q content (here x.a)
   here_back n x = starts x.a (slice_get_within content x.a x.p x.got)
 
-  brings_back : (n : Owner) (x : Place n) (i : ℕ) (d : Dependency) → Brings (owner_brings q) n i d → Brings (summary_at q content) x.a i d
+  pub brings_back : (n : Owner) (x : Place n) (i : ℕ) (d : Dependency) → Brings (owner_brings q) n i d → Brings (summary_at q content) x.a i d
   brings_back n x i d b = subst (λ o. slice_get o.dependencies i ≡ Some d) (sym (brings_same x.a x.p x.got ∙ ap (owner_brings q) x.named)) b
 
   lists_back : (n : Owner) (x : Place n) (f : List ℕ) (e : Entry) → Lists (owner_brings q) n f e → Lists (summary_at q content) x.a f e
   lists_back n x f e l = (l.0, subst (λ o. entries_at f o.features ≡ Some l.0) (sym (brings_same x.a x.p x.got ∙ ap (owner_brings q) x.named)) l.1, l.2)
 
-  root_back : (n : Owner) (x : Place n) → n ≡ the_root → IsRootAt q content x.a
+  pub root_back : (n : Owner) (x : Place n) → n ≡ the_root → IsRootAt q content x.a
   root_back n x e = (x.p, x.got, root_if x.p (x.named ∙ e))
 
   -- one step along a link
@@ -315,7 +315,7 @@ module _ (q : Problem) (state : Vertex → State) (ok : IsUnbroken q state) (kno
     pub to : Place t
     pub target : HasTarget q content x.a d to.a
 
-  next : (n t : Owner) (i : ℕ) (d : Dependency) (x : Place n) → IsReachedFact q state (enabled n i) → Brings (owner_brings q) n i d → LeadsTo q state n i d t → Next n t x d
+  pub next : (n t : Owner) (i : ℕ) (d : Dependency) (x : Place n) → IsReachedFact q state (enabled n i) → Brings (owner_brings q) n i d → LeadsTo q state n i d t → Next n t x d
   next n t i d x on_it b l =
       let y = (stands.packages t).0 (arrives n t i d on_it b l) in
       let link : IsLink q (LeadsTo q state) x.p y.1 i d = record {

@@ -42,7 +42,7 @@ module _ {X Y : Type 0} (f : X → Y) where
   all_map_if P Q h [] k = all_none Q
   all_map_if P Q h (x ∷ xs) k = all_cons Q (f x) (map f xs) (h x (all_first P x xs k)) (all_map_if P Q h xs (all_rest P x xs k))
 
-  pairs_map : (R : X → X → Type 0) (S : Y → Y → Type 0) → ((x y : X) → R x y → S (f x) (f y)) → (xs : List X) → AllPairs R xs → AllPairs S (map f xs)
+  pub pairs_map : (R : X → X → Type 0) (S : Y → Y → Type 0) → ((x y : X) → R x y → S (f x) (f y)) → (xs : List X) → AllPairs R xs → AllPairs S (map f xs)
   pairs_map R S h [] k = pairs_none S
   pairs_map R S h (x ∷ xs) k =
       AllPairs-cons S (f x) (map f xs) (all_map_if (R x) (S (f x)) (h x) xs (pairs_all R x xs k)) (pairs_map R S h xs (pairs_rest R x xs k))

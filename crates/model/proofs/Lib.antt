@@ -12,6 +12,7 @@ pub mod Combined
 pub mod Accepted
 pub mod Reached
 pub mod Cut
+pub mod CutDown
 pub mod Examples
 pub mod One
 pub mod Kept
@@ -20,4 +21,8 @@ pub mod Candidates
 pub mod PackageOrder
 pub mod Ordered
 pub mod Gathered
+pub mod Unique
+pub mod Closed
+pub mod AllKept
+pub mod Choices
 pub mod Verdicts

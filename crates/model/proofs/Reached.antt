@@ -78,7 +78,7 @@ module _ (q : Problem) (state : Vertex → State) (ok : IsUnbroken q state) wher
       let is : r.0 ≡ k = cc in
       subst (λ m. HasClass q d m) is r.2
 
-  root_present : state root ≡ present
+  pub root_present : state root ≡ present
   root_present = present_or_not root refl (λ a. ok.unbroken Root _ root_is (one root absent a, tt))
 
   owner_term : (n : Owner) → IsPresent q state n → HasOneOf (λ v s. state v ≡ s) (owner_holds n).vertex (owner_holds n).states
@@ -144,16 +144,20 @@ module _ (q : Problem) (state : Vertex → State) (ok : IsUnbroken q state) wher
         (one (pkg name (class_of v)) (version v) h, (one (feat name (class_of v) f) present p, (one (dep (version_of name v) i) absent off, tt))),
   )
 
+  -- an entry `d/g` of a feature that is on asks
+  pub asking : (name : List ℕ) (v : Parts) (i : ℕ) (d : Dependency) (f g : List ℕ) → IsOn q state (version_of name v) f → Brings (owner_brings q) (version_of name v) i d
+      → Lists (owner_brings q) (version_of name v) f (dependency_feature d.name g) → state (ask name v i g) ≡ present
+  asking name v i d f g (h, p) b l = present_or_not (ask name v i g) refl
+      (λ off. ok.unbroken FeatureAsks _ (feature_asks name v i d f g (has_dep (version_of name v) i d h b) (has_entry name v f (dependency_feature d.name g) h l))
+      (one (pkg name (class_of v)) (version v) h, (one (feat name (class_of v) f) present p, (one (ask name v i g) absent off, tt))))
+
   want : (n t : Owner) (i : ℕ) (d : Dependency) (f g : List ℕ) → IsOn q state n f → Brings (owner_brings q) n i d → Lists (owner_brings q) n f (dependency_feature d.name g)
       → LeadsTo q state n i d t → IsOn q state t g
   want the_root t i d f g h b l to = absurd h
-  want (version_of name v) t i d f g (h, p) b l to =
-      let dep_is = has_dep (version_of name v) i d h b in
-      let entry = has_entry name v f (dependency_feature d.name g) h l in
-      let asking : state (ask name v i g) ≡ present = present_or_not (ask name v i g) refl (λ off. ok.unbroken FeatureAsks _ (feature_asks name v i d f g dep_is entry)
-      (one (pkg name (class_of v)) (version v) h, (one (feat name (class_of v) f) present p, (one (ask name v i g) absent off, tt)))) in
-      on_target (version_of name v) i d t g to (λ off. ok.unbroken WantsFeature _ (wants_by_entry name v i d to.k f g dep_is (has_class (version_of name v) i d to.k b to.chosen) entry)
-      (one (ask name v i g) present asking, (one (dep (version_of name v) i) (in_class to.k) to.chosen, (one (feat d.real_name to.k g) absent off, tt))))
+  want (version_of name v) t i d f g (h, p) b l to = on_target (version_of name v) i d t g to
+      (λ off. ok.unbroken WantsFeature _
+      (wants_by_entry name v i d to.k f g (has_dep (version_of name v) i d h b) (has_class (version_of name v) i d to.k b to.chosen) (has_entry name v f (dependency_feature d.name g) h l))
+      (one (ask name v i g) present (asking name v i d f g (h, p) b l), (one (dep (version_of name v) i) (in_class to.k) to.chosen, (one (feat d.real_name to.k g) absent off, tt))))
 
   want_weakly : (n t : Owner) (i : ℕ) (d : Dependency) (f g : List ℕ) → IsOn q state n f → Brings (owner_brings q) n i d → Lists (owner_brings q) n f (weak_feature d.name g)
       → LeadsTo q state n i d t → IsOn q state t g

@@ -1,12 +1,12 @@
 -- What an assignment of the search says, if it breaks no instance of an axiom: the part of it that the root reaches (this project's; a
 -- partial solution in Dart pub's `solver.md`).
-use Rattle.std.specs.Prelude.{◌≡◌, ◌≢◌, ℕ, List, true, ⊤}
+use Rattle.std.specs.Prelude.{◌≡◌, ◌≢◌, ◌⊎◌, ℕ, List, true, ⊤}
 use Rattle.semver.specs.Parse.{Parts}
-use Rattle.model.specs.Summary.{Dependency}
-use Rattle.model.specs.Facts.{Fact, here, on, enabled}
+use Rattle.model.specs.Summary.{Dependency, dependency_feature}
+use Rattle.model.specs.Facts.{Fact, here, on, enabled, Brings, Lists}
 use Rattle.model.specs.Content.{Problem}
 use Rattle.model.specs.Selection.{Class, class_of}
-use Rattle.model.specs.Vertices.{Owner, the_root, version_of, Vertex, pkg, dep, feat, State, absent, present, version, in_class, has_state, space}
+use Rattle.model.specs.Vertices.{Owner, the_root, version_of, Vertex, root, pkg, dep, feat, ask, State, absent, present, version, in_class, has_state, owner_brings, space}
 use Rattle.model.specs.Stands as reached
 use Rattle.model.specs.Axioms.{Kind, Term, IsBroken, IsInstance}
 
@@ -45,3 +45,16 @@ module _ (q : Problem) (state : Vertex → State) where
   Says (here n) = IsPresent n
   Says (on n f) = IsOn n f
   Says (enabled n i) = IsPresent n × (state (dep n i) ≢ absent)
+
+  -- what the root reaches, as vertices: its own one, and those of the facts that it reaches
+  abbrev pub IsReachedVertex : Vertex → Type 0
+  IsReachedVertex root = ⊤
+  IsReachedVertex (pkg name k) = (v : Parts) × IsReachedFact (here (version_of name v)) × (class_of v ≡ k)
+  IsReachedVertex (dep o i) = IsReachedFact (enabled o i)
+  IsReachedVertex (feat name k f) = (v : Parts) × IsReachedFact (on (version_of name v) f) × (class_of v ≡ k)
+  IsReachedVertex (ask name v i g) = (d : Dependency) × (f : List ℕ) × IsReachedFact (on (version_of name v) f)
+      × Brings (owner_brings q) (version_of name v) i d × Lists (owner_brings q) (version_of name v) f (dependency_feature d.name g)
+
+  -- the assignment cut down to what the root reaches: there a vertex keeps its state, and each other one is absent
+  abbrev pub AssignsReached : Vertex → State → Type 0
+  AssignsReached v s = (IsReachedVertex v × (s ≡ state v)) ⊎ ((s ≡ absent) × (IsReachedVertex v → ⊥))

@@ -3,7 +3,7 @@
 //! A law is a function that does nothing: its contract is the statement, and its body shows that the statement needs no code.
 #![tactic(auto)]
 
-ghost use Rattle.std.specs.Prelude.{◌≡◌, ◌≢◌, ◌↔◌, ◌⊎◌, Bool, true, false, ℕ, List, Option, Ok};
+ghost use Rattle.std.specs.Prelude.{◌≡◌, ◌≢◌, ◌↔◌, ◌⊎◌, Bool, true, false, ℕ, List, Option, Ok, Contains};
 ghost use Rattle.std.specs.List.{All, AllPairs};
 ghost use Rattle.std.specs.List.Sorted.{IsPermutation};
 ghost use Rattle.std.specs.Ordering.{is_gt};
@@ -12,7 +12,7 @@ ghost use Rattle.semver.specs.EvalViews.{matches_views};
 ghost use Rattle.model.specs.Summary.{Dependency, KnowsFeatures, Table, entries_at, has_feature};
 ghost use Rattle.model.specs.Tables.{DepName, IsInOrder, Written, entries_meant, table_of};
 ghost use Rattle.model.specs.Facts.{Brings, Fact, enabled, on};
-ghost use Rattle.model.specs.Content.{Candidate, Content, Package, Problem, candidate_of, with_candidates};
+ghost use Rattle.model.specs.Content.{Candidate, Content, Package, Problem, candidate_of, candidates_of, with_candidates};
 ghost use Rattle.model.specs.Order.{precedence};
 ghost use Rattle.model.specs.Candidates.{IsApart, IsOlder, Record, RustVersion, by_preference, oldest_first};
 ghost use Rattle.model.specs.WellFormed.{IsCatalogue, IsContent};
@@ -23,7 +23,7 @@ ghost use Rattle.model.specs.Axioms.{AreApart, IsInstance, IsOwner, IsVertex, Ki
 ghost use Rattle.model.specs.Stands.{StandsFor};
 ghost use Rattle.model.specs.Walk.{IsWalk, Picks};
 ghost use Rattle.model.specs.ContentOf.{AreKept, Kept, content_of, in_package_order, kept_cmp};
-ghost use Rattle.model.specs.Search.{IsPresent, IsReachedFact, IsUnbroken, LeadsTo, Says};
+ghost use Rattle.model.specs.Search.{AssignsReached, IsPresent, IsReachedFact, IsUnbroken, LeadsTo, Says};
 ghost use Rattle.model.specs.Assignment.{Assigns, Breaks};
 ghost use Rattle.model.specs.Derivation.{IsAccepted, IsCombined, Step};
 
@@ -152,6 +152,13 @@ pub fn unbroken_assignments_select()
     ensures { (q : Problem) (state : Vertex → State) (c : Content) → IsCatalogue q → IsUnbroken q state → StandsFor q (LeadsTo q state) c → IsValidSelection q c }
 {}
 
+/// In the content of what the root reaches in an assignment that breaks no instance, each vertex has the state that it has in the
+/// assignment cut down to what the root reaches.
+pub fn reached_states_stay()
+    ensures { (q : Problem) (state : Vertex → State) (c : Content) (v : Vertex) (s : State) → IsCatalogue q → IsUnbroken q state → StandsFor q (LeadsTo q state) c
+        → Assigns q c v s ↔ AssignsReached q state v s }
+{}
+
 /// Owners that are each there once, in an order in which none is to come before an earlier one, stand in package order.
 pub fn package_order_is_unique()
     ensures { (q : Problem) (kept sorted : List Kept) → IsCatalogue q → All (λ k. IsOwner q k.owner) kept → AllPairs (λ a b. a.owner ≢ b.owner) kept
@@ -162,6 +169,30 @@ pub fn package_order_is_unique()
 pub fn gathered_picks_walk()
     ensures { (q : Problem) (preferred : List (List ℕ × List Candidate)) (kept : List Kept) → IsCatalogue q → AreKept q (Picks q preferred) kept
         → IsWalk q preferred (content_of q kept) }
+{}
+
+/// What the root reaches in an assignment that breaks no instance is a valid selection, in which each vertex has just the state that it has
+/// in the assignment cut down to what the root reaches: so there is a valid selection wherever an assignment breaks no instance.
+pub fn unbroken_assignments_have_selections()
+    ensures { (q : Problem) (state : Vertex → State) → IsCatalogue q → IsUnbroken q state
+        → (c : Content) × IsValidSelection q c × ((v : Vertex) (s : State) → Assigns q c v s ↔ AssignsReached q state v s) }
+{}
+
+/// What the root reaches in an assignment that breaks no instance can be kept: a finite list has each owner once, with its targets.
+pub fn reached_owners_are_kept()
+    ensures { (q : Problem) (state : Vertex → State) → IsUnbroken q state → (kept : List Kept) × AreKept q (LeadsTo q state) kept }
+{}
+
+/// There is a preferred walk, where what is preferred are candidates.
+pub fn walks_exist()
+    ensures { (q : Problem) (preferred : List (List ℕ × List Candidate)) → IsCatalogue q
+        → ((name : List ℕ) (c : Candidate) → Contains (candidates_of preferred name) c → Contains (candidates_of q.candidates name) c)
+        → (c : Content) × IsWalk q preferred c }
+{}
+
+/// There is one preferred walk at most.
+pub fn walks_are_unique()
+    ensures { (q : Problem) (preferred : List (List ℕ × List Candidate)) (a b : Content) → IsWalk q preferred a → IsWalk q preferred b → a ≡ b }
 {}
 
 /// The content of the owners that the root reaches in an assignment that breaks no instance is a valid selection.
