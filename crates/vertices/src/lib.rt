@@ -21,5 +21,6 @@ mod vertex;
 pub use fault::TextFault;
 pub use kind::Kind;
 pub use order::state_order;
+pub use same::{same_state, same_vertex};
 pub use state::{State, StateRef};
 pub use vertex::{Owner, OwnerRef, Vertex, VertexRef};

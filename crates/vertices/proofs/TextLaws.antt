@@ -22,9 +22,9 @@ use Rattle.features.specs.Entries.{after_text, around}
 use Rattle.features.specs.Names.{is_package_name, is_feature_name}
 use Rattle.classes.specs.Classes.{class_text}
 use Rattle.classes.specs.Numbers.{is_plain_number, number_of}
-use Rattle.derivations.specs.Texts.{needed, parted, package_name_of, feature_name_of, version_or, version_of_text, above_zero, lesser_class, class_or, class_of_text, index_of, named_version_of_text, owner_text, owner_of_text, vertex_text, package_of_text, dependency_of_text, feature_of_text, ask_of_text, kinded_vertex, vertex_of_text, state_text, present_of_text, value_of_text, state_of_text}
-use Rattle.derivations.specs.declared.fault.LineFault.TheVariants.{NotALine}
-use Rattle.derivations.proofs.Bound.{steps, same-Ok, same-Some, some, chosen}
+use Rattle.vertices.specs.Texts.{needed, parted, package_name_of, feature_name_of, version_or, version_of_text, above_zero, lesser_class, class_or, class_of_text, index_of, named_version_of_text, owner_text, owner_of_text, vertex_text, package_of_text, dependency_of_text, feature_of_text, ask_of_text, kinded_vertex, vertex_of_text, state_text, present_of_text, value_of_text, state_of_text}
+use Rattle.vertices.specs.declared.fault.TextFault.TheVariants.{NotAText}
+use Rattle.vertices.proofs.Bound.{steps, same-Ok, same-Some, some, chosen}
 
 -- ---- parts of texts
 
@@ -88,20 +88,20 @@ number-text text n h = by (is_plain_number text && nat_lt (digits_value 10 text)
     by false is h = cc
 
 number-needed : (text : List ℕ) (n : ℕ) → needed (number_of text) ≡ Ok n → decimal n ≡ text
-number-needed text n h = number-text text n (some (number_of text) NotALine n h)
+number-needed text n h = number-text text n (some (number_of text) NotAText n h)
 
 above_zero-text : (text : List ℕ) (n : ℕ) → above_zero text ≡ Ok n → decimal n ≡ text
 unfolding above_zero
 above_zero-text text n h =
-    let s = steps (needed (number_of text)) (λ m. cond (nat_lt 0 m) (Ok m) (Err NotALine)) n h in
-    let same : s.at ≡ n = (chosen (nat_lt 0 s.at) s.at n NotALine s.then).1 in
+    let s = steps (needed (number_of text)) (λ m. cond (nat_lt 0 m) (Ok m) (Err NotAText)) n h in
+    let same : s.at ≡ n = (chosen (nat_lt 0 s.at) s.at n NotAText s.then).1 in
     ap decimal (sym same) ∙ number-needed text s.at s.first
 
 pub index-text : (text : List ℕ) (n : ℕ) → index_of text ≡ Ok n → decimal n ≡ text
 unfolding index_of
 index-text text n h =
-    let s = steps (needed (number_of text)) (λ m. cond (nat_lt m 4294967296) (Ok m) (Err NotALine)) n h in
-    let same : s.at ≡ n = (chosen (nat_lt s.at 4294967296) s.at n NotALine s.then).1 in
+    let s = steps (needed (number_of text)) (λ m. cond (nat_lt m 4294967296) (Ok m) (Err NotAText)) n h in
+    let same : s.at ≡ n = (chosen (nat_lt s.at 4294967296) s.at n NotAText s.then).1 in
     ap decimal (sym same) ∙ number-needed text s.at s.first
 
 -- ---- classes and versions
@@ -139,13 +139,13 @@ version-reads text v h = (version_parts-sound text v (version-or (version_parts 
 -- ---- owners and vertices
 
 name-is : (text n : List ℕ) → package_name_of text ≡ Ok n → text ≡ n
-name-is text n h = (chosen (is_package_name text) text n NotALine h).1
+name-is text n h = (chosen (is_package_name text) text n NotAText h).1
 
 feature-is : (text f : List ℕ) → feature_name_of text ≡ Ok f → text ≡ f
-feature-is text f h = (chosen (is_feature_name text) text f NotALine h).1
+feature-is text f h = (chosen (is_feature_name text) text f NotAText h).1
 
 pub parted-joins : (byte : ℕ) (text : List ℕ) (p : List ℕ × List ℕ) → parted byte text ≡ Ok p → text ≡ p.0 ++ (byte ∷ p.1)
-parted-joins byte text p h = around-joins byte text p (some (around byte text) NotALine p h)
+parted-joins byte text p h = around-joins byte text p (some (around byte text) NotAText p h)
 
 joined : (byte : ℕ) (a b c d : List ℕ) → a ≡ c → b ≡ d → a ++ (byte ∷ b) ≡ c ++ (byte ∷ d)
 joined byte a b c d p q = cc
@@ -218,22 +218,22 @@ kinded-text word rest v h = pkg_or (same_bytes word (codes "pkg")) refl h
     after : (front : List ℕ) → same_bytes word front ≡ true → front ++ (32 ∷ rest) ≡ word ++ (32 ∷ rest)
     after front is = ap (λ w. w ++ (32 ∷ rest)) (sym (same_text word front is))
 
-    ask_or : (b : Bool) → same_bytes word (codes "ask") ≡ b → cond b (ask_of_text rest) (Err NotALine) ≡ Ok v → vertex_text v ≡ word ++ (32 ∷ rest)
+    ask_or : (b : Bool) → same_bytes word (codes "ask") ≡ b → cond b (ask_of_text rest) (Err NotAText) ≡ Ok v → vertex_text v ≡ word ++ (32 ∷ rest)
     ask_or true is h = ask-text rest v h ∙ after (codes "ask") is
     ask_or false is h = cc
 
-    feat_or : (b : Bool) → same_bytes word (codes "feat") ≡ b → cond b (feature_of_text rest) (cond (same_bytes word (codes "ask")) (ask_of_text rest) (Err NotALine)) ≡ Ok v → vertex_text v ≡ word ++ (32 ∷ rest)
+    feat_or : (b : Bool) → same_bytes word (codes "feat") ≡ b → cond b (feature_of_text rest) (cond (same_bytes word (codes "ask")) (ask_of_text rest) (Err NotAText)) ≡ Ok v → vertex_text v ≡ word ++ (32 ∷ rest)
     feat_or true is h = feature-text rest v h ∙ after (codes "feat") is
     feat_or false is h = ask_or (same_bytes word (codes "ask")) refl h
 
     dep_or : (b : Bool) → same_bytes word (codes "dep") ≡ b
-        → cond b (dependency_of_text rest) (cond (same_bytes word (codes "feat")) (feature_of_text rest) (cond (same_bytes word (codes "ask")) (ask_of_text rest) (Err NotALine))) ≡ Ok v
+        → cond b (dependency_of_text rest) (cond (same_bytes word (codes "feat")) (feature_of_text rest) (cond (same_bytes word (codes "ask")) (ask_of_text rest) (Err NotAText))) ≡ Ok v
         → vertex_text v ≡ word ++ (32 ∷ rest)
     dep_or true is h = dependency-text rest v h ∙ after (codes "dep") is
     dep_or false is h = feat_or (same_bytes word (codes "feat")) refl h
 
     pkg_or : (b : Bool) → same_bytes word (codes "pkg") ≡ b
-        → cond b (package_of_text rest) (cond (same_bytes word (codes "dep")) (dependency_of_text rest) (cond (same_bytes word (codes "feat")) (feature_of_text rest) (cond (same_bytes word (codes "ask")) (ask_of_text rest) (Err NotALine)))) ≡ Ok v
+        → cond b (package_of_text rest) (cond (same_bytes word (codes "dep")) (dependency_of_text rest) (cond (same_bytes word (codes "feat")) (feature_of_text rest) (cond (same_bytes word (codes "ask")) (ask_of_text rest) (Err NotAText)))) ≡ Ok v
         → vertex_text v ≡ word ++ (32 ∷ rest)
     pkg_or true is h = package-text rest v h ∙ after (codes "pkg") is
     pkg_or false is h = dep_or (same_bytes word (codes "dep")) refl h
@@ -251,7 +251,7 @@ vertex-reads text v h = by (same_bytes text (codes "root")) refl h
 
 present-text : (text : List ℕ) (s : State) → present_of_text text ≡ Ok s → state_text s ≡ text
 present-text text s h =
-    let c = chosen (same_bytes text (codes "present")) present s NotALine h in
+    let c = chosen (same_bytes text (codes "present")) present s NotAText h in
     ap state_text (sym c.1) ∙ sym (same_text text (codes "present") c.0)
 
 value-text : (v : Vertex) (text : List ℕ) (s : State) → value_of_text v text ≡ Ok s → state_text s ≡ text

@@ -20,11 +20,11 @@ use Rattle.model.specs.Vertices.{Owner, the_root, version_of, Vertex, root, pkg,
 use Rattle.features.specs.Entries.{after_text}
 use Rattle.features.specs.Names.{is_package_name, is_package_byte, is_feature_name, is_feature_byte}
 use Rattle.classes.specs.Numbers.{is_plain_number, number_of}
-use Rattle.derivations.specs.Kinds.{kind_text}
-use Rattle.derivations.specs.Texts.{needed, parted, package_name_of, feature_name_of, version_of_text, above_zero, lesser_class, class_or, class_of_text, index_of, named_version_of_text, owner_of_text, package_of_text, dependency_of_text, feature_of_text, ask_of_text, kinded_vertex, vertex_of_text, present_of_text, value_of_text, state_of_text}
-use Rattle.derivations.specs.declared.fault.LineFault.TheVariants.{NotALine}
-use Rattle.derivations.proofs.Bound.{steps, some, chosen}
-use Rattle.derivations.proofs.TextLaws.{front-joins, parted-joins, version-or}
+use Rattle.vertices.specs.Kinds.{kind_text}
+use Rattle.vertices.specs.Texts.{needed, parted, package_name_of, feature_name_of, version_of_text, above_zero, lesser_class, class_or, class_of_text, index_of, named_version_of_text, owner_of_text, package_of_text, dependency_of_text, feature_of_text, ask_of_text, kinded_vertex, vertex_of_text, present_of_text, value_of_text, state_of_text}
+use Rattle.vertices.specs.declared.fault.TextFault.TheVariants.{NotAText}
+use Rattle.vertices.proofs.Bound.{steps, some, chosen}
+use Rattle.vertices.proofs.TextLaws.{front-joins, parted-joins, version-or}
 
 -- a printable ASCII byte other than `"` and `\`
 abbrev pub IsPlainByte : ℕ → Type 0
@@ -71,10 +71,10 @@ literal text h = plain-bytes literal-byte literal-is text h
 -- ---- names and numbers
 
 name-plain : (text n : List ℕ) → package_name_of text ≡ Ok n → IsPlain text
-name-plain text n h = plain-bytes is_package_byte package-byte text (and-both _ (list_all is_package_byte text) (and-both _ _ (chosen (is_package_name text) text n NotALine h).0).1).1
+name-plain text n h = plain-bytes is_package_byte package-byte text (and-both _ (list_all is_package_byte text) (and-both _ _ (chosen (is_package_name text) text n NotAText h).0).1).1
 
 feature-plain : (text f : List ℕ) → feature_name_of text ≡ Ok f → IsPlain text
-feature-plain text f h = plain-bytes is_feature_byte feature-byte text (and-both _ (list_all is_feature_byte text) (and-both _ _ (chosen (is_feature_name text) text f NotALine h).0).1).1
+feature-plain text f h = plain-bytes is_feature_byte feature-byte text (and-both _ (list_all is_feature_byte text) (and-both _ _ (chosen (is_feature_name text) text f NotAText h).0).1).1
 
 number-plain : (text : List ℕ) (n : ℕ) → number_of text ≡ Some n → IsPlain text
 number-plain text n h = by (is_plain_number text && nat_lt (digits_value 10 text) (2 ^ 64)) refl h
@@ -84,7 +84,7 @@ number-plain text n h = by (is_plain_number text && nat_lt (digits_value 10 text
     by false is h = cc
 
 needed-plain : (text : List ℕ) (n : ℕ) → needed (number_of text) ≡ Ok n → IsPlain text
-needed-plain text n h = number-plain text n (some (number_of text) NotALine n h)
+needed-plain text n h = number-plain text n (some (number_of text) NotAText n h)
 
 above_zero-plain : (text : List ℕ) (n : ℕ) → above_zero text ≡ Ok n → IsPlain text
 unfolding above_zero
@@ -225,22 +225,22 @@ Both word rest = IsPlain word × IsPlain rest
 kinded-plain : (word rest : List ℕ) (v : Vertex) → kinded_vertex word rest ≡ Ok v → Both word rest
 kinded-plain word rest v h = pkg_or (same_bytes word (codes "pkg")) refl h
   where
-    ask_or : (b : Bool) → same_bytes word (codes "ask") ≡ b → cond b (ask_of_text rest) (Err NotALine) ≡ Ok v → Both word rest
+    ask_or : (b : Bool) → same_bytes word (codes "ask") ≡ b → cond b (ask_of_text rest) (Err NotAText) ≡ Ok v → Both word rest
     ask_or true is h = (is-literal word (codes "ask") is (literal (codes "ask") refl), ask-plain rest v h)
     ask_or false is h = cc
 
-    feat_or : (b : Bool) → same_bytes word (codes "feat") ≡ b → cond b (feature_of_text rest) (cond (same_bytes word (codes "ask")) (ask_of_text rest) (Err NotALine)) ≡ Ok v → Both word rest
+    feat_or : (b : Bool) → same_bytes word (codes "feat") ≡ b → cond b (feature_of_text rest) (cond (same_bytes word (codes "ask")) (ask_of_text rest) (Err NotAText)) ≡ Ok v → Both word rest
     feat_or true is h = (is-literal word (codes "feat") is (literal (codes "feat") refl), asked-plain rest v h)
     feat_or false is h = ask_or (same_bytes word (codes "ask")) refl h
 
     dep_or : (b : Bool) → same_bytes word (codes "dep") ≡ b
-        → cond b (dependency_of_text rest) (cond (same_bytes word (codes "feat")) (feature_of_text rest) (cond (same_bytes word (codes "ask")) (ask_of_text rest) (Err NotALine))) ≡ Ok v
+        → cond b (dependency_of_text rest) (cond (same_bytes word (codes "feat")) (feature_of_text rest) (cond (same_bytes word (codes "ask")) (ask_of_text rest) (Err NotAText))) ≡ Ok v
         → Both word rest
     dep_or true is h = (is-literal word (codes "dep") is (literal (codes "dep") refl), dependency-plain rest v h)
     dep_or false is h = feat_or (same_bytes word (codes "feat")) refl h
 
     pkg_or : (b : Bool) → same_bytes word (codes "pkg") ≡ b
-        → cond b (package_of_text rest) (cond (same_bytes word (codes "dep")) (dependency_of_text rest) (cond (same_bytes word (codes "feat")) (feature_of_text rest) (cond (same_bytes word (codes "ask")) (ask_of_text rest) (Err NotALine)))) ≡ Ok v
+        → cond b (package_of_text rest) (cond (same_bytes word (codes "dep")) (dependency_of_text rest) (cond (same_bytes word (codes "feat")) (feature_of_text rest) (cond (same_bytes word (codes "ask")) (ask_of_text rest) (Err NotAText)))) ≡ Ok v
         → Both word rest
     pkg_or true is h = (is-literal word (codes "pkg") is (literal (codes "pkg") refl), package-plain rest v h)
     pkg_or false is h = dep_or (same_bytes word (codes "dep")) refl h
@@ -258,7 +258,7 @@ vertex-plain text v h = by (same_bytes text (codes "root")) refl h
 -- ---- states and kinds
 
 present-plain : (text : List ℕ) (s : State) → present_of_text text ≡ Ok s → IsPlain text
-present-plain text s h = is-literal text (codes "present") (chosen (same_bytes text (codes "present")) present s NotALine h).0 (literal (codes "present") refl)
+present-plain text s h = is-literal text (codes "present") (chosen (same_bytes text (codes "present")) present s NotAText h).0 (literal (codes "present") refl)
 
 value-plain : (v : Vertex) (text : List ℕ) (s : State) → value_of_text v text ≡ Ok s → IsPlain text
 value-plain root text s h = present-plain text s h

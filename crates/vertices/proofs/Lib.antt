@@ -1,0 +1,4 @@
+pub mod Bound
+pub mod OrderLaws
+pub mod TextLaws
+pub mod PlainTexts
