@@ -17,7 +17,7 @@ use Rattle.model.specs.Selection.{Class}
 use Rattle.model.specs.Vertices.{class_candidates, in_that_class, version}
 use Rattle.model.proofs.Same.{version-same, version-refl}
 use Rattle.manifest.specs.Manifests.{ManifestView}
-use Rattle.derivations.proofs.OrderLaws.{state_total}
+use Rattle.vertices.proofs.OrderLaws.{state_total}
 use Rattle.catalogue.specs.Problems.{problem_in}
 use Rattle.catalogue.specs.Stores.{CatalogueView, candidates_at, rows_by_name}
 use Rattle.axioms.specs.Matching.{is_lacking, versions_with}

@@ -12,11 +12,11 @@ use Rattle.semver.specs.declared.Version.{Version}
 use Rattle.model.specs.Order.{precedence, text_cmp, version_cmp}
 use Rattle.model.specs.Vertices.{absent, version}
 use Rattle.model.proofs.Lists.{all_first, all_rest, pairs_all, pairs_rest}
-use Rattle.derivations.specs.Orders.{state_cmp}
+use Rattle.vertices.specs.Orders.{state_cmp}
 use Rattle.axioms.specs.Matching.{versions_with}
 use Rattle.axioms.specs.Ranges.{AreRising}
-use Rattle.axioms.specs.StateViews.{state_views}
-use Rattle.axioms.specs.declared.term.State as declared
+use Rattle.vertices.specs.RefViews.{state_ref_views}
+use Rattle.vertices.specs.declared.state.StateRef as declared
 
 older : (v w : Parts) → precedence v w ≡ Less → version_cmp v w ≡ Less
 older v w h = ap (λ o. ordering_then o (text_cmp (parts_text v) (parts_text w))) h
@@ -53,6 +53,6 @@ absent_first t vs h = (before (filter t (map parts_of vs)), those_rise t vs h)
     before (p ∷ ps) = (refl, before ps)
 
 -- one state alone does
-pub one_rises : (s : declared.State) (ss : List declared.State) → ss ≡ s ∷ [] → IsStrictlySortedBy state_cmp (state_views ss)
+pub one_rises : (s : declared.StateRef) (ss : List declared.StateRef) → ss ≡ s ∷ [] → IsStrictlySortedBy state_cmp (state_ref_views ss)
 unfolding IsStrictlySortedBy
-one_rises s ss e = subst (λ rs. IsStrictlySortedBy state_cmp (state_views rs)) (sym e) (tt, tt)
+one_rises s ss e = subst (λ rs. IsStrictlySortedBy state_cmp (state_ref_views rs)) (sym e) (tt, tt)

@@ -12,11 +12,11 @@ use Rattle.std.proofs.lemmas.List.Kept.{AllPairs-cons}
 use Rattle.model.specs.Vertices.{State, same_state, has_state}
 use Rattle.model.proofs.Lists.{pairs_none}
 use Rattle.model.proofs.Same.{state-same}
-use Rattle.derivations.specs.Orders.{state_cmp}
-use Rattle.derivations.proofs.OrderLaws.{state_total}
+use Rattle.vertices.specs.Orders.{state_cmp}
+use Rattle.vertices.proofs.OrderLaws.{state_total}
 use Rattle.catalogue.proofs.Found.{beside, less-other, greater-other}
-use Rattle.axioms.specs.StateViews.{state_view, state_views}
-use Rattle.axioms.specs.declared.term.State as declared
+use Rattle.vertices.specs.RefViews.{state_ref_view, state_ref_views}
+use Rattle.vertices.specs.declared.state.StateRef as declared
 
 -- what is sorted has each two in order
 pub sorted_pairs : {X : Type 0} (cmp : X → X → Ordering) (xs : List X) → IsStrictlySortedBy cmp xs → AllPairs (λ x y. cmp x y ≡ Less) xs
@@ -111,20 +111,20 @@ sorted_map f cmp xs h = sorted_pairs (λ x y. cmp (f x) (f y)) xs (sorted_by f c
 
 -- ---- states in the written order
 
-module _ (ss : List declared.State) (w : State) (sorted : IsStrictlySortedBy state_cmp (state_views ss)) where
-  abbrev sought : declared.State → Bool
-  sought s = same_state w (state_view s)
+module _ (ss : List declared.StateRef) (w : State) (sorted : IsStrictlySortedBy state_cmp (state_ref_views ss)) where
+  abbrev sought : declared.StateRef → Bool
+  sought s = same_state w (state_ref_view s)
 
-  tied : (s : declared.State) → sought s ≡ true → state_cmp (state_view s) w ≡ Equal
-  tied s e = ap (λ r. state_cmp r w) (sym (state-same w (state_view s) e)) ∙ tied_itself state_total w
+  tied : (s : declared.StateRef) → sought s ≡ true → state_cmp (state_ref_view s) w ≡ Equal
+  tied s e = ap (λ r. state_cmp r w) (sym (state-same w (state_ref_view s) e)) ∙ tied_itself state_total w
 
-  in_terms : has_state (state_views ss) w ≡ is_some (find sought ss)
-  in_terms = any_map state_view (same_state w) ss ∙ any_found sought ss
+  in_terms : has_state (state_ref_views ss) w ≡ is_some (find sought ss)
+  in_terms = any_map state_ref_view (same_state w) ss ∙ any_found sought ss
 
-  pub state_finds : (i : ℕ) → IsBinarySearchResult (λ s. state_cmp (state_view s) w) ss (Ok i) → i < length ss → (y : declared.State) → get_or ss i y ≡ y
-      → same_state w (state_view y) ≡ has_state (state_views ss) w
+  pub state_finds : (i : ℕ) → IsBinarySearchResult (λ s. state_cmp (state_ref_view s) w) ss (Ok i) → i < length ss → (y : declared.StateRef) → get_or ss i y ≡ y
+      → same_state w (state_ref_view y) ≡ has_state (state_ref_views ss) w
   state_finds i found inside y is =
-      sym (in_terms ∙ ap is_some (search_finds state_view state_total ss w sought tied (sorted_map state_view state_cmp ss sorted) i found inside y is) ∙ kept-some sought y)
+      sym (in_terms ∙ ap is_some (search_finds state_ref_view state_total ss w sought tied (sorted_map state_ref_view state_cmp ss sorted) i found inside y is) ∙ kept-some sought y)
 
-  pub state_ends : (i : ℕ) → IsBinarySearchResult (λ s. state_cmp (state_view s) w) ss (Err i) → false ≡ has_state (state_views ss) w
-  state_ends i found = sym (in_terms ∙ ap is_some (search_ends state_view state_total ss w sought tied (sorted_map state_view state_cmp ss sorted) i found))
+  pub state_ends : (i : ℕ) → IsBinarySearchResult (λ s. state_cmp (state_ref_view s) w) ss (Err i) → false ≡ has_state (state_ref_views ss) w
+  state_ends i found = sym (in_terms ∙ ap is_some (search_ends state_ref_view state_total ss w sought tied (sorted_map state_ref_view state_cmp ss sorted) i found))

@@ -5,7 +5,8 @@ use Rattle.semver.specs.EvalViews.{matches_views}
 use Rattle.model.specs.Summary.{Dependency}
 use Rattle.model.specs.Content.{Problem}
 use Rattle.model.specs.Selection.{class_of}
-use Rattle.model.specs.Vertices.{Vertex, root, pkg, dep, feat, ask, State, present, version, in_class, has_state, class_candidates, dep_classes}
+use Rattle.model.specs.Vertices.{Vertex, root, pkg, dep, feat, ask, State, present, version, in_class, has_state}
+use Rattle.model.specs.Vertices.{class_candidates, dep_classes}
 use Rattle.refutations.specs.Causes.{dependency_at}
 
 abbrev pub classes_if : Problem → Option Dependency → List State

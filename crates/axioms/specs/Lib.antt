@@ -1,4 +1,3 @@
-pub mod StateViews
 pub mod Views
 pub mod Asking
 pub mod CauseViews

@@ -8,8 +8,8 @@ use Rattle.model.specs.Vertices as model
 use Rattle.model.specs.Selection as selection
 use Rattle.classes.specs.Classes.{class_view}
 use Rattle.classes.specs.declared.class.Class.{Class}
-use Rattle.axioms.specs.declared.term.Owner.{Owner}
-use Rattle.axioms.specs.Views.{owner_view}
+use Rattle.vertices.specs.declared.vertex.OwnerRef.{OwnerRef}
+use Rattle.vertices.specs.RefViews.{owner_ref_view}
 
 abbrev pub text_seen : Bor (List ℕ) → List ℕ
 text_seen f = f.now
@@ -17,11 +17,11 @@ text_seen f = f.now
 abbrev pub version_seen : Bor (List ℕ) × Bor Version → List ℕ × Parts
 version_seen p = (p.0.now, parts_of p.1.now)
 
-abbrev pub dep_seen : Owner × ℕ → model.Owner × ℕ
-dep_seen p = (owner_view p.0, p.1)
+abbrev pub dep_seen : OwnerRef × ℕ → model.Owner × ℕ
+dep_seen p = (owner_ref_view p.0, p.1)
 
-abbrev pub led_seen : Owner × ℕ × Class → model.Owner × ℕ × selection.Class
-led_seen p = (owner_view p.0, p.1, class_view p.2)
+abbrev pub led_seen : OwnerRef × ℕ × Class → model.Owner × ℕ × selection.Class
+led_seen p = (owner_ref_view p.0, p.1, class_view p.2)
 
 abbrev pub other_seen : ℕ × Class → ℕ × selection.Class
 other_seen p = (p.0, class_view p.1)

@@ -9,14 +9,15 @@ ghost use Rattle.model.specs.Summary as model;
 ghost use Rattle.model.specs.Summary.{asked_of_target, dependency_feature, same_text};
 ghost use Rattle.refutations.specs.Causes.{asks_for, root_asks_for, same_entry, same_pair, some_entry};
 ghost use Rattle.axioms.specs.Asking.{row_asks, row_names};
-ghost use Rattle.axioms.specs.Views.{owner_view, problem};
+ghost use Rattle.axioms.specs.Views.{problem};
+ghost use Rattle.vertices.specs.RefViews.{owner_ref_view};
 
 use crate::entries::{asks_for, has_asking};
 use crate::known::Known;
 use crate::lookups::brings;
-use crate::term::Owner;
 use features::{Dependency, Entry, FeatureName, FeatureTable, PackageName};
 use semver::Version;
+use vertices::OwnerRef;
 
 /// Whether a dependency asks for the feature by its list.
 pub(crate) fn is_listed(dependency: &Dependency, feature: &FeatureName) -> bool
@@ -40,15 +41,15 @@ fn is_default(dependency: &Dependency, feature: &FeatureName) -> bool
 /// Whether the root asks its dependency for the feature by an entry.
 pub(crate) fn root_asks_for(
     known: &Known<'_>,
-    owner: &Owner<'_>,
+    owner: &OwnerRef<'_>,
     dependency: &Dependency,
     feature: &FeatureName,
 ) -> bool
-    ensures { result ≡ root_asks_for (problem known.now) (owner_view owner.now) (dependency_view dependency.now) feature.now }
+    ensures { result ≡ root_asks_for (problem known.now) (owner_ref_view owner.now) (dependency_view dependency.now) feature.now }
 {
     match owner {
-        Owner::Root => root_asks(known, &dependency.name, feature),
-        Owner::Version(_, _) => false,
+        OwnerRef::Root => root_asks(known, &dependency.name, feature),
+        OwnerRef::Version(_, _) => false,
     }
 }
 
@@ -93,7 +94,7 @@ pub(crate) fn some_entry_asks(
 ) -> bool
     ensures { result ≡ some_entry (problem known.now) (same_entry (dependency_feature name.now feature.now)) owner.now (parts_of version.now) }
 {
-    match brings(known, &Owner::Version(owner, version)) {
+    match brings(known, &OwnerRef::Version(owner, version)) {
         Some(owner) => some_row_asks(&owner.features, name, feature),
         None => false,
     }

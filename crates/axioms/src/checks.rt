@@ -13,21 +13,22 @@ ghost use Rattle.model.specs.Vertices.{feat, same_vertex, version_of};
 ghost use Rattle.refutations.specs.Causes.{dependency_at, enables, is_cause, is_overtaken, is_weak_on, lists_feature, of_ask, of_asking, of_enabling, of_entry, of_feature, of_list, of_need, of_newest, of_target, of_weak, passes};
 ghost use Rattle.axioms.specs.CauseViews.{cause_view};
 ghost use Rattle.axioms.specs.GatheredViews.{problem_of};
-ghost use Rattle.axioms.specs.Views.{owner_view, problem};
+ghost use Rattle.axioms.specs.Views.{problem};
+ghost use Rattle.vertices.specs.RefViews.{owner_ref_view};
 
 use crate::asking::{is_listed, root_asks_for, some_entry_asks};
 use crate::cause::Cause;
 use crate::entries::{enables, has_asking, has_feature, has_same, has_weak};
+use crate::feature_vertex::has_feature_vertex;
 use crate::finding::is_needed;
 use crate::gathered::Gathered;
 use crate::known::Known;
 use crate::lookups::{dependency_at, entries_of};
 use crate::matching::{has_class, is_same};
-use crate::term::Owner;
-use crate::vertices::has_feature_vertex;
 use classes::Class;
 use features::{Dependency, Entry, FeatureName, PackageName};
 use semver::Version;
+use vertices::OwnerRef;
 
 /// Whether all that a cause names is there.
 pub(crate) fn is_cause(gathered: &Gathered<'_>, cause: &Cause<'_>) -> bool
@@ -61,8 +62,8 @@ pub(crate) fn is_cause(gathered: &Gathered<'_>, cause: &Cause<'_>) -> bool
     }
 }
 
-fn is_need(known: &Known<'_>, owner: &Owner<'_>, number: usize) -> bool
-    ensures { result ≡ is_cause (problem known.now) (of_need (owner_view owner.now) number) }
+fn is_need(known: &Known<'_>, owner: &OwnerRef<'_>, number: usize) -> bool
+    ensures { result ≡ is_cause (problem known.now) (of_need (owner_ref_view owner.now) number) }
 {
     match dependency_at(known, owner, number) {
         Some(dependency) => is_needed(owner, dependency),
@@ -70,8 +71,8 @@ fn is_need(known: &Known<'_>, owner: &Owner<'_>, number: usize) -> bool
     }
 }
 
-fn is_target(known: &Known<'_>, owner: &Owner<'_>, number: usize, class: Class) -> bool
-    ensures { result ≡ is_cause (problem known.now) (of_target (owner_view owner.now) number (class_view class)) }
+fn is_target(known: &Known<'_>, owner: &OwnerRef<'_>, number: usize, class: Class) -> bool
+    ensures { result ≡ is_cause (problem known.now) (of_target (owner_ref_view owner.now) number (class_view class)) }
 {
     match dependency_at(known, owner, number) {
         Some(dependency) => has_class(known, class, dependency),
@@ -81,12 +82,12 @@ fn is_target(known: &Known<'_>, owner: &Owner<'_>, number: usize, class: Class) 
 
 fn is_list(
     known: &Known<'_>,
-    owner: &Owner<'_>,
+    owner: &OwnerRef<'_>,
     number: usize,
     class: Class,
     feature: &FeatureName,
 ) -> bool
-    ensures { result ≡ is_cause (problem known.now) (of_list (owner_view owner.now) number (class_view class) feature.now) }
+    ensures { result ≡ is_cause (problem known.now) (of_list (owner_ref_view owner.now) number (class_view class) feature.now) }
 {
     match dependency_at(known, owner, number) {
         Some(dependency) => {
@@ -99,11 +100,11 @@ fn is_list(
 /// Whether the dependency asks for the feature, by its list or an entry of the root.
 fn lists_feature(
     known: &Known<'_>,
-    owner: &Owner<'_>,
+    owner: &OwnerRef<'_>,
     dependency: &Dependency,
     feature: &FeatureName,
 ) -> bool
-    ensures { result ≡ lists_feature (problem known.now) (owner_view owner.now) (dependency_view dependency.now) feature.now }
+    ensures { result ≡ lists_feature (problem known.now) (owner_ref_view owner.now) (dependency_view dependency.now) feature.now }
 {
     is_listed(dependency, feature) || root_asks_for(known, owner, dependency, feature)
 }
@@ -118,7 +119,7 @@ fn is_ask(
 ) -> bool
     ensures { result ≡ is_cause (problem known.now) (of_ask name.now (parts_of version.now) number feature.now (class_view class)) }
 {
-    match dependency_at(known, &Owner::Version(name, version), number) {
+    match dependency_at(known, &OwnerRef::Version(name, version), number) {
         Some(dependency) => {
             has_class(known, class, dependency)
                 && some_entry_asks(known, name, version, &dependency.name, feature)
@@ -162,7 +163,7 @@ fn enables_number(
 ) -> bool
     ensures { result ≡ passes (λ d. enables d.name (entry_view entry.now)) (dependency_at (problem known.now) (version_of name.now (parts_of version.now)) number) }
 {
-    match dependency_at(known, &Owner::Version(name, version), number) {
+    match dependency_at(known, &OwnerRef::Version(name, version), number) {
         Some(dependency) => enables(&dependency.name, entry),
         None => false,
     }
@@ -178,7 +179,7 @@ fn is_asking(
 ) -> bool
     ensures { result ≡ is_cause (problem known.now) (of_asking name.now (parts_of version.now) on.now asked.now number) }
 {
-    match dependency_at(known, &Owner::Version(name, version), number) {
+    match dependency_at(known, &OwnerRef::Version(name, version), number) {
         Some(dependency) => has_asking(
             &dependency.name,
             asked,
@@ -190,26 +191,26 @@ fn is_asking(
 
 fn is_newest(
     known: &Known<'_>,
-    owner: &Owner<'_>,
+    owner: &OwnerRef<'_>,
     number: usize,
     other: usize,
     class: Class,
     higher: Class,
 ) -> bool
-    ensures { result ≡ is_cause (problem known.now) (of_newest (owner_view owner.now) number other (class_view class) (class_view higher)) }
+    ensures { result ≡ is_cause (problem known.now) (of_newest (owner_ref_view owner.now) number other (class_view class) (class_view higher)) }
 {
     number != other && are_newest(known, owner, number, other, class, higher)
 }
 
 fn are_newest(
     known: &Known<'_>,
-    owner: &Owner<'_>,
+    owner: &OwnerRef<'_>,
     number: usize,
     other: usize,
     class: Class,
     higher: Class,
 ) -> bool
-    ensures { result ≡ passes (λ d. passes (is_overtaken (problem known.now) (class_view class) (class_view higher) d) (dependency_at (problem known.now) (owner_view owner.now) other)) (dependency_at (problem known.now) (owner_view owner.now) number) }
+    ensures { result ≡ passes (λ d. passes (is_overtaken (problem known.now) (class_view class) (class_view higher) d) (dependency_at (problem known.now) (owner_ref_view owner.now) other)) (dependency_at (problem known.now) (owner_ref_view owner.now) number) }
 {
     match dependency_at(known, owner, number) {
         Some(dependency) => overtakes(known, owner, dependency, other, class, higher),
@@ -219,13 +220,13 @@ fn are_newest(
 
 fn overtakes(
     known: &Known<'_>,
-    owner: &Owner<'_>,
+    owner: &OwnerRef<'_>,
     dependency: &Dependency,
     other: usize,
     class: Class,
     higher: Class,
 ) -> bool
-    ensures { result ≡ passes (is_overtaken (problem known.now) (class_view class) (class_view higher) (dependency_view dependency.now)) (dependency_at (problem known.now) (owner_view owner.now) other) }
+    ensures { result ≡ passes (is_overtaken (problem known.now) (class_view class) (class_view higher) (dependency_view dependency.now)) (dependency_at (problem known.now) (owner_ref_view owner.now) other) }
 {
     match dependency_at(known, owner, other) {
         Some(other) => is_overtaken(known, class, higher, dependency, other),
@@ -261,7 +262,7 @@ fn is_weak(
 ) -> bool
     ensures { result ≡ is_cause (problem known.now) (of_weak name.now (parts_of version.now) on.now off.now number (class_view class)) }
 {
-    match dependency_at(known, &Owner::Version(name, version), number) {
+    match dependency_at(known, &OwnerRef::Version(name, version), number) {
         Some(dependency) => is_weak_on(known, name, version, on, off, class, dependency),
         None => false,
     }

@@ -3,14 +3,13 @@
 ghost use Rattle.std.specs.Prelude.{◌≡◌, ◌&&◌, option_map};
 ghost use Rattle.std.specs.List.{list_all};
 ghost use Rattle.model.specs.Derivation.{states_at};
-ghost use Rattle.model.specs.Vertices.{same_owner, same_vertex};
 ghost use Rattle.refutations.specs.Terms.{agree, same_at, same_terms};
-ghost use Rattle.axioms.specs.Views.{owner_view, term_views, vertex_view};
+ghost use Rattle.axioms.specs.Views.{term_views};
+ghost use Rattle.vertices.specs.RefViews.{vertex_ref_view};
 
-use crate::matching::is_same;
-use crate::order::same_version;
 use crate::states::States;
-use crate::term::{Owner, Term, Vertex};
+use crate::term::Term;
+use vertices::{VertexRef, same_vertex};
 
 /// Whether two lists of terms say the same of each vertex that one of them speaks of.
 pub(crate) fn same_terms<'a>(a: &[Term<'a>], b: &[Term<'a>]) -> bool
@@ -25,8 +24,8 @@ fn all_agree<'a>(a: &[Term<'a>], b: &[Term<'a>], terms: &[Term<'a>]) -> bool
     terms.iter().all(|term| agree(a, b, &term.vertex))
 }
 
-fn agree<'a>(a: &[Term<'a>], b: &[Term<'a>], vertex: &Vertex<'a>) -> bool
-    ensures { result ≡ same_at (states_at (term_views a.now) (vertex_view vertex.now)) (states_at (term_views b.now) (vertex_view vertex.now)) }
+fn agree<'a>(a: &[Term<'a>], b: &[Term<'a>], vertex: &VertexRef<'a>) -> bool
+    ensures { result ≡ same_at (states_at (term_views a.now) (vertex_ref_view vertex.now)) (states_at (term_views b.now) (vertex_ref_view vertex.now)) }
 {
     match (states_at(a, vertex), states_at(b, vertex)) {
         (None, None) => true,
@@ -36,8 +35,8 @@ fn agree<'a>(a: &[Term<'a>], b: &[Term<'a>], vertex: &Vertex<'a>) -> bool
 }
 
 /// The states that the terms leave at a vertex.
-fn states_at<'s, 'a>(terms: &'s [Term<'a>], vertex: &Vertex<'_>) -> Option<&'s States<'a>>
-    ensures { option_map (λ s. s.now) result ≡ states_at (term_views terms.entry.now) (vertex_view vertex.now) }
+fn states_at<'s, 'a>(terms: &'s [Term<'a>], vertex: &VertexRef<'_>) -> Option<&'s States<'a>>
+    ensures { option_map (λ s. s.now) result ≡ states_at (term_views terms.entry.now) (vertex_ref_view vertex.now) }
 {
     'terms: for term in terms.iter() {
         if same_vertex(vertex, &term.vertex) {
@@ -45,31 +44,4 @@ fn states_at<'s, 'a>(terms: &'s [Term<'a>], vertex: &Vertex<'_>) -> Option<&'s S
         }
     }
     None
-}
-
-fn same_owner(a: &Owner<'_>, b: &Owner<'_>) -> bool
-    ensures { result ≡ same_owner (owner_view a.now) (owner_view b.now) }
-{
-    match (a, b) {
-        (Owner::Root, Owner::Root) => true,
-        (Owner::Version(n, v), Owner::Version(m, w)) => *n == *m && same_version(v, w),
-        _ => false,
-    }
-}
-
-fn same_vertex(a: &Vertex<'_>, b: &Vertex<'_>) -> bool
-    ensures { result ≡ same_vertex (vertex_view a.now) (vertex_view b.now) }
-{
-    match (a, b) {
-        (Vertex::Root, Vertex::Root) => true,
-        (Vertex::Package(n, c), Vertex::Package(m, e)) => *n == *m && is_same(*c, *e),
-        (Vertex::Dependency(o, i), Vertex::Dependency(p, j)) => same_owner(o, p) && *i == *j,
-        (Vertex::Feature(n, c, f), Vertex::Feature(m, e, g)) => {
-            *n == *m && is_same(*c, *e) && *f == *g
-        }
-        (Vertex::Ask(n, v, i, g), Vertex::Ask(m, w, j, h)) => {
-            *n == *m && same_version(v, w) && *i == *j && *g == *h
-        }
-        _ => false,
-    }
 }

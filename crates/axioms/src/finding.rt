@@ -4,14 +4,15 @@ ghost use Rattle.std.specs.Prelude.{◌≡◌, ◌&&◌, option_map};
 ghost use Rattle.std.specs.Option.{option_or};
 ghost use Rattle.semver.specs.Identifiers.{parts_of};
 ghost use Rattle.classes.specs.Classes.{class_view};
-ghost use Rattle.derivations.specs.Kinds.{kind_view};
+ghost use Rattle.vertices.specs.Kinds.{kind_view};
 ghost use Rattle.features.specs.Views.{dependency_view, dependency_views};
 ghost use Rattle.features.specs.EntryViews.{entry_views};
 ghost use Rattle.refutations.specs.Causes.{enables, is_needed, is_unmatched};
 ghost use Rattle.refutations.specs.Instances.{ask_in, asking_in, cause_in, enabled_unmatched, enabling_in, entry_in, feature_in, list_in, need_in, needed_unmatched, newest_in, newest_of, number_read, target_in, weak_in};
 ghost use Rattle.axioms.specs.CauseViews.{cause_view};
 ghost use Rattle.axioms.specs.Needs.{enabling_by, is_enabled_unmatched, is_needed_unmatched, place_from};
-ghost use Rattle.axioms.specs.Views.{owner_view, problem, term_views};
+ghost use Rattle.axioms.specs.Views.{problem, term_views};
+ghost use Rattle.vertices.specs.RefViews.{owner_ref_view};
 
 use crate::cause::Cause;
 use crate::entries::{first_enabling, some_enables};
@@ -22,11 +23,11 @@ use crate::reading::{
     first_ask, first_dependency, first_feature, first_led, first_off, first_on, first_other,
     first_owner, first_version,
 };
-use crate::term::{Owner, Term};
+use crate::term::Term;
 use classes::Class;
-use derivations::Kind;
 use features::{Dependency, Entry, FeatureName, PackageName};
 use semver::Version;
+use vertices::{Kind, OwnerRef};
 
 /// The cause of the kind that the terms can have.
 pub(crate) fn cause_in<'a>(known: &Known<'a>, kind: Kind, terms: &[Term<'a>]) -> Option<Cause<'a>>
@@ -123,13 +124,13 @@ fn newest_in<'a>(terms: &[Term<'a>]) -> Option<Cause<'a>>
 
 /// The dependency with the lower class comes first.
 fn newest_of(
-    owner: Owner<'_>,
+    owner: OwnerRef<'_>,
     number: usize,
     class: Class,
     other: usize,
     other_class: Class,
 ) -> Cause<'_>
-    ensures { cause_view result ≡ newest_of (owner_view owner.entry) number (class_view class) other (class_view other_class) }
+    ensures { cause_view result ≡ newest_of (owner_ref_view owner.entry) number (class_view class) other (class_view other_class) }
 {
     if class.is_lower(other_class) {
         Cause::Newest(owner, number, other, class, other_class)
@@ -146,8 +147,8 @@ fn need_in<'a>(known: &Known<'_>, terms: &[Term<'a>]) -> Option<Cause<'a>>
     Some(Cause::Need(owner, number))
 }
 
-fn needed_number(known: &Known<'_>, owner: &Owner<'_>, terms: &[Term<'_>]) -> Option<usize>
-    ensures { result ≡ option_or (number_read (term_views terms.now)) (needed_unmatched (problem known.now) (owner_view owner.now)) }
+fn needed_number(known: &Known<'_>, owner: &OwnerRef<'_>, terms: &[Term<'_>]) -> Option<usize>
+    ensures { result ≡ option_or (number_read (term_views terms.now)) (needed_unmatched (problem known.now) (owner_ref_view owner.now)) }
 {
     match first_dependency(terms) {
         Some((_, number)) => Some(number),
@@ -156,8 +157,12 @@ fn needed_number(known: &Known<'_>, owner: &Owner<'_>, terms: &[Term<'_>]) -> Op
 }
 
 /// The number of the first dependency that the owner needs and no candidate serves.
-fn first_needed(known: &Known<'_>, owner: &Owner<'_>, dependencies: &[Dependency]) -> Option<usize>
-    ensures { result ≡ place_from (is_needed_unmatched (problem known.now) (owner_view owner.now)) 0 (dependency_views dependencies.now) }
+fn first_needed(
+    known: &Known<'_>,
+    owner: &OwnerRef<'_>,
+    dependencies: &[Dependency],
+) -> Option<usize>
+    ensures { result ≡ place_from (is_needed_unmatched (problem known.now) (owner_ref_view owner.now)) 0 (dependency_views dependencies.now) }
 {
     'dependencies: for (number, dependency) in dependencies.iter().enumerate() {
         if is_needed_unmatched(known, owner, dependency) {
@@ -168,19 +173,19 @@ fn first_needed(known: &Known<'_>, owner: &Owner<'_>, dependencies: &[Dependency
 }
 
 #[tactic(auto, unfolding(crate::specs::Needs::is_needed_unmatched))]
-fn is_needed_unmatched(known: &Known<'_>, owner: &Owner<'_>, dependency: &Dependency) -> bool
-    ensures { result ≡ is_needed_unmatched (problem known.now) (owner_view owner.now) (dependency_view dependency.now) }
+fn is_needed_unmatched(known: &Known<'_>, owner: &OwnerRef<'_>, dependency: &Dependency) -> bool
+    ensures { result ≡ is_needed_unmatched (problem known.now) (owner_ref_view owner.now) (dependency_view dependency.now) }
 {
     is_needed(owner, dependency) && is_unmatched(known, dependency)
 }
 
 /// Whether the owner needs the dependency: the root each one, a version those that aren't optional.
-pub(crate) fn is_needed(owner: &Owner<'_>, dependency: &Dependency) -> bool
-    ensures { result ≡ is_needed (owner_view owner.now) (dependency_view dependency.now) }
+pub(crate) fn is_needed(owner: &OwnerRef<'_>, dependency: &Dependency) -> bool
+    ensures { result ≡ is_needed (owner_ref_view owner.now) (dependency_view dependency.now) }
 {
     match owner {
-        Owner::Root => true,
-        Owner::Version(_, _) => !dependency.optional,
+        OwnerRef::Root => true,
+        OwnerRef::Version(_, _) => !dependency.optional,
     }
 }
 
@@ -203,7 +208,7 @@ fn enabling<'a>(
 ) -> Option<Cause<'a>>
     ensures { option_map cause_view result ≡ enabling_by (problem known.now) name.entry.now (parts_of version.entry.now) on.entry.now number }
 {
-    let dependency = dependency_at(known, &Owner::Version(name, version), number)?;
+    let dependency = dependency_at(known, &OwnerRef::Version(name, version), number)?;
     let entry = first_enabling(&dependency.name, entries_of(known, name, version, on))?;
     Some(Cause::Enabling(name, version, on, entry, number))
 }
@@ -221,7 +226,7 @@ fn enabled_number(
         Some((_, number)) => Some(number),
         None => first_enabled(
             known,
-            dependencies_of(known, &Owner::Version(name, version)),
+            dependencies_of(known, &OwnerRef::Version(name, version)),
             entries_of(known, name, version, on),
         ),
     }

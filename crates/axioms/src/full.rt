@@ -10,18 +10,20 @@ ghost use Rattle.classes.specs.Classes.{class_view};
 ghost use Rattle.semver.specs.Identifiers.{parts_of};
 ghost use Rattle.features.specs.Views.{requirement_view};
 ghost use Rattle.axioms.specs.Full.{has_if_matched, others};
-ghost use Rattle.axioms.specs.Views.{owner_view, problem, term_view, term_views, vertex_view};
+ghost use Rattle.axioms.specs.Views.{problem, term_view, term_views};
+ghost use Rattle.vertices.specs.RefViews.{owner_ref_view, vertex_ref_view};
 
 use crate::known::Known;
 use crate::lookups::dependency_at;
 use crate::matching::is_matched;
 use crate::ranges::class_versions;
 use crate::states::States;
-use crate::term::{Owner, State, Term, Vertex};
+use crate::term::Term;
 use classes::Class;
 use features::{Dependency, PackageName};
 use semver::{Version, VersionReq};
 use std::alloc::{AllocError, Global};
+use vertices::{OwnerRef, StateRef, VertexRef};
 
 /// The terms that aren't full.
 pub(crate) fn without_full<'a>(
@@ -50,25 +52,25 @@ fn is_full<'a>(known: &Known<'a>, term: &Term<'a>) -> bool
 fn has_absent(states: &States<'_>) -> bool
     ensures { result ≡ has_state states.now model.absent }
 {
-    states.has(&State::Absent)
+    states.has(&StateRef::Absent)
 }
 
 fn has_present(states: &States<'_>) -> bool
     ensures { result ≡ has_state states.now model.present }
 {
-    states.has(&State::Present)
+    states.has(&StateRef::Present)
 }
 
 /// Whether the states have all of the vertex but `absent`.
-fn has_others<'a>(known: &Known<'a>, vertex: &Vertex<'a>, states: &States<'a>) -> bool
-    ensures { result ≡ list_all (has_state states.now) (others (problem known.now) (vertex_view vertex.now)) }
+fn has_others<'a>(known: &Known<'a>, vertex: &VertexRef<'a>, states: &States<'a>) -> bool
+    ensures { result ≡ list_all (has_state states.now) (others (problem known.now) (vertex_ref_view vertex.now)) }
 {
     match vertex {
-        Vertex::Root => has_present(states),
-        Vertex::Package(name, class) => has_versions(known, name, *class, states),
-        Vertex::Dependency(owner, number) => has_classes(known, owner, *number, states),
-        Vertex::Feature(_, _, _) => has_present(states),
-        Vertex::Ask(_, _, _, _) => has_present(states),
+        VertexRef::Root => has_present(states),
+        VertexRef::Package(name, class) => has_versions(known, name, *class, states),
+        VertexRef::Dependency(owner, number) => has_classes(known, owner, *number, states),
+        VertexRef::Feature(_, _, _) => has_present(states),
+        VertexRef::Ask(_, _, _, _) => has_present(states),
     }
 }
 
@@ -87,11 +89,11 @@ fn all_in(versions: &[Version], states: &States<'_>) -> bool
 fn has_version(states: &States<'_>, version: &Version) -> bool
     ensures { result ≡ has_state states.now (model.version (parts_of version.now)) }
 {
-    states.has(&State::Version(version))
+    states.has(&StateRef::Version(version))
 }
 
-fn has_classes(known: &Known<'_>, owner: &Owner<'_>, number: usize, states: &States<'_>) -> bool
-    ensures { result ≡ list_all (has_state states.now) (others (problem known.now) (model.dep (owner_view owner.now) number)) }
+fn has_classes(known: &Known<'_>, owner: &OwnerRef<'_>, number: usize, states: &States<'_>) -> bool
+    ensures { result ≡ list_all (has_state states.now) (others (problem known.now) (model.dep (owner_ref_view owner.now) number)) }
 {
     match dependency_at(known, owner, number) {
         Some(dependency) => has_classes_of(known, dependency, states),
@@ -127,5 +129,5 @@ fn has_if_matched(states: &States<'_>, requirement: &VersionReq, version: &Versi
 fn has_class(states: &States<'_>, class: Class) -> bool
     ensures { result ≡ has_state states.now (model.in_class (class_view class)) }
 {
-    states.has(&State::Class(class))
+    states.has(&StateRef::Class(class))
 }

@@ -1,7 +1,7 @@
 //! Whether terms are those of an instance of an axiom.
 
 ghost use Rattle.std.specs.Prelude.{◌≡◌, IfOk};
-ghost use Rattle.derivations.specs.Kinds.{kind_view};
+ghost use Rattle.vertices.specs.Kinds.{kind_view};
 ghost use Rattle.model.specs.Axioms.{without_full};
 ghost use Rattle.refutations.specs.Causes.{terms_of_cause};
 ghost use Rattle.refutations.specs.Instances.{is_instance, is_its};
@@ -19,8 +19,8 @@ use crate::gathered::Gathered;
 use crate::known::Known;
 use crate::term::Term;
 use crate::terms::terms_of_cause;
-use derivations::Kind;
 use std::alloc::{AllocError, Global};
+use vertices::Kind;
 
 /// Whether terms, without the full ones, are those of an instance of the kind.
 pub fn is_instance(

@@ -6,20 +6,21 @@ ghost use Rattle.features.specs.Views.{dependency_view, dependency_views};
 ghost use Rattle.features.specs.EntryViews.{entry_views};
 ghost use Rattle.model.specs.Vertices.{owner_brings};
 ghost use Rattle.refutations.specs.Causes.{dependency_at, entries_of};
-ghost use Rattle.axioms.specs.Views.{owner_view, brings_view, problem};
+ghost use Rattle.axioms.specs.Views.{brings_view, problem};
+ghost use Rattle.vertices.specs.RefViews.{owner_ref_view};
 
 use crate::known::Known;
-use crate::term::Owner;
 use features::{Dependency, Entry, FeatureName, PackageName, Summary};
 use semver::Version;
+use vertices::OwnerRef;
 
 /// What an owner brings: nothing where it is neither the root nor a candidate.
-pub(crate) fn brings<'a>(known: &Known<'a>, owner: &Owner<'_>) -> Option<&'a Summary>
-    ensures { brings_view result ≡ owner_brings (problem known.now) (owner_view owner.now) }
+pub(crate) fn brings<'a>(known: &Known<'a>, owner: &OwnerRef<'_>) -> Option<&'a Summary>
+    ensures { brings_view result ≡ owner_brings (problem known.now) (owner_ref_view owner.now) }
 {
     match owner {
-        Owner::Root => Some(known.manifest.summary()),
-        Owner::Version(name, version) => {
+        OwnerRef::Root => Some(known.manifest.summary()),
+        OwnerRef::Version(name, version) => {
             let candidate = known.catalogue.candidate(name, version)?;
             Some(&candidate.brings)
         }
@@ -27,8 +28,8 @@ pub(crate) fn brings<'a>(known: &Known<'a>, owner: &Owner<'_>) -> Option<&'a Sum
 }
 
 /// The dependencies of an owner.
-pub(crate) fn dependencies_of<'a>(known: &Known<'a>, owner: &Owner<'_>) -> &'a [Dependency]
-    ensures { dependency_views result.now ≡ (owner_brings (problem known.now) (owner_view owner.now)).dependencies }
+pub(crate) fn dependencies_of<'a>(known: &Known<'a>, owner: &OwnerRef<'_>) -> &'a [Dependency]
+    ensures { dependency_views result.now ≡ (owner_brings (problem known.now) (owner_ref_view owner.now)).dependencies }
 {
     match brings(known, owner) {
         Some(owner) => owner.dependencies.as_slice(),
@@ -39,10 +40,10 @@ pub(crate) fn dependencies_of<'a>(known: &Known<'a>, owner: &Owner<'_>) -> &'a [
 /// The dependency of an owner that has this number.
 pub(crate) fn dependency_at<'a>(
     known: &Known<'a>,
-    owner: &Owner<'_>,
+    owner: &OwnerRef<'_>,
     number: usize,
 ) -> Option<&'a Dependency>
-    ensures { option_map (λ d. dependency_view d.now) result ≡ dependency_at (problem known.now) (owner_view owner.now) number }
+    ensures { option_map (λ d. dependency_view d.now) result ≡ dependency_at (problem known.now) (owner_ref_view owner.now) number }
 {
     dependencies_of(known, owner).get(number)
 }
@@ -56,7 +57,7 @@ pub(crate) fn entries_of<'a>(
 ) -> &'a [Entry]
     ensures { entry_views result.now ≡ entries_of (problem known.now) name.now (parts_of version.now) feature.now }
 {
-    match brings(known, &Owner::Version(name, version)) {
+    match brings(known, &OwnerRef::Version(name, version)) {
         Some(owner) => owner.features.entries(feature),
         None => &[],
     }

@@ -2,22 +2,24 @@
 
 ghost use Rattle.std.specs.Prelude.{◌≡◌, option_map};
 ghost use Rattle.refutations.specs.Instances.{first_read, other_read, read_term, owner_read, version_read, dep_read, led_read, feature_read, on_read, off_read, ask_read};
-ghost use Rattle.axioms.specs.Views.{term_view, term_views, owner_view};
+ghost use Rattle.axioms.specs.Views.{term_view, term_views};
+ghost use Rattle.vertices.specs.RefViews.{owner_ref_view};
 ghost use Rattle.axioms.specs.Readings.{version_seen, dep_seen, led_seen, other_seen, feature_seen, text_seen, ask_seen};
 
-use crate::term::{Owner, State, Term, Vertex};
+use crate::term::Term;
 use classes::Class;
 use features::{FeatureName, PackageName};
 use semver::Version;
+use vertices::{OwnerRef, StateRef, VertexRef};
 
 /// The owner that holds.
-fn owner_in<'a>(term: &Term<'a>) -> Option<Owner<'a>>
-    ensures { option_map owner_view result ≡ read_term owner_read (term_view term.now) }
+fn owner_in<'a>(term: &Term<'a>) -> Option<OwnerRef<'a>>
+    ensures { option_map owner_ref_view result ≡ read_term owner_read (term_view term.now) }
 {
     match (term.vertex, term.states.first()) {
-        (Vertex::Root, _) => Some(Owner::Root),
-        (Vertex::Package(name, _), Some(State::Version(version))) => {
-            Some(Owner::Version(name, version))
+        (VertexRef::Root, _) => Some(OwnerRef::Root),
+        (VertexRef::Package(name, _), Some(StateRef::Version(version))) => {
+            Some(OwnerRef::Version(name, version))
         }
         _ => None,
     }
@@ -28,27 +30,27 @@ fn version<'a>(term: &Term<'a>) -> Option<(&'a PackageName, &'a Version)>
     ensures { option_map version_seen result ≡ read_term version_read (term_view term.now) }
 {
     match (term.vertex, term.states.first()) {
-        (Vertex::Package(name, _), Some(State::Version(version))) => Some((name, version)),
+        (VertexRef::Package(name, _), Some(StateRef::Version(version))) => Some((name, version)),
         _ => None,
     }
 }
 
 /// The owner and number of a dependency.
-fn dependency<'a>(term: &Term<'a>) -> Option<(Owner<'a>, usize)>
+fn dependency<'a>(term: &Term<'a>) -> Option<(OwnerRef<'a>, usize)>
     ensures { option_map dep_seen result ≡ read_term dep_read (term_view term.now) }
 {
     match term.vertex {
-        Vertex::Dependency(owner, number) => Some((owner, number)),
+        VertexRef::Dependency(owner, number) => Some((owner, number)),
         _ => None,
     }
 }
 
 /// The same with the class that it leads to.
-fn led<'a>(term: &Term<'a>) -> Option<(Owner<'a>, usize, Class)>
+fn led<'a>(term: &Term<'a>) -> Option<(OwnerRef<'a>, usize, Class)>
     ensures { option_map led_seen result ≡ read_term led_read (term_view term.now) }
 {
     match (term.vertex, term.states.first()) {
-        (Vertex::Dependency(owner, number), Some(State::Class(class))) => {
+        (VertexRef::Dependency(owner, number), Some(StateRef::Class(class))) => {
             Some((owner, number, class))
         }
         _ => None,
@@ -60,7 +62,7 @@ fn feature<'a>(term: &Term<'a>) -> Option<(&'a PackageName, Class, &'a FeatureNa
     ensures { option_map feature_seen result ≡ read_term feature_read (term_view term.now) }
 {
     match term.vertex {
-        Vertex::Feature(name, class, feature) => Some((name, class, feature)),
+        VertexRef::Feature(name, class, feature) => Some((name, class, feature)),
         _ => None,
     }
 }
@@ -70,7 +72,7 @@ fn on<'a>(term: &Term<'a>) -> Option<&'a FeatureName>
     ensures { option_map text_seen result ≡ read_term on_read (term_view term.now) }
 {
     match (term.vertex, term.states.first()) {
-        (Vertex::Feature(_, _, feature), Some(State::Present)) => Some(feature),
+        (VertexRef::Feature(_, _, feature), Some(StateRef::Present)) => Some(feature),
         _ => None,
     }
 }
@@ -80,7 +82,7 @@ fn off<'a>(term: &Term<'a>) -> Option<&'a FeatureName>
     ensures { option_map text_seen result ≡ read_term off_read (term_view term.now) }
 {
     match (term.vertex, term.states.first()) {
-        (Vertex::Feature(_, _, feature), Some(State::Absent)) => Some(feature),
+        (VertexRef::Feature(_, _, feature), Some(StateRef::Absent)) => Some(feature),
         _ => None,
     }
 }
@@ -90,14 +92,14 @@ fn ask<'a>(term: &Term<'a>) -> Option<(&'a PackageName, &'a Version, usize, &'a 
     ensures { option_map ask_seen result ≡ read_term ask_read (term_view term.now) }
 {
     match term.vertex {
-        Vertex::Ask(name, version, number, feature) => Some((name, version, number, feature)),
+        VertexRef::Ask(name, version, number, feature) => Some((name, version, number, feature)),
         _ => None,
     }
 }
 
 /// The first owner that holds.
-pub(crate) fn first_owner<'a>(terms: &[Term<'a>]) -> Option<Owner<'a>>
-    ensures { option_map owner_view result ≡ first_read owner_read (term_views terms.now) }
+pub(crate) fn first_owner<'a>(terms: &[Term<'a>]) -> Option<OwnerRef<'a>>
+    ensures { option_map owner_ref_view result ≡ first_read owner_read (term_views terms.now) }
 {
     'terms: for term in terms.iter() {
         if let Some(found) = owner_in(term) {
@@ -120,7 +122,7 @@ pub(crate) fn first_version<'a>(terms: &[Term<'a>]) -> Option<(&'a PackageName, 
 }
 
 /// The first dependency.
-pub(crate) fn first_dependency<'a>(terms: &[Term<'a>]) -> Option<(Owner<'a>, usize)>
+pub(crate) fn first_dependency<'a>(terms: &[Term<'a>]) -> Option<(OwnerRef<'a>, usize)>
     ensures { option_map dep_seen result ≡ first_read dep_read (term_views terms.now) }
 {
     'terms: for term in terms.iter() {
@@ -132,7 +134,7 @@ pub(crate) fn first_dependency<'a>(terms: &[Term<'a>]) -> Option<(Owner<'a>, usi
 }
 
 /// The first dependency that leads to a class.
-pub(crate) fn first_led<'a>(terms: &[Term<'a>]) -> Option<(Owner<'a>, usize, Class)>
+pub(crate) fn first_led<'a>(terms: &[Term<'a>]) -> Option<(OwnerRef<'a>, usize, Class)>
     ensures { option_map led_seen result ≡ first_read led_read (term_views terms.now) }
 {
     'terms: for term in terms.iter() {

@@ -5,49 +5,48 @@ ghost use Rattle.std.specs.List.{list_all};
 ghost use Rattle.std.specs.List.Sorted.{IsStrictlySortedBy};
 ghost use Rattle.model.specs.Derivation.{both};
 ghost use Rattle.model.specs.Vertices.{has_state};
-ghost use Rattle.derivations.specs.Orders.{state_cmp};
+ghost use Rattle.vertices.specs.Orders.{state_cmp};
 ghost use Rattle.refutations.specs.Instances.{first_of};
 ghost use Rattle.refutations.specs.Terms.{is_within, same_states};
 ghost use Rattle.axioms.specs.Sets.{all_in_either, all_in_both, all_shared_in};
-ghost use Rattle.axioms.specs.StateViews.{state_view, state_views};
+ghost use Rattle.vertices.specs.RefViews.{state_ref_view, state_ref_views};
 
-use crate::order::{same_state, state_order};
-use crate::term::State;
 use std::alloc::{AllocError, Global};
 use std::marker::Model;
+use vertices::{StateRef, same_state, state_order};
 
 /// A set of states.
 #[derive(Drop)]
 pub struct States<'a> {
-    states: Vec<State<'a>>,
+    states: Vec<StateRef<'a>>,
 }
 
 impl<'a> Model for States<'a> {
     ghost use Rattle.std.specs.Prelude.{List};
     ghost use Rattle.std.specs.List.Sorted.{IsStrictlySortedBy};
     ghost use Rattle.model.specs.Vertices.{State};
-    ghost use Rattle.derivations.specs.Orders.{state_cmp};
-    ghost use Rattle.axioms.specs.StateViews.{state_views};
+    ghost use Rattle.vertices.specs.Orders.{state_cmp};
+    ghost use Rattle.vertices.specs.RefViews.{state_ref_views};
 
     ghost Value = { List State };
 
-    ghost view = { λ s. state_views s.states.items };
+    ghost view = { λ s. state_ref_views s.states.items };
 
-    ghost invariant = { λ s. IsStrictlySortedBy state_cmp (state_views s.states.items) };
+    ghost invariant = { λ s. IsStrictlySortedBy state_cmp (state_ref_views s.states.items) };
 }
 
 impl<'a> States<'a> {
     /// The set of states that rise.
-    pub fn rising(states: Vec<State<'a>>) -> States<'a>
-        requires { IsStrictlySortedBy state_cmp (state_views states.items) }
-        ensures { result ≡ state_views states.entry.items }
+    pub fn rising(states: Vec<StateRef<'a>>) -> States<'a>
+        requires { IsStrictlySortedBy state_cmp (state_ref_views states.items) }
+        ensures { result ≡ state_ref_views states.entry.items }
     {
         States { states }
     }
 
     /// The set of one state.
-    pub(crate) fn one(alloc: Global, state: State<'a>) -> Result<States<'a>, AllocError>
-        ensures { IfOk result (λ s. s ≡ state_view state.entry ∷ []) }
+    pub(crate) fn one(alloc: Global, state: StateRef<'a>) -> Result<States<'a>, AllocError>
+        ensures { IfOk result (λ s. s ≡ state_ref_view state.entry ∷ []) }
     {
         let mut states = Vec::new(alloc);
         states.push(state)?;
@@ -63,15 +62,15 @@ impl<'a> States<'a> {
         Ok(States { states })
     }
 
-    pub(crate) fn first(&self) -> Option<State<'a>>
-        ensures { option_map state_view result ≡ first_of self.now }
+    pub(crate) fn first(&self) -> Option<StateRef<'a>>
+        ensures { option_map state_ref_view result ≡ first_of self.now }
     {
         self.states.first().copied()
     }
 
     /// Whether the state is in the set.
-    pub fn has(&self, state: &State<'_>) -> bool
-        ensures { result ≡ has_state self.now (state_view state.now) }
+    pub fn has(&self, state: &StateRef<'_>) -> bool
+        ensures { result ≡ has_state self.now (state_ref_view state.now) }
     {
         is_in(self.states.as_slice(), state)
     }
@@ -133,44 +132,44 @@ impl<'a> States<'a> {
 }
 
 /// Whether the state is in one of two sets.
-fn either_has(a: &States<'_>, b: &States<'_>, state: &State<'_>) -> bool
-    ensures { result ≡ (has_state a.now (state_view state.now) || has_state b.now (state_view state.now)) }
+fn either_has(a: &States<'_>, b: &States<'_>, state: &StateRef<'_>) -> bool
+    ensures { result ≡ (has_state a.now (state_ref_view state.now) || has_state b.now (state_ref_view state.now)) }
 {
     a.has(state) || b.has(state)
 }
 
-fn both_have(a: &States<'_>, b: &States<'_>, state: &State<'_>) -> bool
-    ensures { result ≡ (has_state a.now (state_view state.now) && has_state b.now (state_view state.now)) }
+fn both_have(a: &States<'_>, b: &States<'_>, state: &StateRef<'_>) -> bool
+    ensures { result ≡ (has_state a.now (state_ref_view state.now) && has_state b.now (state_ref_view state.now)) }
 {
     a.has(state) && b.has(state)
 }
 
-fn has_if_other_has(states: &States<'_>, other: &States<'_>, state: &State<'_>) -> bool
-    ensures { result ≡ (not (has_state other.now (state_view state.now)) || has_state states.now (state_view state.now)) }
+fn has_if_other_has(states: &States<'_>, other: &States<'_>, state: &StateRef<'_>) -> bool
+    ensures { result ≡ (not (has_state other.now (state_ref_view state.now)) || has_state states.now (state_ref_view state.now)) }
 {
     !other.has(state) || states.has(state)
 }
 
-fn all_in(states: &[State<'_>], set: &States<'_>) -> bool
-    ensures { result ≡ list_all (λ s. has_state set.now (state_view s)) states.now }
+fn all_in(states: &[StateRef<'_>], set: &States<'_>) -> bool
+    ensures { result ≡ list_all (λ s. has_state set.now (state_ref_view s)) states.now }
 {
     states.iter().all(|state| set.has(state))
 }
 
-fn all_in_either(states: &[State<'_>], a: &States<'_>, b: &States<'_>) -> bool
-    ensures { result ≡ list_all (λ s. has_state a.now (state_view s) || has_state b.now (state_view s)) states.now }
+fn all_in_either(states: &[StateRef<'_>], a: &States<'_>, b: &States<'_>) -> bool
+    ensures { result ≡ list_all (λ s. has_state a.now (state_ref_view s) || has_state b.now (state_ref_view s)) states.now }
 {
     states.iter().all(|state| either_has(a, b, state))
 }
 
-fn all_in_both(states: &[State<'_>], a: &States<'_>, b: &States<'_>) -> bool
-    ensures { result ≡ list_all (λ s. has_state a.now (state_view s) && has_state b.now (state_view s)) states.now }
+fn all_in_both(states: &[StateRef<'_>], a: &States<'_>, b: &States<'_>) -> bool
+    ensures { result ≡ list_all (λ s. has_state a.now (state_ref_view s) && has_state b.now (state_ref_view s)) states.now }
 {
     states.iter().all(|state| both_have(a, b, state))
 }
 
-fn all_shared_in(states: &[State<'_>], second: &States<'_>, third: &States<'_>) -> bool
-    ensures { result ≡ list_all (λ s. not (has_state second.now (state_view s)) || has_state third.now (state_view s)) states.now }
+fn all_shared_in(states: &[StateRef<'_>], second: &States<'_>, third: &States<'_>) -> bool
+    ensures { result ≡ list_all (λ s. not (has_state second.now (state_ref_view s)) || has_state third.now (state_ref_view s)) states.now }
 {
     states
         .iter()
@@ -178,11 +177,11 @@ fn all_shared_in(states: &[State<'_>], second: &States<'_>, third: &States<'_>) 
 }
 
 /// Whether the state is one of these.
-fn is_in(states: &[State<'_>], sought: &State<'_>) -> bool
-    requires { IsStrictlySortedBy state_cmp (state_views states.now) }
-    ensures { result ≡ has_state (state_views states.now) (state_view sought.now) }
+fn is_in(states: &[StateRef<'_>], sought: &StateRef<'_>) -> bool
+    requires { IsStrictlySortedBy state_cmp (state_ref_views states.now) }
+    ensures { result ≡ has_state (state_ref_views states.now) (state_ref_view sought.now) }
 {
-    match states.binary_search_by(|state| state_order(state, sought)) {
+    match states.binary_search_by(|state| state_order(*state, *sought)) {
         Ok(place) => same_state(sought, &states[place]),
         Err(_) => false,
     }

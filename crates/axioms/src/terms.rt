@@ -13,8 +13,9 @@ ghost use Rattle.refutations.specs.Causes as causes;
 ghost use Rattle.refutations.specs.Causes.{feature_holds, terms_of_cause};
 ghost use Rattle.axioms.specs.CauseViews.{cause_view};
 ghost use Rattle.axioms.specs.Matching.{is_lacking, is_left, is_taken, versions_with};
-ghost use Rattle.axioms.specs.StateViews.{state_view, state_views};
-ghost use Rattle.axioms.specs.Views.{owner_view, problem, term_view, term_views, vertex_view};
+ghost use Rattle.vertices.specs.RefViews.{state_ref_view, state_ref_views};
+ghost use Rattle.axioms.specs.Views.{problem, term_view, term_views};
+ghost use Rattle.vertices.specs.RefViews.{owner_ref_view, vertex_ref_view};
 
 use crate::cause::Cause;
 use crate::known::Known;
@@ -22,11 +23,12 @@ use crate::lookups::{brings, dependency_at};
 use crate::matching::{is_left, is_taken};
 use crate::ranges::{class_versions, of_class};
 use crate::states::States;
-use crate::term::{Owner, State, Term, Vertex};
+use crate::term::Term;
 use classes::Class;
 use features::{Dependency, FeatureName, PackageName};
 use semver::{Version, VersionReq};
 use std::alloc::{AllocError, Global};
+use vertices::{OwnerRef, StateRef, VertexRef};
 
 /// The terms of the instance.
 pub(crate) fn terms_of_cause<'a>(
@@ -37,7 +39,7 @@ pub(crate) fn terms_of_cause<'a>(
     ensures { IfOk result (λ v. term_views v.items ≡ terms_of_cause (problem known.now) (cause_view cause.now)) }
 {
     match *cause {
-        Cause::Root => one(alloc, term(alloc, Vertex::Root, State::Absent)?),
+        Cause::Root => one(alloc, term(alloc, VertexRef::Root, StateRef::Absent)?),
         Cause::Need(owner, number) => need_terms(alloc, owner, number),
         Cause::Target(owner, number, class) => target_terms(alloc, known, owner, number, class),
         Cause::Feature(name, class, feature) => {
@@ -66,8 +68,12 @@ pub(crate) fn terms_of_cause<'a>(
 }
 
 /// A vertex with one state.
-fn term<'a>(alloc: Global, vertex: Vertex<'a>, state: State<'a>) -> Result<Term<'a>, AllocError>
-    ensures { IfOk result (λ t. term_view t ≡ at (vertex_view vertex.entry) (state_view state.entry ∷ [])) }
+fn term<'a>(
+    alloc: Global,
+    vertex: VertexRef<'a>,
+    state: StateRef<'a>,
+) -> Result<Term<'a>, AllocError>
+    ensures { IfOk result (λ t. term_view t ≡ at (vertex_ref_view vertex.entry) (state_ref_view state.entry ∷ [])) }
 {
     let states = States::one(alloc, state)?;
     Ok(Term { vertex, states })
@@ -103,12 +109,12 @@ fn three<'a>(
 }
 
 /// The owner holds.
-fn holds<'a>(alloc: Global, owner: Owner<'a>) -> Result<Term<'a>, AllocError>
-    ensures { IfOk result (λ t. term_view t ≡ owner_holds (owner_view owner.entry)) }
+fn holds<'a>(alloc: Global, owner: OwnerRef<'a>) -> Result<Term<'a>, AllocError>
+    ensures { IfOk result (λ t. term_view t ≡ owner_holds (owner_ref_view owner.entry)) }
 {
     match owner {
-        Owner::Root => term(alloc, Vertex::Root, State::Present),
-        Owner::Version(name, version) => chosen(alloc, name, version),
+        OwnerRef::Root => term(alloc, VertexRef::Root, StateRef::Present),
+        OwnerRef::Version(name, version) => chosen(alloc, name, version),
     }
 }
 
@@ -122,8 +128,8 @@ fn chosen<'a>(
 {
     term(
         alloc,
-        Vertex::Package(name, Class::of(version)),
-        State::Version(version),
+        VertexRef::Package(name, Class::of(version)),
+        StateRef::Version(version),
     )
 }
 
@@ -138,18 +144,26 @@ fn on_term<'a>(
 {
     term(
         alloc,
-        Vertex::Feature(name, Class::of(version), feature),
-        State::Present,
+        VertexRef::Feature(name, Class::of(version), feature),
+        StateRef::Present,
     )
 }
 
-fn need_terms(alloc: Global, owner: Owner<'_>, number: usize) -> Result<Vec<Term<'_>>, AllocError>
-    ensures { IfOk result (λ v. term_views v.items ≡ owner_holds (owner_view owner.entry) ∷ at (model.dep (owner_view owner.entry) number) (model.absent ∷ []) ∷ []) }
+fn need_terms(
+    alloc: Global,
+    owner: OwnerRef<'_>,
+    number: usize,
+) -> Result<Vec<Term<'_>>, AllocError>
+    ensures { IfOk result (λ v. term_views v.items ≡ owner_holds (owner_ref_view owner.entry) ∷ at (model.dep (owner_ref_view owner.entry) number) (model.absent ∷ []) ∷ []) }
 {
     two(
         alloc,
         holds(alloc, owner)?,
-        term(alloc, Vertex::Dependency(owner, number), State::Absent)?,
+        term(
+            alloc,
+            VertexRef::Dependency(owner, number),
+            StateRef::Absent,
+        )?,
     )
 }
 
@@ -168,8 +182,8 @@ fn entry_terms<'a>(
         on_term(alloc, name, version, on)?,
         term(
             alloc,
-            Vertex::Feature(name, Class::of(version), off),
-            State::Absent,
+            VertexRef::Feature(name, Class::of(version), off),
+            StateRef::Absent,
         )?,
     )
 }
@@ -189,8 +203,8 @@ fn enabling_terms<'a>(
         on_term(alloc, name, version, on)?,
         term(
             alloc,
-            Vertex::Dependency(Owner::Version(name, version), number),
-            State::Absent,
+            VertexRef::Dependency(OwnerRef::Version(name, version), number),
+            StateRef::Absent,
         )?,
     )
 }
@@ -211,8 +225,8 @@ fn asking_terms<'a>(
         on_term(alloc, name, version, on)?,
         term(
             alloc,
-            Vertex::Ask(name, version, number, asked),
-            State::Absent,
+            VertexRef::Ask(name, version, number, asked),
+            StateRef::Absent,
         )?,
     )
 }
@@ -220,19 +234,19 @@ fn asking_terms<'a>(
 fn target_terms<'a>(
     alloc: Global,
     known: &Known<'a>,
-    owner: Owner<'a>,
+    owner: OwnerRef<'a>,
     number: usize,
     class: Class,
 ) -> Result<Vec<Term<'a>>, AllocError>
-    ensures { IfOk result (λ v. term_views v.items ≡ terms_of_cause (problem known.now) (causes.of_target (owner_view owner.entry) number (class_view class))) }
+    ensures { IfOk result (λ v. term_views v.items ≡ terms_of_cause (problem known.now) (causes.of_target (owner_ref_view owner.entry) number (class_view class))) }
 {
     match dependency_at(known, &owner, number) {
         Some(dependency) => two(
             alloc,
             term(
                 alloc,
-                Vertex::Dependency(owner, number),
-                State::Class(class),
+                VertexRef::Dependency(owner, number),
+                StateRef::Class(class),
             )?,
             left_term(alloc, known, dependency, class)?,
         ),
@@ -252,7 +266,7 @@ fn left_term<'a>(
     let versions = class_versions(known.catalogue, &dependency.real_name, class);
     let states = left_states(alloc, &dependency.requirement, versions)?;
     Ok(Term {
-        vertex: Vertex::Package(&dependency.real_name, class),
+        vertex: VertexRef::Package(&dependency.real_name, class),
         states: States::rising(states),
     })
 }
@@ -262,14 +276,14 @@ fn left_states<'a>(
     alloc: Global,
     requirement: &VersionReq,
     versions: &'a [Version],
-) -> Result<Vec<State<'a>>, AllocError>
-    ensures { IfOk result (λ v. state_views v.items ≡ model.absent ∷ versions_with (is_left (requirement_view requirement.now)) (map parts_of versions.entry.now)) }
+) -> Result<Vec<StateRef<'a>>, AllocError>
+    ensures { IfOk result (λ v. state_ref_views v.items ≡ model.absent ∷ versions_with (is_left (requirement_view requirement.now)) (map parts_of versions.entry.now)) }
 {
     let mut states = Vec::new(alloc);
-    states.push(State::Absent)?;
+    states.push(StateRef::Absent)?;
     'versions: for version in versions.iter() {
         if is_left(requirement, version) {
-            states.push(State::Version(version))?;
+            states.push(StateRef::Version(version))?;
         }
     }
     Ok(states)
@@ -287,7 +301,7 @@ fn taken_term<'a>(
     let versions = class_versions(known.catalogue, &dependency.real_name, class);
     let states = taken_states(alloc, &dependency.requirement, versions)?;
     Ok(Term {
-        vertex: Vertex::Package(&dependency.real_name, class),
+        vertex: VertexRef::Package(&dependency.real_name, class),
         states: States::rising(states),
     })
 }
@@ -297,13 +311,13 @@ fn taken_states<'a>(
     alloc: Global,
     requirement: &VersionReq,
     versions: &'a [Version],
-) -> Result<Vec<State<'a>>, AllocError>
-    ensures { IfOk result (λ v. state_views v.items ≡ versions_with (is_taken (requirement_view requirement.now)) (map parts_of versions.entry.now)) }
+) -> Result<Vec<StateRef<'a>>, AllocError>
+    ensures { IfOk result (λ v. state_ref_views v.items ≡ versions_with (is_taken (requirement_view requirement.now)) (map parts_of versions.entry.now)) }
 {
     let mut states = Vec::new(alloc);
     'versions: for version in versions.iter() {
         if is_taken(requirement, version) {
-            states.push(State::Version(version))?;
+            states.push(StateRef::Version(version))?;
         }
     }
     Ok(states)
@@ -312,20 +326,20 @@ fn taken_states<'a>(
 fn list_terms<'a>(
     alloc: Global,
     known: &Known<'a>,
-    owner: Owner<'a>,
+    owner: OwnerRef<'a>,
     number: usize,
     class: Class,
     feature: &'a FeatureName,
 ) -> Result<Vec<Term<'a>>, AllocError>
-    ensures { IfOk result (λ v. term_views v.items ≡ terms_of_cause (problem known.now) (causes.of_list (owner_view owner.entry) number (class_view class) feature.entry.now)) }
+    ensures { IfOk result (λ v. term_views v.items ≡ terms_of_cause (problem known.now) (causes.of_list (owner_ref_view owner.entry) number (class_view class) feature.entry.now)) }
 {
     match dependency_at(known, &owner, number) {
         Some(dependency) => two(
             alloc,
             term(
                 alloc,
-                Vertex::Dependency(owner, number),
-                State::Class(class),
+                VertexRef::Dependency(owner, number),
+                StateRef::Class(class),
             )?,
             off_term(alloc, dependency, class, feature)?,
         ),
@@ -344,8 +358,8 @@ fn off_term<'a>(
 {
     term(
         alloc,
-        Vertex::Feature(&dependency.real_name, class, feature),
-        State::Absent,
+        VertexRef::Feature(&dependency.real_name, class, feature),
+        StateRef::Absent,
     )
 }
 
@@ -360,19 +374,19 @@ fn ask_terms<'a>(
 ) -> Result<Vec<Term<'a>>, AllocError>
     ensures { IfOk result (λ v. term_views v.items ≡ terms_of_cause (problem known.now) (causes.of_ask name.entry.now (parts_of version.entry.now) number feature.entry.now (class_view class))) }
 {
-    let owner = Owner::Version(name, version);
+    let owner = OwnerRef::Version(name, version);
     match dependency_at(known, &owner, number) {
         Some(dependency) => three(
             alloc,
             term(
                 alloc,
-                Vertex::Ask(name, version, number, feature),
-                State::Present,
+                VertexRef::Ask(name, version, number, feature),
+                StateRef::Present,
             )?,
             term(
                 alloc,
-                Vertex::Dependency(owner, number),
-                State::Class(class),
+                VertexRef::Dependency(owner, number),
+                StateRef::Class(class),
             )?,
             off_term(alloc, dependency, class, feature)?,
         ),
@@ -383,26 +397,26 @@ fn ask_terms<'a>(
 fn newest_terms<'a>(
     alloc: Global,
     known: &Known<'a>,
-    owner: Owner<'a>,
+    owner: OwnerRef<'a>,
     number: usize,
     other: usize,
     class: Class,
     higher: Class,
 ) -> Result<Vec<Term<'a>>, AllocError>
-    ensures { IfOk result (λ v. term_views v.items ≡ terms_of_cause (problem known.now) (causes.of_newest (owner_view owner.entry) number other (class_view class) (class_view higher))) }
+    ensures { IfOk result (λ v. term_views v.items ≡ terms_of_cause (problem known.now) (causes.of_newest (owner_ref_view owner.entry) number other (class_view class) (class_view higher))) }
 {
     match dependency_at(known, &owner, number) {
         Some(dependency) => three(
             alloc,
             term(
                 alloc,
-                Vertex::Dependency(owner, number),
-                State::Class(class),
+                VertexRef::Dependency(owner, number),
+                StateRef::Class(class),
             )?,
             term(
                 alloc,
-                Vertex::Dependency(owner, other),
-                State::Class(higher),
+                VertexRef::Dependency(owner, other),
+                StateRef::Class(higher),
             )?,
             taken_term(alloc, known, dependency, higher)?,
         ),
@@ -422,7 +436,7 @@ fn weak_terms<'a>(
 ) -> Result<Vec<Term<'a>>, AllocError>
     ensures { IfOk result (λ v. term_views v.items ≡ terms_of_cause (problem known.now) (causes.of_weak name.entry.now (parts_of version.entry.now) on.entry.now off.entry.now number (class_view class))) }
 {
-    let owner = Owner::Version(name, version);
+    let owner = OwnerRef::Version(name, version);
     match dependency_at(known, &owner, number) {
         Some(dependency) => {
             let mut terms = three(
@@ -431,8 +445,8 @@ fn weak_terms<'a>(
                 on_term(alloc, name, version, on)?,
                 term(
                     alloc,
-                    Vertex::Dependency(owner, number),
-                    State::Class(class),
+                    VertexRef::Dependency(owner, number),
+                    StateRef::Class(class),
                 )?,
             )?;
             terms.push(off_term(alloc, dependency, class, off)?)?;
@@ -454,7 +468,11 @@ fn feature_terms<'a>(
     let lacking = lacking_term(alloc, known, name, class, feature)?;
     two(
         alloc,
-        term(alloc, Vertex::Feature(name, class, feature), State::Present)?,
+        term(
+            alloc,
+            VertexRef::Feature(name, class, feature),
+            StateRef::Present,
+        )?,
         lacking,
     )
 }
@@ -472,7 +490,7 @@ fn lacking_term<'a>(
     let versions = known.catalogue.versions(name);
     let states = lacking_states(alloc, known, name, feature, of_class(class, versions))?;
     Ok(Term {
-        vertex: Vertex::Package(name, class),
+        vertex: VertexRef::Package(name, class),
         states: States::rising(states),
     })
 }
@@ -484,14 +502,14 @@ fn lacking_states<'a>(
     name: &PackageName,
     feature: &FeatureName,
     versions: &'a [Version],
-) -> Result<Vec<State<'a>>, AllocError>
-    ensures { IfOk result (λ v. state_views v.items ≡ model.absent ∷ versions_with (is_lacking (problem known.now) name.now feature.now) (map parts_of versions.entry.now)) }
+) -> Result<Vec<StateRef<'a>>, AllocError>
+    ensures { IfOk result (λ v. state_ref_views v.items ≡ model.absent ∷ versions_with (is_lacking (problem known.now) name.now feature.now) (map parts_of versions.entry.now)) }
 {
     let mut states = Vec::new(alloc);
-    states.push(State::Absent)?;
+    states.push(StateRef::Absent)?;
     'versions: for version in versions.iter() {
         if is_lacking(known, name, feature, version) {
-            states.push(State::Version(version))?;
+            states.push(StateRef::Version(version))?;
         }
     }
     Ok(states)
@@ -518,7 +536,7 @@ fn has_feature(
 ) -> bool
     ensures { result ≡ has_feature (owner_brings (problem known.now) (model.version_of name.now (parts_of version.now))).features feature.now }
 {
-    match brings(known, &Owner::Version(name, version)) {
+    match brings(known, &OwnerRef::Version(name, version)) {
         Some(owner) => owner.features.has(feature),
         None => false,
     }

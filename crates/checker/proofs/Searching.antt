@@ -10,7 +10,7 @@ use Rattle.model.specs.Order.{text_cmp}
 use Rattle.model.specs.Vertices.{Vertex, same_vertex}
 use Rattle.model.proofs.Same.{vertex-same}
 use Rattle.derivations.specs.Derivations.{term_cmp}
-use Rattle.derivations.specs.Texts.{vertex_text}
+use Rattle.vertices.specs.Texts.{vertex_text}
 use Rattle.axioms.proofs.Searching.{search_ends, search_finds, sorted_pairs}
 
 first_said : (ts : List Term) (v : Vertex) → states_at ts v ≡ option_map (λ (t : Term). t.states) (find (λ (t : Term). same_vertex v t.vertex) ts)

@@ -16,11 +16,11 @@ use Rattle.model.specs.Vertices.{same_vertex}
 use Rattle.model.proofs.Same.{vertex-other}
 use Rattle.refutations.specs.Checks.{ArePlain, combines, is_step, is_none_left, end_if, end_refused}
 use Rattle.refutations.specs.Terms.{is_combination}
-use Rattle.derivations.specs.Texts.{vertex_text}
+use Rattle.vertices.specs.Texts.{vertex_text}
 use Rattle.derivations.specs.Derivations.{IsTerm, AreTerms, AreStepsFrom, term_cmp}
-use Rattle.derivations.specs.Tables.{TablesView, AreStepsOf, AreTermsOf, terms_at, step_at, steps_at, step_by_cause, vertex_at}
-use Rattle.derivations.specs.declared.step.Cause.{Cause}
-use Rattle.derivations.specs.declared.step.Cause.TheVariants.{Axiom, Combination}
+use Rattle.derivations.specs.Tables.{TablesView, AreStepsOf, AreTermsOf, terms_at, step_at, steps_at, step_by_origin, vertex_at}
+use Rattle.derivations.specs.declared.step.Origin.{Origin}
+use Rattle.derivations.specs.declared.step.Origin.TheVariants.{Axiom, Combination}
 use Rattle.derivations.specs.declared.step.Step.{Step}
 use Rattle.derivations.specs.declared.step.Term.{Term}
 use Rattle.catalogue.proofs.Rows.{item_at}
@@ -30,35 +30,35 @@ each_term : (t : TablesView) (terms : List Term) → AreTermsOf t terms → AllB
 each_term t [] h k = tt
 each_term t (x ∷ terms) h k = ((h.0, (k.0).order), each_term t terms h.1 k.1)
 
-terms_by : (t : TablesView) (c : Cause) (ts : List axioms.Term) → AreTerms (steps.terms_of (step_by_cause t c ts)) → AreTerms ts
+terms_by : (t : TablesView) (c : Origin) (ts : List axioms.Term) → AreTerms (steps.terms_of (step_by_origin t c ts)) → AreTerms ts
 terms_by t (Axiom k) ts h = h
 terms_by t (Combination a b v) ts h = h
 
 pub each_step : (t : TablesView) (n : ℕ) (ss : List Step) → AreStepsOf t ss → AreStepsFrom n (steps_at t ss) → AreOrderedSteps t ss
 each_step t n [] h k = tt
 each_step t n (s ∷ ss) h k =
-    let terms = terms_by t s.cause (terms_at t s.terms.items) (k.0).1 in
+    let terms = terms_by t s.origin (terms_at t s.terms.items) (k.0).1 in
     (((h.0).0, (each_term t s.terms.items (h.0).1 terms.0, terms.1)), each_step t (n + 1) ss h.1 k.1)
 
 -- ---- what a combination step says
 
-said_by_step : (t : TablesView) (c : Cause) (ts : List axioms.Term) → steps.terms_of (step_by_cause t c ts) ≡ ts
+said_by_step : (t : TablesView) (c : Origin) (ts : List axioms.Term) → steps.terms_of (step_by_origin t c ts) ≡ ts
 said_by_step t (Axiom k) ts = refl
 said_by_step t (Combination a b v) ts = refl
 
 got_step : (t : TablesView) (ss : List Step) (i : ℕ) (s : Step) → slice_get ss i ≡ Some s → slice_get (steps_at t ss) i ≡ Some (step_at t s)
 got_step t ss i s e = slice_get-map (step_at t) ss i ∙ ap (option_map (step_at t)) e
 
-pub combined_step : (q : Problem) (t : TablesView) (earlier : List Step) (s a b : Step) (first second v : ℕ) → s.cause ≡ Combination first second v
+pub combined_step : (q : Problem) (t : TablesView) (earlier : List Step) (s a b : Step) (first second v : ℕ) → s.origin ≡ Combination first second v
     → slice_get earlier first ≡ Some a → slice_get earlier second ≡ Some b
     → is_combination q (vertex_at t v) (terms_at t a.terms.items) (terms_at t b.terms.items) (terms_at t s.terms.items) ≡ is_step q (steps_at t earlier) (step_at t s)
 combined_step q t earlier s a b first second v is e f =
     let terms = terms_at t s.terms.items in
-    ap (λ ts. is_combination q (vertex_at t v) ts (terms_at t b.terms.items) terms) (sym (said_by_step t a.cause (terms_at t a.terms.items)))
-    ∙ ap (λ ts. is_combination q (vertex_at t v) (steps.terms_of (step_at t a)) ts terms) (sym (said_by_step t b.cause (terms_at t b.terms.items)))
+    ap (λ ts. is_combination q (vertex_at t v) ts (terms_at t b.terms.items) terms) (sym (said_by_step t a.origin (terms_at t a.terms.items)))
+    ∙ ap (λ ts. is_combination q (vertex_at t v) (steps.terms_of (step_at t a)) ts terms) (sym (said_by_step t b.origin (terms_at t b.terms.items)))
     ∙ ap (λ o. combines q (vertex_at t v) o (Some (step_at t b)) terms) (sym (got_step t earlier first a e))
     ∙ ap (λ o. combines q (vertex_at t v) (slice_get (steps_at t earlier) first) o terms) (sym (got_step t earlier second b f))
-    ∙ ap (λ c. is_step q (steps_at t earlier) (step_by_cause t c terms)) (sym is)
+    ∙ ap (λ c. is_step q (steps_at t earlier) (step_by_origin t c terms)) (sym is)
 
 -- a step that was lent is the one at its place
 pub lent : (xs : List Step) (i : ℕ) (r : Option (Bor Step)) (b : Bor Step) → IsItemAt xs i r → r ≡ Some b → slice_get xs i ≡ Some b.now
@@ -88,7 +88,7 @@ end_at t n (s ∷ []) x e =
     let place : n + 0 ≡ n = omega arith in
     ap (λ k. end_if k (is_none_left (terms_at t x.terms.items))) place
     ∙ ap (λ (y : Step). end_if n (is_none_left (terms_at t y.terms.items))) (same_Some x s e)
-    ∙ ap (λ ts. end_if n (is_none_left ts)) (sym (said_by_step t s.cause (terms_at t s.terms.items)))
+    ∙ ap (λ ts. end_if n (is_none_left ts)) (sym (said_by_step t s.origin (terms_at t s.terms.items)))
 end_at t n (s ∷ r ∷ ss) x e =
     let place : length (s ∷ r ∷ ss) - 1 ≡ suc (length (r ∷ ss) - 1) = omega arith in
     let number : n + (length (s ∷ r ∷ ss) - 1) ≡ suc n + (length (r ∷ ss) - 1) = omega arith in

@@ -3,8 +3,8 @@ use Rattle.std.specs.Prelude.{List}
 use Rattle.std.specs.List.{AllByRecursion}
 use Rattle.std.specs.List.Sorted.{IsStrictlySortedBy}
 use Rattle.derivations.specs.Derivations.{term_cmp}
-use Rattle.derivations.specs.Orders.{state_cmp}
-use Rattle.derivations.specs.Tables.{TablesView, states_at, set_at, terms_at, IsTermOf, IsCauseOf}
+use Rattle.vertices.specs.Orders.{state_cmp}
+use Rattle.derivations.specs.Tables.{TablesView, states_at, set_at, terms_at, IsTermOf, IsOriginOf}
 use Rattle.derivations.specs.declared.step.Term.{Term}
 use Rattle.derivations.specs.declared.step.Step.{Step}
 
@@ -17,7 +17,7 @@ abbrev pub AreOrderedTerms : TablesView → List Term → Type 0
 AreOrderedTerms t terms = AllByRecursion (IsOrderedTerm t) terms × IsStrictlySortedBy term_cmp (terms_at t terms)
 
 abbrev pub IsOrderedStep : TablesView → Step → Type 0
-IsOrderedStep t s = IsCauseOf t s.cause × AreOrderedTerms t s.terms.items
+IsOrderedStep t s = IsOriginOf t s.origin × AreOrderedTerms t s.terms.items
 
 abbrev pub AreOrderedSteps : TablesView → List Step → Type 0
 AreOrderedSteps t ss = AllByRecursion (IsOrderedStep t) ss

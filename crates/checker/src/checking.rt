@@ -4,10 +4,11 @@ ghost use Rattle.std.specs.Prelude.{◌≡◌, IfOk, List, []};
 ghost use Rattle.model.specs.Axioms as axioms;
 ghost use Rattle.model.specs.Content.{Content};
 ghost use Rattle.model.specs.Selection.{IsValidSelection};
-ghost use Rattle.refutations.specs.Checks.{combines, end_refused, first_refused, is_none_left, is_step, reason_of, refusal};
+ghost use Rattle.refutations.specs.Checks.{combines, end_refused, first_refused, is_none_left, is_step, reason_of};
+ghost use Rattle.refutations.specs.Checks.{refusal};
 ghost use Rattle.catalogue.specs.Problems.{problem_in};
-ghost use Rattle.derivations.specs.Tables.{TablesView, step_at, step_by_cause, steps_at, terms_at};
-ghost use Rattle.derivations.specs.Views.{vertex_view};
+ghost use Rattle.derivations.specs.Tables.{TablesView, step_at, step_by_origin, steps_at, terms_at};
+ghost use Rattle.vertices.specs.Views.{vertex_view};
 ghost use Rattle.axioms.specs.GatheredViews.{problem_of};
 ghost use Rattle.checker.specs.Refusals.{check_view, reason_view};
 ghost use Rattle.checker.specs.Steps.{AreOrderedSteps, IsOrderedStep};
@@ -18,7 +19,7 @@ use crate::outcome::{Check, Reason};
 use crate::terms::read_terms;
 use axioms::Gathered;
 use catalogue::{Catalogue, catalogues_are_well_formed};
-use derivations::{Cause, Derivation, Step, Tables, Term};
+use derivations::{Derivation, Origin, Step, Tables, Term};
 use manifest::Manifest;
 use refutations::unrefused_derivations_refute;
 use std::alloc::{AllocError, Global};
@@ -61,7 +62,7 @@ fn first_refused(
         if !is_step(alloc, gathered, tables, &steps[..number], step)? {
             return Ok(Check::Refused {
                 step: number as u64,
-                reason: reason_of(&step.cause),
+                reason: reason_of(&step.origin),
             });
         }
     }
@@ -81,9 +82,9 @@ fn is_step(
     ensures { IfOk result (λ b. b ≡ is_step (problem_of gathered.now) (steps_at tables.now earlier.now) (step_at tables.now step.now)) }
 {
     let terms = read_terms(alloc, tables, &step.terms)?;
-    match &step.cause {
-        Cause::Axiom(kind) => is_instance(alloc, gathered, *kind, &terms),
-        Cause::Combination(first, second, vertex) => {
+    match &step.origin {
+        Origin::Axiom(kind) => is_instance(alloc, gathered, *kind, &terms),
+        Origin::Combination(first, second, vertex) => {
             let (Some(a), Some(b)) = (earlier.get(*first as usize), earlier.get(*second as usize))
             else {
                 return Ok(false);
@@ -96,12 +97,12 @@ fn is_step(
     }
 }
 
-fn reason_of(cause: &Cause) -> Reason
-    ensures { (t : TablesView) (terms : List axioms.Term) → reason_view result ≡ reason_of (step_by_cause t cause.now terms) }
+fn reason_of(origin: &Origin) -> Reason
+    ensures { (t : TablesView) (terms : List axioms.Term) → reason_view result ≡ reason_of (step_by_origin t origin.now terms) }
 {
-    match cause {
-        Cause::Axiom(_) => Reason::NotAnAxiom,
-        Cause::Combination(_, _, _) => Reason::BadCombination,
+    match origin {
+        Origin::Axiom(_) => Reason::NotAnAxiom,
+        Origin::Combination(_, _, _) => Reason::BadCombination,
     }
 }
 

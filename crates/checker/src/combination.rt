@@ -6,15 +6,15 @@ ghost use Rattle.model.specs.Axioms.{at, is_full};
 ghost use Rattle.model.specs.Derivation.{union_at, meet_at};
 ghost use Rattle.refutations.specs.Terms.{is_combination, same_at};
 ghost use Rattle.catalogue.specs.Problems.{problem_in};
-ghost use Rattle.derivations.specs.Views.{vertex_view};
+ghost use Rattle.vertices.specs.Views.{vertex_view};
 ghost use Rattle.checker.specs.Combinations.{fits, all_fit};
 
 use crate::space::is_full;
 use crate::terms::{Held, Terms};
 use axioms::States;
 use catalogue::Catalogue;
-use derivations::Vertex;
 use manifest::Manifest;
+use vertices::Vertex;
 
 /// Whether terms are the combination of two lists of terms at a vertex, as sets: the union there, unless it is full, and the intersection elsewhere.
 pub(crate) fn is_combination<'a>(

@@ -9,17 +9,17 @@ ghost use Rattle.model.specs.Vertices.{has_state, owner_brings};
 ghost use Rattle.model.specs.Vertices as model;
 ghost use Rattle.features.specs.Views.{dependency_view, dependency_views, requirement_view};
 ghost use Rattle.catalogue.specs.Problems.{problem_in};
-ghost use Rattle.derivations.specs.Views.{owner_view, vertex_view};
-ghost use Rattle.axioms.specs.StateViews.{state_view};
+ghost use Rattle.vertices.specs.Views.{owner_view, vertex_view};
+ghost use Rattle.vertices.specs.RefViews.{state_ref_view};
 ghost use Rattle.checker.specs.Spaces.{has_if_matched};
 
-use axioms::{State, States, class_versions};
+use axioms::{States, class_versions};
 use catalogue::Catalogue;
 use classes::Class;
-use derivations::{Owner, Vertex};
 use features::Dependency;
 use manifest::Manifest;
 use semver::{Version, VersionReq};
+use vertices::{Owner, StateRef, Vertex};
 
 /// Whether two sets together have all states of a vertex.
 pub(crate) fn is_full(
@@ -31,12 +31,12 @@ pub(crate) fn is_full(
 ) -> bool
     ensures { result ≡ is_full (problem_in manifest.now catalogue.now) (at (vertex_view vertex.now) (a.now ++ b.now)) }
 {
-    if !is_in_either(a, b, &State::Absent) {
+    if !is_in_either(a, b, &StateRef::Absent) {
         return false;
     }
     match vertex {
         Vertex::Root | Vertex::Feature(_, _, _) | Vertex::Ask(_, _, _, _) => {
-            is_in_either(a, b, &State::Present)
+            is_in_either(a, b, &StateRef::Present)
         }
         Vertex::Package(name, class) => has_versions(class_versions(catalogue, name, *class), a, b),
         Vertex::Dependency(owner, number) => {
@@ -92,7 +92,7 @@ fn has_versions(versions: &[Version], a: &States<'_>, b: &States<'_>) -> bool
 fn has_version(version: &Version, a: &States<'_>, b: &States<'_>) -> bool
     ensures { result ≡ has_state (a.now ++ b.now) (model.version (parts_of version.now)) }
 {
-    is_in_either(a, b, &State::Version(version))
+    is_in_either(a, b, &StateRef::Version(version))
 }
 
 /// Whether two sets together have the class of each version that a requirement matches.
@@ -117,7 +117,7 @@ fn has_if_matched(
 ) -> bool
     ensures { result ≡ has_if_matched (a.now ++ b.now) (requirement_view requirement.now) (parts_of version.now) }
 {
-    !is_matched(requirement, version) || is_in_either(a, b, &State::Class(Class::of(version)))
+    !is_matched(requirement, version) || is_in_either(a, b, &StateRef::Class(Class::of(version)))
 }
 
 fn is_matched(requirement: &VersionReq, version: &Version) -> bool
@@ -127,8 +127,8 @@ fn is_matched(requirement: &VersionReq, version: &Version) -> bool
 }
 
 /// Whether the state is in one of two sets.
-fn is_in_either(a: &States<'_>, b: &States<'_>, state: &State<'_>) -> bool
-    ensures { result ≡ has_state (a.now ++ b.now) (state_view state.now) }
+fn is_in_either(a: &States<'_>, b: &States<'_>, state: &StateRef<'_>) -> bool
+    ensures { result ≡ has_state (a.now ++ b.now) (state_ref_view state.now) }
 {
     a.has(state) || b.has(state)
 }

@@ -2,14 +2,14 @@
 
 ghost use Rattle.std.specs.Prelude.{◌≡◌, IfOk};
 ghost use Rattle.std.specs.List.Sorted.{IsStrictlySortedBy};
-ghost use Rattle.derivations.specs.Orders.{state_cmp};
+ghost use Rattle.vertices.specs.Orders.{state_cmp};
 ghost use Rattle.derivations.specs.Tables.{AreStatesOf, states_at};
-ghost use Rattle.derivations.specs.Views.{state_view};
-ghost use Rattle.axioms.specs.StateViews as held;
+ghost use Rattle.vertices.specs.RefViews.{state_ref_views};
 
-use axioms::{State, States};
+use axioms::States;
 use derivations::Tables;
 use std::alloc::{AllocError, Global};
+use vertices::StateRef;
 
 /// The states of these numbers.
 pub(crate) fn read_states<'a>(
@@ -29,24 +29,13 @@ fn states_in<'a>(
     alloc: Global,
     tables: &'a Tables,
     numbers: &[usize],
-) -> Result<Vec<State<'a>>, AllocError>
+) -> Result<Vec<StateRef<'a>>, AllocError>
     requires { AreStatesOf tables.now numbers.now }
-    ensures { IfOk result (λ v. held.state_views v.items ≡ states_at tables.entry.now numbers.now) }
+    ensures { IfOk result (λ v. state_ref_views v.items ≡ states_at tables.entry.now numbers.now) }
 {
     let mut states = Vec::with_capacity(alloc, numbers.len())?;
     'numbers: for number in numbers {
-        states.push(state_of(tables.state(*number)))?;
+        states.push(tables.state(*number).borrowed())?;
     }
     Ok(states)
-}
-
-fn state_of<'a>(state: &'a derivations::State) -> State<'a>
-    ensures { held.state_view result ≡ state_view state.entry.now }
-{
-    match state {
-        derivations::State::Absent => State::Absent,
-        derivations::State::Present => State::Present,
-        derivations::State::Version(version) => State::Version(version),
-        derivations::State::Class(class) => State::Class(*class),
-    }
 }

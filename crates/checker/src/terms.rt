@@ -7,15 +7,16 @@ ghost use Rattle.model.specs.Derivation.{states_at};
 ghost use Rattle.model.specs.Vertices.{same_vertex};
 ghost use Rattle.derivations.specs.Derivations.{term_cmp};
 ghost use Rattle.derivations.specs.Tables.{term_at, terms_at};
-ghost use Rattle.derivations.specs.Views.{vertex_view};
+ghost use Rattle.vertices.specs.Views.{vertex_view};
 ghost use Rattle.checker.specs.Steps.{AreOrderedTerms, IsOrderedTerm};
 
 use crate::states::read_states;
 use axioms::States;
-use derivations::{Tables, Term, Vertex};
+use derivations::{Tables, Term};
 use std::alloc::{AllocError, Global};
 use std::cmp::Ordering;
 use std::marker::Model;
+use vertices::Vertex;
 
 /// A term, and the text of its vertex.
 #[derive(Drop)]
@@ -28,8 +29,8 @@ pub(crate) struct Held<'a> {
 impl<'a> Model for Held<'a> {
     ghost use Rattle.std.specs.Prelude.{◌≡◌, string_bytes};
     ghost use Rattle.model.specs.Axioms.{Term, at};
-    ghost use Rattle.derivations.specs.Texts.{vertex_text};
-    ghost use Rattle.derivations.specs.Views.{vertex_view};
+    ghost use Rattle.vertices.specs.Texts.{vertex_text};
+    ghost use Rattle.vertices.specs.Views.{vertex_view};
 
     ghost Value = { Term };
 

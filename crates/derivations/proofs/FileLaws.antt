@@ -4,8 +4,8 @@ use Rattle.model.specs.Derivation.{Step}
 use Rattle.derivations.specs.Derivations.{IsStepAt, IsDerivation}
 use Rattle.derivations.specs.Files.{is_blank, with_read, with_line, with_lines}
 use Rattle.derivations.specs.Steps.{step_of_line}
-use Rattle.derivations.specs.Texts.{Line}
-use Rattle.derivations.proofs.Bound.{steps, same-Ok}
+use Rattle.derivations.specs.Lines.{Line}
+use Rattle.vertices.proofs.Bound.{steps, same-Ok}
 use Rattle.derivations.proofs.ReadLaws.{line-is, one-more}
 
 with-line : (n : ℕ) (text : List ℕ) (before after : List Step) → IsDerivation before → with_line n text before ≡ Ok after → IsDerivation after

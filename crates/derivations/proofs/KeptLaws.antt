@@ -12,7 +12,7 @@ use Rattle.derivations.specs.References.{references_of, references_at}
 use Rattle.derivations.specs.Steps.{most_steps, step_of_line}
 use Rattle.derivations.specs.Written.{step_json, lines_of}
 use Rattle.derivations.specs.declared.kept.Kept.{Kept}
-use Rattle.derivations.proofs.Bound.{same-Ok, same-Some}
+use Rattle.vertices.proofs.Bound.{same-Ok, same-Some}
 use Rattle.derivations.proofs.ReadLaws.{one-more}
 use Rattle.derivations.proofs.WriteLaws.{line-back, lines-back}
 

@@ -1,12 +1,9 @@
-pub mod Bound
 pub mod Commas
 pub mod ReadLemmas
 pub mod Sorting
 pub mod OrderLaws
-pub mod TextLaws
 pub mod ReadLaws
 pub mod FileLaws
-pub mod PlainTexts
 pub mod JsonLaws
 pub mod WriteLaws
 pub mod TableLaws

@@ -12,22 +12,31 @@ use Rattle.model.specs.Outcome.{guard}
 use Rattle.model.specs.Vertices.{Vertex, State}
 use Rattle.model.specs.Axioms.{Term}
 use Rattle.model.specs.Derivation.{Step}
-use Rattle.derivations.specs.Derivations.{IsReadVertex, IsReadState, IsTerm, term_cmp, AreTerms, IsStepAt, AreStepsFrom}
-use Rattle.derivations.specs.Kinds.{kind_of_text}
-use Rattle.derivations.specs.Orders.{in_order, has_alike, ordered, state_cmp}
-use Rattle.derivations.specs.Steps.{data_of_bytes, text_of, whole_of, item_at, none_at, two_of, states_in, states_of, Written, written_cmp, term_of, terms_in, terms_without_texts, terms_of, Reason, by_axiom, by_combination, axiom_of, combination_of, reason_from, reason_of, is_backward, most_steps, step_by, step_of, step_of_line}
-use Rattle.derivations.specs.Texts.{needed, vertex_text, vertex_of_text, state_of_text}
+use Rattle.vertices.specs.Texts.{IsReadVertex, IsReadState}
+use Rattle.derivations.specs.Derivations.{IsTerm, term_cmp, AreTerms, IsStepAt, AreStepsFrom}
+use Rattle.vertices.specs.Kinds.{kind_of_text}
+use Rattle.derivations.specs.Orders.{in_order, has_alike, ordered}
+use Rattle.vertices.specs.Orders.{state_cmp}
+use Rattle.derivations.specs.Steps.{data_of_bytes, text_of, whole_of, item_at, none_at, two_of, states_in, states_of, Written, written_cmp, term_of, terms_in, terms_without_texts, terms_of, Origin, by_axiom, by_combination, axiom_of, combination_of, origin_from, origin_of, is_backward, most_steps, step_by, step_of, step_of_line}
+use Rattle.derivations.specs.Lines.{needed, in_line, vertex_in_line, state_in_line}
+use Rattle.vertices.specs.Texts.{Reading, vertex_text, vertex_of_text, state_of_text}
 use Rattle.derivations.specs.declared.fault.LineFault.TheVariants.{NotALine, Forward, TooMany}
-use Rattle.derivations.proofs.Bound.{steps, same-Ok, passed}
-use Rattle.derivations.proofs.OrderLaws.{state_total, written_total}
+use Rattle.vertices.proofs.Bound.{steps, same-Ok, passed}
+use Rattle.vertices.proofs.OrderLaws.{state_total}
+use Rattle.derivations.proofs.OrderLaws.{written_total}
 use Rattle.derivations.proofs.Sorting.{each-in_order, sorted-in_order, distinct-from_none}
-use Rattle.derivations.proofs.TextLaws.{vertex-reads, state-reads}
+use Rattle.vertices.proofs.TextLaws.{vertex-reads, state-reads}
 
-vertex-is : (text : List ℕ) (v : Vertex) → vertex_of_text text ≡ Ok v → IsReadVertex v
-vertex-is text v h = ap vertex_of_text (vertex-reads text v h) ∙ h
+-- what a line reads off a text is what the text reads as
+read-off : {A : Type 0} (r : Reading A) (x : A) → in_line r ≡ Ok x → r ≡ Ok x
+read-off (Ok y) x h = ap Ok (same-Ok _ _ h)
+read-off (Err e) x h = cc
 
-state-is : (v : Vertex) (text : List ℕ) (s : State) → state_of_text v text ≡ Ok s → IsReadState v s
-state-is v text s h = ap (state_of_text v) (state-reads v text s h) ∙ h
+vertex-is : (text : List ℕ) (v : Vertex) → vertex_in_line text ≡ Ok v → IsReadVertex v
+vertex-is text v h = let r = read-off (vertex_of_text text) v h in ap vertex_of_text (vertex-reads text v r) ∙ r
+
+state-is : (v : Vertex) (text : List ℕ) (s : State) → state_in_line v text ≡ Ok s → IsReadState v s
+state-is v text s h = let r = read-off (state_of_text v text) s h in ap (state_of_text v) (state-reads v text s r) ∙ r
 
 -- ---- lists in order
 
@@ -47,7 +56,7 @@ unfolding states_in
 states-read v no_items ss h = subst (λ zs. AllByRecursion (λ s. IsReadState v s) zs) (same-Ok _ _ h) tt
 states-read v (item d ds) ss h =
     let t = steps (text_of d) _ ss h in
-    let u = steps (state_of_text v t.at) _ ss t.then in
+    let u = steps (state_in_line v t.at) _ ss t.then in
     let w = steps (states_in v ds) _ ss u.then in
     subst (λ zs. AllByRecursion (λ s. IsReadState v s) zs) (same-Ok _ _ w.then) (state-is v t.at u.at u.first, states-read v ds w.at w.first)
 
@@ -66,10 +75,10 @@ unfolding term_of
 term-is d t h =
     let p = steps (two_of d) _ t h in
     let q = steps (text_of p.at.0) _ t p.then in
-    let v = steps (vertex_of_text q.at) _ t q.then in
+    let v = steps (vertex_in_line q.at) _ t q.then in
     let s = steps (states_of v.at p.at.1) _ t v.then in
     let both = states-are v.at p.at.1 s.at s.first in
-    subst IsWritten (same-Ok _ _ s.then) (sym (vertex-reads q.at v.at v.first), record { vertex = vertex-is q.at v.at v.first; states = both.0; order = both.1 })
+    subst IsWritten (same-Ok _ _ s.then) (sym (vertex-reads q.at v.at (read-off (vertex_of_text q.at) v.at v.first)), record { vertex = vertex-is q.at v.at v.first; states = both.0; order = both.1 })
 
 terms-read : (ds : Items) (ts : List Written) → terms_in ds ≡ Ok ts → AllByRecursion IsWritten ts
 unfolding terms_in
@@ -103,18 +112,18 @@ terms-are d ts h =
 
 -- ---- steps
 
-abbrev IsReason : Reason → Type 0
-IsReason (by_axiom k) = Unit {0}
-IsReason (by_combination a b v) = IsReadVertex v
+abbrev IsOrigin : Origin → Type 0
+IsOrigin (by_axiom k) = Unit {0}
+IsOrigin (by_combination a b v) = IsReadVertex v
 
-axiom-is : (d : Data) (r : Reason) → axiom_of d ≡ Ok r → IsReason r
+axiom-is : (d : Data) (r : Origin) → axiom_of d ≡ Ok r → IsOrigin r
 unfolding axiom_of
 axiom-is d r h =
     let t = steps (text_of d) _ r h in
     let k = steps (needed (kind_of_text t.at)) _ r t.then in
-    subst IsReason (same-Ok _ _ k.then) tt
+    subst IsOrigin (same-Ok _ _ k.then) tt
 
-combination-is : (d : Data) (r : Reason) → combination_of d ≡ Ok r → IsReason r
+combination-is : (d : Data) (r : Origin) → combination_of d ≡ Ok r → IsOrigin r
 unfolding combination_of
 combination-is d r h =
     let i = steps (item_at 0 d) _ r h in
@@ -123,32 +132,32 @@ combination-is d r h =
     let b = steps (whole_of j.at) _ r j.then in
     let k = steps (item_at 2 d) _ r b.then in
     let t = steps (text_of k.at) _ r k.then in
-    let v = steps (vertex_of_text t.at) _ r t.then in
+    let v = steps (vertex_in_line t.at) _ r t.then in
     let n = steps (none_at 3 d) _ r v.then in
-    subst IsReason (same-Ok _ _ n.then) (vertex-is t.at v.at v.first)
+    subst IsOrigin (same-Ok _ _ n.then) (vertex-is t.at v.at v.first)
 
-reason-is : (o p : Option Data) (r : Reason) → reason_from o p ≡ Ok r → IsReason r
-reason-is (Some d) None r h = axiom-is d r h
-reason-is None (Some d) r h = combination-is d r h
-reason-is None None r h = cc
-reason-is (Some d) (Some e) r h = cc
+origin-is : (o p : Option Data) (r : Origin) → origin_from o p ≡ Ok r → IsOrigin r
+origin-is (Some d) None r h = axiom-is d r h
+origin-is None (Some d) r h = combination-is d r h
+origin-is None None r h = cc
+origin-is (Some d) (Some e) r h = cc
 
 and-true : (a b : Bool) → (a && b) ≡ true → (a ≡ true) × (b ≡ true)
 and-true true b h = (refl, h)
 and-true false b h = cc
 
-back : (n : ℕ) (r : Reason) (ts : List Term) → IsReason r → AreTerms ts → is_backward n r ≡ true → IsStepAt n (step_by r ts)
+back : (n : ℕ) (r : Origin) (ts : List Term) → IsOrigin r → AreTerms ts → is_backward n r ≡ true → IsStepAt n (step_by r ts)
 back n (by_axiom k) ts r t h = (tt, t)
 back n (by_combination a b v) ts r t h = let p = and-true _ _ h in ((ltb-true _ _ p.0, ltb-true _ _ p.1, r), t)
 
 step-is : (n : ℕ) (d : Data) (s : Step) → step_of n d ≡ Ok s → IsStepAt n s
 unfolding step_of
 step-is n d s h =
-    let r = steps (reason_of d) _ s h in
+    let r = steps (origin_of d) _ s h in
     let t = steps (terms_of d) _ s r.then in
     let b = steps (guard (is_backward n r.at) Forward) _ s t.then in
     let m = steps (guard (nat_lt n most_steps) TooMany) _ s b.then in
-    subst (IsStepAt n) (same-Ok _ _ m.then) (back n r.at t.at (reason-is _ _ r.at r.first) (terms-are d t.at t.first) (passed (is_backward n r.at) Forward b.at b.first))
+    subst (IsStepAt n) (same-Ok _ _ m.then) (back n r.at t.at (origin-is _ _ r.at r.first) (terms-are d t.at t.first) (passed (is_backward n r.at) Forward b.at b.first))
 
 pub line-is : (n : ℕ) (text : List ℕ) (s : Step) → step_of_line n text ≡ Ok s → IsStepAt n s
 unfolding step_of_line
@@ -157,7 +166,7 @@ line-is n text s h = let d = steps (data_of_bytes text) _ s h in step-is n d.at 
 step-few : (n : ℕ) (d : Data) (s : Step) → step_of n d ≡ Ok s → n < most_steps
 unfolding step_of
 step-few n d s h =
-    let r = steps (reason_of d) _ s h in
+    let r = steps (origin_of d) _ s h in
     let t = steps (terms_of d) _ s r.then in
     let b = steps (guard (is_backward n r.at) Forward) _ s t.then in
     let m = steps (guard (nat_lt n most_steps) TooMany) _ s b.then in

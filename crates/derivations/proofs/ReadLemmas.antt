@@ -7,7 +7,7 @@ use Rattle.serde_json.specs.Data.{Data}
 use Rattle.serde_json.specs.Read.{read}
 use Rattle.model.specs.Outcome.{◌>>=◌}
 use Rattle.derivations.specs.Steps.{data_of_bytes}
-use Rattle.derivations.specs.Texts.{Line}
+use Rattle.derivations.specs.Lines.{Line}
 use Rattle.derivations.specs.declared.fault.LineFault.TheVariants.{NotALine}
 
 pub data-read : (bytes : List ℕ) (d : Data) → IsUtf8 bytes → read bytes ≡ Some d → data_of_bytes bytes ≡ Ok d

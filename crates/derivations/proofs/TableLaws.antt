@@ -9,10 +9,10 @@ use Rattle.model.specs.Axioms as axioms
 use Rattle.model.specs.Axioms.{at}
 use Rattle.model.specs.Derivation.{combine}
 use Rattle.model.specs.Derivation as steps
-use Rattle.derivations.specs.Tables.{vertex_at, set_at, TablesView, state_at, states_at, term_at, terms_at, step_by_cause, step_at, steps_at, AreStatesOf, IsTermOf, AreTermsOf, IsCauseOf, IsStepOf, AreStepsOf, IsGrown}
+use Rattle.derivations.specs.Tables.{vertex_at, set_at, TablesView, state_at, states_at, term_at, terms_at, step_by_origin, step_at, steps_at, AreStatesOf, IsTermOf, AreTermsOf, IsOriginOf, IsStepOf, AreStepsOf, IsGrown}
 use Rattle.derivations.specs.declared.step.Term.{Term}
-use Rattle.derivations.specs.declared.step.Cause.{Cause}
-use Rattle.derivations.specs.declared.step.Cause.TheVariants.{Axiom, Combination}
+use Rattle.derivations.specs.declared.step.Origin.{Origin}
+use Rattle.derivations.specs.declared.step.Origin.TheVariants.{Axiom, Combination}
 use Rattle.derivations.specs.declared.step.Step.{Step}
 
 -- ---- one more key
@@ -91,15 +91,15 @@ module _ (s t : TablesView) (g : IsGrown s t) where
       let rest = kept-terms xs h.1 in
       ((here.0, rest.0), ap₂ (λ y ys. y ∷ ys) here.1 rest.1)
 
-  pub kept-cause : (c : Cause) (ts : List axioms.Term) → IsCauseOf s c → IsCauseOf t c × (step_by_cause t c ts ≡ step_by_cause s c ts)
-  kept-cause (Axiom k) ts h = (tt, refl)
-  kept-cause (Combination a b v) ts h = let here = g.vertices v h in (here.0, ap (λ w. combine a b w ts) here.1)
+  pub kept-origin : (c : Origin) (ts : List axioms.Term) → IsOriginOf s c → IsOriginOf t c × (step_by_origin t c ts ≡ step_by_origin s c ts)
+  kept-origin (Axiom k) ts h = (tt, refl)
+  kept-origin (Combination a b v) ts h = let here = g.vertices v h in (here.0, ap (λ w. combine a b w ts) here.1)
 
   pub kept-step : (x : Step) → IsStepOf s x → IsStepOf t x × (step_at t x ≡ step_at s x)
   kept-step x h =
-      let cause = kept-cause x.cause (terms_at t x.terms.items) h.0 in
+      let origin = kept-origin x.origin (terms_at t x.terms.items) h.0 in
       let terms = kept-terms x.terms.items h.1 in
-      ((cause.0, terms.0), cause.1 ∙ ap (step_by_cause s x.cause) terms.1)
+      ((origin.0, terms.0), origin.1 ∙ ap (step_by_origin s x.origin) terms.1)
 
   pub kept-steps : (xs : List Step) → AreStepsOf s xs → AreStepsOf t xs × (steps_at t xs ≡ steps_at s xs)
   kept-steps [] h = (tt, refl)

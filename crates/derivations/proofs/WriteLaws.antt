@@ -18,18 +18,21 @@ use Rattle.model.specs.Outcome.{◌>>=◌, guard}
 use Rattle.model.specs.Vertices.{Vertex, State}
 use Rattle.model.specs.Axioms.{Kind, Root, Needed, Target, HasFeature, WantsFeature, FeatureOnFeature, FeatureOnDependency, FeatureAsks, NewestListed, WeakFeature, Term}
 use Rattle.model.specs.Derivation.{Step, given, combine, terms_of as terms_in_step}
-use Rattle.derivations.specs.Derivations.{IsReadVertex, IsReadState, IsTerm, term_cmp, AreTerms, IsStepAt, AreStepsFrom, IsDerivation}
+use Rattle.vertices.specs.Texts.{IsReadVertex, IsReadState}
+use Rattle.derivations.specs.Derivations.{IsTerm, term_cmp, AreTerms, IsStepAt, AreStepsFrom, IsDerivation}
 use Rattle.derivations.specs.Files.{is_line_end, with_read, with_line, with_lines, derivation_of_bytes}
-use Rattle.derivations.specs.Kinds.{kind_text, kind_of_text}
+use Rattle.vertices.specs.Kinds.{kind_text, kind_of_text}
 use Rattle.derivations.specs.Orders.{ordered}
-use Rattle.derivations.specs.Steps.{two_of, states_in, states_of, Written, written_cmp, term_of, terms_in, terms_without_texts, terms_of, Reason, by_axiom, by_combination, axiom_of, combination_of, reason_of, is_backward, most_steps, step_by, step_of, step_of_line}
-use Rattle.derivations.specs.Texts.{Line, vertex_text, state_text}
-use Rattle.derivations.specs.Written.{quoted, with_commas, state_json, term_json, combination_json, reason_json, step_json, lines_of}
+use Rattle.derivations.specs.Steps.{two_of, states_in, states_of, Written, written_cmp, term_of, terms_in, terms_without_texts, terms_of, Origin, by_axiom, by_combination, axiom_of, combination_of, origin_of, is_backward, most_steps, step_by, step_of, step_of_line}
+use Rattle.derivations.specs.Lines.{Line}
+use Rattle.vertices.specs.Texts.{vertex_text, state_text}
+use Rattle.derivations.specs.Written.{quoted, with_commas, state_json, term_json, combination_json, origin_json, step_json, lines_of}
 use Rattle.derivations.specs.declared.fault.LineFault.TheVariants.{Forward, TooMany}
 use Rattle.derivations.proofs.Commas.{separated, separated-commas}
 use Rattle.derivations.proofs.JsonLaws.{AreSimple, two-read}
-use Rattle.derivations.proofs.OrderLaws.{state_total, written_total}
-use Rattle.derivations.proofs.PlainTexts.{IsPlain, literal, vertex-plain, state-plain, kind-plain, decimal-plain}
+use Rattle.vertices.proofs.OrderLaws.{state_total}
+use Rattle.derivations.proofs.OrderLaws.{written_total}
+use Rattle.vertices.proofs.PlainTexts.{IsPlain, literal, vertex-plain, state-plain, kind-plain, decimal-plain}
 use Rattle.derivations.proofs.ReadLemmas.{data-read}
 use Rattle.derivations.proofs.Sorting.{none-from_distinct, in_order-sorted, distinct-sorted}
 
@@ -180,10 +183,10 @@ kind-back FeatureAsks = refl
 kind-back NewestListed = refl
 kind-back WeakFeature = refl
 
-reason-back : (n : ℕ) (s : Step) → IsStepAt n s → (r : Reason) × (reason_of (step_data s) ≡ Ok r) × (is_backward n r ≡ true) × (step_by r (terms_in_step s) ≡ s)
+origin-back : (n : ℕ) (s : Step) → IsStepAt n s → (r : Origin) × (origin_of (step_data s) ≡ Ok r) × (is_backward n r ≡ true) × (step_by r (terms_in_step s) ≡ s)
 unfolding axiom_of combination_of
-reason-back n (given k ts) h = (by_axiom k, rw (kind-back k) refl, refl, refl)
-reason-back n (combine a b v ts) h = (by_combination a b v, rw (h.0.2) refl, rw (lt-ltb a n h.0.0, lt-ltb b n h.0.1) refl, refl)
+origin-back n (given k ts) h = (by_axiom k, rw (kind-back k) refl, refl, refl)
+origin-back n (combine a b v ts) h = (by_combination a b v, rw (h.0.2) refl, rw (lt-ltb a n h.0.0, lt-ltb b n h.0.1) refl, refl)
 
 terms-of-step : (s : Step) → AreTerms (terms_in_step s) → terms_of (step_data s) ≡ Ok (terms_in_step s)
 unfolding terms_of
@@ -202,9 +205,9 @@ in-turn r t b m f x y p q s u =
 step-back : (n : ℕ) (s : Step) → n < most_steps → IsStepAt n s → step_of n (step_data s) ≡ Ok s
 unfolding step_of
 step-back n s few h =
-    let r = reason-back n s h in
+    let r = origin-back n s h in
     let room : nat_lt n most_steps ≡ true = lt-ltb n most_steps few in
-    in-turn (reason_of (step_data s)) (terms_of (step_data s)) (is_backward n) (nat_lt n most_steps) step_by r.0 (terms_in_step s) r.1 (terms-of-step s h.1) r.2 room ∙ ap Ok r.3
+    in-turn (origin_of (step_data s)) (terms_of (step_data s)) (is_backward n) (nat_lt n most_steps) step_by r.0 (terms_in_step s) r.1 (terms-of-step s h.1) r.2 room ∙ ap Ok r.3
 
 -- ---- the bytes of a line
 
@@ -260,9 +263,9 @@ line-terms (t ∷ ts) h = (line-term t h.0, line-terms ts h.1)
 line-number : (n : ℕ) → n < 2 ^ 64 → IsLine (decimal n ++ codes ",")
 line-number n l = line-append (decimal n) (codes ",") (line-plain (decimal n) (decimal-plain n l)) (line-literal (codes ",") refl)
 
-line-reason : (n : ℕ) (s : Step) → n ≤ most_steps → IsStepAt n s → IsLine (reason_json s)
-line-reason n (given k ts) few h = line-append (codes "\"axiom\":") (quoted (kind_text k)) (line-literal (codes "\"axiom\":") refl) (line-quoted (kind_text k) (kind-plain k))
-line-reason n (combine a b v ts) few h =
+line-origin : (n : ℕ) (s : Step) → n ≤ most_steps → IsStepAt n s → IsLine (origin_json s)
+line-origin n (given k ts) few h = line-append (codes "\"axiom\":") (quoted (kind_text k)) (line-literal (codes "\"axiom\":") refl) (line-quoted (kind_text k) (kind-plain k))
+line-origin n (combine a b v ts) few h =
     let first : a < 2 ^ 64 = let lt = h.0.0 in omega arith in
     let second : b < 2 ^ 64 = let lt = h.0.1 in omega arith in
     let last = line-append (quoted (vertex_text v)) (codes "]") (line-vertex v h.0.2) (line-literal (codes "]") refl) in
@@ -274,8 +277,8 @@ line-step : (n : ℕ) (s : Step) → n ≤ most_steps → IsStepAt n s → IsLin
 line-step n s few h =
     let terms = line-append (with_commas (map term_json (terms_in_step s))) (codes "]}") (line-commas term_json (terms_in_step s) (line-terms (terms_in_step s) h.1.0)) (line-literal (codes "]}") refl) in
     let rest = line-append (codes ",\"terms\":[") (with_commas (map term_json (terms_in_step s)) ++ codes "]}") (line-literal (codes ",\"terms\":[") refl) terms in
-    line-append (codes "{") (reason_json s ++ (codes ",\"terms\":[" ++ (with_commas (map term_json (terms_in_step s)) ++ codes "]}"))) (line-literal (codes "{") refl)
-    (line-append (reason_json s) (codes ",\"terms\":[" ++ (with_commas (map term_json (terms_in_step s)) ++ codes "]}")) (line-reason n s few h) rest)
+    line-append (codes "{") (origin_json s ++ (codes ",\"terms\":[" ++ (with_commas (map term_json (terms_in_step s)) ++ codes "]}"))) (line-literal (codes "{") refl)
+    (line-append (origin_json s) (codes ",\"terms\":[" ++ (with_commas (map term_json (terms_in_step s)) ++ codes "]}")) (line-origin n s few h) rest)
 
 ascii : (text : List ℕ) → IsLine text → are_ascii text ≡ true
 ascii [] h = refl

@@ -1,5 +1,5 @@
 -- What each derivation keeps: the written order, references backwards, and texts that read (the format is this project's).
-use Rattle.std.specs.Prelude.{◌≡◌, ℕ, ◌<◌, ◌+◌, List, [], ◌∷◌, Ok, ⊤}
+use Rattle.std.specs.Prelude.{◌≡◌, ℕ, ◌<◌, ◌+◌, List, [], ◌∷◌, ⊤}
 use Rattle.std.specs.List.{AllByRecursion}
 use Rattle.std.specs.List.Sorted.{IsStrictlySortedBy}
 use Rattle.std.specs.declared.cmp.Ordering.{Ordering}
@@ -7,16 +7,8 @@ use Rattle.model.specs.Order.{text_cmp}
 use Rattle.model.specs.Vertices.{Vertex, State}
 use Rattle.model.specs.Axioms.{Term}
 use Rattle.model.specs.Derivation.{Step, given, combine, terms_of}
-use Rattle.derivations.specs.Orders.{state_cmp}
-use Rattle.derivations.specs.Texts.{vertex_text, vertex_of_text, state_text, state_of_text}
-
--- a vertex is what its own text reads as: its names are names, its versions versions, and its numbers within their limits
-abbrev pub IsReadVertex : Vertex → Type 0
-IsReadVertex v = vertex_of_text (vertex_text v) ≡ Ok v
-
--- so is a state, which its vertex may have
-abbrev pub IsReadState : Vertex → State → Type 0
-IsReadState v s = state_of_text v (state_text s) ≡ Ok s
+use Rattle.vertices.specs.Orders.{state_cmp}
+use Rattle.vertices.specs.Texts.{vertex_text, IsReadVertex, IsReadState}
 
 -- the states in the written order, none twice
 pub record IsTerm (t : Term) : Type 0 where

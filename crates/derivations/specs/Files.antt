@@ -1,10 +1,11 @@
 -- Which bytes are derivations, and which derivations they are (the format is this project's).
-use Rattle.std.specs.Prelude.{ℕ, ◌+◌, ◌==◌, ◌||◌, Bool, true, false, if◌then◌else◌, List, [], ◌∷◌, ◌++◌, length, Result, Ok, Err}
+use Rattle.std.specs.Prelude.{ℕ, ◌+◌, ◌==◌, ◌||◌, Bool, true, false, if◌then◌else◌, List, [], ◌∷◌, ◌++◌, length, Result}
+use Rattle.std.specs.Prelude.{Ok, Err}
 use Rattle.std.specs.List.{list_all, slice_split}
 use Rattle.model.specs.Outcome.{◌>>=◌}
 use Rattle.model.specs.Derivation.{Step}
 use Rattle.derivations.specs.Steps.{step_of_line}
-use Rattle.derivations.specs.Texts.{Line}
+use Rattle.derivations.specs.Lines.{Line}
 use Rattle.derivations.specs.declared.fault.LineFault.{LineFault}
 use Rattle.derivations.specs.declared.fault.LineFault.TheVariants as line
 use Rattle.derivations.specs.declared.fault.DerivationFault.{DerivationFault}

@@ -1,11 +1,9 @@
-pub mod Kinds
-pub mod Texts
+pub mod Lines
 pub mod Orders
 pub mod Steps
 pub mod Files
 pub mod Views
 pub mod StepViews
-pub mod Same
 pub mod Tables
 pub mod Derivations
 pub mod Written

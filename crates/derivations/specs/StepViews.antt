@@ -4,12 +4,13 @@ use Rattle.std.specs.Borrow.{Bor}
 use Rattle.serde_json.specs.Data.{Data}
 use Rattle.serde_json.specs.View.{view}
 use Rattle.serde_json.specs.declared.value.Value.{Value}
-use Rattle.derivations.specs.Kinds.{kind_view}
-use Rattle.derivations.specs.Steps.{Written, Reason, by_axiom, by_combination}
-use Rattle.derivations.specs.Views.{term_view, vertex_view}
+use Rattle.vertices.specs.Kinds.{kind_view}
+use Rattle.derivations.specs.Steps.{Written, Origin, by_axiom, by_combination}
+use Rattle.derivations.specs.Views.{term_view}
+use Rattle.vertices.specs.Views.{vertex_view}
 use Rattle.derivations.specs.declared.line.WrittenTerm.{WrittenTerm}
-use Rattle.derivations.specs.declared.whole.WholeCause.{WholeCause}
-use Rattle.derivations.specs.declared.whole.WholeCause.TheVariants.{Axiom, Combination}
+use Rattle.derivations.specs.declared.whole.WholeOrigin.{WholeOrigin}
+use Rattle.derivations.specs.declared.whole.WholeOrigin.TheVariants.{Axiom, Combination}
 
 abbrev pub two_view : Bor Value × Bor Value → Data × Data
 two_view p = (view p.0.now, view p.1.now)
@@ -20,6 +21,6 @@ written_view t = (t.text.now, term_view t.term)
 abbrev pub written_views : List WrittenTerm → List Written
 written_views ts = map written_view ts
 
-abbrev pub reason_view : WholeCause → Reason
-reason_view (Axiom k) = by_axiom (kind_view k)
-reason_view (Combination a b v) = by_combination a b (vertex_view v)
+abbrev pub origin_view : WholeOrigin → Origin
+origin_view (Axiom k) = by_axiom (kind_view k)
+origin_view (Combination a b v) = by_combination a b (vertex_view v)

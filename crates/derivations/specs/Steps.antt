@@ -1,5 +1,6 @@
 -- Which lines are steps of a derivation, and which steps they are (JSON, RFC 8259, in the meaning of `serde_json`; the format is this project's).
-use Rattle.std.specs.Prelude.{ℕ, Bool, true, if◌then◌else◌, nat_lt, ◌&&◌, List, [], ◌∷◌, map, Option, Some, None, option_and_then, is_none, Ok, Err, codes}
+use Rattle.std.specs.Prelude.{ℕ, Bool, true, if◌then◌else◌, nat_lt, ◌&&◌, List, [], ◌∷◌, map, Option, Some, None}
+use Rattle.std.specs.Prelude.{option_and_then, is_none, Ok, Err, codes}
 use Rattle.std.specs.Str.{is_utf8}
 use Rattle.std.specs.declared.cmp.Ordering.{Ordering}
 use Rattle.serde_json.specs.Data.{Data, Items, no_items, item}
@@ -10,9 +11,10 @@ use Rattle.model.specs.Order.{text_cmp}
 use Rattle.model.specs.Vertices.{Vertex, State}
 use Rattle.model.specs.Axioms.{Kind, Term, at}
 use Rattle.model.specs.Derivation.{Step, given, combine}
-use Rattle.derivations.specs.Kinds.{kind_of_text}
-use Rattle.derivations.specs.Orders.{state_cmp, ordered}
-use Rattle.derivations.specs.Texts.{Line, needed, vertex_of_text, state_of_text}
+use Rattle.vertices.specs.Kinds.{kind_of_text}
+use Rattle.vertices.specs.Orders.{state_cmp}
+use Rattle.derivations.specs.Orders.{ordered}
+use Rattle.derivations.specs.Lines.{Line, needed, vertex_in_line, state_in_line}
 use Rattle.derivations.specs.declared.fault.LineFault.TheVariants.{NotALine, Forward, TooMany}
 
 -- the JSON value that the bytes are
@@ -47,7 +49,7 @@ unfoldable pub states_in : Vertex → Items → Line (List State)
 states_in v no_items = Ok []
 states_in v (item d ds) = do
   text ← text_of d
-  first ← state_of_text v text
+  first ← state_in_line v text
   others ← states_in v ds
   Ok (first ∷ others)
 
@@ -70,7 +72,7 @@ unfoldable pub term_of : Data → Line Written
 term_of d = do
   parts ← two_of d
   text ← text_of parts.0
-  v ← vertex_of_text text
+  v ← vertex_in_line text
   states ← states_of v parts.1
   Ok (text, at v states)
 
@@ -93,21 +95,21 @@ terms_of d = do
   sorted ← ordered written_cmp written
   Ok (terms_without_texts sorted)
 
--- ---- causes
+-- ---- origins
 
 -- the kind of an axiom, or two steps and the vertex at which they are combined
-pub data Reason : Type 0 where
-  by_axiom : Kind → Reason
-  by_combination : ℕ → ℕ → Vertex → Reason
+pub data Origin : Type 0 where
+  by_axiom : Kind → Origin
+  by_combination : ℕ → ℕ → Vertex → Origin
 
-unfoldable pub axiom_of : Data → Line Reason
+unfoldable pub axiom_of : Data → Line Origin
 axiom_of d = do
   text ← text_of d
   kind ← needed (kind_of_text text)
   Ok (by_axiom kind)
 
 -- `[A,B,"VERTEX"]`
-unfoldable pub combination_of : Data → Line Reason
+unfoldable pub combination_of : Data → Line Origin
 combination_of d = do
   first_item ← item_at 0 d
   first ← whole_of first_item
@@ -115,28 +117,28 @@ combination_of d = do
   second ← whole_of second_item
   vertex_item ← item_at 2 d
   text ← text_of vertex_item
-  v ← vertex_of_text text
+  v ← vertex_in_line text
   others ← none_at 3 d
   Ok (by_combination first second v)
 
 -- just one of `axiom` and `combine`
-abbrev pub reason_from : Option Data → Option Data → Line Reason
-reason_from (Some d) None = axiom_of d
-reason_from None (Some d) = combination_of d
-reason_from None None = Err NotALine
-reason_from (Some d) (Some e) = Err NotALine
+abbrev pub origin_from : Option Data → Option Data → Line Origin
+origin_from (Some d) None = axiom_of d
+origin_from None (Some d) = combination_of d
+origin_from None None = Err NotALine
+origin_from (Some d) (Some e) = Err NotALine
 
-abbrev pub reason_of : Data → Line Reason
-reason_of d = reason_from (json.get (codes "axiom") d) (json.get (codes "combine") d)
+abbrev pub origin_of : Data → Line Origin
+origin_of d = origin_from (json.get (codes "axiom") d) (json.get (codes "combine") d)
 
 -- ---- steps
 
 -- a step refers to steps before it
-abbrev pub is_backward : ℕ → Reason → Bool
+abbrev pub is_backward : ℕ → Origin → Bool
 is_backward n (by_axiom k) = true
 is_backward n (by_combination a b v) = nat_lt a n && nat_lt b n
 
-abbrev pub step_by : Reason → List Term → Step
+abbrev pub step_by : Origin → List Term → Step
 step_by (by_axiom k) ts = given k ts
 step_by (by_combination a b v) ts = combine a b v ts
 
@@ -147,11 +149,11 @@ most_steps = 16777216
 -- the step of this number that a JSON value is
 unfoldable pub step_of : ℕ → Data → Line Step
 step_of n d = do
-  reason ← reason_of d
+  origin ← origin_of d
   terms ← terms_of d
-  backward ← guard (is_backward n reason) Forward
+  backward ← guard (is_backward n origin) Forward
   room ← guard (nat_lt n most_steps) TooMany
-  Ok (step_by reason terms)
+  Ok (step_by origin terms)
 
 -- the step of this number that a line is
 unfoldable pub step_of_line : ℕ → List ℕ → Line Step

@@ -4,10 +4,10 @@ use Rattle.std.specs.List.{AllByRecursion}
 use Rattle.model.specs.Vertices as model
 use Rattle.model.specs.Axioms as axioms
 use Rattle.model.specs.Derivation as steps
-use Rattle.derivations.specs.Kinds.{kind_view}
+use Rattle.vertices.specs.Kinds.{kind_view}
 use Rattle.derivations.specs.declared.step.Term.{Term}
-use Rattle.derivations.specs.declared.step.Cause.{Cause}
-use Rattle.derivations.specs.declared.step.Cause.TheVariants.{Axiom, Combination}
+use Rattle.derivations.specs.declared.step.Origin.{Origin}
+use Rattle.derivations.specs.declared.step.Origin.TheVariants.{Axiom, Combination}
 use Rattle.derivations.specs.declared.step.Step.{Step}
 
 -- the vertices, the states and the sets of states that numbers stand for: a set has the numbers of its states
@@ -39,12 +39,12 @@ term_at t term = axioms.at (vertex_at t term.vertex) (states_at t (set_at t term
 abbrev pub terms_at : TablesView → List Term → List axioms.Term
 terms_at t terms = map (term_at t) terms
 
-abbrev pub step_by_cause : TablesView → Cause → List axioms.Term → steps.Step
-step_by_cause t (Axiom k) ts = steps.given (kind_view k) ts
-step_by_cause t (Combination a b v) ts = steps.combine a b (vertex_at t v) ts
+abbrev pub step_by_origin : TablesView → Origin → List axioms.Term → steps.Step
+step_by_origin t (Axiom k) ts = steps.given (kind_view k) ts
+step_by_origin t (Combination a b v) ts = steps.combine a b (vertex_at t v) ts
 
 abbrev pub step_at : TablesView → Step → steps.Step
-step_at t s = step_by_cause t s.cause (terms_at t s.terms.items)
+step_at t s = step_by_origin t s.origin (terms_at t s.terms.items)
 
 abbrev pub steps_at : TablesView → List Step → List steps.Step
 steps_at t ss = map (step_at t) ss
@@ -60,12 +60,12 @@ IsTermOf t term = (term.vertex < length t.vertices) × (term.states < length t.s
 abbrev pub AreTermsOf : TablesView → List Term → Type 0
 AreTermsOf t terms = AllByRecursion (IsTermOf t) terms
 
-abbrev pub IsCauseOf : TablesView → Cause → Type 0
-IsCauseOf t (Axiom k) = ⊤
-IsCauseOf t (Combination a b v) = v < length t.vertices
+abbrev pub IsOriginOf : TablesView → Origin → Type 0
+IsOriginOf t (Axiom k) = ⊤
+IsOriginOf t (Combination a b v) = v < length t.vertices
 
 abbrev pub IsStepOf : TablesView → Step → Type 0
-IsStepOf t s = IsCauseOf t s.cause × AreTermsOf t s.terms.items
+IsStepOf t s = IsOriginOf t s.origin × AreTermsOf t s.terms.items
 
 abbrev pub AreStepsOf : TablesView → List Step → Type 0
 AreStepsOf t ss = AllByRecursion (IsStepOf t) ss

@@ -4,8 +4,8 @@ use Rattle.std.specs.List.{flat_map, join_with_byte}
 use Rattle.model.specs.Vertices.{Vertex, State}
 use Rattle.model.specs.Axioms.{Term}
 use Rattle.model.specs.Derivation.{Step, given, combine, terms_of}
-use Rattle.derivations.specs.Kinds.{kind_text}
-use Rattle.derivations.specs.Texts.{vertex_text, state_text}
+use Rattle.vertices.specs.Kinds.{kind_text}
+use Rattle.vertices.specs.Texts.{vertex_text, state_text}
 
 -- in quotes: the texts of kinds, vertices and states have no byte that JSON would escape
 abbrev pub quoted : List ℕ → List ℕ
@@ -31,13 +31,13 @@ abbrev pub combination_json : ℕ → ℕ → Vertex → List ℕ
 combination_json a b v = codes "\"combine\":[" ++ ((decimal a ++ codes ",") ++ ((decimal b ++ codes ",") ++ (quoted (vertex_text v) ++ codes "]")))
 
 -- that, or `"axiom":"X1"`
-abbrev pub reason_json : Step → List ℕ
-reason_json (given k ts) = codes "\"axiom\":" ++ quoted (kind_text k)
-reason_json (combine a b v ts) = combination_json a b v
+abbrev pub origin_json : Step → List ℕ
+origin_json (given k ts) = codes "\"axiom\":" ++ quoted (kind_text k)
+origin_json (combine a b v ts) = combination_json a b v
 
 -- the JSON object of a step
 abbrev pub step_json : Step → List ℕ
-step_json s = codes "{" ++ (reason_json s ++ (codes ",\"terms\":[" ++ (with_commas (map term_json (terms_of s)) ++ codes "]}")))
+step_json s = codes "{" ++ (origin_json s ++ (codes ",\"terms\":[" ++ (with_commas (map term_json (terms_of s)) ++ codes "]}")))
 
 -- each step as a line
 abbrev pub lines_of : List Step → List ℕ

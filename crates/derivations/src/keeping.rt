@@ -1,14 +1,15 @@
 //! Putting a step's vertices and sets of states into the tables.
 
 ghost use Rattle.std.specs.Prelude.{◌≡◌, [], IfOk};
-ghost use Rattle.derivations.specs.Tables.{IsGrown, AreStatesOf, IsTermOf, AreTermsOf, IsCauseOf, IsStepOf, states_at, term_at, terms_at, step_by_cause, step_at};
-ghost use Rattle.derivations.specs.Views.{state_views, term_view, term_views, step_from, step_view};
+ghost use Rattle.derivations.specs.Tables.{IsGrown, AreStatesOf, IsTermOf, AreTermsOf, IsOriginOf, IsStepOf, states_at, term_at, terms_at, step_by_origin, step_at};
+ghost use Rattle.vertices.specs.Views.{state_views};
+ghost use Rattle.derivations.specs.Views.{term_view, term_views, step_from, step_view};
 
-use crate::state::State;
-use crate::step::{Cause, Step, Term};
+use crate::step::{Origin, Step, Term};
 use crate::tables::Tables;
-use crate::whole::{WholeCause, WholeStep, WholeTerm};
+use crate::whole::{WholeOrigin, WholeStep, WholeTerm};
 use std::alloc::{AllocError, Global};
+use vertices::State;
 
 /// The step with the numbers of its vertices and states.
 pub(crate) fn keep_step(
@@ -20,20 +21,20 @@ pub(crate) fn keep_step(
     ensures within { IfOk result (λ s. IsStepOf tables.new s) }
     ensures step { IfOk result (λ s. step_at tables.new s ≡ step_view step) }
 {
-    let WholeStep { cause, terms } = step;
-    let cause = keep_cause(tables, cause)?;
+    let WholeStep { origin, terms } = step;
+    let origin = keep_origin(tables, origin)?;
     let terms = keep_terms(alloc, tables, terms)?;
-    Ok(Step { cause, terms })
+    Ok(Step { origin, terms })
 }
 
-fn keep_cause(tables: &mut Tables, cause: WholeCause) -> Result<Cause, AllocError>
+fn keep_origin(tables: &mut Tables, origin: WholeOrigin) -> Result<Origin, AllocError>
     ensures grown { IfOk result (λ c. IsGrown tables.old tables.new) }
-    ensures within { IfOk result (λ c. IsCauseOf tables.new c) }
-    ensures cause { IfOk result (λ c. step_by_cause tables.new c [] ≡ step_from cause []) }
+    ensures within { IfOk result (λ c. IsOriginOf tables.new c) }
+    ensures origin { IfOk result (λ c. step_by_origin tables.new c [] ≡ step_from origin []) }
 {
-    match cause {
-        WholeCause::Axiom(kind) => Ok(Cause::Axiom(kind)),
-        WholeCause::Combination(first, second, vertex) => Ok(Cause::Combination(
+    match origin {
+        WholeOrigin::Axiom(kind) => Ok(Origin::Axiom(kind)),
+        WholeOrigin::Combination(first, second, vertex) => Ok(Origin::Combination(
             first,
             second,
             tables.add_vertex(vertex)?,

@@ -7,7 +7,7 @@ ghost use Rattle.derivations.specs.Steps.{step_of_line};
 ghost use Rattle.derivations.specs.Views.{step_view};
 
 use crate::line::read_step;
-use crate::whole::{WholeCause, WholeStep};
+use crate::whole::{WholeOrigin, WholeStep};
 use crate::writing::push_step;
 use std::alloc::{AllocError, Global};
 
@@ -32,9 +32,9 @@ pub(crate) fn keep(mut line: String, step: &WholeStep) -> Result<Kept, AllocErro
 fn references(step: &WholeStep) -> Option<(u64, u64)>
     ensures { result ≡ references_of (step_view step.now) }
 {
-    match &step.cause {
-        WholeCause::Axiom(_) => None,
-        WholeCause::Combination(first, second, _) => Some((*first, *second)),
+    match &step.origin {
+        WholeOrigin::Axiom(_) => None,
+        WholeOrigin::Combination(first, second, _) => Some((*first, *second)),
     }
 }
 

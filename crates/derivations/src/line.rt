@@ -5,21 +5,22 @@ ghost use Rattle.std.specs.List.{list_all};
 ghost use Rattle.serde_json.specs.View.{view, items_view};
 ghost use Rattle.serde_json.specs.Find as json;
 ghost use Rattle.model.specs.Outcome.{Gives, guard};
-ghost use Rattle.derivations.specs.Orders.{state_cmp, ordered};
-ghost use Rattle.derivations.specs.Steps.{states_in, states_of, written_cmp, term_of, terms_in, terms_without_texts, terms_of, axiom_of, combination_of, reason_from, reason_of, is_backward, most_steps, step_of, step_of_line};
-ghost use Rattle.derivations.specs.StepViews.{written_view, written_views, reason_view};
-ghost use Rattle.derivations.specs.Texts.{line_wants_memory};
-ghost use Rattle.derivations.specs.Views.{vertex_view, state_views, term_view, term_views, step_view};
+ghost use Rattle.vertices.specs.Orders.{state_cmp};
+ghost use Rattle.derivations.specs.Orders.{ordered};
+ghost use Rattle.derivations.specs.Steps.{states_in, states_of, written_cmp, term_of, terms_in, terms_without_texts, terms_of, axiom_of, combination_of, origin_from, origin_of, is_backward, most_steps, step_of, step_of_line};
+ghost use Rattle.derivations.specs.StepViews.{written_view, written_views, origin_view};
+ghost use Rattle.derivations.specs.Lines.{line_wants_memory};
+ghost use Rattle.vertices.specs.Views.{vertex_view, state_views};
+ghost use Rattle.derivations.specs.Views.{term_view, term_views, step_view};
 
 use crate::fault::LineFault;
-use crate::kind::Kind;
-use crate::state::{State, read_state, state_order};
+use crate::texts::{read_state, read_vertex};
 use crate::values::{array, item, no_item, read_json, text, two, whole};
-use crate::vertex::{Vertex, read_vertex};
-use crate::whole::{WholeCause, WholeStep, WholeTerm};
+use crate::whole::{WholeOrigin, WholeStep, WholeTerm};
 use serde_json::Value;
 use std::alloc::{AllocError, Global};
 use std::cmp::Ordering;
+use vertices::{Kind, State, Vertex, state_order};
 
 /// How many steps there may be.
 const MOST_STEPS: usize = 16_777_216;
@@ -44,11 +45,11 @@ pub(crate) fn read_step(alloc: Global, number: usize, line: &[u8]) -> Result<Who
 fn step(alloc: Global, number: usize, value: &Value) -> Result<WholeStep, LineFault>
     ensures { Gives line_wants_memory step_view result (step_of number (view value.now)) }
 {
-    let cause = cause(alloc, value)?;
+    let origin = origin(alloc, value)?;
     let terms = terms(alloc, value)?;
-    check(is_backward(number, &cause), LineFault::Forward)?;
+    check(is_backward(number, &origin), LineFault::Forward)?;
     check(number < MOST_STEPS, LineFault::TooMany)?;
-    Ok(WholeStep { cause, terms })
+    Ok(WholeStep { origin, terms })
 }
 
 fn check(passes: bool, why: LineFault) -> Result<(), LineFault>
@@ -57,21 +58,21 @@ fn check(passes: bool, why: LineFault) -> Result<(), LineFault>
     if passes { Ok(()) } else { Err(why) }
 }
 
-/// Whether a cause refers to steps before this number alone.
-fn is_backward(number: usize, cause: &WholeCause) -> bool
-    ensures { result ≡ is_backward number (reason_view cause.now) }
+/// Whether an origin refers to steps before this number alone.
+fn is_backward(number: usize, origin: &WholeOrigin) -> bool
+    ensures { result ≡ is_backward number (origin_view origin.now) }
 {
-    match cause {
-        WholeCause::Axiom(_) => true,
-        WholeCause::Combination(first, second, _) => {
+    match origin {
+        WholeOrigin::Axiom(_) => true,
+        WholeOrigin::Combination(first, second, _) => {
             *first < number as u64 && *second < number as u64
         }
     }
 }
 
 /// What `axiom` or `combine` says: just one of them is there.
-fn cause(alloc: Global, value: &Value) -> Result<WholeCause, LineFault>
-    ensures { Gives line_wants_memory reason_view result (reason_of (view value.now)) }
+fn origin(alloc: Global, value: &Value) -> Result<WholeOrigin, LineFault>
+    ensures { Gives line_wants_memory origin_view result (origin_of (view value.now)) }
 {
     match (value.get("axiom"), value.get("combine")) {
         (Some(kind), None) => axiom(kind),
@@ -81,25 +82,25 @@ fn cause(alloc: Global, value: &Value) -> Result<WholeCause, LineFault>
 }
 
 #[tactic(auto, unfolding(crate::specs::Steps::axiom_of))]
-fn axiom(value: &Value) -> Result<WholeCause, LineFault>
-    ensures { Gives line_wants_memory reason_view result (axiom_of (view value.now)) }
+fn axiom(value: &Value) -> Result<WholeOrigin, LineFault>
+    ensures { Gives line_wants_memory origin_view result (axiom_of (view value.now)) }
 {
-    match Kind::of_text(text(value)?) {
-        Some(kind) => Ok(WholeCause::Axiom(kind)),
+    match Kind::of_code(text(value)?) {
+        Some(kind) => Ok(WholeOrigin::Axiom(kind)),
         None => Err(LineFault::NotALine),
     }
 }
 
 /// `[A,B,"VERTEX"]`
 #[tactic(auto, unfolding(crate::specs::Steps::combination_of))]
-fn combination(alloc: Global, value: &Value) -> Result<WholeCause, LineFault>
-    ensures { Gives line_wants_memory reason_view result (combination_of (view value.now)) }
+fn combination(alloc: Global, value: &Value) -> Result<WholeOrigin, LineFault>
+    ensures { Gives line_wants_memory origin_view result (combination_of (view value.now)) }
 {
     let first = whole(item(value, 0)?)?;
     let second = whole(item(value, 1)?)?;
     let vertex = read_vertex(alloc, text(item(value, 2)?)?)?;
     no_item(value, 3)?;
-    Ok(WholeCause::Combination(first, second, vertex))
+    Ok(WholeOrigin::Combination(first, second, vertex))
 }
 
 /// The terms by the bytes of their vertices' texts, no vertex twice.
@@ -189,8 +190,8 @@ fn states_in(alloc: Global, vertex: &Vertex, values: &Vec<Value>) -> Result<Vec<
 fn ordered_states(mut states: Vec<State>) -> Result<Vec<State>, LineFault>
     ensures { Gives line_wants_memory (λ v. state_views v.items) result (ordered state_cmp (state_views states.items)) }
 {
-    states.sort_by(|a, b| state_order(a, b))?;
-    if states.is_sorted_by(|a, b| state_order(a, b) == Ordering::Less) {
+    states.sort_by(|a, b| state_order(a.borrowed(), b.borrowed()))?;
+    if states.is_sorted_by(|a, b| state_order(a.borrowed(), b.borrowed()) == Ordering::Less) {
         Ok(states)
     } else {
         Err(LineFault::NotALine)

@@ -1,6 +1,6 @@
 //! The steps of a derivation, whose vertices and states are numbers into its tables.
 
-use crate::kind::Kind;
+use vertices::Kind;
 
 /// A vertex and a set of its states, by their numbers.
 #[derive(Clone, Copy)]
@@ -11,7 +11,7 @@ pub struct Term {
 
 /// Why the terms of a step can't all hold.
 #[derive(Drop)]
-pub enum Cause {
+pub enum Origin {
     Axiom(Kind),
     /// The numbers of two earlier steps, and that of the vertex at which they are combined.
     Combination(u64, u64, usize),
@@ -20,6 +20,6 @@ pub enum Cause {
 /// A step: a set of terms that can't all hold, and why.
 #[derive(Drop)]
 pub struct Step {
-    pub cause: Cause,
+    pub origin: Origin,
     pub terms: Vec<Term>,
 }

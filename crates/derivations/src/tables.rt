@@ -2,13 +2,12 @@
 
 ghost use Rattle.std.specs.Prelude.{◌≡◌, ◌<◌, IfOk, length};
 ghost use Rattle.derivations.specs.Tables.{no_tables, vertex_at, state_at, set_at, IsGrown};
-ghost use Rattle.derivations.specs.Views.{vertex_view, state_view};
+ghost use Rattle.vertices.specs.Views.{vertex_view, state_view};
 
-use crate::state::State;
-use crate::vertex::Vertex;
 use indexmap::IndexSet;
 use std::alloc::{AllocError, Global};
 use std::marker::Model;
+use vertices::{State, Vertex};
 
 /// The vertices and the sets of states that steps name by numbers. A set has the numbers of its states.
 #[derive(Drop)]
@@ -21,7 +20,7 @@ pub struct Tables {
 impl Model for Tables {
     ghost use Rattle.std.specs.Prelude.{map};
     ghost use Rattle.derivations.specs.Tables.{TablesView};
-    ghost use Rattle.derivations.specs.Views.{vertex_view, state_view};
+    ghost use Rattle.vertices.specs.Views.{vertex_view, state_view};
 
     ghost Value = { TablesView };
 

@@ -5,7 +5,7 @@ ghost use Rattle.serde_json.specs.View.{view, items_view};
 ghost use Rattle.serde_json.specs.Find as json;
 ghost use Rattle.model.specs.Outcome.{Gives};
 ghost use Rattle.derivations.specs.Steps.{data_of_bytes, text_of, whole_of, item_at, none_at, two_of};
-ghost use Rattle.derivations.specs.Texts.{line_wants_memory, needed};
+ghost use Rattle.derivations.specs.Lines.{line_wants_memory, needed};
 ghost use Rattle.derivations.specs.StepViews.{two_view};
 
 use crate::fault::LineFault;

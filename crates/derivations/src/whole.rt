@@ -1,8 +1,6 @@
 //! A step that holds its own vertices and states, as it is read off its line.
 
-use crate::kind::Kind;
-use crate::state::State;
-use crate::vertex::Vertex;
+use vertices::{Kind, State, Vertex};
 
 /// A vertex and a set of its states.
 #[derive(Drop)]
@@ -13,7 +11,7 @@ pub struct WholeTerm {
 
 /// Why the terms of a step can't all hold.
 #[derive(Drop)]
-pub enum WholeCause {
+pub enum WholeOrigin {
     Axiom(Kind),
     /// The numbers of two earlier steps, and the vertex at which they are combined.
     Combination(u64, u64, Vertex),
@@ -22,6 +20,6 @@ pub enum WholeCause {
 /// A step: a set of terms that can't all hold, and why.
 #[derive(Drop)]
 pub struct WholeStep {
-    pub cause: WholeCause,
+    pub origin: WholeOrigin,
     pub terms: Vec<WholeTerm>,
 }

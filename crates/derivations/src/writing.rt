@@ -4,16 +4,16 @@ ghost use Rattle.std.specs.Prelude.{◌≡◌, ◌≤◌, ◌++◌, Ok, length, 
 ghost use Rattle.derivations.specs.Files.{derivation_of_bytes};
 ghost use Rattle.derivations.specs.Kept.{lines_kept};
 ghost use Rattle.derivations.specs.Steps.{most_steps};
-ghost use Rattle.derivations.specs.Texts.{vertex_text};
-ghost use Rattle.derivations.specs.Views.{vertex_view, state_view, state_views, term_view, term_views, step_view};
-ghost use Rattle.derivations.specs.Written.{quoted, comma_if, with_commas, state_json, term_json, combination_json, reason_json, step_json, lines_of};
+ghost use Rattle.vertices.specs.Texts.{vertex_text};
+ghost use Rattle.vertices.specs.Views.{vertex_view, state_view, state_views};
+ghost use Rattle.derivations.specs.Views.{term_view, term_views, step_view};
+ghost use Rattle.derivations.specs.Written.{quoted, comma_if, with_commas, state_json, term_json, combination_json, origin_json, step_json, lines_of};
 
 use crate::derivation::Derivation;
 use crate::kept::Kept;
-use crate::state::State;
-use crate::vertex::Vertex;
-use crate::whole::{WholeCause, WholeStep, WholeTerm};
+use crate::whole::{WholeOrigin, WholeStep, WholeTerm};
 use std::alloc::{AllocError, Global};
+use vertices::{State, Vertex};
 
 /// The bytes of a derivation: a line of compact JSON for each step.
 pub fn write(alloc: Global, derivation: &Derivation) -> Result<Vec<u8>, AllocError>
@@ -47,18 +47,18 @@ pub(crate) fn push_step(text: &mut String, step: &WholeStep) -> Result<(), Alloc
     ensures { OnOk result (string_bytes text.new ≡ string_bytes text.old ++ step_json (step_view step.now)) }
 {
     text.push_str("{")?;
-    push_cause(text, step)?;
+    push_origin(text, step)?;
     text.push_str(",\"terms\":[")?;
     push_terms(text, &step.terms)?;
     text.push_str("]}")
 }
 
-fn push_cause(text: &mut String, step: &WholeStep) -> Result<(), AllocError>
-    ensures { OnOk result (string_bytes text.new ≡ string_bytes text.old ++ reason_json (step_view step.now)) }
+fn push_origin(text: &mut String, step: &WholeStep) -> Result<(), AllocError>
+    ensures { OnOk result (string_bytes text.new ≡ string_bytes text.old ++ origin_json (step_view step.now)) }
 {
-    match &step.cause {
-        WholeCause::Axiom(kind) => write!(text, "\"axiom\":\"{kind}\""),
-        WholeCause::Combination(first, second, vertex) => {
+    match &step.origin {
+        WholeOrigin::Axiom(kind) => write!(text, "\"axiom\":\"{kind}\""),
+        WholeOrigin::Combination(first, second, vertex) => {
             push_combination(text, *first, *second, vertex)
         }
     }

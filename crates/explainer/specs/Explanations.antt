@@ -3,8 +3,8 @@ use Rattle.std.specs.Prelude.{ℕ, zero, suc, ◌+◌, ◌==◌, ◌||◌, nat_l
 use Rattle.std.specs.List.{flat_map, list_any}
 use Rattle.model.specs.Axioms.{Kind, Root, Needed, Target, HasFeature, WantsFeature, FeatureOnFeature, FeatureOnDependency, FeatureAsks, NewestListed, WeakFeature, Term}
 use Rattle.model.specs.Derivation.{Step, given, combine, terms_of}
-use Rattle.derivations.specs.Kinds.{kind_text}
-use Rattle.derivations.specs.Texts.{vertex_text, state_text}
+use Rattle.vertices.specs.Kinds.{kind_text}
+use Rattle.vertices.specs.Texts.{vertex_text, state_text}
 
 -- ---- which steps are needed
 
@@ -68,14 +68,14 @@ kind_name FeatureAsks = codes "feature asks"
 kind_name NewestListed = codes "newest listed"
 kind_name WeakFeature = codes "weak feature"
 
--- `as Needed needed` or `from A and B`, with the new numbers
-abbrev pub reason : List ℕ → Step → List ℕ
-reason all (given k ts) = codes "as " ++ (kind_text k ++ (codes " " ++ kind_name k))
-reason all (combine a b v ts) = codes "from " ++ (decimal (new_number all a) ++ (codes " and " ++ decimal (new_number all b)))
+-- `as X1 needed` or `from A and B`, with the new numbers
+abbrev pub origin_words : List ℕ → Step → List ℕ
+origin_words all (given k ts) = codes "as " ++ (kind_text k ++ (codes " " ++ kind_name k))
+origin_words all (combine a b v ts) = codes "from " ++ (decimal (new_number all a) ++ (codes " and " ++ decimal (new_number all b)))
 
 -- the line of the needed step of this number
 abbrev pub line : List ℕ → ℕ → Step → List ℕ
-line all n s = decimal (new_number all n) ++ (codes ": " ++ (claim (terms_of s) ++ (codes ", " ++ (reason all s ++ codes "\n"))))
+line all n s = decimal (new_number all n) ++ (codes ": " ++ (claim (terms_of s) ++ (codes ", " ++ (origin_words all s ++ codes "\n"))))
 
 abbrev pub line_if : List ℕ → ℕ → Option Step → List ℕ
 line_if all n None = []

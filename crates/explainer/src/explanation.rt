@@ -3,14 +3,16 @@
 ghost use Rattle.std.specs.Prelude.{◌≡◌, ◌++◌, IfOk, OnOk, codes, map, string_bytes};
 ghost use Rattle.std.specs.List.{flat_map};
 ghost use Rattle.std.specs.List.Sorted.{IsNonDecreasing};
-ghost use Rattle.derivations.specs.Kinds.{kind_view};
-ghost use Rattle.derivations.specs.Texts.{state_text};
-ghost use Rattle.derivations.specs.Views.{state_view, state_views, term_view, term_views, step_view};
-ghost use Rattle.explainer.specs.Explanations.{text_if, with_between, term_words, claim, kind_name, new_number, reason, line, line_at, explanation_of};
+ghost use Rattle.vertices.specs.Kinds.{kind_view};
+ghost use Rattle.vertices.specs.Texts.{state_text};
+ghost use Rattle.vertices.specs.Views.{state_view, state_views};
+ghost use Rattle.derivations.specs.Views.{term_view, term_views, step_view};
+ghost use Rattle.explainer.specs.Explanations.{text_if, with_between, term_words, claim, kind_name, new_number, origin_words, line, line_at, explanation_of};
 
 use crate::needed::needed;
-use derivations::{Derivation, Kind, State, WholeCause, WholeStep, WholeTerm};
+use derivations::{Derivation, WholeOrigin, WholeStep, WholeTerm};
 use std::alloc::{AllocError, Global};
+use vertices::{Kind, State};
 
 /// The needed steps of a derivation as a text: the last one, and each that a needed one combines, in order and numbered from 1.
 pub fn explain(alloc: Global, derivation: &Derivation) -> Result<String, AllocError>
@@ -63,7 +65,7 @@ fn push_line(
     write!(text, "{own}: ")?;
     push_claim(text, &step.terms)?;
     text.push_str(", ")?;
-    push_reason(text, needed, step)?;
+    push_origin(text, needed, step)?;
     text.push_str("\n")
 }
 
@@ -130,16 +132,16 @@ fn push_state(text: &mut String, later: bool, state: &State) -> Result<(), Alloc
     write!(text, "{state}")
 }
 
-fn push_reason(text: &mut String, needed: &[usize], step: &WholeStep) -> Result<(), AllocError>
+fn push_origin(text: &mut String, needed: &[usize], step: &WholeStep) -> Result<(), AllocError>
     requires { IsNonDecreasing needed.now }
-    ensures { OnOk result (string_bytes text.new ≡ string_bytes text.old ++ reason needed.now (step_view step.now)) }
+    ensures { OnOk result (string_bytes text.new ≡ string_bytes text.old ++ origin_words needed.now (step_view step.now)) }
 {
-    match &step.cause {
-        WholeCause::Axiom(kind) => {
+    match &step.origin {
+        WholeOrigin::Axiom(kind) => {
             let name = kind_name(*kind);
             write!(text, "as {kind} {name}")
         }
-        WholeCause::Combination(first, second, _) => {
+        WholeOrigin::Combination(first, second, _) => {
             let first = new_number(needed, *first);
             let second = new_number(needed, *second);
             write!(text, "from {first} and {second}")

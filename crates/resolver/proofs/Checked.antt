@@ -8,7 +8,7 @@ use Rattle.model.specs.Selection.{IsValidSelection}
 use Rattle.refutations.specs.Checks.{ArePlain, refusal}
 use Rattle.catalogue.specs.Runs.{Calls}
 use Rattle.derivations.specs.Files.{derivation_of_bytes, is_line_end}
-use Rattle.derivations.proofs.Bound.{same-Ok}
+use Rattle.vertices.proofs.Bound.{same-Ok}
 use Rattle.derivations.proofs.FileLaws.{read-is}
 use Rattle.checker.specs.Refusals.{check_view, reason_view}
 use Rattle.checker.specs.declared.outcome.Check.{Check}

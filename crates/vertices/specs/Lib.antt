@@ -4,3 +4,4 @@ pub mod Orders
 pub mod Views
 pub mod RefViews
 pub mod Same
+pub mod Valid

@@ -1,6 +1,7 @@
 -- Which texts are vertices and states, and which vertices and states they are (the formats are this project's; versions
 -- as in SemVer 2.0.0, section 2).
-use Rattle.std.specs.Prelude.{ℕ, Bool, true, false, if◌then◌else◌, nat_lt, List, ◌∷◌, ◌++◌, Option, Some, None, Result}
+use Rattle.std.specs.Prelude.{◌≡◌, ℕ, Bool, true, false, if◌then◌else◌, nat_lt, List, ◌∷◌, ◌++◌, Option, Some, None}
+use Rattle.std.specs.Prelude.{Result}
 use Rattle.std.specs.Prelude.{Ok, Err, codes, decimal}
 use Rattle.std.specs.Option.{ok_or}
 use Rattle.semver.specs.Identifiers.{parts_text}
@@ -166,3 +167,13 @@ value_of_text (ask n v i g) text = present_of_text text
 -- the state of the vertex that a text is
 abbrev pub state_of_text : Vertex → List ℕ → Reading State
 state_of_text v text = if same_text text (codes "absent") then Ok absent else value_of_text v text
+
+-- ---- what reads back
+
+-- a vertex is what its own text reads as: its names are names, its versions versions, its numbers within their limits
+abbrev pub IsReadVertex : Vertex → Type 0
+IsReadVertex v = vertex_of_text (vertex_text v) ≡ Ok v
+
+-- so is a state, which its vertex may have
+abbrev pub IsReadState : Vertex → State → Type 0
+IsReadState v s = state_of_text v (state_text s) ≡ Ok s

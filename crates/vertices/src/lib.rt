@@ -6,11 +6,14 @@
 //! `StateRef`) and is copied freely. Order, equality and hash stand at the borrowed form, and the owned one goes
 //! through it.
 //!
-//! What a layer above may rely on: two vertices are equal just where the model's are.
+//! What a layer above may rely on: two vertices are equal just where the model's are; a vertex or state of valid names,
+//! versions and numbers is what its own text reads as, so no two of them share a text; and what a text reads as is one
+//! of these (`laws`).
 #![tactic(auto)]
 
 mod fault;
 mod kind;
+mod laws;
 mod order;
 mod reading;
 mod same;
@@ -20,6 +23,12 @@ mod vertex;
 
 pub use fault::TextFault;
 pub use kind::Kind;
+pub use laws::{
+    classes_of_versions_are_valid, read_vertices_are_valid, spaces_have_valid_states,
+    texts_tell_vertices_apart, valid_states_are_read, valid_vertices_are_read,
+    vertices_of_problems_are_valid,
+};
 pub use order::state_order;
+pub use same::{same_state, same_vertex};
 pub use state::{State, StateRef};
 pub use vertex::{Owner, OwnerRef, Vertex, VertexRef};

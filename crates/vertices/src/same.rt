@@ -216,6 +216,20 @@ impl Hash for State {
     }
 }
 
+/// Whether two vertices are one.
+pub fn same_vertex(a: &VertexRef<'_>, b: &VertexRef<'_>) -> bool
+    ensures { result ≡ same_vertex (vertex_ref_view a.now) (vertex_ref_view b.now) }
+{
+    a == b
+}
+
+/// Whether two states are one.
+pub fn same_state(a: &StateRef<'_>, b: &StateRef<'_>) -> bool
+    ensures { result ≡ same_state (state_ref_view a.now) (state_ref_view b.now) }
+{
+    a == b
+}
+
 /// The number in a class's text.
 fn class_number(class: &Class) -> u64
     ensures { result ≡ class_number (class_view class.now) }

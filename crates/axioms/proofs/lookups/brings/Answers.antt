@@ -2,7 +2,8 @@ use Rattle.std.proofs.Common.{◌∙◌, sym, ap}
 use Rattle.semver.specs.Identifiers.{parts_of}
 use Rattle.model.specs.Vertices.{owner_brings}
 use Rattle.catalogue.specs.Views.{said_by}
-use Rattle.axioms.specs.Views.{owner_view, brings_view, problem}
+use Rattle.axioms.specs.Views.{brings_view, problem}
+use Rattle.vertices.specs.RefViews.{owner_ref_view}
 use Rattle.axioms.proofs.Brought.{not_there, is_there}
 use Rattle.axioms.proofs.lookups.brings.Goals as goal
 
@@ -12,7 +13,7 @@ returns-in_err-candidate-in-Version c =
     let n = c.in-Version.name.now in
     let v = parts_of c.in-Version.version.now in
     ap brings_view c.from_residual.ensures ∙ not_there k.catalogue.now k.manifest.now n v c.in_err-candidate-in-Version.ensures
-    ∙ ap (λ o. owner_brings (problem k) (owner_view o)) (sym c.in-Version.is)
+    ∙ ap (λ o. owner_brings (problem k) (owner_ref_view o)) (sym c.in-Version.is)
 
 pub returns-in_ok-candidate-in-Version : goal.returns-in_ok-candidate-in-Version
 returns-in_ok-candidate-in-Version c =
@@ -20,4 +21,4 @@ returns-in_ok-candidate-in-Version c =
     let n = c.in-Version.name.now in
     let v = parts_of c.in-Version.version.now in
     is_there k.catalogue.now k.manifest.now n v (said_by c.in_ok-candidate-in-Version.candidate.now) c.in_ok-candidate-in-Version.ensures
-    ∙ ap (λ o. owner_brings (problem k) (owner_view o)) (sym c.in-Version.is)
+    ∙ ap (λ o. owner_brings (problem k) (owner_ref_view o)) (sym c.in-Version.is)

@@ -2,11 +2,11 @@ use Rattle.std.proofs.Common.{◌≡◌, ◌++◌, ◌∷◌, map, drop}
 use Rattle.semver.specs.Identifiers.{parts_of}
 use Rattle.model.specs.Vertices.{absent}
 use Rattle.axioms.specs.Matching.{is_lacking, versions_with}
-use Rattle.axioms.specs.StateViews.{state_views}
+use Rattle.vertices.specs.RefViews.{state_ref_views}
 use Rattle.axioms.specs.Views.{problem}
 use Rattle.axioms.proofs.terms.lacking_states.Given as goal
 
 -- those taken so far, with those among the versions that are left, are those of all
 abbrev pub invariant-versions : goal.invariant-versions
-invariant-versions l = state_views l.states.items ++ versions_with (is_lacking (problem l.known) l.name l.feature) (map parts_of (drop l.version-index l.versions))
+invariant-versions l = state_ref_views l.states.items ++ versions_with (is_lacking (problem l.known) l.name l.feature) (map parts_of (drop l.version-index l.versions))
     ≡ absent ∷ versions_with (is_lacking (problem l.known) l.name l.feature) (map parts_of l.versions)

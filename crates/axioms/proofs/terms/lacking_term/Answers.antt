@@ -1,7 +1,7 @@
 use Rattle.std.proofs.Common.{◌≡◌, ◌∙◌, ◌∷◌, ap, sym, subst}
 use Rattle.std.specs.List.Sorted.{IsStrictlySortedBy}
 use Rattle.classes.specs.Classes.{class_view}
-use Rattle.derivations.specs.Orders.{state_cmp}
+use Rattle.vertices.specs.Orders.{state_cmp}
 use Rattle.model.specs.Axioms.{at}
 use Rattle.model.specs.Vertices.{absent, pkg}
 use Rattle.semver.specs.Eval.{precedence_cmp}

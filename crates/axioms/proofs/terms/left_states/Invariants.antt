@@ -3,10 +3,10 @@ use Rattle.semver.specs.Identifiers.{parts_of}
 use Rattle.features.specs.Views.{requirement_view}
 use Rattle.model.specs.Vertices.{absent}
 use Rattle.axioms.specs.Matching.{is_left, versions_with}
-use Rattle.axioms.specs.StateViews.{state_views}
+use Rattle.vertices.specs.RefViews.{state_ref_views}
 use Rattle.axioms.proofs.terms.left_states.Given as goal
 
 -- those taken so far, with those among the versions that are left, are those of all
 abbrev pub invariant-versions : goal.invariant-versions
-invariant-versions l = state_views l.states.items ++ versions_with (is_left (requirement_view l.requirement)) (map parts_of (drop l.version-index l.versions))
+invariant-versions l = state_ref_views l.states.items ++ versions_with (is_left (requirement_view l.requirement)) (map parts_of (drop l.version-index l.versions))
     ≡ absent ∷ versions_with (is_left (requirement_view l.requirement)) (map parts_of l.versions)

@@ -2,7 +2,7 @@ use Rattle.std.proofs.Common.{◌∙◌, ap, sym, subst}
 use Rattle.std.specs.List.Sorted.{IsStrictlySortedBy}
 use Rattle.features.specs.Views.{dependency_view, requirement_view}
 use Rattle.classes.specs.Classes.{class_view}
-use Rattle.derivations.specs.Orders.{state_cmp}
+use Rattle.vertices.specs.Orders.{state_cmp}
 use Rattle.model.specs.Axioms.{at}
 use Rattle.model.specs.Vertices.{pkg}
 use Rattle.axioms.specs.Matching.{is_taken}

@@ -1,6 +1,6 @@
 use Rattle.std.proofs.Common.{◌∙◌, sym}
 use Rattle.catalogue.specs.Problems.{problem_in}
-use Rattle.derivations.specs.Views.{vertex_view}
+use Rattle.vertices.specs.Views.{vertex_view}
 use Rattle.checker.proofs.CombinationLaws.{fits_there, fits_elsewhere}
 use Rattle.checker.proofs.combination.fits.Goals as goal
 

@@ -1,7 +1,7 @@
 use Rattle.std.proofs.Common.{◌∙◌, ◌&&◌, sym}
 use Rattle.std.specs.List.{list_all}
 use Rattle.catalogue.specs.Problems.{problem_in}
-use Rattle.derivations.specs.Views.{vertex_view}
+use Rattle.vertices.specs.Views.{vertex_view}
 use Rattle.checker.specs.Combinations.{fits}
 use Rattle.checker.proofs.CombinationLaws.{all_fit_is}
 use Rattle.axioms.proofs.SetLaws.{and_then, and_else}

@@ -5,7 +5,7 @@ use Rattle.model.specs.Vertices.{owner_brings}
 use Rattle.features.specs.Views.{dependency_views}
 use Rattle.catalogue.specs.Problems.{problem_in}
 use Rattle.catalogue.specs.Views.{said_by}
-use Rattle.derivations.specs.Views.{owner_view}
+use Rattle.vertices.specs.Views.{owner_view}
 use Rattle.axioms.proofs.Brought.{is_there, not_there}
 use Rattle.checker.proofs.space.dependencies_of.Goals as goal
 

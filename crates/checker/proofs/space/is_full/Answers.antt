@@ -3,7 +3,7 @@ use Rattle.model.specs.Axioms.{at, is_full}
 use Rattle.classes.specs.Classes.{class_view}
 use Rattle.features.specs.Views.{dependency_view}
 use Rattle.catalogue.specs.Problems.{problem_in}
-use Rattle.derivations.specs.Views.{owner_view, vertex_view}
+use Rattle.vertices.specs.Views.{owner_view, vertex_view}
 use Rattle.checker.proofs.SpaceLaws.{classed, matched_all}
 use Rattle.checker.proofs.space.is_full.Goals as goal
 

@@ -1,6 +1,6 @@
 use Rattle.std.proofs.Common.{◌≡◌, ◌+◌, ◌∷◌, length, arith, ap}
 use Rattle.std.specs.Vec.Iter.{into_iter_items, into_iter_len}
-use Rattle.derivations.specs.Views.{state_view, state_views}
+use Rattle.vertices.specs.Views.{state_view, state_views}
 use Rattle.derivations.proofs.TableLaws.{grown-trans, more-states}
 use Rattle.derivations.proofs.keeping.keep_states.Goals as goal
 

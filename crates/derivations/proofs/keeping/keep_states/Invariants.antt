@@ -1,7 +1,7 @@
 use Rattle.std.proofs.Common.{◌≡◌, ◌++◌, length}
 use Rattle.std.specs.Vec.Iter.{into_iter_items, into_iter_len}
 use Rattle.derivations.specs.Tables.{IsGrown, AreStatesOf, states_at}
-use Rattle.derivations.specs.Views.{state_views}
+use Rattle.vertices.specs.Views.{state_views}
 use Rattle.derivations.proofs.keeping.keep_states.Given as goal
 
 -- the numbers so far stand for the states before those that are left

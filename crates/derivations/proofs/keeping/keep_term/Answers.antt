@@ -1,4 +1,4 @@
-use Rattle.derivations.specs.Views.{vertex_view, state_views}
+use Rattle.vertices.specs.Views.{vertex_view, state_views}
 use Rattle.derivations.proofs.TableLaws.{whole-term}
 use Rattle.derivations.proofs.keeping.keep_term.Goals as goal
 

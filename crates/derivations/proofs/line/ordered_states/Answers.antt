@@ -2,9 +2,9 @@ use Rattle.std.proofs.Common.{rules}
 use Rattle.std.specs.Ordering.{is_lt}
 use Rattle.std.proofs.lemmas.Cmp.{is_lt_index}
 use Rattle.std.proofs.lemmas.List.Sorted.{answers_always, ranks_by}
-use Rattle.derivations.specs.Orders.{state_cmp}
-use Rattle.derivations.specs.Views.{state_view}
-use Rattle.derivations.proofs.OrderLaws.{state_total}
+use Rattle.vertices.specs.Orders.{state_cmp}
+use Rattle.vertices.specs.Views.{state_view}
+use Rattle.vertices.proofs.OrderLaws.{state_total}
 use Rattle.derivations.proofs.Sorting.{ordered-ok, ordered-refused}
 use Rattle.derivations.proofs.line.ordered_states.Goals as goal
 

@@ -1,7 +1,7 @@
 use Rattle.std.proofs.Common.{◌≡◌, drop}
 use Rattle.serde_json.specs.View.{items_view}
 use Rattle.derivations.specs.Steps.{states_in}
-use Rattle.derivations.specs.Views.{state_views, vertex_view}
+use Rattle.vertices.specs.Views.{state_views, vertex_view}
 use Rattle.derivations.proofs.ReadLemmas.{with_front}
 use Rattle.derivations.proofs.line.states_in.Given as goal
 

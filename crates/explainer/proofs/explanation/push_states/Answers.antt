@@ -1,6 +1,6 @@
 use Rattle.std.proofs.Common.{codes}
-use Rattle.derivations.specs.Views.{state_view}
-use Rattle.derivations.specs.Texts.{state_text}
+use Rattle.vertices.specs.Views.{state_view}
+use Rattle.vertices.specs.Texts.{state_text}
 use Rattle.explainer.proofs.Between.{all-written}
 use Rattle.explainer.proofs.explanation.push_states.Goals as goal
 

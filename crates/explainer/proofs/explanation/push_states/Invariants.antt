@@ -1,6 +1,6 @@
 use Rattle.std.proofs.Common.{◌≡◌, ◌++◌, drop, false, string_bytes, codes}
-use Rattle.derivations.specs.Views.{state_views}
-use Rattle.derivations.specs.Texts.{state_text}
+use Rattle.vertices.specs.Views.{state_views}
+use Rattle.vertices.specs.Texts.{state_text}
 use Rattle.explainer.proofs.Between.{separated}
 use Rattle.explainer.proofs.explanation.push_states.Given as goal
 

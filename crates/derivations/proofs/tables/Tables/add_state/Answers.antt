@@ -2,7 +2,7 @@ use Rattle.std.specs.Ordering.{on}
 use Rattle.std.proofs.Common.{sym}
 use Rattle.model.proofs.Same.{state-same}
 use Rattle.model.specs.Vertices.{absent, same_state}
-use Rattle.derivations.specs.Views.{state_view}
+use Rattle.vertices.specs.Views.{state_view}
 use Rattle.derivations.proofs.TableLaws.{found-key, grown-states}
 use Rattle.derivations.proofs.tables.Tables.add_state.Goals as goal
 

@@ -2,7 +2,7 @@ use Rattle.std.specs.Ordering.{on}
 use Rattle.std.proofs.Common.{sym}
 use Rattle.model.proofs.Same.{vertex-same}
 use Rattle.model.specs.Vertices.{root, same_vertex}
-use Rattle.derivations.specs.Views.{vertex_view}
+use Rattle.vertices.specs.Views.{vertex_view}
 use Rattle.derivations.proofs.TableLaws.{found-key, grown-vertices}
 use Rattle.derivations.proofs.tables.Tables.add_vertex.Goals as goal
 

@@ -1,0 +1,11 @@
+pub mod Bound
+pub mod OrderLaws
+pub mod TextLaws
+pub mod PlainTexts
+pub mod Around
+pub mod Numbers
+pub mod Dense
+pub mod ReadBack
+pub mod OnlyValid
+pub mod InProblem
+pub mod InSpace
