@@ -19,3 +19,4 @@ pub mod LawsSelections
 pub mod LawsCatalogues
 pub mod LawsIndexes
 pub mod LawsChecksums
+pub mod Wanting

@@ -6,3 +6,4 @@ pub mod Stores
 pub mod Runs
 pub mod Problems
 pub mod Loads
+pub mod Wanting

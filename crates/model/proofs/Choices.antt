@@ -22,7 +22,7 @@ use Rattle.model.proofs.Closed.{Leads}
 use Rattle.model.proofs.AllKept.{all_kept}
 
 module _ (q : Problem) (state : Vertex → State) (ok : IsUnbroken q state) where
-  arriving : (n t : Owner) (i : ℕ) (d : Dependency) → LeadsTo q state n i d t → IsOwner q t
+  pub arriving : (n t : Owner) (i : ℕ) (d : Dependency) → LeadsTo q state n i d t → IsOwner q t
   arriving n t i d l = let c = chosen_version q state ok d.real_name l.k l.v l.locked in subst (IsOwner q) (sym l.target) (c.0, c.1, c.2)
 
   lead : (n : Owner) (i : ℕ) (d : Dependency) → Leads q (LeadsTo q state) arriving n i d

@@ -1,5 +1,4 @@
 pub mod Lists
-pub mod Unique
 pub mod Completeness
 pub mod Walked
 pub mod Picks

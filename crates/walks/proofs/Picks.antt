@@ -1,5 +1,5 @@
 -- The place that is picked is that of the first candidate, in the order of preference, that matches.
-use Rattle.std.proofs.Common.{◌≡◌, ℕ, zero, suc, ◌+◌, ◌<◌, ◌≤◌, Bool, true, false, cond, List, [], ◌∷◌, ◌++◌, map, filter, reverse, length, drop, take, get_or, Option, Some, None, option_map, slice_get, unwrap_or, refl, sym, ap, ap₂, ◌∙◌, arith, add-one}
+use Rattle.std.proofs.Common.{◌≡◌, ℕ, zero, suc, ◌+◌, ◌<◌, ◌≤◌, Bool, true, false, cond, List, [], ◌∷◌, ◌++◌, map, filter, reverse, length, drop, take, get_or, Contains, Option, Some, None, option_map, slice_get, unwrap_or, refl, sym, ap, ap₂, ◌∙◌, subst, inl, inr, arith, add-one}
 use Rattle.std.specs.List.{find}
 use Rattle.std.proofs.Math.Seq.{drop-cons}
 use Rattle.std.proofs.lemmas.List.{map-append, reverse-append, take_more, length-map, take_all}
@@ -10,6 +10,8 @@ use Rattle.model.specs.Summary.{Dependency, same_text}
 use Rattle.model.specs.Content.{Candidate, candidates_of}
 use Rattle.model.specs.Candidates.{Record, as_candidate}
 use Rattle.model.specs.Walk.{first_match}
+use Rattle.model.proofs.Gathered.{at_place}
+use Rattle.model.proofs.Lists.{in_none, in_cons}
 use Rattle.catalogue.specs.Ranks.{Ranked, records, same_rank, places_down, is_ranked, places_of, places_by_rank}
 use Rattle.catalogue.specs.Stores.{CatalogueView, Row, row_at, ranked_at, candidates_at, rows_by_name}
 use Rattle.catalogue.specs.declared.candidate.Rank.{Rank}
@@ -183,3 +185,24 @@ one_picked index d n e = by (first_match d (candidates_of (preferred_in index) d
         → (c : Candidate) × (o ≡ Some c) × (slice_get (candidates_of (rows_by_name index) d.real_name) n ≡ Some c)
     by None h = absurd (none-some (slice_get (candidates_of (rows_by_name index) d.real_name) n) (sym h))
     by (Some c) h = (c, refl, same_Some (slice_get (candidates_of (rows_by_name index) d.real_name) n) (Some c) h)
+
+-- ---- what is preferred are candidates
+
+lies_in : (cs : List Candidate) (ns : List ℕ) (ps : List Candidate) (c : Candidate) → map (slice_get cs) ns ≡ map Some ps → Contains ps c → Contains cs c
+lies_in cs [] [] c e i = absurd (in_none c i)
+lies_in cs [] (p ∷ ps) c e i = cc
+lies_in cs (n ∷ ns) [] c e i = cc
+lies_in cs (n ∷ ns) (p ∷ ps) c e i =
+    let first : slice_get cs n ≡ Some p = cc in
+    let rest : map (slice_get cs) ns ≡ map Some ps = cc in
+    elim (in_cons p c ps i) [
+      | inl is ↦ at_place cs n c (first ∙ ap Some is)
+      | inr j ↦ lies_in cs ns ps c rest j
+    ]
+
+pub preferred_among : (index : CatalogueView) (name : List ℕ) (c : Candidate) → Contains (candidates_of (preferred_in index) name) c → Contains (candidates_of (rows_by_name index) name) c
+preferred_among index name c i =
+    let ranked = ranked_at index name in
+    subst (λ cs. Contains cs c) (sym (candidates_are index name ∙ records-candidates ranked))
+    (lies_in (map candidate ranked) (places_by_rank (map (λ (r : Ranked). r.1) ranked)) (map as_candidate (by_rank ranked)) c (lies ranked)
+    (subst (λ cs. Contains cs c) (preferred_are index name) i))

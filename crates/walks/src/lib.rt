@@ -4,9 +4,11 @@
 mod building;
 mod finding;
 mod kept;
+mod laws;
 mod listing;
 mod meeting;
 mod picking;
 mod stop;
 
 pub use finding::preferred;
+pub use laws::there_is_one_walk;

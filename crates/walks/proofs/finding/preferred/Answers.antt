@@ -6,7 +6,7 @@ use Rattle.catalogue.specs.Problems.{problem_in}
 use Rattle.walks.specs.Preferred.{preferred_in}
 use Rattle.walks.specs.Met.{IsBuilt, IsMet, all_met, owners_of}
 use Rattle.walks.proofs.Completeness.{AllMet, all_met_says, if_all_met}
-use Rattle.walks.proofs.Unique.{one_content}
+use Rattle.model.proofs.Unique.{one_content}
 use Rattle.walks.proofs.Walked.{is_graph, complete, met_if_complete, is_walk}
 use Rattle.walks.proofs.finding.preferred.Goals as goal
 

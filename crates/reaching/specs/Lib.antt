@@ -1,0 +1,3 @@
+pub use Rattle.model.specs.Search
+pub mod Nodes
+pub mod Built

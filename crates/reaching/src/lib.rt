@@ -1,0 +1,51 @@
+//! What the facts find over packages is what the root reaches in an assignment of the search, and the content built of it is a valid selection.
+//!
+//! A law is a function that does nothing: its contract is the statement, and its body shows that the statement needs no code.
+#![tactic(auto)]
+
+ghost use Rattle.std.specs.Prelude.{◌≡◌, ℕ, Bool, true, List, Some, None, slice_get};
+ghost use Rattle.model.specs.Content.{Candidate, Content, Package, Problem, is_root};
+ghost use Rattle.model.specs.ContentOf.{AreKept, Kept};
+ghost use Rattle.model.specs.Search.{IsUnbroken, LeadsTo};
+ghost use Rattle.model.specs.Selection.{IsValidSelection};
+ghost use Rattle.model.specs.Vertices.{Owner, State, Vertex};
+ghost use Rattle.model.specs.Walk.{IsWalk, Picks};
+ghost use Rattle.model.specs.WellFormed.{IsCatalogue};
+ghost use Rattle.manifest.specs.Manifests.{root_asks};
+ghost use Rattle.facts.specs.Graphs.{IsGraph, NodeView};
+ghost use Rattle.reaching.specs.Built.{AreFound, IsBuilt};
+ghost use Rattle.reaching.specs.Nodes.{AreFlags, AreMet};
+
+/// Packages with where their dependencies lead in an assignment are a graph: the facts can be found over them.
+pub fn packages_are_a_graph()
+    ensures { (q : Problem) (state : Vertex → State) (owners : List Owner) (nodes : List NodeView) → q.root_asks ≡ root_asks q.brings.features
+        → AreMet q (LeadsTo q state) owners nodes → IsGraph nodes }
+{}
+
+/// The owners that are found to be here, each with where its enabled dependencies lead, are those that the root reaches, with their targets.
+pub fn found_owners_are_kept()
+    ensures { (q : Problem) (state : Vertex → State) (owners : List Owner) (nodes : List NodeView) (is_here : List Bool) (are_enabled : List (List Bool)) (kept : List Kept)
+        → q.root_asks ≡ root_asks q.brings.features → IsUnbroken q state → AreMet q (LeadsTo q state) owners nodes → AreFlags nodes is_here are_enabled
+        → AreFound owners nodes are_enabled is_here kept → AreKept q (LeadsTo q state) kept }
+{}
+
+/// The content that is built of the packages that are found to be here is a valid selection, if the assignment breaks no instance.
+pub fn built_contents_select()
+    ensures { (q : Problem) (state : Vertex → State) (owners : List Owner) (nodes : List NodeView) (is_here : List Bool) (are_enabled : List (List Bool)) (content : Content)
+        → IsCatalogue q → q.root_asks ≡ root_asks q.brings.features → IsUnbroken q state → AreMet q (LeadsTo q state) owners nodes → AreFlags nodes is_here are_enabled
+        → IsBuilt owners nodes are_enabled q is_here content → IsValidSelection q content }
+{}
+
+/// The root of a content that is built has no checksum.
+pub fn built_roots_have_no_checksum()
+    ensures { (q : Problem) (owners : List Owner) (nodes : List NodeView) (is_here : List Bool) (are_enabled : List (List Bool)) (content : Content)
+        → IsBuilt owners nodes are_enabled q is_here content
+        → (n : ℕ) (p : Package) → slice_get content n ≡ Some p → is_root q p ≡ true → p.checksum ≡ None }
+{}
+
+/// The content that is built where dependencies lead to their picks is the preferred walk.
+pub fn built_contents_walk()
+    ensures { (q : Problem) (preferred : List (List ℕ × List Candidate)) (owners : List Owner) (nodes : List NodeView) (is_here : List Bool) (are_enabled : List (List Bool))
+        (content : Content) → q.root_asks ≡ root_asks q.brings.features → AreMet q (Picks q preferred) owners nodes → AreFlags nodes is_here are_enabled
+        → IsBuilt owners nodes are_enabled q is_here content → IsWalk q preferred content }
+{}
