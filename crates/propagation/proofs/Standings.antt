@@ -1,5 +1,5 @@
 -- The standing of an incompatibility, term by term.
-use Rattle.std.proofs.Common.{◌≡◌, ℕ, ◌+◌, ◌<◌, sym, subst, arith, inl, inr}
+use Rattle.std.proofs.Common.{◌≡◌, ℕ, ◌+◌, ◌<◌, ◌≤◌, sym, subst, arith, inl, inr}
 use Rattle.std.proofs.lemmas.Bool.{cases_lt, cases_eq}
 use Rattle.terms.specs.declared.term.Relation.{Relation}
 use Rattle.terms.specs.declared.term.Relation.TheVariants.{Satisfied, Contradicted, Open}
@@ -41,6 +41,16 @@ two_open i k n f ki lt e h = record {
   ];
 }
 
+-- no later term changes what is quiet
+pub quiet_more : (i n : ℕ) (f : ℕ → Relation) → i ≤ n → Neither i f → Neither n f
+quiet_more i n f le h = record {
+  not_all = λ a. h.not_all (λ j lt. a j (omega (arith, lt, le)));
+  not_one = λ m o. elim (cases_lt m i) [
+    | inl less ↦ h.not_one m (record { within = less; here = o.here; others = λ j lt ne. o.others j (omega (arith, lt, le)) ne })
+    | inr past ↦ h.not_all (λ j lt. o.others j (omega (arith, lt, le)) (λ same. omega (arith, lt, past, same)))
+  ];
+}
+
 pub after_next : (f : ℕ → Relation) (i : ℕ) (seen : Standing) (x : Relation) → f i ≡ x → Stands i f seen → Stands (i + 1) f (after seen i x)
 after_next f i Holds Satisfied e h = hold_more i f h e
 after_next f i Holds Open e h = record { within = omega arith; here = e; others = λ j lt ne. h j (omega (arith, lt, ne)) }
@@ -55,10 +65,4 @@ after_next f i (OneOpen k) Satisfied e h = let w = h.within in record {
 }
 after_next f i (OneOpen k) Open e h = two_open i k (i + 1) f h.within (omega arith) e h.here
 after_next f i (OneOpen k) Contradicted e h = apart_at i (i + 1) f (omega arith) e
-after_next f i Quiet x e h = record {
-  not_all = λ a. h.not_all (λ j lt. a j (omega (arith, lt)));
-  not_one = λ m o. elim (cases_lt m i) [
-    | inl less ↦ h.not_one m (record { within = less; here = o.here; others = λ j lt ne. o.others j (omega (arith, lt)) ne })
-    | inr le ↦ h.not_all (λ j lt. o.others j (omega (arith, lt)) (λ same. omega (arith, lt, le, same)))
-  ];
-}
+after_next f i Quiet x e h = quiet_more i (i + 1) f (omega arith) h

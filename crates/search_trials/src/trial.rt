@@ -57,7 +57,8 @@ impl<S: States + Drop> Trial<S> {
     pub fn forbid(&mut self, said: &[(usize, u64)]) -> Result<bool, AllocError> {
         match terms_of(self.alloc, &self.trail, self.vertices, said)? {
             Some(terms) => {
-                self.store.add(Incompatibility::new(terms), Origin::Axiom(0))?;
+                self.store
+                    .add(Incompatibility::new(terms), Origin::Axiom(0))?;
                 Ok(true)
             }
             None => Ok(false),
