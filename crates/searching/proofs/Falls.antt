@@ -18,7 +18,7 @@ use Rattle.propagation.proofs.Vertices.{in_range}
 use Rattle.propagation.proofs.Widened.{ends_long, ends_sum, ends_wider, old_set, quiet_wider, sat_back, short_past, start_sum, wider_trail}
 use Rattle.conflicts.specs.Resolving.{IsLearned, Quiet}
 use Rattle.searching.specs.Searching.{AllAsked, AreMore, IsCaught, IsFalling, IsOfNew, IsOnly, IsSearching, Pairs, space, space_in, start_of, sum_at}
-use Rattle.searching.specs.Turning.{HasGone, IsAdding}
+use Rattle.searching.specs.Turning.{HasFallen, IsAdding}
 use Rattle.searching.proofs.Ends.{above_less, deeper_falls, end_top, ends_same, falling_deeper, falling_lower, falling_stays, lower_falls, space_stays, start_same}
 
 none_added : (added : List StepView) → length added ≡ 0 → added ≡ []
@@ -30,7 +30,7 @@ some_spent zero a b le not_none = absurd (not_none refl)
 some_spent (suc n) a b le not_none = omega (arith, le)
 
 -- a turn, from what it keeps and what it brings down
-gone : (asked : Pairs) (left fewer late : ℕ) (old new : TrailView) (es : List EntryView) (next : Progress) → IsTrail es new → Stops es new.sets next → sets_at new 0 ≡ sets_at old 0 → IsFalling (start_of late old) late new → Quiet es new new.level → IsCaught asked new → space_in (start_of late old) late new + fewer < space late old + left → HasGone (space late old + left) asked fewer late es new next
+gone : (asked : Pairs) (left fewer late : ℕ) (old new : TrailView) (es : List EntryView) (next : Progress) → IsTrail es new → Stops es new.sets next → sets_at new 0 ≡ sets_at old 0 → IsFalling (start_of late old) late new → Quiet es new new.level → IsCaught asked new → space_in (start_of late old) late new + fewer < space late old + left → HasFallen (space late old + left) asked fewer late es new next
 gone asked left fewer late old new es next trail stops start falling quiet caught falls = record {
   searching = record {
     trail = trail;
@@ -72,7 +72,7 @@ module _ (asked : Pairs) (left late : ℕ) (es : List EntryView) (old mid new : 
       let fewer = some_spent (length added) (total new.sets) (total mid.sets) p.spent (adds next p.stops) in
       subst (λ (ss : List Members). total ss + late < sum_at late old new.level) (sym (end_top new p.top)) (subst (λ (ss : List Members). total new.sets + late < total ss + late) (sym (ap (end_sets old) here ∙ ends)) (omega (arith, fewer)))
 
-  pub turn_jump : IsFalling (start_of late old) late old → IsCaught asked old → IsTrail es new → HasGone (space late old + left) asked left late es new next
+  pub turn_jump : IsFalling (start_of late old) late old → IsCaught asked old → IsTrail es new → HasFallen (space late old + left) asked left late es new next
   turn_jump fall caught trail =
       let falls = falling_lower (start_of late old) late old new fall level (λ k lt. ap (λ (ss : List Members). total ss + late) (same k lt)) less p.top in
       let fell = lower_falls (start_of late old) late old new falls level (λ k lt. ap (λ (ss : List Members). total ss + late) (same k lt)) less in
@@ -80,7 +80,7 @@ module _ (asked : Pairs) (left late : ℕ) (es : List EntryView) (old mid new : 
       (quiet_same es old new level same quiet) (caught_same asked asked old new level same (λ v i h. h) caught) (omega (arith, fell))
 
 -- what the guide was told of a conflict leaves the turn as it is
-pub turn_noted : (before left fewer late later : ℕ) (asked more : Pairs) (es : List EntryView) (new : TrailView) (next : Progress) → AreMore asked more → fewer ≡ left → later ≡ late → HasGone before asked left late es new next → HasGone before more fewer later es new next
+pub turn_noted : (before left fewer late later : ℕ) (asked more : Pairs) (es : List EntryView) (new : TrailView) (next : Progress) → AreMore asked more → fewer ≡ left → later ≡ late → HasFallen before asked left late es new next → HasFallen before more fewer later es new next
 turn_noted before left fewer late later asked more es new next grows few same gone = rw (few, same) (record {
   searching = gone.searching;
   caught = λ l lt v i within only. grows v i (gone.caught l lt v i within only);
@@ -89,7 +89,7 @@ turn_noted before left fewer late later asked more es new next grows few same go
 
 -- A DECISION
 pub turn_decide : (asked : Pairs) (left fewer late : ℕ) (es : List EntryView) (old mid new : TrailView) (vertex state : ℕ) (step : StepView) (next : Progress) (added : List StepView)
-    → IsSearching late es old Fixpoint → IsCaught asked old → AllAsked asked old.sets → fewer ≤ left → IsDecided vertex state old mid step → Propagated es mid new next added → IsTrail es new → HasGone (space late old + left) asked fewer late es new next
+    → IsSearching late es old Fixpoint → IsCaught asked old → AllAsked asked old.sets → fewer ≤ left → IsDecided vertex state old mid step → Propagated es mid new next added → IsTrail es new → HasFallen (space late old + left) asked fewer late es new next
 turn_decide asked left fewer late es old mid new vertex state step next added was caught all few d p trail =
     let here : new.level ≡ suc old.level = p.level ∙ d.level in
     let same : (l : ℕ) → l < new.level → end_sets new l ≡ end_sets old l = λ l lt. ends_same l new mid added p.steps p.back (p.above l (let e = p.level in omega (arith, e, lt))) ∙ ends_same l mid old (step ∷ []) d.steps d.back (let e = d.step_level in omega (arith, lt, here, e), tt) in
@@ -225,7 +225,7 @@ added_space s late old new es next (a ∷ more) fall p =
     (falls, let fell = lower_falls s late old new falls level sums less in omega (arith, fell))
 
 pub turn_axioms : (asked : Pairs) (left fewer late : ℕ) (es : List EntryView) (old new : TrailView) (next : Progress) (added : List StepView)
-    → IsFalling (start_of late old) late old → Quiet es old old.level → IsCaught asked old → fewer < left → Propagated es old new next added → IsTrail es new → HasGone (space late old + left) asked fewer late es new next
+    → IsFalling (start_of late old) late old → Quiet es old old.level → IsCaught asked old → fewer < left → Propagated es old new next added → IsTrail es new → HasFallen (space late old + left) asked fewer late es new next
 turn_axioms asked left fewer late es old new next added fall quiet caught less p trail =
     let same : (l : ℕ) → l < new.level → end_sets new l ≡ end_sets old l = λ l lt. ends_same l new old added p.steps p.back (p.above l (let e = p.level in omega (arith, e, lt))) in
     let level : new.level ≤ old.level = let e = p.level in omega (arith, e) in

@@ -2,6 +2,7 @@ pub mod Counts
 pub mod Weights
 pub mod Ends
 pub mod Falls
+pub mod Seen
 pub mod Walks
 pub mod Selections
 pub mod Each

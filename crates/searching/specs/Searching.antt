@@ -55,6 +55,11 @@ AllAsked asked sets = (v i : ℕ) → v < length sets → IsOnly (set_of sets v)
 abbrev pub IsCaught : Pairs → TrailView → Type 0
 IsCaught asked t = (l : ℕ) → l < t.level → AllAsked asked (end_sets t l)
 
+-- each pair that stood alone after the first places was asked for
+pub record IsSeen (places : ℕ) (asked : Pairs) (t : TrailView) : Type 0 where
+  pub within : places ≤ length t.steps
+  pub all : AllAsked asked (sets_at t places)
+
 abbrev pub AreMore : Pairs → Pairs → Type 0
 AreMore old new = (v i : ℕ) → old v i ≡ true → new v i ≡ true
 

@@ -6,7 +6,7 @@ use Rattle.propagation.specs.Promises.{LieIn, Stops}
 use Rattle.propagation.specs.Widening.{IsWider, sum_of}
 use Rattle.propagation.specs.declared.propagating.Progress.{Progress}
 use Rattle.propagation.specs.declared.propagating.Progress.TheVariants.{Fixpoint}
-use Rattle.searching.specs.Searching.{AllAsked, AreMore, AreOfNew, CanDecide, IsCaught, IsRefutation, IsSearching, LoneAsked, Pairs, space}
+use Rattle.searching.specs.Searching.{AllAsked, AreMore, AreOfNew, CanDecide, IsCaught, IsRefutation, IsSearching, IsSeen, LoneAsked, Pairs, space}
 use Rattle.searching.specs.declared.turns.Answer.{Answer}
 use Rattle.searching.specs.declared.turns.Answer.TheVariants.{Selection, Unsolvable}
 use Rattle.searching.specs.declared.turns.Turn.{Turn}
@@ -35,12 +35,17 @@ abbrev pub HasEnded : Type 0 → Pairs → List EntryView → TrailView → Answ
 HasEnded done asked es t Selection = done × AllAsked asked t.sets × Stops es t.sets Fixpoint
 HasEnded done asked es t (Unsolvable id) = IsRefutation es id
 
--- the search goes on, and the number is below one
-pub record HasGone (before : ℕ) (asked : Pairs) (left late : ℕ) (es : List EntryView) (new : TrailView) (next : Progress) : Type 0 where
+-- the number is below one
+pub record HasFallen (before : ℕ) (asked : Pairs) (left late : ℕ) (es : List EntryView) (new : TrailView) (next : Progress) : Type 0 where
   pub searching : IsSearching late es new next
   pub caught : IsCaught asked new
   pub falls : space late new + left < before
 
-abbrev pub HasTurned : Type 0 → ℕ → Pairs → ℕ → ℕ → List EntryView → TrailView → Turn → Type 0
-HasTurned done before asked left late es new (Goes next) = HasGone before asked left late es new next
-HasTurned done before asked left late es new (Ends ended) = HasEnded done asked es new ended
+-- the search goes on
+pub record HasGone (before : ℕ) (asked : Pairs) (left late seen : ℕ) (es : List EntryView) (new : TrailView) (next : Progress) : Type 0 where
+  pub fallen : HasFallen before asked left late es new next
+  pub seen_is : IsSeen seen asked new
+
+abbrev pub HasTurned : Type 0 → ℕ → Pairs → ℕ → ℕ → ℕ → List EntryView → TrailView → Turn → Type 0
+HasTurned done before asked left late seen es new (Goes next) = HasGone before asked left late seen es new next
+HasTurned done before asked left late seen es new (Ends ended) = HasEnded done asked es new ended

@@ -13,10 +13,10 @@ pub trait Guide<S: States + Drop>: Sized {
     ghost use Rattle.propagation.specs.Promises.{IsTrail};
     ghost use Rattle.propagation.specs.Satisfaction.{Agrees};
     ghost use Rattle.propagation.specs.Trails.{TrailView, trail_view};
-    ghost use Rattle.searching.specs.Searching.{AreMore, HasSpaces, IsCaught, Pairs};
+    ghost use Rattle.searching.specs.Searching.{AreMore, HasSpaces, IsCaught, IsSeen, Pairs};
     ghost use Rattle.searching.specs.Turning.{IsAdding, IsChosen};
     ghost use Rattle.searching.specs.Walking.{AreGiven, KeepsWalks};
-    ghost use Rattle.std.specs.Prelude.{◌≡◌, ℕ, ◌<◌, IfOk, IfSome, List, OnOk, length};
+    ghost use Rattle.std.specs.Prelude.{◌≡◌, ℕ, ◌<◌, ◌≤◌, IfOk, IfSome, List, OnOk, length};
 
     /// How many states each vertex has that the trail has now.
     ghost spaces: { Self → List ℕ };
@@ -29,6 +29,9 @@ pub trait Guide<S: States + Drop>: Sized {
 
     /// How many pairs there are still.
     ghost left: { Self → ℕ };
+
+    /// How many places of the trail were looked at; a pair that stood alone after them was asked for.
+    ghost seen: { Self → ℕ };
 
     /// No vertex is to be decided.
     ghost done: { Self → TrailView → Type 0 };
@@ -52,8 +55,11 @@ pub trait Guide<S: States + Drop>: Sized {
         requires trail { IsTrail (entries_view S.tests store.old) (trail_view S.tests trail.old) }
         requires spaces { HasSpaces (spaces self.old) (trail_view S.tests trail.old) }
         requires caught { IsCaught (asked self.old) (trail_view S.tests trail.old) }
+        // So only the vertices of later places have to be looked at.
+        requires seen { IsSeen (seen self.old) (asked self.old) (trail_view S.tests trail.old) }
         ensures adding { IfOk result (λ added. IsAdding (asked self.old) (asked self.new) (left self.old) (left self.new) (late self.old) (late self.new) (trail_view S.tests trail.old) (trail_view S.tests trail.new) (entries_view S.tests store.old) (entries_view S.tests store.new) added) }
         ensures spaces { IfOk result (λ added. HasSpaces (spaces self.new) (trail_view S.tests trail.new)) }
+        ensures seen { IfOk result (λ added. IsSeen (seen self.new) (asked self.new) (trail_view S.tests trail.new)) }
         ensures keeps { IfOk result (λ added. keeps self.old self.new) }
         ensures given { IfOk result (λ added. AreGiven (given self.old) (entries_view S.tests store.old) → AreGiven (given self.new) (entries_view S.tests store.new)) }
         ensures walks { IfOk result (λ added. KeepsWalks (walks self.old) (entries_view S.tests store.old) (trail_view S.tests trail.old) (walks self.new) (entries_view S.tests store.new) (trail_view S.tests trail.new)) };
@@ -83,6 +89,9 @@ pub trait Guide<S: States + Drop>: Sized {
         ensures late { OnOk result (late self.new ≡ late self.old) }
         ensures asked { OnOk result (AreMore (asked self.old) (asked self.new)) }
         ensures left { OnOk result (left self.new ≡ left self.old) }
+        // Places that were cut are seen no more.
+        ensures seen { OnOk result (seen self.new ≤ seen self.old) }
+        ensures within { OnOk result (seen self.new ≤ length (trail_view S.tests trail.now).steps) }
         ensures keeps { OnOk result (keeps self.old self.new) }
         ensures given { OnOk result ((e : EntryView) → given self.old e → given self.new e) }
         ensures walks { OnOk result ((x : Assignment) → walks self.new x → walks self.old x) };

@@ -6,7 +6,7 @@ ghost use Rattle.propagation.specs.Promises.{IsTrail};
 ghost use Rattle.propagation.specs.Trails.{trail_view};
 ghost use Rattle.propagation.specs.declared.propagating.Progress.TheVariants.{Conflict, Fixpoint};
 ghost use Rattle.searching.specs.Counting.{CountsOn, IsCount};
-ghost use Rattle.searching.specs.Searching.{EachFalls, HasSpaces, IsCaught, IsSearching, space};
+ghost use Rattle.searching.specs.Searching.{EachFalls, HasSpaces, IsCaught, IsSearching, IsSeen, space};
 ghost use Rattle.searching.specs.Turning.{HasEnded, HasTurned};
 ghost use Rattle.searching.specs.Walking.{AreGiven, IsSelection, IsWalked, KeepsWalks, TurnsOn};
 ghost use Rattle.std.specs.Prelude.{◌≡◌, ℕ, ◌+◌, ◌<◌, ◌≤◌, ◌⊎◌, [], IfOk};
@@ -75,7 +75,8 @@ fn turn_back<S: States + Drop, G: Guide<S>>(
     requires spaces { HasSpaces (G.spaces guide.old) (trail_view S.tests trail.old) }
     requires searching { IsSearching (G.late guide.old) (entries_view S.tests store.old) (trail_view S.tests trail.old) (Conflict id) }
     requires caught { IsCaught (G.asked guide.old) (trail_view S.tests trail.old) }
-    ensures turned { IfOk result (λ r. HasTurned (G.done guide.new (trail_view S.tests trail.new)) (space (G.late guide.old) (trail_view S.tests trail.old) + G.left guide.old) (G.asked guide.new) (G.left guide.new) (G.late guide.new) (entries_view S.tests store.new) (trail_view S.tests trail.new) r) }
+    requires seen { IsSeen (G.seen guide.old) (G.asked guide.old) (trail_view S.tests trail.old) }
+    ensures turned { IfOk result (λ r. HasTurned (G.done guide.new (trail_view S.tests trail.new)) (space (G.late guide.old) (trail_view S.tests trail.old) + G.left guide.old) (G.asked guide.new) (G.left guide.new) (G.late guide.new) (G.seen guide.new) (entries_view S.tests store.new) (trail_view S.tests trail.new) r) }
     ensures counted { IfOk result (λ r. CountsOn (entries_view S.tests store.old) steps.old (entries_view S.tests store.new) steps.new) }
     ensures trail { IfOk result (λ r. IsTrail (entries_view S.tests store.new) (trail_view S.tests trail.new)) }
     ensures spaces { IfOk result (λ r. HasSpaces (G.spaces guide.new) (trail_view S.tests trail.new)) }
@@ -105,7 +106,8 @@ fn turn_on<S: States + Drop, G: Guide<S>>(
     requires spaces { HasSpaces (G.spaces guide.old) (trail_view S.tests trail.old) }
     requires searching { IsSearching (G.late guide.old) (entries_view S.tests store.old) (trail_view S.tests trail.old) Fixpoint }
     requires caught { IsCaught (G.asked guide.old) (trail_view S.tests trail.old) }
-    ensures turned { IfOk result (λ r. HasTurned (G.done guide.new (trail_view S.tests trail.new)) (space (G.late guide.old) (trail_view S.tests trail.old) + G.left guide.old) (G.asked guide.new) (G.left guide.new) (G.late guide.new) (entries_view S.tests store.new) (trail_view S.tests trail.new) r) }
+    requires seen { IsSeen (G.seen guide.old) (G.asked guide.old) (trail_view S.tests trail.old) }
+    ensures turned { IfOk result (λ r. HasTurned (G.done guide.new (trail_view S.tests trail.new)) (space (G.late guide.old) (trail_view S.tests trail.old) + G.left guide.old) (G.asked guide.new) (G.left guide.new) (G.late guide.new) (G.seen guide.new) (entries_view S.tests store.new) (trail_view S.tests trail.new) r) }
     // The combinations stay.
     ensures counted { IfOk result (λ r. (steps : ℕ) → CountsOn (entries_view S.tests store.old) steps (entries_view S.tests store.new) steps) }
     ensures trail { IfOk result (λ r. IsTrail (entries_view S.tests store.new) (trail_view S.tests trail.new)) }
@@ -139,7 +141,8 @@ fn one_turn<S: States + Drop, G: Guide<S>>(
     requires spaces { HasSpaces (G.spaces guide.old) (trail_view S.tests trail.old) }
     requires searching { IsSearching (G.late guide.old) (entries_view S.tests store.old) (trail_view S.tests trail.old) progress }
     requires caught { IsCaught (G.asked guide.old) (trail_view S.tests trail.old) }
-    ensures turned { IfOk result (λ r. HasTurned (G.done guide.new (trail_view S.tests trail.new)) (space (G.late guide.old) (trail_view S.tests trail.old) + G.left guide.old) (G.asked guide.new) (G.left guide.new) (G.late guide.new) (entries_view S.tests store.new) (trail_view S.tests trail.new) r) }
+    requires seen { IsSeen (G.seen guide.old) (G.asked guide.old) (trail_view S.tests trail.old) }
+    ensures turned { IfOk result (λ r. HasTurned (G.done guide.new (trail_view S.tests trail.new)) (space (G.late guide.old) (trail_view S.tests trail.old) + G.left guide.old) (G.asked guide.new) (G.left guide.new) (G.late guide.new) (G.seen guide.new) (entries_view S.tests store.new) (trail_view S.tests trail.new) r) }
     ensures counted { IfOk result (λ r. CountsOn (entries_view S.tests store.old) steps.old (entries_view S.tests store.new) steps.new) }
     ensures trail { IfOk result (λ r. IsTrail (entries_view S.tests store.new) (trail_view S.tests trail.new)) }
     ensures spaces { IfOk result (λ r. HasSpaces (G.spaces guide.new) (trail_view S.tests trail.new)) }
@@ -167,6 +170,7 @@ pub fn search<S: States + Drop, G: Guide<S>>(
     requires spaces { HasSpaces (G.spaces guide.old) (trail_view S.tests trail.old) }
     requires trail { IsTrail (entries_view S.tests store.old) (trail_view S.tests trail.old) }
     requires steps { (trail_view S.tests trail.old).steps ≡ [] }
+    requires seen { IsSeen (G.seen guide.old) (G.asked guide.old) (trail_view S.tests trail.old) }
     ensures ended { IfOk result (λ f. HasEnded (G.done guide.new (trail_view S.tests trail.new)) (G.asked guide.new) (entries_view S.tests store.new) (trail_view S.tests trail.new) f.answer) }
     ensures counted { IfOk result (λ f. IsCount (entries_view S.tests store.old) (entries_view S.tests store.new) (trail_view S.tests trail.new) f.steps) }
     ensures trail { IfOk result (λ r. IsTrail (entries_view S.tests store.new) (trail_view S.tests trail.new)) }

@@ -19,12 +19,14 @@ turns-preserved g c =
     let new = trail_view tests c.one_turn.new.trail in
     let late = g.G.Guide.late c.turns.guide in
     let later = g.G.Guide.late c.one_turn.new.guide in
-    let gone : HasGone (space late old + left) more fewer later es new c.in-Goes.next = subst (HasTurned (g.G.Guide.done c.one_turn.new.guide new) (space late old + left) more fewer later es new) c.in-Goes.is c.in_ok-next.ensures.turned in
+    let seen = g.G.Guide.seen c.one_turn.new.guide in
+    let gone : HasGone (space late old + left) more fewer later seen es new c.in-Goes.next = subst (HasTurned (g.G.Guide.done c.one_turn.new.guide new) (space late old + left) more fewer later seen es new) c.in-Goes.is c.in_ok-next.ensures.turned in
     let was = c.turns.invariant in
     let turn = c.in_ok-next.ensures in
     record {
-      searching = gone.searching;
-      caught = gone.caught;
+      searching = gone.fallen.searching;
+      caught = gone.fallen.caught;
+      seen = gone.seen_is;
       spaces = turn.spaces;
       keeps = g.G.Guide.keeps_on _ _ _ was.keeps turn.keeps;
       given = λ given. turn.given (was.given given);

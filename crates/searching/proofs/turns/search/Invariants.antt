@@ -2,7 +2,7 @@ use Rattle.std.proofs.Common.{◌+◌, ◌≤◌}
 use Rattle.incompatibilities.specs.Stores.{entries_view}
 use Rattle.propagation.specs.Trails.{trail_view}
 use Rattle.searching.specs.Counting.{combinations}
-use Rattle.searching.specs.Searching.{HasSpaces, IsCaught, IsSearching, space}
+use Rattle.searching.specs.Searching.{HasSpaces, IsCaught, IsSearching, IsSeen, space}
 use Rattle.searching.specs.Walking.{AreGiven, KeepsWalks}
 use Rattle.searching.proofs.turns.search.Given as goal
 
@@ -10,6 +10,7 @@ abbrev pub invariant-turns : goal.invariant-turns
 invariant-turns g l = let tests = g.S.States.tests in record {
   searching : IsSearching (g.G.Guide.late l.guide) (entries_view tests l.store) (trail_view tests l.trail) l.progress;
   caught : IsCaught (g.G.Guide.asked l.guide) (trail_view tests l.trail);
+  seen : IsSeen (g.G.Guide.seen l.guide) (g.G.Guide.asked l.guide) (trail_view tests l.trail);
   spaces : HasSpaces (g.G.Guide.spaces l.guide) (trail_view tests l.trail);
   counted : combinations (entries_view tests l.store) ≤ combinations (entries_view tests l.fn.store) + l.steps;
   keeps : g.G.Guide.keeps l.fn.guide l.guide;

@@ -6,6 +6,7 @@ use Rattle.conflicts.specs.declared.resolving.Outcome.TheVariants.{Learned}
 use Rattle.searching.specs.Searching.{space}
 use Rattle.searching.proofs.Counts.{counts_gained}
 use Rattle.searching.proofs.Falls.{turn_jump, turn_noted}
+use Rattle.searching.proofs.Seen.{seen_cut, seen_longer}
 use Rattle.searching.proofs.Walks.{given_more, no_conflict, spaces_same}
 use Rattle.searching.proofs.turns.turn_back.Goals as goal
 
@@ -21,10 +22,15 @@ returns-in_ok-propagate-in-Learned-clause-turned g c =
     let learned : Resolved old es mid (Learned c.in-Learned.learned c.in-Learned.back_to) = subst (Resolved old es mid) c.in-Learned.is c.in_ok-outcome.ensures.resolved in
     let more = c.in_ok-propagate-in-Learned.ensures.propagated in
     let next = c.in_ok-propagate-in-Learned.field-0 in
-    turn_noted (space (g.G.Guide.late was) old + g.G.Guide.left was) (g.G.Guide.left was) (g.G.Guide.left now) (g.G.Guide.late was) (g.G.Guide.late now) (g.G.Guide.asked was) (g.G.Guide.asked now) es new next
-    c.in_ok-noted-in-Learned.ensures.asked c.in_ok-noted-in-Learned.ensures.left c.in_ok-noted-in-Learned.ensures.late
-    (turn_jump (g.G.Guide.asked was) (g.G.Guide.left was) (g.G.Guide.late was) es old mid new c.in-Learned.learned c.in-Learned.back_to learned c.in_ok-outcome.ensures.gained.1.quiet next more.0 more.1
-    c.requires.searching.falling c.requires.caught c.in_ok-propagate-in-Learned.ensures.trail)
+    let grows = c.in_ok-noted-in-Learned.ensures.asked in
+    record {
+      fallen = turn_noted (space (g.G.Guide.late was) old + g.G.Guide.left was) (g.G.Guide.left was) (g.G.Guide.left now) (g.G.Guide.late was) (g.G.Guide.late now) (g.G.Guide.asked was) (g.G.Guide.asked now) es new next
+          grows c.in_ok-noted-in-Learned.ensures.left c.in_ok-noted-in-Learned.ensures.late
+          (turn_jump (g.G.Guide.asked was) (g.G.Guide.left was) (g.G.Guide.late was) es old mid new c.in-Learned.learned c.in-Learned.back_to learned c.in_ok-outcome.ensures.gained.1.quiet next more.0 more.1
+          c.requires.searching.falling c.requires.caught c.in_ok-propagate-in-Learned.ensures.trail);
+      seen_is = seen_longer (g.G.Guide.seen now) (g.G.Guide.asked now) mid new more.0 more.1.steps more.1.back
+          (seen_cut (g.G.Guide.seen was) (g.G.Guide.seen now) c.in-Learned.back_to (g.G.Guide.asked was) (g.G.Guide.asked now) old mid learned.gone c.requires.searching.trail.sound learned.cut c.in_ok-noted-in-Learned.ensures.seen c.in_ok-noted-in-Learned.ensures.within grows c.requires.seen);
+    }
 
 pub returns-in_ok-propagate-in-Learned-clause-walks : goal.returns-in_ok-propagate-in-Learned-clause-walks
 returns-in_ok-propagate-in-Learned-clause-walks g c x is = (c.in_ok-noted-in-Learned.ensures.walks x is, λ walked. absurd (no_conflict x (entries_view g.S.States.tests c.args.store.now) (trail_view g.S.States.tests c.args.trail.now) c.args.id c.requires.searching.stops walked))

@@ -1,9 +1,10 @@
-use Rattle.std.proofs.Common.{IfSome, ℕ, ◌≡◌, ◌+◌, Some, None, true, false, refl, subst}
+use Rattle.std.proofs.Common.{IfSome, ℕ, ◌≡◌, ◌+◌, Some, None, true, false, refl, subst, ◌∷◌, []}
 use Rattle.incompatibilities.specs.Stores.{entries_view}
 use Rattle.propagation.specs.Trails.{trail_view}
-use Rattle.searching.specs.Turning.{HasGone, IsAdding, IsChosen}
+use Rattle.searching.specs.Turning.{HasFallen, IsAdding, IsChosen}
 use Rattle.searching.proofs.Counts.{counts_axioms}
 use Rattle.searching.proofs.Falls.{adding_trail, turn_axioms, turn_decide, wide_caught, wide_falling, wide_quiet, wide_searching, wide_space}
+use Rattle.searching.proofs.Seen.{seen_longer}
 use Rattle.searching.proofs.Walks.{decide_agrees, spaces_same, spread_agrees}
 use Rattle.propagation.specs.Satisfaction.{Agrees}
 use Rattle.incompatibilities.specs.Incompatibilities.{Assignment}
@@ -32,12 +33,15 @@ returns-then-branch-clause-turned g c =
     let trail = c.requires.searching.trail in
     let caught = c.requires.caught in
     let p = c.in_ok-propagate.ensures.propagated in
-    subst (λ n. HasGone (n + left) more fewer later es new c.in_ok-propagate.field-0) (wide_space asked more left fewer late later old wide old_es es true trail caught adding)
-    (turn_axioms more left fewer later es wide new c.in_ok-propagate.field-0 p.0
-    (wide_falling asked more left fewer late later old wide old_es es true trail caught adding c.requires.searching.falling)
-    (wide_quiet asked more left fewer late later old wide old_es es true trail caught adding c.requires.searching.quiet)
-    (wide_caught asked more left fewer late later old wide old_es es true trail caught adding)
-    (adding.goes refl) p.1 c.in_ok-propagate.ensures.trail)
+    record {
+      fallen = subst (λ n. HasFallen (n + left) more fewer later es new c.in_ok-propagate.field-0) (wide_space asked more left fewer late later old wide old_es es true trail caught adding)
+          (turn_axioms more left fewer later es wide new c.in_ok-propagate.field-0 p.0
+          (wide_falling asked more left fewer late later old wide old_es es true trail caught adding c.requires.searching.falling)
+          (wide_quiet asked more left fewer late later old wide old_es es true trail caught adding c.requires.searching.quiet)
+          (wide_caught asked more left fewer late later old wide old_es es true trail caught adding)
+          (adding.goes refl) p.1 c.in_ok-propagate.ensures.trail);
+      seen_is = seen_longer (g.G.Guide.seen c.axioms.new.self) more wide new p.0 p.1.steps p.1.back c.in_ok-axioms.ensures.seen;
+    }
 
 pub decide-requires-clause-sound : goal.decide-requires-clause-sound
 decide-requires-clause-sound g c =
@@ -71,11 +75,15 @@ returns-in_ok-propagate-in-Some-clause-turned g c =
     let caught = c.requires.caught in
     let d = c.in_ok-decide-in-Some.ensures.decided in
     let p = c.in_ok-propagate-in-Some.ensures.propagated in
-    subst (λ n. HasGone (n + left) more fewer later es new c.in_ok-propagate-in-Some.field-0) (wide_space asked more left fewer late later old wide old_es es false trail caught adding)
-    (turn_decide more left fewer later es wide mid new c.in-Some.vertex c.in-Some.state d.0 c.in_ok-propagate-in-Some.field-0 p.0
-    (wide_searching asked more left fewer late later old wide old_es es false trail caught adding refl c.requires.searching)
-    (wide_caught asked more left fewer late later old wide old_es es false trail caught adding)
-    stays.2 stays.1 d.1 p.1 c.in_ok-propagate-in-Some.ensures.trail)
+    record {
+      fallen = subst (λ n. HasFallen (n + left) more fewer later es new c.in_ok-propagate-in-Some.field-0) (wide_space asked more left fewer late later old wide old_es es false trail caught adding)
+          (turn_decide more left fewer later es wide mid new c.in-Some.vertex c.in-Some.state d.0 c.in_ok-propagate-in-Some.field-0 p.0
+          (wide_searching asked more left fewer late later old wide old_es es false trail caught adding refl c.requires.searching)
+          (wide_caught asked more left fewer late later old wide old_es es false trail caught adding)
+          stays.2 stays.1 d.1 p.1 c.in_ok-propagate-in-Some.ensures.trail);
+      seen_is = seen_longer (g.G.Guide.seen c.axioms.new.self) more mid new p.0 p.1.steps p.1.back
+          (seen_longer (g.G.Guide.seen c.axioms.new.self) more wide mid (d.0 ∷ []) d.1.steps d.1.back c.in_ok-axioms.ensures.seen);
+    }
 
 pub returns-in-None-clause-turned : goal.returns-in-None-clause-turned
 returns-in-None-clause-turned g c =
