@@ -2,7 +2,8 @@
 use Rattle.std.specs.Int.{bit_at, bit_not, w64}
 use Rattle.std.specs.Int.RustNames.{count_ones}
 use Rattle.std.specs.List.{list_all}
-use Rattle.std.specs.Prelude.{◌≡◌, ℕ, ◌+◌, ◌-◌, ◌/◌, ◌%◌, ◌^◌, ◌<◌, ◌≤◌, ◌==◌, Bool, false, bit_and, List, [], ◌∷◌, length, slice_index}
+use Rattle.std.specs.Prelude.{◌*◌, ◌≡◌, ℕ, ◌+◌, ◌-◌, ◌/◌, ◌%◌, ◌^◌, ◌<◌, ◌≤◌, ◌==◌, Bool, false, bit_and, List, [], ◌∷◌, length, slice_index}
+use Rattle.version_sets.specs.Sets.{Members, has}
 
 -- whether a number's bit is set
 abbrev pub has_bit : List ℕ → ℕ → Bool
@@ -25,3 +26,9 @@ all_zero ws = list_all (λ w. w == 0) ws
 abbrev pub ones_in : List ℕ → ℕ
 ones_in [] = 0
 ones_in (w ∷ ws) = count_ones w + ones_in ws
+
+-- words past the first have the bits of some tests
+pub record AreWordsOf (tests : Members) (n : ℕ) (ws : List ℕ) : Type 0 where
+  pub long : length ws ≡ n
+  pub fits : (k : ℕ) → slice_index ws k < 2 ^ 64
+  pub bits : (k j : ℕ) → k < length ws → j < 64 → (bit_at (slice_index ws k) j == 1) ≡ has tests (64 * (k + 1) + j)
