@@ -1,0 +1,138 @@
+-- Two vertices are equal exactly where they stand for one.
+use Rattle.std.proofs.Common.{◌≡◌, ℕ, zero, suc, ◌+◌, not, length, List, [], ◌∷◌, ◌++◌, map, Bool, true, false, cond, ◌&&◌, ◌||◌, nat_eq, nat_lt, Some, None, slice_get, refl, sym, ap, ap₂, ◌∙◌, arith}
+use Rattle.std.specs.Prelude.{option_map, position}
+use Rattle.std.specs.List.{list_any, position_or_len}
+use Rattle.indexmap.specs.IndexSet.{insert_key}
+use Rattle.std.proofs.lemmas.Option.{none-some, same_Some}
+use Rattle.model.proofs.Same.{vertex-same}
+use Rattle.encoding.specs.Numberings.{number_in, with_vertex}
+use Rattle.std.specs.Cmp.Lexicographic.{pointwise}
+use Rattle.semver.specs.declared.Version.{Version}
+use Rattle.semver.specs.Identifiers.{parts_of, pre_text, build_text}
+use Rattle.model.specs.Content.{same_version}
+use Rattle.model.specs.Summary.{same_text}
+use Rattle.encoding.specs.declared.vertex.ClassKey.{ClassKey}
+use Rattle.encoding.specs.declared.vertex.ClassKey.TheVariants as class
+use Rattle.encoding.specs.declared.vertex.OwnerRef.{OwnerRef}
+use Rattle.encoding.specs.declared.vertex.OwnerRef.TheVariants as owner
+use Rattle.encoding.specs.declared.vertex.VertexRef.{VertexRef}
+use Rattle.encoding.specs.declared.vertex.VertexRef.TheVariants as vertex
+use Rattle.encoding.specs.contracts.vertex.ClassKeyPartialEq.TheImpl as class_eq
+use Rattle.encoding.specs.contracts.vertex.OwnerRefPartialEq.TheImpl as owner_eq
+use Rattle.encoding.specs.contracts.vertex.VertexRefPartialEq.TheImpl as vertex_eq
+use Rattle.model.specs.Vertices.{same_class, same_owner, same_vertex}
+use Rattle.encoding.specs.RefViews.{class_view, owner_ref_view, vertex_ref_view}
+
+three : (a b c : Bool) → (a && (b && c)) ≡ ((a && b) && c)
+three true b c = refl
+three false b c = refl
+
+four : (a b c d : Bool) → (a && (b && (c && d))) ≡ (((a && b) && c) && d)
+four true true c d = refl
+four true false c d = refl
+four false b c d = refl
+
+five : (a b c d e : Bool) → (a && (b && (c && (d && e)))) ≡ ((((a && b) && c) && d) && e)
+five true true true d e = refl
+five true true false d e = refl
+five true false c d e = refl
+five false b c d e = refl
+
+version_same : (v w : Version) → (nat_eq v.major w.major && (nat_eq v.minor w.minor && (nat_eq v.patch w.patch
+    && (pointwise nat_eq (pre_text v.pre) (pre_text w.pre) && pointwise nat_eq (build_text v.build) (build_text w.build))))) ≡ same_version (parts_of v) (parts_of w)
+version_same v w = five (nat_eq v.major w.major) (nat_eq v.minor w.minor) (nat_eq v.patch w.patch) (pointwise nat_eq (pre_text v.pre) (pre_text w.pre)) (pointwise nat_eq (build_text v.build) (build_text w.build))
+
+class_same : (a b : ClassKey) → (class_eq.eq-value).it a b ≡ same_class (class_view a) (class_view b)
+class_same (class.Patch n) (class.Patch m) = refl
+class_same (class.Patch n) (class.Minor m) = refl
+class_same (class.Patch n) (class.Major m) = refl
+class_same (class.Minor n) (class.Patch m) = refl
+class_same (class.Minor n) (class.Minor m) = refl
+class_same (class.Minor n) (class.Major m) = refl
+class_same (class.Major n) (class.Patch m) = refl
+class_same (class.Major n) (class.Minor m) = refl
+class_same (class.Major n) (class.Major m) = refl
+
+owner_same : (o p : OwnerRef) → (owner_eq.eq-value).it o p ≡ same_owner (owner_ref_view o) (owner_ref_view p)
+owner_same owner.Root owner.Root = refl
+owner_same owner.Root (owner.Version n v) = refl
+owner_same (owner.Version n v) owner.Root = refl
+owner_same (owner.Version n v) (owner.Version m w) = ap (λ b. same_text n.now m.now && b) (version_same v.now w.now)
+
+pub vertex_same : (v w : VertexRef) → (vertex_eq.eq-value).it v w ≡ same_vertex (vertex_ref_view v) (vertex_ref_view w)
+vertex_same vertex.Root vertex.Root = refl
+vertex_same vertex.Root (vertex.Package m e) = refl
+vertex_same vertex.Root (vertex.Dependency p j) = refl
+vertex_same vertex.Root (vertex.Feature m e g) = refl
+vertex_same vertex.Root (vertex.Ask m w j g) = refl
+vertex_same (vertex.Package n c) vertex.Root = refl
+vertex_same (vertex.Package n c) (vertex.Package m e) = ap (λ b. same_text n.now m.now && b) (class_same c e)
+vertex_same (vertex.Package n c) (vertex.Dependency p j) = refl
+vertex_same (vertex.Package n c) (vertex.Feature m e g) = refl
+vertex_same (vertex.Package n c) (vertex.Ask m w j g) = refl
+vertex_same (vertex.Dependency o i) vertex.Root = refl
+vertex_same (vertex.Dependency o i) (vertex.Package m e) = refl
+vertex_same (vertex.Dependency o i) (vertex.Dependency p j) = ap (λ b. b && nat_eq i j) (owner_same o p)
+vertex_same (vertex.Dependency o i) (vertex.Feature m e g) = refl
+vertex_same (vertex.Dependency o i) (vertex.Ask m w j g) = refl
+vertex_same (vertex.Feature n c f) vertex.Root = refl
+vertex_same (vertex.Feature n c f) (vertex.Package m e) = refl
+vertex_same (vertex.Feature n c f) (vertex.Dependency p j) = refl
+vertex_same (vertex.Feature n c f) (vertex.Feature m e g) = ap (λ b. same_text n.now m.now && (b && same_text f.now g.now)) (class_same c e) ∙ three (same_text n.now m.now) (same_class (class_view c) (class_view e)) (same_text f.now g.now)
+vertex_same (vertex.Feature n c f) (vertex.Ask m w j g) = refl
+vertex_same (vertex.Ask n v i f) vertex.Root = refl
+vertex_same (vertex.Ask n v i f) (vertex.Package m e) = refl
+vertex_same (vertex.Ask n v i f) (vertex.Dependency p j) = refl
+vertex_same (vertex.Ask n v i f) (vertex.Feature m e g) = refl
+vertex_same (vertex.Ask n v i f) (vertex.Ask m w j g) = ap (λ b. same_text n.now m.now && (b && (nat_eq i j && same_text f.now g.now))) (version_same v.now w.now) ∙ four (same_text n.now m.now) (same_version (parts_of v.now) (parts_of w.now)) (nat_eq i j) (same_text f.now g.now)
+
+-- ---- vertices that a table keeps, and what they stand for
+
+moved : (b : Bool) (n : ℕ) → cond b (Some (1 + n)) None ≡ option_map suc (cond b (Some n) None)
+moved true n = ap Some (omega arith)
+moved false n = refl
+
+some : (n : ℕ) → nat_lt 0 (suc n) ≡ true
+some n = grind arith
+
+less : (a b : ℕ) → nat_lt (1 + a) (suc b) ≡ nat_lt a b
+less a b = grind arith
+
+position_cons : {X : Type 0} (p : X → Bool) (x : X) (xs : List X) → position p (x ∷ xs) ≡ cond (p x) (Some 0) (option_map suc (position p xs))
+position_cons p x xs = by (p x) refl
+  where
+    by : (b : Bool) → p x ≡ b → position p (x ∷ xs) ≡ cond b (Some 0) (option_map suc (position p xs))
+    by true e = ap (λ t. cond (nat_lt (cond (not t) (1 + position_or_len p xs) 0) (suc (length xs))) (Some (cond (not t) (1 + position_or_len p xs) 0)) None) e
+        ∙ ap (λ t. cond t (Some 0) None) (some (length xs))
+    by false e = ap (λ t. cond (nat_lt (cond (not t) (1 + position_or_len p xs) 0) (suc (length xs))) (Some (cond (not t) (1 + position_or_len p xs) 0)) None) e
+        ∙ ap (λ t. cond t (Some (1 + position_or_len p xs)) None) (less (position_or_len p xs) (length xs)) ∙ moved (nat_lt (position_or_len p xs) (length xs)) (position_or_len p xs)
+
+-- the place of a vertex is the number of what it stands for
+pub number_kept : (v : VertexRef) (ks : List VertexRef) → position ((vertex_eq.eq-value).it v) ks ≡ number_in (map vertex_ref_view ks) (vertex_ref_view v)
+number_kept v [] = refl
+number_kept v (k ∷ ks) = position_cons ((vertex_eq.eq-value).it v) k ks ∙ ap₂ (λ b o. cond b (Some 0) (option_map suc o)) (vertex_same v k) (number_kept v ks)
+
+any_kept : (v : VertexRef) (ks : List VertexRef) → list_any ((vertex_eq.eq-value).it v) ks ≡ list_any (same_vertex (vertex_ref_view v)) (map vertex_ref_view ks)
+any_kept v [] = refl
+any_kept v (k ∷ ks) = ap₂ (λ a b. a || b) (vertex_same v k) (any_kept v ks)
+
+view_last : (ks : List VertexRef) (v : VertexRef) → map vertex_ref_view (ks ++ v ∷ []) ≡ map vertex_ref_view ks ++ vertex_ref_view v ∷ []
+view_last [] v = refl
+view_last (k ∷ ks) v = ap (λ l. vertex_ref_view k ∷ l) (view_last ks v)
+
+-- what is kept once one more is put
+pub put_kept : (v : VertexRef) (ks : List VertexRef) → map vertex_ref_view (insert_key (vertex_eq.eq-value).it ks v) ≡ with_vertex (map vertex_ref_view ks) (vertex_ref_view v)
+put_kept v ks = step (list_any ((vertex_eq.eq-value).it v) ks) ∙ ap (λ b. cond b (map vertex_ref_view ks) (map vertex_ref_view ks ++ vertex_ref_view v ∷ [])) (any_kept v ks)
+  where
+    step : (b : Bool) → map vertex_ref_view (cond b ks (ks ++ v ∷ [])) ≡ cond b (map vertex_ref_view ks) (map vertex_ref_view ks ++ vertex_ref_view v ∷ [])
+    step true = refl
+    step false = view_last ks v
+
+-- the vertex at a place
+pub kept_at : (ks : List VertexRef) (n : ℕ) (k : VertexRef) → slice_get ks n ≡ Some k → slice_get (map vertex_ref_view ks) n ≡ Some (vertex_ref_view k)
+kept_at [] n k e = absurd (none-some k e)
+kept_at (x ∷ ks) zero k e = ap Some (ap vertex_ref_view (same_Some x k e))
+kept_at (x ∷ ks) (suc n) k e = kept_at ks n k e
+
+pub kept_same : (v : VertexRef) (ks : List VertexRef) (n : ℕ) (k : VertexRef) → slice_get ks n ≡ Some k → (vertex_eq.eq-value).it v k ≡ true → slice_get (map vertex_ref_view ks) n ≡ Some (vertex_ref_view v)
+kept_same v ks n k e s = kept_at ks n k e ∙ ap Some (sym (vertex-same (vertex_ref_view v) (vertex_ref_view k) (sym (vertex_same v k) ∙ s)))
