@@ -52,8 +52,8 @@ impl<S: States + Drop> Trial<S> {
         Ok(())
     }
 
-    /// Puts an entry into the store: not each of these vertices has one of the states whose bits are set. Whether it did:
-    /// the vertices have to rise and to be there.
+    /// Puts an entry into the store: not each of these vertices has one of the states whose bits are set. Whether it
+    /// did: the vertices have to rise and to be there.
     pub fn forbid(&mut self, said: &[(usize, u64)]) -> Result<bool, AllocError> {
         match terms_of(self.alloc, &self.trail, self.vertices, said)? {
             Some(terms) => {
