@@ -108,7 +108,7 @@ fn push_rest<S: States + Drop>(
     Ok(())
 }
 
-/// One merge of two rising lists of terms.
+/// One merge of two rising lists of terms, with no room past its end.
 fn merge<S: States + Drop>(
     alloc: Global,
     at: usize,
@@ -124,6 +124,7 @@ fn merge<S: States + Drop>(
         rest = push_up_to(alloc, &mut made, at, term, rest)?;
     }
     push_rest(alloc, &mut made, at, rest)?;
+    made.shrink_to_fit();
     Ok(made)
 }
 

@@ -37,11 +37,12 @@ pub(crate) fn is_full<S: States>(set: &S) -> bool
     set.count() == set.universe()
 }
 
-/// Drops the full terms.
+/// Drops the full terms, and the room past those that are left: searches keep many incompatibilities.
 fn drop_full<S: States + Drop>(terms: &mut Vec<Term<S>>)
     ensures { terms.new.items ≡ filter (λ t. not (is_full (S.tests t.states))) terms.old.items }
 {
     terms.retain(|term| !is_full(&term.states));
+    terms.shrink_to_fit();
 }
 
 /// Puts terms in rising order of their vertices.

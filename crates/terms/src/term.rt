@@ -4,7 +4,8 @@ ghost use Rattle.std.specs.Prelude.{◌≡◌, length, IfOk};
 ghost use Rattle.terms.specs.Terms.{negated, relation_of, term_view};
 
 use std::alloc::{AllocError, Global};
-use version_sets::States;
+use std::mem::size_of;
+use version_sets::{States, WordStates};
 
 /// A vertex, and some of its states: the statement that the vertex has one of them.
 #[derive(Drop)]
@@ -14,6 +15,8 @@ pub struct Term<S> {
     /// The states.
     pub states: S,
 }
+
+const _: () = prove!(size_of::<Term<WordStates>>() == 24);
 
 /// How the states that are left to a vertex stand to a term on it (Dart pub's `solver.md`, "Term").
 #[derive(Clone, Copy, PartialEq, Eq, Debug)]

@@ -1,5 +1,5 @@
 -- What holds of a set by its words, and of two sets of one universe.
-use Rattle.std.proofs.Common.{◌≡◌, ℕ, ◌+◌, ◌-◌, ◌/◌, ◌^◌, ◌<◌, ◌≤◌, ◌↔◌, Bool, true, false, not, ◌&&◌, List, [], ◌∷◌, length, map, get_or, bit_and, bit_or, eqb, refl, ap, ap₂, sym, ◌∙◌, subst, arith, eq-eqb, Result}
+use Rattle.std.proofs.Common.{◌≡◌, ℕ, ◌+◌, ◌^◌, ◌<◌, ◌≤◌, ◌↔◌, Bool, true, false, not, ◌&&◌, List, [], ◌∷◌, length, map, bit_and, bit_or, eqb, refl, ap, ap₂, sym, ◌∙◌, subst, arith, eq-eqb, Result}
 use Rattle.std.proofs.lemmas.Bool.{eqb-true}
 use Rattle.std.proofs.lemmas.Result.{IfOk-weaker}
 use Rattle.std.specs.Int.{bit_not, w64}

@@ -1,4 +1,4 @@
-use Rattle.std.proofs.Common.{◌<◌, ◌^◌, ◌∙◌, ℕ, ◌∷◌, [], ap, sym, subst, map, get_or}
+use Rattle.std.proofs.Common.{◌<◌, ◌^◌, ◌∙◌, ℕ, ◌∷◌, [], ap, sym, subst, get_or}
 use Rattle.version_sets.specs.Listed.{set_where}
 use Rattle.version_sets.specs.Sets.{rest}
 use Rattle.version_sets.specs.Words.{has_bit}

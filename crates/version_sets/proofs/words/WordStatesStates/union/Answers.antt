@@ -1,5 +1,4 @@
-use Rattle.std.proofs.Common.{◌≡◌, ◌∷◌, ◌∙◌, [], ap, sym, subst, bit_or}
-use Rattle.std.specs.Simd.Lanes.{zip2}
+use Rattle.std.proofs.Common.{◌∷◌, ◌∙◌, [], ap, sym, subst}
 use Rattle.version_sets.specs.Listed.{set_where}
 use Rattle.version_sets.specs.Sets.{join}
 use Rattle.version_sets.specs.Words.{IsWords, has_bit}
