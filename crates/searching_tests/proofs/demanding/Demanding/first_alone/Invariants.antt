@@ -1,0 +1,11 @@
+use Rattle.std.proofs.Common.{◌<◌, ℕ, length}
+use Rattle.propagation.specs.Trails.{set_of, trail_view}
+use Rattle.searching.specs.Searching.{IsOnly}
+use Rattle.searching_tests.specs.Demands.{pair_at, pairs_view}
+use Rattle.searching_tests.proofs.demanding.Demanding.first_alone.Given as goal
+
+abbrev pub invariant-pairs : goal.invariant-pairs
+invariant-pairs g l =
+    let sets = (trail_view g.S.States.tests l.trail).sets in
+    let ps = pairs_view l.self.pending.items in
+    (k : ℕ) → k < l.place → (pair_at ps k).0 < length sets → ¬ IsOnly (set_of sets (pair_at ps k).0) (pair_at ps k).1

@@ -1,0 +1,27 @@
+use Rattle.std.proofs.Common.{List, length, ℕ, ap, arith, subst}
+use Rattle.incompatibilities.specs.Stores.{entries_view}
+use Rattle.propagation.specs.Promises.{IsNew}
+use Rattle.propagation.specs.Trails.{trail_view}
+use Rattle.searching.proofs.Seen.{seen_none}
+use Rattle.searching_tests.specs.Demands.{asked_of, pairs_view}
+use Rattle.searching_tests.proofs.Beginnings.{has_spaces}
+use Rattle.searching_tests.proofs.Demanded.{ones_asked}
+use Rattle.searching_tests.proofs.demanding.search_on_demand.Goals as goal
+
+pub search-requires-clause-seen : goal.search-requires-clause-seen
+search-requires-clause-seen g c =
+    let spaces = c.args.guide.spaces.items in
+    let ps = pairs_view c.args.guide.pending.items in
+    let t = trail_view g.S.States.tests c.in_ok-trail.trail in
+    let new : IsNew spaces t = subst (λ (xs : List ℕ). IsNew xs t) c.deref.ensures.value c.in_ok-trail.ensures.new in
+    seen_none (asked_of spaces ps) spaces t c.in_ok-trail.ensures.sound (has_spaces spaces t new) (ones_asked spaces ps)
+
+pub search-requires-clause-spaces : goal.search-requires-clause-spaces
+search-requires-clause-spaces g c =
+    let spaces = c.args.guide.spaces.items in
+    let t = trail_view g.S.States.tests c.in_ok-trail.trail in
+    has_spaces spaces t (subst (λ (xs : List ℕ). IsNew xs t) c.deref.ensures.value c.in_ok-trail.ensures.new)
+
+pub search-requires-clause-trail : goal.search-requires-clause-trail
+search-requires-clause-trail g c =
+    c.in_ok-trail.ensures.trail (entries_view g.S.States.tests c.new-store.result) (λ id lt. absurd (omega (arith, lt, ap length c.new-store.ensures)))
