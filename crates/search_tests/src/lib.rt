@@ -4,6 +4,10 @@
 #[cfg(test)]
 mod against_copies;
 #[cfg(test)]
+mod against_plain;
+#[cfg(test)]
+mod plain;
+#[cfg(test)]
 mod tests;
 #[cfg(test)]
 mod trails;

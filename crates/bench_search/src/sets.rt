@@ -1,11 +1,10 @@
-//! How long the calls on sets take: `bench_sets run`. Without a word it does nothing.
-#![tactic(auto)]
+//! How long the calls on sets take.
 
 ghost use Rattle.std.specs.Prelude.{◌≤◌};
 
 use std::alloc::Global;
+use std::io;
 use std::time::{Clock, Duration, Instant};
-use std::{env, io};
 use version_sets::{ListStates, States, WordStates};
 
 /// Sets of all numbers but one, so that no call can be left out as the one before it.
@@ -63,34 +62,32 @@ fn subsets<S: States + Drop>(alloc: Global, universe: u32, times: u32) -> io::Re
     Ok(total)
 }
 
-fn main(rt: HostRuntime) -> io::Result<()> {
-    if env::args(&rt)?.count() < 2 {
-        return Ok(());
-    }
+/// Times `intersect` and `subset` of both bodies, at 40 numbers and at 60,000.
+pub(crate) fn run(rt: &HostRuntime) -> io::Result<()> {
     let alloc = rt.alloc();
-    let start = Instant::now(&rt)?;
+    let start = Instant::now(rt)?;
     let a = intersections::<WordStates>(alloc, 40, 10_000_000)?;
-    println!(rt; "words 40 intersect 10M: {:?} {a}", start.elapsed(&rt)?)?;
-    let start = Instant::now(&rt)?;
+    println!(rt; "words 40 intersect 10M: {:?} {a}", start.elapsed(rt)?)?;
+    let start = Instant::now(rt)?;
     let a = subsets::<WordStates>(alloc, 40, 10_000_000)?;
-    println!(rt; "words 40 subset 10M: {:?} {a}", start.elapsed(&rt)?)?;
-    let start = Instant::now(&rt)?;
+    println!(rt; "words 40 subset 10M: {:?} {a}", start.elapsed(rt)?)?;
+    let start = Instant::now(rt)?;
     let a = intersections::<WordStates>(alloc, 60_000, 100_000)?;
-    println!(rt; "words 60000 intersect 100k: {:?} {a}", start.elapsed(&rt)?)?;
-    let start = Instant::now(&rt)?;
+    println!(rt; "words 60000 intersect 100k: {:?} {a}", start.elapsed(rt)?)?;
+    let start = Instant::now(rt)?;
     let a = subsets::<WordStates>(alloc, 60_000, 100_000)?;
-    println!(rt; "words 60000 subset 100k: {:?} {a}", start.elapsed(&rt)?)?;
-    let start = Instant::now(&rt)?;
+    println!(rt; "words 60000 subset 100k: {:?} {a}", start.elapsed(rt)?)?;
+    let start = Instant::now(rt)?;
     let a = intersections::<ListStates>(alloc, 40, 10_000_000)?;
-    println!(rt; "lists 40 intersect 10M: {:?} {a}", start.elapsed(&rt)?)?;
-    let start = Instant::now(&rt)?;
+    println!(rt; "lists 40 intersect 10M: {:?} {a}", start.elapsed(rt)?)?;
+    let start = Instant::now(rt)?;
     let a = subsets::<ListStates>(alloc, 40, 10_000_000)?;
-    println!(rt; "lists 40 subset 10M: {:?} {a}", start.elapsed(&rt)?)?;
-    let start = Instant::now(&rt)?;
+    println!(rt; "lists 40 subset 10M: {:?} {a}", start.elapsed(rt)?)?;
+    let start = Instant::now(rt)?;
     let a = intersections::<ListStates>(alloc, 60_000, 1_000)?;
-    println!(rt; "lists 60000 intersect 1k: {:?} {a}", start.elapsed(&rt)?)?;
-    let start = Instant::now(&rt)?;
+    println!(rt; "lists 60000 intersect 1k: {:?} {a}", start.elapsed(rt)?)?;
+    let start = Instant::now(rt)?;
     let a = subsets::<ListStates>(alloc, 60_000, 1_000)?;
-    println!(rt; "lists 60000 subset 1k: {:?} {a}", start.elapsed(&rt)?)?;
+    println!(rt; "lists 60000 subset 1k: {:?} {a}", start.elapsed(rt)?)?;
     Ok(())
 }
