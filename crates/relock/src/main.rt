@@ -1,25 +1,14 @@
 //! `relock`: verifies locks of Cargo manifests, gives valid ones, and checks why there is none.
 #![tactic(auto)]
 
-#[cfg(test)]
-mod failing;
-mod files;
-#[cfg(test)]
-mod playing;
-#[cfg(test)]
-mod refusals;
-mod run;
-mod stop;
-#[cfg(test)]
-mod tests;
-
+use commands::{run, without_arguments};
 use std::process::ExitCode;
 use std::{env, io};
 
 fn main(rt: HostRuntime) -> io::Result<ExitCode> {
     let status = match words(&rt) {
-        Ok(words) => run::run(&rt, words.as_slice(), &mut rt.stdout(), &mut rt.stderr()),
-        Err(error) => run::without_arguments(&error, &mut rt.stderr()),
+        Ok(words) => run(&rt, words.as_slice(), &mut rt.stdout(), &mut rt.stderr()),
+        Err(error) => without_arguments(&error, &mut rt.stderr()),
     };
     Ok(ExitCode::from(status))
 }
