@@ -6,3 +6,8 @@ pub mod Numbered
 pub mod Needs
 pub mod Absences
 pub mod Finals
+pub mod Inputs
+pub mod Ranges
+pub mod Parts
+pub mod CauseViews
+pub mod CausesAt

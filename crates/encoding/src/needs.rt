@@ -8,7 +8,8 @@ ghost use Rattle.refutations.specs.Causes.{of_need, terms_of_cause};
 ghost use Rattle.model.specs.Axioms.{Needed};
 ghost use Rattle.encoding.specs.Numberings.{IsGrown, IsNumbering, Numbering, Says};
 ghost use Rattle.encoding.specs.Pairs.{AreGiven, IsGivenAt};
-ghost use Rattle.encoding.specs.Needs.{AreSpaces, as_given, needs_below, problem};
+ghost use Rattle.encoding.specs.Needs.{AreSpaces, as_given, needs_below};
+ghost use Rattle.encoding.specs.Inputs.{problem};
 
 use crate::inputs::Inputs;
 use crate::making::made_of;

@@ -2,7 +2,8 @@ use Rattle.std.proofs.Common.{◌≡◌, suc, ◌+◌, length, arith, refl, subs
 use Rattle.model.specs.Axioms.{Needed}
 use Rattle.model.specs.Vertices as model
 use Rattle.encoding.specs.Pairs.{AreGiven}
-use Rattle.encoding.specs.Needs.{as_given, needs_below, problem}
+use Rattle.encoding.specs.Needs.{as_given, needs_below}
+use Rattle.encoding.specs.Inputs.{problem}
 use Rattle.encoding.proofs.Exact.{needs_exact}
 use Rattle.encoding.proofs.Needing.{grows_on, still_at}
 use Rattle.encoding.proofs.needs.root_needs.Goals as goal

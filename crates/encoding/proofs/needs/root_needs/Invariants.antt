@@ -3,7 +3,8 @@ use Rattle.model.specs.Axioms.{Needed}
 use Rattle.model.specs.Vertices as model
 use Rattle.encoding.specs.Numberings.{IsGrown, IsNumbering}
 use Rattle.encoding.specs.Pairs.{AreGiven}
-use Rattle.encoding.specs.Needs.{as_given, needs_below, problem}
+use Rattle.encoding.specs.Needs.{as_given, needs_below}
+use Rattle.encoding.specs.Inputs.{problem}
 use Rattle.encoding.proofs.needs.root_needs.Given as goal
 
 abbrev pub invariant-dependencies : goal.invariant-dependencies
