@@ -49,7 +49,7 @@ pub use inputs::Inputs;
 pub use instances::instance;
 pub use needs::root_needs;
 pub use pairing::causes_at;
-pub use states::state_at;
+pub use states::{space_of, spaces_are_small, state_at};
 pub use table::Table;
 pub use vertex::{ClassKey, OwnerRef, StateRef, VertexRef};
 
