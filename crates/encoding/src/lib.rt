@@ -47,7 +47,7 @@ pub use causes::{root_causes, version_causes};
 pub use inputs::Inputs;
 pub use instances::instance;
 pub use pairing::causes_at;
-pub use states::state_at;
+pub use states::{space_of, spaces_are_small, state_at};
 pub use table::Table;
 pub use vertex::{ClassKey, OwnerRef, StateRef, VertexRef};
 
