@@ -43,7 +43,6 @@ ghost use Rattle.encoding.specs.Assignments.{IsOf, IsSettled, state_of};
 
 pub use adding::axioms_at;
 pub use cause::{Cause, Enabling};
-pub use causes::{root_causes, version_causes};
 pub use inputs::Inputs;
 pub use instances::instance;
 pub use pairing::causes_at;
