@@ -1,5 +1,5 @@
 -- The instances of a pair, put one after another.
-use Rattle.std.proofs.Common.{◌≡◌, ◌≢◌, ℕ, zero, suc, ◌<◌, ◌≤◌, ◌+◌, get_or, take, List, [], ◌∷◌, ◌++◌, map, length, true, Contains, Option, Some, None, slice_get, refl, sym, ap, ◌∙◌, subst, arith}
+use Rattle.std.proofs.Common.{◌≡◌, ◌≢◌, ℕ, zero, suc, ◌<◌, ◌≤◌, ◌+◌, get_or, take, take_all, List, [], ◌∷◌, ◌++◌, map, length, true, Contains, Option, Some, None, slice_get, refl, sym, ap, ◌∙◌, subst, arith}
 use Rattle.std.specs.Prelude.{unwrap_or}
 use Rattle.std.specs.List.{AllByRecursion, AllPairs}
 use Rattle.std.proofs.lemmas.List.{map-append}
@@ -20,7 +20,6 @@ use Rattle.encoding.specs.Numberings.{Numbering, IsGrown, IsNumbering, Says}
 use Rattle.encoding.specs.Pairs.{Pair, AreCausesAt, AreGiven}
 use Rattle.encoding.specs.declared.cause.Cause as code
 use Rattle.encoding.proofs.Needing.{given_last, given_more}
-use Rattle.encoding.proofs.Putting.{take_all}
 
 pub given_put : {S : Type 0} (tests : S → Members) (q : Problem) (vs new : Numbering) (cs : List Cause) (c : Cause) (old is : List (Kind × List (Numbered.Term S))) (k : Kind) (i : List (Numbered.Term S))
     → IsNumbering q new → IsGrown vs new → is ≡ old ++ (k, i) ∷ [] → kind_view k ≡ kind_of c → Says q new (terms_view tests i) (terms_of_cause q c) → AreGiven q vs cs (given_views tests old)
@@ -39,7 +38,7 @@ causes_next all i x lt is =
     ap (λ n. cause_views (take n all)) e ∙ ap cause_views (take-suc all i x lt ∙ ap (λ y. take i all ++ y ∷ []) (sym is)) ∙ map-append cause_view (take i all) (x ∷ [])
 
 pub causes_whole : (all : List code.Cause) (i : ℕ) → length all ≤ i → cause_views (take i all) ≡ cause_views all
-causes_whole all i h = ap cause_views (take_all all i h)
+causes_whole all i h = ap cause_views (take_all i all h)
 
 pub cause_there : (P : Cause → Type 0) (all : List code.Cause) (i : ℕ) (x : code.Cause) → AllByRecursion P (cause_views all) → i < length all → x ≡ get_or all i x → P (cause_view x)
 cause_there P [] i x h lt is = absurd (omega (arith, lt))

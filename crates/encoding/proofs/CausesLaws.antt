@@ -386,20 +386,10 @@ module _ (q : Problem) where
 
   -- ---- each once
 
-  exact_at : (p : Pair) (cs xs : List Cause) → ((c : Cause) → Contains cs c → (is_cause q c ≡ true) × (first_pair c ≡ p)) → causes_at q p.0 p.1 ≡ cs → xs ≡ with_causes [] cs → AreCausesAt q p xs
-  exact_at p cs xs back are is = subst (AreCausesAt q p) (sym is) (record {
-    listed = λ c. (
-      λ i. back c ((same_ones cs c).0 i),
-      λ (t, e). (same_ones cs c).1 (subst (λ l. Contains l c) are (subst (λ (r : Pair). Contains (causes_at q r.0 r.1) c) e (is_listed q c t))),
-    );
-    once = all_once [] cs (pairs_none (λ a b. a ≢ b));
-  })
-
-  pub version_exact : (name : List ℕ) (v : Parts) (xs : List Cause) → xs ≡ with_causes [] (version_causes q name v) → AreCausesAt q (pkg name (class_of v), version v) xs
-  version_exact name v xs is = exact_at (pkg name (class_of v), version v) (version_causes q name v) xs (version_back name v) refl is
-
-  pub root_exact : (xs : List Cause) → xs ≡ with_causes [] (needs_of q the_root) → AreCausesAt q (root, present) xs
-  root_exact xs is = exact_at (root, present) (needs_of q the_root) xs (need_back the_root) refl is
-
   pub at_exact : (v : Vertex) (s : State) → IsVertex q v → Contains (space q v) s → (xs : List Cause) → xs ≡ with_causes [] (causes_at q v s) → AreCausesAt q (v, s) xs
-  at_exact v s is within xs e = exact_at (v, s) (causes_at q v s) xs (is_there v s is within) refl e
+  at_exact v s is within xs e =
+      let cs = causes_at q v s in
+      subst (AreCausesAt q (v, s)) (sym e) (record {
+        listed = λ c. (λ i. (listed_at v s is within c).0 ((same_ones cs c).0 i), λ h. (same_ones cs c).1 ((listed_at v s is within c).1 h));
+        once = all_once [] cs (pairs_none (λ a b. a ≢ b));
+      })

@@ -1,5 +1,5 @@
 -- Parts of an instance as terms over numbers.
-use Rattle.std.proofs.Common.{◌≡◌, ◌≢◌, ℕ, zero, suc, ◌<◌, ◌≤◌, ◌+◌, get_or, take, List, [], ◌∷◌, ◌++◌, map, filter, length, Bool, true, false, cond, Contains, Option, Some, None, slice_get, refl, sym, ap, ◌∙◌, subst, arith}
+use Rattle.std.proofs.Common.{◌≡◌, ◌≢◌, ℕ, zero, suc, ◌<◌, ◌≤◌, ◌+◌, get_or, take, take_all, List, [], ◌∷◌, ◌++◌, map, filter, length, Bool, true, false, cond, Contains, Option, Some, None, slice_get, refl, sym, ap, ◌∙◌, subst, arith}
 use Rattle.std.specs.List.{AllByRecursion, All}
 use Rattle.terms.specs.Terms.{TermView, term_view, terms_view}
 use Rattle.model.specs.Summary.{Dependency, same_text}
@@ -131,19 +131,13 @@ part_put tests vs new old is t p ps grown same of are =
     subst (λ ts. AreOfParts new ts (ps ++ p ∷ [])) (sym (ap (terms_view tests) same ∙ map-append (term_view tests) old (t ∷ [])))
     (parts_last new (terms_view tests old) ps (term_view tests t) p (parts_more vs new (terms_view tests old) ps grown are) of)
 
-take_all : {X : Type 0} (xs : List X) (n : ℕ) → length xs ≤ n → take n xs ≡ xs
-take_all [] zero h = refl
-take_all [] (suc n) h = refl
-take_all (x ∷ xs) zero h = absurd (omega (arith, h))
-take_all (x ∷ xs) (suc n) h = ap (λ l. x ∷ l) (take_all xs n (omega (arith, h)))
-
 pub parts_next : (all : List code.Part) (i : ℕ) (p : code.Part) → i < length all → p ≡ get_or all i p → part_views (take (i + 1) all) ≡ part_views (take i all) ++ part_view p ∷ []
 parts_next all i p lt is =
     let e : i + 1 ≡ suc i = omega arith in
     ap (λ n. part_views (take n all)) e ∙ ap part_views (take-suc all i p lt ∙ ap (λ x. take i all ++ x ∷ []) (sym is)) ∙ map-append part_view (take i all) (p ∷ [])
 
 pub parts_whole : (all : List code.Part) (i : ℕ) → length all ≤ i → part_views (take i all) ≡ part_views all
-parts_whole all i h = ap part_views (take_all all i h)
+parts_whole all i h = ap part_views (take_all i all h)
 
 pub fit_at : (P : Part → Type 0) (all : List code.Part) (i : ℕ) (p : code.Part) → AllByRecursion P (part_views all) → i < length all → p ≡ get_or all i p → P (part_view p)
 fit_at P [] i p h lt is = absurd (omega (arith, lt))

@@ -3,7 +3,6 @@ pub mod Pairs
 pub mod Assignments
 pub mod RefViews
 pub mod Numbered
-pub mod Needs
 pub mod Absences
 pub mod Finals
 pub mod Inputs

@@ -11,7 +11,6 @@ ghost use Rattle.model.specs.Summary as model;
 ghost use Rattle.model.specs.Summary.{same_text};
 ghost use Rattle.model.specs.Vertices as vertices;
 ghost use Rattle.model.specs.Vertices.{feat, same_class, same_vertex};
-ghost use Rattle.encoding.specs.Pairs.{AreCausesAt};
 ghost use Rattle.refutations.specs.Causes.{is_needed, of_asking, of_enabling, table_of_owner};
 ghost use Rattle.encoding.specs.CauseViews.{cause_views};
 ghost use Rattle.encoding.specs.CausesAt.{each_from, entry_causes, entry_if, feature_causes, need_if, turned_if, version_causes, weak_if, with_causes};
@@ -362,32 +361,4 @@ fn put_rows<'a>(
         )?;
     }
     Ok(())
-}
-
-/// The causes whose instances are added once a version is chosen, each once: what it needs, and what the entries of its
-/// features give.
-pub fn version_causes<'a>(
-    alloc: Global,
-    inputs: &Inputs<'a>,
-    name: &'a PackageName,
-    version: &'a Version,
-) -> Result<IndexSet<Cause<'a>>, AllocError>
-    ensures { IfOk result (λ s. AreCausesAt (problem inputs.now) (vertices.pkg name.entry.now (class_of (parts_of version.entry.now)), vertices.version (parts_of version.entry.now)) (cause_views s.keys)) }
-{
-    let mut causes = Vec::new(alloc);
-    put_version(alloc, inputs, &mut causes, name, version)?;
-    each_once(alloc, causes.as_slice())
-}
-
-/// The causes whose instances are added once the root is present, each once: its dependencies.
-pub fn root_causes<'a>(
-    alloc: Global,
-    inputs: &Inputs<'a>,
-) -> Result<IndexSet<Cause<'a>>, AllocError>
-    ensures { IfOk result (λ s. AreCausesAt (problem inputs.now) (vertices.root, vertices.present) (cause_views s.keys)) }
-{
-    let mut causes = Vec::new(alloc);
-    let dependencies = dependencies_of(inputs, &OwnerRef::Root);
-    put_needs(&mut causes, OwnerRef::Root, dependencies)?;
-    each_once(alloc, causes.as_slice())
 }

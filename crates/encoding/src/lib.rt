@@ -9,7 +9,6 @@ mod instances;
 mod leading;
 mod lookups;
 mod making;
-mod needs;
 mod pairing;
 mod parts;
 mod ranges;
@@ -44,10 +43,8 @@ ghost use Rattle.encoding.specs.Assignments.{IsOf, IsSettled, state_of};
 
 pub use adding::axioms_at;
 pub use cause::{Cause, Enabling};
-pub use causes::{root_causes, version_causes};
 pub use inputs::Inputs;
 pub use instances::instance;
-pub use needs::root_needs;
 pub use pairing::causes_at;
 pub use states::{space_of, spaces_are_small, state_at};
 pub use table::Table;

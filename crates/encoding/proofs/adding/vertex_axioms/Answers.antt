@@ -4,7 +4,7 @@ use Rattle.model.specs.Vertices.{State}
 use Rattle.encoding.specs.Assignments.{state_at}
 use Rattle.encoding.specs.CauseViews.{cause_views, given_views}
 use Rattle.encoding.specs.Inputs.{problem}
-use Rattle.encoding.specs.Pairs.{AreCausesAt, AreGiven, IsGivenAt}
+use Rattle.encoding.specs.Pairs.{Pair, AreCausesAt, AreGiven, IsGivenAt}
 use Rattle.encoding.specs.RefViews.{state_ref_view, vertex_ref_view}
 use Rattle.encoding.proofs.AddLaws.{causes_there, state_in}
 use Rattle.encoding.proofs.adding.vertex_axioms.Goals as goal
@@ -16,7 +16,7 @@ causes_at-requires-clause-state g c =
 pub instances-requires-clause-there : goal.instances-requires-clause-there
 instances-requires-clause-there g c =
     let q = problem c.args.inputs.now in
-    let p = (vertex_ref_view c.args.vertex, state_ref_view c.in_ok-state.state) in
+    let p : Pair = (vertex_ref_view c.args.vertex, state_ref_view c.in_ok-state.state) in
     causes_there q p (cause_views c.as_slice.result.now) (subst (λ l. AreCausesAt q p (cause_views l)) (sym c.as_slice.ensures.keys) c.in_ok-causes.ensures)
 
 pub returns-clause-given : goal.returns-clause-given
