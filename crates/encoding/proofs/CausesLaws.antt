@@ -1,14 +1,14 @@
 -- The causes that are listed for a vertex and one of its states are those whose first term says so.
-use Rattle.std.proofs.Common.{◌≡◌, ◌≢◌, ◌⊎◌, ◌↔◌, ◌+◌, ℕ, zero, suc, List, [], ◌∷◌, ◌++◌, map, Bool, true, false, not, cond, ◌&&◌, ◌||◌, Contains, Option, Some, None, slice_get, nat_eq, refl, sym, ap, ◌∙◌, subst, inl, inr, arith, true≢false}
+use Rattle.std.proofs.Common.{◌≡◌, ◌≢◌, ◌↔◌, ◌+◌, ℕ, zero, suc, List, [], ◌∷◌, ◌++◌, map, Bool, true, false, not, cond, ◌&&◌, ◌||◌, Contains, Option, Some, None, slice_get, nat_eq, refl, sym, ap, ◌∙◌, subst, inl, inr, arith, true≢false}
 use Rattle.std.specs.List.{list_any, flat_map}
-use Rattle.std.proofs.lemmas.Bool.{and_from, or_left, or_right}
+use Rattle.std.proofs.lemmas.Bool.{and_from}
 use Rattle.std.proofs.lemmas.Option.{none-some, same_Some}
 use Rattle.semver.specs.Parse.{Parts}
-use Rattle.model.specs.Summary.{Dependency, Entry, feature, dependency, dependency_feature, weak_feature, asked_of_target, same_text, entries_at}
+use Rattle.model.specs.Summary.{Dependency, Entry, feature, dependency, dependency_feature, weak_feature, asked_of_target, same_text}
 use Rattle.model.specs.Content.{Problem, Candidate, candidates_of}
 use Rattle.model.specs.Selection.{Class, class_of}
 use Rattle.model.specs.Vertices.{Owner, the_root, version_of, Vertex, root, pkg, dep, feat, ask, State, absent, present, version, in_class, same_vertex, owner_brings, dep_classes, dep_space, class_candidates, in_that_class, space}
-use Rattle.model.specs.Axioms.{is_lower, HasEntry, IsVertex, RootAsks}
+use Rattle.model.specs.Axioms.{is_lower, IsVertex, RootAsks}
 use Rattle.model.proofs.Lists.{in_none, in_cons, in_first, in_rest, in_filter, in_map, to_map, any_of, to_any, pairs_none}
 use Rattle.model.proofs.Same.{both, text-same, text-refl, class-same}
 use Rattle.refutations.specs.Causes.{Cause, of_root, of_need, of_target, of_feature, of_list, of_ask, of_entry, of_enabling, of_asking, of_newest, of_weak, same_entry, enables, passes, is_needed, dependency_at, has_class, has_entry, some_entry, lists_feature, root_asks_for, same_pair, is_overtaken, is_weak_on, entries_of, table_of_owner, is_cause}

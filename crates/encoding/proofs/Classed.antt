@@ -10,7 +10,7 @@ use Rattle.model.specs.Selection.{Class}
 use Rattle.model.specs.Vertices.{class_candidates, in_that_class, version}
 use Rattle.manifest.specs.Manifests.{ManifestView}
 use Rattle.catalogue.specs.Problems.{problem_in}
-use Rattle.catalogue.specs.Stores.{CatalogueView, candidates_at, rows_by_name}
+use Rattle.catalogue.specs.Stores.{CatalogueView, candidates_at}
 use Rattle.encoding.specs.Parts.{versions_with}
 use Rattle.encoding.specs.Ranges.{is_of}
 use Rattle.encoding.proofs.Brought.{candidates_are}

@@ -1,15 +1,13 @@
 -- The classes of the groups that a requirement makes of a name's versions are those that a dependency may lead to.
-use Rattle.std.proofs.Common.{◌≡◌, ℕ, List, [], ◌∷◌, map, Vec, refl, sym, ap, ◌∙◌, subst}
+use Rattle.std.proofs.Common.{◌≡◌, ℕ, List, [], ◌∷◌, map, Vec, refl, ap, ◌∙◌}
 use Rattle.std.specs.declared.alloc.Global.{Global}
 use Rattle.std.specs.List.{AllPairs}
 use Rattle.std.specs.Ordering.{is_gt}
 use Rattle.std.specs.declared.cmp.Ordering.TheVariants.{Less}
 use Rattle.semver.specs.Eval.{precedence_cmp}
 use Rattle.semver.specs.Identifiers.{parts_of}
-use Rattle.semver.specs.Parse.{Parts}
 use Rattle.semver.specs.declared.Version.{Version}
 use Rattle.model.specs.Summary.{Dependency}
-use Rattle.model.specs.Content.{Candidate, candidates_of}
 use Rattle.model.specs.Order.{precedence}
 use Rattle.model.specs.Selection as model
 use Rattle.model.specs.WellFormed.{IsCatalogue}
@@ -21,7 +19,7 @@ use Rattle.classes.specs.Classes.{class_view}
 use Rattle.classes.specs.Groups.{Group, IsOldestFirst, classes_matched, group_views, groups_of, positions_matched}
 use Rattle.classes.specs.declared.class.Class.{Class}
 use Rattle.encoding.specs.Ranges.{AreRising}
-use Rattle.encoding.proofs.ClassOrder.{IsOlder, matched_classes}
+use Rattle.encoding.proofs.ClassOrder.{matched_classes}
 use Rattle.encoding.proofs.Classed.{versions_are}
 use Rattle.encoding.proofs.Distinct.{of_rows, pairs_map}
 

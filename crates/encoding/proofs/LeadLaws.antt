@@ -7,7 +7,6 @@ use Rattle.semver.specs.EvalViews.{matches_views}
 use Rattle.semver.specs.Identifiers.{parts_of}
 use Rattle.semver.specs.Parse.{Parts}
 use Rattle.semver.specs.declared.Version.{Version}
-use Rattle.model.specs.Axioms.{matched}
 use Rattle.model.specs.Content.{Candidate}
 use Rattle.model.specs.Selection.{Class}
 use Rattle.model.specs.Summary.{Dependency, Entry, feature, dependency, dependency_feature, weak_feature, Table, asked_of_target, same_text}

@@ -1,5 +1,5 @@
 -- Parts of an instance as terms over numbers.
-use Rattle.std.proofs.Common.{◌≡◌, ◌≢◌, ℕ, zero, suc, ◌<◌, ◌≤◌, ◌+◌, get_or, take, take_all, List, [], ◌∷◌, ◌++◌, map, filter, length, Bool, true, false, cond, Contains, Option, Some, None, slice_get, refl, sym, ap, ◌∙◌, subst, arith}
+use Rattle.std.proofs.Common.{◌≡◌, ℕ, zero, suc, ◌<◌, ◌≤◌, ◌+◌, get_or, take, take_all, List, [], ◌∷◌, ◌++◌, map, filter, length, Bool, true, false, cond, Option, Some, None, slice_get, refl, sym, ap, ◌∙◌, subst, arith}
 use Rattle.std.specs.List.{AllByRecursion, All}
 use Rattle.terms.specs.Terms.{TermView, term_view, terms_view}
 use Rattle.model.specs.Summary.{Dependency, same_text}
@@ -15,9 +15,9 @@ use Rattle.catalogue.specs.Problems.{problem_in}
 use Rattle.catalogue.specs.Ranks.{records}
 use Rattle.catalogue.specs.Stores.{CatalogueView, IsStore, Row}
 use Rattle.catalogue.specs.Views.{most_candidates}
-use Rattle.encoding.specs.Numberings.{Numbering, IsGrown, members_at}
+use Rattle.encoding.specs.Numberings.{Numbering, IsGrown}
 use Rattle.encoding.specs.Numbered.{AreNumbered}
-use Rattle.encoding.specs.Parts.{Part, IsOfPart, AreOfParts, IsFitting, part_of, parts_of_terms}
+use Rattle.encoding.specs.Parts.{Part, IsOfPart, AreOfParts, IsFitting, parts_of_terms}
 use Rattle.encoding.proofs.Needing.{still_at, numbering_put, put_grows}
 use Rattle.std.proofs.lemmas.List.{map-append}
 use Rattle.std.proofs.Math.Seq.{take-suc}

@@ -1,6 +1,6 @@
 -- Tests of a space are the sets of states that terms have.
 use Rattle.std.proofs.Common.{◌≡◌, ◌⊎◌, ℕ, List, [], ◌∷◌, map, filter, Bool, true, false, cond, not, ◌||◌, Contains, Option, Some, None, slice_get, refl, sym, ap, ap₂, ◌∙◌, subst, inl, inr, true≢false}
-use Rattle.std.specs.List.{list_any, AllPairs}
+use Rattle.std.specs.List.{AllPairs}
 use Rattle.semver.specs.Parse.{Parts}
 use Rattle.semver.specs.EvalViews.{matches_views}
 use Rattle.semver.specs.Identifiers.{parts_of}
@@ -19,7 +19,6 @@ use Rattle.catalogue.specs.Stores.{CatalogueView, candidates_at}
 use Rattle.classes.specs.Classes.{class_view}
 use Rattle.classes.specs.declared.class.Class as code
 use Rattle.refutations.specs.Listed.{classes_at, classes_if}
-use Rattle.refutations.specs.Causes.{dependency_at}
 use Rattle.encoding.specs.Numberings.{members_at}
 use Rattle.encoding.specs.Parts.{is_chosen, is_class, is_lacking, is_left, is_taken, versions_with}
 use Rattle.encoding.specs.Ranges.{is_of}

@@ -1,6 +1,6 @@
 -- The causes of the instances that are added for a vertex and one of its states, as a list (these kinds are this
 -- project's).
-use Rattle.std.specs.Prelude.{◌+◌, ℕ, List, [], ◌∷◌, ◌++◌, Bool, true, false, ◌&&◌, if◌then◌else◌, Option, None, Some, nat_eq, map}
+use Rattle.std.specs.Prelude.{◌+◌, ℕ, List, [], ◌∷◌, ◌++◌, ◌&&◌, if◌then◌else◌, Option, None, Some, nat_eq, map}
 use Rattle.std.specs.List.{flat_map, list_any}
 use Rattle.semver.specs.Parse.{Parts}
 use Rattle.model.specs.Summary.{Dependency, Entry, feature, dependency, dependency_feature, weak_feature, asked_of_target, same_text}

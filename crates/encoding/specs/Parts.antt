@@ -1,6 +1,6 @@
 -- Terms of an instance as vertices and tests of their spaces: which of the vertex's states, in their order, the term
 -- has.
-use Rattle.std.specs.Prelude.{◌≡◌, ◌≤◌, ℕ, List, [], ◌∷◌, Bool, true, false, not, map, filter, length, Some, slice_get}
+use Rattle.std.specs.Prelude.{◌≡◌, ◌≤◌, ℕ, List, [], ◌∷◌, Bool, not, map, filter, length, Some, slice_get}
 use Rattle.terms.specs.Terms.{TermView}
 use Rattle.semver.specs.Parse.{Held, Parts}
 use Rattle.semver.specs.EvalViews.{matches_views}

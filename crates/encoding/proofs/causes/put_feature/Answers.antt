@@ -3,7 +3,6 @@ use Rattle.std.specs.List.{flat_map}
 use Rattle.std.proofs.lemmas.List.{append_assoc, drop_more}
 use Rattle.semver.specs.Identifiers.{parts_of}
 use Rattle.features.specs.EntryViews.{entry_view, entry_views}
-use Rattle.features.specs.declared.entry.Entry.{Entry}
 use Rattle.model.specs.Summary as model
 use Rattle.refutations.specs.Causes.{Cause}
 use Rattle.encoding.specs.CauseViews.{cause_views}

@@ -1,5 +1,4 @@
 use Rattle.std.proofs.Common.{◌∙◌}
-use Rattle.terms.specs.Terms.{terms_view}
 use Rattle.encoding.specs.Inputs.{problem}
 use Rattle.encoding.specs.Parts.{part_view}
 use Rattle.encoding.specs.RefViews.{vertex_ref_view}

@@ -1,7 +1,7 @@
-use Rattle.std.proofs.Common.{◌≡◌, ◌≤◌, ◌+◌, length, take, arith, refl, sym, subst}
+use Rattle.std.proofs.Common.{◌≤◌, length, arith, refl, sym, subst}
 use Rattle.terms.specs.Terms.{terms_view}
 use Rattle.encoding.specs.Inputs.{problem}
-use Rattle.encoding.specs.Parts.{AreOfParts, IsFitting, part_views}
+use Rattle.encoding.specs.Parts.{AreOfParts, IsFitting}
 use Rattle.encoding.proofs.Needing.{grows_on}
 use Rattle.encoding.proofs.Putting.{fit_at, parts_next, parts_whole}
 use Rattle.encoding.proofs.instances.put_parts.Goals as goal

@@ -1,11 +1,8 @@
-use Rattle.std.proofs.Common.{ap, ap₂, subst, ◌∙◌}
-use Rattle.semver.specs.Identifiers.{parts_of}
+use Rattle.std.proofs.Common.{ap, ◌∙◌}
 use Rattle.features.specs.Views.{dependency_view}
 use Rattle.classes.specs.Classes.{class_view}
-use Rattle.model.specs.Selection.{class_of}
-use Rattle.model.specs.Vertices.{pkg, dep}
-use Rattle.encoding.specs.Inputs.{problem}
-use Rattle.encoding.specs.RefViews.{class_view as key_view, owner_ref_view}
+use Rattle.model.specs.Vertices.{pkg}
+use Rattle.encoding.specs.RefViews.{class_view as key_view}
 use Rattle.encoding.proofs.Tested.{left_at}
 use Rattle.encoding.proofs.parts.left.Goals as goal
 

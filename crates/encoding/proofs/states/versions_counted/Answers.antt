@@ -1,6 +1,6 @@
-use Rattle.std.proofs.Common.{List, length, ap, ◌∙◌}
+use Rattle.std.proofs.Common.{length, ap, ◌∙◌}
 use Rattle.classes.specs.Classes.{class_view}
-use Rattle.model.specs.Vertices.{State, pkg, space}
+use Rattle.model.specs.Vertices.{pkg, space}
 use Rattle.encoding.specs.Inputs.{problem}
 use Rattle.encoding.proofs.Stated.{versions_counted}
 use Rattle.encoding.proofs.states.versions_counted.Goals as goal
