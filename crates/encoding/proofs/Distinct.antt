@@ -15,7 +15,7 @@ use Rattle.model.proofs.Lists.{in_map, to_any, pairs_first, pairs_rest, pairs_no
 use Rattle.encoding.proofs.Needing.{from_all}
 use Rattle.encoding.proofs.ClassOrder.{IsOlder, pairs_filter}
 
-pairs_map : {X Y : Type 0} (f : X → Y) (R : X → X → Type 0) (S : Y → Y → Type 0) → ((x y : X) → R x y → S (f x) (f y)) → (xs : List X) → AllPairs R xs → AllPairs S (map f xs)
+pub pairs_map : {X Y : Type 0} (f : X → Y) (R : X → X → Type 0) (S : Y → Y → Type 0) → ((x y : X) → R x y → S (f x) (f y)) → (xs : List X) → AllPairs R xs → AllPairs S (map f xs)
 pairs_map f R S h [] a = pairs_none S
 pairs_map f R S h (x ∷ xs) a = AllPairs-cons S (f x) (map f xs)
     (from_all (S (f x)) (map f xs) (λ y i. let r = in_map f xs y i in subst (S (f x)) r.2 (h x r.0 (pairs_first R x r.0 xs a r.1)))) (pairs_map f R S h xs (pairs_rest R x xs a))
@@ -24,7 +24,7 @@ pairs_map f R S h (x ∷ xs) a = AllPairs-cons S (f x) (map f xs)
 absent_first : {X : Type 0} (f : X → State) (xs : List X) → ((x : X) → absent ≢ f x) → AllPairs (λ s r. s ≢ r) (map f xs) → AllPairs (λ s r. s ≢ r) (absent ∷ map f xs)
 absent_first f xs n h = AllPairs-cons (λ s r. s ≢ r) absent (map f xs) (from_all (λ r. absent ≢ r) (map f xs) (λ s i. let r = in_map f xs s i in λ e. n r.0 (e ∙ sym r.2))) h
 
-older_differ : (c e : Candidate) → IsOlder c e → version c.version ≢ version e.version
+pub older_differ : (c e : Candidate) → IsOlder c e → version c.version ≢ version e.version
 older_differ c e less same =
     let v : c.version ≡ e.version = inner c.version e.version same in
     let x : Less ≡ Equal = sym less ∙ precedence-equal c.version e.version v in cc
@@ -48,7 +48,7 @@ classes_once (c ∷ cs) = by (classes_once cs) (list_any (same_class (class_of c
         (from_all (λ m. class_of c.version ≢ m) (classes_of cs) (λ m i same. true≢false (sym (to_any (same_class (class_of c.version)) (classes_of cs) m i (subst (λ x. same_class (class_of c.version) x ≡ true) same (class-refl (class_of c.version)))) ∙ e)))
         rest
 
-of_rows : (rows : List (List ℕ × List Candidate)) → All (λ row. AllPairs IsOlder row.1) rows → (name : List ℕ) → AllPairs IsOlder (candidates_of rows name)
+pub of_rows : (rows : List (List ℕ × List Candidate)) → All (λ row. AllPairs IsOlder row.1) rows → (name : List ℕ) → AllPairs IsOlder (candidates_of rows name)
 of_rows [] h name = pairs_none IsOlder
 of_rows (row ∷ rows) h name = by (of_rows rows (all_rest (λ row. AllPairs IsOlder row.1) row rows h) name) (same_text name row.0)
   where

@@ -1,57 +1,24 @@
--- The instance for a dependency of the root, and all of them.
-use Rattle.std.proofs.Common.{◌≡◌, ◌≢◌, ℕ, zero, suc, ◌<◌, ◌≤◌, ◌+◌, ◌==◌, List, [], ◌∷◌, ◌++◌, length, map, replicate, Bool, true, false, cond, Contains, Option, Some, None, slice_get, refl, sym, ap, ◌∙◌, subst, inl, inr, ◌⊎◌, arith}
-use Rattle.std.proofs.lemmas.Bool.{eqb-true}
-use Rattle.version_sets.specs.Sets.{Members, only}
-use Rattle.terms.specs.Terms.{TermView, terms_view}
-use Rattle.terms.specs.declared.term.Term as Numbered
-use Rattle.incompatibilities.specs.Incompatibilities.{OneEach, terms_on}
-use Rattle.model.specs.Summary.{Dependency}
-use Rattle.model.specs.Content.{Problem}
-use Rattle.model.specs.Selection.{Class}
-use Rattle.model.specs.Vertices.{the_root, root, dep, State, absent, in_class, has_state, owner_brings, dep_classes, dep_space, space}
-use Rattle.model.specs.Axioms.{Term, Kind, Needed}
-use Rattle.refutations.specs.Causes.{of_need, terms_of_cause}
-use Rattle.std.specs.Prelude.{option_map, Result, Ok, Err, OnOk, OnErr}
+-- As more vertices get numbers, and lists with one more at the end.
+use Rattle.std.proofs.Common.{◌≡◌, ◌≢◌, ◌⊎◌, ℕ, zero, suc, List, [], ◌∷◌, ◌++◌, Bool, true, false, cond, Contains, Option, Some, None, slice_get, refl, sym, ap, ◌∙◌, subst, inl, inr}
+use Rattle.std.specs.Prelude.{option_map}
 use Rattle.std.specs.List.{All, AllPairs, AllByRecursion, list_any}
 use Rattle.std.proofs.lemmas.Option.{none-some, same_Some}
 use Rattle.std.proofs.lemmas.List.Kept.{AllPairs-cons}
+use Rattle.terms.specs.Terms.{TermView}
 use Rattle.incompatibilities.specs.Incompatibilities as numbered
 use Rattle.incompatibilities.specs.Incompatibilities.{unless_full}
-use Rattle.model.specs.Vertices.{Vertex, same_vertex}
-use Rattle.model.specs.Axioms.{IsVertex}
+use Rattle.model.specs.Content.{Problem}
+use Rattle.model.specs.Vertices.{Vertex, State, same_vertex}
+use Rattle.model.specs.Axioms.{Term, IsVertex}
 use Rattle.model.specs.Derivation as model
 use Rattle.model.proofs.Same.{vertex-refl}
 use Rattle.model.proofs.Lists.{pairs_first, pairs_rest, pairs_one, all_cons, all_none, in_first, in_rest, in_cons, in_none, to_any}
-use Rattle.refutations.specs.Causes.{Cause, kind_of}
+use Rattle.refutations.specs.Causes.{Cause, kind_of, terms_of_cause}
 use Rattle.encoding.specs.Numberings.{Numbering, IsNumbering, IsGrown, members_at, Says, with_vertex}
-use Rattle.encoding.specs.Numbered.{AreNumbered}
 use Rattle.encoding.specs.Pairs.{Given, AreGiven}
-use Rattle.encoding.specs.Needs.{as_given, needs_below}
-use Rattle.encoding.proofs.Places.{got_in, place_of, get_below}
+use Rattle.encoding.proofs.Places.{got_in, place_of}
 use Rattle.encoding.proofs.Saying.{one_place}
 use Rattle.encoding.proofs.Sound.{spoken}
-
-pub two_each : (a b : ℕ) (x y : Members) → a ≢ b → OneEach (record { vertex = a; states = x } ∷ record { vertex = b; states = y } ∷ [])
-two_each a b x y apart u = by (a == u) (b == u) refl refl
-  where
-    by : (c d : Bool) → (a == u) ≡ c → (b == u) ≡ d → cond c 1 0 + (cond d 1 0 + 0) ≤ 1
-    by true true e f = absurd (apart (eqb-true a u e ∙ sym (eqb-true b u f)))
-    by true false e f = omega arith
-    by false true e f = omega arith
-    by false false e f = omega arith
-
--- absent alone
-no_class : (ks : List Class) → map (has_state (absent ∷ [])) (map in_class ks) ≡ replicate (length (map in_class ks)) false
-no_class [] = refl
-no_class (k ∷ ks) = ap (λ l. false ∷ l) (no_class ks)
-
-absent_only : (q : Problem) (o : Option Dependency) → only (length (dep_space q o)) 0 ≡ map (has_state (absent ∷ [])) (dep_space q o)
-absent_only q None = refl
-absent_only q (Some d) = ap (λ l. true ∷ l) (sym (no_class (dep_classes q d)))
-
-pub need_numbered : (q : Problem) (vs : Numbering) (r n i s : ℕ) (x y : Members) → x ≡ only 2 1 → y ≡ only s 0 → slice_get vs r ≡ Some root → slice_get vs n ≡ Some (dep the_root i) → s ≡ length (space q (dep the_root i))
-    → AreNumbered q vs (record { vertex = r; states = x } ∷ record { vertex = n; states = y } ∷ []) (terms_of_cause q (of_need the_root i))
-need_numbered q vs r n i s x y ex ey e f is = (record { vertex = e; states = ex }, (record { vertex = f; states = ey ∙ ap (λ k. only k 0) is ∙ absent_only q (slice_get (owner_brings q the_root).dependencies i) }, tt))
 
 -- ---- as more vertices get numbers
 
@@ -163,31 +130,5 @@ put_grows vs v = by (list_any (same_vertex v) vs)
 pub grows_on : (a b c : Numbering) → IsGrown a b → IsGrown b c → IsGrown a c
 grows_on a b c (more, e) (rest, f) = (more ++ rest, f ∙ ap (λ l. l ++ rest) e ∙ append_more a more rest)
 
--- ---- the root's dependencies, one after another
-
--- a dependency of the root gets a number
-pub dep_put : (q : Problem) (vs new : Numbering) (n : ℕ) → n < length q.brings.dependencies → IsNumbering q vs → new ≡ with_vertex vs (dep the_root n) → IsNumbering q new × IsGrown vs new
-dep_put q vs new n lt ok is =
-    let d = get_below q.brings.dependencies n lt in
-    (subst (IsNumbering q) (sym is) (numbering_put q vs (dep the_root n) ok (d.0, (tt, d.1))), subst (IsGrown vs) (sym is) (put_grows vs (dep the_root n)))
-
 pub still_at : (vs new : Numbering) (n : ℕ) (v : Vertex) → IsGrown vs new → slice_get vs n ≡ Some v → slice_get new n ≡ Some v
 still_at vs new n v grown e = subst (λ w. slice_get w n ≡ Some v) (sym grown.1) (get_more vs grown.0 n v e)
-
-as_given_last : {S : Type 0} (tests : S → Members) (k : Kind) (is : List (List (Numbered.Term S))) (i : List (Numbered.Term S)) → as_given tests k (is ++ i ∷ []) ≡ as_given tests k is ++ (k, terms_view tests i) ∷ []
-as_given_last tests k [] i = refl
-as_given_last tests k (j ∷ is) i = ap (λ l. (k, terms_view tests j) ∷ l) (as_given_last tests k is i)
-
-pub need_put : {S : Type 0} (tests : S → Members) (q : Problem) (vs new : Numbering) (n : ℕ) (old is : List (List (Numbered.Term S))) (i : List (Numbered.Term S)) → IsNumbering q new → IsGrown vs new
-    → AreGiven q vs (needs_below n) (as_given tests Needed old) → is ≡ old ++ i ∷ [] → Says q new (terms_view tests i) (terms_of_cause q (of_need the_root n))
-    → AreGiven q new (needs_below n ++ of_need the_root n ∷ []) (as_given tests Needed is)
-need_put tests q vs new n old is i ok grown are same says =
-    let once : AllPairs (λ v w. v ≢ w) (vs ++ grown.0) = subst (AllPairs (λ v w. v ≢ w)) grown.1 ok.once in
-    let kept : AreGiven q new (needs_below n) (as_given tests Needed old) = subst (λ w. AreGiven q w (needs_below n) (as_given tests Needed old)) (sym grown.1) (given_more q vs grown.0 (needs_below n) (as_given tests Needed old) once are) in
-    subst (AreGiven q new (needs_below n ++ of_need the_root n ∷ [])) (sym (ap (as_given tests Needed) same ∙ as_given_last tests Needed old i))
-    (given_last q new (needs_below n) (as_given tests Needed old) (of_need the_root n) (Needed, terms_view tests i) kept refl says)
-
--- the root gets a number, or the table stays
-pub root_put : {A E : Type 0} (q : Problem) (vs : Numbering) (r : Result A E) (new : Numbering) → IsNumbering q vs → OnOk r (new ≡ with_vertex vs root) → OnErr r (new ≡ vs) → IsNumbering q new
-root_put q vs (Ok x) new ok is same = subst (IsNumbering q) (sym is) (numbering_put q vs root ok tt)
-root_put q vs (Err e) new ok is same = subst (IsNumbering q) (sym same) ok

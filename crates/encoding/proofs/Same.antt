@@ -38,11 +38,11 @@ five true true false d e = refl
 five true false c d e = refl
 five false b c d e = refl
 
-version_same : (v w : Version) → (nat_eq v.major w.major && (nat_eq v.minor w.minor && (nat_eq v.patch w.patch
+pub version_same : (v w : Version) → (nat_eq v.major w.major && (nat_eq v.minor w.minor && (nat_eq v.patch w.patch
     && (pointwise nat_eq (pre_text v.pre) (pre_text w.pre) && pointwise nat_eq (build_text v.build) (build_text w.build))))) ≡ same_version (parts_of v) (parts_of w)
 version_same v w = five (nat_eq v.major w.major) (nat_eq v.minor w.minor) (nat_eq v.patch w.patch) (pointwise nat_eq (pre_text v.pre) (pre_text w.pre)) (pointwise nat_eq (build_text v.build) (build_text w.build))
 
-class_same : (a b : ClassKey) → (class_eq.eq-value).it a b ≡ same_class (class_view a) (class_view b)
+pub class_same : (a b : ClassKey) → (class_eq.eq-value).it a b ≡ same_class (class_view a) (class_view b)
 class_same (class.Patch n) (class.Patch m) = refl
 class_same (class.Patch n) (class.Minor m) = refl
 class_same (class.Patch n) (class.Major m) = refl
@@ -53,7 +53,7 @@ class_same (class.Major n) (class.Patch m) = refl
 class_same (class.Major n) (class.Minor m) = refl
 class_same (class.Major n) (class.Major m) = refl
 
-owner_same : (o p : OwnerRef) → (owner_eq.eq-value).it o p ≡ same_owner (owner_ref_view o) (owner_ref_view p)
+pub owner_same : (o p : OwnerRef) → (owner_eq.eq-value).it o p ≡ same_owner (owner_ref_view o) (owner_ref_view p)
 owner_same owner.Root owner.Root = refl
 owner_same owner.Root (owner.Version n v) = refl
 owner_same (owner.Version n v) owner.Root = refl

@@ -3,6 +3,10 @@ pub mod Pairs
 pub mod Assignments
 pub mod RefViews
 pub mod Numbered
-pub mod Needs
 pub mod Absences
 pub mod Finals
+pub mod Inputs
+pub mod Ranges
+pub mod Parts
+pub mod CauseViews
+pub mod CausesAt

@@ -9,6 +9,8 @@ use Rattle.encoding.specs.declared.vertex.OwnerRef.{OwnerRef}
 use Rattle.encoding.specs.declared.vertex.OwnerRef.TheVariants as owner
 use Rattle.encoding.specs.declared.vertex.VertexRef.{VertexRef}
 use Rattle.encoding.specs.declared.vertex.VertexRef.TheVariants as vertex
+use Rattle.encoding.specs.declared.vertex.StateRef.{StateRef}
+use Rattle.encoding.specs.declared.vertex.StateRef.TheVariants as state
 
 abbrev pub class_view : ClassKey → classes.Class
 class_view (class.Patch n) = classes.patch n
@@ -28,3 +30,9 @@ vertex_ref_view (vertex.Ask n v i g) = model.ask n.now (parts_of v.now) i g.now
 
 abbrev pub vertex_ref_views : List VertexRef → List model.Vertex
 vertex_ref_views vs = map vertex_ref_view vs
+
+abbrev pub state_ref_view : StateRef → model.State
+state_ref_view state.Absent = model.absent
+state_ref_view state.Present = model.present
+state_ref_view (state.Version v) = model.version (parts_of v.now)
+state_ref_view (state.Class k) = model.in_class (class_view k)

@@ -1,10 +1,21 @@
 //! The vertices of the search by numbers, and the axioms as incompatibilities over them.
 #![tactic(auto)]
 
+mod adding;
+mod cause;
+mod causes;
 mod inputs;
+mod instances;
+mod leading;
+mod lookups;
 mod making;
-mod needs;
+mod pairing;
+mod parts;
+mod ranges;
+mod spaces;
+mod states;
 mod table;
+mod tests;
 mod vertex;
 
 ghost use Rattle.std.specs.Prelude.{◌≡◌, ◌≢◌, ℕ, List, Some, map};
@@ -30,10 +41,14 @@ ghost use Rattle.encoding.specs.Numberings.{IsNumbering, Numbering, Says};
 ghost use Rattle.encoding.specs.Absences.{OneZero};
 ghost use Rattle.encoding.specs.Assignments.{IsOf, IsSettled, state_of};
 
+pub use adding::axioms_at;
+pub use cause::{Cause, Enabling};
 pub use inputs::Inputs;
-pub use needs::root_needs;
+pub use instances::instance;
+pub use pairing::causes_at;
+pub use states::{space_of, spaces_are_small, state_at};
 pub use table::Table;
-pub use vertex::{ClassKey, OwnerRef, VertexRef};
+pub use vertex::{ClassKey, OwnerRef, StateRef, VertexRef};
 
 /// An assignment over numbers that breaks no entry of a store, where each pair that holds in it has been added, breaks
 /// no instance at all.

@@ -1,5 +1,10 @@
 //! What has a state in the search.
 
+ghost use Rattle.std.specs.Prelude.{◌≡◌};
+ghost use Rattle.classes.specs.Classes.{class_view};
+ghost use Rattle.encoding.specs.RefViews.{class_view as key_view};
+
+use classes::Class;
 use features::{FeatureName, PackageName};
 use semver::Version;
 
@@ -31,4 +36,40 @@ pub enum VertexRef<'a> {
     Feature(&'a PackageName, ClassKey, &'a FeatureName),
     /// A feature that an entry `d/g` of a version asks for through the dependency of this number.
     Ask(&'a PackageName, &'a Version, usize, &'a FeatureName),
+}
+
+/// What a vertex may be.
+#[derive(Clone, Copy)]
+pub enum StateRef<'a> {
+    Absent,
+    /// Of the root, a feature or an ask.
+    Present,
+    /// Of a package.
+    Version(&'a Version),
+    /// Of a dependency.
+    Class(ClassKey),
+}
+
+impl ClassKey {
+    /// The key of a class.
+    pub fn of(class: Class) -> ClassKey
+        ensures { key_view result ≡ class_view class }
+    {
+        match class {
+            Class::Patch(number) => ClassKey::Patch(number),
+            Class::Minor(number) => ClassKey::Minor(number),
+            Class::Major(number) => ClassKey::Major(number),
+        }
+    }
+
+    /// The class of a key.
+    pub fn class(self) -> Class
+        ensures { class_view result ≡ key_view self }
+    {
+        match self {
+            ClassKey::Patch(number) => Class::Patch(number),
+            ClassKey::Minor(number) => Class::Minor(number),
+            ClassKey::Major(number) => Class::Major(number),
+        }
+    }
 }

@@ -69,7 +69,7 @@ module _ {X : Type 0} (same : X → X → Bool) (sure : (x y : X) → same x y �
 
 -- ---- equal causes
 
-cause-same : (x y : Cause) → same_cause x y ≡ true → x ≡ y
+pub cause-same : (x y : Cause) → same_cause x y ≡ true → x ≡ y
 cause-same of_root of_root h = refl
 cause-same (of_need o i) (of_need p j) h = let a = both _ _ h in
     let x = owner-same o p a.0 in let y = eqb-true i j a.1 in λ t. of_need (x t) (y t)
@@ -98,7 +98,7 @@ cause-same x y h = absurd (true≢false (sym h))
 same_nat : (i : ℕ) → nat_eq i i ≡ true
 same_nat i = eq-eqb i i refl
 
-cause-refl : (x : Cause) → same_cause x x ≡ true
+pub cause-refl : (x : Cause) → same_cause x x ≡ true
 cause-refl of_root = refl
 cause-refl (of_need o i) = and_from _ _ (owner-refl o) (same_nat i)
 cause-refl (of_target o i k) = and_from _ _ (owner-refl o) (and_from _ _ (same_nat i) (class-refl k))

@@ -1,0 +1,15 @@
+use Rattle.std.proofs.Common.{◌≡◌, take}
+use Rattle.encoding.specs.CauseViews.{cause_views, given_views}
+use Rattle.encoding.specs.Inputs.{problem}
+use Rattle.encoding.specs.Numberings.{IsGrown, IsNumbering}
+use Rattle.encoding.specs.Pairs.{AreGiven}
+use Rattle.encoding.proofs.adding.instances.Given as goal
+
+-- the instances so far are those of the causes so far
+abbrev pub invariant-causes : goal.invariant-causes
+invariant-causes g l = record {
+  same : l.inputs ≡ l.fn.inputs;
+  grown : IsGrown l.fn.table l.table;
+  numbering : IsNumbering (problem l.fn.inputs) l.table;
+  are : AreGiven (problem l.fn.inputs) l.table (cause_views (take l.cause-index l.causes)) (given_views g.S.States.tests l.given.items);
+}

@@ -1,0 +1,17 @@
+use Rattle.std.proofs.Common.{◌≡◌, ◌++◌}
+use Rattle.std.specs.List.{flat_map}
+use Rattle.semver.specs.Identifiers.{parts_of}
+use Rattle.features.specs.Tables.{rows_of}
+use Rattle.encoding.specs.CauseViews.{cause_views}
+use Rattle.encoding.specs.CausesAt.{feature_causes}
+use Rattle.encoding.specs.Inputs.{problem}
+use Rattle.encoding.proofs.causes.put_rows.Given as goal
+
+-- the causes so far, with those of the rows that are left, are all
+abbrev pub invariant-rows : goal.invariant-rows
+invariant-rows l = record {
+  can : (goal.iterator-rows).can_next l.feature-iterator;
+  finite : (goal.iterator-rows).is_finite l.feature-iterator;
+  told : cause_views l.causes.items ++ flat_map (λ row. feature_causes (problem l.inputs) l.name (parts_of l.version) row.0) (rows_of l.feature-iterator)
+      ≡ cause_views l.fn.causes.items ++ flat_map (λ row. feature_causes (problem l.inputs) l.name (parts_of l.version) row.0) l.table;
+}

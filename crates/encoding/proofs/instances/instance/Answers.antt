@@ -1,0 +1,33 @@
+use Rattle.std.proofs.Common.{ap, subst, ◌∙◌}
+use Rattle.terms.specs.Terms.{terms_view}
+use Rattle.model.proofs.Accepted.{instance_apart}
+use Rattle.refutations.specs.Causes.{kind_of, terms_of_cause}
+use Rattle.refutations.proofs.CauseLaws.{cause_instance}
+use Rattle.encoding.specs.CauseViews.{cause_view}
+use Rattle.encoding.specs.Inputs.{problem}
+use Rattle.encoding.specs.Parts.{AreOfParts, part_views}
+use Rattle.encoding.proofs.Putting.{are_numbered, cause_fits}
+use Rattle.encoding.proofs.Saying.{one_each}
+use Rattle.encoding.proofs.instances.instance.Goals as goal
+
+pub put_parts-requires-clause-fit : goal.put_parts-requires-clause-fit
+put_parts-requires-clause-fit g c =
+    cause_fits c.args.inputs.now.manifest.now c.args.inputs.now.catalogue.now (cause_view c.args.cause.now) (part_views c.as_slice.result.now)
+    c.names.ensures.store c.catalogues_are_well_formed.ensures c.requires.there (ap part_views c.as_slice.ensures.value ∙ c.in_ok-parts.ensures)
+
+pub made_of-requires : goal.made_of-requires
+made_of-requires g c =
+    let q = problem c.args.inputs.now in
+    let ts = terms_of_cause q (cause_view c.args.cause.now) in
+    let are = are_numbered q c.put_parts.new.table (terms_view g.S.States.tests c.in_ok-terms.terms.items) ts
+    (subst (AreOfParts c.put_parts.new.table (terms_view g.S.States.tests c.in_ok-terms.terms.items)) (ap part_views c.as_slice.ensures.value ∙ c.in_ok-parts.ensures) c.in_ok-terms.ensures.terms) in
+    one_each q c.put_parts.new.table c.put_parts.ensures.numbering.once (terms_view g.S.States.tests c.in_ok-terms.terms.items) ts are
+    (instance_apart q (kind_of (cause_view c.args.cause.now)) ts (cause_instance q (cause_view c.args.cause.now) c.requires.there))
+
+pub returns-clause-says : goal.returns-clause-says
+returns-clause-says g c =
+    let q = problem c.args.inputs.now in
+    let ts = terms_of_cause q (cause_view c.args.cause.now) in
+    let are = are_numbered q c.put_parts.new.table (terms_view g.S.States.tests c.in_ok-terms.terms.items) ts
+    (subst (AreOfParts c.put_parts.new.table (terms_view g.S.States.tests c.in_ok-terms.terms.items)) (ap part_views c.as_slice.ensures.value ∙ c.in_ok-parts.ensures) c.in_ok-terms.ensures.terms) in
+    c.made_of.ensures.says q c.put_parts.new.table ts c.put_parts.ensures.numbering are

@@ -1,0 +1,15 @@
+use Rattle.std.proofs.Common.{◌≡◌, take}
+use Rattle.terms.specs.Terms.{terms_view}
+use Rattle.encoding.specs.Inputs.{problem}
+use Rattle.encoding.specs.Numberings.{IsGrown, IsNumbering}
+use Rattle.encoding.specs.Parts.{AreOfParts, part_views}
+use Rattle.encoding.proofs.instances.put_parts.Given as goal
+
+-- the terms so far are of the parts so far
+abbrev pub invariant-parts : goal.invariant-parts
+invariant-parts g l = record {
+  same : l.inputs ≡ l.fn.inputs;
+  grown : IsGrown l.fn.table l.table;
+  numbering : IsNumbering (problem l.fn.inputs) l.table;
+  are : AreOfParts l.table (terms_view g.S.States.tests l.terms.items) (part_views (take l.part-index l.parts));
+}

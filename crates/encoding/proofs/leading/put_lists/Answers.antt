@@ -1,0 +1,20 @@
+use Rattle.std.proofs.lemmas.Result.{on_ok_weaker}
+use Rattle.features.specs.Views.{dependency_view}
+use Rattle.model.specs.Summary.{asked_of_target}
+use Rattle.refutations.specs.Causes.{of_list}
+use Rattle.encoding.specs.CauseViews.{cause_views}
+use Rattle.encoding.specs.CausesAt.{root_asked}
+use Rattle.encoding.specs.Inputs.{problem}
+use Rattle.encoding.specs.RefViews.{class_view, owner_ref_view}
+use Rattle.encoding.proofs.LeadLaws.{both_lists}
+use Rattle.encoding.proofs.leading.put_lists.Goals as goal
+
+pub returns : goal.returns
+returns c =
+    let q = problem c.args.inputs.now in
+    let o = owner_ref_view c.args.lead.owner in
+    let d = dependency_view c.args.dependency.now in
+    on_ok_weaker c.put_root_lists.result
+    (λ e. both_lists (of_list o c.args.lead.number (class_view c.args.lead.class)) (asked_of_target d) (root_asked q o d) (cause_views c.args.causes.now.items) (cause_views c.put_own_list.new.causes.items)
+    (cause_views c.put_root_lists.new.causes.items) c.in_ok-put_own_list.ensures e)
+    c.put_root_lists.ensures

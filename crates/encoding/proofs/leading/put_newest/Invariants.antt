@@ -1,0 +1,13 @@
+use Rattle.std.proofs.Common.{◌≡◌, ◌++◌, drop}
+use Rattle.features.specs.Views.{dependency_view, dependency_views}
+use Rattle.encoding.specs.CauseViews.{cause_views}
+use Rattle.encoding.specs.CausesAt.{each_from, newest_if}
+use Rattle.encoding.specs.Inputs.{problem}
+use Rattle.encoding.specs.RefViews.{class_view, owner_ref_view}
+use Rattle.encoding.proofs.leading.put_newest.Given as goal
+
+-- the causes so far, with those of the dependencies that are left, are all
+abbrev pub invariant-others : goal.invariant-others
+invariant-others l =
+    cause_views l.causes.items ++ each_from (newest_if (problem l.inputs) (owner_ref_view l.lead.owner) l.lead.number (class_view l.lead.class) (dependency_view l.dependency)) l.number (dependency_views (drop l.number l.others))
+    ≡ cause_views l.fn.causes.items ++ each_from (newest_if (problem l.inputs) (owner_ref_view l.lead.owner) l.lead.number (class_view l.lead.class) (dependency_view l.dependency)) 0 (dependency_views l.others)

@@ -1,0 +1,364 @@
+//! The causes whose instances are added for a vertex and one of its states.
+
+ghost use Rattle.std.specs.Prelude.{◌≡◌, ◌++◌, ◌∷◌, [], ◌&&◌, List, Some, None, OnOk, IfOk, map, if◌then◌else◌};
+ghost use Rattle.std.specs.List.{flat_map, list_any};
+ghost use Rattle.semver.specs.Identifiers.{parts_of};
+ghost use Rattle.classes.specs.Classes.{class_view};
+ghost use Rattle.features.specs.EntryViews.{entry_view, entry_views};
+ghost use Rattle.features.specs.Views.{dependency_view, dependency_views};
+ghost use Rattle.model.specs.Selection.{class_of};
+ghost use Rattle.model.specs.Summary as model;
+ghost use Rattle.model.specs.Summary.{same_text};
+ghost use Rattle.model.specs.Vertices as vertices;
+ghost use Rattle.model.specs.Vertices.{feat, same_class, same_vertex};
+ghost use Rattle.refutations.specs.Causes.{is_needed, of_asking, of_enabling, table_of_owner};
+ghost use Rattle.encoding.specs.CauseViews.{cause_views};
+ghost use Rattle.encoding.specs.CausesAt.{each_from, entry_causes, entry_if, feature_causes, need_if, turned_if, version_causes, weak_if, with_causes};
+ghost use Rattle.encoding.specs.Inputs.{problem};
+ghost use Rattle.encoding.specs.RefViews.{owner_ref_view};
+
+use crate::cause::{Cause, Enabling};
+use crate::inputs::Inputs;
+use crate::lookups::{brings, dependencies_of, entries_of};
+use crate::spaces::classes_of;
+use crate::vertex::{ClassKey, OwnerRef};
+use classes::Class;
+use features::{Dependency, Entry, FeatureName, FeatureTable, PackageName};
+use indexmap::IndexSet;
+use semver::Version;
+use std::alloc::{AllocError, Global};
+
+/// A feature of a version.
+#[derive(Clone, Copy)]
+pub(crate) struct Own<'a> {
+    pub(crate) name: &'a PackageName,
+    pub(crate) version: &'a Version,
+    pub(crate) feature: &'a FeatureName,
+}
+
+/// Whether the owner needs the dependency: the root each one, a version those that aren't optional.
+fn is_needed(owner: &OwnerRef<'_>, dependency: &Dependency) -> bool
+    ensures { result ≡ is_needed (owner_ref_view owner.now) (dependency_view dependency.now) }
+{
+    match owner {
+        OwnerRef::Root => true,
+        OwnerRef::Version(_, _) => !dependency.optional,
+    }
+}
+
+/// The dependencies that the owner needs.
+pub(crate) fn put_needs<'a>(
+    causes: &mut Vec<Cause<'a>>,
+    owner: OwnerRef<'a>,
+    dependencies: &[Dependency],
+) -> Result<(), AllocError>
+    ensures { OnOk result (cause_views causes.new.items ≡ cause_views causes.old.items ++ each_from (need_if (owner_ref_view owner.entry)) 0 (dependency_views dependencies.now)) }
+{
+    'dependencies: for (number, dependency) in dependencies.iter().enumerate() {
+        put_need(causes, owner, number, dependency)?;
+    }
+    Ok(())
+}
+
+fn put_need<'a>(
+    causes: &mut Vec<Cause<'a>>,
+    owner: OwnerRef<'a>,
+    number: usize,
+    dependency: &Dependency,
+) -> Result<(), AllocError>
+    ensures { OnOk result (cause_views causes.new.items ≡ cause_views causes.old.items ++ need_if (owner_ref_view owner.entry) number (dependency_view dependency.now)) }
+{
+    if is_needed(&owner, dependency) {
+        causes.push(Cause::Need(owner, number))?;
+    }
+    Ok(())
+}
+
+/// What the entries of a version's feature give.
+pub(crate) fn put_feature<'a>(
+    alloc: Global,
+    inputs: &Inputs<'a>,
+    causes: &mut Vec<Cause<'a>>,
+    own: Own<'a>,
+    entries: &'a [Entry],
+) -> Result<(), AllocError>
+    ensures { OnOk result (cause_views causes.new.items ≡ cause_views causes.old.items ++ flat_map (entry_causes (problem inputs.now) own.entry.name.now (parts_of own.entry.version.now) own.entry.feature.now) (entry_views entries.entry.now)) }
+{
+    'entries: for entry in entries.iter() {
+        put_entry(alloc, inputs, causes, own, entry)?;
+    }
+    Ok(())
+}
+
+fn put_entry<'a>(
+    alloc: Global,
+    inputs: &Inputs<'a>,
+    causes: &mut Vec<Cause<'a>>,
+    own: Own<'a>,
+    entry: &'a Entry,
+) -> Result<(), AllocError>
+    ensures { OnOk result (cause_views causes.new.items ≡ cause_views causes.old.items ++ entry_causes (problem inputs.now) own.entry.name.now (parts_of own.entry.version.now) own.entry.feature.now (entry_view entry.entry.now)) }
+{
+    put_turned(causes, own, entry)?;
+    put_each(
+        alloc,
+        inputs,
+        causes,
+        own,
+        entry,
+        dependencies_of(inputs, &OwnerRef::Version(own.name, own.version)),
+    )
+}
+
+/// What an entry `g` of the feature gives.
+fn put_turned<'a>(
+    causes: &mut Vec<Cause<'a>>,
+    own: Own<'a>,
+    entry: &'a Entry,
+) -> Result<(), AllocError>
+    ensures { OnOk result (cause_views causes.new.items ≡ cause_views causes.old.items ++ turned_if own.entry.name.now (parts_of own.entry.version.now) own.entry.feature.now (entry_view entry.entry.now)) }
+{
+    match entry {
+        Entry::Feature(off) => put_off(causes, own, off),
+        Entry::Dependency(_) => Ok(()),
+        Entry::DependencyFeature(_, _) => Ok(()),
+        Entry::WeakFeature(_, _) => Ok(()),
+    }
+}
+
+/// A feature that may not be off, unless it is the feature itself.
+fn put_off<'a>(
+    causes: &mut Vec<Cause<'a>>,
+    own: Own<'a>,
+    off: &'a FeatureName,
+) -> Result<(), AllocError>
+    ensures { OnOk result (cause_views causes.new.items ≡ cause_views causes.old.items ++ turned_if own.entry.name.now (parts_of own.entry.version.now) own.entry.feature.now (model.feature off.entry.now)) }
+{
+    if own.feature == off {
+        return Ok(());
+    }
+    causes.push(Cause::Entry(own.name, own.version, own.feature, off))?;
+    Ok(())
+}
+
+/// What an entry of the feature gives with the dependencies that it names.
+fn put_each<'a>(
+    alloc: Global,
+    inputs: &Inputs<'a>,
+    causes: &mut Vec<Cause<'a>>,
+    own: Own<'a>,
+    entry: &'a Entry,
+    dependencies: &[Dependency],
+) -> Result<(), AllocError>
+    ensures { OnOk result (cause_views causes.new.items ≡ cause_views causes.old.items ++ each_from (entry_if (problem inputs.now) own.entry.name.now (parts_of own.entry.version.now) own.entry.feature.now (entry_view entry.entry.now)) 0 (dependency_views dependencies.now)) }
+{
+    'dependencies: for (number, dependency) in dependencies.iter().enumerate() {
+        put_on(alloc, inputs, causes, own, entry, number, dependency)?;
+    }
+    Ok(())
+}
+
+fn put_on<'a>(
+    alloc: Global,
+    inputs: &Inputs<'a>,
+    causes: &mut Vec<Cause<'a>>,
+    own: Own<'a>,
+    entry: &'a Entry,
+    number: usize,
+    dependency: &Dependency,
+) -> Result<(), AllocError>
+    ensures { OnOk result (cause_views causes.new.items ≡ cause_views causes.old.items ++ entry_if (problem inputs.now) own.entry.name.now (parts_of own.entry.version.now) own.entry.feature.now (entry_view entry.entry.now) number (dependency_view dependency.now)) }
+{
+    match entry {
+        Entry::Feature(_) => Ok(()),
+        Entry::Dependency(called) => put_enabled(causes, own, called, number, dependency),
+        Entry::DependencyFeature(called, asked) => {
+            put_asked(causes, own, called, asked, number, dependency)
+        }
+        Entry::WeakFeature(called, asked) => {
+            put_weak(
+                alloc, inputs, causes, own, called, asked, number, dependency,
+            )
+        }
+    }
+}
+
+/// What an entry `dep:d` gives with a dependency.
+fn put_enabled<'a>(
+    causes: &mut Vec<Cause<'a>>,
+    own: Own<'a>,
+    called: &'a PackageName,
+    number: usize,
+    dependency: &Dependency,
+) -> Result<(), AllocError>
+    ensures { OnOk result (cause_views causes.new.items ≡ cause_views causes.old.items ++ (if same_text (dependency_view dependency.now).name called.entry.now then of_enabling own.entry.name.now (parts_of own.entry.version.now) own.entry.feature.now (model.dependency called.entry.now) number ∷ [] else [])) }
+{
+    if dependency.name == *called {
+        let entry = Enabling::Dependency(called);
+        causes.push(Cause::Enabling(own.name, own.version, own.feature, entry, number))?;
+    }
+    Ok(())
+}
+
+/// What an entry `d/g` gives with a dependency.
+fn put_asked<'a>(
+    causes: &mut Vec<Cause<'a>>,
+    own: Own<'a>,
+    called: &'a PackageName,
+    asked: &'a FeatureName,
+    number: usize,
+    dependency: &Dependency,
+) -> Result<(), AllocError>
+    ensures { OnOk result (cause_views causes.new.items ≡ cause_views causes.old.items ++ (if same_text (dependency_view dependency.now).name called.entry.now then of_enabling own.entry.name.now (parts_of own.entry.version.now) own.entry.feature.now (model.dependency_feature called.entry.now asked.entry.now) number ∷ of_asking own.entry.name.now (parts_of own.entry.version.now) own.entry.feature.now asked.entry.now number ∷ [] else [])) }
+{
+    if dependency.name == *called {
+        let entry = Enabling::Feature(called, asked);
+        causes.push(Cause::Enabling(own.name, own.version, own.feature, entry, number))?;
+        causes.push(Cause::Asking(own.name, own.version, own.feature, asked, number))?;
+    }
+    Ok(())
+}
+
+/// What an entry `d?/g` gives with a dependency.
+fn put_weak<'a>(
+    alloc: Global,
+    inputs: &Inputs<'a>,
+    causes: &mut Vec<Cause<'a>>,
+    own: Own<'a>,
+    called: &'a PackageName,
+    asked: &'a FeatureName,
+    number: usize,
+    dependency: &Dependency,
+) -> Result<(), AllocError>
+    ensures { OnOk result (cause_views causes.new.items ≡ cause_views causes.old.items ++ entry_if (problem inputs.now) own.entry.name.now (parts_of own.entry.version.now) own.entry.feature.now (model.weak_feature called.entry.now asked.entry.now) number (dependency_view dependency.now)) }
+{
+    if dependency.name != *called {
+        return Ok(());
+    }
+    let classes = classes_of(alloc, inputs, dependency)?;
+    put_weak_in(causes, own, asked, number, dependency, classes.as_slice())
+}
+
+fn put_weak_in<'a>(
+    causes: &mut Vec<Cause<'a>>,
+    own: Own<'a>,
+    asked: &'a FeatureName,
+    number: usize,
+    dependency: &Dependency,
+    classes: &[Class],
+) -> Result<(), AllocError>
+    ensures { OnOk result (cause_views causes.new.items ≡ cause_views causes.old.items ++ flat_map (weak_if own.entry.name.now (parts_of own.entry.version.now) own.entry.feature.now asked.entry.now number (dependency_view dependency.now)) (map class_view classes.now)) }
+{
+    'classes: for class in classes.iter() {
+        put_weak_at(causes, own, asked, number, dependency, *class)?;
+    }
+    Ok(())
+}
+
+/// A class of the dependency, unless the feature there is the feature itself.
+fn put_weak_at<'a>(
+    causes: &mut Vec<Cause<'a>>,
+    own: Own<'a>,
+    asked: &'a FeatureName,
+    number: usize,
+    dependency: &Dependency,
+    class: Class,
+) -> Result<(), AllocError>
+    ensures { OnOk result (cause_views causes.new.items ≡ cause_views causes.old.items ++ weak_if own.entry.name.now (parts_of own.entry.version.now) own.entry.feature.now asked.entry.now number (dependency_view dependency.now) (class_view class)) }
+{
+    if is_itself(&own, asked, dependency, class) {
+        return Ok(());
+    }
+    let key = ClassKey::of(class);
+    causes.push(Cause::Weak(own.name, own.version, own.feature, asked, number, key))?;
+    Ok(())
+}
+
+/// Whether the feature of the dependency's package in the class is the feature itself.
+fn is_itself(own: &Own<'_>, asked: &FeatureName, dependency: &Dependency, class: Class) -> bool
+    ensures { result ≡ same_vertex (feat own.now.name.now (class_of (parts_of own.now.version.now)) own.now.feature.now) (feat (dependency_view dependency.now).real_name (class_view class) asked.now) }
+{
+    *own.name == dependency.real_name
+        && is_same(Class::of(own.version), class)
+        && *own.feature == *asked
+}
+
+fn is_same(a: Class, b: Class) -> bool
+    ensures { result ≡ same_class (class_view a) (class_view b) }
+{
+    a == b
+}
+
+/// The causes, each once.
+#[tactic(auto, using(crate::proofs::SameCauses::cause_put))]
+pub(crate) fn each_once<'a>(
+    alloc: Global,
+    causes: &[Cause<'a>],
+) -> Result<IndexSet<Cause<'a>>, AllocError>
+    ensures { IfOk result (λ s. cause_views s.keys ≡ with_causes [] (cause_views causes.now)) }
+{
+    let mut kept = IndexSet::new(alloc);
+    'causes: for cause in causes.iter() {
+        kept.insert(*cause)?;
+    }
+    Ok(kept)
+}
+
+/// What a version's needs and the entries of its features give.
+pub(crate) fn put_version<'a>(
+    alloc: Global,
+    inputs: &Inputs<'a>,
+    causes: &mut Vec<Cause<'a>>,
+    name: &'a PackageName,
+    version: &'a Version,
+) -> Result<(), AllocError>
+    ensures { OnOk result (cause_views causes.new.items ≡ cause_views causes.old.items ++ version_causes (problem inputs.now) name.entry.now (parts_of version.entry.now)) }
+{
+    let owner = OwnerRef::Version(name, version);
+    put_needs(causes, owner, dependencies_of(inputs, &owner))?;
+    put_features(alloc, inputs, causes, name, version)
+}
+
+/// What the entries of a version's features give.
+fn put_features<'a>(
+    alloc: Global,
+    inputs: &Inputs<'a>,
+    causes: &mut Vec<Cause<'a>>,
+    name: &'a PackageName,
+    version: &'a Version,
+) -> Result<(), AllocError>
+    ensures { OnOk result (cause_views causes.new.items ≡ cause_views causes.old.items ++ flat_map (λ row. feature_causes (problem inputs.now) name.entry.now (parts_of version.entry.now) row.0) (table_of_owner (problem inputs.now) (vertices.version_of name.entry.now (parts_of version.entry.now)))) }
+{
+    match brings(inputs, &OwnerRef::Version(name, version)) {
+        Some(summary) => put_rows(alloc, inputs, causes, name, version, &summary.features),
+        None => Ok(()),
+    }
+}
+
+/// What the entries of the features of a table give.
+fn put_rows<'a>(
+    alloc: Global,
+    inputs: &Inputs<'a>,
+    causes: &mut Vec<Cause<'a>>,
+    name: &'a PackageName,
+    version: &'a Version,
+    table: &'a FeatureTable,
+) -> Result<(), AllocError>
+    ensures { OnOk result (cause_views causes.new.items ≡ cause_views causes.old.items ++ flat_map (λ row. feature_causes (problem inputs.now) name.entry.now (parts_of version.entry.now) row.0) table.entry.now) }
+{
+    'rows: for (feature, _) in table.iter() {
+        let own = Own {
+            name,
+            version,
+            feature,
+        };
+        put_feature(
+            alloc,
+            inputs,
+            causes,
+            own,
+            entries_of(inputs, name, version, feature),
+        )?;
+    }
+    Ok(())
+}

@@ -1,0 +1,316 @@
+//! The causes of the instances that are added once a dependency leads to a class.
+
+ghost use Rattle.std.specs.Prelude.{◌≡◌, ◌++◌, ◌∷◌, [], ◌&&◌, List, Some, OnOk, map, codes, if◌then◌else◌};
+ghost use Rattle.std.specs.List.{flat_map, list_any};
+ghost use Rattle.semver.specs.EvalViews.{matches_views};
+ghost use Rattle.semver.specs.Identifiers.{parts_of};
+ghost use Rattle.classes.specs.Classes.{class_view};
+ghost use Rattle.features.specs.EntryViews.{entry_view, entry_views};
+ghost use Rattle.features.specs.Views.{dependency_view, dependency_views, requirement_view};
+ghost use Rattle.model.specs.Axioms.{is_lower};
+ghost use Rattle.model.specs.Summary.{asked_of_target, same_text};
+ghost use Rattle.model.specs.Vertices.{dep_classes};
+ghost use Rattle.refutations.specs.Causes.{dependency_at, has_class, of_list};
+ghost use Rattle.encoding.specs.CauseViews.{cause_views};
+ghost use Rattle.encoding.specs.CausesAt.{each_from, lead_causes, listed_by, newest_at, newest_if, root_asked};
+ghost use Rattle.encoding.specs.Inputs.{KnowsDefault, problem};
+ghost use Rattle.encoding.specs.RefViews.{class_view as key_view, owner_ref_view};
+
+use crate::cause::Cause;
+use crate::inputs::Inputs;
+use crate::lookups::{dependencies_of, dependency_at};
+use crate::ranges::class_versions;
+use crate::spaces::classes_of;
+use crate::tests::is_matched;
+use crate::vertex::{ClassKey, OwnerRef};
+use classes::Class;
+use features::{Dependency, Entry, FeatureName, FeatureTable, PackageName};
+use semver::{Version, VersionReq};
+use std::alloc::{AllocError, Global};
+
+/// A dependency of an owner by its number, and a class that it leads to.
+#[derive(Clone, Copy)]
+pub(crate) struct Lead<'a> {
+    pub(crate) owner: OwnerRef<'a>,
+    pub(crate) number: usize,
+    pub(crate) class: ClassKey,
+}
+
+/// What a dependency gives that leads to a class: nothing where it isn't there.
+pub(crate) fn put_lead<'a>(
+    alloc: Global,
+    inputs: &Inputs<'a>,
+    causes: &mut Vec<Cause<'a>>,
+    lead: Lead<'a>,
+) -> Result<(), AllocError>
+    requires default { KnowsDefault inputs.now }
+    ensures { OnOk result (cause_views causes.new.items ≡ cause_views causes.old.items ++ lead_causes (problem inputs.now) (owner_ref_view lead.entry.owner) lead.entry.number (key_view lead.entry.class) (dependency_at (problem inputs.now) (owner_ref_view lead.entry.owner) lead.entry.number)) }
+{
+    match dependency_at(inputs, &lead.owner, lead.number) {
+        Some(dependency) => put_leading(alloc, inputs, causes, lead, dependency),
+        None => Ok(()),
+    }
+}
+
+/// Its target, the features that it asks for by its list, and the dependencies of the same package that may lead to a
+/// higher class.
+fn put_leading<'a>(
+    alloc: Global,
+    inputs: &Inputs<'a>,
+    causes: &mut Vec<Cause<'a>>,
+    lead: Lead<'a>,
+    dependency: &'a Dependency,
+) -> Result<(), AllocError>
+    requires default { KnowsDefault inputs.now }
+    ensures { OnOk result (cause_views causes.new.items ≡ cause_views causes.old.items ++ lead_causes (problem inputs.now) (owner_ref_view lead.entry.owner) lead.entry.number (key_view lead.entry.class) (Some (dependency_view dependency.entry.now))) }
+{
+    causes.push(Cause::Target(lead.owner, lead.number, lead.class))?;
+    put_lists(inputs, causes, lead, dependency)?;
+    let others = dependencies_of(inputs, &lead.owner);
+    put_newest(alloc, inputs, causes, lead, dependency, others)
+}
+
+/// The features that it asks for.
+fn put_lists<'a>(
+    inputs: &Inputs<'a>,
+    causes: &mut Vec<Cause<'a>>,
+    lead: Lead<'a>,
+    dependency: &'a Dependency,
+) -> Result<(), AllocError>
+    requires default { KnowsDefault inputs.now }
+    ensures { OnOk result (cause_views causes.new.items ≡ cause_views causes.old.items ++ map (of_list (owner_ref_view lead.entry.owner) lead.entry.number (key_view lead.entry.class)) (asked_of_target (dependency_view dependency.entry.now) ++ root_asked (problem inputs.now) (owner_ref_view lead.entry.owner) (dependency_view dependency.entry.now))) }
+{
+    put_own_list(inputs, causes, lead, dependency)?;
+    put_root_lists(inputs, causes, lead, dependency)
+}
+
+/// Those of its own list, and `default`.
+fn put_own_list<'a>(
+    inputs: &Inputs<'a>,
+    causes: &mut Vec<Cause<'a>>,
+    lead: Lead<'a>,
+    dependency: &'a Dependency,
+) -> Result<(), AllocError>
+    requires default { KnowsDefault inputs.now }
+    ensures { OnOk result (cause_views causes.new.items ≡ cause_views causes.old.items ++ map (of_list (owner_ref_view lead.entry.owner) lead.entry.number (key_view lead.entry.class)) (asked_of_target (dependency_view dependency.entry.now))) }
+{
+    put_listed(causes, lead, dependency.features.as_slice())?;
+    put_default(inputs, causes, lead, dependency)
+}
+
+fn put_default<'a>(
+    inputs: &Inputs<'a>,
+    causes: &mut Vec<Cause<'a>>,
+    lead: Lead<'a>,
+    dependency: &Dependency,
+) -> Result<(), AllocError>
+    requires default { KnowsDefault inputs.now }
+    ensures { OnOk result (cause_views causes.new.items ≡ cause_views causes.old.items ++ (if (dependency_view dependency.now).default_features then of_list (owner_ref_view lead.entry.owner) lead.entry.number (key_view lead.entry.class) (codes "default") ∷ [] else [])) }
+{
+    if dependency.default_features {
+        causes.push(Cause::List(lead.owner, lead.number, lead.class, inputs.default))?;
+    }
+    Ok(())
+}
+
+fn put_listed<'a>(
+    causes: &mut Vec<Cause<'a>>,
+    lead: Lead<'a>,
+    features: &'a [FeatureName],
+) -> Result<(), AllocError>
+    ensures { OnOk result (cause_views causes.new.items ≡ cause_views causes.old.items ++ map (of_list (owner_ref_view lead.entry.owner) lead.entry.number (key_view lead.entry.class)) features.entry.now) }
+{
+    'features: for feature in features.iter() {
+        causes.push(Cause::List(lead.owner, lead.number, lead.class, feature))?;
+    }
+    Ok(())
+}
+
+/// Those that entries of the root's features ask it for.
+fn put_root_lists<'a>(
+    inputs: &Inputs<'a>,
+    causes: &mut Vec<Cause<'a>>,
+    lead: Lead<'a>,
+    dependency: &Dependency,
+) -> Result<(), AllocError>
+    ensures { OnOk result (cause_views causes.new.items ≡ cause_views causes.old.items ++ map (of_list (owner_ref_view lead.entry.owner) lead.entry.number (key_view lead.entry.class)) (root_asked (problem inputs.now) (owner_ref_view lead.entry.owner) (dependency_view dependency.now))) }
+{
+    match lead.owner {
+        OwnerRef::Root => put_root_rows(causes, lead, dependency, inputs.manifest.features()),
+        OwnerRef::Version(_, _) => Ok(()),
+    }
+}
+
+fn put_root_rows<'a>(
+    causes: &mut Vec<Cause<'a>>,
+    lead: Lead<'a>,
+    dependency: &Dependency,
+    table: &'a FeatureTable,
+) -> Result<(), AllocError>
+    ensures { OnOk result (cause_views causes.new.items ≡ cause_views causes.old.items ++ flat_map (λ row. flat_map (listed_by (owner_ref_view lead.entry.owner) lead.entry.number (key_view lead.entry.class) (dependency_view dependency.now)) row.1) table.entry.now) }
+{
+    'rows: for (_, entries) in table.iter() {
+        put_root_row(causes, lead, dependency, entries.as_slice())?;
+    }
+    Ok(())
+}
+
+fn put_root_row<'a>(
+    causes: &mut Vec<Cause<'a>>,
+    lead: Lead<'a>,
+    dependency: &Dependency,
+    entries: &'a [Entry],
+) -> Result<(), AllocError>
+    ensures { OnOk result (cause_views causes.new.items ≡ cause_views causes.old.items ++ flat_map (listed_by (owner_ref_view lead.entry.owner) lead.entry.number (key_view lead.entry.class) (dependency_view dependency.now)) (entry_views entries.entry.now)) }
+{
+    'entries: for entry in entries.iter() {
+        put_root_entry(causes, lead, dependency, entry)?;
+    }
+    Ok(())
+}
+
+fn put_root_entry<'a>(
+    causes: &mut Vec<Cause<'a>>,
+    lead: Lead<'a>,
+    dependency: &Dependency,
+    entry: &'a Entry,
+) -> Result<(), AllocError>
+    ensures { OnOk result (cause_views causes.new.items ≡ cause_views causes.old.items ++ listed_by (owner_ref_view lead.entry.owner) lead.entry.number (key_view lead.entry.class) (dependency_view dependency.now) (entry_view entry.entry.now)) }
+{
+    match entry {
+        Entry::Feature(_) => Ok(()),
+        Entry::Dependency(_) => Ok(()),
+        Entry::DependencyFeature(called, asked) => {
+            put_root_asked(causes, lead, dependency, called, asked)
+        }
+        Entry::WeakFeature(called, asked) => {
+            put_root_asked(causes, lead, dependency, called, asked)
+        }
+    }
+}
+
+/// What an entry `d/g` or `d?/g` of the root gives with a dependency.
+fn put_root_asked<'a>(
+    causes: &mut Vec<Cause<'a>>,
+    lead: Lead<'a>,
+    dependency: &Dependency,
+    called: &PackageName,
+    asked: &'a FeatureName,
+) -> Result<(), AllocError>
+    ensures { OnOk result (cause_views causes.new.items ≡ cause_views causes.old.items ++ (if same_text (dependency_view dependency.now).name called.now then of_list (owner_ref_view lead.entry.owner) lead.entry.number (key_view lead.entry.class) asked.entry.now ∷ [] else [])) }
+{
+    if dependency.name == *called {
+        causes.push(Cause::List(lead.owner, lead.number, lead.class, asked))?;
+    }
+    Ok(())
+}
+
+/// The dependencies of the same package that may lead to a higher class.
+fn put_newest<'a>(
+    alloc: Global,
+    inputs: &Inputs<'a>,
+    causes: &mut Vec<Cause<'a>>,
+    lead: Lead<'a>,
+    dependency: &Dependency,
+    others: &[Dependency],
+) -> Result<(), AllocError>
+    ensures { OnOk result (cause_views causes.new.items ≡ cause_views causes.old.items ++ each_from (newest_if (problem inputs.now) (owner_ref_view lead.entry.owner) lead.entry.number (key_view lead.entry.class) (dependency_view dependency.now)) 0 (dependency_views others.now)) }
+{
+    'others: for (number, other) in others.iter().enumerate() {
+        put_other(alloc, inputs, causes, lead, dependency, number, other)?;
+    }
+    Ok(())
+}
+
+fn put_other<'a>(
+    alloc: Global,
+    inputs: &Inputs<'a>,
+    causes: &mut Vec<Cause<'a>>,
+    lead: Lead<'a>,
+    dependency: &Dependency,
+    number: usize,
+    other: &Dependency,
+) -> Result<(), AllocError>
+    ensures { OnOk result (cause_views causes.new.items ≡ cause_views causes.old.items ++ newest_if (problem inputs.now) (owner_ref_view lead.entry.owner) lead.entry.number (key_view lead.entry.class) (dependency_view dependency.now) number (dependency_view other.now)) }
+{
+    if lead.number == number {
+        return Ok(());
+    }
+    put_higher(alloc, inputs, causes, lead, dependency, number, other)
+}
+
+fn put_higher<'a>(
+    alloc: Global,
+    inputs: &Inputs<'a>,
+    causes: &mut Vec<Cause<'a>>,
+    lead: Lead<'a>,
+    dependency: &Dependency,
+    number: usize,
+    other: &Dependency,
+) -> Result<(), AllocError>
+    ensures { OnOk result (cause_views causes.new.items ≡ cause_views causes.old.items ++ (if same_text (dependency_view dependency.now).real_name (dependency_view other.now).real_name then flat_map (newest_at (problem inputs.now) (owner_ref_view lead.entry.owner) lead.entry.number number (key_view lead.entry.class) (dependency_view dependency.now)) (dep_classes (problem inputs.now) (dependency_view other.now)) else [])) }
+{
+    if dependency.real_name != other.real_name {
+        return Ok(());
+    }
+    let classes = classes_of(alloc, inputs, other)?;
+    put_classes(inputs, causes, lead, dependency, number, classes.as_slice())
+}
+
+fn put_classes<'a>(
+    inputs: &Inputs<'a>,
+    causes: &mut Vec<Cause<'a>>,
+    lead: Lead<'a>,
+    dependency: &Dependency,
+    number: usize,
+    classes: &[Class],
+) -> Result<(), AllocError>
+    ensures { OnOk result (cause_views causes.new.items ≡ cause_views causes.old.items ++ flat_map (newest_at (problem inputs.now) (owner_ref_view lead.entry.owner) lead.entry.number number (key_view lead.entry.class) (dependency_view dependency.now)) (map class_view classes.now)) }
+{
+    'classes: for class in classes.iter() {
+        put_class(inputs, causes, lead, dependency, number, *class)?;
+    }
+    Ok(())
+}
+
+fn put_class<'a>(
+    inputs: &Inputs<'a>,
+    causes: &mut Vec<Cause<'a>>,
+    lead: Lead<'a>,
+    dependency: &Dependency,
+    number: usize,
+    class: Class,
+) -> Result<(), AllocError>
+    ensures { OnOk result (cause_views causes.new.items ≡ cause_views causes.old.items ++ newest_at (problem inputs.now) (owner_ref_view lead.entry.owner) lead.entry.number number (key_view lead.entry.class) (dependency_view dependency.now) (class_view class)) }
+{
+    if is_higher(inputs, lead.class, dependency, class) {
+        let key = ClassKey::of(class);
+        causes.push(Cause::Newest(lead.owner, lead.number, number, lead.class, key))?;
+    }
+    Ok(())
+}
+
+/// Whether a class is higher than that of the dependency, which may lead to it too.
+fn is_higher(inputs: &Inputs<'_>, class: ClassKey, dependency: &Dependency, higher: Class) -> bool
+    ensures { result ≡ (is_lower (key_view class) (class_view higher) && has_class (problem inputs.now) (class_view higher) (dependency_view dependency.now)) }
+{
+    class.class().is_lower(higher) && may_lead(inputs, dependency, higher)
+}
+
+/// Whether some candidate of the class is matched.
+fn may_lead(inputs: &Inputs<'_>, dependency: &Dependency, class: Class) -> bool
+    ensures { result ≡ has_class (problem inputs.now) (class_view class) (dependency_view dependency.now) }
+{
+    some_matched(
+        &dependency.requirement,
+        class_versions(inputs.catalogue, &dependency.real_name, class),
+    )
+}
+
+fn some_matched(requirement: &VersionReq, versions: &[Version]) -> bool
+    ensures { result ≡ list_any (λ v. matches_views (requirement_view requirement.now) (parts_of v)) versions.now }
+{
+    versions
+        .iter()
+        .any(|version| is_matched(requirement, version))
+}

@@ -1,0 +1,64 @@
+//! What owners bring, looked up in the manifest and in the loaded index.
+
+ghost use Rattle.std.specs.Prelude.{◌≡◌, option_map};
+ghost use Rattle.semver.specs.Identifiers.{parts_of};
+ghost use Rattle.features.specs.Views.{dependency_view, dependency_views};
+ghost use Rattle.features.specs.EntryViews.{entry_views};
+ghost use Rattle.model.specs.Vertices.{owner_brings};
+ghost use Rattle.refutations.specs.Causes.{dependency_at, entries_of};
+ghost use Rattle.encoding.specs.Inputs.{brings_view, problem};
+ghost use Rattle.encoding.specs.RefViews.{owner_ref_view};
+
+use crate::inputs::Inputs;
+use crate::vertex::OwnerRef;
+use features::{Dependency, Entry, FeatureName, PackageName, Summary};
+use semver::Version;
+
+/// What an owner brings: nothing where it is neither the root nor a candidate.
+pub(crate) fn brings<'a>(inputs: &Inputs<'a>, owner: &OwnerRef<'_>) -> Option<&'a Summary>
+    ensures { brings_view result ≡ owner_brings (problem inputs.now) (owner_ref_view owner.now) }
+{
+    match owner {
+        OwnerRef::Root => Some(inputs.manifest.summary()),
+        OwnerRef::Version(name, version) => {
+            let candidate = inputs.catalogue.candidate(name, version)?;
+            Some(&candidate.brings)
+        }
+    }
+}
+
+/// The dependencies of an owner.
+pub(crate) fn dependencies_of<'a>(inputs: &Inputs<'a>, owner: &OwnerRef<'_>) -> &'a [Dependency]
+    ensures { dependency_views result.now ≡ (owner_brings (problem inputs.now) (owner_ref_view owner.now)).dependencies }
+{
+    match brings(inputs, owner) {
+        Some(owner) => owner.dependencies.as_slice(),
+        None => &[],
+    }
+}
+
+/// The dependency of an owner that has this number.
+pub(crate) fn dependency_at<'a>(
+    inputs: &Inputs<'a>,
+    owner: &OwnerRef<'_>,
+    number: usize,
+) -> Option<&'a Dependency>
+    ensures { option_map (λ d. dependency_view d.now) result ≡ dependency_at (problem inputs.now) (owner_ref_view owner.now) number }
+{
+    dependencies_of(inputs, owner).get(number)
+}
+
+/// The entries of a feature of a version.
+pub(crate) fn entries_of<'a>(
+    inputs: &Inputs<'a>,
+    name: &PackageName,
+    version: &Version,
+    feature: &FeatureName,
+) -> &'a [Entry]
+    ensures { entry_views result.now ≡ entries_of (problem inputs.now) name.now (parts_of version.now) feature.now }
+{
+    match brings(inputs, &OwnerRef::Version(name, version)) {
+        Some(owner) => owner.features.entries(feature),
+        None => &[],
+    }
+}

@@ -1,0 +1,473 @@
+//! The terms of the instance that a cause gives rise to, each as a vertex and tests of its space.
+
+ghost use Rattle.std.specs.Prelude.{◌≡◌, ◌∷◌, [], true, false, not, map, IfOk};
+ghost use Rattle.semver.specs.Identifiers.{parts_of};
+ghost use Rattle.classes.specs.Classes.{class_view};
+ghost use Rattle.features.specs.Views.{dependency_view, requirement_view};
+ghost use Rattle.model.specs.Axioms.{absent_or, at, matched, owner_holds, versions_that};
+ghost use Rattle.model.specs.Content.{Problem};
+ghost use Rattle.model.specs.Selection.{class_of};
+ghost use Rattle.model.specs.Summary.{has_feature};
+ghost use Rattle.model.specs.Vertices as model;
+ghost use Rattle.refutations.specs.Causes as causes;
+ghost use Rattle.refutations.specs.Causes.{feature_holds, terms_of_cause};
+ghost use Rattle.encoding.specs.CauseViews.{cause_view};
+ghost use Rattle.encoding.specs.Inputs.{problem};
+ghost use Rattle.encoding.specs.Parts.{part_of, part_view, part_views, parts_of_terms};
+ghost use Rattle.encoding.specs.RefViews.{class_view as key_view, owner_ref_view, vertex_ref_view};
+
+use crate::cause::Cause;
+use crate::inputs::Inputs;
+use crate::lookups::dependency_at;
+use crate::ranges::class_versions;
+use crate::spaces::classes_at;
+use crate::tests::{chosen_tests, class_tests, lacking_tests, left_tests, no_class, taken_tests};
+use crate::vertex::{ClassKey, OwnerRef, VertexRef};
+use catalogue::catalogues_are_well_formed;
+use classes::Class;
+use features::{Dependency, FeatureName, PackageName};
+use semver::Version;
+use std::alloc::{AllocError, Global};
+
+/// A term: a vertex, and for each of its states, in their order, whether the term has it.
+#[derive(Drop)]
+pub(crate) struct Part<'a> {
+    pub(crate) vertex: VertexRef<'a>,
+    pub(crate) tests: Vec<bool>,
+}
+
+/// The terms of the instance.
+pub(crate) fn parts_of_cause<'a>(
+    alloc: Global,
+    inputs: &Inputs<'a>,
+    cause: &Cause<'a>,
+) -> Result<Vec<Part<'a>>, AllocError>
+    ensures { IfOk result (λ v. part_views v.items ≡ parts_of_terms (problem inputs.now) (terms_of_cause (problem inputs.now) (cause_view cause.now))) }
+{
+    match *cause {
+        Cause::Root => one(alloc, two_states(alloc, VertexRef::Root, false)?),
+        Cause::Need(owner, number) => need_parts(alloc, inputs, owner, number),
+        Cause::Target(owner, number, class) => target_parts(alloc, inputs, owner, number, class),
+        Cause::Feature(name, class, feature) => feature_parts(alloc, inputs, name, class, feature),
+        Cause::List(owner, number, class, feature) => {
+            list_parts(alloc, inputs, owner, number, class, feature)
+        }
+        Cause::Ask(name, version, number, feature, class) => {
+            ask_parts(alloc, inputs, name, version, number, feature, class)
+        }
+        Cause::Entry(name, version, on, off) => entry_parts(alloc, inputs, name, version, on, off),
+        Cause::Enabling(name, version, on, _, number) => {
+            enabling_parts(alloc, inputs, name, version, on, number)
+        }
+        Cause::Asking(name, version, on, asked, number) => {
+            asking_parts(alloc, inputs, name, version, on, asked, number)
+        }
+        Cause::Newest(owner, number, other, class, higher) => {
+            newest_parts(alloc, inputs, owner, number, other, class, higher)
+        }
+        Cause::Weak(name, version, on, off, number, class) => {
+            weak_parts(alloc, inputs, name, version, on, off, number, class)
+        }
+    }
+}
+
+fn one(alloc: Global, a: Part<'_>) -> Result<Vec<Part<'_>>, AllocError>
+    ensures { IfOk result (λ v. part_views v.items ≡ part_view a.entry ∷ []) }
+{
+    let mut parts = Vec::new(alloc);
+    parts.push(a)?;
+    Ok(parts)
+}
+
+fn two<'a>(alloc: Global, a: Part<'a>, b: Part<'a>) -> Result<Vec<Part<'a>>, AllocError>
+    ensures { IfOk result (λ v. part_views v.items ≡ part_view a.entry ∷ part_view b.entry ∷ []) }
+{
+    let mut parts = one(alloc, a)?;
+    parts.push(b)?;
+    Ok(parts)
+}
+
+fn three<'a>(
+    alloc: Global,
+    a: Part<'a>,
+    b: Part<'a>,
+    c: Part<'a>,
+) -> Result<Vec<Part<'a>>, AllocError>
+    ensures { IfOk result (λ v. part_views v.items ≡ part_view a.entry ∷ part_view b.entry ∷ part_view c.entry ∷ []) }
+{
+    let mut parts = two(alloc, a, b)?;
+    parts.push(c)?;
+    Ok(parts)
+}
+
+/// A vertex that may be absent or present: it is the one of them.
+fn two_states(alloc: Global, vertex: VertexRef<'_>, present: bool) -> Result<Part<'_>, AllocError>
+    ensures { IfOk result (λ p. part_view p ≡ (vertex_ref_view vertex.entry, not present ∷ present ∷ [])) }
+{
+    let mut tests = Vec::new(alloc);
+    tests.push(!present)?;
+    tests.push(present)?;
+    Ok(Part { vertex, tests })
+}
+
+/// The owner counts.
+fn holds<'a>(
+    alloc: Global,
+    inputs: &Inputs<'a>,
+    owner: OwnerRef<'a>,
+) -> Result<Part<'a>, AllocError>
+    ensures { IfOk result (λ p. part_view p ≡ part_of (problem inputs.now) (owner_holds (owner_ref_view owner.entry))) }
+{
+    match owner {
+        OwnerRef::Root => two_states(alloc, VertexRef::Root, true),
+        OwnerRef::Version(name, version) => chosen(alloc, inputs, name, version),
+    }
+}
+
+/// The version is chosen.
+fn chosen<'a>(
+    alloc: Global,
+    inputs: &Inputs<'a>,
+    name: &'a PackageName,
+    version: &'a Version,
+) -> Result<Part<'a>, AllocError>
+    ensures { IfOk result (λ p. part_view p ≡ part_of (problem inputs.now) (at (model.pkg name.entry.now (class_of (parts_of version.entry.now))) (model.version (parts_of version.entry.now) ∷ []))) }
+{
+    let class = Class::of(version);
+    let versions = class_versions(inputs.catalogue, name, class);
+    let tests = chosen_tests(alloc, version, versions)?;
+    Ok(Part {
+        vertex: VertexRef::Package(name, ClassKey::of(class)),
+        tests,
+    })
+}
+
+/// The feature of the version is on, or off.
+fn own_feature<'a>(
+    alloc: Global,
+    name: &'a PackageName,
+    version: &'a Version,
+    feature: &'a FeatureName,
+    on: bool,
+) -> Result<Part<'a>, AllocError>
+    ensures { IfOk result (λ p. part_view p ≡ (model.feat name.entry.now (class_of (parts_of version.entry.now)) feature.entry.now, not on ∷ on ∷ [])) }
+{
+    two_states(
+        alloc,
+        VertexRef::Feature(name, ClassKey::of(Class::of(version)), feature),
+        on,
+    )
+}
+
+/// The feature is off in the class.
+fn off_there<'a>(
+    alloc: Global,
+    dependency: &'a Dependency,
+    class: ClassKey,
+    feature: &'a FeatureName,
+) -> Result<Part<'a>, AllocError>
+    ensures { IfOk result (λ p. part_view p ≡ (model.feat (dependency_view dependency.entry.now).real_name (key_view class) feature.entry.now, true ∷ false ∷ [])) }
+{
+    two_states(
+        alloc,
+        VertexRef::Feature(&dependency.real_name, class, feature),
+        false,
+    )
+}
+
+/// The dependency is absent.
+fn absent<'a>(
+    alloc: Global,
+    inputs: &Inputs<'a>,
+    owner: OwnerRef<'a>,
+    number: usize,
+) -> Result<Part<'a>, AllocError>
+    ensures { IfOk result (λ p. part_view p ≡ part_of (problem inputs.now) (at (model.dep (owner_ref_view owner.entry) number) (model.absent ∷ []))) }
+{
+    let classes = classes_at(alloc, inputs, &owner, number)?;
+    let tests = no_class(alloc, classes.as_slice())?;
+    Ok(Part {
+        vertex: VertexRef::Dependency(owner, number),
+        tests,
+    })
+}
+
+/// The dependency leads to the class.
+fn leads<'a>(
+    alloc: Global,
+    inputs: &Inputs<'a>,
+    owner: OwnerRef<'a>,
+    number: usize,
+    class: ClassKey,
+) -> Result<Part<'a>, AllocError>
+    ensures { IfOk result (λ p. part_view p ≡ part_of (problem inputs.now) (at (model.dep (owner_ref_view owner.entry) number) (model.in_class (key_view class) ∷ []))) }
+{
+    let classes = classes_at(alloc, inputs, &owner, number)?;
+    let tests = class_tests(alloc, class.class(), classes.as_slice())?;
+    Ok(Part {
+        vertex: VertexRef::Dependency(owner, number),
+        tests,
+    })
+}
+
+fn need_parts<'a>(
+    alloc: Global,
+    inputs: &Inputs<'a>,
+    owner: OwnerRef<'a>,
+    number: usize,
+) -> Result<Vec<Part<'a>>, AllocError>
+    ensures { IfOk result (λ v. part_views v.items ≡ parts_of_terms (problem inputs.now) (terms_of_cause (problem inputs.now) (causes.of_need (owner_ref_view owner.entry) number))) }
+{
+    two(
+        alloc,
+        holds(alloc, inputs, owner)?,
+        absent(alloc, inputs, owner, number)?,
+    )
+}
+
+fn entry_parts<'a>(
+    alloc: Global,
+    inputs: &Inputs<'a>,
+    name: &'a PackageName,
+    version: &'a Version,
+    on: &'a FeatureName,
+    off: &'a FeatureName,
+) -> Result<Vec<Part<'a>>, AllocError>
+    ensures { IfOk result (λ v. part_views v.items ≡ parts_of_terms (problem inputs.now) (feature_holds name.entry.now (parts_of version.entry.now) on.entry.now (at (model.feat name.entry.now (class_of (parts_of version.entry.now)) off.entry.now) (model.absent ∷ []) ∷ []))) }
+{
+    three(
+        alloc,
+        chosen(alloc, inputs, name, version)?,
+        own_feature(alloc, name, version, on, true)?,
+        own_feature(alloc, name, version, off, false)?,
+    )
+}
+
+fn enabling_parts<'a>(
+    alloc: Global,
+    inputs: &Inputs<'a>,
+    name: &'a PackageName,
+    version: &'a Version,
+    on: &'a FeatureName,
+    number: usize,
+) -> Result<Vec<Part<'a>>, AllocError>
+    ensures { IfOk result (λ v. part_views v.items ≡ parts_of_terms (problem inputs.now) (feature_holds name.entry.now (parts_of version.entry.now) on.entry.now (at (model.dep (model.version_of name.entry.now (parts_of version.entry.now)) number) (model.absent ∷ []) ∷ []))) }
+{
+    three(
+        alloc,
+        chosen(alloc, inputs, name, version)?,
+        own_feature(alloc, name, version, on, true)?,
+        absent(alloc, inputs, OwnerRef::Version(name, version), number)?,
+    )
+}
+
+fn asking_parts<'a>(
+    alloc: Global,
+    inputs: &Inputs<'a>,
+    name: &'a PackageName,
+    version: &'a Version,
+    on: &'a FeatureName,
+    asked: &'a FeatureName,
+    number: usize,
+) -> Result<Vec<Part<'a>>, AllocError>
+    ensures { IfOk result (λ v. part_views v.items ≡ parts_of_terms (problem inputs.now) (feature_holds name.entry.now (parts_of version.entry.now) on.entry.now (at (model.ask name.entry.now (parts_of version.entry.now) number asked.entry.now) (model.absent ∷ []) ∷ []))) }
+{
+    three(
+        alloc,
+        chosen(alloc, inputs, name, version)?,
+        own_feature(alloc, name, version, on, true)?,
+        two_states(alloc, VertexRef::Ask(name, version, number, asked), false)?,
+    )
+}
+
+fn target_parts<'a>(
+    alloc: Global,
+    inputs: &Inputs<'a>,
+    owner: OwnerRef<'a>,
+    number: usize,
+    class: ClassKey,
+) -> Result<Vec<Part<'a>>, AllocError>
+    ensures { IfOk result (λ v. part_views v.items ≡ parts_of_terms (problem inputs.now) (terms_of_cause (problem inputs.now) (causes.of_target (owner_ref_view owner.entry) number (key_view class)))) }
+{
+    match dependency_at(inputs, &owner, number) {
+        Some(dependency) => two(
+            alloc,
+            leads(alloc, inputs, owner, number, class)?,
+            left(alloc, inputs, dependency, class)?,
+        ),
+        None => Ok(Vec::new(alloc)),
+    }
+}
+
+/// The package is absent or has a version of the class that isn't matched.
+fn left<'a>(
+    alloc: Global,
+    inputs: &Inputs<'a>,
+    dependency: &'a Dependency,
+    class: ClassKey,
+) -> Result<Part<'a>, AllocError>
+    ensures { IfOk result (λ p. part_view p ≡ part_of (problem inputs.now) (at (model.pkg (dependency_view dependency.entry.now).real_name (key_view class)) (absent_or (problem inputs.now) (λ c. not (matched (dependency_view dependency.entry.now) c)) (dependency_view dependency.entry.now).real_name (key_view class)))) }
+{
+    let versions = class_versions(inputs.catalogue, &dependency.real_name, class.class());
+    let tests = left_tests(alloc, &dependency.requirement, versions)?;
+    Ok(Part {
+        vertex: VertexRef::Package(&dependency.real_name, class),
+        tests,
+    })
+}
+
+/// The package has a version of the class that is matched.
+fn taken<'a>(
+    alloc: Global,
+    inputs: &Inputs<'a>,
+    dependency: &'a Dependency,
+    class: ClassKey,
+) -> Result<Part<'a>, AllocError>
+    ensures { IfOk result (λ p. part_view p ≡ part_of (problem inputs.now) (at (model.pkg (dependency_view dependency.entry.now).real_name (key_view class)) (versions_that (problem inputs.now) (matched (dependency_view dependency.entry.now)) (dependency_view dependency.entry.now).real_name (key_view class)))) }
+{
+    let versions = class_versions(inputs.catalogue, &dependency.real_name, class.class());
+    let tests = taken_tests(alloc, &dependency.requirement, versions)?;
+    Ok(Part {
+        vertex: VertexRef::Package(&dependency.real_name, class),
+        tests,
+    })
+}
+
+/// The package is absent or has a version of the class that lacks the feature.
+fn lacking<'a>(
+    alloc: Global,
+    inputs: &Inputs<'a>,
+    name: &'a PackageName,
+    class: ClassKey,
+    feature: &FeatureName,
+) -> Result<Part<'a>, AllocError>
+    ensures { IfOk result (λ p. part_view p ≡ part_of (problem inputs.now) (at (model.pkg name.entry.now (key_view class)) (absent_or (problem inputs.now) (λ c. not (has_feature c.brings.features feature.now)) name.entry.now (key_view class)))) }
+{
+    catalogues_are_well_formed(inputs.manifest, inputs.catalogue);
+    let versions = class_versions(inputs.catalogue, name, class.class());
+    let tests = lacking_tests(alloc, inputs, name, feature, versions)?;
+    Ok(Part {
+        vertex: VertexRef::Package(name, class),
+        tests,
+    })
+}
+
+fn feature_parts<'a>(
+    alloc: Global,
+    inputs: &Inputs<'a>,
+    name: &'a PackageName,
+    class: ClassKey,
+    feature: &'a FeatureName,
+) -> Result<Vec<Part<'a>>, AllocError>
+    ensures { IfOk result (λ v. part_views v.items ≡ parts_of_terms (problem inputs.now) (terms_of_cause (problem inputs.now) (causes.of_feature name.entry.now (key_view class) feature.entry.now))) }
+{
+    two(
+        alloc,
+        two_states(alloc, VertexRef::Feature(name, class, feature), true)?,
+        lacking(alloc, inputs, name, class, feature)?,
+    )
+}
+
+fn list_parts<'a>(
+    alloc: Global,
+    inputs: &Inputs<'a>,
+    owner: OwnerRef<'a>,
+    number: usize,
+    class: ClassKey,
+    feature: &'a FeatureName,
+) -> Result<Vec<Part<'a>>, AllocError>
+    ensures { IfOk result (λ v. part_views v.items ≡ parts_of_terms (problem inputs.now) (terms_of_cause (problem inputs.now) (causes.of_list (owner_ref_view owner.entry) number (key_view class) feature.entry.now))) }
+{
+    match dependency_at(inputs, &owner, number) {
+        Some(dependency) => two(
+            alloc,
+            leads(alloc, inputs, owner, number, class)?,
+            off_there(alloc, dependency, class, feature)?,
+        ),
+        None => Ok(Vec::new(alloc)),
+    }
+}
+
+fn ask_parts<'a>(
+    alloc: Global,
+    inputs: &Inputs<'a>,
+    name: &'a PackageName,
+    version: &'a Version,
+    number: usize,
+    feature: &'a FeatureName,
+    class: ClassKey,
+) -> Result<Vec<Part<'a>>, AllocError>
+    ensures { IfOk result (λ v. part_views v.items ≡ parts_of_terms (problem inputs.now) (terms_of_cause (problem inputs.now) (causes.of_ask name.entry.now (parts_of version.entry.now) number feature.entry.now (key_view class)))) }
+{
+    let owner = OwnerRef::Version(name, version);
+    match dependency_at(inputs, &owner, number) {
+        Some(dependency) => three(
+            alloc,
+            two_states(alloc, VertexRef::Ask(name, version, number, feature), true)?,
+            leads(alloc, inputs, owner, number, class)?,
+            off_there(alloc, dependency, class, feature)?,
+        ),
+        None => Ok(Vec::new(alloc)),
+    }
+}
+
+fn newest_parts<'a>(
+    alloc: Global,
+    inputs: &Inputs<'a>,
+    owner: OwnerRef<'a>,
+    number: usize,
+    other: usize,
+    class: ClassKey,
+    higher: ClassKey,
+) -> Result<Vec<Part<'a>>, AllocError>
+    ensures { IfOk result (λ v. part_views v.items ≡ parts_of_terms (problem inputs.now) (terms_of_cause (problem inputs.now) (causes.of_newest (owner_ref_view owner.entry) number other (key_view class) (key_view higher)))) }
+{
+    match dependency_at(inputs, &owner, number) {
+        Some(dependency) => three(
+            alloc,
+            leads(alloc, inputs, owner, number, class)?,
+            leads(alloc, inputs, owner, other, higher)?,
+            taken(alloc, inputs, dependency, higher)?,
+        ),
+        None => Ok(Vec::new(alloc)),
+    }
+}
+
+fn weak_parts<'a>(
+    alloc: Global,
+    inputs: &Inputs<'a>,
+    name: &'a PackageName,
+    version: &'a Version,
+    on: &'a FeatureName,
+    off: &'a FeatureName,
+    number: usize,
+    class: ClassKey,
+) -> Result<Vec<Part<'a>>, AllocError>
+    ensures { IfOk result (λ v. part_views v.items ≡ parts_of_terms (problem inputs.now) (terms_of_cause (problem inputs.now) (causes.of_weak name.entry.now (parts_of version.entry.now) on.entry.now off.entry.now number (key_view class)))) }
+{
+    let owner = OwnerRef::Version(name, version);
+    match dependency_at(inputs, &owner, number) {
+        Some(dependency) => four(
+            alloc,
+            chosen(alloc, inputs, name, version)?,
+            own_feature(alloc, name, version, on, true)?,
+            leads(alloc, inputs, owner, number, class)?,
+            off_there(alloc, dependency, class, off)?,
+        ),
+        None => Ok(Vec::new(alloc)),
+    }
+}
+
+fn four<'a>(
+    alloc: Global,
+    a: Part<'a>,
+    b: Part<'a>,
+    c: Part<'a>,
+    d: Part<'a>,
+) -> Result<Vec<Part<'a>>, AllocError>
+    ensures { IfOk result (λ v. part_views v.items ≡ part_view a.entry ∷ part_view b.entry ∷ part_view c.entry ∷ part_view d.entry ∷ []) }
+{
+    let mut parts = three(alloc, a, b, c)?;
+    parts.push(d)?;
+    Ok(parts)
+}

@@ -1,0 +1,160 @@
+//! Sets of a vertex's states, as tests of its space: absent first, then the versions or classes in their order.
+
+ghost use Rattle.std.specs.Prelude.{◌≡◌, ◌∷◌, true, false, map, IfOk};
+ghost use Rattle.semver.specs.EvalViews.{matches_views};
+ghost use Rattle.semver.specs.Identifiers.{parts_of};
+ghost use Rattle.classes.specs.Classes.{class_view};
+ghost use Rattle.features.specs.Views.{requirement_view};
+ghost use Rattle.encoding.specs.Inputs.{problem};
+ghost use Rattle.encoding.specs.Parts.{is_chosen, is_class, is_lacking, is_left, is_taken};
+
+use crate::inputs::Inputs;
+use crate::lookups::brings;
+use crate::vertex::OwnerRef;
+use classes::Class;
+use features::{FeatureName, PackageName};
+use semver::{Version, VersionReq};
+use std::alloc::{AllocError, Global};
+
+pub(crate) fn is_matched(requirement: &VersionReq, version: &Version) -> bool
+    ensures { result ≡ matches_views (requirement_view requirement.now) (parts_of version.now) }
+{
+    requirement.matches(version)
+}
+
+#[tactic(auto, unfolding(crate::specs::Parts::is_left))]
+fn is_left(requirement: &VersionReq, version: &Version) -> bool
+    ensures { result ≡ is_left (requirement_view requirement.now) (parts_of version.now) }
+{
+    !is_matched(requirement, version)
+}
+
+#[tactic(auto, unfolding(crate::specs::Parts::is_taken))]
+fn is_taken(requirement: &VersionReq, version: &Version) -> bool
+    ensures { result ≡ is_taken (requirement_view requirement.now) (parts_of version.now) }
+{
+    is_matched(requirement, version)
+}
+
+#[tactic(auto, unfolding(crate::specs::Parts::is_chosen))]
+fn is_chosen(version: &Version, other: &Version) -> bool
+    ensures { result ≡ is_chosen (parts_of version.now) (parts_of other.now) }
+{
+    other == version
+}
+
+#[tactic(auto, unfolding(crate::specs::Parts::is_class))]
+fn is_class(class: Class, other: Class) -> bool
+    ensures { result ≡ is_class (class_view class) (class_view other) }
+{
+    other == class
+}
+
+#[tactic(auto, unfolding(crate::specs::Parts::is_lacking))]
+fn is_lacking(
+    inputs: &Inputs<'_>,
+    name: &PackageName,
+    feature: &FeatureName,
+    version: &Version,
+) -> bool
+    ensures { result ≡ is_lacking (problem inputs.now) name.now feature.now (parts_of version.now) }
+{
+    match brings(inputs, &OwnerRef::Version(name, version)) {
+        Some(owner) => !owner.features.has(feature),
+        None => true,
+    }
+}
+
+/// Absent, and the versions that aren't matched.
+pub(crate) fn left_tests(
+    alloc: Global,
+    requirement: &VersionReq,
+    versions: &[Version],
+) -> Result<Vec<bool>, AllocError>
+    ensures { IfOk result (λ v. v.items ≡ true ∷ map (λ w. is_left (requirement_view requirement.now) (parts_of w)) versions.now) }
+{
+    let mut tests = Vec::new(alloc);
+    tests.push(true)?;
+    'versions: for version in versions.iter() {
+        tests.push(is_left(requirement, version))?;
+    }
+    Ok(tests)
+}
+
+/// The versions that are matched.
+pub(crate) fn taken_tests(
+    alloc: Global,
+    requirement: &VersionReq,
+    versions: &[Version],
+) -> Result<Vec<bool>, AllocError>
+    ensures { IfOk result (λ v. v.items ≡ false ∷ map (λ w. is_taken (requirement_view requirement.now) (parts_of w)) versions.now) }
+{
+    let mut tests = Vec::new(alloc);
+    tests.push(false)?;
+    'versions: for version in versions.iter() {
+        tests.push(is_taken(requirement, version))?;
+    }
+    Ok(tests)
+}
+
+/// One version alone.
+pub(crate) fn chosen_tests(
+    alloc: Global,
+    chosen: &Version,
+    versions: &[Version],
+) -> Result<Vec<bool>, AllocError>
+    ensures { IfOk result (λ v. v.items ≡ false ∷ map (λ w. is_chosen (parts_of chosen.now) (parts_of w)) versions.now) }
+{
+    let mut tests = Vec::new(alloc);
+    tests.push(false)?;
+    'versions: for version in versions.iter() {
+        tests.push(is_chosen(chosen, version))?;
+    }
+    Ok(tests)
+}
+
+/// Absent, and the versions that lack the feature.
+pub(crate) fn lacking_tests(
+    alloc: Global,
+    inputs: &Inputs<'_>,
+    name: &PackageName,
+    feature: &FeatureName,
+    versions: &[Version],
+) -> Result<Vec<bool>, AllocError>
+    ensures { IfOk result (λ v. v.items ≡ true ∷ map (λ w. is_lacking (problem inputs.now) name.now feature.now (parts_of w)) versions.now) }
+{
+    let mut tests = Vec::new(alloc);
+    tests.push(true)?;
+    'versions: for version in versions.iter() {
+        tests.push(is_lacking(inputs, name, feature, version))?;
+    }
+    Ok(tests)
+}
+
+/// Absent alone.
+pub(crate) fn no_class(alloc: Global, classes: &[Class]) -> Result<Vec<bool>, AllocError>
+    ensures { IfOk result (λ v. v.items ≡ true ∷ map (λ k. false) classes.now) }
+{
+    let mut tests = Vec::new(alloc);
+    tests.push(true)?;
+    'classes: for _class in classes.iter() {
+        tests.push(false)?;
+    }
+    Ok(tests)
+}
+
+/// One class alone.
+pub(crate) fn class_tests(
+    alloc: Global,
+    class: Class,
+    classes: &[Class],
+) -> Result<Vec<bool>, AllocError>
+    ensures { IfOk result (λ v. v.items ≡ false ∷ map (λ k. is_class (class_view class) (class_view k)) classes.now) }
+{
+    let mut tests = Vec::new(alloc);
+    tests.push(false)?;
+    'classes: for other in classes.iter() {
+        tests.push(is_class(class, *other))?;
+    }
+    Ok(tests)
+}
