@@ -3,7 +3,6 @@ pub mod ReadLemmas
 pub mod Sorting
 pub mod OrderLaws
 pub mod ReadLaws
-pub mod FileLaws
 pub mod JsonLaws
 pub mod WriteLaws
 pub mod TableLaws

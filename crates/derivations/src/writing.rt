@@ -1,9 +1,8 @@
 //! Writing derivations.
 
 ghost use Rattle.std.specs.Prelude.{◌≡◌, ◌≤◌, ◌++◌, Ok, length, IfOk, OnOk, codes, decimal, map, string_bytes};
-ghost use Rattle.derivations.specs.Files.{derivation_of_bytes};
+ghost use Rattle.derivations.specs.Files.{derivation_of_bytes, most_steps};
 ghost use Rattle.derivations.specs.Kept.{lines_kept};
-ghost use Rattle.derivations.specs.Steps.{most_steps};
 ghost use Rattle.vertices.specs.Texts.{vertex_text};
 ghost use Rattle.vertices.specs.Views.{vertex_view, state_view, state_views};
 ghost use Rattle.derivations.specs.Views.{term_view, term_views, step_view};
@@ -15,7 +14,8 @@ use crate::whole::{WholeOrigin, WholeStep, WholeTerm};
 use std::alloc::{AllocError, Global};
 use vertices::{State, Vertex};
 
-/// The bytes of a derivation: a line of compact JSON for each step.
+/// The bytes of a derivation of any length: a line of compact JSON for each step. `read` takes them back, unless there are more lines than it
+/// reads.
 pub fn write(alloc: Global, derivation: &Derivation) -> Result<Vec<u8>, AllocError>
     ensures text { IfOk result (λ v. v.items ≡ lines_of derivation.now) }
     ensures reads { IfOk result (λ v. length derivation.now ≤ most_steps → derivation_of_bytes v.items ≡ Ok derivation.now) }
