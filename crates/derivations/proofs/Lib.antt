@@ -7,3 +7,4 @@ pub mod JsonLaws
 pub mod WriteLaws
 pub mod TableLaws
 pub mod KeptLaws
+pub mod BuildingLaws

@@ -2,14 +2,19 @@
 
 ghost use Rattle.std.specs.Prelude.{◌≡◌, ◌<◌, ◌==◌, ◌||◌, ◌++◌, ◌∷◌, [], IfOk, OnErr, OnOk, length, map, option_map, slice_get, string_bytes};
 ghost use Rattle.std.specs.List.{list_all, slice_split};
-ghost use Rattle.model.specs.Derivation.{Step};
+ghost use Rattle.model.specs.Derivation.{Step, given, combine};
 ghost use Rattle.model.specs.Outcome.{Gives};
+ghost use Rattle.vertices.specs.Kinds.{kind_view};
+ghost use Rattle.vertices.specs.RefViews.{vertex_ref_view};
+ghost use Rattle.vertices.specs.Texts.{IsReadVertex};
+ghost use Rattle.derivations.specs.Building.{AreNewTerms, term_ref_views, ordered_terms};
 ghost use Rattle.derivations.specs.Derivations.{IsDerivation, IsStepAt};
 ghost use Rattle.derivations.specs.Files.{wants_memory, is_line_end, is_blank_byte, is_blank, fault_at, most_steps, with_step, with_line, with_lines, derivation_of_bytes};
 ghost use Rattle.derivations.specs.Kept.{AreKept, IsKept};
 ghost use Rattle.derivations.specs.References.{references_at};
 ghost use Rattle.derivations.specs.Views.{step_view};
 
+use crate::building::{TermRef, axiom_kept, combination_kept};
 use crate::fault::{DerivationFault, LineFault};
 use crate::kept::{Kept, keep, read_kept};
 use crate::line::read_step;
@@ -17,6 +22,7 @@ use crate::steps::{Steps, steps_of};
 use crate::whole::WholeStep;
 use std::alloc::{AllocError, Global};
 use std::marker::Model;
+use vertices::{Kind, VertexRef};
 
 /// How many steps are read.
 const MOST_STEPS: usize = 16_777_216;
@@ -44,7 +50,7 @@ impl Model for Derivation {
 
 impl Derivation {
     /// No steps yet.
-    fn new(alloc: Global) -> Derivation
+    pub fn new(alloc: Global) -> Derivation
         ensures { result ≡ [] }
     {
         Derivation {
@@ -92,6 +98,47 @@ impl Derivation {
         ensures derivation { IsDerivation self.now }
     {
         steps_of(alloc, self)
+    }
+
+    /// Puts an axiom at the end. Its terms, and the states of each, may stand in any order: they are put into the written one.
+    ///
+    /// # Errors
+    /// There is no memory, and then nothing has changed.
+    pub fn push_axiom(
+        &mut self,
+        alloc: Global,
+        kind: Kind,
+        terms: &[TermRef<'_>],
+    ) -> Result<(), AllocError>
+        requires { AreNewTerms (term_ref_views terms.now) }
+        ensures ok { OnOk result (self.new ≡ self.old ++ given (kind_view kind) (ordered_terms (term_ref_views terms.now)) ∷ []) }
+        ensures err { OnErr result (self.new ≡ self.old) }
+    {
+        let one = axiom_kept(alloc, kind, terms)?;
+        self.push_kept(one)
+    }
+
+    /// Puts a combination of two earlier steps at a vertex at the end, and its terms into the written order.
+    ///
+    /// # Errors
+    /// There is no memory, and then nothing has changed.
+    pub fn push_combination(
+        &mut self,
+        alloc: Global,
+        first: u64,
+        second: u64,
+        vertex: VertexRef<'_>,
+        terms: &[TermRef<'_>],
+    ) -> Result<(), AllocError>
+        requires first { first < length self.old }
+        requires second { second < length self.old }
+        requires vertex { IsReadVertex (vertex_ref_view vertex) }
+        requires terms { AreNewTerms (term_ref_views terms.now) }
+        ensures ok { OnOk result (self.new ≡ self.old ++ combine first second (vertex_ref_view vertex.entry) (ordered_terms (term_ref_views terms.now)) ∷ []) }
+        ensures err { OnErr result (self.new ≡ self.old) }
+    {
+        let one = combination_kept(alloc, first, second, vertex, terms)?;
+        self.push_kept(one)
     }
 
     /// The steps with one more, whose line goes into an empty text with room.
