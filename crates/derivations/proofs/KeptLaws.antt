@@ -1,15 +1,14 @@
 -- What is kept of a derivation stands for its steps.
-use Rattle.std.proofs.Common.{◌≡◌, ℕ, ◌+◌, ◌<◌, zero, suc, List, [], ◌∷◌, ◌++◌, map, length, drop, Option, Some, None, Ok, option_map, option_and_then, slice_get, string_bytes, refl, sym, ap, ap₂, ◌∙◌, subst, arith}
+use Rattle.std.proofs.Common.{◌≡◌, ℕ, ◌+◌, ◌<◌, ◌≤◌, ◌^◌, zero, suc, List, [], ◌∷◌, ◌++◌, map, length, drop, Option, Some, None, Ok, option_map, option_and_then, slice_get, string_bytes, refl, sym, ap, ap₂, ◌∙◌, subst, arith}
 use Rattle.std.proofs.lemmas.List.{append_assoc, drop_more, length-append, length-map, map-append}
 use Rattle.std.proofs.lemmas.Option.{get_or_from_slice_get, slice_get-get_or, slice_get-map, slice_get_past, slice_get_within}
 use Rattle.std.specs.Borrow.{Bor}
 use Rattle.std.specs.Slice.{IsItemAt}
 use Rattle.model.specs.Derivation.{Step}
 use Rattle.derivations.specs.Derivations.{IsStepAt, AreStepsFrom}
-use Rattle.derivations.specs.Files.{with_lines}
-use Rattle.derivations.specs.Kept.{texts_kept, lines_kept, steps_if, steps_kept, IsKept, AreKept}
+use Rattle.derivations.specs.Kept.{texts_kept, lines_kept, steps_from, steps_kept, IsKept, AreKept}
 use Rattle.derivations.specs.References.{references_of, references_at}
-use Rattle.derivations.specs.Steps.{most_steps, step_of_line}
+use Rattle.derivations.specs.Steps.{step_of_line}
 use Rattle.derivations.specs.Written.{step_json, lines_of}
 use Rattle.derivations.specs.declared.kept.Kept.{Kept}
 use Rattle.vertices.proofs.Bound.{same-Ok, same-Some}
@@ -17,7 +16,7 @@ use Rattle.derivations.proofs.ReadLaws.{one-more}
 use Rattle.derivations.proofs.WriteLaws.{line-back, lines-back}
 
 pub none-kept : AreKept [] []
-none-kept = record { lines = refl; references = refl; derivation = tt; few = omega arith }
+none-kept = record { lines = refl; references = refl; derivation = tt }
 
 each-at : (m : ℕ) (ss : List Step) (n : ℕ) (s : Step) → AreStepsFrom m ss → slice_get ss n ≡ Some s → IsStepAt (m + n) s
 each-at m [] n s h is = cc
@@ -54,20 +53,22 @@ missed-at xs n h = slice_get_past xs n h.3
 
 module _ (ks : List Kept) (ss : List Step) (h : AreKept ks ss) where
   -- the lines stand for the one derivation that they read as
-  pub are-those : steps_kept ks ≡ ss
-  are-those = ap steps_if (ap (λ t. with_lines 1 t []) h.lines ∙ lines-back ss h.derivation h.few)
+  pub are-those : length ss ≤ 2 ^ 64 → steps_kept ks ≡ ss
+  are-those few = ap (steps_from 0) h.lines ∙ lines-back 0 ss h.derivation (omega arith)
 
   pub as-many : length ks ≡ length ss
   as-many = sym (length-map ks (λ k. string_bytes k.line)) ∙ ap length h.lines ∙ length-map ss step_json
 
-  pub one-kept : (k : Kept) (s : Step) → IsKept k s → IsStepAt (length ss) s → length ss < most_steps → AreKept (ks ++ k ∷ []) (ss ++ s ∷ [])
-  one-kept k s is step room =
-      let long = length-append ss (s ∷ []) in
+  -- one more than a number of 64 bits counts
+  pub few-more : (n : ℕ) (s : Step) → n < 2 ^ 64 → n ≡ length ks → length (ss ++ s ∷ []) ≤ 2 ^ 64
+  few-more n s small is = let long = length-append ss (s ∷ []) in let many = as-many in omega (arith, long, many)
+
+  pub one-kept : (k : Kept) (s : Step) → IsKept k s → IsStepAt (length ss) s → AreKept (ks ++ k ∷ []) (ss ++ s ∷ [])
+  one-kept k s is step =
       record {
         lines = map-append (λ x. string_bytes x.line) ks (k ∷ []) ∙ ap₂ (λ a b. a ++ b ∷ []) h.lines is.line ∙ sym (map-append step_json ss (s ∷ []));
         references = map-append (λ x. x.references) ks (k ∷ []) ∙ ap₂ (λ a b. a ++ b ∷ []) h.references is.references ∙ sym (map-append references_of ss (s ∷ []));
         derivation = one-more 0 ss s h.derivation (subst (λ n. IsStepAt n s) (omega arith) step);
-        few = omega (arith, long);
       }
 
   pub references-kept : (n : ℕ) (o : Option Kept) → slice_get ks n ≡ o → option_and_then (λ k. k.references) o ≡ references_at ss n
@@ -83,24 +84,22 @@ module _ (ks : List Kept) (ss : List Step) (h : AreKept ks ss) where
   none-at n is = none-back step_json (slice_get ss n) (sym (text-at n) ∙ ap (option_map (λ k. string_bytes k.line)) is)
 
   -- the line of a number reads as the step of that number
-  pub read-at : (n : ℕ) (k : Kept) (x : Step) → slice_get ks n ≡ Some k → step_of_line n (string_bytes k.line) ≡ Ok x → slice_get ss n ≡ Some x
-  read-at n k x is reads = by (slice_get ss n) refl
+  pub read-at : (n : ℕ) (k : Kept) (x : Step) → n < 2 ^ 64 → slice_get ks n ≡ Some k → step_of_line n (string_bytes k.line) ≡ Ok x → slice_get ss n ≡ Some x
+  read-at n k x small is reads = by (slice_get ss n) refl
     where
       by : (o : Option Step) → slice_get ss n ≡ o → o ≡ Some x
       by None none = let no = rw (is, none) at (text-at n) in cc
       by (Some s) some =
           let same = rw (is, some) at (text-at n) in
           let text : string_bytes k.line ≡ step_json s = same-Some same in
-          let within = slice_get_within ss n s some in
-          let few = h.few in
           let own : step_of_line n (step_json s) ≡ Ok s = line-back n s (omega arith) (subst (λ m. IsStepAt m s) (omega arith) (each-at 0 ss n s h.derivation some)) in
           ap Some (same-Ok _ _ (sym own ∙ ap (step_of_line n) (sym text) ∙ reads))
 
   -- one more step, read off the next line
-  pub more-read : (n : ℕ) (k : Kept) (x : Step) (before after : List Step) → slice_get ks n ≡ Some k → step_of_line n (string_bytes k.line) ≡ Ok x
+  pub more-read : (n : ℕ) (k : Kept) (x : Step) (before after : List Step) → n < 2 ^ 64 → slice_get ks n ≡ Some k → step_of_line n (string_bytes k.line) ≡ Ok x
       → after ≡ before ++ x ∷ [] → before ++ drop n ss ≡ ss → after ++ drop (n + 1) ss ≡ ss
-  more-read n k x before after is reads next told =
-      let here = read-at n k x is reads in
+  more-read n k x before after small is reads next told =
+      let here = read-at n k x small is reads in
       let left : drop n ss ≡ x ∷ drop (n + 1) ss
       = drop_more ss n x (slice_get_within ss n x here) ∙ ap (λ y. y ∷ drop (n + 1) ss) (get_or_from_slice_get ss n x x here) in
       ap (λ ys. ys ++ drop (n + 1) ss) next ∙ append_assoc before (x ∷ []) (drop (n + 1) ss) ∙ ap (λ ys. before ++ ys) (sym left) ∙ told

@@ -3,8 +3,8 @@ pub mod ReadLemmas
 pub mod Sorting
 pub mod OrderLaws
 pub mod ReadLaws
-pub mod FileLaws
 pub mod JsonLaws
 pub mod WriteLaws
 pub mod TableLaws
 pub mod KeptLaws
+pub mod BuildingLaws

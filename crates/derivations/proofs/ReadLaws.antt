@@ -17,10 +17,10 @@ use Rattle.derivations.specs.Derivations.{IsTerm, term_cmp, AreTerms, IsStepAt, 
 use Rattle.vertices.specs.Kinds.{kind_of_text}
 use Rattle.derivations.specs.Orders.{in_order, has_alike, ordered}
 use Rattle.vertices.specs.Orders.{state_cmp}
-use Rattle.derivations.specs.Steps.{data_of_bytes, text_of, whole_of, item_at, none_at, two_of, states_in, states_of, Written, written_cmp, term_of, terms_in, terms_without_texts, terms_of, Origin, by_axiom, by_combination, axiom_of, combination_of, origin_from, origin_of, is_backward, most_steps, step_by, step_of, step_of_line}
+use Rattle.derivations.specs.Steps.{data_of_bytes, text_of, whole_of, item_at, none_at, two_of, states_in, states_of, Written, written_cmp, term_of, terms_in, terms_without_texts, terms_of, Origin, by_axiom, by_combination, axiom_of, combination_of, origin_from, origin_of, is_backward, step_by, step_of, step_of_line}
 use Rattle.derivations.specs.Lines.{needed, in_line, vertex_in_line, state_in_line}
 use Rattle.vertices.specs.Texts.{Reading, vertex_text, vertex_of_text, state_of_text}
-use Rattle.derivations.specs.declared.fault.LineFault.TheVariants.{NotALine, Forward, TooMany}
+use Rattle.derivations.specs.declared.fault.LineFault.TheVariants.{NotALine, Forward}
 use Rattle.vertices.proofs.Bound.{steps, same-Ok, passed}
 use Rattle.vertices.proofs.OrderLaws.{state_total}
 use Rattle.derivations.proofs.OrderLaws.{written_total}
@@ -156,26 +156,11 @@ step-is n d s h =
     let r = steps (origin_of d) _ s h in
     let t = steps (terms_of d) _ s r.then in
     let b = steps (guard (is_backward n r.at) Forward) _ s t.then in
-    let m = steps (guard (nat_lt n most_steps) TooMany) _ s b.then in
-    subst (IsStepAt n) (same-Ok _ _ m.then) (back n r.at t.at (origin-is _ _ r.at r.first) (terms-are d t.at t.first) (passed (is_backward n r.at) Forward b.at b.first))
+    subst (IsStepAt n) (same-Ok _ _ b.then) (back n r.at t.at (origin-is _ _ r.at r.first) (terms-are d t.at t.first) (passed (is_backward n r.at) Forward b.at b.first))
 
 pub line-is : (n : ℕ) (text : List ℕ) (s : Step) → step_of_line n text ≡ Ok s → IsStepAt n s
 unfolding step_of_line
 line-is n text s h = let d = steps (data_of_bytes text) _ s h in step-is n d.at s d.then
-
-step-few : (n : ℕ) (d : Data) (s : Step) → step_of n d ≡ Ok s → n < most_steps
-unfolding step_of
-step-few n d s h =
-    let r = steps (origin_of d) _ s h in
-    let t = steps (terms_of d) _ s r.then in
-    let b = steps (guard (is_backward n r.at) Forward) _ s t.then in
-    let m = steps (guard (nat_lt n most_steps) TooMany) _ s b.then in
-    ltb-true n most_steps (passed (nat_lt n most_steps) TooMany m.at m.first)
-
--- there is room for a step that is read
-pub line-few : (n : ℕ) (text : List ℕ) (s : Step) → step_of_line n text ≡ Ok s → n < most_steps
-unfolding step_of_line
-line-few n text s h = let d = steps (data_of_bytes text) _ s h in step-few n d.at s d.then
 
 -- ---- the whole
 

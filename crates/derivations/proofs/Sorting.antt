@@ -244,3 +244,29 @@ ordered-ok o v xs ys p r e h = let run = ordered-run o v xs ys p r e h in rw (ru
 pub ordered-refused : {X K : Type 0} {R : K → K → Ordering} (o : IsTotalOrder R) (v : X → K) (xs ys : List X) → IsPermutation xs ys → IsSortedBy (λ x y. is_lt (R (v x) (v y))) ys
     → (r : Bool) → r ≡ false → IsAllAdjacentAnswer (λ x y b. b ≡ is_lt (R (v x) (v y))) ys r → ordered R (map v xs) ≡ Err NotALine
 ordered-refused o v xs ys p s r e h = rw (alike-run o v xs ys p s r e h) refl
+
+-- ---- after a sort of elements of which no two tie
+
+apart-neighbours : {X K : Type 0} (e : K → K → Bool) (v : X → K) (xs : List X) (k : ℕ) (d : X) → IsDistinct e (map v xs) → k + 1 < length xs → e (v (get_or xs k d)) (v (get_or xs (k + 1) d)) ≡ false
+unfolding IsDistinct
+apart-neighbours e v [] k d h l = absurd (omega arith)
+apart-neighbours e v (x ∷ []) k d h l = absurd (omega arith)
+apart-neighbours e v (x ∷ (y ∷ ys)) zero d h l = h.0.0
+apart-neighbours e v (x ∷ (y ∷ ys)) (suc k) d h l = rw add-one (rw add-one at (apart-neighbours e v (y ∷ ys) k d h.1 (omega arith)))
+
+-- it is below the other, as it neither ties with it nor is above it
+below-other : (r s : Ordering) → is_lt s ≡ false → is_eq r ≡ false → r ≡ ordering_reverse s → r ≡ Less
+below-other Less s h k e = refl
+below-other Equal s h k e = cc
+below-other Greater Less h k e = cc
+below-other Greater Equal h k e = cc
+below-other Greater Greater h k e = cc
+
+pub sorted-run : {X K : Type 0} {R : K → K → Ordering} (o : IsTotalOrder R) (v : X → K) (xs ys : List X) → IsPermutation xs ys → IsSortedBy (λ x y. is_lt (R (v x) (v y))) ys
+    → IsDistinct (eq_by_cmp R) (map v xs) → map v ys ≡ in_order R (map v xs)
+sorted-run {R = R} o v xs ys p s apart =
+    let moved : IsPermutation (map v xs) (map v ys) = IsPermutation-map v xs ys p in
+    let still : IsDistinct (eq_by_cmp R) (map v ys) = IsDistinct-IsPermutation (eq_by_cmp R) (eq_by_cmp_equiv o).symm (map v xs) (map v ys) moved apart in
+    let up : IsStrictlySortedBy R (map v ys) = sorted-neighbours o v ys (λ k d l.
+    below-other (R (v (get_or ys k d)) (v (get_or ys (k + 1) d))) (R (v (get_or ys (k + 1) d)) (v (get_or ys k d))) (s k d (omega arith) l) (apart-neighbours (eq_by_cmp R) v ys k d still l) (o.antisymm _ _)) in
+    sym (in_order-sorted o (map v xs) (map v ys) moved up)

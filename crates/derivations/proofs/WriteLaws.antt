@@ -20,14 +20,15 @@ use Rattle.model.specs.Axioms.{Kind, Root, Needed, Target, HasFeature, WantsFeat
 use Rattle.model.specs.Derivation.{Step, given, combine, terms_of as terms_in_step}
 use Rattle.vertices.specs.Texts.{IsReadVertex, IsReadState}
 use Rattle.derivations.specs.Derivations.{IsTerm, term_cmp, AreTerms, IsStepAt, AreStepsFrom, IsDerivation}
-use Rattle.derivations.specs.Files.{is_line_end, with_read, with_line, with_lines, derivation_of_bytes}
+use Rattle.derivations.specs.Files.{is_line_end, most_steps, with_step, with_read, with_line, with_lines, derivation_of_bytes}
+use Rattle.derivations.specs.Kept.{step_if, steps_from}
 use Rattle.vertices.specs.Kinds.{kind_text, kind_of_text}
 use Rattle.derivations.specs.Orders.{ordered}
-use Rattle.derivations.specs.Steps.{two_of, states_in, states_of, Written, written_cmp, term_of, terms_in, terms_without_texts, terms_of, Origin, by_axiom, by_combination, axiom_of, combination_of, origin_of, is_backward, most_steps, step_by, step_of, step_of_line}
+use Rattle.derivations.specs.Steps.{two_of, states_in, states_of, Written, written_cmp, term_of, terms_in, terms_without_texts, terms_of, Origin, by_axiom, by_combination, axiom_of, combination_of, origin_of, is_backward, step_by, step_of, step_of_line}
 use Rattle.derivations.specs.Lines.{Line}
 use Rattle.vertices.specs.Texts.{vertex_text, state_text}
 use Rattle.derivations.specs.Written.{quoted, with_commas, state_json, term_json, combination_json, origin_json, step_json, lines_of}
-use Rattle.derivations.specs.declared.fault.LineFault.TheVariants.{Forward, TooMany}
+use Rattle.derivations.specs.declared.fault.LineFault.TheVariants.{Forward}
 use Rattle.derivations.proofs.Commas.{separated, separated-commas}
 use Rattle.derivations.proofs.JsonLaws.{AreSimple, two-read}
 use Rattle.vertices.proofs.OrderLaws.{state_total}
@@ -128,7 +129,7 @@ terms-shallow : (ts : List Term) → items_depth (terms_data ts) ≤ 2
 terms-shallow [] = omega arith
 terms-shallow (t ∷ ts) = let rest = terms-shallow ts in let here = states-shallow t.states in omega arith
 
-step-read : (n : ℕ) (s : Step) → n ≤ most_steps → IsStepAt n s → read (compact_text (step_data s)) ≡ Some (step_data s)
+step-read : (n : ℕ) (s : Step) → n ≤ 2 ^ 64 → IsStepAt n s → read (compact_text (step_data s)) ≡ Some (step_data s)
 step-read n (given k ts) few h = two-read (codes "axiom") (codes "terms") (string (kind_text k)) (array (terms_data ts)) tt (terms-simple ts) (omega arith) (let low = terms-shallow ts in omega arith) refl
 step-read n (combine a b v ts) few h =
     let first : a < 2 ^ 64 = let lt = h.0.0 in omega arith in
@@ -193,21 +194,19 @@ unfolding terms_of
 terms-of-step (given k ts) h = all-terms (codes "axiom") (string (kind_text k)) ts h
 terms-of-step (combine a b v ts) h = all-terms (codes "combine") (combination_data a b v) ts h
 
--- four steps that end well
-in-turn : {A B C : Type 0} (r : Line A) (t : Line B) (b : A → Bool) (m : Bool) (f : A → B → C) (x : A) (y : B) → r ≡ Ok x → t ≡ Ok y → b x ≡ true → m ≡ true
-    → (r >>= λ x. t >>= λ y. guard (b x) Forward >>= λ u. guard m TooMany >>= λ w. Ok (f x y)) ≡ Ok (f x y)
-in-turn r t b m f x y p q s u =
-    ap (λ r. r >>= λ x. t >>= λ y. guard (b x) Forward >>= λ u. guard m TooMany >>= λ w. Ok (f x y)) p
-    ∙ ap (λ t. t >>= λ y. guard (b x) Forward >>= λ u. guard m TooMany >>= λ w. Ok (f x y)) q
-    ∙ ap (λ c. guard c Forward >>= λ u. guard m TooMany >>= λ w. Ok (f x y)) s
-    ∙ ap (λ c. guard c TooMany >>= λ w. Ok (f x y)) u
+-- three steps that end well
+in-turn : {A B C : Type 0} (r : Line A) (t : Line B) (b : A → Bool) (f : A → B → C) (x : A) (y : B) → r ≡ Ok x → t ≡ Ok y → b x ≡ true
+    → (r >>= λ x. t >>= λ y. guard (b x) Forward >>= λ u. Ok (f x y)) ≡ Ok (f x y)
+in-turn r t b f x y p q s =
+    ap (λ r. r >>= λ x. t >>= λ y. guard (b x) Forward >>= λ u. Ok (f x y)) p
+    ∙ ap (λ t. t >>= λ y. guard (b x) Forward >>= λ u. Ok (f x y)) q
+    ∙ ap (λ c. guard c Forward >>= λ u. Ok (f x y)) s
 
-step-back : (n : ℕ) (s : Step) → n < most_steps → IsStepAt n s → step_of n (step_data s) ≡ Ok s
+step-back : (n : ℕ) (s : Step) → IsStepAt n s → step_of n (step_data s) ≡ Ok s
 unfolding step_of
-step-back n s few h =
+step-back n s h =
     let r = origin-back n s h in
-    let room : nat_lt n most_steps ≡ true = lt-ltb n most_steps few in
-    in-turn (origin_of (step_data s)) (terms_of (step_data s)) (is_backward n) (nat_lt n most_steps) step_by r.0 (terms_in_step s) r.1 (terms-of-step s h.1) r.2 room ∙ ap Ok r.3
+    in-turn (origin_of (step_data s)) (terms_of (step_data s)) (is_backward n) step_by r.0 (terms_in_step s) r.1 (terms-of-step s h.1) r.2 ∙ ap Ok r.3
 
 -- ---- the bytes of a line
 
@@ -263,7 +262,7 @@ line-terms (t ∷ ts) h = (line-term t h.0, line-terms ts h.1)
 line-number : (n : ℕ) → n < 2 ^ 64 → IsLine (decimal n ++ codes ",")
 line-number n l = line-append (decimal n) (codes ",") (line-plain (decimal n) (decimal-plain n l)) (line-literal (codes ",") refl)
 
-line-origin : (n : ℕ) (s : Step) → n ≤ most_steps → IsStepAt n s → IsLine (origin_json s)
+line-origin : (n : ℕ) (s : Step) → n ≤ 2 ^ 64 → IsStepAt n s → IsLine (origin_json s)
 line-origin n (given k ts) few h = line-append (codes "\"axiom\":") (quoted (kind_text k)) (line-literal (codes "\"axiom\":") refl) (line-quoted (kind_text k) (kind-plain k))
 line-origin n (combine a b v ts) few h =
     let first : a < 2 ^ 64 = let lt = h.0.0 in omega arith in
@@ -273,7 +272,7 @@ line-origin n (combine a b v ts) few h =
     (line-append (decimal a ++ codes ",") ((decimal b ++ codes ",") ++ (quoted (vertex_text v) ++ codes "]")) (line-number a first)
     (line-append (decimal b ++ codes ",") (quoted (vertex_text v) ++ codes "]") (line-number b second) last))
 
-line-step : (n : ℕ) (s : Step) → n ≤ most_steps → IsStepAt n s → IsLine (step_json s)
+line-step : (n : ℕ) (s : Step) → n ≤ 2 ^ 64 → IsStepAt n s → IsLine (step_json s)
 line-step n s few h =
     let terms = line-append (with_commas (map term_json (terms_in_step s))) (codes "]}") (line-commas term_json (terms_in_step s) (line-terms (terms_in_step s) h.1.0)) (line-literal (codes "]}") refl) in
     let rest = line-append (codes ",\"terms\":[") (with_commas (map term_json (terms_in_step s)) ++ codes "]}") (line-literal (codes ",\"terms\":[") refl) terms in
@@ -290,43 +289,42 @@ no-end (b ∷ bs) h = (let low = h.0.0 in grind (arith, nat_tests), no-end bs h.
 
 -- ---- lines
 
-pub line-back : (n : ℕ) (s : Step) → n < most_steps → IsStepAt n s → step_of_line n (step_json s) ≡ Ok s
+pub line-back : (n : ℕ) (s : Step) → n ≤ 2 ^ 64 → IsStepAt n s → step_of_line n (step_json s) ≡ Ok s
 unfolding step_of_line
 line-back n s few h =
-    let below : n ≤ most_steps = omega arith in
-    let is : read (step_json s) ≡ Some (step_data s) = ap read (sym (step-text n s h)) ∙ step-read n s below h in
-    let text : IsUtf8 (step_json s) = IsUtf8-are_ascii (step_json s) (ascii (step_json s) (line-step n s below h)) in
-    rw (data-read (step_json s) (step_data s) text is) (step-back n s few h)
+    let is : read (step_json s) ≡ Some (step_data s) = ap read (sym (step-text n s h)) ∙ step-read n s few h in
+    let text : IsUtf8 (step_json s) = IsUtf8-are_ascii (step_json s) (ascii (step_json s) (line-step n s few h)) in
+    rw (data-read (step_json s) (step_data s) text is) (step-back n s h)
 
-with-one : (n : ℕ) (before : List Step) (s : Step) (r : Line Step) → r ≡ Ok s → with_read n before r ≡ Ok (before ++ s ∷ [])
-with-one n before s r h = rw h refl
+-- the lines of steps read as the steps, as long as their numbers have 64 bits
+pub lines-back : (n : ℕ) (ss : List Step) → AreStepsFrom n ss → n + length ss ≤ 2 ^ 64 → steps_from n (map step_json ss) ≡ ss
+lines-back n [] h few = refl
+lines-back n (s ∷ ss) h few = ap₂ (λ r rest. step_if r ++ rest) (line-back n s (omega arith) h.0) (lines-back (n + 1) ss h.1 (omega arith))
 
-pub lines-then : (n : ℕ) (before ss : List Step) (rest : List (List ℕ)) → AreStepsFrom (length before) ss → length before + length ss ≤ most_steps
+with-one : (n : ℕ) (before : List Step) (s : Step) (r : Line Step) → r ≡ Ok s → length before < most_steps → with_read n before r ≡ Ok (before ++ s ∷ [])
+with-one n before s r h few = rw (h, lt-ltb (length before) most_steps few) refl
+
+lines-then : (n : ℕ) (before ss : List Step) (rest : List (List ℕ)) → AreStepsFrom (length before) ss → length before + length ss ≤ most_steps
     → with_lines n (map step_json ss ++ rest) before ≡ with_lines (n + length ss) rest (before ++ ss)
 unfolding with_lines
 lines-then n before [] rest h few = ap₂ (λ m steps. with_lines m rest steps) (omega arith) (sym (append-nil before))
 lines-then n before (s ∷ ss) rest h few =
     let below : length before < most_steps = omega arith in
-    let here : with_line n (step_json s) before ≡ Ok (before ++ s ∷ []) = with-one n before s (step_of_line (length before) (step_json s)) (line-back (length before) s below h.0) in
+    let here : with_line n (step_json s) before ≡ Ok (before ++ s ∷ []) = with-one n before s (step_of_line (length before) (step_json s)) (line-back (length before) s (omega arith) h.0) below in
     let longer : length before + 1 ≡ length (before ++ s ∷ []) = sym (length-append before (s ∷ [])) in
     let room : length (before ++ s ∷ []) + length ss ≤ most_steps = omega (arith, longer) in
     ap (λ r. r >>= λ next. with_lines (n + 1) (map step_json ss ++ rest) next) here
     ∙ lines-then (n + 1) (before ++ s ∷ []) ss rest (subst (λ m. AreStepsFrom m ss) longer h.1) room
     ∙ ap₂ (λ m steps. with_lines m rest steps) (omega arith) (append_assoc before (s ∷ []) ss)
 
--- the lines of a derivation of at most so many steps read as it
-pub lines-back : (ss : List Step) → IsDerivation ss → length ss ≤ most_steps → with_lines 1 (map step_json ss) [] ≡ Ok ss
-unfolding with_lines
-lines-back ss h few = ap (λ texts. with_lines 1 texts []) (sym (append-nil (map step_json ss))) ∙ lines-then 1 [] ss [] h (omega arith)
-
-split-lines : (n : ℕ) (ss : List Step) → AreStepsFrom n ss → n + length ss ≤ most_steps → slice_split is_line_end (lines_of ss) ≡ map step_json ss ++ [] ∷ []
+split-lines : (n : ℕ) (ss : List Step) → AreStepsFrom n ss → n + length ss ≤ 2 ^ 64 → slice_split is_line_end (lines_of ss) ≡ map step_json ss ++ [] ∷ []
 split-lines n [] h few = refl
 split-lines n (s ∷ ss) h few =
     ap (slice_split is_line_end) (append_assoc (step_json s) (10 ∷ []) (lines_of ss))
     ∙ slice_split_at is_line_end (step_json s) 10 (lines_of ss) (All-from_recursion _ (step_json s) (no-end (step_json s) (line-step n s (omega arith) h.0))) refl
     ∙ ap (λ texts. step_json s ∷ texts) (split-lines (n + 1) ss h.1 (omega arith))
 
--- so do the bytes that they are written as
+-- the bytes that a derivation is written as read as it, unless it has more steps than are read
 pub written-reads : (ss : List Step) → IsDerivation ss → length ss ≤ most_steps → derivation_of_bytes (lines_of ss) ≡ Ok ss
 unfolding with_lines
 written-reads ss h few = ap (λ texts. with_lines 1 texts []) (split-lines 0 ss h (omega arith)) ∙ lines-then 1 [] ss ([] ∷ []) h (omega arith)

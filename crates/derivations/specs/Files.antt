@@ -1,6 +1,6 @@
 -- Which bytes are derivations, and which derivations they are (the format is this project's).
-use Rattle.std.specs.Prelude.{ℕ, ◌+◌, ◌==◌, ◌||◌, Bool, true, false, if◌then◌else◌, List, [], ◌∷◌, ◌++◌, length, Result}
-use Rattle.std.specs.Prelude.{Ok, Err}
+use Rattle.std.specs.Prelude.{ℕ, ◌+◌, ◌==◌, ◌||◌, nat_lt, Bool, true, false, if◌then◌else◌, List, [], ◌∷◌, ◌++◌, length}
+use Rattle.std.specs.Prelude.{Result, Ok, Err}
 use Rattle.std.specs.List.{list_all, slice_split}
 use Rattle.model.specs.Outcome.{◌>>=◌}
 use Rattle.model.specs.Derivation.{Step}
@@ -33,10 +33,17 @@ abbrev pub fault_at : ℕ → LineFault → DerivationFault
 fault_at n line.OutOfMemory = OutOfMemory
 fault_at n line.NotALine = NotALine n
 fault_at n line.Forward = Forward n
-fault_at n line.TooMany = TooMany n
+
+-- how many steps are read: a derivation may have more
+abbrev pub most_steps : ℕ
+most_steps = 16777216
+
+-- the steps with one more, if there is room for it
+abbrev pub with_step : ℕ → List Step → Step → Result (List Step) DerivationFault
+with_step n steps s = if nat_lt (length steps) most_steps then Ok (steps ++ s ∷ []) else Err (TooMany n)
 
 abbrev pub with_read : ℕ → List Step → Line Step → Result (List Step) DerivationFault
-with_read n steps (Ok s) = Ok (steps ++ s ∷ [])
+with_read n steps (Ok s) = with_step n steps s
 with_read n steps (Err e) = Err (fault_at n e)
 
 -- the steps up to and with the line of this number: a blank one is read over

@@ -9,3 +9,4 @@ pub mod Derivations
 pub mod Written
 pub mod References
 pub mod Kept
+pub mod Building

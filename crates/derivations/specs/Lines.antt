@@ -6,13 +6,12 @@ use Rattle.vertices.specs.Texts.{Reading, vertex_of_text, state_of_text}
 use Rattle.vertices.specs.declared.fault.TextFault.{TextFault}
 use Rattle.vertices.specs.declared.fault.TextFault.TheVariants as text
 use Rattle.derivations.specs.declared.fault.LineFault.{LineFault}
-use Rattle.derivations.specs.declared.fault.LineFault.TheVariants.{OutOfMemory, NotALine, Forward, TooMany}
+use Rattle.derivations.specs.declared.fault.LineFault.TheVariants.{OutOfMemory, NotALine, Forward}
 
 abbrev pub line_wants_memory : LineFault → Bool
 line_wants_memory OutOfMemory = true
 line_wants_memory NotALine = false
 line_wants_memory Forward = false
-line_wants_memory TooMany = false
 
 abbrev pub Line : Type 0 → Type 0
 Line A = Result A LineFault

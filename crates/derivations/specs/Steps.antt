@@ -15,7 +15,7 @@ use Rattle.vertices.specs.Kinds.{kind_of_text}
 use Rattle.vertices.specs.Orders.{state_cmp}
 use Rattle.derivations.specs.Orders.{ordered}
 use Rattle.derivations.specs.Lines.{Line, needed, vertex_in_line, state_in_line}
-use Rattle.derivations.specs.declared.fault.LineFault.TheVariants.{NotALine, Forward, TooMany}
+use Rattle.derivations.specs.declared.fault.LineFault.TheVariants.{NotALine, Forward}
 
 -- the JSON value that the bytes are
 abbrev pub data_of_bytes : List ℕ → Line Data
@@ -142,17 +142,12 @@ abbrev pub step_by : Origin → List Term → Step
 step_by (by_axiom k) ts = given k ts
 step_by (by_combination a b v) ts = combine a b v ts
 
--- how many steps there may be
-abbrev pub most_steps : ℕ
-most_steps = 16777216
-
 -- the step of this number that a JSON value is
 unfoldable pub step_of : ℕ → Data → Line Step
 step_of n d = do
   origin ← origin_of d
   terms ← terms_of d
   backward ← guard (is_backward n origin) Forward
-  room ← guard (nat_lt n most_steps) TooMany
   Ok (step_by origin terms)
 
 -- the step of this number that a line is

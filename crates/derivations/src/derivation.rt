@@ -1,15 +1,20 @@
 //! Derivations, and reading them.
 
-ghost use Rattle.std.specs.Prelude.{◌≡◌, ◌<◌, ◌==◌, ◌||◌, ◌++◌, ◌∷◌, [], IfOk, length, map, option_map, slice_get, string_bytes};
+ghost use Rattle.std.specs.Prelude.{◌≡◌, ◌<◌, ◌==◌, ◌||◌, ◌++◌, ◌∷◌, [], IfOk, OnErr, OnOk, length, map, option_map, slice_get, string_bytes};
 ghost use Rattle.std.specs.List.{list_all, slice_split};
+ghost use Rattle.model.specs.Derivation.{Step, given, combine};
 ghost use Rattle.model.specs.Outcome.{Gives};
+ghost use Rattle.vertices.specs.Kinds.{kind_view};
+ghost use Rattle.vertices.specs.RefViews.{vertex_ref_view};
+ghost use Rattle.vertices.specs.Texts.{IsReadVertex};
+ghost use Rattle.derivations.specs.Building.{AreNewTerms, term_ref_views, ordered_terms};
 ghost use Rattle.derivations.specs.Derivations.{IsDerivation, IsStepAt};
-ghost use Rattle.derivations.specs.Files.{wants_memory, is_line_end, is_blank_byte, is_blank, fault_at, with_line, with_lines, derivation_of_bytes};
-ghost use Rattle.derivations.specs.Kept.{AreKept};
+ghost use Rattle.derivations.specs.Files.{wants_memory, is_line_end, is_blank_byte, is_blank, fault_at, most_steps, with_step, with_line, with_lines, derivation_of_bytes};
+ghost use Rattle.derivations.specs.Kept.{AreKept, IsKept};
 ghost use Rattle.derivations.specs.References.{references_at};
-ghost use Rattle.derivations.specs.Steps.{most_steps};
 ghost use Rattle.derivations.specs.Views.{step_view};
 
+use crate::building::{TermRef, axiom_kept, combination_kept};
 use crate::fault::{DerivationFault, LineFault};
 use crate::kept::{Kept, keep, read_kept};
 use crate::line::read_step;
@@ -17,11 +22,15 @@ use crate::steps::{Steps, steps_of};
 use crate::whole::WholeStep;
 use std::alloc::{AllocError, Global};
 use std::marker::Model;
+use vertices::{Kind, VertexRef};
+
+/// How many steps are read.
+const MOST_STEPS: usize = 16_777_216;
 
 /// Why there is no selection: steps, each by an axiom or from two earlier ones. Terms stand by the bytes of their vertices' texts, states
 /// `absent` first and then oldest or lowest first, none of them twice, and each vertex, state and version is what its own text reads as.
 ///
-/// It keeps the line of each step, so that it is hardly larger than its file.
+/// It may have any number of steps. It keeps the line of each, so that it is hardly larger than its file.
 #[derive(Drop)]
 pub struct Derivation {
     kept: Vec<Kept>,
@@ -41,7 +50,7 @@ impl Model for Derivation {
 
 impl Derivation {
     /// No steps yet.
-    fn new(alloc: Global) -> Derivation
+    pub fn new(alloc: Global) -> Derivation
         ensures { result ≡ [] }
     {
         Derivation {
@@ -91,16 +100,68 @@ impl Derivation {
         steps_of(alloc, self)
     }
 
+    /// Puts an axiom at the end. Its terms, and the states of each, may stand in any order: they are put into the written one.
+    ///
+    /// # Errors
+    /// There is no memory, and then nothing has changed.
+    pub fn push_axiom(
+        &mut self,
+        alloc: Global,
+        kind: Kind,
+        terms: &[TermRef<'_>],
+    ) -> Result<(), AllocError>
+        requires { AreNewTerms (term_ref_views terms.now) }
+        ensures ok { OnOk result (self.new ≡ self.old ++ given (kind_view kind) (ordered_terms (term_ref_views terms.now)) ∷ []) }
+        ensures err { OnErr result (self.new ≡ self.old) }
+    {
+        let one = axiom_kept(alloc, kind, terms)?;
+        self.push_kept(one)
+    }
+
+    /// Puts a combination of two earlier steps at a vertex at the end, and its terms into the written order.
+    ///
+    /// # Errors
+    /// There is no memory, and then nothing has changed.
+    pub fn push_combination(
+        &mut self,
+        alloc: Global,
+        first: u64,
+        second: u64,
+        vertex: VertexRef<'_>,
+        terms: &[TermRef<'_>],
+    ) -> Result<(), AllocError>
+        requires first { first < length self.old }
+        requires second { second < length self.old }
+        requires vertex { IsReadVertex (vertex_ref_view vertex) }
+        requires terms { AreNewTerms (term_ref_views terms.now) }
+        ensures ok { OnOk result (self.new ≡ self.old ++ combine first second (vertex_ref_view vertex.entry) (ordered_terms (term_ref_views terms.now)) ∷ []) }
+        ensures err { OnErr result (self.new ≡ self.old) }
+    {
+        let one = combination_kept(alloc, first, second, vertex, terms)?;
+        self.push_kept(one)
+    }
+
     /// The steps with one more, whose line goes into an empty text with room.
     fn with_step(self, room: String, step: &WholeStep) -> Result<Derivation, AllocError>
         requires room { string_bytes room ≡ [] }
         requires step { IsStepAt (length self) (step_view step.now) }
-        requires few { length self < most_steps }
         ensures { IfOk result (λ d. d ≡ self ++ step_view step.now ∷ []) }
     {
-        let Derivation { mut kept } = self;
-        kept.push(keep(room, step)?)?;
-        Ok(Derivation { kept })
+        let mut steps = self;
+        steps.push_kept(keep(room, step)?)?;
+        Ok(steps)
+    }
+
+    /// Puts a step at the end, by what is kept of it.
+    fn push_kept(&mut self, one: Kept) -> Result<(), AllocError>
+        requires { (s : Step) × IsKept one s × IsStepAt (length self.old) s }
+        ensures ok { OnOk result ((s : Step) → IsKept one s → IsStepAt (length self.old) s → self.new ≡ self.old ++ s ∷ []) }
+        ensures err { OnErr result (self.new ≡ self.old) }
+    {
+        // a `usize`: so each number of a step is one of 64 bits, as it is read
+        let _ = self.kept.len();
+        self.kept.push(one)?;
+        Ok(())
     }
 }
 
@@ -149,8 +210,26 @@ fn with_line(
     // before what is read, which is let go: so the texts that stay leave no holes between them
     let room = String::with_capacity(alloc, line.len())?;
     match read_step(alloc, steps.len(), line) {
-        Ok(step) => Ok(steps.with_step(room, &step)?),
+        Ok(step) => with_step(number, steps, room, &step),
         Err(fault) => Err(fault_at(number, fault)),
+    }
+}
+
+/// The steps with one more, if there is room for it.
+fn with_step(
+    number: u64,
+    steps: Derivation,
+    room: String,
+    step: &WholeStep,
+) -> Result<Derivation, DerivationFault>
+    requires room { string_bytes room ≡ [] }
+    requires step { IsStepAt (length steps) (step_view step.now) }
+    ensures { Gives wants_memory (λ d. d) result (with_step number steps (step_view step.now)) }
+{
+    if steps.len() < MOST_STEPS {
+        Ok(steps.with_step(room, step)?)
+    } else {
+        Err(DerivationFault::TooMany(number))
     }
 }
 
@@ -162,7 +241,6 @@ fn fault_at(number: u64, fault: LineFault) -> DerivationFault
         LineFault::OutOfMemory => DerivationFault::OutOfMemory,
         LineFault::NotALine => DerivationFault::NotALine(number),
         LineFault::Forward => DerivationFault::Forward(number),
-        LineFault::TooMany => DerivationFault::TooMany(number),
     }
 }
 

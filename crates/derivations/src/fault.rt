@@ -14,7 +14,7 @@ pub enum DerivationFault {
     /// It refers to its own step or to a later one.
     #[error("K2 Forward at line {0}")]
     Forward(u64),
-    /// There are 16,777,216 steps before it.
+    /// It is a step, and there are 16,777,216 before it.
     #[error("K3 TooMany at line {0}")]
     TooMany(u64),
 }
@@ -25,7 +25,6 @@ pub(crate) enum LineFault {
     OutOfMemory,
     NotALine,
     Forward,
-    TooMany,
 }
 
 impl From<AllocError> for LineFault {

@@ -7,7 +7,7 @@ ghost use Rattle.serde_json.specs.Find as json;
 ghost use Rattle.model.specs.Outcome.{Gives, guard};
 ghost use Rattle.vertices.specs.Orders.{state_cmp};
 ghost use Rattle.derivations.specs.Orders.{ordered};
-ghost use Rattle.derivations.specs.Steps.{states_in, states_of, written_cmp, term_of, terms_in, terms_without_texts, terms_of, axiom_of, combination_of, origin_from, origin_of, is_backward, most_steps, step_of, step_of_line};
+ghost use Rattle.derivations.specs.Steps.{states_in, states_of, written_cmp, term_of, terms_in, terms_without_texts, terms_of, axiom_of, combination_of, origin_from, origin_of, is_backward, step_of, step_of_line};
 ghost use Rattle.derivations.specs.StepViews.{written_view, written_views, origin_view};
 ghost use Rattle.derivations.specs.Lines.{line_wants_memory};
 ghost use Rattle.vertices.specs.Views.{vertex_view, state_views};
@@ -21,9 +21,6 @@ use serde_json::Value;
 use std::alloc::{AllocError, Global};
 use std::cmp::Ordering;
 use vertices::{Kind, State, Vertex, state_order};
-
-/// How many steps there may be.
-const MOST_STEPS: usize = 16_777_216;
 
 /// A term and the text of its vertex.
 #[derive(Drop)]
@@ -48,7 +45,6 @@ fn step(alloc: Global, number: usize, value: &Value) -> Result<WholeStep, LineFa
     let origin = origin(alloc, value)?;
     let terms = terms(alloc, value)?;
     check(is_backward(number, &origin), LineFault::Forward)?;
-    check(number < MOST_STEPS, LineFault::TooMany)?;
     Ok(WholeStep { origin, terms })
 }
 

@@ -1,11 +1,12 @@
 //! Writing derivations.
 
 ghost use Rattle.std.specs.Prelude.{◌≡◌, ◌≤◌, ◌++◌, Ok, length, IfOk, OnOk, codes, decimal, map, string_bytes};
-ghost use Rattle.derivations.specs.Files.{derivation_of_bytes};
+ghost use Rattle.derivations.specs.Files.{derivation_of_bytes, most_steps};
 ghost use Rattle.derivations.specs.Kept.{lines_kept};
-ghost use Rattle.derivations.specs.Steps.{most_steps};
 ghost use Rattle.vertices.specs.Texts.{vertex_text};
-ghost use Rattle.vertices.specs.Views.{vertex_view, state_view, state_views};
+ghost use Rattle.vertices.specs.Kinds.{kind_text, kind_view};
+ghost use Rattle.vertices.specs.RefViews.{vertex_ref_view};
+ghost use Rattle.vertices.specs.Views.{state_view, state_views};
 ghost use Rattle.derivations.specs.Views.{term_view, term_views, step_view};
 ghost use Rattle.derivations.specs.Written.{quoted, comma_if, with_commas, state_json, term_json, combination_json, origin_json, step_json, lines_of};
 
@@ -13,9 +14,10 @@ use crate::derivation::Derivation;
 use crate::kept::Kept;
 use crate::whole::{WholeOrigin, WholeStep, WholeTerm};
 use std::alloc::{AllocError, Global};
-use vertices::{State, Vertex};
+use vertices::{Kind, State, VertexRef};
 
-/// The bytes of a derivation: a line of compact JSON for each step.
+/// The bytes of a derivation of any length: a line of compact JSON for each step. `read` takes them back, unless there are more lines than it
+/// reads.
 pub fn write(alloc: Global, derivation: &Derivation) -> Result<Vec<u8>, AllocError>
     ensures text { IfOk result (λ v. v.items ≡ lines_of derivation.now) }
     ensures reads { IfOk result (λ v. length derivation.now ≤ most_steps → derivation_of_bytes v.items ≡ Ok derivation.now) }
@@ -57,20 +59,26 @@ fn push_origin(text: &mut String, step: &WholeStep) -> Result<(), AllocError>
     ensures { OnOk result (string_bytes text.new ≡ string_bytes text.old ++ origin_json (step_view step.now)) }
 {
     match &step.origin {
-        WholeOrigin::Axiom(kind) => write!(text, "\"axiom\":\"{kind}\""),
+        WholeOrigin::Axiom(kind) => push_kind(text, *kind),
         WholeOrigin::Combination(first, second, vertex) => {
-            push_combination(text, *first, *second, vertex)
+            push_combination(text, *first, *second, vertex.borrowed())
         }
     }
 }
 
-fn push_combination(
+pub(crate) fn push_kind(text: &mut String, kind: Kind) -> Result<(), AllocError>
+    ensures { OnOk result (string_bytes text.new ≡ string_bytes text.old ++ (codes "\"axiom\":" ++ quoted (kind_text (kind_view kind)))) }
+{
+    write!(text, "\"axiom\":\"{kind}\"")
+}
+
+pub(crate) fn push_combination(
     text: &mut String,
     first: u64,
     second: u64,
-    vertex: &Vertex,
+    vertex: VertexRef<'_>,
 ) -> Result<(), AllocError>
-    ensures { OnOk result (string_bytes text.new ≡ string_bytes text.old ++ combination_json first second (vertex_view vertex.now)) }
+    ensures { OnOk result (string_bytes text.new ≡ string_bytes text.old ++ combination_json first second (vertex_ref_view vertex.entry)) }
 {
     text.push_str("\"combine\":[")?;
     push_number(text, first)?;
@@ -78,8 +86,8 @@ fn push_combination(
     push_vertex(text, vertex)
 }
 
-fn push_vertex(text: &mut String, vertex: &Vertex) -> Result<(), AllocError>
-    ensures { OnOk result (string_bytes text.new ≡ string_bytes text.old ++ (quoted (vertex_text (vertex_view vertex.now)) ++ codes "]")) }
+fn push_vertex(text: &mut String, vertex: VertexRef<'_>) -> Result<(), AllocError>
+    ensures { OnOk result (string_bytes text.new ≡ string_bytes text.old ++ (quoted (vertex_text (vertex_ref_view vertex.entry)) ++ codes "]")) }
 {
     write!(text, "\"{vertex}\"]")
 }
@@ -113,7 +121,7 @@ fn push_term(text: &mut String, later: bool, term: &WholeTerm) -> Result<(), All
     text.push_str("]]")
 }
 
-fn push_comma(text: &mut String, later: bool) -> Result<(), AllocError>
+pub(crate) fn push_comma(text: &mut String, later: bool) -> Result<(), AllocError>
     ensures { OnOk result (string_bytes text.new ≡ string_bytes text.old ++ comma_if later) }
 {
     if later { text.push_str(",") } else { Ok(()) }

@@ -1,13 +1,9 @@
 use Rattle.std.proofs.Common.{length, sym, ap, ◌∙◌}
 use Rattle.derivations.specs.Steps.{step_of_line}
 use Rattle.derivations.specs.Views.{step_view}
-use Rattle.derivations.proofs.ReadLaws.{line-is, line-few}
+use Rattle.derivations.proofs.ReadLaws.{line-is}
 use Rattle.derivations.proofs.derivation.with_line.Goals as goal
 
 pub with_step-requires-clause-step : goal.with_step-requires-clause-step
 with_step-requires-clause-step c =
     line-is (length c.args.steps) c.args.line.now (step_view c.in-Ok.step) (ap (λ n. step_of_line n c.args.line.now) (sym c.len.ensures) ∙ c.in-Ok.ensures)
-
-pub with_step-requires-clause-few : goal.with_step-requires-clause-few
-with_step-requires-clause-few c =
-    line-few (length c.args.steps) c.args.line.now (step_view c.in-Ok.step) (ap (λ n. step_of_line n c.args.line.now) (sym c.len.ensures) ∙ c.in-Ok.ensures)

@@ -1,0 +1,121 @@
+//! Terms by the texts of their vertices: put in the written order, and written.
+
+ghost use Rattle.std.specs.Prelude.{◌≡◌, ◌++◌, IfOk, OnOk, codes, map, string_bytes};
+ghost use Rattle.std.specs.List.{All, IsDistinct};
+ghost use Rattle.std.specs.Ordering.{eq_by_cmp};
+ghost use Rattle.vertices.specs.Orders.{state_cmp};
+ghost use Rattle.vertices.specs.RefViews.{state_ref_view, state_ref_views};
+ghost use Rattle.derivations.specs.Building.{IsNewTerm, AreNewTerms, term_ref_view, term_ref_views, ordered_term, ordered_terms, text_term, text_term_json, spelt_view, spelt_views, rest_json};
+ghost use Rattle.derivations.specs.Orders.{in_order};
+ghost use Rattle.derivations.specs.Written.{comma_if, with_commas, state_json};
+
+use crate::building::TermRef;
+use crate::writing::push_comma;
+use std::alloc::{AllocError, Global};
+use vertices::{StateRef, state_order};
+
+/// A term that is to be written: the text of its vertex, and its states in the written order.
+#[derive(Drop)]
+pub(crate) struct Spelt<'a> {
+    pub text: String,
+    pub states: Vec<StateRef<'a>>,
+}
+
+/// The terms in the written order.
+pub(crate) fn in_written_order<'a>(
+    alloc: Global,
+    terms: &[TermRef<'a>],
+) -> Result<Vec<Spelt<'a>>, AllocError>
+    requires { AreNewTerms (term_ref_views terms.now) }
+    ensures { IfOk result (λ v. spelt_views v.items ≡ map text_term (ordered_terms (term_ref_views terms.now))) }
+{
+    let mut found = spelt_terms(alloc, terms)?;
+    found.sort_unstable_by(|a, b| a.text.as_str().cmp(b.text.as_str()));
+    Ok(found)
+}
+
+/// The terms in their own order.
+fn spelt_terms<'a>(alloc: Global, terms: &[TermRef<'a>]) -> Result<Vec<Spelt<'a>>, AllocError>
+    requires { All IsNewTerm (term_ref_views terms.now) }
+    ensures { IfOk result (λ v. spelt_views v.items ≡ map text_term (map ordered_term (term_ref_views terms.now))) }
+{
+    let mut found = Vec::with_capacity(alloc, terms.len())?;
+    'terms: for term in terms {
+        found.push(spelt_term(alloc, term)?)?;
+    }
+    Ok(found)
+}
+
+fn spelt_term<'a>(alloc: Global, term: &TermRef<'a>) -> Result<Spelt<'a>, AllocError>
+    requires { IsNewTerm (term_ref_view term.now) }
+    ensures { IfOk result (λ t. spelt_view t ≡ text_term (ordered_term (term_ref_view term.now))) }
+{
+    let vertex = term.vertex;
+    let mut text = String::new(alloc);
+    write!(text, "{vertex}")?;
+    let states = ordered_states(alloc, term.states)?;
+    Ok(Spelt { text, states })
+}
+
+fn ordered_states<'a>(
+    alloc: Global,
+    states: &[StateRef<'a>],
+) -> Result<Vec<StateRef<'a>>, AllocError>
+    requires { IsDistinct (eq_by_cmp state_cmp) (state_ref_views states.now) }
+    ensures { IfOk result (λ v. state_ref_views v.items ≡ in_order state_cmp (state_ref_views states.now)) }
+{
+    let mut ordered = Vec::with_capacity(alloc, states.len())?;
+    ordered.extend_from_slice(states)?;
+    ordered.sort_unstable_by(|a, b| state_order(*a, *b));
+    Ok(ordered)
+}
+
+/// The rest of a step's JSON object, from its terms on.
+pub(crate) fn push_rest(text: &mut String, terms: &[Spelt<'_>]) -> Result<(), AllocError>
+    ensures { OnOk result (string_bytes text.new ≡ string_bytes text.old ++ rest_json (spelt_views terms.now)) }
+{
+    text.push_str(",\"terms\":[")?;
+    push_spelt_terms(text, terms)?;
+    text.push_str("]}")
+}
+
+fn push_spelt_terms(text: &mut String, terms: &[Spelt<'_>]) -> Result<(), AllocError>
+    ensures { OnOk result (string_bytes text.new ≡ string_bytes text.old ++ with_commas (map text_term_json (spelt_views terms.now))) }
+{
+    let mut later = false;
+    'terms: for term in terms {
+        push_spelt_term(text, later, term)?;
+        later = true;
+    }
+    Ok(())
+}
+
+/// A term, after a comma if it is a later one.
+fn push_spelt_term(text: &mut String, later: bool, term: &Spelt<'_>) -> Result<(), AllocError>
+    ensures { OnOk result (string_bytes text.new ≡ string_bytes text.old ++ (comma_if later ++ text_term_json (spelt_view term.now))) }
+{
+    push_comma(text, later)?;
+    let vertex = term.text.as_str();
+    write!(text, "[\"{vertex}\",[")?;
+    push_state_refs(text, &term.states)?;
+    text.push_str("]]")
+}
+
+fn push_state_refs(text: &mut String, states: &[StateRef<'_>]) -> Result<(), AllocError>
+    ensures { OnOk result (string_bytes text.new ≡ string_bytes text.old ++ with_commas (map state_json (state_ref_views states.now))) }
+{
+    let mut later = false;
+    'states: for state in states {
+        push_state_ref(text, later, *state)?;
+        later = true;
+    }
+    Ok(())
+}
+
+/// A state, after a comma if it is a later one.
+fn push_state_ref(text: &mut String, later: bool, state: StateRef<'_>) -> Result<(), AllocError>
+    ensures { OnOk result (string_bytes text.new ≡ string_bytes text.old ++ (comma_if later ++ state_json (state_ref_view state.entry))) }
+{
+    push_comma(text, later)?;
+    write!(text, "\"{state}\"")
+}
