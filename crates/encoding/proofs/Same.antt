@@ -10,27 +10,16 @@ use Rattle.std.specs.Cmp.Lexicographic.{pointwise}
 use Rattle.semver.specs.declared.Version.{Version}
 use Rattle.semver.specs.Identifiers.{parts_of, pre_text, build_text}
 use Rattle.model.specs.Content.{same_version}
-use Rattle.model.specs.Summary.{same_text}
-use Rattle.encoding.specs.declared.vertex.ClassKey.{ClassKey}
-use Rattle.encoding.specs.declared.vertex.ClassKey.TheVariants as class
-use Rattle.encoding.specs.declared.vertex.OwnerRef.{OwnerRef}
-use Rattle.encoding.specs.declared.vertex.OwnerRef.TheVariants as owner
-use Rattle.encoding.specs.declared.vertex.VertexRef.{VertexRef}
-use Rattle.encoding.specs.declared.vertex.VertexRef.TheVariants as vertex
-use Rattle.encoding.specs.contracts.vertex.ClassKeyPartialEq.TheImpl as class_eq
-use Rattle.encoding.specs.contracts.vertex.OwnerRefPartialEq.TheImpl as owner_eq
-use Rattle.encoding.specs.contracts.vertex.VertexRefPartialEq.TheImpl as vertex_eq
+use Rattle.classes.specs.declared.class.Class.{Class}
+use Rattle.classes.specs.declared.class.Class.TheVariants as class
+use Rattle.vertices.specs.declared.vertex.OwnerRef.{OwnerRef}
+use Rattle.vertices.specs.declared.vertex.VertexRef.{VertexRef}
+use Rattle.classes.specs.contracts.class.ClassPartialEq.TheImpl as class_eq
+use Rattle.vertices.specs.contracts.same.OwnerRefPartialEq.TheImpl as owner_eq
+use Rattle.vertices.specs.contracts.same.VertexRefPartialEq.TheImpl as vertex_eq
 use Rattle.model.specs.Vertices.{same_class, same_owner, same_vertex}
-use Rattle.encoding.specs.RefViews.{class_view, owner_ref_view, vertex_ref_view}
-
-three : (a b c : Bool) → (a && (b && c)) ≡ ((a && b) && c)
-three true b c = refl
-three false b c = refl
-
-four : (a b c d : Bool) → (a && (b && (c && d))) ≡ (((a && b) && c) && d)
-four true true c d = refl
-four true false c d = refl
-four false b c d = refl
+use Rattle.classes.specs.Classes.{class_view}
+use Rattle.vertices.specs.RefViews.{owner_ref_view, vertex_ref_view}
 
 five : (a b c d e : Bool) → (a && (b && (c && (d && e)))) ≡ ((((a && b) && c) && d) && e)
 five true true true d e = refl
@@ -42,7 +31,7 @@ pub version_same : (v w : Version) → (nat_eq v.major w.major && (nat_eq v.mino
     && (pointwise nat_eq (pre_text v.pre) (pre_text w.pre) && pointwise nat_eq (build_text v.build) (build_text w.build))))) ≡ same_version (parts_of v) (parts_of w)
 version_same v w = five (nat_eq v.major w.major) (nat_eq v.minor w.minor) (nat_eq v.patch w.patch) (pointwise nat_eq (pre_text v.pre) (pre_text w.pre)) (pointwise nat_eq (build_text v.build) (build_text w.build))
 
-pub class_same : (a b : ClassKey) → (class_eq.eq-value).it a b ≡ same_class (class_view a) (class_view b)
+pub class_same : (a b : Class) → (class_eq.eq-value).it a b ≡ same_class (class_view a) (class_view b)
 class_same (class.Patch n) (class.Patch m) = refl
 class_same (class.Patch n) (class.Minor m) = refl
 class_same (class.Patch n) (class.Major m) = refl
@@ -54,37 +43,10 @@ class_same (class.Major n) (class.Minor m) = refl
 class_same (class.Major n) (class.Major m) = refl
 
 pub owner_same : (o p : OwnerRef) → (owner_eq.eq-value).it o p ≡ same_owner (owner_ref_view o) (owner_ref_view p)
-owner_same owner.Root owner.Root = refl
-owner_same owner.Root (owner.Version n v) = refl
-owner_same (owner.Version n v) owner.Root = refl
-owner_same (owner.Version n v) (owner.Version m w) = ap (λ b. same_text n.now m.now && b) (version_same v.now w.now)
+owner_same o p = refl
 
 pub vertex_same : (v w : VertexRef) → (vertex_eq.eq-value).it v w ≡ same_vertex (vertex_ref_view v) (vertex_ref_view w)
-vertex_same vertex.Root vertex.Root = refl
-vertex_same vertex.Root (vertex.Package m e) = refl
-vertex_same vertex.Root (vertex.Dependency p j) = refl
-vertex_same vertex.Root (vertex.Feature m e g) = refl
-vertex_same vertex.Root (vertex.Ask m w j g) = refl
-vertex_same (vertex.Package n c) vertex.Root = refl
-vertex_same (vertex.Package n c) (vertex.Package m e) = ap (λ b. same_text n.now m.now && b) (class_same c e)
-vertex_same (vertex.Package n c) (vertex.Dependency p j) = refl
-vertex_same (vertex.Package n c) (vertex.Feature m e g) = refl
-vertex_same (vertex.Package n c) (vertex.Ask m w j g) = refl
-vertex_same (vertex.Dependency o i) vertex.Root = refl
-vertex_same (vertex.Dependency o i) (vertex.Package m e) = refl
-vertex_same (vertex.Dependency o i) (vertex.Dependency p j) = ap (λ b. b && nat_eq i j) (owner_same o p)
-vertex_same (vertex.Dependency o i) (vertex.Feature m e g) = refl
-vertex_same (vertex.Dependency o i) (vertex.Ask m w j g) = refl
-vertex_same (vertex.Feature n c f) vertex.Root = refl
-vertex_same (vertex.Feature n c f) (vertex.Package m e) = refl
-vertex_same (vertex.Feature n c f) (vertex.Dependency p j) = refl
-vertex_same (vertex.Feature n c f) (vertex.Feature m e g) = ap (λ b. same_text n.now m.now && (b && same_text f.now g.now)) (class_same c e) ∙ three (same_text n.now m.now) (same_class (class_view c) (class_view e)) (same_text f.now g.now)
-vertex_same (vertex.Feature n c f) (vertex.Ask m w j g) = refl
-vertex_same (vertex.Ask n v i f) vertex.Root = refl
-vertex_same (vertex.Ask n v i f) (vertex.Package m e) = refl
-vertex_same (vertex.Ask n v i f) (vertex.Dependency p j) = refl
-vertex_same (vertex.Ask n v i f) (vertex.Feature m e g) = refl
-vertex_same (vertex.Ask n v i f) (vertex.Ask m w j g) = ap (λ b. same_text n.now m.now && (b && (nat_eq i j && same_text f.now g.now))) (version_same v.now w.now) ∙ four (same_text n.now m.now) (same_version (parts_of v.now) (parts_of w.now)) (nat_eq i j) (same_text f.now g.now)
+vertex_same v w = refl
 
 -- ---- vertices that a table keeps, and what they stand for
 

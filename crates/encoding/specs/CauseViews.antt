@@ -9,7 +9,8 @@ use Rattle.vertices.specs.declared.kind.Kind.{Kind}
 use Rattle.model.specs.Summary as model
 use Rattle.refutations.specs.Causes as causes
 use Rattle.encoding.specs.Pairs.{Given}
-use Rattle.encoding.specs.RefViews.{class_view, owner_ref_view}
+use Rattle.classes.specs.Classes.{class_view}
+use Rattle.vertices.specs.RefViews.{owner_ref_view}
 use Rattle.encoding.specs.declared.cause.Cause.{Cause}
 use Rattle.encoding.specs.declared.cause.Cause.TheVariants as cause
 use Rattle.encoding.specs.declared.cause.Enabling.{Enabling}

@@ -1,7 +1,6 @@
 pub mod Numberings
 pub mod Pairs
 pub mod Assignments
-pub mod RefViews
 pub mod Numbered
 pub mod Absences
 pub mod Finals

@@ -11,7 +11,7 @@ use Rattle.model.specs.Vertices.{Vertex, State, version, version_of, same_class,
 use Rattle.model.specs.Axioms.{Term, IsVertex}
 use Rattle.version_sets.specs.Sets.{Members}
 use Rattle.encoding.specs.Numberings.{Numbering, members_at}
-use Rattle.encoding.specs.RefViews.{vertex_ref_view}
+use Rattle.vertices.specs.RefViews.{vertex_ref_view}
 use Rattle.encoding.specs.declared.parts.Part as code
 
 abbrev pub Part : Type 0

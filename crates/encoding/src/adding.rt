@@ -12,7 +12,7 @@ ghost use Rattle.encoding.specs.CauseViews.{cause_view, cause_views, given_views
 ghost use Rattle.encoding.specs.Inputs.{KnowsDefault, problem};
 ghost use Rattle.encoding.specs.Numberings.{IsGrown, IsNumbering};
 ghost use Rattle.encoding.specs.Pairs.{AreGiven, IsGivenAt};
-ghost use Rattle.encoding.specs.RefViews.{vertex_ref_view};
+ghost use Rattle.vertices.specs.RefViews.{vertex_ref_view};
 
 use crate::cause::Cause;
 use crate::inputs::Inputs;
@@ -20,11 +20,10 @@ use crate::instances::instance;
 use crate::pairing::causes_at;
 use crate::states::state_at;
 use crate::table::Table;
-use crate::vertex::VertexRef;
 use incompatibilities::Incompatibility;
 use std::alloc::{AllocError, Global};
 use version_sets::States;
-use vertices::Kind;
+use vertices::{Kind, VertexRef};
 
 /// The instances that have the vertex of this number in the state of this number as their first term, each once, with
 /// its kind; their vertices get numbers where they have none.

@@ -1,8 +1,9 @@
 //! What gives rise to an instance of an axiom, by names and numbers.
 
-use crate::vertex::{ClassKey, OwnerRef};
+use classes::Class;
 use features::{FeatureName, PackageName};
 use semver::Version;
+use vertices::OwnerRef;
 
 /// An entry that enables a dependency.
 #[derive(Clone, Copy, PartialEq, Eq, Hash)]
@@ -20,13 +21,13 @@ pub enum Cause<'a> {
     /// An owner, and the number of a dependency that it needs.
     Need(OwnerRef<'a>, usize),
     /// A dependency of an owner, and a class that it may lead to.
-    Target(OwnerRef<'a>, usize, ClassKey),
+    Target(OwnerRef<'a>, usize, Class),
     /// A feature that is asked of a class.
-    Feature(&'a PackageName, ClassKey, &'a FeatureName),
+    Feature(&'a PackageName, Class, &'a FeatureName),
     /// A dependency of an owner, a class that it may lead to, and a feature that it asks for by its list.
-    List(OwnerRef<'a>, usize, ClassKey, &'a FeatureName),
+    List(OwnerRef<'a>, usize, Class, &'a FeatureName),
     /// The same, where an entry `d/g` of the version asks for g.
-    Ask(&'a PackageName, &'a Version, usize, &'a FeatureName, ClassKey),
+    Ask(&'a PackageName, &'a Version, usize, &'a FeatureName, Class),
     /// An entry `g` of a version's feature f.
     Entry(&'a PackageName, &'a Version, &'a FeatureName, &'a FeatureName),
     /// An entry of a version's feature f that enables a dependency.
@@ -34,7 +35,7 @@ pub enum Cause<'a> {
     /// An entry `d/g` of a version's feature f, and a dependency called d.
     Asking(&'a PackageName, &'a Version, &'a FeatureName, &'a FeatureName, usize),
     /// Two dependencies of an owner, and a class for each.
-    Newest(OwnerRef<'a>, usize, usize, ClassKey, ClassKey),
+    Newest(OwnerRef<'a>, usize, usize, Class, Class),
     /// An entry `d?/g` of a version's feature f, a dependency called d, and a class that it may lead to.
-    Weak(&'a PackageName, &'a Version, &'a FeatureName, &'a FeatureName, usize, ClassKey),
+    Weak(&'a PackageName, &'a Version, &'a FeatureName, &'a FeatureName, usize, Class),
 }

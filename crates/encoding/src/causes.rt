@@ -9,24 +9,24 @@ ghost use Rattle.features.specs.Views.{dependency_view, dependency_views};
 ghost use Rattle.model.specs.Selection.{class_of};
 ghost use Rattle.model.specs.Summary as model;
 ghost use Rattle.model.specs.Summary.{same_text};
-ghost use Rattle.model.specs.Vertices as vertices;
+ghost use Rattle.model.specs.Vertices as model_vertices;
 ghost use Rattle.model.specs.Vertices.{feat, same_class, same_vertex};
 ghost use Rattle.refutations.specs.Causes.{is_needed, of_asking, of_enabling, table_of_owner};
 ghost use Rattle.encoding.specs.CauseViews.{cause_views};
 ghost use Rattle.encoding.specs.CausesAt.{each_from, entry_causes, entry_if, feature_causes, need_if, turned_if, version_causes, weak_if, with_causes};
 ghost use Rattle.encoding.specs.Inputs.{problem};
-ghost use Rattle.encoding.specs.RefViews.{owner_ref_view};
+ghost use Rattle.vertices.specs.RefViews.{owner_ref_view};
 
 use crate::cause::{Cause, Enabling};
 use crate::inputs::Inputs;
 use crate::lookups::{brings, dependencies_of, entries_of};
 use crate::spaces::classes_of;
-use crate::vertex::{ClassKey, OwnerRef};
 use classes::Class;
 use features::{Dependency, Entry, FeatureName, FeatureTable, PackageName};
 use indexmap::IndexSet;
 use semver::Version;
 use std::alloc::{AllocError, Global};
+use vertices::OwnerRef;
 
 /// A feature of a version.
 #[derive(Clone, Copy)]
@@ -269,8 +269,7 @@ fn put_weak_at<'a>(
     if is_itself(&own, asked, dependency, class) {
         return Ok(());
     }
-    let key = ClassKey::of(class);
-    causes.push(Cause::Weak(own.name, own.version, own.feature, asked, number, key))?;
+    causes.push(Cause::Weak(own.name, own.version, own.feature, asked, number, class))?;
     Ok(())
 }
 
@@ -327,7 +326,7 @@ fn put_features<'a>(
     name: &'a PackageName,
     version: &'a Version,
 ) -> Result<(), AllocError>
-    ensures { OnOk result (cause_views causes.new.items ≡ cause_views causes.old.items ++ flat_map (λ row. feature_causes (problem inputs.now) name.entry.now (parts_of version.entry.now) row.0) (table_of_owner (problem inputs.now) (vertices.version_of name.entry.now (parts_of version.entry.now)))) }
+    ensures { OnOk result (cause_views causes.new.items ≡ cause_views causes.old.items ++ flat_map (λ row. feature_causes (problem inputs.now) name.entry.now (parts_of version.entry.now) row.0) (table_of_owner (problem inputs.now) (model_vertices.version_of name.entry.now (parts_of version.entry.now)))) }
 {
     match brings(inputs, &OwnerRef::Version(name, version)) {
         Some(summary) => put_rows(alloc, inputs, causes, name, version, &summary.features),

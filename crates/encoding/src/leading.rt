@@ -14,7 +14,7 @@ ghost use Rattle.refutations.specs.Causes.{dependency_at, has_class, of_list};
 ghost use Rattle.encoding.specs.CauseViews.{cause_views};
 ghost use Rattle.encoding.specs.CausesAt.{each_from, lead_causes, listed_by, newest_at, newest_if, root_asked};
 ghost use Rattle.encoding.specs.Inputs.{KnowsDefault, problem};
-ghost use Rattle.encoding.specs.RefViews.{class_view as key_view, owner_ref_view};
+ghost use Rattle.vertices.specs.RefViews.{owner_ref_view};
 
 use crate::cause::Cause;
 use crate::inputs::Inputs;
@@ -22,18 +22,18 @@ use crate::lookups::{dependencies_of, dependency_at};
 use crate::ranges::class_versions;
 use crate::spaces::classes_of;
 use crate::tests::is_matched;
-use crate::vertex::{ClassKey, OwnerRef};
 use classes::Class;
 use features::{Dependency, Entry, FeatureName, FeatureTable, PackageName};
 use semver::{Version, VersionReq};
 use std::alloc::{AllocError, Global};
+use vertices::OwnerRef;
 
 /// A dependency of an owner by its number, and a class that it leads to.
 #[derive(Clone, Copy)]
 pub(crate) struct Lead<'a> {
     pub(crate) owner: OwnerRef<'a>,
     pub(crate) number: usize,
-    pub(crate) class: ClassKey,
+    pub(crate) class: Class,
 }
 
 /// What a dependency gives that leads to a class: nothing where it isn't there.
@@ -44,7 +44,7 @@ pub(crate) fn put_lead<'a>(
     lead: Lead<'a>,
 ) -> Result<(), AllocError>
     requires default { KnowsDefault inputs.now }
-    ensures { OnOk result (cause_views causes.new.items ≡ cause_views causes.old.items ++ lead_causes (problem inputs.now) (owner_ref_view lead.entry.owner) lead.entry.number (key_view lead.entry.class) (dependency_at (problem inputs.now) (owner_ref_view lead.entry.owner) lead.entry.number)) }
+    ensures { OnOk result (cause_views causes.new.items ≡ cause_views causes.old.items ++ lead_causes (problem inputs.now) (owner_ref_view lead.entry.owner) lead.entry.number (class_view lead.entry.class) (dependency_at (problem inputs.now) (owner_ref_view lead.entry.owner) lead.entry.number)) }
 {
     match dependency_at(inputs, &lead.owner, lead.number) {
         Some(dependency) => put_leading(alloc, inputs, causes, lead, dependency),
@@ -62,7 +62,7 @@ fn put_leading<'a>(
     dependency: &'a Dependency,
 ) -> Result<(), AllocError>
     requires default { KnowsDefault inputs.now }
-    ensures { OnOk result (cause_views causes.new.items ≡ cause_views causes.old.items ++ lead_causes (problem inputs.now) (owner_ref_view lead.entry.owner) lead.entry.number (key_view lead.entry.class) (Some (dependency_view dependency.entry.now))) }
+    ensures { OnOk result (cause_views causes.new.items ≡ cause_views causes.old.items ++ lead_causes (problem inputs.now) (owner_ref_view lead.entry.owner) lead.entry.number (class_view lead.entry.class) (Some (dependency_view dependency.entry.now))) }
 {
     causes.push(Cause::Target(lead.owner, lead.number, lead.class))?;
     put_lists(inputs, causes, lead, dependency)?;
@@ -78,7 +78,7 @@ fn put_lists<'a>(
     dependency: &'a Dependency,
 ) -> Result<(), AllocError>
     requires default { KnowsDefault inputs.now }
-    ensures { OnOk result (cause_views causes.new.items ≡ cause_views causes.old.items ++ map (of_list (owner_ref_view lead.entry.owner) lead.entry.number (key_view lead.entry.class)) (asked_of_target (dependency_view dependency.entry.now) ++ root_asked (problem inputs.now) (owner_ref_view lead.entry.owner) (dependency_view dependency.entry.now))) }
+    ensures { OnOk result (cause_views causes.new.items ≡ cause_views causes.old.items ++ map (of_list (owner_ref_view lead.entry.owner) lead.entry.number (class_view lead.entry.class)) (asked_of_target (dependency_view dependency.entry.now) ++ root_asked (problem inputs.now) (owner_ref_view lead.entry.owner) (dependency_view dependency.entry.now))) }
 {
     put_own_list(inputs, causes, lead, dependency)?;
     put_root_lists(inputs, causes, lead, dependency)
@@ -92,7 +92,7 @@ fn put_own_list<'a>(
     dependency: &'a Dependency,
 ) -> Result<(), AllocError>
     requires default { KnowsDefault inputs.now }
-    ensures { OnOk result (cause_views causes.new.items ≡ cause_views causes.old.items ++ map (of_list (owner_ref_view lead.entry.owner) lead.entry.number (key_view lead.entry.class)) (asked_of_target (dependency_view dependency.entry.now))) }
+    ensures { OnOk result (cause_views causes.new.items ≡ cause_views causes.old.items ++ map (of_list (owner_ref_view lead.entry.owner) lead.entry.number (class_view lead.entry.class)) (asked_of_target (dependency_view dependency.entry.now))) }
 {
     put_listed(causes, lead, dependency.features.as_slice())?;
     put_default(inputs, causes, lead, dependency)
@@ -105,7 +105,7 @@ fn put_default<'a>(
     dependency: &Dependency,
 ) -> Result<(), AllocError>
     requires default { KnowsDefault inputs.now }
-    ensures { OnOk result (cause_views causes.new.items ≡ cause_views causes.old.items ++ (if (dependency_view dependency.now).default_features then of_list (owner_ref_view lead.entry.owner) lead.entry.number (key_view lead.entry.class) (codes "default") ∷ [] else [])) }
+    ensures { OnOk result (cause_views causes.new.items ≡ cause_views causes.old.items ++ (if (dependency_view dependency.now).default_features then of_list (owner_ref_view lead.entry.owner) lead.entry.number (class_view lead.entry.class) (codes "default") ∷ [] else [])) }
 {
     if dependency.default_features {
         causes.push(Cause::List(lead.owner, lead.number, lead.class, inputs.default))?;
@@ -118,7 +118,7 @@ fn put_listed<'a>(
     lead: Lead<'a>,
     features: &'a [FeatureName],
 ) -> Result<(), AllocError>
-    ensures { OnOk result (cause_views causes.new.items ≡ cause_views causes.old.items ++ map (of_list (owner_ref_view lead.entry.owner) lead.entry.number (key_view lead.entry.class)) features.entry.now) }
+    ensures { OnOk result (cause_views causes.new.items ≡ cause_views causes.old.items ++ map (of_list (owner_ref_view lead.entry.owner) lead.entry.number (class_view lead.entry.class)) features.entry.now) }
 {
     'features: for feature in features.iter() {
         causes.push(Cause::List(lead.owner, lead.number, lead.class, feature))?;
@@ -133,7 +133,7 @@ fn put_root_lists<'a>(
     lead: Lead<'a>,
     dependency: &Dependency,
 ) -> Result<(), AllocError>
-    ensures { OnOk result (cause_views causes.new.items ≡ cause_views causes.old.items ++ map (of_list (owner_ref_view lead.entry.owner) lead.entry.number (key_view lead.entry.class)) (root_asked (problem inputs.now) (owner_ref_view lead.entry.owner) (dependency_view dependency.now))) }
+    ensures { OnOk result (cause_views causes.new.items ≡ cause_views causes.old.items ++ map (of_list (owner_ref_view lead.entry.owner) lead.entry.number (class_view lead.entry.class)) (root_asked (problem inputs.now) (owner_ref_view lead.entry.owner) (dependency_view dependency.now))) }
 {
     match lead.owner {
         OwnerRef::Root => put_root_rows(causes, lead, dependency, inputs.manifest.features()),
@@ -147,7 +147,7 @@ fn put_root_rows<'a>(
     dependency: &Dependency,
     table: &'a FeatureTable,
 ) -> Result<(), AllocError>
-    ensures { OnOk result (cause_views causes.new.items ≡ cause_views causes.old.items ++ flat_map (λ row. flat_map (listed_by (owner_ref_view lead.entry.owner) lead.entry.number (key_view lead.entry.class) (dependency_view dependency.now)) row.1) table.entry.now) }
+    ensures { OnOk result (cause_views causes.new.items ≡ cause_views causes.old.items ++ flat_map (λ row. flat_map (listed_by (owner_ref_view lead.entry.owner) lead.entry.number (class_view lead.entry.class) (dependency_view dependency.now)) row.1) table.entry.now) }
 {
     'rows: for (_, entries) in table.iter() {
         put_root_row(causes, lead, dependency, entries.as_slice())?;
@@ -161,7 +161,7 @@ fn put_root_row<'a>(
     dependency: &Dependency,
     entries: &'a [Entry],
 ) -> Result<(), AllocError>
-    ensures { OnOk result (cause_views causes.new.items ≡ cause_views causes.old.items ++ flat_map (listed_by (owner_ref_view lead.entry.owner) lead.entry.number (key_view lead.entry.class) (dependency_view dependency.now)) (entry_views entries.entry.now)) }
+    ensures { OnOk result (cause_views causes.new.items ≡ cause_views causes.old.items ++ flat_map (listed_by (owner_ref_view lead.entry.owner) lead.entry.number (class_view lead.entry.class) (dependency_view dependency.now)) (entry_views entries.entry.now)) }
 {
     'entries: for entry in entries.iter() {
         put_root_entry(causes, lead, dependency, entry)?;
@@ -175,7 +175,7 @@ fn put_root_entry<'a>(
     dependency: &Dependency,
     entry: &'a Entry,
 ) -> Result<(), AllocError>
-    ensures { OnOk result (cause_views causes.new.items ≡ cause_views causes.old.items ++ listed_by (owner_ref_view lead.entry.owner) lead.entry.number (key_view lead.entry.class) (dependency_view dependency.now) (entry_view entry.entry.now)) }
+    ensures { OnOk result (cause_views causes.new.items ≡ cause_views causes.old.items ++ listed_by (owner_ref_view lead.entry.owner) lead.entry.number (class_view lead.entry.class) (dependency_view dependency.now) (entry_view entry.entry.now)) }
 {
     match entry {
         Entry::Feature(_) => Ok(()),
@@ -197,7 +197,7 @@ fn put_root_asked<'a>(
     called: &PackageName,
     asked: &'a FeatureName,
 ) -> Result<(), AllocError>
-    ensures { OnOk result (cause_views causes.new.items ≡ cause_views causes.old.items ++ (if same_text (dependency_view dependency.now).name called.now then of_list (owner_ref_view lead.entry.owner) lead.entry.number (key_view lead.entry.class) asked.entry.now ∷ [] else [])) }
+    ensures { OnOk result (cause_views causes.new.items ≡ cause_views causes.old.items ++ (if same_text (dependency_view dependency.now).name called.now then of_list (owner_ref_view lead.entry.owner) lead.entry.number (class_view lead.entry.class) asked.entry.now ∷ [] else [])) }
 {
     if dependency.name == *called {
         causes.push(Cause::List(lead.owner, lead.number, lead.class, asked))?;
@@ -214,7 +214,7 @@ fn put_newest<'a>(
     dependency: &Dependency,
     others: &[Dependency],
 ) -> Result<(), AllocError>
-    ensures { OnOk result (cause_views causes.new.items ≡ cause_views causes.old.items ++ each_from (newest_if (problem inputs.now) (owner_ref_view lead.entry.owner) lead.entry.number (key_view lead.entry.class) (dependency_view dependency.now)) 0 (dependency_views others.now)) }
+    ensures { OnOk result (cause_views causes.new.items ≡ cause_views causes.old.items ++ each_from (newest_if (problem inputs.now) (owner_ref_view lead.entry.owner) lead.entry.number (class_view lead.entry.class) (dependency_view dependency.now)) 0 (dependency_views others.now)) }
 {
     'others: for (number, other) in others.iter().enumerate() {
         put_other(alloc, inputs, causes, lead, dependency, number, other)?;
@@ -231,7 +231,7 @@ fn put_other<'a>(
     number: usize,
     other: &Dependency,
 ) -> Result<(), AllocError>
-    ensures { OnOk result (cause_views causes.new.items ≡ cause_views causes.old.items ++ newest_if (problem inputs.now) (owner_ref_view lead.entry.owner) lead.entry.number (key_view lead.entry.class) (dependency_view dependency.now) number (dependency_view other.now)) }
+    ensures { OnOk result (cause_views causes.new.items ≡ cause_views causes.old.items ++ newest_if (problem inputs.now) (owner_ref_view lead.entry.owner) lead.entry.number (class_view lead.entry.class) (dependency_view dependency.now) number (dependency_view other.now)) }
 {
     if lead.number == number {
         return Ok(());
@@ -248,7 +248,7 @@ fn put_higher<'a>(
     number: usize,
     other: &Dependency,
 ) -> Result<(), AllocError>
-    ensures { OnOk result (cause_views causes.new.items ≡ cause_views causes.old.items ++ (if same_text (dependency_view dependency.now).real_name (dependency_view other.now).real_name then flat_map (newest_at (problem inputs.now) (owner_ref_view lead.entry.owner) lead.entry.number number (key_view lead.entry.class) (dependency_view dependency.now)) (dep_classes (problem inputs.now) (dependency_view other.now)) else [])) }
+    ensures { OnOk result (cause_views causes.new.items ≡ cause_views causes.old.items ++ (if same_text (dependency_view dependency.now).real_name (dependency_view other.now).real_name then flat_map (newest_at (problem inputs.now) (owner_ref_view lead.entry.owner) lead.entry.number number (class_view lead.entry.class) (dependency_view dependency.now)) (dep_classes (problem inputs.now) (dependency_view other.now)) else [])) }
 {
     if dependency.real_name != other.real_name {
         return Ok(());
@@ -265,7 +265,7 @@ fn put_classes<'a>(
     number: usize,
     classes: &[Class],
 ) -> Result<(), AllocError>
-    ensures { OnOk result (cause_views causes.new.items ≡ cause_views causes.old.items ++ flat_map (newest_at (problem inputs.now) (owner_ref_view lead.entry.owner) lead.entry.number number (key_view lead.entry.class) (dependency_view dependency.now)) (map class_view classes.now)) }
+    ensures { OnOk result (cause_views causes.new.items ≡ cause_views causes.old.items ++ flat_map (newest_at (problem inputs.now) (owner_ref_view lead.entry.owner) lead.entry.number number (class_view lead.entry.class) (dependency_view dependency.now)) (map class_view classes.now)) }
 {
     'classes: for class in classes.iter() {
         put_class(inputs, causes, lead, dependency, number, *class)?;
@@ -281,20 +281,19 @@ fn put_class<'a>(
     number: usize,
     class: Class,
 ) -> Result<(), AllocError>
-    ensures { OnOk result (cause_views causes.new.items ≡ cause_views causes.old.items ++ newest_at (problem inputs.now) (owner_ref_view lead.entry.owner) lead.entry.number number (key_view lead.entry.class) (dependency_view dependency.now) (class_view class)) }
+    ensures { OnOk result (cause_views causes.new.items ≡ cause_views causes.old.items ++ newest_at (problem inputs.now) (owner_ref_view lead.entry.owner) lead.entry.number number (class_view lead.entry.class) (dependency_view dependency.now) (class_view class)) }
 {
     if is_higher(inputs, lead.class, dependency, class) {
-        let key = ClassKey::of(class);
-        causes.push(Cause::Newest(lead.owner, lead.number, number, lead.class, key))?;
+        causes.push(Cause::Newest(lead.owner, lead.number, number, lead.class, class))?;
     }
     Ok(())
 }
 
 /// Whether a class is higher than that of the dependency, which may lead to it too.
-fn is_higher(inputs: &Inputs<'_>, class: ClassKey, dependency: &Dependency, higher: Class) -> bool
-    ensures { result ≡ (is_lower (key_view class) (class_view higher) && has_class (problem inputs.now) (class_view higher) (dependency_view dependency.now)) }
+fn is_higher(inputs: &Inputs<'_>, class: Class, dependency: &Dependency, higher: Class) -> bool
+    ensures { result ≡ (is_lower (class_view class) (class_view higher) && has_class (problem inputs.now) (class_view higher) (dependency_view dependency.now)) }
 {
-    class.class().is_lower(higher) && may_lead(inputs, dependency, higher)
+    class.is_lower(higher) && may_lead(inputs, dependency, higher)
 }
 
 /// Whether some candidate of the class is matched.

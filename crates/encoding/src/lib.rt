@@ -16,7 +16,6 @@ mod spaces;
 mod states;
 mod table;
 mod tests;
-mod vertex;
 
 ghost use Rattle.std.specs.Prelude.{◌≡◌, ◌≢◌, ℕ, List, Some, map};
 ghost use Rattle.incompatibilities.specs.Incompatibilities.{Assignment, Breaks, Terms};
@@ -48,7 +47,6 @@ pub use instances::instance;
 pub use pairing::causes_at;
 pub use states::{space_of, spaces_are_small, state_at};
 pub use table::Table;
-pub use vertex::{ClassKey, OwnerRef, StateRef, VertexRef};
 
 /// An assignment over numbers that breaks no entry of a store, where each pair that holds in it has been added, breaks
 /// no instance at all.

@@ -7,12 +7,12 @@ ghost use Rattle.features.specs.EntryViews.{entry_views};
 ghost use Rattle.model.specs.Vertices.{owner_brings};
 ghost use Rattle.refutations.specs.Causes.{dependency_at, entries_of};
 ghost use Rattle.encoding.specs.Inputs.{brings_view, problem};
-ghost use Rattle.encoding.specs.RefViews.{owner_ref_view};
+ghost use Rattle.vertices.specs.RefViews.{owner_ref_view};
 
 use crate::inputs::Inputs;
-use crate::vertex::OwnerRef;
 use features::{Dependency, Entry, FeatureName, PackageName, Summary};
 use semver::Version;
+use vertices::OwnerRef;
 
 /// What an owner brings: nothing where it is neither the root nor a candidate.
 pub(crate) fn brings<'a>(inputs: &Inputs<'a>, owner: &OwnerRef<'_>) -> Option<&'a Summary>

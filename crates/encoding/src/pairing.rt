@@ -4,14 +4,14 @@ ghost use Rattle.std.specs.Prelude.{◌≡◌, ◌++◌, ◌∷◌, [], Contains
 ghost use Rattle.semver.specs.Identifiers.{parts_of};
 ghost use Rattle.classes.specs.Classes.{class_view};
 ghost use Rattle.model.specs.Axioms.{IsVertex};
-ghost use Rattle.model.specs.Vertices as vertices;
+ghost use Rattle.model.specs.Vertices as model;
 ghost use Rattle.refutations.specs.Causes.{of_ask};
 ghost use Rattle.refutations.specs.Listed.{classes_at};
 ghost use Rattle.encoding.specs.CauseViews.{cause_view, cause_views};
 ghost use Rattle.encoding.specs.CausesAt.{causes_at};
 ghost use Rattle.encoding.specs.Inputs.{KnowsDefault, problem};
 ghost use Rattle.encoding.specs.Pairs.{AreCausesAt};
-ghost use Rattle.encoding.specs.RefViews.{class_view as key_view, owner_ref_view, state_ref_view, vertex_ref_view};
+ghost use Rattle.vertices.specs.RefViews.{owner_ref_view, state_ref_view, vertex_ref_view};
 
 use crate::cause::Cause;
 use crate::causes::{each_once, put_needs, put_version};
@@ -19,12 +19,12 @@ use crate::inputs::Inputs;
 use crate::leading::{Lead, put_lead};
 use crate::lookups::dependencies_of;
 use crate::spaces::classes_at;
-use crate::vertex::{ClassKey, OwnerRef, StateRef, VertexRef};
 use classes::Class;
 use features::{FeatureName, PackageName};
 use indexmap::IndexSet;
 use semver::Version;
 use std::alloc::{AllocError, Global};
+use vertices::{OwnerRef, StateRef, VertexRef};
 
 /// The causes whose instances are added once the vertex has the state, each once.
 pub fn causes_at<'a>(
@@ -35,7 +35,7 @@ pub fn causes_at<'a>(
 ) -> Result<IndexSet<Cause<'a>>, AllocError>
     requires default { KnowsDefault inputs.now }
     requires vertex { IsVertex (problem inputs.now) (vertex_ref_view vertex) }
-    requires state { Contains (vertices.space (problem inputs.now) (vertex_ref_view vertex)) (state_ref_view state) }
+    requires state { Contains (model.space (problem inputs.now) (vertex_ref_view vertex)) (state_ref_view state) }
     ensures { IfOk result (λ s. AreCausesAt (problem inputs.now) (vertex_ref_view vertex.entry, state_ref_view state.entry) (cause_views s.keys)) }
 {
     let mut causes = Vec::new(alloc);
@@ -81,7 +81,7 @@ fn put_present<'a>(
     causes: &mut Vec<Cause<'a>>,
     vertex: VertexRef<'a>,
 ) -> Result<(), AllocError>
-    ensures { OnOk result (cause_views causes.new.items ≡ cause_views causes.old.items ++ causes_at (problem inputs.now) (vertex_ref_view vertex.entry) vertices.present) }
+    ensures { OnOk result (cause_views causes.new.items ≡ cause_views causes.old.items ++ causes_at (problem inputs.now) (vertex_ref_view vertex.entry) model.present) }
 {
     match vertex {
         VertexRef::Root => {
@@ -109,7 +109,7 @@ fn put_asks<'a>(
     number: usize,
     feature: &'a FeatureName,
 ) -> Result<(), AllocError>
-    ensures { OnOk result (cause_views causes.new.items ≡ cause_views causes.old.items ++ map (of_ask name.entry.now (parts_of version.entry.now) number feature.entry.now) (classes_at (problem inputs.now) (vertices.version_of name.entry.now (parts_of version.entry.now)) number)) }
+    ensures { OnOk result (cause_views causes.new.items ≡ cause_views causes.old.items ++ map (of_ask name.entry.now (parts_of version.entry.now) number feature.entry.now) (classes_at (problem inputs.now) (model.version_of name.entry.now (parts_of version.entry.now)) number)) }
 {
     let classes = classes_at(alloc, inputs, &OwnerRef::Version(name, version), number)?;
     put_asks_in(causes, name, version, number, feature, classes.as_slice())
@@ -126,10 +126,7 @@ fn put_asks_in<'a>(
     ensures { OnOk result (cause_views causes.new.items ≡ cause_views causes.old.items ++ map (of_ask name.entry.now (parts_of version.entry.now) number feature.entry.now) (map class_view classes.now)) }
 {
     'classes: for class in classes.iter() {
-        put_one(
-            causes,
-            Cause::Ask(name, version, number, feature, ClassKey::of(*class)),
-        )?;
+        put_one(causes, Cause::Ask(name, version, number, feature, *class))?;
     }
     Ok(())
 }
@@ -142,7 +139,7 @@ fn put_chosen<'a>(
     vertex: VertexRef<'a>,
     version: &'a Version,
 ) -> Result<(), AllocError>
-    ensures { OnOk result (cause_views causes.new.items ≡ cause_views causes.old.items ++ causes_at (problem inputs.now) (vertex_ref_view vertex.entry) (vertices.version (parts_of version.entry.now))) }
+    ensures { OnOk result (cause_views causes.new.items ≡ cause_views causes.old.items ++ causes_at (problem inputs.now) (vertex_ref_view vertex.entry) (model.version (parts_of version.entry.now))) }
 {
     match vertex {
         VertexRef::Root => Ok(()),
@@ -159,10 +156,10 @@ fn put_in_class<'a>(
     inputs: &Inputs<'a>,
     causes: &mut Vec<Cause<'a>>,
     vertex: VertexRef<'a>,
-    class: ClassKey,
+    class: Class,
 ) -> Result<(), AllocError>
     requires default { KnowsDefault inputs.now }
-    ensures { OnOk result (cause_views causes.new.items ≡ cause_views causes.old.items ++ causes_at (problem inputs.now) (vertex_ref_view vertex.entry) (vertices.in_class (key_view class))) }
+    ensures { OnOk result (cause_views causes.new.items ≡ cause_views causes.old.items ++ causes_at (problem inputs.now) (vertex_ref_view vertex.entry) (model.in_class (class_view class))) }
 {
     match vertex {
         VertexRef::Root => Ok(()),

@@ -14,7 +14,7 @@ ghost use Rattle.refutations.specs.Causes.{feature_holds, terms_of_cause};
 ghost use Rattle.encoding.specs.CauseViews.{cause_view};
 ghost use Rattle.encoding.specs.Inputs.{problem};
 ghost use Rattle.encoding.specs.Parts.{part_of, part_view, part_views, parts_of_terms};
-ghost use Rattle.encoding.specs.RefViews.{class_view as key_view, owner_ref_view, vertex_ref_view};
+ghost use Rattle.vertices.specs.RefViews.{owner_ref_view, vertex_ref_view};
 
 use crate::cause::Cause;
 use crate::inputs::Inputs;
@@ -22,12 +22,12 @@ use crate::lookups::dependency_at;
 use crate::ranges::class_versions;
 use crate::spaces::classes_at;
 use crate::tests::{chosen_tests, class_tests, lacking_tests, left_tests, no_class, taken_tests};
-use crate::vertex::{ClassKey, OwnerRef, VertexRef};
 use catalogue::catalogues_are_well_formed;
 use classes::Class;
 use features::{Dependency, FeatureName, PackageName};
 use semver::Version;
 use std::alloc::{AllocError, Global};
+use vertices::{OwnerRef, VertexRef};
 
 /// A term: a vertex, and for each of its states, in their order, whether the term has it.
 #[derive(Drop)]
@@ -137,7 +137,7 @@ fn chosen<'a>(
     let versions = class_versions(inputs.catalogue, name, class);
     let tests = chosen_tests(alloc, version, versions)?;
     Ok(Part {
-        vertex: VertexRef::Package(name, ClassKey::of(class)),
+        vertex: VertexRef::Package(name, class),
         tests,
     })
 }
@@ -154,7 +154,7 @@ fn own_feature<'a>(
 {
     two_states(
         alloc,
-        VertexRef::Feature(name, ClassKey::of(Class::of(version)), feature),
+        VertexRef::Feature(name, Class::of(version), feature),
         on,
     )
 }
@@ -163,10 +163,10 @@ fn own_feature<'a>(
 fn off_there<'a>(
     alloc: Global,
     dependency: &'a Dependency,
-    class: ClassKey,
+    class: Class,
     feature: &'a FeatureName,
 ) -> Result<Part<'a>, AllocError>
-    ensures { IfOk result (λ p. part_view p ≡ (model.feat (dependency_view dependency.entry.now).real_name (key_view class) feature.entry.now, true ∷ false ∷ [])) }
+    ensures { IfOk result (λ p. part_view p ≡ (model.feat (dependency_view dependency.entry.now).real_name (class_view class) feature.entry.now, true ∷ false ∷ [])) }
 {
     two_states(
         alloc,
@@ -198,12 +198,12 @@ fn leads<'a>(
     inputs: &Inputs<'a>,
     owner: OwnerRef<'a>,
     number: usize,
-    class: ClassKey,
+    class: Class,
 ) -> Result<Part<'a>, AllocError>
-    ensures { IfOk result (λ p. part_view p ≡ part_of (problem inputs.now) (at (model.dep (owner_ref_view owner.entry) number) (model.in_class (key_view class) ∷ []))) }
+    ensures { IfOk result (λ p. part_view p ≡ part_of (problem inputs.now) (at (model.dep (owner_ref_view owner.entry) number) (model.in_class (class_view class) ∷ []))) }
 {
     let classes = classes_at(alloc, inputs, &owner, number)?;
-    let tests = class_tests(alloc, class.class(), classes.as_slice())?;
+    let tests = class_tests(alloc, class, classes.as_slice())?;
     Ok(Part {
         vertex: VertexRef::Dependency(owner, number),
         tests,
@@ -285,9 +285,9 @@ fn target_parts<'a>(
     inputs: &Inputs<'a>,
     owner: OwnerRef<'a>,
     number: usize,
-    class: ClassKey,
+    class: Class,
 ) -> Result<Vec<Part<'a>>, AllocError>
-    ensures { IfOk result (λ v. part_views v.items ≡ parts_of_terms (problem inputs.now) (terms_of_cause (problem inputs.now) (causes.of_target (owner_ref_view owner.entry) number (key_view class)))) }
+    ensures { IfOk result (λ v. part_views v.items ≡ parts_of_terms (problem inputs.now) (terms_of_cause (problem inputs.now) (causes.of_target (owner_ref_view owner.entry) number (class_view class)))) }
 {
     match dependency_at(inputs, &owner, number) {
         Some(dependency) => two(
@@ -304,11 +304,11 @@ fn left<'a>(
     alloc: Global,
     inputs: &Inputs<'a>,
     dependency: &'a Dependency,
-    class: ClassKey,
+    class: Class,
 ) -> Result<Part<'a>, AllocError>
-    ensures { IfOk result (λ p. part_view p ≡ part_of (problem inputs.now) (at (model.pkg (dependency_view dependency.entry.now).real_name (key_view class)) (absent_or (problem inputs.now) (λ c. not (matched (dependency_view dependency.entry.now) c)) (dependency_view dependency.entry.now).real_name (key_view class)))) }
+    ensures { IfOk result (λ p. part_view p ≡ part_of (problem inputs.now) (at (model.pkg (dependency_view dependency.entry.now).real_name (class_view class)) (absent_or (problem inputs.now) (λ c. not (matched (dependency_view dependency.entry.now) c)) (dependency_view dependency.entry.now).real_name (class_view class)))) }
 {
-    let versions = class_versions(inputs.catalogue, &dependency.real_name, class.class());
+    let versions = class_versions(inputs.catalogue, &dependency.real_name, class);
     let tests = left_tests(alloc, &dependency.requirement, versions)?;
     Ok(Part {
         vertex: VertexRef::Package(&dependency.real_name, class),
@@ -321,11 +321,11 @@ fn taken<'a>(
     alloc: Global,
     inputs: &Inputs<'a>,
     dependency: &'a Dependency,
-    class: ClassKey,
+    class: Class,
 ) -> Result<Part<'a>, AllocError>
-    ensures { IfOk result (λ p. part_view p ≡ part_of (problem inputs.now) (at (model.pkg (dependency_view dependency.entry.now).real_name (key_view class)) (versions_that (problem inputs.now) (matched (dependency_view dependency.entry.now)) (dependency_view dependency.entry.now).real_name (key_view class)))) }
+    ensures { IfOk result (λ p. part_view p ≡ part_of (problem inputs.now) (at (model.pkg (dependency_view dependency.entry.now).real_name (class_view class)) (versions_that (problem inputs.now) (matched (dependency_view dependency.entry.now)) (dependency_view dependency.entry.now).real_name (class_view class)))) }
 {
-    let versions = class_versions(inputs.catalogue, &dependency.real_name, class.class());
+    let versions = class_versions(inputs.catalogue, &dependency.real_name, class);
     let tests = taken_tests(alloc, &dependency.requirement, versions)?;
     Ok(Part {
         vertex: VertexRef::Package(&dependency.real_name, class),
@@ -338,13 +338,13 @@ fn lacking<'a>(
     alloc: Global,
     inputs: &Inputs<'a>,
     name: &'a PackageName,
-    class: ClassKey,
+    class: Class,
     feature: &FeatureName,
 ) -> Result<Part<'a>, AllocError>
-    ensures { IfOk result (λ p. part_view p ≡ part_of (problem inputs.now) (at (model.pkg name.entry.now (key_view class)) (absent_or (problem inputs.now) (λ c. not (has_feature c.brings.features feature.now)) name.entry.now (key_view class)))) }
+    ensures { IfOk result (λ p. part_view p ≡ part_of (problem inputs.now) (at (model.pkg name.entry.now (class_view class)) (absent_or (problem inputs.now) (λ c. not (has_feature c.brings.features feature.now)) name.entry.now (class_view class)))) }
 {
     catalogues_are_well_formed(inputs.manifest, inputs.catalogue);
-    let versions = class_versions(inputs.catalogue, name, class.class());
+    let versions = class_versions(inputs.catalogue, name, class);
     let tests = lacking_tests(alloc, inputs, name, feature, versions)?;
     Ok(Part {
         vertex: VertexRef::Package(name, class),
@@ -356,10 +356,10 @@ fn feature_parts<'a>(
     alloc: Global,
     inputs: &Inputs<'a>,
     name: &'a PackageName,
-    class: ClassKey,
+    class: Class,
     feature: &'a FeatureName,
 ) -> Result<Vec<Part<'a>>, AllocError>
-    ensures { IfOk result (λ v. part_views v.items ≡ parts_of_terms (problem inputs.now) (terms_of_cause (problem inputs.now) (causes.of_feature name.entry.now (key_view class) feature.entry.now))) }
+    ensures { IfOk result (λ v. part_views v.items ≡ parts_of_terms (problem inputs.now) (terms_of_cause (problem inputs.now) (causes.of_feature name.entry.now (class_view class) feature.entry.now))) }
 {
     two(
         alloc,
@@ -373,10 +373,10 @@ fn list_parts<'a>(
     inputs: &Inputs<'a>,
     owner: OwnerRef<'a>,
     number: usize,
-    class: ClassKey,
+    class: Class,
     feature: &'a FeatureName,
 ) -> Result<Vec<Part<'a>>, AllocError>
-    ensures { IfOk result (λ v. part_views v.items ≡ parts_of_terms (problem inputs.now) (terms_of_cause (problem inputs.now) (causes.of_list (owner_ref_view owner.entry) number (key_view class) feature.entry.now))) }
+    ensures { IfOk result (λ v. part_views v.items ≡ parts_of_terms (problem inputs.now) (terms_of_cause (problem inputs.now) (causes.of_list (owner_ref_view owner.entry) number (class_view class) feature.entry.now))) }
 {
     match dependency_at(inputs, &owner, number) {
         Some(dependency) => two(
@@ -395,9 +395,9 @@ fn ask_parts<'a>(
     version: &'a Version,
     number: usize,
     feature: &'a FeatureName,
-    class: ClassKey,
+    class: Class,
 ) -> Result<Vec<Part<'a>>, AllocError>
-    ensures { IfOk result (λ v. part_views v.items ≡ parts_of_terms (problem inputs.now) (terms_of_cause (problem inputs.now) (causes.of_ask name.entry.now (parts_of version.entry.now) number feature.entry.now (key_view class)))) }
+    ensures { IfOk result (λ v. part_views v.items ≡ parts_of_terms (problem inputs.now) (terms_of_cause (problem inputs.now) (causes.of_ask name.entry.now (parts_of version.entry.now) number feature.entry.now (class_view class)))) }
 {
     let owner = OwnerRef::Version(name, version);
     match dependency_at(inputs, &owner, number) {
@@ -417,10 +417,10 @@ fn newest_parts<'a>(
     owner: OwnerRef<'a>,
     number: usize,
     other: usize,
-    class: ClassKey,
-    higher: ClassKey,
+    class: Class,
+    higher: Class,
 ) -> Result<Vec<Part<'a>>, AllocError>
-    ensures { IfOk result (λ v. part_views v.items ≡ parts_of_terms (problem inputs.now) (terms_of_cause (problem inputs.now) (causes.of_newest (owner_ref_view owner.entry) number other (key_view class) (key_view higher)))) }
+    ensures { IfOk result (λ v. part_views v.items ≡ parts_of_terms (problem inputs.now) (terms_of_cause (problem inputs.now) (causes.of_newest (owner_ref_view owner.entry) number other (class_view class) (class_view higher)))) }
 {
     match dependency_at(inputs, &owner, number) {
         Some(dependency) => three(
@@ -441,9 +441,9 @@ fn weak_parts<'a>(
     on: &'a FeatureName,
     off: &'a FeatureName,
     number: usize,
-    class: ClassKey,
+    class: Class,
 ) -> Result<Vec<Part<'a>>, AllocError>
-    ensures { IfOk result (λ v. part_views v.items ≡ parts_of_terms (problem inputs.now) (terms_of_cause (problem inputs.now) (causes.of_weak name.entry.now (parts_of version.entry.now) on.entry.now off.entry.now number (key_view class)))) }
+    ensures { IfOk result (λ v. part_views v.items ≡ parts_of_terms (problem inputs.now) (terms_of_cause (problem inputs.now) (causes.of_weak name.entry.now (parts_of version.entry.now) on.entry.now off.entry.now number (class_view class)))) }
 {
     let owner = OwnerRef::Version(name, version);
     match dependency_at(inputs, &owner, number) {

@@ -6,15 +6,15 @@ ghost use Rattle.features.specs.Views.{dependency_view};
 ghost use Rattle.model.specs.Vertices.{dep_classes};
 ghost use Rattle.refutations.specs.Listed.{classes_at};
 ghost use Rattle.encoding.specs.Inputs.{problem};
-ghost use Rattle.encoding.specs.RefViews.{owner_ref_view};
+ghost use Rattle.vertices.specs.RefViews.{owner_ref_view};
 
 use crate::inputs::Inputs;
 use crate::lookups::dependency_at;
-use crate::vertex::OwnerRef;
 use catalogue::catalogues_are_well_formed;
 use classes::{Class, matching};
 use features::Dependency;
 use std::alloc::{AllocError, Global};
+use vertices::OwnerRef;
 
 /// The classes that a dependency of an owner may lead to, lowest first: none where there is no such dependency.
 pub(crate) fn classes_at(

@@ -6,16 +6,16 @@ ghost use Rattle.classes.specs.Classes.{class_view};
 ghost use Rattle.model.specs.Vertices.{Vertex, absent, dep, in_class, pkg, present, space, version};
 ghost use Rattle.encoding.specs.Assignments.{state_at};
 ghost use Rattle.encoding.specs.Inputs.{problem};
-ghost use Rattle.encoding.specs.RefViews.{class_view as key_view, owner_ref_view, state_ref_view, vertex_ref_view};
+ghost use Rattle.vertices.specs.RefViews.{owner_ref_view, state_ref_view, vertex_ref_view};
 
 use crate::inputs::Inputs;
 use crate::ranges::class_versions;
 use crate::spaces::classes_at;
-use crate::vertex::{ClassKey, OwnerRef, StateRef, VertexRef};
 use classes::Class;
 use features::PackageName;
 use semver::Version;
 use std::alloc::{AllocError, Global};
+use vertices::{OwnerRef, StateRef, VertexRef};
 
 /// A vertex has at least one state, and no more than a set may have.
 pub fn spaces_are_small(inputs: &Inputs<'_>)
@@ -56,11 +56,11 @@ fn states_counted(
 }
 
 /// Absent, and the versions of the class.
-fn versions_counted(inputs: &Inputs<'_>, name: &PackageName, class: ClassKey) -> usize
-    ensures { result ≡ length (space (problem inputs.now) (pkg name.now (key_view class))) }
+fn versions_counted(inputs: &Inputs<'_>, name: &PackageName, class: Class) -> usize
+    ensures { result ≡ length (space (problem inputs.now) (pkg name.now (class_view class))) }
 {
     spaces_are_small(inputs);
-    class_versions(inputs.catalogue, name, class.class()).len() + 1
+    class_versions(inputs.catalogue, name, class).len() + 1
 }
 
 /// Absent, and the classes that the dependency may lead to.
@@ -101,12 +101,12 @@ pub fn state_at<'a>(
 fn version_state<'a>(
     inputs: &Inputs<'a>,
     name: &PackageName,
-    class: ClassKey,
+    class: Class,
     number: usize,
 ) -> StateRef<'a>
-    ensures { state_ref_view result ≡ state_at (problem inputs.now) (pkg name.now (key_view class)) number }
+    ensures { state_ref_view result ≡ state_at (problem inputs.now) (pkg name.now (class_view class)) number }
 {
-    let versions = class_versions(inputs.catalogue, name, class.class());
+    let versions = class_versions(inputs.catalogue, name, class);
     version_at(versions, number)
 }
 
@@ -152,7 +152,7 @@ fn class_at<'a>(classes: &[Class], number: usize) -> StateRef<'a>
         return StateRef::Absent;
     }
     match classes.get(number - 1) {
-        Some(class) => StateRef::Class(ClassKey::of(*class)),
+        Some(class) => StateRef::Class(*class),
         None => StateRef::Absent,
     }
 }

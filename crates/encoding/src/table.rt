@@ -2,12 +2,12 @@
 
 ghost use Rattle.std.specs.Prelude.{◌≡◌, [], Some, IfOk, IfSome, OnOk, OnErr, option_map, slice_get, length};
 ghost use Rattle.encoding.specs.Numberings.{number_in, with_vertex};
-ghost use Rattle.encoding.specs.RefViews.{vertex_ref_view};
+ghost use Rattle.vertices.specs.RefViews.{vertex_ref_view};
 
-use crate::vertex::VertexRef;
 use indexmap::IndexSet;
 use std::alloc::{AllocError, Global};
 use std::marker::Model;
+use vertices::VertexRef;
 
 /// Each vertex once; its number is its place.
 #[derive(Drop)]
@@ -18,11 +18,11 @@ pub struct Table<'a> {
 impl<'a> Model for Table<'a> {
     ghost use Rattle.std.specs.Prelude.{◌≡◌, map};
     ghost use Rattle.encoding.specs.Numberings.{Numbering};
-    ghost use Rattle.encoding.specs.RefViews.{vertex_ref_views};
+    ghost use Rattle.vertices.specs.RefViews.{vertex_ref_view};
 
     ghost Value = { Numbering };
 
-    ghost view = { λ t. vertex_ref_views t.vertices.keys };
+    ghost view = { λ t. map vertex_ref_view t.vertices.keys };
 }
 
 impl<'a> Table<'a> {

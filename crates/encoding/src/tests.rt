@@ -10,11 +10,11 @@ ghost use Rattle.encoding.specs.Parts.{is_chosen, is_class, is_lacking, is_left,
 
 use crate::inputs::Inputs;
 use crate::lookups::brings;
-use crate::vertex::OwnerRef;
 use classes::Class;
 use features::{FeatureName, PackageName};
 use semver::{Version, VersionReq};
 use std::alloc::{AllocError, Global};
+use vertices::OwnerRef;
 
 pub(crate) fn is_matched(requirement: &VersionReq, version: &Version) -> bool
     ensures { result ≡ matches_views (requirement_view requirement.now) (parts_of version.now) }

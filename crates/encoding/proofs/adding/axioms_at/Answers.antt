@@ -8,7 +8,7 @@ use Rattle.encoding.specs.Assignments.{state_at}
 use Rattle.encoding.specs.CauseViews.{given_views}
 use Rattle.encoding.specs.Inputs.{problem}
 use Rattle.encoding.specs.Pairs.{IsGivenAt}
-use Rattle.encoding.specs.RefViews.{vertex_ref_view}
+use Rattle.vertices.specs.RefViews.{vertex_ref_view}
 use Rattle.encoding.proofs.AddLaws.{vertex_there}
 use Rattle.encoding.proofs.adding.axioms_at.Goals as goal
 

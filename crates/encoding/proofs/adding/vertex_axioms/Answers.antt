@@ -5,7 +5,7 @@ use Rattle.encoding.specs.Assignments.{state_at}
 use Rattle.encoding.specs.CauseViews.{cause_views, given_views}
 use Rattle.encoding.specs.Inputs.{problem}
 use Rattle.encoding.specs.Pairs.{Pair, AreCausesAt, AreGiven, IsGivenAt}
-use Rattle.encoding.specs.RefViews.{state_ref_view, vertex_ref_view}
+use Rattle.vertices.specs.RefViews.{state_ref_view, vertex_ref_view}
 use Rattle.encoding.proofs.AddLaws.{causes_there, state_in}
 use Rattle.encoding.proofs.adding.vertex_axioms.Goals as goal
 

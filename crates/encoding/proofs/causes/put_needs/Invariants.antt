@@ -2,7 +2,7 @@ use Rattle.std.proofs.Common.{◌≡◌, ◌++◌, drop}
 use Rattle.features.specs.Views.{dependency_views}
 use Rattle.encoding.specs.CauseViews.{cause_views}
 use Rattle.encoding.specs.CausesAt.{each_from, need_if}
-use Rattle.encoding.specs.RefViews.{owner_ref_view}
+use Rattle.vertices.specs.RefViews.{owner_ref_view}
 use Rattle.encoding.proofs.causes.put_needs.Given as goal
 
 -- the causes so far, with those of the dependencies that are left, are all

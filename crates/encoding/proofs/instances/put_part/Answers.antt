@@ -1,7 +1,7 @@
 use Rattle.std.proofs.Common.{◌∙◌}
 use Rattle.encoding.specs.Inputs.{problem}
 use Rattle.encoding.specs.Parts.{part_view}
-use Rattle.encoding.specs.RefViews.{vertex_ref_view}
+use Rattle.vertices.specs.RefViews.{vertex_ref_view}
 use Rattle.encoding.proofs.Putting.{part_put, vertex_put}
 use Rattle.encoding.proofs.instances.put_part.Goals as goal
 

@@ -5,11 +5,11 @@ use Rattle.features.specs.Views.{dependency_view}
 use Rattle.encoding.specs.CauseViews.{cause_views}
 use Rattle.encoding.specs.CausesAt.{newest_at}
 use Rattle.encoding.specs.Inputs.{problem}
-use Rattle.encoding.specs.RefViews.{class_view as key_view, owner_ref_view}
+use Rattle.vertices.specs.RefViews.{owner_ref_view}
 use Rattle.encoding.proofs.leading.put_classes.Given as goal
 
 -- the causes so far, with those of the classes that are left, are all
 abbrev pub invariant-classes : goal.invariant-classes
 invariant-classes l =
-    cause_views l.causes.items ++ flat_map (newest_at (problem l.inputs) (owner_ref_view l.lead.owner) l.lead.number l.number (key_view l.lead.class) (dependency_view l.dependency)) (map class_view (drop l.class-index l.classes))
-    ≡ cause_views l.fn.causes.items ++ flat_map (newest_at (problem l.inputs) (owner_ref_view l.lead.owner) l.lead.number l.number (key_view l.lead.class) (dependency_view l.dependency)) (map class_view l.classes)
+    cause_views l.causes.items ++ flat_map (newest_at (problem l.inputs) (owner_ref_view l.lead.owner) l.lead.number l.number (class_view l.lead.class) (dependency_view l.dependency)) (map class_view (drop l.class-index l.classes))
+    ≡ cause_views l.fn.causes.items ++ flat_map (newest_at (problem l.inputs) (owner_ref_view l.lead.owner) l.lead.number l.number (class_view l.lead.class) (dependency_view l.dependency)) (map class_view l.classes)

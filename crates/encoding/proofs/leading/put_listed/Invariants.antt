@@ -1,7 +1,8 @@
 use Rattle.std.proofs.Common.{◌≡◌, ◌++◌, drop, map}
 use Rattle.refutations.specs.Causes.{of_list}
 use Rattle.encoding.specs.CauseViews.{cause_views}
-use Rattle.encoding.specs.RefViews.{class_view, owner_ref_view}
+use Rattle.classes.specs.Classes.{class_view}
+use Rattle.vertices.specs.RefViews.{owner_ref_view}
 use Rattle.encoding.proofs.leading.put_listed.Given as goal
 
 -- the causes so far, with those of the features that are left, are all

@@ -5,7 +5,8 @@ use Rattle.refutations.specs.Causes.{of_list}
 use Rattle.encoding.specs.CauseViews.{cause_views}
 use Rattle.encoding.specs.CausesAt.{root_asked}
 use Rattle.encoding.specs.Inputs.{problem}
-use Rattle.encoding.specs.RefViews.{class_view, owner_ref_view}
+use Rattle.classes.specs.Classes.{class_view}
+use Rattle.vertices.specs.RefViews.{owner_ref_view}
 use Rattle.encoding.proofs.LeadLaws.{both_lists}
 use Rattle.encoding.proofs.leading.put_lists.Goals as goal
 

@@ -3,7 +3,8 @@ use Rattle.features.specs.Views.{dependency_view, dependency_views}
 use Rattle.encoding.specs.CauseViews.{cause_views}
 use Rattle.encoding.specs.CausesAt.{each_from, newest_if}
 use Rattle.encoding.specs.Inputs.{problem}
-use Rattle.encoding.specs.RefViews.{class_view, owner_ref_view}
+use Rattle.classes.specs.Classes.{class_view}
+use Rattle.vertices.specs.RefViews.{owner_ref_view}
 use Rattle.encoding.proofs.leading.put_newest.Given as goal
 
 -- the causes so far, with those of the dependencies that are left, are all

@@ -5,7 +5,8 @@ use Rattle.std.proofs.lemmas.Result.{on_ok_weaker}
 use Rattle.features.specs.Views.{dependency_view}
 use Rattle.refutations.specs.Causes.{of_list}
 use Rattle.encoding.specs.CauseViews.{cause_views}
-use Rattle.encoding.specs.RefViews.{class_view, owner_ref_view}
+use Rattle.classes.specs.Classes.{class_view}
+use Rattle.vertices.specs.RefViews.{owner_ref_view}
 use Rattle.encoding.proofs.LeadLaws.{own_list}
 use Rattle.encoding.proofs.leading.put_own_list.Goals as goal
 

@@ -7,7 +7,8 @@ use Rattle.refutations.specs.Causes.{of_list}
 use Rattle.encoding.specs.CauseViews.{cause_views}
 use Rattle.encoding.specs.CausesAt.{listed_by, root_asked}
 use Rattle.encoding.specs.Inputs.{problem}
-use Rattle.encoding.specs.RefViews.{class_view, owner_ref_view}
+use Rattle.classes.specs.Classes.{class_view}
+use Rattle.vertices.specs.RefViews.{owner_ref_view}
 use Rattle.encoding.proofs.LeadLaws.{rows_ask}
 use Rattle.encoding.proofs.leading.put_root_lists.Goals as goal
 

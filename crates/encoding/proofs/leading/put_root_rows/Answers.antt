@@ -9,7 +9,8 @@ use Rattle.model.specs.Summary as model
 use Rattle.refutations.specs.Causes.{Cause}
 use Rattle.encoding.specs.CauseViews.{cause_views}
 use Rattle.encoding.specs.CausesAt.{listed_by}
-use Rattle.encoding.specs.RefViews.{class_view, owner_ref_view}
+use Rattle.classes.specs.Classes.{class_view}
+use Rattle.vertices.specs.RefViews.{owner_ref_view}
 use Rattle.encoding.proofs.SameCauses.{rest_more}
 use Rattle.encoding.proofs.leading.put_root_rows.Goals as goal
 

@@ -4,7 +4,8 @@ use Rattle.features.specs.Tables.{rows_of}
 use Rattle.features.specs.Views.{dependency_view}
 use Rattle.encoding.specs.CauseViews.{cause_views}
 use Rattle.encoding.specs.CausesAt.{listed_by}
-use Rattle.encoding.specs.RefViews.{class_view, owner_ref_view}
+use Rattle.classes.specs.Classes.{class_view}
+use Rattle.vertices.specs.RefViews.{owner_ref_view}
 use Rattle.encoding.proofs.leading.put_root_rows.Given as goal
 
 -- the causes so far, with those of the rows that are left, are all

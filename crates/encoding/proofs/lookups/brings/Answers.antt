@@ -3,7 +3,7 @@ use Rattle.semver.specs.Identifiers.{parts_of}
 use Rattle.model.specs.Vertices.{owner_brings}
 use Rattle.catalogue.specs.Views.{said_by}
 use Rattle.encoding.specs.Inputs.{brings_view, problem}
-use Rattle.encoding.specs.RefViews.{owner_ref_view}
+use Rattle.vertices.specs.RefViews.{owner_ref_view}
 use Rattle.encoding.proofs.Brought.{not_there, is_there}
 use Rattle.encoding.proofs.lookups.brings.Goals as goal
 

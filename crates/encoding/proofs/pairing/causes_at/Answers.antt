@@ -4,7 +4,7 @@ use Rattle.encoding.specs.CauseViews.{cause_views}
 use Rattle.encoding.specs.CausesAt.{causes_at, with_causes}
 use Rattle.encoding.specs.Inputs.{problem}
 use Rattle.encoding.specs.Pairs.{AreCausesAt}
-use Rattle.encoding.specs.RefViews.{state_ref_view, vertex_ref_view}
+use Rattle.vertices.specs.RefViews.{state_ref_view, vertex_ref_view}
 use Rattle.encoding.proofs.CausesLaws.{at_exact}
 use Rattle.encoding.proofs.pairing.causes_at.Goals as goal
 

@@ -3,7 +3,7 @@ use Rattle.classes.specs.declared.class.Class.{Class}
 use Rattle.std.proofs.Common.{ap, ◌∙◌}
 use Rattle.model.specs.Vertices.{dep}
 use Rattle.encoding.specs.Inputs.{problem}
-use Rattle.encoding.specs.RefViews.{owner_ref_view}
+use Rattle.vertices.specs.RefViews.{owner_ref_view}
 use Rattle.encoding.proofs.Tested.{no_class_is}
 use Rattle.encoding.proofs.parts.absent.Goals as goal
 

@@ -2,7 +2,7 @@ use Rattle.std.proofs.Common.{ap, ◌∙◌}
 use Rattle.classes.specs.Classes.{class_view}
 use Rattle.model.specs.Vertices.{dep}
 use Rattle.encoding.specs.Inputs.{problem}
-use Rattle.encoding.specs.RefViews.{class_view as key_view, owner_ref_view}
+use Rattle.vertices.specs.RefViews.{owner_ref_view}
 use Rattle.encoding.proofs.Tested.{class_is}
 use Rattle.encoding.specs.Parts.{is_class}
 use Rattle.std.proofs.Common.{List, ◌∷◌, false, map}
@@ -13,6 +13,5 @@ pub returns : goal.returns
 returns c =
     let o = owner_ref_view c.args.owner in
     ap (λ m. (dep o c.args.number, m)) (c.in_ok-tests.ensures
-    ∙ ap (λ (ks : List Class). false ∷ map (λ m. is_class (class_view c.class.result) (class_view m)) ks) c.as_slice.ensures.value
-    ∙ ap (λ k. false ∷ map (λ m. is_class k (class_view m)) c.in_ok-classes.classes.items) c.class.ensures
-    ∙ class_is (problem c.args.inputs.now) o c.args.number c.in_ok-classes.classes.items c.in_ok-classes.ensures (key_view c.args.class))
+    ∙ ap (λ (ks : List Class). false ∷ map (λ m. is_class (class_view c.args.class) (class_view m)) ks) c.as_slice.ensures.value
+    ∙ class_is (problem c.args.inputs.now) o c.args.number c.in_ok-classes.classes.items c.in_ok-classes.ensures (class_view c.args.class))

@@ -1,8 +1,7 @@
-use Rattle.std.proofs.Common.{ap, ◌∙◌}
+use Rattle.std.proofs.Common.{refl, ap, ◌∙◌}
 use Rattle.features.specs.Views.{dependency_view}
 use Rattle.classes.specs.Classes.{class_view}
 use Rattle.model.specs.Vertices.{pkg}
-use Rattle.encoding.specs.RefViews.{class_view as key_view}
 use Rattle.encoding.proofs.Tested.{left_at}
 use Rattle.encoding.proofs.parts.left.Goals as goal
 
@@ -10,5 +9,5 @@ pub returns : goal.returns
 returns c =
     let i = c.args.inputs.now in
     let d = dependency_view c.args.dependency.now in
-    ap (λ m. (pkg d.real_name (key_view c.args.class), m))
-    (c.in_ok-tests.ensures ∙ left_at i.manifest.now i.catalogue.now d (class_view c.class.result) (key_view c.args.class) c.class_versions-versions.result.now c.class.ensures c.class_versions-versions.ensures.versions)
+    ap (λ m. (pkg d.real_name (class_view c.args.class), m))
+    (c.in_ok-tests.ensures ∙ left_at i.manifest.now i.catalogue.now d (class_view c.args.class) (class_view c.args.class) c.class_versions-versions.result.now refl c.class_versions-versions.ensures.versions)

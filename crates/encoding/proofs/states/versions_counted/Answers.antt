@@ -1,7 +1,4 @@
-use Rattle.std.proofs.Common.{length, ap, ◌∙◌}
 use Rattle.classes.specs.Classes.{class_view}
-use Rattle.model.specs.Vertices.{pkg, space}
-use Rattle.encoding.specs.Inputs.{problem}
 use Rattle.encoding.proofs.Stated.{versions_counted}
 use Rattle.encoding.proofs.states.versions_counted.Goals as goal
 
@@ -9,5 +6,4 @@ pub returns : goal.returns
 returns c =
     let i = c.args.inputs.now in
     let name = c.args.name.now in
-    versions_counted i.manifest.now i.catalogue.now name (class_view c.class.result) c.class_versions.result.now c.class_versions.ensures.versions
-    ∙ ap (λ k. length (space (problem i) (pkg name k))) c.class.ensures
+    versions_counted i.manifest.now i.catalogue.now name (class_view c.args.class) c.class_versions.result.now c.class_versions.ensures.versions
