@@ -3,7 +3,5 @@
 
 mod command;
 mod reading;
-#[cfg(test)]
-mod tests;
 
 pub use reading::{Words, WordsFault, read_words};
