@@ -1,5 +1,5 @@
 -- What the calls of this crate answer.
-use Rattle.std.specs.Prelude.{◌≡◌, ◌≢◌, ◌⊎◌, ℕ, Bool, true, false, List, map, Option, Some, Result, Ok, Err, Vec}
+use Rattle.std.specs.Prelude.{◌≡◌, ◌≢◌, ◌⊎◌, ◌↔◌, ℕ, Bool, true, false, List, map, Option, Some, Result, Ok, Err, Vec}
 use Rattle.std.specs.declared.alloc.Global.{Global}
 use Rattle.model.specs.Content.{Content}
 use Rattle.model.specs.Selection.{IsValidSelection}
@@ -10,6 +10,7 @@ use Rattle.lockfile.specs.Spelling.{spelling}
 use Rattle.catalogue.specs.Runs.{Calls}
 use Rattle.selection.specs.Verdicts.{Says}
 use Rattle.selection.specs.declared.verdict.Verdict.{Verdict}
+use Rattle.selection.specs.declared.verdict.Verdict.TheVariants.{Valid}
 use Rattle.walks.specs.Preferred.{preferred_in, IsPreferred, HasBareRoot}
 use Rattle.resolver.specs.Faults.{is_memory}
 use Rattle.resolver.specs.Inputs.{RequestView, AreRead, IsRefused, UnlessMemory, problem_of}
@@ -22,13 +23,14 @@ use Rattle.resolver.specs.declared.resolving.Answer.TheVariants.{Lock}
 -- ---- the verdict on a lock
 
 module _ {S : Type 0} (calls : Calls S) (request : RequestView) (before : S) where
-  -- the verdict on the old lock, for what was loaded with it
+  -- the verdict on the old lock, for what was loaded with it: valid exactly where its content is a valid selection
   pub record IsVerdictFor (verdict : Verdict) (after : S) : Type 0 where
     pub inputs : Inputs
     pub content : Content
     pub read : AreRead calls request before inputs after
     pub old : inputs.old ≡ Some content
     pub says : Says (problem_of inputs) content verdict
+    pub selects : (verdict ≡ Valid) ↔ IsValidSelection (problem_of inputs) content
 
   abbrev pub Verifies : Result Verdict Fault → S → Type 0
   Verifies (Ok verdict) after = IsVerdictFor verdict after
