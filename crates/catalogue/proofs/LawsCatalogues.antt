@@ -66,7 +66,7 @@ module _ (old : Content) (source : List ℕ) (rust : Option RustVersion) where
   rows-asked (a ∷ later) = ap₂ (λ rs rows. (a.0, map as_candidate rs) ∷ rows) (records-ranked (is_locked old source a.0) rust (candidates_in old source a)) (rows-asked later)
 
   -- its problem is the run's
-  problem-asked : (manifest : ManifestView) (asked : List Asked) → problem_in manifest (store_of old source rust manifest.brings.dependencies asked) ≡ problem_of manifest old source asked
+  pub problem-asked : (manifest : ManifestView) (asked : List Asked) → problem_in manifest (store_of old source rust manifest.brings.dependencies asked) ≡ problem_of manifest old source asked
   problem-asked manifest asked = ap (λ cs. let q : Problem = record {
     name = manifest.name;
     version = manifest.version;

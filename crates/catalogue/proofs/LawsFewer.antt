@@ -79,7 +79,7 @@ module _ (files : List ℕ → Option (List ℕ)) (manifest : ManifestView) (old
     | inr s ↦ subst (λ x. Contains asked x) s (with_file files asked name run.answers named)
   ]
 
-  asked_before : (so_far later : List Asked) → ((a : Asked) → Contains so_far a → Contains asked a) → All (λ a. a.1 ≡ files a.0) later
+  pub asked_before : (so_far later : List Asked) → ((a : Asked) → Contains so_far a → Contains asked a) → All (λ a. a.1 ≡ files a.0) later
       → AreNext content source needs so_far later → (name : List ℕ) → Contains (names_in later) name → Contains (names_in asked) name
   asked_before so_far [] known h turn name c = absurd (in_none name c)
   asked_before so_far (a ∷ later) known h turn name c = elim (in_cons a.0 name (names_in later) c) [

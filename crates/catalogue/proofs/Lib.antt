@@ -19,4 +19,3 @@ pub mod LawsSelections
 pub mod LawsCatalogues
 pub mod LawsIndexes
 pub mod LawsChecksums
-pub mod Wanting

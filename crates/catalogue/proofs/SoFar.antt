@@ -1,5 +1,5 @@
 -- A run, one name after another.
-use Rattle.std.proofs.Common.{◌≡◌, ℕ, ◌<◌, ◌≤◌, Bool, true, false, not, ◌&&◌, ◌||◌, cond, List, [], ◌∷◌, ◌++◌, map, filter, flat_map, length, slice_get, Option, Some, Ok, refl, sym, ap, ap₂, ◌∙◌, subst, arith, true≢false}
+use Rattle.std.proofs.Common.{◌≡◌, ℕ, ◌<◌, ◌≤◌, Bool, true, false, not, ◌&&◌, ◌||◌, cond, List, [], ◌∷◌, ◌++◌, map, filter, flat_map, length, slice_get, Option, Some, Ok, refl, sym, ap, ap₂, ◌∙◌, subst, arith, true≢false, inl, inr}
 use Rattle.std.specs.List.{All, list_any}
 use Rattle.std.proofs.lemmas.List.{append_assoc, map-append, length-map, length-append}
 use Rattle.std.proofs.lemmas.List.Elements.{filter-append}
@@ -18,7 +18,7 @@ use Rattle.catalogue.specs.Ranks.{Ranked, records}
 use Rattle.catalogue.specs.Views.{ranked_view}
 use Rattle.catalogue.specs.Stores.{Row, CatalogueView, candidates_view, rows_view}
 use Rattle.catalogue.specs.Runs.{Asked, Calls, Chain, meant_by, once, needed_by, candidates_in, names_after, next_name, AreNext}
-use Rattle.catalogue.specs.Loads.{IsWithin, skips_of, needs_of, most_names, ranked_in, IsAsked, IsSoFar, IsLoaded, HasTooMany, IsStopped, Fails, Stops}
+use Rattle.catalogue.specs.Loads.{IsWithin, skips_of, needs_of, most_names, ranked_in, IsAsked, IsSoFar, IsLoaded, HasTooMany, IsStopped, IsCutShort, Fails, Stops}
 use Rattle.catalogue.specs.declared.fault.LoadFault.{LoadFault}
 use Rattle.catalogue.specs.declared.fault.LoadFault.TheVariants as fault
 use Rattle.catalogue.specs.declared.fault.Limit.TheVariants as limit
@@ -242,19 +242,35 @@ module _ (old : Content) (source : List ℕ) (rust : Option RustVersion) (root :
         let few = s.so_far.few in
         record { asked = s.asked; name = name; so_far = s.so_far; most = omega (arith, few, most, long); next = next_known names found skips after name s at }
 
--- how the run ends at a name whose call failed
-module _ (old : Content) (source : List ℕ) (rust : Option RustVersion) (root : List Dependency) {S : Type 0} (calls : Calls S) (before : S) where
+-- how the run ends with a fault
+module _ (old : Content) (source : List ℕ) (rust : Option RustVersion) (root : List Dependency) {S : Type 0} (calls : Calls S) (failed : S → ℕ) (before : S) where
+  -- at a name whose call failed
   pub stopped : (names : List (List ℕ)) (found : List Candidates) (skips : List SkipView) (mid after : S) (name : List ℕ) (e : LoadFault) → SoFar old source rust root calls before names found skips mid
-      → slice_get names (length found) ≡ Some name → length found < most_names → Fails calls mid name e after → Stops old source rust root calls before e after
+      → slice_get names (length found) ≡ Some name → length found < most_names → Fails calls failed mid name e after → Stops old source rust root calls failed before e after
   stopped names found skips mid after name e s at less fails = by e fails
     where
-      here : (e : LoadFault) → Fails calls mid name e after → IsStopped old source rust root calls before e after
+      here : (e : LoadFault) → Fails calls failed mid name e after → IsStopped old source rust root calls failed before e after
       here e f = record { asked = s.asked; mid = mid; name = name; so_far = s.so_far; next = next_known old source rust root calls before names found skips mid name s at; fewer = (let long = found-long old source rust root calls before found s.asked s.found_are in omega (arith, less, long)); fails = f }
 
-      by : (e : LoadFault) → Fails calls mid name e after → Stops old source rust root calls before e after
-      by fault.OutOfMemory f = tt
+      by : (e : LoadFault) → Fails calls failed mid name e after → Stops old source rust root calls failed before e after
+      by fault.OutOfMemory f = inr (here fault.OutOfMemory f)
       by (fault.FolderFailed path) f = here (fault.FolderFailed path) f
       by (fault.TooLarge limit.Names) f = absurd f
       by (fault.TooLarge (limit.File n)) f = here (fault.TooLarge (limit.File n)) f
       by (fault.TooLarge (limit.Lines n)) f = here (fault.TooLarge (limit.Lines n)) f
       by (fault.ChecksumChanged n v) f = absurd f
+
+  -- where memory was wanting before the first call
+  pub unasked : IsCutShort old source rust root calls failed before before
+  unasked = inl (record { asked = []; so_far = record { chain = refl; in_turn = tt; within = all_none (λ (a : Asked). IsWithin a.1); few = omega arith } })
+
+  -- where it was wanting after the call for the next name
+  pub cut_after : (names : List (List ℕ)) (found : List Candidates) (skips skips' : List SkipView) (mid after : S) (name : List ℕ) (ranked : List Ranked)
+      → SoFar old source rust root calls before names found skips mid → slice_get names (length found) ≡ Some name → length found < most_names
+      → IsAsked old source rust calls mid name skips ranked after skips' → IsCutShort old source rust root calls failed before after
+  cut_after names found skips skips' mid after name ranked s at less asked =
+      stopped names found skips mid after name fault.OutOfMemory s at less (inr (Ok asked.answer, asked.call))
+
+  -- where it was wanting after the last call
+  pub cut_loaded : (index : CatalogueView) (after : S) → IsLoaded old source rust root calls before index after → IsCutShort old source rust root calls failed before after
+  cut_loaded index after loaded = inl (record { asked = loaded.asked; so_far = loaded.so_far })

@@ -6,4 +6,3 @@ pub mod Stores
 pub mod Runs
 pub mod Problems
 pub mod Loads
-pub mod Wanting

@@ -1,6 +1,6 @@
 -- How loading ends, by the calls of the folder (Cargo book, "Registry Index"; the limits, and the checksums that are held against an old lock,
 -- are our own).
-use Rattle.std.specs.Prelude.{◌≡◌, ◌<◌, ◌≤◌, ℕ, Bool, false, not, ◌&&◌, if◌then◌else◌, List, [], ◌∷◌, ◌++◌, length, map, flat_map, Option, Some, None, option_map, Result, Ok, Err, Vec, string_bytes}
+use Rattle.std.specs.Prelude.{◌≡◌, ◌<◌, ◌≤◌, ◌⊎◌, ℕ, Bool, false, not, ◌&&◌, if◌then◌else◌, List, [], ◌∷◌, ◌++◌, length, map, flat_map, Option, Some, None, option_map, Result, Ok, Err, Vec, string_bytes}
 use Rattle.std.specs.Borrow.{Bor}
 use Rattle.std.specs.List.{All}
 use Rattle.std.specs.declared.alloc.Global.{Global}
@@ -10,6 +10,7 @@ use Rattle.model.specs.Content.{Content, Package, same_option}
 use Rattle.model.specs.Candidates.{Record as ModelRecord, RustVersion, candidates_among, is_locked, preferred_rust}
 use Rattle.model.specs.Candidates.Prefer.{newest, rust_first}
 use Rattle.model.specs.Summary.{Dependency, same_text}
+use Rattle.index_reader.specs.Folders.{Answer, IsRisen}
 use Rattle.index_reader.specs.Files.{SkipView, FileView, no_lines, line_count, records_of_file}
 use Rattle.index_reader.specs.Paths.{path_of}
 use Rattle.index_reader.specs.Views.{record_view, contents_view}
@@ -73,18 +74,23 @@ pub record HasTooManyLines {S : Type 0} (calls : Calls S) (before : S) (name : L
   pub few_bytes : length bytes ≤ most_bytes
   pub too_many : most_lines < line_count bytes
 
--- how reading the file of a name ends with a fault
-abbrev pub Fails : {S : Type 0} → Calls S → S → List ℕ → LoadFault → S → Type 0
-Fails calls before name fault.OutOfMemory after = Unit {0}
-Fails calls before name (fault.FolderFailed path) after = (string_bytes path ≡ path_of name) × calls before (path_of name) (Err Failed) after
-Fails calls before name (fault.TooLarge limit.Names) after = ⊥
-Fails calls before name (fault.TooLarge (limit.File n)) after = (n ≡ name) × IsTooLong calls before name after
-Fails calls before name (fault.TooLarge (limit.Lines n)) after = (n ≡ name) × HasTooManyLines calls before name after
-Fails calls before name (fault.ChecksumChanged n v) after = ⊥
+-- it wasn't asked, or asked once, for this name, whatever it answered
+abbrev pub IsAskedAtMost : {S : Type 0} → Calls S → S → List ℕ → S → Type 0
+IsAskedAtMost calls before name after = (after ≡ before) ⊎ ((answer : Answer) × calls before (path_of name) answer after)
 
-abbrev pub Reads : {S : Type 0} → Calls S → S → List ℕ → Result (Vec Record Global × Vec Skip Global) LoadFault → S → Type 0
-Reads calls before name (Ok contents) after = IsRead calls before name (contents_view contents) after
-Reads calls before name (Err e) after = Fails calls before name e after
+-- how reading the file of a name ends with a fault: where the folder failed, the count of its failures rose in this call
+abbrev pub Fails : {S : Type 0} → Calls S → (S → ℕ) → S → List ℕ → LoadFault → S → Type 0
+Fails calls failed before name fault.OutOfMemory after = IsAskedAtMost calls before name after
+Fails calls failed before name (fault.FolderFailed path) after =
+    (string_bytes path ≡ path_of name) × calls before (path_of name) (Err Failed) after × IsRisen (failed before) (failed after)
+Fails calls failed before name (fault.TooLarge limit.Names) after = ⊥
+Fails calls failed before name (fault.TooLarge (limit.File n)) after = (n ≡ name) × IsTooLong calls before name after
+Fails calls failed before name (fault.TooLarge (limit.Lines n)) after = (n ≡ name) × HasTooManyLines calls before name after
+Fails calls failed before name (fault.ChecksumChanged n v) after = ⊥
+
+abbrev pub Reads : {S : Type 0} → Calls S → (S → ℕ) → S → List ℕ → Result (Vec Record Global × Vec Skip Global) LoadFault → S → Type 0
+Reads calls failed before name (Ok contents) after = IsRead calls before name (contents_view contents) after
+Reads calls failed before name (Err e) after = Fails calls failed before name e after
 
 -- how reading a file within the limits, or not within them, ends
 abbrev pub Says : List ℕ → List ℕ → Result (Vec Record Global × Vec Skip Global) LoadFault → Type 0
@@ -139,9 +145,9 @@ module _ (old : Content) (source : List ℕ) (rust : Option RustVersion) where
     pub added : skips ≡ skipped ++ skips_of (name, answer)
 
 -- how asking for a name ends
-abbrev pub Asks : {S : Type 0} → Calls S → Content → List ℕ → Option RustVersion → S → List ℕ → List SkipView → Result Candidates LoadFault → S → List SkipView → Type 0
-Asks calls old source rust before name skipped (Ok found) after skips = IsAsked old source rust calls before name skipped (candidates_view found) after skips
-Asks calls old source rust before name skipped (Err e) after skips = Fails calls before name e after
+abbrev pub Asks : {S : Type 0} → Calls S → (S → ℕ) → Content → List ℕ → Option RustVersion → S → List ℕ → List SkipView → Result Candidates LoadFault → S → List SkipView → Type 0
+Asks calls failed old source rust before name skipped (Ok found) after skips = IsAsked old source rust calls before name skipped (candidates_view found) after skips
+Asks calls failed old source rust before name skipped (Err e) after skips = Fails calls failed before name e after
 
 -- ---- the whole run
 
@@ -174,27 +180,36 @@ module _ (old : Content) (source : List ℕ) (rust : Option RustVersion) (root :
     pub next : next_name old source root asked ≡ Some name
 
   -- the call for the next name ended with this fault
-  pub record IsStopped {S : Type 0} (calls : Calls S) (before : S) (e : LoadFault) (after : S) : Type 0 where
+  pub record IsStopped {S : Type 0} (calls : Calls S) (failed : S → ℕ) (before : S) (e : LoadFault) (after : S) : Type 0 where
     pub asked : List Asked
     pub mid : S
     pub name : List ℕ
     pub so_far : IsSoFar calls before asked mid
     pub next : next_name old source root asked ≡ Some name
     pub fewer : length asked < most_names
-    pub fails : Fails calls mid name e after
+    pub fails : Fails calls failed mid name e after
+
+  -- the folder was asked for the names so far, in order, and for nothing else
+  pub record IsAskedSoFar {S : Type 0} (calls : Calls S) (before : S) (after : S) : Type 0 where
+    pub asked : List Asked
+    pub so_far : IsSoFar calls before asked after
+
+  -- memory was wanting: the folder was asked for the names so far, and perhaps for the next one
+  abbrev pub IsCutShort : {S : Type 0} → Calls S → (S → ℕ) → S → S → Type 0
+  IsCutShort calls failed before after = IsAskedSoFar calls before after ⊎ IsStopped calls failed before fault.OutOfMemory after
 
   -- how asking for all names ends with a fault
-  abbrev pub Stops : {S : Type 0} → Calls S → S → LoadFault → S → Type 0
-  Stops calls before fault.OutOfMemory after = Unit {0}
-  Stops calls before (fault.FolderFailed path) after = IsStopped calls before (fault.FolderFailed path) after
-  Stops calls before (fault.TooLarge limit.Names) after = HasTooMany calls before after
-  Stops calls before (fault.TooLarge (limit.File n)) after = IsStopped calls before (fault.TooLarge (limit.File n)) after
-  Stops calls before (fault.TooLarge (limit.Lines n)) after = IsStopped calls before (fault.TooLarge (limit.Lines n)) after
-  Stops calls before (fault.ChecksumChanged n v) after = ⊥
+  abbrev pub Stops : {S : Type 0} → Calls S → (S → ℕ) → S → LoadFault → S → Type 0
+  Stops calls failed before fault.OutOfMemory after = IsCutShort calls failed before after
+  Stops calls failed before (fault.FolderFailed path) after = IsStopped calls failed before (fault.FolderFailed path) after
+  Stops calls failed before (fault.TooLarge limit.Names) after = HasTooMany calls before after
+  Stops calls failed before (fault.TooLarge (limit.File n)) after = IsStopped calls failed before (fault.TooLarge (limit.File n)) after
+  Stops calls failed before (fault.TooLarge (limit.Lines n)) after = IsStopped calls failed before (fault.TooLarge (limit.Lines n)) after
+  Stops calls failed before (fault.ChecksumChanged n v) after = ⊥
 
-  abbrev pub AsksAll : {S : Type 0} → Calls S → S → Result CatalogueView LoadFault → S → Type 0
-  AsksAll calls before (Ok index) after = IsLoaded calls before index after
-  AsksAll calls before (Err e) after = Stops calls before e after
+  abbrev pub AsksAll : {S : Type 0} → Calls S → (S → ℕ) → S → Result CatalogueView LoadFault → S → Type 0
+  AsksAll calls failed before (Ok index) after = IsLoaded calls before index after
+  AsksAll calls failed before (Err e) after = Stops calls failed before e after
 
 -- ---- what the old lock says beside the index
 
@@ -243,9 +258,9 @@ module _ (old : Content) (source : List ℕ) (rust : Option RustVersion) (root :
     pub changed : IsChanged index old name version
 
   -- how loading ends
-  abbrev pub Loads : {S : Type 0} → Calls S → S → Result CatalogueView LoadFault → S → Type 0
-  Loads calls before (Ok index) after = IsLoaded old source rust root calls before index after × (first_changed index old ≡ None)
-  Loads calls before (Err fault.OutOfMemory) after = Unit {0}
-  Loads calls before (Err (fault.FolderFailed path)) after = Stops old source rust root calls before (fault.FolderFailed path) after
-  Loads calls before (Err (fault.TooLarge which)) after = Stops old source rust root calls before (fault.TooLarge which) after
-  Loads calls before (Err (fault.ChecksumChanged n v)) after = IsRefused calls before n (parts_of v) after
+  abbrev pub Loads : {S : Type 0} → Calls S → (S → ℕ) → S → Result CatalogueView LoadFault → S → Type 0
+  Loads calls failed before (Ok index) after = IsLoaded old source rust root calls before index after × (first_changed index old ≡ None)
+  Loads calls failed before (Err fault.OutOfMemory) after = Stops old source rust root calls failed before fault.OutOfMemory after
+  Loads calls failed before (Err (fault.FolderFailed path)) after = Stops old source rust root calls failed before (fault.FolderFailed path) after
+  Loads calls failed before (Err (fault.TooLarge which)) after = Stops old source rust root calls failed before (fault.TooLarge which) after
+  Loads calls failed before (Err (fault.ChecksumChanged n v)) after = IsRefused calls before n (parts_of v) after

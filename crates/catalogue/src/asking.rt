@@ -20,7 +20,7 @@ pub(crate) fn read_name<F: Folder>(
     folder: &mut F,
     name: &PackageName,
 ) -> Result<(Vec<Record>, Vec<Skip>), LoadFault>
-    ensures { Reads F.calls folder.old name.now result folder.new }
+    ensures { Reads F.calls F.failed folder.old name.now result folder.new }
 {
     let path = index_path(alloc, name)?;
     match folder.file(path.as_str()) {

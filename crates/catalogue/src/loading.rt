@@ -44,7 +44,7 @@ pub fn load<F: Folder>(
     source: &Source,
     prefer: Prefer,
 ) -> Result<Catalogue, LoadFault>
-    ensures loads { Loads (packages_of old.entry) source.now (rust_for prefer manifest.now.rust_version) manifest.now.brings.dependencies F.calls folder.old result folder.new }
+    ensures loads { Loads (packages_of old.entry) source.now (rust_for prefer manifest.now.rust_version) manifest.now.brings.dependencies F.calls F.failed folder.old result folder.new }
     ensures problem { IfOk result (λ c. IsProblemOfRun F.calls folder.old manifest.now (packages_of old.entry) source.now (problem_in manifest.now c) folder.new) }
 {
     let run = Run {
@@ -74,7 +74,7 @@ fn ask_all<F: Folder>(
     folder: &mut F,
     run: &Run<'_>,
 ) -> Result<Catalogue, LoadFault>
-    ensures { AsksAll (packages_of run.now.old) run.now.source.now (option_map rust_version_view run.now.rust_version) (dependency_views dependencies.now) F.calls folder.old result folder.new }
+    ensures { AsksAll (packages_of run.now.old) run.now.source.now (option_map rust_version_view run.now.rust_version) (dependency_views dependencies.now) F.calls F.failed folder.old result folder.new }
 {
     let mut names = IndexSet::new(alloc);
     let mut candidates = Vec::new(alloc);
@@ -112,7 +112,7 @@ fn ask<F: Folder>(
     run: &Run<'_>,
     skips: &mut Vec<Skip>,
 ) -> Result<Candidates, LoadFault>
-    ensures { Asks F.calls (packages_of run.now.old) run.now.source.now (option_map rust_version_view run.now.rust_version) folder.old name.now (map skip_view skips.old.items) result folder.new (map skip_view skips.new.items) }
+    ensures { Asks F.calls F.failed (packages_of run.now.old) run.now.source.now (option_map rust_version_view run.now.rust_version) folder.old name.now (map skip_view skips.old.items) result folder.new (map skip_view skips.new.items) }
 {
     let (records, mut skipped) = read_name(alloc, folder, name)?;
     skips.append(&mut skipped)?;

@@ -75,11 +75,12 @@ fn read_file<'a, R: Files + AllocGlobal>(
     }
 }
 
-/// The folder of the index.
+/// The folder of the index. An empty path is the present folder: put before `/1/a` it would name the system's root.
 pub(crate) fn open<'a, R: Files + AllocGlobal + Clone + Drop>(
     rt: &R,
     path: &str,
 ) -> Result<DiskFolder<R>, Stop<'a>> {
+    let path = if path.is_empty() { "." } else { path };
     match DiskFolder::open(rt, path) {
         Ok(folder) => Ok(folder),
         Err(_) => Err(Stop::from(AllocError)),

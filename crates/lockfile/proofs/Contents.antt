@@ -47,11 +47,11 @@ ok-place None i e = cc
 ok-place (Some j) i e = cc
 
 -- what a chain of two steps gave
-bind-ok : {A B : Type 0} (r : Result A LockFault) (f : A → Result B LockFault) (y : B) → (r >>= f) ≡ Ok y → (x : A) × (r ≡ Ok x) × (f x ≡ Ok y)
+pub bind-ok : {A B : Type 0} (r : Result A LockFault) (f : A → Result B LockFault) (y : B) → (r >>= f) ≡ Ok y → (x : A) × (r ≡ Ok x) × (f x ≡ Ok y)
 bind-ok (Ok x) f y e = (x, refl, e)
 bind-ok (Err g) f y e = cc
 
-ok-same : {A : Type 0} (x y : A) → let r : Result A LockFault = Ok x in let s : Result A LockFault = Ok y in r ≡ s → x ≡ y
+pub ok-same : {A : Type 0} (x y : A) → let r : Result A LockFault = Ok x in let s : Result A LockFault = Ok y in r ≡ s → x ≡ y
 ok-same x y e = cc
 
 each-meant : (ps : Content) (texts : List (List ℕ)) (ns : List ℕ) → places_meant ps texts ≡ Ok ns → AllByRecursion (λ i. i < length ps) ns

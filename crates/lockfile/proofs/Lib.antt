@@ -8,6 +8,7 @@ pub mod Forms
 pub mod Meant
 pub mod Linking
 pub mod Contents
+pub mod Said
 pub mod Alone
 pub mod Writing
 pub mod Stable

@@ -168,7 +168,7 @@ each-locked : (p : Unlinked) (ps : List Unlinked) → AllByRecursion (λ r. unli
 each-locked p [] h = tt
 each-locked p (r ∷ rs) h = (h.0, each-locked p rs h.1)
 
-locked-sorted : (ps : List Unlinked) → IsStrictlySortedBy unlinked_cmp ps → IsOrdered (locked_packages ps)
+pub locked-sorted : (ps : List Unlinked) → IsStrictlySortedBy unlinked_cmp ps → IsOrdered (locked_packages ps)
 unfolding IsStrictlySortedBy
 locked-sorted [] h = tt
 locked-sorted (p ∷ ps) h = (each-locked p ps h.0, locked-sorted ps h.1)

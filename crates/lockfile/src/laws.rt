@@ -1,12 +1,18 @@
 //! Laws about reading and writing: each is a function that does nothing, whose contract is the statement.
 
-ghost use Rattle.std.specs.Prelude.{◌≡◌, ◌≤◌, length, Ok};
+ghost use Rattle.std.specs.Prelude.{◌≡◌, ◌≤◌, ℕ, List, length, Ok};
 ghost use Rattle.std.specs.List.{All};
 ghost use Rattle.model.specs.Content.{Content};
 ghost use Rattle.model.specs.WellFormed.{IsContent};
 ghost use Rattle.lockfile.specs.Locks.{content_of_bytes, content_of_table, most_bytes, table_of_bytes};
 ghost use Rattle.lockfile.specs.Spelling.{spelling};
 ghost use Rattle.lockfile.specs.Table.{IsWritable, table_of};
+
+/// What a lock says is a content: its packages are in package order, no two alike in name, version and source, and each list has places of it,
+/// each once.
+pub fn locks_say_contents()
+    ensures { (bytes : List ℕ) (content : Content) → content_of_bytes bytes ≡ Ok content → IsContent content }
+{}
 
 /// The table that a content is spelled as says that content: each dependency text means the one package that it was written for.
 pub fn tables_say_their_contents()

@@ -16,7 +16,7 @@ mod writer;
 
 pub use content::LockContent;
 pub use fault::LockFault;
-pub use laws::{spellings_read_back, tables_say_their_contents};
+pub use laws::{locks_say_contents, spellings_read_back, tables_say_their_contents};
 pub use locked::Package;
 pub use reader::read;
 pub use writer::write;

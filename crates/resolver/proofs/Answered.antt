@@ -7,7 +7,8 @@ use Rattle.lockfile.specs.Spelling.{spelling}
 use Rattle.catalogue.specs.Runs.{Calls}
 use Rattle.walks.specs.Preferred.{HasBareRoot}
 use Rattle.resolver.specs.Faults.{is_memory}
-use Rattle.resolver.specs.Inputs.{RequestView, AreRead, UnlessMemory, problem_of}
+use Rattle.resolver.specs.Inputs.{RequestView, AreRead, EndsWith, UnlessMemory, problem_of}
+use Rattle.resolver.specs.Inputs.IsCutShort.{after_loading}
 use Rattle.resolver.specs.Answers.{HoldsOld, IsPreferredBy, IsWithout, IsWritten, Writes, Gives, GivesAnew, Resolves}
 use Rattle.resolver.specs.Same.{same_content}
 use Rattle.resolver.specs.declared.inputs.Inputs.{Inputs}
@@ -46,7 +47,13 @@ anew inputs content (Err f) not_held preferred bare h = unless (is_memory f) (λ
 pub without : (old : Option (List ℕ)) (inputs : Inputs) (f : Fault) → (HoldsOld inputs → ⊥) → GivesAnew inputs (Err f) → Gives old inputs (Err f)
 without old inputs f not_held h = unless (is_memory f) (λ w. (not_held, w)) h
 
-pub unanswered : {S : Type 0} (calls : Calls S) (request : RequestView) (before after : S) (inputs : Inputs) (f : Fault)
-    → AreRead calls request before inputs after → Gives request.old inputs (Err f) → Resolves calls request before (Err f) after
-unanswered calls request before after inputs f read h =
-    unless (is_memory f) (λ w. inr (record { inputs = inputs; read = read; not_held = w.0; why = w.1 })) h
+-- a fault after loading leaves the loaded folder
+pub ended : {S : Type 0} (calls : Calls S) (failed : S → ℕ) (request : RequestView) (before after : S) (inputs : Inputs) (b : Bool) {A B : Type 0}
+    → AreRead calls failed request before inputs after → (A → B) → UnlessMemory b A → EndsWith calls failed request before b B after
+ended calls failed request before after inputs true read f h = after_loading inputs after read
+ended calls failed request before after inputs false read f h = f h
+
+pub unanswered : {S : Type 0} (calls : Calls S) (failed : S → ℕ) (request : RequestView) (before after : S) (inputs : Inputs) (f : Fault)
+    → AreRead calls failed request before inputs after → Gives request.old inputs (Err f) → Resolves calls failed request before (Err f) after
+unanswered calls failed request before after inputs f read h =
+    ended calls failed request before after inputs (is_memory f) read (λ w. inr (record { inputs = inputs; read = read; not_held = w.0; why = w.1 })) h

@@ -15,7 +15,8 @@ use Rattle.checker.specs.declared.outcome.Check.{Check}
 use Rattle.checker.specs.declared.outcome.Check.TheVariants.{Proves, Refused}
 use Rattle.checker.proofs.StepLaws.{are_plain}
 use Rattle.resolver.specs.Checks.{IsProof, IsChecked, Decides, Checks}
-use Rattle.resolver.specs.Inputs.{RequestView, AreRead, IsRefused, UnlessMemory, problem_of}
+use Rattle.resolver.specs.Inputs.{RequestView, AreRead, IsRefused, EndsWith, problem_of}
+use Rattle.resolver.specs.Inputs.IsCutShort.{after_loading}
 use Rattle.resolver.specs.declared.inputs.Inputs.{Inputs}
 use Rattle.resolver.specs.declared.fault.CheckFault.{CheckFault}
 use Rattle.resolver.specs.declared.fault.CheckFault.TheVariants.{Input, Proof}
@@ -47,8 +48,9 @@ module _ (decide : (q : Problem) (steps : List Step) → ArePlain steps → (ref
           proves_if c (refused ∙ ap (refusal q) (sym same) ∙ (decide q p.0 (plain bytes p.0 p.1)).1 p.2)
 
 -- the answer for what was loaded is that of the run
-pub answered : {S : Type 0} (calls : Calls S) (request : RequestView) (bytes : List ℕ) (before after : S) (inputs : Inputs) (r : Result Check CheckFault)
-    → AreRead calls request before inputs after → Decides inputs bytes r → Checks calls request bytes before r after
-answered calls request bytes before after inputs (Ok check) read h = record { inputs = inputs; read = read; checked = h }
-answered calls request bytes before after inputs (Err (Input f)) read h = subst (λ b. UnlessMemory b (IsRefused calls request before f after)) (sym h) tt
-answered calls request bytes before after inputs (Err (Proof fault)) read h = record { inputs = inputs; read = read; no_derivation = h }
+pub answered : {S : Type 0} (calls : Calls S) (failed : S → ℕ) (request : RequestView) (bytes : List ℕ) (before after : S) (inputs : Inputs) (r : Result Check CheckFault)
+    → AreRead calls failed request before inputs after → Decides inputs bytes r → Checks calls failed request bytes before r after
+answered calls failed request bytes before after inputs (Ok check) read h = record { inputs = inputs; read = read; checked = h }
+answered calls failed request bytes before after inputs (Err (Input f)) read h =
+    subst (λ b. EndsWith calls failed request before b (IsRefused calls failed request before f after) after) (sym h) (after_loading inputs after read)
+answered calls failed request bytes before after inputs (Err (Proof fault)) read h = record { inputs = inputs; read = read; no_derivation = h }

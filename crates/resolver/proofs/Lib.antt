@@ -2,3 +2,5 @@ pub mod Reading
 pub mod Sameness
 pub mod Answered
 pub mod Checked
+pub mod Again
+pub mod Returned

@@ -1,5 +1,5 @@
 -- A fault of an input is the fault of the reading of all inputs.
-use Rattle.std.proofs.Common.{◌≡◌, Option, Some, None, Result, Ok, Err, option_map, refl, subst, ap, ◌∙◌}
+use Rattle.std.proofs.Common.{◌≡◌, ℕ, Option, Some, None, Result, Ok, Err, option_map, refl, subst, ap, ◌∙◌}
 use Rattle.std.specs.Borrow.{Bor}
 use Rattle.catalogue.specs.Loads.{Loads, packages_of, rust_for}
 use Rattle.catalogue.specs.Stores.{CatalogueView}
@@ -18,15 +18,16 @@ use Rattle.model.specs.Outcome.{Faults}
 use Rattle.resolver.specs.Faults.{of_manifest, of_lock, of_load}
 use Rattle.resolver.specs.Inputs.{RequestView, Reads, LoadsFor, old_of_bytes, packages_in}
 use Rattle.resolver.specs.Inputs.IsRefused.{by_manifest, by_lock, by_index}
+use Rattle.resolver.specs.Inputs.IsCutShort.{before_loading, while_loading}
 
 -- the packages behind a reference to the old lock
 packages_behind : (old : Option (Bor Content)) → packages_of old ≡ packages_in (option_map (λ c. c.now) old)
 packages_behind None = refl
 packages_behind (Some c) = refl
 
-module _ {S : Type 0} (calls : Calls S) (request : RequestView) (before : S) where
-  pub manifest_refused : (e : ManifestFault) → Faults (manifests.is_memory e) e (manifest_of_bytes request.manifest) → Reads calls request before (Err (of_manifest e)) before
-  manifest_refused manifest.OutOfMemory f = tt
+module _ {S : Type 0} (calls : Calls S) (failed : S → ℕ) (request : RequestView) (before : S) where
+  pub manifest_refused : (e : ManifestFault) → Faults (manifests.is_memory e) e (manifest_of_bytes request.manifest) → Reads calls failed request before (Err (of_manifest e)) before
+  manifest_refused manifest.OutOfMemory f = before_loading
   manifest_refused manifest.TooLarge f = by_manifest manifest.TooLarge f
   manifest_refused manifest.NotToml f = by_manifest manifest.NotToml f
   manifest_refused (manifest.Shape part) f = by_manifest (manifest.Shape part) f
@@ -35,22 +36,22 @@ module _ {S : Type 0} (calls : Calls S) (request : RequestView) (before : S) whe
   manifest_refused (manifest.RootFeature fault name) f = by_manifest (manifest.RootFeature fault name) f
 
   pub lock_refused : (m : ManifestView) (e : LockFault) → manifest_of_bytes request.manifest ≡ Ok m
-      → Faults (locks.is_memory e) e (old_of_bytes request.old) → Reads calls request before (Err (of_lock e)) before
-  lock_refused m lock.OutOfMemory h f = tt
+      → Faults (locks.is_memory e) e (old_of_bytes request.old) → Reads calls failed request before (Err (of_lock e)) before
+  lock_refused m lock.OutOfMemory h f = before_loading
   lock_refused m lock.TooLarge h f = by_lock m lock.TooLarge h f
   lock_refused m lock.NotToml h f = by_lock m lock.NotToml h f
   lock_refused m lock.LockVersion h f = by_lock m lock.LockVersion h f
   lock_refused m lock.LockShape h f = by_lock m lock.LockShape h f
 
   pub index_refused : (m : ManifestView) (old : Option Content) (e : LoadFault) (after : S) → manifest_of_bytes request.manifest ≡ Ok m
-      → old_of_bytes request.old ≡ Ok old → LoadsFor calls request before m old (Err e) after → Reads calls request before (Err (of_load e)) after
-  index_refused m old load.OutOfMemory after h l f = tt
+      → old_of_bytes request.old ≡ Ok old → LoadsFor calls failed request before m old (Err e) after → Reads calls failed request before (Err (of_load e)) after
+  index_refused m old load.OutOfMemory after h l f = while_loading m old after h l f
   index_refused m old (load.FolderFailed path) after h l f = by_index m old (load.FolderFailed path) after h l f
   index_refused m old (load.TooLarge limit) after h l f = by_index m old (load.TooLarge limit) after h l f
   index_refused m old (load.ChecksumChanged name version) after h l f = by_index m old (load.ChecksumChanged name version) after h l f
 
   -- loading with a reference to the old lock
   pub loads_with : (m : ManifestView) (o : Option (Bor Content)) (old : Option Content) (r : Result CatalogueView LoadFault) (after : S) → option_map (λ c. c.now) o ≡ old
-      → Loads (packages_of o) request.source (rust_for request.prefer m.rust_version) m.brings.dependencies calls before r after → LoadsFor calls request before m old r after
+      → Loads (packages_of o) request.source (rust_for request.prefer m.rust_version) m.brings.dependencies calls failed before r after → LoadsFor calls failed request before m old r after
   loads_with m o old r after same l = subst
-      (λ c. Loads c request.source (rust_for request.prefer m.rust_version) m.brings.dependencies calls before r after) (packages_behind o ∙ ap packages_in same) l
+      (λ c. Loads c request.source (rust_for request.prefer m.rust_version) m.brings.dependencies calls failed before r after) (packages_behind o ∙ ap packages_in same) l

@@ -1,5 +1,5 @@
 -- What the calls of this crate answer.
-use Rattle.std.specs.Prelude.{◌≡◌, ◌≢◌, ◌⊎◌, ℕ, Bool, true, false, List, map, Option, Some, Result, Ok, Err, Vec}
+use Rattle.std.specs.Prelude.{◌≡◌, ◌≢◌, ◌⊎◌, ◌↔◌, ℕ, Bool, true, false, List, map, Option, Some, Result, Ok, Err, Vec}
 use Rattle.std.specs.declared.alloc.Global.{Global}
 use Rattle.model.specs.Content.{Content}
 use Rattle.model.specs.Selection.{IsValidSelection}
@@ -10,9 +10,10 @@ use Rattle.lockfile.specs.Spelling.{spelling}
 use Rattle.catalogue.specs.Runs.{Calls}
 use Rattle.selection.specs.Verdicts.{Says}
 use Rattle.selection.specs.declared.verdict.Verdict.{Verdict}
+use Rattle.selection.specs.declared.verdict.Verdict.TheVariants.{Valid}
 use Rattle.walks.specs.Preferred.{preferred_in, IsPreferred, HasBareRoot}
 use Rattle.resolver.specs.Faults.{is_memory}
-use Rattle.resolver.specs.Inputs.{RequestView, AreRead, IsRefused, UnlessMemory, problem_of}
+use Rattle.resolver.specs.Inputs.{RequestView, AreRead, IsRefused, EndsWith, UnlessMemory, problem_of}
 use Rattle.resolver.specs.declared.inputs.Inputs.{Inputs}
 use Rattle.resolver.specs.declared.fault.Fault.{Fault}
 use Rattle.resolver.specs.declared.fault.Fault.TheVariants as fault
@@ -21,18 +22,19 @@ use Rattle.resolver.specs.declared.resolving.Answer.TheVariants.{Lock}
 
 -- ---- the verdict on a lock
 
-module _ {S : Type 0} (calls : Calls S) (request : RequestView) (before : S) where
-  -- the verdict on the old lock, for what was loaded with it
+module _ {S : Type 0} (calls : Calls S) (failed : S → ℕ) (request : RequestView) (before : S) where
+  -- the verdict on the old lock, for what was loaded with it: valid exactly where its content is a valid selection
   pub record IsVerdictFor (verdict : Verdict) (after : S) : Type 0 where
     pub inputs : Inputs
     pub content : Content
-    pub read : AreRead calls request before inputs after
+    pub read : AreRead calls failed request before inputs after
     pub old : inputs.old ≡ Some content
     pub says : Says (problem_of inputs) content verdict
+    pub selects : (verdict ≡ Valid) ↔ IsValidSelection (problem_of inputs) content
 
   abbrev pub Verifies : Result Verdict Fault → S → Type 0
   Verifies (Ok verdict) after = IsVerdictFor verdict after
-  Verifies (Err f) after = UnlessMemory (is_memory f) (IsRefused calls request before f after)
+  Verifies (Err f) after = EndsWith calls failed request before (is_memory f) (IsRefused calls failed request before f after) after
 
 -- ---- a lock for a manifest
 
@@ -99,19 +101,19 @@ abbrev pub Gives : Option (List ℕ) → Inputs → Result (Vec ℕ Global × Bo
 Gives old inputs (Ok given) = IsKept old inputs (given.0).items given.1 ⊎ IsNew inputs (given.0).items given.1
 Gives old inputs (Err f) = UnlessMemory (is_memory f) ((HoldsOld inputs → ⊥) × IsWithout inputs f)
 
-module _ {S : Type 0} (calls : Calls S) (request : RequestView) (before : S) where
+module _ {S : Type 0} (calls : Calls S) (failed : S → ℕ) (request : RequestView) (before : S) where
   pub record IsAnswered (answer : Answer) (after : S) : Type 0 where
     pub inputs : Inputs
-    pub read : AreRead calls request before inputs after
+    pub read : AreRead calls failed request before inputs after
     pub lock : IsLock request inputs answer
 
   -- the old lock isn't valid, and there is no new one
   pub record IsUnanswered (f : Fault) (after : S) : Type 0 where
     pub inputs : Inputs
-    pub read : AreRead calls request before inputs after
+    pub read : AreRead calls failed request before inputs after
     pub not_held : HoldsOld inputs → ⊥
     pub why : IsWithout inputs f
 
   abbrev pub Resolves : Result Answer Fault → S → Type 0
   Resolves (Ok answer) after = IsAnswered answer after
-  Resolves (Err f) after = UnlessMemory (is_memory f) (IsRefused calls request before f after ⊎ IsUnanswered f after)
+  Resolves (Err f) after = EndsWith calls failed request before (is_memory f) (IsRefused calls failed request before f after ⊎ IsUnanswered f after) after

@@ -11,7 +11,7 @@ use Rattle.checker.specs.Refusals.{check_view}
 use Rattle.checker.specs.declared.outcome.Check.{Check}
 use Rattle.checker.specs.declared.outcome.Check.TheVariants.{Proves}
 use Rattle.resolver.specs.Faults.{is_memory}
-use Rattle.resolver.specs.Inputs.{RequestView, AreRead, IsRefused, UnlessMemory, problem_of}
+use Rattle.resolver.specs.Inputs.{RequestView, AreRead, IsRefused, EndsWith, problem_of}
 use Rattle.resolver.specs.declared.inputs.Inputs.{Inputs}
 use Rattle.resolver.specs.declared.fault.CheckFault.{CheckFault}
 use Rattle.resolver.specs.declared.fault.CheckFault.TheVariants.{Input, Proof}
@@ -39,19 +39,19 @@ Decides inputs bytes (Ok check) = IsChecked inputs bytes check
 Decides inputs bytes (Err (Input f)) = is_memory f ≡ true
 Decides inputs bytes (Err (Proof fault)) = IsNoDerivation bytes fault
 
-module _ {S : Type 0} (calls : Calls S) (request : RequestView) (bytes : List ℕ) (before : S) where
+module _ {S : Type 0} (calls : Calls S) (failed : S → ℕ) (request : RequestView) (bytes : List ℕ) (before : S) where
   pub record IsCheckFor (check : Check) (after : S) : Type 0 where
     pub inputs : Inputs
-    pub read : AreRead calls request before inputs after
+    pub read : AreRead calls failed request before inputs after
     pub checked : IsChecked inputs bytes check
 
   -- the inputs were read, and the bytes are no derivation
   pub record IsUnread (fault : DerivationFault) (after : S) : Type 0 where
     pub inputs : Inputs
-    pub read : AreRead calls request before inputs after
+    pub read : AreRead calls failed request before inputs after
     pub no_derivation : IsNoDerivation bytes fault
 
   abbrev pub Checks : Result Check CheckFault → S → Type 0
   Checks (Ok check) after = IsCheckFor check after
-  Checks (Err (Input f)) after = UnlessMemory (is_memory f) (IsRefused calls request before f after)
+  Checks (Err (Input f)) after = EndsWith calls failed request before (is_memory f) (IsRefused calls failed request before f after) after
   Checks (Err (Proof fault)) after = IsUnread fault after

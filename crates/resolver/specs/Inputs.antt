@@ -11,6 +11,7 @@ use Rattle.catalogue.specs.Problems.{problem_in}
 use Rattle.catalogue.specs.Runs.{Calls}
 use Rattle.catalogue.specs.Stores.{CatalogueView}
 use Rattle.catalogue.specs.declared.fault.LoadFault.{LoadFault}
+use Rattle.catalogue.specs.declared.fault.LoadFault.TheVariants as load
 use Rattle.catalogue.specs.declared.store.Prefer.{Prefer}
 use Rattle.resolver.specs.declared.fault.Fault.{Fault}
 use Rattle.resolver.specs.declared.inputs.Inputs.{Inputs}
@@ -41,10 +42,10 @@ packages_in (Some content) = content
 abbrev pub problem_of : Inputs → Problem
 problem_of inputs = problem_in inputs.manifest inputs.catalogue
 
-module _ {S : Type 0} (calls : Calls S) (request : RequestView) (before : S) where
+module _ {S : Type 0} (calls : Calls S) (failed : S → ℕ) (request : RequestView) (before : S) where
   -- how loading ends for this manifest and this old lock
   abbrev pub LoadsFor : ManifestView → Option Content → Result CatalogueView LoadFault → S → Type 0
-  LoadsFor m old = Loads (packages_in old) request.source (rust_for request.prefer m.rust_version) m.brings.dependencies calls before
+  LoadsFor m old = Loads (packages_in old) request.source (rust_for request.prefer m.rust_version) m.brings.dependencies calls failed before
 
   -- the manifest and the old lock say this, and the folder's answers give this index
   pub record AreRead (inputs : Inputs) (after : S) : Type 0 where
@@ -59,12 +60,25 @@ module _ {S : Type 0} (calls : Calls S) (request : RequestView) (before : S) whe
     by_index : (m : ManifestView) (old : Option Content) (e : LoadFault) (after : S) → manifest_of_bytes request.manifest ≡ Ok m
         → old_of_bytes request.old ≡ Ok old → LoadsFor m old (Err e) after → IsRefused (of_load e) after
 
--- want of memory says nothing
+  -- what is left of the folder where memory was wanting: it wasn't asked; it was asked for the names so far and perhaps for the next one; it is
+  -- the loaded one
+  pub data IsCutShort : S → Type 0 where
+    before_loading : IsCutShort before
+    while_loading : (m : ManifestView) (old : Option Content) (after : S) → manifest_of_bytes request.manifest ≡ Ok m
+        → old_of_bytes request.old ≡ Ok old → LoadsFor m old (Err load.OutOfMemory) after → IsCutShort after
+    after_loading : (inputs : Inputs) (after : S) → AreRead inputs after → IsCutShort after
+
+  -- how a call ends with a fault: where memory was wanting that says only what is left of the folder
+  abbrev pub EndsWith : Bool → Type 0 → S → Type 0
+  EndsWith true says after = IsCutShort after
+  EndsWith false says after = says
+
+  -- reading all inputs gives them, or the first fault
+  abbrev pub Reads : Result Inputs Fault → S → Type 0
+  Reads (Ok inputs) after = AreRead inputs after
+  Reads (Err f) after = EndsWith (is_memory f) (IsRefused f after) after
+
+-- where no folder is asked, want of memory says nothing
 abbrev pub UnlessMemory : Bool → Type 0 → Type 0
 UnlessMemory true says = Unit {0}
 UnlessMemory false says = says
-
--- reading all inputs gives them, or the first fault
-abbrev pub Reads : {S : Type 0} → Calls S → RequestView → S → Result Inputs Fault → S → Type 0
-Reads calls request before (Ok inputs) after = AreRead calls request before inputs after
-Reads calls request before (Err f) after = UnlessMemory (is_memory f) (IsRefused calls request before f after)

@@ -2,4 +2,5 @@ pub mod Faults
 pub mod Inputs
 pub mod Same
 pub mod Answers
+pub mod Returning
 pub mod Checks

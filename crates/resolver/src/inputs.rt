@@ -35,7 +35,7 @@ pub(crate) fn read_inputs<F: Folder>(
     request: &Request<'_>,
     folder: &mut F,
 ) -> Result<Inputs, Fault>
-    ensures { Reads F.calls (request_view request.now) folder.old result folder.new }
+    ensures { Reads F.calls F.failed (request_view request.now) folder.old result folder.new }
 {
     let manifest = Manifest::read(alloc, request.manifest)?;
     let old = read_old(alloc, request.old)?;

@@ -4,6 +4,7 @@
 mod checking;
 mod fault;
 mod inputs;
+mod laws;
 mod resolving;
 mod same;
 mod verifying;
@@ -11,5 +12,6 @@ mod writing;
 
 pub use checking::check_bytes;
 pub use fault::{CheckFault, Fault, TooLarge};
+pub use laws::{given_locks_ask_for_no_more, given_locks_come_back};
 pub use resolving::{Answer, resolve};
 pub use verifying::verify_bytes;

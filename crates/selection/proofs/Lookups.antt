@@ -41,7 +41,7 @@ candidate_found : (c : CatalogueView) (name : List ℕ) (v : Parts) → candidat
 candidate_found c name v = ap (λ cs. candidate_at cs v) (rows_found c.rows name) ∙ version_found (candidates_at c name) v
 
 -- of the run's source
-of_source : (c : CatalogueView) (m : ManifestView) (p : Package) → same_option p.source (Some c.source) ≡ true
+pub of_source : (c : CatalogueView) (m : ManifestView) (p : Package) → same_option p.source (Some c.source) ≡ true
     → candidate_of (problem_in m c) p ≡ option_and_then (if_checksum p.checksum) (option_map as_candidate (record_at (candidates_at c p.name) p.version))
 of_source c m p h =
     ap (λ b. cond b (option_and_then (if_checksum p.checksum) (candidate_at (candidates_of (rows_by_name c) p.name) p.version)) None) h

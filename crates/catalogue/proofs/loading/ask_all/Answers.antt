@@ -7,9 +7,9 @@ use Rattle.features.specs.Views.{dependency_views}
 use Rattle.index_reader.specs.Views.{skip_view}
 use Rattle.model.specs.Summary.{same_text}
 use Rattle.catalogue.specs.Loads.{packages_of, needs_of, IsLoaded}
-use Rattle.catalogue.specs.Stores.{rows_view}
+use Rattle.catalogue.specs.Stores.{candidates_view, rows_view}
 use Rattle.catalogue.specs.Runs.{meant_by}
-use Rattle.catalogue.proofs.SoFar.{begun, asked_more, all_asked, too_many, stopped}
+use Rattle.catalogue.proofs.SoFar.{begun, asked_more, all_asked, too_many, stopped, cut_after}
 use Rattle.catalogue.proofs.loading.ask_all.Goals as goal
 
 pub names-init : goal.names-init
@@ -48,8 +48,48 @@ returns-in_err-found g c =
     = slice_get-get_or c.names.names.keys (length c.names.candidates.items) name less ∙ ap Some (sym (c.index-as_slice-len.is ∙ ap₂ (λ xs n. get_or xs n name) c.as_slice.ensures.keys even)) in
     let p = err_from_is_err_and c.from_residual-in_err-found.result c.from_residual-in_err-found.ensures.1 in
     rw (p.1, p.2)
-    (stopped (packages_of c.args.run.now.old) c.args.run.now.source.now (option_map rust_version_view c.args.run.now.rust_version) root g.F.Folder.calls c.args.folder.now
+    (stopped (packages_of c.args.run.now.old) c.args.run.now.source.now (option_map rust_version_view c.args.run.now.rust_version) root g.F.Folder.calls g.F.Folder.failed c.args.folder.now
     c.names.names.keys c.names.candidates.items (map skip_view c.names.skips.items) c.names.folder c.ask.new.folder name c.in_err-found.field-0.0 c.names.invariant at (omega (arith, few, len-2)) c.in_err-found.ensures)
+
+pub returns-in_err-add_needed : goal.returns-in_err-add_needed
+returns-in_err-add_needed g c =
+    let root = dependency_views c.args.dependencies.now in
+    let test = c.names-test.true in
+    let len = c.len.ensures in
+    let wide = c.len-in-names.ensures.len in
+    let len-2 = c.len-in-names-2.ensures in
+    let few = c.if-len-ge-MAX_NAMES.false in
+    let less : length c.names.candidates.items < length c.names.names.keys = omega (arith, test, len, wide) in
+    let len-3 = c.len-in-names-3.ensures in
+    let name = c.index-as_slice-len.result in
+    let even : c.len-in-names-3.result ≡ length c.names.candidates.items = omega (arith, len-3) in
+    let at : slice_get c.names.names.keys (length c.names.candidates.items) ≡ Some name
+    = slice_get-get_or c.names.names.keys (length c.names.candidates.items) name less ∙ ap Some (sym (c.index-as_slice-len.is ∙ ap₂ (λ xs n. get_or xs n name) c.as_slice.ensures.keys even)) in
+    let p = err_from_is_err_and c.from_residual-in_err-add_needed.result c.from_residual-in_err-add_needed.ensures.1 in
+    rw (p.1, p.2)
+    (cut_after (packages_of c.args.run.now.old) c.args.run.now.source.now (option_map rust_version_view c.args.run.now.rust_version) root g.F.Folder.calls g.F.Folder.failed c.args.folder.now
+    c.names.names.keys c.names.candidates.items (map skip_view c.names.skips.items) (map skip_view c.ask.new.skips.items) c.names.folder c.ask.new.folder name (candidates_view c.in_ok-found.found) c.names.invariant
+    at (omega (arith, few, len-2)) c.in_ok-found.ensures)
+
+pub returns-in_err-push : goal.returns-in_err-push
+returns-in_err-push g c =
+    let root = dependency_views c.args.dependencies.now in
+    let test = c.names-test.true in
+    let len = c.len.ensures in
+    let wide = c.len-in-names.ensures.len in
+    let len-2 = c.len-in-names-2.ensures in
+    let few = c.if-len-ge-MAX_NAMES.false in
+    let less : length c.names.candidates.items < length c.names.names.keys = omega (arith, test, len, wide) in
+    let len-3 = c.len-in-names-3.ensures in
+    let name = c.index-as_slice-len.result in
+    let even : c.len-in-names-3.result ≡ length c.names.candidates.items = omega (arith, len-3) in
+    let at : slice_get c.names.names.keys (length c.names.candidates.items) ≡ Some name
+    = slice_get-get_or c.names.names.keys (length c.names.candidates.items) name less ∙ ap Some (sym (c.index-as_slice-len.is ∙ ap₂ (λ xs n. get_or xs n name) c.as_slice.ensures.keys even)) in
+    let p = err_from_is_err_and c.from_residual-in_err-push.result c.from_residual-in_err-push.ensures.1 in
+    rw (p.1, p.2)
+    (cut_after (packages_of c.args.run.now.old) c.args.run.now.source.now (option_map rust_version_view c.args.run.now.rust_version) root g.F.Folder.calls g.F.Folder.failed c.args.folder.now
+    c.names.names.keys c.names.candidates.items (map skip_view c.names.skips.items) (map skip_view c.ask.new.skips.items) c.names.folder c.ask.new.folder name (candidates_view c.in_ok-found.found) c.names.invariant
+    at (omega (arith, few, len-2)) c.in_ok-found.ensures)
 
 pub names-preserved : goal.names-preserved
 names-preserved g c =
