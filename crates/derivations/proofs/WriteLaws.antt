@@ -20,7 +20,7 @@ use Rattle.model.specs.Axioms.{Kind, Root, Needed, Target, HasFeature, WantsFeat
 use Rattle.model.specs.Derivation.{Step, given, combine, terms_of as terms_in_step}
 use Rattle.vertices.specs.Texts.{IsReadVertex, IsReadState}
 use Rattle.derivations.specs.Derivations.{IsTerm, term_cmp, AreTerms, IsStepAt, AreStepsFrom, IsDerivation}
-use Rattle.derivations.specs.Files.{is_line_end, most_steps, with_step, with_read, with_line, with_lines, derivation_of_bytes}
+use Rattle.derivations.specs.Files.{is_line_end, most_steps, with_read, with_line, with_lines, derivation_of_bytes}
 use Rattle.derivations.specs.Kept.{step_if, steps_from}
 use Rattle.vertices.specs.Kinds.{kind_text, kind_of_text}
 use Rattle.derivations.specs.Orders.{ordered}

@@ -1,10 +1,10 @@
 -- Steps that are made from terms in any order (the written order is this project's).
-use Rattle.std.specs.Prelude.{◌≡◌, ℕ, List, map, ◌++◌, codes, string_bytes}
+use Rattle.std.specs.Prelude.{ℕ, List, map, ◌++◌, codes, string_bytes}
 use Rattle.std.specs.List.{All, IsDistinct}
 use Rattle.std.specs.Ordering.{on}
 use Rattle.std.specs.declared.cmp.Ordering.{Ordering}
 use Rattle.model.specs.Order.{text_cmp}
-use Rattle.model.specs.Vertices.{Vertex, State, same_vertex, same_state}
+use Rattle.model.specs.Vertices.{State, same_vertex, same_state}
 use Rattle.model.specs.Axioms.{Term, at}
 use Rattle.vertices.specs.Orders.{state_cmp}
 use Rattle.vertices.specs.RefViews.{vertex_ref_view, state_ref_views}

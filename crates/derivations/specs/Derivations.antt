@@ -1,10 +1,9 @@
 -- What each derivation keeps: the written order, references backwards, and texts that read (the format is this project's).
-use Rattle.std.specs.Prelude.{◌≡◌, ℕ, ◌<◌, ◌+◌, List, [], ◌∷◌, ⊤}
+use Rattle.std.specs.Prelude.{ℕ, ◌<◌, ◌+◌, List, [], ◌∷◌, ⊤}
 use Rattle.std.specs.List.{AllByRecursion}
 use Rattle.std.specs.List.Sorted.{IsStrictlySortedBy}
 use Rattle.std.specs.declared.cmp.Ordering.{Ordering}
 use Rattle.model.specs.Order.{text_cmp}
-use Rattle.model.specs.Vertices.{Vertex, State}
 use Rattle.model.specs.Axioms.{Term}
 use Rattle.model.specs.Derivation.{Step, given, combine, terms_of}
 use Rattle.vertices.specs.Orders.{state_cmp}

@@ -1,5 +1,5 @@
 -- Lists in an order (this project's).
-use Rattle.std.specs.Prelude.{ℕ, Bool, false, if◌then◌else◌, ◌||◌, List, [], ◌∷◌, Ok, Err}
+use Rattle.std.specs.Prelude.{Bool, false, if◌then◌else◌, ◌||◌, List, [], ◌∷◌, Ok, Err}
 use Rattle.std.specs.List.{list_any}
 use Rattle.std.specs.Ordering.{is_gt, eq_by_cmp}
 use Rattle.std.specs.declared.cmp.Ordering.{Ordering}

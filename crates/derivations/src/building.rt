@@ -16,16 +16,16 @@ use vertices::{Kind, StateRef, VertexRef};
 
 /// A vertex and a set of its states, in any order.
 #[derive(Clone, Copy)]
-pub struct TermRef<'a> {
-    pub vertex: VertexRef<'a>,
-    pub states: &'a [StateRef<'a>],
+pub struct TermRef<'v, 's> {
+    pub vertex: VertexRef<'v>,
+    pub states: &'s [StateRef<'v>],
 }
 
 /// What is kept of an axiom.
 pub(crate) fn axiom_kept(
     alloc: Global,
     kind: Kind,
-    terms: &[TermRef<'_>],
+    terms: &[TermRef<'_, '_>],
 ) -> Result<Kept, AllocError>
     requires { AreNewTerms (term_ref_views terms.now) }
     ensures { IfOk result (λ k. IsKept k (given (kind_view kind) (ordered_terms (term_ref_views terms.now)))) }
@@ -46,7 +46,7 @@ pub(crate) fn combination_kept(
     first: u64,
     second: u64,
     vertex: VertexRef<'_>,
-    terms: &[TermRef<'_>],
+    terms: &[TermRef<'_, '_>],
 ) -> Result<Kept, AllocError>
     requires { AreNewTerms (term_ref_views terms.now) }
     ensures { IfOk result (λ k. IsKept k (combine first second (vertex_ref_view vertex.entry) (ordered_terms (term_ref_views terms.now)))) }

@@ -108,7 +108,7 @@ impl Derivation {
         &mut self,
         alloc: Global,
         kind: Kind,
-        terms: &[TermRef<'_>],
+        terms: &[TermRef<'_, '_>],
     ) -> Result<(), AllocError>
         requires { AreNewTerms (term_ref_views terms.now) }
         ensures ok { OnOk result (self.new ≡ self.old ++ given (kind_view kind) (ordered_terms (term_ref_views terms.now)) ∷ []) }
@@ -128,7 +128,7 @@ impl Derivation {
         first: u64,
         second: u64,
         vertex: VertexRef<'_>,
-        terms: &[TermRef<'_>],
+        terms: &[TermRef<'_, '_>],
     ) -> Result<(), AllocError>
         requires first { first < length self.old }
         requires second { second < length self.old }

@@ -22,10 +22,10 @@ pub(crate) struct Spelt<'a> {
 }
 
 /// The terms in the written order.
-pub(crate) fn in_written_order<'a>(
+pub(crate) fn in_written_order<'v>(
     alloc: Global,
-    terms: &[TermRef<'a>],
-) -> Result<Vec<Spelt<'a>>, AllocError>
+    terms: &[TermRef<'v, '_>],
+) -> Result<Vec<Spelt<'v>>, AllocError>
     requires { AreNewTerms (term_ref_views terms.now) }
     ensures { IfOk result (λ v. spelt_views v.items ≡ map text_term (ordered_terms (term_ref_views terms.now))) }
 {
@@ -35,7 +35,7 @@ pub(crate) fn in_written_order<'a>(
 }
 
 /// The terms in their own order.
-fn spelt_terms<'a>(alloc: Global, terms: &[TermRef<'a>]) -> Result<Vec<Spelt<'a>>, AllocError>
+fn spelt_terms<'v>(alloc: Global, terms: &[TermRef<'v, '_>]) -> Result<Vec<Spelt<'v>>, AllocError>
     requires { All IsNewTerm (term_ref_views terms.now) }
     ensures { IfOk result (λ v. spelt_views v.items ≡ map text_term (map ordered_term (term_ref_views terms.now))) }
 {
@@ -46,7 +46,7 @@ fn spelt_terms<'a>(alloc: Global, terms: &[TermRef<'a>]) -> Result<Vec<Spelt<'a>
     Ok(found)
 }
 
-fn spelt_term<'a>(alloc: Global, term: &TermRef<'a>) -> Result<Spelt<'a>, AllocError>
+fn spelt_term<'v>(alloc: Global, term: &TermRef<'v, '_>) -> Result<Spelt<'v>, AllocError>
     requires { IsNewTerm (term_ref_view term.now) }
     ensures { IfOk result (λ t. spelt_view t ≡ text_term (ordered_term (term_ref_view term.now))) }
 {
