@@ -1,7 +1,11 @@
-//! Tests of derivations as lines, and of what tells them.
+//! Tests of derivations as lines, of building them, and of what tells them.
 #![tactic(auto)]
 
+#[cfg(test)]
+mod built;
 #[cfg(test)]
 mod explanations;
 #[cfg(test)]
 mod lines;
+#[cfg(test)]
+mod terms;

@@ -5,7 +5,7 @@ use std::alloc::Global;
 use std::test::Fail;
 
 /// A root that needs a 1.0.0 alone, and b, whose one version needs a 1.1.0 alone.
-const LONG: &str = r#"{"axiom":"X0","terms":[["root",["absent"]]]}
+pub(crate) const LONG: &str = r#"{"axiom":"X0","terms":[["root",["absent"]]]}
 {"axiom":"X1","terms":[["dep root 0",["absent"]],["root",["present"]]]}
 {"axiom":"X2","terms":[["dep root 0",["1"]],["pkg a 1",["absent","1.1.0"]]]}
 {"combine":[1,2,"dep root 0"],"terms":[["pkg a 1",["absent","1.1.0"]],["root",["present"]]]}
