@@ -44,10 +44,13 @@ fn take<'a>(step: &mut Step<'a>, line: &'a str) -> Result<(), AllocError> {
         step.status = status;
         return Ok(());
     }
-    let (text, line) = match line.strip_prefix("! ") {
-        Some(line) => (&mut step.err, line),
-        None => (&mut step.out, line),
-    };
+    match line.strip_prefix("! ") {
+        Some(line) => push_line(&mut step.err, line),
+        None => push_line(&mut step.out, line),
+    }
+}
+
+fn push_line(text: &mut String, line: &str) -> Result<(), AllocError> {
     text.push_str(line)?;
     text.push('\n')
 }
