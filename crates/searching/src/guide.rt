@@ -16,7 +16,7 @@ pub trait Guide<S: States + Drop>: Sized {
     ghost use Rattle.searching.specs.Searching.{AreMore, HasSpaces, IsCaught, IsSeen, Pairs};
     ghost use Rattle.searching.specs.Turning.{IsAdding, IsChosen};
     ghost use Rattle.searching.specs.Walking.{AreGiven, KeepsWalks};
-    ghost use Rattle.std.specs.Prelude.{◌≡◌, ℕ, ◌<◌, ◌≤◌, IfOk, IfSome, List, OnOk, length};
+    ghost use Rattle.std.specs.Prelude.{◌≡◌, ℕ, ◌<◌, ◌≤◌, ◌++◌, IfOk, IfSome, List, OnOk, length};
 
     /// How many states each vertex has that the trail has now.
     ghost spaces: { Self → List ℕ };
@@ -38,6 +38,11 @@ pub trait Guide<S: States + Drop>: Sized {
 
     /// What an axiom may be.
     ghost given: { Self → EntryView → Type 0 };
+
+    /// What is known of the axioms that the store has, as that those of each pair that was asked for are there.
+    ghost stored: { Self → List EntryView → Type 0 };
+
+    ghost stored_on: { (g : Self) (es more : List EntryView) → stored g es → stored g (es ++ more) };
 
     /// An assignment that breaks no axiom, and whose states are decided, as far as the vertices go that there are now.
     ghost walks: { Self → Assignment → Type 0 };
@@ -62,6 +67,7 @@ pub trait Guide<S: States + Drop>: Sized {
         ensures seen { IfOk result (λ added. IsSeen (seen self.new) (asked self.new) (trail_view S.tests trail.new)) }
         ensures keeps { IfOk result (λ added. keeps self.old self.new) }
         ensures given { IfOk result (λ added. AreGiven (given self.old) (entries_view S.tests store.old) → AreGiven (given self.new) (entries_view S.tests store.new)) }
+        ensures stored { IfOk result (λ added. stored self.old (entries_view S.tests store.old) → stored self.new (entries_view S.tests store.new)) }
         ensures walks { IfOk result (λ added. KeepsWalks (walks self.old) (entries_view S.tests store.old) (trail_view S.tests trail.old) (walks self.new) (entries_view S.tests store.new) (trail_view S.tests trail.new)) };
 
     /// A vertex to decide and its state, if there is one to be decided.
@@ -94,5 +100,6 @@ pub trait Guide<S: States + Drop>: Sized {
         ensures within { OnOk result (seen self.new ≤ length (trail_view S.tests trail.now).steps) }
         ensures keeps { OnOk result (keeps self.old self.new) }
         ensures given { OnOk result ((e : EntryView) → given self.old e → given self.new e) }
+        ensures stored { OnOk result ((es : List EntryView) → stored self.old es → stored self.new es) }
         ensures walks { OnOk result ((x : Assignment) → walks self.new x → walks self.old x) };
 }

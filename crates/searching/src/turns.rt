@@ -82,6 +82,7 @@ fn turn_back<S: States + Drop, G: Guide<S>>(
     ensures spaces { IfOk result (λ r. HasSpaces (G.spaces guide.new) (trail_view S.tests trail.new)) }
     ensures keeps { IfOk result (λ r. G.keeps guide.old guide.new) }
     ensures given { IfOk result (λ r. AreGiven (G.given guide.old) (entries_view S.tests store.old) → AreGiven (G.given guide.new) (entries_view S.tests store.new)) }
+    ensures stored { IfOk result (λ r. G.stored guide.old (entries_view S.tests store.old) → G.stored guide.new (entries_view S.tests store.new)) }
     ensures walks { IfOk result (λ r. KeepsWalks (G.walks guide.old) (entries_view S.tests store.old) (trail_view S.tests trail.old) (G.walks guide.new) (entries_view S.tests store.new) (trail_view S.tests trail.new)) }
     ensures turns { IfOk result (λ r. TurnsOn (G.walks guide.new) (entries_view S.tests store.old) (trail_view S.tests trail.old) r) }
 {
@@ -114,6 +115,7 @@ fn turn_on<S: States + Drop, G: Guide<S>>(
     ensures spaces { IfOk result (λ r. HasSpaces (G.spaces guide.new) (trail_view S.tests trail.new)) }
     ensures keeps { IfOk result (λ r. G.keeps guide.old guide.new) }
     ensures given { IfOk result (λ r. AreGiven (G.given guide.old) (entries_view S.tests store.old) → AreGiven (G.given guide.new) (entries_view S.tests store.new)) }
+    ensures stored { IfOk result (λ r. G.stored guide.old (entries_view S.tests store.old) → G.stored guide.new (entries_view S.tests store.new)) }
     ensures walks { IfOk result (λ r. KeepsWalks (G.walks guide.old) (entries_view S.tests store.old) (trail_view S.tests trail.old) (G.walks guide.new) (entries_view S.tests store.new) (trail_view S.tests trail.new)) }
     ensures turns { IfOk result (λ r. TurnsOn (G.walks guide.new) (entries_view S.tests store.old) (trail_view S.tests trail.old) r) }
 {
@@ -148,6 +150,7 @@ fn one_turn<S: States + Drop, G: Guide<S>>(
     ensures spaces { IfOk result (λ r. HasSpaces (G.spaces guide.new) (trail_view S.tests trail.new)) }
     ensures keeps { IfOk result (λ r. G.keeps guide.old guide.new) }
     ensures given { IfOk result (λ r. AreGiven (G.given guide.old) (entries_view S.tests store.old) → AreGiven (G.given guide.new) (entries_view S.tests store.new)) }
+    ensures stored { IfOk result (λ r. G.stored guide.old (entries_view S.tests store.old) → G.stored guide.new (entries_view S.tests store.new)) }
     ensures walks { IfOk result (λ r. KeepsWalks (G.walks guide.old) (entries_view S.tests store.old) (trail_view S.tests trail.old) (G.walks guide.new) (entries_view S.tests store.new) (trail_view S.tests trail.new)) }
     ensures turns { IfOk result (λ r. TurnsOn (G.walks guide.new) (entries_view S.tests store.old) (trail_view S.tests trail.old) r) }
 {
@@ -179,6 +182,7 @@ pub fn search<S: States + Drop, G: Guide<S>>(
     ensures spaces { IfOk result (λ r. HasSpaces (G.spaces guide.new) (trail_view S.tests trail.new)) }
     ensures keeps { IfOk result (λ r. G.keeps guide.old guide.new) }
     ensures given { IfOk result (λ r. AreGiven (G.given guide.old) (entries_view S.tests store.old) → AreGiven (G.given guide.new) (entries_view S.tests store.new)) }
+    ensures stored { IfOk result (λ r. G.stored guide.old (entries_view S.tests store.old) → G.stored guide.new (entries_view S.tests store.new)) }
     ensures walks { IfOk result (λ r. KeepsWalks (G.walks guide.old) (entries_view S.tests store.old) (trail_view S.tests trail.old) (G.walks guide.new) (entries_view S.tests store.new) (trail_view S.tests trail.new)) }
     ensures selects { IfOk result (λ f. (x : Assignment) → G.walks guide.new x → IsWalked x (entries_view S.tests store.old) (trail_view S.tests trail.old) → IsSelection f.answer) }
 {

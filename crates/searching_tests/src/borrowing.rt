@@ -36,6 +36,10 @@ impl<'a, S: States + Drop> Guide<S> for Borrowing<'a> {
 
     ghost given = { λ g e. Unit {0} };
 
+    ghost stored = { λ g es. Unit {0} };
+
+    ghost stored_on = { λ g es more was. was };
+
     ghost walks = { λ g x. ⊥ };
 
     ghost keeps = { λ old new. Unit {0} };

@@ -238,6 +238,10 @@ impl<S: States + Drop> Guide<S> for Demanding<S> {
 
     ghost given = { λ g e. Unit {0} };
 
+    ghost stored = { λ g es. Unit {0} };
+
+    ghost stored_on = { λ g es more was. was };
+
     ghost walks = { λ g x. ⊥ };
 
     ghost keeps = { λ old new. Unit {0} };

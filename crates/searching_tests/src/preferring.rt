@@ -84,6 +84,10 @@ impl<S: States + Drop> Guide<S> for Preferring {
 
     ghost given = { λ g e. Unit {0} };
 
+    ghost stored = { λ g es. Unit {0} };
+
+    ghost stored_on = { λ g es more was. was };
+
     ghost walks = { λ g x. Prefers g.spaces.items g.states.items x };
 
     ghost keeps = { λ old new. (new.spaces ≡ old.spaces) × (new.states ≡ old.states) };

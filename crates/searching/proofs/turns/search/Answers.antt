@@ -30,12 +30,16 @@ turns-preserved g c =
       spaces = turn.spaces;
       keeps = g.G.Guide.keeps_on _ _ _ was.keeps turn.keeps;
       given = λ given. turn.given (was.given given);
+      stored = λ stored. turn.stored (was.stored stored);
       counted = turn.counted (combinations (entries_view tests c.args.store.now)) was.counted;
       walks = λ x is. let mid = turn.walks x is in let first = was.walks x mid.0 in (first.0, λ walked. mid.1 (first.1 walked));
     }
 
 pub returns-in-Ends-clause-given : goal.returns-in-Ends-clause-given
 returns-in-Ends-clause-given g c given = c.in_ok-next.ensures.given (c.turns.invariant.given given)
+
+pub returns-in-Ends-clause-stored : goal.returns-in-Ends-clause-stored
+returns-in-Ends-clause-stored g c stored = c.in_ok-next.ensures.stored (c.turns.invariant.stored stored)
 
 pub returns-in-Ends-clause-walks : goal.returns-in-Ends-clause-walks
 returns-in-Ends-clause-walks g c x is = let mid = c.in_ok-next.ensures.walks x is in let first = c.turns.invariant.walks x mid.0 in (first.0, λ walked. mid.1 (first.1 walked))

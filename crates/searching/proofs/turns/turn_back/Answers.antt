@@ -1,4 +1,4 @@
-use Rattle.std.proofs.Common.{◌+◌, ◌<◌, ◌≤◌, ◌⊎◌, refl, subst}
+use Rattle.std.proofs.Common.{◌+◌, ◌<◌, ◌≤◌, ◌⊎◌, refl, subst, sym}
 use Rattle.incompatibilities.specs.Stores.{entries_view, entry}
 use Rattle.propagation.specs.Trails.{trail_view}
 use Rattle.conflicts.specs.Resolving.{Resolved}
@@ -52,6 +52,19 @@ returns-in_ok-propagate-in-Learned-clause-given g c was id within origin =
     let es = entries_view g.S.States.tests c.resolve_conflict.new.store in
     c.in_ok-noted-in-Learned.ensures.given (entry es id)
     (given_more (g.G.Guide.given c.args.guide.now) (entries_view g.S.States.tests c.args.store.now) (trail_view g.S.States.tests c.args.trail.now) es c.in_ok-outcome.ensures.gained.0 c.in_ok-outcome.ensures.gained.1 was id within origin)
+
+-- what is known of a store is known of one with combinations more
+pub returns-in-Unsolvable-clause-stored : goal.returns-in-Unsolvable-clause-stored
+returns-in-Unsolvable-clause-stored g c was =
+    let guide = c.args.guide.now in
+    subst (g.G.Guide.stored guide) (sym c.in_ok-outcome.ensures.gained.1.grown) (g.G.Guide.stored_on guide (entries_view g.S.States.tests c.args.store.now) c.in_ok-outcome.ensures.gained.0 was)
+
+pub returns-in_ok-propagate-in-Learned-clause-stored : goal.returns-in_ok-propagate-in-Learned-clause-stored
+returns-in_ok-propagate-in-Learned-clause-stored g c was =
+    let tests = g.S.States.tests in
+    let guide = c.args.guide.now in
+    c.in_ok-noted-in-Learned.ensures.stored (entries_view tests c.resolve_conflict.new.store)
+    (subst (g.G.Guide.stored guide) (sym c.in_ok-outcome.ensures.gained.1.grown) (g.G.Guide.stored_on guide (entries_view tests c.args.store.now) c.in_ok-outcome.ensures.gained.0 was))
 
 pub returns-in_ok-propagate-in-Learned-clause-spaces : goal.returns-in_ok-propagate-in-Learned-clause-spaces
 returns-in_ok-propagate-in-Learned-clause-spaces g c =

@@ -1,0 +1,13 @@
+pub mod Everything
+pub mod Remaining
+pub mod Arrivals
+pub mod FirstTerms
+pub mod Marks
+pub mod Numbers
+pub mod Alone
+pub mod Asked
+pub mod Adding
+pub mod AbsentPairs
+pub mod Settling
+pub mod Starts
+pub mod Ended

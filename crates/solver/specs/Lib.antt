@@ -1,0 +1,4 @@
+pub mod Everything
+pub mod Remaining
+pub mod Guides
+pub mod Going
