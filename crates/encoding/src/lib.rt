@@ -44,7 +44,9 @@ pub use adding::axioms_at;
 pub use cause::{Cause, Enabling};
 pub use inputs::Inputs;
 pub use instances::instance;
+pub use lookups::dependency_at;
 pub use pairing::causes_at;
+pub use spaces::classes_of;
 pub use states::{space_of, spaces_are_small, state_at};
 pub use table::Table;
 

@@ -38,7 +38,7 @@ pub(crate) fn dependencies_of<'a>(inputs: &Inputs<'a>, owner: &OwnerRef<'_>) -> 
 }
 
 /// The dependency of an owner that has this number.
-pub(crate) fn dependency_at<'a>(
+pub fn dependency_at<'a>(
     inputs: &Inputs<'a>,
     owner: &OwnerRef<'_>,
     number: usize,

@@ -31,8 +31,8 @@ pub(crate) fn classes_at(
     }
 }
 
-/// The classes in which some candidate is matched.
-pub(crate) fn classes_of(
+/// The classes in which some candidate is matched, lowest first.
+pub fn classes_of(
     alloc: Global,
     inputs: &Inputs<'_>,
     dependency: &Dependency,

@@ -7,3 +7,4 @@ pub mod Walks
 pub mod Selections
 pub mod Each
 pub mod Guides
+pub mod Touching

@@ -2,7 +2,8 @@
 use Rattle.std.specs.Prelude.{◌≡◌, ℕ, zero, suc, ◌+◌, ◌<◌, ◌≤◌, Bool, true, false, List, [], ◌∷◌, ◌++◌, length, slice_index_or, take, Some}
 use Rattle.version_sets.specs.Sets.{Members, has, size}
 use Rattle.incompatibilities.specs.Incompatibilities.{states_at}
-use Rattle.incompatibilities.specs.Stores.{EntryView, Follows, IsAxiom, entry, terms_of}
+use Rattle.incompatibilities.specs.Stores.{EntryView, Follows, IsAxiom, entry, terms_of, touches}
+use Rattle.incompatibilities.specs.declared.origin.Origin.TheVariants.{Combined}
 use Rattle.propagation.specs.Trails.{TrailView, end_sets, latest_at, level_after, past, set_of, sets_at, space_of, total}
 use Rattle.propagation.specs.Promises.{IsTrail, Stops}
 use Rattle.propagation.specs.declared.propagating.Progress.{Progress}
@@ -86,6 +87,10 @@ pub record IsRefutation (es : List EntryView) (id : ℕ) : Type 0 where
   pub within : id < length es
   pub none : (entry es id).terms ≡ []
   pub follows : Follows es (terms_of es id)
+
+-- each combination is at a vertex at which the first of the two has a term
+abbrev pub AreTouching : List EntryView → Type 0
+AreTouching es = (id i j v : ℕ) → id < length es → (entry es id).origin ≡ Combined i j v → touches v (entry es i).terms ≡ true
 
 -- a vertex with several states left, and one of them
 pub record CanDecide (t : TrailView) (v i : ℕ) : Type 0 where

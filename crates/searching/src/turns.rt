@@ -6,7 +6,7 @@ ghost use Rattle.propagation.specs.Promises.{IsTrail};
 ghost use Rattle.propagation.specs.Trails.{trail_view};
 ghost use Rattle.propagation.specs.declared.propagating.Progress.TheVariants.{Conflict, Fixpoint};
 ghost use Rattle.searching.specs.Counting.{CountsOn, IsCount};
-ghost use Rattle.searching.specs.Searching.{EachFalls, HasSpaces, IsCaught, IsSearching, IsSeen, space};
+ghost use Rattle.searching.specs.Searching.{AreTouching, EachFalls, HasSpaces, IsCaught, IsSearching, IsSeen, space};
 ghost use Rattle.searching.specs.Turning.{HasEnded, HasTurned};
 ghost use Rattle.searching.specs.Walking.{AreGiven, IsSelection, IsWalked, KeepsWalks, TurnsOn};
 ghost use Rattle.std.specs.Prelude.{◌≡◌, ℕ, ◌+◌, ◌<◌, ◌≤◌, ◌⊎◌, [], IfOk};
@@ -83,6 +83,7 @@ fn turn_back<S: States + Drop, G: Guide<S>>(
     ensures keeps { IfOk result (λ r. G.keeps guide.old guide.new) }
     ensures given { IfOk result (λ r. AreGiven (G.given guide.old) (entries_view S.tests store.old) → AreGiven (G.given guide.new) (entries_view S.tests store.new)) }
     ensures stored { IfOk result (λ r. G.stored guide.old (entries_view S.tests store.old) → G.stored guide.new (entries_view S.tests store.new)) }
+    ensures touching { IfOk result (λ r. AreTouching (entries_view S.tests store.old) → AreTouching (entries_view S.tests store.new)) }
     ensures walks { IfOk result (λ r. KeepsWalks (G.walks guide.old) (entries_view S.tests store.old) (trail_view S.tests trail.old) (G.walks guide.new) (entries_view S.tests store.new) (trail_view S.tests trail.new)) }
     ensures turns { IfOk result (λ r. TurnsOn (G.walks guide.new) (entries_view S.tests store.old) (trail_view S.tests trail.old) r) }
 {
@@ -116,6 +117,7 @@ fn turn_on<S: States + Drop, G: Guide<S>>(
     ensures keeps { IfOk result (λ r. G.keeps guide.old guide.new) }
     ensures given { IfOk result (λ r. AreGiven (G.given guide.old) (entries_view S.tests store.old) → AreGiven (G.given guide.new) (entries_view S.tests store.new)) }
     ensures stored { IfOk result (λ r. G.stored guide.old (entries_view S.tests store.old) → G.stored guide.new (entries_view S.tests store.new)) }
+    ensures touching { IfOk result (λ r. AreTouching (entries_view S.tests store.old) → AreTouching (entries_view S.tests store.new)) }
     ensures walks { IfOk result (λ r. KeepsWalks (G.walks guide.old) (entries_view S.tests store.old) (trail_view S.tests trail.old) (G.walks guide.new) (entries_view S.tests store.new) (trail_view S.tests trail.new)) }
     ensures turns { IfOk result (λ r. TurnsOn (G.walks guide.new) (entries_view S.tests store.old) (trail_view S.tests trail.old) r) }
 {
@@ -151,6 +153,7 @@ fn one_turn<S: States + Drop, G: Guide<S>>(
     ensures keeps { IfOk result (λ r. G.keeps guide.old guide.new) }
     ensures given { IfOk result (λ r. AreGiven (G.given guide.old) (entries_view S.tests store.old) → AreGiven (G.given guide.new) (entries_view S.tests store.new)) }
     ensures stored { IfOk result (λ r. G.stored guide.old (entries_view S.tests store.old) → G.stored guide.new (entries_view S.tests store.new)) }
+    ensures touching { IfOk result (λ r. AreTouching (entries_view S.tests store.old) → AreTouching (entries_view S.tests store.new)) }
     ensures walks { IfOk result (λ r. KeepsWalks (G.walks guide.old) (entries_view S.tests store.old) (trail_view S.tests trail.old) (G.walks guide.new) (entries_view S.tests store.new) (trail_view S.tests trail.new)) }
     ensures turns { IfOk result (λ r. TurnsOn (G.walks guide.new) (entries_view S.tests store.old) (trail_view S.tests trail.old) r) }
 {
@@ -183,6 +186,7 @@ pub fn search<S: States + Drop, G: Guide<S>>(
     ensures keeps { IfOk result (λ r. G.keeps guide.old guide.new) }
     ensures given { IfOk result (λ r. AreGiven (G.given guide.old) (entries_view S.tests store.old) → AreGiven (G.given guide.new) (entries_view S.tests store.new)) }
     ensures stored { IfOk result (λ r. G.stored guide.old (entries_view S.tests store.old) → G.stored guide.new (entries_view S.tests store.new)) }
+    ensures touching { IfOk result (λ r. AreTouching (entries_view S.tests store.old) → AreTouching (entries_view S.tests store.new)) }
     ensures walks { IfOk result (λ r. KeepsWalks (G.walks guide.old) (entries_view S.tests store.old) (trail_view S.tests trail.old) (G.walks guide.new) (entries_view S.tests store.new) (trail_view S.tests trail.new)) }
     ensures selects { IfOk result (λ f. (x : Assignment) → G.walks guide.new x → IsWalked x (entries_view S.tests store.old) (trail_view S.tests trail.old) → IsSelection f.answer) }
 {

@@ -31,6 +31,7 @@ turns-preserved g c =
       keeps = g.G.Guide.keeps_on _ _ _ was.keeps turn.keeps;
       given = λ given. turn.given (was.given given);
       stored = λ stored. turn.stored (was.stored stored);
+      touching = λ touching. turn.touching (was.touching touching);
       counted = turn.counted (combinations (entries_view tests c.args.store.now)) was.counted;
       walks = λ x is. let mid = turn.walks x is in let first = was.walks x mid.0 in (first.0, λ walked. mid.1 (first.1 walked));
     }
@@ -40,6 +41,9 @@ returns-in-Ends-clause-given g c given = c.in_ok-next.ensures.given (c.turns.inv
 
 pub returns-in-Ends-clause-stored : goal.returns-in-Ends-clause-stored
 returns-in-Ends-clause-stored g c stored = c.in_ok-next.ensures.stored (c.turns.invariant.stored stored)
+
+pub returns-in-Ends-clause-touching : goal.returns-in-Ends-clause-touching
+returns-in-Ends-clause-touching g c touching = c.in_ok-next.ensures.touching (c.turns.invariant.touching touching)
 
 pub returns-in-Ends-clause-walks : goal.returns-in-Ends-clause-walks
 returns-in-Ends-clause-walks g c x is = let mid = c.in_ok-next.ensures.walks x is in let first = c.turns.invariant.walks x mid.0 in (first.0, λ walked. mid.1 (first.1 walked))

@@ -2,7 +2,7 @@ use Rattle.std.proofs.Common.{◌+◌, ◌≤◌}
 use Rattle.incompatibilities.specs.Stores.{entries_view}
 use Rattle.propagation.specs.Trails.{trail_view}
 use Rattle.searching.specs.Counting.{combinations}
-use Rattle.searching.specs.Searching.{HasSpaces, IsCaught, IsSearching, IsSeen, space}
+use Rattle.searching.specs.Searching.{AreTouching, HasSpaces, IsCaught, IsSearching, IsSeen, space}
 use Rattle.searching.specs.Walking.{AreGiven, KeepsWalks}
 use Rattle.searching.proofs.turns.search.Given as goal
 
@@ -16,6 +16,7 @@ invariant-turns g l = let tests = g.S.States.tests in record {
   keeps : g.G.Guide.keeps l.fn.guide l.guide;
   given : AreGiven (g.G.Guide.given l.fn.guide) (entries_view tests l.fn.store) → AreGiven (g.G.Guide.given l.guide) (entries_view tests l.store);
   stored : g.G.Guide.stored l.fn.guide (entries_view tests l.fn.store) → g.G.Guide.stored l.guide (entries_view tests l.store);
+  touching : AreTouching (entries_view tests l.fn.store) → AreTouching (entries_view tests l.store);
   walks : KeepsWalks (g.G.Guide.walks l.fn.guide) (entries_view tests l.fn.store) (trail_view tests l.fn.trail) (g.G.Guide.walks l.guide) (entries_view tests l.store) (trail_view tests l.trail);
 }
 

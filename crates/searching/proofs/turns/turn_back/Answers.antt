@@ -7,6 +7,7 @@ use Rattle.searching.specs.Searching.{space}
 use Rattle.searching.proofs.Counts.{counts_gained}
 use Rattle.searching.proofs.Falls.{turn_jump, turn_noted}
 use Rattle.searching.proofs.Seen.{seen_cut, seen_longer}
+use Rattle.searching.proofs.Touching.{touching_gained}
 use Rattle.searching.proofs.Walks.{given_more, no_conflict, spaces_same}
 use Rattle.searching.proofs.turns.turn_back.Goals as goal
 
@@ -92,3 +93,9 @@ returns-in-Unsolvable-clause-counted g c =
     let tests = g.S.States.tests in
     counts_gained (entries_view tests c.args.store.now) (entries_view tests c.resolve_conflict.new.store) c.in_ok-outcome.ensures.gained.0 c.args.steps.now c.with_conflict.result c.len-before.result c.in_ok-outcome.ensures.gained.1.grown c.len-before.ensures
     (subst (λ n. (c.args.steps.now + n < c.with_conflict.result + c.len-before.result) ⊎ (n ≤ c.with_conflict.result)) c.len.ensures c.with_conflict.ensures)
+
+pub returns-in-Unsolvable-clause-touching : goal.returns-in-Unsolvable-clause-touching
+returns-in-Unsolvable-clause-touching g c = touching_gained (entries_view g.S.States.tests c.args.store.now) (trail_view g.S.States.tests c.args.trail.now) (entries_view g.S.States.tests c.resolve_conflict.new.store) c.in_ok-outcome.ensures.gained.0 c.in_ok-outcome.ensures.gained.1
+
+pub returns-in_ok-propagate-in-Learned-clause-touching : goal.returns-in_ok-propagate-in-Learned-clause-touching
+returns-in_ok-propagate-in-Learned-clause-touching g c = touching_gained (entries_view g.S.States.tests c.args.store.now) (trail_view g.S.States.tests c.args.trail.now) (entries_view g.S.States.tests c.resolve_conflict.new.store) c.in_ok-outcome.ensures.gained.0 c.in_ok-outcome.ensures.gained.1

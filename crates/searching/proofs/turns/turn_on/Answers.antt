@@ -5,6 +5,7 @@ use Rattle.searching.specs.Turning.{HasFallen, IsAdding, IsChosen}
 use Rattle.searching.proofs.Counts.{counts_axioms}
 use Rattle.searching.proofs.Falls.{adding_trail, turn_axioms, turn_decide, wide_caught, wide_falling, wide_quiet, wide_searching, wide_space}
 use Rattle.searching.proofs.Seen.{seen_longer}
+use Rattle.searching.proofs.Touching.{touching_axioms}
 use Rattle.searching.proofs.Walks.{decide_agrees, spaces_same, spread_agrees}
 use Rattle.propagation.specs.Satisfaction.{Agrees}
 use Rattle.incompatibilities.specs.Incompatibilities.{Assignment}
@@ -152,3 +153,21 @@ returns-then-branch-clause-counted g c =
     let tests = g.S.States.tests in
     let adding = c.in_ok-axioms.ensures.adding in
     counts_axioms (entries_view tests c.args.store.now) (entries_view tests c.axioms.new.store) adding.gained adding.grown (λ i lt. (adding.of_new i lt).given)
+
+pub returns-then-branch-clause-touching : goal.returns-then-branch-clause-touching
+returns-then-branch-clause-touching g c =
+    let tests = g.S.States.tests in
+    let adding = c.in_ok-axioms.ensures.adding in
+    touching_axioms (entries_view tests c.args.store.now) (entries_view tests c.axioms.new.store) adding.gained adding.grown (λ i lt. (adding.of_new i lt).given)
+
+pub returns-in_ok-propagate-in-Some-clause-touching : goal.returns-in_ok-propagate-in-Some-clause-touching
+returns-in_ok-propagate-in-Some-clause-touching g c =
+    let tests = g.S.States.tests in
+    let adding = c.in_ok-axioms.ensures.adding in
+    touching_axioms (entries_view tests c.args.store.now) (entries_view tests c.axioms.new.store) adding.gained adding.grown (λ i lt. (adding.of_new i lt).given)
+
+pub returns-in-None-clause-touching : goal.returns-in-None-clause-touching
+returns-in-None-clause-touching g c =
+    let tests = g.S.States.tests in
+    let adding = c.in_ok-axioms.ensures.adding in
+    touching_axioms (entries_view tests c.args.store.now) (entries_view tests c.axioms.new.store) adding.gained adding.grown (λ i lt. (adding.of_new i lt).given)

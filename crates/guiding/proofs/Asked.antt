@@ -1,0 +1,92 @@
+-- A guide as its fields are, before and after it asks for a pair.
+use Rattle.std.proofs.Common.{◌≡◌, ℕ, ◌<◌, ◌≤◌, true, List, length, map, get_or, [], ◌∷◌, zero, suc, take, Result, Ok, Err, Some, slice_get, refl, sym, ap, ◌∙◌, subst, arith}
+use Rattle.std.specs.Prelude.{OnErr, OnOk}
+use Rattle.std.proofs.lemmas.Bool.{false≢true}
+use Rattle.std.proofs.lemmas.List.{length-map}
+use Rattle.std.proofs.lemmas.Option.{same_Some}
+use Rattle.version_sets.specs.Sets.{Members, has}
+use Rattle.incompatibilities.specs.Stores.{EntryView}
+use Rattle.propagation.specs.Trails.{TrailView, set_of}
+use Rattle.propagation.specs.Promises.{IsTrail}
+use Rattle.model.specs.Vertices.{Vertex, space}
+use Rattle.encoding.specs.Assignments.{state_at}
+use Rattle.encoding.specs.Inputs.{problem}
+use Rattle.encoding.specs.Numberings.{IsGrown, Numbering}
+use Rattle.encoding.specs.Pairs.{Given, IsGivenAt}
+use Rattle.encoding.specs.declared.inputs.Inputs.{Inputs}
+use Rattle.searching.specs.Searching.{HasSpaces, IsOnly, IsSeen, Pairs}
+use Rattle.searching.specs.Searching as searching
+use Rattle.searching.proofs.Seen.{seen_all}
+use Rattle.guiding.specs.Guides.{EncodedView, IsAsking, IsCome, IsEncoding, encoded_view, marked, with_given}
+use Rattle.guiding.specs.Remaining.{spaces_of}
+use Rattle.guiding.proofs.Marks.{mark_lengths}
+use Rattle.guiding.proofs.Numbers.{known_at}
+
+pub ok_by : {A E : Type 0} {P Q : Type 0} (r : Result A E) → (P → Q) → OnOk r P → OnOk r Q
+ok_by (Ok x) f h = f h
+ok_by (Err e) f h = tt
+
+pub encoding_same : (i : Inputs) (vs : Numbering) (asked more : List Members) → map length more ≡ map length asked → IsEncoding i vs asked → IsEncoding i vs more
+encoding_same i vs asked more e was = record {
+  default = was.default;
+  catalogue = was.catalogue;
+  numbering = was.numbering;
+  spaces = e ∙ was.spaces ∙ ap (λ k. spaces_of (problem i) (take k vs)) (sym (length-map asked length) ∙ sym (ap length e) ∙ length-map more length);
+}
+
+pub encoding_marked : {A E : Type 0} (r : Result A E) (i : Inputs) (vs : Numbering) (asked more : List Members) (v s : ℕ) → OnOk r (more ≡ marked asked v s) → OnErr r (more ≡ asked) → IsEncoding i vs asked → IsEncoding i vs more
+encoding_marked (Ok x) i vs asked more v s is same was = encoding_same i vs asked more (ap (map length) is ∙ mark_lengths asked v s) was
+encoding_marked (Err e) i vs asked more v s is same was = encoding_same i vs asked more (ap (map length) same) was
+
+-- a state of a vertex
+pub state_below : (i : Inputs) (vs : Numbering) (asked : List Members) (old : EncodedView) (seen v s : ℕ) → IsEncoding i vs asked → encoded_view (problem i) vs asked seen ≡ old → v < length old.asked → s < length (set_of old.asked v)
+    → (w : Vertex) → slice_get vs v ≡ Some w → s < length (space (problem i) w)
+state_below i vs asked old seen v s is view low lt w at =
+    let low : v < length asked = subst (λ (o : EncodedView). v < length o.asked) (sym view) low in
+    let lt : s < length (set_of asked v) = subst (λ (o : EncodedView). s < length (set_of o.asked v)) (sym view) lt in
+    let r = known_at (problem i) vs asked v is.spaces low in
+    subst (λ n. s < n) (r.2 ∙ ap (λ x. length (space (problem i) x)) (same_Some r.0 w (sym r.1 ∙ at))) lt
+
+pub asking_by : (i : Inputs) (vs new : Numbering) (asked mid last : List Members) (seen v s : ℕ) (old : EncodedView) (t wide : TrailView) (es more : List EntryView) (given : List Given) → encoded_view (problem i) vs asked seen ≡ old → IsEncoding i vs asked → IsGrown vs new
+    → IsEncoding i new mid → IsCome asked mid t wide → length new ≤ length mid → IsTrail es wide → ((w : Vertex) → slice_get vs v ≡ Some w → IsGivenAt (problem i) new (w, state_at (problem i) w s) given) → more ≡ with_given es given → last ≡ marked mid v s
+    → IsAsking v s old (encoded_view (problem i) new last seen) t wide es more
+asking_by i vs new asked mid last seen v s old t wide es more given view was grown now come whole trail is stored marks =
+    let lengths : map length last ≡ map length mid = ap (map length) marks ∙ mark_lengths mid v s in
+    let then : IsEncoding i new last = encoding_same i new mid last lengths now in
+    subst (λ (o : EncodedView). IsAsking v s o (encoded_view (problem i) new last seen) t wide es more) view (record {
+      same = refl;
+      seen_is = refl;
+      catalogue = was.catalogue;
+      grown = grown;
+      was_numbering = was.numbering;
+      numbering = now.numbering;
+      spaces = was.spaces;
+      whole = omega (arith, whole, ap length lengths, length-map last length, length-map mid length);
+      spaced = then.spaces;
+      came = come.came;
+      marks = marks ∙ ap (λ l. marked l v s) come.sets;
+      wider = come.wider;
+      trail = trail;
+      given = given;
+      is = is;
+      stored = stored;
+    })
+
+has_below : (s : Members) (j : ℕ) → has s j ≡ true → j < length s
+has_below [] j h = absurd (false≢true h)
+has_below (b ∷ s) zero h = omega arith
+has_below (b ∷ s) (suc j) h = let r = has_below s j h in omega (arith, r)
+
+lengths_at : (l : List Members) (k : ℕ) → get_or (map length l) k 0 ≡ length (set_of l k)
+lengths_at [] zero = refl
+lengths_at [] (suc k) = refl
+lengths_at (s ∷ l) zero = refl
+lengths_at (s ∷ l) (suc k) = lengths_at l k
+
+-- what is left to a vertex is a state of it
+pub only_below : (asked : List Members) (t : TrailView) (v s : ℕ) → HasSpaces (map length asked) t → IsOnly (set_of t.sets v) s → s < length (set_of asked v)
+only_below asked t v s spaced only = subst (λ n. s < n) (spaced.each v ∙ lengths_at asked v) (has_below (set_of t.sets v) s only.1)
+
+-- once all places are seen
+pub all_seen : (n : ℕ) (asked : Pairs) (t : TrailView) → IsSeen n asked t → length t.steps ≤ n → searching.AllAsked asked t.sets
+all_seen n asked t seen le = seen_all asked t (subst (λ k. IsSeen k asked t) (let w = seen.within in omega (arith, w, le)) seen)

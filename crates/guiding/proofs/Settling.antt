@@ -1,0 +1,209 @@
+-- At the end of a search that found a selection: each vertex takes absent where it may, else its one state, and no
+-- instance is broken.
+use Rattle.std.proofs.Common.{◌≡◌, ◌≢◌, ℕ, zero, suc, ◌<◌, ◌||◌, true, false, List, [], ◌∷◌, length, map, get_or, Option, Some, None, slice_get, refl, sym, ap, ◌∙◌, subst, arith}
+use Rattle.std.proofs.lemmas.Bool.{false≢true, ne_eqb}
+use Rattle.std.proofs.lemmas.List.{length-map}
+use Rattle.std.proofs.lemmas.Option.{same_Some, slice_get_within}
+use Rattle.version_sets.specs.Sets.{Members, has, size}
+use Rattle.incompatibilities.specs.Incompatibilities.{Assignment, Breaks}
+use Rattle.incompatibilities.specs.Stores.{EntryView, IsAxiom, entry, terms_of}
+use Rattle.incompatibilities.specs.declared.origin.Origin.{Origin}
+use Rattle.incompatibilities.specs.declared.origin.Origin.TheVariants.{Axiom, Combined}
+use Rattle.propagation.specs.Trails.{TrailView, set_of, space_of}
+use Rattle.propagation.specs.Promises.{IsTrail, Stops}
+use Rattle.propagation.specs.declared.propagating.Progress.TheVariants.{Fixpoint}
+use Rattle.propagation.specs.Satisfaction.{IsQuiet}
+use Rattle.propagation.proofs.Back.{sets_now}
+use Rattle.propagation.proofs.Places.{some_at}
+use Rattle.propagation.proofs.Vertices.{in_range}
+use Rattle.model.specs.Content.{Problem}
+use Rattle.model.specs.Vertices.{State, Vertex, absent, root, space}
+use Rattle.model.specs.Search.{IsUnbroken}
+use Rattle.refutations.specs.Causes.{Cause, terms_of_cause}
+use Rattle.encoding.specs.Assignments.{IsAdded, IsSettled, state_at, state_if, state_of}
+use Rattle.encoding.specs.Finals.{IsAtRest, IsFinal}
+use Rattle.encoding.specs.Numberings.{IsNumbering, Numbering, Says, number_in}
+use Rattle.encoding.specs.Pairs.{Pair, first_pair}
+use Rattle.encoding.proofs.Absent.{instance_one_zero}
+use Rattle.encoding.proofs.Final.{breaks_not}
+use Rattle.encoding.proofs.Places.{number_at}
+use Rattle.encoding.proofs.Settled.{is_unbroken}
+use Rattle.searching.specs.Searching.{AllAsked, HasSpaces}
+use Rattle.searching.specs.Walking as walking
+use Rattle.guiding.specs.Guides.{first_in, AreStored, IsDone, IsOfInstance, IsPut, asked_of, known}
+use Rattle.guiding.specs.Remaining.{spaces_of}
+use Rattle.guiding.proofs.Alone.{one_member}
+use Rattle.guiding.proofs.Numbers.{known_at}
+
+first_has : (s : Members) → 0 < size s → has s (first_in s) ≡ true
+first_has [] some = absurd (omega (arith, some))
+first_has (true ∷ s) some = refl
+first_has (false ∷ s) some = first_has s some
+
+zero_first : (s : Members) → has s 0 ≡ true → first_in s ≡ 0
+zero_first [] h = refl
+zero_first (true ∷ s) h = refl
+zero_first (false ∷ s) h = absurd (false≢true h)
+
+not_zero : (s : Members) → first_in s ≢ 0 → has s 0 ≡ false
+not_zero [] ne = refl
+not_zero (true ∷ s) ne = absurd (ne refl)
+not_zero (false ∷ s) ne = refl
+
+has_below : (s : Members) (j : ℕ) → has s j ≡ true → j < length s
+has_below [] j h = absurd (false≢true h)
+has_below (b ∷ s) zero h = omega arith
+has_below (b ∷ s) (suc j) h = let r = has_below s j h in omega (arith, r)
+
+-- the combinations of a store put aside, so that only its axioms can be broken
+abbrev nothing : EntryView
+nothing = record { terms = record { vertex = 0; states = [] } ∷ []; origin = Axiom 0 }
+
+abbrev axiom_or : Origin → EntryView → EntryView
+axiom_or (Axiom k) e = e
+axiom_or (Combined i j v) e = nothing
+
+abbrev axioms_of : List EntryView → List EntryView
+axioms_of es = map (λ e. axiom_or e.origin e) es
+
+axiom_kept : (o : Origin) (e : EntryView) → IsAxiom o → axiom_or o e ≡ e
+axiom_kept (Axiom k) e h = refl
+axiom_kept (Combined i j v) e h = absurd h
+
+axioms_at : (es : List EntryView) (id : ℕ) → id < length es → entry (axioms_of es) id ≡ axiom_or (entry es id).origin (entry es id)
+axioms_at [] id lt = absurd (omega (arith, lt))
+axioms_at (e ∷ es) zero lt = refl
+axioms_at (e ∷ es) (suc id) lt = axioms_at es id (omega (arith, lt))
+
+module _ (q : Problem) (vs : Numbering) (asked : List Members) (es : List EntryView) (t : TrailView) (ok : IsNumbering q vs) (spaces : map length asked ≡ spaces_of q (known vs asked)) (whole : length asked ≡ length vs) (spaced : HasSpaces (map length asked) t)
+    (trail : IsTrail es t) (done : IsDone t) (all : AllAsked (asked_of asked) t.sets) (stops : Stops es t.sets Fixpoint) (stored : AreStored q vs asked es) (given : walking.AreGiven (IsOfInstance q vs) es) where
+  -- what each vertex takes
+  abbrev chosen : Assignment
+  chosen u = first_in (set_of t.sets u)
+
+  some_left : (u : ℕ) → 0 < space_of t u → 0 < size (set_of t.sets u)
+  some_left u some = subst (λ ss. 0 < size (set_of ss u)) (sets_now t) (some_at t trail.sound u (length t.steps) (omega arith) some)
+
+  final : (u : ℕ) → 0 < space_of t u → IsFinal (set_of t.sets u) (chosen u)
+  final u some = record {
+    left = first_has (set_of t.sets u) (some_left u some);
+    alone = λ ne j h.
+        let within : u < length t.sets = in_range t.sets u some in
+        let lost = not_zero (set_of t.sets u) ne in
+        let few = done u within lost in
+        let many = some_left u some in
+        one_member (set_of t.sets u) j (first_in (set_of t.sets u)) (omega (arith, few, many)) h (first_has (set_of t.sets u) many);
+  }
+
+  lengths_at : (l : List Members) (k : ℕ) → get_or (map length l) k 0 ≡ length (set_of l k)
+  lengths_at [] zero = refl
+  lengths_at [] (suc k) = refl
+  lengths_at (s ∷ l) zero = refl
+  lengths_at (s ∷ l) (suc k) = lengths_at l k
+
+  space_is : (n : ℕ) (v : Vertex) → slice_get vs n ≡ Some v → space_of t n ≡ length (space q v)
+  space_is n v e =
+      let lt = slice_get_within vs n v e in
+      let r = known_at q vs asked n spaces (omega (arith, lt, whole)) in
+      spaced.each n ∙ lengths_at asked n ∙ r.2 ∙ ap (λ w. length (space q w)) (same_Some r.0 v (sym r.1 ∙ e))
+
+  spacious : (v : Vertex) → 0 < length (space q v)
+  spacious v = let s = Rattle.guiding.proofs.FirstTerms.space_starts q v in subst (λ (l : List State). 0 < length l) (sym s.1) (omega arith)
+
+  within : (n : ℕ) (v : Vertex) → slice_get vs n ≡ Some v → chosen n < length (space q v)
+  within n v e = subst (λ k. chosen n < k) (space_is n v e) (has_below (set_of t.sets n) (chosen n) (final n (subst (λ k. 0 < k) (sym (space_is n v e)) (spacious v))).left)
+
+  rests : (id : ℕ) → id < length es → IsAtRest (set_of t.sets) (terms_of es id)
+  rests id lt = let quiet = stops id lt in record {
+    not_all = λ h. quiet.not_all (λ u. holds u (terms_of es id u) (h u));
+    not_one = λ v x one. quiet.not_one v x (record { term = one.term; common = one.common; apart = one.apart; others = λ u ne. holds u (terms_of es id u) (one.others u ne) });
+  }
+    where
+      holds : (u : ℕ) (o : Option Members) → Rattle.encoding.specs.Finals.Holds (set_of t.sets u) o → Rattle.propagation.specs.Satisfaction.HoldsAt (set_of t.sets u) o
+      holds u None h = tt
+      holds u (Some x) h = h
+
+  none_broken : (id : ℕ) → id < length es → IsAxiom (entry es id).origin → Breaks chosen (terms_of es id) → ⊥
+  none_broken id lt ax breaks =
+      let g = given id lt ax in
+      breaks_not (set_of t.sets) (terms_of es id) chosen (λ u s e. final u (positive u s e)) (instance_one_zero q vs g.kind g.terms (entry es id).terms ok.once g.is g.says) (rests id lt) breaks
+    where
+      positive : (u : ℕ) (s : Members) → terms_of es id u ≡ Some s → 0 < space_of t u
+      positive u s e = let h : has s (chosen u) ≡ true = subst (λ o. Rattle.incompatibilities.specs.Incompatibilities.HoldsOf o (chosen u)) e (breaks u) in
+          let b = has_below s (chosen u) h in
+          let l = trail.lies id lt u s e in omega (arith, b, l)
+
+  added : (p : Pair) → IsPut q vs es p → IsAdded q vs (axioms_of es) p
+  added p put c is first =
+      let r = put c is first in
+      let same : entry (axioms_of es) r.0 ≡ entry es r.0 = axioms_at es r.0 r.1 ∙ axiom_kept (entry es r.0).origin (entry es r.0) r.2 in
+      (r.0, subst (λ n. r.0 < n) (sym (length-map es (λ (e : EntryView). axiom_or e.origin e))) r.1, subst (λ (e : EntryView). Says q vs e.terms (terms_of_cause q c)) (sym same) r.3)
+
+  aside : (id : ℕ) → id < length (axioms_of es) → Breaks chosen (terms_of (axioms_of es) id) → ⊥
+  aside id low breaks = by (entry es id).origin refl
+    where
+      lt : id < length es
+      lt = subst (λ n. id < n) (length-map es (λ (e : EntryView). axiom_or e.origin e)) low
+
+      at : entry (axioms_of es) id ≡ axiom_or (entry es id).origin (entry es id)
+      at = axioms_at es id lt
+
+      by : (o : Origin) → (entry es id).origin ≡ o → ⊥
+      by (Axiom k) e =
+          let ax : IsAxiom (entry es id).origin = subst IsAxiom (sym e) tt in
+          none_broken id lt ax (subst (λ (x : EntryView). Breaks chosen (Rattle.incompatibilities.specs.Incompatibilities.states_at x.terms)) (at ∙ axiom_kept (entry es id).origin (entry es id) ax) breaks)
+      by (Combined i j v) e =
+          let same : entry (axioms_of es) id ≡ nothing = at ∙ ap (λ o. axiom_or o (entry es id)) e in
+          let b : Breaks chosen (Rattle.incompatibilities.specs.Incompatibilities.states_at nothing.terms) = subst (λ (x : EntryView). Breaks chosen (Rattle.incompatibilities.specs.Incompatibilities.states_at x.terms)) same breaks in
+          false≢true (b 0)
+
+  -- ---- each pair that holds was asked for
+
+  alone : (n : ℕ) (i : ℕ) → 0 < i → chosen n ≡ i → n < length t.sets → has (set_of asked n) i ≡ true
+  alone n i some is within =
+      let left : 0 < space_of t n = positive (set_of t.sets n) (subst (λ k. 0 < k) (sym is) some) in
+      let many = some_left n left in
+      let h : has (set_of t.sets n) i ≡ true = subst (λ k. has (set_of t.sets n) k ≡ true) is (first_has (set_of t.sets n) many) in
+      let few = done n within (not_zero (set_of t.sets n) (λ z. let w : i ≡ 0 = sym is ∙ z in omega (arith, some, w))) in
+      not_absent i some (all n i within (omega (arith, few, many), h))
+    where
+      positive : (s : Members) → 0 < first_in s → 0 < length s
+      positive [] lt = lt
+      positive (b ∷ s) lt = omega arith
+
+      not_absent : (j : ℕ) → 0 < j → asked_of asked n j ≡ true → has (set_of asked n) j ≡ true
+      not_absent j some h = sym (ap (λ b. b || has (set_of asked n) j) (ne_eqb j 0 (λ e. omega (arith, some, e)))) ∙ h
+
+  -- a pair with absent is the root's, or no cause's
+  absent_put : (v : Vertex) → IsPut q vs es (v, absent)
+  absent_put v c is first = stored.root_is c is (of_root c first)
+    where
+      of_root : (c : Cause) → first_pair c ≡ (v, absent) → first_pair c ≡ (root, absent)
+      of_root c e = Rattle.guiding.proofs.AbsentPairs.only_root c v e
+
+  put_at : (v : Vertex) (o : Option ℕ) → number_in vs v ≡ o → IsPut q vs es (v, state_if q chosen v o)
+  put_at v None e = absent_put v
+  put_at v (Some n) e = at (chosen n) refl
+    where
+      there : slice_get vs n ≡ Some v
+      there = number_at vs v n e
+
+      at : (i : ℕ) → chosen n ≡ i → IsPut q vs es (v, state_at q v (chosen n))
+      at zero is = subst (λ i. IsPut q vs es (v, state_at q v i)) (sym is) (subst (λ s. IsPut q vs es (v, s)) (sym zero_state) (absent_put v))
+        where
+          zero_state : state_at q v 0 ≡ absent
+          zero_state = let s = Rattle.guiding.proofs.FirstTerms.space_starts q v in ap (λ (l : List State). Rattle.std.specs.Prelude.unwrap_or (slice_get l 0) absent) s.1
+      at (suc i) is =
+          let lt = slice_get_within vs n v there in
+          subst (λ k. IsPut q vs es (v, state_at q v k)) (sym is) (stored.pairs n (suc i) v (alone n (suc i) (omega arith) is (omega (arith, lt, whole, spaced.vertices, length-map asked length))) there)
+
+  settled : IsSettled q vs (axioms_of es) chosen
+  settled = record {
+    within = within;
+    none_broken = aside;
+    added = λ v s e. subst (λ r. IsAdded q vs (axioms_of es) (v, r)) e (added (v, state_of q vs chosen v) (put_at v (number_in vs v) refl));
+  }
+
+  -- so there is an assignment of all vertices that breaks no instance
+  pub unbroken : IsUnbroken q (state_of q vs (λ u. first_in (set_of t.sets u)))
+  unbroken = is_unbroken q vs (axioms_of es) chosen ok settled

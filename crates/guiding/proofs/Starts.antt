@@ -1,0 +1,100 @@
+-- What a search begins with.
+use Rattle.std.proofs.Common.{◌≡◌, ℕ, zero, suc, ◌<◌, ◌≤◌, true, List, [], ◌∷◌, length, map, get_or, Some, slice_get, refl, sym, ap, ◌∙◌, subst, arith}
+use Rattle.std.proofs.lemmas.Bool.{false≢true}
+use Rattle.std.proofs.lemmas.List.{length-replicate}
+use Rattle.version_sets.specs.Sets.{Members, has, size}
+use Rattle.incompatibilities.specs.Stores.{EntryView, IsAxiom, entry}
+use Rattle.propagation.specs.Trails.{TrailView, set_of, sets_at, space_of}
+use Rattle.propagation.specs.Promises.{IsTrail, LieIn}
+use Rattle.propagation.proofs.SetLemmas.{size_every}
+use Rattle.propagation.proofs.Soundness.{trail_grown}
+use Rattle.model.specs.Vertices.{Vertex, absent, root}
+use Rattle.refutations.specs.Causes.{kind_of, terms_of_cause}
+use Rattle.refutations.proofs.CauseLaws.{cause_instance}
+use Rattle.encoding.specs.Assignments.{state_at}
+use Rattle.encoding.specs.Inputs.{problem}
+use Rattle.encoding.specs.Numberings.{Numbering}
+use Rattle.encoding.specs.Pairs.{Given, IsGivenAt}
+use Rattle.encoding.specs.declared.inputs.Inputs.{Inputs}
+use Rattle.searching.specs.Searching.{AreTouching, HasSpaces, IsSeen}
+use Rattle.searching.specs.Walking as walking
+use Rattle.searching.proofs.Guides.{spaces_wider}
+use Rattle.searching.proofs.Touching.{touching_axioms}
+use Rattle.guiding.specs.Guides.{HasBegun, IsCome, IsEncoding, IsOfInstance, IsPut, as_entry, asked_of, encoded_view, with_given}
+use Rattle.guiding.proofs.Adding.{given_at, given_of, said_long, with_given_is}
+use Rattle.guiding.proofs.Marks.{lengths_none, past_none}
+use Rattle.guiding.proofs.Numbers.{known_most}
+
+bare_spaces : (t : TrailView) → length t.sets ≡ 0 → HasSpaces [] t
+bare_spaces t e = record { vertices = e; each = each t.sets e }
+  where
+    each : (sets : List Members) → length sets ≡ 0 → (u : ℕ) → length (set_of sets u) ≡ get_or [] u 0
+    each [] e zero = refl
+    each [] e (suc u) = refl
+    each (s ∷ sets) e u = absurd (omega (arith, e))
+
+has_below : (s : Members) (j : ℕ) → has s j ≡ true → j < length s
+has_below [] j h = absurd (false≢true h)
+has_below (b ∷ s) zero h = omega arith
+has_below (b ∷ s) (suc j) h = let r = has_below s j h in omega (arith, r)
+
+-- before any place only absent stands alone
+seen_first : (asked : List Members) (es : List EntryView) (t : TrailView) → IsTrail es t → IsSeen 0 (asked_of asked) t
+seen_first asked es t trail = record { within = omega arith; all = λ v i lt only. zero_asked v i (zero_is v i only.0 only.1) }
+  where
+    zero_asked : (v i : ℕ) → i ≡ 0 → asked_of asked v i ≡ true
+    zero_asked v i e = subst (λ k. asked_of asked v k ≡ true) (sym e) refl
+
+    zero_is : (v i : ℕ) → size (set_of (sets_at t 0) v) ≡ 1 → has (set_of (sets_at t 0) v) i ≡ true → i ≡ 0
+    zero_is v i one h =
+        let full = trail.sound.starts v in
+        let n : space_of t v ≡ 1 = sym (size_every (space_of t v)) ∙ ap size (sym full) ∙ one in
+        let below = has_below (set_of (sets_at t 0) v) i h in
+        let long : length (set_of (sets_at t 0) v) ≡ space_of t v = ap length full ∙ length-replicate (space_of t v) true in
+        omega (arith, n, below, long)
+
+pub begun : (i : Inputs) (put vs : Numbering) (n : ℕ) (asked : List Members) (t wide : TrailView) (more : List EntryView) (given : List Given) → IsEncoding i vs asked → slice_get put n ≡ Some root → IsCome [] asked t wide → length vs ≤ length asked
+    → length t.sets ≡ 0 → t.steps ≡ [] → IsTrail [] wide → ((w : Vertex) → slice_get put n ≡ Some w → IsGivenAt (problem i) vs (w, state_at (problem i) w 0) given) → more ≡ with_given [] given
+    → HasBegun (problem i) (encoded_view (problem i) vs asked 0) wide more
+begun i put vs n asked t wide more given encoding at come whole bare steps trail is stored = subst (λ es. HasBegun (problem i) (encoded_view (problem i) vs asked 0) wide es) (sym entries) (record {
+  problem = refl;
+  whole = (let most = known_most (problem i) vs asked encoding.spaces in omega (arith, most, whole));
+  spaces = spaced;
+  trail = now;
+  steps = come.wider.steps ∙ steps;
+  seen = seen_first asked (map as_entry given) wide now;
+  given = instances;
+  touching = touches_all;
+  stored = record { root_is = root_put; pairs = λ u j v h e. absurd (false≢true (sym (ap (λ (l : List Members). has (set_of l u) j) come.sets ∙ past_none come.came u j) ∙ h)) };
+})
+  where
+    entries : more ≡ map as_entry given
+    entries = stored ∙ with_given_is [] given
+
+    spaced : HasSpaces (map length asked) wide
+    spaced = subst (λ l. HasSpaces l wide) (sym (ap (map length) come.sets ∙ lengths_none come.came)) (spaces_wider [] come.came t wide (bare_spaces t bare) come.wider)
+
+    root_given : IsGivenAt (problem i) vs (root, absent) given
+    root_given = is root at
+
+    lies : LieIn wide (map as_entry given)
+    lies id lt u z e =
+        let g = given_at (problem i) vs root_given.causes given id root_given.given lt in
+        said_long (problem i) vs asked wide encoding.spaces whole spaced (entry (map as_entry given) id).terms (terms_of_cause (problem i) g.cause) g.says u z e
+
+    now : IsTrail (map as_entry given) wide
+    now = trail_grown [] (map as_entry given) wide trail lies
+
+    instances : walking.AreGiven (IsOfInstance (problem i) vs) (map as_entry given)
+    instances id lt ax =
+        let g = given_at (problem i) vs root_given.causes given id root_given.given lt in
+        let there = (root_given.are.listed g.cause).0 g.listed in
+        record { kind = kind_of g.cause; terms = terms_of_cause (problem i) g.cause; is = cause_instance (problem i) g.cause there.0; says = g.says; origin = g.origin }
+
+    root_put : IsPut (problem i) vs (map as_entry given) (root, absent)
+    root_put c there first = given_of (problem i) vs root_given.causes given c root_given.given ((root_given.are.listed c).1 (there, first))
+
+    touches_all : AreTouching (map as_entry given)
+    touches_all = touching_axioms [] (map as_entry given) (map as_entry given) refl
+        (λ id lt. subst IsAxiom (sym (given_at (problem i) vs root_given.causes given id root_given.given lt).origin) tt)
+        (λ id j k v lt e. absurd (omega (arith, lt)))

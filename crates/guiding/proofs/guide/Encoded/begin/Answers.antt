@@ -1,0 +1,22 @@
+use Rattle.std.proofs.Common.{◌≤◌, List, length, map, ap, sym, ◌∙◌, subst}
+use Rattle.std.proofs.lemmas.List.{length-map}
+use Rattle.incompatibilities.specs.Stores.{EntryView, entries_view}
+use Rattle.encoding.specs.CauseViews.{given_views}
+use Rattle.propagation.specs.Promises.{IsTrail}
+use Rattle.propagation.specs.Trails.{trail_view}
+use Rattle.guiding.specs.Guides.{IsCome, with_given}
+use Rattle.guiding.proofs.Starts.{begun}
+use Rattle.guiding.proofs.guide.Encoded.begin.Goals as goal
+
+pub returns : goal.returns
+returns g c =
+    let tests = g.S.States.tests in
+    let asked = map tests c.come.new.asked.items in
+    let t = trail_view tests c.args.trail.now in
+    let wide = trail_view tests c.come.new.trail in
+    let given = given_views tests c.in_ok-given.given.items in
+    begun c.args.inputs c.put.new.self c.axioms_at.new.table c.in_ok-root.root asked t wide (entries_view tests c.put_given.new.store) given c.come.ensures.encoding c.in_ok-root.ensures.number
+    (subst (λ l. IsCome (map tests l) asked t wide) c.new-asked.ensures.items c.in_ok-come.ensures.came)
+    (subst (λ n. length c.axioms_at.new.table ≤ n) (sym (length-map c.come.new.asked.items tests)) c.in_ok-come.ensures.whole)
+    c.requires.bare c.requires.steps (subst (λ (es : List EntryView). IsTrail es wide) c.requires.store c.come.ensures.trail) c.in_ok-given.ensures.given
+    (c.in_ok-put_given.ensures ∙ ap (λ es. with_given es given) c.requires.store)

@@ -1,0 +1,79 @@
+//! Vertices that come onto the trail once an instance speaks of them.
+
+ghost use Rattle.std.specs.Prelude.{◌≡◌, ◌+◌, ◌<◌, ◌≤◌, IfOk, OnOk, Some, length, map, slice_get};
+ghost use Rattle.incompatibilities.specs.Stores.{entries_view};
+ghost use Rattle.propagation.specs.Promises.{IsTrail};
+ghost use Rattle.propagation.specs.Trails.{trail_view};
+ghost use Rattle.model.specs.Vertices.{Vertex, space};
+ghost use Rattle.encoding.specs.Inputs.{problem};
+ghost use Rattle.guiding.specs.Guides.{IsCome, IsEncoding};
+
+use encoding::{Inputs, Table, space_of};
+use incompatibilities::Store;
+use propagation::Trail;
+use std::alloc::{AllocError, Global};
+use version_sets::States;
+
+/// How many states the vertex with a number has.
+fn space_at(
+    alloc: Global,
+    inputs: &Inputs<'_>,
+    table: &Table<'_>,
+    number: usize,
+) -> Result<u32, AllocError>
+    ensures small { IfOk result (λ n. n ≤ 65536) }
+    ensures space { IfOk result (λ n. (v : Vertex) → slice_get table.now number ≡ Some v → n ≡ length (space (problem inputs.now) v)) }
+{
+    match table.vertex(number) {
+        Some(vertex) => Ok(space_of(alloc, inputs, &vertex)? as u32),
+        None => Ok(0),
+    }
+}
+
+/// Gives the trail the next vertex.
+fn come_next<S: States + Drop>(
+    alloc: Global,
+    inputs: &Inputs<'_>,
+    table: &Table<'_>,
+    asked: &mut Vec<S>,
+    trail: &mut Trail<S>,
+    store: &Store<S>,
+) -> Result<(), AllocError>
+    requires encoding { IsEncoding inputs.now table.now (map S.tests asked.old.items) }
+    requires less { length asked.old.items < length table.now }
+    requires trail { IsTrail (entries_view S.tests store.now) (trail_view S.tests trail.old) }
+    ensures encoding { IsEncoding inputs.now table.now (map S.tests asked.new.items) }
+    ensures came { OnOk result (IsCome (map S.tests asked.old.items) (map S.tests asked.new.items) (trail_view S.tests trail.old) (trail_view S.tests trail.new)) }
+    ensures longer { OnOk result (length asked.new.items ≡ length asked.old.items + 1) }
+    ensures trail { IsTrail (entries_view S.tests store.now) (trail_view S.tests trail.new) }
+{
+    let space = space_at(alloc, inputs, table, asked.len())?;
+    let none = S::empty(alloc, space)?;
+    asked.reserve(1)?;
+    store.is_proper();
+    trail.grow(space)?;
+    asked.push_reserved(none);
+    Ok(())
+}
+
+/// Gives the trail the vertices that have numbers.
+pub(crate) fn come<S: States + Drop>(
+    alloc: Global,
+    inputs: &Inputs<'_>,
+    table: &Table<'_>,
+    asked: &mut Vec<S>,
+    trail: &mut Trail<S>,
+    store: &Store<S>,
+) -> Result<(), AllocError>
+    requires encoding { IsEncoding inputs.now table.now (map S.tests asked.old.items) }
+    requires trail { IsTrail (entries_view S.tests store.now) (trail_view S.tests trail.old) }
+    ensures encoding { IsEncoding inputs.now table.now (map S.tests asked.new.items) }
+    ensures came { OnOk result (IsCome (map S.tests asked.old.items) (map S.tests asked.new.items) (trail_view S.tests trail.old) (trail_view S.tests trail.new)) }
+    ensures whole { OnOk result (length table.now ≤ length asked.new.items) }
+    ensures trail { IsTrail (entries_view S.tests store.now) (trail_view S.tests trail.new) }
+{
+    'vertices: while asked.len() < table.len() {
+        come_next(alloc, inputs, table, asked, trail, store)?;
+    }
+    Ok(())
+}

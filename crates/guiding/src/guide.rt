@@ -1,0 +1,209 @@
+//! What a search asks of a manifest and a loaded index: its vertices and axioms on demand, and what to decide.
+
+ghost use Rattle.std.specs.Prelude.{◌≡◌, ◌<◌, [], IfOk, OnOk, length, map, true};
+ghost use Rattle.encoding.specs.Inputs.{KnowsDefault, problem};
+ghost use Rattle.encoding.specs.Numberings.{IsNumbering};
+ghost use Rattle.incompatibilities.specs.Stores.{entries_view};
+ghost use Rattle.propagation.specs.Promises.{IsTrail};
+ghost use Rattle.propagation.specs.Trails.{set_of, trail_view};
+ghost use Rattle.version_sets.specs.Sets.{has, size};
+ghost use Rattle.guiding.specs.Guides.{HasBegun, IsAsking, known};
+ghost use Rattle.guiding.specs.Remaining.{spaces_of};
+
+use crate::asking::{mark, put_given};
+use crate::choosing::{greatest, is_undecided};
+use crate::coming::come;
+use crate::opening::next_open;
+use crate::preferring::preferred_state;
+use catalogue::catalogues_are_well_formed;
+use encoding::{Inputs, Table, axioms_at};
+use incompatibilities::{Id, Store};
+use propagation::Trail;
+use searching::Guide;
+use std::alloc::{AllocError, Global};
+use std::marker::Model;
+use version_sets::States;
+use vertices::VertexRef;
+
+/// A manifest and a loaded index, as what a search is about.
+#[derive(Drop)]
+pub struct Encoded<'a, S: States> {
+    alloc: Global,
+    inputs: Inputs<'a>,
+    table: Table<'a>,
+    /// Of each vertex that the trail has, the states that were asked for.
+    asked: Vec<S>,
+    /// Of so many places of the trail the vertex was looked at.
+    seen: usize,
+}
+
+impl<'a, S: States> Model for Encoded<'a, S> {
+    ghost use Rattle.std.specs.Prelude.{map};
+    ghost use Rattle.encoding.specs.Inputs.{problem};
+    ghost use Rattle.guiding.specs.Guides.{EncodedView, IsEncoding, encoded_view};
+
+    ghost Value = { EncodedView };
+
+    ghost view = { λ g. encoded_view (problem g.inputs) g.table (map S.tests g.asked.items) g.seen };
+
+    ghost invariant = { λ g. IsEncoding g.inputs g.table (map S.tests g.asked.items) };
+}
+
+impl<'a, S: States + Drop> Encoded<'a, S> {
+    /// The guide of a search that begins, for a trail without vertices and a store without entries: the root comes
+    /// onto the trail, and the instance of its absence into the store.
+    pub fn begin(
+        alloc: Global,
+        inputs: Inputs<'a>,
+        trail: &mut Trail<S>,
+        store: &mut Store<S>,
+    ) -> Result<Encoded<'a, S>, AllocError>
+        requires default { KnowsDefault inputs }
+        requires trail { IsTrail (entries_view S.tests store.old) (trail_view S.tests trail.old) }
+        requires bare { length (trail_view S.tests trail.old).sets ≡ 0 }
+        requires steps { (trail_view S.tests trail.old).steps ≡ [] }
+        requires store { entries_view S.tests store.old ≡ [] }
+        ensures { IfOk result (λ g. HasBegun (problem inputs.entry) g (trail_view S.tests trail.new) (entries_view S.tests store.new)) }
+    {
+        catalogues_are_well_formed(inputs.manifest, inputs.catalogue);
+        let mut table = Table::new(alloc);
+        let mut asked = Vec::new(alloc);
+        let root = table.put(VertexRef::Root)?;
+        let given = axioms_at(alloc, &inputs, &mut table, root, 0)?;
+        come(alloc, &inputs, &table, &mut asked, trail, store)?;
+        put_given(store, given)?;
+        Ok(Encoded {
+            alloc,
+            inputs,
+            table,
+            asked,
+            seen: 0,
+        })
+    }
+
+    /// The vertices by number.
+    pub fn table(&self) -> &Table<'a>
+        ensures { result.now ≡ self.now.vertices }
+    {
+        &self.table
+    }
+
+    /// A law, the call does nothing: the vertices have one number each, and those on the trail their own states.
+    pub fn is_kept(&self)
+        ensures numbering { IsNumbering self.now.problem self.now.vertices }
+        ensures spaces { map length self.now.asked ≡ spaces_of self.now.problem (known self.now.vertices self.now.asked) }
+    {
+        let _ = self.asked.len();
+    }
+
+    /// Brings the instances of a pair into the store, and the vertices that they speak of onto the trail.
+    fn ask(
+        &mut self,
+        trail: &mut Trail<S>,
+        store: &mut Store<S>,
+        vertex: usize,
+        state: u32,
+    ) -> Result<(), AllocError>
+        requires trail { IsTrail (entries_view S.tests store.old) (trail_view S.tests trail.old) }
+        requires vertex { vertex < length self.old.asked }
+        requires state { state < length (set_of self.old.asked vertex) }
+        ensures { OnOk result (IsAsking vertex state self.old self.new (trail_view S.tests trail.old) (trail_view S.tests trail.new) (entries_view S.tests store.old) (entries_view S.tests store.new)) }
+    {
+        let given = axioms_at(
+            self.alloc,
+            &self.inputs,
+            &mut self.table,
+            vertex,
+            state as usize,
+        )?;
+        come(
+            self.alloc,
+            &self.inputs,
+            &self.table,
+            &mut self.asked,
+            trail,
+            store,
+        )?;
+        put_given(store, given)?;
+        mark(self.alloc, &mut self.asked, vertex, state)
+    }
+
+    /// The state that a vertex is decided for: the preferred one, else the greatest that is left.
+    fn state_for(&self, vertex: usize, left: &S) -> Result<u32, AllocError>
+        requires { 0 < size (S.tests left.now) }
+        ensures { IfOk result (λ n. has (S.tests left.now) n ≡ true) }
+    {
+        let Some(vertex) = self.table.vertex(vertex) else {
+            return Ok(greatest(left));
+        };
+        match preferred_state(self.alloc, &self.inputs, &vertex, left)? {
+            Some(state) => Ok(state),
+            None => Ok(greatest(left)),
+        }
+    }
+}
+
+impl<'a, S: States + Drop> Guide<S> for Encoded<'a, S> {
+    ghost use Rattle.std.specs.Prelude.{map, length};
+    ghost use Rattle.guiding.specs.Guides.{AreStored, GoesOn, IsDone, IsOfInstance, asked_of, late_with, left_with};
+    ghost use Rattle.guiding.specs.Going.{goes_on, goes_same, stored_on};
+
+    ghost spaces = { λ g. map length g.asked };
+
+    ghost late = { λ g. late_with g };
+
+    ghost asked = { λ g. asked_of g.asked };
+
+    ghost left = { λ g. left_with g };
+
+    ghost seen = { λ g. g.seen };
+
+    ghost done = { λ g t. IsDone t };
+
+    ghost given = { λ g e. IsOfInstance g.problem g.vertices e };
+
+    ghost stored = { λ g es. AreStored g.problem g.vertices g.asked es };
+
+    ghost stored_on = { λ g es more was. stored_on g es more was };
+
+    ghost walks = { λ g x. ⊥ };
+
+    ghost keeps = { λ old new. GoesOn old new };
+
+    ghost keeps_same = { λ g. goes_same g };
+
+    ghost keeps_on = { λ a b c first second. goes_on a b c first second };
+
+    fn axioms(&mut self, trail: &mut Trail<S>, store: &mut Store<S>) -> Result<bool, AllocError> {
+        match next_open(trail, &self.asked, &mut self.seen) {
+            Some((vertex, state)) => {
+                self.ask(trail, store, vertex, state)?;
+                Ok(true)
+            }
+            None => Ok(false),
+        }
+    }
+
+    fn choose(&self, trail: &Trail<S>) -> Result<Option<(usize, u32)>, AllocError> {
+        'vertices: for vertex in 0..self.asked.len() {
+            let left = trail.states(vertex);
+            if is_undecided(left) {
+                return Ok(Some((vertex, self.state_for(vertex, left)?)));
+            }
+        }
+        Ok(None)
+    }
+
+    fn noted(
+        &mut self,
+        trail: &Trail<S>,
+        _store: &Store<S>,
+        _conflict: Id,
+        _learned: Id,
+    ) -> Result<(), AllocError> {
+        if trail.places() < self.seen {
+            self.seen = trail.places();
+        }
+        Ok(())
+    }
+}

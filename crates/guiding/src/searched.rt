@@ -1,0 +1,49 @@
+//! A search over a manifest and a loaded index, for any set of states.
+
+ghost use Rattle.std.specs.Prelude.{IfOk};
+ghost use Rattle.incompatibilities.specs.Stores.{entries_view};
+ghost use Rattle.propagation.specs.Trails.{trail_view};
+ghost use Rattle.encoding.specs.Inputs.{KnowsDefault, problem};
+ghost use Rattle.guiding.specs.Guides.{HasSearched};
+
+use crate::guide::Encoded;
+use encoding::Inputs;
+use incompatibilities::Store;
+use propagation::Trail;
+use searching::{Found, search};
+use std::alloc::{AllocError, Global};
+use version_sets::States;
+
+/// What a search found, and where it ended.
+#[derive(Drop)]
+pub struct Searched<'a, S: States> {
+    /// How it ended, and in how many steps.
+    pub found: Found,
+    /// The vertices by number.
+    pub guide: Encoded<'a, S>,
+    /// What is left to each.
+    pub trail: Trail<S>,
+    /// The axioms, and what follows from them.
+    pub store: Store<S>,
+}
+
+/// Searches until there is an answer.
+pub fn search_over<'a, S: States + Drop>(
+    alloc: Global,
+    inputs: Inputs<'a>,
+) -> Result<Searched<'a, S>, AllocError>
+    requires { KnowsDefault inputs }
+    ensures { IfOk result (λ r. HasSearched (problem inputs.entry) r.guide (trail_view S.tests r.trail) (entries_view S.tests r.store) r.found.answer) }
+{
+    let mut store = Store::new(alloc);
+    let mut trail = Trail::new(alloc, &[])?;
+    let mut guide = Encoded::begin(alloc, inputs, &mut trail, &mut store)?;
+    let found = search(alloc, &mut guide, &mut trail, &mut store)?;
+    guide.is_kept();
+    Ok(Searched {
+        found,
+        guide,
+        trail,
+        store,
+    })
+}

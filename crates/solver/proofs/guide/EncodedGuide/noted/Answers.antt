@@ -1,9 +1,0 @@
-use Rattle.std.proofs.Common.{ap}
-use Rattle.solver.specs.Guides.{late_with, left_with}
-use Rattle.solver.proofs.guide.EncodedGuide.noted.Goals as goal
-
-pub returns-then-places-self-clause-late : goal.returns-then-places-self-clause-late
-returns-then-places-self-clause-late g c = ap late_with c.self.view_is
-
-pub returns-then-places-self-clause-left : goal.returns-then-places-self-clause-left
-returns-then-places-self-clause-left g c = ap left_with c.self.view_is
