@@ -1,4 +1,4 @@
-//! A valid selection for a manifest and a loaded index, or why there is none.
+//! What a search asks of a manifest and a loaded index, and the search over them.
 #![tactic(auto)]
 
 mod asking;

@@ -1,0 +1,6 @@
+pub mod Lists
+pub mod Rows
+pub mod Stops
+pub mod RankLists
+pub mod Ordered
+pub mod Built

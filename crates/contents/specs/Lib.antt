@@ -1,0 +1,2 @@
+pub use Rattle.reaching.specs.Built
+pub mod Contents

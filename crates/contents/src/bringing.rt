@@ -1,0 +1,42 @@
+//! What stands at the places of versions that were met.
+
+ghost use Rattle.std.specs.Prelude.{◌≡◌, Some, slice_get};
+ghost use Rattle.features.specs.Views.{dependency_views};
+ghost use Rattle.model.specs.Vertices.{Owner, owner_brings};
+ghost use Rattle.facts.specs.Graphs.{brings_view};
+ghost use Rattle.catalogue.specs.Problems.{problem_in};
+ghost use Rattle.contents.specs.Contents.{AreStops, owners_of};
+
+use crate::stop::{Stop, store_holds};
+use catalogue::Catalogue;
+use features::{Dependency, Summary};
+use manifest::Manifest;
+
+/// What the root or the version at a place brings.
+pub fn brings_at<'a>(
+    manifest: &'a Manifest,
+    catalogue: &'a Catalogue,
+    stops: &[Stop],
+    place: usize,
+) -> Option<&'a Summary>
+    requires { AreStops catalogue.now stops.now }
+    ensures { (o : Owner) → slice_get (owners_of catalogue.now stops.now) place ≡ Some o → brings_view result ≡ owner_brings (problem_in manifest.now catalogue.now) o }
+{
+    store_holds(catalogue);
+    if place == 0 {
+        return Some(manifest.summary());
+    }
+    let stop = stops.get(place - 1)?;
+    let candidate = catalogue.record(&stop.name, stop.place)?;
+    Some(&candidate.brings)
+}
+
+/// The dependencies of what stands at a place.
+pub fn dependencies_of<'a>(brings: Option<&'a Summary>) -> &'a [Dependency]
+    ensures { dependency_views result.now ≡ (brings_view brings.entry).dependencies }
+{
+    match brings {
+        Some(summary) => summary.dependencies.as_slice(),
+        None => &[],
+    }
+}

@@ -1,0 +1,192 @@
+//! The content of the packages that are here.
+
+ghost use Rattle.std.specs.Prelude.{◌≡◌, ◌≢◌, [], Some, IfOk, OnOk, length, map, option_map, slice_get};
+ghost use Rattle.std.specs.List.{AllPairs};
+ghost use Rattle.std.specs.List.Sorted.{IsPermutation};
+ghost use Rattle.std.specs.declared.cmp.Ordering.TheVariants.{Equal};
+ghost use Rattle.facts.specs.Graphs.{node_views};
+ghost use Rattle.catalogue.specs.Problems.{problem_in};
+ghost use Rattle.lockfile.specs.Views.{package_view, package_views};
+ghost use Rattle.model.specs.Vertices.{the_root};
+ghost use Rattle.model.specs.Order.{package_cmp, source_cmp};
+ghost use Rattle.model.specs.ContentOf.{package_of};
+ghost use Rattle.reaching.specs.Built.{IsBuilt};
+ghost use Rattle.contents.specs.Contents.{AreInOrder, AreKept, AreStops, IsThere, kept_views, kept_with, owners_of, package_if, stop_owner};
+
+use crate::kept::Kept;
+use crate::listing::listed;
+use crate::stop::{Stop, store_holds};
+use catalogue::Catalogue;
+use classes::version_order;
+use facts::{Facts, Node};
+use lockfile::{LockContent, Package};
+use manifest::Manifest;
+use std::alloc::{AllocError, Global};
+use std::cmp::Ordering;
+
+/// The content of the packages that are here, each with the targets of its enabled dependencies.
+pub fn content_of(
+    alloc: Global,
+    manifest: &Manifest,
+    catalogue: &Catalogue,
+    stops: &[Stop],
+    nodes: &[Node<'_>],
+    facts: &Facts,
+) -> Result<LockContent, AllocError>
+    requires stops { AreStops catalogue.now stops.now }
+    requires nodes { length nodes.now ≡ length (owners_of catalogue.now stops.now) }
+    ensures { IfOk result (λ content. IsBuilt (owners_of catalogue.now stops.now) (node_views nodes.now) (map (λ v. v.items) facts.now.enabled.items) (problem_in manifest.now catalogue.now) facts.now.here.items content) }
+{
+    store_holds(catalogue);
+    let kept = kept_of(alloc, manifest, catalogue, stops, facts.here.as_slice())?;
+    let kept = sorted(kept)?;
+    let packages = listed(alloc, kept, nodes, facts)?;
+    Ok(LockContent::new(packages))
+}
+
+/// The packages of the places that are here.
+fn kept_of(
+    alloc: Global,
+    manifest: &Manifest,
+    catalogue: &Catalogue,
+    stops: &[Stop],
+    here: &[bool],
+) -> Result<Vec<Kept>, AllocError>
+    requires stops { AreStops catalogue.now stops.now }
+    ensures { IfOk result (λ v. AreKept (problem_in manifest.now catalogue.now) (owners_of catalogue.now stops.now) here.now (length here.now) (kept_views v.items)) }
+{
+    let mut kept = Vec::new(alloc);
+    'places: for (place, here) in here.iter().enumerate() {
+        let found = package_if(alloc, manifest, catalogue, stops, place, *here)?;
+        keep(&mut kept, found, place)?;
+    }
+    Ok(kept)
+}
+
+/// The package at a place that is here.
+fn package_if(
+    alloc: Global,
+    manifest: &Manifest,
+    catalogue: &Catalogue,
+    stops: &[Stop],
+    place: usize,
+    here: bool,
+) -> Result<Option<Package>, AllocError>
+    requires { AreStops catalogue.now stops.now }
+    ensures { IfOk result (λ o. option_map package_view o ≡ package_if (problem_in manifest.now catalogue.now) here (slice_get (owners_of catalogue.now stops.now) place)) }
+{
+    if here {
+        package_at(alloc, manifest, catalogue, stops, place)
+    } else {
+        Ok(None)
+    }
+}
+
+/// Puts a package last, if there is one.
+fn keep(kept: &mut Vec<Kept>, found: Option<Package>, place: usize) -> Result<(), AllocError>
+    ensures { OnOk result (kept_views kept.new.items ≡ kept_with (kept_views kept.old.items) (option_map package_view found) place) }
+{
+    if let Some(locked) = found {
+        kept.push(Kept { locked, place })?;
+    }
+    Ok(())
+}
+
+/// The package at a place, with an empty list: the root, or what stands at a stop.
+fn package_at(
+    alloc: Global,
+    manifest: &Manifest,
+    catalogue: &Catalogue,
+    stops: &[Stop],
+    place: usize,
+) -> Result<Option<Package>, AllocError>
+    requires { AreStops catalogue.now stops.now }
+    ensures { IfOk result (λ o. option_map package_view o ≡ option_map (λ n. package_of (problem_in manifest.now catalogue.now) n []) (slice_get (owners_of catalogue.now stops.now) place)) }
+{
+    if place == 0 {
+        return Ok(Some(root_package(alloc, manifest, catalogue)?));
+    }
+    match stops.get(place - 1) {
+        Some(stop) => stop_package(alloc, manifest, catalogue, stop),
+        None => Ok(None),
+    }
+}
+
+fn root_package(
+    alloc: Global,
+    manifest: &Manifest,
+    catalogue: &Catalogue,
+) -> Result<Package, AllocError>
+    ensures { IfOk result (λ p. package_view p ≡ package_of (problem_in manifest.now catalogue.now) the_root []) }
+{
+    // The contract speaks of the catalogue too; that the name is one is what `as_str` promises.
+    let _ = manifest.name().as_str();
+    let _ = catalogue;
+    Ok(Package {
+        name: manifest.name().clone()?,
+        version: manifest.version().clone()?,
+        source: None,
+        checksum: None,
+        list: Vec::new(alloc),
+    })
+}
+
+fn stop_package(
+    alloc: Global,
+    manifest: &Manifest,
+    catalogue: &Catalogue,
+    stop: &Stop,
+) -> Result<Option<Package>, AllocError>
+    requires { IsThere catalogue.now stop.now }
+    ensures { IfOk result (λ o. option_map package_view o ≡ Some (package_of (problem_in manifest.now catalogue.now) (stop_owner catalogue.now stop.now) [])) }
+{
+    store_holds(catalogue);
+    // The contract speaks of the manifest too; that the name is one is what `as_str` promises.
+    let _ = manifest;
+    let _ = stop.name.as_str();
+    let Some(version) = catalogue.versions(&stop.name).get(stop.place) else {
+        return Ok(None);
+    };
+    let Some(candidate) = catalogue.record(&stop.name, stop.place) else {
+        return Ok(None);
+    };
+    Ok(Some(Package {
+        name: stop.name.clone()?,
+        version: version.clone()?,
+        source: Some(String::from_str(alloc, catalogue.source())?),
+        checksum: Some(candidate.checksum.clone()?),
+        list: Vec::new(alloc),
+    }))
+}
+
+/// The packages in package order; no two of them tie.
+fn sorted(mut kept: Vec<Kept>) -> Result<Vec<Kept>, AllocError>
+    requires { AllPairs (λ k m. package_cmp k.0 m.0 ≢ Equal) (kept_views kept.items) }
+    ensures permutes { IfOk result (λ v. IsPermutation (kept_views kept.items) (kept_views v.items)) }
+    ensures order { IfOk result (λ v. AreInOrder (kept_views v.items)) }
+{
+    kept.sort_by(|a, b| package_order(&a.locked, &b.locked))?;
+    Ok(kept)
+}
+
+/// Packages by name, then version, then source.
+fn package_order(a: &Package, b: &Package) -> Ordering
+    ensures { result ≡ package_cmp (package_view a.now) (package_view b.now) }
+{
+    a.name
+        .cmp(&b.name)
+        .then_with(|| version_order(&a.version, &b.version))
+        .then_with(|| source_order(a.source(), b.source()))
+}
+
+/// A source before none, two by their bytes.
+fn source_order(a: Option<&str>, b: Option<&str>) -> Ordering
+    ensures { result ≡ source_cmp (option_map (λ s. s.now) a.entry) (option_map (λ s. s.now) b.entry) }
+{
+    match (a, b) {
+        (Some(a), Some(b)) => a.cmp(b),
+        (Some(_), None) => Ordering::Less,
+        (None, Some(_)) => Ordering::Greater,
+        (None, None) => Ordering::Equal,
+    }
+}

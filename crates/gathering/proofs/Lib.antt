@@ -1,0 +1,4 @@
+pub mod Ends
+pub mod Led
+pub mod Put
+pub mod Nodes

@@ -1,0 +1,11 @@
+use Rattle.features.specs.Views.{dependency_views}
+use Rattle.propagation.specs.Trails.{trail_view}
+use Rattle.vertices.specs.RefViews.{owner_ref_view}
+use Rattle.encoding.specs.Inputs.{problem}
+use Rattle.gathering.specs.Leads.{ends}
+use Rattle.gathering.proofs.Led.{LedTo}
+use Rattle.gathering.proofs.leading.led_by.Given as goal
+
+-- where the dependencies so far lead
+abbrev pub invariant-dependencies : goal.invariant-dependencies
+invariant-dependencies g l = LedTo (problem l.inputs) (ends l.inputs l.table (trail_view g.S.States.tests l.trail)) l.inputs.catalogue.now (owner_ref_view l.owner) (dependency_views l.dependencies) l.number l.places.items

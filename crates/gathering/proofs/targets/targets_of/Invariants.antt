@@ -1,0 +1,7 @@
+use Rattle.features.specs.Views.{dependency_views}
+use Rattle.gathering.proofs.Put.{PutTo}
+use Rattle.gathering.proofs.targets.targets_of.Given as goal
+
+-- where the candidates so far stand
+abbrev pub invariant-dependencies : goal.invariant-dependencies
+invariant-dependencies l = PutTo l.catalogue l.fn.stops.keys l.stops.keys (dependency_views l.dependencies) l.places l.number l.targets.items

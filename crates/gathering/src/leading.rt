@@ -1,0 +1,137 @@
+//! Where the dependencies of an owner lead.
+
+ghost use Rattle.std.specs.Prelude.{◌≡◌, ◌≤◌, IfOk, Some, length, option_map, slice_get};
+ghost use Rattle.semver.specs.Identifiers.{parts_of};
+ghost use Rattle.classes.specs.Classes.{class_view};
+ghost use Rattle.propagation.specs.Trails.{trail_view};
+ghost use Rattle.features.specs.Views.{dependency_view, dependency_views};
+ghost use Rattle.vertices.specs.RefViews.{owner_ref_view};
+ghost use Rattle.model.specs.Vertices.{Owner, dep, pkg};
+ghost use Rattle.encoding.specs.Inputs.{problem};
+ghost use Rattle.contents.specs.Contents.{AreStops, owners_of};
+ghost use Rattle.gathering.specs.Leads.{AreLed, HasEnded, IsLed, class_if, ends, version_if};
+
+use crate::places::place_of;
+use crate::states::{class_if, state_of, version_if};
+use catalogue::Catalogue;
+use classes::Class;
+use contents::Stop;
+use encoding::{Inputs, Table};
+use features::{Dependency, PackageName};
+use propagation::Trail;
+use semver::Version;
+use std::alloc::{AllocError, Global};
+use version_sets::States;
+use vertices::{OwnerRef, VertexRef};
+
+/// The class that a dependency has at the end, if it has one.
+fn class_at<'a, S: States + Drop>(
+    alloc: Global,
+    inputs: &Inputs<'a>,
+    table: &Table<'a>,
+    trail: &Trail<S>,
+    owner: &OwnerRef<'a>,
+    number: usize,
+) -> Result<Option<Class>, AllocError>
+    requires whole { length table.now ≤ length (trail_view S.tests trail.now).sets }
+    ensures { IfOk result (λ o. option_map class_view o ≡ class_if (ends inputs.now table.now (trail_view S.tests trail.now) (dep (owner_ref_view owner.now) number))) }
+{
+    let vertex = VertexRef::Dependency(*owner, number);
+    let state = state_of(alloc, inputs, table, trail, &vertex)?;
+    Ok(class_if(state))
+}
+
+/// The version that a name has in a class at the end, if it has one.
+fn version_at<'a, S: States + Drop>(
+    alloc: Global,
+    inputs: &Inputs<'a>,
+    table: &Table<'a>,
+    trail: &Trail<S>,
+    name: &'a PackageName,
+    class: Class,
+) -> Result<Option<&'a Version>, AllocError>
+    requires whole { length table.now ≤ length (trail_view S.tests trail.now).sets }
+    ensures { IfOk result (λ o. option_map (λ v. parts_of v.now) o ≡ version_if (ends inputs.now table.now (trail_view S.tests trail.now) (pkg name.entry.now (class_view class)))) }
+{
+    let vertex = VertexRef::Package(name, class);
+    let state = state_of(alloc, inputs, table, trail, &vertex)?;
+    Ok(version_if(state))
+}
+
+/// Where a dependency leads: the place of the version that its name has in the class that it has.
+fn led_to<'a, S: States + Drop>(
+    alloc: Global,
+    inputs: &Inputs<'a>,
+    table: &Table<'a>,
+    trail: &Trail<S>,
+    owner: &OwnerRef<'a>,
+    number: usize,
+    dependency: &'a Dependency,
+) -> Result<Option<usize>, AllocError>
+    requires { HasEnded inputs.now table.now (trail_view S.tests trail.now) }
+    ensures { IfOk result (λ o. IsLed (problem inputs.now) (ends inputs.now table.now (trail_view S.tests trail.now)) inputs.now.catalogue.now (owner_ref_view owner.now) number (dependency_view dependency.now) o) }
+{
+    let Some(class) = class_at(alloc, inputs, table, trail, owner, number)? else {
+        return Ok(None);
+    };
+    let name = &dependency.real_name;
+    let Some(version) = version_at(alloc, inputs, table, trail, name, class)? else {
+        return Ok(None);
+    };
+    Ok(place_of(inputs.catalogue.versions(name), version))
+}
+
+/// Where dependencies of an owner lead, by number.
+fn led_by<'a, S: States + Drop>(
+    alloc: Global,
+    inputs: &Inputs<'a>,
+    table: &Table<'a>,
+    trail: &Trail<S>,
+    owner: &OwnerRef<'a>,
+    dependencies: &'a [Dependency],
+) -> Result<Vec<Option<usize>>, AllocError>
+    requires { HasEnded inputs.now table.now (trail_view S.tests trail.now) }
+    ensures { IfOk result (λ v. AreLed (problem inputs.now) (ends inputs.now table.now (trail_view S.tests trail.now)) inputs.now.catalogue.now (owner_ref_view owner.now) (dependency_views dependencies.now) v.items) }
+{
+    let mut places = Vec::new(alloc);
+    'dependencies: for (number, dependency) in dependencies.iter().enumerate() {
+        let place = led_to(alloc, inputs, table, trail, owner, number, dependency)?;
+        places.push(place)?;
+    }
+    Ok(places)
+}
+
+/// The owner that stands at a place.
+fn owner_at<'a>(catalogue: &'a Catalogue, stops: &'a [Stop], place: usize) -> OwnerRef<'a>
+    requires { AreStops catalogue.now stops.now }
+    ensures { (o : Owner) → slice_get (owners_of catalogue.now stops.now) place ≡ Some o → owner_ref_view result ≡ o }
+{
+    if place == 0 {
+        return OwnerRef::Root;
+    }
+    let Some(stop) = stops.get(place - 1) else {
+        return OwnerRef::Root;
+    };
+    match catalogue.versions(&stop.name).get(stop.place) {
+        Some(version) => OwnerRef::Version(&stop.name, version),
+        None => OwnerRef::Root,
+    }
+}
+
+/// Where the dependencies of what stands at a place lead.
+pub(crate) fn led_at<'a, S: States + Drop>(
+    alloc: Global,
+    inputs: &Inputs<'a>,
+    table: &Table<'a>,
+    trail: &Trail<S>,
+    stops: &[Stop],
+    place: usize,
+    dependencies: &'a [Dependency],
+) -> Result<Vec<Option<usize>>, AllocError>
+    requires ended { HasEnded inputs.now table.now (trail_view S.tests trail.now) }
+    requires stops { AreStops inputs.now.catalogue.now stops.now }
+    ensures { IfOk result (λ v. (o : Owner) → slice_get (owners_of inputs.now.catalogue.now stops.now) place ≡ Some o → AreLed (problem inputs.now) (ends inputs.now table.now (trail_view S.tests trail.now)) inputs.now.catalogue.now o (dependency_views dependencies.now) v.items) }
+{
+    let owner = owner_at(inputs.catalogue, stops, place);
+    led_by(alloc, inputs, table, trail, &owner, dependencies)
+}

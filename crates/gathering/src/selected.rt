@@ -1,0 +1,51 @@
+//! The content of what a search selected.
+
+ghost use Rattle.std.specs.Prelude.{◌≡◌, ◌≤◌, ℕ, IfOk, None, Some, length, slice_get, true};
+ghost use Rattle.propagation.specs.Trails.{trail_view};
+ghost use Rattle.model.specs.Content.{Package, is_root};
+ghost use Rattle.model.specs.Search.{IsUnbroken};
+ghost use Rattle.model.specs.Selection.{IsValidSelection};
+ghost use Rattle.encoding.specs.Assignments.{state_of};
+ghost use Rattle.encoding.specs.Inputs.{problem};
+ghost use Rattle.guiding.specs.Guides.{final_of};
+
+use crate::meeting::{Met, meet};
+use catalogue::catalogues_are_well_formed;
+use contents::content_of;
+use encoding::{Inputs, Table};
+use facts::facts_of;
+use lockfile::LockContent;
+use propagation::Trail;
+use reaching::{built_contents_select, built_roots_have_no_checksum, packages_are_a_graph};
+use std::alloc::{AllocError, Global};
+use version_sets::States;
+
+/// The content that a search selected, in package order: what the root reaches in the states that it ended in.
+///
+/// The only error is want of memory.
+pub fn content<'a, S: States + Drop>(
+    alloc: Global,
+    inputs: &Inputs<'a>,
+    table: &Table<'a>,
+    trail: &Trail<S>,
+) -> Result<LockContent, AllocError>
+    requires whole { length table.now ≤ length (trail_view S.tests trail.now).sets }
+    requires unbroken { IsUnbroken (problem inputs.now) (state_of (problem inputs.now) table.now (final_of (trail_view S.tests trail.now))) }
+    ensures selection { IfOk result (λ c. IsValidSelection (problem inputs.now) c) }
+    ensures root { IfOk result (λ c. (n : ℕ) (p : Package) → slice_get c n ≡ Some p → is_root (problem inputs.now) p ≡ true → p.checksum ≡ None) }
+{
+    catalogues_are_well_formed(inputs.manifest, inputs.catalogue);
+    packages_are_a_graph();
+    built_contents_select();
+    built_roots_have_no_checksum();
+    let Met { stops, nodes } = meet(alloc, inputs, table, trail)?;
+    let facts = facts_of(alloc, nodes.as_slice(), 0)?;
+    content_of(
+        alloc,
+        inputs.manifest,
+        inputs.catalogue,
+        stops.as_slice(),
+        nodes.as_slice(),
+        &facts,
+    )
+}

@@ -1,0 +1,6 @@
+pub mod Numbered
+pub mod SayingSame
+pub mod NewTerms
+pub mod Sized
+pub mod Places
+pub mod Stepped

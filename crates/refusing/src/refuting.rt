@@ -1,0 +1,67 @@
+//! The steps of the entries that a store's last one comes from.
+
+ghost use Rattle.std.specs.Prelude.{◌≡◌, ◌<◌, [], ℕ, IfOk, length};
+ghost use Rattle.incompatibilities.specs.Stores.{entries_view, entry};
+ghost use Rattle.model.specs.Derivation.{IsAccepted};
+ghost use Rattle.vertices.specs.Valid.{HasValidParts};
+ghost use Rattle.encoding.specs.Inputs.{problem};
+ghost use Rattle.encoding.specs.Numberings.{IsNumbering};
+ghost use Rattle.decoding.specs.Needs.{place_in};
+ghost use Rattle.decoding.specs.Steps.{AreStepsOf, IsNeeded};
+ghost use Rattle.searching.specs.Searching.{AreTouching};
+ghost use Rattle.refusing.specs.Refusing.{AreInstances};
+
+use crate::stepping::push_step;
+use catalogue::catalogues_are_well_formed;
+use decoding::{Kept, needed};
+use derivations::Derivation;
+use encoding::{Inputs, Table};
+use incompatibilities::{Id, Store};
+use std::alloc::{AllocError, Global};
+use version_sets::States;
+
+/// The steps of needed entries, in their order.
+fn steps_of<'a, S: States + Drop>(
+    alloc: Global,
+    inputs: &Inputs<'a>,
+    table: &Table<'a>,
+    store: &Store<S>,
+    kept: &Kept,
+) -> Result<Derivation, AllocError>
+    requires parts { HasValidParts (problem inputs.now) }
+    requires numbering { IsNumbering (problem inputs.now) table.now }
+    requires axioms { AreInstances (problem inputs.now) table.now (entries_view S.tests store.now) }
+    requires touching { AreTouching (entries_view S.tests store.now) }
+    requires needed { (last : ℕ) × (last < length (entries_view S.tests store.now)) × IsNeeded (entries_view S.tests store.now) last kept.now.ids.items (place_in kept.now.places.items) }
+    ensures { IfOk result (λ d. AreStepsOf (problem inputs.now) table.now (entries_view S.tests store.now) (place_in kept.now.places.items) kept.now.ids.items d) }
+{
+    catalogues_are_well_formed(inputs.manifest, inputs.catalogue);
+    let mut steps = Derivation::new(alloc);
+    'entries: for id in kept.ids.iter() {
+        push_step(alloc, inputs, table, store, &kept.places, &mut steps, *id)?;
+    }
+    Ok(steps)
+}
+
+/// Why there is no selection: the entries that one without terms comes from, as an accepted derivation, each once.
+///
+/// It takes time and memory in proportion to the entry's place and to what those entries say.
+pub fn refusal<'a, S: States + Drop>(
+    alloc: Global,
+    inputs: &Inputs<'a>,
+    table: &Table<'a>,
+    store: &Store<S>,
+    last: Id,
+) -> Result<Derivation, AllocError>
+    requires parts { HasValidParts (problem inputs.now) }
+    requires numbering { IsNumbering (problem inputs.now) table.now }
+    requires axioms { AreInstances (problem inputs.now) table.now (entries_view S.tests store.now) }
+    requires touching { AreTouching (entries_view S.tests store.now) }
+    requires within { last < length (entries_view S.tests store.now) }
+    requires none { (entry (entries_view S.tests store.now) last).terms ≡ [] }
+    ensures { IfOk result (λ d. IsAccepted (problem inputs.now) d) }
+{
+    catalogues_are_well_formed(inputs.manifest, inputs.catalogue);
+    let kept = needed(alloc, store, last)?;
+    steps_of(alloc, inputs, table, store, &kept)
+}

@@ -1,0 +1,105 @@
+//! An entry of a store as a step of a derivation.
+
+ghost use Rattle.std.specs.Prelude.{◌≡◌, ◌++◌, ◌∷◌, [], OnOk, length};
+ghost use Rattle.incompatibilities.specs.Stores.{entries_view, entry};
+ghost use Rattle.model.specs.Derivation.{Step};
+ghost use Rattle.vertices.specs.Kinds.{kind_view};
+ghost use Rattle.vertices.specs.Valid.{HasValidParts};
+ghost use Rattle.derivations.specs.Building.{AreNewTerms, ordered_terms, term_ref_views};
+ghost use Rattle.encoding.specs.Inputs.{problem};
+ghost use Rattle.encoding.specs.Numberings.{IsNumbering};
+ghost use Rattle.decoding.specs.Needs.{place_in};
+ghost use Rattle.decoding.specs.Steps.{IsStepOf, kind_at};
+ghost use Rattle.refusing.specs.Refusing.{AreReadVertices, AreThere, IsNext, IsStepWith};
+
+use crate::speaking::{spoken_terms, term_refs};
+use catalogue::catalogues_are_well_formed;
+use derivations::{Derivation, TermRef};
+use encoding::{Inputs, Table};
+use incompatibilities::{Id, Origin, Store};
+use std::alloc::{AllocError, Global};
+use version_sets::States;
+use vertices::Kind;
+
+/// The kind that has a number.
+fn kind_at(number: u8) -> Kind
+    ensures { kind_view result ≡ kind_at number }
+{
+    match number {
+        1 => Kind::Needed,
+        2 => Kind::Target,
+        3 => Kind::HasFeature,
+        4 => Kind::WantsFeature,
+        5 => Kind::FeatureOnFeature,
+        6 => Kind::FeatureOnDependency,
+        7 => Kind::FeatureAsks,
+        8 => Kind::NewestListed,
+        9 => Kind::WeakFeature,
+        _ => Kind::Root,
+    }
+}
+
+/// How many needed entries come before one.
+fn place_of(places: &[usize], id: Id) -> u64
+    ensures { result ≡ place_in places.now id }
+{
+    match places.get(id.index()) {
+        Some(place) => *place as u64,
+        None => 0,
+    }
+}
+
+/// Puts a step of an origin at the end.
+fn push_by<'a>(
+    alloc: Global,
+    table: &Table<'a>,
+    places: &[usize],
+    steps: &mut Derivation,
+    origin: Origin,
+    terms: &[TermRef<'_, '_>],
+) -> Result<(), AllocError>
+    requires valid { AreReadVertices table.now }
+    requires there { AreThere table.now (place_in places.now) (length steps.old) origin }
+    requires terms { AreNewTerms (term_ref_views terms.now) }
+    ensures { OnOk result ((s : Step) × (steps.new ≡ steps.old ++ s ∷ []) × IsStepWith table.now (place_in places.now) origin (ordered_terms (term_ref_views terms.now)) s) }
+{
+    match origin {
+        Origin::Axiom(number) => steps.push_axiom(alloc, kind_at(number), terms),
+        Origin::Combined(first, second, number) => match table.vertex(number) {
+            Some(vertex) => {
+                let first = place_of(places, first);
+                let second = place_of(places, second);
+                steps.push_combination(alloc, first, second, vertex, terms)
+            }
+            None => Ok(()),
+        },
+    }
+}
+
+/// Puts an entry's step at the end.
+pub(crate) fn push_step<'a, S: States + Drop>(
+    alloc: Global,
+    inputs: &Inputs<'a>,
+    table: &Table<'a>,
+    store: &Store<S>,
+    places: &[usize],
+    steps: &mut Derivation,
+    id: Id,
+) -> Result<(), AllocError>
+    requires parts { HasValidParts (problem inputs.now) }
+    requires numbering { IsNumbering (problem inputs.now) table.now }
+    requires next { IsNext (problem inputs.now) table.now (entries_view S.tests store.now) (place_in places.now) (length steps.old) id }
+    ensures { OnOk result ((s : Step) × (steps.new ≡ steps.old ++ s ∷ []) × IsStepOf (problem inputs.now) table.now (place_in places.now) (entry (entries_view S.tests store.now) id) s) }
+{
+    catalogues_are_well_formed(inputs.manifest, inputs.catalogue);
+    let terms = spoken_terms(alloc, inputs, table, store.get(id).terms())?;
+    let refs = term_refs(alloc, terms.as_slice())?;
+    push_by(
+        alloc,
+        table,
+        places,
+        steps,
+        store.origin(id),
+        refs.as_slice(),
+    )
+}
