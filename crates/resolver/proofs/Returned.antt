@@ -1,5 +1,6 @@
 -- A lock that was given comes back where it is handed in as the old one.
-use Rattle.std.proofs.Common.{◌≡◌, ◌⊎◌, ℕ, Bool, true, false, List, Contains, Option, Some, Result, Ok, Err, inl, inr, refl, sym, ap, ◌∙◌, subst}
+use Rattle.std.proofs.Common.{◌≡◌, ◌⊎◌, ◌↔◌, ℕ, Bool, true, false, List, Vec, Contains, Option, Some, Result, Ok, Err, inl, inr, refl, sym, ap, ◌∙◌, subst}
+use Rattle.std.specs.declared.alloc.Global.{Global}
 use Rattle.model.specs.Outcome.{◌>>=◌}
 use Rattle.model.specs.Candidates.{RustVersion}
 use Rattle.model.specs.Content.{Content}
@@ -8,6 +9,7 @@ use Rattle.manifest.specs.Manifests.{ManifestView, manifest_of_bytes}
 use Rattle.lockfile.specs.Locks.{content_of_bytes}
 use Rattle.lockfile.specs.declared.fault.LockFault.{LockFault}
 use Rattle.index_reader.specs.Folders.{Files, MemoryCalls}
+use Rattle.index_reader.specs.declared.record.Skip.{Skip}
 use Rattle.catalogue.specs.Loads.{rust_for}
 use Rattle.catalogue.specs.Problems.{problem_in}
 use Rattle.catalogue.specs.declared.fault.LoadFault.{LoadFault}
@@ -17,11 +19,12 @@ use Rattle.vertices.proofs.Bound.{same-Ok, same-Some}
 use Rattle.resolver.specs.Faults.{is_memory, of_load}
 use Rattle.resolver.specs.Inputs.{RequestView, AreRead, IsRefused, LoadsFor, EndsWith, old_of_bytes, packages_in, problem_of}
 use Rattle.resolver.specs.Inputs.IsRefused.{by_manifest, by_lock, by_index}
-use Rattle.resolver.specs.Answers.{HoldsOld, IsLock, IsAnswered, IsUnanswered, Resolves, bytes_of}
-use Rattle.resolver.specs.Returning.{handed_in, ComesBack, names_of}
+use Rattle.resolver.specs.Answers.{HoldsOld, IsLock, IsAnswer, IsAnswered, IsUnanswered, Resolves}
+use Rattle.resolver.specs.Returning.{handed_in, ComesBack, IsSomeLock, names_of}
 use Rattle.resolver.specs.declared.inputs.Inputs.{Inputs}
 use Rattle.resolver.specs.declared.fault.Fault.{Fault}
 use Rattle.resolver.specs.declared.resolving.Answer.{Answer}
+use Rattle.resolver.specs.declared.resolving.Answer.TheVariants.{Lock, Unsolvable}
 use Rattle.resolver.proofs.Again.{checksums-hold, few-enough, short-enough, lines-enough, still-valid, unasked-more}
 
 ok-err : {Y E : Type 0} (r : Result Y E) (x : Y) (e : E) → r ≡ Ok x → r ≡ Err e → ⊥
@@ -41,20 +44,20 @@ record IsGiven (inputs : Inputs) (bytes : List ℕ) : Type 0 where
   reads : content_of_bytes bytes ≡ Ok content
   valid : IsValidSelection (problem_of inputs) content
 
-given : (request : RequestView) (inputs : Inputs) (answer : Answer) → old_of_bytes request.old ≡ Ok inputs.old → IsLock request inputs answer → IsGiven inputs (bytes_of answer)
-given request inputs answer says (inl k, skips) = record {
+given : (old : Option (List ℕ)) (inputs : Inputs) (bytes : List ℕ) (kept : Bool) → old_of_bytes old ≡ Ok inputs.old → IsLock old inputs bytes kept → IsGiven inputs bytes
+given old inputs bytes kept says (inl k) = record {
   content = k.holds.0;
-  reads = old-says (bytes_of answer) k.holds.0 inputs.old (ap old_of_bytes (sym k.own) ∙ says) k.holds.1;
+  reads = old-says bytes k.holds.0 inputs.old (ap old_of_bytes (sym k.own) ∙ says) k.holds.1;
   valid = k.holds.2;
 }
-given request inputs answer says (inr n, skips) = record { content = n.content; reads = n.reads; valid = n.preferred.valid }
+given old inputs bytes kept says (inr n) = record { content = n.content; reads = n.reads; valid = n.chosen.valid }
 
-module _ (failed : Files → ℕ) (folder : Files) (request : RequestView) (answer : Answer) (after : Files) (first : IsAnswered MemoryCalls failed request folder answer after) where
-  one : IsGiven first.inputs (bytes_of answer)
-  one = given request first.inputs answer first.read.lock_says first.lock
+module _ (failed : Files → ℕ) (folder : Files) (request : RequestView) (bytes : Vec ℕ Global) (kept : Bool) (skips : Vec Skip Global) (after : Files) (first : IsAnswered MemoryCalls failed request folder (Lock bytes kept skips) after) where
+  one : IsGiven first.inputs bytes.items
+  one = given request.old first.inputs bytes.items kept first.read.lock_says first.is.0
 
   abbrev again : RequestView
-  again = handed_in request answer
+  again = handed_in request bytes.items
 
   -- the second run reads the same manifest, and as its old lock what the first gave
   old-is : old_of_bytes again.old ≡ Ok (Some one.content)
@@ -117,12 +120,13 @@ module _ (failed : Files → ℕ) (folder : Files) (request : RequestView) (answ
   refused f later (by_index m old e end h k l) =
       loads-on end m old e (same-Ok m (first.inputs).manifest (sym h ∙ first.read.manifest_says)) (same-Ok old (Some one.content) (sym k ∙ old-is)) l
 
-  comes : (result : Result Answer Fault) (later : Files) → Resolves MemoryCalls failed again folder result later → ComesBack answer result
-  comes (Ok other) later second = by second.lock
+  comes : (result : Result Answer Fault) (later : Files) → Resolves MemoryCalls failed again folder result later → ComesBack bytes.items result
+  comes (Ok other) later second = by other second.is
     where
-      by : IsLock again second.inputs other → ComesBack answer (Ok other)
-      by (inl k, skips) = (sym (same-Some k.own), k.is_kept)
-      by (inr n, skips) = absurd (n.not_held (held second.inputs later second.read))
+      by : (other : Answer) → IsAnswer again second.inputs other → ComesBack bytes.items (Ok other)
+      by (Lock more kept' skips') (inl k, s) = (sym (same-Some k.own), k.is_kept)
+      by (Lock more kept' skips') (inr n, s) = absurd (n.not_held (held second.inputs later second.read))
+      by (Unsolvable derivation text skips') (u, s) = let old = held second.inputs later second.read in absurd (u.none old.0 old.2)
   comes (Err f) later second = by (is_memory f) refl second
     where
       by : (b : Bool) → is_memory f ≡ b → EndsWith MemoryCalls failed again folder b (IsRefused MemoryCalls failed again folder f later ⊎ IsUnanswered MemoryCalls failed again folder f later) later
@@ -131,13 +135,19 @@ module _ (failed : Files → ℕ) (folder : Files) (request : RequestView) (answ
       by false e (inl r) = refused f later r
       by false e (inr u) = absurd (u.not_held (held u.inputs later u.read))
 
-pub comes_back : (failed : Files → ℕ) (folder : Files) (request : RequestView) (answer : Answer) (after : Files) (result : Result Answer Fault) (later : Files)
-    → Resolves MemoryCalls failed request folder (Ok answer) after
-    → Resolves MemoryCalls failed (handed_in request answer) folder result later → ComesBack answer result
-comes_back failed folder request answer after result later first second = comes failed folder request answer after first result later second
+pub comes_back : (failed : Files → ℕ) (folder : Files) (request : RequestView) (bytes : Vec ℕ Global) (kept : Bool) (skips : Vec Skip Global) (after : Files) (result : Result Answer Fault) (later : Files)
+    → Resolves MemoryCalls failed request folder (Ok (Lock bytes kept skips)) after
+    → Resolves MemoryCalls failed (handed_in request bytes.items) folder result later → ComesBack bytes.items result
+comes_back failed folder request bytes kept skips after result later first second = comes failed folder request bytes kept skips after first result later second
 
-pub no_more_asked : (failed : Files → ℕ) (folder : Files) (request : RequestView) (answer : Answer) (after : Files) (again : Answer) (later : Files)
-    (first : IsAnswered MemoryCalls failed request folder answer after)
-    (second : IsAnswered MemoryCalls failed (handed_in request answer) folder again later)
+pub no_more_asked : (failed : Files → ℕ) (folder : Files) (request : RequestView) (bytes : Vec ℕ Global) (kept : Bool) (skips : Vec Skip Global) (after : Files) (again : Answer) (later : Files)
+    (first : IsAnswered MemoryCalls failed request folder (Lock bytes kept skips) after)
+    (second : IsAnswered MemoryCalls failed (handed_in request bytes.items) folder again later)
     (name : List ℕ) → Contains (names_of second.inputs) name → Contains (names_of first.inputs) name
-no_more_asked failed folder request answer after other later first second = no-more failed folder request answer after first second.inputs later second.read
+no_more_asked failed folder request bytes kept skips after other later first second = no-more failed folder request bytes kept skips after first second.inputs later second.read
+
+-- an answer is a lock where there is a selection, and a refusal where there is none
+pub locks_selected : (request : RequestView) (inputs : Inputs) (answer : Answer) → IsAnswer request inputs answer → IsSomeLock answer ↔ ((content : Content) × IsValidSelection (problem_of inputs) content)
+locks_selected request inputs (Lock bytes kept skips) (inl k, s) = (λ _. (k.holds.0, k.holds.2), λ _. tt)
+locks_selected request inputs (Lock bytes kept skips) (inr n, s) = (λ _. (n.content, n.chosen.valid), λ _. tt)
+locks_selected request inputs (Unsolvable derivation text skips) (u, s) = (λ none. absurd none, λ some. u.none some.0 some.1)

@@ -1,16 +1,22 @@
 -- What the calls of this crate answer.
-use Rattle.std.specs.Prelude.{◌≡◌, ◌≢◌, ◌⊎◌, ◌↔◌, ℕ, Bool, true, false, List, map, Option, Some, Result, Ok, Err, Vec}
+use Rattle.std.specs.Prelude.{◌≡◌, ◌≢◌, ◌⊎◌, ◌↔◌, ℕ, Bool, true, false, List, map, Option, Some, Result, Ok, Err, Vec, string_bytes}
 use Rattle.std.specs.declared.alloc.Global.{Global}
 use Rattle.model.specs.Content.{Content}
+use Rattle.model.specs.Derivation.{Step, IsAccepted}
 use Rattle.model.specs.Selection.{IsValidSelection}
 use Rattle.index_reader.specs.Views.{skip_view}
-use Rattle.index_reader.specs.Files.{SkipView}
+use Rattle.index_reader.specs.declared.record.Skip.{Skip}
 use Rattle.lockfile.specs.Locks.{content_of_bytes}
 use Rattle.lockfile.specs.Spelling.{spelling}
 use Rattle.catalogue.specs.Runs.{Calls}
 use Rattle.selection.specs.Verdicts.{Says}
 use Rattle.selection.specs.declared.verdict.Verdict.{Verdict}
 use Rattle.selection.specs.declared.verdict.Verdict.TheVariants.{Valid}
+use Rattle.explainer.specs.Explanations.{explanation_of}
+use Rattle.solver.specs.Solving as solving
+use Rattle.solver.specs.declared.solving.Outcome.{Outcome}
+use Rattle.solver.specs.declared.solving.Outcome.TheVariants.{Selection}
+use Rattle.solver.specs.declared.solving.Outcome.TheVariants as outcome
 use Rattle.walks.specs.Preferred.{preferred_in, IsPreferred, HasBareRoot}
 use Rattle.resolver.specs.Faults.{is_memory}
 use Rattle.resolver.specs.Inputs.{RequestView, AreRead, IsRefused, EndsWith, UnlessMemory, problem_of}
@@ -18,7 +24,9 @@ use Rattle.resolver.specs.declared.inputs.Inputs.{Inputs}
 use Rattle.resolver.specs.declared.fault.Fault.{Fault}
 use Rattle.resolver.specs.declared.fault.Fault.TheVariants as fault
 use Rattle.resolver.specs.declared.resolving.Answer.{Answer}
-use Rattle.resolver.specs.declared.resolving.Answer.TheVariants.{Lock}
+use Rattle.resolver.specs.declared.resolving.Answer.TheVariants.{Lock, Unsolvable}
+use Rattle.resolver.specs.declared.resolving.Reply.{Reply}
+use Rattle.resolver.specs.declared.resolving.Reply.TheVariants as reply
 
 -- ---- the verdict on a lock
 
@@ -52,35 +60,46 @@ pub record IsKept (old : Option (List ℕ)) (inputs : Inputs) (bytes : List ℕ)
   pub own : old ≡ Some bytes
   pub is_kept : kept ≡ true
 
--- the spelling of the preferred walk, which reads as it
+-- a valid selection whose root has no checksum; where the preferred walk is complete and valid, that walk
+pub record IsChosen (inputs : Inputs) (content : Content) : Type 0 where
+  pub valid : IsValidSelection (problem_of inputs) content
+  pub bare_root : HasBareRoot (problem_of inputs) content
+  pub preferred : (walk : Content) → IsPreferredBy inputs walk → walk ≡ content
+
+-- the spelling of such a content, which reads as it
 pub record IsNew (inputs : Inputs) (bytes : List ℕ) (kept : Bool) : Type 0 where
   pub not_held : HoldsOld inputs → ⊥
   pub content : Content
-  pub preferred : IsPreferredBy inputs content
+  pub chosen : IsChosen inputs content
   pub reads : content_of_bytes bytes ≡ Ok content
   pub spelled : bytes ≡ spelling content
-  pub bare_root : HasBareRoot (problem_of inputs) content
   pub is_new : kept ≡ false
 
-abbrev pub bytes_of : Answer → List ℕ
-bytes_of (Lock bytes kept skips) = bytes.items
+abbrev pub IsLock : Option (List ℕ) → Inputs → List ℕ → Bool → Type 0
+IsLock old inputs bytes kept = IsKept old inputs bytes kept ⊎ IsNew inputs bytes kept
 
-abbrev pub kept_of : Answer → Bool
-kept_of (Lock bytes kept skips) = kept
+-- an accepted derivation and what it tells; no content at all is a valid selection
+pub record IsUnsolvable (inputs : Inputs) (derivation : List Step) (text : List ℕ) : Type 0 where
+  pub accepted : IsAccepted (problem_of inputs) derivation
+  pub none : (content : Content) → IsValidSelection (problem_of inputs) content → ⊥
+  pub explained : text ≡ explanation_of derivation
 
-abbrev pub skips_of : Answer → List SkipView
-skips_of (Lock bytes kept skips) = map skip_view skips.items
+-- a lock or a refusal, and the lines that loading skipped
+abbrev pub IsAnswer : RequestView → Inputs → Answer → Type 0
+IsAnswer request inputs (Lock bytes kept skips) = IsLock request.old inputs bytes.items kept × (map skip_view skips.items ≡ (inputs.catalogue).skips)
+IsAnswer request inputs (Unsolvable derivation text skips) = IsUnsolvable inputs derivation (string_bytes text) × (map skip_view skips.items ≡ (inputs.catalogue).skips)
 
--- the old lock's own bytes, or new ones, and the lines that loading skipped
-abbrev pub IsLock : RequestView → Inputs → Answer → Type 0
-IsLock request inputs answer =
-    (IsKept request.old inputs (bytes_of answer) (kept_of answer) ⊎ IsNew inputs (bytes_of answer) (kept_of answer)) × (skips_of answer ≡ (inputs.catalogue).skips)
-
--- why there is no lock although all inputs were read
+-- why there is no answer although all inputs were read: what was chosen has a spelling that doesn't read as it
 abbrev pub IsWithout : Inputs → Fault → Type 0
-IsWithout inputs fault.NotReadBack = (content : Content) × IsPreferredBy inputs content × (content_of_bytes (spelling content) ≢ Ok content)
-IsWithout inputs fault.NotYet = (content : Content) → IsPreferredBy inputs content → ⊥
+IsWithout inputs fault.NotReadBack = (content : Content) × IsChosen inputs content × (content_of_bytes (spelling content) ≢ Ok content)
 IsWithout inputs _ = ⊥
+
+-- ---- on the way
+
+-- what is chosen, or why there is nothing to choose
+abbrev pub IsFound : Inputs → Outcome → Type 0
+IsFound inputs (Selection content) = IsChosen inputs content
+IsFound inputs (outcome.Unsolvable derivation) = solving.IsRefused (problem_of inputs) derivation
 
 -- what is written is the content's spelling, which reads as the content
 pub record IsWritten (content : Content) (bytes : List ℕ) : Type 0 where
@@ -91,23 +110,27 @@ abbrev pub Writes : Content → Result (Vec ℕ Global) Fault → Type 0
 Writes content (Ok bytes) = IsWritten content bytes.items
 Writes content (Err f) = UnlessMemory (is_memory f) ((f ≡ fault.NotReadBack) × (content_of_bytes (spelling content) ≢ Ok content))
 
--- the bytes of a new lock, where the old one isn't valid
-abbrev pub GivesAnew : Inputs → Result (Vec ℕ Global) Fault → Type 0
-GivesAnew inputs (Ok bytes) = IsNew inputs bytes.items false
-GivesAnew inputs (Err f) = UnlessMemory (is_memory f) (IsWithout inputs f)
+-- an answer but for the skipped lines
+abbrev pub IsReply : Option (List ℕ) → Inputs → Reply → Type 0
+IsReply old inputs (reply.Lock bytes kept) = IsLock old inputs bytes.items kept
+IsReply old inputs (reply.Unsolvable derivation text) = IsUnsolvable inputs derivation (string_bytes text)
 
--- the bytes of the lock, and whether they are the old lock's own
-abbrev pub Gives : Option (List ℕ) → Inputs → Result (Vec ℕ Global × Bool) Fault → Type 0
-Gives old inputs (Ok given) = IsKept old inputs (given.0).items given.1 ⊎ IsNew inputs (given.0).items given.1
+abbrev pub with_skips : Reply → Vec Skip Global → Answer
+with_skips (reply.Lock bytes kept) skips = Lock bytes kept skips
+with_skips (reply.Unsolvable derivation text) skips = Unsolvable derivation text skips
+
+-- the same, or that there is none
+abbrev pub Gives : Option (List ℕ) → Inputs → Result Reply Fault → Type 0
+Gives old inputs (Ok given) = IsReply old inputs given
 Gives old inputs (Err f) = UnlessMemory (is_memory f) ((HoldsOld inputs → ⊥) × IsWithout inputs f)
 
 module _ {S : Type 0} (calls : Calls S) (failed : S → ℕ) (request : RequestView) (before : S) where
   pub record IsAnswered (answer : Answer) (after : S) : Type 0 where
     pub inputs : Inputs
     pub read : AreRead calls failed request before inputs after
-    pub lock : IsLock request inputs answer
+    pub is : IsAnswer request inputs answer
 
-  -- the old lock isn't valid, and there is no new one
+  -- the old lock isn't valid, and there is no answer
   pub record IsUnanswered (f : Fault) (after : S) : Type 0 where
     pub inputs : Inputs
     pub read : AreRead calls failed request before inputs after

@@ -28,7 +28,6 @@ is_memory (fault.FolderFailed path) = false
 is_memory (fault.TooLarge which) = false
 is_memory (fault.ChecksumChanged name version) = false
 is_memory fault.NotReadBack = false
-is_memory fault.NotYet = false
 
 -- what is wrong with the manifest, as a fault of a run
 abbrev pub of_manifest : ManifestFault → Fault

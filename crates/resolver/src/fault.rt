@@ -49,8 +49,6 @@ pub enum Fault {
     ChecksumChanged(PackageName, Version),
     /// 14: the spelling of the new lock is past a lock's limit, or doesn't read as the same content.
     NotReadBack,
-    /// 15: the old lock is missing or isn't a valid selection, nor is the preferred walk, and to find another one isn't there yet.
-    NotYet,
 }
 
 /// Why a derivation isn't checked.
@@ -82,7 +80,6 @@ impl fmt::Display for Fault {
                 write!(f, "fault 12 ChecksumChanged at {name} {version}")
             }
             Fault::NotReadBack => f.write_str("fault 14 NotReadBack"),
-            Fault::NotYet => f.write_str("fault 15 NotYet search"),
         }
     }
 }

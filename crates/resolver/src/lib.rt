@@ -12,6 +12,8 @@ mod writing;
 
 pub use checking::check_bytes;
 pub use fault::{CheckFault, Fault, TooLarge};
-pub use laws::{given_locks_ask_for_no_more, given_locks_come_back};
+pub use laws::{
+    given_locks_ask_for_no_more, given_locks_come_back, locks_are_given_where_there_are_selections,
+};
 pub use resolving::{Answer, resolve};
 pub use verifying::verify_bytes;

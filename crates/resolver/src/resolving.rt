@@ -2,14 +2,18 @@
 
 ghost use Rattle.std.specs.Prelude.{◌≡◌, ◌↔◌, true, IfOk, Ok, option_copied};
 ghost use Rattle.resolver.specs.Inputs.{old_of_bytes};
-ghost use Rattle.resolver.specs.Answers.{HoldsOld, Gives, GivesAnew, Resolves};
+ghost use Rattle.resolver.specs.Answers.{HoldsOld, Gives, IsFound, Resolves, with_skips};
 
 use crate::fault::Fault;
 use crate::inputs::{Inputs, Request, read_inputs};
 use crate::writing::written;
 use catalogue::{Prefer, Source};
+use derivations::Derivation;
+use explainer::explain;
 use index_reader::{Folder, Skip};
+use model::walks_are_unique;
 use selection::{Verdict, verify};
+use solver::{Outcome, solve};
 use std::alloc::{AllocError, Global};
 use walks::preferred;
 
@@ -24,14 +28,31 @@ pub enum Answer {
         /// The index lines that were skipped, in the order of loading.
         skips: Vec<Skip>,
     },
+    /// That no lock is a valid selection.
+    Unsolvable {
+        /// Why, for the checker.
+        derivation: Derivation,
+        /// Why, for people.
+        text: String,
+        /// The index lines that were skipped, in the order of loading.
+        skips: Vec<Skip>,
+    },
 }
 
-/// A lock for a manifest: the old lock's own bytes exactly where they read as a valid selection; else the spelling of the preferred walk, where
-/// that is complete and valid. To search for another selection isn't there yet.
+/// An answer but for the skipped lines.
+#[derive(Drop)]
+enum Reply {
+    Lock(Vec<u8>, bool),
+    Unsolvable(Derivation, String),
+}
+
+/// A lock for a manifest: the old lock's own bytes exactly where they read as a valid selection; else new bytes that
+/// read as one, the preferred walk where that is complete and valid. Or that there is no valid selection at all, with a
+/// derivation that the checker accepts.
 ///
 /// # Errors
-/// Want of memory; the first fault of the manifest, of the old lock and of loading, in this order; `NotReadBack` where the new bytes don't read
-/// as what they spell; `NotYet` where there is no lock without a search.
+/// Want of memory; the first fault of the manifest, of the old lock and of loading, in this order; `NotReadBack` where
+/// the new bytes don't read as what they spell.
 pub fn resolve<F: Folder>(
     alloc: Global,
     manifest: &[u8],
@@ -49,24 +70,34 @@ pub fn resolve<F: Folder>(
         prefer,
     };
     let inputs = read_inputs(alloc, &request, folder)?;
-    let (bytes, kept) = bytes_of(alloc, old, &inputs)?;
-    Ok(Answer::Lock {
-        bytes,
-        kept,
-        skips: inputs.catalogue.into_skips(),
-    })
+    let reply = reply_to(alloc, old, &inputs)?;
+    Ok(with_skips(reply, inputs.catalogue.into_skips()))
 }
 
-/// The bytes of the lock, and whether they are the old lock's own.
-fn bytes_of(alloc: Global, old: Option<&[u8]>, inputs: &Inputs) -> Result<(Vec<u8>, bool), Fault>
+/// The answer with the skipped lines.
+fn with_skips(reply: Reply, skips: Vec<Skip>) -> Answer
+    ensures { result ≡ with_skips reply skips }
+{
+    match reply {
+        Reply::Lock(bytes, kept) => Answer::Lock { bytes, kept, skips },
+        Reply::Unsolvable(derivation, text) => Answer::Unsolvable {
+            derivation,
+            text,
+            skips,
+        },
+    }
+}
+
+/// The old lock's own bytes where they say a valid selection, else what is found anew.
+fn reply_to(alloc: Global, old: Option<&[u8]>, inputs: &Inputs) -> Result<Reply, Fault>
     requires { old_of_bytes (option_copied old) ≡ Ok inputs.now.old }
     ensures { Gives (option_copied old.entry) inputs.now result }
 {
     if !holds_old(alloc, inputs)? {
-        return Ok((anew(alloc, inputs)?, false));
+        return anew(alloc, old, inputs);
     }
     match old {
-        Some(bytes) => Ok((Vec::from_slice(alloc, bytes)?, true)),
+        Some(bytes) => Ok(Reply::Lock(Vec::from_slice(alloc, bytes)?, true)),
         None => unreachable!(),
     }
 }
@@ -84,13 +115,27 @@ fn holds_old(alloc: Global, inputs: &Inputs) -> Result<bool, AllocError>
     }
 }
 
-/// The spelling of the preferred walk.
-fn anew(alloc: Global, inputs: &Inputs) -> Result<Vec<u8>, Fault>
+/// The spelling of a new content, or why there is none.
+fn anew(alloc: Global, old: Option<&[u8]>, inputs: &Inputs) -> Result<Reply, Fault>
     requires not_held { HoldsOld inputs.now → ⊥ }
-    ensures { GivesAnew inputs.now result }
+    ensures { Gives (option_copied old.entry) inputs.now result }
 {
+    match found(alloc, inputs)? {
+        Outcome::Selection(content) => Ok(Reply::Lock(written(alloc, &content)?, false)),
+        Outcome::Unsolvable(derivation) => {
+            let text = explain(alloc, &derivation)?;
+            Ok(Reply::Unsolvable(derivation, text))
+        }
+    }
+}
+
+/// The preferred walk, where that is complete and valid; else what a search comes to.
+fn found(alloc: Global, inputs: &Inputs) -> Result<Outcome, AllocError>
+    ensures { IfOk result (λ o. IsFound inputs.now o) }
+{
+    walks_are_unique();
     match preferred(alloc, &inputs.manifest, &inputs.catalogue)? {
-        Some(content) => written(alloc, &content),
-        None => Err(Fault::NotYet),
+        Some(content) => Ok(Outcome::Selection(content)),
+        None => Ok(solve(alloc, &inputs.manifest, &inputs.catalogue)?.outcome),
     }
 }
