@@ -1,5 +1,6 @@
 //! A chain: each vertex in state 1 asks for the next in state 1.
 
+use crate::watch::{end, lap};
 use propagation::Progress;
 use search_trials::Trial;
 use std::alloc::{AllocError, Global};
@@ -19,31 +20,46 @@ fn links(alloc: Global, length: u32) -> Result<Trial<WordStates>, AllocError> {
     Ok(trial)
 }
 
-/// How long it takes where no entry was looked at before the decision, so that each is settled and walked.
-fn run_unsettled(rt: &HostRuntime, length: u32) -> io::Result<()> {
-    let mut trial = links(rt.alloc(), length)?;
-    trial.decide(0, 1)?;
+/// Propagates and prints how long that took; whether it came to rest.
+fn propagate(rt: &HostRuntime, trial: &mut Trial<WordStates>, name: &str) -> io::Result<bool> {
     let start = Instant::now(rt)?;
-    trial.propagate()?;
-    println!(rt; "unsettled {}", start.elapsed(rt)?.as_nanos())
+    let progress = trial.propagate()?;
+    lap(rt, name, start)?;
+    Ok(progress == Progress::Fixpoint)
 }
 
-/// How long it takes to make the store, to settle it, to propagate along it, and to cut.
-pub(crate) fn run(rt: &HostRuntime, length: u32) -> io::Result<()> {
-    run_unsettled(rt, length)?;
+/// Makes the store, and prints how long that took.
+fn make(rt: &HostRuntime, length: u32) -> io::Result<Trial<WordStates>> {
     let start = Instant::now(rt)?;
-    let mut trial = links(rt.alloc(), length)?;
-    println!(rt; "make {}", start.elapsed(rt)?.as_nanos())?;
-    let start = Instant::now(rt)?;
-    let rests = trial.propagate()? == Progress::Fixpoint;
-    println!(rt; "settle {}", start.elapsed(rt)?.as_nanos())?;
-    let start = Instant::now(rt)?;
-    let decides = trial.decide(0, 1)?;
-    let follows = trial.propagate()? == Progress::Fixpoint;
-    println!(rt; "propagate {}", start.elapsed(rt)?.as_nanos())?;
-    println!(rt; "assigned {}", trial.assigned())?;
+    let trial = links(rt.alloc(), length)?;
+    lap(rt, "make", start)?;
+    Ok(trial)
+}
+
+/// Cuts, and prints how long that took.
+fn cut(rt: &HostRuntime, trial: &mut Trial<WordStates>) -> io::Result<()> {
     let start = Instant::now(rt)?;
     trial.cut(0);
-    println!(rt; "cut {}", start.elapsed(rt)?.as_nanos())?;
-    println!(rt; "ended {}", rests && decides && follows)
+    lap(rt, "cut", start)
+}
+
+/// Settles the store, propagates along it and cuts, each with its time; whether the decision could be made and
+/// propagation came to rest before and after it.
+fn follow(rt: &HostRuntime, trial: &mut Trial<WordStates>) -> io::Result<bool> {
+    let rests = propagate(rt, trial, "settle")?;
+    let decides = trial.decide(0, 1)?;
+    let follows = propagate(rt, trial, "propagate")?;
+    cut(rt, trial)?;
+    Ok(rests & decides & follows)
+}
+
+/// How long it takes to make the store, to settle it, to propagate along it, and to cut; and first how long where no
+/// entry was looked at before the decision, so that each is settled and walked.
+pub(crate) fn run(rt: &HostRuntime, length: u32) -> io::Result<()> {
+    let mut trial = links(rt.alloc(), length)?;
+    trial.decide(0, 1)?;
+    propagate(rt, &mut trial, "unsettled")?;
+    trial = make(rt, length)?;
+    let ended = follow(rt, &mut trial)?;
+    end(rt, trial.assigned(), ended)
 }

@@ -7,6 +7,7 @@ mod kept;
 mod pigeons;
 mod sets;
 mod ternary;
+mod watch;
 
 use std::{env, io};
 

@@ -2,6 +2,7 @@
 
 ghost use Rattle.std.specs.Prelude.{◌≤◌};
 
+use crate::watch::{end, lap};
 use propagation::Progress;
 use search_trials::Trial;
 use std::alloc::{AllocError, Global};
@@ -9,33 +10,54 @@ use std::io;
 use std::time::{Clock, Instant};
 use version_sets::WordStates;
 
-/// No two pigeons sit in one hole.
-fn apart(alloc: Global, holes: u32) -> Result<Trial<WordStates>, AllocError>
+/// Two pigeons don't sit in one hole.
+fn part(
+    trial: &mut Trial<WordStates>,
+    first: usize,
+    second: usize,
+    holes: u32,
+) -> Result<(), AllocError>
     requires { holes ≤ 60 }
 {
-    let mut trial = Trial::new(alloc)?;
-    let pigeons = holes as usize + 1;
-    'pigeons: for _ in 0..pigeons {
+    'holes: for hole in 0..holes {
+        trial.forbid(&[(first, 1 << hole), (second, 1 << hole)])?;
+    }
+    Ok(())
+}
+
+/// One pigeon more than holes, of which no two sit in one.
+fn part_all(trial: &mut Trial<WordStates>, holes: u32) -> Result<(), AllocError>
+    requires { holes ≤ 60 }
+{
+    'pigeons: for _ in 0..holes + 1 {
         trial.grow(holes)?;
     }
-    'first: for first in 0..pigeons {
-        'second: for second in first + 1..pigeons {
-            'holes: for hole in 0..holes {
-                trial.forbid(&[(first, 1 << hole), (second, 1 << hole)])?;
-            }
+    'first: for first in 0..trial.vertices() {
+        'second: for second in first + 1..trial.vertices() {
+            part(trial, first, second, holes)?;
         }
     }
-    Ok(trial)
+    Ok(())
 }
 
 /// The first pigeon with a choice.
 fn open(trial: &Trial<WordStates>) -> Option<usize> {
-    (0..trial.vertices()).find(|vertex| trial.count(*vertex) > 1)
+    'vertices: for vertex in 0..trial.vertices() {
+        if trial.count(vertex) > 1 {
+            return Some(vertex);
+        }
+    }
+    None
 }
 
 /// The first hole from a number on that is left to a pigeon.
 fn hole_from(trial: &Trial<WordStates>, vertex: usize, low: u32) -> Option<u32> {
-    (low..64).find(|hole| trial.has(vertex, *hole))
+    'holes: for hole in low..64 {
+        if trial.has(vertex, hole) {
+            return Some(hole);
+        }
+    }
+    None
 }
 
 /// Puts the pigeon into its first hole from a number on; whether there is one.
@@ -81,13 +103,10 @@ fn try_all(trial: &mut Trial<WordStates>, alloc: Global) -> Result<bool, AllocEr
 
 /// How long all ways take, for at most 60 holes.
 pub(crate) fn run(rt: &HostRuntime, holes: u32) -> io::Result<()> {
-    if holes > 60 {
-        return Ok(());
-    }
-    let mut trial = apart(rt.alloc(), holes)?;
+    let mut trial = Trial::new(rt.alloc())?;
+    part_all(&mut trial, holes.min(60))?;
     let start = Instant::now(rt)?;
     let ended = try_all(&mut trial, rt.alloc())?;
-    println!(rt; "search {}", start.elapsed(rt)?.as_nanos())?;
-    println!(rt; "assigned {}", trial.assigned())?;
-    println!(rt; "ended {ended}")
+    lap(rt, "search", start)?;
+    end(rt, trial.assigned(), ended)
 }

@@ -1,9 +1,10 @@
-//! The files and the folder that a run reads.
+//! The files and the folder that a run reads, and the file that it writes.
 
 ghost use Rattle.std.specs.Prelude.{◌≡◌, ◌↔◌, None};
 ghost use Rattle.std.specs.IoError.{error_kind, raw_os_error};
 
 use crate::stop::Stop;
+use derivations::Derivation;
 use index_reader::DiskFolder;
 use std::alloc::AllocError;
 use std::fs;
@@ -45,6 +46,22 @@ pub(crate) fn read_proof<'a, R: Files + AllocGlobal>(
     path: &'a str,
 ) -> Result<Vec<u8>, Stop<'a>> {
     read_file(rt, path, u64::MAX)
+}
+
+/// The derivation of a refusal goes to a file, if one is named.
+pub(crate) fn write_proof<'a, R: Files + AllocGlobal>(
+    rt: &R,
+    path: Option<&'a str>,
+    derivation: &Derivation,
+) -> Result<(), Stop<'a>> {
+    let Some(path) = path else {
+        return Ok(());
+    };
+    let bytes = derivations::write(rt.alloc(), derivation)?;
+    match fs::write(rt, path, bytes.as_slice()) {
+        Ok(()) => Ok(()),
+        Err(_) => Err(Stop::CannotWriteFile(path)),
+    }
 }
 
 /// The old lock, if one is named; a file that isn't there is none.

@@ -1,6 +1,6 @@
 //! One run of the program: words in, a status and two texts out.
 
-use crate::files::{open, read_lock, read_manifest, read_old, read_proof};
+use crate::files::{open, read_lock, read_manifest, read_old, read_proof, write_proof};
 use crate::stop::Stop;
 use catalogue::{Prefer, Source, SourceFault};
 use checker::{Check, Reason};
@@ -16,6 +16,9 @@ use words::{Words, WordsFault, read_words};
 
 /// The status of a lock that is no valid selection.
 const INVALID: u8 = 1;
+
+/// The status of a manifest that has no lock.
+const UNSOLVABLE: u8 = 1;
 
 /// The status of a derivation that proves nothing.
 const REFUSED: u8 = 1;
@@ -53,8 +56,20 @@ pub fn run<R: Files + AllocGlobal + Clone + Drop>(
             lock,
             source,
             rust_first,
-            ..
-        } => run_resolve(rt, manifest, index, *lock, *source, *rust_first, out, err),
+            proof,
+        } => {
+            let request = Request {
+                manifest,
+                index,
+                lock: *lock,
+                source: *source,
+                rust_first: *rust_first,
+            };
+            match answer_to(rt, &request) {
+                Ok(answer) => print_answer(rt, &answer, *proof, out, err),
+                Err(stop) => Err(stop),
+            }
+        }
         Words::Check {
             manifest,
             index,
@@ -141,26 +156,30 @@ fn print_verdict<'a>(verdict: &Verdict, out: &mut impl Write) -> Result<u8, Stop
     after(written, status)
 }
 
-fn run_resolve<'a, R: Files + AllocGlobal + Clone + Drop>(
-    rt: &R,
+/// What a lock is asked for.
+#[derive(Drop)]
+struct Request<'a> {
     manifest: &'a str,
-    index: &str,
+    index: &'a str,
     lock: Option<&'a str>,
-    source: Option<&str>,
+    source: Option<&'a str>,
     rust_first: bool,
-    out: &mut impl Write,
-    err: &mut impl Write,
-) -> Result<u8, Stop<'a>> {
-    let source = source_of(rt, source)?;
-    let manifest = read_manifest(rt, manifest)?;
-    let old = read_old(rt, lock)?;
-    let mut folder = open(rt, index)?;
-    let prefer = if rust_first {
+}
+
+fn answer_to<'a, R: Files + AllocGlobal + Clone + Drop>(
+    rt: &R,
+    request: &Request<'a>,
+) -> Result<Answer, Stop<'a>> {
+    let source = source_of(rt, request.source)?;
+    let manifest = read_manifest(rt, request.manifest)?;
+    let old = read_old(rt, request.lock)?;
+    let mut folder = open(rt, request.index)?;
+    let prefer = if request.rust_first {
         Prefer::RustFirst
     } else {
         Prefer::Newest
     };
-    let Answer::Lock { bytes, skips, .. } = resolve(
+    let answer = resolve(
         rt.alloc(),
         manifest.as_slice(),
         &mut folder,
@@ -168,8 +187,33 @@ fn run_resolve<'a, R: Files + AllocGlobal + Clone + Drop>(
         &source,
         prefer,
     )?;
-    print_skips(skips.as_slice(), err);
-    after(out.write_all(bytes.as_slice()), 0)
+    Ok(answer)
+}
+
+/// A lock goes to `out`; of a refusal the derivation goes to the file for it, and then the text to `err`.
+fn print_answer<'a, R: Files + AllocGlobal>(
+    rt: &R,
+    answer: &Answer,
+    proof: Option<&'a str>,
+    out: &mut impl Write,
+    err: &mut impl Write,
+) -> Result<u8, Stop<'a>> {
+    match answer {
+        Answer::Lock { bytes, skips, .. } => {
+            print_skips(skips.as_slice(), err);
+            after(out.write_all(bytes.as_slice()), 0)
+        }
+        Answer::Unsolvable {
+            derivation,
+            text,
+            skips,
+        } => {
+            print_skips(skips.as_slice(), err);
+            write_proof(rt, proof, derivation)?;
+            let _ = err.write_all(text.as_bytes());
+            Ok(UNSOLVABLE)
+        }
+    }
 }
 
 fn print_skips(skips: &[Skip], err: &mut impl Write) {

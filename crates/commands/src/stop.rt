@@ -12,6 +12,7 @@ pub(crate) enum Stop<'a> {
     BadSource,
     CannotRead(&'a str),
     CannotWrite,
+    CannotWriteFile(&'a str),
 }
 
 impl fmt::Display for Stop<'_> {
@@ -21,6 +22,7 @@ impl fmt::Display for Stop<'_> {
             Stop::BadSource => f.write_str("bad source"),
             Stop::CannotRead(path) => write!(f, "cannot read {path}"),
             Stop::CannotWrite => f.write_str("cannot write"),
+            Stop::CannotWriteFile(path) => write!(f, "cannot write {path}"),
         }
     }
 }

@@ -1,19 +1,9 @@
-//! Tests of the crates that read: texts in, what they mean or why they are refused out.
+//! Tests of what no run of the program calls: a folder in memory, a line alone, a plain table, and the texts of its faults.
 #![tactic(auto)]
 
 #[cfg(test)]
-mod files;
-#[cfg(test)]
 mod folders;
-#[cfg(test)]
-mod groups;
 #[cfg(test)]
 mod lines;
 #[cfg(test)]
-mod locks;
-#[cfg(test)]
-mod manifests;
-#[cfg(test)]
 mod tables;
-#[cfg(test)]
-mod texts;

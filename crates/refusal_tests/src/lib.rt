@@ -1,11 +1,7 @@
-//! Tests of derivations as lines, of building them, and of what tells them.
+//! Tests of derivations as lines, and of one that is built.
 #![tactic(auto)]
 
 #[cfg(test)]
 mod built;
 #[cfg(test)]
-mod explanations;
-#[cfg(test)]
 mod lines;
-#[cfg(test)]
-mod terms;

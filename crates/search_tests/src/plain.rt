@@ -6,7 +6,7 @@ use std::alloc::{AllocError, Global};
 pub(crate) type Bits = (usize, u64);
 
 /// How the entries of a store stand to what is left.
-#[derive(Clone, Copy, PartialEq, Eq, Debug)]
+#[derive(Clone, Copy, PartialEq, Eq)]
 pub(crate) enum Found {
     /// All terms of some entry are satisfied.
     Conflict,

@@ -1,310 +1,236 @@
-//! Each test of the trail runs at both bodies, through the bound.
+//! The trail: each script is a row of calls and of what has to be there after them.
 
-ghost use Rattle.incompatibilities.specs.Incompatibilities.{LiesIn, states_at};
-ghost use Rattle.incompatibilities.specs.Stores.{EntryView, entries_view};
-ghost use Rattle.propagation.specs.Promises.{Stops};
-ghost use Rattle.propagation.specs.Trails.{trail_view};
-ghost use Rattle.propagation.specs.declared.propagating.Progress.TheVariants.{Conflict};
-ghost use Rattle.search_tests.specs.Spaces.{AllLie, IsOn, alike, space};
-ghost use Rattle.std.specs.Prelude.{◌≡◌, ◌<◌, ◌≤◌, IfOk, List, OnOk, length};
-ghost use Rattle.terms.specs.Terms.{terms_view};
-
-use crate::tests::{has_exactly, two_terms, write_set};
-use incompatibilities::{Id, Incompatibility, Origin, Store};
-use propagation::{Progress, Satisfier, Trail};
+use crate::plain::Bits;
+use incompatibilities::Id;
+use propagation::{Progress, Satisfier};
+use search_trials::Trial;
 use std::alloc::{AllocError, Global};
 use std::process::Abort;
-use std::test::Fail;
-use terms::Term;
-use version_sets::{ListStates, States, WordStates};
+use version_sets::States;
 
-/// The incompatibility of one state of a vertex and one of a later vertex.
-pub(crate) fn pair<S: States + Drop>(
-    alloc: Global,
-    vertices: usize,
-    universe: u32,
-    first: (usize, u32),
-    second: (usize, u32),
-) -> Result<Incompatibility<S>, AllocError>
-    requires small { universe ≤ 65536 }
-    requires first { first.1 < universe }
-    requires second { second.1 < universe }
-    requires rising { first.0 < second.0 }
-    requires within { second.0 < vertices }
-    ensures { IfOk result (λ i. LiesIn (alike vertices universe) (states_at (terms_view S.tests i))) }
-{
-    let first = Term {
-        vertex: first.0,
-        states: S::single(alloc, universe, first.1)?,
-    };
-    let second = Term {
-        vertex: second.0,
-        states: S::single(alloc, universe, second.1)?,
-    };
-    let mut terms = Vec::with_capacity(alloc, 2)?;
-    terms.push(first)?;
-    terms.push(second)?;
-    Ok(Incompatibility::new(terms))
+/// A call that has to be done, or what has to be there.
+enum Step {
+    /// One vertex more, with so many states.
+    Grow(u8),
+    /// An entry of one term.
+    Single(usize, u64),
+    /// An entry of two terms.
+    Forbid(Bits, Bits),
+    /// A decision.
+    Decide(usize, u32),
+    /// A cut.
+    Cut(usize),
+    /// Propagation, which comes to rest.
+    Rest,
+    /// What is left to a vertex.
+    Left(usize, u64),
+    /// What is left to each vertex.
+    AllLeft(u64),
+    /// The level.
+    Level(usize),
+    /// How many assignments there were.
+    Assigned(u64),
 }
 
-/// Puts an incompatibility into a store of these universes.
-pub(crate) fn put_in<S: States + Drop>(
-    store: &mut Store<S>,
-    vertices: usize,
-    universe: u32,
-    incompatibility: Incompatibility<S>,
-) -> Result<(), AllocError>
-    requires store { AllLie (alike vertices universe) (entries_view S.tests store.old) }
-    requires lies { LiesIn (alike vertices universe) (states_at (terms_view S.tests incompatibility)) }
-    ensures { OnOk result (AllLie (alike vertices universe) (entries_view S.tests store.new)) }
-{
-    store.add(incompatibility, Origin::Axiom(0))?;
+/// What is left to a vertex, as bits; its universe has at most four states.
+pub(crate) fn bits_at<S: States + Drop>(trial: &Trial<S>, vertex: usize) -> u64 {
+    let mut bits: u64 = 0;
+    'states: for state in 0..4 {
+        bits |= u64::from(trial.has(vertex, state)) << state;
+    }
+    bits
+}
+
+/// Whether each vertex has this left.
+fn all_left<S: States + Drop>(trial: &Trial<S>, bits: u64) -> bool {
+    let mut all = true;
+    'vertices: for vertex in 0..trial.vertices() {
+        all &= bits_at(trial, vertex) == bits;
+    }
+    all
+}
+
+/// Whether that is what has to be there.
+fn is_there<S: States + Drop>(trial: &Trial<S>, step: &Step) -> bool {
+    match step {
+        Step::Left(vertex, bits) => bits_at(trial, *vertex) == *bits,
+        Step::AllLeft(bits) => all_left(trial, *bits),
+        Step::Level(level) => trial.level() == *level,
+        Step::Assigned(assigned) => trial.assigned() == *assigned,
+        _ => false,
+    }
+}
+
+/// Does a call; whether it was done.
+fn calls<S: States + Drop>(trial: &mut Trial<S>, step: &Step) -> Result<bool, AllocError> {
+    match step {
+        Step::Grow(universe) => {
+            trial.grow(u32::from(*universe))?;
+            Ok(true)
+        }
+        Step::Forbid(first, second) => trial.forbid(&[*first, *second]),
+        Step::Decide(vertex, state) => trial.decide(*vertex, *state),
+        Step::Rest => Ok(trial.propagate()? == Progress::Fixpoint),
+        _ => Ok(is_there(trial, step)),
+    }
+}
+
+/// Whether a step comes out.
+fn takes<S: States + Drop>(trial: &mut Trial<S>, step: &Step) -> Result<bool, AllocError> {
+    match step {
+        Step::Single(vertex, bits) => trial.forbid(&[(*vertex, *bits)]),
+        Step::Cut(level) => {
+            trial.cut(*level);
+            Ok(true)
+        }
+        _ => calls(trial, step),
+    }
+}
+
+/// Takes the steps of a script.
+fn take_all<S: States + Drop>(
+    rt: &impl Abort,
+    trial: &mut Trial<S>,
+    script: &[Step],
+) -> Result<(), AllocError> {
+    'steps: for (place, step) in script.iter().enumerate() {
+        assert!(rt; takes(trial, step)?, "step {place}");
+    }
     Ok(())
 }
 
-/// A trail of vertices of one universe.
-pub(crate) fn fresh<S: States + Drop>(
-    alloc: Global,
-    vertices: usize,
-    universe: u32,
-) -> Result<Trail<S>, AllocError>
-    requires { universe ≤ 65536 }
-    ensures { IfOk result (λ t. (es : List EntryView) → AllLie (alike vertices universe) es → IsOn vertices es (trail_view S.tests t)) }
-{
-    let spaces = vec![in alloc; universe; vertices]?;
-    Trail::new(alloc, &spaces)
-}
+/// Vertex 0 isn't in state 0, and 1 in it rules out two states of 1.
+static WORKED: [Step; 9] = [
+    Step::Grow(2),
+    Step::Grow(3),
+    Step::Forbid((0, 0b01), (1, 0b111)),
+    Step::Forbid((0, 0b10), (1, 0b011)),
+    Step::Rest,
+    Step::Left(0, 0b10),
+    Step::Left(1, 0b100),
+    Step::Assigned(2),
+    Step::Level(0),
+];
 
-/// Propagates, on a trail that meets the store.
-pub(crate) fn settle<S: States + Drop>(
-    trail: &mut Trail<S>,
-    store: &Store<S>,
-    vertices: usize,
-) -> Result<Progress, AllocError>
-    requires { IsOn vertices (entries_view S.tests store.now) (trail_view S.tests trail.old) }
-    ensures on { IsOn vertices (entries_view S.tests store.now) (trail_view S.tests trail.new) }
-    ensures stops { IfOk result (λ p. Stops (entries_view S.tests store.now) (trail_view S.tests trail.new).sets p) }
-{
-    trail.propagate(store)
-}
+/// The same store, with a decision that is cut.
+static DECIDED: [Step; 11] = [
+    Step::Grow(2),
+    Step::Grow(3),
+    Step::Forbid((0, 0b01), (1, 0b111)),
+    Step::Forbid((0, 0b10), (1, 0b011)),
+    Step::Decide(1, 0),
+    Step::Level(1),
+    Step::Left(1, 0b001),
+    Step::Cut(0),
+    Step::Level(0),
+    Step::Left(1, 0b111),
+    Step::Assigned(1),
+];
 
-/// Decides where the vertex has that state among several.
-pub(crate) fn try_decide<S: States + Drop>(
-    trail: &mut Trail<S>,
-    store: &Store<S>,
-    vertices: usize,
-    vertex: usize,
-    state: u32,
-) -> Result<bool, AllocError>
-    requires { IsOn vertices (entries_view S.tests store.now) (trail_view S.tests trail.old) }
-    ensures { IsOn vertices (entries_view S.tests store.now) (trail_view S.tests trail.new) }
-{
-    if vertex >= vertices {
-        return Ok(false);
-    }
-    if trail.states(vertex).count() <= 1 {
-        return Ok(false);
-    }
-    if !trail.states(vertex).member(state) {
-        return Ok(false);
-    }
-    trail.decide(vertex, state)?;
-    Ok(true)
-}
+/// An axiom that comes at a level and whose one open term is there at the level below too.
+static LATE: [Step; 12] = [
+    Step::Grow(2),
+    Step::Grow(2),
+    Step::Rest,
+    Step::Decide(0, 1),
+    Step::Rest,
+    Step::Single(1, 0b01),
+    Step::Rest,
+    Step::Left(1, 0b10),
+    Step::Cut(0),
+    Step::Left(1, 0b11),
+    Step::Rest,
+    Step::Left(1, 0b10),
+];
 
-/// Cuts where the trail has that level.
-pub(crate) fn try_cut<S: States + Drop>(
-    trail: &mut Trail<S>,
-    store: &Store<S>,
-    vertices: usize,
-    level: usize,
-)
-    requires { IsOn vertices (entries_view S.tests store.now) (trail_view S.tests trail.old) }
-    ensures { IsOn vertices (entries_view S.tests store.now) (trail_view S.tests trail.new) }
-{
-    if level <= trail.level() {
-        trail.cut(level);
-    }
-}
-
-/// The store and the trail of the worked example: vertex 0 isn't in state 0, and 1 in it rules out two states of 1.
-fn worked_store<S: States + Drop>(alloc: Global) -> Result<Store<S>, AllocError>
-    ensures { IfOk result (λ s. AllLie space (entries_view S.tests s)) }
-{
-    let mut store = Store::new(alloc);
-    store.add(two_terms(alloc, &[0], &[0, 1, 2])?, Origin::Axiom(0))?;
-    store.add(two_terms(alloc, &[1], &[0, 1])?, Origin::Axiom(0))?;
-    Ok(store)
-}
-
-fn worked_trail<S: States + Drop>(alloc: Global) -> Result<Trail<S>, AllocError>
-    ensures { IfOk result (λ t. (es : List EntryView) → AllLie space es → IsOn 2 es (trail_view S.tests t)) }
-{
-    Trail::new(alloc, &[2, 3])
-}
-
-fn worked<S: States + Drop>(rt: &impl Abort, alloc: Global) -> Result<(), AllocError> {
-    let store: Store<S> = worked_store(alloc)?;
-    let mut trail = worked_trail(alloc)?;
-    assert_eq!(rt; settle(&mut trail, &store, 2)?, Progress::Fixpoint);
-    assert!(rt; has_exactly(trail.states(0), &[1]));
-    assert!(rt; has_exactly(trail.states(1), &[2]));
-    assert_eq!(rt; trail.assigned(), 2);
-    assert_eq!(rt; trail.level(), 0);
-    Ok(())
-}
-
-#[test]
-fn worked_as_lists(rt: HostRuntime) -> Result<(), Fail> {
-    Ok(worked::<ListStates>(&rt, rt.alloc())?)
-}
-
-#[test]
-fn worked_as_words(rt: HostRuntime) -> Result<(), Fail> {
-    Ok(worked::<WordStates>(&rt, rt.alloc())?)
-}
-
-fn decided<S: States + Drop>(rt: &impl Abort, alloc: Global) -> Result<(), AllocError> {
-    let store: Store<S> = worked_store(alloc)?;
-    let mut trail = worked_trail(alloc)?;
-    assert!(rt; try_decide(&mut trail, &store, 2, 1, 0)?);
-    assert_eq!(rt; trail.level(), 1);
-    assert!(rt; has_exactly(trail.states(1), &[0]));
-    try_cut(&mut trail, &store, 2, 0);
-    assert_eq!(rt; trail.level(), 0);
-    assert!(rt; has_exactly(trail.states(1), &[0, 1, 2]));
-    assert_eq!(rt; trail.assigned(), 1);
-    Ok(())
-}
-
-#[test]
-fn decided_as_lists(rt: HostRuntime) -> Result<(), Fail> {
-    Ok(decided::<ListStates>(&rt, rt.alloc())?)
-}
-
-#[test]
-fn decided_as_words(rt: HostRuntime) -> Result<(), Fail> {
-    Ok(decided::<WordStates>(&rt, rt.alloc())?)
-}
-
-/// The satisfier of a conflict that has a term.
-fn satisfier_of<S: States + Drop>(
-    trail: &Trail<S>,
-    store: &Store<S>,
-    vertices: usize,
-    id: Id,
-) -> Option<Satisfier>
-    requires on { IsOn vertices (entries_view S.tests store.now) (trail_view S.tests trail.now) }
-    requires stops { Stops (entries_view S.tests store.now) (trail_view S.tests trail.now).sets (Conflict id) }
-{
-    let conflict = store.get(id);
-    if conflict.terms().is_empty() {
-        return None;
-    }
-    Some(trail.satisfier(conflict))
-}
+/// A vertex that loses two states one after the other, of which only the second asks for something.
+static TWICE: [Step; 12] = [
+    Step::Grow(3),
+    Step::Grow(2),
+    Step::Grow(2),
+    Step::Forbid((0, 0b001), (1, 0b10)),
+    Step::Forbid((0, 0b010), (1, 0b10)),
+    Step::Forbid((0, 0b100), (2, 0b01)),
+    Step::Rest,
+    Step::Decide(1, 1),
+    Step::Rest,
+    Step::Left(0, 0b100),
+    Step::Left(2, 0b10),
+    Step::Assigned(4),
+];
 
 /// Vertex 2 in state 1 asks for 1 in state 1, which isn't to be beside 0 in state 1.
-fn clash<S: States + Drop>(alloc: Global) -> Result<Store<S>, AllocError>
-    ensures { IfOk result (λ s. AllLie (alike 3 2) (entries_view S.tests s)) }
-{
-    let mut store = Store::new(alloc);
-    put_in(&mut store, 3, 2, pair(alloc, 3, 2, (1, 0), (2, 1))?)?;
-    put_in(&mut store, 3, 2, pair(alloc, 3, 2, (0, 1), (1, 1))?)?;
-    Ok(store)
-}
+static CLASH: [Step; 7] = [
+    Step::Grow(2),
+    Step::Grow(2),
+    Step::Grow(2),
+    Step::Forbid((1, 0b01), (2, 0b10)),
+    Step::Forbid((0, 0b10), (1, 0b10)),
+    Step::Decide(0, 1),
+    Step::Decide(2, 1),
+];
 
-fn conflicts<S: States + Drop>(rt: &impl Abort, alloc: Global) -> Result<(), AllocError> {
-    let store: Store<S> = clash(alloc)?;
-    let mut trail = fresh(alloc, 3, 2)?;
-    assert!(rt; try_decide(&mut trail, &store, 3, 0, 1)?);
-    assert!(rt; try_decide(&mut trail, &store, 3, 2, 1)?);
-    match settle(&mut trail, &store, 3)? {
-        Progress::Conflict(id) => {
-            assert_eq!(rt; id.index(), 1);
-            let expected = Satisfier {
-                place: 2,
-                vertex: 1,
-                level: 2,
-                cause: Some(Id::new(0)),
-                before: 1,
-            };
-            assert_eq!(rt; satisfier_of(&trail, &store, 3, id), Some(expected));
-        }
-        Progress::Fixpoint => panic!(rt; "no conflict"),
-    }
-    Ok(())
-}
+/// What is asked of 1001 vertices of which one in state 1 asks for the next in state 1.
+static CHAIN: [Step; 10] = [
+    Step::AllLeft(0b11),
+    Step::Decide(0, 1),
+    Step::Rest,
+    Step::Level(1),
+    Step::Assigned(1001),
+    Step::Left(1000, 0b10),
+    Step::Cut(0),
+    Step::Level(0),
+    Step::Assigned(1001),
+    Step::AllLeft(0b11),
+];
 
-#[test]
-fn conflicts_as_lists(rt: HostRuntime) -> Result<(), Fail> {
-    Ok(conflicts::<ListStates>(&rt, rt.alloc())?)
-}
-
-#[test]
-fn conflicts_as_words(rt: HostRuntime) -> Result<(), Fail> {
-    Ok(conflicts::<WordStates>(&rt, rt.alloc())?)
-}
-
-/// What is left to each vertex.
-pub(crate) fn left<S: States + Drop>(
+/// Takes a script from the empty trail.
+fn take<S: States + Drop>(
+    rt: &impl Abort,
     alloc: Global,
-    trail: &Trail<S>,
-    vertices: usize,
-) -> Result<Vec<u32>, AllocError>
-    requires { vertices ≤ length (trail_view S.tests trail.now).sets }
-{
-    let mut out = Vec::new(alloc);
-    'vertices: for vertex in 0..vertices {
-        write_set(&mut out, trail.states(vertex))?;
+    script: &[Step],
+) -> Result<(), AllocError> {
+    let mut trial: Trial<S> = Trial::new(alloc)?;
+    take_all(rt, &mut trial, script)
+}
+
+/// Whether propagation ends at entry 1, and its term at vertex 1 satisfied it by entry 0.
+fn clashes<S: States + Drop>(trial: &mut Trial<S>) -> Result<bool, AllocError> {
+    let expected = Satisfier {
+        place: 2,
+        vertex: 1,
+        level: 2,
+        cause: Some(Id::new(0)),
+        before: 1,
+    };
+    match trial.conflict()? {
+        Some((id, satisfier)) => Ok((id.index() == 1) & (satisfier == expected)),
+        None => Ok(false),
     }
-    Ok(out)
+}
+
+fn clash<S: States + Drop>(rt: &impl Abort, alloc: Global) -> Result<(), AllocError> {
+    let mut trial: Trial<S> = Trial::new(alloc)?;
+    take_all(rt, &mut trial, CLASH.as_slice())?;
+    assert!(rt; clashes(&mut trial)?);
+    Ok(())
 }
 
 /// One in state 1 asks for the next in state 1.
-fn links<S: States + Drop>(alloc: Global, vertices: usize) -> Result<Store<S>, AllocError>
-    ensures { IfOk result (λ s. AllLie (alike vertices 2) (entries_view S.tests s)) }
-{
-    let mut store = Store::new(alloc);
-    'links: for next in 1..vertices {
-        put_in(
-            &mut store,
-            vertices,
-            2,
-            pair(alloc, vertices, 2, (next - 1, 1), (next, 0))?,
-        )?;
+fn chain<S: States + Drop>(rt: &impl Abort, alloc: Global) -> Result<(), AllocError> {
+    let mut trial: Trial<S> = Trial::new(alloc)?;
+    trial.grow(2)?;
+    'links: for vertex in 0..1000usize {
+        trial.grow(2)?;
+        trial.forbid(&[(vertex, 0b10), (vertex + 1, 0b01)])?;
     }
-    Ok(store)
+    take_all(rt, &mut trial, CHAIN.as_slice())
 }
 
-fn chain<S: States + Drop>(
-    rt: &impl Abort,
-    alloc: Global,
-    vertices: usize,
-) -> Result<(), AllocError>
-    requires { 0 < vertices }
-{
-    let store: Store<S> = links(alloc, vertices)?;
-    let mut trail = fresh(alloc, vertices, 2)?;
-    let before = left(alloc, &trail, vertices)?;
-    assert!(rt; try_decide(&mut trail, &store, vertices, 0, 1)?);
-    assert_eq!(rt; settle(&mut trail, &store, vertices)?, Progress::Fixpoint);
-    assert_eq!(rt; trail.level(), 1);
-    assert_eq!(rt; trail.assigned(), vertices as u64);
-    assert!(rt; has_exactly(trail.states(vertices - 1), &[1]));
-    try_cut(&mut trail, &store, vertices, 0);
-    assert_eq!(rt; trail.level(), 0);
-    assert_eq!(rt; trail.assigned(), vertices as u64);
-    assert!(rt; left(alloc, &trail, vertices)? == before);
-    Ok(())
-}
-
-#[test]
-fn chain_as_lists(rt: HostRuntime) -> Result<(), Fail> {
-    Ok(chain::<ListStates>(&rt, rt.alloc(), 1001)?)
-}
-
-#[test]
-fn chain_as_words(rt: HostRuntime) -> Result<(), Fail> {
-    Ok(chain::<WordStates>(&rt, rt.alloc(), 1001)?)
+pub(crate) fn trails<S: States + Drop>(rt: &impl Abort, alloc: Global) -> Result<(), AllocError> {
+    'scripts: for script in [&WORKED[..], &DECIDED, &LATE, &TWICE] {
+        take::<S>(rt, alloc, script)?;
+    }
+    clash::<S>(rt, alloc)?;
+    chain::<S>(rt, alloc)
 }

@@ -4,4 +4,5 @@
 mod terms_of;
 mod trial;
 
+pub use terms_of::of_bits;
 pub use trial::Trial;

@@ -34,7 +34,7 @@ fn with_state<S: States + Drop>(
 }
 
 /// The set of the numbers below a universe whose bits are set, counted modulo 64.
-pub(crate) fn of_bits<S: States + Drop>(
+pub fn of_bits<S: States + Drop>(
     alloc: Global,
     universe: u32,
     bits: u64,

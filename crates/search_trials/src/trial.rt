@@ -1,10 +1,14 @@
 //! A store with the trail that meets it.
 
+ghost use Rattle.incompatibilities.specs.Stores.{entries_view};
+ghost use Rattle.propagation.specs.Promises.{IsTrail, Stops};
+ghost use Rattle.propagation.specs.Trails.{trail_view};
+ghost use Rattle.propagation.specs.declared.propagating.Progress.TheVariants.{Conflict};
 ghost use Rattle.std.specs.Prelude.{◌≤◌};
 
 use crate::terms_of::terms_of;
 use incompatibilities::{Id, Incompatibility, Origin, Store};
-use propagation::{Progress, Trail};
+use propagation::{Progress, Satisfier, Trail};
 use std::alloc::{AllocError, Global};
 use std::marker::Model;
 use version_sets::States;
@@ -28,6 +32,22 @@ impl<S: States> Model for Trial<S> {
     ghost view = { λ t. trail_view S.tests t.trail };
 
     ghost invariant = { λ t. IsMeeting t.vertices (entries_view S.tests t.store) (trail_view S.tests t.trail) };
+}
+
+/// The entry that a propagation ended at and what satisfied it, if it has a term.
+fn satisfier_of<S: States + Drop>(
+    trail: &Trail<S>,
+    store: &Store<S>,
+    id: Id,
+) -> Option<(Id, Satisfier)>
+    requires trail { IsTrail (entries_view S.tests store.now) (trail_view S.tests trail.now) }
+    requires stops { Stops (entries_view S.tests store.now) (trail_view S.tests trail.now).sets (Conflict id) }
+{
+    let conflict = store.get(id);
+    if conflict.terms().is_empty() {
+        return None;
+    }
+    Some((id, trail.satisfier(conflict)))
 }
 
 impl<S: States + Drop> Trial<S> {
@@ -83,6 +103,14 @@ impl<S: States + Drop> Trial<S> {
     /// Propagates.
     pub fn propagate(&mut self) -> Result<Progress, AllocError> {
         self.trail.propagate(&self.store)
+    }
+
+    /// Propagates; the entry that this ended at and what satisfied it, if it ended at one with a term.
+    pub fn conflict(&mut self) -> Result<Option<(Id, Satisfier)>, AllocError> {
+        match self.trail.propagate(&self.store)? {
+            Progress::Conflict(id) => Ok(satisfier_of(&self.trail, &self.store, id)),
+            Progress::Fixpoint => Ok(None),
+        }
     }
 
     /// Cuts, if the trail has that level.

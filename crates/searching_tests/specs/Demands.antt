@@ -1,5 +1,5 @@
 -- Pairs of a vertex and a state whose axiom isn't in the store yet (this repository's tests).
-use Rattle.std.specs.Prelude.{◌≡◌, ◌≢◌, ℕ, ◌+◌, ◌<◌, ◌==◌, Bool, false, not, ◌&&◌, ◌||◌, List, [], ◌∷◌, ◌++◌, length, map, slice_index_or, Option, Some, None}
+use Rattle.std.specs.Prelude.{◌≡◌, ◌≢◌, ℕ, ◌+◌, ◌<◌, ◌==◌, Bool, false, not, ◌&&◌, ◌||◌, List, [], ◌∷◌, ◌++◌, length, slice_index_or, Option, Some, None}
 use Rattle.version_sets.specs.Sets.{Members}
 use Rattle.terms.specs.Terms.{TermView}
 use Rattle.incompatibilities.specs.Incompatibilities.{LiesIn, states_at}
@@ -10,14 +10,10 @@ use Rattle.propagation.specs.Widening.{IsWider, sum_of}
 use Rattle.propagation.specs.Units.{term_at}
 use Rattle.searching.specs.Searching.{IsOnly, Pairs}
 use Rattle.searching_tests.specs.Universes.{universe_at}
-use Rattle.searching_tests.specs.declared.demanding.Pending.{Pending}
 
 abbrev pub waits : List (ℕ × ℕ) → ℕ → ℕ → Bool
 waits [] v i = false
 waits (p ∷ ps) v i = (p.0 == v && p.1 == i) || waits ps v i
-
-abbrev pub pairs_view : {S : Type 0} → List (Pending S) → List (ℕ × ℕ)
-pairs_view ps = map (λ p. (p.vertex, p.state)) ps
 
 -- a vertex of one state has no axiom of its own
 abbrev pub asked_of : List ℕ → List (ℕ × ℕ) → Pairs

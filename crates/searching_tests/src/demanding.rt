@@ -1,7 +1,7 @@
 //! A search whose axioms come into the store once their vertex has their one state left, and whose vertices come onto
 //! the trail once an axiom speaks of them.
 
-ghost use Rattle.searching_tests.specs.Demands.{AllFit, HasCome, HasOnly, IsAlone, IsPutOf, pairs_view};
+ghost use Rattle.searching_tests.specs.Demands.{AllFit, HasCome, HasOnly, IsAlone, IsPutOf};
 ghost use Rattle.searching_tests.specs.Universes.{AreSmall, Refutes, universe_at};
 ghost use Rattle.incompatibilities.specs.Incompatibilities.{LiesIn, states_at};
 ghost use Rattle.incompatibilities.specs.Stores.{entries_view};
@@ -10,7 +10,7 @@ ghost use Rattle.propagation.specs.Trails.{set_of, trail_view};
 ghost use Rattle.propagation.specs.Widening.{IsWider};
 ghost use Rattle.searching.specs.Searching.{IsOnly};
 ghost use Rattle.std.specs.Bool.{OnFalse, OnTrue};
-ghost use Rattle.std.specs.Prelude.{◌≡◌, ◌≢◌, ◌<◌, ◌≤◌, ◌∷◌, ◌++◌, [], IfOk, OnOk, length};
+ghost use Rattle.std.specs.Prelude.{◌≡◌, ◌≢◌, ◌<◌, ◌≤◌, ◌∷◌, ◌++◌, [], IfOk, OnOk, length, map};
 ghost use Rattle.terms.specs.Terms.{terms_view};
 
 use crate::preferring::least;
@@ -206,7 +206,7 @@ impl<S: States + Drop> Demanding<S> {
     /// The place of an axiom whose vertex has its one state left.
     fn first_alone(&self, trail: &Trail<S>) -> Option<usize>
         requires { length (trail_view S.tests trail.now).sets ≡ length self.now.spaces.items }
-        ensures { IsAlone (pairs_view self.now.pending.items) (trail_view S.tests trail.now).sets result }
+        ensures { IsAlone (map (λ p. (p.vertex, p.state)) self.now.pending.items) (trail_view S.tests trail.now).sets result }
     {
         'pairs: for place in 0..self.pending.len() {
             let pair = &self.pending[place];
@@ -219,16 +219,16 @@ impl<S: States + Drop> Demanding<S> {
 }
 
 impl<S: States + Drop> Guide<S> for Demanding<S> {
-    ghost use Rattle.searching_tests.specs.Demands.{asked_of, pairs_view};
+    ghost use Rattle.searching_tests.specs.Demands.{asked_of};
     ghost use Rattle.searching_tests.specs.Universes.{AllDecided};
     ghost use Rattle.propagation.specs.Widening.{sum_of};
-    ghost use Rattle.std.specs.Prelude.{length};
+    ghost use Rattle.std.specs.Prelude.{length, map};
 
     ghost spaces = { λ g. g.spaces.items };
 
     ghost late = { λ g. sum_of g.coming.items };
 
-    ghost asked = { λ g. asked_of g.spaces.items (pairs_view g.pending.items) };
+    ghost asked = { λ g. asked_of g.spaces.items (map (λ p. (p.vertex, p.state)) g.pending.items) };
 
     ghost left = { λ g. length g.pending.items };
 

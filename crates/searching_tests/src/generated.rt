@@ -5,11 +5,10 @@ ghost use Rattle.searching_tests.specs.Universes.{AllLie, AreSmall};
 ghost use Rattle.std.specs.Prelude.{◌≤◌, IfOk, length};
 
 use crate::preferring::search_from_full;
-use crate::stores::{guide_of, put_two, written};
+use crate::stores::{guide_of, put, written};
 use incompatibilities::{Id, Incompatibility, Store};
 use searching::Answer;
 use std::alloc::{AllocError, Global};
-use std::process::Abort;
 use std::test::Fail;
 use version_sets::{ListStates, States, WordStates};
 
@@ -31,13 +30,9 @@ fn put_drawn<S: States + Drop>(
 {
     let first = (random >> 8) as usize % 3;
     let second = first + 1 + (random >> 12) as usize % (3 - first);
-    put_two(
-        store,
-        alloc,
-        spaces,
-        (first, 1 + (random >> 16) % 6),
-        (second, 1 + (random >> 20) % 6),
-    )
+    let one = (first, u64::from(1 + (random >> 16) % 6));
+    let other = (second, u64::from(1 + (random >> 20) % 6));
+    put(store, alloc, spaces, &[one, other])
 }
 
 /// Twelve to twenty such entries.
@@ -120,39 +115,58 @@ fn tried<S: States + Drop>(
     Ok((follows, is_left))
 }
 
-/// Searches a generated store; gives what was learned, the steps, and whether there is a selection.
-fn plays<S: States + Drop>(
-    rt: &impl Abort,
-    alloc: Global,
-    seed: u32,
-) -> Result<(Vec<usize>, u64, bool), AllocError> {
+/// What a search of a generated store came to.
+#[derive(Drop, PartialEq)]
+struct Played {
+    /// What was learned.
+    learned: Vec<usize>,
+    /// Its steps.
+    steps: u64,
+    /// Whether there is a selection.
+    is_selection: bool,
+    /// Whether what was learned follows, some assignment is left where there is a selection and else none, and there
+    /// were at least as many steps as entries were learned.
+    is_right: bool,
+}
+
+/// Searches a generated store.
+fn plays<S: States + Drop>(alloc: Global, seed: u32) -> Result<Played, AllocError> {
     let mut guide = guide_of(alloc, 4, 3)?;
     let mut store: Store<S> = drawn(alloc, &guide.spaces, seed)?;
     let given = store.len();
     let (found, _) = search_from_full(alloc, &mut guide, &mut store)?;
-    assert!(rt; given <= store.len());
     let is_selection = found.answer == Answer::Selection;
-    if given <= store.len() {
-        let (follows, is_left) = tried(alloc, &store, given)?;
-        assert!(rt; follows);
-        assert!(rt; is_left == is_selection);
+    let (follows, is_left) = tried(alloc, &store, given.min(store.len()))?;
+    let gained = store.len().saturating_sub(given) as u64;
+    Ok(Played {
+        learned: written(alloc, &store, given)?,
+        steps: found.steps,
+        is_selection,
+        is_right: (given <= store.len())
+            & follows
+            & (is_left == is_selection)
+            & (found.steps >= gained),
+    })
+}
+
+/// Searches generated stores at both bodies; gives how many had a selection, none where something wasn't right.
+fn play_all(alloc: Global) -> Result<Option<u32>, AllocError> {
+    let mut selections: u32 = 0;
+    'seeds: for seed in 0..2000 {
+        let lists = plays::<ListStates>(alloc, seed)?;
+        if !lists.is_right | (plays::<WordStates>(alloc, seed)? != lists) {
+            return Ok(None);
+        }
+        selections = selections.saturating_add(u32::from(lists.is_selection));
     }
-    assert!(rt; found.steps >= (store.len() - given.min(store.len())) as u64);
-    Ok((written(alloc, &store, given)?, found.steps, is_selection))
+    Ok(Some(selections))
 }
 
 #[test]
 fn learns_what_follows(rt: HostRuntime) -> Result<(), Fail> {
-    let mut selections = 0usize;
-    'seeds: for seed in 0..2000 {
-        let (lists, steps, is_selection) = plays::<ListStates>(&rt, rt.alloc(), seed)?;
-        let (words, same_steps, _) = plays::<WordStates>(&rt, rt.alloc(), seed)?;
-        assert!(rt; words == lists);
-        assert_eq!(rt; same_steps, steps);
-        selections = selections.saturating_add(usize::from(is_selection));
-    }
+    let selections = play_all(rt.alloc())?;
     // Both answers come.
-    assert!(rt; selections > 100);
-    assert!(rt; selections < 1900);
+    assert!(rt; selections > Some(100));
+    assert!(rt; selections < Some(1900));
     Ok(())
 }

@@ -4,13 +4,12 @@ ghost use Rattle.searching_tests.specs.Universes.{AreSmall};
 ghost use Rattle.std.specs.Prelude.{◌≤◌};
 
 use crate::demanding::{Demanding, Pending, search_on_demand};
-use crate::stores::two_terms;
-use incompatibilities::Id;
+use crate::stores::terms_of;
+use incompatibilities::{Id, Incompatibility};
 use searching::Answer;
 use std::alloc::{AllocError, Global};
 use std::process::Abort;
-use std::test::Fail;
-use version_sets::{ListStates, States, WordStates};
+use version_sets::States;
 
 /// That no two pigeons are in one hole, to come once the first of them is there.
 fn push_pair<S: States + Drop>(
@@ -23,16 +22,14 @@ fn push_pair<S: States + Drop>(
 ) -> Result<(), AllocError>
     requires { AreSmall spaces.now }
 {
-    if first >= second || second >= spaces.len() || state >= 32 {
-        return Ok(());
+    let bit = 1 << (state % 64);
+    if let Some(terms) = terms_of(alloc, spaces, &[(first, bit), (second, bit)])? {
+        pending.push(Pending {
+            vertex: first,
+            state,
+            axiom: Incompatibility::new(terms),
+        })?;
     }
-    let hole = 1 << state;
-    let axiom = two_terms(alloc, spaces, (first, hole), (second, hole))?;
-    pending.push(Pending {
-        vertex: first,
-        state,
-        axiom,
-    })?;
     Ok(())
 }
 
@@ -66,7 +63,10 @@ fn demanded<S: States + Drop>(
     Ok((answer, store.len(), vertices))
 }
 
-fn on_demand<S: States + Drop>(rt: &impl Abort, alloc: Global) -> Result<(), AllocError> {
+pub(crate) fn come_on_demand<S: States + Drop>(
+    rt: &impl Abort,
+    alloc: Global,
+) -> Result<(), AllocError> {
     let (answer, entries, vertices) = demanded::<S>(alloc, 5, 4, 3)?;
     assert!(rt; answer == Answer::Unsolvable(Id::new(entries.saturating_sub(1))));
     assert!(rt; vertices == 5);
@@ -76,14 +76,4 @@ fn on_demand<S: States + Drop>(rt: &impl Abort, alloc: Global) -> Result<(), All
     assert!(rt; entries < 50);
     assert!(rt; vertices == 5);
     Ok(())
-}
-
-#[test]
-fn on_demand_as_lists(rt: HostRuntime) -> Result<(), Fail> {
-    Ok(on_demand::<ListStates>(&rt, rt.alloc())?)
-}
-
-#[test]
-fn on_demand_as_words(rt: HostRuntime) -> Result<(), Fail> {
-    Ok(on_demand::<WordStates>(&rt, rt.alloc())?)
 }

@@ -6,13 +6,32 @@ ghost use Rattle.std.specs.Prelude.{◌≤◌, IfOk};
 
 use crate::borrowing::search_borrowed;
 use crate::preferring::search_from_full;
-use crate::stores::{guide_of, put_two};
+use crate::stores::{guide_of, put};
 use incompatibilities::{Id, Store};
 use searching::{Answer, Found};
 use std::alloc::{AllocError, Global};
 use std::process::Abort;
-use std::test::Fail;
-use version_sets::{ListStates, States, WordStates};
+use version_sets::States;
+
+/// Two pigeons aren't in one hole.
+fn part<S: States + Drop>(
+    store: &mut Store<S>,
+    alloc: Global,
+    spaces: &[u32],
+    first: usize,
+    second: usize,
+    holes: u32,
+) -> Result<(), AllocError>
+    requires small { AreSmall spaces.now }
+    requires store { AllLie spaces.now (entries_view S.tests store.old) }
+    ensures { AllLie spaces.now (entries_view S.tests store.new) }
+{
+    'holes: for hole in 0..holes {
+        let bit = 1 << (hole % 64);
+        put(store, alloc, spaces, &[(first, bit), (second, bit)])?;
+    }
+    Ok(())
+}
 
 /// No two pigeons are in one hole.
 pub(crate) fn pigeons<S: States + Drop>(
@@ -26,11 +45,7 @@ pub(crate) fn pigeons<S: States + Drop>(
     let mut store = Store::new(alloc);
     'seconds: for second in 0..spaces.len() {
         'firsts: for first in 0..second {
-            let mut hole = 1u32;
-            'holes: for _ in 0..holes {
-                put_two(&mut store, alloc, spaces, (first, hole), (second, hole))?;
-                hole = hole.wrapping_mul(2);
-            }
+            part(&mut store, alloc, spaces, first, second, holes)?;
         }
     }
     Ok(store)
@@ -70,7 +85,10 @@ fn borrowed<S: States + Drop>(
     search_borrowed(alloc, &guide.spaces, &mut store)
 }
 
-fn four_to_seven<S: States + Drop>(rt: &impl Abort, alloc: Global) -> Result<(), AllocError> {
+pub(crate) fn four_to_seven<S: States + Drop>(
+    rt: &impl Abort,
+    alloc: Global,
+) -> Result<(), AllocError> {
     'pigeons: for holes in 3..7u32 {
         let (fits, gained, steps) = found::<S>(rt, alloc, holes as usize + 1, holes)?;
         assert!(rt; !fits);
@@ -88,14 +106,4 @@ fn four_to_seven<S: States + Drop>(rt: &impl Abort, alloc: Global) -> Result<(),
         assert!(rt; steps <= u64::from(holes) * u64::from(holes));
     }
     Ok(())
-}
-
-#[test]
-fn four_to_seven_as_lists(rt: HostRuntime) -> Result<(), Fail> {
-    Ok(four_to_seven::<ListStates>(&rt, rt.alloc())?)
-}
-
-#[test]
-fn four_to_seven_as_words(rt: HostRuntime) -> Result<(), Fail> {
-    Ok(four_to_seven::<WordStates>(&rt, rt.alloc())?)
 }

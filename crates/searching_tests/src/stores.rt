@@ -1,16 +1,26 @@
 //! Stores and guides for the tests; a set of states is written as a number, state 0 its lowest bit.
 
-ghost use Rattle.incompatibilities.specs.Incompatibilities.{LiesIn, states_at};
 ghost use Rattle.incompatibilities.specs.Stores.{entries_view};
+ghost use Rattle.search_trials.specs.Meeting.{AreFit};
 ghost use Rattle.searching_tests.specs.Universes.{AllLie, AreSmall, universe_at};
-ghost use Rattle.std.specs.Prelude.{◌≡◌, ◌<◌, ◌≤◌, IfOk, length};
+ghost use Rattle.std.specs.Option.{IfSome};
+ghost use Rattle.std.specs.Prelude.{◌≤◌, IfOk};
 ghost use Rattle.terms.specs.Terms.{terms_view};
 
 use crate::preferring::Preferring;
 use incompatibilities::{Id, Incompatibility, Origin, Store};
+use search_trials::of_bits;
 use std::alloc::{AllocError, Global};
 use terms::Term;
 use version_sets::States;
+
+/// So many vertices of one universe.
+pub(crate) fn alike(alloc: Global, vertices: usize, universe: u32) -> Result<Vec<u32>, AllocError>
+    requires { universe ≤ 65536 }
+    ensures { IfOk result (λ v. AreSmall v.items) }
+{
+    Ok(vec![in alloc; universe; vertices]?)
+}
 
 /// A guide of so many vertices of one universe, which prefers state 0.
 pub(crate) fn guide_of(
@@ -21,156 +31,65 @@ pub(crate) fn guide_of(
     requires { universe ≤ 65536 }
     ensures { IfOk result (λ g. AreSmall g.spaces.items) }
 {
+    let spaces = alike(alloc, vertices, universe)?;
+    let states = vec![in alloc; 0; vertices]?;
     Ok(Preferring {
-        spaces: vec![in alloc; universe; vertices]?,
-        states: vec![in alloc; 0; vertices]?,
+        spaces,
+        states,
         lessons: Vec::new(alloc),
     })
 }
 
-/// The set with one state more, if that is wanted.
-fn with_state<S: States + Drop>(
-    alloc: Global,
-    set: S,
-    universe: u32,
-    state: u32,
-    there: bool,
-) -> Result<S, AllocError>
-    requires small { universe ≤ 65536 }
-    requires universe { length (S.tests set) ≡ universe }
-    requires within { state < universe }
-    ensures { IfOk result (λ s. length (S.tests s) ≡ universe) }
-{
-    if !there {
-        return Ok(set);
-    }
-    let one = S::single(alloc, universe, state)?;
-    set.union(alloc, &one)
-}
-
-/// The states whose bits are 1.
-fn masked<S: States + Drop>(alloc: Global, universe: u32, mask: u32) -> Result<S, AllocError>
-    requires { universe ≤ 65536 }
-    ensures { IfOk result (λ s. length (S.tests s) ≡ universe) }
-{
-    let mut set = S::empty(alloc, universe)?;
-    let mut left = mask;
-    'states: for state in 0..universe {
-        set = with_state(alloc, set, universe, state, left % 2 == 1)?;
-        left /= 2;
-    }
-    Ok(set)
-}
-
-/// A vertex, and the states whose bits are 1.
-fn term<S: States + Drop>(
+/// The terms of these vertices and states; none if the vertices don't rise or one isn't there.
+pub(crate) fn terms_of<S: States + Drop>(
     alloc: Global,
     spaces: &[u32],
-    of: (usize, u32),
-) -> Result<Term<S>, AllocError>
-    requires small { AreSmall spaces.now }
-    requires within { of.0 < length spaces.now }
-    ensures { IfOk result (λ t. (t.vertex ≡ of.0) × (length (S.tests t.states) ≡ universe_at spaces.now of.0)) }
+    said: &[(usize, u64)],
+) -> Result<Option<Vec<Term<S>>>, AllocError>
+    requires { AreSmall spaces.now }
+    ensures { IfOk result (λ o. IfSome o (λ v. AreFit (universe_at spaces.now) (terms_view S.tests v.items))) }
 {
-    Ok(Term {
-        vertex: of.0,
-        states: masked(alloc, spaces[of.0], of.1)?,
-    })
+    let mut terms = Vec::new(alloc);
+    let mut low = 0;
+    'said: for (vertex, bits) in said {
+        if *vertex < low {
+            return Ok(None);
+        }
+        if *vertex >= spaces.len() {
+            return Ok(None);
+        }
+        let states = of_bits(alloc, spaces[*vertex], *bits)?;
+        terms.push(Term {
+            vertex: *vertex,
+            states,
+        })?;
+        low = *vertex + 1;
+    }
+    Ok(Some(terms))
 }
 
-pub(crate) fn two_terms<S: States + Drop>(
-    alloc: Global,
-    spaces: &[u32],
-    first: (usize, u32),
-    second: (usize, u32),
-) -> Result<Incompatibility<S>, AllocError>
-    requires small { AreSmall spaces.now }
-    requires rising { first.0 < second.0 }
-    requires within { second.0 < length spaces.now }
-    ensures { IfOk result (λ i. LiesIn (universe_at spaces.now) (states_at (terms_view S.tests i))) }
-{
-    let one = term(alloc, spaces, first)?;
-    let other = term(alloc, spaces, second)?;
-    let mut terms = Vec::with_capacity(alloc, 2)?;
-    terms.push(one)?;
-    terms.push(other)?;
-    Ok(Incompatibility::new(terms))
-}
-
-/// Puts an axiom of two terms into a store, if their vertices rise.
-pub(crate) fn put_two<S: States + Drop>(
+/// Puts an axiom into a store, if its vertices rise and are there.
+pub(crate) fn put<S: States + Drop>(
     store: &mut Store<S>,
     alloc: Global,
     spaces: &[u32],
-    first: (usize, u32),
-    second: (usize, u32),
+    said: &[(usize, u64)],
 ) -> Result<(), AllocError>
     requires small { AreSmall spaces.now }
     requires store { AllLie spaces.now (entries_view S.tests store.old) }
     ensures { AllLie spaces.now (entries_view S.tests store.new) }
 {
-    if first.0 >= second.0 || second.0 >= spaces.len() {
-        return Ok(());
+    if let Some(terms) = terms_of(alloc, spaces, said)? {
+        store.add(Incompatibility::new(terms), Origin::Axiom(0))?;
     }
-    store.add(two_terms(alloc, spaces, first, second)?, Origin::Axiom(0))?;
-    Ok(())
-}
-
-fn three_terms<S: States + Drop>(
-    alloc: Global,
-    spaces: &[u32],
-    first: (usize, u32),
-    second: (usize, u32),
-    third: (usize, u32),
-) -> Result<Incompatibility<S>, AllocError>
-    requires small { AreSmall spaces.now }
-    requires rising { first.0 < second.0 }
-    requires rises { second.0 < third.0 }
-    requires within { third.0 < length spaces.now }
-    ensures { IfOk result (λ i. LiesIn (universe_at spaces.now) (states_at (terms_view S.tests i))) }
-{
-    let one = term(alloc, spaces, first)?;
-    let other = term(alloc, spaces, second)?;
-    let last = term(alloc, spaces, third)?;
-    let mut terms = Vec::with_capacity(alloc, 3)?;
-    terms.push(one)?;
-    terms.push(other)?;
-    terms.push(last)?;
-    Ok(Incompatibility::new(terms))
-}
-
-/// Puts an axiom of three terms into a store, if their vertices rise.
-pub(crate) fn put_three<S: States + Drop>(
-    store: &mut Store<S>,
-    alloc: Global,
-    spaces: &[u32],
-    first: (usize, u32),
-    second: (usize, u32),
-    third: (usize, u32),
-) -> Result<(), AllocError>
-    requires small { AreSmall spaces.now }
-    requires store { AllLie spaces.now (entries_view S.tests store.old) }
-    ensures { AllLie spaces.now (entries_view S.tests store.new) }
-{
-    if first.0 >= second.0 || second.0 >= third.0 || third.0 >= spaces.len() {
-        return Ok(());
-    }
-    store.add(
-        three_terms(alloc, spaces, first, second, third)?,
-        Origin::Axiom(0),
-    )?;
     Ok(())
 }
 
 /// A set as a number.
-fn mask_of<S: States>(set: &S) -> u32 {
-    let mut mask = 0u32;
-    let mut bit = 1u32;
+fn mask_of<S: States>(set: &S) -> usize {
+    let mut mask: usize = 0;
     'states: for state in 0..set.universe() {
-        if set.member(state) {
-            mask |= bit;
-        }
-        bit = bit.wrapping_mul(2);
+        mask |= usize::from(set.member(state)) << (state % 32);
     }
     mask
 }
@@ -189,7 +108,7 @@ fn write_entry<S: States + Drop>(
     out.push(incompatibility.terms().len())?;
     'terms: for term in incompatibility.terms() {
         out.push(term.vertex)?;
-        out.push(mask_of(&term.states) as usize)?;
+        out.push(mask_of(&term.states))?;
     }
     Ok(())
 }

@@ -1,7 +1,7 @@
 use Rattle.std.proofs.Common.{arith, refl}
 use Rattle.incompatibilities.specs.Stores.{entries_view}
 use Rattle.propagation.specs.Trails.{trail_view}
-use Rattle.searching_tests.proofs.Beginnings.{lie_in}
+use Rattle.searching_tests.proofs.Beginnings.{has_spaces, lie_in}
 use Rattle.searching_tests.proofs.borrowing.search_borrowed.Goals as goal
 
 pub search-requires-clause-seen : goal.search-requires-clause-seen
@@ -12,3 +12,6 @@ search-requires-clause-trail g c =
     let es = entries_view g.S.States.tests c.args.store.now in
     let t = trail_view g.S.States.tests c.in_ok-trail.trail in
     c.in_ok-trail.ensures.trail es (lie_in c.args.spaces.now t es c.in_ok-trail.ensures.new c.requires.lies)
+
+pub search-requires-clause-spaces : goal.search-requires-clause-spaces
+search-requires-clause-spaces g c = has_spaces c.args.spaces.now (trail_view g.S.States.tests c.in_ok-trail.trail) c.in_ok-trail.ensures.new

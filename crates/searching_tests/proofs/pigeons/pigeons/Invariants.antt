@@ -7,6 +7,3 @@ invariant-seconds g l = AllLie l.spaces (entries_view g.S.States.tests l.store)
 
 abbrev pub invariant-firsts : goal.invariant-firsts
 invariant-firsts g l = AllLie l.spaces (entries_view g.S.States.tests l.store)
-
-abbrev pub invariant-holes : goal.invariant-holes
-invariant-holes g l = AllLie l.spaces (entries_view g.S.States.tests l.store)

@@ -3,7 +3,7 @@ use Rattle.incompatibilities.specs.Stores.{entries_view}
 use Rattle.propagation.specs.Trails.{trail_view}
 use Rattle.propagation.specs.Promises.{IsNew}
 use Rattle.searching_tests.specs.Universes.{Prefers}
-use Rattle.searching_tests.proofs.Beginnings.{agrees_new, lie_in, selects}
+use Rattle.searching_tests.proofs.Beginnings.{agrees_new, has_spaces, lie_in, selects}
 use Rattle.searching_tests.proofs.preferring.search_from_full.Goals as goal
 
 pub returns-clause-preferred : goal.returns-clause-preferred
@@ -29,3 +29,9 @@ search-requires-clause-trail g c =
     let spaces = c.args.guide.now.spaces.items in
     let new : IsNew spaces t = subst (λ xs. IsNew xs t) c.deref.ensures.value c.in_ok-trail.ensures.new in
     c.in_ok-trail.ensures.trail es (lie_in spaces t es new c.requires.lies)
+
+pub search-requires-clause-spaces : goal.search-requires-clause-spaces
+search-requires-clause-spaces g c =
+    let t = trail_view g.S.States.tests c.in_ok-trail.trail in
+    let spaces = c.args.guide.now.spaces.items in
+    has_spaces spaces t (subst (λ xs. IsNew xs t) c.deref.ensures.value c.in_ok-trail.ensures.new)

@@ -1,0 +1,13 @@
+use Rattle.std.proofs.Common.{refl, arith}
+use Rattle.model.specs.Vertices.{the_root, root, dep, absent, present}
+use Rattle.refusal_tests.proofs.NewTerms.{with-one, with-two, two-terms}
+use Rattle.refusal_tests.proofs.built.push_turned.Goals as goal
+
+pub push_two-requires : goal.push_two-requires
+push_two-requires c =
+    let vertices = c.valid_vertices_are_read.ensures in
+    let states = c.valid_states_are_read.ensures in
+    let need = dep the_root 7 in
+    two-terms _ _ refl
+    (with-two root present absent refl (vertices root tt) (states root present tt) (states root absent tt))
+    (with-one need absent (vertices need (tt, omega arith)) (states need absent tt))
