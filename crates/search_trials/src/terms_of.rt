@@ -34,11 +34,7 @@ fn with_state<S: States + Drop>(
 }
 
 /// The set of the numbers below a universe whose bits are set, counted modulo 64.
-pub fn of_bits<S: States + Drop>(
-    alloc: Global,
-    universe: u32,
-    bits: u64,
-) -> Result<S, AllocError>
+pub fn of_bits<S: States + Drop>(alloc: Global, universe: u32, bits: u64) -> Result<S, AllocError>
     requires { universe ≤ 65536 }
     ensures { IfOk result (λ s. length (S.tests s) ≡ universe) }
 {
