@@ -4,16 +4,16 @@
 mod checking;
 mod fault;
 mod inputs;
-mod laws;
 mod resolving;
+mod returning;
 mod same;
 mod verifying;
 mod writing;
 
 pub use checking::check_bytes;
 pub use fault::{CheckFault, Fault, TooLarge};
-pub use laws::{
+pub use resolving::{Answer, resolve};
+pub use returning::{
     given_locks_ask_for_no_more, given_locks_come_back, locks_are_given_where_there_are_selections,
 };
-pub use resolving::{Answer, resolve};
 pub use verifying::verify_bytes;
