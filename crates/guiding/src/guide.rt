@@ -14,6 +14,7 @@ use crate::asking::{mark, put_given};
 use crate::choosing::{greatest, is_undecided};
 use crate::coming::come;
 use crate::opening::next_open;
+use crate::order::Order;
 use crate::preferring::preferred_state;
 use catalogue::catalogues_are_well_formed;
 use encoding::{Inputs, Table, axioms_at};
@@ -35,6 +36,9 @@ pub struct Encoded<'a, S: States> {
     asked: Vec<S>,
     /// Of so many places of the trail the vertex was looked at.
     seen: usize,
+    order: Order,
+    /// The vertex that comes next in this order.
+    next: Option<usize>,
 }
 
 impl<'a, S: States> Model for Encoded<'a, S> {
@@ -78,6 +82,8 @@ impl<'a, S: States + Drop> Encoded<'a, S> {
             table,
             asked,
             seen: 0,
+            order: Order::new(alloc),
+            next: None,
         })
     }
 
@@ -180,11 +186,24 @@ impl<'a, S: States + Drop> Guide<S> for Encoded<'a, S> {
                 self.ask(trail, store, vertex, state)?;
                 Ok(true)
             }
-            None => Ok(false),
+            None => {
+                self.order.follow(trail)?;
+                self.next = self.order.next(trail, self.asked.len())?;
+                Ok(false)
+            }
         }
     }
 
     fn choose(&self, trail: &Trail<S>) -> Result<Option<(usize, u32)>, AllocError> {
+        if let Some(vertex) = self.next {
+            if vertex < self.asked.len() {
+                let left = trail.states(vertex);
+                if is_undecided(left) {
+                    return Ok(Some((vertex, self.state_for(vertex, left)?)));
+                }
+            }
+        }
+        // There is no candidate; this shows that no vertex is left out.
         'vertices: for vertex in 0..self.asked.len() {
             let left = trail.states(vertex);
             if is_undecided(left) {
@@ -197,10 +216,12 @@ impl<'a, S: States + Drop> Guide<S> for Encoded<'a, S> {
     fn noted(
         &mut self,
         trail: &Trail<S>,
-        _store: &Store<S>,
-        _conflict: Id,
-        _learned: Id,
+        store: &Store<S>,
+        conflict: Id,
+        learned: Id,
     ) -> Result<(), AllocError> {
+        self.order.cut(trail.places())?;
+        self.order.learn(store, conflict, learned)?;
         if trail.places() < self.seen {
             self.seen = trail.places();
         }

@@ -6,6 +6,7 @@ mod choosing;
 mod coming;
 mod guide;
 mod opening;
+mod order;
 mod preferring;
 mod searched;
 

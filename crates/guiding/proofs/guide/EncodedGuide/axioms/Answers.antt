@@ -91,8 +91,8 @@ returns-in_ok-ask-in-Some-clause-stored g c was =
     asked_stored c.in-Some.vertex c.in-Some.state mid new t wide es more c.in_ok-ask-in-Some.ensures spaced c.requires.trail alone.0 ((alone.1).1) ((alone.1).2) (only_below sets t c.in-Some.vertex c.in-Some.state spaced ((alone.1).0))
     (subst (λ (o : EncodedView). AreStored o.problem o.vertices o.asked es) (sym c.self.view_is) was)
 
-pub returns-in-None-clause-adding : goal.returns-in-None-clause-adding
-returns-in-None-clause-adding g c =
+pub returns-in_ok-self-inside-in-None-clause-adding : goal.returns-in_ok-self-inside-in-None-clause-adding
+returns-in_ok-self-inside-in-None-clause-adding g c =
     let tests = g.S.States.tests in
     let f = c.self.inside in
     let sets = map tests f.asked.items in

@@ -7,3 +7,9 @@ returns-then-places-self-clause-late g c = ap late_with c.self.view_is
 
 pub returns-then-places-self-clause-left : goal.returns-then-places-self-clause-left
 returns-then-places-self-clause-left g c = ap left_with c.self.view_is
+
+pub returns-else-places-self-clause-late : goal.returns-else-places-self-clause-late
+returns-else-places-self-clause-late g c = ap late_with c.self.view_is
+
+pub returns-else-places-self-clause-left : goal.returns-else-places-self-clause-left
+returns-else-places-self-clause-left g c = ap left_with c.self.view_is
