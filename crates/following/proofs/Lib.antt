@@ -1,0 +1,5 @@
+pub mod Targets
+pub mod Owners
+pub mod Classed
+pub mod Led
+pub mod InContent

@@ -1,0 +1,80 @@
+//! The state of a vertex in a content, by its number.
+
+ghost use Rattle.std.specs.Prelude.{◌≡◌, ◌<◌, ℕ, IfOk, Some, length};
+ghost use Rattle.classes.specs.Classes.{class_view};
+ghost use Rattle.lockfile.specs.Views.{package_views};
+ghost use Rattle.model.specs.Assignment.{Has};
+ghost use Rattle.model.specs.Selection.{IsValidSelection};
+ghost use Rattle.model.specs.Vertices.{State, dep, pkg, space};
+ghost use Rattle.encoding.specs.Assignments.{state_at};
+ghost use Rattle.encoding.specs.Inputs.{problem};
+ghost use Rattle.vertices.specs.RefViews.{owner_ref_view, vertex_ref_view};
+ghost use Rattle.following.specs.Found.{IsStateIn};
+
+use crate::finding::{led_to, package_in};
+use crate::numbers::{class_number, version_number};
+use classes::Class;
+use encoding::{Inputs, classes_of, dependency_at, spaces_are_small};
+use features::PackageName;
+use lockfile::{LockContent, Package};
+use std::alloc::{AllocError, Global};
+use vertices::{OwnerRef, VertexRef};
+
+/// The number of the state that a vertex has in a valid selection; `None` only where it is absent there, or has no
+/// such state.
+///
+/// A vertex that is absent may get a number all the same. The only error is want of memory.
+pub fn state_in(
+    alloc: Global,
+    inputs: &Inputs<'_>,
+    content: &LockContent,
+    vertex: &VertexRef<'_>,
+) -> Result<Option<u32>, AllocError>
+    requires valid { IsValidSelection (problem inputs.now) content.now }
+    ensures { IfOk result (λ o. (s : State) → Has (problem inputs.now) content.now (vertex_ref_view vertex.now) s → (n : ℕ) × (o ≡ Some n) × (n < length (space (problem inputs.now) (vertex_ref_view vertex.now))) × (state_at (problem inputs.now) (vertex_ref_view vertex.now) n ≡ s)) }
+{
+    let packages = content.packages();
+    match vertex {
+        VertexRef::Root => Ok(Some(1)),
+        VertexRef::Package(name, class) => Ok(version_in(inputs, packages, name, *class)),
+        VertexRef::Dependency(owner, number) => class_in(alloc, inputs, packages, owner, *number),
+        VertexRef::Feature(_, _, _) => Ok(Some(1)),
+        VertexRef::Ask(_, _, _, _) => Ok(Some(1)),
+    }
+}
+
+/// The state of a name and a class: the version of its package.
+fn version_in(
+    inputs: &Inputs<'_>,
+    content: &[Package],
+    name: &PackageName,
+    class: Class,
+) -> Option<u32>
+    requires valid { IsValidSelection (problem inputs.now) (package_views content.now) }
+    ensures { IsStateIn (problem inputs.now) (package_views content.now) (pkg name.now (class_view class)) result }
+{
+    let locked = package_in(content, name, class)?;
+    version_number(inputs, name, class, &locked.version)
+}
+
+/// The state of a dependency of an owner: the class of the package that it leads to.
+fn class_in(
+    alloc: Global,
+    inputs: &Inputs<'_>,
+    content: &[Package],
+    owner: &OwnerRef<'_>,
+    number: usize,
+) -> Result<Option<u32>, AllocError>
+    requires valid { IsValidSelection (problem inputs.now) (package_views content.now) }
+    ensures { IfOk result (IsStateIn (problem inputs.now) (package_views content.now) (dep (owner_ref_view owner.now) number)) }
+{
+    spaces_are_small(inputs);
+    let Some(dependency) = dependency_at(inputs, owner, number) else {
+        return Ok(None);
+    };
+    let Some(locked) = led_to(content, owner, dependency) else {
+        return Ok(None);
+    };
+    let classes = classes_of(alloc, inputs, dependency)?;
+    Ok(class_number(classes.as_slice(), Class::of(&locked.version)))
+}
