@@ -84,7 +84,7 @@ mapped_long : (q : Problem) (w : Vertex) (o : Option (List State)) (x : Members)
 mapped_long q w None x e = absurd (none-some x e)
 mapped_long q w (Some ss) x e = ap length (sym (same_Some (members_at q w ss) x e)) ∙ length-map (space q w) (Rattle.model.specs.Vertices.has_state ss)
 
-lengths_at : (l : List Members) (k : ℕ) → get_or (map length l) k 0 ≡ length (set_of l k)
+pub lengths_at : (l : List Members) (k : ℕ) → get_or (map length l) k 0 ≡ length (set_of l k)
 lengths_at [] zero = refl
 lengths_at [] (suc k) = refl
 lengths_at (s ∷ l) zero = refl
@@ -218,7 +218,7 @@ module _ (v i : ℕ) (old new : EncodedView) (t wide : TrailView) (es more : Lis
   asked_seen seen = subst (λ n. IsSeen n (asked_of new.asked) wide) (sym a.seen_is) (seen_wider old.seen (asked_of old.asked) (asked_of new.asked) a.came t wide trail.sound a.wider grows lone seen)
 
   pub asked_goes : GoesOn old new
-  asked_goes = record { problem = a.same; grown = a.grown; whole = λ h. (let w = a.whole in let e = known_most old.problem new.vertices new.asked a.spaced in omega (arith, w, e)) }
+  asked_goes = record { problem = a.same; grown = a.grown; whole = λ h. (let w = a.whole in let e = known_most old.problem new.vertices new.asked a.spaced in omega (arith, w, e)); follows_is = a.follows_is }
 
   pub asked_given : walking.AreGiven (IsOfInstance old.problem old.vertices) es → walking.AreGiven (IsOfInstance new.problem new.vertices) more
   asked_given was id within ax = subst (λ p. IsOfInstance p new.vertices (entry more id)) (sym a.same) (elim (cases_lt id (length es)) [

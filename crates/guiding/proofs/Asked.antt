@@ -1,5 +1,5 @@
 -- A guide as its fields are, before and after it asks for a pair.
-use Rattle.std.proofs.Common.{◌≡◌, ℕ, ◌<◌, ◌≤◌, true, List, length, map, get_or, [], ◌∷◌, zero, suc, take, Result, Ok, Err, Some, slice_get, refl, sym, ap, ◌∙◌, subst, arith}
+use Rattle.std.proofs.Common.{◌≡◌, ℕ, ◌<◌, ◌≤◌, true, List, length, map, get_or, [], ◌∷◌, zero, suc, take, Result, Ok, Err, Option, Some, slice_get, refl, sym, ap, ◌∙◌, subst, arith}
 use Rattle.std.specs.Prelude.{OnErr, OnOk}
 use Rattle.std.proofs.lemmas.Bool.{false≢true}
 use Rattle.std.proofs.lemmas.List.{length-map}
@@ -8,6 +8,7 @@ use Rattle.version_sets.specs.Sets.{Members, has}
 use Rattle.incompatibilities.specs.Stores.{EntryView}
 use Rattle.propagation.specs.Trails.{TrailView, set_of}
 use Rattle.propagation.specs.Promises.{IsTrail}
+use Rattle.model.specs.Content.{Content}
 use Rattle.model.specs.Vertices.{Vertex, space}
 use Rattle.encoding.specs.Assignments.{state_at}
 use Rattle.encoding.specs.Inputs.{problem}
@@ -39,23 +40,24 @@ encoding_marked (Ok x) i vs asked more v s is same was = encoding_same i vs aske
 encoding_marked (Err e) i vs asked more v s is same was = encoding_same i vs asked more (ap (map length) same) was
 
 -- a state of a vertex
-pub state_below : (i : Inputs) (vs : Numbering) (asked : List Members) (old : EncodedView) (seen v s : ℕ) → IsEncoding i vs asked → encoded_view (problem i) vs asked seen ≡ old → v < length old.asked → s < length (set_of old.asked v)
+pub state_below : (i : Inputs) (vs : Numbering) (asked : List Members) (old : EncodedView) (seen : ℕ) (follows : Option Content) (v s : ℕ) → IsEncoding i vs asked → encoded_view (problem i) vs asked seen follows ≡ old → v < length old.asked → s < length (set_of old.asked v)
     → (w : Vertex) → slice_get vs v ≡ Some w → s < length (space (problem i) w)
-state_below i vs asked old seen v s is view low lt w at =
+state_below i vs asked old seen follows v s is view low lt w at =
     let low : v < length asked = subst (λ (o : EncodedView). v < length o.asked) (sym view) low in
     let lt : s < length (set_of asked v) = subst (λ (o : EncodedView). s < length (set_of o.asked v)) (sym view) lt in
     let r = known_at (problem i) vs asked v is.spaces low in
     subst (λ n. s < n) (r.2 ∙ ap (λ x. length (space (problem i) x)) (same_Some r.0 w (sym r.1 ∙ at))) lt
 
-pub asking_by : (i : Inputs) (vs new : Numbering) (asked mid last : List Members) (seen v s : ℕ) (old : EncodedView) (t wide : TrailView) (es more : List EntryView) (given : List Given) → encoded_view (problem i) vs asked seen ≡ old → IsEncoding i vs asked → IsGrown vs new
+pub asking_by : (i : Inputs) (vs new : Numbering) (asked mid last : List Members) (seen : ℕ) (follows : Option Content) (v s : ℕ) (old : EncodedView) (t wide : TrailView) (es more : List EntryView) (given : List Given) → encoded_view (problem i) vs asked seen follows ≡ old → IsEncoding i vs asked → IsGrown vs new
     → IsEncoding i new mid → IsCome asked mid t wide → length new ≤ length mid → IsTrail es wide → ((w : Vertex) → slice_get vs v ≡ Some w → IsGivenAt (problem i) new (w, state_at (problem i) w s) given) → more ≡ with_given es given → last ≡ marked mid v s
-    → IsAsking v s old (encoded_view (problem i) new last seen) t wide es more
-asking_by i vs new asked mid last seen v s old t wide es more given view was grown now come whole trail is stored marks =
+    → IsAsking v s old (encoded_view (problem i) new last seen follows) t wide es more
+asking_by i vs new asked mid last seen follows v s old t wide es more given view was grown now come whole trail is stored marks =
     let lengths : map length last ≡ map length mid = ap (map length) marks ∙ mark_lengths mid v s in
     let then : IsEncoding i new last = encoding_same i new mid last lengths now in
-    subst (λ (o : EncodedView). IsAsking v s o (encoded_view (problem i) new last seen) t wide es more) view (record {
+    subst (λ (o : EncodedView). IsAsking v s o (encoded_view (problem i) new last seen follows) t wide es more) view (record {
       same = refl;
       seen_is = refl;
+      follows_is = refl;
       catalogue = was.catalogue;
       grown = grown;
       was_numbering = was.numbering;

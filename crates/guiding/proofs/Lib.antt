@@ -7,6 +7,7 @@ pub mod Numbers
 pub mod Alone
 pub mod Asked
 pub mod Adding
+pub mod Following
 pub mod AbsentPairs
 pub mod Settling
 pub mod Starts

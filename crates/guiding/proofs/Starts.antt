@@ -1,13 +1,15 @@
 -- What a search begins with.
-use Rattle.std.proofs.Common.{◌≡◌, ℕ, zero, suc, ◌<◌, ◌≤◌, true, List, [], ◌∷◌, length, map, get_or, Some, slice_get, refl, sym, ap, ◌∙◌, subst, arith}
+use Rattle.std.proofs.Common.{◌≡◌, Option, ℕ, zero, suc, ◌<◌, ◌≤◌, true, List, [], ◌∷◌, length, map, get_or, Some, slice_get, refl, sym, ap, ◌∙◌, subst, arith}
 use Rattle.std.proofs.lemmas.Bool.{false≢true}
 use Rattle.std.proofs.lemmas.List.{length-replicate}
 use Rattle.version_sets.specs.Sets.{Members, has, size}
+use Rattle.incompatibilities.specs.Incompatibilities.{Assignment}
 use Rattle.incompatibilities.specs.Stores.{EntryView, IsAxiom, entry}
 use Rattle.propagation.specs.Trails.{TrailView, set_of, sets_at, space_of}
 use Rattle.propagation.specs.Promises.{IsTrail, LieIn}
 use Rattle.propagation.proofs.SetLemmas.{size_every}
 use Rattle.propagation.proofs.Soundness.{trail_grown}
+use Rattle.model.specs.Content.{Content}
 use Rattle.model.specs.Vertices.{Vertex, absent, root}
 use Rattle.refutations.specs.Causes.{kind_of, terms_of_cause}
 use Rattle.refutations.proofs.CauseLaws.{cause_instance}
@@ -18,10 +20,12 @@ use Rattle.encoding.specs.Pairs.{Given, IsGivenAt}
 use Rattle.encoding.specs.declared.inputs.Inputs.{Inputs}
 use Rattle.searching.specs.Searching.{AreTouching, HasSpaces, IsSeen}
 use Rattle.searching.specs.Walking as walking
+use Rattle.searching.specs.Walking.{IsWalked}
 use Rattle.searching.proofs.Guides.{spaces_wider}
 use Rattle.searching.proofs.Touching.{touching_axioms}
-use Rattle.guiding.specs.Guides.{HasBegun, IsCome, IsEncoding, IsOfInstance, IsPut, as_entry, asked_of, encoded_view, with_given}
+use Rattle.guiding.specs.Guides.{CanFollow, Follows, HasBegun, IsCome, IsEncoding, IsOfInstance, IsPut, as_entry, asked_of, encoded_view, with_given}
 use Rattle.guiding.proofs.Adding.{given_at, given_of, said_long, with_given_is}
+use Rattle.guiding.proofs.Following.{more_unbroken, wider_agrees}
 use Rattle.guiding.proofs.Marks.{lengths_none, past_none}
 use Rattle.guiding.proofs.Numbers.{known_most}
 
@@ -53,10 +57,10 @@ seen_first asked es t trail = record { within = omega arith; all = λ v i lt onl
         let long : length (set_of (sets_at t 0) v) ≡ space_of t v = ap length full ∙ length-replicate (space_of t v) true in
         omega (arith, n, below, long)
 
-pub begun : (i : Inputs) (put vs : Numbering) (n : ℕ) (asked : List Members) (t wide : TrailView) (more : List EntryView) (given : List Given) → IsEncoding i vs asked → slice_get put n ≡ Some root → IsCome [] asked t wide → length vs ≤ length asked
+pub begun : (i : Inputs) (follows : Option Content) (put vs : Numbering) (n : ℕ) (asked : List Members) (t wide : TrailView) (more : List EntryView) (given : List Given) → IsEncoding i vs asked → CanFollow (problem i) follows → slice_get put n ≡ Some root → IsCome [] asked t wide → length vs ≤ length asked
     → length t.sets ≡ 0 → t.steps ≡ [] → IsTrail [] wide → ((w : Vertex) → slice_get put n ≡ Some w → IsGivenAt (problem i) vs (w, state_at (problem i) w 0) given) → more ≡ with_given [] given
-    → HasBegun (problem i) (encoded_view (problem i) vs asked 0) wide more
-begun i put vs n asked t wide more given encoding at come whole bare steps trail is stored = subst (λ es. HasBegun (problem i) (encoded_view (problem i) vs asked 0) wide es) (sym entries) (record {
+    → HasBegun (problem i) follows (encoded_view (problem i) vs asked 0 follows) wide more
+begun i follows put vs n asked t wide more given encoding can at come whole bare steps trail is stored = subst (λ es. HasBegun (problem i) follows (encoded_view (problem i) vs asked 0 follows) wide es) (sym entries) (record {
   problem = refl;
   whole = (let most = known_most (problem i) vs asked encoding.spaces in omega (arith, most, whole));
   spaces = spaced;
@@ -66,6 +70,9 @@ begun i put vs n asked t wide more given encoding at come whole bare steps trail
   given = instances;
   touching = touches_all;
   stored = record { root_is = root_put; pairs = λ u j v h e. absurd (false≢true (sym (ap (λ (l : List Members). has (set_of l u) j) come.sets ∙ past_none come.came u j) ∙ h)) };
+  follows_is = refl;
+  can_follow = can;
+  walked = walks;
 })
   where
     entries : more ≡ map as_entry given
@@ -98,3 +105,8 @@ begun i put vs n asked t wide more given encoding at come whole bare steps trail
     touches_all = touching_axioms [] (map as_entry given) (map as_entry given) refl
         (λ id lt. subst IsAxiom (sym (given_at (problem i) vs root_given.causes given id root_given.given lt).origin) tt)
         (λ id j k v lt e. absurd (omega (arith, lt)))
+
+    walks : (x : Assignment) → Follows (encoded_view (problem i) vs asked 0 follows) x → IsWalked x (map as_entry given) wide
+    walks x f =
+        (more_unbroken (problem i) vs f.0 x f.3 (root, absent) [] (map as_entry given) given encoding.catalogue f.2 root_given refl (λ id lt broken. omega (arith, lt)),
+        wider_agrees (problem i) vs f.0 x f.3 asked come.came t wide encoding.spaces spaced come.wider (λ u lt. absurd (omega (arith, lt, bare))))

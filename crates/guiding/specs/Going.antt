@@ -21,13 +21,14 @@ grows_same vs = ([], same vs)
     same (x ∷ xs) = ap (λ l. x ∷ l) (same xs)
 
 pub goes_same : (g : EncodedView) → GoesOn g g
-goes_same g = record { problem = refl; grown = grows_same g.vertices; whole = λ h. h }
+goes_same g = record { problem = refl; grown = grows_same g.vertices; whole = λ h. h; follows_is = refl }
 
 pub goes_on : (a b c : EncodedView) → GoesOn a b → GoesOn b c → GoesOn a c
 goes_on a b c first second = record {
   problem = second.problem ∙ first.problem;
   grown = grows_on a.vertices b.vertices c.vertices first.grown second.grown;
   whole = λ h. second.whole (first.whole h);
+  follows_is = second.follows_is ∙ first.follows_is;
 }
 
 -- what says an instance says it as vertices get numbers

@@ -1,20 +1,23 @@
 -- What the guide of a search over a problem keeps: which vertices have numbers, and which pairs of a vertex and a state
 -- were asked for.
-use Rattle.std.specs.Prelude.{◌≡◌, ◌<◌, ◌≤◌, ◌==◌, ℕ, suc, List, [], ◌∷◌, ◌++◌, Bool, true, false, ◌||◌, length, map, take, Option, Some, None, slice_get, slice_set}
+use Rattle.std.specs.Prelude.{◌≡◌, ◌<◌, ◌≤◌, ◌==◌, ℕ, suc, List, [], ◌∷◌, ◌++◌, Bool, true, false, ◌||◌, length, map, take, Option, Some, None, IfSome, IsSome, slice_get, slice_set}
 use Rattle.version_sets.specs.Sets.{Members, has, join, none, only, size}
 use Rattle.incompatibilities.specs.Incompatibilities.{Assignment}
 use Rattle.incompatibilities.specs.Stores.{EntryView, IsAxiom, entry}
 use Rattle.incompatibilities.specs.declared.origin.Origin.TheVariants.{Axiom}
 use Rattle.propagation.specs.Trails.{TrailView, set_of}
 use Rattle.propagation.specs.Promises.{IsTrail}
+use Rattle.propagation.specs.Satisfaction.{Agrees}
 use Rattle.propagation.specs.Widening.{IsWider}
-use Rattle.model.specs.Content.{Problem}
-use Rattle.model.specs.Vertices.{Vertex, root, absent}
+use Rattle.model.specs.Content.{Content, Problem}
+use Rattle.model.specs.Selection.{IsValidSelection}
+use Rattle.model.specs.Vertices.{Vertex, root, absent, space}
+use Rattle.model.specs.Assignment.{Assigns}
 use Rattle.model.specs.Axioms.{IsInstance, Kind, Root, Needed, Target, HasFeature, WantsFeature, FeatureOnFeature, FeatureOnDependency, FeatureAsks, NewestListed, WeakFeature, Term}
 use Rattle.model.specs.WellFormed.{IsCatalogue}
 use Rattle.refutations.specs.Causes.{Cause, is_cause, terms_of_cause}
 use Rattle.model.specs.Search.{IsUnbroken}
-use Rattle.encoding.specs.Assignments.{state_at, state_of}
+use Rattle.encoding.specs.Assignments.{IsOf, state_at, state_of}
 use Rattle.encoding.specs.Inputs.{KnowsDefault, problem}
 use Rattle.encoding.specs.Numberings.{IsGrown, IsNumbering, Numbering, Says, number_in}
 use Rattle.encoding.specs.Pairs.{Given, IsGivenAt, Pair, first_pair}
@@ -25,16 +28,17 @@ use Rattle.searching.specs.declared.turns.Answer.TheVariants.{Selection, Unsolva
 use Rattle.searching.specs.Walking as walking
 use Rattle.guiding.specs.Remaining.{late_of, open_of, spaces_of}
 
--- the problem, the vertices by their numbers, for each that the trail has the states that were asked for, and of how
--- many places of the trail the vertex was looked at
+-- the problem, the vertices by their numbers, for each that the trail has the states that were asked for, of how many
+-- places of the trail the vertex was looked at, and the content that is followed, if there is one
 pub record EncodedView : Type 0 where
   pub problem : Problem
   pub vertices : Numbering
   pub asked : List Members
   pub seen : ℕ
+  pub follows : Option Content
 
-abbrev pub encoded_view : Problem → Numbering → List Members → ℕ → EncodedView
-encoded_view q vs asked seen = record { problem = q; vertices = vs; asked = asked; seen = seen }
+abbrev pub encoded_view : Problem → Numbering → List Members → ℕ → Option Content → EncodedView
+encoded_view q vs asked seen follows = record { problem = q; vertices = vs; asked = asked; seen = seen; follows = follows }
 
 -- the vertices that the trail has
 abbrev pub known : Numbering → List Members → Numbering
@@ -46,6 +50,18 @@ pub record IsEncoding (i : Inputs) (vs : Numbering) (asked : List Members) : Typ
   pub catalogue : IsCatalogue (problem i)
   pub numbering : IsNumbering (problem i) vs
   pub spaces : map length asked ≡ spaces_of (problem i) (known vs asked)
+
+-- a content that is followed is a valid selection
+abbrev pub CanFollow : Problem → Option Content → Type 0
+CanFollow q follows = IfSome follows (λ content. IsValidSelection q content)
+
+-- an assignment gives each numbered vertex the state that it has in the content that is followed
+abbrev pub Follows : EncodedView → Assignment → Type 0
+Follows g x = (content : Content) × (g.follows ≡ Some content) × IsValidSelection g.problem content × IsOf g.problem g.vertices content x
+
+-- the number of the state that a vertex has in the content, if it is left and absent isn't
+abbrev pub IsFollowed : Problem → Option Content → Vertex → Members → Option ℕ → Type 0
+IsFollowed q follows v left o = (content : Content) (i : ℕ) → follows ≡ Some content → i < length (space q v) → Assigns q content v (state_at q v i) → has left i ≡ true → has left 0 ≡ false → o ≡ Some i
 
 -- absent asks for nothing; it is the one state of a vertex with one state
 abbrev pub asked_of : List Members → Pairs
@@ -103,6 +119,7 @@ pub record GoesOn (old new : EncodedView) : Type 0 where
   pub problem : new.problem ≡ old.problem
   pub grown : IsGrown old.vertices new.vertices
   pub whole : length old.asked ≡ length old.vertices → length new.asked ≡ length new.vertices
+  pub follows_is : new.follows ≡ old.follows
 
 -- ---- what its parts do
 
@@ -144,6 +161,7 @@ IsNextOpen t asked seen (Some d) = (d.0 < length t.sets) × IsOpenAt t.sets aske
 pub record IsAsking (v i : ℕ) (old new : EncodedView) (t wide : TrailView) (es more : List EntryView) : Type 0 where
   pub same : new.problem ≡ old.problem
   pub seen_is : new.seen ≡ old.seen
+  pub follows_is : new.follows ≡ old.follows
   pub catalogue : IsCatalogue old.problem
   pub grown : IsGrown old.vertices new.vertices
   pub was_numbering : IsNumbering old.problem old.vertices
@@ -160,7 +178,7 @@ pub record IsAsking (v i : ℕ) (old new : EncodedView) (t wide : TrailView) (es
   pub stored : more ≡ with_given es given
 
 -- a search may begin: the root alone is on the trail with all that its absence speaks of, and its absence is stored
-pub record HasBegun (q : Problem) (g : EncodedView) (t : TrailView) (es : List EntryView) : Type 0 where
+pub record HasBegun (q : Problem) (follows : Option Content) (g : EncodedView) (t : TrailView) (es : List EntryView) : Type 0 where
   pub problem : g.problem ≡ q
   pub whole : length g.asked ≡ length g.vertices
   pub spaces : HasSpaces (map length g.asked) t
@@ -170,6 +188,9 @@ pub record HasBegun (q : Problem) (g : EncodedView) (t : TrailView) (es : List E
   pub given : walking.AreGiven (IsOfInstance g.problem g.vertices) es
   pub touching : AreTouching es
   pub stored : AreStored g.problem g.vertices g.asked es
+  pub follows_is : g.follows ≡ follows
+  pub can_follow : CanFollow g.problem g.follows
+  pub walked : (x : Assignment) → Follows g x → walking.IsWalked x es t
 
 -- ---- the end
 
@@ -188,9 +209,15 @@ abbrev pub HasFound : Problem → EncodedView → TrailView → List EntryView �
 HasFound q g t es Selection = IsUnbroken q (state_of q g.vertices (final_of t))
 HasFound q g t es (Unsolvable id) = IsRefutation es id × walking.AreGiven (IsOfInstance q g.vertices) es
 
+-- a search that follows a content ends with a selection, and the states of that content are left
+pub record HasFollowed (g : EncodedView) (t : TrailView) (a : Answer) : Type 0 where
+  pub selects : IsSome g.follows → walking.IsSelection a
+  pub agrees : (x : Assignment) → Follows g x → Agrees x t.sets
+
 -- the vertices have one number each and are all on the trail, each combination is at a vertex at which its first has a term, and this was found
 pub record HasSearched (q : Problem) (g : EncodedView) (t : TrailView) (es : List EntryView) (a : Answer) : Type 0 where
   pub numbering : IsNumbering q g.vertices
   pub whole : length g.vertices ≤ length t.sets
   pub touching : AreTouching es
   pub found : HasFound q g t es a
+  pub followed : HasFollowed g t a

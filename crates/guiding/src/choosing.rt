@@ -37,6 +37,7 @@ pub(crate) fn greatest<S: States>(set: &S) -> u32
 /// Whether a vertex with these states is to be decided: it can't be absent, and has several.
 pub(crate) fn is_undecided<S: States>(left: &S) -> bool
     ensures yes { OnTrue result (1 < size (S.tests left.now)) }
+    ensures lost { OnTrue result (has (S.tests left.now) 0 ≡ false) }
     ensures no { OnFalse result (has (S.tests left.now) 0 ≡ false → size (S.tests left.now) ≤ 1) }
 {
     if left.member(0) {

@@ -1,13 +1,15 @@
 //! What a search asks of a manifest and a loaded index: its vertices and axioms on demand, and what to decide.
 
-ghost use Rattle.std.specs.Prelude.{◌≡◌, ◌<◌, [], IfOk, OnOk, length, map, true};
+ghost use Rattle.std.specs.Prelude.{◌≡◌, ◌<◌, [], IfOk, IfSome, OnOk, false, length, map, true};
 ghost use Rattle.encoding.specs.Inputs.{KnowsDefault, problem};
 ghost use Rattle.encoding.specs.Numberings.{IsNumbering};
+ghost use Rattle.incompatibilities.specs.Incompatibilities.{Assignment};
 ghost use Rattle.incompatibilities.specs.Stores.{entries_view};
 ghost use Rattle.propagation.specs.Promises.{IsTrail};
 ghost use Rattle.propagation.specs.Trails.{set_of, trail_view};
 ghost use Rattle.version_sets.specs.Sets.{has, size};
-ghost use Rattle.guiding.specs.Guides.{HasBegun, IsAsking, known};
+ghost use Rattle.vertices.specs.RefViews.{vertex_ref_view};
+ghost use Rattle.guiding.specs.Guides.{CanFollow, Follows, HasBegun, IsAsking, IsFollowed, known};
 ghost use Rattle.guiding.specs.Remaining.{spaces_of};
 
 use crate::asking::{mark, put_given};
@@ -18,7 +20,9 @@ use crate::order::Order;
 use crate::preferring::preferred_state;
 use catalogue::catalogues_are_well_formed;
 use encoding::{Inputs, Table, axioms_at};
+use following::state_in;
 use incompatibilities::{Id, Store};
+use lockfile::LockContent;
 use propagation::Trail;
 use searching::Guide;
 use std::alloc::{AllocError, Global};
@@ -32,6 +36,8 @@ pub struct Encoded<'a, S: States> {
     alloc: Global,
     inputs: Inputs<'a>,
     table: Table<'a>,
+    /// The valid selection that the search decides as; else it decides by preference.
+    follows: Option<LockContent>,
     /// Of each vertex that the trail has, the states that were asked for.
     asked: Vec<S>,
     /// Of so many places of the trail the vertex was looked at.
@@ -44,13 +50,13 @@ pub struct Encoded<'a, S: States> {
 impl<'a, S: States> Model for Encoded<'a, S> {
     ghost use Rattle.std.specs.Prelude.{map};
     ghost use Rattle.encoding.specs.Inputs.{problem};
-    ghost use Rattle.guiding.specs.Guides.{EncodedView, IsEncoding, encoded_view};
+    ghost use Rattle.guiding.specs.Guides.{CanFollow, EncodedView, IsEncoding, encoded_view};
 
     ghost Value = { EncodedView };
 
-    ghost view = { λ g. encoded_view (problem g.inputs) g.table (map S.tests g.asked.items) g.seen };
+    ghost view = { λ g. encoded_view (problem g.inputs) g.table (map S.tests g.asked.items) g.seen g.follows };
 
-    ghost invariant = { λ g. IsEncoding g.inputs g.table (map S.tests g.asked.items) };
+    ghost invariant = { λ g. IsEncoding g.inputs g.table (map S.tests g.asked.items) × CanFollow (problem g.inputs) g.follows };
 }
 
 impl<'a, S: States + Drop> Encoded<'a, S> {
@@ -59,15 +65,17 @@ impl<'a, S: States + Drop> Encoded<'a, S> {
     pub fn begin(
         alloc: Global,
         inputs: Inputs<'a>,
+        follows: Option<LockContent>,
         trail: &mut Trail<S>,
         store: &mut Store<S>,
     ) -> Result<Encoded<'a, S>, AllocError>
         requires default { KnowsDefault inputs }
+        requires follows { CanFollow (problem inputs) follows }
         requires trail { IsTrail (entries_view S.tests store.old) (trail_view S.tests trail.old) }
         requires bare { length (trail_view S.tests trail.old).sets ≡ 0 }
         requires steps { (trail_view S.tests trail.old).steps ≡ [] }
         requires store { entries_view S.tests store.old ≡ [] }
-        ensures { IfOk result (λ g. HasBegun (problem inputs.entry) g (trail_view S.tests trail.new) (entries_view S.tests store.new)) }
+        ensures { IfOk result (λ g. HasBegun (problem inputs.entry) follows g (trail_view S.tests trail.new) (entries_view S.tests store.new)) }
     {
         catalogues_are_well_formed(inputs.manifest, inputs.catalogue);
         let mut table = Table::new(alloc);
@@ -80,6 +88,7 @@ impl<'a, S: States + Drop> Encoded<'a, S> {
             alloc,
             inputs,
             table,
+            follows,
             asked,
             seen: 0,
             order: Order::new(alloc),
@@ -134,14 +143,39 @@ impl<'a, S: States + Drop> Encoded<'a, S> {
         mark(self.alloc, &mut self.asked, vertex, state)
     }
 
-    /// The state that a vertex is decided for: the preferred one, else the greatest that is left.
-    fn state_for(&self, vertex: usize, left: &S) -> Result<u32, AllocError>
-        requires { 0 < size (S.tests left.now) }
-        ensures { IfOk result (λ n. has (S.tests left.now) n ≡ true) }
+    /// The state that a vertex has in the content that is followed, if it is left.
+    fn followed_state(
+        &self,
+        vertex: &VertexRef<'a>,
+        left: &S,
+    ) -> Result<Option<u32>, AllocError>
+        ensures left { IfOk result (λ o. IfSome o (λ n. has (S.tests left.now) n ≡ true)) }
+        ensures followed { IfOk result (λ o. IsFollowed self.now.problem self.now.follows (vertex_ref_view vertex.now) (S.tests left.now) o) }
     {
-        let Some(vertex) = self.table.vertex(vertex) else {
+        let Some(content) = &self.follows else {
+            return Ok(None);
+        };
+        match state_in(self.alloc, &self.inputs, content, vertex)? {
+            Some(state) if left.member(state) => Ok(Some(state)),
+            _ => Ok(None),
+        }
+    }
+
+    /// The state that a vertex is decided for: that of the content that is followed, else the preferred one, else the
+    /// greatest that is left.
+    fn state_for(&self, number: usize, left: &S) -> Result<u32, AllocError>
+        requires number { number < length self.now.asked }
+        requires some { 0 < size (S.tests left.now) }
+        requires lost { has (S.tests left.now) 0 ≡ false }
+        ensures left { IfOk result (λ n. has (S.tests left.now) n ≡ true) }
+        ensures follows { IfOk result (λ n. (x : Assignment) → Follows self.now x → has (S.tests left.now) (x number) ≡ true → x number ≡ n) }
+    {
+        let Some(vertex) = self.table.vertex(number) else {
             return Ok(greatest(left));
         };
+        if let Some(state) = self.followed_state(&vertex, left)? {
+            return Ok(state);
+        }
         match preferred_state(self.alloc, &self.inputs, &vertex, left)? {
             Some(state) => Ok(state),
             None => Ok(greatest(left)),
@@ -151,7 +185,7 @@ impl<'a, S: States + Drop> Encoded<'a, S> {
 
 impl<'a, S: States + Drop> Guide<S> for Encoded<'a, S> {
     ghost use Rattle.std.specs.Prelude.{map, length};
-    ghost use Rattle.guiding.specs.Guides.{AreStored, GoesOn, IsDone, IsOfInstance, asked_of, late_with, left_with};
+    ghost use Rattle.guiding.specs.Guides.{AreStored, Follows, GoesOn, IsDone, IsOfInstance, asked_of, late_with, left_with};
     ghost use Rattle.guiding.specs.Going.{goes_on, goes_same, stored_on};
 
     ghost spaces = { λ g. map length g.asked };
@@ -172,7 +206,7 @@ impl<'a, S: States + Drop> Guide<S> for Encoded<'a, S> {
 
     ghost stored_on = { λ g es more was. stored_on g es more was };
 
-    ghost walks = { λ g x. ⊥ };
+    ghost walks = { λ g x. Follows g x };
 
     ghost keeps = { λ old new. GoesOn old new };
 

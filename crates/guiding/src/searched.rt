@@ -1,14 +1,15 @@
 //! A search over a manifest and a loaded index, for any set of states.
 
-ghost use Rattle.std.specs.Prelude.{IfOk};
+ghost use Rattle.std.specs.Prelude.{◌≡◌, IfOk};
 ghost use Rattle.incompatibilities.specs.Stores.{entries_view};
 ghost use Rattle.propagation.specs.Trails.{trail_view};
 ghost use Rattle.encoding.specs.Inputs.{KnowsDefault, problem};
-ghost use Rattle.guiding.specs.Guides.{HasSearched};
+ghost use Rattle.guiding.specs.Guides.{CanFollow, HasSearched};
 
 use crate::guide::Encoded;
 use encoding::Inputs;
 use incompatibilities::Store;
+use lockfile::LockContent;
 use propagation::Trail;
 use searching::{Found, search};
 use std::alloc::{AllocError, Global};
@@ -27,17 +28,21 @@ pub struct Searched<'a, S: States> {
     pub store: Store<S>,
 }
 
-/// Searches until there is an answer.
+/// Searches until there is an answer. A search that is given a valid selection decides as that one says, and ends with
+/// it.
 pub fn search_over<'a, S: States + Drop>(
     alloc: Global,
     inputs: Inputs<'a>,
+    follows: Option<LockContent>,
 ) -> Result<Searched<'a, S>, AllocError>
-    requires { KnowsDefault inputs }
-    ensures { IfOk result (λ r. HasSearched (problem inputs.entry) r.guide (trail_view S.tests r.trail) (entries_view S.tests r.store) r.found.answer) }
+    requires default { KnowsDefault inputs }
+    requires follows { CanFollow (problem inputs) follows }
+    ensures follows { IfOk result (λ r. r.guide.follows ≡ follows) }
+    ensures searched { IfOk result (λ r. HasSearched (problem inputs.entry) r.guide (trail_view S.tests r.trail) (entries_view S.tests r.store) r.found.answer) }
 {
     let mut store = Store::new(alloc);
     let mut trail = Trail::new(alloc, &[])?;
-    let mut guide = Encoded::begin(alloc, inputs, &mut trail, &mut store)?;
+    let mut guide = Encoded::begin(alloc, inputs, follows, &mut trail, &mut store)?;
     let found = search(alloc, &mut guide, &mut trail, &mut store)?;
     guide.is_kept();
     Ok(Searched {

@@ -1,12 +1,16 @@
+use Rattle.std.proofs.Common.{◌∙◌}
 use Rattle.incompatibilities.specs.Stores.{entries_view}
 use Rattle.propagation.specs.Trails.{trail_view}
 use Rattle.encoding.specs.Inputs.{problem}
 use Rattle.guiding.proofs.Ended.{searched_of}
 use Rattle.guiding.proofs.searched.search_over.Goals as goal
 
-pub returns : goal.returns
-returns g c =
+pub returns-clause-follows : goal.returns-clause-follows
+returns-clause-follows g c = c.in_ok-found.ensures.keeps.follows_is ∙ c.in_ok-guide.ensures.follows_is
+
+pub returns-clause-searched : goal.returns-clause-searched
+returns-clause-searched g c =
     let tests = g.S.States.tests in
     let end = c.in_ok-found.ensures in
-    searched_of (problem c.args.inputs) c.in_ok-guide.guide c.search.new.guide (trail_view tests c.begin.new.trail) (trail_view tests c.search.new.trail) (entries_view tests c.begin.new.store) (entries_view tests c.search.new.store) c.in_ok-found.found.answer
-    c.in_ok-guide.ensures end.keeps c.is_kept.ensures.numbering c.is_kept.ensures.spaces end.spaces end.trail end.ended end.given end.stored end.touching
+    searched_of (problem c.args.inputs) c.args.follows c.in_ok-guide.guide c.search.new.guide (trail_view tests c.begin.new.trail) (trail_view tests c.search.new.trail) (entries_view tests c.begin.new.store) (entries_view tests c.search.new.store) c.in_ok-found.found.answer
+    c.in_ok-guide.ensures end.keeps c.is_kept.ensures.numbering c.is_kept.ensures.spaces end.spaces end.trail end.ended end.given end.stored end.touching end.walks end.selects

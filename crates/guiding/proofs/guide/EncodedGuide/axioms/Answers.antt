@@ -5,10 +5,12 @@ use Rattle.encoding.specs.Inputs.{problem}
 use Rattle.searching.specs.Searching.{HasSpaces, IsSeen}
 use Rattle.searching.specs.Turning.{IsAdding}
 use Rattle.searching.specs.Walking as walking
+use Rattle.searching.specs.Walking.{KeepsWalks}
 use Rattle.searching.proofs.Guides.{adding_nothing}
-use Rattle.guiding.specs.Guides.{AreStored, EncodedView, IsNextOpen, IsOfInstance, asked_of, encoded_view, late_with, left_with}
+use Rattle.guiding.specs.Guides.{AreStored, EncodedView, Follows, IsNextOpen, IsOfInstance, asked_of, encoded_view, late_with, left_with}
 use Rattle.guiding.proofs.Adding.{asked_adding, asked_given, asked_seen, asked_spaces, asked_stored}
 use Rattle.guiding.proofs.Asked.{all_seen, only_below}
+use Rattle.guiding.proofs.Following.{asked_walks}
 use Rattle.guiding.proofs.guide.EncodedGuide.axioms.Goals as goal
 
 pub returns-in_ok-ask-in-Some-clause-adding : goal.returns-in_ok-ask-in-Some-clause-adding
@@ -21,7 +23,7 @@ returns-in_ok-ask-in-Some-clause-adding g c =
     let es = entries_view tests c.args.store.now in
     let more = entries_view tests c.ask.new.store in
     let new = c.ask.new.self in
-    let mid = encoded_view (problem f.inputs) f.table sets c.next_open.new.seen in
+    let mid = encoded_view (problem f.inputs) f.table sets c.next_open.new.seen f.follows in
     let spaced : HasSpaces (map length sets) t = subst (λ (o : EncodedView). HasSpaces (map length o.asked) t) (sym c.self.view_is) c.requires.spaces in
     let alone : IsNextOpen t sets c.next_open.new.seen (Some (c.in-Some.vertex, c.in-Some.state)) = subst (λ l. IsNextOpen t (map tests l) c.next_open.new.seen (Some (c.in-Some.vertex, c.in-Some.state))) c.deref.ensures.value c.in-Some.ensures.open in
     subst (λ (o : EncodedView). IsAdding (asked_of o.asked) (asked_of new.asked) (left_with o) (left_with new) (late_with o) (late_with new) t wide es more true) c.self.view_is
@@ -37,7 +39,7 @@ returns-in_ok-ask-in-Some-clause-spaces g c =
     let es = entries_view tests c.args.store.now in
     let more = entries_view tests c.ask.new.store in
     let new = c.ask.new.self in
-    let mid = encoded_view (problem f.inputs) f.table sets c.next_open.new.seen in
+    let mid = encoded_view (problem f.inputs) f.table sets c.next_open.new.seen f.follows in
     let spaced : HasSpaces (map length sets) t = subst (λ (o : EncodedView). HasSpaces (map length o.asked) t) (sym c.self.view_is) c.requires.spaces in
     let alone : IsNextOpen t sets c.next_open.new.seen (Some (c.in-Some.vertex, c.in-Some.state)) = subst (λ l. IsNextOpen t (map tests l) c.next_open.new.seen (Some (c.in-Some.vertex, c.in-Some.state))) c.deref.ensures.value c.in-Some.ensures.open in
     asked_spaces c.in-Some.vertex c.in-Some.state mid new t wide es more c.in_ok-ask-in-Some.ensures spaced c.requires.trail alone.0 ((alone.1).1) ((alone.1).2) (only_below sets t c.in-Some.vertex c.in-Some.state spaced ((alone.1).0))
@@ -53,7 +55,7 @@ returns-in_ok-ask-in-Some-clause-seen g c =
     let more = entries_view tests c.ask.new.store in
     let new = c.ask.new.self in
     let seen = c.next_open.new.seen in
-    let mid = encoded_view (problem f.inputs) f.table sets seen in
+    let mid = encoded_view (problem f.inputs) f.table sets seen f.follows in
     let spaced : HasSpaces (map length sets) t = subst (λ (o : EncodedView). HasSpaces (map length o.asked) t) (sym c.self.view_is) c.requires.spaces in
     let alone : IsNextOpen t sets seen (Some (c.in-Some.vertex, c.in-Some.state)) = subst (λ l. IsNextOpen t (map tests l) seen (Some (c.in-Some.vertex, c.in-Some.state))) c.deref.ensures.value c.in-Some.ensures.open in
     asked_seen c.in-Some.vertex c.in-Some.state mid new t wide es more c.in_ok-ask-in-Some.ensures spaced c.requires.trail alone.0 ((alone.1).1) ((alone.1).2) (only_below sets t c.in-Some.vertex c.in-Some.state spaced ((alone.1).0))
@@ -69,7 +71,7 @@ returns-in_ok-ask-in-Some-clause-given g c was =
     let es = entries_view tests c.args.store.now in
     let more = entries_view tests c.ask.new.store in
     let new = c.ask.new.self in
-    let mid = encoded_view (problem f.inputs) f.table sets c.next_open.new.seen in
+    let mid = encoded_view (problem f.inputs) f.table sets c.next_open.new.seen f.follows in
     let spaced : HasSpaces (map length sets) t = subst (λ (o : EncodedView). HasSpaces (map length o.asked) t) (sym c.self.view_is) c.requires.spaces in
     let alone : IsNextOpen t sets c.next_open.new.seen (Some (c.in-Some.vertex, c.in-Some.state)) = subst (λ l. IsNextOpen t (map tests l) c.next_open.new.seen (Some (c.in-Some.vertex, c.in-Some.state))) c.deref.ensures.value c.in-Some.ensures.open in
     asked_given c.in-Some.vertex c.in-Some.state mid new t wide es more c.in_ok-ask-in-Some.ensures spaced c.requires.trail alone.0 ((alone.1).1) ((alone.1).2) (only_below sets t c.in-Some.vertex c.in-Some.state spaced ((alone.1).0))
@@ -85,7 +87,7 @@ returns-in_ok-ask-in-Some-clause-stored g c was =
     let es = entries_view tests c.args.store.now in
     let more = entries_view tests c.ask.new.store in
     let new = c.ask.new.self in
-    let mid = encoded_view (problem f.inputs) f.table sets c.next_open.new.seen in
+    let mid = encoded_view (problem f.inputs) f.table sets c.next_open.new.seen f.follows in
     let spaced : HasSpaces (map length sets) t = subst (λ (o : EncodedView). HasSpaces (map length o.asked) t) (sym c.self.view_is) c.requires.spaces in
     let alone : IsNextOpen t sets c.next_open.new.seen (Some (c.in-Some.vertex, c.in-Some.state)) = subst (λ l. IsNextOpen t (map tests l) c.next_open.new.seen (Some (c.in-Some.vertex, c.in-Some.state))) c.deref.ensures.value c.in-Some.ensures.open in
     asked_stored c.in-Some.vertex c.in-Some.state mid new t wide es more c.in_ok-ask-in-Some.ensures spaced c.requires.trail alone.0 ((alone.1).1) ((alone.1).2) (only_below sets t c.in-Some.vertex c.in-Some.state spaced ((alone.1).0))
@@ -98,7 +100,26 @@ returns-in_ok-self-inside-in-None-clause-adding g c =
     let sets = map tests f.asked.items in
     let t = trail_view tests c.args.trail.now in
     let es = entries_view tests c.args.store.now in
-    let mid = encoded_view (problem f.inputs) f.table sets c.next_open.new.seen in
+    let mid = encoded_view (problem f.inputs) f.table sets c.next_open.new.seen f.follows in
     let seen : IsSeen c.next_open.new.seen (asked_of sets) t = subst (λ l. IsSeen c.next_open.new.seen (asked_of (map tests l)) t) c.deref.ensures.value c.next_open.ensures.seen in
     subst (λ (o : EncodedView). IsAdding (asked_of o.asked) (asked_of sets) (left_with o) (left_with mid) (late_with o) (late_with mid) t t es es false) c.self.view_is
     (adding_nothing (asked_of sets) (left_with mid) (late_with mid) t es c.requires.trail.lies (all_seen c.next_open.new.seen (asked_of sets) t seen c.in-None.ensures.open))
+
+pub returns-in_ok-ask-in-Some-clause-walks : goal.returns-in_ok-ask-in-Some-clause-walks
+returns-in_ok-ask-in-Some-clause-walks g c =
+    let tests = g.S.States.tests in
+    let f = c.self.inside in
+    let sets = map tests f.asked.items in
+    let t = trail_view tests c.args.trail.now in
+    let wide = trail_view tests c.ask.new.trail in
+    let es = entries_view tests c.args.store.now in
+    let more = entries_view tests c.ask.new.store in
+    let new = c.ask.new.self in
+    let mid = encoded_view (problem f.inputs) f.table sets c.next_open.new.seen f.follows in
+    let spaced : HasSpaces (map length sets) t = subst (λ (o : EncodedView). HasSpaces (map length o.asked) t) (sym c.self.view_is) c.requires.spaces in
+    let alone : IsNextOpen t sets c.next_open.new.seen (Some (c.in-Some.vertex, c.in-Some.state)) = subst (λ l. IsNextOpen t (map tests l) c.next_open.new.seen (Some (c.in-Some.vertex, c.in-Some.state))) c.deref.ensures.value c.in-Some.ensures.open in
+    subst (λ (o : EncodedView). KeepsWalks (Follows o) es t (Follows new) more wide) c.self.view_is
+    (asked_walks c.in-Some.vertex c.in-Some.state mid new t wide es more c.in_ok-ask-in-Some.ensures spaced c.requires.trail alone.0 ((alone.1).1) ((alone.1).2) (only_below sets t c.in-Some.vertex c.in-Some.state spaced ((alone.1).0)))
+
+pub returns-in_ok-self-inside-in-None-clause-walks : goal.returns-in_ok-self-inside-in-None-clause-walks
+returns-in_ok-self-inside-in-None-clause-walks g c x is = (subst (λ (o : EncodedView). Follows o x) c.self.view_is is, λ walked. walked)

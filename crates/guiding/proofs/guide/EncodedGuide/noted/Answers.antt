@@ -1,5 +1,5 @@
-use Rattle.std.proofs.Common.{ap}
-use Rattle.guiding.specs.Guides.{late_with, left_with}
+use Rattle.std.proofs.Common.{ap, subst}
+use Rattle.guiding.specs.Guides.{EncodedView, Follows, late_with, left_with}
 use Rattle.guiding.proofs.guide.EncodedGuide.noted.Goals as goal
 
 pub returns-then-places-self-clause-late : goal.returns-then-places-self-clause-late
@@ -13,3 +13,9 @@ returns-else-places-self-clause-late g c = ap late_with c.self.view_is
 
 pub returns-else-places-self-clause-left : goal.returns-else-places-self-clause-left
 returns-else-places-self-clause-left g c = ap left_with c.self.view_is
+
+pub returns-then-places-self-clause-walks : goal.returns-then-places-self-clause-walks
+returns-then-places-self-clause-walks g c x f = subst (λ (o : EncodedView). Follows o x) c.self.view_is f
+
+pub returns-else-places-self-clause-walks : goal.returns-else-places-self-clause-walks
+returns-else-places-self-clause-walks g c x f = subst (λ (o : EncodedView). Follows o x) c.self.view_is f
