@@ -1,16 +1,18 @@
 -- Where dependencies lead in the states that a search ended in, as places among the candidates of their names.
 use Rattle.std.specs.Prelude.{◌≡◌, ◌≤◌, ℕ, List, Option, Some, None, length, slice_get}
+use Rattle.incompatibilities.specs.Incompatibilities.{Assignment}
+use Rattle.propagation.specs.Satisfaction.{Agrees}
 use Rattle.propagation.specs.Trails.{TrailView}
 use Rattle.semver.specs.Parse.{Parts}
 use Rattle.model.specs.Summary.{Dependency}
-use Rattle.model.specs.Content.{Candidate, Problem, candidates_of}
+use Rattle.model.specs.Content.{Candidate, Content, Problem, candidates_of}
 use Rattle.model.specs.Selection.{Class}
 use Rattle.model.specs.Vertices.{Owner, version_of, Vertex, State, absent, present, version, in_class}
 use Rattle.model.specs.Search.{IsUnbroken, LeadsTo}
 use Rattle.catalogue.specs.Stores.{CatalogueView, rows_by_name}
 use Rattle.contents.specs.Contents.{candidate_owner, owners_of}
 use Rattle.contents.specs.declared.stop.Stop.{Stop}
-use Rattle.encoding.specs.Assignments.{state_of}
+use Rattle.encoding.specs.Assignments.{IsOf, state_of}
 use Rattle.encoding.specs.Inputs.{problem}
 use Rattle.encoding.specs.Numberings.{Numbering}
 use Rattle.encoding.specs.declared.inputs.Inputs.{Inputs}
@@ -19,6 +21,10 @@ use Rattle.guiding.specs.Guides.{final_of}
 -- the states of vertices at the end
 abbrev pub ends : Inputs → Numbering → TrailView → Vertex → State
 ends i vs t = state_of (problem i) vs (final_of t)
+
+-- the states that a content gives to vertices with numbers are left
+abbrev pub IsLeft : Problem → Numbering → Content → TrailView → Type 0
+IsLeft q vs content t = (x : Assignment) → IsOf q vs content x → Agrees x t.sets
 
 -- no instance is broken at the end, and each vertex with a number is on the trail
 pub record HasEnded (i : Inputs) (vs : Numbering) (t : TrailView) : Type 0 where

@@ -1,13 +1,15 @@
 //! The content of what a search selected.
 
-ghost use Rattle.std.specs.Prelude.{◌≡◌, ◌≤◌, ℕ, IfOk, None, Some, length, slice_get, true};
+ghost use Rattle.std.specs.Prelude.{◌≡◌, ◌≤◌, IfOk, length};
 ghost use Rattle.propagation.specs.Trails.{trail_view};
-ghost use Rattle.model.specs.Content.{Package, is_root};
+ghost use Rattle.model.specs.Content.{Content};
 ghost use Rattle.model.specs.Search.{IsUnbroken};
 ghost use Rattle.model.specs.Selection.{IsValidSelection};
 ghost use Rattle.encoding.specs.Assignments.{state_of};
 ghost use Rattle.encoding.specs.Inputs.{problem};
 ghost use Rattle.guiding.specs.Guides.{final_of};
+ghost use Rattle.reaching.specs.Built.{HasBareRoot};
+ghost use Rattle.gathering.specs.Leads.{IsLeft};
 
 use crate::meeting::{Met, meet};
 use catalogue::catalogues_are_well_formed;
@@ -20,7 +22,8 @@ use reaching::{built_contents_select, built_roots_have_no_checksum, packages_are
 use std::alloc::{AllocError, Global};
 use version_sets::States;
 
-/// The content that a search selected, in package order: what the root reaches in the states that it ended in.
+/// The content that a search selected, in package order: what the root reaches in the states that it ended in. Where a
+/// valid selection is left in the end, it is that one.
 ///
 /// The only error is want of memory.
 pub fn content<'a, S: States + Drop>(
@@ -32,7 +35,8 @@ pub fn content<'a, S: States + Drop>(
     requires whole { length table.now ≤ length (trail_view S.tests trail.now).sets }
     requires unbroken { IsUnbroken (problem inputs.now) (state_of (problem inputs.now) table.now (final_of (trail_view S.tests trail.now))) }
     ensures selection { IfOk result (λ c. IsValidSelection (problem inputs.now) c) }
-    ensures root { IfOk result (λ c. (n : ℕ) (p : Package) → slice_get c n ≡ Some p → is_root (problem inputs.now) p ≡ true → p.checksum ≡ None) }
+    ensures root { IfOk result (λ c. HasBareRoot (problem inputs.now) c) }
+    ensures followed { IfOk result (λ c. (w : Content) → IsValidSelection (problem inputs.now) w → HasBareRoot (problem inputs.now) w → IsLeft (problem inputs.now) table.now w (trail_view S.tests trail.now) → c ≡ w) }
 {
     catalogues_are_well_formed(inputs.manifest, inputs.catalogue);
     packages_are_a_graph();

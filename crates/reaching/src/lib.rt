@@ -3,8 +3,8 @@
 //! A law is a function that does nothing: its contract is the statement, and its body shows that the statement needs no code.
 #![tactic(auto)]
 
-ghost use Rattle.std.specs.Prelude.{◌≡◌, ℕ, Bool, true, List, Some, None, slice_get};
-ghost use Rattle.model.specs.Content.{Candidate, Content, Package, Problem, is_root};
+ghost use Rattle.std.specs.Prelude.{◌≡◌, Bool, List};
+ghost use Rattle.model.specs.Content.{Candidate, Content, Problem};
 ghost use Rattle.model.specs.ContentOf.{AreKept, Kept};
 ghost use Rattle.model.specs.Search.{IsUnbroken, LeadsTo};
 ghost use Rattle.model.specs.Selection.{IsValidSelection};
@@ -13,7 +13,7 @@ ghost use Rattle.model.specs.Walk.{IsWalk, Picks};
 ghost use Rattle.model.specs.WellFormed.{IsCatalogue};
 ghost use Rattle.manifest.specs.Manifests.{root_asks};
 ghost use Rattle.facts.specs.Graphs.{IsGraph, NodeView};
-ghost use Rattle.reaching.specs.Built.{AreFound, IsBuilt};
+ghost use Rattle.reaching.specs.Built.{AreFound, HasBareRoot, IsBuilt};
 ghost use Rattle.reaching.specs.Nodes.{AreFlags, AreMet};
 
 /// Packages with where their dependencies lead in an assignment are a graph: the facts can be found over them.
@@ -39,8 +39,7 @@ pub fn built_contents_select()
 /// The root of a content that is built has no checksum.
 pub fn built_roots_have_no_checksum()
     ensures { (q : Problem) (owners : List Owner) (nodes : List NodeView) (is_here : List Bool) (are_enabled : List (List Bool)) (content : Content)
-        → IsBuilt owners nodes are_enabled q is_here content
-        → (n : ℕ) (p : Package) → slice_get content n ≡ Some p → is_root q p ≡ true → p.checksum ≡ None }
+        → IsBuilt owners nodes are_enabled q is_here content → HasBareRoot q content }
 {}
 
 /// The content that is built where dependencies lead to their picks is the preferred walk.
