@@ -7,7 +7,7 @@ use Rattle.propagation.specs.Trails.{TrailView}
 use Rattle.propagation.specs.Promises.{IsTrail}
 use Rattle.model.specs.Content.{Content, Problem}
 use Rattle.encoding.specs.Numberings.{IsNumbering}
-use Rattle.searching.specs.Searching.{AreTouching, HasSpaces}
+use Rattle.searching.specs.Searching.{AreTouching, HasSpaces, Pairs}
 use Rattle.searching.specs.Turning.{HasEnded}
 use Rattle.searching.specs.Walking as walking
 use Rattle.searching.specs.Walking.{IsSelection, IsWalked}
@@ -28,6 +28,10 @@ found_of q follows old g t0 t es0 es Selection begun goes ok spaces spaced trail
 found_of q follows old g t0 t es0 es (Unsolvable id) begun goes ok spaces spaced trail ended given stored =
     subst (λ p. HasFound p g t es (Unsolvable id)) (goes.problem ∙ begun.problem) (ended, given begun.given)
 
+done_of : (done : Type 0) (asked : Pairs) (es : List EntryView) (t : TrailView) (a : Answer) → HasEnded done asked es t a → IsSelection a → done
+done_of done asked es t Selection ended is = ended.0
+done_of done asked es t (Unsolvable id) ended is = absurd is
+
 pub searched_of : (q : Problem) (follows : Option Content) (old g : EncodedView) (t0 t : TrailView) (es0 es : List EntryView) (a : Answer) → HasBegun q follows old t0 es0 → GoesOn old g → IsNumbering g.problem g.vertices → map length g.asked ≡ spaces_of g.problem (known g.vertices g.asked)
     → HasSpaces (map length g.asked) t → IsTrail es t → HasEnded (IsDone t) (asked_of g.asked) es t a
     → (walking.AreGiven (IsOfInstance old.problem old.vertices) es0 → walking.AreGiven (IsOfInstance g.problem g.vertices) es)
@@ -39,5 +43,6 @@ searched_of q follows old g t0 t es0 es a begun goes ok spaces spaced trail ende
   whole = omega (arith, goes.whole begun.whole, spaced.vertices, length-map g.asked length);
   touching = touching begun.touching;
   found = found_of q follows old g t0 t es0 es a begun goes ok spaces spaced trail ended given stored;
+  done = done_of (IsDone t) (asked_of g.asked) es t a ended;
   followed = followed_by q follows old g t0 t es0 es a begun goes keeps selects;
 }
