@@ -3,7 +3,7 @@
 //! A law is a function that does nothing: its contract is the statement, and its body shows that the statement needs no code.
 #![tactic(auto)]
 
-ghost use Rattle.std.specs.Prelude.{◌≡◌, Bool, List};
+ghost use Rattle.std.specs.Prelude.{◌≡◌, ℕ, Bool, List};
 ghost use Rattle.model.specs.Content.{Candidate, Content, Problem};
 ghost use Rattle.model.specs.ContentOf.{AreKept, Kept};
 ghost use Rattle.model.specs.Search.{IsUnbroken, LeadsTo};
@@ -14,6 +14,7 @@ ghost use Rattle.model.specs.WellFormed.{IsCatalogue};
 ghost use Rattle.manifest.specs.Manifests.{root_asks};
 ghost use Rattle.facts.specs.Graphs.{IsGraph, NodeView};
 ghost use Rattle.reaching.specs.Built.{AreFound, HasBareRoot, IsBuilt};
+ghost use Rattle.reaching.specs.Followed.{AgreesWith, IsBrought};
 ghost use Rattle.reaching.specs.Nodes.{AreFlags, AreMet};
 
 /// Packages with where their dependencies lead in an assignment are a graph: the facts can be found over them.
@@ -40,6 +41,14 @@ pub fn built_contents_select()
 pub fn built_roots_have_no_checksum()
     ensures { (q : Problem) (owners : List Owner) (nodes : List NodeView) (is_here : List Bool) (are_enabled : List (List Bool)) (content : Content)
         → IsBuilt owners nodes are_enabled q is_here content → HasBareRoot q content }
+{}
+
+/// The content that is built is a valid selection that was given, if the root alone brings that one and the assignment,
+/// which breaks no instance, has no states but its own and absent.
+pub fn built_contents_follow()
+    ensures { (q : Problem) (state : Vertex → State) (owners : List Owner) (nodes : List NodeView) (is_here : List Bool) (are_enabled : List (List Bool)) (content given : Content)
+        → q.root_asks ≡ root_asks q.brings.features → IsUnbroken q state → AreMet q (LeadsTo q state) owners nodes → AreFlags nodes is_here are_enabled
+        → IsBuilt owners nodes are_enabled q is_here content → IsValidSelection q given → HasBareRoot q given → IsBrought q given → AgreesWith q state given → content ≡ given }
 {}
 
 /// The content that is built where dependencies lead to their picks is the preferred walk.
