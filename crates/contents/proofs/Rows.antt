@@ -6,7 +6,8 @@ use Rattle.model.specs.Candidates.{Record, as_candidate}
 use Rattle.catalogue.specs.Ranks.{Ranked, records}
 use Rattle.catalogue.specs.Stores.{CatalogueView, Row, row_at, candidates_at, rows_by_name}
 
-row_of : (f : List Ranked → List Record) → f [] ≡ [] → (rows : List Row) (name : List ℕ)
+-- the candidates of a name where those of each row are put in an order
+pub row_of : (f : List Ranked → List Record) → f [] ≡ [] → (rows : List Row) (name : List ℕ)
     → candidates_of (map (λ row. (row.0, map as_candidate (f row.1))) rows) name ≡ map as_candidate (f (unwrap_or (row_at rows name) []))
 row_of f none [] name = sym (ap (map as_candidate) none)
 row_of f none (row ∷ rows) name =

@@ -1,4 +1,3 @@
 pub mod Ends
 pub mod Led
 pub mod Put
-pub mod Nodes

@@ -8,9 +8,9 @@ use Rattle.model.specs.Summary.{Dependency}
 use Rattle.reaching.specs.Nodes.{AreLeads}
 use Rattle.encoding.specs.Inputs.{problem}
 use Rattle.contents.specs.Contents.{owners_of}
+use Rattle.contents.proofs.Nodes.{begun, one_more, all_met, owner_next}
 use Rattle.gathering.specs.Leads.{AreThere, ends}
 use Rattle.gathering.proofs.Led.{led_there, leads_of}
-use Rattle.gathering.proofs.Nodes.{begun, one_more, all_met, owner_next}
 use Rattle.gathering.proofs.meeting.meet.Goals as goal
 
 pub stops-init : goal.stops-init

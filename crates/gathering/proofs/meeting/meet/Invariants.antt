@@ -4,7 +4,7 @@ use Rattle.propagation.specs.Trails.{trail_view}
 use Rattle.model.specs.Search.{LeadsTo}
 use Rattle.encoding.specs.Inputs.{problem}
 use Rattle.gathering.specs.Leads.{ends}
-use Rattle.gathering.proofs.Nodes.{SoFar}
+use Rattle.contents.proofs.Nodes.{SoFar}
 use Rattle.gathering.proofs.meeting.meet.Given as goal
 
 -- each of those met so far is there once, and the first of them have their nodes
