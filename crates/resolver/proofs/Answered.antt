@@ -12,7 +12,8 @@ use Rattle.solver.specs.Solving.{IsSolved}
 use Rattle.solver.specs.declared.solving.Outcome.{Outcome}
 use Rattle.solver.specs.declared.solving.Outcome.TheVariants.{Selection}
 use Rattle.solver.specs.declared.solving.Outcome.TheVariants as outcome
-use Rattle.walks.specs.Preferred.{HasBareRoot, preferred_in}
+use Rattle.reaching.specs.Built.{HasBareRoot}
+use Rattle.walks.specs.Preferred.{preferred_in}
 use Rattle.resolver.specs.Faults.{is_memory}
 use Rattle.resolver.specs.Inputs.{RequestView, AreRead, EndsWith, UnlessMemory, problem_of}
 use Rattle.resolver.specs.Inputs.IsCutShort.{after_loading}

@@ -17,7 +17,8 @@ use Rattle.solver.specs.Solving as solving
 use Rattle.solver.specs.declared.solving.Outcome.{Outcome}
 use Rattle.solver.specs.declared.solving.Outcome.TheVariants.{Selection}
 use Rattle.solver.specs.declared.solving.Outcome.TheVariants as outcome
-use Rattle.walks.specs.Preferred.{preferred_in, IsPreferred, HasBareRoot}
+use Rattle.reaching.specs.Built.{HasBareRoot}
+use Rattle.walks.specs.Preferred.{preferred_in, IsPreferred}
 use Rattle.resolver.specs.Faults.{is_memory}
 use Rattle.resolver.specs.Inputs.{RequestView, AreRead, IsRefused, EndsWith, UnlessMemory, problem_of}
 use Rattle.resolver.specs.declared.inputs.Inputs.{Inputs}

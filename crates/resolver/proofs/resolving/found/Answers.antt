@@ -1,5 +1,6 @@
 use Rattle.std.proofs.Common.{IfSome, subst}
-use Rattle.walks.specs.Preferred.{preferred_in, Answers, HasBareRoot}
+use Rattle.reaching.specs.Built.{HasBareRoot}
+use Rattle.walks.specs.Preferred.{preferred_in, Answers}
 use Rattle.resolver.specs.Inputs.{problem_of}
 use Rattle.resolver.proofs.Answered.{search_found, walk_chosen}
 use Rattle.resolver.proofs.resolving.found.Goals as goal
