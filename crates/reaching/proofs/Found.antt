@@ -79,14 +79,14 @@ module _ (q : Problem) (LeadsTo : Owner → ℕ → Dependency → Owner → Typ
   At n o = slice_get owners n ≡ Some o
 
   -- what stands at the place of an owner
-  node_at : (n : ℕ) (o : Owner) → At n o → (v : NodeView) × (slice_get nodes n ≡ Some v) × IsNode q LeadsTo owners n o v
+  pub node_at : (n : ℕ) (o : Owner) → At n o → (v : NodeView) × (slice_get nodes n ≡ Some v) × IsNode q LeadsTo owners n o v
   node_at n o at =
       let lt = slice_get_within owners n o at in
       let many = met.as_many in
       let (v, got) = some_at nodes n (omega (arith, lt, many)) in
       (v, got, met.each n o v at got)
 
-  owner_there : (n : ℕ) (v : NodeView) → slice_get nodes n ≡ Some v → (o : Owner) × At n o
+  pub owner_there : (n : ℕ) (v : NodeView) → slice_get nodes n ≡ Some v → (o : Owner) × At n o
   owner_there n v got =
       let lt = slice_get_within nodes n v got in
       let many = met.as_many in
@@ -187,7 +187,7 @@ module _ (q : Problem) (LeadsTo : Owner → ℕ → Dependency → Owner → Typ
   far_of x h = holds_far (brings_at nodes) (λ n. n ≡ 0) (λ n. starts_at nodes n ≡ true) (root_asks (brings_at nodes 0).features) (λ n i d t. target_at nodes n i ≡ Some t)
       (owner_brings q) (λ o. o ≡ the_root) (λ o. o ≡ the_root) q.root_asks LeadsTo At to_names x h
 
-  near_of : (x : Fact Owner) → Far x → HoldsFar (owner_brings q) (λ o. o ≡ the_root) (λ o. o ≡ the_root) q.root_asks LeadsTo
+  pub near_of : (x : Fact Owner) → Far x → HoldsFar (owner_brings q) (λ o. o ≡ the_root) (λ o. o ≡ the_root) q.root_asks LeadsTo
       (brings_at nodes) (λ n. n ≡ 0) (λ n. starts_at nodes n ≡ true) (root_asks (brings_at nodes 0).features) (λ n i d t. target_at nodes n i ≡ Some t) (λ o n. At n o) x
   near_of x h = holds_far (owner_brings q) (λ o. o ≡ the_root) (λ o. o ≡ the_root) q.root_asks LeadsTo
       (brings_at nodes) (λ n. n ≡ 0) (λ n. starts_at nodes n ≡ true) (root_asks (brings_at nodes 0).features) (λ n i d t. target_at nodes n i ≡ Some t) (λ o n. At n o) to_places x h
@@ -195,7 +195,7 @@ module _ (q : Problem) (LeadsTo : Owner → ℕ → Dependency → Owner → Typ
   here_far : (n : ℕ) (o : Owner) → At n o → Near (here n) → Far (here o)
   here_far n o at h = let (m, r, p) = far_of (here n) h in subst (λ x. Far (here x)) (one_owner n m o r at) p
 
-  enabled_far : (n i : ℕ) (o : Owner) → At n o → Near (enabled n i) → Far (enabled o i)
+  pub enabled_far : (n i : ℕ) (o : Owner) → At n o → Near (enabled n i) → Far (enabled o i)
   enabled_far n i o at h = let (m, r, p) = far_of (enabled n i) h in subst (λ x. Far (enabled x i)) (one_owner n m o r at) p
 
   enabled_near : (n i : ℕ) (o : Owner) → At n o → Far (enabled o i) → Near (enabled n i)

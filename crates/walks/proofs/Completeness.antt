@@ -1,11 +1,20 @@
--- What the test of completeness says.
-use Rattle.std.proofs.Common.{◌≡◌, ℕ, zero, suc, Bool, true, false, not, ◌||◌, List, [], ◌∷◌, map, Option, Some, None, Vec, slice_get, is_some, refl, sym, subst, true≢false}
+-- What the test of completeness says: that the walk is complete.
+use Rattle.std.proofs.Common.{◌≡◌, ℕ, zero, suc, Bool, true, false, not, ◌||◌, List, [], ◌∷◌, map, Option, Some, None, Vec, slice_get, is_some, refl, sym, subst, arith, true≢false}
 use Rattle.std.specs.declared.alloc.Global.{Global}
 use Rattle.std.proofs.lemmas.Bool.{and_from}
-use Rattle.std.proofs.lemmas.Option.{same_Some, none-some}
+use Rattle.std.proofs.lemmas.Option.{slice_get_within, same_Some, none-some}
 use Rattle.model.proofs.Same.{both}
+use Rattle.model.specs.Summary.{Summary, Dependency}
+use Rattle.model.specs.Facts.{enabled}
+use Rattle.model.specs.Content.{Candidate, Problem}
+use Rattle.model.specs.Vertices.{Owner}
+use Rattle.model.specs.Walk.{IsComplete, Picks}
+use Rattle.manifest.specs.Manifests.{root_asks}
 use Rattle.facts.specs.Graphs.{NodeView, node_view, node_views, flag_at, flag_in}
 use Rattle.facts.specs.declared.node.Node.{Node}
+use Rattle.reaching.specs.Nodes.{AreFlags, AreMet, IsLead}
+use Rattle.reaching.proofs.Found.{enabled_far, near_of, node_at, owner_there}
+use Rattle.contents.proofs.Lists.{some_at}
 use Rattle.walks.specs.Met.{are_met, all_met}
 
 is_met : (t : Option ℕ) (b : Bool) → (is_some t || not b) ≡ true → b ≡ true → is_some t ≡ true
@@ -51,3 +60,40 @@ if_all_met (m ∷ nodes) [] h = refl
 if_all_met (m ∷ nodes) (w ∷ vs) h = and_from (are_met m.targets.items w.items) (all_met nodes vs)
     (if_each_met m.targets.items w.items (λ i t got flag. h 0 i (node_view m) t refl got flag))
     (if_all_met nodes vs (λ n i v target got at flag. h (suc n) i v target got at flag))
+
+-- ---- the walk
+
+module _ (q : Problem) (preferred : List (List ℕ × List Candidate)) (owners : List Owner) (nodes : List NodeView) (met : AreMet q (Picks q preferred) owners nodes)
+    (asks : q.root_asks ≡ root_asks q.brings.features) (flags : List Bool) (lists : List (List Bool)) (are : AreFlags nodes flags lists) where
+  -- where each enabled dependency has a target, the walk is complete
+  pub complete : AllMet nodes lists → IsComplete q preferred
+  complete h = record {
+    picks = λ o i d on_it b.
+        let (n, at, p) = near_of q (Picks q preferred) owners nodes met asks (enabled o i) on_it in
+        let (v, got, is) = node_at q (Picks q preferred) owners nodes met asks n o at in
+        let brought : slice_get (v.brings).dependencies i ≡ Some d = subst (λ (o : Summary). slice_get o.dependencies i ≡ Some d) (sym is.brings) b in
+        let lt = slice_get_within (v.brings).dependencies i d brought in
+        let many = (is.leads).as_many in
+        let (target, stands) = some_at v.targets i (omega (arith, lt, many)) in
+        by o i d target (h n i v target got stands ((are.each_enabled n i).1 p)) ((is.leads).leads i d target brought stands);
+  }
+    where
+      by : (o : Owner) (i : ℕ) (d : Dependency) (target : Option ℕ) → is_some target ≡ true → IsLead q (Picks q preferred) owners o i d target → (t : Owner) × Picks q preferred o i d t
+      by o i d None e l = absurd (true≢false (sym e))
+      by o i d (Some n) e (t, at, l, only) = (t, l)
+
+  -- where the walk is complete, each enabled dependency has a target
+  pub met_if_complete : IsComplete q preferred → AllMet nodes lists
+  met_if_complete all n i v target got stands flag =
+      let (o, at) = owner_there q (Picks q preferred) owners nodes met asks n v got in
+      let is = met.each n o v at got in
+      let lt = slice_get_within v.targets i target stands in
+      let many = (is.leads).as_many in
+      let (d, brought) = some_at (v.brings).dependencies i (omega (arith, lt, many)) in
+      let far = enabled_far q (Picks q preferred) owners nodes met asks n i o at ((are.each_enabled n i).0 flag) in
+      let (t, l) = all.picks o i d far (subst (λ (o : Summary). slice_get o.dependencies i ≡ Some d) is.brings brought) in
+      by o d t target l ((is.leads).leads i d target brought stands)
+    where
+      by : (o : Owner) (d : Dependency) (t : Owner) (target : Option ℕ) → Picks q preferred o i d t → IsLead q (Picks q preferred) owners o i d target → is_some target ≡ true
+      by o d t None l none = absurd (none t l)
+      by o d t (Some s) l p = refl

@@ -1,9 +1,3 @@
-pub mod Lists
-pub mod Completeness
-pub mod Walked
 pub mod Picks
-pub mod Stops
-pub mod MetSoFar
-pub mod RankLists
-pub mod Ordered
-pub mod Built
+pub mod Targets
+pub mod Completeness

@@ -1,21 +1,22 @@
 -- The place that is picked is that of the first candidate, in the order of preference, that matches.
-use Rattle.std.proofs.Common.{◌≡◌, ℕ, zero, suc, ◌+◌, ◌<◌, ◌≤◌, Bool, true, false, cond, List, [], ◌∷◌, ◌++◌, map, filter, reverse, length, drop, take, get_or, Contains, Option, Some, None, option_map, slice_get, unwrap_or, refl, sym, ap, ap₂, ◌∙◌, subst, inl, inr, arith, add-one}
+use Rattle.std.proofs.Common.{◌≡◌, ℕ, zero, suc, ◌+◌, ◌<◌, ◌≤◌, Bool, true, false, cond, List, [], ◌∷◌, ◌++◌, map, filter, reverse, length, drop, take, get_or, Contains, Option, Some, None, option_map, slice_get, refl, sym, ap, ap₂, ◌∙◌, subst, inl, inr, arith, add-one}
 use Rattle.std.specs.List.{find}
 use Rattle.std.proofs.Math.Seq.{drop-cons}
 use Rattle.std.proofs.lemmas.List.{map-append, reverse-append, take_more, length-map, take_all}
 use Rattle.std.proofs.lemmas.List.Elements.{filter-append}
 use Rattle.std.proofs.lemmas.Option.{slice_get-map, slice_get-get_or, same_Some, none-some}
 use Rattle.semver.specs.EvalViews.{matches_views}
-use Rattle.model.specs.Summary.{Dependency, same_text}
+use Rattle.model.specs.Summary.{Dependency}
 use Rattle.model.specs.Content.{Candidate, candidates_of}
-use Rattle.model.specs.Candidates.{Record, as_candidate}
+use Rattle.model.specs.Candidates.{as_candidate}
 use Rattle.model.specs.Walk.{first_match}
 use Rattle.model.proofs.Gathered.{at_place}
 use Rattle.model.proofs.Lists.{in_none, in_cons}
 use Rattle.catalogue.specs.Ranks.{Ranked, records, same_rank, places_down, is_ranked, places_of, places_by_rank}
-use Rattle.catalogue.specs.Stores.{CatalogueView, Row, row_at, ranked_at, candidates_at, rows_by_name}
+use Rattle.catalogue.specs.Stores.{CatalogueView, ranked_at, rows_by_name}
 use Rattle.catalogue.specs.declared.candidate.Rank.{Rank}
 use Rattle.catalogue.specs.declared.candidate.Rank.TheVariants.{Locked, Fits, Rest}
+use Rattle.contents.proofs.Rows.{candidates_are, row_of, versions_are}
 use Rattle.walks.specs.Preferred.{of_rank, by_rank, preferred_in}
 use Rattle.walks.specs.Met.{is_matched, versions_at, place_picked}
 
@@ -116,20 +117,6 @@ lies cs =
 
 -- ---- the rows of a name
 
-row_of : (f : List Ranked → List Record) → f [] ≡ [] → (rows : List Row) (name : List ℕ)
-    → candidates_of (map (λ row. (row.0, map as_candidate (f row.1))) rows) name ≡ map as_candidate (f (unwrap_or (row_at rows name) []))
-row_of f none [] name = sym (ap (map as_candidate) none)
-row_of f none (row ∷ rows) name =
-    elim (same_text name row.0) as (λ b. cond b (map as_candidate (f row.1)) (candidates_of (map (λ row. (row.0, map as_candidate (f row.1))) rows) name)
-    ≡ map as_candidate (f (unwrap_or (cond b (Some row.1) (row_at rows name)) []))) [
-      | true ↦ refl
-      | false ↦ row_of f none rows name
-    ]
-
--- the candidates of a name
-pub candidates_are : (index : CatalogueView) (name : List ℕ) → candidates_of (rows_by_name index) name ≡ map as_candidate (candidates_at index name)
-candidates_are index name = row_of records refl index.rows name
-
 pub preferred_are : (index : CatalogueView) (name : List ℕ) → candidates_of (preferred_in index) name ≡ map as_candidate (by_rank (ranked_at index name))
 preferred_are index name = row_of by_rank refl index.rows name
 
@@ -153,10 +140,6 @@ first_of cs d (n ∷ ns) (p ∷ ps) e =
         → option_map (slice_get cs) (cond b (Some n) (find (λ n. is_matched d.requirement (slice_get (map (λ c. c.version) cs) n)) ns)) ≡ option_map Some (cond b (Some p) (first_match d ps))
     by first rest true = ap Some first
     by first rest false = rest
-
-pub versions_are : (rs : List Record) → map (λ (r : Record). r.version) rs ≡ map (λ (c : Candidate). c.version) (map as_candidate rs)
-versions_are [] = refl
-versions_are (r ∷ rs) = ap (λ vs. r.version ∷ vs) (versions_are rs)
 
 -- what stands at the place that is picked
 pub picked_is : (index : CatalogueView) (d : Dependency)

@@ -1,4 +1,5 @@
 pub use Rattle.model.specs.Walk
 pub use Rattle.catalogue.specs.Problems
+pub use Rattle.reaching.specs.Built
 pub mod Preferred
 pub mod Met

@@ -1,24 +1,17 @@
 -- The versions that a walk may meet: from the root, those that the picks of all dependencies lead to, enabled or not (own; a superset of what
 -- the preferred walk reaches, on which the facts are found).
-use Rattle.std.specs.Prelude.{suc, Vec, ◌≡◌, ◌≢◌, ◌↔◌, ℕ, Bool, true, false, List, [], ◌∷◌, ◌++◌, ◌<◌, map, length, Option, Some, None, option_map, slice_get, nat_eq, not, ◌||◌, ◌&&◌, is_some, Contains, IsSome, option_and_then, unwrap_or}
-use Rattle.std.specs.List.{All, AllPairs, find, list_all, zip}
+use Rattle.std.specs.Prelude.{Vec, ◌≡◌, ℕ, Bool, false, List, map, length, Option, Some, None, slice_get, not, ◌||◌, is_some}
+use Rattle.std.specs.List.{find, list_all, zip}
 use Rattle.semver.specs.Parse.{Held, Parts}
 use Rattle.semver.specs.EvalViews.{matches_views}
-use Rattle.model.specs.Summary.{Dependency, same_text}
-use Rattle.model.specs.Content.{Candidate, Content, Package, Problem, candidate_at, candidates_of}
-use Rattle.model.specs.WellFormed.{IsContent}
-use Rattle.model.specs.Order.{package_cmp}
-use Rattle.std.specs.declared.cmp.Ordering.TheVariants.{Less}
-use Rattle.model.specs.Vertices.{Owner, the_root, version_of, owner_brings}
+use Rattle.model.specs.Summary.{Dependency}
+use Rattle.model.specs.Content.{Candidate, candidates_of}
+use Rattle.model.specs.Vertices.{Owner, version_of}
 use Rattle.model.specs.Walk.{first_match}
 use Rattle.catalogue.specs.Ranks.{places_by_rank}
-use Rattle.catalogue.specs.Stores.{CatalogueView, candidates_at, ranked_at, rows_by_name}
-use Rattle.lockfile.specs.Views.{package_view}
-use Rattle.facts.specs.Graphs.{NodeView, flag_at, flag_in, target_at}
+use Rattle.catalogue.specs.Stores.{CatalogueView, candidates_at, ranked_at}
 use Rattle.facts.specs.declared.node.Node.{Node}
 use Rattle.std.specs.declared.alloc.Global.{Global}
-use Rattle.walks.specs.declared.kept.Kept.{Kept}
-use Rattle.walks.specs.declared.stop.Stop.{Stop}
 
 -- ---- picks by place
 
@@ -34,40 +27,7 @@ versions_at index name = map (λ r. r.version) (candidates_at index name)
 abbrev pub place_picked : CatalogueView → Dependency → Option ℕ
 place_picked index d = find (λ n. is_matched d.requirement (slice_get (versions_at index d.real_name) n)) (places_by_rank (map (λ c. c.1) (ranked_at index d.real_name)))
 
--- ---- stops
-
-abbrev pub same_stop : Stop → Stop → Bool
-same_stop s t = same_text s.name t.name && nat_eq s.place t.place
-
--- the version that a candidate is
-abbrev pub owner_if : List ℕ → Option Candidate → Owner
-owner_if name None = the_root
-owner_if name (Some c) = version_of name c.version
-
--- the version that stands at a place of the candidates
-abbrev pub stop_owner : CatalogueView → Stop → Owner
-stop_owner index s = owner_if s.name (slice_get (candidates_of (rows_by_name index) s.name) s.place)
-
--- the root, then the versions met
-abbrev pub owners_of : CatalogueView → List Stop → List Owner
-owners_of index stops = the_root ∷ map (stop_owner index) stops
-
--- a candidate stands there
-abbrev pub IsThere : CatalogueView → Stop → Type 0
-IsThere index s = IsSome (slice_get (candidates_of (rows_by_name index) s.name) s.place)
-
--- each stop once, and a candidate at each
-pub record AreStops (index : CatalogueView) (stops : List Stop) : Type 0 where
-  pub distinct : AllPairs (λ s t. s ≢ t) stops
-  pub there : All (IsThere index) stops
-
--- more stops after these
-pub record Grows (index : CatalogueView) (old new : List Stop) : Type 0 where
-  pub more : List Stop
-  pub is : new ≡ old ++ more
-  pub still : AreStops index old → AreStops index new
-
--- ---- the versions met, with their dependencies
+-- ---- picks among the versions met
 
 module _ (preferred : List (List ℕ × List Candidate)) (owners : List Owner) where
   -- the pick of a dependency is the owner at this place, or there is none
@@ -80,22 +40,6 @@ module _ (preferred : List (List ℕ × List Candidate)) (owners : List Owner) w
     pub as_many : length targets ≡ length ds
     pub picks : (i : ℕ) (d : Dependency) (target : Option ℕ) → slice_get ds i ≡ Some d → slice_get targets i ≡ Some target → IsPick d target
 
-  -- what stands at place n: the owner with the picks of all its dependencies; the root alone is here from the start
-  pub record IsNode (q : Problem) (n : ℕ) (o : Owner) (v : NodeView) : Type 0 where
-    pub brings : v.brings ≡ owner_brings q o
-    pub starts : v.starts ≡ nat_eq n 0
-    pub picks : ArePicks (v.brings).dependencies v.targets
-
-  abbrev pub AreNodes : Problem → List NodeView → Type 0
-  AreNodes q nodes = (n : ℕ) (o : Owner) (v : NodeView) → slice_get owners n ≡ Some o → slice_get nodes n ≡ Some v → IsNode q n o v
-
-  -- the root and versions, each once, and all that their picks lead to
-  pub record IsMet (q : Problem) (nodes : List NodeView) : Type 0 where
-    pub as_many : length nodes ≡ length owners
-    pub distinct : AllPairs (λ a b. a ≢ b) owners
-    pub root : slice_get owners 0 ≡ Some the_root
-    pub each : AreNodes q nodes
-
 -- ---- completeness
 
 -- by number, each dependency that is enabled has a target
@@ -104,135 +48,3 @@ are_met targets enabled = list_all (λ p. is_some p.0 || not p.1) (zip targets e
 
 abbrev pub all_met : List Node → List (Vec Bool Global) → Bool
 all_met nodes enabled = list_all (λ p. are_met (p.0).targets.items (p.1).items) (zip nodes enabled)
-
--- ---- the content of those that are here
-
--- the package that an owner is, with this list
-abbrev pub package_of : Problem → Owner → List ℕ → Package
-package_of q the_root list = record { name = q.name; version = q.version; source = None; checksum = None; list = list }
-package_of q (version_of name v) list = record {
-  name = name;
-  version = v;
-  source = Some q.source;
-  checksum = option_map (λ c. c.checksum) (candidate_at (candidates_of q.candidates name) v);
-  list = list;
-}
-
--- a package with the place that it had among those met
-abbrev pub Placed : Type 0
-Placed = Package × ℕ
-
-abbrev pub kept_view : Kept → Placed
-kept_view k = (package_view k.locked, k.place)
-
-abbrev pub kept_views : List Kept → List Placed
-kept_views ks = map kept_view ks
-
--- the package at a place that is here
-abbrev pub package_if : Problem → Bool → Option Owner → Option Package
-package_if q false o = None
-package_if q true o = option_map (λ n. package_of q n []) o
-
--- with a package more, if there is one
-abbrev pub kept_with : List Placed → Option Package → ℕ → List Placed
-kept_with ks None n = ks
-kept_with ks (Some p) n = ks ++ (p, n) ∷ []
-
-abbrev pub places_in : List Placed → List ℕ
-places_in ks = map (λ k. k.1) ks
-
-module _ (q : Problem) (owners : List Owner) where
-  -- some owner stands at place n
-  abbrev pub IsPlace : ℕ → Type 0
-  IsPlace n = (o : Owner) × (slice_get owners n ≡ Some o)
-
-  -- the package is the owner at its place
-  abbrev pub IsPackage : Placed → Type 0
-  IsPackage k = (o : Owner) × (slice_get owners k.1 ≡ Some o) × (k.0 ≡ package_of q o (k.0).list)
-
-  -- a package for each owner that is here, among the first n
-  pub record AreKept (here : List Bool) (n : ℕ) (ks : List Placed) : Type 0 where
-    pub members : (m : ℕ) → Contains (places_in ks) m ↔ ((m < n) × (flag_at here m ≡ true) × IsPlace m)
-    pub packages : All IsPackage ks
-    pub distinct : AllPairs (λ k m. k.1 ≢ m.1) ks
-
--- in package order
-abbrev pub AreInOrder : List Placed → Type 0
-AreInOrder ks = AllPairs (λ k m. package_cmp k.0 m.0 ≡ Less) ks
-
--- by place, where a package of that place stands
-abbrev pub AreRanks : List ℕ → List (Option ℕ) → Type 0
-AreRanks places ranks = (t r : ℕ) → (slice_get ranks t ≡ Some (Some r)) ↔ (slice_get places r ≡ Some t)
-
--- the rank of a target that is enabled
-abbrev pub rank_if : Option ℕ → Bool → List (Option ℕ) → Option ℕ
-rank_if target false ranks = None
-rank_if target true ranks = option_and_then (λ t. option_and_then (λ o. o) (slice_get ranks t)) target
-
-abbrev pub after : Option ℕ → List ℕ → List ℕ
-after None ns = ns
-after (Some n) ns = n ∷ ns
-
--- with a rank more, if there is one
-abbrev pub with_rank : List ℕ → Option ℕ → List ℕ
-with_rank ns None = ns
-with_rank ns (Some n) = ns ++ n ∷ []
-
--- the ranks of the targets of enabled dependencies, from number i on
-abbrev pub ranks_from : ℕ → List (Option ℕ) → List Bool → List (Option ℕ) → List ℕ
-ranks_from i [] enabled ranks = []
-ranks_from i (t ∷ ts) enabled ranks = after (rank_if t (flag_at enabled i) ranks) (ranks_from (suc i) ts enabled ranks)
-
--- the rank of the target of some enabled dependency
-abbrev pub IsListed : List (Option ℕ) → List Bool → List (Option ℕ) → ℕ → Type 0
-IsListed targets enabled ranks r = (i t : ℕ) × (flag_at enabled i ≡ true) × (slice_get targets i ≡ Some (Some t)) × (slice_get ranks t ≡ Some (Some r))
-
--- lowest first, none twice
-abbrev pub IsRising : List ℕ → Type 0
-IsRising ns = AllPairs (λ i j. i < j) ns
-
-abbrev pub targets_if : Option NodeView → List (Option ℕ)
-targets_if None = []
-targets_if (Some n) = n.targets
-
-abbrev pub targets_at : List NodeView → ℕ → List (Option ℕ)
-targets_at nodes n = targets_if (slice_get nodes n)
-
-abbrev pub flags_at : List (List Bool) → ℕ → List Bool
-flags_at enabled n = unwrap_or (slice_get enabled n) []
-
--- R holds of what stands at one place of two lists
-pub record AreBeside {X Y : Type 0} (R : X → Y → Type 0) (xs : List X) (ys : List Y) : Type 0 where
-  pub as_many : length xs ≡ length ys
-  pub each : (n : ℕ) (x : X) (y : Y) → slice_get xs n ≡ Some x → slice_get ys n ≡ Some y → R x y
-
--- the package with a list of the ranks that are so
-pub record IsWithList (IsIn : ℕ → ℕ → Type 0) (k : Placed) (p : Package) : Type 0 where
-  pub head : p ≡ record k.0 { list = p.list }
-  pub rising : IsRising p.list
-  pub members : (r : ℕ) → Contains p.list r ↔ IsIn k.1 r
-
-module _ (nodes : List NodeView) (enabled : List (List Bool)) where
-  -- the packages with the lists that the ranks give
-  abbrev pub HaveLists : List (Option ℕ) → List Placed → Content → Type 0
-  HaveLists ranks ks ps = AreBeside (λ k p. IsWithList (λ n r. IsListed (targets_at nodes n) (flags_at enabled n) ranks r) k p) ks ps
-
-module _ (nodes : List NodeView) (enabled : List (List Bool)) where
-  -- place t is where some enabled dependency of place n leads
-  abbrev pub LeadsFrom : ℕ → ℕ → Type 0
-  LeadsFrom n t = (i : ℕ) × (flag_in enabled n i ≡ true) × (target_at nodes n i ≡ Some t)
-
-  -- the packages, and in each list those to which enabled dependencies lead
-  abbrev pub AreListed : List Placed → Content → Type 0
-  AreListed ks ps = AreBeside (λ k p. IsWithList (λ n r. (s : ℕ) × LeadsFrom n s × (slice_get (places_in ks) r ≡ Some s)) k p) ks ps
-
-  -- The content has the owners at these places, those that are here, and in each list those to which enabled dependencies lead.
-  pub record IsBuilt (q : Problem) (owners : List Owner) (here : List Bool) (content : Content) : Type 0 where
-    pub is_content : IsContent content
-    -- where each package stood among those met
-    pub places : List ℕ
-    pub as_many : length places ≡ length content
-    pub members : (n : ℕ) → Contains places n ↔ ((flag_at here n ≡ true) × IsPlace q owners n)
-    pub packages : (k n : ℕ) (p : Package) → slice_get content k ≡ Some p → slice_get places k ≡ Some n → IsPackage q owners (p, n)
-    pub lists : (k n t : ℕ) (p : Package) → slice_get content k ≡ Some p → slice_get places k ≡ Some n
-        → Contains p.list t ↔ ((s : ℕ) × LeadsFrom n s × (slice_get places t ≡ Some s))

@@ -1,7 +1,7 @@
 -- The preferred walk of a run, and when it is the answer (Cargo book, "Dependency Resolution": locked versions stay, and new ones are the
 -- newest; "Rust version"). The walk itself is the model's.
-use Rattle.std.specs.Prelude.{◌≡◌, ℕ, List, ◌++◌, true, map, filter, reverse, Option, Some, None, slice_get}
-use Rattle.model.specs.Content.{Candidate, Content, Package, Problem, is_root}
+use Rattle.std.specs.Prelude.{ℕ, List, ◌++◌, map, filter, reverse, Option, Some, None}
+use Rattle.model.specs.Content.{Candidate, Content, Problem}
 use Rattle.model.specs.Candidates.{Record, as_candidate}
 use Rattle.model.specs.Selection.{IsValidSelection}
 use Rattle.model.specs.Walk.{IsComplete, IsWalk}
@@ -33,7 +33,3 @@ module _ (q : Problem) (preferred : List (List ℕ × List Candidate)) where
   abbrev pub Answers : Option Content → Type 0
   Answers (Some content) = IsPreferred content
   Answers None = (content : Content) → IsPreferred content → ⊥
-
--- the root has no checksum
-abbrev pub HasBareRoot : Problem → Content → Type 0
-HasBareRoot q content = (n : ℕ) (p : Package) → slice_get content n ≡ Some p → is_root q p ≡ true → p.checksum ≡ None

@@ -2,15 +2,17 @@
 
 ghost use Rattle.std.specs.Prelude.{◌≡◌, IfOk, IfSome};
 ghost use Rattle.catalogue.specs.Problems.{problem_in};
-ghost use Rattle.walks.specs.Preferred.{Answers, HasBareRoot, preferred_in};
+ghost use Rattle.reaching.specs.Built.{HasBareRoot};
+ghost use Rattle.walks.specs.Preferred.{Answers, preferred_in};
 ghost use Rattle.walks.specs.Met.{all_met, are_met};
 
-use crate::building::content_of;
 use crate::meeting::{Met, meet};
 use catalogue::Catalogue;
+use contents::content_of;
 use facts::{Node, facts_of};
 use lockfile::LockContent;
 use manifest::Manifest;
+use reaching::built_contents_walk;
 use selection::{Verdict, verify};
 use std::alloc::{AllocError, Global};
 
@@ -26,6 +28,7 @@ pub fn preferred(
     ensures answer { IfOk result (λ o. Answers (problem_in manifest.now catalogue.now) (preferred_in catalogue.now) o) }
     ensures root { IfOk result (λ o. IfSome o (λ content. HasBareRoot (problem_in manifest.now catalogue.now) content)) }
 {
+    built_contents_walk();
     let Met { stops, nodes } = meet(alloc, manifest, catalogue)?;
     let facts = facts_of(alloc, nodes.as_slice(), 0)?;
     if !is_complete(nodes.as_slice(), facts.enabled.as_slice()) {

@@ -1,18 +1,20 @@
 //! Meeting the versions that picks lead to, from the root on.
 
-ghost use Rattle.std.specs.Prelude.{◌≡◌, ◌<◌, ◌^◌, length, IfOk, OnOk, Some, slice_get};
+ghost use Rattle.std.specs.Prelude.{IfOk, OnOk};
 ghost use Rattle.features.specs.Views.{dependency_view, dependency_views};
-ghost use Rattle.model.specs.Vertices.{Owner, owner_brings};
-ghost use Rattle.facts.specs.Graphs.{brings_view, node_views};
+ghost use Rattle.model.specs.Walk.{Picks};
+ghost use Rattle.facts.specs.Graphs.{node_views};
+ghost use Rattle.reaching.specs.Nodes.{AreMet};
 ghost use Rattle.catalogue.specs.Problems.{problem_in};
+ghost use Rattle.contents.specs.Contents.{AreStops, Grows, owners_of};
 ghost use Rattle.walks.specs.Preferred.{preferred_in};
-ghost use Rattle.walks.specs.Met.{AreStops, ArePicks, Grows, IsMet, IsPick, owners_of};
+ghost use Rattle.walks.specs.Met.{ArePicks, IsPick};
 
 use crate::picking::pick;
-use crate::stop::{Stop, store_holds};
 use catalogue::Catalogue;
+use contents::{Stop, brings_at, dependencies_of, put_stop, store_holds};
 use facts::Node;
-use features::{Dependency, Summary};
+use features::Dependency;
 use indexmap::IndexSet;
 use manifest::Manifest;
 use std::alloc::{AllocError, Global};
@@ -32,7 +34,7 @@ pub(crate) fn meet<'a>(
     manifest: &'a Manifest,
     catalogue: &'a Catalogue,
 ) -> Result<Met<'a>, AllocError>
-    ensures met { IfOk result (λ m. IsMet (preferred_in catalogue.entry.now) (owners_of catalogue.entry.now m.stops.keys) (problem_in manifest.entry.now catalogue.entry.now) (node_views m.nodes.items)) }
+    ensures met { IfOk result (λ m. AreMet (problem_in manifest.entry.now catalogue.entry.now) (Picks (problem_in manifest.entry.now catalogue.entry.now) (preferred_in catalogue.entry.now)) (owners_of catalogue.entry.now m.stops.keys) (node_views m.nodes.items)) }
     ensures stops { IfOk result (λ m. AreStops catalogue.entry.now m.stops.keys) }
 {
     store_holds(catalogue);
@@ -49,34 +51,6 @@ pub(crate) fn meet<'a>(
         })?;
     }
     Ok(Met { stops, nodes })
-}
-
-/// What the root or the version at a place brings.
-fn brings_at<'a>(
-    manifest: &'a Manifest,
-    catalogue: &'a Catalogue,
-    stops: &[Stop],
-    place: usize,
-) -> Option<&'a Summary>
-    requires { AreStops catalogue.now stops.now }
-    ensures { (o : Owner) → slice_get (owners_of catalogue.now stops.now) place ≡ Some o → brings_view result ≡ owner_brings (problem_in manifest.now catalogue.now) o }
-{
-    store_holds(catalogue);
-    if place == 0 {
-        return Some(manifest.summary());
-    }
-    let stop = stops.get(place - 1)?;
-    let candidate = catalogue.record(&stop.name, stop.place)?;
-    Some(&candidate.brings)
-}
-
-fn dependencies_of(brings: Option<&Summary>) -> &[Dependency]
-    ensures { dependency_views result.now ≡ (brings_view brings.entry).dependencies }
-{
-    match brings {
-        Some(summary) => summary.dependencies.as_slice(),
-        None => &[],
-    }
 }
 
 /// Where the picks of dependencies stand; those that are new go last.
@@ -108,18 +82,5 @@ fn target_of(
     let Some(place) = pick(catalogue, dependency)? else {
         return Ok(None);
     };
-    let stop = Stop {
-        name: dependency.real_name.clone()?,
-        place,
-    };
-    let (index, _) = stops.insert_full(stop)?;
-    stops_are_few(stops);
-    Ok(Some(index + 1))
-}
-
-/// A set holds far fewer keys than a number can count.
-fn stops_are_few(stops: &IndexSet<Stop>)
-    ensures { length stops.now.keys < 2 ^ 63 }
-{
-    let _ = stops.len();
+    Ok(Some(put_stop(catalogue, stops, &dependency.real_name, place)?))
 }

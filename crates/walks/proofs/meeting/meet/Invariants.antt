@@ -1,12 +1,14 @@
 use Rattle.std.proofs.Common.{◌-◌, ◌^◌, length}
 use Rattle.facts.specs.Graphs.{node_views}
+use Rattle.model.specs.Walk.{Picks}
 use Rattle.catalogue.specs.Problems.{problem_in}
-use Rattle.walks.proofs.MetSoFar.{SoFar}
+use Rattle.contents.proofs.Nodes.{SoFar}
+use Rattle.walks.specs.Preferred.{preferred_in}
 use Rattle.walks.proofs.meeting.meet.Given as goal
 
 -- each of those met so far is there once, and the first of them have their nodes
 abbrev pub invariant-stops : goal.invariant-stops
-invariant-stops l = SoFar l.catalogue (problem_in l.manifest l.catalogue) l.stops.keys (node_views l.nodes.items)
+invariant-stops l = SoFar (problem_in l.manifest l.catalogue) (Picks (problem_in l.manifest l.catalogue) (preferred_in l.catalogue)) l.catalogue l.stops.keys (node_views l.nodes.items)
 
 abbrev pub decreases-stops : goal.decreases-stops
 decreases-stops l = 2 ^ 64 - length l.nodes.items

@@ -1,19 +1,18 @@
-use Rattle.std.proofs.Common.{refl, sym, ◌∙◌}
+use Rattle.std.proofs.Common.{is_some, sym, ap, ◌∙◌}
 use Rattle.features.specs.Views.{dependency_view}
-use Rattle.walks.proofs.Picks.{none_picked}
-use Rattle.walks.proofs.Stops.{target_grows, target_picks}
+use Rattle.walks.proofs.Picks.{none_picked, one_picked}
+use Rattle.walks.proofs.Targets.{pick_put}
 use Rattle.walks.proofs.meeting.target_of.Goals as goal
 
 pub returns-in_default-clause-pick : goal.returns-in_default-clause-pick
 returns-in_default-clause-pick c =
     none_picked c.args.catalogue.now (dependency_view c.args.dependency.now) (sym c.in_ok-place.ensures ∙ c.in_default.is)
 
-pub returns-clause-grows : goal.returns-clause-grows
-returns-clause-grows c =
-    target_grows c.args.catalogue.now (dependency_view c.args.dependency.now) c.in-Some.place (record { name = c.in_ok-clone.field-0; place = c.in-Some.place }) _ _
-    (sym c.in_ok-place.ensures ∙ c.in-Some.is) c.in_ok-clone.ensures.cases refl c.in_ok-index.ensures.keys
+pub put_stop-requires : goal.put_stop-requires
+put_stop-requires c =
+    let (x, is, at) = one_picked c.args.catalogue.now (dependency_view c.args.dependency.now) c.in-Some.place (sym c.in_ok-place.ensures ∙ c.in-Some.is) in
+    ap is_some at
 
 pub returns-clause-pick : goal.returns-clause-pick
 returns-clause-pick c =
-    target_picks c.args.catalogue.now (dependency_view c.args.dependency.now) c.in-Some.place (record { name = c.in_ok-clone.field-0; place = c.in-Some.place }) _ c.in_ok-index.index
-    (sym c.in_ok-place.ensures ∙ c.in-Some.is) c.in_ok-clone.ensures.cases refl c.in_ok-index.ensures.stored
+    pick_put c.args.catalogue.now c.put_stop.new.stops.keys (dependency_view c.args.dependency.now) c.in-Some.place c.in_ok-put_stop.field-0 (sym c.in_ok-place.ensures ∙ c.in-Some.is) c.in_ok-put_stop.ensures.at

@@ -1,8 +1,8 @@
 use Rattle.std.proofs.Common.{Some, sym, ap, ◌∙◌}
 use Rattle.std.proofs.lemmas.Option.{slice_get-get_or}
 use Rattle.features.specs.Views.{dependency_view, dependency_views}
-use Rattle.walks.proofs.Lists.{map_at}
-use Rattle.walks.proofs.Stops.{more_targets}
+use Rattle.contents.proofs.Lists.{map_at}
+use Rattle.walks.proofs.Targets.{more_targets}
 use Rattle.walks.proofs.meeting.targets_of.Goals as goal
 
 pub dependencies-preserved : goal.dependencies-preserved

@@ -1,5 +1,5 @@
 use Rattle.features.specs.Views.{dependency_views}
-use Rattle.walks.proofs.Stops.{TargetsTo}
+use Rattle.walks.proofs.Targets.{TargetsTo}
 use Rattle.walks.proofs.meeting.targets_of.Given as goal
 
 -- the targets of the dependencies so far
