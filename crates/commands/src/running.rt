@@ -3,7 +3,7 @@
 use crate::files::{open, read_lock, read_manifest, read_old, read_proof, write_proof};
 use crate::stop::Stop;
 use catalogue::{Prefer, Source, SourceFault};
-use checker::{Check, Reason};
+use checker::Check;
 use derivations::Derivation;
 use explainer::explain;
 use index_reader::Skip;
@@ -249,22 +249,11 @@ fn run_check<'a, R: Files + AllocGlobal + Clone + Drop>(
 }
 
 fn print_check<'a>(checked: &Check, out: &mut impl Write) -> Result<u8, Stop<'a>> {
-    let (written, status) = match checked {
-        Check::Proves => (writeln!(out, "proves"), 0),
-        Check::Refused { step, reason } => {
-            let reason = reason_line(reason);
-            (writeln!(out, "refused {step} {reason}"), REFUSED)
-        }
+    let status = match checked {
+        Check::Proves => 0,
+        Check::Refused { .. } => REFUSED,
     };
-    after(written, status)
-}
-
-fn reason_line(reason: &Reason) -> &'static str {
-    match reason {
-        Reason::NotAnAxiom => "C1 NotAnAxiom",
-        Reason::BadCombination => "C2 BadCombination",
-        Reason::NotFinal => "C3 NotFinal",
-    }
+    after(writeln!(out, "{checked}"), status)
 }
 
 fn run_explain<'a, R: Files + AllocGlobal>(
