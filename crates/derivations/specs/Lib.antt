@@ -2,6 +2,7 @@ pub mod Lines
 pub mod Orders
 pub mod Steps
 pub mod Files
+pub mod Faults
 pub mod Views
 pub mod StepViews
 pub mod Tables

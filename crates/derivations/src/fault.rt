@@ -1,23 +1,38 @@
 //! Why bytes are no derivation.
 
 use std::alloc::{AllocError, AllocFailed};
-use thiserror::Error;
+use std::error::Error;
+use std::fmt;
 
 /// Why bytes are no derivation: the first line with a fault, counted from 1 with the blank ones, and of its faults the first in this order.
-#[derive(Clone, Copy, Debug, PartialEq, Eq, Error)]
+#[derive(Clone, Copy, Debug, PartialEq, Eq)]
 pub enum DerivationFault {
-    #[error("out of memory")]
     OutOfMemory,
     /// It is no JSON, no object of the form of a step, or has a text that doesn't read, a vertex twice or a state twice.
-    #[error("K1 NotALine at line {0}")]
     NotALine(u64),
     /// It refers to its own step or to a later one.
-    #[error("K2 Forward at line {0}")]
     Forward(u64),
     /// It is a step, and there are 16,777,216 before it.
-    #[error("K3 TooMany at line {0}")]
     TooMany(u64),
 }
+
+impl fmt::Display for DerivationFault {
+    ghost use Rattle.std.specs.Prelude.{Some};
+    ghost use Rattle.derivations.specs.Faults.{fault_text};
+
+    ghost output = { λ fault. Some (fault_text fault) };
+
+    fn fmt<W: fmt::Write>(&self, f: &mut fmt::Formatter<W>) -> fmt::Result {
+        match self {
+            DerivationFault::OutOfMemory => f.write_str("out of memory"),
+            DerivationFault::NotALine(line) => write!(f, "K1 NotALine at line {line}"),
+            DerivationFault::Forward(line) => write!(f, "K2 Forward at line {line}"),
+            DerivationFault::TooMany(line) => write!(f, "K3 TooMany at line {line}"),
+        }
+    }
+}
+
+impl Error for DerivationFault {}
 
 /// Why a line is no step.
 #[derive(Clone, Copy, PartialEq, Eq)]
