@@ -1,3 +1,5 @@
 pub mod Picks
 pub mod Targets
 pub mod Completeness
+pub mod Preferences
+pub mod Examples

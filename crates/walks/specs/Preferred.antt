@@ -2,7 +2,7 @@
 -- newest; "Rust version"). The walk itself is the model's.
 use Rattle.std.specs.Prelude.{ℕ, List, ◌++◌, map, filter, reverse, Option, Some, None}
 use Rattle.model.specs.Content.{Candidate, Content, Problem}
-use Rattle.model.specs.Candidates.{Record, as_candidate}
+use Rattle.model.specs.Candidates.{Record, RustVersion, as_candidate, by_preference, is_locked}
 use Rattle.model.specs.Selection.{IsValidSelection}
 use Rattle.model.specs.Walk.{IsComplete, IsWalk}
 use Rattle.catalogue.specs.Ranks.{Ranked, records, same_rank}
@@ -21,6 +21,11 @@ by_rank cs = of_rank Locked cs ++ (of_rank Fits cs ++ of_rank Rest cs)
 -- the candidates by name, the most preferred first
 abbrev pub preferred_in : CatalogueView → List (List ℕ × List Candidate)
 preferred_in index = map (λ row. (row.0, map as_candidate (by_rank row.1))) index.rows
+
+-- The same in the model's order of preference, for an old lock and a Rust version to go by. For those that a run loaded
+-- its index with, both are one: a law in `src/laws.rt`.
+abbrev pub preferred_by : Content → Option RustVersion → CatalogueView → List (List ℕ × List Candidate)
+preferred_by old rust index = map (λ row. (row.0, map as_candidate (by_preference (is_locked old index.source row.0) rust (records row.1)))) index.rows
 
 module _ (q : Problem) (preferred : List (List ℕ × List Candidate)) where
   -- the content is the walk, which is complete and a valid selection

@@ -1,12 +1,18 @@
-//! That there is one preferred walk.
+//! That there is one preferred walk, and that it goes by the model's order of preference.
 //!
 //! A law is a function that does nothing: its contract is the statement, and its body calls what its proof rests on.
 
-ghost use Rattle.std.specs.Prelude.{◌≡◌};
+ghost use Rattle.std.specs.Prelude.{◌≡◌, ℕ, List, Option};
+ghost use Rattle.model.specs.Summary.{Dependency};
 ghost use Rattle.model.specs.Content.{Content};
+ghost use Rattle.model.specs.Candidates.{RustVersion, is_locked};
 ghost use Rattle.model.specs.Walk.{IsWalk};
+ghost use Rattle.catalogue.specs.Loads.{store_of};
 ghost use Rattle.catalogue.specs.Problems.{problem_in};
-ghost use Rattle.walks.specs.Preferred.{preferred_in};
+ghost use Rattle.catalogue.specs.Ranks.{AreRanked};
+ghost use Rattle.catalogue.specs.Runs.{Asked};
+ghost use Rattle.catalogue.specs.Stores.{CatalogueView, ranked_at};
+ghost use Rattle.walks.specs.Preferred.{preferred_by, preferred_in};
 
 use catalogue::{Catalogue, catalogues_are_well_formed};
 use manifest::Manifest;
@@ -20,3 +26,12 @@ pub fn there_is_one_walk(manifest: &Manifest, catalogue: &Catalogue)
     model::walks_exist();
     model::walks_are_unique();
 }
+
+/// In an index that a run loads, each candidate has the rank that the run's old lock and Rust version give it, and the
+/// candidates by rank are those in the model's order of preference.
+pub fn ranks_are_preferences()
+    ensures ranked { (old : Content) (source : List ℕ) (rust : Option RustVersion) (root : List Dependency) (asked : List Asked) (index : CatalogueView)
+        → index ≡ store_of old source rust root asked → (name : List ℕ) → AreRanked (is_locked old source name) rust (ranked_at index name) }
+    ensures preferred { (old : Content) (source : List ℕ) (rust : Option RustVersion) (root : List Dependency) (asked : List Asked) (index : CatalogueView)
+        → index ≡ store_of old source rust root asked → preferred_in index ≡ preferred_by old rust index }
+{}

@@ -7,4 +7,4 @@ mod meeting;
 mod picking;
 
 pub use finding::preferred;
-pub use laws::there_is_one_walk;
+pub use laws::{ranks_are_preferences, there_is_one_walk};
