@@ -7,13 +7,13 @@ use Rattle.std.proofs.Math.Seq.{get_or-append_seam}
 use Rattle.version_sets.specs.Sets.{Members, inside, size}
 use Rattle.terms.specs.Terms.{TermView}
 use Rattle.incompatibilities.specs.Incompatibilities.{IsCombination, LiesIn, Terms, states_at}
-use Rattle.incompatibilities.specs.Stores.{EntryView, IsAxiom, entry, terms_of, touches}
+use Rattle.incompatibilities.specs.Stores.{EntryView, IsAxiom, entry, terms_of, touches, watched}
 use Rattle.incompatibilities.specs.declared.origin.Origin.{Origin}
 use Rattle.incompatibilities.specs.declared.origin.Origin.TheVariants.{Axiom, Combined}
 use Rattle.incompatibilities.proofs.Broken.{lies_combined}
 use Rattle.propagation.specs.Satisfaction.{HoldsAt, IsOneOpen, OthersHold, Sat}
-use Rattle.propagation.specs.Trails.{StepView, TrailView, end_sets, set_of, sets_at, space_of}
-use Rattle.propagation.specs.Promises.{CauseFits, IsCut, IsSound, IsTrail, LieIn}
+use Rattle.propagation.specs.Trails.{StepView, TrailView, end_sets, level_after, set_of, sets_at, space_of, step_at}
+use Rattle.propagation.specs.Promises.{CauseFits, IsCut, IsSatisfied, IsSound, IsTrail, LieIn}
 use Rattle.propagation.specs.declared.satisfying.Satisfier.{Satisfier}
 use Rattle.propagation.proofs.Back.{sets_now}
 use Rattle.propagation.proofs.Combining.{combined_others}
@@ -21,12 +21,16 @@ use Rattle.propagation.proofs.LevelLemmas.{place_low}
 use Rattle.propagation.proofs.Places.{cut_sets, holds_at_ends, sat_later}
 use Rattle.propagation.proofs.SetLemmas.{meets_of}
 use Rattle.propagation.proofs.Soundness.{trail_grown}
-use Rattle.conflicts.specs.Resolving.{IsAsked, IsCombined, IsFound, IsGained, IsLearned, IsSatisfierOf, Quiet}
+use Rattle.conflicts.specs.Resolving.{IsAsked, IsCombined, IsFound, IsGained, IsLearned, IsSatisfierOf, Learns, Quiet}
 
 -- how many places there are up to the satisfier
 abbrev pub places_left : Option Satisfier → ℕ
 places_left None = 0
 places_left (Some s) = suc s.place
+
+-- an entry is not satisfied at the end of a level below the trail's
+abbrev pub IsLone : List EntryView → TrailView → ℕ → Type 0
+IsLone es t id = (l : ℕ) → l < t.level → Sat (end_sets t l) (terms_of es id) → ⊥
 
 -- what was combined so far
 pub record IsResolving (old : List EntryView) (t : TrailView) (es : List EntryView) (current : ℕ) (found : Option Satisfier) : Type 0 where
@@ -35,6 +39,8 @@ pub record IsResolving (old : List EntryView) (t : TrailView) (es : List EntryVi
   pub few : length gained + places_left found ≤ length t.steps
   pub combined : (id : ℕ) → length old ≤ id → id < length es → IsCombined es id
   pub quiet : Quiet es t t.level
+  pub lone : IsLone es t current
+  pub learns : Learns t (entry es current).terms (watched (entry es current).origin)
   pub trail : IsTrail es t
   pub within : current < length es
   pub here : IsFound es t current found
@@ -43,9 +49,9 @@ pub level_low : (es : List EntryView) (t : TrailView) (id : ℕ) (s : Satisfier)
 level_low es t id s sound found = let e = found.satisfied.level in omega (arith, e, place_low 0 t.level s.place t.steps sound.levels found.satisfied.within)
 
 -- where nothing is satisfied at the end of a lower level, the satisfier stands at the trail's own
-pub level_top : (es : List EntryView) (t : TrailView) (id : ℕ) (s : Satisfier) → IsSound t → Quiet es t t.level → id < length es → IsSatisfierOf es t id s → s.before ≡ s.level → s.before ≡ t.level
-level_top es t id s sound quiet within found e = elim (cases_lt s.level t.level) [
-  | inl lt ↦ absurd (quiet s.level lt id within (found.opens.held e))
+pub level_top : (es : List EntryView) (t : TrailView) (id : ℕ) (s : Satisfier) → IsSound t → IsLone es t id → IsSatisfierOf es t id s → s.before ≡ s.level → s.before ≡ t.level
+level_top es t id s sound lone found e = elim (cases_lt s.level t.level) [
+  | inl lt ↦ absurd (lone s.level lt (found.opens.held e))
   | inr le ↦ omega (arith, e, le, level_low es t id s sound found)
 ]
 
@@ -61,28 +67,34 @@ pub vertex_touched : (es : List EntryView) (t : TrailView) (id : ℕ) (s : Satis
 vertex_touched es t id s sound found = term_there es t id s sound found (terms_of es id s.vertex) refl
 
 -- a combination is no axiom
-axiom_not_combined : (o : Origin) (i j v : ℕ) → o ≡ Combined i j v → IsAxiom o → ⊥
-axiom_not_combined (Axiom kind) i j v e given = absurd cc
-axiom_not_combined (Combined a b w) i j v e given = given
+axiom_not_combined : (o : Origin) (i j v : ℕ) (w : Bool) → o ≡ Combined i j v w → IsAxiom o → ⊥
+axiom_not_combined (Axiom kind) i j v w e given = absurd cc
+axiom_not_combined (Combined a b u x) i j v w e given = given
 
 pub combined_not_given : (es : List EntryView) (id : ℕ) → IsCombined es id → IsAxiom (entry es id).origin → ⊥
-combined_not_given es id c = axiom_not_combined (entry es id).origin c.first c.second c.vertex c.origin
+combined_not_given es id c = axiom_not_combined (entry es id).origin c.first c.second c.vertex c.watches c.origin
 
 -- one combination more
-pub record IsStep (old : List EntryView) (t : TrailView) (es : List EntryView) (current : ℕ) (s : Satisfier) (c : ℕ) (made : List TermView) (new : List EntryView) (id : ℕ) : Type 0 where
+pub record IsStep (old : List EntryView) (t : TrailView) (es : List EntryView) (current : ℕ) (s : Satisfier) (c : ℕ) (made : List TermView) (w : Bool) (new : List EntryView) (id : ℕ) : Type 0 where
   pub way : IsResolving old t es current (Some s)
   pub asked : IsAsked s (Some c)
   pub id_is : id ≡ length es
   pub combination : IsCombination s.vertex (entry es current).terms (entry es c).terms made
-  pub grown : new ≡ es ++ record { terms = made; origin = Combined current c s.vertex } ∷ []
+  pub learns : Learns t made w
+  pub grown : new ≡ es ++ record { terms = made; origin = Combined current c s.vertex w } ∷ []
 
 -- the cause of the satisfier, of an entry that is being resolved
 pub cause_of : (old : List EntryView) (t : TrailView) (es : List EntryView) (current : ℕ) (s : Satisfier) (c : ℕ) → IsResolving old t es current (Some s) → IsAsked s (Some c) → CauseFits es t (entry es current).terms s (Some c)
 cause_of old t es current s c way asked = subst (CauseFits es t (entry es current).terms s) asked.1 way.here.satisfier.cause
 
-module _ (old : List EntryView) (t : TrailView) (es : List EntryView) (current : ℕ) (s : Satisfier) (c : ℕ) (made : List TermView) (new : List EntryView) (id : ℕ) (d : IsStep old t es current s c made new id) where
+-- what comes of the two is satisfied now, as it was before the satisfier
+pub made_sat : (old : List EntryView) (t : TrailView) (es : List EntryView) (current : ℕ) (s : Satisfier) (c : ℕ) → IsResolving old t es current (Some s) → IsAsked s (Some c) → (made : List TermView) → IsCombination s.vertex (entry es current).terms (entry es c).terms made → Sat t.sets (states_at made)
+made_sat old t es current s c way asked made is = subst (λ (ss : List Members). Sat ss (states_at made)) (sets_now t)
+    (sat_later t way.trail.sound (states_at made) s.place (length t.steps) (let w = way.here.satisfier.satisfied.within in omega (arith, w)) (omega arith) ((cause_of old t es current s c way asked).1 made is))
+
+module _ (old : List EntryView) (t : TrailView) (es : List EntryView) (current : ℕ) (s : Satisfier) (c : ℕ) (made : List TermView) (w : Bool) (new : List EntryView) (id : ℕ) (d : IsStep old t es current s c made w new id) where
   abbrev last : EntryView
-  last = record { terms = made; origin = Combined current c s.vertex }
+  last = record { terms = made; origin = Combined current c s.vertex w }
 
   at_new : entry new id ≡ last
   at_new = ap (λ (xs : List EntryView). entry xs id) d.grown ∙ ap (entry (es ++ last ∷ [])) d.id_is ∙ get_or-append_seam es last [] (record { terms = []; origin = Axiom 0 })
@@ -125,18 +137,25 @@ module _ (old : List EntryView) (t : TrailView) (es : List EntryView) (current :
   trail_new = subst (λ (xs : List EntryView). IsTrail xs t) (sym d.grown) (trail_grown es (last ∷ []) t d.way.trail (subst (λ (xs : List EntryView). LieIn t xs) d.grown lies_new))
 
   -- were the combination satisfied at the end of a lower level, the other terms of the current entry would be satisfied there
-  quiet_new : Quiet new t t.level
-  quiet_new l lt = by_id (λ i. ¬ Sat (end_sets t l) (terms_of new i))
-      (λ i less sat. d.way.quiet l lt i less (subst (λ (e : EntryView). Sat (end_sets t l) (states_at e.terms)) (at_old i less) sat))
-      (λ sat. d.way.here.satisfier.satisfied.others_no l (let top = level_top es t current s sound d.way.quiet d.way.within d.way.here.satisfier d.asked.0 in omega (arith, lt, top))
+  lone_new : IsLone new t id
+  lone_new l lt sat = d.way.here.satisfier.satisfied.others_no l (let top = level_top es t current s sound d.way.lone d.way.here.satisfier d.asked.0 in omega (arith, lt, top))
       (combined_others (space_of t) (end_sets t l) s.vertex (entry es current).terms (entry es c).terms made d.way.here.is (d.way.trail.lies current d.way.within) (d.way.trail.lies c cause.0.within) d.combination
-      (subst (λ (e : EntryView). Sat (end_sets t l) (states_at e.terms)) at_new sat)))
+      (subst (λ (e : EntryView). Sat (end_sets t l) (states_at e.terms)) at_new sat))
+
+  quiet_new : Quiet new t t.level
+  quiet_new l lt = by_id (λ i. watched (entry new i).origin ≡ true → ¬ Sat (end_sets t l) (terms_of new i))
+      (λ i less on sat. d.way.quiet l lt i less (subst (λ (e : EntryView). watched e.origin ≡ true) (at_old i less) on) (subst (λ (e : EntryView). Sat (end_sets t l) (states_at e.terms)) (at_old i less) sat))
+      (λ on sat. lone_new l lt sat)
+
+  learns_new : Learns t (entry new id).terms (watched (entry new id).origin)
+  learns_new = subst (λ (e : EntryView). Learns t e.terms (watched e.origin)) (sym at_new) d.learns
 
   combined_was : (i : ℕ) → i < length es → IsCombined es i → IsCombined new i
   combined_was i lt was = record {
     first = was.first;
     second = was.second;
     vertex = was.vertex;
+    watches = was.watches;
     origin = ap (λ (e : EntryView). e.origin) (at_old i lt) ∙ was.origin;
     first_earlier = was.first_earlier;
     second_earlier = was.second_earlier;
@@ -151,9 +170,10 @@ module _ (old : List EntryView) (t : TrailView) (es : List EntryView) (current :
     first = current;
     second = c;
     vertex = s.vertex;
+    watches = w;
     origin = ap (λ (e : EntryView). e.origin) at_new;
-    first_earlier = (let w = d.way.within in let k = d.id_is in omega (arith, w, k));
-    second_earlier = (let w = cause.0.within in let k = d.id_is in omega (arith, w, k));
+    first_earlier = (let x = d.way.within in let k = d.id_is in omega (arith, x, k));
+    second_earlier = (let x = cause.0.within in let k = d.id_is in omega (arith, x, k));
     term = ap (λ (e : EntryView). touches s.vertex e.terms) (at_old current d.way.within) ∙ vertex_touched es t current s sound d.way.here.satisfier;
     is = subst (λ (e : EntryView). IsCombination s.vertex (entry new current).terms (entry new c).terms e.terms) (sym at_new)
         (subst (λ (e : EntryView). IsCombination s.vertex e.terms (entry new c).terms made) (sym (at_old current d.way.within))
@@ -178,6 +198,8 @@ module _ (old : List EntryView) (t : TrailView) (es : List EntryView) (current :
     few = (let k = d.way.few in omega (arith, k, nearer found f, length-append d.way.gained (last ∷ [])));
     combined = combined_new;
     quiet = quiet_new;
+    lone = lone_new;
+    learns = learns_new;
     trail = trail_new;
     within = (let k = d.id_is in omega (arith, k, long));
     here = f;
@@ -207,10 +229,10 @@ open_by sets f s after (Some x) is h shrinks some others not = (
     apart false e = e
 
 -- no lower level has one open term: at the satisfier's vertex, the others would be satisfied before the level where they came to be; elsewhere, all would be satisfied at that level, below the trail's own
-least_is : (es : List EntryView) (t : TrailView) (id : ℕ) (s : Satisfier) → IsSound t → Quiet es t t.level → id < length es → IsSatisfierOf es t id s → s.before < t.level → (l : ℕ) → l < s.before → (v : ℕ) (x : Members) → IsOneOpen (end_sets t l) (terms_of es id) v x → ⊥
-least_is es t id s sound quiet within found low l lt v x one = elim (cases_eq v s.vertex) [
+least_is : (es : List EntryView) (t : TrailView) (id : ℕ) (s : Satisfier) → IsSound t → IsLone es t id → IsSatisfierOf es t id s → s.before < t.level → (l : ℕ) → l < s.before → (v : ℕ) (x : Members) → IsOneOpen (end_sets t l) (terms_of es id) v x → ⊥
+least_is es t id s sound lone found low l lt v x one = elim (cases_eq v s.vertex) [
   | inl e ↦ found.satisfied.others_no l lt (subst (OthersHold (end_sets t l) (terms_of es id)) e one.others)
-  | inr ne ↦ quiet s.before low id within (λ u. elim (cases_eq u s.vertex) [
+  | inr ne ↦ lone s.before low (λ u. elim (cases_eq u s.vertex) [
     | inl e ↦ subst (λ w. HoldsAt (set_of (end_sets t s.before) w) (terms_of es id w)) (sym e) (holds_at_ends t sound s.vertex l s.before (omega (arith, lt)) (terms_of es id s.vertex) (one.others s.vertex (λ at. ne (sym at))))
     | inr apart ↦ found.satisfied.others_at u apart
   ])
@@ -220,9 +242,10 @@ pub learned_is : (old : List EntryView) (t : TrailView) (es : List EntryView) (c
 learned_is old t es current s new gone way lt cut =
     let found = way.here.satisfier in
     let low : s.before < t.level = omega (arith, lt, level_low es t current s way.trail.sound found) in
-    let one = open_by (end_sets t s.before) (terms_of es current) s (set_of (sets_at t (suc s.place)) s.vertex) (terms_of es current s.vertex) refl (found.satisfied.after s.vertex) (found.opens.shrinks lt) found.opens.some found.satisfied.others_at (way.quiet s.before low current way.within) in
+    let one = open_by (end_sets t s.before) (terms_of es current) s (set_of (sets_at t (suc s.place)) s.vertex) (terms_of es current s.vertex) refl (found.satisfied.after s.vertex) (found.opens.shrinks lt) found.opens.some found.satisfied.others_at (way.lone s.before low) in
     record {
       within = way.within;
+      watches = way.learns s found.satisfied lt;
       follows = way.here.follows;
       lower = low;
       gone = gone;
@@ -230,7 +253,7 @@ learned_is old t es current s new gone way lt cut =
       vertex = s.vertex;
       states = one.0;
       one = subst (λ (ss : List Members). IsOneOpen ss (terms_of es current) s.vertex one.0) (cut_sets s.before t new gone cut) one.1;
-      least = least_is es t current s way.trail.sound way.quiet way.within found low;
+      least = least_is es t current s way.trail.sound way.lone found low;
     }
 
 pub gained_is : (old : List EntryView) (t : TrailView) (es : List EntryView) (current : ℕ) (found : Option Satisfier) → IsResolving old t es current found → (gained : List EntryView) × IsGained old t es gained
@@ -244,13 +267,15 @@ gained_is old t es current found way = (
   },
 )
 
-pub start_is : (es : List EntryView) (t : TrailView) (id : ℕ) (found : Option Satisfier) → IsTrail es t → id < length es → Quiet es t t.level → IsFound es t id found → IsResolving es t es id found
-start_is es t id found trail within quiet f = record {
+pub start_is : (es : List EntryView) (t : TrailView) (id : ℕ) (found : Option Satisfier) → IsTrail es t → id < length es → watched (entry es id).origin ≡ true → Quiet es t t.level → IsFound es t id found → IsResolving es t es id found
+start_is es t id found trail within on quiet f = record {
   gained = [];
   grown = sym (nothing es);
   few = within_all found f;
   combined = λ i from lt. absurd (omega (arith, from, lt));
   quiet = quiet;
+  lone = λ l lt. quiet l lt id within on;
+  learns = λ s is low. on;
   trail = trail;
   within = within;
   here = f;
@@ -263,3 +288,42 @@ start_is es t id found trail within quiet f = record {
     within_all : (o : Option Satisfier) → IsFound es t id o → 0 + places_left o ≤ length t.steps
     within_all None g = omega arith
     within_all (Some s) g = let w = g.satisfier.satisfied.within in omega (arith, w)
+
+-- ---- there is one satisfier
+
+module _ (t : TrailView) (f : Terms) (a b : Satisfier) (x : IsSatisfied t f a) (y : IsSatisfied t f b) where
+  same_place : a.place ≡ b.place
+  same_place = elim (cases_lt a.place b.place) [
+    | inl lt ↦ absurd (y.first (suc a.place) (omega (arith, lt)) x.after)
+    | inr ge ↦ elim (cases_lt b.place a.place) [
+      | inl lt ↦ absurd (x.first (suc b.place) (omega (arith, lt)) y.after)
+      | inr le ↦ omega (arith, ge, le)
+    ]
+  ]
+
+  same_vertex : a.vertex ≡ b.vertex
+  same_vertex = x.vertex ∙ ap (λ n. (step_at t.steps n).vertex) same_place ∙ sym y.vertex
+
+  -- the number of places after which the other terms are satisfied
+  same_others : x.before.0 ≡ y.before.0
+  same_others = elim (cases_lt x.before.0 y.before.0) [
+    | inl lt ↦ absurd (y.before.2.first x.before.0 lt (subst (OthersHold (sets_at t x.before.0) f) same_vertex x.before.2.holds))
+    | inr ge ↦ elim (cases_lt y.before.0 x.before.0) [
+      | inl lt ↦ absurd (x.before.2.first y.before.0 lt (subst (OthersHold (sets_at t y.before.0) f) (sym same_vertex) y.before.2.holds))
+      | inr le ↦ omega (arith, ge, le)
+    ]
+  ]
+
+  pub same_before : a.before ≡ b.before
+  same_before = x.before.3 ∙ ap (level_after t.steps) same_others ∙ sym y.before.3
+
+  pub same_level : a.level ≡ b.level
+  same_level = x.level ∙ ap (λ n. (step_at t.steps n).level) same_place ∙ sym y.level
+
+-- an incompatibility without terms has no satisfier
+pub none_learned : (t : TrailView) (ts : List TermView) (w : Bool) → ts ≡ [] → Learns t ts w
+none_learned t ts w none s is low = absurd (is.first 0 (omega arith) (λ u. subst (λ (us : List TermView). HoldsAt (set_of (sets_at t 0) u) (states_at us u)) (sym none) tt))
+
+pub no_items : {A : Type 0} (xs : List A) → length xs ≡ 0 → xs ≡ []
+no_items [] e = refl
+no_items (x ∷ xs) e = absurd (omega (arith, e))

@@ -1,8 +1,9 @@
 -- What the resolution of a conflict finds, learns and leaves (Dart pub's `solver.md`, "Conflict Resolution").
-use Rattle.std.specs.Prelude.{◌≡◌, ℕ, ◌<◌, ◌≤◌, true, List, [], ◌++◌, length, Option, Some, None}
+use Rattle.std.specs.Prelude.{◌≡◌, ℕ, ◌<◌, ◌≤◌, Bool, true, List, [], ◌++◌, length, Option, Some, None}
 use Rattle.version_sets.specs.Sets.{Members}
-use Rattle.incompatibilities.specs.Incompatibilities.{IsCombination, IsIncompatibility}
-use Rattle.incompatibilities.specs.Stores.{EntryView, Follows, entry, terms_of, touches}
+use Rattle.incompatibilities.specs.Incompatibilities.{IsCombination, IsIncompatibility, states_at}
+use Rattle.terms.specs.Terms.{TermView}
+use Rattle.incompatibilities.specs.Stores.{EntryView, Follows, entry, terms_of, touches, watched}
 use Rattle.incompatibilities.specs.declared.origin.Origin.TheVariants.{Combined}
 use Rattle.propagation.specs.Trails.{StepView, TrailView, end_sets}
 use Rattle.propagation.specs.Satisfaction.{IsOneOpen, Sat}
@@ -11,9 +12,9 @@ use Rattle.propagation.specs.declared.satisfying.Satisfier.{Satisfier}
 use Rattle.conflicts.specs.declared.resolving.Outcome.{Outcome}
 use Rattle.conflicts.specs.declared.resolving.Outcome.TheVariants.{Learned, Unsolvable}
 
--- no entry of a store is satisfied at the end of a level below one
+-- no watched entry of a store is satisfied at the end of a level below one
 abbrev pub Quiet : List EntryView → TrailView → ℕ → Type 0
-Quiet es t level = (l : ℕ) → l < level → (id : ℕ) → id < length es → ¬ Sat (end_sets t l) (terms_of es id)
+Quiet es t level = (l : ℕ) → l < level → (id : ℕ) → id < length es → watched (entry es id).origin ≡ true → ¬ Sat (end_sets t l) (terms_of es id)
 
 -- the satisfier of an entry that has a term
 pub record IsSatisfierOf (es : List EntryView) (t : TrailView) (id : ℕ) (s : Satisfier) : Type 0 where
@@ -30,6 +31,10 @@ pub record IsFound (es : List EntryView) (t : TrailView) (id : ℕ) (found : Opt
   pub is : IsIncompatibility (entry es id).terms
   pub follows : Follows es (terms_of es id)
 
+-- an incompatibility is learned, and so watched, where its satisfier's level is above that of the other terms
+abbrev pub Learns : TrailView → List TermView → Bool → Type 0
+Learns t ts watches = (s : Satisfier) → IsSatisfied t (states_at ts) s → s.before < s.level → watches ≡ true
+
 -- the cause of a satisfier, where the other terms were satisfied at its own level
 abbrev pub IsAsked : Satisfier → Option ℕ → Type 0
 IsAsked s None = s.before < s.level
@@ -40,22 +45,24 @@ pub record IsCombined (es : List EntryView) (id : ℕ) : Type 0 where
   pub first : ℕ
   pub second : ℕ
   pub vertex : ℕ
-  pub origin : (entry es id).origin ≡ Combined first second vertex
+  pub watches : Bool
+  pub origin : (entry es id).origin ≡ Combined first second vertex watches
   pub first_earlier : first < id
   pub second_earlier : second < id
   pub term : touches vertex (entry es first).terms ≡ true
   pub is : IsCombination vertex (entry es first).terms (entry es second).terms (entry es id).terms
 
--- a store gains combinations, at most one for each assignment of the trail, and no entry is satisfied at the end of an earlier level of that trail
+-- a store gains combinations, at most one for each assignment of the trail, and no watched entry is satisfied at the end of an earlier level of that trail
 pub record IsGained (old : List EntryView) (t : TrailView) (new gained : List EntryView) : Type 0 where
   pub grown : new ≡ old ++ gained
   pub few : length gained ≤ length t.steps
   pub combined : (id : ℕ) → length old ≤ id → id < length new → IsCombined new id
   pub quiet : Quiet new t t.level
 
--- the learned entry follows; the trail is cut to a level below its own, where one term of the entry is open and all others are satisfied, and no lower level has that
+-- the learned entry follows and is watched; the trail is cut to a level below its own, where one term of the entry is open and all others are satisfied, and no lower level has that
 pub record IsLearned (t : TrailView) (es : List EntryView) (new : TrailView) (id back_to : ℕ) : Type 0 where
   pub within : id < length es
+  pub watches : watched (entry es id).origin ≡ true
   pub follows : Follows es (terms_of es id)
   pub lower : back_to < t.level
   pub gone : List StepView

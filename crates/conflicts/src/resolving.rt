@@ -1,16 +1,16 @@
 //! Learning from a satisfied incompatibility, and going back (Dart pub's `solver.md`, "Conflict Resolution").
 
-ghost use Rattle.conflicts.specs.Resolving.{IsAsked, IsFound, IsGained, Quiet, Resolved};
+ghost use Rattle.conflicts.specs.Resolving.{IsAsked, IsFound, IsGained, Learns, Quiet, Resolved};
 ghost use Rattle.incompatibilities.specs.Incompatibilities.{Fit, IsCombination, LiesIn, states_at};
-ghost use Rattle.incompatibilities.specs.Stores.{EntryView, entries_view, entry, terms_of};
+ghost use Rattle.incompatibilities.specs.Stores.{EntryView, entries_view, entry, terms_of, watched};
 ghost use Rattle.incompatibilities.specs.declared.origin.Origin.TheVariants.{Combined};
-ghost use Rattle.propagation.specs.Promises.{IsTrail, SameSpaces};
+ghost use Rattle.propagation.specs.Promises.{IsSound, IsTrail, SameSpaces};
 ghost use Rattle.propagation.specs.Satisfaction.{Sat};
-ghost use Rattle.propagation.specs.Trails.{trail_view};
-ghost use Rattle.std.specs.Prelude.{◌≡◌, ◌++◌, ◌∷◌, [], ◌<◌, ◌≤◌, IfOk, List, None, OnErr, length, ℕ};
-ghost use Rattle.terms.specs.Terms.{TermView};
+ghost use Rattle.propagation.specs.Trails.{space_of, trail_view};
+ghost use Rattle.std.specs.Prelude.{◌≡◌, ◌++◌, ◌∷◌, [], ◌<◌, ◌≤◌, Bool, true, IfOk, List, None, OnErr, length, ℕ};
+ghost use Rattle.terms.specs.Terms.{TermView, terms_view};
 
-use incompatibilities::{Id, Origin, Store, combine};
+use incompatibilities::{Id, Incompatibility, Origin, Store, combine};
 use propagation::{Satisfier, Trail};
 use std::alloc::{AllocError, Global};
 use version_sets::States;
@@ -57,9 +57,25 @@ fn cause_at_level(found: Satisfier) -> Option<Id>
     found.cause
 }
 
-/// Puts the combination of two entries into the store.
+/// Whether an incompatibility that is satisfied now is what a conflict teaches: all its terms but one were satisfied at
+/// an earlier level.
+fn is_learned<S: States + Drop>(trail: &Trail<S>, incompatibility: &Incompatibility<S>) -> bool
+    requires sound { IsSound (trail_view S.tests trail.now) }
+    requires lies { LiesIn (space_of (trail_view S.tests trail.now)) (states_at (terms_view S.tests incompatibility.now)) }
+    requires satisfied { Sat (trail_view S.tests trail.now).sets (states_at (terms_view S.tests incompatibility.now)) }
+    ensures { Learns (trail_view S.tests trail.now) (terms_view S.tests incompatibility.now) result }
+{
+    if incompatibility.terms().is_empty() {
+        return false;
+    }
+    let found = trail.satisfier(incompatibility);
+    found.before < found.level
+}
+
+/// Puts the combination of two entries into the store, to be watched if it is learned.
 fn add_combination<S: States + Drop>(
     alloc: Global,
+    trail: &Trail<S>,
     store: &mut Store<S>,
     first: Id,
     second: Id,
@@ -67,16 +83,27 @@ fn add_combination<S: States + Drop>(
 ) -> Result<Id, AllocError>
     requires first { first < length (entries_view S.tests store.old) }
     requires second { second < length (entries_view S.tests store.old) }
-    requires fit { Fit (terms_of (entries_view S.tests store.old) first) (terms_of (entries_view S.tests store.old) second) }
-    ensures added { IfOk result (λ id. (id ≡ length (entries_view S.tests store.old)) × (made : List TermView) × IsCombination vertex (entry (entries_view S.tests store.old) first).terms (entry (entries_view S.tests store.old) second).terms made × (entries_view S.tests store.new ≡ entries_view S.tests store.old ++ record { terms = made; origin = Combined first second vertex } ∷ [])) }
+    requires trail { IsTrail (entries_view S.tests store.old) (trail_view S.tests trail.now) }
+    requires satisfied { (made : List TermView) → IsCombination vertex (entry (entries_view S.tests store.old) first).terms (entry (entries_view S.tests store.old) second).terms made → Sat (trail_view S.tests trail.now).sets (states_at made) }
+    ensures added { IfOk result (λ id. (id ≡ length (entries_view S.tests store.old)) × (made : List TermView) × IsCombination vertex (entry (entries_view S.tests store.old) first).terms (entry (entries_view S.tests store.old) second).terms made × (watches : Bool) × Learns (trail_view S.tests trail.now) made watches × (entries_view S.tests store.new ≡ entries_view S.tests store.old ++ record { terms = made; origin = Combined first second vertex watches } ∷ [])) }
     ensures kept { OnErr result (entries_view S.tests store.new ≡ entries_view S.tests store.old) }
 {
     let made = combine(alloc, store.get(first), store.get(second), vertex)?;
-    store.add(made, Origin::Combined(first, second, vertex))
+    let watched = is_learned(trail, &made);
+    store.add(
+        made,
+        Origin::Combined {
+            first,
+            second,
+            vertex,
+            watched,
+        },
+    )
 }
 
 /// Learns from a satisfied incompatibility: combines it with what forced its satisfier, until all its terms but one
-/// were satisfied at an earlier level, and cuts the trail to that level. The store gains each combination.
+/// were satisfied at an earlier level, and cuts the trail to that level. The store gains each combination, of which the
+/// last, which is learned, is watched.
 ///
 /// Where memory is refused, the trail is as it was before, and the store has gained some of the combinations.
 pub fn resolve_conflict<S: States + Drop>(
@@ -88,7 +115,8 @@ pub fn resolve_conflict<S: States + Drop>(
     requires trail { IsTrail (entries_view S.tests store.old) (trail_view S.tests trail.old) }
     requires within { id < length (entries_view S.tests store.old) }
     requires satisfied { Sat (trail_view S.tests trail.old).sets (terms_of (entries_view S.tests store.old) id) }
-    // No entry of the store is satisfied at the end of an earlier level.
+    requires watched { watched (entry (entries_view S.tests store.old) id).origin ≡ true }
+    // No watched entry of the store is satisfied at the end of an earlier level.
     requires quiet { Quiet (entries_view S.tests store.old) (trail_view S.tests trail.old) (trail_view S.tests trail.old).level }
     ensures resolved { IfOk result (λ o. Resolved (trail_view S.tests trail.old) (entries_view S.tests store.new) (trail_view S.tests trail.new) o) }
     ensures gained { (gained : List EntryView) × IsGained (entries_view S.tests store.old) (trail_view S.tests trail.old) (entries_view S.tests store.new) gained }
@@ -115,7 +143,7 @@ pub fn resolve_conflict<S: States + Drop>(
         };
         // Going back would undo the satisfier and other terms alike, and leave nothing to force. But whatever breaks
         // the combination breaks one of the two, and it was satisfied before the satisfier was put.
-        current = add_combination(alloc, store, current, cause, vertex)?;
+        current = add_combination(alloc, trail, store, current, cause, vertex)?;
         found = satisfier_of(trail, store, current);
     }
     // Nothing satisfied it, since it has no term.

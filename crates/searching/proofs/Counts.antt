@@ -24,7 +24,7 @@ combinations_append (x ∷ xs) ys = one_of (is_combination x.origin) (combinatio
 
 axiom_is : (o : Origin) → IsAxiom o → is_combination o ≡ false
 axiom_is (Axiom kind) given = refl
-axiom_is (Combined i j v) given = absurd given
+axiom_is (Combined i j v w) given = absurd given
 
 no_combinations : (xs : List EntryView) → ((i : ℕ) → i < length xs → IsAxiom (entry xs i).origin) → combinations xs ≡ 0
 no_combinations [] given = refl

@@ -1,10 +1,10 @@
 -- Each turn of a search brings the number down, by what the layers below promise.
-use Rattle.std.proofs.Common.{◌≡◌, ℕ, zero, suc, ◌+◌, ◌-◌, ◌<◌, ◌≤◌, Bool, false, List, [], ◌∷◌, ◌++◌, drop, length, Some, map, refl, sym, ap, ap₂, ◌∙◌, subst, arith, inl, inr}
+use Rattle.std.proofs.Common.{◌≡◌, ℕ, zero, suc, ◌+◌, ◌-◌, ◌<◌, ◌≤◌, Bool, true, false, List, [], ◌∷◌, ◌++◌, drop, length, Some, map, refl, sym, ap, ap₂, ◌∙◌, subst, arith, inl, inr}
 use Rattle.std.proofs.lemmas.Bool.{cases_lt, false≢true}
 use Rattle.std.proofs.lemmas.List.{get_or_append_left, get_or-append_right, length-append}
 use Rattle.version_sets.specs.Sets.{Members, every, size}
 use Rattle.incompatibilities.specs.Incompatibilities.{LiesIn, states_at}
-use Rattle.incompatibilities.specs.Stores.{EntryView, entry, terms_of}
+use Rattle.incompatibilities.specs.Stores.{EntryView, entry, terms_of, watched}
 use Rattle.incompatibilities.specs.declared.origin.Origin.TheVariants.{Axiom}
 use Rattle.propagation.specs.Satisfaction.{HoldsAt, IsQuiet, Sat}
 use Rattle.propagation.specs.Trails.{StepView, TrailView, end_sets, past, set_of, sets_at, space_of, total, undo}
@@ -43,7 +43,7 @@ gone asked left fewer late old new es next trail stops start falling quiet caugh
 }
 
 quiet_same : (es : List EntryView) (old new : TrailView) → new.level ≤ old.level → ((l : ℕ) → l < new.level → end_sets new l ≡ end_sets old l) → Quiet es old old.level → Quiet es new new.level
-quiet_same es old new level same quiet l lt id within sat = quiet l (omega (arith, lt, level)) id within (subst (λ (ss : List Members). Sat ss (terms_of es id)) (same l lt) sat)
+quiet_same es old new level same quiet l lt id within on sat = quiet l (omega (arith, lt, level)) id within on (subst (λ (ss : List Members). Sat ss (terms_of es id)) (same l lt) sat)
 
 caught_same : (asked more : Pairs) (old new : TrailView) → new.level ≤ old.level → ((l : ℕ) → l < new.level → end_sets new l ≡ end_sets old l) → AreMore asked more → IsCaught asked old → IsCaught more new
 caught_same asked more old new level same grows caught l lt v i within only = grows v i (subst (AllAsked asked) (sym (same l lt)) (caught l (omega (arith, lt, level))) v i within only)
@@ -58,8 +58,8 @@ module _ (asked : Pairs) (left late : ℕ) (es : List EntryView) (old mid new : 
 
   -- something was added, since the learned entry has an open term and no entry was satisfied there
   adds : (q : Progress) → Stops es new.sets q → length added ≡ 0 → ⊥
-  adds Fixpoint stops none = (stops id l.within).not_one l.vertex l.states (let same : new.sets ≡ mid.sets = subst (λ ss. undo ss new.sets ≡ mid.sets) (none_added added none) p.back in rw same l.one)
-  adds (Conflict c) stops none = quiet back_to l.lower c stops.0 (let same : new.sets ≡ mid.sets = subst (λ ss. undo ss new.sets ≡ mid.sets) (none_added added none) p.back in subst (λ (ss : List Members). Sat ss (terms_of es c)) (same ∙ sym ends) stops.1)
+  adds Fixpoint stops none = (stops id l.within l.watches).not_one l.vertex l.states (let same : new.sets ≡ mid.sets = subst (λ ss. undo ss new.sets ≡ mid.sets) (none_added added none) p.back in rw same l.one)
+  adds (Conflict c) stops none = quiet back_to l.lower c stops.0 stops.1 (let same : new.sets ≡ mid.sets = subst (λ ss. undo ss new.sets ≡ mid.sets) (none_added added none) p.back in subst (λ (ss : List Members). Sat ss (terms_of es c)) (same ∙ sym ends) stops.2)
 
   level : new.level ≤ old.level
   level = let low = l.lower in omega (arith, here, low)
@@ -101,11 +101,11 @@ turn_decide asked left fewer late es old mid new vertex state step next added wa
     let falls = falling_deeper (start_of late old) late old new was.falling here sums less p.top in
     let fell = deeper_falls (start_of late old) late old new falls here sums in
     gone asked left fewer late old new es next trail p.stops (start_same new mid added p.steps p.back ∙ start_same mid old (step ∷ []) d.steps d.back) falls
-    (λ l lt i within sat. elim (cases_lt l old.level) [
-      | inl low ↦ was.quiet l low i within (subst (λ (ss : List Members). Sat ss (terms_of es i)) (same l lt) sat)
+    (λ l lt i within on sat. elim (cases_lt l old.level) [
+      | inl low ↦ was.quiet l low i within on (subst (λ (ss : List Members). Sat ss (terms_of es i)) (same l lt) sat)
       | inr ge ↦
           let e : l ≡ old.level = omega (arith, ge, lt, here) in
-          (was.stops i within).not_all (subst (λ (ss : List Members). Sat ss (terms_of es i)) (same l lt ∙ ap (end_sets old) e ∙ end_top old was.falling.top) sat)
+          (was.stops i within on).not_all (subst (λ (ss : List Members). Sat ss (terms_of es i)) (same l lt ∙ ap (end_sets old) e ∙ end_top old was.falling.top) sat)
     ])
     (λ l lt. elim (cases_lt l old.level) [
       | inl low ↦ subst (AllAsked asked) (sym (same l lt)) (caught l low)
@@ -174,8 +174,8 @@ module _ (asked more : Pairs) (left fewer late later : ℕ) (old wide : TrailVie
   wide_quiet_at id lt quiet = subst (λ ss. IsQuiet ss (terms_of old_es id)) (sym a.wider.sets)
       (quiet_wider old.sets (map every a.spaces) (terms_of old_es id) (short_past old (terms_of old_es id) (trail.lies id lt)) quiet)
 
-  old_quiet : Quiet old_es old old.level → (l : ℕ) → l < wide.level → (id : ℕ) → id < length old_es → Sat (end_sets wide l) (terms_of old_es id) → ⊥
-  old_quiet quiet l lt id within sat = quiet l (let e = a.wider.level_is in omega (arith, e, lt)) id within
+  old_quiet : Quiet old_es old old.level → (l : ℕ) → l < wide.level → (id : ℕ) → id < length old_es → watched (entry old_es id).origin ≡ true → Sat (end_sets wide l) (terms_of old_es id) → ⊥
+  old_quiet quiet l lt id within on sat = quiet l (let e = a.wider.level_is in omega (arith, e, lt)) id within on
       (sat_back (end_sets old l) (map every a.spaces) (terms_of old_es id) (λ u x ge e. short_past old (terms_of old_es id) (trail.lies id within) u x (omega (arith, ge, long l)) e)
       (subst (λ (ss : List Members). Sat ss (terms_of old_es id)) (wide_ends l) sat))
 
@@ -190,8 +190,8 @@ module _ (asked more : Pairs) (left fewer late later : ℕ) (old wide : TrailVie
       false≢true (sym new.is_new ∙ caught l lt new.vertex new.state (in_range (end_sets old l) new.vertex (omega (arith, some, size_le set))) (size_is, only_inside set new.states new.state h.1 one new.only.1 some))
 
   pub wide_quiet : Quiet old_es old old.level → Quiet es wide wide.level
-  wide_quiet quiet l lt id within sat = elim (cases_lt id (length old_es)) [
-    | inl low ↦ old_quiet quiet l lt id low (subst (λ (e : EntryView). Sat (end_sets wide l) (states_at e.terms)) (earlier id low) sat)
+  wide_quiet quiet l lt id within on sat = elim (cases_lt id (length old_es)) [
+    | inl low ↦ old_quiet quiet l lt id low (subst (λ (e : EntryView). watched e.origin ≡ true) (earlier id low) on) (subst (λ (e : EntryView). Sat (end_sets wide l) (states_at e.terms)) (earlier id low) sat)
     | inr ge ↦ late_quiet (entry a.gained (id - length old_es)) (a.of_new (id - length old_es) (omega (arith, within, ge, ap length a.grown, length-append old_es a.gained))) l (let e = a.wider.level_is in omega (arith, e, lt))
         (subst (λ (e : EntryView). Sat (end_sets wide l) (states_at e.terms)) (ap (λ (xs : List EntryView). entry xs id) a.grown ∙ get_or-append_right old_es a.gained (length old_es) id (record { terms = []; origin = Axiom 0 }) refl ge) sat)
   ]
@@ -202,7 +202,7 @@ module _ (asked more : Pairs) (left fewer late later : ℕ) (old wide : TrailVie
     trail = adding_trail;
     falling = wide_falling was.falling;
     quiet = wide_quiet was.quiet;
-    stops = (let same : es ≡ old_es = (a.stays none).0 in subst (λ (xs : List EntryView). Stops xs wide.sets Fixpoint) (sym same) (λ id lt. wide_quiet_at id lt (was.stops id lt)));
+    stops = (let same : es ≡ old_es = (a.stays none).0 in subst (λ (xs : List EntryView). Stops xs wide.sets Fixpoint) (sym same) (λ id lt on. wide_quiet_at id lt (was.stops id lt on)));
   }
 
 added_space : (s late : ℕ) (old new : TrailView) (es : List EntryView) (next : Progress) (added : List StepView) → IsFalling s late old → Propagated es old new next added → IsFalling s late new × (space_in s late new ≤ space_in s late old)

@@ -1,5 +1,5 @@
 -- Combinations are at vertices at which their first has a term, as a store gains entries.
-use Rattle.std.proofs.Common.{◌≡◌, ℕ, ◌<◌, ◌≤◌, ◌-◌, List, [], ◌++◌, length, true, true≢false, refl, sym, ap, ◌∙◌, subst, arith, inl, inr}
+use Rattle.std.proofs.Common.{◌≡◌, ℕ, Bool, ◌<◌, ◌≤◌, ◌-◌, List, [], ◌++◌, length, true, true≢false, refl, sym, ap, ◌∙◌, subst, arith, inl, inr}
 use Rattle.std.proofs.lemmas.Bool.{cases_lt}
 use Rattle.std.proofs.lemmas.List.{get_or-append_right, get_or_append_left, get_or_past, length-append}
 use Rattle.incompatibilities.specs.Stores.{EntryView, IsAxiom, entry, touches}
@@ -16,11 +16,11 @@ empty = record { terms = []; origin = Axiom 0 }
 
 abbrev first_of : Origin → ℕ
 first_of (Axiom kind) = 0
-first_of (Combined i j v) = i
+first_of (Combined i j v w) = i
 
 abbrev vertex_of : Origin → ℕ
 vertex_of (Axiom kind) = 0
-vertex_of (Combined i j v) = v
+vertex_of (Combined i j v w) = v
 
 -- ---- what is gained
 
@@ -38,29 +38,29 @@ module _ (old new gained : List EntryView) (grown : new ≡ old ++ gained) where
     | inr ge ↦ absurd (true≢false (sym is ∙ ap (λ (e : EntryView). touches v e.terms) (get_or_past old i empty ge)))
   ]
 
-  touching_more : ((id i j v : ℕ) → length old ≤ id → id < length new → (entry new id).origin ≡ Combined i j v → touches v (entry new i).terms ≡ true) → AreTouching old → AreTouching new
-  touching_more later was id i j v within origin = elim (cases_lt id (length old)) [
+  touching_more : ((id i j v : ℕ) (w : Bool) → length old ≤ id → id < length new → (entry new id).origin ≡ Combined i j v w → touches v (entry new i).terms ≡ true) → AreTouching old → AreTouching new
+  touching_more later was id i j v w within origin = elim (cases_lt id (length old)) [
     | inl lt ↦
-        let is = was id i j v lt (sym (ap (λ (e : EntryView). e.origin) (at_old id lt)) ∙ origin) in
+        let is = was id i j v w lt (sym (ap (λ (e : EntryView). e.origin) (at_old id lt)) ∙ origin) in
         ap (λ (e : EntryView). touches v e.terms) (at_old i (is_there i v is)) ∙ is
-    | inr ge ↦ later id i j v ge within origin
+    | inr ge ↦ later id i j v w ge within origin
   ]
 
   -- axioms
   pub touching_axioms : ((i : ℕ) → i < length gained → IsAxiom (entry gained i).origin) → AreTouching old → AreTouching new
-  touching_axioms given = touching_more (λ id i j v ge within origin.
+  touching_axioms given = touching_more (λ id i j v w ge within origin.
       let some : id - length old < length gained = omega (arith, ge, within, ap length grown, length-append old gained) in
-      let none : IsAxiom (Combined i j v) = subst IsAxiom (sym (ap (λ (e : EntryView). e.origin) (at_gained id ge)) ∙ origin) (given (id - length old) some) in
+      let none : IsAxiom (Combined i j v w) = subst IsAxiom (sym (ap (λ (e : EntryView). e.origin) (at_gained id ge)) ∙ origin) (given (id - length old) some) in
       absurd none)
 
   -- what is learned
   pub touching_learned : ((id : ℕ) → length old ≤ id → id < length new → IsCombined new id) → AreTouching old → AreTouching new
-  touching_learned combined = touching_more (λ id i j v ge within origin. is id i j v (combined id ge within) origin)
+  touching_learned combined = touching_more (λ id i j v w ge within origin. is id i j v w (combined id ge within) origin)
     where
-      is : (id i j v : ℕ) → IsCombined new id → (entry new id).origin ≡ Combined i j v → touches v (entry new i).terms ≡ true
-      is id i j v c origin =
-          let same : Combined c.first c.second c.vertex ≡ Combined i j v = sym c.origin ∙ origin in
-          subst (λ k. touches v (entry new k).terms ≡ true) (ap first_of same) (subst (λ w. touches w (entry new c.first).terms ≡ true) (ap vertex_of same) c.term)
+      is : (id i j v : ℕ) (w : Bool) → IsCombined new id → (entry new id).origin ≡ Combined i j v w → touches v (entry new i).terms ≡ true
+      is id i j v w c origin =
+          let same : Combined c.first c.second c.vertex c.watches ≡ Combined i j v w = sym c.origin ∙ origin in
+          subst (λ k. touches v (entry new k).terms ≡ true) (ap first_of same) (subst (λ u. touches u (entry new c.first).terms ≡ true) (ap vertex_of same) c.term)
 
 pub touching_gained : (es : List EntryView) (t : TrailView) (more gained : List EntryView) → IsGained es t more gained → AreTouching es → AreTouching more
 touching_gained es t more gained g = touching_learned es more gained g.grown g.combined

@@ -27,7 +27,7 @@ pub sat_breaks : (x : Assignment) (sets : List Members) (f : Terms) → Agrees x
 sat_breaks x sets f agrees sat u = holds_broken (set_of sets u) (f u) (x u) (sat u) (λ some. agrees u (in_range sets u (omega (arith, some, size_le (set_of sets u)))))
 
 pub no_conflict : (x : Assignment) (es : List EntryView) (t : TrailView) (id : ℕ) → Stops es t.sets (Conflict id) → IsWalked x es t → ⊥
-no_conflict x es t id stops walked = walked.0 id stops.0 (sat_breaks x t.sets (terms_of es id) walked.1 stops.1)
+no_conflict x es t id stops walked = walked.0 id stops.0 (sat_breaks x t.sets (terms_of es id) walked.1 stops.2)
 
 has_only : (s : Members) (i : ℕ) → has s i ≡ true → has (only (length s) i) i ≡ true
 has_only [] i h = h

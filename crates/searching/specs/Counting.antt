@@ -7,7 +7,7 @@ use Rattle.propagation.specs.Trails.{TrailView}
 
 abbrev pub is_combination : Origin → Bool
 is_combination (Axiom kind) = false
-is_combination (Combined i j v) = true
+is_combination (Combined i j v w) = true
 
 -- how many entries of a store are combinations
 abbrev pub combinations : List EntryView → ℕ

@@ -90,7 +90,7 @@ pub record IsRefutation (es : List EntryView) (id : ℕ) : Type 0 where
 
 -- each combination is at a vertex at which the first of the two has a term
 abbrev pub AreTouching : List EntryView → Type 0
-AreTouching es = (id i j v : ℕ) → id < length es → (entry es id).origin ≡ Combined i j v → touches v (entry es i).terms ≡ true
+AreTouching es = (id i j v : ℕ) (w : Bool) → id < length es → (entry es id).origin ≡ Combined i j v w → touches v (entry es i).terms ≡ true
 
 -- a vertex with several states left, and one of them
 pub record CanDecide (t : TrailView) (v i : ℕ) : Type 0 where
