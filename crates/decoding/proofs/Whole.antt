@@ -68,8 +68,8 @@ module _ (es : List EntryView) (founded : AreFounded es) where
     rising = rises 0 (length es);
     within = λ id c. (let lt : id < length es = within id c in omega (arith, lt, long));
     fits = λ id c. founded id (within id c);
-    closed = λ id i j n c e.
-        let f : OriginFits es id (entry es id).terms (Combined i j n) = subst (OriginFits es id (entry es id).terms) e (founded id (within id c)) in
+    closed = λ id i j n w c e.
+        let f : OriginFits es id (entry es id).terms (Combined i j n w) = subst (OriginFits es id (entry es id).terms) e (founded id (within id c)) in
         let lt : id < length es = within id c in
         (there i (omega (arith, f.0, lt)), there j (omega (arith, f.1, lt)));
     placed = λ k id e. (let s : id ≡ 0 + k = got_range 0 (length es) k id e in omega (arith, s));

@@ -9,21 +9,21 @@ use Rattle.incompatibilities.specs.declared.origin.Origin.TheVariants.{Axiom, Co
 -- what an entry comes from
 pub data Reached (es : List EntryView) (last : ℕ) : ℕ → Type 0 where
   itself : Reached es last last
-  first_of : {id : ℕ} → (i j n : ℕ) → Reached es last id → (entry es id).origin ≡ Combined i j n → Reached es last i
-  second_of : {id : ℕ} → (i j n : ℕ) → Reached es last id → (entry es id).origin ≡ Combined i j n → Reached es last j
+  first_of : {id : ℕ} → (i j n : ℕ) (w : Bool) → Reached es last id → (entry es id).origin ≡ Combined i j n w → Reached es last i
+  second_of : {id : ℕ} → (i j n : ℕ) (w : Bool) → Reached es last id → (entry es id).origin ≡ Combined i j n w → Reached es last j
 
 -- the marks with those of the entries that an origin combines
 abbrev pub with_parts : Origin → List Bool → List Bool
 with_parts (Axiom k) ms = ms
-with_parts (Combined i j n) ms = slice_set (slice_set ms i true) j true
+with_parts (Combined i j n w) ms = slice_set (slice_set ms i true) j true
 
 abbrev pub PartsBelow : ℕ → Origin → Type 0
 PartsBelow n (Axiom k) = Unit {0}
-PartsBelow n (Combined i j v) = (i < n) × (j < n)
+PartsBelow n (Combined i j v w) = (i < n) × (j < n)
 
 abbrev pub PartsIn : List Bool → Origin → Type 0
 PartsIn ms (Axiom k) = Unit {0}
-PartsIn ms (Combined i j v) = (has ms i ≡ true) × (has ms j ≡ true)
+PartsIn ms (Combined i j v w) = (has ms i ≡ true) × (has ms j ≡ true)
 
 abbrev pub visited : List EntryView → ℕ → List Bool → List Bool
 visited es id ms = if has ms id then with_parts (entry es id).origin ms else ms

@@ -1,5 +1,5 @@
 -- Entries of a store over numbers as steps of a derivation.
-use Rattle.std.specs.Prelude.{◌≡◌, ◌<◌, ◌≤◌, ℕ, length, List, [], ◌∷◌, ◌++◌, Option, Some, None, slice_get, slice_index_or, map, Contains}
+use Rattle.std.specs.Prelude.{◌≡◌, ◌<◌, ◌≤◌, ℕ, Bool, length, List, [], ◌∷◌, ◌++◌, Option, Some, None, slice_get, slice_index_or, map, Contains}
 use Rattle.std.specs.List.{AllPairs}
 use Rattle.terms.specs.Terms.{TermView}
 use Rattle.incompatibilities.specs.Stores.{EntryView, OriginFits, entry}
@@ -20,7 +20,7 @@ kind_at n = slice_index_or (Root ∷ Needed ∷ Target ∷ HasFeature ∷ WantsF
 -- an axiom is an instance of its kind, and a combination is at a vertex that has a number
 abbrev pub IsEncoded : Problem → Numbering → List TermView → Origin → Type 0
 IsEncoded q vs ts (Axiom k) = (us : List Term) × IsInstance q (kind_at k) us × Says q vs ts us
-IsEncoded q vs ts (Combined i j n) = (v : Vertex) × (slice_get vs n ≡ Some v)
+IsEncoded q vs ts (Combined i j n w) = (v : Vertex) × (slice_get vs n ≡ Some v)
 
 abbrev pub AreEncoded : Problem → Numbering → List EntryView → Type 0
 AreEncoded q vs es = (id : ℕ) → id < length es → IsEncoded q vs (entry es id).terms (entry es id).origin
@@ -30,7 +30,7 @@ pub record IsNeeded (es : List EntryView) (last : ℕ) (ids : List ℕ) (place :
   pub rising : AllPairs (λ a b. a < b) ids
   pub within : (id : ℕ) → Contains ids id → id ≤ last
   pub fits : (id : ℕ) → Contains ids id → OriginFits es id (entry es id).terms (entry es id).origin
-  pub closed : (id i j n : ℕ) → Contains ids id → (entry es id).origin ≡ Combined i j n → Contains ids i × Contains ids j
+  pub closed : (id i j n : ℕ) (w : Bool) → Contains ids id → (entry es id).origin ≡ Combined i j n w → Contains ids i × Contains ids j
   pub placed : (k id : ℕ) → slice_get ids k ≡ Some id → place id ≡ k
   pub ends : (front : List ℕ) × (ids ≡ front ++ last ∷ [])
 
@@ -38,8 +38,8 @@ pub record IsNeeded (es : List EntryView) (last : ℕ) (ids : List ℕ) (place :
 abbrev pub IsBy : Numbering → (ℕ → ℕ) → Origin → Step → Type 0
 IsBy vs place (Axiom n) (given k ts) = k ≡ kind_at n
 IsBy vs place (Axiom n) (combine a b v ts) = ⊥
-IsBy vs place (Combined i j n) (given k ts) = ⊥
-IsBy vs place (Combined i j n) (combine a b v ts) = (a ≡ place i) × (b ≡ place j) × (slice_get vs n ≡ Some v)
+IsBy vs place (Combined i j n w) (given k ts) = ⊥
+IsBy vs place (Combined i j n w) (combine a b v ts) = (a ≡ place i) × (b ≡ place j) × (slice_get vs n ≡ Some v)
 
 -- the step says what the entry says, in any order
 pub record IsStepOf (q : Problem) (vs : Numbering) (place : ℕ → ℕ) (e : EntryView) (s : Step) : Type 0 where
@@ -59,7 +59,7 @@ vertex_or (Some v) = v
 
 abbrev pub step_by : Numbering → (ℕ → ℕ) → Origin → List Term → Step
 step_by vs place (Axiom n) ts = given (kind_at n) ts
-step_by vs place (Combined i j n) ts = combine (place i) (place j) (vertex_or (slice_get vs n)) ts
+step_by vs place (Combined i j n w) ts = combine (place i) (place j) (vertex_or (slice_get vs n)) ts
 
 abbrev pub step_of : Problem → Numbering → (ℕ → ℕ) → EntryView → Step
 step_of q vs place e = step_by vs place e.origin (terms_of q vs e.terms)

@@ -28,7 +28,7 @@ fn mark_parts(marks: &mut Vec<bool>, origin: Origin)
 {
     match origin {
         Origin::Axiom(_) => {}
-        Origin::Combined(first, second, _) => {
+        Origin::Combined { first, second, .. } => {
             marks[first.index()] = true;
             marks[second.index()] = true;
         }

@@ -61,14 +61,14 @@ nothing = record { terms = record { vertex = 0; states = [] } ∷ []; origin = A
 
 abbrev axiom_or : Origin → EntryView → EntryView
 axiom_or (Axiom k) e = e
-axiom_or (Combined i j v) e = nothing
+axiom_or (Combined i j v w) e = nothing
 
 abbrev axioms_of : List EntryView → List EntryView
 axioms_of es = map (λ e. axiom_or e.origin e) es
 
 axiom_kept : (o : Origin) (e : EntryView) → IsAxiom o → axiom_or o e ≡ e
 axiom_kept (Axiom k) e h = refl
-axiom_kept (Combined i j v) e h = absurd h
+axiom_kept (Combined i j v w) e h = absurd h
 
 axioms_at : (es : List EntryView) (id : ℕ) → id < length es → entry (axioms_of es) id ≡ axiom_or (entry es id).origin (entry es id)
 axioms_at [] id lt = absurd (omega (arith, lt))
@@ -152,7 +152,7 @@ module _ (q : Problem) (vs : Numbering) (asked : List Members) (es : List EntryV
       by (Axiom k) e =
           let ax : IsAxiom (entry es id).origin = subst IsAxiom (sym e) tt in
           none_broken id lt ax (subst (λ (x : EntryView). Breaks chosen (Rattle.incompatibilities.specs.Incompatibilities.states_at x.terms)) (at ∙ axiom_kept (entry es id).origin (entry es id) ax) breaks)
-      by (Combined i j v) e =
+      by (Combined i j v w) e =
           let same : entry (axioms_of es) id ≡ nothing = at ∙ ap (λ o. axiom_or o (entry es id)) e in
           let b : Breaks chosen (Rattle.incompatibilities.specs.Incompatibilities.states_at nothing.terms) = subst (λ (x : EntryView). Breaks chosen (Rattle.incompatibilities.specs.Incompatibilities.states_at x.terms)) same breaks in
           false≢true (b 0)

@@ -116,7 +116,7 @@ impl Order {
         let mut id = learned;
         'combinations: while id != conflict {
             match store.origin(id) {
-                Origin::Combined(first, second, _) => {
+                Origin::Combined { first, second, .. } => {
                     self.touch_all(store.get(second).terms())?;
                     id = first;
                 }

@@ -81,9 +81,9 @@ module _ (q : Problem) (vs : Numbering) (es : List EntryView) (place : ℕ → �
         by (Axiom k) e rest =
             let r : (us : List Term) × IsInstance q (kind_at k) us × Says q vs (entry es id).terms us = axiom_is id c k e in
             says_over q vs known ok (entry es id).terms r.0 r.2
-        by (Combined i j m) e rest =
-            let f : OriginFits es id (entry es id).terms (Combined i j m) = subst (OriginFits es id (entry es id).terms) e (needed.fits id c) in
-            let parts = needed.closed id i j m c e in
+        by (Combined i j m w) e rest =
+            let f : OriginFits es id (entry es id).terms (Combined i j m w) = subst (OriginFits es id (entry es id).terms) e (needed.fits id c) in
+            let parts = needed.closed id i j m w c e in
             over_combined q vs known ok m (entry es i).terms (entry es j).terms (entry es id).terms (rest i (omega (arith, f.0, lt)) parts.0) (rest j (omega (arith, f.1, lt)) parts.1) f.2
 
     over : (id : ℕ) → Contains ids id → IsOver q vs (entry es id).terms
@@ -102,8 +102,8 @@ module _ (q : Problem) (vs : Numbering) (es : List EntryView) (place : ℕ → �
       where
         by : (o : Origin) → (entry es id).origin ≡ o → IsEncoded q vs (entry es id).terms (entry es id).origin
         by (Axiom k) e = axioms id (within id c) (subst IsAxiom (sym e) tt)
-        by (Combined i j m) e =
-            let parts = needed.closed id i j m c e in
+        by (Combined i j m w) e =
+            let parts = needed.closed id i j m w c e in
             let v : (v : Vertex) × (slice_get vs m ≡ Some v) = vertex_of (entry es i).terms m (over i parts.0) (touching id i j m (within id c) e) in
             subst (IsEncoded q vs (entry es id).terms) (sym e) v
 
@@ -128,9 +128,9 @@ module _ (q : Problem) (vs : Numbering) (es : List EntryView) (place : ℕ → �
 
         by : (o : Origin) → (entry es id).origin ≡ o → AreThere vs place k o
         by (Axiom m) f = tt
-        by (Combined i j m) f =
-            let fits : OriginFits es id (entry es id).terms (Combined i j m) = subst (OriginFits es id (entry es id).terms) f (needed.fits id here) in
-            let parts = needed.closed id i j m here f in
+        by (Combined i j m w) f =
+            let fits : OriginFits es id (entry es id).terms (Combined i j m w) = subst (OriginFits es id (entry es id).terms) f (needed.fits id here) in
+            let parts = needed.closed id i j m w here f in
             let v : (v : Vertex) × (slice_get vs m ≡ Some v) = subst (IsEncoded q vs (entry es id).terms) f (encoded id here) in
             (earlier i k id parts.0 e fits.0, earlier j k id parts.1 e fits.1, v.0, v.1)
 

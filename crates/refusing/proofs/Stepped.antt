@@ -1,5 +1,5 @@
 -- A step with an entry's terms in the written order is one of the entry.
-use Rattle.std.proofs.Common.{◌≡◌, ℕ, List, Some, slice_get, refl, sym, subst}
+use Rattle.std.proofs.Common.{◌≡◌, ℕ, Bool, List, Some, slice_get, refl, sym, subst}
 use Rattle.incompatibilities.specs.Stores.{EntryView}
 use Rattle.incompatibilities.specs.declared.origin.Origin.{Origin}
 use Rattle.incompatibilities.specs.declared.origin.Origin.TheVariants.{Axiom, Combined}
@@ -33,5 +33,5 @@ module _ (vs : Numbering) (place : ℕ → ℕ) (o : Origin) (ts : List Term) wh
   pub by_axiom : (n : ℕ) (k : Kind) → o ≡ Axiom n → k ≡ kind_at n → IsStepWith vs place o ts (given k ts)
   by_axiom n k is same = record { by = subst (λ x. IsBy vs place x (given k ts)) (sym is) same; terms = refl }
 
-  pub by_parts : (i j m a b : ℕ) (v : Vertex) → o ≡ Combined i j m → a ≡ place i → b ≡ place j → slice_get vs m ≡ Some v → IsStepWith vs place o ts (combine a b v ts)
-  by_parts i j m a b v is first second there = record { by = subst (λ x. IsBy vs place x (combine a b v ts)) (sym is) (first, second, there); terms = refl }
+  pub by_parts : (i j m a b : ℕ) (w : Bool) (v : Vertex) → o ≡ Combined i j m w → a ≡ place i → b ≡ place j → slice_get vs m ≡ Some v → IsStepWith vs place o ts (combine a b v ts)
+  by_parts i j m a b w v is first second there = record { by = subst (λ x. IsBy vs place x (combine a b v ts)) (sym is) (first, second, there); terms = refl }

@@ -39,7 +39,7 @@ AreReadVertices vs = AllByRecursion IsReadVertex vs
 -- the two that are combined have their places below a number, and the vertex is one
 abbrev pub AreThere : Numbering → (ℕ → ℕ) → ℕ → Origin → Type 0
 AreThere vs place n (Axiom k) = Unit {0}
-AreThere vs place n (Combined i j m) = (place i < n) × (place j < n) × (v : Vertex) × (slice_get vs m ≡ Some v)
+AreThere vs place n (Combined i j m w) = (place i < n) × (place j < n) × (v : Vertex) × (slice_get vs m ≡ Some v)
 
 -- an entry whose step can come after so many
 pub record IsNext (q : Problem) (vs : Numbering) (es : List EntryView) (place : ℕ → ℕ) (n id : ℕ) : Type 0 where

@@ -65,7 +65,12 @@ fn push_by<'a>(
 {
     match origin {
         Origin::Axiom(number) => steps.push_axiom(alloc, kind_at(number), terms),
-        Origin::Combined(first, second, number) => match table.vertex(number) {
+        Origin::Combined {
+            first,
+            second,
+            vertex: number,
+            ..
+        } => match table.vertex(number) {
             Some(vertex) => {
                 let first = place_of(places, first);
                 let second = place_of(places, second);

@@ -1,8 +1,9 @@
 //! Combinations and stores: what they hold is written down as numbers.
 
 ghost use Rattle.incompatibilities.specs.Incompatibilities.{LiesIn, states_at};
+ghost use Rattle.incompatibilities.specs.declared.origin.Origin.TheVariants.{Combined};
 ghost use Rattle.search_tests.specs.Spaces.{space};
-ghost use Rattle.std.specs.Prelude.{◌≡◌, IfOk, length};
+ghost use Rattle.std.specs.Prelude.{◌≡◌, IfOk, length, true};
 ghost use Rattle.terms.specs.Terms.{terms_view};
 
 use crate::sets::{set_of, write_set};
@@ -35,6 +36,18 @@ fn two_terms<S: States + Drop>(
     Ok(Incompatibility::new(terms))
 }
 
+/// The origin of the combination of two entries at a vertex.
+fn combined(first: Id, second: Id, vertex: usize) -> Origin
+    ensures { result ≡ Combined first second vertex true }
+{
+    Origin::Combined {
+        first,
+        second,
+        vertex,
+        watched: true,
+    }
+}
+
 /// Two axioms, and their combination at vertex 1.
 fn three_entries<S: States + Drop>(alloc: Global) -> Result<Store<S>, AllocError> {
     let a = two_terms(alloc, &[1], &[0, 2])?;
@@ -43,7 +56,7 @@ fn three_entries<S: States + Drop>(alloc: Global) -> Result<Store<S>, AllocError
     let mut store = Store::new(alloc);
     let first = store.add(a, Origin::Axiom(1))?;
     let second = store.add(b, Origin::Axiom(2))?;
-    store.add(made, Origin::Combined(first, second, 1))?;
+    store.add(made, combined(first, second, 1))?;
     Ok(store)
 }
 
@@ -77,7 +90,7 @@ fn has_origin<S: States + Drop>(store: &Store<S>, place: usize, origin: Origin) 
 /// Whether the three entries came from where they were said to come from.
 fn have_origins<S: States + Drop>(alloc: Global) -> Result<bool, AllocError> {
     let store: Store<S> = three_entries(alloc)?;
-    let made = Origin::Combined(Id::new(0), Id::new(1), 1);
+    let made = combined(Id::new(0), Id::new(1), 1);
     Ok(
         has_origin(&store, 0, Origin::Axiom(1))
             & has_origin(&store, 1, Origin::Axiom(2))

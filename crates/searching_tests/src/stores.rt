@@ -100,7 +100,13 @@ fn write_entry<S: States + Drop>(
     incompatibility: &Incompatibility<S>,
     origin: Origin,
 ) -> Result<(), AllocError> {
-    if let Origin::Combined(first, second, vertex) = origin {
+    if let Origin::Combined {
+        first,
+        second,
+        vertex,
+        ..
+    } = origin
+    {
         out.push(first.index())?;
         out.push(second.index())?;
         out.push(vertex)?;

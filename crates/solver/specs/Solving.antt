@@ -27,7 +27,7 @@ IsSolved q (Unsolvable derivation) = IsRefused q derivation
 
 abbrev pub is_given : Origin → Bool
 is_given (Axiom kind) = true
-is_given (Combined i j v) = false
+is_given (Combined i j v w) = false
 
 -- how many entries of a store are axioms
 abbrev pub axioms : List EntryView → ℕ

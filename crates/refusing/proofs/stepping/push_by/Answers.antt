@@ -44,7 +44,7 @@ returns-in-Some c =
     (λ e. (
       combine c.place_of-first.result c.place_of-second.result v ts,
       e,
-      by_parts c.args.table.now place c.args.origin ts c.in-Combined.first c.in-Combined.second c.in-Combined.number c.place_of-first.result c.place_of-second.result v c.in-Combined.is c.place_of-first.ensures c.place_of-second.ensures seen,
+      by_parts c.args.table.now place c.args.origin ts c.in-Combined.first c.in-Combined.second c.in-Combined.number c.place_of-first.result c.place_of-second.result _ v c.in-Combined.is c.place_of-first.ensures c.place_of-second.ensures seen,
     ))
     c.push_combination.ensures.ok
 
