@@ -1,3 +1,4 @@
 pub mod Ends
 pub mod Led
 pub mod Put
+pub mod Left

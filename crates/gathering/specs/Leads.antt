@@ -16,15 +16,16 @@ use Rattle.encoding.specs.Assignments.{IsOf, state_of}
 use Rattle.encoding.specs.Inputs.{problem}
 use Rattle.encoding.specs.Numberings.{Numbering}
 use Rattle.encoding.specs.declared.inputs.Inputs.{Inputs}
-use Rattle.guiding.specs.Guides.{final_of}
+use Rattle.guiding.specs.Guides.{IsDone, final_of}
 
 -- the states of vertices at the end
 abbrev pub ends : Inputs → Numbering → TrailView → Vertex → State
 ends i vs t = state_of (problem i) vs (final_of t)
 
--- the states that a content gives to vertices with numbers are left
-abbrev pub IsLeft : Problem → Numbering → Content → TrailView → Type 0
-IsLeft q vs content t = (x : Assignment) → IsOf q vs content x → Agrees x t.sets
+-- the states that a content gives to vertices with numbers are left, alone where absent isn't left
+pub record IsLeft (q : Problem) (vs : Numbering) (content : Content) (t : TrailView) : Type 0 where
+  pub alone : IsDone t
+  pub agrees : (x : Assignment) → IsOf q vs content x → Agrees x t.sets
 
 -- no instance is broken at the end, and each vertex with a number is on the trail
 pub record HasEnded (i : Inputs) (vs : Numbering) (t : TrailView) : Type 0 where

@@ -9,6 +9,7 @@ ghost use Rattle.encoding.specs.Assignments.{state_of};
 ghost use Rattle.encoding.specs.Inputs.{problem};
 ghost use Rattle.guiding.specs.Guides.{final_of};
 ghost use Rattle.reaching.specs.Built.{HasBareRoot};
+ghost use Rattle.reaching.specs.Followed.{IsBrought};
 ghost use Rattle.gathering.specs.Leads.{IsLeft};
 
 use crate::meeting::{Met, meet};
@@ -18,12 +19,15 @@ use encoding::{Inputs, Table};
 use facts::facts_of;
 use lockfile::LockContent;
 use propagation::Trail;
-use reaching::{built_contents_select, built_roots_have_no_checksum, packages_are_a_graph};
+use reaching::{
+    built_contents_follow, built_contents_select, built_roots_have_no_checksum,
+    packages_are_a_graph,
+};
 use std::alloc::{AllocError, Global};
 use version_sets::States;
 
 /// The content that a search selected, in package order: what the root reaches in the states that it ended in. Where a
-/// valid selection is left in the end, it is that one.
+/// valid selection is left in the end, it is that one, if the root alone brings all of it.
 ///
 /// The only error is want of memory.
 pub fn content<'a, S: States + Drop>(
@@ -36,12 +40,13 @@ pub fn content<'a, S: States + Drop>(
     requires unbroken { IsUnbroken (problem inputs.now) (state_of (problem inputs.now) table.now (final_of (trail_view S.tests trail.now))) }
     ensures selection { IfOk result (λ c. IsValidSelection (problem inputs.now) c) }
     ensures root { IfOk result (λ c. HasBareRoot (problem inputs.now) c) }
-    ensures followed { IfOk result (λ c. (w : Content) → IsValidSelection (problem inputs.now) w → HasBareRoot (problem inputs.now) w → IsLeft (problem inputs.now) table.now w (trail_view S.tests trail.now) → c ≡ w) }
+    ensures followed { IfOk result (λ c. (w : Content) → IsValidSelection (problem inputs.now) w → HasBareRoot (problem inputs.now) w → IsBrought (problem inputs.now) w → IsLeft (problem inputs.now) table.now w (trail_view S.tests trail.now) → c ≡ w) }
 {
     catalogues_are_well_formed(inputs.manifest, inputs.catalogue);
     packages_are_a_graph();
     built_contents_select();
     built_roots_have_no_checksum();
+    built_contents_follow();
     let Met { stops, nodes } = meet(alloc, inputs, table, trail)?;
     let facts = facts_of(alloc, nodes.as_slice(), 0)?;
     content_of(

@@ -8,6 +8,7 @@ use Rattle.reaching.specs.Nodes.{AreFlags, AreMet}
 use Rattle.encoding.specs.Inputs.{problem}
 use Rattle.contents.specs.Contents.{owners_of}
 use Rattle.gathering.specs.Leads.{ends}
+use Rattle.gathering.proofs.Left.{agrees_with}
 use Rattle.gathering.proofs.selected.content.Goals as goal
 
 pub meet-requires : goal.meet-requires
@@ -45,4 +46,21 @@ returns-clause-root g c =
     let lists = map (λ v. v.items) c.in_ok-facts.facts.enabled.items in
     IfOk-weaker c.content_of.result (λ x. IsBuilt owners nodes lists q here x) _
     (λ x built. c.built_roots_have_no_checksum.ensures q owners nodes here lists x built)
+    (rw (c.as_slice-2.ensures.keys, c.as_slice-3.ensures.value) at c.content_of.ensures)
+
+pub returns-clause-followed : goal.returns-clause-followed
+returns-clause-followed g c =
+    let i = c.args.inputs.now in
+    let q = problem i in
+    let vs = c.args.table.now in
+    let t = trail_view g.S.States.tests c.args.trail.now in
+    let st = ends i vs t in
+    let nodes = node_views c.in_ok-stops.field-0.nodes.items in
+    let owners = owners_of i.catalogue.now c.in_ok-stops.field-0.stops.keys in
+    let here = c.in_ok-facts.facts.here.items in
+    let lists = map (λ v. v.items) c.in_ok-facts.facts.enabled.items in
+    let met : AreMet q (LeadsTo q st) owners nodes = c.in_ok-stops.ensures.met in
+    let flags : AreFlags nodes here lists = record { each_here = rw c.as_slice.ensures.value at c.in_ok-facts.ensures.here; each_enabled = rw c.as_slice.ensures.value at c.in_ok-facts.ensures.enabled } in
+    IfOk-weaker c.content_of.result (λ x. IsBuilt owners nodes lists q here x) _
+    (λ x built w valid bare brought left. c.built_contents_follow.ensures q st owners nodes here lists x w refl c.requires.unbroken met flags built valid bare brought (agrees_with q vs w t c.requires.whole valid left))
     (rw (c.as_slice-2.ensures.keys, c.as_slice-3.ensures.value) at c.content_of.ensures)
