@@ -63,7 +63,7 @@ Follows g x = (content : Content) × (g.follows ≡ Some content) × IsValidSele
 abbrev pub IsFollowed : Problem → Option Content → Vertex → Members → Option ℕ → Type 0
 IsFollowed q follows v left o = (content : Content) (i : ℕ) → follows ≡ Some content → i < length (space q v) → Assigns q content v (state_at q v i) → has left i ≡ true → has left 0 ≡ false → o ≡ Some i
 
--- absent asks for nothing; it is the one state of a vertex with one state
+-- absent counts as asked for (the root's instance there is stored from the start); a vertex with one state has this one
 abbrev pub asked_of : List Members → Pairs
 asked_of asked v i = (i == 0) || has (set_of asked v) i
 
@@ -81,7 +81,7 @@ late_with g = late_of g.problem (known g.vertices g.asked)
 abbrev pub left_with : EncodedView → ℕ
 left_with g = open_of g.problem (asked_at g.vertices g.asked)
 
--- each vertex that has lost absent has one state
+-- no vertex is to be decided: each that can no longer be absent has one state at most
 abbrev pub IsDone : TrailView → Type 0
 IsDone t = (v : ℕ) → v < length t.sets → has (set_of t.sets v) 0 ≡ false → size (set_of t.sets v) ≤ 1
 

@@ -1,4 +1,4 @@
-//! Which state a vertex is decided for.
+//! The least and the greatest state that is left to a vertex, and whether it is to be decided.
 
 ghost use Rattle.std.specs.Prelude.{◌≡◌, ◌<◌, ◌≤◌, true, false};
 ghost use Rattle.std.specs.Bool.{OnFalse, OnTrue};

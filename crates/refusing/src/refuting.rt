@@ -43,7 +43,8 @@ fn steps_of<'a, S: States + Drop>(
     Ok(steps)
 }
 
-/// Why there is no selection: the entries that one without terms comes from, as an accepted derivation, each once.
+/// Why there is no selection: an accepted derivation, with one step for `last`, which has no terms, and for each entry
+/// that it comes from.
 ///
 /// It takes time and memory in proportion to the entry's place and to what those entries say.
 pub fn refusal<'a, S: States + Drop>(

@@ -131,7 +131,7 @@ module _ {S : Type 0} (calls : Calls S) (failed : S → ℕ) (request : RequestV
     pub read : AreRead calls failed request before inputs after
     pub is : IsAnswer request inputs answer
 
-  -- the old lock isn't valid, and there is no answer
+  -- all inputs were read and no old lock holds, but there is no answer
   pub record IsUnanswered (f : Fault) (after : S) : Type 0 where
     pub inputs : Inputs
     pub read : AreRead calls failed request before inputs after

@@ -35,13 +35,13 @@ abbrev pub HasEnded : Type 0 → Pairs → List EntryView → TrailView → Answ
 HasEnded done asked es t Selection = done × AllAsked asked t.sets × Stops es t.sets Fixpoint
 HasEnded done asked es t (Unsolvable id) = IsRefutation es id
 
--- the number is below one
+-- the search goes on, and the number that falls with each turn is below what it was
 pub record HasFallen (before : ℕ) (asked : Pairs) (left late : ℕ) (es : List EntryView) (new : TrailView) (next : Progress) : Type 0 where
   pub searching : IsSearching late es new next
   pub caught : IsCaught asked new
   pub falls : space late new + left < before
 
--- the search goes on
+-- the same, and how many places were looked at
 pub record HasGone (before : ℕ) (asked : Pairs) (left late seen : ℕ) (es : List EntryView) (new : TrailView) (next : Progress) : Type 0 where
   pub fallen : HasFallen before asked left late es new next
   pub seen_is : IsSeen seen asked new

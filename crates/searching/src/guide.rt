@@ -79,7 +79,8 @@ pub trait Guide<S: States + Drop>: Sized {
     /// Tells that a conflict was resolved, and the trail cut, before what was learned is propagated. `learned` is
     /// `conflict` or the combination of an entry and a cause; that entry is again `conflict` or such a combination.
     ///
-    /// What is kept of it may change what is chosen, and nothing that the other clauses speak of.
+    /// What is kept of it may change what is chosen. The vertices stay, and so does how many pairs are left; fewer
+    /// places may count as looked at.
     fn noted(
         &mut self,
         trail: &Trail<S>,

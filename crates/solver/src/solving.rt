@@ -28,7 +28,7 @@ use searching::Answer;
 use std::alloc::{AllocError, Global};
 use version_sets::{States, WordStates};
 
-/// What there is.
+/// What solving comes to.
 #[derive(Drop)]
 pub enum Outcome {
     /// A valid selection.
@@ -43,7 +43,7 @@ pub struct Solved {
     pub outcome: Outcome,
     /// The assignments that there ever were, the conflicts that were resolved, and the combinations that these took.
     pub steps: u64,
-    /// The instances of axioms that it needed.
+    /// The instances of axioms that came into its store.
     pub axioms: usize,
 }
 
