@@ -1,4 +1,5 @@
 pub mod Faults
+pub mod Texts
 pub mod Inputs
 pub mod Same
 pub mod Answers

@@ -61,6 +61,11 @@ pub enum CheckFault {
 }
 
 impl fmt::Display for Fault {
+    ghost use Rattle.std.specs.Prelude.{Some};
+    ghost use Rattle.resolver.specs.Texts.{fault_text};
+
+    ghost output = { λ fault. Some (fault_text fault) };
+
     fn fmt<W: fmt::Write>(&self, f: &mut fmt::Formatter<W>) -> fmt::Result {
         match self {
             Fault::OutOfMemory => f.write_str("fault 1 OutOfMemory"),
@@ -85,6 +90,11 @@ impl fmt::Display for Fault {
 }
 
 impl fmt::Display for TooLarge {
+    ghost use Rattle.std.specs.Prelude.{Some};
+    ghost use Rattle.resolver.specs.Texts.{large_text};
+
+    ghost output = { λ fault. Some (large_text fault) };
+
     fn fmt<W: fmt::Write>(&self, f: &mut fmt::Formatter<W>) -> fmt::Result {
         match self {
             TooLarge::Manifest => f.write_str("manifest"),
@@ -95,10 +105,24 @@ impl fmt::Display for TooLarge {
 }
 
 impl fmt::Display for CheckFault {
+    ghost use Rattle.std.specs.Prelude.{Some};
+    ghost use Rattle.resolver.specs.Texts.{check_fault_text};
+
+    ghost output = { λ fault. Some (check_fault_text fault) };
+
     fn fmt<W: fmt::Write>(&self, f: &mut fmt::Formatter<W>) -> fmt::Result {
         match self {
             CheckFault::Input(fault) => write!(f, "{fault}"),
-            CheckFault::Proof(fault) => write!(f, "fault {fault}"),
+            CheckFault::Proof(DerivationFault::OutOfMemory) => f.write_str("fault out of memory"),
+            CheckFault::Proof(DerivationFault::NotALine(line)) => {
+                write!(f, "fault K1 NotALine at line {line}")
+            }
+            CheckFault::Proof(DerivationFault::Forward(line)) => {
+                write!(f, "fault K2 Forward at line {line}")
+            }
+            CheckFault::Proof(DerivationFault::TooMany(line)) => {
+                write!(f, "fault K3 TooMany at line {line}")
+            }
         }
     }
 }
