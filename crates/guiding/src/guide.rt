@@ -221,7 +221,7 @@ impl<'a, S: States + Drop> Guide<S> for Encoded<'a, S> {
                 Ok(true)
             }
             None => {
-                self.order.follow(trail)?;
+                self.order.follow(trail, self.asked.len())?;
                 self.next = self.order.next(trail, self.asked.len())?;
                 Ok(false)
             }
@@ -250,12 +250,11 @@ impl<'a, S: States + Drop> Guide<S> for Encoded<'a, S> {
     fn noted(
         &mut self,
         trail: &Trail<S>,
-        store: &Store<S>,
-        conflict: Id,
-        learned: Id,
+        _store: &Store<S>,
+        _conflict: Id,
+        _learned: Id,
     ) -> Result<(), AllocError> {
         self.order.cut(trail.places())?;
-        self.order.learn(store, conflict, learned)?;
         if trail.places() < self.seen {
             self.seen = trail.places();
         }

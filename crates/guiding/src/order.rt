@@ -1,26 +1,14 @@
-//! Which vertex is decided next: by what it had to do with conflicts lately, then by number.
+//! Which vertex is decided next: the first undecided one by number.
 
-ghost use Rattle.std.specs.Prelude.{◌≡◌, ◌<◌, IfOk, IfSome, length};
-ghost use Rattle.incompatibilities.specs.Stores.{entries_view};
+ghost use Rattle.std.specs.Prelude.{◌≡◌, length};
 ghost use Rattle.propagation.specs.Promises.{IsSound};
 ghost use Rattle.propagation.specs.Trails.{trail_view};
 
 use crate::choosing::is_undecided;
-use incompatibilities::{Id, Origin, Store};
 use propagation::Trail;
 use std::alloc::{AllocError, Global};
 use std::collections::BinaryHeap;
-use terms::Term;
 use version_sets::States;
-
-/// A vertex that may have to be decided, the next one the greatest.
-#[derive(Clone, Copy, PartialEq, Eq, PartialOrd, Ord)]
-struct Candidate {
-    /// The conflict that it last had to do with, counted from 1; 0 for none.
-    conflict: u64,
-    /// How far its number is from the greatest one.
-    from_end: usize,
-}
 
 /// A vertex that was taken from the candidates, and how many places the trail had then.
 #[derive(Clone, Copy)]
@@ -32,36 +20,49 @@ struct Taken {
 /// The vertices that may have to be decided, in order. It only helps to find one soon: nothing rests on what it says.
 #[derive(Drop)]
 pub(crate) struct Order {
-    candidates: BinaryHeap<Candidate>,
-    /// Of each vertex the conflict that it last had to do with; 0 past the end.
-    lately: Vec<u64>,
+    /// How far the number of each is from the greatest one, so the first vertex is the greatest candidate.
+    candidates: BinaryHeap<usize>,
+    /// Whether each vertex is a candidate; false past the end.
+    waiting: Vec<bool>,
     /// The latest last.
     taken: Vec<Taken>,
     /// Of so many places of the trail the vertex was looked at.
     followed: usize,
-    /// How many conflicts there were.
-    conflicts: u64,
+}
+
+/// Makes flags for the vertices up to one.
+fn reach(flags: &mut Vec<bool>, vertex: usize) -> Result<(), AllocError> {
+    'vertices: while flags.len() <= vertex {
+        flags.push(false)?;
+    }
+    Ok(())
 }
 
 impl Order {
-    /// The order before any conflict, without candidates.
+    /// The order of a trail without places: no candidates.
     pub(crate) fn new(alloc: Global) -> Order {
         Order {
             candidates: BinaryHeap::new(alloc),
-            lately: Vec::new(alloc),
+            waiting: Vec::new(alloc),
             taken: Vec::new(alloc),
             followed: 0,
-            conflicts: 0,
         }
     }
 
     /// Takes the vertices of places that came since as candidates, where they are undecided.
-    pub(crate) fn follow<S: States + Drop>(&mut self, trail: &Trail<S>) -> Result<(), AllocError>
-        requires { IsSound (trail_view S.tests trail.now) }
+    pub(crate) fn follow<S: States + Drop>(
+        &mut self,
+        trail: &Trail<S>,
+        vertices: usize,
+    ) -> Result<(), AllocError>
+        requires sound { IsSound (trail_view S.tests trail.now) }
+        requires vertices { vertices ≡ length (trail_view S.tests trail.now).sets }
     {
         'places: while self.followed < trail.places() {
             let vertex = trail.vertex_at(self.followed);
-            self.put(vertex)?;
+            if vertex < vertices && is_undecided(trail.states(vertex)) {
+                self.put(vertex)?;
+            }
             self.followed += 1;
         }
         Ok(())
@@ -75,13 +76,18 @@ impl Order {
     ) -> Result<Option<usize>, AllocError>
         requires { vertices ≡ length (trail_view S.tests trail.now).sets }
     {
-        'candidates: while let Some(candidate) = self.candidates.pop() {
-            let vertex = usize::MAX - candidate.from_end;
-            let places = trail.places();
-            self.taken.push(Taken { vertex, places })?;
+        'candidates: while let Some(from_end) = self.candidates.pop() {
+            let vertex = usize::MAX - from_end;
+            if let Some(waiting) = self.waiting.get_mut(vertex) {
+                *waiting = false;
+            }
             if vertex < vertices && is_undecided(trail.states(vertex)) {
+                // It stays one until it is decided.
+                self.put(vertex)?;
                 return Ok(Some(vertex));
             }
+            let places = trail.places();
+            self.taken.push(Taken { vertex, places })?;
         }
         Ok(None)
     }
@@ -101,60 +107,19 @@ impl Order {
         Ok(())
     }
 
-    /// The vertices of a conflict, and of the entries that what was learned of it is combined of, come first from now on.
-    pub(crate) fn learn<S: States + Drop>(
-        &mut self,
-        store: &Store<S>,
-        conflict: Id,
-        learned: Id,
-    ) -> Result<(), AllocError>
-        requires conflict { conflict < length (entries_view S.tests store.now) }
-        requires learned { learned < length (entries_view S.tests store.now) }
-    {
-        self.conflicts = self.conflicts.saturating_add(1);
-        self.touch_all(store.get(conflict).terms())?;
-        let mut id = learned;
-        'combinations: while id != conflict {
-            match store.origin(id) {
-                Origin::Combined { first, second, .. } => {
-                    self.touch_all(store.get(second).terms())?;
-                    id = first;
-                }
-                Origin::Axiom(_) => return Ok(()),
-            }
-        }
-        Ok(())
-    }
-
-    /// Each of the vertices has to do with the latest conflict.
-    fn touch_all<S: States>(&mut self, terms: &[Term<S>]) -> Result<(), AllocError> {
-        'terms: for term in terms.iter() {
-            self.touch(term.vertex)?;
-        }
-        Ok(())
-    }
-
-    fn touch(&mut self, vertex: usize) -> Result<(), AllocError> {
-        'vertices: while self.lately.len() <= vertex {
-            self.lately.push(0)?;
-        }
-        if let Some(lately) = self.lately.get_mut(vertex) {
-            *lately = self.conflicts;
-        }
-        self.put(vertex)
-    }
-
-    /// One candidate more.
+    /// One candidate more, unless it is one.
     fn put(&mut self, vertex: usize) -> Result<(), AllocError>
         ensures followed { self.new.followed ≡ self.old.followed }
         ensures taken { self.new.taken ≡ self.old.taken }
     {
-        let conflict = match self.lately.get(vertex) {
-            Some(conflict) => *conflict,
-            None => 0,
-        };
-        let from_end = usize::MAX - vertex;
-        match self.candidates.push(Candidate { conflict, from_end }) {
+        reach(&mut self.waiting, vertex)?;
+        if let Some(waiting) = self.waiting.get_mut(vertex) {
+            if *waiting {
+                return Ok(());
+            }
+            *waiting = true;
+        }
+        match self.candidates.push(usize::MAX - vertex) {
             Ok(()) => Ok(()),
             Err(_) => Err(AllocError),
         }

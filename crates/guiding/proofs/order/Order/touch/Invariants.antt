@@ -1,5 +1,0 @@
-use Rattle.std.proofs.Common.{length, ◌-◌, ◌+◌}
-use Rattle.guiding.proofs.order.Order.touch.Given as goal
-
-abbrev pub decreases-vertices : goal.decreases-vertices
-decreases-vertices l = l.vertex + 1 - length l.self.lately.items
