@@ -21,6 +21,8 @@ use Rattle.encoding.specs.declared.inputs.Inputs.{Inputs}
 use Rattle.searching.specs.Searching.{AreTouching, HasSpaces, IsSeen}
 use Rattle.searching.specs.Walking as walking
 use Rattle.searching.specs.Walking.{IsWalked}
+use Rattle.searching.specs.Counting.{combinations}
+use Rattle.searching.proofs.Counts.{counts_axioms}
 use Rattle.searching.proofs.Guides.{spaces_wider}
 use Rattle.searching.proofs.Touching.{touching_axioms}
 use Rattle.guiding.specs.Guides.{CanFollow, Follows, HasBegun, IsCome, IsEncoding, IsOfInstance, IsPut, as_entry, asked_of, encoded_view, with_given}
@@ -69,6 +71,7 @@ begun i follows put vs n asked t wide more given encoding can at come whole bare
   seen = seen_first asked (map as_entry given) wide now;
   given = instances;
   touching = touches_all;
+  uncombined = none_combined;
   stored = record { root_is = root_put; pairs = λ u j v h e. absurd (false≢true (sym (ap (λ (l : List Members). has (set_of l u) j) come.sets ∙ past_none come.came u j) ∙ h)) };
   follows_is = refl;
   can_follow = can;
@@ -101,12 +104,18 @@ begun i follows put vs n asked t wide more given encoding can at come whole bare
     root_put : IsPut (problem i) vs (map as_entry given) (root, absent)
     root_put c there first = given_of (problem i) vs root_given.causes given c root_given.given ((root_given.are.listed c).1 (there, first))
 
+    are_axioms : (id : ℕ) → id < length (map as_entry given) → IsAxiom (entry (map as_entry given) id).origin
+    are_axioms id lt = subst IsAxiom (sym (given_at (problem i) vs root_given.causes given id root_given.given lt).origin) tt
+
     touches_all : AreTouching (map as_entry given)
-    touches_all = touching_axioms [] (map as_entry given) (map as_entry given) refl
-        (λ id lt. subst IsAxiom (sym (given_at (problem i) vs root_given.causes given id root_given.given lt).origin) tt)
+    touches_all = touching_axioms [] (map as_entry given) (map as_entry given) refl are_axioms
         (λ id j k v lt e. absurd (omega (arith, lt)))
 
+    none_combined : combinations (map as_entry given) ≡ 0
+    none_combined = let few = counts_axioms [] (map as_entry given) (map as_entry given) refl are_axioms 0 0 (omega arith) in omega (arith, few)
+
     walks : (x : Assignment) → Follows (encoded_view (problem i) vs asked 0 follows) x → IsWalked x (map as_entry given) wide
-    walks x f =
-        (more_unbroken (problem i) vs f.0 x f.3 (root, absent) [] (map as_entry given) given encoding.catalogue f.2 root_given refl (λ id lt broken. omega (arith, lt)),
-        wider_agrees (problem i) vs f.0 x f.3 asked come.came t wide encoding.spaces spaced come.wider (λ u lt. absurd (omega (arith, lt, bare))))
+    walks x f = (
+      more_unbroken (problem i) vs f.0 x f.3 (root, absent) [] (map as_entry given) given encoding.catalogue f.2 root_given refl (λ id lt broken. omega (arith, lt)),
+      wider_agrees (problem i) vs f.0 x f.3 asked come.came t wide encoding.spaces spaced come.wider (λ u lt. absurd (omega (arith, lt, bare))),
+    )

@@ -22,6 +22,7 @@ use Rattle.encoding.specs.Inputs.{KnowsDefault, problem}
 use Rattle.encoding.specs.Numberings.{IsGrown, IsNumbering, Numbering, Says, number_in}
 use Rattle.encoding.specs.Pairs.{Given, IsGivenAt, Pair, first_pair}
 use Rattle.encoding.specs.declared.inputs.Inputs.{Inputs}
+use Rattle.searching.specs.Counting.{combinations}
 use Rattle.searching.specs.Searching.{AreTouching, HasSpaces, IsOnly, IsRefutation, IsSeen, Pairs}
 use Rattle.searching.specs.declared.turns.Answer.{Answer}
 use Rattle.searching.specs.declared.turns.Answer.TheVariants.{Selection, Unsolvable}
@@ -187,6 +188,7 @@ pub record HasBegun (q : Problem) (follows : Option Content) (g : EncodedView) (
   pub seen : IsSeen g.seen (asked_of g.asked) t
   pub given : walking.AreGiven (IsOfInstance g.problem g.vertices) es
   pub touching : AreTouching es
+  pub uncombined : combinations es ≡ 0
   pub stored : AreStored g.problem g.vertices g.asked es
   pub follows_is : g.follows ≡ follows
   pub can_follow : CanFollow g.problem g.follows

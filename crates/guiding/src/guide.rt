@@ -103,6 +103,13 @@ impl<'a, S: States + Drop> Encoded<'a, S> {
         &self.table
     }
 
+    /// The content that is followed.
+    pub fn into_followed(self) -> Option<LockContent>
+        ensures { result ≡ self.entry.follows }
+    {
+        self.follows
+    }
+
     /// A law, the call does nothing: the vertices have one number each, and those on the trail their own states.
     pub fn is_kept(&self)
         ensures numbering { IsNumbering self.now.problem self.now.vertices }

@@ -1,9 +1,10 @@
 //! A search over a manifest and a loaded index, for any set of states.
 
-ghost use Rattle.std.specs.Prelude.{◌≡◌, IfOk};
+ghost use Rattle.std.specs.Prelude.{◌≡◌, [], IfOk};
 ghost use Rattle.incompatibilities.specs.Stores.{entries_view};
 ghost use Rattle.propagation.specs.Trails.{trail_view};
 ghost use Rattle.encoding.specs.Inputs.{KnowsDefault, problem};
+ghost use Rattle.searching.specs.Counting.{IsCount};
 ghost use Rattle.guiding.specs.Guides.{CanFollow, HasSearched};
 
 use crate::guide::Encoded;
@@ -39,6 +40,8 @@ pub fn search_over<'a, S: States + Drop>(
     requires follows { CanFollow (problem inputs) follows }
     ensures follows { IfOk result (λ r. r.guide.follows ≡ follows) }
     ensures searched { IfOk result (λ r. HasSearched (problem inputs.entry) r.guide (trail_view S.tests r.trail) (entries_view S.tests r.store) r.found.answer) }
+    // There are at least as many steps as combinations.
+    ensures counted { IfOk result (λ r. IsCount [] (entries_view S.tests r.store) (trail_view S.tests r.trail) r.found.steps) }
 {
     let mut store = Store::new(alloc);
     let mut trail = Trail::new(alloc, &[])?;

@@ -4,3 +4,4 @@ pub mod NewTerms
 pub mod Sized
 pub mod Places
 pub mod Stepped
+pub mod Counted

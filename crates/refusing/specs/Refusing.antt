@@ -1,5 +1,5 @@
 -- What is asked of a store's entry, so that its step can be put at the end of a derivation, and its terms on the way.
-use Rattle.std.specs.Prelude.{◌≡◌, ℕ, ◌<◌, List, length, map, Some, slice_get}
+use Rattle.std.specs.Prelude.{◌≡◌, ℕ, suc, ◌<◌, ◌≤◌, Bool, true, false, List, [], ◌∷◌, if◌then◌else◌, length, map, Some, slice_get}
 use Rattle.std.specs.List.{AllByRecursion}
 use Rattle.terms.specs.Terms.{TermView}
 use Rattle.incompatibilities.specs.Stores.{EntryView, IsAxiom, entry}
@@ -8,13 +8,14 @@ use Rattle.incompatibilities.specs.declared.origin.Origin.TheVariants.{Axiom, Co
 use Rattle.model.specs.Content.{Problem}
 use Rattle.model.specs.Vertices.{Vertex}
 use Rattle.model.specs.Axioms.{Term, at}
-use Rattle.model.specs.Derivation.{Step}
+use Rattle.model.specs.Derivation.{Step, given, combine}
 use Rattle.model.specs.Derivation as model
 use Rattle.vertices.specs.RefViews.{vertex_ref_view, state_ref_views}
 use Rattle.vertices.specs.Texts.{IsReadVertex}
 use Rattle.encoding.specs.Numberings.{Numbering}
 use Rattle.decoding.specs.Decoding.{IsOver, sizes}
 use Rattle.decoding.specs.Steps.{IsBy, IsEncoded}
+use Rattle.searching.specs.Counting.{combinations}
 use Rattle.refusing.specs.declared.speaking.Spoken.{Spoken}
 
 -- each axiom of a store is an instance of its kind
@@ -51,3 +52,32 @@ pub record IsNext (q : Problem) (vs : Numbering) (es : List EntryView) (place : 
 pub record IsStepWith (vs : Numbering) (place : ℕ → ℕ) (o : Origin) (ts : List Term) (s : Step) : Type 0 where
   pub by : IsBy vs place o s
   pub terms : model.terms_of s ≡ ts
+
+-- ---- counts
+
+abbrev pub is_given : Origin → Bool
+is_given (Axiom kind) = true
+is_given (Combined i j v) = false
+
+-- how many entries of a store are axioms
+abbrev pub axioms : List EntryView → ℕ
+axioms [] = 0
+axioms (e ∷ es) = if is_given e.origin then suc (axioms es) else axioms es
+
+abbrev pub is_given_step : Step → Bool
+is_given_step (given k ts) = true
+is_given_step (combine a b v ts) = false
+
+-- how many steps of a derivation are axioms, and how many combine two others
+abbrev pub axioms_of : List Step → ℕ
+axioms_of [] = 0
+axioms_of (s ∷ steps) = if is_given_step s then suc (axioms_of steps) else axioms_of steps
+
+abbrev pub combinations_of : List Step → ℕ
+combinations_of [] = 0
+combinations_of (s ∷ steps) = if is_given_step s then combinations_of steps else suc (combinations_of steps)
+
+-- no more steps than the store has entries, of either kind: each entry is a step at most once
+pub record HasNoMore (es : List EntryView) (steps : List Step) : Type 0 where
+  pub few_axioms : axioms_of steps ≤ axioms es
+  pub few_combined : combinations_of steps ≤ combinations es

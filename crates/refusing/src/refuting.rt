@@ -9,7 +9,7 @@ ghost use Rattle.encoding.specs.Numberings.{IsNumbering};
 ghost use Rattle.decoding.specs.Needs.{place_in};
 ghost use Rattle.decoding.specs.Steps.{AreStepsOf, IsNeeded};
 ghost use Rattle.searching.specs.Searching.{AreTouching};
-ghost use Rattle.refusing.specs.Refusing.{AreInstances};
+ghost use Rattle.refusing.specs.Refusing.{AreInstances, HasNoMore};
 
 use crate::stepping::push_step;
 use catalogue::catalogues_are_well_formed;
@@ -60,7 +60,8 @@ pub fn refusal<'a, S: States + Drop>(
     requires touching { AreTouching (entries_view S.tests store.now) }
     requires within { last < length (entries_view S.tests store.now) }
     requires none { (entry (entries_view S.tests store.now) last).terms ≡ [] }
-    ensures { IfOk result (λ d. IsAccepted (problem inputs.now) d) }
+    ensures accepted { IfOk result (λ d. IsAccepted (problem inputs.now) d) }
+    ensures once { IfOk result (λ d. HasNoMore (entries_view S.tests store.now) d) }
 {
     catalogues_are_well_formed(inputs.manifest, inputs.catalogue);
     let kept = needed(alloc, store, last)?;

@@ -1,4 +1,4 @@
-use Rattle.std.proofs.Common.{◌∙◌}
+use Rattle.std.proofs.Common.{◌∙◌, arith}
 use Rattle.incompatibilities.specs.Stores.{entries_view}
 use Rattle.propagation.specs.Trails.{trail_view}
 use Rattle.encoding.specs.Inputs.{problem}
@@ -14,3 +14,8 @@ returns-clause-searched g c =
     let end = c.in_ok-found.ensures in
     searched_of (problem c.args.inputs) c.args.follows c.in_ok-guide.guide c.search.new.guide (trail_view tests c.begin.new.trail) (trail_view tests c.search.new.trail) (entries_view tests c.begin.new.store) (entries_view tests c.search.new.store) c.in_ok-found.found.answer
     c.in_ok-guide.ensures end.keeps c.is_kept.ensures.numbering c.is_kept.ensures.spaces end.spaces end.trail end.ended end.given end.stored end.touching end.walks end.selects
+
+pub returns-clause-counted : goal.returns-clause-counted
+returns-clause-counted g c =
+    let count = c.in_ok-found.ensures.counted in
+    record { combined = omega (arith, count.combined, c.in_ok-guide.ensures.uncombined); assigned = count.assigned }
