@@ -2,7 +2,7 @@
 use Rattle.std.proofs.Common.{◌≡◌, ℕ, zero, suc, ◌+◌, ◌<◌, ◌≤◌, List, [], ◌∷◌, Bool, true, false, if◌then◌else◌, length, take, refl, sym, ap, ◌∙◌, arith}
 use Rattle.incompatibilities.specs.Stores.{EntryView, entry}
 use Rattle.incompatibilities.specs.declared.origin.Origin.{Origin}
-use Rattle.solver.specs.Solving.{axioms, is_given}
+use Rattle.refusing.specs.Refusing.{axioms, is_given}
 
 abbrev one_if : Bool → ℕ
 one_if true = 1

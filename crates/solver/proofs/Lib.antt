@@ -1,1 +1,2 @@
 pub mod Axioms
+pub mod Followed

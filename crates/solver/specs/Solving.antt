@@ -1,35 +1,43 @@
 -- What a search over a manifest and a loaded index comes to.
-use Rattle.std.specs.Prelude.{◌≡◌, ℕ, suc, Bool, true, false, List, [], ◌∷◌, None, Some, slice_get, if◌then◌else◌}
-use Rattle.incompatibilities.specs.Stores.{EntryView}
-use Rattle.incompatibilities.specs.declared.origin.Origin.{Origin}
-use Rattle.incompatibilities.specs.declared.origin.Origin.TheVariants.{Axiom, Combined}
-use Rattle.model.specs.Content.{Content, Package, Problem, is_root}
+use Rattle.std.specs.Prelude.{◌≡◌, ℕ, List, [], Option, unwrap_or}
+use Rattle.model.specs.Content.{Candidate, Content, Problem}
 use Rattle.model.specs.Derivation.{IsAccepted, Step}
 use Rattle.model.specs.Selection.{IsValidSelection}
+use Rattle.reaching.specs.Built.{HasBareRoot}
+use Rattle.walks.specs.Preferred.{IsPreferred}
 use Rattle.solver.specs.declared.solving.Outcome.{Outcome}
 use Rattle.solver.specs.declared.solving.Outcome.TheVariants.{Selection, Unsolvable}
 
--- a valid selection, whose root has no checksum
-pub record IsSelected (q : Problem) (content : Content) : Type 0 where
-  pub valid : IsValidSelection q content
-  pub bare_root : (n : ℕ) (p : Package) → slice_get content n ≡ Some p → is_root q p ≡ true → p.checksum ≡ None
-
 -- a derivation that is accepted; and no content at all is a valid selection
-pub record IsRefused (q : Problem) (steps : List Step) : Type 0 where
+pub record IsUnsolvable (q : Problem) (steps : List Step) : Type 0 where
   pub accepted : IsAccepted q steps
   pub none : (content : Content) → IsValidSelection q content → ⊥
 
-abbrev pub IsSolved : Problem → Outcome → Type 0
-IsSolved q (Selection content) = IsSelected q content
-IsSolved q (Unsolvable derivation) = IsRefused q derivation
+-- preferred: the candidates by name, the most preferred first
+module _ (q : Problem) (preferred : List (List ℕ × List Candidate)) where
+  -- a valid selection, whose root has no checksum; where the preferred walk is complete and valid, that walk
+  pub record IsSelected (content : Content) : Type 0 where
+    pub valid : IsValidSelection q content
+    pub bare_root : HasBareRoot q content
+    pub walk : (w : Content) → IsPreferred q preferred w → w ≡ content
 
--- ---- counts
+  abbrev pub IsSolved : Outcome → Type 0
+  IsSolved (Selection content) = IsSelected content
+  IsSolved (Unsolvable derivation) = IsUnsolvable q derivation
 
-abbrev pub is_given : Origin → Bool
-is_given (Axiom kind) = true
-is_given (Combined i j v w) = false
+-- the derivation, if there is one
+abbrev pub derivation_of : Outcome → List Step
+derivation_of (Selection content) = []
+derivation_of (Unsolvable derivation) = derivation
 
--- how many entries of a store are axioms
-abbrev pub axioms : List EntryView → ℕ
-axioms [] = 0
-axioms (e ∷ es) = if is_given e.origin then suc (axioms es) else axioms es
+-- ---- on the way
+
+-- a valid selection, whose root has no checksum; or why there is none
+abbrev pub IsFound : Problem → Outcome → Type 0
+IsFound q (Selection content) = IsValidSelection q content × HasBareRoot q content
+IsFound q (Unsolvable derivation) = IsUnsolvable q derivation
+
+-- a selection is the content that was followed, if there is one
+abbrev pub with_followed : Option Content → Outcome → Outcome
+with_followed followed (Selection reached) = Selection (unwrap_or followed reached)
+with_followed followed (Unsolvable derivation) = Unsolvable derivation

@@ -2,7 +2,7 @@
 
 ghost use Rattle.std.specs.Prelude.{◌≡◌};
 ghost use Rattle.incompatibilities.specs.Stores.{entries_view};
-ghost use Rattle.solver.specs.Solving.{axioms, is_given};
+ghost use Rattle.refusing.specs.Refusing.{axioms, is_given};
 
 use incompatibilities::{Id, Origin, Store};
 use version_sets::States;

@@ -1,15 +1,17 @@
 //! Solving a manifest over a loaded index (Dart pub's `solver.md`).
 
-ghost use Rattle.std.specs.Prelude.{◌≡◌, IfOk, codes};
+ghost use Rattle.std.specs.Prelude.{◌≡◌, ◌≤◌, IfOk, codes};
 ghost use Rattle.incompatibilities.specs.Stores.{entries_view};
 ghost use Rattle.catalogue.specs.Problems.{problem_in};
 ghost use Rattle.encoding.specs.Inputs.{problem};
 ghost use Rattle.guiding.specs.Guides.{HasSearched, IsOfInstance};
 ghost use Rattle.encoding.specs.Numberings.{IsNumbering};
 ghost use Rattle.propagation.specs.Trails.{trail_view};
+ghost use Rattle.refusing.specs.Refusing.{HasNoMore, axioms_of, combinations_of};
 ghost use Rattle.searching.specs.Searching.{AreTouching, IsRefutation};
 ghost use Rattle.searching.specs.Walking.{AreGiven};
-ghost use Rattle.solver.specs.Solving.{IsRefused, IsSolved};
+ghost use Rattle.solver.specs.Solving.{IsFound, IsSolved, IsUnsolvable, derivation_of, with_followed};
+ghost use Rattle.walks.specs.Preferred.{preferred_in};
 
 use crate::counting::axioms_in;
 use catalogue::Catalogue;
@@ -22,13 +24,15 @@ use incompatibilities::{Id, Store};
 use laws::accepted_derivations_refute;
 use lockfile::LockContent;
 use manifest::Manifest;
+use model::walks_are_unique;
 use parts::are_valid;
 use refusing::{instances_have_their_kinds, refusal};
 use searching::Answer;
 use std::alloc::{AllocError, Global};
 use version_sets::{States, WordStates};
+use walks::preferred;
 
-/// What solving comes to.
+/// What there is.
 #[derive(Drop)]
 pub enum Outcome {
     /// A valid selection.
@@ -41,15 +45,17 @@ pub enum Outcome {
 #[derive(Drop)]
 pub struct Solved {
     pub outcome: Outcome,
-    /// The assignments that there ever were, the conflicts that were resolved, and the combinations that these took.
+    /// The assignments that there ever were, the conflicts that were resolved, and the combinations that these took: no
+    /// fewer than the combinations of a derivation.
     pub steps: u64,
-    /// The instances of axioms that came into its store.
+    /// The instances of axioms that it needed: no fewer than those of a derivation.
     pub axioms: usize,
 }
 
-/// A valid selection for a manifest and a loaded index, where there is one; else a derivation that the checker accepts.
+/// A valid selection for a manifest and a loaded index, where there is one: the preferred walk, where that is complete
+/// and valid. Else a derivation that the checker accepts.
 ///
-/// It searches until it knows, without a budget.
+/// It searches until it knows, without a budget. Where the walk will do, the search decides as it says.
 ///
 /// # Errors
 /// Want of memory alone.
@@ -58,7 +64,9 @@ pub fn solve(
     manifest: &Manifest,
     catalogue: &Catalogue,
 ) -> Result<Solved, AllocError>
-    ensures { IfOk result (λ s. IsSolved (problem_in manifest.now catalogue.now) s.outcome) }
+    ensures solved { IfOk result (λ s. IsSolved (problem_in manifest.now catalogue.now) (preferred_in catalogue.now) s.outcome) }
+    ensures steps { IfOk result (λ s. combinations_of (derivation_of s.outcome) ≤ s.steps) }
+    ensures axioms { IfOk result (λ s. axioms_of (derivation_of s.outcome) ≤ s.axioms) }
 {
     let default = default_name(alloc)?;
     let inputs = Inputs {
@@ -66,12 +74,16 @@ pub fn solve(
         catalogue,
         default: &default,
     };
-    let searched: Searched<'_, WordStates> = search_over(alloc, inputs)?;
-    let outcome = outcome_of(alloc, &inputs, &searched)?;
+    walks_are_unique();
+    let walk = preferred(alloc, manifest, catalogue)?;
+    let searched: Searched<'_, WordStates> = search_over(alloc, inputs, walk)?;
+    let steps = searched.found.steps;
+    let axioms = axioms_in(&searched.store);
+    let found = outcome_of(alloc, &inputs, &searched)?;
     Ok(Solved {
-        outcome,
-        steps: searched.found.steps,
-        axioms: axioms_in(&searched.store),
+        outcome: with_followed(found, searched.guide.into_followed()),
+        steps,
+        axioms,
     })
 }
 
@@ -82,7 +94,8 @@ fn outcome_of<'a, S: States + Drop>(
     searched: &Searched<'a, S>,
 ) -> Result<Outcome, AllocError>
     requires { HasSearched (problem inputs.now) searched.now.guide (trail_view S.tests searched.now.trail) (entries_view S.tests searched.now.store) searched.now.found.answer }
-    ensures { IfOk result (λ o. IsSolved (problem inputs.now) o) }
+    ensures found { IfOk result (λ o. IsFound (problem inputs.now) o) }
+    ensures once { IfOk result (λ o. HasNoMore (entries_view S.tests searched.now.store) (derivation_of o)) }
 {
     let table = searched.guide.table();
     match searched.found.answer {
@@ -91,17 +104,29 @@ fn outcome_of<'a, S: States + Drop>(
             Ok(Outcome::Selection(selected))
         }
         Answer::Unsolvable(last) => {
-            let derivation = refused(alloc, inputs, table, &searched.store, last)?;
+            let derivation = why_unsolvable(alloc, inputs, table, &searched.store, last)?;
             Ok(Outcome::Unsolvable(derivation))
         }
     }
 }
 
+/// An outcome with the content that was followed, if there is one.
+///
+/// What the root reaches in the end may be less than that content, where packages hold one another in a circle.
+fn with_followed(found: Outcome, followed: Option<LockContent>) -> Outcome
+    ensures { result ≡ with_followed followed found }
+{
+    match found {
+        Outcome::Selection(reached) => Outcome::Selection(followed.unwrap_or(reached)),
+        Outcome::Unsolvable(derivation) => Outcome::Unsolvable(derivation),
+    }
+}
+
 /// Why there is no selection, from an entry without terms.
 ///
-/// A vertex of a dependency has no text where its number is 2^32 or more. An owner with so many dependencies takes more
-/// memory than there is, and is refused so.
-fn refused<'a, S: States + Drop>(
+/// The text of a vertex has no number for a dependency past the first 2^32, so a derivation could not name it. No file
+/// that is read is so large that a run gets there, so this has no error of its own.
+fn why_unsolvable<'a, S: States + Drop>(
     alloc: Global,
     inputs: &Inputs<'a>,
     table: &Table<'a>,
@@ -112,7 +137,8 @@ fn refused<'a, S: States + Drop>(
     requires touching { AreTouching (entries_view S.tests store.now) }
     requires refutation { IsRefutation (entries_view S.tests store.now) last }
     requires given { AreGiven (IsOfInstance (problem inputs.now) table.now) (entries_view S.tests store.now) }
-    ensures { IfOk result (λ d. IsRefused (problem inputs.now) d) }
+    ensures unsolvable { IfOk result (λ d. IsUnsolvable (problem inputs.now) d) }
+    ensures once { IfOk result (λ d. HasNoMore (entries_view S.tests store.now) d) }
 {
     if !are_valid(inputs.manifest, inputs.catalogue) {
         return Err(AllocError);

@@ -1,6 +1,5 @@
-use Rattle.std.proofs.Common.{sym, ◌∙◌, subst, ap, arith, length, take, ◌≡◌}
+use Rattle.std.proofs.Common.{sym, ◌∙◌, ap, arith}
 use Rattle.incompatibilities.specs.Stores.{entries_view, entry}
-use Rattle.solver.specs.Solving.{axioms}
 use Rattle.solver.proofs.Axioms.{counted_axiom, counted_le, counted_other}
 use Rattle.solver.proofs.counting.axioms_in.Goals.{then-is_axiom, else-is_axiom}
 use Rattle.solver.proofs.counting.axioms_in.Goals as goal
