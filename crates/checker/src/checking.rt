@@ -1,8 +1,9 @@
 //! The check of a derivation, step by step.
 
-ghost use Rattle.std.specs.Prelude.{◌≡◌, IfOk, List, []};
+ghost use Rattle.std.specs.Prelude.{◌≡◌, ◌↔◌, ℕ, IfOk, List, []};
 ghost use Rattle.model.specs.Axioms as axioms;
 ghost use Rattle.model.specs.Content.{Content};
+ghost use Rattle.model.specs.Derivation.{IsAccepted};
 ghost use Rattle.model.specs.Selection.{IsValidSelection};
 ghost use Rattle.refutations.specs.Checks.{combines, end_refused, first_refused, is_none_left, is_step, reason_of};
 ghost use Rattle.refutations.specs.Checks.{refusal};
@@ -10,7 +11,8 @@ ghost use Rattle.catalogue.specs.Problems.{problem_in};
 ghost use Rattle.derivations.specs.Tables.{TablesView, step_at, step_by_origin, steps_at, terms_at};
 ghost use Rattle.vertices.specs.Views.{vertex_view};
 ghost use Rattle.axioms.specs.GatheredViews.{problem_of};
-ghost use Rattle.checker.specs.Refusals.{check_view, reason_view};
+ghost use Rattle.checker.specs.Answers.{check_view, reason_view};
+ghost use Rattle.checker.specs.Refusals.{IsRefusedAt};
 ghost use Rattle.checker.specs.Steps.{AreOrderedSteps, IsOrderedStep};
 
 use crate::combination::is_combination;
@@ -34,7 +36,8 @@ pub fn check(
     catalogue: &Catalogue,
     derivation: &Derivation,
 ) -> Result<Check, AllocError>
-    ensures answer { IfOk result (λ c. check_view c ≡ refusal (problem_in manifest.now catalogue.now) derivation.now) }
+    ensures proves { IfOk result (λ c. c ≡ Check.Proves ↔ IsAccepted (problem_in manifest.now catalogue.now) derivation.now) }
+    ensures refused { IfOk result (λ c. (n : ℕ) (r : Reason) → c ≡ Check.Refused n r ↔ IsRefusedAt (problem_in manifest.now catalogue.now) derivation.now n r) }
     ensures refutes { IfOk result (λ c. c ≡ Check.Proves → (content : Content) → IsValidSelection (problem_in manifest.now catalogue.now) content → ⊥) }
 {
     catalogues_are_well_formed(manifest, catalogue);
@@ -42,7 +45,20 @@ pub fn check(
     let steps = derivation.steps(alloc)?;
     let (tables, steps) = steps.parts();
     let gathered = Gathered::new(alloc, manifest, catalogue)?;
-    match first_refused(alloc, &gathered, tables, steps)? {
+    answer(alloc, &gathered, tables, steps)
+}
+
+/// The first step that doesn't follow, or what is wrong with the end.
+fn answer(
+    alloc: Global,
+    gathered: &Gathered<'_>,
+    tables: &Tables,
+    steps: &[Step],
+) -> Result<Check, AllocError>
+    requires { AreOrderedSteps tables.now steps.now }
+    ensures { IfOk result (λ c. check_view c ≡ refusal (problem_of gathered.now) (steps_at tables.now steps.now)) }
+{
+    match first_refused(alloc, gathered, tables, steps)? {
         Check::Proves => Ok(end_of(steps)),
         refused => Ok(refused),
     }
