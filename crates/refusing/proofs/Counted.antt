@@ -83,12 +83,12 @@ module _ (q : Problem) (vs : Numbering) (es : List EntryView) (place : ℕ → �
   given_as : (o : Origin) (s : Step) → IsBy vs place o s → is_given_step s ≡ is_given o
   given_as (Axiom n) (given k ts) by = refl
   given_as (Axiom n) (combine a b v ts) by = absurd by
-  given_as (Combined i j n) (given k ts) by = absurd by
-  given_as (Combined i j n) (combine a b v ts) by = refl
+  given_as (Combined i j n w) (given k ts) by = absurd by
+  given_as (Combined i j n w) (combine a b v ts) by = refl
 
   combined_as : (o : Origin) → is_combination o ≡ (if is_given o then false else true)
   combined_as (Axiom n) = refl
-  combined_as (Combined i j n) = refl
+  combined_as (Combined i j n w) = refl
 
   with_axiom : (b c : Bool) (i j : ℕ) → b ≡ c → i ≡ j → (if b then suc i else i) ≡ one_if c + j
   with_axiom true true i j e same = omega (arith, same)

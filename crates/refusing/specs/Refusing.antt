@@ -57,7 +57,7 @@ pub record IsStepWith (vs : Numbering) (place : ℕ → ℕ) (o : Origin) (ts : 
 
 abbrev pub is_given : Origin → Bool
 is_given (Axiom kind) = true
-is_given (Combined i j v) = false
+is_given (Combined i j v w) = false
 
 -- how many entries of a store are axioms
 abbrev pub axioms : List EntryView → ℕ
