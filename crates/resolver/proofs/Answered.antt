@@ -1,23 +1,16 @@
 -- How the answer of a run comes of its steps.
 use Rattle.std.proofs.Common.{◌≡◌, ℕ, Bool, true, false, List, map, Vec, Option, Result, Ok, Err, inr, refl, sym, ap, ◌∙◌, subst, true≢false}
 use Rattle.std.specs.declared.alloc.Global.{Global}
-use Rattle.model.specs.Content.{Candidate, Content, Problem}
-use Rattle.model.specs.Walk.{IsWalk}
+use Rattle.model.specs.Content.{Content}
 use Rattle.lockfile.specs.Locks.{content_of_bytes}
 use Rattle.lockfile.specs.Spelling.{spelling}
 use Rattle.index_reader.specs.Views.{skip_view}
 use Rattle.index_reader.specs.declared.record.Skip.{Skip}
 use Rattle.catalogue.specs.Runs.{Calls}
-use Rattle.solver.specs.Solving.{IsSolved}
-use Rattle.solver.specs.declared.solving.Outcome.{Outcome}
-use Rattle.solver.specs.declared.solving.Outcome.TheVariants.{Selection}
-use Rattle.solver.specs.declared.solving.Outcome.TheVariants as outcome
-use Rattle.reaching.specs.Built.{HasBareRoot}
-use Rattle.walks.specs.Preferred.{preferred_in}
 use Rattle.resolver.specs.Faults.{is_memory}
-use Rattle.resolver.specs.Inputs.{RequestView, AreRead, EndsWith, UnlessMemory, problem_of}
+use Rattle.resolver.specs.Inputs.{RequestView, AreRead, EndsWith, UnlessMemory}
 use Rattle.resolver.specs.Inputs.IsCutShort.{after_loading}
-use Rattle.resolver.specs.Answers.{HoldsOld, IsAnswer, IsChosen, IsFound, IsLock, IsPreferredBy, IsWithout, IsWritten, IsReply, Writes, Gives, Resolves, with_skips}
+use Rattle.resolver.specs.Answers.{HoldsOld, IsAnswer, IsChosen, IsLock, IsWithout, IsWritten, IsReply, Writes, Gives, Resolves, with_skips}
 use Rattle.resolver.specs.Same.{same_content}
 use Rattle.resolver.specs.declared.inputs.Inputs.{Inputs}
 use Rattle.resolver.specs.declared.fault.Fault.{Fault}
@@ -52,20 +45,6 @@ new_lock old inputs content bytes not_held chosen h = inr (record { not_held = n
 
 pub no_lock : (old : Option (List ℕ)) (inputs : Inputs) (content : Content) (f : Fault) → (HoldsOld inputs → ⊥) → IsChosen inputs content → Writes content (Err f) → Gives old inputs (Err f)
 no_lock old inputs content f not_held chosen h = unless (is_memory f) (λ w. (not_held, subst (λ g. IsWithout inputs g) (sym w.0) (content, chosen, w.1))) h
-
--- the preferred walk is what is chosen
-pub walk_chosen : (inputs : Inputs) (content : Content) → ((q : Problem) (preferred : List (List ℕ × List Candidate)) (a b : Content) → IsWalk q preferred a → IsWalk q preferred b → a ≡ b)
-    → IsPreferredBy inputs content → HasBareRoot (problem_of inputs) content → IsChosen inputs content
-walk_chosen inputs content unique is bare = record {
-  valid = is.valid;
-  bare_root = bare;
-  preferred = λ walk other. unique (problem_of inputs) (preferred_in inputs.catalogue) walk content other.walk is.walk;
-}
-
--- where there is no preferred walk, what a search comes to is
-pub search_found : (inputs : Inputs) (o : Outcome) → ((content : Content) → IsPreferredBy inputs content → ⊥) → IsSolved (problem_of inputs) o → IsFound inputs o
-search_found inputs (Selection content) none is = record { valid = is.valid; bare_root = is.bare_root; preferred = λ walk other. absurd (none walk other) }
-search_found inputs (outcome.Unsolvable derivation) none is = is
 
 -- an answer is a reply with the skipped lines
 pub answered : (request : RequestView) (inputs : Inputs) (given : Reply) (skips : Vec Skip Global) → map skip_view skips.items ≡ (inputs.catalogue).skips → IsReply request.old inputs given

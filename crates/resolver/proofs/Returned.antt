@@ -126,7 +126,7 @@ module _ (failed : Files → ℕ) (folder : Files) (request : RequestView) (byte
       by : (other : Answer) → IsAnswer again second.inputs other → ComesBack bytes.items (Ok other)
       by (Lock more kept' skips') (inl k, s) = (sym (same-Some k.own), k.is_kept)
       by (Lock more kept' skips') (inr n, s) = absurd (n.not_held (held second.inputs later second.read))
-      by (Unsolvable derivation text skips') (u, s) = let old = held second.inputs later second.read in absurd (u.none old.0 old.2)
+      by (Unsolvable derivation text skips') (u, s) = let old = held second.inputs later second.read in absurd ((u.unsolvable).none old.0 old.2)
   comes (Err f) later second = by (is_memory f) refl second
     where
       by : (b : Bool) → is_memory f ≡ b → EndsWith MemoryCalls failed again folder b (IsRefused MemoryCalls failed again folder f later ⊎ IsUnanswered MemoryCalls failed again folder f later) later
@@ -150,4 +150,4 @@ no_more_asked failed folder request bytes kept skips after other later first sec
 pub locks_selected : (request : RequestView) (inputs : Inputs) (answer : Answer) → IsAnswer request inputs answer → IsSomeLock answer ↔ ((content : Content) × IsValidSelection (problem_of inputs) content)
 locks_selected request inputs (Lock bytes kept skips) (inl k, s) = (λ _. (k.holds.0, k.holds.2), λ _. tt)
 locks_selected request inputs (Lock bytes kept skips) (inr n, s) = (λ _. (n.content, n.chosen.valid), λ _. tt)
-locks_selected request inputs (Unsolvable derivation text skips) (u, s) = (λ none. absurd none, λ some. u.none some.0 some.1)
+locks_selected request inputs (Unsolvable derivation text skips) (u, s) = (λ none. absurd none, λ some. (u.unsolvable).none some.0 some.1)

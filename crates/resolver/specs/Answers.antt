@@ -2,7 +2,7 @@
 use Rattle.std.specs.Prelude.{◌≡◌, ◌≢◌, ◌⊎◌, ◌↔◌, ℕ, Bool, true, false, List, map, Option, Some, Result, Ok, Err, Vec, string_bytes}
 use Rattle.std.specs.declared.alloc.Global.{Global}
 use Rattle.model.specs.Content.{Content}
-use Rattle.model.specs.Derivation.{Step, IsAccepted}
+use Rattle.model.specs.Derivation.{Step}
 use Rattle.model.specs.Selection.{IsValidSelection}
 use Rattle.index_reader.specs.Views.{skip_view}
 use Rattle.index_reader.specs.declared.record.Skip.{Skip}
@@ -13,12 +13,8 @@ use Rattle.selection.specs.Verdicts.{Says}
 use Rattle.selection.specs.declared.verdict.Verdict.{Verdict}
 use Rattle.selection.specs.declared.verdict.Verdict.TheVariants.{Valid}
 use Rattle.explainer.specs.Explanations.{explanation_of}
-use Rattle.solver.specs.Solving as solving
-use Rattle.solver.specs.declared.solving.Outcome.{Outcome}
-use Rattle.solver.specs.declared.solving.Outcome.TheVariants.{Selection}
-use Rattle.solver.specs.declared.solving.Outcome.TheVariants as outcome
-use Rattle.reaching.specs.Built.{HasBareRoot}
-use Rattle.walks.specs.Preferred.{preferred_in, IsPreferred}
+use Rattle.solver.specs.Solving.{IsSelected, IsUnsolvable}
+use Rattle.walks.specs.Preferred.{preferred_in}
 use Rattle.resolver.specs.Faults.{is_memory}
 use Rattle.resolver.specs.Inputs.{RequestView, AreRead, IsRefused, EndsWith, UnlessMemory, problem_of}
 use Rattle.resolver.specs.declared.inputs.Inputs.{Inputs}
@@ -51,10 +47,6 @@ module _ {S : Type 0} (calls : Calls S) (failed : S → ℕ) (request : RequestV
 abbrev pub HoldsOld : Inputs → Type 0
 HoldsOld inputs = (content : Content) × (inputs.old ≡ Some content) × IsValidSelection (problem_of inputs) content
 
--- the preferred walk, where it is complete and valid
-abbrev pub IsPreferredBy : Inputs → Content → Type 0
-IsPreferredBy inputs = IsPreferred (problem_of inputs) (preferred_in inputs.catalogue)
-
 -- the old lock's own bytes
 pub record IsKept (old : Option (List ℕ)) (inputs : Inputs) (bytes : List ℕ) (kept : Bool) : Type 0 where
   pub holds : HoldsOld inputs
@@ -62,10 +54,8 @@ pub record IsKept (old : Option (List ℕ)) (inputs : Inputs) (bytes : List ℕ)
   pub is_kept : kept ≡ true
 
 -- a valid selection whose root has no checksum; where the preferred walk is complete and valid, that walk
-pub record IsChosen (inputs : Inputs) (content : Content) : Type 0 where
-  pub valid : IsValidSelection (problem_of inputs) content
-  pub bare_root : HasBareRoot (problem_of inputs) content
-  pub preferred : (walk : Content) → IsPreferredBy inputs walk → walk ≡ content
+abbrev pub IsChosen : Inputs → Content → Type 0
+IsChosen inputs = IsSelected (problem_of inputs) (preferred_in inputs.catalogue)
 
 -- the spelling of such a content, which reads as it
 pub record IsNew (inputs : Inputs) (bytes : List ℕ) (kept : Bool) : Type 0 where
@@ -79,16 +69,15 @@ pub record IsNew (inputs : Inputs) (bytes : List ℕ) (kept : Bool) : Type 0 whe
 abbrev pub IsLock : Option (List ℕ) → Inputs → List ℕ → Bool → Type 0
 IsLock old inputs bytes kept = IsKept old inputs bytes kept ⊎ IsNew inputs bytes kept
 
--- an accepted derivation and what it tells; no content at all is a valid selection
-pub record IsUnsolvable (inputs : Inputs) (derivation : List Step) (text : List ℕ) : Type 0 where
-  pub accepted : IsAccepted (problem_of inputs) derivation
-  pub none : (content : Content) → IsValidSelection (problem_of inputs) content → ⊥
+-- an accepted derivation, while no content at all is a valid selection, and the text that tells it
+pub record IsExplained (inputs : Inputs) (derivation : List Step) (text : List ℕ) : Type 0 where
+  pub unsolvable : IsUnsolvable (problem_of inputs) derivation
   pub explained : text ≡ explanation_of derivation
 
 -- a lock or a refusal, and the lines that loading skipped
 abbrev pub IsAnswer : RequestView → Inputs → Answer → Type 0
 IsAnswer request inputs (Lock bytes kept skips) = IsLock request.old inputs bytes.items kept × (map skip_view skips.items ≡ (inputs.catalogue).skips)
-IsAnswer request inputs (Unsolvable derivation text skips) = IsUnsolvable inputs derivation (string_bytes text) × (map skip_view skips.items ≡ (inputs.catalogue).skips)
+IsAnswer request inputs (Unsolvable derivation text skips) = IsExplained inputs derivation (string_bytes text) × (map skip_view skips.items ≡ (inputs.catalogue).skips)
 
 -- why there is no answer although all inputs were read: what was chosen has a spelling that doesn't read as it
 abbrev pub IsWithout : Inputs → Fault → Type 0
@@ -96,11 +85,6 @@ IsWithout inputs fault.NotReadBack = (content : Content) × IsChosen inputs cont
 IsWithout inputs _ = ⊥
 
 -- ---- on the way
-
--- what is chosen, or why there is nothing to choose
-abbrev pub IsFound : Inputs → Outcome → Type 0
-IsFound inputs (Selection content) = IsChosen inputs content
-IsFound inputs (outcome.Unsolvable derivation) = solving.IsRefused (problem_of inputs) derivation
 
 -- what is written is the content's spelling, which reads as the content
 pub record IsWritten (content : Content) (bytes : List ℕ) : Type 0 where
@@ -114,7 +98,7 @@ Writes content (Err f) = UnlessMemory (is_memory f) ((f ≡ fault.NotReadBack) �
 -- an answer but for the skipped lines
 abbrev pub IsReply : Option (List ℕ) → Inputs → Reply → Type 0
 IsReply old inputs (reply.Lock bytes kept) = IsLock old inputs bytes.items kept
-IsReply old inputs (reply.Unsolvable derivation text) = IsUnsolvable inputs derivation (string_bytes text)
+IsReply old inputs (reply.Unsolvable derivation text) = IsExplained inputs derivation (string_bytes text)
 
 abbrev pub with_skips : Reply → Vec Skip Global → Answer
 with_skips (reply.Lock bytes kept) skips = Lock bytes kept skips
@@ -131,7 +115,7 @@ module _ {S : Type 0} (calls : Calls S) (failed : S → ℕ) (request : RequestV
     pub read : AreRead calls failed request before inputs after
     pub is : IsAnswer request inputs answer
 
-  -- all inputs were read and no old lock holds, but there is no answer
+  -- the old lock isn't valid, and there is no answer
   pub record IsUnanswered (f : Fault) (after : S) : Type 0 where
     pub inputs : Inputs
     pub read : AreRead calls failed request before inputs after

@@ -2,7 +2,7 @@
 
 ghost use Rattle.std.specs.Prelude.{◌≡◌, ◌↔◌, true, IfOk, Ok, option_copied};
 ghost use Rattle.resolver.specs.Inputs.{old_of_bytes};
-ghost use Rattle.resolver.specs.Answers.{HoldsOld, Gives, IsFound, Resolves, with_skips};
+ghost use Rattle.resolver.specs.Answers.{HoldsOld, Gives, Resolves, with_skips};
 
 use crate::fault::Fault;
 use crate::inputs::{Inputs, Request, read_inputs};
@@ -11,11 +11,9 @@ use catalogue::{Prefer, Source};
 use derivations::Derivation;
 use explainer::explain;
 use index_reader::{Folder, Skip};
-use model::walks_are_unique;
 use selection::{Verdict, verify};
 use solver::{Outcome, solve};
 use std::alloc::{AllocError, Global};
-use walks::preferred;
 
 /// What `resolve` gives.
 #[derive(Drop)]
@@ -120,22 +118,11 @@ fn anew(alloc: Global, old: Option<&[u8]>, inputs: &Inputs) -> Result<Reply, Fau
     requires not_held { HoldsOld inputs.now → ⊥ }
     ensures { Gives (option_copied old.entry) inputs.now result }
 {
-    match found(alloc, inputs)? {
+    match solve(alloc, &inputs.manifest, &inputs.catalogue)?.outcome {
         Outcome::Selection(content) => Ok(Reply::Lock(written(alloc, &content)?, false)),
         Outcome::Unsolvable(derivation) => {
             let text = explain(alloc, &derivation)?;
             Ok(Reply::Unsolvable(derivation, text))
         }
-    }
-}
-
-/// The preferred walk, where that is complete and valid; else what a search comes to.
-fn found(alloc: Global, inputs: &Inputs) -> Result<Outcome, AllocError>
-    ensures { IfOk result (λ o. IsFound inputs.now o) }
-{
-    walks_are_unique();
-    match preferred(alloc, &inputs.manifest, &inputs.catalogue)? {
-        Some(content) => Ok(Outcome::Selection(content)),
-        None => Ok(solve(alloc, &inputs.manifest, &inputs.catalogue)?.outcome),
     }
 }
