@@ -3,13 +3,13 @@ use Rattle.std.specs.Prelude.{◌≡◌, ◌↔◌, ℕ, true, false, List, Resu
 use Rattle.model.specs.Content.{Content}
 use Rattle.model.specs.Derivation.{Step, IsAccepted}
 use Rattle.model.specs.Selection.{IsValidSelection}
-use Rattle.refutations.specs.Checks.{refusal}
 use Rattle.catalogue.specs.Runs.{Calls}
 use Rattle.derivations.specs.Files.{derivation_of_bytes, wants_memory}
 use Rattle.derivations.specs.declared.fault.DerivationFault.{DerivationFault}
-use Rattle.checker.specs.Refusals.{check_view}
+use Rattle.checker.specs.Refusals.{IsRefusedAt}
 use Rattle.checker.specs.declared.outcome.Check.{Check}
-use Rattle.checker.specs.declared.outcome.Check.TheVariants.{Proves}
+use Rattle.checker.specs.declared.outcome.Check.TheVariants.{Proves, Refused}
+use Rattle.checker.specs.declared.outcome.Reason.{Reason}
 use Rattle.resolver.specs.Faults.{is_memory}
 use Rattle.resolver.specs.Inputs.{RequestView, AreRead, IsRefused, EndsWith, problem_of}
 use Rattle.resolver.specs.declared.inputs.Inputs.{Inputs}
@@ -20,11 +20,11 @@ use Rattle.resolver.specs.declared.fault.CheckFault.TheVariants.{Input, Proof}
 abbrev pub IsProof : Inputs → List ℕ → Type 0
 IsProof inputs bytes = (steps : List Step) × (derivation_of_bytes bytes ≡ Ok steps) × IsAccepted (problem_of inputs) steps
 
--- the bytes are a derivation, and this is its first refused step, or that there is none; if there is none, there is no selection at all
+-- the bytes are a derivation, and this is its first refused step, exactly where there is one; if there is none, there is no selection at all
 pub record IsChecked (inputs : Inputs) (bytes : List ℕ) (check : Check) : Type 0 where
   pub steps : List Step
   pub says : derivation_of_bytes bytes ≡ Ok steps
-  pub refused : check_view check ≡ refusal (problem_of inputs) steps
+  pub refused : (n : ℕ) (reason : Reason) → (check ≡ Refused n reason) ↔ IsRefusedAt (problem_of inputs) steps n reason
   pub proves : (check ≡ Proves) ↔ IsProof inputs bytes
   pub refutes : check ≡ Proves → (content : Content) → IsValidSelection (problem_of inputs) content → ⊥
 

@@ -9,7 +9,6 @@ use crate::inputs::{Inputs, Request, read_inputs};
 use catalogue::{Prefer, Source};
 use checker::{Check, check};
 use index_reader::Folder;
-use refutations::refusals_decide;
 use std::alloc::Global;
 
 /// Whether the bytes of a derivation show that the manifest has no valid selection over what is loaded from the folder with the old lock.
@@ -40,7 +39,6 @@ pub fn check_bytes<F: Folder>(
 fn check_loaded(alloc: Global, inputs: &Inputs, derivation: &[u8]) -> Result<Check, CheckFault>
     ensures { Decides inputs.now derivation.now result }
 {
-    refusals_decide();
     let derivation = derivations::read(alloc, derivation)?;
     Ok(check(alloc, &inputs.manifest, &inputs.catalogue, &derivation)?)
 }
