@@ -86,8 +86,11 @@ lengths_at (s ∷ l) zero = refl
 lengths_at (s ∷ l) (suc k) = lengths_at l k
 
 -- what is left to a vertex is a state of it
+pub left_below : (asked : List Members) (t : TrailView) (v s : ℕ) → HasSpaces (map length asked) t → has (set_of t.sets v) s ≡ true → s < length (set_of asked v)
+left_below asked t v s spaced h = subst (λ n. s < n) (spaced.each v ∙ lengths_at asked v) (has_below (set_of t.sets v) s h)
+
 pub only_below : (asked : List Members) (t : TrailView) (v s : ℕ) → HasSpaces (map length asked) t → IsOnly (set_of t.sets v) s → s < length (set_of asked v)
-only_below asked t v s spaced only = subst (λ n. s < n) (spaced.each v ∙ lengths_at asked v) (has_below (set_of t.sets v) s only.1)
+only_below asked t v s spaced only = left_below asked t v s spaced only.1
 
 -- once all places are seen
 pub all_seen : (n : ℕ) (asked : Pairs) (t : TrailView) → IsSeen n asked t → length t.steps ≤ n → searching.AllAsked asked t.sets

@@ -97,9 +97,10 @@ module _ (v i : ℕ) (old new : EncodedView) (t wide : TrailView) (es more : Lis
   walked_on : (p : Pair) → IsGivenAt old.problem new.vertices p a.given → HasSpaces (map length new.asked) wide → (x : Assignment) → Follows new x → IsWalked x es t → IsWalked x more wide
   walked_on p is spaced x f walked =
       let of : IsOf old.problem new.vertices f.0 x = subst (λ q. IsOf q new.vertices f.0 x) a.same f.3 in
-      let valid : IsValidSelection old.problem f.0 = subst (λ q. IsValidSelection q f.0) a.same f.2 in
-      (more_unbroken old.problem new.vertices f.0 x of p es more a.given a.catalogue valid is (a.stored ∙ with_given_is es a.given) walked.0,
-      wider_agrees old.problem new.vertices f.0 x of new.asked a.came t wide a.spaced spaced a.wider walked.1)
+      let valid : IsValidSelection old.problem f.0 = subst (λ q. IsValidSelection q f.0) a.same f.2 in (
+        more_unbroken old.problem new.vertices f.0 x of p es more a.given a.catalogue valid is (a.stored ∙ with_given_is es a.given) walked.0,
+        wider_agrees old.problem new.vertices f.0 x of new.asked a.came t wide a.spaced spaced a.wider walked.1,
+      )
 
   pub asked_walks : HasSpaces (map length old.asked) t → IsTrail es t → v < length t.sets → 0 < i → has (set_of old.asked v) i ≡ false → i < length (set_of old.asked v) → KeepsWalks (Follows old) es t (Follows new) more wide
   asked_walks spaced trail low some fresh lt x f =

@@ -6,16 +6,18 @@ ghost use Rattle.encoding.specs.Numberings.{IsNumbering};
 ghost use Rattle.incompatibilities.specs.Incompatibilities.{Assignment};
 ghost use Rattle.incompatibilities.specs.Stores.{entries_view};
 ghost use Rattle.propagation.specs.Promises.{IsTrail};
+ghost use Rattle.propagation.specs.Satisfaction.{Agrees};
 ghost use Rattle.propagation.specs.Trails.{set_of, trail_view};
+ghost use Rattle.searching.specs.Searching.{CanDecide, HasSpaces};
 ghost use Rattle.version_sets.specs.Sets.{has, size};
 ghost use Rattle.vertices.specs.RefViews.{vertex_ref_view};
-ghost use Rattle.guiding.specs.Guides.{CanFollow, Follows, HasBegun, IsAsking, IsFollowed, known};
+ghost use Rattle.guiding.specs.Guides.{CanAsk, CanFollow, Follows, HasBegun, IsAsking, IsFollowed, known};
 ghost use Rattle.guiding.specs.Remaining.{spaces_of};
 
 use crate::asking::{mark, put_given};
 use crate::choosing::{greatest, is_undecided};
 use crate::coming::come;
-use crate::opening::next_open;
+use crate::opening::{next_open, unless_asked};
 use crate::order::Order;
 use crate::preferring::preferred_state;
 use catalogue::catalogues_are_well_formed;
@@ -151,11 +153,7 @@ impl<'a, S: States + Drop> Encoded<'a, S> {
     }
 
     /// The state that a vertex has in the content that is followed, if it is left.
-    fn followed_state(
-        &self,
-        vertex: &VertexRef<'a>,
-        left: &S,
-    ) -> Result<Option<u32>, AllocError>
+    fn followed_state(&self, vertex: &VertexRef<'a>, left: &S) -> Result<Option<u32>, AllocError>
         ensures left { IfOk result (λ o. IfSome o (λ n. has (S.tests left.now) n ≡ true)) }
         ensures followed { IfOk result (λ o. IsFollowed self.now.problem self.now.follows (vertex_ref_view vertex.now) (S.tests left.now) o) }
     {
@@ -186,6 +184,40 @@ impl<'a, S: States + Drop> Encoded<'a, S> {
         match preferred_state(self.alloc, &self.inputs, &vertex, left)? {
             Some(state) => Ok(state),
             None => Ok(greatest(left)),
+        }
+    }
+
+    /// The vertex that comes next in the order, and the state that it is decided for.
+    fn next_decision(&self, trail: &Trail<S>) -> Result<Option<(usize, u32)>, AllocError>
+        requires { HasSpaces (map length self.now.asked) (trail_view S.tests trail.now) }
+        ensures can { IfOk result (λ o. IfSome o (λ d. CanDecide (trail_view S.tests trail.now) d.0 d.1)) }
+        ensures follows { IfOk result (λ o. IfSome o (λ d. (x : Assignment) → Follows self.now x → Agrees x (trail_view S.tests trail.now).sets → x d.0 ≡ d.1)) }
+    {
+        let Some(vertex) = self.next else {
+            return Ok(None);
+        };
+        if vertex >= self.asked.len() {
+            return Ok(None);
+        }
+        let left = trail.states(vertex);
+        if !is_undecided(left) {
+            return Ok(None);
+        }
+        Ok(Some((vertex, self.state_for(vertex, left)?)))
+    }
+
+    /// The pair that is decided next, if it wasn't asked for. Where its instances leave it out at once, no level is
+    /// opened for it, and none is taken back.
+    fn ahead(&self, trail: &Trail<S>) -> Result<Option<(usize, u32)>, AllocError>
+        requires { HasSpaces (map length self.now.asked) (trail_view S.tests trail.now) }
+        ensures { IfOk result (λ o. IfSome o (λ d. CanAsk (trail_view S.tests trail.now) self.now.asked d.0 d.1)) }
+    {
+        let Some((vertex, state)) = self.next_decision(trail)? else {
+            return Ok(None);
+        };
+        match unless_asked(&self.asked[vertex], state) {
+            Some(state) => Ok(Some((vertex, state))),
+            None => Ok(None),
         }
     }
 }
@@ -230,19 +262,20 @@ impl<'a, S: States + Drop> Guide<S> for Encoded<'a, S> {
             None => {
                 self.order.follow(trail, self.asked.len())?;
                 self.next = self.order.next(trail, self.asked.len())?;
-                Ok(false)
+                match self.ahead(trail)? {
+                    Some((vertex, state)) => {
+                        self.ask(trail, store, vertex, state)?;
+                        Ok(true)
+                    }
+                    None => Ok(false),
+                }
             }
         }
     }
 
     fn choose(&self, trail: &Trail<S>) -> Result<Option<(usize, u32)>, AllocError> {
-        if let Some(vertex) = self.next {
-            if vertex < self.asked.len() {
-                let left = trail.states(vertex);
-                if is_undecided(left) {
-                    return Ok(Some((vertex, self.state_for(vertex, left)?)));
-                }
-            }
+        if let Some(decision) = self.next_decision(trail)? {
+            return Ok(Some(decision));
         }
         // There is no candidate; this shows that no vertex is left out.
         'vertices: for vertex in 0..self.asked.len() {

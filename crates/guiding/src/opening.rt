@@ -11,7 +11,7 @@ use propagation::Trail;
 use version_sets::States;
 
 /// A state, unless it was asked for or is absent.
-fn unless_asked<S: States>(asked: &S, state: u32) -> Option<u32>
+pub(crate) fn unless_asked<S: States>(asked: &S, state: u32) -> Option<u32>
     ensures { IsUnless (S.tests asked.now) state result }
 {
     if state == 0 {

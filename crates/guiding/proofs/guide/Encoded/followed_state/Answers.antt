@@ -23,8 +23,8 @@ returns-in_default-2-clause-followed g c =
     subst (λ (o : EncodedView). IsFollowed o.problem o.follows v left None) c.self.view_is
     (followed_at (problem c.self.inside.inputs) v c.self.invariant.0.catalogue c.self.inside.follows c.in-Some.content left c.in_ok-state.field-0 None c.in-Some.is c.in_ok-state.ensures
     (λ i e here.
-        let same = same_Some c.in-Some-2.state i (sym c.in-Some-2.is ∙ e) in
-        absurd (false≢true (sym c.if-member.false ∙ c.member.ensures ∙ ap (has left) same ∙ here))))
+    let same = same_Some c.in-Some-2.state i (sym c.in-Some-2.is ∙ e) in
+    absurd (false≢true (sym c.if-member.false ∙ c.member.ensures ∙ ap (has left) same ∙ here))))
 
 pub returns-in_default-2-2-clause-followed : goal.returns-in_default-2-2-clause-followed
 returns-in_default-2-2-clause-followed g c =

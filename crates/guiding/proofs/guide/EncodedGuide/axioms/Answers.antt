@@ -1,4 +1,5 @@
 use Rattle.std.proofs.Common.{map, length, true, false, Some, sym, subst}
+use Rattle.std.specs.Prelude.{IfSome}
 use Rattle.incompatibilities.specs.Stores.{entries_view}
 use Rattle.propagation.specs.Trails.{trail_view}
 use Rattle.encoding.specs.Inputs.{problem}
@@ -7,7 +8,7 @@ use Rattle.searching.specs.Turning.{IsAdding}
 use Rattle.searching.specs.Walking as walking
 use Rattle.searching.specs.Walking.{KeepsWalks}
 use Rattle.searching.proofs.Guides.{adding_nothing}
-use Rattle.guiding.specs.Guides.{AreStored, EncodedView, Follows, IsNextOpen, IsOfInstance, asked_of, encoded_view, late_with, left_with}
+use Rattle.guiding.specs.Guides.{AreStored, CanAsk, EncodedView, Follows, IsNextOpen, IsOfInstance, asked_of, encoded_view, late_with, left_with}
 use Rattle.guiding.proofs.Adding.{asked_adding, asked_given, asked_seen, asked_spaces, asked_stored}
 use Rattle.guiding.proofs.Asked.{all_seen, only_below}
 use Rattle.guiding.proofs.Following.{asked_walks}
@@ -93,18 +94,6 @@ returns-in_ok-ask-in-Some-clause-stored g c was =
     asked_stored c.in-Some.vertex c.in-Some.state mid new t wide es more c.in_ok-ask-in-Some.ensures spaced c.requires.trail alone.0 ((alone.1).1) ((alone.1).2) (only_below sets t c.in-Some.vertex c.in-Some.state spaced ((alone.1).0))
     (subst (λ (o : EncodedView). AreStored o.problem o.vertices o.asked es) (sym c.self.view_is) was)
 
-pub returns-in_ok-self-inside-in-None-clause-adding : goal.returns-in_ok-self-inside-in-None-clause-adding
-returns-in_ok-self-inside-in-None-clause-adding g c =
-    let tests = g.S.States.tests in
-    let f = c.self.inside in
-    let sets = map tests f.asked.items in
-    let t = trail_view tests c.args.trail.now in
-    let es = entries_view tests c.args.store.now in
-    let mid = encoded_view (problem f.inputs) f.table sets c.next_open.new.seen f.follows in
-    let seen : IsSeen c.next_open.new.seen (asked_of sets) t = subst (λ l. IsSeen c.next_open.new.seen (asked_of (map tests l)) t) c.deref.ensures.value c.next_open.ensures.seen in
-    subst (λ (o : EncodedView). IsAdding (asked_of o.asked) (asked_of sets) (left_with o) (left_with mid) (late_with o) (late_with mid) t t es es false) c.self.view_is
-    (adding_nothing (asked_of sets) (left_with mid) (late_with mid) t es c.requires.trail.lies (all_seen c.next_open.new.seen (asked_of sets) t seen c.in-None.ensures.open))
-
 pub returns-in_ok-ask-in-Some-clause-walks : goal.returns-in_ok-ask-in-Some-clause-walks
 returns-in_ok-ask-in-Some-clause-walks g c =
     let tests = g.S.States.tests in
@@ -121,5 +110,118 @@ returns-in_ok-ask-in-Some-clause-walks g c =
     subst (λ (o : EncodedView). KeepsWalks (Follows o) es t (Follows new) more wide) c.self.view_is
     (asked_walks c.in-Some.vertex c.in-Some.state mid new t wide es more c.in_ok-ask-in-Some.ensures spaced c.requires.trail alone.0 ((alone.1).1) ((alone.1).2) (only_below sets t c.in-Some.vertex c.in-Some.state spaced ((alone.1).0)))
 
-pub returns-in_ok-self-inside-in-None-clause-walks : goal.returns-in_ok-self-inside-in-None-clause-walks
-returns-in_ok-self-inside-in-None-clause-walks g c x is = (subst (λ (o : EncodedView). Follows o x) c.self.view_is is, λ walked. walked)
+pub returns-in_ok-ask-in-Some-2-clause-adding : goal.returns-in_ok-ask-in-Some-2-clause-adding
+returns-in_ok-ask-in-Some-2-clause-adding g c =
+    let tests = g.S.States.tests in
+    let f = c.self.inside in
+    let sets = map tests f.asked.items in
+    let t = trail_view tests c.args.trail.now in
+    let wide = trail_view tests c.ask-in-Some-2.new.trail in
+    let es = entries_view tests c.args.store.now in
+    let more = entries_view tests c.ask-in-Some-2.new.store in
+    let new = c.ask-in-Some-2.new.self in
+    let seen = c.next_open.new.seen in
+    let mid = encoded_view (problem f.inputs) f.table sets seen f.follows in
+    let spaced : HasSpaces (map length sets) t = subst (λ (o : EncodedView). HasSpaces (map length o.asked) t) (sym c.self.view_is) c.requires.spaces in
+    let can : CanAsk t sets c.in-Some-2.vertex c.in-Some-2.state = subst (λ o. IfSome o (λ d. CanAsk t sets d.0 d.1)) c.in-Some-2.is c.in_ok-vertex-in-None.ensures in
+    subst (λ (o : EncodedView). IsAdding (asked_of o.asked) (asked_of new.asked) (left_with o) (left_with new) (late_with o) (late_with new) t wide es more true) c.self.view_is
+    (asked_adding c.in-Some-2.vertex c.in-Some-2.state mid new t wide es more c.in_ok-ask-in-Some-2.ensures spaced c.requires.trail can.0 can.1 can.2 can.3)
+
+pub returns-in_ok-ask-in-Some-2-clause-seen : goal.returns-in_ok-ask-in-Some-2-clause-seen
+returns-in_ok-ask-in-Some-2-clause-seen g c =
+    let tests = g.S.States.tests in
+    let f = c.self.inside in
+    let sets = map tests f.asked.items in
+    let t = trail_view tests c.args.trail.now in
+    let wide = trail_view tests c.ask-in-Some-2.new.trail in
+    let es = entries_view tests c.args.store.now in
+    let more = entries_view tests c.ask-in-Some-2.new.store in
+    let new = c.ask-in-Some-2.new.self in
+    let seen = c.next_open.new.seen in
+    let mid = encoded_view (problem f.inputs) f.table sets seen f.follows in
+    let spaced : HasSpaces (map length sets) t = subst (λ (o : EncodedView). HasSpaces (map length o.asked) t) (sym c.self.view_is) c.requires.spaces in
+    let can : CanAsk t sets c.in-Some-2.vertex c.in-Some-2.state = subst (λ o. IfSome o (λ d. CanAsk t sets d.0 d.1)) c.in-Some-2.is c.in_ok-vertex-in-None.ensures in
+    asked_seen c.in-Some-2.vertex c.in-Some-2.state mid new t wide es more c.in_ok-ask-in-Some-2.ensures spaced c.requires.trail can.0 can.1 can.2 can.3
+    (subst (λ l. IsSeen seen (asked_of (map tests l)) t) c.deref.ensures.value c.next_open.ensures.seen)
+
+pub returns-in_ok-ask-in-Some-2-clause-given : goal.returns-in_ok-ask-in-Some-2-clause-given
+returns-in_ok-ask-in-Some-2-clause-given g c was =
+    let tests = g.S.States.tests in
+    let f = c.self.inside in
+    let sets = map tests f.asked.items in
+    let t = trail_view tests c.args.trail.now in
+    let wide = trail_view tests c.ask-in-Some-2.new.trail in
+    let es = entries_view tests c.args.store.now in
+    let more = entries_view tests c.ask-in-Some-2.new.store in
+    let new = c.ask-in-Some-2.new.self in
+    let seen = c.next_open.new.seen in
+    let mid = encoded_view (problem f.inputs) f.table sets seen f.follows in
+    let spaced : HasSpaces (map length sets) t = subst (λ (o : EncodedView). HasSpaces (map length o.asked) t) (sym c.self.view_is) c.requires.spaces in
+    let can : CanAsk t sets c.in-Some-2.vertex c.in-Some-2.state = subst (λ o. IfSome o (λ d. CanAsk t sets d.0 d.1)) c.in-Some-2.is c.in_ok-vertex-in-None.ensures in
+    asked_given c.in-Some-2.vertex c.in-Some-2.state mid new t wide es more c.in_ok-ask-in-Some-2.ensures spaced c.requires.trail can.0 can.1 can.2 can.3
+    (subst (λ (o : EncodedView). walking.AreGiven (IsOfInstance o.problem o.vertices) es) (sym c.self.view_is) was)
+
+pub returns-in_ok-ask-in-Some-2-clause-stored : goal.returns-in_ok-ask-in-Some-2-clause-stored
+returns-in_ok-ask-in-Some-2-clause-stored g c was =
+    let tests = g.S.States.tests in
+    let f = c.self.inside in
+    let sets = map tests f.asked.items in
+    let t = trail_view tests c.args.trail.now in
+    let wide = trail_view tests c.ask-in-Some-2.new.trail in
+    let es = entries_view tests c.args.store.now in
+    let more = entries_view tests c.ask-in-Some-2.new.store in
+    let new = c.ask-in-Some-2.new.self in
+    let seen = c.next_open.new.seen in
+    let mid = encoded_view (problem f.inputs) f.table sets seen f.follows in
+    let spaced : HasSpaces (map length sets) t = subst (λ (o : EncodedView). HasSpaces (map length o.asked) t) (sym c.self.view_is) c.requires.spaces in
+    let can : CanAsk t sets c.in-Some-2.vertex c.in-Some-2.state = subst (λ o. IfSome o (λ d. CanAsk t sets d.0 d.1)) c.in-Some-2.is c.in_ok-vertex-in-None.ensures in
+    asked_stored c.in-Some-2.vertex c.in-Some-2.state mid new t wide es more c.in_ok-ask-in-Some-2.ensures spaced c.requires.trail can.0 can.1 can.2 can.3
+    (subst (λ (o : EncodedView). AreStored o.problem o.vertices o.asked es) (sym c.self.view_is) was)
+
+pub returns-in_ok-ask-in-Some-2-clause-walks : goal.returns-in_ok-ask-in-Some-2-clause-walks
+returns-in_ok-ask-in-Some-2-clause-walks g c =
+    let tests = g.S.States.tests in
+    let f = c.self.inside in
+    let sets = map tests f.asked.items in
+    let t = trail_view tests c.args.trail.now in
+    let wide = trail_view tests c.ask-in-Some-2.new.trail in
+    let es = entries_view tests c.args.store.now in
+    let more = entries_view tests c.ask-in-Some-2.new.store in
+    let new = c.ask-in-Some-2.new.self in
+    let seen = c.next_open.new.seen in
+    let mid = encoded_view (problem f.inputs) f.table sets seen f.follows in
+    let spaced : HasSpaces (map length sets) t = subst (λ (o : EncodedView). HasSpaces (map length o.asked) t) (sym c.self.view_is) c.requires.spaces in
+    let can : CanAsk t sets c.in-Some-2.vertex c.in-Some-2.state = subst (λ o. IfSome o (λ d. CanAsk t sets d.0 d.1)) c.in-Some-2.is c.in_ok-vertex-in-None.ensures in
+    subst (λ (o : EncodedView). KeepsWalks (Follows o) es t (Follows new) more wide) c.self.view_is
+    (asked_walks c.in-Some-2.vertex c.in-Some-2.state mid new t wide es more c.in_ok-ask-in-Some-2.ensures spaced c.requires.trail can.0 can.1 can.2 can.3)
+
+pub returns-in-None-2-clause-adding : goal.returns-in-None-2-clause-adding
+returns-in-None-2-clause-adding g c =
+    let tests = g.S.States.tests in
+    let f = c.self.inside in
+    let sets = map tests f.asked.items in
+    let t = trail_view tests c.args.trail.now in
+    let es = entries_view tests c.args.store.now in
+    let mid = encoded_view (problem f.inputs) f.table sets c.next_open.new.seen f.follows in
+    let seen : IsSeen c.next_open.new.seen (asked_of sets) t = subst (λ l. IsSeen c.next_open.new.seen (asked_of (map tests l)) t) c.deref.ensures.value c.next_open.ensures.seen in
+    subst (λ (o : EncodedView). IsAdding (asked_of o.asked) (asked_of sets) (left_with o) (left_with mid) (late_with o) (late_with mid) t t es es false) c.self.view_is
+    (adding_nothing (asked_of sets) (left_with mid) (late_with mid) t es c.requires.trail.lies (all_seen c.next_open.new.seen (asked_of sets) t seen c.in-None.ensures.open))
+
+pub returns-in-None-2-clause-walks : goal.returns-in-None-2-clause-walks
+returns-in-None-2-clause-walks g c x is = (subst (λ (o : EncodedView). Follows o x) c.self.view_is is, λ walked. walked)
+
+pub returns-in_ok-ask-in-Some-2-clause-spaces : goal.returns-in_ok-ask-in-Some-2-clause-spaces
+returns-in_ok-ask-in-Some-2-clause-spaces g c =
+    let tests = g.S.States.tests in
+    let f = c.self.inside in
+    let sets = map tests f.asked.items in
+    let t = trail_view tests c.args.trail.now in
+    let wide = trail_view tests c.ask-in-Some-2.new.trail in
+    let es = entries_view tests c.args.store.now in
+    let more = entries_view tests c.ask-in-Some-2.new.store in
+    let new = c.ask-in-Some-2.new.self in
+    let seen = c.next_open.new.seen in
+    let mid = encoded_view (problem f.inputs) f.table sets seen f.follows in
+    let spaced : HasSpaces (map length sets) t = subst (λ (o : EncodedView). HasSpaces (map length o.asked) t) (sym c.self.view_is) c.requires.spaces in
+    let can : CanAsk t sets c.in-Some-2.vertex c.in-Some-2.state = subst (λ o. IfSome o (λ d. CanAsk t sets d.0 d.1)) c.in-Some-2.is c.in_ok-vertex-in-None.ensures in
+    asked_spaces c.in-Some-2.vertex c.in-Some-2.state mid new t wide es more c.in_ok-ask-in-Some-2.ensures spaced c.requires.trail can.0 can.1 can.2 can.3
