@@ -15,6 +15,9 @@ use propagation::{Satisfier, Trail};
 use std::alloc::{AllocError, Global};
 use version_sets::States;
 
+/// An incompatibility of so many terms is short.
+const SHORT: usize = 3;
+
 /// How the resolution of a conflict ends.
 #[derive(Clone, Copy, PartialEq, Eq, Debug)]
 pub enum Outcome {
@@ -72,7 +75,19 @@ fn is_learned<S: States + Drop>(trail: &Trail<S>, incompatibility: &Incompatibil
     found.before < found.level
 }
 
-/// Puts the combination of two entries into the store, to be watched if it is learned.
+/// Whether an incompatibility that is satisfied now is to be watched: if it is learned, or short, for then it is often
+/// what forces the next assignment, and refusals that use it are shorter.
+fn is_watched<S: States + Drop>(trail: &Trail<S>, incompatibility: &Incompatibility<S>) -> bool
+    requires sound { IsSound (trail_view S.tests trail.now) }
+    requires lies { LiesIn (space_of (trail_view S.tests trail.now)) (states_at (terms_view S.tests incompatibility.now)) }
+    requires satisfied { Sat (trail_view S.tests trail.now).sets (states_at (terms_view S.tests incompatibility.now)) }
+    ensures { Learns (trail_view S.tests trail.now) (terms_view S.tests incompatibility.now) result }
+{
+    let is_short = incompatibility.terms().len() <= SHORT;
+    is_learned(trail, incompatibility) | is_short
+}
+
+/// Puts the combination of two entries into the store, to be watched if it is learned or short.
 fn add_combination<S: States + Drop>(
     alloc: Global,
     trail: &Trail<S>,
@@ -89,7 +104,7 @@ fn add_combination<S: States + Drop>(
     ensures kept { OnErr result (entries_view S.tests store.new ≡ entries_view S.tests store.old) }
 {
     let made = combine(alloc, store.get(first), store.get(second), vertex)?;
-    let watched = is_learned(trail, &made);
+    let watched = is_watched(trail, &made);
     store.add(
         made,
         Origin::Combined {
@@ -103,7 +118,7 @@ fn add_combination<S: States + Drop>(
 
 /// Learns from a satisfied incompatibility: combines it with what forced its satisfier, until all its terms but one
 /// were satisfied at an earlier level, and cuts the trail to that level. The store gains each combination, of which the
-/// last, which is learned, is watched.
+/// last, which is learned, and the short ones are watched.
 ///
 /// Where memory is refused, the trail is as it was before, and the store has gained some of the combinations.
 pub fn resolve_conflict<S: States + Drop>(
