@@ -1,8 +1,11 @@
 //! `commands`: one run of `relock`: words in, files read, a status and two texts out.
 #![tactic(auto)]
 
+mod disk;
 mod files;
+mod printing;
 mod running;
+mod sources;
 mod stop;
 
 pub use running::{run, without_arguments};

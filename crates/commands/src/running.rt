@@ -1,89 +1,273 @@
 //! One run of the program: words in, a status and two texts out.
 
-use crate::files::{open, read_lock, read_manifest, read_old, read_proof, write_proof};
+ghost use Rattle.std.specs.Prelude.{◌≡◌, true, IfOk, option_copied, string_bytes};
+ghost use Rattle.words.specs.Asked.{verify, check, explain};
+ghost use Rattle.words.specs.Views.{text_if};
+ghost use Rattle.commands.specs.Commands.{Answers, IsAnswerTo, IsCheckOf, IsDerivationOf, IsTextOf, IsVerdictOf, preference};
+ghost use Rattle.commands.specs.Disks.{bytes_if};
+ghost use Rattle.commands.specs.Refusals.{IsRefused, IsRefusalTold};
+ghost use Rattle.commands.specs.Lines.{IsEnded, status_of};
+ghost use Rattle.commands.specs.Stops.{is_stopped};
+
+use crate::disk::{Disk, System};
+use crate::files::{read_lock, read_manifest, read_old, read_proof};
+use crate::printing::{Ended, print_answer, print_bytes, print_check, print_verdict};
+use crate::sources::source_of;
 use crate::stop::Stop;
-use catalogue::{Prefer, Source, SourceFault};
+use catalogue::Prefer;
 use checker::Check;
 use derivations::Derivation;
 use explainer::explain;
-use index_reader::Skip;
 use resolver::{Answer, Fault, check_bytes, resolve, verify_bytes};
 use selection::Verdict;
-use std::alloc::AllocError;
 use std::io::{self, ErrorKind, Write};
 use std::rt::Files;
 use words::{Words, WordsFault, read_words};
 
-/// The status of a lock that is no valid selection.
-const INVALID: u8 = 1;
-
-/// The status of a manifest that has no lock.
-const UNSOLVABLE: u8 = 1;
-
-/// The status of a derivation that proves nothing.
-const REFUSED: u8 = 1;
-
 /// The status of wrong use, of a fault, of a file that can't be read and of output that can't be written.
 const FAILED: u8 = 2;
-
-/// The source of packages where the words name none.
-const CRATES_IO: &str = "registry+https://github.com/rust-lang/crates.io-index";
 
 /// Does what the words ask, the program's name first, and answers the exit status.
 ///
 /// The answer of a command goes to `out`, help too; every other line goes to `err`. A write to `err` that fails is
 /// passed over.
-pub fn run<R: Files + AllocGlobal + Clone + Drop>(
+pub fn run<R: Files + AllocGlobal + Clone + Drop, O: Write, E: Write>(
     rt: &R,
     words: &[String],
-    out: &mut impl Write,
-    err: &mut impl Write,
+    out: &mut O,
+    err: &mut E,
 ) -> u8 {
-    let words = match read_words(rt.alloc(), words) {
-        Ok(words) => words,
-        Err(fault) => return without_words(&fault, out, err),
-    };
-    let ended = match &words {
+    let disk = System { rt };
+    run_on(&disk, words, out, err).0
+}
+
+/// The same on any disk; also says whether all that is told on standard error was written.
+fn run_on<D: Disk, O: Write, E: Write>(
+    disk: &D,
+    words: &[String],
+    out: &mut O,
+    err: &mut E,
+) -> (u8, bool) {
+    match read_words(disk.alloc(), words) {
+        Ok(words) => finish(answered(disk, &words, out, err), err),
+        Err(fault) => without_words(&fault, out, err),
+    }
+}
+
+/// What a command answers.
+fn answered<'a, D: Disk, O: Write, E: Write>(
+    disk: &D,
+    words: &Words<'a>,
+    out: &mut O,
+    err: &mut E,
+) -> Ended<'a> {
+    match words {
         Words::Verify {
             manifest,
             index,
             lock,
             source,
-        } => run_verify(rt, manifest, index, lock, *source, out),
+        } => quiet(verify_at(disk, manifest, index, lock, *source, out)),
         Words::Resolve {
             manifest,
             index,
             lock,
             source,
-            rust_first,
             proof,
-        } => {
-            let request = Request {
-                manifest,
-                index,
-                lock: *lock,
-                source: *source,
-                rust_first: *rust_first,
-            };
-            match answer_to(rt, &request) {
-                Ok(answer) => print_answer(rt, &answer, *proof, out, err),
-                Err(stop) => Err(stop),
-            }
-        }
+            rust_first,
+        } => match answer_at(disk, manifest, index, *lock, *source, *rust_first) {
+            Ok(answer) => print_answer(disk, &answer, *proof, out, err),
+            Err(stop) => quiet(Err(stop)),
+        },
         Words::Check {
             manifest,
             index,
             lock,
             source,
             proof,
-        } => run_check(rt, manifest, index, *lock, *source, proof, out),
-        Words::Explain { proof } => run_explain(rt, proof, out),
-    };
-    match ended {
-        Ok(status) => status,
+        } => quiet(check_at(disk, manifest, index, *lock, *source, proof, out)),
+        Words::Explain { proof } => quiet(explain_at(disk, proof, out)),
+    }
+}
+
+/// A command that has told nothing on standard error.
+fn quiet<'a>(status: Result<u8, Stop<'a>>) -> Ended<'a>
+    ensures status { result.status ≡ status.entry }
+    ensures told { result.told ≡ true }
+{
+    Ended { status, told: true }
+}
+
+fn verify_at<'a, D: Disk, O: Write>(
+    disk: &D,
+    manifest: &'a str,
+    index: &str,
+    lock: &'a str,
+    source: Option<&str>,
+    out: &mut O,
+) -> Result<u8, Stop<'a>>
+    ensures answers { IfOk result (Answers (D.reads disk.now) (D.writes disk.now) (D.opens disk.now) D.Index.calls D.Index.failed (verify manifest.entry.now index.now lock.entry.now (text_if source.entry)) (O.contents out.old) (O.contents out.new)) }
+    ensures stopped { is_stopped result ≡ true → out.new ≡ out.old }
+{
+    let verdict = verdict_at(disk, manifest, index, lock, source)?;
+    let status = print_verdict(&verdict, out)?;
+    Ok(status)
+}
+
+/// The verdict on the lock.
+fn verdict_at<'a, D: Disk>(
+    disk: &D,
+    manifest: &'a str,
+    index: &str,
+    lock: &'a str,
+    source: Option<&str>,
+) -> Result<Verdict, Stop<'a>>
+    ensures { IfOk result (IsVerdictOf (D.reads disk.now) (D.opens disk.now) D.Index.calls D.Index.failed manifest.entry.now index.now lock.entry.now (text_if source.entry)) }
+{
+    let from = source_of(disk.alloc(), source)?;
+    let bytes = read_manifest(disk, manifest)?;
+    let locked = read_lock(disk, lock)?;
+    let mut folder = disk.open(index)?;
+    let verdict = verify_bytes(
+        disk.alloc(),
+        bytes.as_slice(),
+        &mut folder,
+        locked.as_slice(),
+        &from,
+    )?;
+    Ok(verdict)
+}
+
+/// The answer to the manifest, and to the old lock if there is one.
+fn answer_at<'a, D: Disk>(
+    disk: &D,
+    manifest: &'a str,
+    index: &str,
+    lock: Option<&'a str>,
+    source: Option<&str>,
+    rust_first: bool,
+) -> Result<Answer, Stop<'a>>
+    ensures { IfOk result (IsAnswerTo (D.reads disk.now) (D.opens disk.now) D.Index.calls D.Index.failed manifest.entry.now index.now (text_if lock.entry) (text_if source.entry) rust_first) }
+{
+    let from = source_of(disk.alloc(), source)?;
+    let bytes = read_manifest(disk, manifest)?;
+    let old = read_old(disk, lock)?;
+    let given = slice_if(&old);
+    let mut folder = disk.open(index)?;
+    let prefer = preference(rust_first);
+    let answer = resolve(
+        disk.alloc(),
+        bytes.as_slice(),
+        &mut folder,
+        given,
+        &from,
+        prefer,
+    )?;
+    Ok(answer)
+}
+
+fn preference(rust_first: bool) -> Prefer
+    ensures { result ≡ preference rust_first }
+{
+    if rust_first {
+        Prefer::RustFirst
+    } else {
+        Prefer::Newest
+    }
+}
+
+fn slice_if(bytes: &Option<Vec<u8>>) -> Option<&[u8]>
+    ensures { option_copied result ≡ bytes_if bytes.now }
+{
+    match bytes {
+        Some(bytes) => Some(bytes.as_slice()),
+        None => None,
+    }
+}
+
+fn check_at<'a, D: Disk, O: Write>(
+    disk: &D,
+    manifest: &'a str,
+    index: &str,
+    lock: Option<&'a str>,
+    source: Option<&str>,
+    proof: &'a str,
+    out: &mut O,
+) -> Result<u8, Stop<'a>>
+    ensures answers { IfOk result (Answers (D.reads disk.now) (D.writes disk.now) (D.opens disk.now) D.Index.calls D.Index.failed (check manifest.entry.now index.now (text_if lock.entry) (text_if source.entry) proof.entry.now) (O.contents out.old) (O.contents out.new)) }
+    ensures stopped { is_stopped result ≡ true → out.new ≡ out.old }
+{
+    let checked = checked_at(disk, manifest, index, lock, source, proof)?;
+    let status = print_check(&checked, out)?;
+    Ok(status)
+}
+
+/// What is said of the derivation.
+fn checked_at<'a, D: Disk>(
+    disk: &D,
+    manifest: &'a str,
+    index: &str,
+    lock: Option<&'a str>,
+    source: Option<&str>,
+    proof: &'a str,
+) -> Result<Check, Stop<'a>>
+    ensures { IfOk result (IsCheckOf (D.reads disk.now) (D.opens disk.now) D.Index.calls D.Index.failed manifest.entry.now index.now (text_if lock.entry) (text_if source.entry) proof.entry.now) }
+{
+    let from = source_of(disk.alloc(), source)?;
+    let bytes = read_manifest(disk, manifest)?;
+    let old = read_old(disk, lock)?;
+    let given = slice_if(&old);
+    let derivation = read_proof(disk, proof)?;
+    let mut folder = disk.open(index)?;
+    let checked = check_bytes(
+        disk.alloc(),
+        bytes.as_slice(),
+        &mut folder,
+        given,
+        derivation.as_slice(),
+        &from,
+    )?;
+    Ok(checked)
+}
+
+fn explain_at<'a, D: Disk, O: Write>(disk: &D, proof: &'a str, out: &mut O) -> Result<u8, Stop<'a>>
+    ensures answers { IfOk result (Answers (D.reads disk.now) (D.writes disk.now) (D.opens disk.now) D.Index.calls D.Index.failed (explain proof.entry.now) (O.contents out.old) (O.contents out.new)) }
+    ensures stopped { is_stopped result ≡ true → out.new ≡ out.old }
+{
+    let text = text_at(disk, proof)?;
+    let status = print_bytes(text.as_bytes(), out)?;
+    Ok(status)
+}
+
+/// The text of the derivation.
+fn text_at<'a, D: Disk>(disk: &D, proof: &'a str) -> Result<String, Stop<'a>>
+    ensures { IfOk result (λ text. IsTextOf (D.reads disk.now) proof.entry.now (string_bytes text)) }
+{
+    let derivation = derivation_at(disk, proof)?;
+    let text = explain(disk.alloc(), &derivation)?;
+    Ok(text)
+}
+
+/// The derivation of a file, whose bytes are let go.
+fn derivation_at<'a, D: Disk>(disk: &D, proof: &'a str) -> Result<Derivation, Stop<'a>>
+    ensures { IfOk result (IsDerivationOf (D.reads disk.now) proof.entry.now) }
+{
+    let bytes = read_proof(disk, proof)?;
+    let derivation = derivations::read(disk.alloc(), bytes.as_slice())?;
+    Ok(derivation)
+}
+
+/// Prints why there is no answer, where there is none; gives the status, and whether all was told.
+fn finish<'a, E: Write>(ended: Ended<'a>, err: &mut E) -> (u8, bool)
+    ensures status { result.0 ≡ status_of ended.entry.status }
+    ensures told { result.1 ≡ true → (ended.entry.told ≡ true) × IsEnded (E.contents err.old) (E.contents err.new) ended.entry.status }
+{
+    let Ended { status, told } = ended;
+    match status {
+        Ok(status) => (status, told),
         Err(stop) => {
-            let _ = writeln!(err, "{stop}");
-            FAILED
+            let is_told = writeln!(err, "{stop}").is_ok();
+            (FAILED, told && is_told)
         }
     }
 }
@@ -91,7 +275,9 @@ pub fn run<R: Files + AllocGlobal + Clone + Drop>(
 /// Prints why the command line can't be read, to `err`, and answers the exit status.
 ///
 /// That is wrong use, unless memory was refused.
-pub fn without_arguments(error: &io::Error, err: &mut impl Write) -> u8 {
+pub fn without_arguments<E: Write>(error: &io::Error, err: &mut E) -> u8
+    ensures { result ≡ 2 }
+{
     let _ = if error.kind() == ErrorKind::OutOfMemory {
         writeln!(err, "{}", Fault::OutOfMemory)
     } else {
@@ -100,193 +286,17 @@ pub fn without_arguments(error: &io::Error, err: &mut impl Write) -> u8 {
     FAILED
 }
 
-/// Help goes to standard output, wrong use to standard error.
-fn without_words(fault: &WordsFault, out: &mut impl Write, err: &mut impl Write) -> u8 {
+/// Help goes to standard output, wrong use to standard error; gives the status, and whether all was told.
+fn without_words<O: Write, E: Write>(fault: &WordsFault, out: &mut O, err: &mut E) -> (u8, bool)
+    ensures printed { IsRefused (O.contents out.old) (O.contents out.new) fault.now result.0 }
+    ensures told { result.1 ≡ true → IsRefusalTold (E.contents err.old) (E.contents err.new) fault.now result.0 }
+{
     match fault {
         WordsFault::Help(text) => match write!(out, "{text}") {
-            Ok(()) => return 0,
-            Err(_) => {
-                let _ = writeln!(err, "cannot write");
-            }
+            Ok(()) => (0, true),
+            Err(_) => (FAILED, writeln!(err, "cannot write").is_ok()),
         },
-        WordsFault::Wrong(text) => {
-            let _ = write!(err, "{text}");
-        }
-        WordsFault::OutOfMemory => {
-            let _ = writeln!(err, "{}", Fault::OutOfMemory);
-        }
-    }
-    FAILED
-}
-
-fn run_verify<'a, R: Files + AllocGlobal + Clone + Drop>(
-    rt: &R,
-    manifest: &'a str,
-    index: &str,
-    lock: &'a str,
-    source: Option<&str>,
-    out: &mut impl Write,
-) -> Result<u8, Stop<'a>> {
-    let source = source_of(rt, source)?;
-    let manifest = read_manifest(rt, manifest)?;
-    let lock = read_lock(rt, lock)?;
-    let mut folder = open(rt, index)?;
-    let verdict = verify_bytes(
-        rt.alloc(),
-        manifest.as_slice(),
-        &mut folder,
-        lock.as_slice(),
-        &source,
-    )?;
-    print_verdict(&verdict, out)
-}
-
-fn print_verdict<'a>(verdict: &Verdict, out: &mut impl Write) -> Result<u8, Stop<'a>> {
-    let (written, status) = match verdict {
-        Verdict::Valid => (writeln!(out, "valid"), 0),
-        Verdict::Invalid {
-            fault,
-            name,
-            version,
-        } => (
-            writeln!(out, "invalid {fault} at {name} {version}"),
-            INVALID,
-        ),
-    };
-    after(written, status)
-}
-
-/// What a lock is asked for.
-#[derive(Drop)]
-struct Request<'a> {
-    manifest: &'a str,
-    index: &'a str,
-    lock: Option<&'a str>,
-    source: Option<&'a str>,
-    rust_first: bool,
-}
-
-fn answer_to<'a, R: Files + AllocGlobal + Clone + Drop>(
-    rt: &R,
-    request: &Request<'a>,
-) -> Result<Answer, Stop<'a>> {
-    let source = source_of(rt, request.source)?;
-    let manifest = read_manifest(rt, request.manifest)?;
-    let old = read_old(rt, request.lock)?;
-    let mut folder = open(rt, request.index)?;
-    let prefer = if request.rust_first {
-        Prefer::RustFirst
-    } else {
-        Prefer::Newest
-    };
-    let answer = resolve(
-        rt.alloc(),
-        manifest.as_slice(),
-        &mut folder,
-        old.as_ref().map(|bytes| bytes.as_slice()),
-        &source,
-        prefer,
-    )?;
-    Ok(answer)
-}
-
-/// A lock goes to `out`; of a refusal the derivation goes to the file for it, and then the text to `err`.
-fn print_answer<'a, R: Files + AllocGlobal>(
-    rt: &R,
-    answer: &Answer,
-    proof: Option<&'a str>,
-    out: &mut impl Write,
-    err: &mut impl Write,
-) -> Result<u8, Stop<'a>> {
-    match answer {
-        Answer::Lock { bytes, skips, .. } => {
-            print_skips(skips.as_slice(), err);
-            after(out.write_all(bytes.as_slice()), 0)
-        }
-        Answer::Unsolvable {
-            derivation,
-            text,
-            skips,
-        } => {
-            print_skips(skips.as_slice(), err);
-            write_proof(rt, proof, derivation)?;
-            let _ = err.write_all(text.as_bytes());
-            Ok(UNSOLVABLE)
-        }
-    }
-}
-
-fn print_skips(skips: &[Skip], err: &mut impl Write) {
-    for skip in skips {
-        let Skip { name, line, reason } = skip;
-        let _ = writeln!(err, "skip {name} line {line} {reason}");
-    }
-}
-
-fn run_check<'a, R: Files + AllocGlobal + Clone + Drop>(
-    rt: &R,
-    manifest: &'a str,
-    index: &str,
-    lock: Option<&'a str>,
-    source: Option<&str>,
-    proof: &'a str,
-    out: &mut impl Write,
-) -> Result<u8, Stop<'a>> {
-    let source = source_of(rt, source)?;
-    let manifest = read_manifest(rt, manifest)?;
-    let old = read_old(rt, lock)?;
-    let proof = read_proof(rt, proof)?;
-    let mut folder = open(rt, index)?;
-    let checked = check_bytes(
-        rt.alloc(),
-        manifest.as_slice(),
-        &mut folder,
-        old.as_ref().map(|bytes| bytes.as_slice()),
-        proof.as_slice(),
-        &source,
-    )?;
-    print_check(&checked, out)
-}
-
-fn print_check<'a>(checked: &Check, out: &mut impl Write) -> Result<u8, Stop<'a>> {
-    let status = match checked {
-        Check::Proves => 0,
-        Check::Refused { .. } => REFUSED,
-    };
-    after(writeln!(out, "{checked}"), status)
-}
-
-fn run_explain<'a, R: Files + AllocGlobal>(
-    rt: &R,
-    proof: &'a str,
-    out: &mut impl Write,
-) -> Result<u8, Stop<'a>> {
-    let derivation = read_derivation(rt, proof)?;
-    let text = explain(rt.alloc(), &derivation)?;
-    after(out.write_all(text.as_bytes()), 0)
-}
-
-/// The derivation of a file, whose bytes are let go.
-fn read_derivation<'a, R: Files + AllocGlobal>(
-    rt: &R,
-    path: &'a str,
-) -> Result<Derivation, Stop<'a>> {
-    let bytes = read_proof(rt, path)?;
-    Ok(derivations::read(rt.alloc(), bytes.as_slice())?)
-}
-
-/// This status, where the answer could be written.
-fn after<'a>(written: io::Result<()>, status: u8) -> Result<u8, Stop<'a>> {
-    match written {
-        Ok(()) => Ok(status),
-        Err(_) => Err(Stop::CannotWrite),
-    }
-}
-
-fn source_of<'a, R: AllocGlobal>(rt: &R, text: Option<&str>) -> Result<Source, Stop<'a>> {
-    match Source::parse(rt.alloc(), text.unwrap_or(CRATES_IO)) {
-        Ok(source) => Ok(source),
-        Err(SourceFault::OutOfMemory) => Err(Stop::from(AllocError)),
-        Err(SourceFault::NotASource) => Err(Stop::BadSource),
+        WordsFault::Wrong(text) => (FAILED, write!(err, "{text}").is_ok()),
+        WordsFault::OutOfMemory => (FAILED, writeln!(err, "{}", Fault::OutOfMemory).is_ok()),
     }
 }

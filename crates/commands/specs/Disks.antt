@@ -1,0 +1,58 @@
+-- What a run reads of a disk and writes to it: by which path, how much, and how it ends where that can't be done.
+use Rattle.std.specs.Prelude.{◌≡◌, ◌≢◌, ◌⊎◌, ℕ, Bool, true, false, List, Option, Some, None, option_map, Result, Ok, Err, Vec}
+use Rattle.std.specs.declared.alloc.Global.{Global}
+use Rattle.commands.specs.declared.disk.FileFault.{FileFault}
+use Rattle.commands.specs.declared.disk.FileFault.TheVariants.{OutOfMemory, NotFound, Unreadable}
+use Rattle.commands.specs.declared.stop.Stop.{Stop}
+use Rattle.model.specs.Derivation.{Step}
+use Rattle.derivations.specs.Written.{lines_of}
+use Rattle.commands.specs.Stops.{StopView, cannot_read, cannot_write_file, out_of_memory, stop_view}
+
+-- one byte more than a manifest may have
+abbrev pub most_of_manifest : ℕ
+most_of_manifest = 1_048_577
+
+-- one byte more than a lock may have
+abbrev pub most_of_lock : ℕ
+most_of_lock = 67_108_865
+
+-- a derivation is read whole
+abbrev pub most_of_proof : ℕ
+most_of_proof = 18_446_744_073_709_551_615
+
+abbrev pub file_stop : List ℕ → FileFault → StopView
+file_stop path OutOfMemory = out_of_memory
+file_stop path NotFound = cannot_read path
+file_stop path Unreadable = cannot_read path
+
+-- what reading gives, by the path and by how many bytes are wanted at most
+abbrev pub Reads : Type 1
+Reads = List ℕ → ℕ → Result (Vec ℕ Global) FileFault → Type 0
+
+module _ (reads : Reads) where
+  -- a file that has to be there
+  abbrev pub IsFile : List ℕ → ℕ → Result (Vec ℕ Global) Stop → Type 0
+  IsFile path most (Ok bytes) = reads path most (Ok bytes)
+  IsFile path most (Err stop) = (fault : FileFault) × reads path most (Err fault) × (stop_view stop ≡ file_stop path fault)
+
+  -- an old lock: none where no path is given, and none where there is no file
+  abbrev pub IsOld : Option (List ℕ) → Result (Option (Vec ℕ Global)) Stop → Type 0
+  IsOld None given = given ≡ Ok None
+  IsOld (Some path) (Ok (Some bytes)) = reads path most_of_lock (Ok bytes)
+  IsOld (Some path) (Ok None) = reads path most_of_lock (Err NotFound)
+  IsOld (Some path) (Err stop) = (fault : FileFault) × reads path most_of_lock (Err fault) × (fault ≢ NotFound) × (stop_view stop ≡ file_stop path fault)
+
+abbrev pub bytes_if : Option (Vec ℕ Global) → Option (List ℕ)
+bytes_if o = option_map (λ v. v.items) o
+
+-- whether bytes came to be the file at a path
+abbrev pub Writes : Type 1
+Writes = List ℕ → List ℕ → Bool → Type 0
+
+module _ (writes : Writes) where
+  -- the file of a derivation, where one is named
+  abbrev pub IsKept : Option (List ℕ) → List Step → Result (Unit {0}) Stop → Type 0
+  IsKept None steps given = given ≡ Ok tt
+  IsKept (Some path) steps (Ok given) = writes path (lines_of steps) true
+  IsKept (Some path) steps (Err stop) = (stop_view stop ≡ out_of_memory)
+      ⊎ (writes path (lines_of steps) false × (stop_view stop ≡ cannot_write_file path))

@@ -1,0 +1,6 @@
+pub mod Stops
+pub mod Disks
+pub mod Sources
+pub mod Lines
+pub mod Refusals
+pub mod Commands
