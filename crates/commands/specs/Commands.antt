@@ -1,5 +1,5 @@
 -- What the commands do: what they read where the words say, and what they ask of it.
-use Rattle.std.specs.Prelude.{◌≡◌, ℕ, Bool, true, false, List, Option, Some, Ok, Vec}
+use Rattle.std.specs.Prelude.{◌≡◌, ◌⊎◌, ℕ, Bool, true, false, List, Option, Some, None, Result, Ok, Err, IsErr, IfOk, Vec}
 use Rattle.std.specs.Io.KnownBytes.{Appends}
 use Rattle.std.specs.declared.alloc.Global.{Global}
 use Rattle.model.specs.Derivation.{Step}
@@ -10,14 +10,19 @@ use Rattle.checker.specs.declared.outcome.Check.{Check}
 use Rattle.derivations.specs.Files.{derivation_of_bytes}
 use Rattle.explainer.specs.Explanations.{explanation_of}
 use Rattle.selection.specs.declared.verdict.Verdict.{Verdict}
-use Rattle.words.specs.Asked.{WordsView, resolve, verify, check, explain}
+use Rattle.words.specs.Asked.{WordsView, resolve, verify, check, explain, asked, or_help}
+use Rattle.words.specs.Refusals.{Refuses}
+use Rattle.words.specs.declared.reading.WordsFault.{WordsFault}
+use Rattle.commands.specs.Refusals.{IsRefused, IsRefusalTold}
 use Rattle.resolver.specs.Answers.{Resolves, Verifies}
 use Rattle.resolver.specs.Checks.{Checks}
 use Rattle.resolver.specs.declared.resolving.Answer.{Answer}
 use Rattle.resolver.specs.declared.resolving.Answer.TheVariants.{Lock, Unsolvable}
 use Rattle.commands.specs.Disks.{Reads, Writes, IsKept, IsOld, bytes_if, most_of_manifest, most_of_lock, most_of_proof}
-use Rattle.commands.specs.Lines.{verdict_line, verdict_status, check_line, check_status, IsPrinted}
+use Rattle.commands.specs.Lines.{verdict_line, verdict_status, check_line, check_status, IsPrinted, IsEnded, IsTold, status_of}
 use Rattle.commands.specs.Sources.{source_text}
+use Rattle.commands.specs.Stops.{is_stopped}
+use Rattle.commands.specs.declared.stop.Stop.{Stop}
 
 -- `--rust-first`
 abbrev pub preference : Bool → Prefer
@@ -85,6 +90,27 @@ module _ {F : Type 0} (reads : Reads) (opens : List ℕ → F → Type 0) (calls
     pub after : F
     pub checks : Checks calls failed (record { manifest = bytes.items; old = given; source = from; prefer = Newest }) derivation.items folder (Ok check) after
 
+  -- a refusal and a lock come after the skipped lines; nothing else tells anything before it ends
+  abbrev pub Told : WordsView → Option (List ℕ) → Option (List ℕ) → Result ℕ Stop → Type 0
+  Told (resolve manifest index lock source proof rust_first) old new given =
+      ((answer : Answer) × IsAnswerTo manifest index lock source rust_first answer × IsTold old new answer given) ⊎ (IsErr given × (new ≡ old))
+  Told (verify manifest index lock source) old new given = new ≡ old
+  Told (check manifest index lock source proof) old new given = new ≡ old
+  Told (explain proof) old new given = new ≡ old
+
+  -- what a run whose words are taken tells on standard error: what the command tells, and then why it has no answer
+  pub record IsToldOf (words : List (List ℕ)) (old new : Option (List ℕ)) (status : ℕ) : Type 0 where
+    pub view : WordsView
+    pub asks : asked words ≡ Some view
+    pub given : Result ℕ Stop
+    pub status_is : status ≡ status_of given
+    pub between : Option (List ℕ)
+    pub told : Told view old between given
+    pub ended : IsEnded between new given
+
+  abbrev pub Tells : List (List ℕ) → Option (List ℕ) → Option (List ℕ) → ℕ → Type 0
+  Tells words old new status = IsToldOf words old new status ⊎ ((fault : WordsFault) × Refuses (or_help words) fault × IsRefusalTold old new fault status)
+
 -- the derivation of a refusal is in the file that is named, if one is
 abbrev pub IsFiled : Writes → Option (List ℕ) → Answer → Type 0
 IsFiled writes path (Lock bytes kept skips) = Unit {0}
@@ -97,3 +123,16 @@ module _ {F : Type 0} (reads : Reads) (writes : Writes) (opens : List ℕ → F 
   Answers (verify manifest index lock source) old new status = (verdict : Verdict) × IsVerdictOf reads opens calls failed manifest index lock source verdict × (status ≡ verdict_status verdict) × Appends old new (verdict_line verdict)
   Answers (check manifest index lock source proof) old new status = (c : Check) × IsCheckOf reads opens calls failed manifest index lock source proof c × (status ≡ check_status c) × Appends old new (check_line c)
   Answers (explain proof) old new status = (text : List ℕ) × IsTextOf reads proof text × (status ≡ 0) × Appends old new text
+
+  -- a run whose words are taken: its status, and what goes to standard output; that is unchanged where there is no answer that could be written
+  pub record IsRunOf (words : List (List ℕ)) (old new : Option (List ℕ)) (unchanged : Type 0) (status : ℕ) : Type 0 where
+    pub view : WordsView
+    pub asks : asked words ≡ Some view
+    pub given : Result ℕ Stop
+    pub status_is : status ≡ status_of given
+    pub answers : IfOk given (Answers view old new)
+    pub stopped : is_stopped given ≡ true → unchanged
+
+  -- a run: as the words ask, or, where they are refused, what is said of them
+  abbrev pub Runs : List (List ℕ) → Option (List ℕ) → Option (List ℕ) → Type 0 → ℕ → Type 0
+  Runs words old new unchanged status = IsRunOf words old new unchanged status ⊎ ((fault : WordsFault) × Refuses (or_help words) fault × IsRefused old new fault status)

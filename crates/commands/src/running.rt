@@ -1,9 +1,10 @@
 //! One run of the program: words in, a status and two texts out.
 
-ghost use Rattle.std.specs.Prelude.{◌≡◌, true, IfOk, option_copied, string_bytes};
+ghost use Rattle.std.specs.Prelude.{◌≡◌, true, IfOk, map, option_copied, string_bytes};
+ghost use Rattle.index_reader.specs.Folders.{DiskCalls};
 ghost use Rattle.words.specs.Asked.{verify, check, explain};
-ghost use Rattle.words.specs.Views.{text_if};
-ghost use Rattle.commands.specs.Commands.{Answers, IsAnswerTo, IsCheckOf, IsDerivationOf, IsTextOf, IsVerdictOf, preference};
+ghost use Rattle.words.specs.Views.{text_if, words_view};
+ghost use Rattle.commands.specs.Commands.{Answers, IsAnswerTo, IsCheckOf, IsDerivationOf, IsTextOf, IsVerdictOf, Runs, Tells, Told, preference};
 ghost use Rattle.commands.specs.Disks.{bytes_if};
 ghost use Rattle.commands.specs.Refusals.{IsRefused, IsRefusalTold};
 ghost use Rattle.commands.specs.Lines.{IsEnded, status_of};
@@ -36,7 +37,9 @@ pub fn run<R: Files + AllocGlobal + Clone + Drop, O: Write, E: Write>(
     words: &[String],
     out: &mut O,
     err: &mut E,
-) -> u8 {
+) -> u8
+    ensures { Runs (λ _ _ _. Unit {0}) (λ _ _ _. Unit {0}) (λ _ _. Unit {0}) (λ old path answer new. DiskCalls old answer new) (λ count. count) (map string_bytes words.now) (O.contents out.old) (O.contents out.new) (out.new ≡ out.old) result }
+{
     let disk = System { rt };
     run_on(&disk, words, out, err).0
 }
@@ -47,7 +50,10 @@ fn run_on<D: Disk, O: Write, E: Write>(
     words: &[String],
     out: &mut O,
     err: &mut E,
-) -> (u8, bool) {
+) -> (u8, bool)
+    ensures runs { Runs (D.reads disk.now) (D.writes disk.now) (D.opens disk.now) D.Index.calls D.Index.failed (map string_bytes words.now) (O.contents out.old) (O.contents out.new) (out.new ≡ out.old) result.0 }
+    ensures told { result.1 ≡ true → Tells (D.reads disk.now) (D.opens disk.now) D.Index.calls D.Index.failed (map string_bytes words.now) (E.contents err.old) (E.contents err.new) result.0 }
+{
     match read_words(disk.alloc(), words) {
         Ok(words) => finish(answered(disk, &words, out, err), err),
         Err(fault) => without_words(&fault, out, err),
@@ -60,7 +66,11 @@ fn answered<'a, D: Disk, O: Write, E: Write>(
     words: &Words<'a>,
     out: &mut O,
     err: &mut E,
-) -> Ended<'a> {
+) -> Ended<'a>
+    ensures answers { IfOk result.status (Answers (D.reads disk.now) (D.writes disk.now) (D.opens disk.now) D.Index.calls D.Index.failed (words_view words.entry.now) (O.contents out.old) (O.contents out.new)) }
+    ensures stopped { is_stopped result.status ≡ true → out.new ≡ out.old }
+    ensures told { result.told ≡ true → Told (D.reads disk.now) (D.opens disk.now) D.Index.calls D.Index.failed (words_view words.entry.now) (E.contents err.old) (E.contents err.new) result.status }
+{
     match words {
         Words::Verify {
             manifest,
