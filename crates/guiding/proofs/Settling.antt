@@ -6,7 +6,7 @@ use Rattle.std.proofs.lemmas.List.{length-map}
 use Rattle.std.proofs.lemmas.Option.{same_Some, slice_get_within}
 use Rattle.version_sets.specs.Sets.{Members, has, size}
 use Rattle.incompatibilities.specs.Incompatibilities.{Assignment, Breaks}
-use Rattle.incompatibilities.specs.Stores.{EntryView, IsAxiom, entry, terms_of}
+use Rattle.incompatibilities.specs.Stores.{EntryView, IsAxiom, entry, terms_of, watched}
 use Rattle.incompatibilities.specs.declared.origin.Origin.{Origin}
 use Rattle.incompatibilities.specs.declared.origin.Origin.TheVariants.{Axiom, Combined}
 use Rattle.propagation.specs.Trails.{TrailView, set_of, space_of}
@@ -66,6 +66,10 @@ axiom_or (Combined i j v w) e = nothing
 abbrev axioms_of : List EntryView → List EntryView
 axioms_of es = map (λ e. axiom_or e.origin e) es
 
+axiom_watched : (o : Origin) → IsAxiom o → watched o ≡ true
+axiom_watched (Axiom k) h = refl
+axiom_watched (Combined i j v w) h = absurd h
+
 axiom_kept : (o : Origin) (e : EntryView) → IsAxiom o → axiom_or o e ≡ e
 axiom_kept (Axiom k) e h = refl
 axiom_kept (Combined i j v w) e h = absurd h
@@ -113,8 +117,8 @@ module _ (q : Problem) (vs : Numbering) (asked : List Members) (es : List EntryV
   within : (n : ℕ) (v : Vertex) → slice_get vs n ≡ Some v → chosen n < length (space q v)
   within n v e = subst (λ k. chosen n < k) (space_is n v e) (has_below (set_of t.sets n) (chosen n) (final n (subst (λ k. 0 < k) (sym (space_is n v e)) (spacious v))).left)
 
-  rests : (id : ℕ) → id < length es → IsAtRest (set_of t.sets) (terms_of es id)
-  rests id lt = let quiet = stops id lt in record {
+  rests : (id : ℕ) → id < length es → watched (entry es id).origin ≡ true → IsAtRest (set_of t.sets) (terms_of es id)
+  rests id lt on = let quiet = stops id lt on in record {
     not_all = λ h. quiet.not_all (λ u. holds u (terms_of es id u) (h u));
     not_one = λ v x one. quiet.not_one v x (record { term = one.term; common = one.common; apart = one.apart; others = λ u ne. holds u (terms_of es id u) (one.others u ne) });
   }
@@ -126,7 +130,7 @@ module _ (q : Problem) (vs : Numbering) (asked : List Members) (es : List EntryV
   none_broken : (id : ℕ) → id < length es → IsAxiom (entry es id).origin → Breaks chosen (terms_of es id) → ⊥
   none_broken id lt ax breaks =
       let g = given id lt ax in
-      breaks_not (set_of t.sets) (terms_of es id) chosen (λ u s e. final u (positive u s e)) (instance_one_zero q vs g.kind g.terms (entry es id).terms ok.once g.is g.says) (rests id lt) breaks
+      breaks_not (set_of t.sets) (terms_of es id) chosen (λ u s e. final u (positive u s e)) (instance_one_zero q vs g.kind g.terms (entry es id).terms ok.once g.is g.says) (rests id lt (axiom_watched (entry es id).origin ax)) breaks
     where
       positive : (u : ℕ) (s : Members) → terms_of es id u ≡ Some s → 0 < space_of t u
       positive u s e = let h : has s (chosen u) ≡ true = subst (λ o. Rattle.incompatibilities.specs.Incompatibilities.HoldsOf o (chosen u)) e (breaks u) in
