@@ -104,7 +104,7 @@ module _ (q : Problem) (vs : Numbering) (es : List EntryView) (place : ℕ → �
         by (Axiom k) e = axioms id (within id c) (subst IsAxiom (sym e) tt)
         by (Combined i j m w) e =
             let parts = needed.closed id i j m w c e in
-            let v : (v : Vertex) × (slice_get vs m ≡ Some v) = vertex_of (entry es i).terms m (over i parts.0) (touching id i j m (within id c) e) in
+            let v : (v : Vertex) × (slice_get vs m ≡ Some v) = vertex_of (entry es i).terms m (over i parts.0) (touching id i j m w (within id c) e) in
             subst (IsEncoded q vs (entry es id).terms) (sym e) v
 
     -- a part of the entry at a place has an earlier one
