@@ -1,9 +1,9 @@
 -- Stores and trails of given universes (this repository's tests).
-use Rattle.std.specs.Prelude.{◌≡◌, ℕ, ◌<◌, ◌≤◌, List, length, slice_index_or}
+use Rattle.std.specs.Prelude.{◌≡◌, ℕ, ◌<◌, ◌≤◌, true, List, length, slice_index_or}
 use Rattle.version_sets.specs.Sets.{size}
-use Rattle.incompatibilities.specs.Incompatibilities.{Assignment, LiesIn}
-use Rattle.incompatibilities.specs.Stores.{EntryView, terms_of}
-use Rattle.propagation.specs.Satisfaction.{Agrees, BreaksNone}
+use Rattle.incompatibilities.specs.Incompatibilities.{Assignment, Breaks, LiesIn}
+use Rattle.incompatibilities.specs.Stores.{EntryView, entry, terms_of, watched}
+use Rattle.propagation.specs.Satisfaction.{Agrees}
 use Rattle.propagation.specs.Trails.{TrailView, set_of}
 use Rattle.searching.specs.Searching.{IsRefutation}
 use Rattle.searching.specs.declared.turns.Answer.{Answer}
@@ -34,7 +34,7 @@ abbrev pub Refutes : List EntryView → Answer → Type 0
 Refutes es Selection = Unit {0}
 Refutes es (Unsolvable id) = IsRefutation es id
 
--- after a selection each assignment out of what is left breaks no entry
+-- after a selection each assignment out of what is left breaks no watched entry, and so no axiom
 abbrev pub Selects : List EntryView → TrailView → Answer → Type 0
-Selects es t Selection = (x : Assignment) → Agrees x t.sets → BreaksNone x es
+Selects es t Selection = (x : Assignment) → Agrees x t.sets → (id : ℕ) → id < length es → watched (entry es id).origin ≡ true → ¬ Breaks x (terms_of es id)
 Selects es t (Unsolvable id) = Unit {0}
