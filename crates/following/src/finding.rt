@@ -1,6 +1,8 @@
 //! What is looked for among the packages of a content: what owners are, and where their dependencies lead.
 
-ghost use Rattle.std.specs.Prelude.{◌≡◌, find, option_map, slice_get};
+ghost use Rattle.std.specs.List.Sorted.{IsPartitionPoint};
+ghost use Rattle.std.specs.Ordering.{is_lt};
+ghost use Rattle.std.specs.Prelude.{◌≡◌, ◌≤◌, true, false, find, length, option_map, slice_get};
 ghost use Rattle.semver.specs.EvalViews.{matches_views};
 ghost use Rattle.semver.specs.Identifiers.{parts_of};
 ghost use Rattle.classes.specs.Classes.{class_view};
@@ -9,12 +11,14 @@ ghost use Rattle.lockfile.specs.Views.{package_view, package_views};
 ghost use Rattle.model.specs.Content.{last_serving, serves, serves_if};
 ghost use Rattle.model.specs.Vertices.{same_class};
 ghost use Rattle.vertices.specs.RefViews.{owner_ref_view};
-ghost use Rattle.following.specs.Found.{is_locked, is_owner, is_sourceless, led_to};
+ghost use Rattle.model.specs.WellFormed.{IsContent};
+ghost use Rattle.following.specs.Found.{beside, is_locked, is_owner, is_sourceless, led_to};
 
 use classes::Class;
 use features::{Dependency, PackageName};
 use lockfile::Package;
 use semver::{Version, VersionReq};
+use std::cmp::Ordering;
 use vertices::OwnerRef;
 
 /// The first package without a source: the root is the only one in a valid selection.
@@ -30,9 +34,41 @@ pub(crate) fn package_in<'a>(
     name: &PackageName,
     class: Class,
 ) -> Option<&'a Package>
+    requires { IsContent (package_views content.now) }
     ensures { option_map (λ p. p.now) result ≡ find (λ p. is_locked name.now (class_view class) (package_view p)) content.entry.now }
 {
-    content.iter().find(|locked| is_locked(locked, name, class))
+    // Those of a name stand side by side.
+    let rest = &content[lower(content, name)..];
+    first_locked(rest, name, class)
+}
+
+/// The first package of a name and a class, other than the root, one by one.
+fn first_locked<'a>(
+    packages: &'a [Package],
+    name: &PackageName,
+    class: Class,
+) -> Option<&'a Package>
+    ensures { option_map (λ p. p.now) result ≡ find (λ p. is_locked name.now (class_view class) (package_view p)) packages.entry.now }
+{
+    packages
+        .iter()
+        .find(|locked| is_locked(locked, name, class))
+}
+
+/// How many packages have a lower name.
+fn lower(content: &[Package], name: &PackageName) -> usize
+    requires { IsContent (package_views content.now) }
+    ensures few { result ≤ length content.now }
+    ensures place { IsPartitionPoint (λ p. is_lt (beside name.now (package_view p)) ≡ true) (λ p. is_lt (beside name.now (package_view p)) ≡ false) content.now result }
+{
+    content.partition_point(|locked| name_order(locked, name) == Ordering::Less)
+}
+
+/// Where a package's name stands beside another one.
+fn name_order(locked: &Package, name: &PackageName) -> Ordering
+    ensures { result ≡ beside name.now (package_view locked.now) }
+{
+    locked.name.cmp(name)
 }
 
 fn is_locked(locked: &Package, name: &PackageName, class: Class) -> bool
@@ -49,6 +85,7 @@ fn is_same(a: Class, b: Class) -> bool
 
 /// The package that an owner is.
 fn owner_in<'a>(content: &'a [Package], owner: &OwnerRef<'_>) -> Option<&'a Package>
+    requires { IsContent (package_views content.now) }
     ensures { option_map (λ p. p.now) result ≡ find (λ p. is_owner (owner_ref_view owner.now) (package_view p)) content.entry.now }
 {
     match owner {
@@ -63,6 +100,7 @@ pub(crate) fn led_to<'a>(
     owner: &OwnerRef<'_>,
     dependency: &Dependency,
 ) -> Option<&'a Package>
+    requires { IsContent (package_views content.now) }
     ensures { option_map (λ p. package_view p.now) result ≡ led_to (package_views content.entry.now) (owner_ref_view owner.now) (dependency_view dependency.now) }
 {
     let locked = owner_in(content, owner)?;
