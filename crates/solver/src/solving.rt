@@ -32,7 +32,7 @@ use std::alloc::{AllocError, Global};
 use version_sets::{States, WordStates};
 use walks::preferred;
 
-/// What there is.
+/// What solving comes to.
 #[derive(Drop)]
 pub enum Outcome {
     /// A valid selection.
@@ -48,7 +48,7 @@ pub struct Solved {
     /// The assignments that there ever were, the conflicts that were resolved, and the combinations that these took: no
     /// fewer than the combinations of a derivation.
     pub steps: u64,
-    /// The instances of axioms that it needed: no fewer than those of a derivation.
+    /// The instances of axioms that came into its store: no fewer than those of a derivation.
     pub axioms: usize,
 }
 
