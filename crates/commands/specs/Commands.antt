@@ -6,9 +6,11 @@ use Rattle.model.specs.Derivation.{Step}
 use Rattle.catalogue.specs.Runs.{Calls}
 use Rattle.catalogue.specs.declared.store.Prefer.{Prefer}
 use Rattle.catalogue.specs.declared.store.Prefer.TheVariants.{Newest, RustFirst}
+use Rattle.checker.specs.Texts.{check_text}
 use Rattle.checker.specs.declared.outcome.Check.{Check}
 use Rattle.derivations.specs.Files.{derivation_of_bytes}
 use Rattle.explainer.specs.Explanations.{explanation_of}
+use Rattle.selection.specs.Texts.{verdict_text}
 use Rattle.selection.specs.declared.verdict.Verdict.{Verdict}
 use Rattle.words.specs.Asked.{WordsView, resolve, verify, check, explain, asked, or_help}
 use Rattle.words.specs.Refusals.{Refuses}
@@ -19,7 +21,7 @@ use Rattle.resolver.specs.Checks.{Checks}
 use Rattle.resolver.specs.declared.resolving.Answer.{Answer}
 use Rattle.resolver.specs.declared.resolving.Answer.TheVariants.{Lock, Unsolvable}
 use Rattle.commands.specs.Disks.{Reads, Writes, IsKept, IsOld, bytes_if, most_of_manifest, most_of_lock, most_of_proof}
-use Rattle.commands.specs.Lines.{verdict_line, verdict_status, check_line, check_status, IsPrinted, IsEnded, IsTold, status_of}
+use Rattle.commands.specs.Lines.{line_of, verdict_status, check_status, IsPrinted, IsEnded, IsTold, status_of}
 use Rattle.commands.specs.Sources.{source_text}
 use Rattle.commands.specs.Stops.{is_stopped}
 use Rattle.commands.specs.declared.stop.Stop.{Stop}
@@ -120,8 +122,8 @@ module _ {F : Type 0} (reads : Reads) (writes : Writes) (opens : List ℕ → F 
   -- what goes to standard output and with which status, by what the words ask for
   abbrev pub Answers : WordsView → Option (List ℕ) → Option (List ℕ) → ℕ → Type 0
   Answers (resolve manifest index lock source proof rust_first) old new status = (answer : Answer) × IsAnswerTo reads opens calls failed manifest index lock source rust_first answer × IsPrinted old new answer status × IsFiled writes proof answer
-  Answers (verify manifest index lock source) old new status = (verdict : Verdict) × IsVerdictOf reads opens calls failed manifest index lock source verdict × (status ≡ verdict_status verdict) × Appends old new (verdict_line verdict)
-  Answers (check manifest index lock source proof) old new status = (c : Check) × IsCheckOf reads opens calls failed manifest index lock source proof c × (status ≡ check_status c) × Appends old new (check_line c)
+  Answers (verify manifest index lock source) old new status = (verdict : Verdict) × IsVerdictOf reads opens calls failed manifest index lock source verdict × (status ≡ verdict_status verdict) × Appends old new (line_of (verdict_text verdict))
+  Answers (check manifest index lock source proof) old new status = (c : Check) × IsCheckOf reads opens calls failed manifest index lock source proof c × (status ≡ check_status c) × Appends old new (line_of (check_text c))
   Answers (explain proof) old new status = (text : List ℕ) × IsTextOf reads proof text × (status ≡ 0) × Appends old new text
 
   -- a run whose words are taken: its status, and what goes to standard output; that is unchanged where there is no answer that could be written

@@ -2,14 +2,10 @@
 use Rattle.std.specs.Prelude.{◌≡◌, ℕ, List, [], ◌∷◌, ◌++◌, Option, Result, Ok, Err, codes, decimal, string_bytes}
 use Rattle.std.specs.List.{flat_map}
 use Rattle.std.specs.Io.KnownBytes.{Appends}
-use Rattle.semver.specs.Identifiers.{version_text}
 use Rattle.checker.specs.declared.outcome.Check.{Check}
 use Rattle.checker.specs.declared.outcome.Check.TheVariants.{Proves, Refused}
-use Rattle.checker.specs.declared.outcome.Reason.{Reason}
-use Rattle.checker.specs.declared.outcome.Reason.TheVariants.{NotAnAxiom, BadCombination, NotFinal}
 use Rattle.index_reader.specs.Reasons.{reason_text}
 use Rattle.index_reader.specs.declared.record.Skip.{Skip}
-use Rattle.selection.specs.Texts.{fault_text}
 use Rattle.selection.specs.declared.verdict.Verdict.{Verdict}
 use Rattle.selection.specs.declared.verdict.Verdict.TheVariants.{Valid, Invalid}
 use Rattle.resolver.specs.declared.resolving.Answer.{Answer}
@@ -20,28 +16,11 @@ use Rattle.commands.specs.declared.stop.Stop.{Stop}
 abbrev pub line_of : List ℕ → List ℕ
 line_of text = text ++ 10 ∷ []
 
--- ---- verdicts
-
--- `valid`, or `invalid V6 List at NAME VERSION`
-abbrev pub verdict_line : Verdict → List ℕ
-verdict_line Valid = line_of (codes "valid")
-verdict_line (Invalid fault name version) = line_of (codes "invalid " ++ (fault_text fault ++ (codes " at " ++ (name ++ (codes " " ++ version_text version)))))
+-- ---- statuses
 
 abbrev pub verdict_status : Verdict → ℕ
 verdict_status Valid = 0
 verdict_status (Invalid fault name version) = 1
-
--- ---- what is said of a derivation
-
-abbrev pub refusal_text : Reason → List ℕ
-refusal_text NotAnAxiom = codes "C1 NotAnAxiom"
-refusal_text BadCombination = codes "C2 BadCombination"
-refusal_text NotFinal = codes "C3 NotFinal"
-
--- `proves`, or `refused STEP C1 NotAnAxiom`
-abbrev pub check_line : Check → List ℕ
-check_line Proves = line_of (codes "proves")
-check_line (Refused step reason) = line_of (codes "refused " ++ (decimal step ++ (codes " " ++ refusal_text reason)))
 
 abbrev pub check_status : Check → ℕ
 check_status Proves = 0

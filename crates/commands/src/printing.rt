@@ -2,15 +2,17 @@
 
 ghost use Rattle.std.specs.Prelude.{◌≡◌, true, false, IsOk, IfOk};
 ghost use Rattle.std.specs.Io.KnownBytes.{Appends};
+ghost use Rattle.checker.specs.Texts.{check_text};
+ghost use Rattle.selection.specs.Texts.{verdict_text};
 ghost use Rattle.words.specs.Views.{text_if};
 ghost use Rattle.commands.specs.Commands.{IsFiled};
-ghost use Rattle.commands.specs.Lines.{IsPrinted, IsTold, verdict_line, verdict_status, check_line, check_status, refusal_text, skip_line, skip_lines, skips_of};
+ghost use Rattle.commands.specs.Lines.{IsPrinted, IsTold, line_of, verdict_status, check_status, skip_line, skip_lines, skips_of};
 ghost use Rattle.commands.specs.Stops.{is_stopped};
 
 use crate::disk::Disk;
 use crate::files::write_proof;
 use crate::stop::Stop;
-use checker::{Check, Reason};
+use checker::Check;
 use derivations::Derivation;
 use index_reader::Skip;
 use resolver::Answer;
@@ -34,45 +36,25 @@ pub(crate) struct Ended<'a> {
 }
 
 pub(crate) fn print_verdict<'a, W: Write>(verdict: &Verdict, out: &mut W) -> Result<u8, Stop<'a>>
-    ensures printed { IfOk result (λ status. (status ≡ verdict_status verdict.now) × Appends (W.contents out.old) (W.contents out.new) (verdict_line verdict.now)) }
+    ensures printed { IfOk result (λ status. (status ≡ verdict_status verdict.now) × Appends (W.contents out.old) (W.contents out.new) (line_of (verdict_text verdict.now))) }
     ensures written { is_stopped result ≡ false }
 {
-    let (written, status) = match verdict {
-        Verdict::Valid => (writeln!(out, "valid"), 0),
-        Verdict::Invalid {
-            fault,
-            name,
-            version,
-        } => (
-            writeln!(out, "invalid {fault} at {name} {version}"),
-            INVALID,
-        ),
+    let status = match verdict {
+        Verdict::Valid => 0,
+        Verdict::Invalid { .. } => INVALID,
     };
-    after(written, status)
+    after(writeln!(out, "{verdict}"), status)
 }
 
 pub(crate) fn print_check<'a, W: Write>(checked: &Check, out: &mut W) -> Result<u8, Stop<'a>>
-    ensures printed { IfOk result (λ status. (status ≡ check_status checked.now) × Appends (W.contents out.old) (W.contents out.new) (check_line checked.now)) }
+    ensures printed { IfOk result (λ status. (status ≡ check_status checked.now) × Appends (W.contents out.old) (W.contents out.new) (line_of (check_text checked.now))) }
     ensures written { is_stopped result ≡ false }
 {
-    let (written, status) = match checked {
-        Check::Proves => (writeln!(out, "proves"), 0),
-        Check::Refused { step, reason } => {
-            let reason = reason_line(reason);
-            (writeln!(out, "refused {step} {reason}"), REFUSED)
-        }
+    let status = match checked {
+        Check::Proves => 0,
+        Check::Refused { .. } => REFUSED,
     };
-    after(written, status)
-}
-
-fn reason_line(reason: &Reason) -> &'static str
-    ensures { result.now ≡ refusal_text reason.now }
-{
-    match reason {
-        Reason::NotAnAxiom => "C1 NotAnAxiom",
-        Reason::BadCombination => "C2 BadCombination",
-        Reason::NotFinal => "C3 NotFinal",
-    }
+    after(writeln!(out, "{checked}"), status)
 }
 
 /// A whole text, with the status 0.

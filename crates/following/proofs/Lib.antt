@@ -1,4 +1,3 @@
-pub mod Targets
 pub mod Owners
 pub mod Classed
 pub mod Led

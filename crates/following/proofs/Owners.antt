@@ -63,12 +63,15 @@ module _ (q : Problem) (content : Content) (valid : IsValidSelection q content) 
       by (Some s) e = refl
 
   -- so it is the root
-  to_root : (n : ℕ) (p : Package) → slice_get content n ≡ Some p → is_sourceless p ≡ true → IsRootAt q content n
-  to_root n p got h = by (is_root q p) refl
+  pub sourceless_root : (n : ℕ) (p : Package) → slice_get content n ≡ Some p → is_sourceless p ≡ true → is_root q p ≡ true
+  sourceless_root n p got h = by (is_root q p) refl
     where
-      by : (b : Bool) → is_root q p ≡ b → IsRootAt q content n
-      by true e = (p, got, e)
+      by : (b : Bool) → is_root q p ≡ b → b ≡ true
+      by true e = refl
       by false e = absurd (no_candidate p (sourceless p.source h) (valid.candidates n p (got, e)))
+
+  to_root : (n : ℕ) (p : Package) → slice_get content n ≡ Some p → is_sourceless p ≡ true → IsRootAt q content n
+  to_root n p got h = (p, got, sourceless_root n p got h)
 
   from_root : (p : Package) → is_root q p ≡ true → is_sourceless p ≡ true
   from_root p h = ap (λ (o : Option (List ℕ)). not (is_some o)) (root_parts q p h).0

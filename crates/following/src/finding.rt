@@ -2,30 +2,40 @@
 
 ghost use Rattle.std.specs.List.Sorted.{IsPartitionPoint};
 ghost use Rattle.std.specs.Ordering.{is_lt};
-ghost use Rattle.std.specs.Prelude.{◌≡◌, ◌≤◌, true, false, find, length, option_map, slice_get};
-ghost use Rattle.semver.specs.EvalViews.{matches_views};
-ghost use Rattle.semver.specs.Identifiers.{parts_of};
+ghost use Rattle.std.specs.Prelude.{◌≡◌, ◌≤◌, true, false, find, length, option_map};
 ghost use Rattle.classes.specs.Classes.{class_view};
-ghost use Rattle.features.specs.Views.{dependency_view, requirement_view};
+ghost use Rattle.features.specs.Views.{dependency_view};
 ghost use Rattle.lockfile.specs.Views.{package_view, package_views};
-ghost use Rattle.model.specs.Content.{last_serving, serves, serves_if};
+ghost use Rattle.model.specs.Selection.{IsValidSelection};
 ghost use Rattle.model.specs.Vertices.{same_class};
+ghost use Rattle.encoding.specs.Inputs.{problem};
 ghost use Rattle.vertices.specs.RefViews.{owner_ref_view};
 ghost use Rattle.model.specs.WellFormed.{IsContent};
 ghost use Rattle.following.specs.Found.{beside, is_locked, is_owner, is_sourceless, led_to};
 
 use classes::Class;
+use encoding::Inputs;
 use features::{Dependency, PackageName};
 use lockfile::Package;
-use semver::{Version, VersionReq};
+use selection::target;
 use std::cmp::Ordering;
 use vertices::OwnerRef;
 
 /// The first package without a source: the root is the only one in a valid selection.
-fn root_in(content: &[Package]) -> Option<&Package>
+fn root_in<'a>(inputs: &Inputs<'_>, content: &'a [Package]) -> Option<&'a Package>
+    requires { IsValidSelection (problem inputs.now) (package_views content.now) }
     ensures { option_map (λ p. p.now) result ≡ find (λ p. is_sourceless (package_view p)) content.entry.now }
 {
-    content.iter().find(|locked| locked.source.is_none())
+    // It has the manifest's name, and those of a name stand side by side.
+    let rest = &content[lower(content, inputs.manifest.name())..];
+    first_sourceless(rest)
+}
+
+/// The first package without a source, one by one.
+fn first_sourceless(packages: &[Package]) -> Option<&Package>
+    ensures { option_map (λ p. p.now) result ≡ find (λ p. is_sourceless (package_view p)) packages.entry.now }
+{
+    packages.iter().find(|locked| locked.source.is_none())
 }
 
 /// The first package of a name and a class, other than the root: there is no second one in a valid selection.
@@ -84,65 +94,31 @@ fn is_same(a: Class, b: Class) -> bool
 }
 
 /// The package that an owner is.
-fn owner_in<'a>(content: &'a [Package], owner: &OwnerRef<'_>) -> Option<&'a Package>
-    requires { IsContent (package_views content.now) }
+fn owner_in<'a>(
+    inputs: &Inputs<'_>,
+    content: &'a [Package],
+    owner: &OwnerRef<'_>,
+) -> Option<&'a Package>
+    requires { IsValidSelection (problem inputs.now) (package_views content.now) }
     ensures { option_map (λ p. p.now) result ≡ find (λ p. is_owner (owner_ref_view owner.now) (package_view p)) content.entry.now }
 {
     match owner {
-        OwnerRef::Root => root_in(content),
+        OwnerRef::Root => root_in(inputs, content),
         OwnerRef::Version(name, version) => package_in(content, name, Class::of(version)),
     }
 }
 
 /// The package that a dependency of an owner leads to, if it is enabled.
 pub(crate) fn led_to<'a>(
+    inputs: &Inputs<'_>,
     content: &'a [Package],
     owner: &OwnerRef<'_>,
     dependency: &Dependency,
 ) -> Option<&'a Package>
-    requires { IsContent (package_views content.now) }
+    requires { IsValidSelection (problem inputs.now) (package_views content.now) }
     ensures { option_map (λ p. package_view p.now) result ≡ led_to (package_views content.entry.now) (owner_ref_view owner.now) (dependency_view dependency.now) }
 {
-    let locked = owner_in(content, owner)?;
-    let place = target_of(content, locked.list.as_slice(), dependency)?;
+    let locked = owner_in(inputs, content, owner)?;
+    let place = target(content, locked.list.as_slice(), dependency)?;
     content.get(place)
-}
-
-/// The target of a dependency: the last place of the list whose package serves it.
-fn target_of(content: &[Package], list: &[usize], dependency: &Dependency) -> Option<usize>
-    ensures { result ≡ last_serving (package_views content.now) (dependency_view dependency.now) list.now }
-{
-    let mut left = list.len();
-    'places: while left > 0 {
-        left -= 1;
-        let place = list[left];
-        if serves_at(content, place, dependency) {
-            return Some(place);
-        }
-    }
-    None
-}
-
-fn serves_at(content: &[Package], place: usize, dependency: &Dependency) -> bool
-    ensures { result ≡ serves_if (dependency_view dependency.now) (slice_get (package_views content.now) place) }
-{
-    match content.get(place) {
-        Some(locked) => serves(locked, dependency),
-        None => false,
-    }
-}
-
-/// Whether a package has a source, the dependency's real name and a version that its requirement matches.
-fn serves(locked: &Package, dependency: &Dependency) -> bool
-    ensures { result ≡ serves (dependency_view dependency.now) (package_view locked.now) }
-{
-    locked.source.is_some()
-        && dependency.real_name == locked.name
-        && is_matched(&dependency.requirement, &locked.version)
-}
-
-fn is_matched(requirement: &VersionReq, version: &Version) -> bool
-    ensures { result ≡ matches_views (requirement_view requirement.now) (parts_of version.now) }
-{
-    requirement.matches(version)
 }

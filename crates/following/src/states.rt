@@ -72,7 +72,7 @@ fn class_in(
     let Some(dependency) = dependency_at(inputs, owner, number) else {
         return Ok(None);
     };
-    let Some(locked) = led_to(content, owner, dependency) else {
+    let Some(locked) = led_to(inputs, content, owner, dependency) else {
         return Ok(None);
     };
     let classes = classes_of(alloc, inputs, dependency)?;

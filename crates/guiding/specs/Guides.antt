@@ -153,6 +153,10 @@ abbrev pub IsOpenAt : List Members → List Members → ℕ → Option ℕ → T
 IsOpenAt sets asked v None = (i : ℕ) → IsOnly (set_of sets v) i → asked_of asked v i ≡ true
 IsOpenAt sets asked v (Some i) = IsOnly (set_of sets v) i × (0 < i) × (has (set_of asked v) i ≡ false)
 
+-- a pair whose state isn't absent and wasn't asked for
+abbrev pub IsUnasked : List Members → ℕ → ℕ → Type 0
+IsUnasked asked v i = (v < length asked) × (0 < i) × (has (set_of asked v) i ≡ false) × (i < length (set_of asked v))
+
 -- a pair of a vertex of the trail whose state isn't absent and wasn't asked for
 abbrev pub CanAsk : TrailView → List Members → ℕ → ℕ → Type 0
 CanAsk t asked v i = (v < length t.sets) × (0 < i) × (has (set_of asked v) i ≡ false) × (i < length (set_of asked v))

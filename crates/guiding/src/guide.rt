@@ -11,12 +11,13 @@ ghost use Rattle.propagation.specs.Trails.{set_of, trail_view};
 ghost use Rattle.searching.specs.Searching.{CanDecide, HasSpaces};
 ghost use Rattle.version_sets.specs.Sets.{has, size};
 ghost use Rattle.vertices.specs.RefViews.{vertex_ref_view};
-ghost use Rattle.guiding.specs.Guides.{CanAsk, CanFollow, Follows, HasBegun, IsAsking, IsFollowed, known};
+ghost use Rattle.guiding.specs.Guides.{CanAsk, CanFollow, Follows, HasBegun, IsAsking, IsFollowed, IsUnasked, known};
 ghost use Rattle.guiding.specs.Remaining.{spaces_of};
 
 use crate::asking::{mark, put_given};
 use crate::choosing::{greatest, is_undecided};
 use crate::coming::come;
+use crate::leads::Leads;
 use crate::opening::{next_open, unless_asked};
 use crate::order::Order;
 use crate::preferring::preferred_state;
@@ -47,6 +48,8 @@ pub struct Encoded<'a, S: States> {
     order: Order,
     /// The vertex that comes next in this order.
     next: Option<usize>,
+    /// What the version that is decided next needs.
+    leads: Leads,
 }
 
 impl<'a, S: States> Model for Encoded<'a, S> {
@@ -95,6 +98,7 @@ impl<'a, S: States + Drop> Encoded<'a, S> {
             seen: 0,
             order: Order::new(alloc),
             next: None,
+            leads: Leads::new(alloc),
         })
     }
 
@@ -206,12 +210,20 @@ impl<'a, S: States + Drop> Encoded<'a, S> {
         Ok(Some((vertex, self.state_for(vertex, left)?)))
     }
 
-    /// The pair that is decided next, if it wasn't asked for. Where its instances leave it out at once, no level is
-    /// opened for it, and none is taken back.
-    fn ahead(&self, trail: &Trail<S>) -> Result<Option<(usize, u32)>, AllocError>
-        requires { HasSpaces (map length self.now.asked) (trail_view S.tests trail.now) }
+    /// The pair that is decided next, if it wasn't asked for, after what leads on from it. Where its instances leave it
+    /// out at once, no level is opened for it, and none is taken back.
+    fn ahead(
+        &self,
+        trail: &Trail<S>,
+        lead: Option<(usize, u32)>,
+    ) -> Result<Option<(usize, u32)>, AllocError>
+        requires spaces { HasSpaces (map length self.now.asked) (trail_view S.tests trail.now) }
+        requires lead { IfSome lead (λ d. IsUnasked self.now.asked d.0 d.1) }
         ensures { IfOk result (λ o. IfSome o (λ d. CanAsk (trail_view S.tests trail.now) self.now.asked d.0 d.1)) }
     {
+        if lead.is_some() {
+            return Ok(lead);
+        }
         let Some((vertex, state)) = self.next_decision(trail)? else {
             return Ok(None);
         };
@@ -262,9 +274,14 @@ impl<'a, S: States + Drop> Guide<S> for Encoded<'a, S> {
             None => {
                 self.order.follow(trail, self.asked.len())?;
                 self.next = self.order.next(trail, self.asked.len())?;
-                match self.ahead(trail)? {
+                let lead = self.leads.next(&self.asked);
+                match self.ahead(trail, lead)? {
                     Some((vertex, state)) => {
+                        let before = store.len();
                         self.ask(trail, store, vertex, state)?;
+                        if lead.is_none() {
+                            self.leads.note(store, before)?;
+                        }
                         Ok(true)
                     }
                     None => Ok(false),

@@ -5,6 +5,7 @@ mod asking;
 mod choosing;
 mod coming;
 mod guide;
+mod leads;
 mod opening;
 mod order;
 mod preferring;

@@ -1,10 +1,9 @@
 -- How faults are printed: the number and the name of each, and what it is about (all are this project's own).
-use Rattle.std.specs.Prelude.{ℕ, List, ◌++◌, codes, decimal, string_bytes}
+use Rattle.std.specs.Prelude.{ℕ, List, ◌++◌, codes, string_bytes}
 use Rattle.semver.specs.Identifiers.{version_text}
 use Rattle.manifest.specs.Faults.{part_name, source_name, table_fault_code}
 use Rattle.catalogue.specs.Faults.{limit_text}
-use Rattle.derivations.specs.declared.fault.DerivationFault.{DerivationFault}
-use Rattle.derivations.specs.declared.fault.DerivationFault.TheVariants as derivation
+use Rattle.derivations.specs.Faults as derivation
 use Rattle.resolver.specs.declared.fault.Fault.{Fault}
 use Rattle.resolver.specs.declared.fault.Fault.TheVariants as fault
 use Rattle.resolver.specs.declared.fault.TooLarge.{TooLarge}
@@ -32,13 +31,6 @@ fault_text (fault.TooLarge which) = codes "fault 11 TooLarge " ++ large_text whi
 fault_text (fault.ChecksumChanged name version) = codes "fault 12 ChecksumChanged at " ++ (name ++ (codes " " ++ version_text version))
 fault_text fault.NotReadBack = codes "fault 14 NotReadBack"
 
--- a fault of the bytes of a derivation, at a line from 1
-abbrev pub derivation_fault_text : DerivationFault → List ℕ
-derivation_fault_text derivation.OutOfMemory = codes "out of memory"
-derivation_fault_text (derivation.NotALine line) = codes "K1 NotALine at line " ++ decimal line
-derivation_fault_text (derivation.Forward line) = codes "K2 Forward at line " ++ decimal line
-derivation_fault_text (derivation.TooMany line) = codes "K3 TooMany at line " ++ decimal line
-
 abbrev pub check_fault_text : CheckFault → List ℕ
 check_fault_text (Input f) = fault_text f
-check_fault_text (Proof f) = codes "fault " ++ derivation_fault_text f
+check_fault_text (Proof f) = codes "fault " ++ derivation.fault_text f

@@ -113,16 +113,7 @@ impl fmt::Display for CheckFault {
     fn fmt<W: fmt::Write>(&self, f: &mut fmt::Formatter<W>) -> fmt::Result {
         match self {
             CheckFault::Input(fault) => write!(f, "{fault}"),
-            CheckFault::Proof(DerivationFault::OutOfMemory) => f.write_str("fault out of memory"),
-            CheckFault::Proof(DerivationFault::NotALine(line)) => {
-                write!(f, "fault K1 NotALine at line {line}")
-            }
-            CheckFault::Proof(DerivationFault::Forward(line)) => {
-                write!(f, "fault K2 Forward at line {line}")
-            }
-            CheckFault::Proof(DerivationFault::TooMany(line)) => {
-                write!(f, "fault K3 TooMany at line {line}")
-            }
+            CheckFault::Proof(fault) => write!(f, "fault {fault}"),
         }
     }
 }

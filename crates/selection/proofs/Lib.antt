@@ -1,3 +1,4 @@
+pub mod NameOrder
 pub mod TargetSearch
 pub mod Lookups
 pub mod Seconds

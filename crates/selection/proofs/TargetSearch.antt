@@ -2,20 +2,19 @@
 use Rattle.std.proofs.Common.{◌≡◌, ℕ, zero, suc, ◌<◌, ◌≤◌, Bool, true, false, cond, not, ◌&&◌, List, [], ◌∷◌, take, length, get_or, Option, Some, None, slice_get, is_some, refl, sym, ap, ◌∙◌, subst, arith, Ordering, inl, inr, true≢false}
 use Rattle.std.specs.List.{All, AllPairs, AllWithin}
 use Rattle.std.specs.List.Sorted.{IsPartitionedBy, IsNonDecreasingBy}
-use Rattle.std.specs.Ordering.{is_lt, is_gt, ordering_index, ordering_then}
+use Rattle.std.specs.Ordering.{is_lt, is_gt, ordering_index}
 use Rattle.std.specs.declared.cmp.Ordering.TheVariants.{Less, Equal, Greater}
 use Rattle.std.proofs.lemmas.Bool.{cases_lt}
-use Rattle.std.proofs.lemmas.Cmp.{nat_list_cmp_total}
 use Rattle.std.proofs.lemmas.Option.{slice_get-get_or, get_or_from_slice_get}
 use Rattle.semver.specs.EvalViews.{matches_views}
 use Rattle.model.specs.Summary.{Dependency, same_text}
 use Rattle.model.specs.Content.{Package, Content, serves_if, or_this, last_serving}
-use Rattle.model.specs.Order.{text_cmp, version_cmp, source_cmp, package_cmp}
+use Rattle.model.specs.Order.{text_cmp, package_cmp}
 use Rattle.model.specs.WellFormed.{IsContent}
 use Rattle.model.proofs.Same.{text-same}
 use Rattle.model.proofs.Contents.{text-equal}
-use Rattle.lockfile.proofs.Ranges.{rises-then}
 use Rattle.selection.specs.Names.{name_cmp}
+use Rattle.selection.proofs.NameOrder.{below_less, names_rise}
 
 -- ---- along a list
 
@@ -95,17 +94,6 @@ module _ (content : Content) (d : Dependency) where
   index_most Equal = omega arith
   index_most Greater = omega arith
 
-  then_equal : (r : Ordering) → ordering_then r Equal ≡ r
-  then_equal Less = refl
-  then_equal Equal = refl
-  then_equal Greater = refl
-
-  -- packages in order have rising names
-  names_rise : (p r : Package) → package_cmp p r ≡ Less → ordering_index (text_cmp p.name d.real_name) ≤ ordering_index (text_cmp r.name d.real_name)
-  names_rise p r e =
-      let rises = rises-then nat_list_cmp_total p.name r.name d.real_name (ordering_then (version_cmp p.version r.version) (source_cmp p.source r.source)) Equal Equal (λ h. omega arith) e in
-      rw (then_equal (text_cmp p.name d.real_name), then_equal (text_cmp r.name d.real_name)) at rises
-
   beside_rises : IsContent content → (i j : ℕ) → i < j → j < length content → ordering_index (beside i) ≤ ordering_index (beside j)
   beside_rises formed i j lt within = by (slice_get content j) refl
     where
@@ -115,22 +103,13 @@ module _ (content : Content) (d : Dependency) where
           let got : slice_get content i ≡ Some (get_or content i r) = slice_get-get_or content i r (omega arith) in
           let before = formed.in_order i j r lt within in
           let here : get_or content j r ≡ r = get_or_from_slice_get content j r r e in
-          subst (λ o. ordering_index (name_cmp d o) ≤ ordering_index (text_cmp r.name d.real_name)) (sym got) (names_rise (get_or content i r) r (subst (λ z. package_cmp (get_or content i r) z ≡ Less) here before))
+          subst (λ o. ordering_index (name_cmp d o) ≤ ordering_index (text_cmp r.name d.real_name)) (sym got) (names_rise d.real_name (get_or content i r) r (subst (λ z. package_cmp (get_or content i r) z ≡ Less) here before))
 
   list_rises : IsContent content → (is : List ℕ) → All (λ t. t < length content) is → AllPairs (λ i j. i < j) is → IsNonDecreasingBy (λ t. ordering_index (beside t)) is
   list_rises formed is within rising i j k le lt = elim (cases_lt i j) [
     | inl less ↦ beside_rises formed (get_or is i k) (get_or is j k) (rising i j k less lt) (within j k lt)
     | inr back ↦ (let e : i ≡ j = omega arith in rw e (omega arith))
   ]
-
-  below_less : (r s : Ordering) → ordering_index r ≤ ordering_index s → is_lt s ≡ true → is_lt r ≡ true
-  below_less Less s l h = refl
-  below_less Equal Less l h = absurd (omega arith)
-  below_less Greater Less l h = absurd (omega arith)
-  below_less Equal Equal l h = cc
-  below_less Equal Greater l h = cc
-  below_less Greater Equal l h = cc
-  below_less Greater Greater l h = cc
 
   below_most : (r s : Ordering) → ordering_index r ≤ ordering_index s → not (is_gt s) ≡ true → not (is_gt r) ≡ true
   below_most Less s l h = refl

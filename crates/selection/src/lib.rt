@@ -15,4 +15,5 @@ mod targets;
 mod verdict;
 
 pub use checks::verify;
+pub use targets::target;
 pub use verdict::{Fault, Verdict};

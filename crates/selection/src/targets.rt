@@ -36,8 +36,10 @@ pub(crate) fn targets(
     Ok(found)
 }
 
-/// The target of a dependency: the last package of the list that serves it. Those of its real name stand side by side.
-fn target(content: &[Package], list: &[usize], dependency: &Dependency) -> Option<usize>
+/// The target of a dependency: the place of the last package of the list that serves it, if one does.
+///
+/// Those of its real name stand side by side: log of the list, and as many packages as have that name.
+pub fn target(content: &[Package], list: &[usize], dependency: &Dependency) -> Option<usize>
     requires content { IsContent (package_views content.now) }
     requires within { All (λ t. t < length content.now) list.now }
     requires rising { AllPairs (λ i j. i < j) list.now }

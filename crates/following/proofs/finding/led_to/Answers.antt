@@ -4,8 +4,21 @@ use Rattle.lockfile.specs.Views.{package_view, package_views}
 use Rattle.lockfile.specs.declared.locked.Package.{Package}
 use Rattle.model.specs.Content.{last_serving}
 use Rattle.vertices.specs.RefViews.{owner_ref_view}
-use Rattle.following.proofs.Led.{no_owner, no_place, at_place}
+use Rattle.following.proofs.Led.{no_owner, no_place, at_place, list_rises, list_within}
 use Rattle.following.proofs.finding.led_to.Goals as goal
+
+pub target-requires-clause-content : goal.target-requires-clause-content
+target-requires-clause-content c = c.requires.is_content
+
+pub target-requires-clause-within : goal.target-requires-clause-within
+target-requires-clause-within c =
+    let within = list_within c.args.content.now (owner_ref_view c.args.owner.now) (dependency_view c.args.dependency.now) c.requires.is_content c.in_ok-locked.locked.now c.in_ok-locked.ensures in
+    rw c.as_slice.ensures.value within
+
+pub target-requires-clause-rising : goal.target-requires-clause-rising
+target-requires-clause-rising c =
+    rw c.as_slice.ensures.value
+    (list_rises c.args.content.now (owner_ref_view c.args.owner.now) (dependency_view c.args.dependency.now) c.requires.is_content c.in_ok-locked.locked.now c.in_ok-locked.ensures)
 
 pub returns-in_err-locked : goal.returns-in_err-locked
 returns-in_err-locked c =
