@@ -53,3 +53,21 @@ pub enum Verdict {
         version: Version,
     },
 }
+
+impl fmt::Display for Verdict {
+    ghost use Rattle.std.specs.Prelude.{Some};
+    ghost use Rattle.selection.specs.Texts.{verdict_text};
+
+    ghost output = { λ verdict. Some (verdict_text verdict) };
+
+    fn fmt<W: fmt::Write>(&self, f: &mut fmt::Formatter<W>) -> fmt::Result {
+        match self {
+            Verdict::Valid => f.write_str("valid"),
+            Verdict::Invalid {
+                fault,
+                name,
+                version,
+            } => write!(f, "invalid {fault} at {name} {version}"),
+        }
+    }
+}
