@@ -279,9 +279,7 @@ impl<'a, S: States + Drop> Guide<S> for Encoded<'a, S> {
                     Some((vertex, state)) => {
                         let before = store.len();
                         self.ask(trail, store, vertex, state)?;
-                        if lead.is_none() {
-                            self.leads.note(store, before)?;
-                        }
+                        self.leads.note(lead, store, before)?;
                         Ok(true)
                     }
                     None => Ok(false),

@@ -23,12 +23,17 @@ impl Leads {
         }
     }
 
-    /// Takes the vertices that the entries of a store speak of, from this one on.
+    /// Takes the vertices that the entries of a store speak of, from this one on, unless it was a lead that was asked
+    /// for: it leads no further.
     pub(crate) fn note<S: States + Drop>(
         &mut self,
+        lead: Option<(usize, u32)>,
         store: &Store<S>,
         from: usize,
     ) -> Result<(), AllocError> {
+        if lead.is_some() {
+            return Ok(());
+        }
         'entries: for number in from..store.len() {
             self.note_terms(store.get(Id::new(number)).terms())?;
         }

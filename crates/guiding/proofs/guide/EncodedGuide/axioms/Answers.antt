@@ -110,8 +110,8 @@ returns-in_ok-ask-in-Some-clause-walks g c =
     subst (λ (o : EncodedView). KeepsWalks (Follows o) es t (Follows new) more wide) c.self.view_is
     (asked_walks c.in-Some.vertex c.in-Some.state mid new t wide es more c.in_ok-ask-in-Some.ensures spaced c.requires.trail alone.0 ((alone.1).1) ((alone.1).2) (only_below sets t c.in-Some.vertex c.in-Some.state spaced ((alone.1).0)))
 
-pub returns-in_ok-ask-in-Some-2-clause-adding : goal.returns-in_ok-ask-in-Some-2-clause-adding
-returns-in_ok-ask-in-Some-2-clause-adding g c =
+pub returns-in_ok-note-in-Some-2-clause-adding : goal.returns-in_ok-note-in-Some-2-clause-adding
+returns-in_ok-note-in-Some-2-clause-adding g c =
     let tests = g.S.States.tests in
     let f = c.self.inside in
     let sets = map tests f.asked.items in
@@ -120,15 +120,18 @@ returns-in_ok-ask-in-Some-2-clause-adding g c =
     let es = entries_view tests c.args.store.now in
     let more = entries_view tests c.ask-in-Some-2.new.store in
     let new = c.ask-in-Some-2.new.self in
+    let here = c.self-in-Some-2.inside in
+    let end = encoded_view (problem here.inputs) here.table (map tests here.asked.items) here.seen here.follows in
     let seen = c.next_open.new.seen in
     let mid = encoded_view (problem f.inputs) f.table sets seen f.follows in
     let spaced : HasSpaces (map length sets) t = subst (λ (o : EncodedView). HasSpaces (map length o.asked) t) (sym c.self.view_is) c.requires.spaces in
     let can : CanAsk t sets c.in-Some-2.vertex c.in-Some-2.state = subst (λ o. IfSome o (λ d. CanAsk t sets d.0 d.1)) c.in-Some-2.is c.in_ok-vertex-in-None.ensures in
-    subst (λ (o : EncodedView). IsAdding (asked_of o.asked) (asked_of new.asked) (left_with o) (left_with new) (late_with o) (late_with new) t wide es more true) c.self.view_is
-    (asked_adding c.in-Some-2.vertex c.in-Some-2.state mid new t wide es more c.in_ok-ask-in-Some-2.ensures spaced c.requires.trail can.0 can.1 can.2 can.3)
+    subst (λ (o : EncodedView). IsAdding (asked_of o.asked) (asked_of end.asked) (left_with o) (left_with end) (late_with o) (late_with end) t wide es more true) c.self.view_is
+    (subst (λ (n : EncodedView). IsAdding (asked_of mid.asked) (asked_of n.asked) (left_with mid) (left_with n) (late_with mid) (late_with n) t wide es more true) (sym c.self-in-Some-2.view_is)
+    (asked_adding c.in-Some-2.vertex c.in-Some-2.state mid new t wide es more c.in_ok-ask-in-Some-2.ensures spaced c.requires.trail can.0 can.1 can.2 can.3))
 
-pub returns-in_ok-ask-in-Some-2-clause-seen : goal.returns-in_ok-ask-in-Some-2-clause-seen
-returns-in_ok-ask-in-Some-2-clause-seen g c =
+pub returns-in_ok-note-in-Some-2-clause-seen : goal.returns-in_ok-note-in-Some-2-clause-seen
+returns-in_ok-note-in-Some-2-clause-seen g c =
     let tests = g.S.States.tests in
     let f = c.self.inside in
     let sets = map tests f.asked.items in
@@ -137,15 +140,18 @@ returns-in_ok-ask-in-Some-2-clause-seen g c =
     let es = entries_view tests c.args.store.now in
     let more = entries_view tests c.ask-in-Some-2.new.store in
     let new = c.ask-in-Some-2.new.self in
+    let here = c.self-in-Some-2.inside in
+    let end = encoded_view (problem here.inputs) here.table (map tests here.asked.items) here.seen here.follows in
     let seen = c.next_open.new.seen in
     let mid = encoded_view (problem f.inputs) f.table sets seen f.follows in
     let spaced : HasSpaces (map length sets) t = subst (λ (o : EncodedView). HasSpaces (map length o.asked) t) (sym c.self.view_is) c.requires.spaces in
     let can : CanAsk t sets c.in-Some-2.vertex c.in-Some-2.state = subst (λ o. IfSome o (λ d. CanAsk t sets d.0 d.1)) c.in-Some-2.is c.in_ok-vertex-in-None.ensures in
-    asked_seen c.in-Some-2.vertex c.in-Some-2.state mid new t wide es more c.in_ok-ask-in-Some-2.ensures spaced c.requires.trail can.0 can.1 can.2 can.3
-    (subst (λ l. IsSeen seen (asked_of (map tests l)) t) c.deref.ensures.value c.next_open.ensures.seen)
+    subst (λ (n : EncodedView). IsSeen n.seen (asked_of n.asked) wide) (sym c.self-in-Some-2.view_is)
+    (asked_seen c.in-Some-2.vertex c.in-Some-2.state mid new t wide es more c.in_ok-ask-in-Some-2.ensures spaced c.requires.trail can.0 can.1 can.2 can.3
+    (subst (λ l. IsSeen seen (asked_of (map tests l)) t) c.deref.ensures.value c.next_open.ensures.seen))
 
-pub returns-in_ok-ask-in-Some-2-clause-given : goal.returns-in_ok-ask-in-Some-2-clause-given
-returns-in_ok-ask-in-Some-2-clause-given g c was =
+pub returns-in_ok-note-in-Some-2-clause-given : goal.returns-in_ok-note-in-Some-2-clause-given
+returns-in_ok-note-in-Some-2-clause-given g c was =
     let tests = g.S.States.tests in
     let f = c.self.inside in
     let sets = map tests f.asked.items in
@@ -154,15 +160,18 @@ returns-in_ok-ask-in-Some-2-clause-given g c was =
     let es = entries_view tests c.args.store.now in
     let more = entries_view tests c.ask-in-Some-2.new.store in
     let new = c.ask-in-Some-2.new.self in
+    let here = c.self-in-Some-2.inside in
+    let end = encoded_view (problem here.inputs) here.table (map tests here.asked.items) here.seen here.follows in
     let seen = c.next_open.new.seen in
     let mid = encoded_view (problem f.inputs) f.table sets seen f.follows in
     let spaced : HasSpaces (map length sets) t = subst (λ (o : EncodedView). HasSpaces (map length o.asked) t) (sym c.self.view_is) c.requires.spaces in
     let can : CanAsk t sets c.in-Some-2.vertex c.in-Some-2.state = subst (λ o. IfSome o (λ d. CanAsk t sets d.0 d.1)) c.in-Some-2.is c.in_ok-vertex-in-None.ensures in
-    asked_given c.in-Some-2.vertex c.in-Some-2.state mid new t wide es more c.in_ok-ask-in-Some-2.ensures spaced c.requires.trail can.0 can.1 can.2 can.3
-    (subst (λ (o : EncodedView). walking.AreGiven (IsOfInstance o.problem o.vertices) es) (sym c.self.view_is) was)
+    subst (λ (n : EncodedView). walking.AreGiven (IsOfInstance n.problem n.vertices) more) (sym c.self-in-Some-2.view_is)
+    (asked_given c.in-Some-2.vertex c.in-Some-2.state mid new t wide es more c.in_ok-ask-in-Some-2.ensures spaced c.requires.trail can.0 can.1 can.2 can.3
+    (subst (λ (o : EncodedView). walking.AreGiven (IsOfInstance o.problem o.vertices) es) (sym c.self.view_is) was))
 
-pub returns-in_ok-ask-in-Some-2-clause-stored : goal.returns-in_ok-ask-in-Some-2-clause-stored
-returns-in_ok-ask-in-Some-2-clause-stored g c was =
+pub returns-in_ok-note-in-Some-2-clause-stored : goal.returns-in_ok-note-in-Some-2-clause-stored
+returns-in_ok-note-in-Some-2-clause-stored g c was =
     let tests = g.S.States.tests in
     let f = c.self.inside in
     let sets = map tests f.asked.items in
@@ -171,15 +180,18 @@ returns-in_ok-ask-in-Some-2-clause-stored g c was =
     let es = entries_view tests c.args.store.now in
     let more = entries_view tests c.ask-in-Some-2.new.store in
     let new = c.ask-in-Some-2.new.self in
+    let here = c.self-in-Some-2.inside in
+    let end = encoded_view (problem here.inputs) here.table (map tests here.asked.items) here.seen here.follows in
     let seen = c.next_open.new.seen in
     let mid = encoded_view (problem f.inputs) f.table sets seen f.follows in
     let spaced : HasSpaces (map length sets) t = subst (λ (o : EncodedView). HasSpaces (map length o.asked) t) (sym c.self.view_is) c.requires.spaces in
     let can : CanAsk t sets c.in-Some-2.vertex c.in-Some-2.state = subst (λ o. IfSome o (λ d. CanAsk t sets d.0 d.1)) c.in-Some-2.is c.in_ok-vertex-in-None.ensures in
-    asked_stored c.in-Some-2.vertex c.in-Some-2.state mid new t wide es more c.in_ok-ask-in-Some-2.ensures spaced c.requires.trail can.0 can.1 can.2 can.3
-    (subst (λ (o : EncodedView). AreStored o.problem o.vertices o.asked es) (sym c.self.view_is) was)
+    subst (λ (n : EncodedView). AreStored n.problem n.vertices n.asked more) (sym c.self-in-Some-2.view_is)
+    (asked_stored c.in-Some-2.vertex c.in-Some-2.state mid new t wide es more c.in_ok-ask-in-Some-2.ensures spaced c.requires.trail can.0 can.1 can.2 can.3
+    (subst (λ (o : EncodedView). AreStored o.problem o.vertices o.asked es) (sym c.self.view_is) was))
 
-pub returns-in_ok-ask-in-Some-2-clause-walks : goal.returns-in_ok-ask-in-Some-2-clause-walks
-returns-in_ok-ask-in-Some-2-clause-walks g c =
+pub returns-in_ok-note-in-Some-2-clause-walks : goal.returns-in_ok-note-in-Some-2-clause-walks
+returns-in_ok-note-in-Some-2-clause-walks g c =
     let tests = g.S.States.tests in
     let f = c.self.inside in
     let sets = map tests f.asked.items in
@@ -188,12 +200,15 @@ returns-in_ok-ask-in-Some-2-clause-walks g c =
     let es = entries_view tests c.args.store.now in
     let more = entries_view tests c.ask-in-Some-2.new.store in
     let new = c.ask-in-Some-2.new.self in
+    let here = c.self-in-Some-2.inside in
+    let end = encoded_view (problem here.inputs) here.table (map tests here.asked.items) here.seen here.follows in
     let seen = c.next_open.new.seen in
     let mid = encoded_view (problem f.inputs) f.table sets seen f.follows in
     let spaced : HasSpaces (map length sets) t = subst (λ (o : EncodedView). HasSpaces (map length o.asked) t) (sym c.self.view_is) c.requires.spaces in
     let can : CanAsk t sets c.in-Some-2.vertex c.in-Some-2.state = subst (λ o. IfSome o (λ d. CanAsk t sets d.0 d.1)) c.in-Some-2.is c.in_ok-vertex-in-None.ensures in
-    subst (λ (o : EncodedView). KeepsWalks (Follows o) es t (Follows new) more wide) c.self.view_is
-    (asked_walks c.in-Some-2.vertex c.in-Some-2.state mid new t wide es more c.in_ok-ask-in-Some-2.ensures spaced c.requires.trail can.0 can.1 can.2 can.3)
+    subst (λ (o : EncodedView). KeepsWalks (Follows o) es t (Follows end) more wide) c.self.view_is
+    (subst (λ (n : EncodedView). KeepsWalks (Follows mid) es t (Follows n) more wide) (sym c.self-in-Some-2.view_is)
+    (asked_walks c.in-Some-2.vertex c.in-Some-2.state mid new t wide es more c.in_ok-ask-in-Some-2.ensures spaced c.requires.trail can.0 can.1 can.2 can.3))
 
 pub returns-in-None-2-clause-adding : goal.returns-in-None-2-clause-adding
 returns-in-None-2-clause-adding g c =
@@ -210,8 +225,8 @@ returns-in-None-2-clause-adding g c =
 pub returns-in-None-2-clause-walks : goal.returns-in-None-2-clause-walks
 returns-in-None-2-clause-walks g c x is = (subst (λ (o : EncodedView). Follows o x) c.self.view_is is, λ walked. walked)
 
-pub returns-in_ok-ask-in-Some-2-clause-spaces : goal.returns-in_ok-ask-in-Some-2-clause-spaces
-returns-in_ok-ask-in-Some-2-clause-spaces g c =
+pub returns-in_ok-note-in-Some-2-clause-spaces : goal.returns-in_ok-note-in-Some-2-clause-spaces
+returns-in_ok-note-in-Some-2-clause-spaces g c =
     let tests = g.S.States.tests in
     let f = c.self.inside in
     let sets = map tests f.asked.items in
@@ -220,8 +235,11 @@ returns-in_ok-ask-in-Some-2-clause-spaces g c =
     let es = entries_view tests c.args.store.now in
     let more = entries_view tests c.ask-in-Some-2.new.store in
     let new = c.ask-in-Some-2.new.self in
+    let here = c.self-in-Some-2.inside in
+    let end = encoded_view (problem here.inputs) here.table (map tests here.asked.items) here.seen here.follows in
     let seen = c.next_open.new.seen in
     let mid = encoded_view (problem f.inputs) f.table sets seen f.follows in
     let spaced : HasSpaces (map length sets) t = subst (λ (o : EncodedView). HasSpaces (map length o.asked) t) (sym c.self.view_is) c.requires.spaces in
     let can : CanAsk t sets c.in-Some-2.vertex c.in-Some-2.state = subst (λ o. IfSome o (λ d. CanAsk t sets d.0 d.1)) c.in-Some-2.is c.in_ok-vertex-in-None.ensures in
-    asked_spaces c.in-Some-2.vertex c.in-Some-2.state mid new t wide es more c.in_ok-ask-in-Some-2.ensures spaced c.requires.trail can.0 can.1 can.2 can.3
+    subst (λ (n : EncodedView). HasSpaces (map length n.asked) wide) (sym c.self-in-Some-2.view_is)
+    (asked_spaces c.in-Some-2.vertex c.in-Some-2.state mid new t wide es more c.in_ok-ask-in-Some-2.ensures spaced c.requires.trail can.0 can.1 can.2 can.3)
