@@ -1,6 +1,6 @@
 -- Laws of sets that a trail needs: what is left after some states are taken away.
-use Rattle.std.proofs.Common.{◌≡◌, ℕ, zero, suc, ◌<◌, ◌≤◌, true, false, [], ◌∷◌, List, length, set, refl, sym, arith}
-use Rattle.std.proofs.lemmas.Bool.{false≢true}
+use Rattle.std.proofs.Common.{◌≡◌, ℕ, zero, suc, ◌<◌, ◌≤◌, true, false, [], ◌∷◌, List, length, set, refl, sym, ◌∙◌, arith, inl, inr}
+use Rattle.std.proofs.lemmas.Bool.{cases_Bool, false≢true, true≢false}
 use Rattle.version_sets.specs.Sets.{Members, every, has, inside, is_full, meet, meets, none, only, rest, size}
 use Rattle.propagation.specs.Trails.{set_of, total}
 
@@ -27,6 +27,25 @@ inside_through (false ∷ as_) (false ∷ bs) [] h k = inside_through as_ bs [] 
 inside_through (false ∷ as_) (true ∷ bs) (true ∷ cs) h k = inside_through as_ bs cs h k
 inside_through (false ∷ as_) (true ∷ bs) (false ∷ cs) h k = absurd (false≢true k)
 inside_through (false ∷ as_) (false ∷ bs) (c ∷ cs) h k = inside_through as_ bs cs h k
+
+-- what a part has of a third set, the whole has; what a part has outside of it, the whole has
+pub outside_through : (a b x : Members) → inside a b ≡ true → inside a x ≡ false → inside b x ≡ false
+outside_through a b x h k = elim (cases_Bool (inside b x)) [
+  | inl t ↦ absurd (true≢false (sym (inside_through a b x h t) ∙ k))
+  | inr f ↦ f
+]
+
+pub meets_through : (a b x : Members) → inside a b ≡ true → meets a x ≡ true → meets b x ≡ true
+meets_through [] b x h m = absurd (false≢true m)
+meets_through (a ∷ as_) b [] h m = absurd (false≢true m)
+meets_through (true ∷ as_) [] (x ∷ xs) h m = absurd (false≢true h)
+meets_through (false ∷ as_) [] (x ∷ xs) h m = absurd (false≢true (meets_through as_ [] xs h m))
+meets_through (true ∷ as_) (true ∷ bs) (true ∷ xs) h m = refl
+meets_through (true ∷ as_) (true ∷ bs) (false ∷ xs) h m = meets_through as_ bs xs h m
+meets_through (true ∷ as_) (false ∷ bs) (x ∷ xs) h m = absurd (false≢true h)
+meets_through (false ∷ as_) (true ∷ bs) (true ∷ xs) h m = refl
+meets_through (false ∷ as_) (true ∷ bs) (false ∷ xs) h m = meets_through as_ bs xs h m
+meets_through (false ∷ as_) (false ∷ bs) (x ∷ xs) h m = meets_through as_ bs xs h m
 
 pub inside_has : (s x : Members) (i : ℕ) → inside s x ≡ true → has s i ≡ true → has x i ≡ true
 inside_has [] x i h k = absurd (false≢true k)
@@ -97,6 +116,13 @@ size_left (b ∷ s) [] h = absurd (false≢true h)
 size_left (true ∷ s) (true ∷ x) h = omega (arith, size_left_le s x)
 size_left (true ∷ s) (false ∷ x) h = omega (arith, size_left s x h)
 size_left (false ∷ s) (b ∷ x) h = size_left s x h
+
+pub left_apart : (s x : Members) → meets (meet s (rest x)) x ≡ false
+left_apart [] x = refl
+left_apart (b ∷ s) [] = refl
+left_apart (true ∷ s) (true ∷ x) = left_apart s x
+left_apart (true ∷ s) (false ∷ x) = left_apart s x
+left_apart (false ∷ s) (b ∷ x) = left_apart s x
 
 pub some_left : (s x : Members) → length x ≡ length s → inside s x ≡ false → 0 < size (meet s (rest x))
 some_left [] x e h = absurd (false≢true (sym h))

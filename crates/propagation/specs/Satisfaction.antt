@@ -1,5 +1,5 @@
 -- How sets stand to an incompatibility, vertex by vertex (Dart pub's `solver.md`, "Incompatibility" and "Unit Propagation").
-use Rattle.std.specs.Prelude.{◌≡◌, ◌≢◌, ℕ, ◌<◌, true, false, List, length, Option, Some, None}
+use Rattle.std.specs.Prelude.{◌≡◌, ◌≢◌, ℕ, ◌<◌, Bool, true, false, List, length, Option, Some, None}
 use Rattle.version_sets.specs.Sets.{Members, has, inside, meet, meets, rest, size}
 use Rattle.incompatibilities.specs.Incompatibilities.{Assignment, Breaks, Terms}
 use Rattle.incompatibilities.specs.Stores.{EntryView, terms_of}
@@ -9,6 +9,11 @@ use Rattle.propagation.specs.Trails.{set_of}
 abbrev pub HoldsAt : Members → Option Members → Type 0
 HoldsAt set None = Unit {0}
 HoldsAt set (Some x) = (0 < size set) × (inside set x ≡ true)
+
+-- whether a term stands at a vertex, and every state that is left there makes it hold
+abbrev pub is_within : Members → Option Members → Bool
+is_within set None = false
+is_within set (Some x) = inside set x
 
 abbrev pub OthersHold : List Members → Terms → ℕ → Type 0
 OthersHold sets f v = (u : ℕ) → u ≢ v → HoldsAt (set_of sets u) (f u)
