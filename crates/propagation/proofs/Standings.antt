@@ -1,9 +1,9 @@
--- The standing of an incompatibility, term by term.
-use Rattle.std.proofs.Common.{◌≡◌, ℕ, ◌+◌, ◌<◌, ◌≤◌, sym, subst, arith, inl, inr}
+-- The standing of an incompatibility, term by term, from the last to the first.
+use Rattle.std.proofs.Common.{◌≡◌, ◌≢◌, ℕ, suc, ◌<◌, ◌≤◌, sym, subst, arith, inl, inr}
 use Rattle.std.proofs.lemmas.Bool.{cases_lt, cases_eq}
 use Rattle.terms.specs.declared.term.Relation.{Relation}
 use Rattle.terms.specs.declared.term.Relation.TheVariants.{Satisfied, Contradicted, Open}
-use Rattle.propagation.specs.Units.{AllHold, Neither, Stands, after}
+use Rattle.propagation.specs.Units.{Neither, Stands, after}
 use Rattle.propagation.specs.declared.propagating.Standing.{Standing}
 use Rattle.propagation.specs.declared.propagating.Standing.TheVariants.{Holds, OneOpen, Quiet}
 
@@ -15,13 +15,6 @@ holds_apart x a b = cc
 
 open_apart : (x : Relation) → x ≡ Open → x ≡ Contradicted → ⊥
 open_apart x a b = cc
-
--- one more that holds
-hold_more : (i : ℕ) (f : ℕ → Relation) → AllHold i f → f i ≡ Satisfied → AllHold (i + 1) f
-hold_more i f a e j lt = elim (cases_lt j i) [
-  | inl less ↦ a j less
-  | inr le ↦ let k : i ≡ j = omega (arith, lt, le) in subst (λ m. f m ≡ Satisfied) k e
-]
 
 apart_at : (i n : ℕ) (f : ℕ → Relation) → i < n → f i ≡ Contradicted → Neither n f
 apart_at i n f lt e = record {
@@ -41,28 +34,43 @@ two_open i k n f ki lt e h = record {
   ];
 }
 
--- no later term changes what is quiet
-pub quiet_more : (i n : ℕ) (f : ℕ → Relation) → i ≤ n → Neither i f → Neither n f
-quiet_more i n f le h = record {
-  not_all = λ a. h.not_all (λ j lt. a j (omega (arith, lt, le)));
-  not_one = λ m o. elim (cases_lt m i) [
-    | inl less ↦ h.not_one m (record { within = less; here = o.here; others = λ j lt ne. o.others j (omega (arith, lt, le)) ne })
-    | inr past ↦ h.not_all (λ j lt. o.others j (omega (arith, lt, le)) (λ same. omega (arith, lt, past, same)))
-  ];
-}
+-- of the terms from m on: all are satisfied, or one is open and the others are satisfied; no earlier term changes what is quiet
+abbrev pub AllFrom : ℕ → ℕ → (ℕ → Relation) → Type 0
+AllFrom m n f = (i : ℕ) → m ≤ i → i < n → f i ≡ Satisfied
 
-pub after_next : (f : ℕ → Relation) (i : ℕ) (seen : Standing) (x : Relation) → f i ≡ x → Stands i f seen → Stands (i + 1) f (after seen i x)
-after_next f i Holds Satisfied e h = hold_more i f h e
-after_next f i Holds Open e h = record { within = omega arith; here = e; others = λ j lt ne. h j (omega (arith, lt, ne)) }
-after_next f i Holds Contradicted e h = apart_at i (i + 1) f (omega arith) e
-after_next f i (OneOpen k) Satisfied e h = let w = h.within in record {
-  within = omega (arith, w);
+pub record OneFrom (m n : ℕ) (f : ℕ → Relation) (k : ℕ) : Type 0 where
+  pub low : m ≤ k
+  pub within : k < n
+  pub here : f k ≡ Open
+  pub others : (i : ℕ) → m ≤ i → i < n → i ≢ k → f i ≡ Satisfied
+
+abbrev pub StandsFrom : ℕ → ℕ → (ℕ → Relation) → Standing → Type 0
+StandsFrom m n f Holds = AllFrom m n f
+StandsFrom m n f (OneOpen k) = OneFrom m n f k
+StandsFrom m n f Quiet = Neither n f
+
+-- with the term before them
+pub after_next : (f : ℕ → Relation) (m n : ℕ) (seen : Standing) (x : Relation) → m < n → f m ≡ x → StandsFrom (suc m) n f seen → StandsFrom m n f (after seen m x)
+after_next f m n Holds Satisfied lt e h = λ j low jl. elim (cases_lt m j) [
+  | inl less ↦ h j less jl
+  | inr le ↦ let same : m ≡ j = omega (arith, low, le) in subst (λ i. f i ≡ Satisfied) same e
+]
+after_next f m n Holds Open lt e h = record { low = omega arith; within = lt; here = e; others = λ j low jl ne. h j (omega (arith, low, ne)) jl }
+after_next f m n Holds Contradicted lt e h = apart_at m n f lt e
+after_next f m n (OneOpen k) Satisfied lt e h = let past = h.low in record {
+  low = omega (arith, past);
+  within = h.within;
   here = h.here;
-  others = λ j lt ne. elim (cases_lt j i) [
-    | inl less ↦ h.others j less ne
-    | inr le ↦ let same : i ≡ j = omega (arith, lt, le) in subst (λ m. f m ≡ Satisfied) same e
+  others = λ j low jl ne. elim (cases_lt m j) [
+    | inl less ↦ h.others j less jl ne
+    | inr le ↦ let same : m ≡ j = omega (arith, low, le) in subst (λ i. f i ≡ Satisfied) same e
   ];
 }
-after_next f i (OneOpen k) Open e h = two_open i k (i + 1) f h.within (omega arith) e h.here
-after_next f i (OneOpen k) Contradicted e h = apart_at i (i + 1) f (omega arith) e
-after_next f i Quiet x e h = quiet_more i (i + 1) f (omega arith) h
+after_next f m n (OneOpen k) Open lt e h = two_open k m n f (let past = h.low in omega (arith, past)) h.within h.here e
+after_next f m n (OneOpen k) Contradicted lt e h = apart_at m n f lt e
+after_next f m n Quiet x lt e h = h
+
+pub stands_all : (n : ℕ) (f : ℕ → Relation) (seen : Standing) → StandsFrom 0 n f seen → Stands n f seen
+stands_all n f Holds h = λ i lt. h i (omega arith) lt
+stands_all n f (OneOpen k) h = record { within = h.within; here = h.here; others = λ i lt ne. h.others i (omega arith) lt ne }
+stands_all n f Quiet h = h
