@@ -2,5 +2,6 @@ pub mod Reading
 pub mod Sameness
 pub mod Answered
 pub mod Checked
+pub mod Stays
 pub mod Again
 pub mod Returned

@@ -1,15 +1,19 @@
 //! The laws of the calls: each is a function that does nothing, whose contract is the statement.
 
-ghost use Rattle.std.specs.Prelude.{◌↔◌, ℕ, Bool, List, Result, Ok, Contains, Vec};
+ghost use Rattle.std.specs.Prelude.{◌≡◌, ◌↔◌, ℕ, Bool, List, Result, Ok, Contains, Vec};
 ghost use Rattle.std.specs.declared.alloc.Global.{Global};
 ghost use Rattle.model.specs.Content.{Content};
 ghost use Rattle.model.specs.Selection.{IsValidSelection};
 ghost use Rattle.index_reader.specs.Folders.{Files, MemoryCalls};
 ghost use Rattle.index_reader.specs.declared.record.Skip.{Skip};
+ghost use Rattle.selection.specs.declared.verdict.Verdict.{Verdict};
+ghost use Rattle.checker.specs.declared.outcome.Check.{Check};
+ghost use Rattle.resolver.specs.Checks.{Checks};
 ghost use Rattle.resolver.specs.Inputs.{RequestView, problem_of};
-ghost use Rattle.resolver.specs.Answers.{Resolves, IsAnswer, IsAnswered};
+ghost use Rattle.resolver.specs.Answers.{Resolves, Verifies, IsAnswer, IsAnswered};
 ghost use Rattle.resolver.specs.Returning.{handed_in, ComesBack, IsSomeLock, names_of};
 ghost use Rattle.resolver.specs.declared.fault.Fault.{Fault};
+ghost use Rattle.resolver.specs.declared.fault.CheckFault.{CheckFault};
 ghost use Rattle.resolver.specs.declared.inputs.Inputs.{Inputs};
 ghost use Rattle.resolver.specs.declared.resolving.Answer.{Answer};
 ghost use Rattle.resolver.specs.declared.resolving.Answer.TheVariants.{Lock};
@@ -20,15 +24,27 @@ pub fn locks_are_given_where_there_are_selections()
         → IsSomeLock answer ↔ ((content : Content) × IsValidSelection (problem_of inputs) content) }
 {}
 
-/// Over one map of files, a lock that `resolve` gave comes back where it is handed in as the old one: the same bytes, kept. Want of memory
-/// alone may come between.
+/// Each call leaves a folder in memory as it was, however it ends: so of two calls on one folder the second is over the
+/// same map of files.
+pub fn memory_folders_stay()
+    ensures resolving { (failed : Files → ℕ) (folder : Files) (request : RequestView) (result : Result Answer Fault) (after : Files)
+        → Resolves MemoryCalls failed request folder result after → after ≡ folder }
+    ensures verifying { (failed : Files → ℕ) (folder : Files) (request : RequestView) (result : Result Verdict Fault) (after : Files)
+        → Verifies MemoryCalls failed request folder result after → after ≡ folder }
+    ensures checking { (failed : Files → ℕ) (folder : Files) (request : RequestView) (bytes : List ℕ) (result : Result Check CheckFault) (after : Files)
+        → Checks MemoryCalls failed request bytes folder result after → after ≡ folder }
+{}
+
+/// Over one map of files, a lock that `resolve` gave comes back where it is handed in as the old one: the same bytes,
+/// kept. Want of memory alone may come between.
 pub fn given_locks_come_back()
     ensures { (failed : Files → ℕ) (folder : Files) (request : RequestView) (bytes : Vec ℕ Global) (kept : Bool) (skips : Vec Skip Global) (after : Files) (result : Result Answer Fault) (later : Files)
         → Resolves MemoryCalls failed request folder (Ok (Lock bytes kept skips)) after
         → Resolves MemoryCalls failed (handed_in request bytes.items) folder result later → ComesBack bytes.items result }
 {}
 
-/// The run that a given lock is handed in to asks only for names that the run which gave it asked for.
+/// The run that a given lock is handed in to asks only for names that the run which gave it asked for, whether it
+/// answers or memory is wanting.
 pub fn given_locks_ask_for_no_more()
     ensures { (failed : Files → ℕ) (folder : Files) (request : RequestView) (bytes : Vec ℕ Global) (kept : Bool) (skips : Vec Skip Global) (after : Files) (again : Answer) (later : Files)
         (first : IsAnswered MemoryCalls failed request folder (Lock bytes kept skips) after)
