@@ -1,5 +1,5 @@
 -- A run over the same map of files with a valid selection as its old lock ends without a fault, and asks for no more names.
-use Rattle.std.proofs.Common.{◌≡◌, ℕ, ◌<◌, Bool, true, false, not, cond, ◌&&◌, List, [], ◌∷◌, ◌++◌, length, map, Contains, Option, Some, None, Ok, is_some, option_and_then, option_map, refl, sym, ap, ◌∙◌, subst, arith, inl, inr}
+use Rattle.std.proofs.Common.{◌≡◌, ℕ, ◌<◌, Bool, true, false, not, cond, ◌&&◌, List, [], ◌∷◌, ◌++◌, length, map, Contains, Option, Some, None, is_some, option_and_then, option_map, Err, refl, sym, ap, ◌∙◌, subst, arith, inl, inr}
 use Rattle.std.specs.List.{All}
 use Rattle.std.proofs.lemmas.List.{length-append, length-map}
 use Rattle.std.proofs.lemmas.List.Elements.{Contains-append_cases}
@@ -13,13 +13,12 @@ use Rattle.model.proofs.Same.{text-refl}
 use Rattle.manifest.specs.Manifests.{ManifestView}
 use Rattle.index_reader.specs.Folders.{Files, MemoryCalls, file_at}
 use Rattle.index_reader.specs.Paths.{path_of}
-use Rattle.catalogue.specs.Runs.{Asked, Chain, next_name}
-use Rattle.catalogue.specs.Loads.{IsWithin, IsSoFar, IsLoaded, HasTooMany, IsStopped, store_of, differs, has_changed, first_changed}
+use Rattle.catalogue.specs.Runs.{Asked, next_name}
+use Rattle.catalogue.specs.Loads.{IsWithin, IsSoFar, IsLoaded, Loads, store_of, differs, has_changed, first_changed}
 use Rattle.catalogue.specs.Problems.{IsRunOver, names_in, problem_in, problem_of}
 use Rattle.catalogue.specs.Stores.{CatalogueView, candidates_at, record_at}
 use Rattle.catalogue.specs.Views.{said}
-use Rattle.catalogue.specs.declared.fault.LoadFault.TheVariants as fault
-use Rattle.catalogue.specs.declared.fault.Limit.TheVariants as limit
+use Rattle.catalogue.specs.declared.fault.LoadFault.{LoadFault}
 use Rattle.catalogue.proofs.LawsCandidates.{file_of, with_file}
 use Rattle.catalogue.proofs.LawsCatalogues.{problem-asked}
 use Rattle.catalogue.proofs.LawsFewer.{next_asked, asked_before, no_more}
@@ -29,17 +28,15 @@ use Rattle.catalogue.proofs.LawsNames.{asked-distinct, turn-more}
 use Rattle.catalogue.proofs.LawsPackages.{text_option}
 use Rattle.catalogue.proofs.LawsSelections.{holds_again}
 use Rattle.selection.proofs.Lookups.{of_source}
-
-chain-stays : (asked : List Asked) (before after : Files) → Chain MemoryCalls before asked after → after ≡ before
-chain-stays [] before after chain = chain
-chain-stays (a ∷ asked) before after (mid, call, chain) = chain-stays asked mid after chain ∙ call.1
+use Rattle.resolver.specs.Faults.{is_memory, of_load}
+use Rattle.resolver.proofs.Unstopped.{no_fault}
 
 -- a loaded index is what a selection of its run is held against
-problem-is : (old : Content) (source : List ℕ) (rust : Option RustVersion) (m : ManifestView) (folder : Files) (index : CatalogueView) (after : Files)
+pub problem-is : (old : Content) (source : List ℕ) (rust : Option RustVersion) (m : ManifestView) (folder : Files) (index : CatalogueView) (after : Files)
     (loaded : IsLoaded old source rust m.brings.dependencies MemoryCalls folder index after) → problem_in m index ≡ problem_of m old source loaded.asked
 problem-is old source rust m folder index after loaded = ap (problem_in m) loaded.is ∙ problem-asked old source rust m loaded.asked
 
-rows-names : (old : Content) (source : List ℕ) (rust : Option RustVersion) (m : ManifestView) (folder : Files) (index : CatalogueView) (after : Files)
+pub rows-names : (old : Content) (source : List ℕ) (rust : Option RustVersion) (m : ManifestView) (folder : Files) (index : CatalogueView) (after : Files)
     (loaded : IsLoaded old source rust m.brings.dependencies MemoryCalls folder index after) → map (λ row. row.0) index.rows ≡ names_in loaded.asked
 rows-names old source rust m folder index after loaded = ap (λ (c : CatalogueView). map (λ row. row.0) c.rows) loaded.is ∙ by loaded.asked
   where
@@ -93,6 +90,10 @@ module _ (folder : Files) (failed : Files → ℕ) (m : ManifestView) (source : 
   was_valid : IsValidSelection (problem_of m old source first.asked) content
   was_valid = subst (λ q. IsValidSelection q content) (problem-is old source rust m folder index after first) valid
 
+  -- the names of the first run are those of its index
+  as-row : (name : List ℕ) → Contains (names_in first.asked) name → Contains (map (λ row. row.0) index.rows) name
+  as-row name c = subst (λ ns. Contains ns name) (sym (rows-names old source rust m folder index after first)) c
+
   -- where it was asked for these names so far
   module _ (rust' : Option RustVersion) (asked : List Asked) (mid : Files) (so_far : IsSoFar content source rust' m.brings.dependencies MemoryCalls folder asked mid) where
     answers : All (λ a. a.1 ≡ files a.0) asked
@@ -135,45 +136,30 @@ module _ (folder : Files) (failed : Files → ℕ) (m : ManifestView) (source : 
               ]
             ])
 
-    -- what the folder answers for it
-    answered : (name : List ℕ) (o : Option (List ℕ)) (later : Files) → MemoryCalls mid (path_of name) (Ok o) later → o ≡ files name
-    answered name o later call = call.0 ∙ ap (λ f. file_at f (path_of name)) (chain-stays asked folder mid so_far.chain)
+    -- each name so far was asked for in the first
+    pub so-far-asked : (name : List ℕ) → Contains (names_in asked) name → Contains (map (λ row. row.0) index.rows) name
+    so-far-asked name c =
+        let i = in_map (λ (a : Asked). a.0) asked name c in
+        as-row name (subst (λ x. Contains (names_in first.asked) x) i.2 (to_map (λ (a : Asked). a.0) first.asked i.0 (known i.0 i.1)))
 
-  module _ (rust' : Option RustVersion) (later : Files) where
-    pub few-enough : HasTooMany content source rust' m.brings.dependencies MemoryCalls folder later → ⊥
-    few-enough h =
-        let fewer = next-fewer rust' h.asked later h.so_far h.name h.next in
-        let few = first.so_far.few in
-        let most = h.most in
-        omega (arith, fewer, few, most)
+    pub next-asked : (name : List ℕ) → next_name content source m.brings.dependencies asked ≡ Some name → Contains (map (λ row. row.0) index.rows) name
+    next-asked name next = as-row name (next-there name next)
 
-    pub short-enough : (n : _) → IsStopped content source rust' m.brings.dependencies MemoryCalls failed folder (fault.TooLarge (limit.File n)) later → ⊥
-    short-enough n h =
-        let f = h.fails.1 in
-        let within : IsWithin (Some f.bytes) = subst IsWithin (sym (answered rust' h.asked h.mid h.so_far h.name (Some f.bytes) later f.call)) (next-within rust' h.asked h.mid h.so_far h.name h.next) in
-        let few = within.0 in
-        let many = f.too_many in
-        omega (arith, few, many)
+  module _ (rust' : Option RustVersion) (index' : CatalogueView) (later : Files) (again : IsLoaded content source rust' m.brings.dependencies MemoryCalls folder index' later) where
+    rerun : IsRunOver files m content source again.asked
+    rerun = run-over folder m content source again.asked later (record { chain = again.so_far.chain; in_turn = again.so_far.in_turn; ended = again.ended })
 
-    pub lines-enough : (n : _) → IsStopped content source rust' m.brings.dependencies MemoryCalls failed folder (fault.TooLarge (limit.Lines n)) later → ⊥
-    lines-enough n h =
-        let f = h.fails.1 in
-        let within : IsWithin (Some f.bytes) = subst IsWithin (sym (answered rust' h.asked h.mid h.so_far h.name (Some f.bytes) later f.call)) (next-within rust' h.asked h.mid h.so_far h.name h.next) in
-        let few = within.1 in
-        let many = f.too_many in
-        omega (arith, few, many)
+    -- the old lock is valid there
+    pub still-valid : IsValidSelection (problem_in m index') content
+    still-valid = subst (λ q. IsValidSelection q content) (sym (problem-is content source rust' m folder index' later again))
+        (holds_again files m old source first.asked content again.asked run rerun was_valid)
 
-    module _ (index' : CatalogueView) (again : IsLoaded content source rust' m.brings.dependencies MemoryCalls folder index' later) where
-      rerun : IsRunOver files m content source again.asked
-      rerun = run-over folder m content source again.asked later (record { chain = again.so_far.chain; in_turn = again.so_far.in_turn; ended = again.ended })
+    pub unasked-more : (name : List ℕ) → Contains (map (λ row. row.0) index'.rows) name → Contains (map (λ row. row.0) index.rows) name
+    unasked-more name c = as-row name (no_more files m old source first.asked content run was_valid again.asked rerun name
+        (subst (λ ns. Contains ns name) (rows-names content source rust' m folder index' later again) c))
 
-      -- the old lock is valid there
-      pub still-valid : IsValidSelection (problem_in m index') content
-      still-valid = subst (λ q. IsValidSelection q content) (sym (problem-is content source rust' m folder index' later again))
-          (holds_again files m old source first.asked content again.asked run rerun was_valid)
-
-      pub unasked-more : (name : List ℕ) → Contains (map (λ row. row.0) index'.rows) name → Contains (map (λ row. row.0) index.rows) name
-      unasked-more name c =
-          subst (λ ns. Contains ns name) (sym (rows-names old source rust m folder index after first))
-          (no_more files m old source first.asked content run was_valid again.asked rerun name
-          (subst (λ ns. Contains ns name) (rows-names content source rust' m folder index' later again) c))
+  -- the second run ends without a fault, but for want of memory
+  pub no_other_fault : (rust' : Option RustVersion) (e : LoadFault) (later : Files) → Loads content source rust' m.brings.dependencies MemoryCalls failed folder (Err e) later → is_memory (of_load e) ≡ true
+  no_other_fault rust' = no_fault folder failed content source rust' m.brings.dependencies first.asked first.so_far.few
+      (λ asked mid name so_far next. (next-fewer rust' asked mid so_far name next, next-within rust' asked mid so_far name next))
+      (λ index' later again. checksums-hold m index' content (still-valid rust' index' later again))

@@ -9,9 +9,9 @@ ghost use Rattle.index_reader.specs.declared.record.Skip.{Skip};
 ghost use Rattle.selection.specs.declared.verdict.Verdict.{Verdict};
 ghost use Rattle.checker.specs.declared.outcome.Check.{Check};
 ghost use Rattle.resolver.specs.Checks.{Checks};
-ghost use Rattle.resolver.specs.Inputs.{RequestView, problem_of};
+ghost use Rattle.resolver.specs.Inputs.{RequestView, IsCutShort, problem_of};
 ghost use Rattle.resolver.specs.Answers.{Resolves, Verifies, IsAnswer, IsAnswered};
-ghost use Rattle.resolver.specs.Returning.{handed_in, ComesBack, IsSomeLock, names_of};
+ghost use Rattle.resolver.specs.Returning.{handed_in, to_verify, ComesBack, FindsValid, IsSomeLock, names_of, names_cut};
 ghost use Rattle.resolver.specs.declared.fault.Fault.{Fault};
 ghost use Rattle.resolver.specs.declared.fault.CheckFault.{CheckFault};
 ghost use Rattle.resolver.specs.declared.inputs.Inputs.{Inputs};
@@ -46,8 +46,20 @@ pub fn given_locks_come_back()
 /// The run that a given lock is handed in to asks only for names that the run which gave it asked for, whether it
 /// answers or memory is wanting.
 pub fn given_locks_ask_for_no_more()
-    ensures { (failed : Files → ℕ) (folder : Files) (request : RequestView) (bytes : Vec ℕ Global) (kept : Bool) (skips : Vec Skip Global) (after : Files) (again : Answer) (later : Files)
+    ensures answered { (failed : Files → ℕ) (folder : Files) (request : RequestView) (bytes : Vec ℕ Global) (kept : Bool) (skips : Vec Skip Global) (after : Files) (again : Answer) (later : Files)
         (first : IsAnswered MemoryCalls failed request folder (Lock bytes kept skips) after)
         (second : IsAnswered MemoryCalls failed (handed_in request bytes.items) folder again later)
         (name : List ℕ) → Contains (names_of second.inputs) name → Contains (names_of first.inputs) name }
+    ensures cut_short { (failed : Files → ℕ) (folder : Files) (request : RequestView) (bytes : Vec ℕ Global) (kept : Bool) (skips : Vec Skip Global) (after later : Files)
+        (first : IsAnswered MemoryCalls failed request folder (Lock bytes kept skips) after)
+        (second : IsCutShort MemoryCalls failed (handed_in request bytes.items) folder later)
+        (name : List ℕ) → Contains (names_cut MemoryCalls failed (handed_in request bytes.items) folder later second) name → Contains (names_of first.inputs) name }
+{}
+
+/// Over one map of files, a lock that `resolve` gave is valid for `verify_bytes`, whatever was preferred. Want of
+/// memory alone may come between.
+pub fn given_locks_verify()
+    ensures { (failed : Files → ℕ) (folder : Files) (request : RequestView) (bytes : Vec ℕ Global) (kept : Bool) (skips : Vec Skip Global) (after : Files) (result : Result Verdict Fault) (later : Files)
+        → Resolves MemoryCalls failed request folder (Ok (Lock bytes kept skips)) after
+        → Verifies MemoryCalls failed (to_verify request bytes.items) folder result later → FindsValid result }
 {}
