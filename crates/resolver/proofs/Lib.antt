@@ -5,4 +5,6 @@ pub mod Checked
 pub mod Stays
 pub mod Unstopped
 pub mod Again
+pub mod Alike
 pub mod Returned
+pub mod Refused

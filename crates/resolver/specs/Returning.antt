@@ -9,11 +9,15 @@ use Rattle.catalogue.specs.declared.fault.LoadFault.TheVariants as load
 use Rattle.catalogue.specs.declared.store.Prefer.TheVariants.{Newest}
 use Rattle.selection.specs.declared.verdict.Verdict.{Verdict}
 use Rattle.selection.specs.declared.verdict.Verdict.TheVariants.{Valid}
+use Rattle.checker.specs.declared.outcome.Check.{Check}
+use Rattle.checker.specs.declared.outcome.Check.TheVariants.{Proves}
 use Rattle.resolver.specs.Faults.{is_memory}
 use Rattle.resolver.specs.Inputs.{RequestView, IsCutShort, LoadsFor}
 use Rattle.resolver.specs.Inputs.IsCutShort.{before_loading, while_loading, after_loading}
 use Rattle.resolver.specs.declared.inputs.Inputs.{Inputs}
 use Rattle.resolver.specs.declared.fault.Fault.{Fault}
+use Rattle.resolver.specs.declared.fault.CheckFault.{CheckFault}
+use Rattle.resolver.specs.declared.fault.CheckFault.TheVariants.{Input, Proof}
 use Rattle.resolver.specs.declared.resolving.Answer.{Answer}
 use Rattle.resolver.specs.declared.resolving.Answer.TheVariants.{Lock, Unsolvable}
 
@@ -25,6 +29,10 @@ handed_in request bytes = record request { old = Some bytes }
 abbrev pub to_verify : RequestView → List ℕ → RequestView
 to_verify request lock = record request { old = Some lock; prefer = Newest }
 
+-- the same request, as the check of a derivation is asked for
+abbrev pub to_check : RequestView → RequestView
+to_check request = record request { prefer = Newest }
+
 -- the same bytes, which are said to be kept; want of memory alone may come between
 abbrev pub ComesBack : List ℕ → Result Answer Fault → Type 0
 ComesBack bytes (Ok (Lock again kept skips)) = (again.items ≡ bytes) × (kept ≡ true)
@@ -35,6 +43,12 @@ ComesBack bytes (Err f) = is_memory f ≡ true
 abbrev pub FindsValid : Result Verdict Fault → Type 0
 FindsValid (Ok verdict) = verdict ≡ Valid
 FindsValid (Err f) = is_memory f ≡ true
+
+-- the derivation proves that there is no selection; want of memory alone may come between
+abbrev pub FindsProof : Result Check CheckFault → Type 0
+FindsProof (Ok check) = check ≡ Proves
+FindsProof (Err (Input f)) = is_memory f ≡ true
+FindsProof (Err (Proof fault)) = ⊥
 
 -- the answer is a lock
 abbrev pub IsSomeLock : Answer → Type 0

@@ -1,22 +1,24 @@
 //! The laws of the calls: each is a function that does nothing, whose contract is the statement.
 
-ghost use Rattle.std.specs.Prelude.{◌≡◌, ◌↔◌, ℕ, Bool, List, Result, Ok, Contains, Vec};
+ghost use Rattle.std.specs.Prelude.{◌≡◌, ◌↔◌, ℕ, Bool, List, Result, Ok, Contains, String, Vec};
 ghost use Rattle.std.specs.declared.alloc.Global.{Global};
 ghost use Rattle.model.specs.Content.{Content};
+ghost use Rattle.model.specs.Derivation.{Step};
 ghost use Rattle.model.specs.Selection.{IsValidSelection};
 ghost use Rattle.index_reader.specs.Folders.{Files, MemoryCalls};
 ghost use Rattle.index_reader.specs.declared.record.Skip.{Skip};
+ghost use Rattle.derivations.specs.Files.{derivation_of_bytes};
 ghost use Rattle.selection.specs.declared.verdict.Verdict.{Verdict};
 ghost use Rattle.checker.specs.declared.outcome.Check.{Check};
 ghost use Rattle.resolver.specs.Checks.{Checks};
 ghost use Rattle.resolver.specs.Inputs.{RequestView, IsCutShort, problem_of};
 ghost use Rattle.resolver.specs.Answers.{Resolves, Verifies, IsAnswer, IsAnswered};
-ghost use Rattle.resolver.specs.Returning.{handed_in, to_verify, ComesBack, FindsValid, IsSomeLock, names_of, names_cut};
+ghost use Rattle.resolver.specs.Returning.{handed_in, to_verify, to_check, ComesBack, FindsValid, FindsProof, IsSomeLock, names_of, names_cut};
 ghost use Rattle.resolver.specs.declared.fault.Fault.{Fault};
 ghost use Rattle.resolver.specs.declared.fault.CheckFault.{CheckFault};
 ghost use Rattle.resolver.specs.declared.inputs.Inputs.{Inputs};
 ghost use Rattle.resolver.specs.declared.resolving.Answer.{Answer};
-ghost use Rattle.resolver.specs.declared.resolving.Answer.TheVariants.{Lock};
+ghost use Rattle.resolver.specs.declared.resolving.Answer.TheVariants.{Lock, Unsolvable};
 
 /// An answer is a lock exactly where a valid selection exists, and so a refusal exactly where none does.
 pub fn locks_are_given_where_there_are_selections()
@@ -62,4 +64,14 @@ pub fn given_locks_verify()
     ensures { (failed : Files → ℕ) (folder : Files) (request : RequestView) (bytes : Vec ℕ Global) (kept : Bool) (skips : Vec Skip Global) (after : Files) (result : Result Verdict Fault) (later : Files)
         → Resolves MemoryCalls failed request folder (Ok (Lock bytes kept skips)) after
         → Verifies MemoryCalls failed (to_verify request bytes.items) folder result later → FindsValid result }
+{}
+
+/// Over one map of files, a derivation that `resolve` gave proves for `check_bytes`, with the same old lock and
+/// whatever was preferred, from bytes that read as it: those that `derivations::write` gives do, where it has at most
+/// 16,777,216 steps. Want of memory alone may come between.
+pub fn given_refusals_prove()
+    ensures { (failed : Files → ℕ) (folder : Files) (request : RequestView) (derivation : List Step) (text : String Global) (skips : Vec Skip Global) (after : Files)
+        (bytes : List ℕ) (result : Result Check CheckFault) (later : Files)
+        → Resolves MemoryCalls failed request folder (Ok (Unsolvable derivation text skips)) after → derivation_of_bytes bytes ≡ Ok derivation
+        → Checks MemoryCalls failed (to_check request) bytes folder result later → FindsProof result }
 {}
