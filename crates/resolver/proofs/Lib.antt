@@ -8,3 +8,4 @@ pub mod Again
 pub mod Alike
 pub mod Returned
 pub mod Refused
+pub mod Loaded

@@ -5,13 +5,15 @@ ghost use Rattle.std.specs.declared.alloc.Global.{Global};
 ghost use Rattle.model.specs.Content.{Content};
 ghost use Rattle.model.specs.Derivation.{Step};
 ghost use Rattle.model.specs.Selection.{IsValidSelection};
+ghost use Rattle.model.specs.WellFormed.{IsCatalogue};
 ghost use Rattle.index_reader.specs.Folders.{Files, MemoryCalls};
 ghost use Rattle.index_reader.specs.declared.record.Skip.{Skip};
+ghost use Rattle.catalogue.specs.Problems.{IsProblemOfRun};
 ghost use Rattle.derivations.specs.Files.{derivation_of_bytes};
 ghost use Rattle.selection.specs.declared.verdict.Verdict.{Verdict};
 ghost use Rattle.checker.specs.declared.outcome.Check.{Check};
 ghost use Rattle.resolver.specs.Checks.{Checks};
-ghost use Rattle.resolver.specs.Inputs.{RequestView, IsCutShort, problem_of};
+ghost use Rattle.resolver.specs.Inputs.{RequestView, AreRead, IsCutShort, packages_in, problem_of};
 ghost use Rattle.resolver.specs.Answers.{Resolves, Verifies, IsAnswer, IsAnswered};
 ghost use Rattle.resolver.specs.Returning.{handed_in, to_verify, to_check, ComesBack, FindsValid, FindsProof, IsSomeLock, names_of, names_cut};
 ghost use Rattle.resolver.specs.declared.fault.Fault.{Fault};
@@ -19,6 +21,8 @@ ghost use Rattle.resolver.specs.declared.fault.CheckFault.{CheckFault};
 ghost use Rattle.resolver.specs.declared.inputs.Inputs.{Inputs};
 ghost use Rattle.resolver.specs.declared.resolving.Answer.{Answer};
 ghost use Rattle.resolver.specs.declared.resolving.Answer.TheVariants.{Lock, Unsolvable};
+
+use index_reader::Folder;
 
 /// An answer is a lock exactly where a valid selection exists, and so a refusal exactly where none does.
 pub fn locks_are_given_where_there_are_selections()
@@ -74,4 +78,13 @@ pub fn given_refusals_prove()
         (bytes : List ℕ) (result : Result Check CheckFault) (later : Files)
         → Resolves MemoryCalls failed request folder (Ok (Unsolvable derivation text skips)) after → derivation_of_bytes bytes ≡ Ok derivation
         → Checks MemoryCalls failed (to_check request) bytes folder result later → FindsProof result }
+{}
+
+/// What a call has read makes a catalogue, each name once, its versions rising and each feature table knowing its
+/// features; and it is that of a run of the folder, so that the laws of `model` and of `catalogue` hold of it.
+pub fn loaded_inputs_make_a_catalogue<F: Folder>()
+    ensures catalogue { (request : RequestView) (before : F) (inputs : Inputs) (after : F) → AreRead F.calls F.failed request before inputs after
+        → IsCatalogue (problem_of inputs) }
+    ensures run { (request : RequestView) (before : F) (inputs : Inputs) (after : F) → AreRead F.calls F.failed request before inputs after
+        → IsProblemOfRun F.calls before inputs.manifest (packages_in inputs.old) request.source (problem_of inputs) after }
 {}
