@@ -2,3 +2,4 @@ pub mod Ends
 pub mod Led
 pub mod Put
 pub mod Left
+pub mod Brought

@@ -26,8 +26,8 @@ use reaching::{
 use std::alloc::{AllocError, Global};
 use version_sets::States;
 
-/// The content that a search selected, in package order: what the root reaches in the states that it ended in. Where a
-/// valid selection is left in the end, it is that one, if the root alone brings all of it.
+/// The content that a search selected, in package order: what the root reaches in the states that it ended in, so the
+/// root alone brings all of it. Where a valid selection that it brings is left in the end, it is that one.
 ///
 /// The only error is want of memory.
 pub fn content<'a, S: States + Drop>(
@@ -40,6 +40,7 @@ pub fn content<'a, S: States + Drop>(
     requires unbroken { IsUnbroken (problem inputs.now) (state_of (problem inputs.now) table.now (final_of (trail_view S.tests trail.now))) }
     ensures selection { IfOk result (λ c. IsValidSelection (problem inputs.now) c) }
     ensures root { IfOk result (λ c. HasBareRoot (problem inputs.now) c) }
+    ensures brought { IfOk result (λ c. IsBrought (problem inputs.now) c) }
     ensures followed { IfOk result (λ c. (w : Content) → IsValidSelection (problem inputs.now) w → HasBareRoot (problem inputs.now) w → IsBrought (problem inputs.now) w → IsLeft (problem inputs.now) table.now w (trail_view S.tests trail.now) → c ≡ w) }
 {
     catalogues_are_well_formed(inputs.manifest, inputs.catalogue);
