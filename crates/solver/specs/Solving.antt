@@ -1,9 +1,10 @@
 -- What a search over a manifest and a loaded index comes to.
-use Rattle.std.specs.Prelude.{◌≡◌, ℕ, List, [], Option, unwrap_or}
+use Rattle.std.specs.Prelude.{◌≡◌, ◌⊎◌, ℕ, List, [], Option, unwrap_or}
 use Rattle.model.specs.Content.{Candidate, Content, Problem}
 use Rattle.model.specs.Derivation.{IsAccepted, Step}
 use Rattle.model.specs.Selection.{IsValidSelection}
 use Rattle.reaching.specs.Built.{HasBareRoot}
+use Rattle.reaching.specs.Followed.{IsBrought}
 use Rattle.walks.specs.Preferred.{IsPreferred}
 use Rattle.solver.specs.declared.solving.Outcome.{Outcome}
 use Rattle.solver.specs.declared.solving.Outcome.TheVariants.{Selection, Unsolvable}
@@ -15,11 +16,13 @@ pub record IsUnsolvable (q : Problem) (steps : List Step) : Type 0 where
 
 -- preferred: the candidates by name, the most preferred first
 module _ (q : Problem) (preferred : List (List ℕ × List Candidate)) where
-  -- a valid selection, whose root has no checksum; where the preferred walk is complete and valid, that walk
+  -- a valid selection, whose root has no checksum; where the preferred walk is complete and valid, that walk, and else
+  -- one of which the root alone brings all
   pub record IsSelected (content : Content) : Type 0 where
     pub valid : IsValidSelection q content
     pub bare_root : HasBareRoot q content
     pub walk : (w : Content) → IsPreferred q preferred w → w ≡ content
+    pub needed : IsBrought q content ⊎ IsPreferred q preferred content
 
   abbrev pub IsSolved : Outcome → Type 0
   IsSolved (Selection content) = IsSelected content
@@ -32,9 +35,9 @@ derivation_of (Unsolvable derivation) = derivation
 
 -- ---- on the way
 
--- a valid selection, whose root has no checksum; or why there is none
+-- a valid selection, whose root has no checksum and alone brings all of it; or why there is none
 abbrev pub IsFound : Problem → Outcome → Type 0
-IsFound q (Selection content) = IsValidSelection q content × HasBareRoot q content
+IsFound q (Selection content) = IsValidSelection q content × HasBareRoot q content × IsBrought q content
 IsFound q (Unsolvable derivation) = IsUnsolvable q derivation
 
 -- a selection is the content that was followed, if there is one

@@ -53,7 +53,7 @@ pub struct Solved {
 }
 
 /// A valid selection for a manifest and a loaded index, where there is one: the preferred walk, where that is complete
-/// and valid. Else a derivation that the checker accepts.
+/// and valid, else one of which the root alone brings all. Or a derivation that the checker accepts.
 ///
 /// It searches until it knows, without a budget. Where the walk will do, the search decides as it says.
 ///
