@@ -53,7 +53,8 @@ pub record IsKept (old : Option (List ℕ)) (inputs : Inputs) (bytes : List ℕ)
   pub own : old ≡ Some bytes
   pub is_kept : kept ≡ true
 
--- a valid selection whose root has no checksum; where the preferred walk is complete and valid, that walk
+-- a valid selection whose root has no checksum; where the preferred walk is complete and valid, that walk, and else one
+-- of which the root alone brings all
 abbrev pub IsChosen : Inputs → Content → Type 0
 IsChosen inputs = IsSelected (problem_of inputs) (preferred_in inputs.catalogue)
 

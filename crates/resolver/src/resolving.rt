@@ -45,8 +45,8 @@ enum Reply {
 }
 
 /// A lock for a manifest: the old lock's own bytes exactly where they read as a valid selection; else new bytes that
-/// read as one, the preferred walk where that is complete and valid. Or that there is no valid selection at all, with a
-/// derivation that the checker accepts.
+/// read as one, the preferred walk where that is complete and valid, else one of which the root alone brings all. Or
+/// that there is no valid selection at all, with a derivation that the checker accepts.
 ///
 /// # Errors
 /// Want of memory; the first fault of the manifest, of the old lock and of loading, in this order; `NotReadBack` where
