@@ -16,16 +16,16 @@ pub(crate) fn repeat(rt: &HostRuntime, words: &[String], out: &mut Sink) -> io::
     Ok(0)
 }
 
+/// The text so many times, with the number of the copy for each `@`.
 fn repeated(alloc: Global, text: &str, count: u32) -> Result<String, AllocError> {
-    let Some((before, after)) = text.split_once('@') else {
+    if !text.contains('@') {
         return text.repeat(alloc, count as usize);
-    };
+    }
     let mut made = String::new(alloc);
     for i in 0..count {
         let number = format!(in alloc; "{i:05}")?;
-        made.push_str(before)?;
-        made.push_str(number.as_str())?;
-        made.push_str(after)?;
+        let copy = text.replace(alloc, "@", number.as_str())?;
+        made.push_str(copy.as_str())?;
     }
     Ok(made)
 }
