@@ -1,5 +1,5 @@
 -- What the commands do: what they read where the words say, and what they ask of it.
-use Rattle.std.specs.Prelude.{◌≡◌, ◌⊎◌, ℕ, Bool, true, false, List, Option, Some, None, Result, Ok, Err, IsErr, IfOk, Vec}
+use Rattle.std.specs.Prelude.{◌≡◌, ◌⊎◌, ℕ, Bool, true, false, List, Option, Some, None, Result, Ok, Err, IfErr, IfOk, Vec}
 use Rattle.std.specs.Io.KnownBytes.{Appends}
 use Rattle.std.specs.declared.alloc.Global.{Global}
 use Rattle.model.specs.Derivation.{Step}
@@ -9,6 +9,7 @@ use Rattle.catalogue.specs.declared.store.Prefer.TheVariants.{Newest, RustFirst}
 use Rattle.checker.specs.Texts.{check_text}
 use Rattle.checker.specs.declared.outcome.Check.{Check}
 use Rattle.derivations.specs.Files.{derivation_of_bytes}
+use Rattle.derivations.specs.declared.fault.DerivationFault.{DerivationFault}
 use Rattle.explainer.specs.Explanations.{explanation_of}
 use Rattle.selection.specs.Texts.{verdict_text}
 use Rattle.selection.specs.declared.verdict.Verdict.{Verdict}
@@ -18,12 +19,16 @@ use Rattle.words.specs.declared.reading.WordsFault.{WordsFault}
 use Rattle.commands.specs.Refusals.{IsRefused, IsRefusalTold}
 use Rattle.resolver.specs.Answers.{Resolves, Verifies}
 use Rattle.resolver.specs.Checks.{Checks}
+use Rattle.resolver.specs.Faults.{of_derivation}
+use Rattle.resolver.specs.declared.fault.CheckFault.{CheckFault}
+use Rattle.resolver.specs.declared.fault.CheckFault.TheVariants.{Input}
+use Rattle.resolver.specs.declared.fault.Fault.{Fault}
 use Rattle.resolver.specs.declared.resolving.Answer.{Answer}
 use Rattle.resolver.specs.declared.resolving.Answer.TheVariants.{Lock, Unsolvable}
-use Rattle.commands.specs.Disks.{Reads, Writes, IsKept, IsOld, bytes_if, most_of_manifest, most_of_lock, most_of_proof}
+use Rattle.commands.specs.Disks.{Reads, Writes, IsFile, IsKept, IsOld, bytes_if, most_of_manifest, most_of_lock, most_of_proof}
 use Rattle.commands.specs.Lines.{line_of, verdict_status, check_status, IsPrinted, IsEnded, IsTold, status_of}
-use Rattle.commands.specs.Sources.{source_text}
-use Rattle.commands.specs.Stops.{is_stopped}
+use Rattle.commands.specs.Sources.{IsSource, source_text}
+use Rattle.commands.specs.Stops.{cannot_write, fault, is_stopped, out_of_memory, stop_view}
 use Rattle.commands.specs.declared.stop.Stop.{Stop}
 
 -- `--rust-first`
@@ -44,9 +49,26 @@ module _ (reads : Reads) where
     pub derivation : IsDerivationOf proof steps
     pub explained : text ≡ explanation_of steps
 
+  -- why there is none
+  abbrev pub LacksText : List ℕ → Stop → Type 0
+  LacksText proof stop = (stop_view stop ≡ out_of_memory)
+      ⊎ IsFile reads proof most_of_proof (Err stop)
+      ⊎ ((bytes : Vec ℕ Global) × (f : DerivationFault) × IsFile reads proof most_of_proof (Ok bytes)
+      × (derivation_of_bytes bytes.items ≡ Err f) × (stop_view stop ≡ fault (of_derivation f)))
+
+  -- of the source and the manifest, which are read first, one can't be had
+  abbrev pub LacksFirst : List ℕ → Option (List ℕ) → Stop → Type 0
+  LacksFirst manifest source stop = (stop_view stop ≡ out_of_memory)
+      ⊎ IsSource source (Err stop)
+      ⊎ (((from : List ℕ) × IsSource source (Ok from)) × IsFile reads manifest most_of_manifest (Err stop))
+
+  -- both can
+  abbrev pub HasFirst : List ℕ → Option (List ℕ) → Type 0
+  HasFirst manifest source = ((from : List ℕ) × IsSource source (Ok from)) × ((bytes : Vec ℕ Global) × IsFile reads manifest most_of_manifest (Ok bytes))
+
 module _ {F : Type 0} (reads : Reads) (opens : List ℕ → F → Type 0) (calls : Calls F) (failed : F → ℕ) where
-  -- the verdict on the lock that lies where the words say
-  pub record IsVerdictOf (manifest index lock : List ℕ) (source : Option (List ℕ)) (verdict : Verdict) : Type 0 where
+  -- the verdict on the lock that lies where the words say, or the fault of what was read
+  pub record IsVerdictOf (manifest index lock : List ℕ) (source : Option (List ℕ)) (said : Result Verdict Fault) : Type 0 where
     pub bytes : Vec ℕ Global
     pub manifest_read : reads manifest most_of_manifest (Ok bytes)
     pub locked : Vec ℕ Global
@@ -56,10 +78,10 @@ module _ {F : Type 0} (reads : Reads) (opens : List ℕ → F → Type 0) (calls
     pub folder : F
     pub opened : opens index folder
     pub after : F
-    pub verifies : Verifies calls failed (record { manifest = bytes.items; old = Some locked.items; source = from; prefer = Newest }) folder (Ok verdict) after
+    pub verifies : Verifies calls failed (record { manifest = bytes.items; old = Some locked.items; source = from; prefer = Newest }) folder said after
 
-  -- the answer to the manifest, and to the old lock if there is one, that lie where the words say
-  pub record IsAnswerTo (manifest index : List ℕ) (lock source : Option (List ℕ)) (rust_first : Bool) (answer : Answer) : Type 0 where
+  -- the answer to the manifest, and to the old lock if there is one, that lie where the words say, or the fault of what was read
+  pub record IsAnswerTo (manifest index : List ℕ) (lock source : Option (List ℕ)) (rust_first : Bool) (said : Result Answer Fault) : Type 0 where
     pub bytes : Vec ℕ Global
     pub manifest_read : reads manifest most_of_manifest (Ok bytes)
     pub old : Option (Vec ℕ Global)
@@ -73,10 +95,10 @@ module _ {F : Type 0} (reads : Reads) (opens : List ℕ → F → Type 0) (calls
     pub folder : F
     pub opened : opens index folder
     pub after : F
-    pub resolves : Resolves calls failed (record { manifest = bytes.items; old = given; source = from; prefer = prefer }) folder (Ok answer) after
+    pub resolves : Resolves calls failed (record { manifest = bytes.items; old = given; source = from; prefer = prefer }) folder said after
 
-  -- what is said of the derivation that lies where the words say
-  pub record IsCheckOf (manifest index : List ℕ) (lock source : Option (List ℕ)) (proof : List ℕ) (check : Check) : Type 0 where
+  -- what is said of the derivation that lies where the words say, or the fault of what was read
+  pub record IsCheckOf (manifest index : List ℕ) (lock source : Option (List ℕ)) (proof : List ℕ) (said : Result Check CheckFault) : Type 0 where
     pub bytes : Vec ℕ Global
     pub manifest_read : reads manifest most_of_manifest (Ok bytes)
     pub old : Option (Vec ℕ Global)
@@ -90,51 +112,91 @@ module _ {F : Type 0} (reads : Reads) (opens : List ℕ → F → Type 0) (calls
     pub folder : F
     pub opened : opens index folder
     pub after : F
-    pub checks : Checks calls failed (record { manifest = bytes.items; old = given; source = from; prefer = Newest }) derivation.items folder (Ok check) after
+    pub checks : Checks calls failed (record { manifest = bytes.items; old = given; source = from; prefer = Newest }) derivation.items folder said after
 
-  -- a refusal and a lock come after the skipped lines; nothing else tells anything before it ends
-  abbrev pub Told : WordsView → Option (List ℕ) → Option (List ℕ) → Result ℕ Stop → Type 0
-  Told (resolve manifest index lock source proof rust_first) old new given =
-      ((answer : Answer) × IsAnswerTo manifest index lock source rust_first answer × IsTold old new answer given) ⊎ (IsErr given × (new ≡ old))
-  Told (verify manifest index lock source) old new given = new ≡ old
-  Told (check manifest index lock source proof) old new given = new ≡ old
-  Told (explain proof) old new given = new ≡ old
+  -- Why there is no answer: the first of what is read that can't be had, or the fault of what was read. That memory is
+  -- wanting is said wherever it was.
+  abbrev pub LacksVerdict : List ℕ → List ℕ → List ℕ → Option (List ℕ) → Stop → Type 0
+  LacksVerdict manifest index lock source stop = LacksFirst reads manifest source stop
+      ⊎ (HasFirst reads manifest source × IsFile reads lock most_of_lock (Err stop))
+      ⊎ ((f : Fault) × IsVerdictOf manifest index lock source (Err f) × (stop_view stop ≡ fault (Input f)))
 
-  -- what a run whose words are taken tells on standard error: what the command tells, and then why it has no answer
-  pub record IsToldOf (words : List (List ℕ)) (old new : Option (List ℕ)) (status : ℕ) : Type 0 where
-    pub view : WordsView
-    pub asks : asked words ≡ Some view
-    pub given : Result ℕ Stop
-    pub status_is : status ≡ status_of given
-    pub between : Option (List ℕ)
-    pub told : Told view old between given
-    pub ended : IsEnded between new given
+  abbrev pub LacksAnswer : List ℕ → List ℕ → Option (List ℕ) → Option (List ℕ) → Bool → Stop → Type 0
+  LacksAnswer manifest index lock source rust_first stop = LacksFirst reads manifest source stop
+      ⊎ (HasFirst reads manifest source × IsOld reads lock (Err stop))
+      ⊎ ((f : Fault) × IsAnswerTo manifest index lock source rust_first (Err f) × (stop_view stop ≡ fault (Input f)))
 
-  abbrev pub Tells : List (List ℕ) → Option (List ℕ) → Option (List ℕ) → ℕ → Type 0
-  Tells words old new status = IsToldOf words old new status ⊎ ((fault : WordsFault) × Refuses (or_help words) fault × IsRefusalTold old new fault status)
+  abbrev pub LacksCheck : List ℕ → List ℕ → Option (List ℕ) → Option (List ℕ) → List ℕ → Stop → Type 0
+  LacksCheck manifest index lock source proof stop = LacksFirst reads manifest source stop
+      ⊎ (HasFirst reads manifest source × IsOld reads lock (Err stop))
+      ⊎ (HasFirst reads manifest source × ((old : Option (Vec ℕ Global)) × IsOld reads lock (Ok old)) × IsFile reads proof most_of_proof (Err stop))
+      ⊎ ((f : CheckFault) × IsCheckOf manifest index lock source proof (Err f) × (stop_view stop ≡ fault f))
 
 -- the derivation of a refusal is in the file that is named, if one is
 abbrev pub IsFiled : Writes → Option (List ℕ) → Answer → Type 0
 IsFiled writes path (Lock bytes kept skips) = Unit {0}
 IsFiled writes path (Unsolvable derivation text skips) = IsKept writes path derivation (Ok tt)
 
-module _ {F : Type 0} (reads : Reads) (writes : Writes) (opens : List ℕ → F → Type 0) (calls : Calls F) (failed : F → ℕ) where
-  -- what goes to standard output and with which status, by what the words ask for
-  abbrev pub Answers : WordsView → Option (List ℕ) → Option (List ℕ) → ℕ → Type 0
-  Answers (resolve manifest index lock source proof rust_first) old new status = (answer : Answer) × IsAnswerTo reads opens calls failed manifest index lock source rust_first answer × IsPrinted old new answer status × IsFiled writes proof answer
-  Answers (verify manifest index lock source) old new status = (verdict : Verdict) × IsVerdictOf reads opens calls failed manifest index lock source verdict × (status ≡ verdict_status verdict) × Appends old new (line_of (verdict_text verdict))
-  Answers (check manifest index lock source proof) old new status = (c : Check) × IsCheckOf reads opens calls failed manifest index lock source proof c × (status ≡ check_status c) × Appends old new (line_of (check_text c))
-  Answers (explain proof) old new status = (text : List ℕ) × IsTextOf reads proof text × (status ≡ 0) × Appends old new text
+-- an answer that there is can't be written: to standard output, or a derivation to its file
+abbrev pub IsUnwritten : Writes → Option (List ℕ) → Answer → Stop → Type 0
+IsUnwritten writes path (Lock bytes kept skips) stop = stop_view stop ≡ cannot_write
+IsUnwritten writes path (Unsolvable derivation text skips) stop = IsKept writes path derivation (Err stop)
 
-  -- a run whose words are taken: its status, and what goes to standard output; that is unchanged where there is no answer that could be written
-  pub record IsRunOf (words : List (List ℕ)) (old new : Option (List ℕ)) (unchanged : Type 0) (status : ℕ) : Type 0 where
+-- standard output and standard error before and after, and whether all that was to be told on standard error was written
+pub record Outputs : Type 0 where
+  pub out_before : Option (List ℕ)
+  pub out_after : Option (List ℕ)
+  pub err_before : Option (List ℕ)
+  pub err_after : Option (List ℕ)
+  pub told : Bool
+
+abbrev pub outputs : Option (List ℕ) → Option (List ℕ) → Option (List ℕ) → Option (List ℕ) → Bool → Outputs
+outputs out_before out_after err_before err_after told =
+    record { out_before = out_before; out_after = out_after; err_before = err_before; err_after = err_after; told = told }
+
+-- nothing was to be told
+abbrev pub IsQuiet : Outputs → Type 0
+IsQuiet o = o.told ≡ true → o.err_after ≡ o.err_before
+
+module _ {F : Type 0} (reads : Reads) (writes : Writes) (opens : List ℕ → F → Type 0) (calls : Calls F) (failed : F → ℕ) where
+  -- a command that has an answer: its status and what goes to standard output, and to standard error where all was told
+  abbrev pub Answers : WordsView → Outputs → ℕ → Type 0
+  Answers (resolve manifest index lock source proof rust_first) o status = (answer : Answer) × IsAnswerTo reads opens calls failed manifest index lock source rust_first (Ok answer)
+      × IsPrinted o.out_before o.out_after answer status × IsFiled writes proof answer × (o.told ≡ true → IsTold o.err_before o.err_after answer (Ok status))
+  Answers (verify manifest index lock source) o status = ((verdict : Verdict) × IsVerdictOf reads opens calls failed manifest index lock source (Ok verdict)
+      × (status ≡ verdict_status verdict) × Appends o.out_before o.out_after (line_of (verdict_text verdict))) × IsQuiet o
+  Answers (check manifest index lock source proof) o status = ((c : Check) × IsCheckOf reads opens calls failed manifest index lock source proof (Ok c)
+      × (status ≡ check_status c) × Appends o.out_before o.out_after (line_of (check_text c))) × IsQuiet o
+  Answers (explain proof) o status = ((text : List ℕ) × IsTextOf reads proof text × (status ≡ 0) × Appends o.out_before o.out_after text) × IsQuiet o
+
+  -- a command that ends with the status 2: there is no answer, or it can't be written; the skipped lines are told where there is one
+  abbrev pub Stops : WordsView → Outputs → Stop → Type 0
+  Stops (resolve manifest index lock source proof rust_first) o stop = (LacksAnswer reads opens calls failed manifest index lock source rust_first stop × IsQuiet o)
+      ⊎ ((answer : Answer) × IsAnswerTo reads opens calls failed manifest index lock source rust_first (Ok answer)
+      × IsUnwritten writes proof answer stop × (o.told ≡ true → IsTold o.err_before o.err_after answer (Err stop)))
+  Stops (verify manifest index lock source) o stop = (LacksVerdict reads opens calls failed manifest index lock source stop
+      ⊎ ((verdict : Verdict) × IsVerdictOf reads opens calls failed manifest index lock source (Ok verdict) × (stop_view stop ≡ cannot_write))) × IsQuiet o
+  Stops (check manifest index lock source proof) o stop = (LacksCheck reads opens calls failed manifest index lock source proof stop
+      ⊎ ((c : Check) × IsCheckOf reads opens calls failed manifest index lock source proof (Ok c) × (stop_view stop ≡ cannot_write))) × IsQuiet o
+  Stops (explain proof) o stop = (LacksText reads proof stop ⊎ ((text : List ℕ) × IsTextOf reads proof text × (stop_view stop ≡ cannot_write))) × IsQuiet o
+
+  -- A run whose words are taken: what the command does, and then, where it has no answer or can't write it, the line that
+  -- says why. Standard output is unchanged unless an answer was to be written.
+  pub record IsRunOf (words : List (List ℕ)) (o : Outputs) (unchanged : Type 0) (status : ℕ) : Type 0 where
     pub view : WordsView
     pub asks : asked words ≡ Some view
     pub given : Result ℕ Stop
     pub status_is : status ≡ status_of given
-    pub answers : IfOk given (Answers view old new)
+    -- standard error before that line, and whether all until then was written
+    pub between : Option (List ℕ)
+    pub told : Bool
+    pub answers : IfOk given (Answers view (outputs o.out_before o.out_after o.err_before between told))
+    pub stops : IfErr given (Stops view (outputs o.out_before o.out_after o.err_before between told))
     pub stopped : is_stopped given ≡ true → unchanged
+    pub ended : o.told ≡ true → (told ≡ true) × IsEnded between o.err_after given
 
   -- a run: as the words ask, or, where they are refused, what is said of them
-  abbrev pub Runs : List (List ℕ) → Option (List ℕ) → Option (List ℕ) → Type 0 → ℕ → Type 0
-  Runs words old new unchanged status = IsRunOf words old new unchanged status ⊎ ((fault : WordsFault) × Refuses (or_help words) fault × IsRefused old new fault status)
+  abbrev pub Runs : List (List ℕ) → Outputs → Type 0 → ℕ → Type 0
+  Runs words o unchanged status = IsRunOf words o unchanged status
+      ⊎ ((fault : WordsFault) × Refuses (or_help words) fault × IsRefused o.out_before o.out_after fault status
+      × (o.told ≡ true → IsRefusalTold o.err_before o.err_after fault status))

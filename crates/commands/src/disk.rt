@@ -11,7 +11,7 @@ use std::rt::Files;
 
 /// Why a file gives no bytes.
 #[derive(Clone, Copy, Debug, PartialEq, Eq)]
-pub(crate) enum FileFault {
+pub enum FileFault {
     OutOfMemory,
     /// The system calls it not found.
     NotFound,
@@ -19,7 +19,7 @@ pub(crate) enum FileFault {
 }
 
 /// Files by their paths, which a run reads and writes.
-pub(crate) trait Disk {
+pub trait Disk {
     /// A folder of the disk.
     type Index: Folder + Drop;
 

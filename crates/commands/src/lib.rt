@@ -8,4 +8,5 @@ mod running;
 mod sources;
 mod stop;
 
-pub use running::{run, without_arguments};
+pub use disk::{Disk, FileFault};
+pub use running::{run, run_on, without_arguments};

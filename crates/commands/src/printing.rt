@@ -1,13 +1,13 @@
 //! What is printed of each answer, and where.
 
-ghost use Rattle.std.specs.Prelude.{◌≡◌, true, false, IsOk, IfOk};
+ghost use Rattle.std.specs.Prelude.{◌≡◌, true, false, IsOk, IfErr, IfOk};
 ghost use Rattle.std.specs.Io.KnownBytes.{Appends};
 ghost use Rattle.checker.specs.Texts.{check_text};
 ghost use Rattle.selection.specs.Texts.{verdict_text};
 ghost use Rattle.words.specs.Views.{text_if};
-ghost use Rattle.commands.specs.Commands.{IsFiled};
+ghost use Rattle.commands.specs.Commands.{IsFiled, IsUnwritten};
 ghost use Rattle.commands.specs.Lines.{IsPrinted, IsTold, line_of, verdict_status, check_status, skip_line, skip_lines, skips_of};
-ghost use Rattle.commands.specs.Stops.{is_stopped};
+ghost use Rattle.commands.specs.Stops.{cannot_write, is_stopped, stop_view};
 
 use crate::disk::Disk;
 use crate::files::write_proof;
@@ -38,6 +38,7 @@ pub(crate) struct Ended<'a> {
 pub(crate) fn print_verdict<'a, W: Write>(verdict: &Verdict, out: &mut W) -> Result<u8, Stop<'a>>
     ensures printed { IfOk result (λ status. (status ≡ verdict_status verdict.now) × Appends (W.contents out.old) (W.contents out.new) (line_of (verdict_text verdict.now))) }
     ensures written { is_stopped result ≡ false }
+    ensures unwritten { IfErr result (λ stop. stop_view stop ≡ cannot_write) }
 {
     let status = match verdict {
         Verdict::Valid => 0,
@@ -49,6 +50,7 @@ pub(crate) fn print_verdict<'a, W: Write>(verdict: &Verdict, out: &mut W) -> Res
 pub(crate) fn print_check<'a, W: Write>(checked: &Check, out: &mut W) -> Result<u8, Stop<'a>>
     ensures printed { IfOk result (λ status. (status ≡ check_status checked.now) × Appends (W.contents out.old) (W.contents out.new) (line_of (check_text checked.now))) }
     ensures written { is_stopped result ≡ false }
+    ensures unwritten { IfErr result (λ stop. stop_view stop ≡ cannot_write) }
 {
     let status = match checked {
         Check::Proves => 0,
@@ -61,6 +63,7 @@ pub(crate) fn print_check<'a, W: Write>(checked: &Check, out: &mut W) -> Result<
 pub(crate) fn print_bytes<'a, W: Write>(bytes: &[u8], out: &mut W) -> Result<u8, Stop<'a>>
     ensures printed { IfOk result (λ status. (status ≡ 0) × Appends (W.contents out.old) (W.contents out.new) bytes.now) }
     ensures written { is_stopped result ≡ false }
+    ensures unwritten { IfErr result (λ stop. stop_view stop ≡ cannot_write) }
 {
     after(out.write_all(bytes), 0)
 }
@@ -69,6 +72,7 @@ pub(crate) fn print_bytes<'a, W: Write>(bytes: &[u8], out: &mut W) -> Result<u8,
 fn after<'a>(written: io::Result<()>, status: u8) -> Result<u8, Stop<'a>>
     ensures ok { IfOk result (λ given. (given ≡ status) × IsOk written) }
     ensures written { is_stopped result ≡ false }
+    ensures unwritten { IfErr result (λ stop. stop_view stop ≡ cannot_write) }
 {
     match written {
         Ok(()) => Ok(status),
@@ -87,6 +91,7 @@ pub(crate) fn print_answer<'a, D: Disk, O: Write, E: Write>(
 ) -> Ended<'a>
     ensures printed { IfOk result.status (IsPrinted (O.contents out.old) (O.contents out.new) answer.now) }
     ensures filed { IfOk result.status (λ _. IsFiled (D.writes disk.now) (text_if proof.entry) answer.now) }
+    ensures unwritten { IfErr result.status (IsUnwritten (D.writes disk.now) (text_if proof.entry) answer.now) }
     ensures stopped { is_stopped result.status ≡ true → out.new ≡ out.old }
     ensures told { result.told ≡ true → IsTold (E.contents err.old) (E.contents err.new) answer.now result.status }
 {

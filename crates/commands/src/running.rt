@@ -1,14 +1,16 @@
 //! One run of the program: words in, a status and two texts out.
 
-ghost use Rattle.std.specs.Prelude.{◌≡◌, true, IfOk, map, option_copied, string_bytes};
+ghost use Rattle.std.specs.Prelude.{◌≡◌, ◌⊎◌, ℕ, Bool, List, true, IfErr, IfOk, Ok, map, option_copied, string_bytes};
+ghost use Rattle.std.specs.Io.KnownBytes.{Appends};
 ghost use Rattle.index_reader.specs.Folders.{DiskCalls};
-ghost use Rattle.words.specs.Asked.{verify, check, explain};
+ghost use Rattle.checker.specs.Texts.{check_text};
+ghost use Rattle.selection.specs.Texts.{verdict_text};
 ghost use Rattle.words.specs.Views.{text_if, words_view};
-ghost use Rattle.commands.specs.Commands.{Answers, IsAnswerTo, IsCheckOf, IsDerivationOf, IsTextOf, IsVerdictOf, Runs, Tells, Told, preference};
+ghost use Rattle.commands.specs.Commands.{Answers, IsAnswerTo, IsCheckOf, IsDerivationOf, IsTextOf, IsVerdictOf, LacksAnswer, LacksCheck, LacksText, LacksVerdict, Runs, Stops, outputs, preference};
 ghost use Rattle.commands.specs.Disks.{bytes_if};
 ghost use Rattle.commands.specs.Refusals.{IsRefused, IsRefusalTold};
-ghost use Rattle.commands.specs.Lines.{IsEnded, status_of};
-ghost use Rattle.commands.specs.Stops.{is_stopped};
+ghost use Rattle.commands.specs.Lines.{IsEnded, check_status, line_of, status_of, verdict_status};
+ghost use Rattle.commands.specs.Stops.{cannot_write, is_stopped, stop_view};
 
 use crate::disk::{Disk, System};
 use crate::files::{read_lock, read_manifest, read_old, read_proof};
@@ -38,21 +40,21 @@ pub fn run<R: Files + AllocGlobal + Clone + Drop, O: Write, E: Write>(
     out: &mut O,
     err: &mut E,
 ) -> u8
-    ensures { Runs (λ _ _ _. Unit {0}) (λ _ _ _. Unit {0}) (λ _ _. Unit {0}) (λ old path answer new. DiskCalls old answer new) (λ count. count) (map string_bytes words.now) (O.contents out.old) (O.contents out.new) (out.new ≡ out.old) result }
+    ensures { (told : Bool) × Runs (λ _ _ _. Unit {0}) (λ _ _ _. Unit {0}) (λ _ _. Unit {0}) (λ old path answer new. DiskCalls old answer new) (λ count. count) (map string_bytes words.now) (outputs (O.contents out.old) (O.contents out.new) (E.contents err.old) (E.contents err.new) told) (out.new ≡ out.old) result }
 {
     let disk = System { rt };
     run_on(&disk, words, out, err).0
 }
 
-/// The same on any disk; also says whether all that is told on standard error was written.
-fn run_on<D: Disk, O: Write, E: Write>(
+/// The same on any disk; also says whether all that is told on standard error was written. What a run does is said
+/// here: of the system's own disk nothing is known.
+pub fn run_on<D: Disk, O: Write, E: Write>(
     disk: &D,
     words: &[String],
     out: &mut O,
     err: &mut E,
 ) -> (u8, bool)
-    ensures runs { Runs (D.reads disk.now) (D.writes disk.now) (D.opens disk.now) D.Index.calls D.Index.failed (map string_bytes words.now) (O.contents out.old) (O.contents out.new) (out.new ≡ out.old) result.0 }
-    ensures told { result.1 ≡ true → Tells (D.reads disk.now) (D.opens disk.now) D.Index.calls D.Index.failed (map string_bytes words.now) (E.contents err.old) (E.contents err.new) result.0 }
+    ensures { Runs (D.reads disk.now) (D.writes disk.now) (D.opens disk.now) D.Index.calls D.Index.failed (map string_bytes words.now) (outputs (O.contents out.old) (O.contents out.new) (E.contents err.old) (E.contents err.new) result.1) (out.new ≡ out.old) result.0 }
 {
     match read_words(disk.alloc(), words) {
         Ok(words) => finish(answered(disk, &words, out, err), err),
@@ -67,9 +69,9 @@ fn answered<'a, D: Disk, O: Write, E: Write>(
     out: &mut O,
     err: &mut E,
 ) -> Ended<'a>
-    ensures answers { IfOk result.status (Answers (D.reads disk.now) (D.writes disk.now) (D.opens disk.now) D.Index.calls D.Index.failed (words_view words.entry.now) (O.contents out.old) (O.contents out.new)) }
+    ensures answers { IfOk result.status (Answers (D.reads disk.now) (D.writes disk.now) (D.opens disk.now) D.Index.calls D.Index.failed (words_view words.entry.now) (outputs (O.contents out.old) (O.contents out.new) (E.contents err.old) (E.contents err.new) result.told)) }
+    ensures stops { IfErr result.status (Stops (D.reads disk.now) (D.writes disk.now) (D.opens disk.now) D.Index.calls D.Index.failed (words_view words.entry.now) (outputs (O.contents out.old) (O.contents out.new) (E.contents err.old) (E.contents err.new) result.told)) }
     ensures stopped { is_stopped result.status ≡ true → out.new ≡ out.old }
-    ensures told { result.told ≡ true → Told (D.reads disk.now) (D.opens disk.now) D.Index.calls D.Index.failed (words_view words.entry.now) (E.contents err.old) (E.contents err.new) result.status }
 {
     match words {
         Words::Verify {
@@ -116,7 +118,8 @@ fn verify_at<'a, D: Disk, O: Write>(
     source: Option<&str>,
     out: &mut O,
 ) -> Result<u8, Stop<'a>>
-    ensures answers { IfOk result (Answers (D.reads disk.now) (D.writes disk.now) (D.opens disk.now) D.Index.calls D.Index.failed (verify manifest.entry.now index.now lock.entry.now (text_if source.entry)) (O.contents out.old) (O.contents out.new)) }
+    ensures answers { IfOk result (λ status. (said : Verdict) × IsVerdictOf (D.reads disk.now) (D.opens disk.now) D.Index.calls D.Index.failed manifest.entry.now index.now lock.entry.now (text_if source.entry) (Ok said) × (status ≡ verdict_status said) × Appends (O.contents out.old) (O.contents out.new) (line_of (verdict_text said))) }
+    ensures stops { IfErr result (λ stop. LacksVerdict (D.reads disk.now) (D.opens disk.now) D.Index.calls D.Index.failed manifest.entry.now index.now lock.entry.now (text_if source.entry) stop ⊎ ((said : Verdict) × IsVerdictOf (D.reads disk.now) (D.opens disk.now) D.Index.calls D.Index.failed manifest.entry.now index.now lock.entry.now (text_if source.entry) (Ok said) × (stop_view stop ≡ cannot_write))) }
     ensures stopped { is_stopped result ≡ true → out.new ≡ out.old }
 {
     let verdict = verdict_at(disk, manifest, index, lock, source)?;
@@ -132,7 +135,8 @@ fn verdict_at<'a, D: Disk>(
     lock: &'a str,
     source: Option<&str>,
 ) -> Result<Verdict, Stop<'a>>
-    ensures { IfOk result (IsVerdictOf (D.reads disk.now) (D.opens disk.now) D.Index.calls D.Index.failed manifest.entry.now index.now lock.entry.now (text_if source.entry)) }
+    ensures verdict { IfOk result (λ verdict. IsVerdictOf (D.reads disk.now) (D.opens disk.now) D.Index.calls D.Index.failed manifest.entry.now index.now lock.entry.now (text_if source.entry) (Ok verdict)) }
+    ensures lacks { IfErr result (LacksVerdict (D.reads disk.now) (D.opens disk.now) D.Index.calls D.Index.failed manifest.entry.now index.now lock.entry.now (text_if source.entry)) }
 {
     let from = source_of(disk.alloc(), source)?;
     let bytes = read_manifest(disk, manifest)?;
@@ -157,7 +161,8 @@ fn answer_at<'a, D: Disk>(
     source: Option<&str>,
     rust_first: bool,
 ) -> Result<Answer, Stop<'a>>
-    ensures { IfOk result (IsAnswerTo (D.reads disk.now) (D.opens disk.now) D.Index.calls D.Index.failed manifest.entry.now index.now (text_if lock.entry) (text_if source.entry) rust_first) }
+    ensures answer { IfOk result (λ answer. IsAnswerTo (D.reads disk.now) (D.opens disk.now) D.Index.calls D.Index.failed manifest.entry.now index.now (text_if lock.entry) (text_if source.entry) rust_first (Ok answer)) }
+    ensures lacks { IfErr result (LacksAnswer (D.reads disk.now) (D.opens disk.now) D.Index.calls D.Index.failed manifest.entry.now index.now (text_if lock.entry) (text_if source.entry) rust_first) }
 {
     let from = source_of(disk.alloc(), source)?;
     let bytes = read_manifest(disk, manifest)?;
@@ -204,7 +209,8 @@ fn check_at<'a, D: Disk, O: Write>(
     proof: &'a str,
     out: &mut O,
 ) -> Result<u8, Stop<'a>>
-    ensures answers { IfOk result (Answers (D.reads disk.now) (D.writes disk.now) (D.opens disk.now) D.Index.calls D.Index.failed (check manifest.entry.now index.now (text_if lock.entry) (text_if source.entry) proof.entry.now) (O.contents out.old) (O.contents out.new)) }
+    ensures answers { IfOk result (λ status. (said : Check) × IsCheckOf (D.reads disk.now) (D.opens disk.now) D.Index.calls D.Index.failed manifest.entry.now index.now (text_if lock.entry) (text_if source.entry) proof.entry.now (Ok said) × (status ≡ check_status said) × Appends (O.contents out.old) (O.contents out.new) (line_of (check_text said))) }
+    ensures stops { IfErr result (λ stop. LacksCheck (D.reads disk.now) (D.opens disk.now) D.Index.calls D.Index.failed manifest.entry.now index.now (text_if lock.entry) (text_if source.entry) proof.entry.now stop ⊎ ((said : Check) × IsCheckOf (D.reads disk.now) (D.opens disk.now) D.Index.calls D.Index.failed manifest.entry.now index.now (text_if lock.entry) (text_if source.entry) proof.entry.now (Ok said) × (stop_view stop ≡ cannot_write))) }
     ensures stopped { is_stopped result ≡ true → out.new ≡ out.old }
 {
     let checked = checked_at(disk, manifest, index, lock, source, proof)?;
@@ -221,7 +227,8 @@ fn checked_at<'a, D: Disk>(
     source: Option<&str>,
     proof: &'a str,
 ) -> Result<Check, Stop<'a>>
-    ensures { IfOk result (IsCheckOf (D.reads disk.now) (D.opens disk.now) D.Index.calls D.Index.failed manifest.entry.now index.now (text_if lock.entry) (text_if source.entry) proof.entry.now) }
+    ensures check { IfOk result (λ check. IsCheckOf (D.reads disk.now) (D.opens disk.now) D.Index.calls D.Index.failed manifest.entry.now index.now (text_if lock.entry) (text_if source.entry) proof.entry.now (Ok check)) }
+    ensures lacks { IfErr result (LacksCheck (D.reads disk.now) (D.opens disk.now) D.Index.calls D.Index.failed manifest.entry.now index.now (text_if lock.entry) (text_if source.entry) proof.entry.now) }
 {
     let from = source_of(disk.alloc(), source)?;
     let bytes = read_manifest(disk, manifest)?;
@@ -241,7 +248,8 @@ fn checked_at<'a, D: Disk>(
 }
 
 fn explain_at<'a, D: Disk, O: Write>(disk: &D, proof: &'a str, out: &mut O) -> Result<u8, Stop<'a>>
-    ensures answers { IfOk result (Answers (D.reads disk.now) (D.writes disk.now) (D.opens disk.now) D.Index.calls D.Index.failed (explain proof.entry.now) (O.contents out.old) (O.contents out.new)) }
+    ensures answers { IfOk result (λ status. (text : List ℕ) × IsTextOf (D.reads disk.now) proof.entry.now text × (status ≡ 0) × Appends (O.contents out.old) (O.contents out.new) text) }
+    ensures stops { IfErr result (λ stop. LacksText (D.reads disk.now) proof.entry.now stop ⊎ ((text : List ℕ) × IsTextOf (D.reads disk.now) proof.entry.now text × (stop_view stop ≡ cannot_write))) }
     ensures stopped { is_stopped result ≡ true → out.new ≡ out.old }
 {
     let text = text_at(disk, proof)?;
@@ -251,7 +259,8 @@ fn explain_at<'a, D: Disk, O: Write>(disk: &D, proof: &'a str, out: &mut O) -> R
 
 /// The text of the derivation.
 fn text_at<'a, D: Disk>(disk: &D, proof: &'a str) -> Result<String, Stop<'a>>
-    ensures { IfOk result (λ text. IsTextOf (D.reads disk.now) proof.entry.now (string_bytes text)) }
+    ensures text { IfOk result (λ text. IsTextOf (D.reads disk.now) proof.entry.now (string_bytes text)) }
+    ensures lacks { IfErr result (LacksText (D.reads disk.now) proof.entry.now) }
 {
     let derivation = derivation_at(disk, proof)?;
     let text = explain(disk.alloc(), &derivation)?;
@@ -260,7 +269,8 @@ fn text_at<'a, D: Disk>(disk: &D, proof: &'a str) -> Result<String, Stop<'a>>
 
 /// The derivation of a file, whose bytes are let go.
 fn derivation_at<'a, D: Disk>(disk: &D, proof: &'a str) -> Result<Derivation, Stop<'a>>
-    ensures { IfOk result (IsDerivationOf (D.reads disk.now) proof.entry.now) }
+    ensures derivation { IfOk result (IsDerivationOf (D.reads disk.now) proof.entry.now) }
+    ensures lacks { IfErr result (LacksText (D.reads disk.now) proof.entry.now) }
 {
     let bytes = read_proof(disk, proof)?;
     let derivation = derivations::read(disk.alloc(), bytes.as_slice())?;

@@ -1,8 +1,9 @@
-use Rattle.std.proofs.Common.{option_copied, sym}
+use Rattle.std.proofs.Common.{inl, inr, option_copied, sym}
+use Rattle.std.proofs.lemmas.Result.{err_from_is_err_and}
 use Rattle.commands.proofs.running.answer_at.Goals as goal
 
-pub returns : goal.returns
-returns g c = record {
+pub returns-clause-answer : goal.returns-clause-answer
+returns-clause-answer g c = record {
   bytes = c.in_ok-bytes.bytes;
   manifest_read = c.in_ok-bytes.ensures;
   old = c.in_ok-old.old;
@@ -18,3 +19,32 @@ returns g c = record {
   after = c.resolve.new.folder;
   resolves = rw (sym c.as_slice.ensures.value) c.in_ok-answer.ensures;
 }
+
+pub returns-in_err-old-clause-lacks : goal.returns-in_err-old-clause-lacks
+returns-in_err-old-clause-lacks g c =
+    let p = err_from_is_err_and c.from_residual-in_err-old.result c.from_residual-in_err-old.ensures.1 in
+    rw (p.1, p.2) (inr (inl (((c.in_ok-from.from, c.in_ok-from.ensures), (c.in_ok-bytes.bytes, c.in_ok-bytes.ensures)), c.in_err-old.ensures)))
+
+pub returns-in_err-answer-clause-lacks : goal.returns-in_err-answer-clause-lacks
+returns-in_err-answer-clause-lacks g c =
+    let p = err_from_is_err_and c.from_residual-in_err-answer.result c.from_residual-in_err-answer.ensures.1 in
+    rw p.1 (inr (inr (
+      c.in_err-answer.field-0.0,
+      record {
+        bytes = c.in_ok-bytes.bytes;
+        manifest_read = c.in_ok-bytes.ensures;
+        old = c.in_ok-old.old;
+        lock_read = c.in_ok-old.ensures;
+        given = option_copied c.slice_if-given.result;
+        given_is = c.slice_if-given.ensures;
+        from = c.in_ok-from.from;
+        source_is = c.in_ok-from.ensures.0;
+        prefer = c.preference-prefer.result;
+        prefer_is = c.preference-prefer.ensures;
+        folder = c.in_ok-folder.folder;
+        opened = c.in_ok-folder.ensures;
+        after = c.resolve.new.folder;
+        resolves = rw (sym c.as_slice.ensures.value) c.in_err-answer.ensures;
+      },
+      p.2,
+    )))

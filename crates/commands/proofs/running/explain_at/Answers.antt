@@ -1,5 +1,11 @@
-use Rattle.std.proofs.Common.{string_bytes, sym}
+use Rattle.std.proofs.Common.{inr, string_bytes, sym}
+use Rattle.std.proofs.lemmas.Result.{err_from_is_err_and}
 use Rattle.commands.proofs.running.explain_at.Goals as goal
 
 pub returns-clause-answers : goal.returns-clause-answers
-returns-clause-answers g c = (string_bytes c.in_ok-text.text, c.in_ok-text.ensures, c.in_ok-status.ensures.printed.0, rw (sym c.as_bytes.ensures.value) c.in_ok-status.ensures.printed.1)
+returns-clause-answers g c = (string_bytes c.in_ok-text.text, c.in_ok-text.ensures.text, c.in_ok-status.ensures.printed.0, rw (sym c.as_bytes.ensures.value) c.in_ok-status.ensures.printed.1)
+
+pub returns-in_err-status-clause-stops : goal.returns-in_err-status-clause-stops
+returns-in_err-status-clause-stops g c =
+    let p = err_from_is_err_and c.from_residual-in_err-status.result c.from_residual-in_err-status.ensures.1 in
+    rw (p.1, p.2) (inr (string_bytes c.in_ok-text.text, c.in_ok-text.ensures.text, c.in_err-status.ensures.unwritten))

@@ -1,4 +1,11 @@
+use Rattle.std.proofs.Common.{inr}
+use Rattle.std.proofs.lemmas.Result.{err_from_is_err_and}
 use Rattle.commands.proofs.running.verify_at.Goals as goal
 
 pub returns-clause-answers : goal.returns-clause-answers
-returns-clause-answers g c = (c.in_ok-verdict.verdict, c.in_ok-verdict.ensures, c.in_ok-status.ensures.printed.0, c.in_ok-status.ensures.printed.1)
+returns-clause-answers g c = (c.in_ok-verdict.verdict, c.in_ok-verdict.ensures.verdict, c.in_ok-status.ensures.printed.0, c.in_ok-status.ensures.printed.1)
+
+pub returns-in_err-status-clause-stops : goal.returns-in_err-status-clause-stops
+returns-in_err-status-clause-stops g c =
+    let p = err_from_is_err_and c.from_residual-in_err-status.result c.from_residual-in_err-status.ensures.1 in
+    rw (p.1, p.2) (inr (c.in_ok-verdict.verdict, c.in_ok-verdict.ensures.verdict, c.in_err-status.ensures.unwritten))
