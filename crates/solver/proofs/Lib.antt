@@ -1,2 +1,3 @@
 pub mod Axioms
 pub mod Followed
+pub mod Examples
