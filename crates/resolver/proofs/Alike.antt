@@ -1,10 +1,10 @@
 -- Two runs over the same map of files, with the same old lock and source, ask for the same names and load the same, whatever is preferred.
-use Rattle.std.proofs.Common.{◌≡◌, ℕ, ◌<◌, ◌≤◌, Bool, true, false, cond, ◌&&◌, List, [], ◌∷◌, ◌++◌, length, map, Contains, Option, Some, None, unwrap_or, option_map, Result, Ok, Err, refl, sym, ap, ap₂, ◌∙◌, subst, arith}
+use Rattle.std.proofs.Common.{◌≡◌, ℕ, ◌<◌, Bool, true, false, cond, ◌&&◌, List, [], ◌∷◌, ◌++◌, length, Contains, Option, Some, None, unwrap_or, option_map, Err, refl, sym, ap, ap₂, ◌∙◌, subst, arith}
 use Rattle.std.specs.List.{All}
 use Rattle.std.proofs.lemmas.List.{append-nil, append_assoc, length-append}
 use Rattle.std.proofs.lemmas.List.Elements.{All-append, Contains-append_left, Contains-append_right}
 use Rattle.std.proofs.lemmas.Option.{none-some}
-use Rattle.model.specs.Content.{Content, Package, same_option}
+use Rattle.model.specs.Content.{Content, same_option}
 use Rattle.model.specs.Candidates.{Record, RustVersion, is_locked}
 use Rattle.model.specs.Summary.{Dependency, same_text}
 use Rattle.model.proofs.Lists.{in_first, all_none, all_cons, all_first, all_rest}
@@ -13,9 +13,9 @@ use Rattle.index_reader.specs.Folders.{Files, MemoryCalls, file_at}
 use Rattle.index_reader.specs.Paths.{path_of}
 use Rattle.vertices.proofs.Bound.{same-Some}
 use Rattle.catalogue.specs.Runs.{Asked, candidates_in, next_name, AreNext}
-use Rattle.catalogue.specs.Loads.{IsWithin, IsSoFar, IsLoaded, Loads, store_of, ranked_in, differs, has_changed, first_changed}
+use Rattle.catalogue.specs.Loads.{IsWithin, IsSoFar, IsLoaded, Loads, store_of, ranked_in, differs, first_changed}
 use Rattle.catalogue.specs.Problems.{problem_in, problem_of}
-use Rattle.catalogue.specs.Ranks.{Ranked, records}
+use Rattle.catalogue.specs.Ranks.{records}
 use Rattle.catalogue.specs.Stores.{CatalogueView, candidates_at, record_at, row_at}
 use Rattle.catalogue.specs.Views.{said}
 use Rattle.catalogue.specs.declared.fault.LoadFault.{LoadFault}

@@ -1,5 +1,5 @@
 -- What was loaded makes a catalogue, that of a run of the folder.
-use Rattle.std.proofs.Common.{◌≡◌, ℕ, sym, subst}
+use Rattle.std.proofs.Common.{ℕ, sym, subst}
 use Rattle.model.specs.WellFormed.{IsCatalogue}
 use Rattle.catalogue.specs.Loads.{rust_for}
 use Rattle.catalogue.specs.Problems.{IsProblemOfRun}

@@ -20,9 +20,8 @@ use Rattle.catalogue.specs.declared.fault.LoadFault.TheVariants as load
 use Rattle.catalogue.specs.declared.store.Prefer.{Prefer}
 use Rattle.catalogue.specs.declared.store.Prefer.TheVariants.{Newest}
 use Rattle.selection.specs.declared.verdict.Verdict.{Verdict}
-use Rattle.selection.specs.declared.verdict.Verdict.TheVariants.{Valid}
 use Rattle.vertices.proofs.Bound.{same-Ok, same-Some}
-use Rattle.resolver.specs.Faults.{is_memory, of_load}
+use Rattle.resolver.specs.Faults.{is_memory}
 use Rattle.resolver.specs.Inputs.{RequestView, AreRead, IsRefused, IsCutShort, LoadsFor, EndsWith, old_of_bytes, packages_in, problem_of}
 use Rattle.resolver.specs.Inputs.IsRefused.{by_manifest, by_lock, by_index}
 use Rattle.resolver.specs.Inputs.IsCutShort.{before_loading, while_loading, after_loading}

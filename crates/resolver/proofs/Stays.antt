@@ -9,7 +9,7 @@ use Rattle.index_reader.specs.Folders.{Files, MemoryCalls}
 use Rattle.index_reader.specs.Paths.{path_of}
 use Rattle.index_reader.specs.declared.folder.FolderFault.TheVariants.{OutOfMemory, Failed}
 use Rattle.catalogue.specs.Runs.{Asked, Chain}
-use Rattle.catalogue.specs.Loads.{Fails, IsSoFar, IsLoaded, IsStopped, Loads, rust_for}
+use Rattle.catalogue.specs.Loads.{Fails, IsStopped, Loads, rust_for}
 use Rattle.catalogue.specs.Stores.{CatalogueView}
 use Rattle.catalogue.specs.declared.fault.LoadFault.{LoadFault}
 use Rattle.catalogue.specs.declared.fault.LoadFault.TheVariants as load
