@@ -13,3 +13,4 @@ pub mod Featured
 pub mod Lacking
 pub mod PairLemmas
 pub mod GatherLemmas
+pub mod Kept

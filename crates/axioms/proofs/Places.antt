@@ -1,5 +1,5 @@
 -- The first place of a list that passes, counted from a number.
-use Rattle.std.proofs.Common.{◌≡◌, ℕ, suc, ◌+◌, Bool, true, false, cond, List, [], ◌∷◌, Option, Some, None, option_map, refl, sym, ap, ◌∙◌, arith}
+use Rattle.std.proofs.Common.{◌≡◌, ℕ, suc, ◌+◌, Bool, true, false, cond, List, [], ◌∷◌, Option, Some, None, option_map, refl, sym, ap, ap₂, ◌∙◌, arith}
 use Rattle.std.specs.List.{list_any}
 use Rattle.std.specs.Option.{option_or}
 use Rattle.semver.specs.Parse.{Parts}
@@ -44,18 +44,27 @@ pub needed_is : (q : Problem) (o : Owner) (ds : List Dependency) → place_from 
 unfolding is_needed_unmatched
 needed_is q o ds = from_start (λ d. is_needed o d && is_unmatched q d) ds
 
-pub enabled_is : (q : Problem) (es : List Entry) (ds : List Dependency) → place_from (is_enabled_unmatched q es) 0 ds ≡ first_place (λ d. list_any (enables d.name) es && is_unmatched q d) ds
+-- tests that agree
+place_same : {A : Type 0} (s t : A → Bool) → ((x : A) → s x ≡ t x) → (n : ℕ) (xs : List A) → place_from s n xs ≡ place_from t n xs
+place_same s t e n [] = refl
+place_same s t e n (x ∷ xs) = ap₂ (λ b o. cond b (Some n) o) (e x) (place_same s t e (n + 1) xs)
+
+enabled_is : (q : Problem) (enabled : List ℕ → Bool) (es : List Entry) (ds : List Dependency) → ((d : List ℕ) → enabled d ≡ list_any (enables d) es)
+    → place_from (is_enabled_unmatched q enabled) 0 ds ≡ first_place (λ d. list_any (enables d.name) es && is_unmatched q d) ds
 unfolding is_enabled_unmatched
-enabled_is q es ds = from_start (λ d. list_any (enables d.name) es && is_unmatched q d) ds
+enabled_is q enabled es ds same = place_same _ _ (λ d. ap (λ b. b && is_unmatched q d) (same d.name)) 0 ds ∙ from_start (λ d. list_any (enables d.name) es && is_unmatched q d) ds
+
+-- among the dependencies of the owner
+pub needed_first : (q : Problem) (o : Owner) (ds : List Dependency) → ds ≡ (owner_brings q o).dependencies → place_from (is_needed_unmatched q o) 0 ds ≡ needed_unmatched q o
+needed_first q o ds e = needed_is q o ds ∙ ap (first_place (λ d. is_needed o d && is_unmatched q d)) e
+
+pub enabled_first : (q : Problem) (name : List ℕ) (v : Parts) (g : List ℕ) (enabled : List ℕ → Bool) (es : List Entry) (ds : List Dependency)
+    → ((d : List ℕ) → enabled d ≡ list_any (enables d) es) → es ≡ entries_of q name v g → ds ≡ (owner_brings q (version_of name v)).dependencies
+    → place_from (is_enabled_unmatched q enabled) 0 ds ≡ enabled_unmatched q name v g
+enabled_first q name v g enabled es ds same h e =
+    enabled_is q enabled es ds same ∙ ap (λ xs. first_place (λ d. list_any (enables d.name) xs && is_unmatched q d) ds) h
+    ∙ ap (first_place (λ d. list_any (enables d.name) (entries_of q name v g) && is_unmatched q d)) e
 
 -- where no number is written
-pub needed_or : (q : Problem) (o : Owner) (ds : List Dependency) (n : Option ℕ) → ds ≡ (owner_brings q o).dependencies → n ≡ None
-    → place_from (is_needed_unmatched q o) 0 ds ≡ option_or n (needed_unmatched q o)
-needed_or q o ds n e f = needed_is q o ds ∙ ap (first_place (λ d. is_needed o d && is_unmatched q d)) e ∙ sym (ap (λ m. option_or m (needed_unmatched q o)) f)
-
-pub enabled_or : (q : Problem) (name : List ℕ) (v : Parts) (g : List ℕ) (es : List Entry) (ds : List Dependency) (n : Option ℕ)
-    → es ≡ entries_of q name v g → ds ≡ (owner_brings q (version_of name v)).dependencies → n ≡ None
-    → place_from (is_enabled_unmatched q es) 0 ds ≡ option_or n (enabled_unmatched q name v g)
-enabled_or q name v g es ds n h e f =
-    ap (λ xs. place_from (is_enabled_unmatched q xs) 0 ds) h ∙ enabled_is q (entries_of q name v g) ds
-    ∙ ap (first_place (λ d. list_any (enables d.name) (entries_of q name v g) && is_unmatched q d)) e ∙ sym (ap (λ m. option_or m (enabled_unmatched q name v g)) f)
+pub or_found : (n m : Option ℕ) → n ≡ None → m ≡ option_or n m
+or_found n m e = sym (ap (λ o. option_or o m) e)

@@ -6,6 +6,7 @@ pub mod Gathered
 pub mod GatheredViews
 pub mod Matching
 pub mod Needs
+pub mod Numbers
 pub mod Pairs
 pub mod Ranges
 pub mod Readings

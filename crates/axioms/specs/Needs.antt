@@ -1,8 +1,8 @@
 -- Dependencies that count and that no candidate serves.
 use Rattle.std.specs.Prelude.{ℕ, ◌+◌, List, [], ◌∷◌, Bool, ◌&&◌, Option, Some, None, option_and_then, if◌then◌else◌}
-use Rattle.std.specs.List.{list_any, find}
+use Rattle.std.specs.List.{find}
 use Rattle.semver.specs.Parse.{Parts}
-use Rattle.model.specs.Summary.{Dependency, Entry}
+use Rattle.model.specs.Summary.{Dependency}
 use Rattle.model.specs.Content.{Problem}
 use Rattle.model.specs.Vertices.{Owner, version_of}
 use Rattle.refutations.specs.Causes.{Cause, of_enabling, enables, is_needed, is_unmatched, dependency_at, entries_of}
@@ -10,8 +10,9 @@ use Rattle.refutations.specs.Causes.{Cause, of_enabling, enables, is_needed, is_
 unfoldable pub is_needed_unmatched : Problem → Owner → Dependency → Bool
 is_needed_unmatched q o d = is_needed o d && is_unmatched q d
 
-unfoldable pub is_enabled_unmatched : Problem → List Entry → Dependency → Bool
-is_enabled_unmatched q es d = list_any (enables d.name) es && is_unmatched q d
+-- where the test says which dependencies are enabled, by what they are called
+unfoldable pub is_enabled_unmatched : Problem → (List ℕ → Bool) → Dependency → Bool
+is_enabled_unmatched q enabled d = enabled d.name && is_unmatched q d
 
 -- the first place that passes, where the list starts at this number
 abbrev pub place_from : {A : Type 0} → (A → Bool) → ℕ → List A → Option ℕ

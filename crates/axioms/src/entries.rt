@@ -22,12 +22,6 @@ pub(crate) fn enables(name: &PackageName, entry: &Entry) -> bool
     }
 }
 
-pub(crate) fn some_enables(name: &PackageName, entries: &[Entry]) -> bool
-    ensures { result ≡ list_any (enables name.now) (entry_views entries.now) }
-{
-    entries.iter().any(|entry| enables(name, entry))
-}
-
 /// The first entry that enables the dependency.
 pub(crate) fn first_enabling<'a>(name: &PackageName, entries: &'a [Entry]) -> Option<&'a Entry>
     ensures { option_map (λ e. entry_view e.now) result ≡ find (enables name.now) (entry_views entries.entry.now) }

@@ -1,49 +1,57 @@
 //! The one cause of a kind that terms can have.
 
-ghost use Rattle.std.specs.Prelude.{◌≡◌, ◌&&◌, option_map};
+ghost use Rattle.std.specs.Prelude.{◌≡◌, option_map, IfOk};
 ghost use Rattle.std.specs.Option.{option_or};
 ghost use Rattle.semver.specs.Identifiers.{parts_of};
 ghost use Rattle.classes.specs.Classes.{class_view};
 ghost use Rattle.vertices.specs.Kinds.{kind_view};
-ghost use Rattle.features.specs.Views.{dependency_view, dependency_views};
-ghost use Rattle.features.specs.EntryViews.{entry_views};
-ghost use Rattle.refutations.specs.Causes.{enables, is_needed, is_unmatched};
+ghost use Rattle.features.specs.Views.{dependency_view};
+ghost use Rattle.refutations.specs.Causes.{is_needed};
 ghost use Rattle.refutations.specs.Instances.{ask_in, asking_in, cause_in, enabled_unmatched, enabling_in, entry_in, feature_in, list_in, need_in, needed_unmatched, newest_in, newest_of, number_read, target_in, weak_in};
 ghost use Rattle.axioms.specs.CauseViews.{cause_view};
-ghost use Rattle.axioms.specs.Needs.{enabling_by, is_enabled_unmatched, is_needed_unmatched, place_from};
+ghost use Rattle.axioms.specs.GatheredViews.{problem_of};
+ghost use Rattle.axioms.specs.Needs.{enabling_by};
 ghost use Rattle.axioms.specs.Views.{problem, term_views};
 ghost use Rattle.vertices.specs.RefViews.{owner_ref_view};
 
 use crate::cause::Cause;
-use crate::entries::{first_enabling, some_enables};
+use crate::entries::first_enabling;
+use crate::gathered::Gathered;
 use crate::known::Known;
-use crate::lookups::{dependencies_of, dependency_at, entries_of};
-use crate::matching::is_unmatched;
+use crate::lookups::{dependency_at, entries_of};
+use crate::numbers::{enabled_unmatched, needed_unmatched};
 use crate::reading::{
     first_ask, first_dependency, first_feature, first_led, first_off, first_on, first_other,
     first_owner, first_version,
 };
 use crate::term::Term;
 use classes::Class;
-use features::{Dependency, Entry, FeatureName, PackageName};
+use features::{Dependency, FeatureName, PackageName};
 use semver::Version;
+use std::alloc::{AllocError, Global};
 use vertices::{Kind, OwnerRef};
 
 /// The cause of the kind that the terms can have.
-pub(crate) fn cause_in<'a>(known: &Known<'a>, kind: Kind, terms: &[Term<'a>]) -> Option<Cause<'a>>
-    ensures { option_map cause_view result ≡ cause_in (problem known.now) (kind_view kind) (term_views terms.now) }
+pub(crate) fn cause_in<'a>(
+    alloc: Global,
+    gathered: &mut Gathered<'a>,
+    kind: Kind,
+    terms: &[Term<'a>],
+) -> Result<Option<Cause<'a>>, AllocError>
+    ensures cause { IfOk result (λ c. option_map cause_view c ≡ cause_in (problem_of gathered.old) (kind_view kind) (term_views terms.now)) }
+    ensures same { problem_of gathered.new ≡ problem_of gathered.old }
 {
     match kind {
-        Kind::Root => Some(Cause::Root),
-        Kind::Needed => need_in(known, terms),
-        Kind::Target => target_in(terms),
-        Kind::HasFeature => feature_in(terms),
-        Kind::WantsFeature => ask_or_list_in(terms),
-        Kind::FeatureOnFeature => entry_in(terms),
-        Kind::FeatureOnDependency => enabling_in(known, terms),
-        Kind::FeatureAsks => asking_in(terms),
-        Kind::NewestListed => newest_in(terms),
-        Kind::WeakFeature => weak_in(terms),
+        Kind::Root => Ok(Some(Cause::Root)),
+        Kind::Needed => need_in(gathered, terms),
+        Kind::Target => Ok(target_in(terms)),
+        Kind::HasFeature => Ok(feature_in(terms)),
+        Kind::WantsFeature => Ok(ask_or_list_in(terms)),
+        Kind::FeatureOnFeature => Ok(entry_in(terms)),
+        Kind::FeatureOnDependency => enabling_in(alloc, gathered, terms),
+        Kind::FeatureAsks => Ok(asking_in(terms)),
+        Kind::NewestListed => Ok(newest_in(terms)),
+        Kind::WeakFeature => Ok(weak_in(terms)),
     }
 }
 
@@ -139,44 +147,34 @@ fn newest_of(
     }
 }
 
-fn need_in<'a>(known: &Known<'_>, terms: &[Term<'a>]) -> Option<Cause<'a>>
-    ensures { option_map cause_view result ≡ need_in (problem known.now) (term_views terms.now) }
+fn need_in<'a>(
+    gathered: &mut Gathered<'a>,
+    terms: &[Term<'a>],
+) -> Result<Option<Cause<'a>>, AllocError>
+    ensures cause { IfOk result (λ c. option_map cause_view c ≡ need_in (problem_of gathered.old) (term_views terms.now)) }
+    ensures same { problem_of gathered.new ≡ problem_of gathered.old }
 {
-    let owner = first_owner(terms)?;
-    let number = needed_number(known, &owner, terms)?;
-    Some(Cause::Need(owner, number))
+    let Some(owner) = first_owner(terms) else {
+        return Ok(None);
+    };
+    match needed_number(gathered, owner, terms)? {
+        Some(number) => Ok(Some(Cause::Need(owner, number))),
+        None => Ok(None),
+    }
 }
 
-fn needed_number(known: &Known<'_>, owner: &OwnerRef<'_>, terms: &[Term<'_>]) -> Option<usize>
-    ensures { result ≡ option_or (number_read (term_views terms.now)) (needed_unmatched (problem known.now) (owner_ref_view owner.now)) }
+fn needed_number<'a>(
+    gathered: &mut Gathered<'a>,
+    owner: OwnerRef<'a>,
+    terms: &[Term<'a>],
+) -> Result<Option<usize>, AllocError>
+    ensures number { IfOk result (λ n. n ≡ option_or (number_read (term_views terms.now)) (needed_unmatched (problem_of gathered.old) (owner_ref_view owner.entry))) }
+    ensures same { problem_of gathered.new ≡ problem_of gathered.old }
 {
     match first_dependency(terms) {
-        Some((_, number)) => Some(number),
-        None => first_needed(known, owner, dependencies_of(known, owner)),
+        Some((_, number)) => Ok(Some(number)),
+        None => needed_unmatched(gathered, owner),
     }
-}
-
-/// The number of the first dependency that the owner needs and no candidate serves.
-fn first_needed(
-    known: &Known<'_>,
-    owner: &OwnerRef<'_>,
-    dependencies: &[Dependency],
-) -> Option<usize>
-    ensures { result ≡ place_from (is_needed_unmatched (problem known.now) (owner_ref_view owner.now)) 0 (dependency_views dependencies.now) }
-{
-    'dependencies: for (number, dependency) in dependencies.iter().enumerate() {
-        if is_needed_unmatched(known, owner, dependency) {
-            return Some(number);
-        }
-    }
-    None
-}
-
-#[tactic(auto, unfolding(crate::specs::Needs::is_needed_unmatched))]
-fn is_needed_unmatched(known: &Known<'_>, owner: &OwnerRef<'_>, dependency: &Dependency) -> bool
-    ensures { result ≡ is_needed_unmatched (problem known.now) (owner_ref_view owner.now) (dependency_view dependency.now) }
-{
-    is_needed(owner, dependency) && is_unmatched(known, dependency)
 }
 
 /// Whether the owner needs the dependency: the root each one, a version those that aren't optional.
@@ -189,13 +187,24 @@ pub(crate) fn is_needed(owner: &OwnerRef<'_>, dependency: &Dependency) -> bool
     }
 }
 
-fn enabling_in<'a>(known: &Known<'a>, terms: &[Term<'a>]) -> Option<Cause<'a>>
-    ensures { option_map cause_view result ≡ enabling_in (problem known.now) (term_views terms.now) }
+fn enabling_in<'a>(
+    alloc: Global,
+    gathered: &mut Gathered<'a>,
+    terms: &[Term<'a>],
+) -> Result<Option<Cause<'a>>, AllocError>
+    ensures cause { IfOk result (λ c. option_map cause_view c ≡ enabling_in (problem_of gathered.old) (term_views terms.now)) }
+    ensures same { problem_of gathered.new ≡ problem_of gathered.old }
 {
-    let (name, version) = first_version(terms)?;
-    let on = first_on(terms)?;
-    let number = enabled_number(known, name, version, on, terms)?;
-    enabling(known, name, version, on, number)
+    let Some((name, version)) = first_version(terms) else {
+        return Ok(None);
+    };
+    let Some(on) = first_on(terms) else {
+        return Ok(None);
+    };
+    match enabled_number(alloc, gathered, name, version, on, terms)? {
+        Some(number) => Ok(enabling(&gathered.known, name, version, on, number)),
+        None => Ok(None),
+    }
 }
 
 /// The cause with the first entry that enables the dependency of this number.
@@ -213,40 +222,19 @@ fn enabling<'a>(
     Some(Cause::Enabling(name, version, on, entry, number))
 }
 
-fn enabled_number(
-    known: &Known<'_>,
-    name: &PackageName,
-    version: &Version,
-    on: &FeatureName,
-    terms: &[Term<'_>],
-) -> Option<usize>
-    ensures { result ≡ option_or (number_read (term_views terms.now)) (enabled_unmatched (problem known.now) name.now (parts_of version.now) on.now) }
+fn enabled_number<'a>(
+    alloc: Global,
+    gathered: &mut Gathered<'a>,
+    name: &'a PackageName,
+    version: &'a Version,
+    on: &'a FeatureName,
+    terms: &[Term<'a>],
+) -> Result<Option<usize>, AllocError>
+    ensures number { IfOk result (λ n. n ≡ option_or (number_read (term_views terms.now)) (enabled_unmatched (problem_of gathered.old) name.now (parts_of version.now) on.now)) }
+    ensures same { problem_of gathered.new ≡ problem_of gathered.old }
 {
     match first_dependency(terms) {
-        Some((_, number)) => Some(number),
-        None => first_enabled(
-            known,
-            dependencies_of(known, &OwnerRef::Version(name, version)),
-            entries_of(known, name, version, on),
-        ),
+        Some((_, number)) => Ok(Some(number)),
+        None => enabled_unmatched(alloc, gathered, name, version, on),
     }
-}
-
-/// The number of the first dependency that entries enable and no candidate serves.
-fn first_enabled(known: &Known<'_>, dependencies: &[Dependency], entries: &[Entry]) -> Option<usize>
-    ensures { result ≡ place_from (is_enabled_unmatched (problem known.now) (entry_views entries.now)) 0 (dependency_views dependencies.now) }
-{
-    'dependencies: for (number, dependency) in dependencies.iter().enumerate() {
-        if is_enabled_unmatched(known, dependency, entries) {
-            return Some(number);
-        }
-    }
-    None
-}
-
-#[tactic(auto, unfolding(crate::specs::Needs::is_enabled_unmatched))]
-fn is_enabled_unmatched(known: &Known<'_>, dependency: &Dependency, entries: &[Entry]) -> bool
-    ensures { result ≡ is_enabled_unmatched (problem known.now) (entry_views entries.now) (dependency_view dependency.now) }
-{
-    some_enables(&dependency.name, entries) && is_unmatched(known, dependency)
 }

@@ -23,15 +23,16 @@ use std::alloc::{AllocError, Global};
 use vertices::Kind;
 
 /// Whether terms, without the full ones, are those of an instance of the kind.
-pub fn is_instance(
+pub fn is_instance<'a>(
     alloc: Global,
-    gathered: &Gathered<'_>,
+    gathered: &mut Gathered<'a>,
     kind: Kind,
-    terms: &[Term<'_>],
+    terms: &[Term<'a>],
 ) -> Result<bool, AllocError>
-    ensures { IfOk result (λ b. b ≡ is_instance (problem_of gathered.now) (kind_view kind) (term_views terms.now)) }
+    ensures instance { IfOk result (λ b. b ≡ is_instance (problem_of gathered.old) (kind_view kind) (term_views terms.now)) }
+    ensures same { problem_of gathered.new ≡ problem_of gathered.old }
 {
-    match cause_in(&gathered.known, kind, terms) {
+    match cause_in(alloc, gathered, kind, terms)? {
         Some(cause) => is_its(alloc, gathered, terms, &cause),
         None => Ok(false),
     }

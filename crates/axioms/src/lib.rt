@@ -15,6 +15,7 @@ mod instance;
 mod known;
 mod lookups;
 mod matching;
+mod numbers;
 mod pairs;
 mod ranges;
 mod reading;

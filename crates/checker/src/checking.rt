@@ -8,6 +8,7 @@ ghost use Rattle.model.specs.Selection.{IsValidSelection};
 ghost use Rattle.refutations.specs.Checks.{combines, end_refused, first_refused, is_none_left, is_step, reason_of};
 ghost use Rattle.refutations.specs.Checks.{refusal};
 ghost use Rattle.catalogue.specs.Problems.{problem_in};
+ghost use Rattle.derivations.specs.Derivations.{IsDerivation};
 ghost use Rattle.derivations.specs.Tables.{TablesView, step_at, step_by_origin, steps_at, terms_at};
 ghost use Rattle.vertices.specs.Views.{vertex_view};
 ghost use Rattle.axioms.specs.GatheredViews.{problem_of};
@@ -21,7 +22,7 @@ use crate::outcome::{Check, Reason};
 use crate::terms::read_terms;
 use axioms::Gathered;
 use catalogue::{Catalogue, catalogues_are_well_formed};
-use derivations::{Derivation, Origin, Step, Tables, Term};
+use derivations::{Derivation, Origin, Step, Steps, Tables, Term};
 use manifest::Manifest;
 use refutations::unrefused_derivations_refute;
 use std::alloc::{AllocError, Global};
@@ -43,20 +44,33 @@ pub fn check(
     catalogues_are_well_formed(manifest, catalogue);
     unrefused_derivations_refute();
     let steps = derivation.steps(alloc)?;
+    refusal_of(alloc, manifest, catalogue, &steps)
+}
+
+/// What refuses the steps of a derivation, looked up in the manifest and the loaded index.
+fn refusal_of<'a>(
+    alloc: Global,
+    manifest: &'a Manifest,
+    catalogue: &'a Catalogue,
+    steps: &'a Steps,
+) -> Result<Check, AllocError>
+    requires { IsDerivation steps.now }
+    ensures { IfOk result (λ c. check_view c ≡ refusal (problem_in manifest.now catalogue.now) steps.now) }
+{
     let (tables, steps) = steps.parts();
-    let gathered = Gathered::new(alloc, manifest, catalogue)?;
-    answer(alloc, &gathered, tables, steps)
+    let mut gathered = Gathered::new(alloc, manifest, catalogue)?;
+    answer(alloc, &mut gathered, tables, steps)
 }
 
 /// The first step that doesn't follow, or what is wrong with the end.
-fn answer(
+fn answer<'a>(
     alloc: Global,
-    gathered: &Gathered<'_>,
-    tables: &Tables,
+    gathered: &mut Gathered<'a>,
+    tables: &'a Tables,
     steps: &[Step],
 ) -> Result<Check, AllocError>
     requires { AreOrderedSteps tables.now steps.now }
-    ensures { IfOk result (λ c. check_view c ≡ refusal (problem_of gathered.now) (steps_at tables.now steps.now)) }
+    ensures { IfOk result (λ c. check_view c ≡ refusal (problem_of gathered.old) (steps_at tables.now steps.now)) }
 {
     match first_refused(alloc, gathered, tables, steps)? {
         Check::Proves => Ok(end_of(steps)),
@@ -65,14 +79,14 @@ fn answer(
 }
 
 /// The first step that doesn't follow, if there is one.
-fn first_refused(
+fn first_refused<'a>(
     alloc: Global,
-    gathered: &Gathered<'_>,
-    tables: &Tables,
+    gathered: &mut Gathered<'a>,
+    tables: &'a Tables,
     steps: &[Step],
 ) -> Result<Check, AllocError>
     requires { AreOrderedSteps tables.now steps.now }
-    ensures { IfOk result (λ c. check_view c ≡ first_refused (problem_of gathered.now) [] (steps_at tables.now steps.now)) }
+    ensures { IfOk result (λ c. check_view c ≡ first_refused (problem_of gathered.old) [] (steps_at tables.now steps.now)) }
 {
     'steps: for (number, step) in steps.iter().enumerate() {
         if !is_step(alloc, gathered, tables, &steps[..number], step)? {
@@ -86,16 +100,17 @@ fn first_refused(
 }
 
 /// Whether a step is accepted after the earlier ones.
-fn is_step(
+fn is_step<'a>(
     alloc: Global,
-    gathered: &Gathered<'_>,
-    tables: &Tables,
+    gathered: &mut Gathered<'a>,
+    tables: &'a Tables,
     earlier: &[Step],
     step: &Step,
 ) -> Result<bool, AllocError>
     requires earlier { AreOrderedSteps tables.now earlier.now }
     requires step { IsOrderedStep tables.now step.now }
-    ensures { IfOk result (λ b. b ≡ is_step (problem_of gathered.now) (steps_at tables.now earlier.now) (step_at tables.now step.now)) }
+    ensures accepted { IfOk result (λ b. b ≡ is_step (problem_of gathered.old) (steps_at tables.now earlier.now) (step_at tables.now step.now)) }
+    ensures same { problem_of gathered.new ≡ problem_of gathered.old }
 {
     let terms = read_terms(alloc, tables, &step.terms)?;
     match &step.origin {

@@ -39,7 +39,7 @@ impl<'a> Model for Held<'a> {
     ghost invariant = { λ h. string_bytes h.text ≡ vertex_text (vertex_view h.vertex.now) };
 }
 
-impl Held<'_> {
+impl<'a> Held<'a> {
     /// Whether it is a term of this vertex.
     pub(crate) fn is_at(&self, vertex: &Vertex) -> bool
         ensures { result ≡ same_vertex self.now.vertex (vertex_view vertex.now) }
@@ -47,13 +47,13 @@ impl Held<'_> {
         self.vertex == vertex
     }
 
-    pub(crate) fn vertex(&self) -> &Vertex
+    pub(crate) fn vertex(&self) -> &'a Vertex
         ensures { vertex_view result.now ≡ self.now.vertex }
     {
         self.vertex
     }
 
-    pub(crate) fn states(&self) -> &States<'_>
+    pub(crate) fn states(&self) -> &States<'a>
         ensures { result.now ≡ self.now.states }
     {
         &self.states
@@ -86,8 +86,8 @@ impl<'a> Model for Terms<'a> {
     ghost invariant = { λ t. IsStrictlySortedBy term_cmp t.terms.items };
 }
 
-impl Terms<'_> {
-    pub(crate) fn as_slice(&self) -> &[Held<'_>]
+impl<'a> Terms<'a> {
+    pub(crate) fn as_slice(&self) -> &[Held<'a>]
         ensures { result.now ≡ self.now }
     {
         self.terms.as_slice()

@@ -1,16 +1,16 @@
 use Rattle.std.proofs.Common.{◌∙◌, ap, sym, option_map}
+use Rattle.std.proofs.lemmas.Result.{IfOk-weaker}
 use Rattle.semver.specs.Identifiers.{parts_of}
-use Rattle.features.specs.Views.{dependency_views}
-use Rattle.features.specs.EntryViews.{entry_views}
-use Rattle.refutations.specs.Instances.{number_read}
+use Rattle.refutations.specs.Instances.{enabled_unmatched, number_read}
+use Rattle.axioms.specs.GatheredViews.{problem_of}
 use Rattle.axioms.specs.Readings.{dep_seen}
-use Rattle.axioms.specs.Views.{problem, term_views}
-use Rattle.axioms.proofs.Places.{enabled_or}
+use Rattle.axioms.specs.Views.{term_views}
+use Rattle.axioms.proofs.Places.{or_found}
 use Rattle.axioms.proofs.finding.enabled_number.Goals as goal
 
-pub returns-in-None : goal.returns-in-None
-returns-in-None c =
-    c.first_enabled.ensures
-    ∙ enabled_or (problem c.args.known.now) c.args.name.now (parts_of c.args.version.now) c.args.on.now (entry_views c.entries_of.result.now) (dependency_views c.dependencies_of.result.now)
-    (number_read (term_views c.args.terms.now)) c.entries_of.ensures c.dependencies_of.ensures
-    (ap (option_map (λ p. p.1)) (sym c.first_dependency.ensures ∙ ap (option_map dep_seen) c.in-None.is))
+pub returns-in-None-clause-number : goal.returns-in-None-clause-number
+returns-in-None-clause-number c =
+    IfOk-weaker c.enabled_unmatched.result _ _
+    (λ n e. e ∙ or_found (number_read (term_views c.args.terms.now)) (enabled_unmatched (problem_of c.args.gathered.now) c.args.name.now (parts_of c.args.version.now) c.args.on.now)
+    (ap (option_map (λ p. p.1)) (sym c.first_dependency.ensures ∙ ap (option_map dep_seen) c.in-None.is)))
+    c.enabled_unmatched.ensures.number

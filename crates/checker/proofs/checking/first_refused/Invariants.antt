@@ -6,5 +6,7 @@ use Rattle.checker.proofs.checking.first_refused.Given as goal
 
 -- none of the steps so far is refused
 abbrev pub invariant-steps : goal.invariant-steps
-invariant-steps l =
-    first_refused (problem_of l.gathered) (steps_at l.tables (take l.number l.steps)) (steps_at l.tables (drop l.number l.steps)) ≡ first_refused (problem_of l.gathered) [] (steps_at l.tables l.steps)
+invariant-steps l = record {
+  same : problem_of l.gathered ≡ problem_of l.fn.gathered;
+  told : first_refused (problem_of l.fn.gathered) (steps_at l.tables (take l.number l.steps)) (steps_at l.tables (drop l.number l.steps)) ≡ first_refused (problem_of l.fn.gathered) [] (steps_at l.tables l.steps);
+}

@@ -3,8 +3,8 @@ use Rattle.axioms.specs.GatheredViews.{problem_of}
 use Rattle.checker.proofs.StepLaws.{combined_step, lent}
 use Rattle.checker.proofs.checking.is_step.Goals as goal
 
-pub returns : goal.returns
-returns c =
+pub returns-clause-accepted : goal.returns-clause-accepted
+returns-clause-accepted c =
     let first = lent c.args.earlier.now c.in-Combination.first c.get.result c.in-Some-Some.a c.get.ensures.lookup c.in-Some-Some.is-0 in
     let second = lent c.args.earlier.now c.in-Combination.second c.get-in-Combination.result c.in-Some-Some.b c.get-in-Combination.ensures.lookup c.in-Some-Some.is-1 in
     let terms = rw c.deref.ensures.value at c.in_ok-terms.ensures in

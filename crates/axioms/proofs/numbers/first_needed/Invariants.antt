@@ -4,7 +4,7 @@ use Rattle.axioms.specs.Needs.{is_needed_unmatched}
 use Rattle.axioms.specs.Views.{problem}
 use Rattle.vertices.specs.RefViews.{owner_ref_view}
 use Rattle.axioms.specs.Needs.{place_from}
-use Rattle.axioms.proofs.finding.first_needed.Given as goal
+use Rattle.axioms.proofs.numbers.first_needed.Given as goal
 
 -- the first among the dependencies that are left is the first of all
 abbrev pub invariant-dependencies : goal.invariant-dependencies
