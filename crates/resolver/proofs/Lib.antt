@@ -9,3 +9,8 @@ pub mod Alike
 pub mod Returned
 pub mod Refused
 pub mod Loaded
+pub mod Given
+pub mod IndexTexts
+pub mod ManifestTexts
+pub mod Writable
+pub mod Unread

@@ -1,8 +1,11 @@
 -- What it is for an answer that was given to hold in a later call over the same folder.
-use Rattle.std.specs.Prelude.{◌≡◌, ℕ, true, List, [], ◌∷◌, ◌++◌, map, Option, Some, Result, Ok, Err}
+use Rattle.std.specs.Prelude.{◌≡◌, ◌≢◌, ◌<◌, ◌⊎◌, ℕ, true, List, [], ◌∷◌, ◌++◌, length, map, Option, Some, Result, Ok, Err}
 use Rattle.std.proofs.Common.{inl, inr}
 use Rattle.model.specs.Content.{Content}
 use Rattle.manifest.specs.Manifests.{ManifestView}
+use Rattle.lockfile.specs.Locks.{most_bytes, table_of_bytes}
+use Rattle.lockfile.specs.Spelling.{spelling}
+use Rattle.lockfile.specs.Table.{table_of}
 use Rattle.catalogue.specs.Problems.{names_in}
 use Rattle.catalogue.specs.Runs.{Calls}
 use Rattle.catalogue.specs.declared.fault.LoadFault.TheVariants as load
@@ -54,6 +57,10 @@ FindsProof (Err (Proof fault)) = ⊥
 abbrev pub IsSomeLock : Answer → Type 0
 IsSomeLock (Lock bytes kept skips) = Unit {0}
 IsSomeLock (Unsolvable derivation text skips) = ⊥
+
+-- why the spelling of a content doesn't read as it: it is larger than a lock may be, or TOML reads it as another table
+abbrev pub IsUnreadable : Content → Type 0
+IsUnreadable content = (most_bytes < length (spelling content)) ⊎ (table_of_bytes (spelling content) ≢ Ok (table_of content))
 
 -- the names that were asked for, in order
 abbrev pub names_of : Inputs → List (List ℕ)

@@ -16,6 +16,6 @@ pub use resolving::{Answer, resolve};
 pub use returning::{
     given_locks_ask_for_no_more, given_locks_come_back, given_locks_verify, given_refusals_prove,
     loaded_inputs_make_a_catalogue, locks_are_given_where_there_are_selections,
-    memory_folders_stay,
+    memory_folders_stay, unread_spellings_are_large_or_misread,
 };
 pub use verifying::verify_bytes;

@@ -1,6 +1,7 @@
 //! The laws of the calls: each is a function that does nothing, whose contract is the statement.
 
-ghost use Rattle.std.specs.Prelude.{◌≡◌, ◌↔◌, ℕ, Bool, List, Result, Ok, Contains, String, Vec};
+ghost use Rattle.std.specs.Prelude.{◌≡◌, ◌↔◌, ℕ, Bool, List, Result, Ok, true, Contains, String, Vec};
+ghost use Rattle.std.specs.List.{All};
 ghost use Rattle.std.specs.declared.alloc.Global.{Global};
 ghost use Rattle.model.specs.Content.{Content};
 ghost use Rattle.model.specs.Derivation.{Step};
@@ -8,15 +9,18 @@ ghost use Rattle.model.specs.Selection.{IsValidSelection};
 ghost use Rattle.model.specs.WellFormed.{IsCatalogue};
 ghost use Rattle.index_reader.specs.Folders.{Files, MemoryCalls};
 ghost use Rattle.index_reader.specs.declared.record.Skip.{Skip};
+ghost use Rattle.lockfile.specs.Table.{IsWritable};
 ghost use Rattle.catalogue.specs.Problems.{IsProblemOfRun};
+ghost use Rattle.catalogue.specs.Sources.{is_source};
 ghost use Rattle.derivations.specs.Files.{derivation_of_bytes};
 ghost use Rattle.selection.specs.declared.verdict.Verdict.{Verdict};
 ghost use Rattle.checker.specs.declared.outcome.Check.{Check};
 ghost use Rattle.resolver.specs.Checks.{Checks};
 ghost use Rattle.resolver.specs.Inputs.{RequestView, AreRead, IsCutShort, packages_in, problem_of};
-ghost use Rattle.resolver.specs.Answers.{Resolves, Verifies, IsAnswer, IsAnswered};
-ghost use Rattle.resolver.specs.Returning.{handed_in, to_verify, to_check, ComesBack, FindsValid, FindsProof, IsSomeLock, names_of, names_cut};
+ghost use Rattle.resolver.specs.Answers.{Resolves, Verifies, IsAnswer, IsAnswered, IsChosen, IsWithout};
+ghost use Rattle.resolver.specs.Returning.{handed_in, to_verify, to_check, ComesBack, FindsValid, FindsProof, IsSomeLock, IsUnreadable, names_of, names_cut};
 ghost use Rattle.resolver.specs.declared.fault.Fault.{Fault};
+ghost use Rattle.resolver.specs.declared.fault.Fault.TheVariants.{NotReadBack};
 ghost use Rattle.resolver.specs.declared.fault.CheckFault.{CheckFault};
 ghost use Rattle.resolver.specs.declared.inputs.Inputs.{Inputs};
 ghost use Rattle.resolver.specs.declared.resolving.Answer.{Answer};
@@ -87,4 +91,14 @@ pub fn loaded_inputs_make_a_catalogue<F: Folder>()
         → IsCatalogue (problem_of inputs) }
     ensures run { (request : RequestView) (before : F) (inputs : Inputs) (after : F) → AreRead F.calls F.failed request before inputs after
         → IsProblemOfRun F.calls before inputs.manifest (packages_in inputs.old) request.source (problem_of inputs) after }
+{}
+
+/// What was chosen of a loaded index has texts that a lock may have; so where `resolve` ends with `NotReadBack`, the
+/// spelling of a chosen content is larger than a lock may be, or TOML reads it as another table than that of the
+/// content.
+pub fn unread_spellings_are_large_or_misread<F: Folder>()
+    ensures writable { (request : RequestView) (before : F) (inputs : Inputs) (after : F) (content : Content) → is_source request.source ≡ true
+        → AreRead F.calls F.failed request before inputs after → IsChosen inputs content → All IsWritable content }
+    ensures unread { (request : RequestView) (before : F) (inputs : Inputs) (after : F) → is_source request.source ≡ true
+        → AreRead F.calls F.failed request before inputs after → IsWithout inputs NotReadBack → (content : Content) × IsChosen inputs content × IsUnreadable content }
 {}
