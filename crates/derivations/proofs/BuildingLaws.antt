@@ -1,5 +1,5 @@
 -- Terms in any order, put into the written one, are those of a step.
-use Rattle.std.proofs.Common.{◌≡◌, ℕ, ◌<◌, List, [], ◌∷◌, map, length, get_or, Bool, true, false, cond, refl, sym, ap, ◌∙◌, subst, Ordering, Less, Equal, Greater}
+use Rattle.std.proofs.Common.{◌≡◌, ℕ, ◌<◌, List, [], ◌∷◌, map, length, get_or, Bool, true, false, cond, Ok, refl, sym, ap, ap₂, ◌∙◌, subst, Ordering, Less, Equal, Greater}
 use Rattle.std.specs.Cmp.{IsTotalOrder, unsigned_tied}
 use Rattle.std.specs.Cmp.Lexicographic.{texts_ties}
 use Rattle.std.specs.List.{All, AllByRecursion, IsDistinct}
@@ -11,16 +11,16 @@ use Rattle.std.proofs.lemmas.List.Elements.{All-get_or, recursion_from_All}
 use Rattle.model.specs.Order.{text_cmp, precedence}
 use Rattle.model.specs.Selection.{Class, patch, minor, major}
 use Rattle.model.specs.Vertices.{Vertex, State, absent, present, version, in_class, same_vertex, same_state}
-use Rattle.model.specs.Axioms.{Term}
+use Rattle.model.specs.Axioms.{Term, at}
+use Rattle.model.specs.Outcome.{◌>>=◌}
 use Rattle.model.proofs.Same.{text-same, state-refl, vertex-refl}
 use Rattle.vertices.specs.Orders.{state_cmp}
 use Rattle.vertices.specs.Texts.{vertex_text, state_text, vertex_of_text, state_of_text, IsReadVertex, IsReadState}
 use Rattle.vertices.proofs.Bound.{same-Ok}
 use Rattle.vertices.proofs.OrderLaws.{state_total}
-use Rattle.derivations.specs.Building.{IsNewTerm, AreNewTerms, ordered_term, ordered_terms, text_term, text_term_cmp, text_term_json}
+use Rattle.derivations.specs.Building.{IsNewTerm, AreNewTerms, ordered_term, ordered_terms, text_term, text_term_cmp, read_term}
 use Rattle.derivations.specs.Derivations.{IsTerm, term_cmp, AreTerms}
 use Rattle.derivations.specs.Orders.{put_in, in_order}
-use Rattle.derivations.specs.Written.{term_json}
 use Rattle.derivations.proofs.Sorting.{each-in_order, sorted-in_order}
 
 -- ---- what the orders don't tell apart
@@ -159,6 +159,16 @@ texts-ordered ts = order-map text_term_cmp text_term (map ordered_term ts)
 pub texts-apart : (ts : List Term) → AreNewTerms ts → IsDistinct (eq_by_cmp text_term_cmp) (map text_term (map ordered_term ts))
 texts-apart ts h = distinct-map (eq_by_cmp text_term_cmp) text_term (map ordered_term ts) (terms-apart ts h)
 
-pub texts-json : (ts : List Term) → map text_term_json (map text_term ts) ≡ map term_json ts
-texts-json [] = refl
-texts-json (t ∷ ts) = ap (λ zs. term_json t ∷ zs) (texts-json ts)
+-- ---- the terms that texts read as
+
+own-term : (t : Term) → IsReadVertex t.vertex → read_term (text_term t) ≡ Ok t
+own-term t h = ap (λ r. r >>= λ v. Ok (at v t.states)) h
+
+pub own-terms : (ts us : List Term) → AllByRecursion IsTerm ts → map read_term (map text_term ts) ≡ map Ok us → us ≡ ts
+own-terms [] [] each h = refl
+own-terms [] (u ∷ us) each h = cc
+own-terms (t ∷ ts) [] each h = cc
+own-terms (t ∷ ts) (u ∷ us) each h =
+    let here : read_term (text_term t) ≡ Ok u = cc in
+    let rest : map read_term (map text_term ts) ≡ map Ok us = cc in
+    ap₂ (λ x xs. x ∷ xs) (same-Ok _ _ (sym here ∙ own-term t each.0.vertex)) (own-terms ts us each.1 rest)

@@ -3,9 +3,7 @@ pub mod ReadLemmas
 pub mod Sorting
 pub mod OrderLaws
 pub mod ReadLaws
-pub mod FileLaws
 pub mod JsonLaws
 pub mod WriteLaws
 pub mod TableLaws
-pub mod KeptLaws
 pub mod BuildingLaws

@@ -13,7 +13,7 @@ use Rattle.model.specs.Vertices.{Vertex, State}
 use Rattle.model.specs.Axioms.{Term}
 use Rattle.model.specs.Derivation.{Step}
 use Rattle.vertices.specs.Texts.{IsReadVertex, IsReadState}
-use Rattle.derivations.specs.Derivations.{IsTerm, term_cmp, AreTerms, IsStepAt, AreStepsFrom}
+use Rattle.derivations.specs.Derivations.{IsTerm, term_cmp, AreTerms, IsStepAt, AreStepsFrom, IsDerivation}
 use Rattle.vertices.specs.Kinds.{kind_of_text}
 use Rattle.derivations.specs.Orders.{in_order, has_alike, ordered}
 use Rattle.vertices.specs.Orders.{state_cmp}
@@ -164,9 +164,13 @@ line-is n text s h = let d = steps (data_of_bytes text) _ s h in step-is n d.at 
 
 -- ---- the whole
 
-pub one-more : (n : ℕ) (ss : List Step) (s : Step) → AreStepsFrom n ss → IsStepAt (n + length ss) s → AreStepsFrom n (ss ++ s ∷ [])
+one-more : (n : ℕ) (ss : List Step) (s : Step) → AreStepsFrom n ss → IsStepAt (n + length ss) s → AreStepsFrom n (ss ++ s ∷ [])
 one-more n [] s each h = (subst (λ m. IsStepAt m s) (omega arith) h, tt)
 one-more n (t ∷ ss) s each h = (each.0, one-more (n + 1) ss s each.1 (subst (λ m. IsStepAt m s) (omega arith) h))
+
+-- one more step after those of a derivation
+pub one-after : (ss : List Step) (s : Step) → IsDerivation ss → IsStepAt (length ss) s → IsDerivation (ss ++ s ∷ [])
+one-after ss s h step = one-more 0 ss s h (subst (λ n. IsStepAt n s) (omega arith) step)
 
 -- ---- terms without their texts
 

@@ -1,6 +1,8 @@
 -- Tables that grow keep what their numbers stand for.
-use Rattle.std.proofs.Common.{sym, ◌≡◌, ℕ, ◌<◌, Bool, true, false, cond, List, [], ◌∷◌, ◌++◌, map, length, get_or, slice_get, Some, refl, ap, ap₂, ◌∙◌, subst, arith}
+use Rattle.std.proofs.Common.{sym, ◌≡◌, ℕ, ◌<◌, ◌≤◌, Bool, true, false, cond, List, [], ◌∷◌, ◌++◌, map, length, get_or, slice_get, Some, refl, ap, ap₂, ◌∙◌, subst, arith}
 use Rattle.std.specs.List.{AllByRecursion, list_any}
+use Rattle.std.specs.Prelude.{Result, Ok, Err}
+use Rattle.std.specs.Result.{OnErr}
 use Rattle.std.proofs.lemmas.List.{append_assoc, length-map, get_or-map, get_or_append_left, length-append, map-append}
 use Rattle.std.proofs.lemmas.Option.{slice_get_within, get_or_from_slice_get}
 use Rattle.indexmap.specs.IndexSet.{insert_key}
@@ -14,6 +16,11 @@ use Rattle.derivations.specs.declared.step.Term.{Term}
 use Rattle.derivations.specs.declared.step.Origin.{Origin}
 use Rattle.derivations.specs.declared.step.Origin.TheVariants.{Axiom, Combination}
 use Rattle.derivations.specs.declared.step.Step.{Step}
+
+-- what holds whatever is returned
+pub on-err : {T E P : Type 0} (r : Result T E) → P → OnErr r P
+on-err (Ok x) p = tt
+on-err (Err e) p = p
 
 -- ---- one more key
 
@@ -108,11 +115,41 @@ module _ (s t : TablesView) (g : IsGrown s t) where
       let rest = kept-steps xs h.1 in
       ((here.0, rest.0), ap₂ (λ y ys. y ∷ ys) here.1 rest.1)
 
--- ---- lists of numbers, one more each time
-
 pub with-last : {X : Type 0} (P : X → Type 0) (xs : List X) (x : X) → AllByRecursion P xs → P x → AllByRecursion P (xs ++ x ∷ [])
 with-last P [] x h p = (p, tt)
 with-last P (y ∷ ys) x h p = (h.0, with-last P ys x h.1 p)
+
+-- ---- sets of numbers
+
+-- so many states, and then no fewer
+pub sets-kept : (m n : ℕ) (sets : List (List ℕ)) → m ≤ n → AllByRecursion (λ ns. AllByRecursion (λ k. k < m) ns) sets → AllByRecursion (λ ns. AllByRecursion (λ k. k < n) ns) sets
+sets-kept m n [] h each = tt
+sets-kept m n (ns ∷ sets) h each = (wider ns each.0, sets-kept m n sets h each.1)
+  where
+    wider : (ns : List ℕ) → AllByRecursion (λ k. k < m) ns → AllByRecursion (λ k. k < n) ns
+    wider [] k = tt
+    wider (x ∷ xs) k = (let here = k.0 in omega arith, wider xs k.1)
+
+-- a key that is put in passes as the others do
+pub each-key : {K V : Type 0} (eq : K → K → Bool) (view : K → V) (P : V → Type 0) (ks : List K) (k : K) → AllByRecursion P (map view ks) → P (view k) → AllByRecursion P (map view (insert_key eq ks k))
+each-key eq view P ks k h p = by (list_any (eq k) ks)
+  where
+    by : (b : Bool) → AllByRecursion P (map view (cond b ks (ks ++ k ∷ [])))
+    by true = h
+    by false = rw (map-append view ks (k ∷ [])) (with-last P (map view ks) (view k) h p)
+
+-- no fewer elements after a key is put in
+pub no-fewer : {K V : Type 0} (eq : K → K → Bool) (view : K → V) (ks : List K) (k : K) → length (map view ks) ≤ length (map view (insert_key eq ks k))
+no-fewer eq view ks k = by (list_any (eq k) ks)
+  where
+    by : (b : Bool) → length (map view ks) ≤ length (map view (cond b ks (ks ++ k ∷ [])))
+    by true = omega arith
+    by false =
+        let whole = map-append view ks (k ∷ []) in
+        let long = length-append (map view ks) (view k ∷ []) in
+        rw whole (omega (arith, long))
+
+-- ---- lists of numbers, one more each time
 
 pub more-states : (s t : TablesView) (ns : List ℕ) (n : ℕ) (x : State) (rest all : List State) → IsGrown s t → AreStatesOf s ns → n < length t.states → state_at t n ≡ x → states_at s ns ++ (x ∷ rest) ≡ all
     → AreStatesOf t (ns ++ n ∷ []) × (states_at t (ns ++ n ∷ []) ++ rest ≡ all)

@@ -21,7 +21,6 @@ use Rattle.model.specs.Derivation.{Step, given, combine, terms_of as terms_in_st
 use Rattle.vertices.specs.Texts.{IsReadVertex, IsReadState}
 use Rattle.derivations.specs.Derivations.{IsTerm, term_cmp, AreTerms, IsStepAt, AreStepsFrom, IsDerivation}
 use Rattle.derivations.specs.Files.{is_line_end, most_steps, with_read, with_line, with_lines, derivation_of_bytes}
-use Rattle.derivations.specs.Kept.{step_if, steps_from}
 use Rattle.vertices.specs.Kinds.{kind_text, kind_of_text}
 use Rattle.derivations.specs.Orders.{ordered}
 use Rattle.derivations.specs.Steps.{two_of, states_in, states_of, Written, written_cmp, term_of, terms_in, terms_without_texts, terms_of, Origin, by_axiom, by_combination, axiom_of, combination_of, origin_of, is_backward, step_by, step_of, step_of_line}
@@ -289,17 +288,12 @@ no-end (b ∷ bs) h = (let low = h.0.0 in grind (arith, nat_tests), no-end bs h.
 
 -- ---- lines
 
-pub line-back : (n : ℕ) (s : Step) → n ≤ 2 ^ 64 → IsStepAt n s → step_of_line n (step_json s) ≡ Ok s
+line-back : (n : ℕ) (s : Step) → n ≤ 2 ^ 64 → IsStepAt n s → step_of_line n (step_json s) ≡ Ok s
 unfolding step_of_line
 line-back n s few h =
     let is : read (step_json s) ≡ Some (step_data s) = ap read (sym (step-text n s h)) ∙ step-read n s few h in
     let text : IsUtf8 (step_json s) = IsUtf8-are_ascii (step_json s) (ascii (step_json s) (line-step n s few h)) in
     rw (data-read (step_json s) (step_data s) text is) (step-back n s h)
-
--- the lines of steps read as the steps, as long as their numbers have 64 bits
-pub lines-back : (n : ℕ) (ss : List Step) → AreStepsFrom n ss → n + length ss ≤ 2 ^ 64 → steps_from n (map step_json ss) ≡ ss
-lines-back n [] h few = refl
-lines-back n (s ∷ ss) h few = ap₂ (λ r rest. step_if r ++ rest) (line-back n s (omega arith) h.0) (lines-back (n + 1) ss h.1 (omega arith))
 
 with-one : (n : ℕ) (before : List Step) (s : Step) (r : Line Step) → r ≡ Ok s → length before < most_steps → with_read n before r ≡ Ok (before ++ s ∷ [])
 with-one n before s r h few = rw (h, lt-ltb (length before) most_steps few) refl

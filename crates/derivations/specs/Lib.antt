@@ -9,5 +9,4 @@ pub mod Tables
 pub mod Derivations
 pub mod Written
 pub mod References
-pub mod Kept
 pub mod Building

@@ -54,6 +54,10 @@ steps_at t ss = map (step_at t) ss
 abbrev pub AreStatesOf : TablesView → List ℕ → Type 0
 AreStatesOf t ns = AllByRecursion (λ n. n < length t.states) ns
 
+-- so has each set, of so many states
+abbrev pub AreSetsOf : List model.State → List (List ℕ) → Type 0
+AreSetsOf ss sets = AllByRecursion (λ ns. AllByRecursion (λ n. n < length ss) ns) sets
+
 abbrev pub IsTermOf : TablesView → Term → Type 0
 IsTermOf t term = (term.vertex < length t.vertices) × (term.states < length t.sets) × AreStatesOf t (set_at t term.states)
 

@@ -1,8 +1,8 @@
 //! Derivations, and reading them.
 
-ghost use Rattle.std.specs.Prelude.{◌≡◌, ◌<◌, ◌==◌, ◌||◌, ◌++◌, ◌∷◌, [], IfOk, OnErr, OnOk, length, map, option_map, slice_get, string_bytes};
+ghost use Rattle.std.specs.Prelude.{◌≡◌, ◌<◌, ◌==◌, ◌||◌, ◌++◌, ◌∷◌, [], IfOk, OnErr, OnOk, length, map};
 ghost use Rattle.std.specs.List.{list_all, slice_split};
-ghost use Rattle.model.specs.Derivation.{Step, given, combine};
+ghost use Rattle.model.specs.Derivation.{given, combine};
 ghost use Rattle.model.specs.Outcome.{Gives};
 ghost use Rattle.vertices.specs.Kinds.{kind_view};
 ghost use Rattle.vertices.specs.RefViews.{vertex_ref_view};
@@ -10,15 +10,16 @@ ghost use Rattle.vertices.specs.Texts.{IsReadVertex};
 ghost use Rattle.derivations.specs.Building.{AreNewTerms, term_ref_views, ordered_terms};
 ghost use Rattle.derivations.specs.Derivations.{IsDerivation, IsStepAt};
 ghost use Rattle.derivations.specs.Files.{wants_memory, is_line_end, is_blank_byte, is_blank, fault_at, most_steps, with_step, with_line, with_lines, derivation_of_bytes};
-ghost use Rattle.derivations.specs.Kept.{AreKept, IsKept};
-ghost use Rattle.derivations.specs.References.{references_at};
+ghost use Rattle.derivations.specs.References.{references_at, references_by};
+ghost use Rattle.derivations.specs.Tables.{AreStepsOf, steps_at};
 ghost use Rattle.derivations.specs.Views.{step_view};
 
-use crate::building::{TermRef, axiom_kept, combination_kept};
+use crate::building::{TermRef, new_axiom, new_combination};
 use crate::fault::{DerivationFault, LineFault};
-use crate::kept::{Kept, keep, read_kept};
+use crate::keeping::keep_step;
 use crate::line::read_step;
-use crate::steps::{Steps, steps_of};
+use crate::step::{Origin, Step};
+use crate::tables::Tables;
 use crate::whole::WholeStep;
 use std::alloc::{AllocError, Global};
 use std::marker::Model;
@@ -30,22 +31,24 @@ const MOST_STEPS: usize = 16_777_216;
 /// Why there is no selection: steps, each by an axiom or from two earlier ones. Terms stand by the bytes of their vertices' texts, states
 /// `absent` first and then oldest or lowest first, none of them twice, and each vertex, state and version is what its own text reads as.
 ///
-/// It may have any number of steps. It keeps the line of each, so that it is hardly larger than its file.
+/// It may have any number of steps. Each vertex, state and set of states is kept once, and steps name them by numbers.
 #[derive(Drop)]
 pub struct Derivation {
-    kept: Vec<Kept>,
+    tables: Tables,
+    steps: Vec<Step>,
 }
 
 impl Model for Derivation {
     ghost use Rattle.std.specs.Prelude.{List};
-    ghost use Rattle.model.specs.Derivation.{Step};
-    ghost use Rattle.derivations.specs.Kept.{AreKept, steps_kept};
+    ghost use Rattle.model.specs.Derivation as model;
+    ghost use Rattle.derivations.specs.Derivations.{IsDerivation};
+    ghost use Rattle.derivations.specs.Tables.{AreStepsOf, steps_at};
 
-    ghost Value = { List Step };
+    ghost Value = { List model.Step };
 
-    ghost view = { λ d. steps_kept d.kept.items };
+    ghost view = { λ d. steps_at d.tables d.steps.items };
 
-    ghost invariant = { λ d. AreKept d.kept.items (steps_kept d.kept.items) };
+    ghost invariant = { λ d. AreStepsOf d.tables d.steps.items × IsDerivation (steps_at d.tables d.steps.items) };
 }
 
 impl Derivation {
@@ -54,7 +57,8 @@ impl Derivation {
         ensures { result ≡ [] }
     {
         Derivation {
-            kept: Vec::new(alloc),
+            tables: Tables::new(alloc),
+            steps: Vec::new(alloc),
         }
     }
 
@@ -62,42 +66,26 @@ impl Derivation {
     pub fn len(&self) -> usize
         ensures { result ≡ length self.now }
     {
-        self.kept.len()
+        self.steps.len()
     }
 
-    /// Its steps as they are kept.
-    pub(crate) fn kept(&self) -> &[Kept]
-        ensures { AreKept result.now self.now }
+    /// Its steps, numbered from 0, and the tables that have their vertices and states.
+    pub fn parts(&self) -> (&Tables, &[Step])
+        ensures steps { steps_at result.0.now result.1.now ≡ self.now }
+        ensures within { AreStepsOf result.0.now result.1.now }
+        ensures derivation { IsDerivation self.now }
     {
-        self.kept.as_slice()
+        (&self.tables, self.steps.as_slice())
     }
 
     /// The numbers of the two steps that the step of this number combines, if it does.
     pub fn references(&self, number: usize) -> Option<(u64, u64)>
         ensures { result ≡ references_at self.now number }
     {
-        match self.kept().get(number) {
-            Some(kept) => kept.references,
+        match self.steps.get(number) {
+            Some(step) => references(&step.origin),
             None => None,
         }
-    }
-
-    /// The step of this number, if there is one, read off its line.
-    pub fn step(&self, alloc: Global, number: usize) -> Result<Option<WholeStep>, AllocError>
-        ensures { IfOk result (λ o. option_map step_view o ≡ slice_get self.now number) }
-    {
-        match self.kept().get(number) {
-            Some(kept) => Ok(Some(read_kept(alloc, number, kept)?)),
-            None => Ok(None),
-        }
-    }
-
-    /// Its steps with tables of their vertices and states.
-    pub fn steps(&self, alloc: Global) -> Result<Steps, AllocError>
-        ensures steps { IfOk result (λ s. s ≡ self.now) }
-        ensures derivation { IsDerivation self.now }
-    {
-        steps_of(alloc, self)
     }
 
     /// Puts an axiom at the end. Its terms, and the states of each, may stand in any order: they are put into the written one.
@@ -114,8 +102,8 @@ impl Derivation {
         ensures ok { OnOk result (self.new ≡ self.old ++ given (kind_view kind) (ordered_terms (term_ref_views terms.now)) ∷ []) }
         ensures err { OnErr result (self.new ≡ self.old) }
     {
-        let one = axiom_kept(alloc, kind, terms)?;
-        self.push_kept(one)
+        let step = new_axiom(alloc, kind, terms)?;
+        self.push_step(alloc, step)
     }
 
     /// Puts a combination of two earlier steps at a vertex at the end, and its terms into the written order.
@@ -137,31 +125,38 @@ impl Derivation {
         ensures ok { OnOk result (self.new ≡ self.old ++ combine first second (vertex_ref_view vertex.entry) (ordered_terms (term_ref_views terms.now)) ∷ []) }
         ensures err { OnErr result (self.new ≡ self.old) }
     {
-        let one = combination_kept(alloc, first, second, vertex, terms)?;
-        self.push_kept(one)
+        let step = new_combination(alloc, first, second, vertex, terms)?;
+        self.push_step(alloc, step)
     }
 
-    /// The steps with one more, whose line goes into an empty text with room.
-    fn with_step(self, room: String, step: &WholeStep) -> Result<Derivation, AllocError>
-        requires room { string_bytes room ≡ [] }
-        requires step { IsStepAt (length self) (step_view step.now) }
-        ensures { IfOk result (λ d. d ≡ self ++ step_view step.now ∷ []) }
+    /// The steps with one more.
+    fn with_step(self, alloc: Global, step: WholeStep) -> Result<Derivation, AllocError>
+        requires { IsStepAt (length self) (step_view step) }
+        ensures { IfOk result (λ d. d ≡ self ++ step_view step ∷ []) }
     {
         let mut steps = self;
-        steps.push_kept(keep(room, step)?)?;
+        steps.push_step(alloc, step)?;
         Ok(steps)
     }
 
-    /// Puts a step at the end, by what is kept of it.
-    fn push_kept(&mut self, one: Kept) -> Result<(), AllocError>
-        requires { (s : Step) × IsKept one s × IsStepAt (length self.old) s }
-        ensures ok { OnOk result ((s : Step) → IsKept one s → IsStepAt (length self.old) s → self.new ≡ self.old ++ s ∷ []) }
+    /// Puts a step at the end.
+    fn push_step(&mut self, alloc: Global, step: WholeStep) -> Result<(), AllocError>
+        requires { IsStepAt (length self.old) (step_view step) }
+        ensures ok { OnOk result (self.new ≡ self.old ++ step_view step ∷ []) }
         ensures err { OnErr result (self.new ≡ self.old) }
     {
-        // a `usize`: so each number of a step is one of 64 bits, as it is read
-        let _ = self.kept.len();
-        self.kept.push(one)?;
+        let kept = keep_step(alloc, &mut self.tables, step)?;
+        self.steps.push(kept)?;
         Ok(())
+    }
+}
+
+fn references(origin: &Origin) -> Option<(u64, u64)>
+    ensures { result ≡ references_by origin.now }
+{
+    match origin {
+        Origin::Axiom(_) => None,
+        Origin::Combination(first, second, _) => Some((*first, *second)),
     }
 }
 
@@ -207,27 +202,24 @@ fn with_line(
     if is_blank(line) {
         return Ok(steps);
     }
-    // before what is read, which is let go: so the texts that stay leave no holes between them
-    let room = String::with_capacity(alloc, line.len())?;
     match read_step(alloc, steps.len(), line) {
-        Ok(step) => with_step(number, steps, room, &step),
+        Ok(step) => with_step(alloc, number, steps, step),
         Err(fault) => Err(fault_at(number, fault)),
     }
 }
 
 /// The steps with one more, if there is room for it.
 fn with_step(
+    alloc: Global,
     number: u64,
     steps: Derivation,
-    room: String,
-    step: &WholeStep,
+    step: WholeStep,
 ) -> Result<Derivation, DerivationFault>
-    requires room { string_bytes room ≡ [] }
-    requires step { IsStepAt (length steps) (step_view step.now) }
-    ensures { Gives wants_memory (λ d. d) result (with_step number steps (step_view step.now)) }
+    requires { IsStepAt (length steps) (step_view step) }
+    ensures { Gives wants_memory (λ d. d) result (with_step number steps (step_view step)) }
 {
     if steps.len() < MOST_STEPS {
-        Ok(steps.with_step(room, step)?)
+        Ok(steps.with_step(alloc, step)?)
     } else {
         Err(DerivationFault::TooMany(number))
     }

@@ -17,7 +17,7 @@ pub(crate) fn keep_step(
     tables: &mut Tables,
     step: WholeStep,
 ) -> Result<Step, AllocError>
-    ensures grown { IfOk result (λ s. IsGrown tables.old tables.new) }
+    ensures grown { IsGrown tables.old tables.new }
     ensures within { IfOk result (λ s. IsStepOf tables.new s) }
     ensures step { IfOk result (λ s. step_at tables.new s ≡ step_view step) }
 {
@@ -28,7 +28,7 @@ pub(crate) fn keep_step(
 }
 
 fn keep_origin(tables: &mut Tables, origin: WholeOrigin) -> Result<Origin, AllocError>
-    ensures grown { IfOk result (λ c. IsGrown tables.old tables.new) }
+    ensures grown { IsGrown tables.old tables.new }
     ensures within { IfOk result (λ c. IsOriginOf tables.new c) }
     ensures origin { IfOk result (λ c. step_by_origin tables.new c [] ≡ step_from origin []) }
 {
@@ -47,7 +47,7 @@ fn keep_terms(
     tables: &mut Tables,
     terms: Vec<WholeTerm>,
 ) -> Result<Vec<Term>, AllocError>
-    ensures grown { IfOk result (λ v. IsGrown tables.old tables.new) }
+    ensures grown { IsGrown tables.old tables.new }
     ensures within { IfOk result (λ v. AreTermsOf tables.new v.items) }
     ensures terms { IfOk result (λ v. terms_at tables.new v.items ≡ term_views terms.items) }
 {
@@ -59,7 +59,7 @@ fn keep_terms(
 }
 
 fn keep_term(alloc: Global, tables: &mut Tables, term: WholeTerm) -> Result<Term, AllocError>
-    ensures grown { IfOk result (λ t. IsGrown tables.old tables.new) }
+    ensures grown { IsGrown tables.old tables.new }
     ensures within { IfOk result (λ t. IsTermOf tables.new t) }
     ensures term { IfOk result (λ t. term_at tables.new t ≡ term_view term) }
 {
@@ -75,7 +75,7 @@ fn keep_states(
     tables: &mut Tables,
     states: Vec<State>,
 ) -> Result<Vec<usize>, AllocError>
-    ensures grown { IfOk result (λ v. IsGrown tables.old tables.new) }
+    ensures grown { IsGrown tables.old tables.new }
     ensures within { IfOk result (λ v. AreStatesOf tables.new v.items) }
     ensures states { IfOk result (λ v. states_at tables.new v.items ≡ state_views states.items) }
 {

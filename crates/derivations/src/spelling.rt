@@ -1,20 +1,18 @@
-//! Terms by the texts of their vertices: put in the written order, and written.
+//! Terms by the texts of their vertices, put in the written order.
 
-ghost use Rattle.std.specs.Prelude.{◌≡◌, ◌++◌, IfOk, OnOk, codes, map, string_bytes};
+ghost use Rattle.std.specs.Prelude.{◌≡◌, IfOk, map};
 ghost use Rattle.std.specs.List.{All, IsDistinct};
 ghost use Rattle.std.specs.Ordering.{eq_by_cmp};
 ghost use Rattle.vertices.specs.Orders.{state_cmp};
-ghost use Rattle.vertices.specs.RefViews.{state_ref_view, state_ref_views};
-ghost use Rattle.derivations.specs.Building.{IsNewTerm, AreNewTerms, term_ref_view, term_ref_views, ordered_term, ordered_terms, text_term, text_term_json, spelt_view, spelt_views, rest_json};
+ghost use Rattle.vertices.specs.RefViews.{state_ref_views};
+ghost use Rattle.derivations.specs.Building.{IsNewTerm, AreNewTerms, term_ref_view, term_ref_views, ordered_term, ordered_terms, text_term, spelt_view, spelt_views};
 ghost use Rattle.derivations.specs.Orders.{in_order};
-ghost use Rattle.derivations.specs.Written.{comma_if, with_commas, state_json};
 
 use crate::building::TermRef;
-use crate::writing::push_comma;
 use std::alloc::{AllocError, Global};
 use vertices::{StateRef, state_order};
 
-/// A term that is to be written: the text of its vertex, and its states in the written order.
+/// A term by the text of its vertex, with its states in the written order.
 #[derive(Drop)]
 pub(crate) struct Spelt<'a> {
     pub text: String,
@@ -68,54 +66,4 @@ fn ordered_states<'a>(
     ordered.extend_from_slice(states)?;
     ordered.sort_unstable_by(|a, b| state_order(*a, *b));
     Ok(ordered)
-}
-
-/// The rest of a step's JSON object, from its terms on.
-pub(crate) fn push_rest(text: &mut String, terms: &[Spelt<'_>]) -> Result<(), AllocError>
-    ensures { OnOk result (string_bytes text.new ≡ string_bytes text.old ++ rest_json (spelt_views terms.now)) }
-{
-    text.push_str(",\"terms\":[")?;
-    push_spelt_terms(text, terms)?;
-    text.push_str("]}")
-}
-
-fn push_spelt_terms(text: &mut String, terms: &[Spelt<'_>]) -> Result<(), AllocError>
-    ensures { OnOk result (string_bytes text.new ≡ string_bytes text.old ++ with_commas (map text_term_json (spelt_views terms.now))) }
-{
-    let mut later = false;
-    'terms: for term in terms {
-        push_spelt_term(text, later, term)?;
-        later = true;
-    }
-    Ok(())
-}
-
-/// A term, after a comma if it is a later one.
-fn push_spelt_term(text: &mut String, later: bool, term: &Spelt<'_>) -> Result<(), AllocError>
-    ensures { OnOk result (string_bytes text.new ≡ string_bytes text.old ++ (comma_if later ++ text_term_json (spelt_view term.now))) }
-{
-    push_comma(text, later)?;
-    let vertex = term.text.as_str();
-    write!(text, "[\"{vertex}\",[")?;
-    push_state_refs(text, &term.states)?;
-    text.push_str("]]")
-}
-
-fn push_state_refs(text: &mut String, states: &[StateRef<'_>]) -> Result<(), AllocError>
-    ensures { OnOk result (string_bytes text.new ≡ string_bytes text.old ++ with_commas (map state_json (state_ref_views states.now))) }
-{
-    let mut later = false;
-    'states: for state in states {
-        push_state_ref(text, later, *state)?;
-        later = true;
-    }
-    Ok(())
-}
-
-/// A state, after a comma if it is a later one.
-fn push_state_ref(text: &mut String, later: bool, state: StateRef<'_>) -> Result<(), AllocError>
-    ensures { OnOk result (string_bytes text.new ≡ string_bytes text.old ++ (comma_if later ++ state_json (state_ref_view state.entry))) }
-{
-    push_comma(text, later)?;
-    write!(text, "\"{state}\"")
 }

@@ -1,7 +1,7 @@
 //! The vertices, states and sets of states of a derivation, each once: its steps name them by their numbers.
 
-ghost use Rattle.std.specs.Prelude.{◌≡◌, ◌<◌, IfOk, length};
-ghost use Rattle.derivations.specs.Tables.{no_tables, vertex_at, state_at, set_at, IsGrown};
+ghost use Rattle.std.specs.Prelude.{◌≡◌, ◌<◌, IfOk, length, map};
+ghost use Rattle.derivations.specs.Tables.{no_tables, vertex_at, state_at, set_at, AreSetsOf, AreStatesOf, IsGrown};
 ghost use Rattle.vertices.specs.Views.{vertex_view, state_view};
 
 use indexmap::IndexSet;
@@ -19,12 +19,14 @@ pub struct Tables {
 
 impl Model for Tables {
     ghost use Rattle.std.specs.Prelude.{map};
-    ghost use Rattle.derivations.specs.Tables.{TablesView};
+    ghost use Rattle.derivations.specs.Tables.{AreSetsOf, TablesView};
     ghost use Rattle.vertices.specs.Views.{vertex_view, state_view};
 
     ghost Value = { TablesView };
 
     ghost view = { λ t. record { vertices = map vertex_view t.vertices.keys; states = map state_view t.states.keys; sets = map (λ v. v.items) t.sets.keys } };
+
+    ghost invariant = { λ t. AreSetsOf (map state_view t.states.keys) (map (λ v. v.items) t.sets.keys) };
 }
 
 impl Tables {
@@ -62,9 +64,17 @@ impl Tables {
         self.sets.as_slice()[number].as_slice()
     }
 
+    /// Each set.
+    pub fn sets(&self) -> &[Vec<usize>]
+        ensures sets { map (λ v. v.items) result.now ≡ self.now.sets }
+        ensures within { AreSetsOf self.now.states self.now.sets }
+    {
+        self.sets.as_slice()
+    }
+
     /// The number of a vertex, which is added unless it is there.
     pub(crate) fn add_vertex(&mut self, vertex: Vertex) -> Result<usize, AllocError>
-        ensures grown { IfOk result (λ n. IsGrown self.old self.new) }
+        ensures grown { IsGrown self.old self.new }
         ensures number { IfOk result (λ n. (n < length self.new.vertices) × (vertex_at self.new n ≡ vertex_view vertex)) }
     {
         let (number, _) = self.vertices.insert_full(vertex)?;
@@ -73,7 +83,7 @@ impl Tables {
 
     /// The number of a state, which is added unless it is there.
     pub(crate) fn add_state(&mut self, state: State) -> Result<usize, AllocError>
-        ensures grown { IfOk result (λ n. IsGrown self.old self.new) }
+        ensures grown { IsGrown self.old self.new }
         ensures number { IfOk result (λ n. (n < length self.new.states) × (state_at self.new n ≡ state_view state)) }
     {
         let (number, _) = self.states.insert_full(state)?;
@@ -82,7 +92,8 @@ impl Tables {
 
     /// The number of a set of states, which is added unless it is there.
     pub(crate) fn add_set(&mut self, states: Vec<usize>) -> Result<usize, AllocError>
-        ensures grown { IfOk result (λ n. IsGrown self.old self.new) }
+        requires { AreStatesOf self.old states.items }
+        ensures grown { IsGrown self.old self.new }
         ensures number { IfOk result (λ n. (n < length self.new.sets) × (set_at self.new n ≡ states.items)) }
     {
         let (number, _) = self.sets.insert_full(states)?;

@@ -1,20 +1,21 @@
 //! Writing derivations.
 
-ghost use Rattle.std.specs.Prelude.{◌≡◌, ◌≤◌, ◌++◌, Ok, length, IfOk, OnOk, codes, decimal, map, string_bytes};
+ghost use Rattle.std.specs.Prelude.{◌≡◌, ◌<◌, ◌≤◌, ◌++◌, Ok, length, IfOk, OnOk, codes, decimal, map, string_bytes};
 ghost use Rattle.derivations.specs.Files.{derivation_of_bytes, most_steps};
-ghost use Rattle.derivations.specs.Kept.{lines_kept};
+ghost use Rattle.derivations.specs.Tables.{AreStatesOf, AreStepsOf, AreTermsOf, IsOriginOf, IsStepOf, IsTermOf, states_at, step_at, step_by_origin, steps_at, term_at, terms_at};
+ghost use Rattle.model.specs.Axioms as axioms;
+ghost use Rattle.std.specs.Prelude.{List};
 ghost use Rattle.vertices.specs.Texts.{vertex_text};
 ghost use Rattle.vertices.specs.Kinds.{kind_text, kind_view};
 ghost use Rattle.vertices.specs.RefViews.{vertex_ref_view};
-ghost use Rattle.vertices.specs.Views.{state_view, state_views};
-ghost use Rattle.derivations.specs.Views.{term_view, term_views, step_view};
+ghost use Rattle.vertices.specs.Views.{state_view, vertex_view};
 ghost use Rattle.derivations.specs.Written.{quoted, comma_if, with_commas, state_json, term_json, combination_json, origin_json, step_json, lines_of};
 
 use crate::derivation::Derivation;
-use crate::kept::Kept;
-use crate::whole::{WholeOrigin, WholeStep, WholeTerm};
+use crate::step::{Origin, Step, Term};
+use crate::tables::Tables;
 use std::alloc::{AllocError, Global};
-use vertices::{Kind, State, VertexRef};
+use vertices::{Kind, State, Vertex};
 
 /// The bytes of a derivation of any length: a line of compact JSON for each step. `read` takes them back, unless there are more lines than it
 /// reads.
@@ -22,63 +23,68 @@ pub fn write(alloc: Global, derivation: &Derivation) -> Result<Vec<u8>, AllocErr
     ensures text { IfOk result (λ v. v.items ≡ lines_of derivation.now) }
     ensures reads { IfOk result (λ v. length derivation.now ≤ most_steps → derivation_of_bytes v.items ≡ Ok derivation.now) }
 {
-    let text = text_of(alloc, derivation.kept())?;
+    let (tables, steps) = derivation.parts();
+    let text = text_of(alloc, tables, steps)?;
     Ok(text.into_bytes())
 }
 
-fn text_of(alloc: Global, kept: &[Kept]) -> Result<String, AllocError>
-    ensures { IfOk result (λ t. string_bytes t ≡ lines_kept kept.now) }
+fn text_of(alloc: Global, tables: &Tables, steps: &[Step]) -> Result<String, AllocError>
+    requires { AreStepsOf tables.now steps.now }
+    ensures { IfOk result (λ t. string_bytes t ≡ lines_of (steps_at tables.now steps.now)) }
 {
     let mut text = String::new(alloc);
-    'lines: for one in kept {
-        push_line(&mut text, &one.line)?;
+    'steps: for step in steps {
+        push_line(&mut text, tables, step)?;
     }
     Ok(text)
 }
 
-/// A line and its end.
-fn push_line(text: &mut String, line: &str) -> Result<(), AllocError>
-    ensures { OnOk result (string_bytes text.new ≡ string_bytes text.old ++ (line.now ++ codes "\n")) }
+/// The JSON object of a step, and the end of its line.
+fn push_line(text: &mut String, tables: &Tables, step: &Step) -> Result<(), AllocError>
+    requires { IsStepOf tables.now step.now }
+    ensures { OnOk result (string_bytes text.new ≡ string_bytes text.old ++ (step_json (step_at tables.now step.now) ++ codes "\n")) }
 {
-    text.push_str(line)?;
+    push_step(text, tables, step)?;
     text.push_str("\n")
 }
 
 /// The JSON object of a step.
-pub(crate) fn push_step(text: &mut String, step: &WholeStep) -> Result<(), AllocError>
-    ensures { OnOk result (string_bytes text.new ≡ string_bytes text.old ++ step_json (step_view step.now)) }
+fn push_step(text: &mut String, tables: &Tables, step: &Step) -> Result<(), AllocError>
+    requires { IsStepOf tables.now step.now }
+    ensures { OnOk result (string_bytes text.new ≡ string_bytes text.old ++ step_json (step_at tables.now step.now)) }
 {
     text.push_str("{")?;
-    push_origin(text, step)?;
+    push_origin(text, tables, &step.origin)?;
     text.push_str(",\"terms\":[")?;
-    push_terms(text, &step.terms)?;
+    push_terms(text, tables, &step.terms)?;
     text.push_str("]}")
 }
 
-fn push_origin(text: &mut String, step: &WholeStep) -> Result<(), AllocError>
-    ensures { OnOk result (string_bytes text.new ≡ string_bytes text.old ++ origin_json (step_view step.now)) }
+fn push_origin(text: &mut String, tables: &Tables, origin: &Origin) -> Result<(), AllocError>
+    requires { IsOriginOf tables.now origin.now }
+    ensures { OnOk result ((terms : List axioms.Term) → string_bytes text.new ≡ string_bytes text.old ++ origin_json (step_by_origin tables.now origin.now terms)) }
 {
-    match &step.origin {
-        WholeOrigin::Axiom(kind) => push_kind(text, *kind),
-        WholeOrigin::Combination(first, second, vertex) => {
-            push_combination(text, *first, *second, vertex.borrowed())
+    match origin {
+        Origin::Axiom(kind) => push_kind(text, *kind),
+        Origin::Combination(first, second, vertex) => {
+            push_combination(text, *first, *second, tables.vertex(*vertex))
         }
     }
 }
 
-pub(crate) fn push_kind(text: &mut String, kind: Kind) -> Result<(), AllocError>
+fn push_kind(text: &mut String, kind: Kind) -> Result<(), AllocError>
     ensures { OnOk result (string_bytes text.new ≡ string_bytes text.old ++ (codes "\"axiom\":" ++ quoted (kind_text (kind_view kind)))) }
 {
     write!(text, "\"axiom\":\"{kind}\"")
 }
 
-pub(crate) fn push_combination(
+fn push_combination(
     text: &mut String,
     first: u64,
     second: u64,
-    vertex: VertexRef<'_>,
+    vertex: &Vertex,
 ) -> Result<(), AllocError>
-    ensures { OnOk result (string_bytes text.new ≡ string_bytes text.old ++ combination_json first second (vertex_ref_view vertex.entry)) }
+    ensures { OnOk result (string_bytes text.new ≡ string_bytes text.old ++ combination_json first second (vertex_view vertex.now)) }
 {
     text.push_str("\"combine\":[")?;
     push_number(text, first)?;
@@ -86,8 +92,8 @@ pub(crate) fn push_combination(
     push_vertex(text, vertex)
 }
 
-fn push_vertex(text: &mut String, vertex: VertexRef<'_>) -> Result<(), AllocError>
-    ensures { OnOk result (string_bytes text.new ≡ string_bytes text.old ++ (quoted (vertex_text (vertex_ref_view vertex.entry)) ++ codes "]")) }
+fn push_vertex(text: &mut String, vertex: &Vertex) -> Result<(), AllocError>
+    ensures { OnOk result (string_bytes text.new ≡ string_bytes text.old ++ (quoted (vertex_text (vertex_view vertex.now)) ++ codes "]")) }
 {
     write!(text, "\"{vertex}\"]")
 }
@@ -99,40 +105,43 @@ fn push_number(text: &mut String, number: u64) -> Result<(), AllocError>
     write!(text, "{number},")
 }
 
-fn push_terms(text: &mut String, terms: &[WholeTerm]) -> Result<(), AllocError>
-    ensures { OnOk result (string_bytes text.new ≡ string_bytes text.old ++ with_commas (map term_json (term_views terms.now))) }
+fn push_terms(text: &mut String, tables: &Tables, terms: &[Term]) -> Result<(), AllocError>
+    requires { AreTermsOf tables.now terms.now }
+    ensures { OnOk result (string_bytes text.new ≡ string_bytes text.old ++ with_commas (map term_json (terms_at tables.now terms.now))) }
 {
     let mut later = false;
     'terms: for term in terms {
-        push_term(text, later, term)?;
+        push_term(text, later, tables, term)?;
         later = true;
     }
     Ok(())
 }
 
 /// A term, after a comma if it is a later one.
-fn push_term(text: &mut String, later: bool, term: &WholeTerm) -> Result<(), AllocError>
-    ensures { OnOk result (string_bytes text.new ≡ string_bytes text.old ++ (comma_if later ++ term_json (term_view term.now))) }
+fn push_term(text: &mut String, later: bool, tables: &Tables, term: &Term) -> Result<(), AllocError>
+    requires { IsTermOf tables.now term.now }
+    ensures { OnOk result (string_bytes text.new ≡ string_bytes text.old ++ (comma_if later ++ term_json (term_at tables.now term.now))) }
 {
     push_comma(text, later)?;
-    let vertex = &term.vertex;
+    let vertex = tables.vertex(term.vertex);
     write!(text, "[\"{vertex}\",[")?;
-    push_states(text, &term.states)?;
+    push_states(text, tables, tables.set(term.states))?;
     text.push_str("]]")
 }
 
-pub(crate) fn push_comma(text: &mut String, later: bool) -> Result<(), AllocError>
+fn push_comma(text: &mut String, later: bool) -> Result<(), AllocError>
     ensures { OnOk result (string_bytes text.new ≡ string_bytes text.old ++ comma_if later) }
 {
     if later { text.push_str(",") } else { Ok(()) }
 }
 
-fn push_states(text: &mut String, states: &[State]) -> Result<(), AllocError>
-    ensures { OnOk result (string_bytes text.new ≡ string_bytes text.old ++ with_commas (map state_json (state_views states.now))) }
+fn push_states(text: &mut String, tables: &Tables, states: &[usize]) -> Result<(), AllocError>
+    requires { AreStatesOf tables.now states.now }
+    ensures { OnOk result (string_bytes text.new ≡ string_bytes text.old ++ with_commas (map state_json (states_at tables.now states.now))) }
 {
     let mut later = false;
-    'states: for state in states {
-        push_state(text, later, state)?;
+    'states: for number in states {
+        push_state(text, later, tables.state(*number))?;
         later = true;
     }
     Ok(())

@@ -19,3 +19,6 @@ terms-preserved c =
       within = rw c.in_ok-push.ensures.items more.0;
       told = rw c.in_ok-push.ensures.items more.1;
     }
+
+pub returns-in_err-push-clause-grown : goal.returns-in_err-push-clause-grown
+returns-in_err-push-clause-grown c = grown-trans c.args.tables.now c.terms.tables c.keep_term.new.tables c.terms.invariant.grown c.keep_term.ensures.grown

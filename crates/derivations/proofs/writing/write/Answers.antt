@@ -1,17 +1,16 @@
 use Rattle.std.proofs.Common.{◌≡◌, rules, ap, ◌∙◌}
 use Rattle.derivations.specs.Files.{derivation_of_bytes}
-use Rattle.derivations.specs.Kept.{lines_kept}
-use Rattle.derivations.proofs.KeptLaws.{written}
+use Rattle.derivations.specs.Tables.{steps_at}
+use Rattle.derivations.specs.Written.{lines_of}
 use Rattle.derivations.proofs.WriteLaws.{written-reads}
 use Rattle.derivations.proofs.writing.write.Goals as goal
 
 pub returns-clause-text : goal.returns-clause-text
 returns-clause-text c =
-    let text : c.into_bytes.result.items ≡ lines_kept c.kept.result.now = search rules in
-    text ∙ written c.kept.result.now c.args.derivation.now c.kept.ensures
+    let text : c.into_bytes.result.items ≡ lines_of (steps_at c.parts.result.0.now c.parts.result.1.now) = search rules in
+    text ∙ ap lines_of c.parts.ensures.steps
 
 pub returns-clause-reads : goal.returns-clause-reads
 returns-clause-reads c few =
-    let text : c.into_bytes.result.items ≡ lines_kept c.kept.result.now = search rules in
-    ap derivation_of_bytes (text ∙ written c.kept.result.now c.args.derivation.now c.kept.ensures)
-    ∙ written-reads c.args.derivation.now c.kept.ensures.derivation few
+    let text : c.into_bytes.result.items ≡ lines_of (steps_at c.parts.result.0.now c.parts.result.1.now) = search rules in
+    ap derivation_of_bytes (text ∙ ap lines_of c.parts.ensures.steps) ∙ written-reads c.args.derivation.now c.parts.ensures.derivation few
