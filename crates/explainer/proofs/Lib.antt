@@ -1,3 +1,4 @@
 pub mod Between
 pub mod Sweep
 pub mod Counts
+pub mod TextLaws

@@ -1,2 +1,3 @@
 pub mod Explanations
 pub mod Marks
+pub mod Texts

@@ -3,5 +3,6 @@
 
 mod explanation;
 mod needed;
+mod texts;
 
 pub use explanation::explain;
