@@ -22,7 +22,7 @@ use crate::outcome::{Check, Reason};
 use crate::terms::read_terms;
 use axioms::Gathered;
 use catalogue::{Catalogue, catalogues_are_well_formed};
-use derivations::{Derivation, Origin, Step, Steps, Tables, Term};
+use derivations::{Derivation, Origin, Step, Tables, Term};
 use manifest::Manifest;
 use refutations::unrefused_derivations_refute;
 use std::alloc::{AllocError, Global};
@@ -43,8 +43,7 @@ pub fn check(
 {
     catalogues_are_well_formed(manifest, catalogue);
     unrefused_derivations_refute();
-    let steps = derivation.steps(alloc)?;
-    refusal_of(alloc, manifest, catalogue, &steps)
+    refusal_of(alloc, manifest, catalogue, derivation)
 }
 
 /// What refuses the steps of a derivation, looked up in the manifest and the loaded index.
@@ -52,12 +51,12 @@ fn refusal_of<'a>(
     alloc: Global,
     manifest: &'a Manifest,
     catalogue: &'a Catalogue,
-    steps: &'a Steps,
+    derivation: &'a Derivation,
 ) -> Result<Check, AllocError>
-    requires { IsDerivation steps.now }
-    ensures { IfOk result (λ c. check_view c ≡ refusal (problem_in manifest.now catalogue.now) steps.now) }
+    ensures refusal { IfOk result (λ c. check_view c ≡ refusal (problem_in manifest.now catalogue.now) derivation.now) }
+    ensures derivation { IsDerivation derivation.now }
 {
-    let (tables, steps) = steps.parts();
+    let (tables, steps) = derivation.parts();
     let mut gathered = Gathered::new(alloc, manifest, catalogue)?;
     answer(alloc, &mut gathered, tables, steps)
 }

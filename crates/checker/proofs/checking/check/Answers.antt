@@ -1,35 +1,26 @@
-use Rattle.std.proofs.Common.{◌∙◌, sym, ap, subst}
+use Rattle.std.proofs.Common.{◌∙◌, sym, ap}
 use Rattle.std.proofs.lemmas.Result.{IfOk-weaker}
-use Rattle.refutations.specs.Checks.{refusal}
 use Rattle.catalogue.specs.Problems.{problem_in}
-use Rattle.derivations.specs.Derivations.{IsDerivation}
 use Rattle.checker.specs.Answers.{check_view}
 use Rattle.checker.proofs.RefusedLaws.{proves_where, refuses_where}
 use Rattle.checker.proofs.StepLaws.{are_plain}
 use Rattle.checker.proofs.checking.check.Goals as goal
 
-pub refusal_of-requires : goal.refusal_of-requires
-refusal_of-requires c = subst IsDerivation (sym c.in_ok-steps.ensures.steps) c.steps.ensures.derivation
-
 pub returns-clause-proves : goal.returns-clause-proves
 returns-clause-proves c =
     let q = problem_in c.args.manifest.now c.args.catalogue.now in
-    let plain = are_plain 0 c.args.derivation.now c.steps.ensures.derivation in
-    let same = ap (refusal q) c.in_ok-steps.ensures.steps in
-    IfOk-weaker c.refusal_of.result _ _ (λ k h. proves_where q c.args.derivation.now plain k (h ∙ same)) c.refusal_of.ensures
+    let plain = are_plain 0 c.args.derivation.now c.refusal_of.ensures.derivation in
+    IfOk-weaker c.refusal_of.result _ _ (λ k h. proves_where q c.args.derivation.now plain k h) c.refusal_of.ensures.refusal
 
 pub returns-clause-refused : goal.returns-clause-refused
 returns-clause-refused c =
     let q = problem_in c.args.manifest.now c.args.catalogue.now in
-    let plain = are_plain 0 c.args.derivation.now c.steps.ensures.derivation in
-    let same = ap (refusal q) c.in_ok-steps.ensures.steps in
-    IfOk-weaker c.refusal_of.result _ _ (λ k h n r. refuses_where q c.args.derivation.now plain k (h ∙ same) n r) c.refusal_of.ensures
+    let plain = are_plain 0 c.args.derivation.now c.refusal_of.ensures.derivation in
+    IfOk-weaker c.refusal_of.result _ _ (λ k h n r. refuses_where q c.args.derivation.now plain k h n r) c.refusal_of.ensures.refusal
 
 pub returns-clause-refutes : goal.returns-clause-refutes
 returns-clause-refutes c =
-    let q = problem_in c.args.manifest.now c.args.catalogue.now in
-    let plain = are_plain 0 c.args.derivation.now c.steps.ensures.derivation in
-    let same = ap (refusal q) c.in_ok-steps.ensures.steps in
+    let plain = are_plain 0 c.args.derivation.now c.refusal_of.ensures.derivation in
     IfOk-weaker c.refusal_of.result _ _
-    (λ k h is content valid. c.unrefused_derivations_refute.ensures q content c.args.derivation.now c.catalogues_are_well_formed.ensures plain (sym (h ∙ same) ∙ ap check_view is) valid)
-    c.refusal_of.ensures
+    (λ k h is content valid. c.unrefused_derivations_refute.ensures (problem_in c.args.manifest.now c.args.catalogue.now) content c.args.derivation.now c.catalogues_are_well_formed.ensures plain (sym h ∙ ap check_view is) valid)
+    c.refusal_of.ensures.refusal

@@ -6,7 +6,7 @@ use Rattle.checker.proofs.StepLaws.{each_step}
 use Rattle.checker.proofs.checking.refusal_of.Goals as goal
 
 pub answer-requires : goal.answer-requires
-answer-requires c = each_step c.parts.result.0.now 0 c.parts.result.1.now c.parts.ensures.within (subst IsDerivation (sym c.parts.ensures.steps) c.requires)
+answer-requires c = each_step c.parts.result.0.now 0 c.parts.result.1.now c.parts.ensures.within (subst IsDerivation (sym c.parts.ensures.steps) c.parts.ensures.derivation)
 
-pub returns : goal.returns
-returns c = IfOk-weaker c.answer.result _ _ (λ k h. h ∙ ap₂ refusal c.in_ok-gathered.ensures c.parts.ensures.steps) c.answer.ensures
+pub returns-clause-refusal : goal.returns-clause-refusal
+returns-clause-refusal c = IfOk-weaker c.answer.result _ _ (λ k h. h ∙ ap₂ refusal c.in_ok-gathered.ensures c.parts.ensures.steps) c.answer.ensures
