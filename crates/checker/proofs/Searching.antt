@@ -1,39 +1,77 @@
--- What a search by the order of their vertices says of terms.
-use Rattle.std.proofs.Common.{◌≡◌, ℕ, ◌<◌, Bool, true, false, cond, List, [], ◌∷◌, length, get_or, Some, None, Ok, Err, option_map, refl, sym, ap, ◌∙◌}
-use Rattle.std.specs.List.{find}
+-- What a search by the ranks of their vertices says of terms.
+use Rattle.std.proofs.Common.{◌≡◌, ℕ, ◌<◌, ◌≤◌, Bool, true, false, cond, List, [], ◌∷◌, map, length, get_or, Result, Some, None, Ok, Err, option_map, Ordering, refl, sym, ap, ap₂, ◌∙◌, subst, arith}
+use Rattle.std.specs.List.{All, AllByRecursion, find}
 use Rattle.std.specs.List.Sorted.{IsBinarySearchResult, IsStrictlySortedBy}
+use Rattle.std.specs.Ordering.{nat_cmp, ordering_index}
 use Rattle.std.specs.declared.cmp.Ordering.TheVariants.{Equal}
 use Rattle.std.proofs.lemmas.Cmp.{nat_list_cmp_total, tied_itself}
-use Rattle.model.specs.Axioms.{Term}
+use Rattle.std.proofs.lemmas.List.Elements.{All-from_recursion}
 use Rattle.model.specs.Derivation.{states_at}
 use Rattle.model.specs.Order.{text_cmp}
 use Rattle.model.specs.Vertices.{Vertex, same_vertex}
 use Rattle.model.proofs.Same.{vertex-same}
 use Rattle.derivations.specs.Derivations.{term_cmp}
+use Rattle.derivations.specs.Tables.{TablesView, term_at, terms_at, vertex_at}
+use Rattle.derivations.specs.declared.step.Term.{Term}
 use Rattle.vertices.specs.Texts.{vertex_text}
-use Rattle.axioms.proofs.Searching.{search_ends, search_finds, sorted_pairs}
+use Rattle.axioms.proofs.Searching.{search_ends, search_finds, sorted_map}
+use Rattle.checker.specs.Decoded.{AreVertexRanks, named_set, rank_at}
 
-first_said : (ts : List Term) (v : Vertex) → states_at ts v ≡ option_map (λ (t : Term). t.states) (find (λ (t : Term). same_vertex v t.vertex) ts)
-first_said [] v = refl
-first_said (t ∷ ts) v = by (first_said ts v) (same_vertex v t.vertex)
-  where
-    by : states_at ts v ≡ option_map (λ (t : Term). t.states) (find (λ (t : Term). same_vertex v t.vertex) ts) → (b : Bool)
-        → cond b (Some t.states) (states_at ts v) ≡ option_map (λ (t : Term). t.states) (cond b (Some t) (find (λ (t : Term). same_vertex v t.vertex) ts))
-    by rest true = refl
-    by rest false = rest
+-- ---- a search by what says the same of each element
 
-module _ (ts : List Term) (w : Term) (sorted : IsStrictlySortedBy term_cmp ts) where
-  abbrev is_there : Term → Bool
-  is_there t = same_vertex w.vertex t.vertex
+module _ {X : Type 0} (f g : X → Ordering) (xs : List X) (same : (k : ℕ) (d : X) → k < length xs → f (get_or xs k d) ≡ g (get_or xs k d)) where
+  pub found_same : (i : ℕ) → i < length xs → IsBinarySearchResult f xs (Ok i) → IsBinarySearchResult g xs (Ok i)
+  found_same i within h d = sym (same i d within) ∙ h d
 
-  alike_texts : (t : Term) → is_there t ≡ true → text_cmp (vertex_text t.vertex) (vertex_text w.vertex) ≡ Equal
-  alike_texts t e = ap (λ v. text_cmp (vertex_text v) (vertex_text w.vertex)) (sym (vertex-same w.vertex t.vertex e)) ∙ tied_itself nat_list_cmp_total (vertex_text w.vertex)
+  pub ended_same : (i : ℕ) → i ≤ length xs → IsBinarySearchResult f xs (Err i) → IsBinarySearchResult g xs (Err i)
+  ended_same i within h rises =
+      let parted = h (λ k j d le lt. subst (λ n. n ≤ ordering_index (f (get_or xs j d))) (ap ordering_index (sym (same k d (omega (arith, le, lt)))))
+      (subst (λ n. ordering_index (g (get_or xs k d)) ≤ n) (ap ordering_index (sym (same j d lt))) (rises k j d le lt))) in (
+        (λ k d low lt. sym (same k d (omega (arith, lt, within))) ∙ parted.0 k d low lt),
+        (λ k d low lt. sym (same k d lt) ∙ parted.1 k d low lt),
+      )
 
-  pub term_finds : (i : ℕ) → IsBinarySearchResult (λ t. term_cmp t w) ts (Ok i) → i < length ts → (y : Term) → get_or ts i y ≡ y → states_at (y ∷ []) w.vertex ≡ states_at ts w.vertex
-  term_finds i found inside y is =
-      first_said (y ∷ []) w.vertex
-      ∙ sym (first_said ts w.vertex ∙ ap (option_map (λ (t : Term). t.states)) (search_finds (λ (t : Term). vertex_text t.vertex) nat_list_cmp_total ts (vertex_text w.vertex) is_there alike_texts (sorted_pairs term_cmp ts sorted) i found inside y is))
+-- ---- terms by number
 
-  pub term_ends : (i : ℕ) → IsBinarySearchResult (λ t. term_cmp t w) ts (Err i) → None ≡ states_at ts w.vertex
-  term_ends i found =
-      sym (first_said ts w.vertex ∙ ap (option_map (λ (t : Term). t.states)) (search_ends (λ (t : Term). vertex_text t.vertex) nat_list_cmp_total ts (vertex_text w.vertex) is_there alike_texts (sorted_pairs term_cmp ts sorted) i found))
+module _ (t : TablesView) where
+  first_said : (terms : List Term) (v : Vertex) → states_at (terms_at t terms) v ≡ option_map (λ (x : Term). named_set t x.states) (find (λ (x : Term). same_vertex v (vertex_at t x.vertex)) terms)
+  first_said [] v = refl
+  first_said (x ∷ terms) v = by (first_said terms v) (same_vertex v (vertex_at t x.vertex))
+    where
+      by : states_at (terms_at t terms) v ≡ option_map (λ (x : Term). named_set t x.states) (find (λ (x : Term). same_vertex v (vertex_at t x.vertex)) terms) → (b : Bool)
+          → cond b (Some (named_set t x.states)) (states_at (terms_at t terms) v) ≡ option_map (λ (x : Term). named_set t x.states) (cond b (Some x) (find (λ (x : Term). same_vertex v (vertex_at t x.vertex)) terms))
+      by rest true = refl
+      by rest false = rest
+
+  module _ (ranks : List ℕ) (are : AreVertexRanks t ranks) (terms : List Term) (v : ℕ) (within : v < length ranks)
+      (each : All (λ (x : Term). x.vertex < length ranks) terms) (sorted : IsStrictlySortedBy term_cmp (terms_at t terms)) where
+    abbrev is_there : Term → Bool
+    is_there x = same_vertex (vertex_at t v) (vertex_at t x.vertex)
+
+    abbrev key : Term → List ℕ
+    key x = vertex_text (vertex_at t x.vertex)
+
+    abbrev by_rank : Term → Ordering
+    by_rank x = nat_cmp (rank_at ranks x.vertex) (rank_at ranks v)
+
+    abbrev by_text : Term → Ordering
+    by_text x = text_cmp (key x) (vertex_text (vertex_at t v))
+
+    alike_texts : (x : Term) → is_there x ≡ true → text_cmp (key x) (vertex_text (vertex_at t v)) ≡ Equal
+    alike_texts x e = ap (λ w. text_cmp (vertex_text w) (vertex_text (vertex_at t v))) (sym (vertex-same (vertex_at t v) (vertex_at t x.vertex) e)) ∙ tied_itself nat_list_cmp_total (vertex_text (vertex_at t v))
+
+    as_texts : (k : ℕ) (d : Term) → k < length terms → nat_cmp (rank_at ranks (get_or terms k d).vertex) (rank_at ranks v) ≡ text_cmp (key (get_or terms k d)) (vertex_text (vertex_at t v))
+    as_texts k d lt = are (get_or terms k d).vertex v (each k d lt) within
+
+    pub number_finds : (i : ℕ) → IsBinarySearchResult (λ (x : Term). nat_cmp (rank_at ranks x.vertex) (rank_at ranks v)) terms (Ok i) → i < length terms → (y : Term) → get_or terms i y ≡ y
+        → states_at (terms_at t (y ∷ [])) (vertex_at t v) ≡ states_at (terms_at t terms) (vertex_at t v)
+    number_finds i found inside y is =
+        first_said (y ∷ []) (vertex_at t v)
+        ∙ sym (first_said terms (vertex_at t v) ∙ ap (option_map (λ (x : Term). named_set t x.states))
+        (search_finds key nat_list_cmp_total terms (vertex_text (vertex_at t v)) is_there alike_texts (sorted_map (term_at t) term_cmp terms sorted) i (found_same by_rank by_text terms as_texts i inside found) inside y is))
+
+    pub number_ends : (i : ℕ) → IsBinarySearchResult (λ (x : Term). nat_cmp (rank_at ranks x.vertex) (rank_at ranks v)) terms (Err i) → i ≤ length terms
+        → None ≡ states_at (terms_at t terms) (vertex_at t v)
+    number_ends i found inside =
+        sym (first_said terms (vertex_at t v) ∙ ap (option_map (λ (x : Term). named_set t x.states))
+        (search_ends key nat_list_cmp_total terms (vertex_text (vertex_at t v)) is_there alike_texts (sorted_map (term_at t) term_cmp terms sorted) i (ended_same by_rank by_text terms as_texts i inside found)))

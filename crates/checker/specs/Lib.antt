@@ -1,4 +1,8 @@
 pub mod Combinations
+pub mod Claims
+pub mod Decoded
+pub mod Naming
+pub mod Ready
 pub mod Spaces
 pub mod Steps
 pub mod Answers

@@ -14,12 +14,14 @@ ghost use Rattle.vertices.specs.Views.{vertex_view};
 ghost use Rattle.axioms.specs.GatheredViews.{problem_of};
 ghost use Rattle.checker.specs.Answers.{check_view, reason_view};
 ghost use Rattle.checker.specs.Refusals.{IsRefusedAt};
-ghost use Rattle.checker.specs.Steps.{AreOrderedSteps, IsOrderedStep};
+ghost use Rattle.checker.specs.Ready.{AreReadySteps, IsReadyStep, tables_of};
+ghost use Rattle.checker.specs.Steps.{AreOrderedSteps};
 
-use crate::combination::is_combination;
+use crate::combination::Claim;
+use crate::decoded::Decoded;
+use crate::decoding::decode;
 use crate::instance::is_instance;
 use crate::outcome::{Check, Reason};
-use crate::terms::read_terms;
 use axioms::Gathered;
 use catalogue::{Catalogue, catalogues_are_well_formed};
 use derivations::{Derivation, Origin, Step, Tables, Term};
@@ -71,7 +73,8 @@ fn answer<'a>(
     requires { AreOrderedSteps tables.now steps.now }
     ensures { IfOk result (λ c. check_view c ≡ refusal (problem_of gathered.old) (steps_at tables.now steps.now)) }
 {
-    match first_refused(alloc, gathered, tables, steps)? {
+    let decoded = decode(alloc, tables, steps)?;
+    match first_refused(alloc, gathered, &decoded, steps)? {
         Check::Proves => Ok(end_of(steps)),
         refused => Ok(refused),
     }
@@ -81,14 +84,14 @@ fn answer<'a>(
 fn first_refused<'a>(
     alloc: Global,
     gathered: &mut Gathered<'a>,
-    tables: &'a Tables,
+    decoded: &Decoded<'a>,
     steps: &[Step],
 ) -> Result<Check, AllocError>
-    requires { AreOrderedSteps tables.now steps.now }
-    ensures { IfOk result (λ c. check_view c ≡ first_refused (problem_of gathered.old) [] (steps_at tables.now steps.now)) }
+    requires { AreReadySteps decoded.now steps.now }
+    ensures { IfOk result (λ c. check_view c ≡ first_refused (problem_of gathered.old) [] (steps_at (tables_of decoded.now) steps.now)) }
 {
     'steps: for (number, step) in steps.iter().enumerate() {
-        if !is_step(alloc, gathered, tables, &steps[..number], step)? {
+        if !is_step(alloc, gathered, decoded, &steps[..number], step)? {
             return Ok(Check::Refused {
                 step: number as u64,
                 reason: reason_of(&step.origin),
@@ -102,27 +105,32 @@ fn first_refused<'a>(
 fn is_step<'a>(
     alloc: Global,
     gathered: &mut Gathered<'a>,
-    tables: &'a Tables,
+    decoded: &Decoded<'a>,
     earlier: &[Step],
     step: &Step,
 ) -> Result<bool, AllocError>
-    requires earlier { AreOrderedSteps tables.now earlier.now }
-    requires step { IsOrderedStep tables.now step.now }
-    ensures accepted { IfOk result (λ b. b ≡ is_step (problem_of gathered.old) (steps_at tables.now earlier.now) (step_at tables.now step.now)) }
+    requires earlier { AreReadySteps decoded.now earlier.now }
+    requires step { IsReadyStep decoded.now step.now }
+    ensures accepted { IfOk result (λ b. b ≡ is_step (problem_of gathered.old) (steps_at (tables_of decoded.now) earlier.now) (step_at (tables_of decoded.now) step.now)) }
     ensures same { problem_of gathered.new ≡ problem_of gathered.old }
 {
-    let terms = read_terms(alloc, tables, &step.terms)?;
     match &step.origin {
-        Origin::Axiom(kind) => is_instance(alloc, gathered, *kind, &terms),
+        Origin::Axiom(kind) => is_instance(alloc, gathered, decoded, *kind, &step.terms),
         Origin::Combination(first, second, vertex) => {
             let (Some(a), Some(b)) = (earlier.get(*first as usize), earlier.get(*second as usize))
             else {
                 return Ok(false);
             };
-            let a = read_terms(alloc, tables, &a.terms)?;
-            let b = read_terms(alloc, tables, &b.terms)?;
-            let (manifest, catalogue) = (gathered.manifest(), gathered.catalogue());
-            Ok(is_combination(manifest, catalogue, tables.vertex(*vertex), &a, &b, &terms))
+            let claim = Claim {
+                manifest: gathered.manifest(),
+                catalogue: gathered.catalogue(),
+                decoded,
+                vertex: *vertex,
+                first: &a.terms,
+                second: &b.terms,
+                terms: &step.terms,
+            };
+            Ok(claim.holds())
         }
     }
 }

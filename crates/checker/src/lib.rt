@@ -3,11 +3,13 @@
 
 mod checking;
 mod combination;
+mod decoded;
+mod decoding;
 mod instance;
 mod outcome;
+mod ranks;
 mod space;
 mod states;
-mod terms;
 
 pub use checking::check;
 pub use outcome::{Check, Reason};

@@ -1,14 +1,28 @@
-use Rattle.std.proofs.Common.{◌∙◌}
-use Rattle.axioms.specs.GatheredViews.{problem_of}
+use Rattle.std.proofs.Common.{◌∙◌, ap}
+use Rattle.refutations.specs.Terms.{is_combination}
+use Rattle.catalogue.specs.Problems.{problem_in}
+use Rattle.axioms.specs.GatheredViews.{manifest_of, problem_of}
+use Rattle.derivations.specs.Tables.{terms_at, vertex_at}
+use Rattle.checker.specs.Ready.{tables_of}
 use Rattle.checker.proofs.StepLaws.{combined_step, lent}
 use Rattle.checker.proofs.checking.is_step.Goals as goal
 
-pub returns-clause-accepted : goal.returns-clause-accepted
-returns-clause-accepted c =
+pub returns-in-Some-Some-clause-accepted : goal.returns-in-Some-Some-clause-accepted
+returns-in-Some-Some-clause-accepted c =
+    let t = tables_of c.args.decoded.now in
+    let q = problem_of c.args.gathered.now in
+    let v = vertex_at t c.in-Combination.vertex in
+    let a = c.in-Some-Some.a.now.terms.items in
+    let b = c.in-Some-Some.b.now.terms.items in
+    let said_a = c.deref-in-Combination.result.now in
+    let said_b = c.deref-in-Combination-2.result.now in
+    let said = c.deref-in-Combination-3.result.now in
     let first = lent c.args.earlier.now c.in-Combination.first c.get.result c.in-Some-Some.a c.get.ensures.lookup c.in-Some-Some.is-0 in
     let second = lent c.args.earlier.now c.in-Combination.second c.get-in-Combination.result c.in-Some-Some.b c.get-in-Combination.ensures.lookup c.in-Some-Some.is-1 in
-    let terms = rw c.deref.ensures.value at c.in_ok-terms.ensures in
-    let a = rw c.deref-in-Combination.ensures.value at c.in_ok-a-in-Combination.ensures in
-    let b = rw c.deref-in-Combination-2.ensures.value at c.in_ok-b-in-Combination.ensures in
-    rw (c.manifest-manifest.ensures, c.catalogue-catalogue.ensures, c.vertex.ensures, terms, a, b) at c.is_combination.ensures
-    ∙ combined_step (problem_of c.args.gathered.now) c.args.tables.now c.args.earlier.now c.args.step.now c.in-Some-Some.a.now c.in-Some-Some.b.now c.in-Combination.first c.in-Combination.second c.in-Combination.vertex c.in-Combination.is first second
+    c.holds.ensures
+    ∙ ap (λ m. is_combination (problem_in m c.catalogue.result.now) v (terms_at t said_a) (terms_at t said_b) (terms_at t said)) c.manifest.ensures
+    ∙ ap (λ k. is_combination (problem_in (manifest_of c.args.gathered.now) k) v (terms_at t said_a) (terms_at t said_b) (terms_at t said)) c.catalogue.ensures
+    ∙ ap (λ xs. is_combination q v (terms_at t xs) (terms_at t said_b) (terms_at t said)) c.deref-in-Combination.ensures.value
+    ∙ ap (λ xs. is_combination q v (terms_at t a) (terms_at t xs) (terms_at t said)) c.deref-in-Combination-2.ensures.value
+    ∙ ap (λ xs. is_combination q v (terms_at t a) (terms_at t b) (terms_at t xs)) c.deref-in-Combination-3.ensures.value
+    ∙ combined_step q t c.args.earlier.now c.args.step.now c.in-Some-Some.a.now c.in-Some-Some.b.now c.in-Combination.first c.in-Combination.second c.in-Combination.vertex c.in-Combination.is first second

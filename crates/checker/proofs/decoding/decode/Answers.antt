@@ -1,0 +1,13 @@
+use Rattle.std.proofs.Common.{◌∙◌, List, subst, take, take_all, sym}
+use Rattle.std.proofs.lemmas.Result.{IfOk-weaker}
+use Rattle.derivations.specs.declared.step.Step.{Step}
+use Rattle.checker.specs.Naming.{AreNamedSteps}
+use Rattle.checker.proofs.NamingLaws.{all_ready}
+use Rattle.checker.proofs.decoding.decode.Goals as goal
+
+pub returns-clause-ready : goal.returns-clause-ready
+returns-clause-ready c =
+    let t = c.args.tables.now in
+    let named = subst (AreNamedSteps t c.steps.decoding) (take_all c.steps.step-index c.args.steps.now c.steps-test.false) c.steps.invariant.named in
+    all_ready t c.steps.decoding c.finish.result c.args.steps.now c.requires named
+    (IfOk-weaker c.finish.result _ _ (λ d h. h ∙ c.steps.invariant.sound.tables) c.finish.ensures.tables) c.finish.ensures.bound c.finish.ensures.sets
