@@ -4,6 +4,7 @@ pub mod CauseViews
 pub mod Full
 pub mod Gathered
 pub mod GatheredViews
+pub mod Instances
 pub mod Matching
 pub mod Needs
 pub mod Numbers

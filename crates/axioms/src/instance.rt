@@ -1,13 +1,15 @@
-//! Whether terms are those of an instance of an axiom.
+//! Whether terms are those of an instance of an axiom: what may want memory is found first, and the decision is without.
 
-ghost use Rattle.std.specs.Prelude.{◌≡◌, IfOk};
+ghost use Rattle.std.specs.Prelude.{◌≡◌, ◌&&◌, IfOk};
 ghost use Rattle.vertices.specs.Kinds.{kind_view};
 ghost use Rattle.model.specs.Axioms.{without_full};
-ghost use Rattle.refutations.specs.Causes.{terms_of_cause};
-ghost use Rattle.refutations.specs.Instances.{is_instance, is_its};
+ghost use Rattle.model.specs.Axioms as model;
+ghost use Rattle.refutations.specs.Causes.{is_cause, terms_of_cause};
+ghost use Rattle.refutations.specs.Instances.{is_instance};
 ghost use Rattle.refutations.specs.Terms.{same_terms};
 ghost use Rattle.axioms.specs.CauseViews.{cause_view};
 ghost use Rattle.axioms.specs.GatheredViews.{problem_of};
+ghost use Rattle.axioms.specs.Instances.{IsFound};
 ghost use Rattle.axioms.specs.Views.{problem, term_views};
 
 use crate::cause::Cause;
@@ -22,46 +24,69 @@ use crate::terms::terms_of_cause;
 use std::alloc::{AllocError, Global};
 use vertices::Kind;
 
-/// Whether terms, without the full ones, are those of an instance of the kind.
-pub fn is_instance<'a>(
+/// The instance of an axiom that terms can be of, if there is one.
+#[derive(Drop)]
+pub struct Candidate<'a> {
+    instance: Option<Instance<'a>>,
+}
+
+/// A cause, and the terms of its instance, without the full ones.
+#[derive(Drop)]
+struct Instance<'a> {
+    cause: Cause<'a>,
+    terms: Vec<Term<'a>>,
+}
+
+/// The one instance of the kind that terms can be of. Whether its cause is there is left open.
+///
+/// # Errors
+/// Want of memory.
+pub fn find_candidate<'a>(
     alloc: Global,
     gathered: &mut Gathered<'a>,
     kind: Kind,
     terms: &[Term<'a>],
-) -> Result<bool, AllocError>
-    ensures instance { IfOk result (λ b. b ≡ is_instance (problem_of gathered.old) (kind_view kind) (term_views terms.now)) }
+) -> Result<Candidate<'a>, AllocError>
+    ensures found { IfOk result (λ c. IsFound (problem_of gathered.old) (kind_view kind) (term_views terms.now) c) }
     ensures same { problem_of gathered.new ≡ problem_of gathered.old }
 {
-    match cause_in(alloc, gathered, kind, terms)? {
-        Some(cause) => is_its(alloc, gathered, terms, &cause),
-        None => Ok(false),
-    }
+    let instance = match cause_in(alloc, gathered, kind, terms)? {
+        Some(cause) => Some(instance_of(alloc, &gathered.known, cause)?),
+        None => None,
+    };
+    Ok(Candidate { instance })
 }
 
-/// Whether the cause is there, and the terms are those of its instance, without full ones.
-fn is_its(
-    alloc: Global,
-    gathered: &Gathered<'_>,
-    terms: &[Term<'_>],
-    cause: &Cause<'_>,
-) -> Result<bool, AllocError>
-    ensures { IfOk result (λ b. b ≡ is_its (problem_of gathered.now) (term_views terms.now) (cause_view cause.now)) }
-{
-    if !is_cause(gathered, cause) {
-        return Ok(false);
-    }
-    are_its_terms(alloc, &gathered.known, terms, cause)
-}
-
-fn are_its_terms<'a>(
+fn instance_of<'a>(
     alloc: Global,
     known: &Known<'a>,
-    terms: &[Term<'a>],
-    cause: &Cause<'a>,
-) -> Result<bool, AllocError>
-    ensures { IfOk result (λ b. b ≡ same_terms (term_views terms.now) (without_full (problem known.now) (terms_of_cause (problem known.now) (cause_view cause.now)))) }
+    cause: Cause<'a>,
+) -> Result<Instance<'a>, AllocError>
+    ensures cause { IfOk result (λ i. cause_view i.cause ≡ cause_view cause.entry) }
+    ensures terms { IfOk result (λ i. term_views i.terms.items ≡ without_full (problem known.now) (terms_of_cause (problem known.now) (cause_view cause.entry))) }
 {
-    let instance = terms_of_cause(alloc, known, cause)?;
-    let instance = without_full(alloc, known, instance)?;
-    Ok(same_terms(terms, instance.as_slice()))
+    let terms = terms_of_cause(alloc, known, &cause)?;
+    let terms = without_full(alloc, known, terms)?;
+    Ok(Instance { cause, terms })
+}
+
+/// Whether terms, without the full ones, are those of an instance of the kind that the candidate was found for.
+pub fn is_instance<'a>(
+    gathered: &Gathered<'a>,
+    terms: &[Term<'a>],
+    candidate: &Candidate<'a>,
+) -> bool
+    ensures { (k : model.Kind) → IsFound (problem_of gathered.now) k (term_views terms.now) candidate.now → result ≡ is_instance (problem_of gathered.now) k (term_views terms.now) }
+{
+    match &candidate.instance {
+        Some(instance) => is_its(gathered, terms, instance),
+        None => false,
+    }
+}
+
+/// Whether the cause is there, and the terms are those of its instance.
+fn is_its<'a>(gathered: &Gathered<'a>, terms: &[Term<'a>], instance: &Instance<'a>) -> bool
+    ensures { result ≡ (is_cause (problem_of gathered.now) (cause_view instance.now.cause) && same_terms (term_views terms.now) (term_views instance.now.terms.items)) }
+{
+    is_cause(gathered, &instance.cause) && same_terms(terms, &instance.terms)
 }

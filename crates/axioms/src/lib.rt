@@ -24,7 +24,7 @@ mod term;
 mod terms;
 
 pub use gathered::Gathered;
-pub use instance::is_instance;
+pub use instance::{Candidate, find_candidate, is_instance};
 pub use ranges::class_versions;
 pub use states::States;
 pub use term::Term;

@@ -2,6 +2,7 @@ pub mod Combinations
 pub mod Claims
 pub mod Decoded
 pub mod Naming
+pub mod Prepared
 pub mod Ready
 pub mod Spaces
 pub mod Steps

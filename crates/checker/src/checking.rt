@@ -14,14 +14,15 @@ ghost use Rattle.vertices.specs.Views.{vertex_view};
 ghost use Rattle.axioms.specs.GatheredViews.{problem_of};
 ghost use Rattle.checker.specs.Answers.{check_view, reason_view};
 ghost use Rattle.checker.specs.Refusals.{IsRefusedAt};
+ghost use Rattle.checker.specs.Prepared.{IsPrepared};
 ghost use Rattle.checker.specs.Ready.{AreReadySteps, IsReadyStep, tables_of};
 ghost use Rattle.checker.specs.Steps.{AreOrderedSteps};
 
 use crate::combination::Claim;
 use crate::decoded::Decoded;
 use crate::decoding::decode;
-use crate::instance::is_instance;
 use crate::outcome::{Check, Reason};
+use crate::preparing::{Prepared, is_instance, prepare};
 use axioms::Gathered;
 use catalogue::{Catalogue, catalogues_are_well_formed};
 use derivations::{Derivation, Origin, Step, Tables, Term};
@@ -91,7 +92,8 @@ fn first_refused<'a>(
     ensures { IfOk result (λ c. check_view c ≡ first_refused (problem_of gathered.old) [] (steps_at (tables_of decoded.now) steps.now)) }
 {
     'steps: for (number, step) in steps.iter().enumerate() {
-        if !is_step(alloc, gathered, decoded, &steps[..number], step)? {
+        let prepared = prepare(alloc, gathered, decoded, step)?;
+        if !is_step(gathered, decoded, &steps[..number], step, &prepared) {
             return Ok(Check::Refused {
                 step: number as u64,
                 reason: reason_of(&step.origin),
@@ -103,23 +105,23 @@ fn first_refused<'a>(
 
 /// Whether a step is accepted after the earlier ones.
 fn is_step<'a>(
-    alloc: Global,
-    gathered: &mut Gathered<'a>,
+    gathered: &Gathered<'a>,
     decoded: &Decoded<'a>,
     earlier: &[Step],
     step: &Step,
-) -> Result<bool, AllocError>
+    prepared: &Prepared<'a>,
+) -> bool
     requires earlier { AreReadySteps decoded.now earlier.now }
     requires step { IsReadyStep decoded.now step.now }
-    ensures accepted { IfOk result (λ b. b ≡ is_step (problem_of gathered.old) (steps_at (tables_of decoded.now) earlier.now) (step_at (tables_of decoded.now) step.now)) }
-    ensures same { problem_of gathered.new ≡ problem_of gathered.old }
+    requires prepared { IsPrepared (problem_of gathered.now) (tables_of decoded.now) step.now prepared.now }
+    ensures { result ≡ is_step (problem_of gathered.now) (steps_at (tables_of decoded.now) earlier.now) (step_at (tables_of decoded.now) step.now) }
 {
     match &step.origin {
-        Origin::Axiom(kind) => is_instance(alloc, gathered, decoded, *kind, &step.terms),
+        Origin::Axiom(_) => is_instance(gathered, prepared),
         Origin::Combination(first, second, vertex) => {
             let (Some(a), Some(b)) = (earlier.get(*first as usize), earlier.get(*second as usize))
             else {
-                return Ok(false);
+                return false;
             };
             let claim = Claim {
                 manifest: gathered.manifest(),
@@ -130,7 +132,7 @@ fn is_step<'a>(
                 second: &b.terms,
                 terms: &step.terms,
             };
-            Ok(claim.holds())
+            claim.holds()
         }
     }
 }

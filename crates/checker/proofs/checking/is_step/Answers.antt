@@ -7,8 +7,8 @@ use Rattle.checker.specs.Ready.{tables_of}
 use Rattle.checker.proofs.StepLaws.{combined_step, lent}
 use Rattle.checker.proofs.checking.is_step.Goals as goal
 
-pub returns-in-Some-Some-clause-accepted : goal.returns-in-Some-Some-clause-accepted
-returns-in-Some-Some-clause-accepted c =
+pub returns-in-Some-Some : goal.returns-in-Some-Some
+returns-in-Some-Some c =
     let t = tables_of c.args.decoded.now in
     let q = problem_of c.args.gathered.now in
     let v = vertex_at t c.in-Combination.vertex in

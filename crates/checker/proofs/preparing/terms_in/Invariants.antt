@@ -2,7 +2,7 @@ use Rattle.std.proofs.Common.{◌≡◌, take}
 use Rattle.axioms.specs.Views.{term_views}
 use Rattle.derivations.specs.Tables.{terms_at}
 use Rattle.checker.specs.Ready.{tables_of}
-use Rattle.checker.proofs.instance.terms_in.Given as goal
+use Rattle.checker.proofs.preparing.terms_in.Given as goal
 
 abbrev pub invariant-terms : goal.invariant-terms
 invariant-terms l = term_views l.looked_up.items ≡ terms_at (tables_of l.decoded) (take l.term-index l.terms)

@@ -1,0 +1,22 @@
+-- What is made before the decision of a step (the layout is this project's).
+use Rattle.std.specs.Prelude.{◌≡◌, List, ⊤, ⊥}
+use Rattle.model.specs.Content.{Problem}
+use Rattle.model.specs.Axioms.{Term}
+use Rattle.vertices.specs.Kinds.{kind_view}
+use Rattle.axioms.specs.Instances.{IsFound}
+use Rattle.axioms.specs.Views.{term_views}
+use Rattle.derivations.specs.Tables.{TablesView, terms_at}
+use Rattle.derivations.specs.declared.step.Origin.{Origin}
+use Rattle.derivations.specs.declared.step.Origin.TheVariants.{Axiom, Combination}
+use Rattle.derivations.specs.declared.step.Step.{Step}
+use Rattle.checker.specs.declared.preparing.Prepared.{Prepared}
+use Rattle.checker.specs.declared.preparing.Prepared.TheVariants as prepared
+
+-- of an axiom: the terms as they are looked up, and the instance that they can be of
+abbrev pub IsPreparedBy : Problem → List Term → Origin → Prepared → Type 0
+IsPreparedBy q ts (Axiom k) (prepared.Axiom terms candidate) = (term_views terms.items ≡ ts) × IsFound q (kind_view k) ts candidate
+IsPreparedBy q ts (Axiom k) prepared.Combination = ⊥
+IsPreparedBy q ts (Combination a b v) p = ⊤
+
+abbrev pub IsPrepared : Problem → TablesView → Step → Prepared → Type 0
+IsPrepared q t s p = IsPreparedBy q (terms_at t s.terms.items) s.origin p
