@@ -1,16 +1,1 @@
-pub mod Brought
-pub mod Versions
-pub mod Places
 pub mod Asked
-pub mod Searching
-pub mod SetLaws
-pub mod Pieces
-pub mod Classed
-pub mod Rising
-pub mod Spaces
-pub mod Recorded
-pub mod Featured
-pub mod Lacking
-pub mod PairLemmas
-pub mod GatherLemmas
-pub mod Kept

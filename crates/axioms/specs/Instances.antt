@@ -4,8 +4,8 @@ use Rattle.model.specs.Content.{Problem}
 use Rattle.model.specs.Axioms.{Term, Kind, without_full}
 use Rattle.refutations.specs.Causes.{terms_of_cause}
 use Rattle.refutations.specs.Instances.{cause_in}
-use Rattle.axioms.specs.CauseViews.{cause_view}
-use Rattle.axioms.specs.Views.{term_views}
+use Rattle.named_terms.specs.CauseViews.{cause_view}
+use Rattle.named_terms.specs.Views.{term_views}
 use Rattle.axioms.specs.declared.instance.Candidate.{Candidate}
 use Rattle.axioms.specs.declared.instance.Instance.{Instance}
 

@@ -1,14 +1,3 @@
-pub mod Views
 pub mod Asking
-pub mod CauseViews
-pub mod Full
-pub mod Gathered
 pub mod GatheredViews
 pub mod Instances
-pub mod Matching
-pub mod Needs
-pub mod Numbers
-pub mod Pairs
-pub mod Ranges
-pub mod Readings
-pub mod Sets

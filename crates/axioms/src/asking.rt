@@ -8,14 +8,14 @@ ghost use Rattle.features.specs.EntryViews.{entry_views};
 ghost use Rattle.model.specs.Summary as model;
 ghost use Rattle.model.specs.Summary.{asked_of_target, dependency_feature, same_text};
 ghost use Rattle.refutations.specs.Causes.{asks_for, root_asks_for, same_entry, same_pair, some_entry};
-ghost use Rattle.axioms.specs.Asking.{row_asks, row_names};
-ghost use Rattle.axioms.specs.Views.{problem};
+ghost use Rattle.axioms.specs.Asking.{row_asks};
+ghost use Rattle.known_pairs.specs.Asking.{row_names};
+ghost use Rattle.looking_up.specs.Views.{problem};
 ghost use Rattle.vertices.specs.RefViews.{owner_ref_view};
 
 use crate::entries::{asks_for, has_asking};
-use crate::known::Known;
-use crate::lookups::brings;
 use features::{Dependency, Entry, FeatureName, FeatureTable, PackageName};
+use looking_up::{Known, brings};
 use semver::Version;
 use vertices::OwnerRef;
 
@@ -71,7 +71,6 @@ fn some_row_names(table: &FeatureTable, name: &PackageName, feature: &FeatureNam
     false
 }
 
-#[tactic(auto, unfolding(crate::specs::Asking::row_names))]
 fn some_names(name: &PackageName, feature: &FeatureName, entries: &[Entry]) -> bool
     ensures { (f : List ℕ) → result ≡ row_names name.now feature.now (f, entry_views entries.now) }
 {

@@ -9,24 +9,22 @@ ghost use Rattle.features.specs.EntryViews.{entry_view};
 ghost use Rattle.model.specs.Summary.{asked_of_target, same_text};
 ghost use Rattle.model.specs.Summary as model;
 ghost use Rattle.model.specs.Selection.{class_of};
-ghost use Rattle.model.specs.Vertices.{feat, same_vertex, version_of};
+ghost use Rattle.model.specs.Vertices.{feat, same_class, same_vertex, version_of};
 ghost use Rattle.refutations.specs.Causes.{dependency_at, enables, is_cause, is_overtaken, is_weak_on, lists_feature, of_ask, of_asking, of_enabling, of_entry, of_feature, of_list, of_need, of_newest, of_target, of_weak, passes};
-ghost use Rattle.axioms.specs.CauseViews.{cause_view};
+ghost use Rattle.named_terms.specs.CauseViews.{cause_view};
 ghost use Rattle.axioms.specs.GatheredViews.{problem_of};
-ghost use Rattle.axioms.specs.Views.{problem};
+ghost use Rattle.looking_up.specs.Views.{problem};
 ghost use Rattle.vertices.specs.RefViews.{owner_ref_view};
 
 use crate::asking::{is_listed, root_asks_for, some_entry_asks};
-use crate::cause::Cause;
-use crate::entries::{enables, has_asking, has_feature, has_same, has_weak};
+use crate::entries::{has_asking, has_feature, has_same, has_weak};
 use crate::feature_vertex::has_feature_vertex;
-use crate::finding::is_needed;
 use crate::gathered::Gathered;
-use crate::known::Known;
-use crate::lookups::{dependency_at, entries_of};
-use crate::matching::{has_class, is_same};
+use causes::{enables, is_needed};
 use classes::Class;
 use features::{Dependency, Entry, FeatureName, PackageName};
+use looking_up::{Known, dependency_at, entries_of, has_class};
+use named_terms::Cause;
 use semver::Version;
 use vertices::OwnerRef;
 
@@ -304,4 +302,10 @@ fn is_same_feature(
     ensures { result ≡ same_vertex (feat name.now (class_view class) feature.now) (feat other_name.now (class_view other_class) other.now) }
 {
     name == other_name && is_same(class, other_class) && feature == other
+}
+
+fn is_same(a: Class, b: Class) -> bool
+    ensures { result ≡ same_class (class_view a) (class_view b) }
+{
+    a == b
 }

@@ -1,38 +1,14 @@
-//! What entries of features enable and ask for.
+//! What entries of features turn on and ask for.
 
-ghost use Rattle.std.specs.Prelude.{◌≡◌, option_map};
-ghost use Rattle.std.specs.List.{find, list_any};
+ghost use Rattle.std.specs.Prelude.{◌≡◌};
+ghost use Rattle.std.specs.List.{list_any};
 ghost use Rattle.std.specs.Prelude.{◌&&◌};
 ghost use Rattle.model.specs.Summary as model;
 ghost use Rattle.model.specs.Summary.{same_text};
 ghost use Rattle.features.specs.EntryViews.{entry_view, entry_views};
-ghost use Rattle.refutations.specs.Causes.{asks_for, enables, same_entry};
+ghost use Rattle.refutations.specs.Causes.{asks_for, same_entry};
 
 use features::{Entry, FeatureName, PackageName};
-
-/// Whether an entry is `dep:d` or `d/g`.
-pub(crate) fn enables(name: &PackageName, entry: &Entry) -> bool
-    ensures { result ≡ enables name.now (entry_view entry.now) }
-{
-    match entry {
-        Entry::Feature(_) => false,
-        Entry::Dependency(found) => name == found,
-        Entry::DependencyFeature(found, _) => name == found,
-        Entry::WeakFeature(_, _) => false,
-    }
-}
-
-/// The first entry that enables the dependency.
-pub(crate) fn first_enabling<'a>(name: &PackageName, entries: &'a [Entry]) -> Option<&'a Entry>
-    ensures { option_map (λ e. entry_view e.now) result ≡ find (enables name.now) (entry_views entries.entry.now) }
-{
-    'entries: for entry in entries.iter() {
-        if enables(name, entry) {
-            return Some(entry);
-        }
-    }
-    None
-}
 
 /// Whether an entry is `d/g` or `d?/g`.
 pub(crate) fn asks_for(name: &PackageName, feature: &FeatureName, entry: &Entry) -> bool

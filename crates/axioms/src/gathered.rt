@@ -2,33 +2,27 @@
 
 ghost use Rattle.std.specs.Prelude.{◌≡◌, IfOk};
 ghost use Rattle.catalogue.specs.Problems.{problem_in};
-ghost use Rattle.axioms.specs.Gathered.{is_known_feature};
-ghost use Rattle.axioms.specs.Numbers.{AreEnabled, AreNeeded};
-ghost use Rattle.axioms.specs.Pairs.{HasThose};
-ghost use Rattle.axioms.specs.Views.{problem};
+ghost use Rattle.known_pairs.specs.Gathered.{is_known_feature};
+ghost use Rattle.causes.specs.NumbersViews as kept;
+ghost use Rattle.known_pairs.specs.Pairs.{HasThose};
+ghost use Rattle.looking_up.specs.Views.{problem};
 
-use crate::gathering::known_features;
-use crate::known::Known;
-use crate::pairs::Pairs;
 use catalogue::Catalogue;
-use features::FeatureName;
+use causes::Numbers;
+use known_pairs::{Pairs, known_features};
+use looking_up::Known;
 use manifest::Manifest;
 use std::alloc::{AllocError, Global};
-use std::collections::HashMap;
-use vertices::OwnerRef;
 
-/// The manifest and the loaded index, with the features that are known of each name, and with what was looked for before.
+/// The manifest and the loaded index, with the features that are known of each name, and with the numbers that were
+/// looked for before.
 #[derive(Drop)]
 pub struct Gathered<'a> {
     pub(crate) known: Known<'a>,
     pub(crate) features: Pairs<'a>,
-    /// By owner, the number of the first dependency that it needs and no candidate serves.
-    pub(crate) needed: HashMap<OwnerRef<'a>, usize>,
-    /// By version and feature, the number of the first dependency that entries enable and no candidate serves.
-    pub(crate) enabled: HashMap<(OwnerRef<'a>, &'a FeatureName), usize>,
+    pub(crate) numbers: Numbers<'a>,
     ghost features_are: { HasThose features (is_known_feature (problem known)) },
-    ghost needed_are: { AreNeeded (problem known) needed },
-    ghost enabled_are: { AreEnabled (problem known) enabled },
+    ghost numbers_are: { kept.problem_of numbers ≡ problem known },
 }
 
 impl<'a> Gathered<'a> {
@@ -45,14 +39,14 @@ impl<'a> Gathered<'a> {
     ) -> Result<Gathered<'a>, AllocError>
         ensures { IfOk result (λ g. problem_of g ≡ problem_in manifest.entry.now catalogue.entry.now) }
     {
+        let known = Known {
+            manifest,
+            catalogue,
+        };
         Ok(Gathered {
-            known: Known {
-                manifest,
-                catalogue,
-            },
+            known,
             features: known_features(alloc, manifest, catalogue)?,
-            needed: HashMap::new(alloc),
-            enabled: HashMap::new(alloc),
+            numbers: Numbers::new(alloc, known),
         })
     }
 

@@ -7,20 +7,18 @@ ghost use Rattle.model.specs.Axioms as model;
 ghost use Rattle.refutations.specs.Causes.{is_cause, terms_of_cause};
 ghost use Rattle.refutations.specs.Instances.{is_instance};
 ghost use Rattle.refutations.specs.Terms.{same_terms};
-ghost use Rattle.axioms.specs.CauseViews.{cause_view};
+ghost use Rattle.named_terms.specs.CauseViews.{cause_view};
 ghost use Rattle.axioms.specs.GatheredViews.{problem_of};
 ghost use Rattle.axioms.specs.Instances.{IsFound};
-ghost use Rattle.axioms.specs.Views.{problem, term_views};
+ghost use Rattle.looking_up.specs.Views.{problem};
+ghost use Rattle.named_terms.specs.Views.{term_views};
 
-use crate::cause::Cause;
 use crate::checks::is_cause;
-use crate::compare::same_terms;
-use crate::finding::cause_in;
-use crate::full::without_full;
 use crate::gathered::Gathered;
-use crate::known::Known;
-use crate::term::Term;
-use crate::terms::terms_of_cause;
+use causes::cause_in;
+use instances::instance_terms;
+use looking_up::Known;
+use named_terms::{Cause, Term, same_terms};
 use std::alloc::{AllocError, Global};
 use vertices::Kind;
 
@@ -50,7 +48,7 @@ pub fn find_candidate<'a>(
     ensures found { IfOk result (λ c. IsFound (problem_of gathered.old) (kind_view kind) (term_views terms.now) c) }
     ensures same { problem_of gathered.new ≡ problem_of gathered.old }
 {
-    let instance = match cause_in(alloc, gathered, kind, terms)? {
+    let instance = match cause_in(alloc, &mut gathered.numbers, kind, terms)? {
         Some(cause) => Some(instance_of(alloc, &gathered.known, cause)?),
         None => None,
     };
@@ -65,8 +63,7 @@ fn instance_of<'a>(
     ensures cause { IfOk result (λ i. cause_view i.cause ≡ cause_view cause.entry) }
     ensures terms { IfOk result (λ i. term_views i.terms.items ≡ without_full (problem known.now) (terms_of_cause (problem known.now) (cause_view cause.entry))) }
 {
-    let terms = terms_of_cause(alloc, known, &cause)?;
-    let terms = without_full(alloc, known, terms)?;
+    let terms = instance_terms(alloc, known, &cause)?;
     Ok(Instance { cause, terms })
 }
 

@@ -13,11 +13,11 @@ use Rattle.model.specs.Vertices.{Owner, pkg, dep, State, absent, version, in_cla
 use Rattle.manifest.specs.Manifests.{ManifestView}
 use Rattle.catalogue.specs.Problems.{problem_in}
 use Rattle.catalogue.specs.Stores.{CatalogueView, candidates_at, rows_by_name}
-use Rattle.axioms.specs.Ranges.{is_of}
-use Rattle.axioms.proofs.Brought.{candidates_are}
-use Rattle.axioms.proofs.Classed.{all_classed}
-use Rattle.axioms.proofs.SetLaws.{all_map, all_filter}
-use Rattle.axioms.proofs.Spaces.{classes_all}
+use Rattle.looking_up.specs.Ranges.{is_of}
+use Rattle.looking_up.proofs.Brought.{candidates_are}
+use Rattle.looking_up.proofs.Classed.{all_classed}
+use Rattle.named_terms.proofs.SetLaws.{all_map, all_filter}
+use Rattle.instances.proofs.Spaces.{classes_all}
 use Rattle.checker.specs.Spaces.{has_if_matched}
 
 module _ (m : ManifestView) (c : CatalogueView) where

@@ -4,7 +4,7 @@ use Rattle.model.specs.Content.{Problem}
 use Rattle.model.specs.Axioms.{Term}
 use Rattle.vertices.specs.Kinds.{kind_view}
 use Rattle.axioms.specs.Instances.{IsFound}
-use Rattle.axioms.specs.Views.{term_views}
+use Rattle.named_terms.specs.Views.{term_views}
 use Rattle.derivations.specs.Tables.{TablesView, terms_at}
 use Rattle.derivations.specs.declared.step.Origin.{Origin}
 use Rattle.derivations.specs.declared.step.Origin.TheVariants.{Axiom, Combination}

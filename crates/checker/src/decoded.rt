@@ -3,7 +3,7 @@
 ghost use Rattle.std.specs.Prelude.{◌≤◌, length};
 ghost use Rattle.checker.specs.Decoded.{AreVertexRanks};
 
-use axioms::States;
+use named_terms::States;
 use derivations::{Tables, Term};
 use std::cmp::Ordering;
 use vertices::Vertex;

@@ -15,7 +15,7 @@ ghost use Rattle.checker.specs.Steps.{AreOrderedSteps, IsOrderedTerm};
 use crate::decoded::Decoded;
 use crate::ranks::ranks_of;
 use crate::states::read_states;
-use axioms::States;
+use named_terms::States;
 use derivations::{Step, Tables, Term};
 use std::alloc::{AllocError, Global};
 use vertices::Vertex;

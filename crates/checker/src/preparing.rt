@@ -7,7 +7,7 @@ ghost use Rattle.refutations.specs.Instances.{is_instance};
 ghost use Rattle.vertices.specs.Kinds.{kind_view};
 ghost use Rattle.vertices.specs.declared.kind.Kind as kinds;
 ghost use Rattle.axioms.specs.GatheredViews.{problem_of};
-ghost use Rattle.axioms.specs.Views.{term_view, term_views};
+ghost use Rattle.named_terms.specs.Views.{term_view, term_views};
 ghost use Rattle.derivations.specs.Tables.{term_at, terms_at};
 ghost use Rattle.derivations.specs.declared.step.Origin.TheVariants as origin;
 ghost use Rattle.checker.specs.Prepared.{IsPrepared, IsPreparedBy};
@@ -23,7 +23,7 @@ use vertices::Kind;
 #[derive(Drop)]
 pub(crate) enum Prepared<'a> {
     /// The terms as they are looked up, and the instance that they can be of.
-    Axiom(Vec<axioms::Term<'a>>, Candidate<'a>),
+    Axiom(Vec<named_terms::Term<'a>>, Candidate<'a>),
     /// Nothing: all is at hand.
     Combination,
 }
@@ -79,7 +79,7 @@ fn terms_in<'a>(
     alloc: Global,
     decoded: &Decoded<'a>,
     terms: &[Term],
-) -> Result<Vec<axioms::Term<'a>>, AllocError>
+) -> Result<Vec<named_terms::Term<'a>>, AllocError>
     requires { AllByRecursion (IsReady decoded.now) terms.now }
     ensures { IfOk result (λ v. term_views v.items ≡ terms_at (tables_of decoded.now) terms.now) }
 {
@@ -94,11 +94,11 @@ fn term_of<'a>(
     alloc: Global,
     decoded: &Decoded<'a>,
     term: &Term,
-) -> Result<axioms::Term<'a>, AllocError>
+) -> Result<named_terms::Term<'a>, AllocError>
     requires { IsReady decoded.now term.now }
     ensures { IfOk result (λ t. term_view t ≡ term_at (tables_of decoded.now) term.now) }
 {
-    Ok(axioms::Term {
+    Ok(named_terms::Term {
         vertex: decoded.vertex(term.vertex).borrowed(),
         states: decoded.set(term.states).copy(alloc)?,
     })

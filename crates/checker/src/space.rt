@@ -13,11 +13,12 @@ ghost use Rattle.vertices.specs.Views.{owner_view, vertex_view};
 ghost use Rattle.vertices.specs.RefViews.{state_ref_view};
 ghost use Rattle.checker.specs.Spaces.{has_if_matched};
 
-use axioms::{States, class_versions};
 use catalogue::Catalogue;
 use classes::Class;
 use features::Dependency;
+use looking_up::class_versions;
 use manifest::Manifest;
+use named_terms::States;
 use semver::{Version, VersionReq};
 use vertices::{Owner, StateRef, Vertex};
 

@@ -6,8 +6,8 @@ ghost use Rattle.vertices.specs.Orders.{state_cmp};
 ghost use Rattle.derivations.specs.Tables.{AreStatesOf, states_at};
 ghost use Rattle.vertices.specs.RefViews.{state_ref_views};
 
-use axioms::States;
 use derivations::Tables;
+use named_terms::States;
 use std::alloc::{AllocError, Global};
 use vertices::StateRef;
 

@@ -2,7 +2,7 @@ use Rattle.std.proofs.Common.{◌∙◌, ap, sym}
 use Rattle.semver.specs.Identifiers.{parts_of}
 use Rattle.features.specs.Views as features
 use Rattle.model.specs.Vertices.{owner_brings, version_of}
-use Rattle.axioms.specs.Views.{brings_view, problem}
+use Rattle.looking_up.specs.Views.{brings_view, problem}
 use Rattle.axioms.proofs.Asked.{owner_asks_is}
 use Rattle.axioms.proofs.asking.some_entry_asks.Goals as goal
 

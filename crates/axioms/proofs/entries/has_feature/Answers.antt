@@ -6,7 +6,7 @@ use Rattle.model.specs.Summary.{feature}
 use Rattle.features.specs.EntryViews.{entry_view}
 use Rattle.features.specs.declared.entry.Entry.{Entry}
 use Rattle.refutations.specs.Causes.{same_entry}
-use Rattle.axioms.proofs.Versions.{any-map}
+use Rattle.looking_up.proofs.Versions.{any-map}
 use Rattle.axioms.proofs.entries.has_feature.Goals as goal
 
 pub returns : goal.returns

@@ -5,7 +5,7 @@ use borrow.Author.Tests.{tests}
 use Rattle.features.specs.EntryViews.{entry_view}
 use Rattle.features.specs.declared.entry.Entry.{Entry}
 use Rattle.refutations.specs.Causes.{same_entry}
-use Rattle.axioms.proofs.Versions.{any-map}
+use Rattle.looking_up.proofs.Versions.{any-map}
 use Rattle.axioms.proofs.entries.has_same.Goals as goal
 
 pub returns : goal.returns

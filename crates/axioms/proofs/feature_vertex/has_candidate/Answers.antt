@@ -1,6 +1,6 @@
 use Rattle.std.proofs.Common.{◌∙◌, true}
 use Rattle.classes.specs.Classes.{class_view}
-use Rattle.axioms.proofs.Classed.{any_classed}
+use Rattle.looking_up.proofs.Classed.{any_classed}
 use Rattle.axioms.proofs.feature_vertex.has_candidate.Goals as goal
 
 pub returns : goal.returns

@@ -6,7 +6,7 @@ use Rattle.features.specs.Views.{dependency_views}
 use Rattle.catalogue.specs.Problems.{problem_in}
 use Rattle.catalogue.specs.Views.{said_by}
 use Rattle.vertices.specs.Views.{owner_view}
-use Rattle.axioms.proofs.Brought.{is_there, not_there}
+use Rattle.looking_up.proofs.Brought.{is_there, not_there}
 use Rattle.checker.proofs.space.dependencies_of.Goals as goal
 
 pub returns-in-Some : goal.returns-in-Some

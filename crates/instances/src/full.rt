@@ -1,0 +1,130 @@
+//! Full terms: those with all states of their vertices.
+
+ghost use Rattle.std.specs.Prelude.{◌≡◌, IfOk, map};
+ghost use Rattle.std.specs.List.{list_all};
+ghost use Rattle.features.specs.Views.{dependency_view};
+ghost use Rattle.model.specs.Axioms.{is_full, without_full};
+ghost use Rattle.model.specs.Vertices.{dep_classes, has_state};
+ghost use Rattle.model.specs.Vertices as model;
+ghost use Rattle.classes.specs.Classes.{class_view};
+ghost use Rattle.semver.specs.Identifiers.{parts_of};
+ghost use Rattle.features.specs.Views.{requirement_view};
+ghost use Rattle.instances.specs.Full.{has_if_matched, others};
+ghost use Rattle.looking_up.specs.Views.{problem};
+ghost use Rattle.named_terms.specs.Views.{term_view, term_views};
+ghost use Rattle.vertices.specs.RefViews.{owner_ref_view, vertex_ref_view};
+
+use classes::Class;
+use features::{Dependency, PackageName};
+use looking_up::{Known, class_versions, dependency_at, is_matched};
+use named_terms::{States, Term};
+use semver::{Version, VersionReq};
+use std::alloc::{AllocError, Global};
+use vertices::{OwnerRef, StateRef, VertexRef};
+
+/// The terms that aren't full.
+pub(crate) fn without_full<'a>(
+    alloc: Global,
+    known: &Known<'a>,
+    terms: Vec<Term<'a>>,
+) -> Result<Vec<Term<'a>>, AllocError>
+    ensures { IfOk result (λ v. term_views v.items ≡ without_full (problem known.now) (term_views terms.entry.items)) }
+{
+    let mut kept = Vec::new(alloc);
+    'terms: for term in terms {
+        if !is_full(known, &term) {
+            kept.push(term)?;
+        }
+    }
+    Ok(kept)
+}
+
+/// Whether all states of the vertex are among these.
+fn is_full<'a>(known: &Known<'a>, term: &Term<'a>) -> bool
+    ensures { result ≡ is_full (problem known.now) (term_view term.now) }
+{
+    has_absent(&term.states) && has_others(known, &term.vertex, &term.states)
+}
+
+fn has_absent(states: &States<'_>) -> bool
+    ensures { result ≡ has_state states.now model.absent }
+{
+    states.has(&StateRef::Absent)
+}
+
+fn has_present(states: &States<'_>) -> bool
+    ensures { result ≡ has_state states.now model.present }
+{
+    states.has(&StateRef::Present)
+}
+
+/// Whether the states have all of the vertex but `absent`.
+fn has_others<'a>(known: &Known<'a>, vertex: &VertexRef<'a>, states: &States<'a>) -> bool
+    ensures { result ≡ list_all (has_state states.now) (others (problem known.now) (vertex_ref_view vertex.now)) }
+{
+    match vertex {
+        VertexRef::Root => has_present(states),
+        VertexRef::Package(name, class) => has_versions(known, name, *class, states),
+        VertexRef::Dependency(owner, number) => has_classes(known, owner, *number, states),
+        VertexRef::Feature(_, _, _) => has_present(states),
+        VertexRef::Ask(_, _, _, _) => has_present(states),
+    }
+}
+
+fn has_versions(known: &Known<'_>, name: &PackageName, class: Class, states: &States<'_>) -> bool
+    ensures { result ≡ list_all (has_state states.now) (others (problem known.now) (model.pkg name.now (class_view class))) }
+{
+    all_in(class_versions(known.catalogue, name, class), states)
+}
+
+fn all_in(versions: &[Version], states: &States<'_>) -> bool
+    ensures { result ≡ list_all (λ v. has_state states.now (model.version (parts_of v))) versions.now }
+{
+    versions.iter().all(|version| has_version(states, version))
+}
+
+fn has_version(states: &States<'_>, version: &Version) -> bool
+    ensures { result ≡ has_state states.now (model.version (parts_of version.now)) }
+{
+    states.has(&StateRef::Version(version))
+}
+
+fn has_classes(known: &Known<'_>, owner: &OwnerRef<'_>, number: usize, states: &States<'_>) -> bool
+    ensures { result ≡ list_all (has_state states.now) (others (problem known.now) (model.dep (owner_ref_view owner.now) number)) }
+{
+    match dependency_at(known, owner, number) {
+        Some(dependency) => has_classes_of(known, dependency, states),
+        None => true,
+    }
+}
+
+fn has_classes_of(known: &Known<'_>, dependency: &Dependency, states: &States<'_>) -> bool
+    ensures { result ≡ list_all (has_state states.now) (map model.in_class (dep_classes (problem known.now) (dependency_view dependency.now))) }
+{
+    all_matched(
+        known.catalogue.versions(&dependency.real_name),
+        &dependency.requirement,
+        states,
+    )
+}
+
+fn all_matched(versions: &[Version], requirement: &VersionReq, states: &States<'_>) -> bool
+    ensures { result ≡ list_all (λ v. has_if_matched states.now (requirement_view requirement.now) (parts_of v)) versions.now }
+{
+    versions
+        .iter()
+        .all(|version| has_if_matched(states, requirement, version))
+}
+
+#[tactic(auto, unfolding(crate::specs::Full::has_if_matched))]
+fn has_if_matched(states: &States<'_>, requirement: &VersionReq, version: &Version) -> bool
+    ensures { result ≡ has_if_matched states.now (requirement_view requirement.now) (parts_of version.now) }
+{
+    !is_matched(requirement, version) || has_class(states, Class::of(version))
+}
+
+fn has_class(states: &States<'_>, class: Class) -> bool
+    ensures { result ≡ has_state states.now (model.in_class (class_view class)) }
+{
+    states.has(&StateRef::Class(class))
+}

@@ -1,0 +1,5 @@
+pub mod Asked
+pub mod Recorded
+pub mod Featured
+pub mod PairLemmas
+pub mod GatherLemmas

@@ -1,0 +1,4 @@
+pub mod Brought
+pub mod Versions
+pub mod Pieces
+pub mod Classed

@@ -1,0 +1,64 @@
+//! What owners bring, looked up in the manifest and in the loaded index.
+
+ghost use Rattle.std.specs.Prelude.{◌≡◌, option_map};
+ghost use Rattle.semver.specs.Identifiers.{parts_of};
+ghost use Rattle.features.specs.Views.{dependency_view, dependency_views};
+ghost use Rattle.features.specs.EntryViews.{entry_views};
+ghost use Rattle.model.specs.Vertices.{owner_brings};
+ghost use Rattle.refutations.specs.Causes.{dependency_at, entries_of};
+ghost use Rattle.looking_up.specs.Views.{brings_view, problem};
+ghost use Rattle.vertices.specs.RefViews.{owner_ref_view};
+
+use crate::known::Known;
+use features::{Dependency, Entry, FeatureName, PackageName, Summary};
+use semver::Version;
+use vertices::OwnerRef;
+
+/// What an owner brings: nothing where it is neither the root nor a candidate.
+pub fn brings<'a>(known: &Known<'a>, owner: &OwnerRef<'_>) -> Option<&'a Summary>
+    ensures { brings_view result ≡ owner_brings (problem known.now) (owner_ref_view owner.now) }
+{
+    match owner {
+        OwnerRef::Root => Some(known.manifest.summary()),
+        OwnerRef::Version(name, version) => {
+            let candidate = known.catalogue.candidate(name, version)?;
+            Some(&candidate.brings)
+        }
+    }
+}
+
+/// The dependencies of an owner.
+pub fn dependencies_of<'a>(known: &Known<'a>, owner: &OwnerRef<'_>) -> &'a [Dependency]
+    ensures { dependency_views result.now ≡ (owner_brings (problem known.now) (owner_ref_view owner.now)).dependencies }
+{
+    match brings(known, owner) {
+        Some(owner) => owner.dependencies.as_slice(),
+        None => &[],
+    }
+}
+
+/// The dependency of an owner that has this number.
+pub fn dependency_at<'a>(
+    known: &Known<'a>,
+    owner: &OwnerRef<'_>,
+    number: usize,
+) -> Option<&'a Dependency>
+    ensures { option_map (λ d. dependency_view d.now) result ≡ dependency_at (problem known.now) (owner_ref_view owner.now) number }
+{
+    dependencies_of(known, owner).get(number)
+}
+
+/// The entries of a feature of a version.
+pub fn entries_of<'a>(
+    known: &Known<'a>,
+    name: &PackageName,
+    version: &Version,
+    feature: &FeatureName,
+) -> &'a [Entry]
+    ensures { entry_views result.now ≡ entries_of (problem known.now) name.now (parts_of version.now) feature.now }
+{
+    match brings(known, &OwnerRef::Version(name, version)) {
+        Some(owner) => owner.features.entries(feature),
+        None => &[],
+    }
+}

@@ -1,0 +1,3 @@
+pub mod Searching
+pub mod SetLaws
+pub mod Alone

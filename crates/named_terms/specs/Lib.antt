@@ -1,0 +1,3 @@
+pub mod CauseViews
+pub mod Sets
+pub mod Views
