@@ -18,9 +18,9 @@ use Rattle.catalogue.specs.Stores.{CatalogueView, candidates_at}
 use Rattle.classes.specs.Classes.{class_view}
 use Rattle.classes.specs.Groups.{Group, IsOldestFirst, classes_matched, group_views, groups_of, positions_matched}
 use Rattle.classes.specs.declared.class.Class.{Class}
-use Rattle.encoding.specs.Ranges.{AreRising}
+use Rattle.looking_up.specs.Ranges.{AreRising}
 use Rattle.encoding.proofs.ClassOrder.{matched_classes}
-use Rattle.encoding.proofs.Classed.{versions_are}
+use Rattle.looking_up.proofs.Classed.{versions_are}
 use Rattle.encoding.proofs.Distinct.{of_rows, pairs_map}
 
 older : (v w : Version) → precedence_cmp v w ≡ Less → is_gt (precedence (parts_of v) (parts_of w)) ≡ Rattle.std.specs.Prelude.false

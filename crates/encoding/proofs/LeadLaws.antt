@@ -16,8 +16,8 @@ use Rattle.catalogue.specs.Problems.{problem_in}
 use Rattle.catalogue.specs.Stores.{CatalogueView, candidates_at}
 use Rattle.refutations.specs.Causes.{Cause, has_class, of_list}
 use Rattle.encoding.specs.CausesAt.{listed_by}
-use Rattle.encoding.specs.Ranges.{is_of}
-use Rattle.encoding.proofs.Classed.{classed_are}
+use Rattle.looking_up.specs.Ranges.{is_of}
+use Rattle.looking_up.proofs.Classed.{classed_are}
 
 -- ---- what the entries of the root ask a dependency for
 

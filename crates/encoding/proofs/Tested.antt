@@ -20,10 +20,10 @@ use Rattle.classes.specs.Classes.{class_view}
 use Rattle.classes.specs.declared.class.Class as code
 use Rattle.refutations.specs.Listed.{classes_at, classes_if}
 use Rattle.encoding.specs.Numberings.{members_at}
-use Rattle.encoding.specs.Parts.{is_chosen, is_class, is_lacking, is_left, is_taken, versions_with}
-use Rattle.encoding.specs.Ranges.{is_of}
+use Rattle.encoding.specs.Parts.{is_chosen, is_class, is_lacking, is_left, is_taken}
+use Rattle.looking_up.specs.Ranges.{is_of, versions_with}
 use Rattle.encoding.proofs.ClassOrder.{IsOlder}
-use Rattle.encoding.proofs.Classed.{classed_are, named, with_classed}
+use Rattle.looking_up.proofs.Classed.{classed_are, named, with_classed}
 use Rattle.encoding.proofs.Distinct.{of_rows, older_differ}
 
 module _ {X Y Z : Type 0} where

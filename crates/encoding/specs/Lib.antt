@@ -5,7 +5,6 @@ pub mod Numbered
 pub mod Absences
 pub mod Finals
 pub mod Inputs
-pub mod Ranges
 pub mod Parts
 pub mod CauseViews
 pub mod CausesAt

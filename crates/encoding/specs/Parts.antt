@@ -1,13 +1,13 @@
 -- Terms of an instance as vertices and tests of their spaces: which of the vertex's states, in their order, the term
 -- has.
-use Rattle.std.specs.Prelude.{◌≡◌, ◌≤◌, ℕ, List, [], ◌∷◌, Bool, not, map, filter, length, Some, slice_get}
+use Rattle.std.specs.Prelude.{◌≡◌, ◌≤◌, ℕ, List, [], ◌∷◌, Bool, not, map, length, Some, slice_get}
 use Rattle.terms.specs.Terms.{TermView}
 use Rattle.semver.specs.Parse.{Held, Parts}
 use Rattle.semver.specs.EvalViews.{matches_views}
 use Rattle.model.specs.Summary.{has_feature}
 use Rattle.model.specs.Content.{Problem, same_version}
 use Rattle.model.specs.Selection.{Class}
-use Rattle.model.specs.Vertices.{Vertex, State, version, version_of, same_class, owner_brings}
+use Rattle.model.specs.Vertices.{Vertex, version_of, same_class, owner_brings}
 use Rattle.model.specs.Axioms.{Term, IsVertex}
 use Rattle.version_sets.specs.Sets.{Members}
 use Rattle.encoding.specs.Numberings.{Numbering, members_at}
@@ -50,10 +50,6 @@ is_lacking q name f v = not (has_feature (owner_brings q (version_of name v)).fe
 -- it is this class
 unfoldable pub is_class : Class → Class → Bool
 is_class k m = same_class m k
-
--- the states of the versions that pass
-abbrev pub versions_with : (Parts → Bool) → List Parts → List State
-versions_with test vs = map version (filter test vs)
 
 -- ---- terms over numbers
 

@@ -1,4 +1,4 @@
-//! What owners bring, looked up in the manifest and in the loaded index.
+//! What owners bring, looked up for the inputs.
 
 ghost use Rattle.std.specs.Prelude.{◌≡◌, option_map};
 ghost use Rattle.semver.specs.Identifiers.{parts_of};
@@ -6,7 +6,8 @@ ghost use Rattle.features.specs.Views.{dependency_view, dependency_views};
 ghost use Rattle.features.specs.EntryViews.{entry_views};
 ghost use Rattle.model.specs.Vertices.{owner_brings};
 ghost use Rattle.refutations.specs.Causes.{dependency_at, entries_of};
-ghost use Rattle.encoding.specs.Inputs.{brings_view, problem};
+ghost use Rattle.looking_up.specs.Views.{brings_view};
+ghost use Rattle.encoding.specs.Inputs.{problem};
 ghost use Rattle.vertices.specs.RefViews.{owner_ref_view};
 
 use crate::inputs::Inputs;
@@ -18,23 +19,16 @@ use vertices::OwnerRef;
 pub(crate) fn brings<'a>(inputs: &Inputs<'a>, owner: &OwnerRef<'_>) -> Option<&'a Summary>
     ensures { brings_view result ≡ owner_brings (problem inputs.now) (owner_ref_view owner.now) }
 {
-    match owner {
-        OwnerRef::Root => Some(inputs.manifest.summary()),
-        OwnerRef::Version(name, version) => {
-            let candidate = inputs.catalogue.candidate(name, version)?;
-            Some(&candidate.brings)
-        }
-    }
+    let known = inputs.known();
+    looking_up::brings(&known, owner)
 }
 
 /// The dependencies of an owner.
 pub(crate) fn dependencies_of<'a>(inputs: &Inputs<'a>, owner: &OwnerRef<'_>) -> &'a [Dependency]
     ensures { dependency_views result.now ≡ (owner_brings (problem inputs.now) (owner_ref_view owner.now)).dependencies }
 {
-    match brings(inputs, owner) {
-        Some(owner) => owner.dependencies.as_slice(),
-        None => &[],
-    }
+    let known = inputs.known();
+    looking_up::dependencies_of(&known, owner)
 }
 
 /// The dependency of an owner that has this number.
@@ -45,7 +39,8 @@ pub fn dependency_at<'a>(
 ) -> Option<&'a Dependency>
     ensures { option_map (λ d. dependency_view d.now) result ≡ dependency_at (problem inputs.now) (owner_ref_view owner.now) number }
 {
-    dependencies_of(inputs, owner).get(number)
+    let known = inputs.known();
+    looking_up::dependency_at(&known, owner, number)
 }
 
 /// The entries of a feature of a version.
@@ -57,8 +52,6 @@ pub(crate) fn entries_of<'a>(
 ) -> &'a [Entry]
     ensures { entry_views result.now ≡ entries_of (problem inputs.now) name.now (parts_of version.now) feature.now }
 {
-    match brings(inputs, &OwnerRef::Version(name, version)) {
-        Some(owner) => owner.features.entries(feature),
-        None => &[],
-    }
+    let known = inputs.known();
+    looking_up::entries_of(&known, name, version, feature)
 }

@@ -20,8 +20,8 @@ use Rattle.model.proofs.Spaces.{state_from}
 use Rattle.manifest.specs.Manifests.{ManifestView}
 use Rattle.catalogue.specs.Problems.{problem_in}
 use Rattle.catalogue.specs.Stores.{CatalogueView, candidates_at}
-use Rattle.encoding.specs.Ranges.{AreRising, is_above, is_below, is_of}
-use Rattle.encoding.proofs.Pieces.{above_parted, parts_filtered}
+use Rattle.looking_up.specs.Ranges.{AreRising, is_above, is_below, is_of}
+use Rattle.looking_up.proofs.Pieces.{above_parted, parts_filtered}
 use Rattle.encoding.proofs.Stated.{versions_counted, versions_space}
 use Rattle.encoding.proofs.Tested.{states_here}
 use Rattle.following.specs.Found.{IsNumberOf}

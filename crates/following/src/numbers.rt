@@ -10,7 +10,7 @@ ghost use Rattle.model.specs.Content.{same_version};
 ghost use Rattle.model.specs.Vertices.{has_state, pkg, same_class, space};
 ghost use Rattle.model.specs.Vertices as model;
 ghost use Rattle.encoding.specs.Inputs.{problem};
-ghost use Rattle.encoding.specs.Ranges.{AreRising, is_below};
+ghost use Rattle.looking_up.specs.Ranges.{AreRising, is_below};
 ghost use Rattle.following.specs.Found.{IsNumberOf};
 
 use classes::Class;

@@ -2,8 +2,8 @@ use Rattle.std.proofs.Common.{rules}
 use Rattle.semver.specs.Identifiers.{parts_of}
 use Rattle.classes.specs.Classes.{class_view}
 use Rattle.std.proofs.lemmas.List.Sorted.{IsPartitionPoint-from_clause}
-use Rattle.encoding.specs.Ranges.{is_below}
-use Rattle.encoding.proofs.Pieces.{below_parted}
+use Rattle.looking_up.specs.Ranges.{is_below}
+use Rattle.looking_up.proofs.Pieces.{below_parted}
 use Rattle.following.proofs.numbers.below.Goals as goal
 
 pub returns-clause-place : goal.returns-clause-place
