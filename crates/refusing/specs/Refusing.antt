@@ -1,12 +1,14 @@
 -- What is asked of a store's entry, so that its step can be put at the end of a derivation, and its terms on the way.
-use Rattle.std.specs.Prelude.{◌≡◌, ℕ, suc, ◌<◌, ◌≤◌, Bool, true, false, List, [], ◌∷◌, if◌then◌else◌, length, map, Some, slice_get}
+use Rattle.std.specs.Prelude.{◌≡◌, ℕ, suc, ◌<◌, ◌≤◌, Bool, true, false, List, [], ◌∷◌, if◌then◌else◌, length, map, nat_eq, Some, Vec, slice_get}
+use Rattle.std.specs.HashMap.{get}
+use Rattle.std.specs.declared.alloc.Global.{Global}
 use Rattle.std.specs.List.{AllByRecursion}
 use Rattle.terms.specs.Terms.{TermView}
 use Rattle.incompatibilities.specs.Stores.{EntryView, IsAxiom, entry}
 use Rattle.incompatibilities.specs.declared.origin.Origin.{Origin}
 use Rattle.incompatibilities.specs.declared.origin.Origin.TheVariants.{Axiom, Combined}
 use Rattle.model.specs.Content.{Problem}
-use Rattle.model.specs.Vertices.{Vertex}
+use Rattle.model.specs.Vertices.{Vertex, space}
 use Rattle.model.specs.Axioms.{Term, at}
 use Rattle.model.specs.Derivation.{Step, given, combine}
 use Rattle.model.specs.Derivation as model
@@ -16,6 +18,8 @@ use Rattle.encoding.specs.Numberings.{Numbering}
 use Rattle.decoding.specs.Decoding.{IsOver, sizes}
 use Rattle.decoding.specs.Steps.{IsBy, IsEncoded}
 use Rattle.searching.specs.Counting.{combinations}
+use Rattle.vertices.specs.declared.state.StateRef.{StateRef}
+use Rattle.refusing.specs.declared.spaces.Spaces.{Spaces}
 use Rattle.refusing.specs.declared.speaking.Spoken.{Spoken}
 
 -- each axiom of a store is an instance of its kind
@@ -32,6 +36,10 @@ spoken_views ts = map spoken_view ts
 -- each set is of as many states as its vertex has
 abbrev pub AreSized : Problem → Numbering → List TermView → Type 0
 AreSized q vs ts = AllByRecursion (λ t. length t.states ≡ sizes q vs t.vertex) ts
+
+-- the states that are listed for a number are those of the vertex that has it
+abbrev pub AreListed : Problem → Numbering → Spaces → Type 0
+AreListed q vs spaces = (n : ℕ) (ss : Vec StateRef Global) → get nat_eq spaces.listed n ≡ Some ss → (v : Vertex) → slice_get vs n ≡ Some v → state_ref_views ss.items ≡ space q v
 
 -- each vertex is what its own text reads as
 abbrev pub AreReadVertices : Numbering → Type 0

@@ -3,6 +3,7 @@
 
 mod laws;
 mod refuting;
+mod spaces;
 mod speaking;
 mod stepping;
 

@@ -11,6 +11,7 @@ ghost use Rattle.decoding.specs.Steps.{AreStepsOf, IsNeeded};
 ghost use Rattle.searching.specs.Searching.{AreTouching};
 ghost use Rattle.refusing.specs.Refusing.{AreInstances, HasNoMore};
 
+use crate::spaces::Spaces;
 use crate::stepping::push_step;
 use catalogue::catalogues_are_well_formed;
 use decoding::{Kept, needed};
@@ -36,9 +37,19 @@ fn steps_of<'a, S: States + Drop>(
     ensures { IfOk result (λ d. AreStepsOf (problem inputs.now) table.now (entries_view S.tests store.now) (place_in kept.now.places.items) kept.now.ids.items d) }
 {
     catalogues_are_well_formed(inputs.manifest, inputs.catalogue);
+    let mut spaces = Spaces::new(alloc);
     let mut steps = Derivation::new(alloc);
     'entries: for id in kept.ids.iter() {
-        push_step(alloc, inputs, table, store, &kept.places, &mut steps, *id)?;
+        push_step(
+            alloc,
+            inputs,
+            table,
+            store,
+            &kept.places,
+            &mut spaces,
+            &mut steps,
+            *id,
+        )?;
     }
     Ok(steps)
 }

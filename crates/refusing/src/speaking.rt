@@ -1,18 +1,18 @@
 //! The terms of an incompatibility over numbers, as vertices with their states.
 
-ghost use Rattle.std.specs.Prelude.{◌≡◌, ◌++◌, [], IfOk, OnOk, length, slice_get};
+ghost use Rattle.std.specs.Prelude.{◌≡◌, ◌++◌, [], IfOk, OnOk, Some, length, slice_get};
 ghost use Rattle.terms.specs.Terms.{terms_view};
 ghost use Rattle.model.specs.Axioms.{at};
 ghost use Rattle.model.specs.Vertices.{space};
-ghost use Rattle.vertices.specs.RefViews.{state_ref_views, vertex_ref_view};
+ghost use Rattle.vertices.specs.RefViews.{vertex_ref_view};
 ghost use Rattle.derivations.specs.Building.{term_ref_views};
 ghost use Rattle.encoding.specs.Inputs.{problem};
 ghost use Rattle.decoding.specs.Decoding.{sizes, states_in, terms_of, with_term};
-ghost use Rattle.refusing.specs.Refusing.{AreSized, spoken_view, spoken_views};
+ghost use Rattle.refusing.specs.Refusing.{AreListed, AreSized, spoken_view, spoken_views};
 
-use decoding::chosen;
+use crate::spaces::Spaces;
 use derivations::TermRef;
-use encoding::{Inputs, Table, space_of, state_at};
+use encoding::{Inputs, Table};
 use std::alloc::{AllocError, Global};
 use terms::Term;
 use version_sets::States;
@@ -25,35 +25,23 @@ pub(crate) struct Spoken<'a> {
     pub states: Vec<StateRef<'a>>,
 }
 
-/// The states of a vertex, in their order.
-fn states_of<'a>(
-    alloc: Global,
-    inputs: &Inputs<'a>,
-    vertex: &VertexRef<'a>,
-) -> Result<Vec<StateRef<'a>>, AllocError>
-    ensures { IfOk result (λ v. state_ref_views v.items ≡ space (problem inputs.now) (vertex_ref_view vertex.now)) }
-{
-    let count = space_of(alloc, inputs, vertex)?;
-    let mut states = Vec::with_capacity(alloc, count)?;
-    'numbers: for number in 0..count {
-        let state = state_at(alloc, inputs, vertex, number)?;
-        states.push(state)?;
-    }
-    Ok(states)
-}
-
 /// A vertex with those of its states that a set has.
 fn speak<'a, S: States + Drop>(
     alloc: Global,
     inputs: &Inputs<'a>,
+    table: &Table<'a>,
+    spaces: &mut Spaces<'a>,
+    number: usize,
     vertex: VertexRef<'a>,
     set: &S,
 ) -> Result<Spoken<'a>, AllocError>
-    requires { length (S.tests set.now) ≡ length (space (problem inputs.now) (vertex_ref_view vertex)) }
-    ensures { IfOk result (λ t. spoken_view t ≡ at (vertex_ref_view vertex.entry) (states_in (space (problem inputs.now) (vertex_ref_view vertex.entry)) (S.tests set.now))) }
+    requires listed { AreListed (problem inputs.now) table.now spaces.old }
+    requires there { slice_get table.now number ≡ Some (vertex_ref_view vertex) }
+    requires sized { length (S.tests set.now) ≡ length (space (problem inputs.now) (vertex_ref_view vertex)) }
+    ensures listed { AreListed (problem inputs.now) table.now spaces.new }
+    ensures spoken { IfOk result (λ t. spoken_view t ≡ at (vertex_ref_view vertex.entry) (states_in (space (problem inputs.now) (vertex_ref_view vertex.entry)) (S.tests set.now))) }
 {
-    let all = states_of(alloc, inputs, &vertex)?;
-    let states = chosen(alloc, &all, set)?;
+    let states = spaces.chosen(alloc, inputs, table, number, vertex, set)?;
     Ok(Spoken { vertex, states })
 }
 
@@ -62,15 +50,26 @@ fn push_spoken<'a, S: States + Drop>(
     alloc: Global,
     inputs: &Inputs<'a>,
     table: &Table<'a>,
+    spaces: &mut Spaces<'a>,
     made: &mut Vec<Spoken<'a>>,
     term: &Term<S>,
 ) -> Result<(), AllocError>
-    requires { length (S.tests term.now.states) ≡ sizes (problem inputs.now) table.now term.now.vertex }
-    ensures { OnOk result (spoken_views made.new.items ≡ spoken_views made.old.items ++ with_term (problem inputs.now) (slice_get table.now term.now.vertex) (S.tests term.now.states) []) }
+    requires listed { AreListed (problem inputs.now) table.now spaces.old }
+    requires sized { length (S.tests term.now.states) ≡ sizes (problem inputs.now) table.now term.now.vertex }
+    ensures listed { AreListed (problem inputs.now) table.now spaces.new }
+    ensures made { OnOk result (spoken_views made.new.items ≡ spoken_views made.old.items ++ with_term (problem inputs.now) (slice_get table.now term.now.vertex) (S.tests term.now.states) []) }
 {
     match table.vertex(term.vertex) {
         Some(vertex) => {
-            let one = speak(alloc, inputs, vertex, &term.states)?;
+            let one = speak(
+                alloc,
+                inputs,
+                table,
+                spaces,
+                term.vertex,
+                vertex,
+                &term.states,
+            )?;
             made.push(one)?;
             Ok(())
         }
@@ -83,14 +82,17 @@ pub(crate) fn spoken_terms<'a, S: States + Drop>(
     alloc: Global,
     inputs: &Inputs<'a>,
     table: &Table<'a>,
+    spaces: &mut Spaces<'a>,
     terms: &[Term<S>],
 ) -> Result<Vec<Spoken<'a>>, AllocError>
-    requires { AreSized (problem inputs.now) table.now (terms_view S.tests terms.now) }
-    ensures { IfOk result (λ v. spoken_views v.items ≡ terms_of (problem inputs.now) table.now (terms_view S.tests terms.now)) }
+    requires listed { AreListed (problem inputs.now) table.now spaces.old }
+    requires sized { AreSized (problem inputs.now) table.now (terms_view S.tests terms.now) }
+    ensures listed { AreListed (problem inputs.now) table.now spaces.new }
+    ensures terms { IfOk result (λ v. spoken_views v.items ≡ terms_of (problem inputs.now) table.now (terms_view S.tests terms.now)) }
 {
     let mut made = Vec::new(alloc);
     'terms: for term in terms.iter() {
-        push_spoken(alloc, inputs, table, &mut made, term)?;
+        push_spoken(alloc, inputs, table, spaces, &mut made, term)?;
     }
     Ok(made)
 }

@@ -10,8 +10,9 @@ ghost use Rattle.encoding.specs.Inputs.{problem};
 ghost use Rattle.encoding.specs.Numberings.{IsNumbering};
 ghost use Rattle.decoding.specs.Needs.{place_in};
 ghost use Rattle.decoding.specs.Steps.{IsStepOf, kind_at};
-ghost use Rattle.refusing.specs.Refusing.{AreReadVertices, AreThere, IsNext, IsStepWith};
+ghost use Rattle.refusing.specs.Refusing.{AreListed, AreReadVertices, AreThere, IsNext, IsStepWith};
 
+use crate::spaces::Spaces;
 use crate::speaking::{spoken_terms, term_refs};
 use catalogue::catalogues_are_well_formed;
 use derivations::{Derivation, TermRef};
@@ -88,16 +89,19 @@ pub(crate) fn push_step<'a, S: States + Drop>(
     table: &Table<'a>,
     store: &Store<S>,
     places: &[usize],
+    spaces: &mut Spaces<'a>,
     steps: &mut Derivation,
     id: Id,
 ) -> Result<(), AllocError>
+    requires listed { AreListed (problem inputs.now) table.now spaces.old }
     requires parts { HasValidParts (problem inputs.now) }
     requires numbering { IsNumbering (problem inputs.now) table.now }
     requires next { IsNext (problem inputs.now) table.now (entries_view S.tests store.now) (place_in places.now) (length steps.old) id }
-    ensures { OnOk result ((s : Step) × (steps.new ≡ steps.old ++ s ∷ []) × IsStepOf (problem inputs.now) table.now (place_in places.now) (entry (entries_view S.tests store.now) id) s) }
+    ensures listed { AreListed (problem inputs.now) table.now spaces.new }
+    ensures step { OnOk result ((s : Step) × (steps.new ≡ steps.old ++ s ∷ []) × IsStepOf (problem inputs.now) table.now (place_in places.now) (entry (entries_view S.tests store.now) id) s) }
 {
     catalogues_are_well_formed(inputs.manifest, inputs.catalogue);
-    let terms = spoken_terms(alloc, inputs, table, store.get(id).terms())?;
+    let terms = spoken_terms(alloc, inputs, table, spaces, store.get(id).terms())?;
     let refs = term_refs(alloc, terms.as_slice())?;
     push_by(
         alloc,

@@ -16,18 +16,23 @@ push_step-requires-clause-next g c =
     let read = subst (λ (l : List ℕ). IsRead l c.entries.id-index c.id-item.result) c.deref-id-items.ensures.value (c.entries-test.true, c.id-item.is) in
     subst (λ (ps : List ℕ). IsNext q c.args.table.now es (place_in ps) (length c.entries.steps) c.id-item.result) (sym c.deref.ensures.value)
     (next_at q c.args.table.now es (place_in c.args.kept.now.places.items) c.catalogues_are_well_formed.ensures c.requires.numbering c.requires.axioms c.requires.touching
-    c.requires.needed.0 c.requires.needed.1 ids c.requires.needed.2 c.entries.id-index c.id-item.result c.entries.steps read c.entries.invariant)
+    c.requires.needed.0 c.requires.needed.1 ids c.requires.needed.2 c.entries.id-index c.id-item.result c.entries.steps read c.entries.invariant.1)
 
 pub entries-preserved : goal.entries-preserved
 entries-preserved g c =
     let q = problem c.args.inputs.now in
     let es = entries_view g.S.States.tests c.args.store.now in
-    let read = subst (λ (l : List ℕ). IsRead l c.entries.id-index c.id-item.result) c.deref-id-items.ensures.value (c.entries-test.true, c.id-item.is) in
-    more_at q c.args.table.now es (place_in c.args.kept.now.places.items) c.args.kept.now.ids.items c.entries.id-index c.id-item.result c.entries.steps c.push_step.new.steps read c.entries.invariant
-    (subst (λ (ps : List ℕ). (s : Step) × (c.push_step.new.steps ≡ c.entries.steps ++ s ∷ []) × IsStepOf q c.args.table.now (place_in ps) (entry es c.id-item.result) s) c.deref.ensures.value c.in_ok-push_step.ensures)
+    let read = subst (λ (l : List ℕ). IsRead l c.entries.id-index c.id-item.result) c.deref-id-items.ensures.value (c.entries-test.true, c.id-item.is) in (
+      c.push_step.ensures.listed,
+      more_at q c.args.table.now es (place_in c.args.kept.now.places.items) c.args.kept.now.ids.items c.entries.id-index c.id-item.result c.entries.steps c.push_step.new.steps read c.entries.invariant.1
+          (subst (λ (ps : List ℕ). (s : Step) × (c.push_step.new.steps ≡ c.entries.steps ++ s ∷ []) × IsStepOf q c.args.table.now (place_in ps) (entry es c.id-item.result) s) c.deref.ensures.value c.in_ok-push_step.ensures.step),
+    )
+
+pub push_step-requires-clause-listed : goal.push_step-requires-clause-listed
+push_step-requires-clause-listed g c = c.entries.invariant.0
 
 pub returns : goal.returns
 returns g c =
     let long = subst (λ (l : List ℕ). length l ≤ c.entries.id-index) c.deref-id-items.ensures.value (omega (arith, c.entries-test.false)) in
     all_at (problem c.args.inputs.now) c.args.table.now (entries_view g.S.States.tests c.args.store.now) (place_in c.args.kept.now.places.items) c.args.kept.now.ids.items c.entries.id-index c.entries.steps
-    long c.entries.invariant
+    long c.entries.invariant.1

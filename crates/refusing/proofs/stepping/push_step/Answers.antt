@@ -12,8 +12,8 @@ use Rattle.refusing.proofs.Sized.{over_sized}
 use Rattle.refusing.proofs.Stepped.{entry_new, stepped}
 use Rattle.refusing.proofs.stepping.push_step.Goals as goal
 
-pub spoken_terms-requires : goal.spoken_terms-requires
-spoken_terms-requires g c =
+pub spoken_terms-requires-clause-sized : goal.spoken_terms-requires-clause-sized
+spoken_terms-requires-clause-sized g c =
     let q = problem c.args.inputs.now in
     let e = entry (entries_view g.S.States.tests c.args.store.now) c.args.id in
     let same : terms_view g.S.States.tests c.terms.result.now ≡ e.terms = ap (terms_view g.S.States.tests) c.terms.ensures.terms ∙ c.get.ensures.value in
@@ -32,16 +32,16 @@ push_by-requires-clause-terms g c =
     let e = entry (entries_view g.S.States.tests c.args.store.now) c.args.id in
     let same : terms_view g.S.States.tests c.terms.result.now ≡ e.terms = ap (terms_view g.S.States.tests) c.terms.ensures.terms ∙ c.get.ensures.value in
     let is : term_ref_views c.as_slice-2.result.now ≡ terms_of q c.args.table.now e.terms
-    = ap term_ref_views c.as_slice-2.ensures.value ∙ c.in_ok-refs.ensures ∙ ap spoken_views c.as_slice.ensures.value ∙ c.in_ok-terms.ensures ∙ ap (terms_of q c.args.table.now) same in
+    = ap term_ref_views c.as_slice-2.ensures.value ∙ c.in_ok-refs.ensures ∙ ap spoken_views c.as_slice.ensures.value ∙ c.in_ok-terms.ensures.terms ∙ ap (terms_of q c.args.table.now) same in
     entry_new q c.args.table.now c.requires.numbering e c.requires.next.over (term_ref_views c.as_slice-2.result.now) is c.requires.parts c.catalogues_are_well_formed.ensures
 
-pub returns : goal.returns
-returns g c =
+pub returns-clause-step : goal.returns-clause-step
+returns-clause-step g c =
     let q = problem c.args.inputs.now in
     let e = entry (entries_view g.S.States.tests c.args.store.now) c.args.id in
     let same : terms_view g.S.States.tests c.terms.result.now ≡ e.terms = ap (terms_view g.S.States.tests) c.terms.ensures.terms ∙ c.get.ensures.value in
     let is : term_ref_views c.as_slice-2.result.now ≡ terms_of q c.args.table.now e.terms
-    = ap term_ref_views c.as_slice-2.ensures.value ∙ c.in_ok-refs.ensures ∙ ap spoken_views c.as_slice.ensures.value ∙ c.in_ok-terms.ensures ∙ ap (terms_of q c.args.table.now) same in
+    = ap term_ref_views c.as_slice-2.ensures.value ∙ c.in_ok-refs.ensures ∙ ap spoken_views c.as_slice.ensures.value ∙ c.in_ok-terms.ensures.terms ∙ ap (terms_of q c.args.table.now) same in
     on_ok_weaker c.push_by.result
     (λ h. (
       h.0,

@@ -3,7 +3,7 @@ use Rattle.model.specs.Vertices.{space}
 use Rattle.vertices.specs.RefViews.{vertex_ref_view}
 use Rattle.encoding.specs.Inputs.{problem}
 use Rattle.refusing.proofs.Sized.{all_listed, listed_more}
-use Rattle.refusing.proofs.speaking.states_of.Goals as goal
+use Rattle.refusing.proofs.spaces.states_of.Goals as goal
 
 pub numbers-preserved : goal.numbers-preserved
 numbers-preserved c =
