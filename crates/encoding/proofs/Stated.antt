@@ -42,7 +42,7 @@ pub versions_space : (m : ManifestView) (c : CatalogueView) (name : List ℕ) (k
     → unwrap_or (slice_get (absent ∷ map (λ v. version (parts_of v)) vs) n) absent ≡ state_at (problem_in m c) (pkg name k) n
 versions_space m c name k vs n is = ap (λ ss. unwrap_or (slice_get (absent ∷ ss) n) absent) (sym (map_map version parts_of vs) ∙ sym (states_here m c name k vs is))
 
-classes_space : (q : Problem) (o : Owner) (i : ℕ) → absent ∷ map in_class (classes_at q o i) ≡ space q (dep o i)
+pub classes_space : (q : Problem) (o : Owner) (i : ℕ) → absent ∷ map in_class (classes_at q o i) ≡ space q (dep o i)
 classes_space q o i = by (dependency_at q o i)
   where
     by : (d : Option Dependency) → absent ∷ map in_class (classes_if q d) ≡ dep_space q d

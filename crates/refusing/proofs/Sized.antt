@@ -1,20 +1,17 @@
 -- The sets of an incompatibility are of as many states as their vertices have, and its terms one by one.
 use Rattle.std.proofs.Common.{◌≡◌, ℕ, zero, suc, ◌+◌, ◌<◌, ◌≤◌, ◌==◌, List, [], ◌∷◌, ◌++◌, map, length, take, drop, get_or, append_assoc, append-nil, Bool, true, false, cond, Option, Some, None, slice_get, refl, sym, ap, ap₂, ◌∙◌, subst, arith}
-use Rattle.std.specs.Prelude.{unwrap_or}
 use Rattle.std.specs.List.{AllByRecursion}
 use Rattle.std.proofs.Math.Seq.{drop-cons, take-suc}
 use Rattle.std.proofs.lemmas.Bool.{eq-eqb, eqb-true, false_from_ne_true}
 use Rattle.std.proofs.lemmas.List.{drop_all, get_or-map, length-map, map-append, take_all}
-use Rattle.std.proofs.lemmas.Option.{none-some, unwrap_or-slice_get}
+use Rattle.std.proofs.lemmas.Option.{none-some}
 use Rattle.version_sets.specs.Sets.{Members}
 use Rattle.terms.specs.Terms.{TermView, term_view, terms_view}
 use Rattle.terms.specs.declared.term.Term as numbered
 use Rattle.incompatibilities.specs.Incompatibilities.{AllPast, IsRising, LiesIn, states_at}
 use Rattle.model.specs.Content.{Problem}
-use Rattle.model.specs.Vertices.{State, Vertex, absent}
+use Rattle.model.specs.Vertices.{Vertex}
 use Rattle.model.specs.Axioms.{Term}
-use Rattle.vertices.specs.RefViews.{state_ref_view, state_ref_views}
-use Rattle.vertices.specs.declared.state.StateRef.{StateRef}
 use Rattle.encoding.specs.Numberings.{Numbering}
 use Rattle.decoding.specs.Decoding.{IsOver, sizes, states_in, terms_of, with_term}
 use Rattle.derivations.specs.Building.{term_ref_view, term_ref_views}
@@ -50,14 +47,7 @@ sized f (t ∷ ts) rising lies = (lies_first f t ts lies, sized f ts rising.1 (l
 pub over_sized : (q : Problem) (vs : Numbering) (ts : List TermView) → IsOver q vs ts → AreSized q vs ts
 over_sized q vs ts over = sized (sizes q vs) ts over.is.rising over.lies
 
--- ---- the states of a vertex, one more
-
-pub states_more : (xs : List State) (i : ℕ) (made new : List StateRef) (s : StateRef) → i < length xs → state_ref_views made ≡ take i xs → state_ref_view s ≡ unwrap_or (slice_get xs i) absent
-    → new ≡ made ++ s ∷ [] → state_ref_views new ≡ take (i + 1) xs
-states_more xs i made new s lt now is new_is =
-    let next : suc i ≡ i + 1 = omega arith in
-    ap state_ref_views new_is ∙ map-append state_ref_view made (s ∷ []) ∙ ap (λ l. l ++ state_ref_view s ∷ []) now
-    ∙ ap (λ x. take i xs ++ x ∷ []) (is ∙ unwrap_or-slice_get xs i absent) ∙ sym (take-suc xs i absent lt) ∙ ap (λ n. take n xs) next
+-- ---- states that are chosen
 
 -- values that are chosen, seen through a view
 pub map_chosen : {X Y : Type 0} (f : X → Y) (xs : List X) (m : Members) → map f (states_in xs m) ≡ states_in (map f xs) m
@@ -76,16 +66,6 @@ term_more q vs t ts = by (slice_get vs t.vertex)
     by (Some v) = refl
 
 -- ---- what loops keep
-
-abbrev pub IsListing : List State → ℕ → List StateRef → Type 0
-IsListing xs i made = state_ref_views made ≡ take i xs
-
-pub listed_more : (xs : List State) (i : ℕ) (made new : List StateRef) (s : StateRef) → i < length xs → IsListing xs i made → state_ref_view s ≡ unwrap_or (slice_get xs i) absent
-    → new ≡ made ++ s ∷ [] → IsListing xs (i + 1) new
-listed_more xs i made new s lt now is new_is = states_more xs i made new s lt now is new_is
-
-pub all_listed : (xs : List State) (i : ℕ) (made : List StateRef) → length xs ≤ i → IsListing xs i made → state_ref_views made ≡ xs
-all_listed xs i made past now = now ∙ take_all i xs past
 
 abbrev pub IsSpeaking : Problem → Numbering → List TermView → ℕ → List Term → Type 0
 IsSpeaking q vs all i made = made ++ terms_of q vs (drop i all) ≡ terms_of q vs all

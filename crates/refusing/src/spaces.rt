@@ -10,7 +10,7 @@ ghost use Rattle.decoding.specs.Decoding.{states_in};
 ghost use Rattle.refusing.specs.Refusing.{AreListed};
 
 use decoding::chosen;
-use encoding::{Inputs, Table, space_of, state_at};
+use encoding::{Inputs, Table, states_of};
 use std::alloc::{AllocError, Global};
 use std::collections::HashMap;
 use version_sets::States;
@@ -57,21 +57,4 @@ impl<'a> Spaces<'a> {
         self.listed.insert(number, all)?;
         Ok(states)
     }
-}
-
-/// The states of a vertex, in their order.
-fn states_of<'a>(
-    alloc: Global,
-    inputs: &Inputs<'a>,
-    vertex: &VertexRef<'a>,
-) -> Result<Vec<StateRef<'a>>, AllocError>
-    ensures { IfOk result (λ v. state_ref_views v.items ≡ space (problem inputs.now) (vertex_ref_view vertex.now)) }
-{
-    let count = space_of(alloc, inputs, vertex)?;
-    let mut states = Vec::with_capacity(alloc, count)?;
-    'numbers: for number in 0..count {
-        let state = state_at(alloc, inputs, vertex, number)?;
-        states.push(state)?;
-    }
-    Ok(states)
 }
