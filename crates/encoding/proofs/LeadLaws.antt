@@ -1,23 +1,14 @@
 -- The instances of a dependency that leads to a class, as they are put one after another.
-use Rattle.std.proofs.Common.{◌≡◌, ℕ, List, [], ◌∷◌, ◌++◌, map, filter, Bool, true, false, cond, ◌||◌, refl, sym, ap, ap₂, ◌∙◌}
+use Rattle.std.proofs.Common.{◌≡◌, ℕ, List, [], ◌∷◌, ◌++◌, map, Bool, true, false, cond, refl, sym, ap, ap₂, ◌∙◌}
 use Rattle.std.specs.Prelude.{codes}
-use Rattle.std.specs.List.{flat_map, list_any}
+use Rattle.std.specs.List.{flat_map}
 use Rattle.std.proofs.lemmas.List.{append_assoc, map-append}
-use Rattle.semver.specs.EvalViews.{matches_views}
-use Rattle.semver.specs.Identifiers.{parts_of}
-use Rattle.semver.specs.Parse.{Parts}
-use Rattle.semver.specs.declared.Version.{Version}
-use Rattle.model.specs.Content.{Candidate}
 use Rattle.model.specs.Selection.{Class}
 use Rattle.model.specs.Summary.{Dependency, Entry, feature, dependency, dependency_feature, weak_feature, Table, asked_of_target, same_text}
-use Rattle.model.specs.Vertices.{Owner, class_candidates}
-use Rattle.manifest.specs.Manifests.{ManifestView, asked_by, root_asks}
-use Rattle.catalogue.specs.Problems.{problem_in}
-use Rattle.catalogue.specs.Stores.{CatalogueView, candidates_at}
-use Rattle.refutations.specs.Causes.{Cause, has_class, of_list}
+use Rattle.model.specs.Vertices.{Owner}
+use Rattle.manifest.specs.Manifests.{asked_by, root_asks}
+use Rattle.refutations.specs.Causes.{Cause, of_list}
 use Rattle.encoding.specs.CausesAt.{listed_by}
-use Rattle.looking_up.specs.Ranges.{is_of}
-use Rattle.looking_up.proofs.Classed.{classed_are}
 
 -- ---- what the entries of the root ask a dependency for
 
@@ -55,22 +46,6 @@ module _ (o : Owner) (i : ℕ) (k : Class) (d : Dependency) where
   pub rows_ask : (rows : Table) → those (root_asks rows) ≡ flat_map (λ row. flat_map (listed_by o i k d) row.1) rows
   rows_ask [] = refl
   rows_ask (row ∷ rows) = those_append (flat_map asked_by row.1) (root_asks rows) ∙ ap₂ (λ a b. a ++ b) (entries_ask row.1) (rows_ask rows)
-
--- ---- whether a version of a class is matched
-
-any_candidate : (t : Parts → Bool) (es : List Candidate) → list_any t (map (λ (e : Candidate). e.version) es) ≡ list_any (λ (e : Candidate). t e.version) es
-any_candidate t [] = refl
-any_candidate t (e ∷ es) = ap (λ b. t e.version || b) (any_candidate t es)
-
-any_version : (t : Parts → Bool) (vs : List Version) → list_any (λ v. t (parts_of v)) vs ≡ list_any t (map parts_of vs)
-any_version t [] = refl
-any_version t (v ∷ vs) = ap (λ b. t (parts_of v) || b) (any_version t vs)
-
-pub class_matched : (m : ManifestView) (c : CatalogueView) (d : Dependency) (k : Class) (vs : List Version) → map parts_of vs ≡ filter (is_of k) (map (λ r. r.version) (candidates_at c d.real_name))
-    → list_any (λ v. matches_views d.requirement (parts_of v)) vs ≡ has_class (problem_in m c) k d
-class_matched m c d k vs is =
-    any_version (matches_views d.requirement) vs ∙ ap (list_any (matches_views d.requirement)) (is ∙ classed_are m c d.real_name k)
-    ∙ any_candidate (matches_views d.requirement) (class_candidates (problem_in m c) d.real_name k)
 
 -- ---- the features of a dependency's own list
 

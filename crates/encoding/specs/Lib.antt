@@ -8,3 +8,4 @@ pub mod Inputs
 pub mod Parts
 pub mod CauseViews
 pub mod CausesAt
+pub mod Higher

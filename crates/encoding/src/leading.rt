@@ -1,30 +1,26 @@
 //! The causes of the instances that are added once a dependency leads to a class.
 
-ghost use Rattle.std.specs.Prelude.{◌≡◌, ◌++◌, ◌∷◌, [], ◌&&◌, List, Some, OnOk, map, codes, if◌then◌else◌};
+ghost use Rattle.std.specs.Prelude.{◌≡◌, ◌++◌, ◌∷◌, [], List, Some, IfOk, OnOk, map, codes, if◌then◌else◌};
 ghost use Rattle.std.specs.List.{flat_map, list_any};
-ghost use Rattle.semver.specs.EvalViews.{matches_views};
-ghost use Rattle.semver.specs.Identifiers.{parts_of};
 ghost use Rattle.classes.specs.Classes.{class_view};
 ghost use Rattle.features.specs.EntryViews.{entry_view, entry_views};
-ghost use Rattle.features.specs.Views.{dependency_view, dependency_views, requirement_view};
-ghost use Rattle.model.specs.Axioms.{is_lower};
+ghost use Rattle.features.specs.Views.{dependency_view, dependency_views};
 ghost use Rattle.model.specs.Summary.{asked_of_target, same_text};
-ghost use Rattle.model.specs.Vertices.{dep_classes};
-ghost use Rattle.refutations.specs.Causes.{dependency_at, has_class, of_list};
+ghost use Rattle.model.specs.Vertices.{dep_classes, same_class};
+ghost use Rattle.refutations.specs.Causes.{dependency_at, of_list};
 ghost use Rattle.encoding.specs.CauseViews.{cause_views};
-ghost use Rattle.encoding.specs.CausesAt.{each_from, lead_causes, listed_by, newest_at, newest_if, root_asked};
+ghost use Rattle.encoding.specs.CausesAt.{each_from, lead_causes, listed_by, newest_if, root_asked};
+ghost use Rattle.encoding.specs.Higher.{Adds, AreAbove, AreHigher, newest_among, newest_in};
 ghost use Rattle.encoding.specs.Inputs.{KnowsDefault, problem};
 ghost use Rattle.vertices.specs.RefViews.{owner_ref_view};
 
 use crate::cause::Cause;
 use crate::inputs::Inputs;
 use crate::lookups::{dependencies_of, dependency_at};
-use crate::ranges::class_versions;
 use crate::spaces::classes_of;
-use crate::tests::is_matched;
 use classes::Class;
 use features::{Dependency, Entry, FeatureName, FeatureTable, PackageName};
-use semver::{Version, VersionReq};
+use indexmap::IndexSet;
 use std::alloc::{AllocError, Global};
 use vertices::OwnerRef;
 
@@ -205,7 +201,8 @@ fn put_root_asked<'a>(
     Ok(())
 }
 
-/// The dependencies of the same package that may lead to a higher class.
+/// The dependencies of the same package that may lead to a higher class, to which this one may lead too. Where this one
+/// leads to its highest class there are none, and no other dependency is looked at.
 fn put_newest<'a>(
     alloc: Global,
     inputs: &Inputs<'a>,
@@ -216,8 +213,74 @@ fn put_newest<'a>(
 ) -> Result<(), AllocError>
     ensures { OnOk result (cause_views causes.new.items ≡ cause_views causes.old.items ++ each_from (newest_if (problem inputs.now) (owner_ref_view lead.entry.owner) lead.entry.number (class_view lead.entry.class) (dependency_view dependency.now)) 0 (dependency_views others.now)) }
 {
+    let higher = higher_classes(alloc, inputs, lead.class, dependency)?;
+    if higher.is_empty() {
+        return Ok(());
+    }
+    put_others(
+        alloc,
+        inputs,
+        causes,
+        lead,
+        &dependency.real_name,
+        &higher,
+        others,
+    )
+}
+
+/// The higher classes to which a dependency may lead.
+fn higher_classes(
+    alloc: Global,
+    inputs: &Inputs<'_>,
+    class: Class,
+    dependency: &Dependency,
+) -> Result<IndexSet<Class>, AllocError>
+    ensures { IfOk result (λ s. AreHigher (problem inputs.now) (class_view class) (dependency_view dependency.now) (map class_view s.keys)) }
+{
+    let classes = classes_of(alloc, inputs, dependency)?;
+    those_above(alloc, class, classes.as_slice())
+}
+
+/// Those of the classes that are higher.
+fn those_above(
+    alloc: Global,
+    class: Class,
+    classes: &[Class],
+) -> Result<IndexSet<Class>, AllocError>
+    ensures { IfOk result (λ s. AreAbove (class_view class) (map class_view classes.now) (map class_view s.keys)) }
+{
+    let mut higher = IndexSet::new(alloc);
+    'classes: for other in classes.iter() {
+        put_above(&mut higher, class, *other)?;
+    }
+    Ok(higher)
+}
+
+#[tactic(auto, using(crate::proofs::HigherLaws::higher_put, crate::proofs::HigherLaws::lower_left))]
+fn put_above(higher: &mut IndexSet<Class>, class: Class, other: Class) -> Result<(), AllocError>
+    ensures { OnOk result (Adds (class_view class) (class_view other) (map class_view higher.old.keys) (map class_view higher.new.keys)) }
+{
+    if class.is_lower(other) {
+        higher.insert(other)?;
+    }
+    Ok(())
+}
+
+fn put_others<'a>(
+    alloc: Global,
+    inputs: &Inputs<'a>,
+    causes: &mut Vec<Cause<'a>>,
+    lead: Lead<'a>,
+    real_name: &PackageName,
+    higher: &IndexSet<Class>,
+    others: &[Dependency],
+) -> Result<(), AllocError>
+    ensures { OnOk result (cause_views causes.new.items ≡ cause_views causes.old.items ++ each_from (newest_among (problem inputs.now) (map class_view higher.now.keys) (owner_ref_view lead.entry.owner) lead.entry.number (class_view lead.entry.class) real_name.now) 0 (dependency_views others.now)) }
+{
     'others: for (number, other) in others.iter().enumerate() {
-        put_other(alloc, inputs, causes, lead, dependency, number, other)?;
+        put_other(
+            alloc, inputs, causes, lead, real_name, higher, number, other,
+        )?;
     }
     Ok(())
 }
@@ -227,16 +290,19 @@ fn put_other<'a>(
     inputs: &Inputs<'a>,
     causes: &mut Vec<Cause<'a>>,
     lead: Lead<'a>,
-    dependency: &Dependency,
+    real_name: &PackageName,
+    higher: &IndexSet<Class>,
     number: usize,
     other: &Dependency,
 ) -> Result<(), AllocError>
-    ensures { OnOk result (cause_views causes.new.items ≡ cause_views causes.old.items ++ newest_if (problem inputs.now) (owner_ref_view lead.entry.owner) lead.entry.number (class_view lead.entry.class) (dependency_view dependency.now) number (dependency_view other.now)) }
+    ensures { OnOk result (cause_views causes.new.items ≡ cause_views causes.old.items ++ newest_among (problem inputs.now) (map class_view higher.now.keys) (owner_ref_view lead.entry.owner) lead.entry.number (class_view lead.entry.class) real_name.now number (dependency_view other.now)) }
 {
     if lead.number == number {
         return Ok(());
     }
-    put_higher(alloc, inputs, causes, lead, dependency, number, other)
+    put_higher(
+        alloc, inputs, causes, lead, real_name, higher, number, other,
+    )
 }
 
 fn put_higher<'a>(
@@ -244,72 +310,53 @@ fn put_higher<'a>(
     inputs: &Inputs<'a>,
     causes: &mut Vec<Cause<'a>>,
     lead: Lead<'a>,
-    dependency: &Dependency,
+    real_name: &PackageName,
+    higher: &IndexSet<Class>,
     number: usize,
     other: &Dependency,
 ) -> Result<(), AllocError>
-    ensures { OnOk result (cause_views causes.new.items ≡ cause_views causes.old.items ++ (if same_text (dependency_view dependency.now).real_name (dependency_view other.now).real_name then flat_map (newest_at (problem inputs.now) (owner_ref_view lead.entry.owner) lead.entry.number number (class_view lead.entry.class) (dependency_view dependency.now)) (dep_classes (problem inputs.now) (dependency_view other.now)) else [])) }
+    ensures { OnOk result (cause_views causes.new.items ≡ cause_views causes.old.items ++ (if same_text real_name.now (dependency_view other.now).real_name then flat_map (newest_in (map class_view higher.now.keys) (owner_ref_view lead.entry.owner) lead.entry.number number (class_view lead.entry.class)) (dep_classes (problem inputs.now) (dependency_view other.now)) else [])) }
 {
-    if dependency.real_name != other.real_name {
+    if *real_name != other.real_name {
         return Ok(());
     }
     let classes = classes_of(alloc, inputs, other)?;
-    put_classes(inputs, causes, lead, dependency, number, classes.as_slice())
+    put_classes(causes, lead, higher, number, classes.as_slice())
 }
 
 fn put_classes<'a>(
-    inputs: &Inputs<'a>,
     causes: &mut Vec<Cause<'a>>,
     lead: Lead<'a>,
-    dependency: &Dependency,
+    higher: &IndexSet<Class>,
     number: usize,
     classes: &[Class],
 ) -> Result<(), AllocError>
-    ensures { OnOk result (cause_views causes.new.items ≡ cause_views causes.old.items ++ flat_map (newest_at (problem inputs.now) (owner_ref_view lead.entry.owner) lead.entry.number number (class_view lead.entry.class) (dependency_view dependency.now)) (map class_view classes.now)) }
+    ensures { OnOk result (cause_views causes.new.items ≡ cause_views causes.old.items ++ flat_map (newest_in (map class_view higher.now.keys) (owner_ref_view lead.entry.owner) lead.entry.number number (class_view lead.entry.class)) (map class_view classes.now)) }
 {
     'classes: for class in classes.iter() {
-        put_class(inputs, causes, lead, dependency, number, *class)?;
+        put_class(causes, lead, higher, number, *class)?;
     }
     Ok(())
 }
 
 fn put_class<'a>(
-    inputs: &Inputs<'a>,
     causes: &mut Vec<Cause<'a>>,
     lead: Lead<'a>,
-    dependency: &Dependency,
+    higher: &IndexSet<Class>,
     number: usize,
     class: Class,
 ) -> Result<(), AllocError>
-    ensures { OnOk result (cause_views causes.new.items ≡ cause_views causes.old.items ++ newest_at (problem inputs.now) (owner_ref_view lead.entry.owner) lead.entry.number number (class_view lead.entry.class) (dependency_view dependency.now) (class_view class)) }
+    ensures { OnOk result (cause_views causes.new.items ≡ cause_views causes.old.items ++ newest_in (map class_view higher.now.keys) (owner_ref_view lead.entry.owner) lead.entry.number number (class_view lead.entry.class) (class_view class)) }
 {
-    if is_higher(inputs, lead.class, dependency, class) {
+    if has(higher, class) {
         causes.push(Cause::Newest(lead.owner, lead.number, number, lead.class, class))?;
     }
     Ok(())
 }
 
-/// Whether a class is higher than that of the dependency, which may lead to it too.
-fn is_higher(inputs: &Inputs<'_>, class: Class, dependency: &Dependency, higher: Class) -> bool
-    ensures { result ≡ (is_lower (class_view class) (class_view higher) && has_class (problem inputs.now) (class_view higher) (dependency_view dependency.now)) }
+#[tactic(auto, using(crate::proofs::HigherLaws::any_class))]
+fn has(classes: &IndexSet<Class>, class: Class) -> bool
+    ensures { result ≡ list_any (same_class (class_view class)) (map class_view classes.now.keys) }
 {
-    class.is_lower(higher) && may_lead(inputs, dependency, higher)
-}
-
-/// Whether some candidate of the class is matched.
-fn may_lead(inputs: &Inputs<'_>, dependency: &Dependency, class: Class) -> bool
-    ensures { result ≡ has_class (problem inputs.now) (class_view class) (dependency_view dependency.now) }
-{
-    some_matched(
-        &dependency.requirement,
-        class_versions(inputs.catalogue, &dependency.real_name, class),
-    )
-}
-
-fn some_matched(requirement: &VersionReq, versions: &[Version]) -> bool
-    ensures { result ≡ list_any (λ v. matches_views (requirement_view requirement.now) (parts_of v)) versions.now }
-{
-    versions
-        .iter()
-        .any(|version| is_matched(requirement, version))
+    classes.contains(&class)
 }
