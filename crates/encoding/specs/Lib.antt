@@ -9,3 +9,4 @@ pub mod Parts
 pub mod CauseViews
 pub mod CausesAt
 pub mod Higher
+pub mod Called

@@ -1,6 +1,6 @@
 //! The causes whose instances are added for a vertex and one of its states.
 
-ghost use Rattle.std.specs.Prelude.{◌≡◌, ◌++◌, ◌∷◌, [], ◌&&◌, List, Some, None, OnOk, IfOk, map, if◌then◌else◌};
+ghost use Rattle.std.specs.Prelude.{◌≡◌, ◌++◌, ◌∷◌, [], ◌&&◌, List, Some, None, OnOk, IfOk, map, option_map, if◌then◌else◌};
 ghost use Rattle.std.specs.List.{flat_map, list_any};
 ghost use Rattle.semver.specs.Identifiers.{parts_of};
 ghost use Rattle.classes.specs.Classes.{class_view};
@@ -10,13 +10,15 @@ ghost use Rattle.model.specs.Selection.{class_of};
 ghost use Rattle.model.specs.Summary as model;
 ghost use Rattle.model.specs.Summary.{same_text};
 ghost use Rattle.model.specs.Vertices as model_vertices;
-ghost use Rattle.model.specs.Vertices.{feat, same_class, same_vertex};
+ghost use Rattle.model.specs.Vertices.{feat, owner_brings, same_class, same_vertex};
 ghost use Rattle.refutations.specs.Causes.{is_needed, of_asking, of_enabling, table_of_owner};
+ghost use Rattle.encoding.specs.Called.{AreOfVersion, called_in, named_by, numbered_views};
 ghost use Rattle.encoding.specs.CauseViews.{cause_views};
 ghost use Rattle.encoding.specs.CausesAt.{each_from, entry_causes, entry_if, feature_causes, need_if, turned_if, version_causes, weak_if, with_causes};
 ghost use Rattle.encoding.specs.Inputs.{problem};
 ghost use Rattle.vertices.specs.RefViews.{owner_ref_view};
 
+use crate::called::{ByName, Numbered, by_name};
 use crate::cause::{Cause, Enabling};
 use crate::inputs::Inputs;
 use crate::lookups::{brings, dependencies_of, entries_of};
@@ -80,12 +82,14 @@ pub(crate) fn put_feature<'a>(
     inputs: &Inputs<'a>,
     causes: &mut Vec<Cause<'a>>,
     own: Own<'a>,
+    called: &ByName<'a>,
     entries: &'a [Entry],
 ) -> Result<(), AllocError>
+    requires called { AreOfVersion (problem inputs.now) own.name.now (parts_of own.version.now) called.now }
     ensures { OnOk result (cause_views causes.new.items ≡ cause_views causes.old.items ++ flat_map (entry_causes (problem inputs.now) own.entry.name.now (parts_of own.entry.version.now) own.entry.feature.now) (entry_views entries.entry.now)) }
 {
     'entries: for entry in entries.iter() {
-        put_entry(alloc, inputs, causes, own, entry)?;
+        put_entry(alloc, inputs, causes, own, called, entry)?;
     }
     Ok(())
 }
@@ -95,19 +99,14 @@ fn put_entry<'a>(
     inputs: &Inputs<'a>,
     causes: &mut Vec<Cause<'a>>,
     own: Own<'a>,
+    called: &ByName<'a>,
     entry: &'a Entry,
 ) -> Result<(), AllocError>
+    requires called { AreOfVersion (problem inputs.now) own.name.now (parts_of own.version.now) called.now }
     ensures { OnOk result (cause_views causes.new.items ≡ cause_views causes.old.items ++ entry_causes (problem inputs.now) own.entry.name.now (parts_of own.entry.version.now) own.entry.feature.now (entry_view entry.entry.now)) }
 {
     put_turned(causes, own, entry)?;
-    put_each(
-        alloc,
-        inputs,
-        causes,
-        own,
-        entry,
-        dependencies_of(inputs, &OwnerRef::Version(own.name, own.version)),
-    )
+    put_each(alloc, inputs, causes, own, called, entry)
 }
 
 /// What an entry `g` of the feature gives.
@@ -141,19 +140,75 @@ fn put_off<'a>(
     Ok(())
 }
 
-/// What an entry of the feature gives with the dependencies that it names.
+/// What an entry of the feature gives with the dependencies that it names: no other one is looked at.
 fn put_each<'a>(
     alloc: Global,
     inputs: &Inputs<'a>,
     causes: &mut Vec<Cause<'a>>,
     own: Own<'a>,
+    called: &ByName<'a>,
     entry: &'a Entry,
-    dependencies: &[Dependency],
 ) -> Result<(), AllocError>
-    ensures { OnOk result (cause_views causes.new.items ≡ cause_views causes.old.items ++ each_from (entry_if (problem inputs.now) own.entry.name.now (parts_of own.entry.version.now) own.entry.feature.now (entry_view entry.entry.now)) 0 (dependency_views dependencies.now)) }
+    requires called { AreOfVersion (problem inputs.now) own.name.now (parts_of own.version.now) called.now }
+    ensures { OnOk result (cause_views causes.new.items ≡ cause_views causes.old.items ++ each_from (entry_if (problem inputs.now) own.entry.name.now (parts_of own.entry.version.now) own.entry.feature.now (entry_view entry.entry.now)) 0 (owner_brings (problem inputs.now) (model_vertices.version_of own.entry.name.now (parts_of own.entry.version.now))).dependencies) }
 {
-    'dependencies: for (number, dependency) in dependencies.iter().enumerate() {
-        put_on(alloc, inputs, causes, own, entry, number, dependency)?;
+    match name_of(entry) {
+        Some(name) => put_called(alloc, inputs, causes, own, called, entry, name.as_str()),
+        None => Ok(()),
+    }
+}
+
+/// The name by which an entry calls dependencies.
+fn name_of(entry: &Entry) -> Option<&PackageName>
+    ensures { option_map (λ name. name.now) result ≡ named_by (entry_view entry.entry.now) }
+{
+    match entry {
+        Entry::Feature(_) => None,
+        Entry::Dependency(called) => Some(called),
+        Entry::DependencyFeature(called, _) => Some(called),
+        Entry::WeakFeature(called, _) => Some(called),
+    }
+}
+
+/// What an entry of the feature gives with the dependencies called so.
+fn put_called<'a>(
+    alloc: Global,
+    inputs: &Inputs<'a>,
+    causes: &mut Vec<Cause<'a>>,
+    own: Own<'a>,
+    called: &ByName<'a>,
+    entry: &'a Entry,
+    name: &'a str,
+) -> Result<(), AllocError>
+    ensures { OnOk result (cause_views causes.new.items ≡ cause_views causes.old.items ++ flat_map (λ p. entry_if (problem inputs.now) own.entry.name.now (parts_of own.entry.version.now) own.entry.feature.now (entry_view entry.entry.now) p.0 p.1) (called_in called.now name.entry)) }
+{
+    match called.get(&name) {
+        Some(those) => put_those(alloc, inputs, causes, own, entry, those.as_slice()),
+        None => Ok(()),
+    }
+}
+
+/// What an entry of the feature gives with each of these dependencies.
+fn put_those<'a>(
+    alloc: Global,
+    inputs: &Inputs<'a>,
+    causes: &mut Vec<Cause<'a>>,
+    own: Own<'a>,
+    entry: &'a Entry,
+    those: &[Numbered<'a>],
+) -> Result<(), AllocError>
+    ensures { OnOk result (cause_views causes.new.items ≡ cause_views causes.old.items ++ flat_map (λ p. entry_if (problem inputs.now) own.entry.name.now (parts_of own.entry.version.now) own.entry.feature.now (entry_view entry.entry.now) p.0 p.1) (numbered_views those.now)) }
+{
+    'those: for one in those.iter() {
+        put_on(
+            alloc,
+            inputs,
+            causes,
+            own,
+            entry,
+            one.number,
+            one.dependency,
+        )?;
     }
     Ok(())
 }
@@ -329,7 +384,18 @@ fn put_features<'a>(
     ensures { OnOk result (cause_views causes.new.items ≡ cause_views causes.old.items ++ flat_map (λ row. feature_causes (problem inputs.now) name.entry.now (parts_of version.entry.now) row.0) (table_of_owner (problem inputs.now) (model_vertices.version_of name.entry.now (parts_of version.entry.now)))) }
 {
     match brings(inputs, &OwnerRef::Version(name, version)) {
-        Some(summary) => put_rows(alloc, inputs, causes, name, version, &summary.features),
+        Some(summary) => {
+            let called = by_name(alloc, summary.dependencies.as_slice())?;
+            put_rows(
+                alloc,
+                inputs,
+                causes,
+                name,
+                version,
+                &called,
+                &summary.features,
+            )
+        }
         None => Ok(()),
     }
 }
@@ -341,8 +407,10 @@ fn put_rows<'a>(
     causes: &mut Vec<Cause<'a>>,
     name: &'a PackageName,
     version: &'a Version,
+    called: &ByName<'a>,
     table: &'a FeatureTable,
 ) -> Result<(), AllocError>
+    requires called { AreOfVersion (problem inputs.now) name.now (parts_of version.now) called.now }
     ensures { OnOk result (cause_views causes.new.items ≡ cause_views causes.old.items ++ flat_map (λ row. feature_causes (problem inputs.now) name.entry.now (parts_of version.entry.now) row.0) table.entry.now) }
 {
     'rows: for (feature, _) in table.iter() {
@@ -356,6 +424,7 @@ fn put_rows<'a>(
             inputs,
             causes,
             own,
+            called,
             entries_of(inputs, name, version, feature),
         )?;
     }

@@ -2,6 +2,7 @@
 #![tactic(auto)]
 
 mod adding;
+mod called;
 mod cause;
 mod causes;
 mod inputs;
