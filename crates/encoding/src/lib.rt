@@ -13,7 +13,6 @@ mod lookups;
 mod making;
 mod pairing;
 mod parts;
-mod ranges;
 mod spaces;
 mod states;
 mod table;

@@ -8,10 +8,10 @@ ghost use Rattle.encoding.specs.Inputs.{problem};
 ghost use Rattle.vertices.specs.RefViews.{owner_ref_view, state_ref_views, vertex_ref_view};
 
 use crate::inputs::Inputs;
-use crate::ranges::class_versions;
 use crate::spaces::classes_at;
 use classes::Class;
 use features::PackageName;
+use looking_up::class_versions;
 use semver::Version;
 use std::alloc::{AllocError, Global};
 use vertices::{OwnerRef, StateRef, VertexRef};
