@@ -1,10 +1,12 @@
 -- The steps of a derivation are in order, and what is refused of them.
-use Rattle.std.proofs.Common.{◌≡◌, ℕ, suc, ◌+◌, List, [], ◌∷◌, length, Bool, true, false, Option, Some, None, slice_get, option_map, ◌-◌, ◌==◌, arith, refl, sym, ap, ◌∙◌, Less, Equal}
+use Rattle.std.proofs.Common.{◌≡◌, ℕ, suc, ◌+◌, List, [], ◌∷◌, ◌++◌, length, take, drop, get_or, min, Bool, true, false, cond, ◌<◌, Option, Some, None, slice_get, option_map, ◌-◌, ◌==◌, arith, refl, sym, ap, ◌∙◌, Less, Equal}
 use Rattle.std.specs.Borrow.{Bor}
 use Rattle.std.specs.List.{AllByRecursion}
 use Rattle.std.specs.List.Sorted.{IsStrictlySortedBy}
 use Rattle.std.specs.Slice.{IsItemAt}
+use Rattle.std.proofs.Math.Seq.{drop-cons}
 use Rattle.std.proofs.lemmas.Bool.{eqb-true}
+use Rattle.std.proofs.lemmas.List.{length-map, length-take}
 use Rattle.std.proofs.lemmas.Cmp.{nat_list_cmp_total, tied_itself}
 use Rattle.std.proofs.lemmas.Option.{none-some, same_Some, slice_get-map}
 use Rattle.model.specs.Axioms.{AreApart}
@@ -14,7 +16,7 @@ use Rattle.model.specs.Derivation as steps
 use Rattle.model.specs.Order.{text_cmp}
 use Rattle.model.specs.Vertices.{same_vertex}
 use Rattle.model.proofs.Same.{vertex-other}
-use Rattle.refutations.specs.Checks.{ArePlain, combines, is_step, is_none_left, end_if, end_refused}
+use Rattle.refutations.specs.Checks.{ArePlain, Refusal, combines, is_step, is_none_left, end_if, end_refused, first_refused, reason_of}
 use Rattle.refutations.specs.Terms.{is_combination}
 use Rattle.vertices.specs.Texts.{vertex_text}
 use Rattle.derivations.specs.Derivations.{IsTerm, AreTerms, AreStepsFrom, term_cmp}
@@ -59,6 +61,22 @@ combined_step q t earlier s a b first second v is e f =
     ∙ ap (λ o. combines q (vertex_at t v) o (Some (step_at t b)) terms) (sym (got_step t earlier first a e))
     ∙ ap (λ o. combines q (vertex_at t v) (slice_get (steps_at t earlier) first) o terms) (sym (got_step t earlier second b f))
     ∙ ap (λ c. is_step q (steps_at t earlier) (step_by_origin t c terms)) (sym is)
+
+-- the first step that isn't accepted after those before it
+pub refused_at : (q : Problem) (t : TablesView) (ss : List Step) (n : ℕ) (s : Step) (whole : Option Refusal) → n < length ss → s ≡ get_or ss n s → is_step q (steps_at t (take n ss)) (step_at t s) ≡ false
+    → first_refused q (steps_at t (take n ss)) (steps_at t (drop n ss)) ≡ whole → Some (n, reason_of (step_at t s)) ≡ whole
+refused_at q t ss n s whole lt item fails told =
+    let earlier = steps_at t (take n ss) in
+    let rest = steps_at t (drop (suc n) ss) in
+    let taken : length (take n ss) ≡ n = length-take n ss ∙ min_left n (length ss) lt in
+    let number : n ≡ length earlier = sym (length-map (take n ss) (step_at t) ∙ taken) in
+    let split : steps_at t (drop n ss) ≡ step_at t s ∷ rest = ap (steps_at t) (drop-cons ss n s lt) ∙ ap (λ x. step_at t x ∷ rest) (sym item) in
+    ap (λ k. Some (k, reason_of (step_at t s))) number
+    ∙ ap (λ b. cond b (first_refused q (earlier ++ step_at t s ∷ []) rest) (Some (length earlier, reason_of (step_at t s)))) (sym fails)
+    ∙ ap (first_refused q earlier) (sym split) ∙ told
+  where
+    min_left : (a b : ℕ) → a < b → min a b ≡ a
+    min_left a b lt = omega (arith, lt)
 
 -- a step that was lent is the one at its place
 pub lent : (xs : List Step) (i : ℕ) (r : Option (Bor Step)) (b : Bor Step) → IsItemAt xs i r → r ≡ Some b → slice_get xs i ≡ Some b.now

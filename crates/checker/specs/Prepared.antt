@@ -1,5 +1,5 @@
 -- What is made before the decision of a step (the layout is this project's).
-use Rattle.std.specs.Prelude.{◌≡◌, List, ⊤, ⊥}
+use Rattle.std.specs.Prelude.{◌≡◌, List, ⊤}
 use Rattle.model.specs.Content.{Problem}
 use Rattle.model.specs.Axioms.{Term}
 use Rattle.vertices.specs.Kinds.{kind_view}
