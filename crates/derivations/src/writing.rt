@@ -1,14 +1,12 @@
 //! Writing derivations.
 
-ghost use Rattle.std.specs.Prelude.{◌≡◌, ◌<◌, ◌≤◌, ◌++◌, Ok, length, IfOk, OnOk, codes, decimal, map, string_bytes};
-ghost use Rattle.derivations.specs.Files.{derivation_of_bytes, most_steps};
-ghost use Rattle.derivations.specs.Tables.{AreStatesOf, AreStepsOf, AreTermsOf, IsOriginOf, IsStepOf, IsTermOf, states_at, step_at, step_by_origin, steps_at, term_at, terms_at};
+ghost use Rattle.std.specs.Prelude.{◌≡◌, ◌≤◌, ◌++◌, List, Ok, length, IfOk, OnOk, codes, decimal, map, string_bytes};
 ghost use Rattle.model.specs.Axioms as axioms;
-ghost use Rattle.std.specs.Prelude.{List};
 ghost use Rattle.vertices.specs.Texts.{vertex_text};
 ghost use Rattle.vertices.specs.Kinds.{kind_text, kind_view};
-ghost use Rattle.vertices.specs.RefViews.{vertex_ref_view};
 ghost use Rattle.vertices.specs.Views.{state_view, vertex_view};
+ghost use Rattle.derivations.specs.Files.{derivation_of_bytes, most_steps};
+ghost use Rattle.derivations.specs.Tables.{AreStatesOf, AreStepsOf, AreTermsOf, IsOriginOf, IsStepOf, IsTermOf, states_at, step_at, step_by_origin, steps_at, term_at, terms_at};
 ghost use Rattle.derivations.specs.Written.{quoted, comma_if, with_commas, state_json, term_json, combination_json, origin_json, step_json, lines_of};
 
 use crate::derivation::Derivation;

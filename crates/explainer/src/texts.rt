@@ -1,11 +1,11 @@
 //! The texts of what steps name by numbers.
 
-ghost use Rattle.std.specs.Prelude.{◌≡◌, ◌<◌, ◌++◌, IfOk, OnOk, codes, length, List, map, string_bytes, ℕ};
+ghost use Rattle.std.specs.Prelude.{◌≡◌, ◌<◌, ◌++◌, IfOk, OnOk, codes, length, map, string_bytes};
 ghost use Rattle.std.specs.List.{AllByRecursion};
 ghost use Rattle.vertices.specs.Texts.{state_text};
 ghost use Rattle.vertices.specs.Views.{state_view, vertex_view};
-ghost use Rattle.derivations.specs.Tables.{AreStatesOf, set_at, states_at, vertex_at};
-ghost use Rattle.explainer.specs.Explanations.{text_if, with_between};
+ghost use Rattle.derivations.specs.Tables.{AreStatesOf, set_at, vertex_at};
+ghost use Rattle.explainer.specs.Explanations.{text_if};
 ghost use Rattle.explainer.specs.Texts.{set_words, sets_words};
 
 use derivations::Tables;
