@@ -137,10 +137,10 @@ abbrev pub IsFiled : Writes → Option (List ℕ) → Answer → Type 0
 IsFiled writes path (Lock bytes kept skips) = Unit {0}
 IsFiled writes path (Unsolvable derivation text skips) = IsKept writes path derivation (Ok tt)
 
--- an answer that there is can't be written: to standard output, or a derivation to its file
-abbrev pub IsUnwritten : Writes → Option (List ℕ) → Answer → Stop → Type 0
-IsUnwritten writes path (Lock bytes kept skips) stop = stop_view stop ≡ cannot_write
-IsUnwritten writes path (Unsolvable derivation text skips) stop = IsKept writes path derivation (Err stop)
+-- an answer that there is can't be written: a write of the lock to standard output failed, or one of the derivation to its file
+abbrev pub IsUnwritten : Writes → (List ℕ → Type 0) → Option (List ℕ) → Answer → Stop → Type 0
+IsUnwritten writes fails path (Lock bytes kept skips) stop = (stop_view stop ≡ cannot_write) × fails bytes.items
+IsUnwritten writes fails path (Unsolvable derivation text skips) stop = IsKept writes path derivation (Err stop)
 
 -- standard output and standard error before and after, and whether all that was to be told on standard error was written
 pub record Outputs : Type 0 where
@@ -169,16 +169,20 @@ module _ {F : Type 0} (reads : Reads) (writes : Writes) (opens : List ℕ → F 
       × (status ≡ check_status c) × Appends o.out_before o.out_after (line_of (check_text c))) × IsQuiet o
   Answers (explain proof) o status = ((text : List ℕ) × IsTextOf reads proof text × (status ≡ 0) × Appends o.out_before o.out_after text) × IsQuiet o
 
-  -- a command that ends with the status 2: there is no answer, or it can't be written; the skipped lines are told where there is one
+module _ {F : Type 0} (reads : Reads) (writes : Writes) (opens : List ℕ → F → Type 0) (calls : Calls F) (failed : F → ℕ) (fails : List ℕ → Type 0) where
+  -- A command that ends with the status 2: there is no answer, or it can't be written, for a write of it failed. The
+  -- skipped lines are told where there is one.
   abbrev pub Stops : WordsView → Outputs → Stop → Type 0
   Stops (resolve manifest index lock source proof rust_first) o stop = (LacksAnswer reads opens calls failed manifest index lock source rust_first stop × IsQuiet o)
       ⊎ ((answer : Answer) × IsAnswerTo reads opens calls failed manifest index lock source rust_first (Ok answer)
-      × IsUnwritten writes proof answer stop × (o.told ≡ true → IsTold o.err_before o.err_after answer (Err stop)))
+      × IsUnwritten writes fails proof answer stop × (o.told ≡ true → IsTold o.err_before o.err_after answer (Err stop)))
   Stops (verify manifest index lock source) o stop = (LacksVerdict reads opens calls failed manifest index lock source stop
-      ⊎ ((verdict : Verdict) × IsVerdictOf reads opens calls failed manifest index lock source (Ok verdict) × (stop_view stop ≡ cannot_write))) × IsQuiet o
+      ⊎ ((verdict : Verdict) × IsVerdictOf reads opens calls failed manifest index lock source (Ok verdict)
+      × (stop_view stop ≡ cannot_write) × fails (line_of (verdict_text verdict)))) × IsQuiet o
   Stops (check manifest index lock source proof) o stop = (LacksCheck reads opens calls failed manifest index lock source proof stop
-      ⊎ ((c : Check) × IsCheckOf reads opens calls failed manifest index lock source proof (Ok c) × (stop_view stop ≡ cannot_write))) × IsQuiet o
-  Stops (explain proof) o stop = (LacksText reads proof stop ⊎ ((text : List ℕ) × IsTextOf reads proof text × (stop_view stop ≡ cannot_write))) × IsQuiet o
+      ⊎ ((c : Check) × IsCheckOf reads opens calls failed manifest index lock source proof (Ok c)
+      × (stop_view stop ≡ cannot_write) × fails (line_of (check_text c)))) × IsQuiet o
+  Stops (explain proof) o stop = (LacksText reads proof stop ⊎ ((text : List ℕ) × IsTextOf reads proof text × (stop_view stop ≡ cannot_write) × fails text)) × IsQuiet o
 
   -- A run whose words are taken: what the command does, and then, where it has no answer or can't write it, the line that
   -- says why. Standard output is unchanged unless an answer was to be written.
@@ -190,7 +194,7 @@ module _ {F : Type 0} (reads : Reads) (writes : Writes) (opens : List ℕ → F 
     -- standard error before that line, and whether all until then was written
     pub between : Option (List ℕ)
     pub told : Bool
-    pub answers : IfOk given (Answers view (outputs o.out_before o.out_after o.err_before between told))
+    pub answers : IfOk given (Answers reads writes opens calls failed view (outputs o.out_before o.out_after o.err_before between told))
     pub stops : IfErr given (Stops view (outputs o.out_before o.out_after o.err_before between told))
     pub stopped : is_stopped given ≡ true → unchanged
     pub ended : o.told ≡ true → (told ≡ true) × IsEnded between o.err_after given
@@ -198,5 +202,5 @@ module _ {F : Type 0} (reads : Reads) (writes : Writes) (opens : List ℕ → F 
   -- a run: as the words ask, or, where they are refused, what is said of them
   abbrev pub Runs : List (List ℕ) → Outputs → Type 0 → ℕ → Type 0
   Runs words o unchanged status = IsRunOf words o unchanged status
-      ⊎ ((fault : WordsFault) × Refuses (or_help words) fault × IsRefused o.out_before o.out_after fault status
+      ⊎ ((fault : WordsFault) × Refuses (or_help words) fault × IsRefused fails o.out_before o.out_after fault status
       × (o.told ≡ true → IsRefusalTold o.err_before o.err_after fault status))

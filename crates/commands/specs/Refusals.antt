@@ -7,11 +7,11 @@ use Rattle.resolver.specs.Texts.{fault_text}
 use Rattle.resolver.specs.declared.fault.Fault.TheVariants as fault
 use Rattle.commands.specs.Lines.{line_of}
 
--- help goes to standard output, and nothing else does
-abbrev pub IsRefused : Option (List ℕ) → Option (List ℕ) → WordsFault → ℕ → Type 0
-IsRefused old new (Help text) status = ((status ≡ 0) × Appends old new (string_bytes text)) ⊎ (status ≡ 2)
-IsRefused old new (Wrong text) status = (status ≡ 2) × (new ≡ old)
-IsRefused old new OutOfMemory status = (status ≡ 2) × (new ≡ old)
+-- help goes to standard output, unless that write failed, and nothing else does
+abbrev pub IsRefused : (List ℕ → Type 0) → Option (List ℕ) → Option (List ℕ) → WordsFault → ℕ → Type 0
+IsRefused fails old new (Help text) status = ((status ≡ 0) × Appends old new (string_bytes text)) ⊎ ((status ≡ 2) × fails (string_bytes text))
+IsRefused fails old new (Wrong text) status = (status ≡ 2) × (new ≡ old)
+IsRefused fails old new OutOfMemory status = (status ≡ 2) × (new ≡ old)
 
 -- what goes to standard error
 abbrev pub IsRefusalTold : Option (List ℕ) → Option (List ℕ) → WordsFault → ℕ → Type 0

@@ -7,6 +7,8 @@ mod printing;
 mod running;
 mod sources;
 mod stop;
+mod streams;
 
 pub use disk::{Disk, FileFault};
 pub use running::{run, run_on, without_arguments};
+pub use streams::Stream;

@@ -1,6 +1,6 @@
 //! What is printed of each answer, and where.
 
-ghost use Rattle.std.specs.Prelude.{◌≡◌, true, false, IsOk, IfErr, IfOk};
+ghost use Rattle.std.specs.Prelude.{◌≡◌, true, false, IfErr, IfOk};
 ghost use Rattle.std.specs.Io.KnownBytes.{Appends};
 ghost use Rattle.checker.specs.Texts.{check_text};
 ghost use Rattle.selection.specs.Texts.{verdict_text};
@@ -12,12 +12,12 @@ ghost use Rattle.commands.specs.Stops.{cannot_write, is_stopped, stop_view};
 use crate::disk::Disk;
 use crate::files::write_proof;
 use crate::stop::Stop;
+use crate::streams::Stream;
 use checker::Check;
 use derivations::Derivation;
 use index_reader::Skip;
 use resolver::Answer;
 use selection::Verdict;
-use std::io::{self, Write};
 
 /// The status of a lock that is no valid selection.
 const INVALID: u8 = 1;
@@ -35,54 +35,55 @@ pub(crate) struct Ended<'a> {
     pub(crate) told: bool,
 }
 
-pub(crate) fn print_verdict<'a, W: Write>(verdict: &Verdict, out: &mut W) -> Result<u8, Stop<'a>>
-    ensures printed { IfOk result (λ status. (status ≡ verdict_status verdict.now) × Appends (W.contents out.old) (W.contents out.new) (line_of (verdict_text verdict.now))) }
+pub(crate) fn print_verdict<'a, O: Stream>(verdict: &Verdict, out: &mut O) -> Result<u8, Stop<'a>>
+    ensures printed { IfOk result (λ status. (status ≡ verdict_status verdict.now) × Appends (O.contents out.old) (O.contents out.new) (line_of (verdict_text verdict.now))) }
     ensures written { is_stopped result ≡ false }
-    ensures unwritten { IfErr result (λ stop. stop_view stop ≡ cannot_write) }
+    ensures unwritten { IfErr result (λ stop. (stop_view stop ≡ cannot_write) × O.fails out.old (line_of (verdict_text verdict.now)) out.new) }
 {
     let status = match verdict {
         Verdict::Valid => 0,
         Verdict::Invalid { .. } => INVALID,
     };
-    after(writeln!(out, "{verdict}"), status)
+    after(out.put_line(verdict), status)
 }
 
-pub(crate) fn print_check<'a, W: Write>(checked: &Check, out: &mut W) -> Result<u8, Stop<'a>>
-    ensures printed { IfOk result (λ status. (status ≡ check_status checked.now) × Appends (W.contents out.old) (W.contents out.new) (line_of (check_text checked.now))) }
+pub(crate) fn print_check<'a, O: Stream>(checked: &Check, out: &mut O) -> Result<u8, Stop<'a>>
+    ensures printed { IfOk result (λ status. (status ≡ check_status checked.now) × Appends (O.contents out.old) (O.contents out.new) (line_of (check_text checked.now))) }
     ensures written { is_stopped result ≡ false }
-    ensures unwritten { IfErr result (λ stop. stop_view stop ≡ cannot_write) }
+    ensures unwritten { IfErr result (λ stop. (stop_view stop ≡ cannot_write) × O.fails out.old (line_of (check_text checked.now)) out.new) }
 {
     let status = match checked {
         Check::Proves => 0,
         Check::Refused { .. } => REFUSED,
     };
-    after(writeln!(out, "{checked}"), status)
+    after(out.put_line(checked), status)
 }
 
 /// A whole text, with the status 0.
-pub(crate) fn print_bytes<'a, W: Write>(bytes: &[u8], out: &mut W) -> Result<u8, Stop<'a>>
-    ensures printed { IfOk result (λ status. (status ≡ 0) × Appends (W.contents out.old) (W.contents out.new) bytes.now) }
+pub(crate) fn print_bytes<'a, O: Stream>(bytes: &[u8], out: &mut O) -> Result<u8, Stop<'a>>
+    ensures printed { IfOk result (λ status. (status ≡ 0) × Appends (O.contents out.old) (O.contents out.new) bytes.now) }
     ensures written { is_stopped result ≡ false }
-    ensures unwritten { IfErr result (λ stop. stop_view stop ≡ cannot_write) }
+    ensures unwritten { IfErr result (λ stop. (stop_view stop ≡ cannot_write) × O.fails out.old bytes.now out.new) }
 {
-    after(out.write_all(bytes), 0)
+    after(out.put(bytes), 0)
 }
 
 /// This status, where the answer could be written.
-fn after<'a>(written: io::Result<()>, status: u8) -> Result<u8, Stop<'a>>
-    ensures ok { IfOk result (λ given. (given ≡ status) × IsOk written) }
+fn after<'a>(written: bool, status: u8) -> Result<u8, Stop<'a>>
+    ensures ok { IfOk result (λ given. (given ≡ status) × (written ≡ true)) }
     ensures written { is_stopped result ≡ false }
-    ensures unwritten { IfErr result (λ stop. stop_view stop ≡ cannot_write) }
+    ensures unwritten { IfErr result (λ stop. (stop_view stop ≡ cannot_write) × (written ≡ false)) }
 {
-    match written {
-        Ok(()) => Ok(status),
-        Err(_) => Err(Stop::CannotWrite),
+    if written {
+        Ok(status)
+    } else {
+        Err(Stop::CannotWrite)
     }
 }
 
 /// The skipped lines go to `err` first. Then a lock goes to `out`; of a refusal the derivation goes to the file for it,
 /// and then the text to `err`.
-pub(crate) fn print_answer<'a, D: Disk, O: Write, E: Write>(
+pub(crate) fn print_answer<'a, D: Disk, O: Stream, E: Stream>(
     disk: &D,
     answer: &Answer,
     proof: Option<&'a str>,
@@ -91,7 +92,7 @@ pub(crate) fn print_answer<'a, D: Disk, O: Write, E: Write>(
 ) -> Ended<'a>
     ensures printed { IfOk result.status (IsPrinted (O.contents out.old) (O.contents out.new) answer.now) }
     ensures filed { IfOk result.status (λ _. IsFiled (D.writes disk.now) (text_if proof.entry) answer.now) }
-    ensures unwritten { IfErr result.status (IsUnwritten (D.writes disk.now) (text_if proof.entry) answer.now) }
+    ensures unwritten { IfErr result.status (IsUnwritten (D.writes disk.now) (λ bytes. O.fails out.old bytes out.new) (text_if proof.entry) answer.now) }
     ensures stopped { is_stopped result.status ≡ true → out.new ≡ out.old }
     ensures told { result.told ≡ true → IsTold (E.contents err.old) (E.contents err.new) answer.now result.status }
 {
@@ -107,7 +108,7 @@ pub(crate) fn print_answer<'a, D: Disk, O: Write, E: Write>(
             ..
         } => match write_proof(disk, proof, derivation) {
             Ok(()) => {
-                let is_told = err.write_all(text.as_bytes()).is_ok();
+                let is_told = err.put(text.as_bytes());
                 Ended {
                     status: Ok(UNSOLVABLE),
                     told: told && is_told,
@@ -130,8 +131,8 @@ fn skips_of(answer: &Answer) -> &[Skip]
 }
 
 /// A line for each skipped line, and whether all were written.
-fn print_skips<W: Write>(skips: &[Skip], err: &mut W) -> bool
-    ensures { result ≡ true → Appends (W.contents err.old) (W.contents err.new) (skip_lines skips.now) }
+fn print_skips<E: Stream>(skips: &[Skip], err: &mut E) -> bool
+    ensures { result ≡ true → Appends (E.contents err.old) (E.contents err.new) (skip_lines skips.now) }
 {
     let mut told = true;
     'skips: for skip in skips {
@@ -141,9 +142,9 @@ fn print_skips<W: Write>(skips: &[Skip], err: &mut W) -> bool
     told
 }
 
-fn print_skip<W: Write>(skip: &Skip, err: &mut W) -> bool
-    ensures { result ≡ true → Appends (W.contents err.old) (W.contents err.new) (skip_line skip.now) }
+fn print_skip<E: Stream>(skip: &Skip, err: &mut E) -> bool
+    ensures { result ≡ true → Appends (E.contents err.old) (E.contents err.new) (skip_line skip.now) }
 {
     let Skip { name, line, reason } = skip;
-    writeln!(err, "skip {name} line {line} {reason}").is_ok()
+    err.put_line(format_args!("skip {name} line {line} {reason}"))
 }

@@ -17,6 +17,7 @@ use crate::files::{read_lock, read_manifest, read_old, read_proof};
 use crate::printing::{Ended, print_answer, print_bytes, print_check, print_verdict};
 use crate::sources::source_of;
 use crate::stop::Stop;
+use crate::streams::Stream;
 use catalogue::Prefer;
 use checker::Check;
 use derivations::Derivation;
@@ -40,7 +41,7 @@ pub fn run<R: Files + AllocGlobal + Clone + Drop, O: Write, E: Write>(
     out: &mut O,
     err: &mut E,
 ) -> u8
-    ensures { (told : Bool) × Runs (λ _ _ _. Unit {0}) (λ _ _ _. Unit {0}) (λ _ _. Unit {0}) (λ old path answer new. DiskCalls old answer new) (λ count. count) (map string_bytes words.now) (outputs (O.contents out.old) (O.contents out.new) (E.contents err.old) (E.contents err.new) told) (out.new ≡ out.old) result }
+    ensures { (told : Bool) × Runs (λ _ _ _. Unit {0}) (λ _ _ _. Unit {0}) (λ _ _. Unit {0}) (λ old path answer new. DiskCalls old answer new) (λ count. count) (λ _. Unit {0}) (map string_bytes words.now) (outputs (O.contents out.old) (O.contents out.new) (E.contents err.old) (E.contents err.new) told) (out.new ≡ out.old) result }
 {
     let disk = System { rt };
     run_on(&disk, words, out, err).0
@@ -48,13 +49,13 @@ pub fn run<R: Files + AllocGlobal + Clone + Drop, O: Write, E: Write>(
 
 /// The same on any disk; also says whether all that is told on standard error was written. What a run does is said
 /// here: of the system's own disk nothing is known.
-pub fn run_on<D: Disk, O: Write, E: Write>(
+pub fn run_on<D: Disk, O: Stream, E: Stream>(
     disk: &D,
     words: &[String],
     out: &mut O,
     err: &mut E,
 ) -> (u8, bool)
-    ensures { Runs (D.reads disk.now) (D.writes disk.now) (D.opens disk.now) D.Index.calls D.Index.failed (map string_bytes words.now) (outputs (O.contents out.old) (O.contents out.new) (E.contents err.old) (E.contents err.new) result.1) (out.new ≡ out.old) result.0 }
+    ensures { Runs (D.reads disk.now) (D.writes disk.now) (D.opens disk.now) D.Index.calls D.Index.failed (λ bytes. O.fails out.old bytes out.new) (map string_bytes words.now) (outputs (O.contents out.old) (O.contents out.new) (E.contents err.old) (E.contents err.new) result.1) (out.new ≡ out.old) result.0 }
 {
     match read_words(disk.alloc(), words) {
         Ok(words) => finish(answered(disk, &words, out, err), err),
@@ -63,14 +64,14 @@ pub fn run_on<D: Disk, O: Write, E: Write>(
 }
 
 /// What a command answers.
-fn answered<'a, D: Disk, O: Write, E: Write>(
+fn answered<'a, D: Disk, O: Stream, E: Stream>(
     disk: &D,
     words: &Words<'a>,
     out: &mut O,
     err: &mut E,
 ) -> Ended<'a>
     ensures answers { IfOk result.status (Answers (D.reads disk.now) (D.writes disk.now) (D.opens disk.now) D.Index.calls D.Index.failed (words_view words.entry.now) (outputs (O.contents out.old) (O.contents out.new) (E.contents err.old) (E.contents err.new) result.told)) }
-    ensures stops { IfErr result.status (Stops (D.reads disk.now) (D.writes disk.now) (D.opens disk.now) D.Index.calls D.Index.failed (words_view words.entry.now) (outputs (O.contents out.old) (O.contents out.new) (E.contents err.old) (E.contents err.new) result.told)) }
+    ensures stops { IfErr result.status (Stops (D.reads disk.now) (D.writes disk.now) (D.opens disk.now) D.Index.calls D.Index.failed (λ bytes. O.fails out.old bytes out.new) (words_view words.entry.now) (outputs (O.contents out.old) (O.contents out.new) (E.contents err.old) (E.contents err.new) result.told)) }
     ensures stopped { is_stopped result.status ≡ true → out.new ≡ out.old }
 {
     match words {
@@ -110,7 +111,7 @@ fn quiet<'a>(status: Result<u8, Stop<'a>>) -> Ended<'a>
     Ended { status, told: true }
 }
 
-fn verify_at<'a, D: Disk, O: Write>(
+fn verify_at<'a, D: Disk, O: Stream>(
     disk: &D,
     manifest: &'a str,
     index: &str,
@@ -119,7 +120,7 @@ fn verify_at<'a, D: Disk, O: Write>(
     out: &mut O,
 ) -> Result<u8, Stop<'a>>
     ensures answers { IfOk result (λ status. (said : Verdict) × IsVerdictOf (D.reads disk.now) (D.opens disk.now) D.Index.calls D.Index.failed manifest.entry.now index.now lock.entry.now (text_if source.entry) (Ok said) × (status ≡ verdict_status said) × Appends (O.contents out.old) (O.contents out.new) (line_of (verdict_text said))) }
-    ensures stops { IfErr result (λ stop. LacksVerdict (D.reads disk.now) (D.opens disk.now) D.Index.calls D.Index.failed manifest.entry.now index.now lock.entry.now (text_if source.entry) stop ⊎ ((said : Verdict) × IsVerdictOf (D.reads disk.now) (D.opens disk.now) D.Index.calls D.Index.failed manifest.entry.now index.now lock.entry.now (text_if source.entry) (Ok said) × (stop_view stop ≡ cannot_write))) }
+    ensures stops { IfErr result (λ stop. LacksVerdict (D.reads disk.now) (D.opens disk.now) D.Index.calls D.Index.failed manifest.entry.now index.now lock.entry.now (text_if source.entry) stop ⊎ ((said : Verdict) × IsVerdictOf (D.reads disk.now) (D.opens disk.now) D.Index.calls D.Index.failed manifest.entry.now index.now lock.entry.now (text_if source.entry) (Ok said) × (stop_view stop ≡ cannot_write) × O.fails out.old (line_of (verdict_text said)) out.new)) }
     ensures stopped { is_stopped result ≡ true → out.new ≡ out.old }
 {
     let verdict = verdict_at(disk, manifest, index, lock, source)?;
@@ -200,7 +201,7 @@ fn slice_if(bytes: &Option<Vec<u8>>) -> Option<&[u8]>
     }
 }
 
-fn check_at<'a, D: Disk, O: Write>(
+fn check_at<'a, D: Disk, O: Stream>(
     disk: &D,
     manifest: &'a str,
     index: &str,
@@ -210,7 +211,7 @@ fn check_at<'a, D: Disk, O: Write>(
     out: &mut O,
 ) -> Result<u8, Stop<'a>>
     ensures answers { IfOk result (λ status. (said : Check) × IsCheckOf (D.reads disk.now) (D.opens disk.now) D.Index.calls D.Index.failed manifest.entry.now index.now (text_if lock.entry) (text_if source.entry) proof.entry.now (Ok said) × (status ≡ check_status said) × Appends (O.contents out.old) (O.contents out.new) (line_of (check_text said))) }
-    ensures stops { IfErr result (λ stop. LacksCheck (D.reads disk.now) (D.opens disk.now) D.Index.calls D.Index.failed manifest.entry.now index.now (text_if lock.entry) (text_if source.entry) proof.entry.now stop ⊎ ((said : Check) × IsCheckOf (D.reads disk.now) (D.opens disk.now) D.Index.calls D.Index.failed manifest.entry.now index.now (text_if lock.entry) (text_if source.entry) proof.entry.now (Ok said) × (stop_view stop ≡ cannot_write))) }
+    ensures stops { IfErr result (λ stop. LacksCheck (D.reads disk.now) (D.opens disk.now) D.Index.calls D.Index.failed manifest.entry.now index.now (text_if lock.entry) (text_if source.entry) proof.entry.now stop ⊎ ((said : Check) × IsCheckOf (D.reads disk.now) (D.opens disk.now) D.Index.calls D.Index.failed manifest.entry.now index.now (text_if lock.entry) (text_if source.entry) proof.entry.now (Ok said) × (stop_view stop ≡ cannot_write) × O.fails out.old (line_of (check_text said)) out.new)) }
     ensures stopped { is_stopped result ≡ true → out.new ≡ out.old }
 {
     let checked = checked_at(disk, manifest, index, lock, source, proof)?;
@@ -247,9 +248,9 @@ fn checked_at<'a, D: Disk>(
     Ok(checked)
 }
 
-fn explain_at<'a, D: Disk, O: Write>(disk: &D, proof: &'a str, out: &mut O) -> Result<u8, Stop<'a>>
+fn explain_at<'a, D: Disk, O: Stream>(disk: &D, proof: &'a str, out: &mut O) -> Result<u8, Stop<'a>>
     ensures answers { IfOk result (λ status. (text : List ℕ) × IsTextOf (D.reads disk.now) proof.entry.now text × (status ≡ 0) × Appends (O.contents out.old) (O.contents out.new) text) }
-    ensures stops { IfErr result (λ stop. LacksText (D.reads disk.now) proof.entry.now stop ⊎ ((text : List ℕ) × IsTextOf (D.reads disk.now) proof.entry.now text × (stop_view stop ≡ cannot_write))) }
+    ensures stops { IfErr result (λ stop. LacksText (D.reads disk.now) proof.entry.now stop ⊎ ((text : List ℕ) × IsTextOf (D.reads disk.now) proof.entry.now text × (stop_view stop ≡ cannot_write) × O.fails out.old text out.new)) }
     ensures stopped { is_stopped result ≡ true → out.new ≡ out.old }
 {
     let text = text_at(disk, proof)?;
@@ -278,7 +279,7 @@ fn derivation_at<'a, D: Disk>(disk: &D, proof: &'a str) -> Result<Derivation, St
 }
 
 /// Prints why there is no answer, where there is none; gives the status, and whether all was told.
-fn finish<'a, E: Write>(ended: Ended<'a>, err: &mut E) -> (u8, bool)
+fn finish<'a, E: Stream>(ended: Ended<'a>, err: &mut E) -> (u8, bool)
     ensures status { result.0 ≡ status_of ended.entry.status }
     ensures told { result.1 ≡ true → (ended.entry.told ≡ true) × IsEnded (E.contents err.old) (E.contents err.new) ended.entry.status }
 {
@@ -286,7 +287,7 @@ fn finish<'a, E: Write>(ended: Ended<'a>, err: &mut E) -> (u8, bool)
     match status {
         Ok(status) => (status, told),
         Err(stop) => {
-            let is_told = writeln!(err, "{stop}").is_ok();
+            let is_told = err.put_line(&stop);
             (FAILED, told && is_told)
         }
     }
@@ -307,16 +308,19 @@ pub fn without_arguments<E: Write>(error: &io::Error, err: &mut E) -> u8
 }
 
 /// Help goes to standard output, wrong use to standard error; gives the status, and whether all was told.
-fn without_words<O: Write, E: Write>(fault: &WordsFault, out: &mut O, err: &mut E) -> (u8, bool)
-    ensures printed { IsRefused (O.contents out.old) (O.contents out.new) fault.now result.0 }
+fn without_words<O: Stream, E: Stream>(fault: &WordsFault, out: &mut O, err: &mut E) -> (u8, bool)
+    ensures printed { IsRefused (λ bytes. O.fails out.old bytes out.new) (O.contents out.old) (O.contents out.new) fault.now result.0 }
     ensures told { result.1 ≡ true → IsRefusalTold (E.contents err.old) (E.contents err.new) fault.now result.0 }
 {
     match fault {
-        WordsFault::Help(text) => match write!(out, "{text}") {
-            Ok(()) => (0, true),
-            Err(_) => (FAILED, writeln!(err, "cannot write").is_ok()),
-        },
-        WordsFault::Wrong(text) => (FAILED, write!(err, "{text}").is_ok()),
-        WordsFault::OutOfMemory => (FAILED, writeln!(err, "{}", Fault::OutOfMemory).is_ok()),
+        WordsFault::Help(text) => {
+            if out.put(text.as_bytes()) {
+                (0, true)
+            } else {
+                (FAILED, err.put_line("cannot write"))
+            }
+        }
+        WordsFault::Wrong(text) => (FAILED, err.put(text.as_bytes())),
+        WordsFault::OutOfMemory => (FAILED, err.put_line(Fault::OutOfMemory)),
     }
 }

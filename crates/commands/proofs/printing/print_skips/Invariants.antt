@@ -5,4 +5,4 @@ use Rattle.commands.proofs.printing.print_skips.Given as goal
 
 -- where all were written so far, they stand there
 abbrev pub invariant-skips : goal.invariant-skips
-invariant-skips g l = l.told ≡ true → Appends (g.W.Write.contents l.fn.err) (g.W.Write.contents l.err) (skip_lines (take l.skip-index l.skips))
+invariant-skips g l = l.told ≡ true → Appends (g.E.Stream.contents l.fn.err) (g.E.Stream.contents l.err) (skip_lines (take l.skip-index l.skips))

@@ -9,7 +9,7 @@ returns-in-Ok-clause-answers g c =
     let given = c.print_answer.result in
     rw c.in-Resolve.is (three_if_ok given.status (λ status printed filed told. (answer, c.in-Ok.ensures.answer, printed, filed, told))
     c.print_answer.ensures.printed c.print_answer.ensures.filed
-    (ok_with given.status (λ r. given.told ≡ true → IsTold (g.E.Write.contents c.args.err.now) (g.E.Write.contents c.print_answer.new.err) answer r) c.print_answer.ensures.told))
+    (ok_with given.status (λ r. given.told ≡ true → IsTold (g.E.Stream.contents c.args.err.now) (g.E.Stream.contents c.print_answer.new.err) answer r) c.print_answer.ensures.told))
 
 pub returns-in-Ok-clause-stops : goal.returns-in-Ok-clause-stops
 returns-in-Ok-clause-stops g c =
@@ -17,7 +17,7 @@ returns-in-Ok-clause-stops g c =
     let given = c.print_answer.result in
     rw c.in-Resolve.is (both_if_err given.status (λ stop unwritten told. inr (answer, c.in-Ok.ensures.answer, unwritten, told))
     c.print_answer.ensures.unwritten
-    (err_with given.status (λ r. given.told ≡ true → IsTold (g.E.Write.contents c.args.err.now) (g.E.Write.contents c.print_answer.new.err) answer r) c.print_answer.ensures.told))
+    (err_with given.status (λ r. given.told ≡ true → IsTold (g.E.Stream.contents c.args.err.now) (g.E.Stream.contents c.print_answer.new.err) answer r) c.print_answer.ensures.told))
 
 pub returns-in-Verify-clause-stops : goal.returns-in-Verify-clause-stops
 returns-in-Verify-clause-stops g c = rw (c.in-Verify.is, c.quiet.ensures.status) (map_err c.verify_at.result (λ stop lacks. (lacks, λ told. refl)) c.verify_at.ensures.stops)

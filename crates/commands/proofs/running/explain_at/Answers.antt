@@ -8,4 +8,4 @@ returns-clause-answers g c = (string_bytes c.in_ok-text.text, c.in_ok-text.ensur
 pub returns-in_err-status-clause-stops : goal.returns-in_err-status-clause-stops
 returns-in_err-status-clause-stops g c =
     let p = err_from_is_err_and c.from_residual-in_err-status.result c.from_residual-in_err-status.ensures.1 in
-    rw (p.1, p.2) (inr (string_bytes c.in_ok-text.text, c.in_ok-text.ensures.text, c.in_err-status.ensures.unwritten))
+    rw (p.1, p.2) (inr (string_bytes c.in_ok-text.text, c.in_ok-text.ensures.text, c.in_err-status.ensures.unwritten.0, c.in_err-status.ensures.unwritten.1))

@@ -8,4 +8,4 @@ returns-clause-answers g c = (c.in_ok-verdict.verdict, c.in_ok-verdict.ensures.v
 pub returns-in_err-status-clause-stops : goal.returns-in_err-status-clause-stops
 returns-in_err-status-clause-stops g c =
     let p = err_from_is_err_and c.from_residual-in_err-status.result c.from_residual-in_err-status.ensures.1 in
-    rw (p.1, p.2) (inr (c.in_ok-verdict.verdict, c.in_ok-verdict.ensures.verdict, c.in_err-status.ensures.unwritten))
+    rw (p.1, p.2) (inr (c.in_ok-verdict.verdict, c.in_ok-verdict.ensures.verdict, c.in_err-status.ensures.unwritten.0, c.in_err-status.ensures.unwritten.1))
