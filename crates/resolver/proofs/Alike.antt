@@ -133,7 +133,7 @@ module _ (folder : Files) (m : ManifestView) (old : Content) (source : List ℕ)
           (Contains-append_left more whole.0 (file_of files name) (Contains-append_right asked (file_of files name ∷ []) (file_of files name) (in_first (file_of files name) [])))
 
   module _ (index' : CatalogueView) (later : Files) (second : IsLoaded old source rust' m.brings.dependencies MemoryCalls folder index' later) where
-    asked-same : second.asked ≡ first.asked
+    pub asked-same : second.asked ≡ first.asked
     asked-same = same-run files old source root [] second.asked first.asked (chain-answers folder second.asked folder later refl second.so_far.chain) answers
         second.so_far.in_turn first.so_far.in_turn second.ended first.ended
 

@@ -1,6 +1,5 @@
 pub mod Reading
 pub mod Sameness
-pub mod Answered
 pub mod Checked
 pub mod Stays
 pub mod Unstopped
@@ -14,3 +13,4 @@ pub mod IndexTexts
 pub mod ManifestTexts
 pub mod Writable
 pub mod Unread
+pub mod Answered

@@ -19,14 +19,16 @@ use Rattle.vertices.proofs.Bound.{same-Ok}
 use Rattle.resolver.specs.Faults.{is_memory}
 use Rattle.resolver.specs.Inputs.{RequestView, AreRead, IsRefused, LoadsFor, EndsWith, old_of_bytes, packages_in, problem_of}
 use Rattle.resolver.specs.Inputs.IsRefused.{by_manifest, by_lock, by_index}
-use Rattle.resolver.specs.Answers.{Resolves}
+use Rattle.resolver.specs.Answers.{IsAnswer, Resolves}
+use Rattle.resolver.specs.Answers.IsAnswer.{kept_lock, new_lock, no_lock}
 use Rattle.resolver.specs.Checks.{Checks}
 use Rattle.resolver.specs.Returning.{FindsProof, to_check}
 use Rattle.resolver.specs.declared.inputs.Inputs.{Inputs}
 use Rattle.resolver.specs.declared.fault.Fault.{Fault}
 use Rattle.resolver.specs.declared.fault.CheckFault.{CheckFault}
 use Rattle.resolver.specs.declared.fault.CheckFault.TheVariants.{Input, Proof}
-use Rattle.resolver.specs.declared.resolving.Answer.TheVariants.{Unsolvable}
+use Rattle.resolver.specs.declared.resolving.Answer.{Answer}
+use Rattle.resolver.specs.declared.resolving.Answer.TheVariants.{Lock, Unsolvable}
 use Rattle.resolver.proofs.Alike.{same-problem, no_other_fault}
 use Rattle.resolver.proofs.Returned.{ok-err}
 
@@ -41,7 +43,7 @@ module _ (failed : Files → ℕ) (folder : Files) (request : RequestView) (inpu
   abbrev rust : Prefer → Option RustVersion
   rust p = rust_for p manifest.rust_version
 
-  loads-same : (m : ManifestView) (old : Option Content) (r : Result CatalogueView LoadFault) (later : Files) → m ≡ manifest → old ≡ inputs.old
+  pub loads-same : (m : ManifestView) (old : Option Content) (r : Result CatalogueView LoadFault) (later : Files) → m ≡ manifest → old ≡ inputs.old
       → LoadsFor MemoryCalls failed again folder m old r later → LoadsFor MemoryCalls failed again folder manifest inputs.old r later
   loads-same m old r later is held loads = subst (λ o. LoadsFor MemoryCalls failed again folder manifest o r later) held
       (subst (λ n. LoadsFor MemoryCalls failed again folder n old r later) is loads)
@@ -63,13 +65,23 @@ module _ (failed : Files → ℕ) (folder : Files) (request : RequestView) (inpu
       no_other_fault folder manifest (packages_in inputs.old) request.source (rust request.prefer) (rust prefer) inputs.catalogue after first.loads.0 failed first.loads.1 e end
       (loads-same m old (Err e) end (same-Ok m manifest (sym h ∙ first.manifest_says)) (same-Ok old inputs.old (sym k ∙ first.lock_says)) l)
 
+-- the derivation of an answer is accepted, if it has one
+abbrev AcceptsIn : Inputs → Answer → Type 0
+AcceptsIn inputs (Lock bytes kept skips) = Unit {0}
+AcceptsIn inputs (Unsolvable derivation text skips) = IsAccepted (problem_of inputs) derivation
+
+accepted-in : (old : Option (List ℕ)) (inputs : Inputs) (answer : Answer) → IsAnswer old inputs answer → AcceptsIn inputs answer
+accepted-in old inputs answer (kept_lock bytes skips own means skipped) = tt
+accepted-in old inputs answer (new_lock bytes skips content not_kept reads spelled valid bare_root walk brought skipped) = tt
+accepted-in old inputs answer (no_lock derivation text skips accepted no_selection explained skipped) = accepted
+
 pub proved : (failed : Files → ℕ) (folder : Files) (request : RequestView) (derivation : List Step) (text : String Global) (skips : Vec Skip Global) (after : Files)
     (bytes : List ℕ) (result : Result Check CheckFault) (later : Files)
     → Resolves MemoryCalls failed request folder (Ok (Unsolvable derivation text skips)) after → derivation_of_bytes bytes ≡ Ok derivation
     → Checks MemoryCalls failed (to_check request) bytes folder result later → FindsProof result
 proved failed folder request derivation text skips after bytes (Ok check) later first reads second =
     let same = problem-same failed folder request first.inputs after first.read Newest second.inputs later second.read in
-    second.checked.proves.1 (derivation, reads, subst (λ q. IsAccepted q derivation) (sym same) ((first.is.0).unsolvable).accepted)
+    second.checked.proves.1 (derivation, reads, subst (λ q. IsAccepted q derivation) (sym same) (accepted-in request.old first.inputs (Unsolvable derivation text skips) first.is))
 proved failed folder request derivation text skips after bytes (Err (Input f)) later first reads second = by (is_memory f) refl second
   where
     by : (b : Bool) → is_memory f ≡ b → EndsWith MemoryCalls failed (to_check request) folder b (IsRefused MemoryCalls failed (to_check request) folder f later) later → is_memory f ≡ true

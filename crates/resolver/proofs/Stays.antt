@@ -9,7 +9,7 @@ use Rattle.index_reader.specs.Folders.{Files, MemoryCalls}
 use Rattle.index_reader.specs.Paths.{path_of}
 use Rattle.index_reader.specs.declared.folder.FolderFault.TheVariants.{OutOfMemory, Failed}
 use Rattle.catalogue.specs.Runs.{Asked, Chain}
-use Rattle.catalogue.specs.Loads.{Fails, IsStopped, Loads, rust_for}
+use Rattle.catalogue.specs.Loads.{Fails, IsAskedAtMost, IsStopped, Loads, rust_for}
 use Rattle.catalogue.specs.Stores.{CatalogueView}
 use Rattle.catalogue.specs.declared.fault.LoadFault.{LoadFault}
 use Rattle.catalogue.specs.declared.fault.LoadFault.TheVariants as load
@@ -19,7 +19,7 @@ use Rattle.checker.specs.declared.outcome.Check.{Check}
 use Rattle.resolver.specs.Faults.{is_memory}
 use Rattle.resolver.specs.Inputs.{RequestView, AreRead, IsRefused, IsCutShort, EndsWith, LoadsFor, packages_in}
 use Rattle.resolver.specs.Inputs.IsRefused.{by_manifest, by_lock, by_index}
-use Rattle.resolver.specs.Inputs.IsCutShort.{before_loading, while_loading, after_loading}
+use Rattle.resolver.specs.Inputs.IsCutShort.{before_loading, while_loading, while_asking, after_loading}
 use Rattle.resolver.specs.Answers.{IsUnanswered, Resolves, Verifies}
 use Rattle.resolver.specs.Checks.{Checks}
 use Rattle.resolver.specs.declared.inputs.Inputs.{Inputs}
@@ -37,12 +37,15 @@ call-stays before path (Ok o) after call = call.1
 call-stays before path (Err OutOfMemory) after call = call
 call-stays before path (Err Failed) after call = absurd call
 
+asked-stays : (before : Files) (name : List ℕ) (after : Files) → IsAskedAtMost MemoryCalls before name after → after ≡ before
+asked-stays before name after (inl same) = same
+asked-stays before name after (inr (answer, call)) = call-stays before (path_of name) answer after call
+
 -- ---- loading
 
 module _ (old : Content) (source : List ℕ) (rust : Option RustVersion) (root : List Dependency) (failed : Files → ℕ) (before after : Files) where
   fails-stays : (mid : Files) (name : List ℕ) (e : LoadFault) → Fails MemoryCalls failed mid name e after → after ≡ mid
-  fails-stays mid name load.OutOfMemory (inl same) = same
-  fails-stays mid name load.OutOfMemory (inr (answer, call)) = call-stays mid (path_of name) answer after call
+  fails-stays mid name load.OutOfMemory f = asked-stays mid name after f
   fails-stays mid name (load.FolderFailed path) f = absurd f.1
   fails-stays mid name (load.TooLarge limit.Names) f = absurd f
   fails-stays mid name (load.TooLarge (limit.File n)) f = f.1.call.1
@@ -76,13 +79,14 @@ module _ (failed : Files → ℕ) (request : RequestView) (before : Files) where
   refused-stays f after (by_lock m e h k) = refl
   refused-stays f after (by_index m old e end h k l) = loads-stays m old (Err e) end l
 
-  cut-stays : (after : Files) → IsCutShort MemoryCalls failed request before after → after ≡ before
-  cut-stays after before_loading = refl
-  cut-stays after (while_loading m old end h k l) = loads-stays m old (Err load.OutOfMemory) end l
-  cut-stays after (after_loading inputs end read) = read-stays inputs end read
+  cut-stays : (names : List (List ℕ)) (after : Files) → IsCutShort MemoryCalls failed request before names after → after ≡ before
+  cut-stays names after before_loading = refl
+  cut-stays names after (while_loading m old asked end h k so_far) = chain-stays asked before end so_far.chain
+  cut-stays names after (while_asking m old asked mid name end h k so_far next fewer asks) = asked-stays mid name end asks ∙ chain-stays asked before mid so_far.chain
+  cut-stays names after (after_loading inputs end read) = read-stays inputs end read
 
   ended-stays : (b : Bool) (says : Type 0) (after : Files) → (says → after ≡ before) → EndsWith MemoryCalls failed request before b says after → after ≡ before
-  ended-stays true says after h end = cut-stays after end
+  ended-stays true says after h (names, cut) = cut-stays names after cut
   ended-stays false says after h end = h end
 
   pub resolve-stays : (result : Result Answer Fault) (after : Files) → Resolves MemoryCalls failed request before result after → after ≡ before

@@ -1,10 +1,10 @@
 -- Why the spelling of a chosen content doesn't read as it.
-use Rattle.std.proofs.Common.{◌≡◌, ℕ, Bool, true, false, nat_le, length, inl, inr, refl, subst}
+use Rattle.std.proofs.Common.{◌≡◌, ◌≢◌, ℕ, Bool, true, false, nat_le, length, Ok, inl, inr, refl, subst}
 use Rattle.std.specs.List.{All}
 use Rattle.std.proofs.lemmas.Bool.{leb-true, leb-false}
 use Rattle.model.specs.Content.{Content, Problem}
 use Rattle.model.specs.Selection.{IsValidSelection}
-use Rattle.lockfile.specs.Locks.{most_bytes}
+use Rattle.lockfile.specs.Locks.{content_of_bytes, most_bytes}
 use Rattle.lockfile.specs.Spelling.{spelling}
 use Rattle.lockfile.specs.Table.{IsWritable}
 use Rattle.lockfile.proofs.Back.{bytes-back}
@@ -13,9 +13,7 @@ use Rattle.catalogue.specs.Runs.{Calls}
 use Rattle.catalogue.specs.Sources.{is_source}
 use Rattle.reaching.specs.Built.{HasBareRoot}
 use Rattle.resolver.specs.Inputs.{RequestView, AreRead, packages_in, problem_of}
-use Rattle.resolver.specs.Answers.{IsChosen, IsWithout}
-use Rattle.resolver.specs.Returning.{IsUnreadable}
-use Rattle.resolver.specs.declared.fault.Fault.TheVariants.{NotReadBack}
+use Rattle.resolver.specs.Answers.{IsChosen, IsUnreadable}
 use Rattle.resolver.specs.declared.inputs.Inputs.{Inputs}
 use Rattle.resolver.proofs.Loaded.{loaded-run}
 use Rattle.resolver.proofs.ManifestTexts.{manifest-texts}
@@ -31,8 +29,8 @@ module _ {S : Type 0} (calls : Calls S) (failed : S → ℕ) (request : RequestV
       all-writable inputs.manifest (packages_in inputs.old) request.source run.asked (manifest-texts request.manifest inputs.manifest read.manifest_says) address
       run.run.in_turn content (subst (λ (q : Problem). IsValidSelection q content) run.is chosen.valid) (subst (λ (q : Problem). HasBareRoot q content) run.is chosen.bare_root)
 
-  pub unread : IsWithout inputs NotReadBack → (content : Content) × IsChosen inputs content × IsUnreadable content
-  unread (content, chosen, other) = (content, chosen, by (nat_le (length (spelling content)) most_bytes) refl)
+  pub unreadable : (content : Content) → IsChosen inputs content → content_of_bytes (spelling content) ≢ Ok content → IsUnreadable content
+  unreadable content chosen other = by (nat_le (length (spelling content)) most_bytes) refl
     where
       by : (b : Bool) → nat_le (length (spelling content)) most_bytes ≡ b → IsUnreadable content
       by true e = inr (λ is. other (bytes-back content chosen.valid.is_content (chosen-writable content chosen) (leb-true (length (spelling content)) most_bytes e) is))

@@ -1,20 +1,23 @@
 -- What the calls of this crate answer.
-use Rattle.std.specs.Prelude.{◌≡◌, ◌≢◌, ◌⊎◌, ◌↔◌, ℕ, Bool, true, false, List, map, Option, Some, Result, Ok, Err, Vec, string_bytes}
+use Rattle.std.specs.Prelude.{◌≡◌, ◌≢◌, ◌<◌, ◌⊎◌, ◌↔◌, ℕ, Bool, true, false, List, length, map, Option, Some, None, Result, Ok, Err, String, Vec, string_bytes}
 use Rattle.std.specs.declared.alloc.Global.{Global}
-use Rattle.model.specs.Content.{Content}
-use Rattle.model.specs.Derivation.{Step}
+use Rattle.model.specs.Content.{Content, Problem}
+use Rattle.model.specs.Derivation.{IsAccepted, Step}
 use Rattle.model.specs.Selection.{IsValidSelection}
 use Rattle.index_reader.specs.Views.{skip_view}
 use Rattle.index_reader.specs.declared.record.Skip.{Skip}
-use Rattle.lockfile.specs.Locks.{content_of_bytes}
+use Rattle.lockfile.specs.Locks.{content_of_bytes, most_bytes, table_of_bytes}
 use Rattle.lockfile.specs.Spelling.{spelling}
+use Rattle.lockfile.specs.Table.{table_of}
 use Rattle.catalogue.specs.Runs.{Calls}
 use Rattle.selection.specs.Verdicts.{Says}
 use Rattle.selection.specs.declared.verdict.Verdict.{Verdict}
 use Rattle.selection.specs.declared.verdict.Verdict.TheVariants.{Valid}
 use Rattle.explainer.specs.Explanations.{explanation_of}
+use Rattle.reaching.specs.Built.{HasBareRoot}
+use Rattle.reaching.specs.Followed.{IsBrought}
 use Rattle.solver.specs.Solving.{IsSelected, IsUnsolvable}
-use Rattle.walks.specs.Preferred.{preferred_in}
+use Rattle.walks.specs.Preferred.{IsPreferred, preferred_in}
 use Rattle.resolver.specs.Faults.{is_memory}
 use Rattle.resolver.specs.Inputs.{RequestView, AreRead, IsRefused, EndsWith, UnlessMemory, problem_of}
 use Rattle.resolver.specs.declared.inputs.Inputs.{Inputs}
@@ -41,7 +44,67 @@ module _ {S : Type 0} (calls : Calls S) (failed : S → ℕ) (request : RequestV
   Verifies (Ok verdict) after = IsVerdictFor verdict after
   Verifies (Err f) after = EndsWith calls failed request before (is_memory f) (IsRefused calls failed request before f after) after
 
--- ---- a lock for a manifest
+-- ---- the answer to a manifest
+
+-- the bytes of a lock mean a valid selection
+pub record MeansSelection (q : Problem) (bytes : List ℕ) : Type 0 where
+  pub content : Content
+  pub reads : content_of_bytes bytes ≡ Ok content
+  pub valid : IsValidSelection q content
+
+-- those of the old lock do, so that it is kept
+abbrev pub CanKeep : Option (List ℕ) → Inputs → Type 0
+CanKeep old inputs = (bytes : List ℕ) × (old ≡ Some bytes) × MeansSelection (problem_of inputs) bytes
+
+-- the preferred walk, where that is complete and a valid selection
+abbrev pub IsBestWalk : Inputs → Content → Type 0
+IsBestWalk inputs content = IsPreferred (problem_of inputs) (preferred_in inputs.catalogue) content
+
+-- the lines that loading skipped
+abbrev pub AreSkips : Inputs → Vec Skip Global → Type 0
+AreSkips inputs skips = map skip_view skips.items ≡ (inputs.catalogue).skips
+
+-- The answer of a call that has read all inputs, for the bytes of the old lock if there is one.
+pub data IsAnswer (old : Option (List ℕ)) (inputs : Inputs) : Answer → Type 0 where
+  -- a lock that is kept: the old lock's own bytes, which mean a valid selection
+  kept_lock : (bytes : Vec ℕ Global) (skips : Vec Skip Global)
+      → (own : old ≡ Some bytes.items)
+      → (means : MeansSelection (problem_of inputs) bytes.items)
+      → (skipped : AreSkips inputs skips)
+      → IsAnswer old inputs (Lock bytes true skips)
+  -- a new lock, where there is none to keep: bytes that read as a content whose spelling they are; that is a valid
+  -- selection, whose root has no checksum; where the preferred walk is complete and valid it is that walk, and where it
+  -- isn't, the root alone brings all of it
+  new_lock : (bytes : Vec ℕ Global) (skips : Vec Skip Global) (content : Content)
+      → (not_kept : CanKeep old inputs → ⊥)
+      → (reads : content_of_bytes bytes.items ≡ Ok content)
+      → (spelled : bytes.items ≡ spelling content)
+      → (valid : IsValidSelection (problem_of inputs) content)
+      → (bare_root : HasBareRoot (problem_of inputs) content)
+      → (walk : (w : Content) → IsBestWalk inputs w → w ≡ content)
+      → (brought : IsBrought (problem_of inputs) content ⊎ IsBestWalk inputs content)
+      → (skipped : AreSkips inputs skips)
+      → IsAnswer old inputs (Lock bytes false skips)
+  -- that there is none: a derivation that the checker accepts, while no content at all is a valid selection, and the
+  -- text that tells it
+  no_lock : (derivation : List Step) (text : String Global) (skips : Vec Skip Global)
+      → (accepted : IsAccepted (problem_of inputs) derivation)
+      → (no_selection : (content : Content) → IsValidSelection (problem_of inputs) content → ⊥)
+      → (explained : string_bytes text ≡ explanation_of derivation)
+      → (skipped : AreSkips inputs skips)
+      → IsAnswer old inputs (Unsolvable derivation text skips)
+
+-- ---- no answer
+
+-- what may be chosen for a new lock
+abbrev pub IsChosen : Inputs → Content → Type 0
+IsChosen inputs = IsSelected (problem_of inputs) (preferred_in inputs.catalogue)
+
+-- why the spelling of a content doesn't read as it: it is larger than a lock may be, or TOML reads it as another table
+abbrev pub IsUnreadable : Content → Type 0
+IsUnreadable content = (most_bytes < length (spelling content)) ⊎ (table_of_bytes (spelling content) ≢ Ok (table_of content))
+
+-- ---- on the way
 
 -- the old lock says a content that is a valid selection
 abbrev pub HoldsOld : Inputs → Type 0
@@ -53,12 +116,7 @@ pub record IsKept (old : Option (List ℕ)) (inputs : Inputs) (bytes : List ℕ)
   pub own : old ≡ Some bytes
   pub is_kept : kept ≡ true
 
--- a valid selection whose root has no checksum; where the preferred walk is complete and valid, that walk, and else one
--- of which the root alone brings all
-abbrev pub IsChosen : Inputs → Content → Type 0
-IsChosen inputs = IsSelected (problem_of inputs) (preferred_in inputs.catalogue)
-
--- the spelling of such a content, which reads as it
+-- the spelling of what was chosen, which reads as it
 pub record IsNew (inputs : Inputs) (bytes : List ℕ) (kept : Bool) : Type 0 where
   pub not_held : HoldsOld inputs → ⊥
   pub content : Content
@@ -75,17 +133,10 @@ pub record IsExplained (inputs : Inputs) (derivation : List Step) (text : List �
   pub unsolvable : IsUnsolvable (problem_of inputs) derivation
   pub explained : text ≡ explanation_of derivation
 
--- a lock or a refusal, and the lines that loading skipped
-abbrev pub IsAnswer : RequestView → Inputs → Answer → Type 0
-IsAnswer request inputs (Lock bytes kept skips) = IsLock request.old inputs bytes.items kept × (map skip_view skips.items ≡ (inputs.catalogue).skips)
-IsAnswer request inputs (Unsolvable derivation text skips) = IsExplained inputs derivation (string_bytes text) × (map skip_view skips.items ≡ (inputs.catalogue).skips)
-
--- why there is no answer although all inputs were read: what was chosen has a spelling that doesn't read as it
-abbrev pub IsWithout : Inputs → Fault → Type 0
-IsWithout inputs fault.NotReadBack = (content : Content) × IsChosen inputs content × (content_of_bytes (spelling content) ≢ Ok content)
-IsWithout inputs _ = ⊥
-
--- ---- on the way
+-- what was chosen has a spelling that doesn't read as it
+abbrev pub IsMisread : Inputs → Fault → Type 0
+IsMisread inputs fault.NotReadBack = (content : Content) × IsChosen inputs content × (content_of_bytes (spelling content) ≢ Ok content)
+IsMisread inputs _ = ⊥
 
 -- what is written is the content's spelling, which reads as the content
 pub record IsWritten (content : Content) (bytes : List ℕ) : Type 0 where
@@ -108,20 +159,27 @@ with_skips (reply.Unsolvable derivation text) skips = Unsolvable derivation text
 -- the same, or that there is none
 abbrev pub Gives : Option (List ℕ) → Inputs → Result Reply Fault → Type 0
 Gives old inputs (Ok given) = IsReply old inputs given
-Gives old inputs (Err f) = UnlessMemory (is_memory f) ((HoldsOld inputs → ⊥) × IsWithout inputs f)
+Gives old inputs (Err f) = UnlessMemory (is_memory f) ((HoldsOld inputs → ⊥) × IsMisread inputs f)
+
+-- ---- the call
 
 module _ {S : Type 0} (calls : Calls S) (failed : S → ℕ) (request : RequestView) (before : S) where
   pub record IsAnswered (answer : Answer) (after : S) : Type 0 where
     pub inputs : Inputs
     pub read : AreRead calls failed request before inputs after
-    pub is : IsAnswer request inputs answer
+    pub is : IsAnswer request.old inputs answer
 
-  -- the old lock isn't valid, and there is no answer
+  -- All inputs were read, there is no lock to keep, and yet there is no answer: the spelling of something that may be
+  -- chosen doesn't read as it, for the one reason or the other.
   pub record IsUnanswered (f : Fault) (after : S) : Type 0 where
     pub inputs : Inputs
     pub read : AreRead calls failed request before inputs after
-    pub not_held : HoldsOld inputs → ⊥
-    pub why : IsWithout inputs f
+    pub not_kept : CanKeep request.old inputs → ⊥
+    pub fault_is : f ≡ fault.NotReadBack
+    pub content : Content
+    pub chosen : IsChosen inputs content
+    pub misread : content_of_bytes (spelling content) ≢ Ok content
+    pub why : IsUnreadable content
 
   abbrev pub Resolves : Result Answer Fault → S → Type 0
   Resolves (Ok answer) after = IsAnswered answer after

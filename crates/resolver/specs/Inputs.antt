@@ -1,17 +1,16 @@
 -- What a call has read before it answers: the manifest, the old lock if there is one, and the index; or the first fault on the way.
-use Rattle.std.specs.Prelude.{◌≡◌, Bool, true, false, List, [], ℕ, Option, Some, None, option_copied, Result, Ok, Err}
+use Rattle.std.specs.Prelude.{◌≡◌, ◌<◌, Bool, true, false, List, [], ◌∷◌, ◌++◌, length, map, ℕ, Option, Some, None, option_copied, Result, Ok, Err}
 use Rattle.model.specs.Outcome.{◌>>=◌}
 use Rattle.model.specs.Content.{Content, Problem}
 use Rattle.manifest.specs.Manifests.{ManifestView, manifest_of_bytes}
 use Rattle.manifest.specs.declared.fault.ManifestFault.{ManifestFault}
 use Rattle.lockfile.specs.Locks.{content_of_bytes}
 use Rattle.lockfile.specs.declared.fault.LockFault.{LockFault}
-use Rattle.catalogue.specs.Loads.{Loads, rust_for}
-use Rattle.catalogue.specs.Problems.{problem_in}
-use Rattle.catalogue.specs.Runs.{Calls}
+use Rattle.catalogue.specs.Loads.{Loads, IsAskedAtMost, IsSoFar, most_names, rust_for}
+use Rattle.catalogue.specs.Problems.{names_in, problem_in}
+use Rattle.catalogue.specs.Runs.{Asked, Calls, next_name}
 use Rattle.catalogue.specs.Stores.{CatalogueView}
 use Rattle.catalogue.specs.declared.fault.LoadFault.{LoadFault}
-use Rattle.catalogue.specs.declared.fault.LoadFault.TheVariants as load
 use Rattle.catalogue.specs.declared.store.Prefer.{Prefer}
 use Rattle.resolver.specs.declared.fault.Fault.{Fault}
 use Rattle.resolver.specs.declared.inputs.Inputs.{Inputs}
@@ -42,10 +41,18 @@ packages_in (Some content) = content
 abbrev pub problem_of : Inputs → Problem
 problem_of inputs = problem_in inputs.manifest inputs.catalogue
 
+-- the names that were asked for, in order
+abbrev pub names_of : Inputs → List (List ℕ)
+names_of inputs = map (λ row. row.0) (inputs.catalogue).rows
+
 module _ {S : Type 0} (calls : Calls S) (failed : S → ℕ) (request : RequestView) (before : S) where
   -- how loading ends for this manifest and this old lock
   abbrev pub LoadsFor : ManifestView → Option Content → Result CatalogueView LoadFault → S → Type 0
   LoadsFor m old = Loads (packages_in old) request.source (rust_for request.prefer m.rust_version) m.brings.dependencies calls failed before
+
+  -- the folder was asked for these names so far, in order
+  abbrev pub IsSoFarFor : ManifestView → Option Content → List Asked → S → Type 0
+  IsSoFarFor m old = IsSoFar (packages_in old) request.source (rust_for request.prefer m.rust_version) m.brings.dependencies calls before
 
   -- the manifest and the old lock say this, and the folder's answers give this index
   pub record AreRead (inputs : Inputs) (after : S) : Type 0 where
@@ -60,17 +67,23 @@ module _ {S : Type 0} (calls : Calls S) (failed : S → ℕ) (request : RequestV
     by_index : (m : ManifestView) (old : Option Content) (e : LoadFault) (after : S) → manifest_of_bytes request.manifest ≡ Ok m
         → old_of_bytes request.old ≡ Ok old → LoadsFor m old (Err e) after → IsRefused (of_load e) after
 
-  -- what is left of the folder where memory was wanting: it wasn't asked; it was asked for the names so far and perhaps for the next one; it is
-  -- the loaded one
-  pub data IsCutShort : S → Type 0 where
-    before_loading : IsCutShort before
-    while_loading : (m : ManifestView) (old : Option Content) (after : S) → manifest_of_bytes request.manifest ≡ Ok m
-        → old_of_bytes request.old ≡ Ok old → LoadsFor m old (Err load.OutOfMemory) after → IsCutShort after
-    after_loading : (inputs : Inputs) (after : S) → AreRead inputs after → IsCutShort after
+  -- what is left of the folder where memory was wanting, and the names that it was asked for until then, in order
+  pub data IsCutShort : List (List ℕ) → S → Type 0 where
+    -- it wasn't asked
+    before_loading : IsCutShort [] before
+    -- it was asked for the names so far
+    while_loading : (m : ManifestView) (old : Option Content) (asked : List Asked) (after : S) → manifest_of_bytes request.manifest ≡ Ok m
+        → old_of_bytes request.old ≡ Ok old → IsSoFarFor m old asked after → IsCutShort (names_in asked) after
+    -- it was asked for the names so far, and perhaps for the next one, which stands last
+    while_asking : (m : ManifestView) (old : Option Content) (asked : List Asked) (mid : S) (name : List ℕ) (after : S) → manifest_of_bytes request.manifest ≡ Ok m
+        → old_of_bytes request.old ≡ Ok old → IsSoFarFor m old asked mid → next_name (packages_in old) request.source m.brings.dependencies asked ≡ Some name
+        → length asked < most_names → IsAskedAtMost calls mid name after → IsCutShort (names_in asked ++ name ∷ []) after
+    -- it was asked for all
+    after_loading : (inputs : Inputs) (after : S) → AreRead inputs after → IsCutShort (names_of inputs) after
 
-  -- how a call ends with a fault: where memory was wanting that says only what is left of the folder
+  -- how a call ends with a fault: where memory was wanting that says only what the folder was asked for, and what is left of it
   abbrev pub EndsWith : Bool → Type 0 → S → Type 0
-  EndsWith true says after = IsCutShort after
+  EndsWith true says after = (names : List (List ℕ)) × IsCutShort names after
   EndsWith false says after = says
 
   -- reading all inputs gives them, or the first fault

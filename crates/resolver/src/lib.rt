@@ -14,8 +14,8 @@ pub use checking::check_bytes;
 pub use fault::{CheckFault, Fault, TooLarge};
 pub use resolving::{Answer, resolve};
 pub use returning::{
-    given_locks_ask_for_no_more, given_locks_come_back, given_locks_verify, given_refusals_prove,
-    loaded_inputs_make_a_catalogue, locks_are_given_where_there_are_selections,
-    memory_folders_stay, unread_spellings_are_large_or_misread,
+    chosen_contents_are_writable, given_locks_ask_for_no_more, given_locks_come_back,
+    given_locks_verify, given_refusals_prove, loaded_inputs_make_a_catalogue,
+    locks_are_given_where_there_are_selections, memory_folders_stay,
 };
 pub use verifying::verify_bytes;

@@ -67,6 +67,8 @@ pub fn resolve<F: Folder>(
         source,
         prefer,
     };
+    // A source is a text that a lock may have: of a lock that doesn't read back the contract says why.
+    let _ = source.as_str();
     let inputs = read_inputs(alloc, &request, folder)?;
     let reply = reply_to(alloc, old, &inputs)?;
     Ok(with_skips(reply, inputs.catalogue.into_skips()))

@@ -1,6 +1,6 @@
 //! The laws of the calls: each is a function that does nothing, whose contract is the statement.
 
-ghost use Rattle.std.specs.Prelude.{◌≡◌, ◌↔◌, ℕ, Bool, List, Result, Ok, true, Contains, String, Vec};
+ghost use Rattle.std.specs.Prelude.{◌≡◌, ◌↔◌, ℕ, Bool, List, Option, Result, Ok, true, Contains, String, Vec};
 ghost use Rattle.std.specs.List.{All};
 ghost use Rattle.std.specs.declared.alloc.Global.{Global};
 ghost use Rattle.model.specs.Content.{Content};
@@ -16,11 +16,10 @@ ghost use Rattle.derivations.specs.Files.{derivation_of_bytes};
 ghost use Rattle.selection.specs.declared.verdict.Verdict.{Verdict};
 ghost use Rattle.checker.specs.declared.outcome.Check.{Check};
 ghost use Rattle.resolver.specs.Checks.{Checks};
-ghost use Rattle.resolver.specs.Inputs.{RequestView, AreRead, IsCutShort, packages_in, problem_of};
-ghost use Rattle.resolver.specs.Answers.{Resolves, Verifies, IsAnswer, IsAnswered, IsChosen, IsWithout};
-ghost use Rattle.resolver.specs.Returning.{handed_in, to_verify, to_check, ComesBack, FindsValid, FindsProof, IsSomeLock, IsUnreadable, names_of, names_cut};
+ghost use Rattle.resolver.specs.Inputs.{RequestView, AreRead, IsCutShort, names_of, packages_in, problem_of};
+ghost use Rattle.resolver.specs.Answers.{Resolves, Verifies, IsAnswer, IsAnswered, IsChosen};
+ghost use Rattle.resolver.specs.Returning.{handed_in, to_verify, to_check, ComesBack, FindsValid, FindsProof, IsSomeLock};
 ghost use Rattle.resolver.specs.declared.fault.Fault.{Fault};
-ghost use Rattle.resolver.specs.declared.fault.Fault.TheVariants.{NotReadBack};
 ghost use Rattle.resolver.specs.declared.fault.CheckFault.{CheckFault};
 ghost use Rattle.resolver.specs.declared.inputs.Inputs.{Inputs};
 ghost use Rattle.resolver.specs.declared.resolving.Answer.{Answer};
@@ -30,7 +29,7 @@ use index_reader::Folder;
 
 /// An answer is a lock exactly where a valid selection exists, and so a refusal exactly where none does.
 pub fn locks_are_given_where_there_are_selections()
-    ensures { (request : RequestView) (inputs : Inputs) (answer : Answer) → IsAnswer request inputs answer
+    ensures { (old : Option (List ℕ)) (inputs : Inputs) (answer : Answer) → IsAnswer old inputs answer
         → IsSomeLock answer ↔ ((content : Content) × IsValidSelection (problem_of inputs) content) }
 {}
 
@@ -60,10 +59,10 @@ pub fn given_locks_ask_for_no_more()
         (first : IsAnswered MemoryCalls failed request folder (Lock bytes kept skips) after)
         (second : IsAnswered MemoryCalls failed (handed_in request bytes.items) folder again later)
         (name : List ℕ) → Contains (names_of second.inputs) name → Contains (names_of first.inputs) name }
-    ensures cut_short { (failed : Files → ℕ) (folder : Files) (request : RequestView) (bytes : Vec ℕ Global) (kept : Bool) (skips : Vec Skip Global) (after later : Files)
+    ensures cut_short { (failed : Files → ℕ) (folder : Files) (request : RequestView) (bytes : Vec ℕ Global) (kept : Bool) (skips : Vec Skip Global) (after : Files) (names : List (List ℕ)) (later : Files)
         (first : IsAnswered MemoryCalls failed request folder (Lock bytes kept skips) after)
-        (second : IsCutShort MemoryCalls failed (handed_in request bytes.items) folder later)
-        (name : List ℕ) → Contains (names_cut MemoryCalls failed (handed_in request bytes.items) folder later second) name → Contains (names_of first.inputs) name }
+        (second : IsCutShort MemoryCalls failed (handed_in request bytes.items) folder names later)
+        (name : List ℕ) → Contains names name → Contains (names_of first.inputs) name }
 {}
 
 /// Over one map of files, a lock that `resolve` gave is valid for `verify_bytes`, whatever was preferred. Want of
@@ -93,12 +92,9 @@ pub fn loaded_inputs_make_a_catalogue<F: Folder>()
         → IsProblemOfRun F.calls before inputs.manifest (packages_in inputs.old) request.source (problem_of inputs) after }
 {}
 
-/// What was chosen of a loaded index has texts that a lock may have; so where `resolve` ends with `NotReadBack`, the
-/// spelling of a chosen content is larger than a lock may be, or TOML reads it as another table than that of the
-/// content.
-pub fn unread_spellings_are_large_or_misread<F: Folder>()
-    ensures writable { (request : RequestView) (before : F) (inputs : Inputs) (after : F) (content : Content) → is_source request.source ≡ true
+/// What may be chosen of a loaded index has texts that a lock may have: so only its length, or TOML, can be why its
+/// spelling doesn't read as it.
+pub fn chosen_contents_are_writable<F: Folder>()
+    ensures { (request : RequestView) (before : F) (inputs : Inputs) (after : F) (content : Content) → is_source request.source ≡ true
         → AreRead F.calls F.failed request before inputs after → IsChosen inputs content → All IsWritable content }
-    ensures unread { (request : RequestView) (before : F) (inputs : Inputs) (after : F) → is_source request.source ≡ true
-        → AreRead F.calls F.failed request before inputs after → IsWithout inputs NotReadBack → (content : Content) × IsChosen inputs content × IsUnreadable content }
 {}

@@ -1,7 +1,6 @@
 use Rattle.std.proofs.lemmas.Result.{err_from_is_err_and}
 use Rattle.std.proofs.Common.{option_copied, subst, sym}
 use Rattle.resolver.specs.Answers.{IsAnswer}
-use Rattle.resolver.specs.Inputs.{RequestView}
 use Rattle.resolver.proofs.Answered.{answered, unanswered}
 use Rattle.resolver.proofs.resolving.resolve.Goals as goal
 
@@ -10,13 +9,13 @@ returns-in_err-reply g c =
     let p = err_from_is_err_and c.from_residual-in_err-reply.result c.from_residual-in_err-reply.ensures.1 in
     rw (p.1, p.2)
     (unanswered g.F.Folder.calls g.F.Folder.failed (record { manifest = c.args.manifest.now; old = option_copied c.args.old; source = c.args.source.now; prefer = c.args.prefer })
-    c.args.folder.now c.read_inputs.new.folder c.in_ok-inputs.inputs c.in_err-reply.field-0.0 c.in_ok-inputs.ensures c.in_err-reply.ensures)
+    c.args.folder.now c.read_inputs.new.folder c.in_ok-inputs.inputs c.in_err-reply.field-0.0 c.as_str.ensures.source c.in_ok-inputs.ensures c.in_err-reply.ensures)
 
 pub returns : goal.returns
 returns g c =
-    let request : RequestView = record { manifest = c.args.manifest.now; old = option_copied c.args.old; source = c.args.source.now; prefer = c.args.prefer } in
     record {
       inputs = c.in_ok-inputs.inputs;
       read = c.in_ok-inputs.ensures;
-      is = subst (IsAnswer request c.in_ok-inputs.inputs) (sym c.with_skips.ensures) (answered request c.in_ok-inputs.inputs c.in_ok-reply.reply c.into_skips.result c.into_skips.ensures c.in_ok-reply.ensures);
+      is = subst (IsAnswer (option_copied c.args.old) c.in_ok-inputs.inputs) (sym c.with_skips.ensures)
+          (answered (option_copied c.args.old) c.in_ok-inputs.inputs c.in_ok-reply.reply c.into_skips.result c.in_ok-inputs.ensures.lock_says c.into_skips.ensures c.in_ok-reply.ensures);
     }
