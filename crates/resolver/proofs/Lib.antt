@@ -7,6 +7,7 @@ pub mod Again
 pub mod Alike
 pub mod Returned
 pub mod Refused
+pub mod Unasked
 pub mod Loaded
 pub mod Given
 pub mod IndexTexts

@@ -1,5 +1,7 @@
 -- What it is for an answer that was given to hold in a later call over the same folder.
-use Rattle.std.specs.Prelude.{◌≡◌, ℕ, true, List, Option, Some, Result, Ok, Err}
+use Rattle.std.specs.Prelude.{◌≡◌, ℕ, true, List, Contains, Option, Some, Result, Ok, Err}
+use Rattle.index_reader.specs.Folders.{Files, file_at}
+use Rattle.index_reader.specs.Paths.{path_of}
 use Rattle.catalogue.specs.declared.store.Prefer.TheVariants.{Newest}
 use Rattle.selection.specs.declared.verdict.Verdict.{Verdict}
 use Rattle.selection.specs.declared.verdict.Verdict.TheVariants.{Valid}
@@ -46,3 +48,7 @@ FindsProof (Err (Proof fault)) = ⊥
 abbrev pub IsSomeLock : Answer → Type 0
 IsSomeLock (Lock bytes kept skips) = Unit {0}
 IsSomeLock (Unsolvable derivation text skips) = ⊥
+
+-- two folders have the same files for these names
+abbrev pub AreAlike : List (List ℕ) → Files → Files → Type 0
+AreAlike names folder other = (name : List ℕ) → Contains names name → file_at other (path_of name) ≡ file_at folder (path_of name)

@@ -16,9 +16,10 @@ ghost use Rattle.derivations.specs.Files.{derivation_of_bytes};
 ghost use Rattle.selection.specs.declared.verdict.Verdict.{Verdict};
 ghost use Rattle.checker.specs.declared.outcome.Check.{Check};
 ghost use Rattle.resolver.specs.Checks.{Checks};
-ghost use Rattle.resolver.specs.Inputs.{RequestView, AreRead, IsCutShort, names_of, packages_in, problem_of};
+ghost use Rattle.resolver.specs.Faults.{is_memory};
+ghost use Rattle.resolver.specs.Inputs.{RequestView, AreRead, IsCutShort, IsRefused, names_of, packages_in, problem_of};
 ghost use Rattle.resolver.specs.Answers.{Resolves, Verifies, IsAnswer, IsAnswered, IsChosen};
-ghost use Rattle.resolver.specs.Returning.{handed_in, to_verify, to_check, ComesBack, FindsValid, FindsProof, IsSomeLock};
+ghost use Rattle.resolver.specs.Returning.{handed_in, to_verify, to_check, AreAlike, ComesBack, FindsValid, FindsProof, IsSomeLock};
 ghost use Rattle.resolver.specs.declared.fault.Fault.{Fault};
 ghost use Rattle.resolver.specs.declared.fault.CheckFault.{CheckFault};
 ghost use Rattle.resolver.specs.declared.inputs.Inputs.{Inputs};
@@ -90,6 +91,24 @@ pub fn loaded_inputs_make_a_catalogue<F: Folder>()
         → IsCatalogue (problem_of inputs) }
     ensures run { (request : RequestView) (before : F) (inputs : Inputs) (after : F) → AreRead F.calls F.failed request before inputs after
         → IsProblemOfRun F.calls before inputs.manifest (packages_in inputs.old) request.source (problem_of inputs) after }
+{}
+
+/// Names that weren't asked for can't matter. Where a run over one map of files has read its inputs, every other map
+/// that has the same files for the names which it asked for is read as the same inputs, and as no other: the same
+/// candidates, and so the same valid selections. A run over that map ends with no fault of an input, and what it answers
+/// is an answer to the first run's inputs.
+pub fn names_not_asked_for_cannot_matter()
+    ensures read { (failed : Files → ℕ) (folder other : Files) (request : RequestView) (inputs : Inputs) (after : Files)
+        → AreRead MemoryCalls failed request folder inputs after → AreAlike (names_of inputs) folder other → AreRead MemoryCalls failed request other inputs other }
+    ensures same { (failed : Files → ℕ) (folder other : Files) (request : RequestView) (inputs : Inputs) (after : Files)
+        → AreRead MemoryCalls failed request folder inputs after → AreAlike (names_of inputs) folder other
+        → (again : Inputs) (later : Files) → AreRead MemoryCalls failed request other again later → again ≡ inputs }
+    ensures unrefused { (failed : Files → ℕ) (folder other : Files) (request : RequestView) (inputs : Inputs) (after : Files)
+        → AreRead MemoryCalls failed request folder inputs after → AreAlike (names_of inputs) folder other
+        → (fault : Fault) (later : Files) → IsRefused MemoryCalls failed request other fault later → is_memory fault ≡ true }
+    ensures answered { (failed : Files → ℕ) (folder other : Files) (request : RequestView) (answer again : Answer) (after later : Files)
+        (first : IsAnswered MemoryCalls failed request folder answer after) → AreAlike (names_of first.inputs) folder other
+        → IsAnswered MemoryCalls failed request other again later → IsAnswer request.old first.inputs again }
 {}
 
 /// What may be chosen of a loaded index has texts that a lock may have: so only its length, or TOML, can be why its
