@@ -1,5 +1,5 @@
 -- The higher classes that a dependency may lead to are those of its own, and only with these another one can be newer.
-use Rattle.std.proofs.Common.{◌≡◌, ℕ, suc, ◌+◌, length, List, [], ◌∷◌, ◌++◌, map, Bool, true, false, cond, ◌&&◌, ◌||◌, nat_eq, refl, sym, ap, ap₂, ◌∙◌, subst}
+use Rattle.std.proofs.Common.{◌≡◌, ℕ, suc, ◌+◌, length, List, [], ◌∷◌, ◌++◌, map, Bool, true, false, cond, not, ◌&&◌, ◌||◌, nat_eq, refl, sym, ap, ap₂, ◌∙◌, subst}
 use Rattle.std.specs.List.{flat_map, list_any}
 use Rattle.indexmap.specs.IndexSet.{insert_key}
 use Rattle.classes.specs.Classes.{class_view}
@@ -15,7 +15,7 @@ use Rattle.model.proofs.Same.{class-same, class-refl}
 use Rattle.refutations.specs.Causes.{Cause, of_newest, has_class}
 use Rattle.refutations.proofs.Named.{class-is, to_class}
 use Rattle.encoding.specs.CausesAt.{each_from, newest_at, newest_if}
-use Rattle.encoding.specs.Higher.{Adds, AreAbove, AreHigher, newest_among, newest_in}
+use Rattle.encoding.specs.Higher.{Adds, AreAbove, AreHigher, alone_from, newest_among, newest_in}
 use Rattle.encoding.proofs.Same.{class_same}
 
 -- ---- classes that a set keeps
@@ -113,6 +113,18 @@ module _ (q : Problem) where
     -- there is none where it leads to its highest class
     pub none_newest : (hs : List Class) → AreHigher q k d hs → hs ≡ [] → (n : ℕ) (es : List Dependency) → each_from (newest_if q o i k d) n es ≡ []
     none_newest hs are none n es = sym (each_same hs are n es) ∙ ap (λ l. each_from (newest_among q l o i k d.real_name) n es) none ∙ each_none n es
+
+    -- nor where no other one is on its package
+    pub none_alone : (j : ℕ) (es : List Dependency) → alone_from i d.real_name j es ≡ true → each_from (newest_if q o i k d) j es ≡ []
+    none_alone j [] h = refl
+    none_alone j (e ∷ es) h = by (nat_eq i j) (same_text d.real_name e.real_name) (none_alone (j + 1) es) h
+      where
+        by : (a b : Bool) → (alone_from i d.real_name (j + 1) es ≡ true → each_from (newest_if q o i k d) (j + 1) es ≡ [])
+            → cond (not a && b) false (alone_from i d.real_name (j + 1) es) ≡ true
+            → cond a [] (cond b (flat_map (newest_at q o i j k d) (dep_classes q e)) []) ++ each_from (newest_if q o i k d) (j + 1) es ≡ []
+        by true b rest t = rest t
+        by false false rest t = rest t
+        by false true rest t = let no : false ≡ true = t in cc
 
 pub no_views : (ks : List code.Class) → length ks ≡ 0 → map class_view ks ≡ []
 no_views [] e = refl

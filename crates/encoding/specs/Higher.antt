@@ -1,5 +1,5 @@
 -- The dependencies of one package that may lead to a higher class, where the higher classes are known that matter.
-use Rattle.std.specs.Prelude.{◌≡◌, ℕ, List, [], ◌∷◌, ◌&&◌, ◌||◌, if◌then◌else◌, nat_eq}
+use Rattle.std.specs.Prelude.{◌≡◌, ◌+◌, ℕ, Bool, true, false, not, List, [], ◌∷◌, ◌&&◌, ◌||◌, if◌then◌else◌, nat_eq}
 use Rattle.std.specs.List.{flat_map, list_any}
 use Rattle.model.specs.Summary.{Dependency, same_text}
 use Rattle.model.specs.Content.{Problem}
@@ -19,6 +19,15 @@ Adds k c hs new = (m : Class) → list_any (same_class m) new ≡ (list_any (sam
 -- these are the classes higher than k that the dependency may lead to
 abbrev pub AreHigher : Problem → Class → Dependency → List Class → Type 0
 AreHigher q k d hs = (m : Class) → list_any (same_class m) hs ≡ (is_lower k m && has_class q m d)
+
+-- the dependency j is another one than i, on the same package
+abbrev pub is_other : ℕ → List ℕ → ℕ → Dependency → Bool
+is_other i name j e = not (nat_eq i j) && same_text name e.real_name
+
+-- of the dependencies from number j on none is such a one
+abbrev pub alone_from : ℕ → List ℕ → ℕ → List Dependency → Bool
+alone_from i name j [] = true
+alone_from i name j (e ∷ es) = if is_other i name j e then false else alone_from i name (j + 1) es
 
 module _ (hs : List Class) where
   abbrev pub newest_in : Owner → ℕ → ℕ → Class → Class → List Cause

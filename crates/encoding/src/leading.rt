@@ -10,7 +10,7 @@ ghost use Rattle.model.specs.Vertices.{dep_classes, same_class};
 ghost use Rattle.refutations.specs.Causes.{dependency_at, of_list};
 ghost use Rattle.encoding.specs.CauseViews.{cause_views};
 ghost use Rattle.encoding.specs.CausesAt.{each_from, lead_causes, listed_by, newest_if, root_asked};
-ghost use Rattle.encoding.specs.Higher.{Adds, AreAbove, AreHigher, newest_among, newest_in};
+ghost use Rattle.encoding.specs.Higher.{Adds, AreAbove, AreHigher, alone_from, is_other, newest_among, newest_in};
 ghost use Rattle.encoding.specs.Inputs.{KnowsDefault, problem};
 ghost use Rattle.vertices.specs.RefViews.{owner_ref_view};
 
@@ -213,6 +213,9 @@ fn put_newest<'a>(
 ) -> Result<(), AllocError>
     ensures { OnOk result (cause_views causes.new.items ≡ cause_views causes.old.items ++ each_from (newest_if (problem inputs.now) (owner_ref_view lead.entry.owner) lead.entry.number (class_view lead.entry.class) (dependency_view dependency.now)) 0 (dependency_views others.now)) }
 {
+    if is_alone(lead.number, &dependency.real_name, others) {
+        return Ok(());
+    }
     let higher = higher_classes(alloc, inputs, lead.class, dependency)?;
     if higher.is_empty() {
         return Ok(());
@@ -226,6 +229,25 @@ fn put_newest<'a>(
         &higher,
         others,
     )
+}
+
+/// Whether no other of the dependencies is on the package of the one with this number.
+fn is_alone(number: usize, name: &PackageName, others: &[Dependency]) -> bool
+    ensures { result ≡ alone_from number name.now 0 (dependency_views others.now) }
+{
+    'others: for (place, other) in others.iter().enumerate() {
+        if is_other(number, name, place, other) {
+            return false;
+        }
+    }
+    true
+}
+
+/// Whether a dependency is another one than that of the number, on the same package.
+fn is_other(number: usize, name: &PackageName, place: usize, other: &Dependency) -> bool
+    ensures { result ≡ is_other number name.now place (dependency_view other.now) }
+{
+    number != place && *name == other.real_name
 }
 
 /// The higher classes to which a dependency may lead.

@@ -6,8 +6,17 @@ use Rattle.features.specs.Views.{dependency_view, dependency_views}
 use Rattle.encoding.specs.CauseViews.{cause_views}
 use Rattle.encoding.specs.Inputs.{problem}
 use Rattle.vertices.specs.RefViews.{owner_ref_view}
-use Rattle.encoding.proofs.HigherLaws.{each_same, no_views, none_newest}
+use Rattle.encoding.proofs.HigherLaws.{each_same, no_views, none_alone, none_newest}
 use Rattle.encoding.proofs.leading.put_newest.Goals as goal
+
+pub returns-then-is_alone : goal.returns-then-is_alone
+returns-then-is_alone c =
+    let lead = c.args.lead in
+    let cs = cause_views c.args.causes.now.items in
+    sym (ap (λ l. cs ++ l)
+    (none_alone (problem c.args.inputs.now) (owner_ref_view lead.owner) lead.number (class_view lead.class) (dependency_view c.args.dependency.now) 0 (dependency_views c.args.others.now)
+    (sym c.is_alone.ensures ∙ c.if-is_alone.true))
+    ∙ append-nil cs)
 
 pub returns-then-is_empty : goal.returns-then-is_empty
 returns-then-is_empty c =
