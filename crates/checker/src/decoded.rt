@@ -3,8 +3,8 @@
 ghost use Rattle.std.specs.Prelude.{◌≤◌, length};
 ghost use Rattle.checker.specs.Decoded.{AreVertexRanks};
 
-use named_terms::States;
 use derivations::{Tables, Term};
+use named_terms::States;
 use std::cmp::Ordering;
 use vertices::Vertex;
 

@@ -15,8 +15,8 @@ ghost use Rattle.checker.specs.Steps.{AreOrderedSteps, IsOrderedTerm};
 use crate::decoded::Decoded;
 use crate::ranks::ranks_of;
 use crate::states::read_states;
-use named_terms::States;
 use derivations::{Step, Tables, Term};
+use named_terms::States;
 use std::alloc::{AllocError, Global};
 use vertices::Vertex;
 
