@@ -1,5 +1,5 @@
 -- What was gathered of steps, and that it is all that they name.
-use Rattle.std.proofs.Common.{◌≡◌, ℕ, suc, ◌+◌, ◌<◌, List, [], ◌∷◌, ◌++◌, length, take, get_or, Result, Ok, Err, IfOk, sym, ap, ◌∙◌, subst, arith}
+use Rattle.std.proofs.Common.{◌≡◌, ℕ, suc, ◌+◌, ◌<◌, List, [], ◌∷◌, length, take, get_or, Result, Ok, Err, IfOk, sym, subst, arith}
 use Rattle.std.proofs.Math.Seq.{take-suc}
 use Rattle.std.specs.List.{AllByRecursion}
 use Rattle.model.proofs.Accepted.{all-push}
@@ -7,8 +7,8 @@ use Rattle.derivations.specs.Tables.{TablesView}
 use Rattle.derivations.specs.declared.step.Term.{Term}
 use Rattle.derivations.specs.declared.step.Step.{Step}
 use Rattle.checker.specs.Decoded.{Sets, IsMade}
-use Rattle.checker.specs.Naming.{AreNamed, AreNamedSteps, IsDecoding, IsGrown, IsNamed}
-use Rattle.checker.specs.Ready.{tables_of, AreReadySteps, IsReady, IsReadyStep}
+use Rattle.checker.specs.Naming.{AreNamed, AreNamedSteps, IsGrown, IsNamed}
+use Rattle.checker.specs.Ready.{tables_of, AreReadySteps, IsReady}
 use Rattle.checker.specs.Steps.{AreOrderedSteps, IsOrderedStep}
 use Rattle.checker.specs.declared.decoded.Decoded.{Decoded}
 use Rattle.checker.specs.declared.decoding.Decoding.{Decoding}

@@ -1,6 +1,5 @@
-use Rattle.std.proofs.Common.{◌∙◌, List, subst, take, take_all, sym}
+use Rattle.std.proofs.Common.{◌∙◌, subst, take_all}
 use Rattle.std.proofs.lemmas.Result.{IfOk-weaker}
-use Rattle.derivations.specs.declared.step.Step.{Step}
 use Rattle.checker.specs.Naming.{AreNamedSteps}
 use Rattle.checker.proofs.NamingLaws.{all_ready}
 use Rattle.checker.proofs.decoding.decode.Goals as goal

@@ -1,5 +1,4 @@
 use Rattle.std.proofs.Common.{take}
-use Rattle.std.specs.List.{AllByRecursion}
 use Rattle.checker.specs.Naming.{AreNamedSteps, IsDecoding}
 use Rattle.checker.proofs.decoding.decode.Given as goal
 

@@ -1,4 +1,3 @@
-use Rattle.std.proofs.Common.{take, rules}
 use Rattle.checker.proofs.NamingLaws.{named_more}
 use Rattle.checker.proofs.decoding.Decoding.add_terms.Goals as goal
 
