@@ -201,8 +201,8 @@ fn put_root_asked<'a>(
     Ok(())
 }
 
-/// The dependencies of the same package that may lead to a higher class, to which this one may lead too. Where this one
-/// leads to its highest class there are none, and no other dependency is looked at.
+/// The dependencies of the same package that may lead to a higher class, to which this one may lead too. There are none
+/// where no other one is on the package, which is asked first, or where this one leads to its highest class.
 fn put_newest<'a>(
     alloc: Global,
     inputs: &Inputs<'a>,

@@ -67,7 +67,7 @@ pub fn resolve<F: Folder>(
         source,
         prefer,
     };
-    // A source is a text that a lock may have: of a lock that doesn't read back the contract says why.
+    // For the proof alone: a source is a text that a lock may have, so a lock that isn't read back has its reason.
     let _ = source.as_str();
     let inputs = read_inputs(alloc, &request, folder)?;
     let reply = reply_to(alloc, old, &inputs)?;
