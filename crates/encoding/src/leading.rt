@@ -202,7 +202,8 @@ fn put_root_asked<'a>(
 }
 
 /// The dependencies of the same package that may lead to a higher class, to which this one may lead too. There are none
-/// where no other one is on the package, which is asked first, or where this one leads to its highest class.
+/// where no other one is on the package, which is asked first where that is quicker told, or where this one leads to its
+/// highest class.
 fn put_newest<'a>(
     alloc: Global,
     inputs: &Inputs<'a>,
@@ -213,7 +214,8 @@ fn put_newest<'a>(
 ) -> Result<(), AllocError>
     ensures { OnOk result (cause_views causes.new.items ≡ cause_views causes.old.items ++ each_from (newest_if (problem inputs.now) (owner_ref_view lead.entry.owner) lead.entry.number (class_view lead.entry.class) (dependency_view dependency.now)) 0 (dependency_views others.now)) }
 {
-    if is_alone(lead.number, &dependency.real_name, others) {
+    let versions = inputs.catalogue.versions(&dependency.real_name);
+    if others.len() <= versions.len() && is_alone(lead.number, &dependency.real_name, others) {
         return Ok(());
     }
     let higher = higher_classes(alloc, inputs, lead.class, dependency)?;
