@@ -1,6 +1,6 @@
--- The packages of a valid selection, in a run over the same index that has it as its old lock: each has a name that is asked for.
-use Rattle.std.proofs.Common.{◌≡◌, ℕ, List, Bool, true, false, not, cond, Contains, Option, Some, slice_get, refl, sym, ap, ◌∙◌, subst, true≢false}
-use Rattle.std.proofs.lemmas.Bool.{or_right}
+-- The packages of a valid selection, in a run over the same index whose old lock has those of them that are yanked: each has a name that is asked for.
+use Rattle.std.proofs.Common.{◌≡◌, ℕ, List, Bool, true, false, not, ◌||◌, cond, Contains, Option, Some, slice_get, refl, sym, ap, ◌∙◌, subst, true≢false}
+use Rattle.std.proofs.lemmas.Bool.{or_left, or_right}
 use Rattle.std.proofs.lemmas.Option.{same_Some}
 use Rattle.semver.specs.Parse.{Parts}
 use Rattle.model.specs.Summary.{Summary, Dependency}
@@ -12,15 +12,15 @@ use Rattle.model.proofs.Lists.{to_map}
 use Rattle.model.proofs.Owners.{candidate_at-is, is_candidate, target_is, serves_parts}
 use Rattle.manifest.specs.Manifests.{ManifestView}
 use Rattle.catalogue.specs.Runs.{Asked, candidates_in, meant_by}
-use Rattle.catalogue.specs.Problems.{IsRunOver, names_in, problem_of}
+use Rattle.catalogue.specs.Problems.{IsRunOver, KeepsYanked, names_in, problem_of}
 use Rattle.catalogue.proofs.LawsCandidates.{file_of, with_file, in_candidates, to_candidates, in_index}
 use Rattle.catalogue.proofs.LawsLists.{got_in, to_flat}
 use Rattle.catalogue.proofs.LawsNames.{needed, needed-root, needed-asked, all_asked}
-use Rattle.catalogue.proofs.LawsPackages.{to_locked, of_source, serving_is}
+use Rattle.catalogue.proofs.LawsPackages.{text_option, of_source, serving_is}
 
-module _ (files : List ℕ → Option (List ℕ)) (manifest : ManifestView) (old : Content) (source : List ℕ) (asked : List Asked) (content : Content) (again : List Asked)
-    (run : IsRunOver files manifest old source asked) (rerun : IsRunOver files manifest content source again)
-    (valid : IsValidSelection (problem_of manifest old source asked) content) where
+module _ (files : List ℕ → Option (List ℕ)) (manifest : ManifestView) (old : Content) (source : List ℕ) (asked : List Asked) (content lock : Content) (again : List Asked)
+    (run : IsRunOver files manifest old source asked) (rerun : IsRunOver files manifest lock source again)
+    (valid : IsValidSelection (problem_of manifest old source asked) content) (keeps : KeepsYanked files source content lock) where
   abbrev before : Problem
   before = problem_of manifest old source asked
 
@@ -31,10 +31,17 @@ module _ (files : List ℕ → Option (List ℕ)) (manifest : ManifestView) (old
   pub record Selected (p : Package) : Type 0 where
     pub r : Record
     pub was : Contains (candidates_in old source (file_of files p.name)) r
-    pub is : Contains (candidates_in content source (file_of files p.name)) r
+    pub is : Contains (candidates_in lock source (file_of files p.name)) r
     pub version : p.version ≡ r.version
     pub candidate : candidate_of before p ≡ Some (as_candidate r)
     pub found : candidate_at (candidates_of before.candidates p.name) p.version ≡ Some (as_candidate r)
+
+  -- it may be locked, for it isn't yanked, or it is in the lock
+  still : (p : Package) (r : Record) → p.version ≡ r.version → (r.yanked ≡ true → is_locked lock source p.name p.version ≡ true) → (b : Bool) → r.yanked ≡ b
+      → (not r.yanked || is_locked lock source p.name r.version) ≡ true
+  still p r same locked false y = or_left (not r.yanked) (is_locked lock source p.name r.version) (ap not y)
+  still p r same locked true y =
+      or_right (not r.yanked) (is_locked lock source p.name r.version) (subst (λ (v : Parts). is_locked lock source p.name v ≡ true) same (locked y))
 
   pub selected : (n : ℕ) (p : Package) → IsOther before content n p → Selected p
   selected n p other =
@@ -42,12 +49,12 @@ module _ (files : List ℕ → Option (List ℕ)) (manifest : ManifestView) (old
       let f = candidate_at-is (candidates_of before.candidates p.name) p.version k.0 k.2 in
       let i = in_index old source files asked p.name k.0 run.answers f.0 in
       let same : p.version ≡ (i.0).version = f.1 ∙ ap (λ (c : Candidate). c.version) (sym i.2) in
-      let locked = to_locked content source n p other.0 (of_source before p k.0 k.1) in
+      let there = (in_candidates old source (file_of files p.name) i.0 i.1).0 in
+      let locked = λ (y : (i.0).yanked ≡ true). keeps p i.0 (got_in content n p other.0) (text_option p.source source (of_source before p k.0 k.1)) there (sym same) y in
       record {
         r = i.0;
         was = i.1;
-        is = to_candidates content source (file_of files p.name) i.0 (in_candidates old source (file_of files p.name) i.0 i.1).0
-            (or_right (not (i.0).yanked) (is_locked content source p.name (i.0).version) (subst (λ (v : Parts). is_locked content source p.name v ≡ true) same locked));
+        is = to_candidates lock source (file_of files p.name) i.0 there (still p i.0 same locked (i.0).yanked refl);
         version = same;
         candidate = k.1 ∙ ap Some (sym i.2);
         found = k.2 ∙ ap Some (sym i.2);
@@ -57,7 +64,7 @@ module _ (files : List ℕ → Option (List ℕ)) (manifest : ManifestView) (old
   needs_asked : (n i : ℕ) (d : Dependency) (p : Package) → slice_get content n ≡ Some p → (is_root before p ≡ false → Contains (names_in again) p.name)
       → slice_get (summary_at before content n).dependencies i ≡ Some d → Contains (names_in again) d.real_name
   needs_asked n i d p got named has =
-      all_asked content source needs again rerun.in_turn rerun.ended d.real_name (by (is_root before p) refl)
+      all_asked lock source needs again rerun.in_turn rerun.ended d.real_name (by (is_root before p) refl)
     where
       means : List Dependency → Type 0
       means ds = Contains (meant_by ds) d.real_name
@@ -68,12 +75,12 @@ module _ (files : List ℕ → Option (List ℕ)) (manifest : ManifestView) (old
       brought : (b : Bool) → is_root before p ≡ b → summary_at before content n ≡ cond b manifest.brings (brings_of (candidate_of before p))
       brought b e = ap (summary_if before) got ∙ ap (λ b. cond b manifest.brings (brings_of (candidate_of before p))) e
 
-      by : (b : Bool) → is_root before p ≡ b → Contains (needed content source needs again) d.real_name
-      by true e = needed-root content source needs again d.real_name (meant manifest.brings (brought true e))
+      by : (b : Bool) → is_root before p ≡ b → Contains (needed lock source needs again) d.real_name
+      by true e = needed-root lock source needs again d.real_name (meant manifest.brings (brought true e))
       by false e =
           let s = selected n p (got, e) in
-          needed-asked content source needs again (file_of files p.name) d.real_name (with_file files again p.name rerun.answers (named e))
-          (to_flat (λ (r : Record). meant_by (r.brings).dependencies) (candidates_in content source (file_of files p.name)) s.r d.real_name s.is
+          needed-asked lock source needs again (file_of files p.name) d.real_name (with_file files again p.name rerun.answers (named e))
+          (to_flat (λ (r : Record). meant_by (r.brings).dependencies) (candidates_in lock source (file_of files p.name)) s.r d.real_name s.is
           (meant (s.r).brings (brought false e ∙ ap brings_of s.candidate)))
 
   -- each package other than the root has a name that the second run asks for

@@ -1,10 +1,10 @@
 -- What a selection is held against, in a run for a manifest (Cargo book, "Dependency Resolution"): the model's problem.
-use Rattle.std.specs.Prelude.{◌≡◌, ℕ, List, [], Option, None, map}
+use Rattle.std.specs.Prelude.{◌≡◌, ℕ, true, List, [], Contains, Option, Some, None, map}
 use Rattle.std.specs.List.{All}
-use Rattle.model.specs.Content.{Candidate, Content, Problem}
-use Rattle.model.specs.Candidates.{as_candidate}
+use Rattle.model.specs.Content.{Candidate, Content, Package, Problem}
+use Rattle.model.specs.Candidates.{Record, as_candidate, is_locked}
 use Rattle.manifest.specs.Manifests.{ManifestView, root_asks}
-use Rattle.catalogue.specs.Runs.{Asked, Calls, IsRun, candidates_in, AreNext, next_name}
+use Rattle.catalogue.specs.Runs.{Asked, Calls, IsRun, candidates_in, records_of, AreNext, next_name}
 use Rattle.catalogue.specs.Stores.{CatalogueView, rows_by_name}
 
 -- the names that were asked for
@@ -48,3 +48,8 @@ pub record IsRunOver (files : List ℕ → Option (List ℕ)) (manifest : Manife
   pub answers : All (λ a. a.1 ≡ files a.0) asked
   pub in_turn : AreNext old source manifest.brings.dependencies [] asked
   pub ended : next_name old source manifest.brings.dependencies asked ≡ None
+
+-- over a fixed index, another lock has each package of the content that is yanked there
+abbrev pub KeepsYanked : (List ℕ → Option (List ℕ)) → List ℕ → Content → Content → Type 0
+KeepsYanked files source content lock = (p : Package) (r : Record) → Contains content p → p.source ≡ Some source
+    → Contains (records_of (p.name, files p.name)) r → r.version ≡ p.version → r.yanked ≡ true → is_locked lock source p.name p.version ≡ true

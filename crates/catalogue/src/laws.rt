@@ -12,7 +12,7 @@ ghost use Rattle.manifest.specs.Manifests.{ManifestView};
 ghost use Rattle.index_reader.specs.Folders.{Files, MemoryCalls, file_at};
 ghost use Rattle.index_reader.specs.Paths.{path_of};
 ghost use Rattle.catalogue.specs.Runs.{AreNext, Asked, IsRun, records_of};
-ghost use Rattle.catalogue.specs.Problems.{IsRunOver, names_in, problem_in, problem_of};
+ghost use Rattle.catalogue.specs.Problems.{IsRunOver, KeepsYanked, names_in, problem_in, problem_of};
 
 use crate::store::Catalogue;
 use manifest::Manifest;
@@ -73,4 +73,12 @@ pub fn selections_hold_with_themselves()
     ensures { (files : List ℕ → Option (List ℕ)) (manifest : ManifestView) (old : Content) (source : List ℕ) (asked : List Asked) (content : Content) (again : List Asked)
         → IsRunOver files manifest old source asked → IsRunOver files manifest content source again
         → IsValidSelection (problem_of manifest old source asked) content → IsValidSelection (problem_of manifest content source again) content }
+{}
+
+/// Over a fixed index, a valid selection stays one with another old lock, if that has those of its packages that are yanked.
+pub fn selections_hold_with_other_locks()
+    ensures { (files : List ℕ → Option (List ℕ)) (manifest : ManifestView) (old : Content) (source : List ℕ) (asked : List Asked) (content lock : Content) (again : List Asked)
+        → IsRunOver files manifest old source asked → IsRunOver files manifest lock source again
+        → IsValidSelection (problem_of manifest old source asked) content → KeepsYanked files source content lock
+        → IsValidSelection (problem_of manifest lock source again) content }
 {}

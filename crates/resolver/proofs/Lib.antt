@@ -6,6 +6,7 @@ pub mod Unstopped
 pub mod Again
 pub mod Alike
 pub mod Returned
+pub mod Verified
 pub mod Refused
 pub mod Unasked
 pub mod Loaded

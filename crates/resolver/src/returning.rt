@@ -9,17 +9,19 @@ ghost use Rattle.model.specs.Selection.{IsValidSelection};
 ghost use Rattle.model.specs.WellFormed.{IsCatalogue};
 ghost use Rattle.index_reader.specs.Folders.{Files, MemoryCalls};
 ghost use Rattle.index_reader.specs.declared.record.Skip.{Skip};
+ghost use Rattle.lockfile.specs.Locks.{content_of_bytes};
 ghost use Rattle.lockfile.specs.Table.{IsWritable};
-ghost use Rattle.catalogue.specs.Problems.{IsProblemOfRun};
+ghost use Rattle.catalogue.specs.Problems.{IsProblemOfRun, KeepsYanked};
 ghost use Rattle.catalogue.specs.Sources.{is_source};
 ghost use Rattle.derivations.specs.Files.{derivation_of_bytes};
 ghost use Rattle.selection.specs.declared.verdict.Verdict.{Verdict};
+ghost use Rattle.selection.specs.declared.verdict.Verdict.TheVariants.{Valid};
 ghost use Rattle.checker.specs.declared.outcome.Check.{Check};
 ghost use Rattle.resolver.specs.Checks.{Checks};
 ghost use Rattle.resolver.specs.Faults.{is_memory};
-ghost use Rattle.resolver.specs.Inputs.{RequestView, AreRead, IsCutShort, IsRefused, names_of, packages_in, problem_of};
+ghost use Rattle.resolver.specs.Inputs.{RequestView, AreRead, IsCutShort, IsRefused, names_of, old_of_bytes, packages_in, problem_of};
 ghost use Rattle.resolver.specs.Answers.{Resolves, Verifies, IsAnswer, IsAnswered, IsChosen};
-ghost use Rattle.resolver.specs.Returning.{handed_in, to_verify, to_check, AreAlike, ComesBack, FindsValid, FindsProof, IsSomeLock};
+ghost use Rattle.resolver.specs.Returning.{handed_in, to_verify, to_check, AreAlike, ComesBack, FindsValid, FindsProof, IsSomeLock, files_of};
 ghost use Rattle.resolver.specs.declared.fault.Fault.{Fault};
 ghost use Rattle.resolver.specs.declared.fault.CheckFault.{CheckFault};
 ghost use Rattle.resolver.specs.declared.inputs.Inputs.{Inputs};
@@ -72,6 +74,15 @@ pub fn given_locks_verify()
     ensures { (failed : Files → ℕ) (folder : Files) (request : RequestView) (bytes : Vec ℕ Global) (kept : Bool) (skips : Vec Skip Global) (after : Files) (result : Result Verdict Fault) (later : Files)
         → Resolves MemoryCalls failed request folder (Ok (Lock bytes kept skips)) after
         → Verifies MemoryCalls failed (to_verify request bytes.items) folder result later → FindsValid result }
+{}
+
+/// Over one map of files, where a lock is valid for `verify_bytes`, and the old lock that `resolve` is given has each of
+/// its packages that is yanked in the index, `resolve` answers with a lock.
+pub fn verified_locks_exclude_refusals()
+    ensures { (failed : Files → ℕ) (folder : Files) (request : RequestView) (lock : List ℕ) (content : Content) (old : Option Content) (after : Files) (answer : Answer) (later : Files)
+        → Verifies MemoryCalls failed (to_verify request lock) folder (Ok Valid) after → Resolves MemoryCalls failed request folder (Ok answer) later
+        → content_of_bytes lock ≡ Ok content → old_of_bytes request.old ≡ Ok old
+        → KeepsYanked (files_of folder) request.source content (packages_in old) → IsSomeLock answer }
 {}
 
 /// Over one map of files, a derivation that `resolve` gave proves for `check_bytes`, with the same old lock and
