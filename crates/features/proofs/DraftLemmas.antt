@@ -1,17 +1,18 @@
 -- Texts in a set, and what a loop has put there so far.
-use Rattle.std.proofs.Common.{◌≡◌, ℕ, List, [], ◌∷◌, map, Bool, true, false, ◌||◌, cond, Some, None, is_some, Vec, Ordering, Less, Equal, Greater, refl, sym, ap, ap₂, ◌∙◌, subst}
+use Rattle.std.proofs.Common.{◌≡◌, ℕ, List, [], ◌∷◌, ◌++◌, map, Bool, true, false, ◌||◌, cond, Some, None, is_some, Vec, Ordering, Less, Equal, Greater, refl, sym, ap, ap₂, ◌∙◌, subst}
 use Rattle.std.specs.Borrow.{Bor}
 use Rattle.std.specs.BTreeMap.{is_at}
 use Rattle.std.specs.BTreeSet.{insert_key}
 use Rattle.std.specs.Ordering.{nat_cmp, match_ordering}
 use Rattle.std.specs.Cmp.Lexicographic.{slice_cmp, texts_ties}
 use Rattle.std.specs.List.{list_any}
+use Rattle.std.proofs.lemmas.List.Folds.{list_any-append}
 use Rattle.std.proofs.lemmas.Map.Lookups.{exact_bytes}
 use Rattle.std.specs.declared.alloc.Global.{Global}
 use Rattle.model.specs.Summary.{entries_at, has_feature, same_text}
 use Rattle.model.specs.Summary as model
 use Rattle.model.specs.Tables.{first_with}
-use Rattle.features.specs.Drafts.{has_text}
+use Rattle.features.specs.Texts.{has_text}
 use Rattle.features.specs.EntryViews.{entry_view, entry_views}
 use Rattle.features.specs.Tables.{rows_of}
 use Rattle.features.specs.declared.entry.Entry.{Entry}
@@ -47,6 +48,19 @@ has_text-insert_key d k (x ∷ xs) = by (str_cmp k x) refl (has_text-insert_key 
     by Less e rest = or_swap (same_text d k.now) (has_text (x ∷ xs) d)
     by Equal e rest = subst (λ n. has_text (x ∷ xs) d ≡ (has_text (x ∷ xs) d || same_text d n)) (sym (exact_bytes k.now x.now e)) (or_twice (same_text d x.now) (has_text xs d))
     by Greater e rest = ap (λ b. same_text d x.now || b) rest ∙ or_assoc (same_text d x.now) (has_text xs d) (same_text d k.now)
+
+-- a text that isn't among the first is looked up among the others
+pub has_text-others : (d : List ℕ) (few more : List (Bor (List ℕ))) → has_text few d ≡ false → has_text more d ≡ has_text (few ++ more) d
+has_text-others d few more none = sym (list_any-append (λ k. same_text d k.now) few more ∙ ap (λ b. b || has_text more d) none)
+
+-- a text is put to the others
+pub has_text-put : (d : List ℕ) (k : Bor (List ℕ)) (few more new : List (Bor (List ℕ))) → new ≡ insert_key str_cmp more k
+    → has_text (few ++ new) d ≡ (has_text (few ++ more) d || same_text d k.now)
+has_text-put d k few more new put =
+    list_any-append (λ k. same_text d k.now) few new
+    ∙ ap (λ b. has_text few d || b) (ap (λ ks. has_text ks d) put ∙ has_text-insert_key d k more)
+    ∙ or_assoc (has_text few d) (has_text more d) (same_text d k.now)
+    ∙ ap (λ b. b || same_text d k.now) (sym (list_any-append (λ k. same_text d k.now) few more))
 
 -- the keys of a map of rows are the features that it has
 pub keys-has : (d : List ℕ) (es : List (List ℕ × Vec Entry Global)) → list_any (same_text d) (map (λ e. e.0) es) ≡ has_feature (rows_of es) d

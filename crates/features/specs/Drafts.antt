@@ -1,23 +1,13 @@
--- How a feature table is built from what is written: the names in it that are looked up, its faults one after another, and the rows that
--- are put to it.
-use Rattle.std.specs.Prelude.{◌≡◌, ℕ, List, [], ◌∷◌, map, Bool, Result, Ok, Err}
-use Rattle.std.specs.Borrow.{Bor}
-use Rattle.std.specs.List.{list_any, filter}
-use Rattle.model.specs.Summary.{Table, same_text}
+-- How a feature table is built from what is written: its faults one after another, and the rows that are put to it.
+use Rattle.std.specs.Prelude.{ℕ, List, [], ◌∷◌, map, Bool, Result, Ok, Err}
+use Rattle.std.specs.List.{filter}
+use Rattle.model.specs.Summary.{Table}
 use Rattle.model.specs.Outcome.{◌>>=◌}
 use Rattle.model.specs.Tables as model
 use Rattle.features.specs.Tables.{fault_at}
 use Rattle.features.specs.declared.draft.Lack.{Lack}
 use Rattle.features.specs.declared.draft.Lack.TheVariants.{Feature, Dependency, Optional}
 use Rattle.features.specs.declared.table.FeatureFault.{FeatureFault}
-
--- whether a set of texts has one with these bytes
-abbrev pub has_text : List (Bor (List ℕ)) → List ℕ → Bool
-has_text names d = list_any (λ k. same_text d k.now) names
-
--- a set of texts has just those that pass the test
-abbrev pub HasThose : List (Bor (List ℕ)) → (List ℕ → Bool) → Type 0
-HasThose names test = (d : List ℕ) → has_text names d ≡ test d
 
 -- the fault of an entry for which this is lacking
 abbrev pub lack_view : Lack → model.TableFault

@@ -5,7 +5,8 @@ ghost use Rattle.std.specs.List.{list_any};
 ghost use Rattle.model.specs.Outcome.{Gives};
 ghost use Rattle.model.specs.Summary.{has_feature, same_text};
 ghost use Rattle.model.specs.Tables.{has_dep_entry, has_dependency, has_fault, first_with, is_dep, implicit_entries, is_feature, is_implicit, is_optional};
-ghost use Rattle.features.specs.Drafts.{has_text, HasThose, faultless, implicit_rows, lack_view, rows_or_fault, without};
+ghost use Rattle.features.specs.Drafts.{faultless, implicit_rows, lack_view, rows_or_fault, without};
+ghost use Rattle.features.specs.Texts.{has_text, HasThose, texts_in};
 ghost use Rattle.features.specs.EntryViews.{entry_view, entry_views};
 ghost use Rattle.features.specs.Tables.{dep_names_view, rows_of, table_wants_memory};
 
@@ -13,8 +14,9 @@ use crate::entry::Entry;
 use crate::feature_name::FeatureName;
 use crate::name::PackageName;
 use crate::table::{DepName, FeatureFault};
+use crate::texts::Texts;
 use std::alloc::{AllocError, Global};
-use std::collections::{BTreeMap, BTreeSet};
+use std::collections::BTreeMap;
 
 /// What an entry may lack.
 #[derive(Clone, Copy)]
@@ -33,51 +35,38 @@ struct Draft<'a> {
     dependencies: &'a [DepName],
     written: &'a BTreeMap<FeatureName, Vec<Entry>>,
     /// What the dependencies are called.
-    called: BTreeSet<&'a str>,
+    called: Texts<'a>,
     /// What the optional ones are called.
-    optional: BTreeSet<&'a str>,
+    optional: Texts<'a>,
     /// What the entries `dep:d` name.
-    entered: BTreeSet<&'a str>,
+    entered: Texts<'a>,
     /// What the features are called.
-    features: BTreeSet<&'a str>,
-    ghost called_is: { HasThose called.keys (has_dependency (dep_names_view dependencies.now)) },
-    ghost optional_is: { HasThose optional.keys (is_optional (dep_names_view dependencies.now)) },
-    ghost entered_is: { HasThose entered.keys (has_dep_entry (rows_of written.now.entries)) },
-    ghost features_is: { HasThose features.keys (has_feature (rows_of written.now.entries)) },
-}
-
-fn has(names: &BTreeSet<&str>, name: &str) -> bool
-    ensures { result ≡ has_text names.now.keys name.now }
-{
-    names.contains(name)
-}
-
-fn put<'a>(names: &mut BTreeSet<&'a str>, name: &'a str) -> Result<(), AllocError>
-    ensures { OnOk result ((d : List ℕ) → has_text names.new.keys d ≡ (has_text names.old.keys d || same_text d name.now)) }
-{
-    names.insert(name)?;
-    Ok(())
+    features: Texts<'a>,
+    ghost called_is: { HasThose (texts_in called) (has_dependency (dep_names_view dependencies.now)) },
+    ghost optional_is: { HasThose (texts_in optional) (is_optional (dep_names_view dependencies.now)) },
+    ghost entered_is: { HasThose (texts_in entered) (has_dep_entry (rows_of written.now.entries)) },
+    ghost features_is: { HasThose (texts_in features) (has_feature (rows_of written.now.entries)) },
 }
 
 /// What the dependencies are called.
-fn called<'a>(alloc: Global, dependencies: &'a [DepName]) -> Result<BTreeSet<&'a str>, AllocError>
-    ensures { IfOk result (λ names. HasThose names.keys (has_dependency (dep_names_view dependencies.entry.now))) }
+fn called<'a>(alloc: Global, dependencies: &'a [DepName]) -> Result<Texts<'a>, AllocError>
+    ensures { IfOk result (λ names. HasThose (texts_in names) (has_dependency (dep_names_view dependencies.entry.now))) }
 {
-    let mut names = BTreeSet::new(alloc);
+    let mut names = Texts::new(alloc);
     for dependency in dependencies {
-        put(&mut names, dependency.name.as_str())?;
+        names.put(dependency.name.as_str())?;
     }
     Ok(names)
 }
 
 /// What the optional dependencies are called.
-fn optional<'a>(alloc: Global, dependencies: &'a [DepName]) -> Result<BTreeSet<&'a str>, AllocError>
-    ensures { IfOk result (λ names. HasThose names.keys (is_optional (dep_names_view dependencies.entry.now))) }
+fn optional<'a>(alloc: Global, dependencies: &'a [DepName]) -> Result<Texts<'a>, AllocError>
+    ensures { IfOk result (λ names. HasThose (texts_in names) (is_optional (dep_names_view dependencies.entry.now))) }
 {
-    let mut names = BTreeSet::new(alloc);
+    let mut names = Texts::new(alloc);
     for dependency in dependencies {
         if dependency.optional {
-            put(&mut names, dependency.name.as_str())?;
+            names.put(dependency.name.as_str())?;
         }
     }
     Ok(names)
@@ -87,22 +76,22 @@ fn optional<'a>(alloc: Global, dependencies: &'a [DepName]) -> Result<BTreeSet<&
 fn entered<'a>(
     alloc: Global,
     written: &'a BTreeMap<FeatureName, Vec<Entry>>,
-) -> Result<BTreeSet<&'a str>, AllocError>
-    ensures { IfOk result (λ names. HasThose names.keys (has_dep_entry (rows_of written.entry.now.entries))) }
+) -> Result<Texts<'a>, AllocError>
+    ensures { IfOk result (λ names. HasThose (texts_in names) (has_dep_entry (rows_of written.entry.now.entries))) }
 {
-    let mut names = BTreeSet::new(alloc);
+    let mut names = Texts::new(alloc);
     'rows: for (_, entries) in written.iter() {
         put_entered(&mut names, entries.as_slice())?;
     }
     Ok(names)
 }
 
-fn put_entered<'a>(names: &mut BTreeSet<&'a str>, entries: &'a [Entry]) -> Result<(), AllocError>
-    ensures { OnOk result ((d : List ℕ) → has_text names.new.keys d ≡ (has_text names.old.keys d || list_any (is_dep d) (entry_views entries.now))) }
+fn put_entered<'a>(names: &mut Texts<'a>, entries: &'a [Entry]) -> Result<(), AllocError>
+    ensures { OnOk result ((d : List ℕ) → has_text (texts_in names.new) d ≡ (has_text (texts_in names.old) d || list_any (is_dep d) (entry_views entries.now))) }
 {
     for entry in entries {
         if let Entry::Dependency(name) = entry {
-            put(names, name.as_str())?;
+            names.put(name.as_str())?;
         }
     }
     Ok(())
@@ -112,12 +101,12 @@ fn put_entered<'a>(names: &mut BTreeSet<&'a str>, entries: &'a [Entry]) -> Resul
 fn features<'a>(
     alloc: Global,
     written: &'a BTreeMap<FeatureName, Vec<Entry>>,
-) -> Result<BTreeSet<&'a str>, AllocError>
-    ensures { IfOk result (λ names. HasThose names.keys (has_feature (rows_of written.entry.now.entries))) }
+) -> Result<Texts<'a>, AllocError>
+    ensures { IfOk result (λ names. HasThose (texts_in names) (has_feature (rows_of written.entry.now.entries))) }
 {
-    let mut names = BTreeSet::new(alloc);
+    let mut names = Texts::new(alloc);
     'rows: for name in written.keys() {
-        put(&mut names, name.as_str())?;
+        names.put(name.as_str())?;
     }
     Ok(names)
 }
@@ -146,14 +135,14 @@ impl<'a> Draft<'a> {
     fn is_implicit(&self, name: &str) -> bool
         ensures { result ≡ is_implicit (names_in self.now) (written_in self.now) name.now }
     {
-        has(&self.optional, name) && !has(&self.entered, name) && !has(&self.features, name)
+        self.optional.has(name) && !self.entered.has(name) && !self.features.has(name)
     }
 
     /// Whether the table has this feature in the end.
     fn is_feature(&self, name: &str) -> bool
         ensures { result ≡ is_feature (names_in self.now) (written_in self.now) name.now }
     {
-        has(&self.features, name) || self.is_implicit(name) || name == "default"
+        self.features.has(name) || self.is_implicit(name) || name == "default"
     }
 
     /// Whether an entry lacks this.
@@ -169,10 +158,10 @@ impl<'a> Draft<'a> {
                 Entry::Feature(_) => false,
                 Entry::Dependency(name)
                 | Entry::DependencyFeature(name, _)
-                | Entry::WeakFeature(name, _) => !has(&self.called, name.as_str()),
+                | Entry::WeakFeature(name, _) => !self.called.has(name.as_str()),
             },
             Lack::Optional => match entry {
-                Entry::Dependency(name) => !has(&self.optional, name.as_str()),
+                Entry::Dependency(name) => !self.optional.has(name.as_str()),
                 _ => false,
             },
         }

@@ -8,6 +8,7 @@ mod feature_name;
 mod name;
 mod name_text;
 mod table;
+mod texts;
 
 pub use dependency::{Dependency, Summary};
 pub use entry::{Entry, EntryFault};
