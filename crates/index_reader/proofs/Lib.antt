@@ -5,3 +5,4 @@ pub mod WrittenLemmas
 pub mod FileLaws
 pub mod KeptLemmas
 pub mod SplitLemmas
+pub mod CountLemmas

@@ -11,14 +11,14 @@ use crate::line::read_unchecked;
 use crate::record::{Record, Skip};
 use features::PackageName;
 use json::Scratch;
-use memchr::memchr;
+use memchr::{memchr, memchr_iter};
 use std::alloc::{AllocError, Global};
 
 /// How many lines bytes have: the number of `\n`, and one more where bytes follow the last of them.
 pub fn lines(bytes: &[u8]) -> usize
     ensures { result ≡ line_count bytes.now }
 {
-    let ended = bytes.iter().filter(|b| **b == b'\n').count();
+    let ended = memchr_iter(b'\n', bytes).count();
     match bytes.last() {
         None => ended,
         Some(b'\n') => ended,
