@@ -1,0 +1,175 @@
+-- The instances of pairs, put one pair after another.
+use Rattle.std.proofs.Common.{◌≡◌, ◌≢◌, ◌<◌, ◌+◌, ℕ, zero, suc, List, [], ◌∷◌, ◌++◌, length, map, take, true, Contains, Some, slice_get, refl, sym, ap, ◌∙◌, subst, inl, inr, ◌⊎◌, arith}
+use Rattle.std.specs.List.{AllPairs, flat_map}
+use Rattle.std.proofs.lemmas.List.{append_assoc, map-append}
+use Rattle.std.proofs.lemmas.List.Kept.{AllPairs-cons}
+use Rattle.std.proofs.lemmas.Option.{none-some, same_Some, slice_get_within}
+use Rattle.model.specs.Content.{Problem}
+use Rattle.model.specs.WellFormed.{IsCatalogue}
+use Rattle.model.specs.Vertices.{State, Vertex, absent, space}
+use Rattle.model.proofs.Lists.{in_none, in_cons, in_first, in_rest, in_map, to_map, pairs_first, pairs_get, pairs_none, pairs_rest}
+use Rattle.refutations.specs.Causes.{Cause, is_cause, kind_of, terms_of_cause}
+use Rattle.refutations.proofs.Bools.{in_append-left, in_append-right, in_either}
+use Rattle.encoding.specs.Assignments.{state_at}
+use Rattle.encoding.specs.Numberings.{IsGrown, IsNumbering, IsWhole, Numbering}
+use Rattle.encoding.specs.Pairs.{AreGiven, Given, IsGivenAt, Pair, first_pair}
+use Rattle.encoding.proofs.Distinct.{states_once}
+use Rattle.encoding.proofs.Needing.{from_all, given_more, in_last, still_at}
+use Rattle.encoding.proofs.Places.{get_below, got_in, place_of}
+use Rattle.full_encoding.specs.Everywhere.{IsGivenAll, IsGivenFor, all_pairs, pairs_of}
+use Rattle.full_encoding.proofs.Everything.{in_flat, to_flat}
+use Rattle.full_encoding.proofs.Firsts.{first_there}
+
+-- ---- lists
+
+pairs_append : {X : Type 0} (xs ys : List X) → AllPairs (λ a b. a ≢ b) xs → AllPairs (λ a b. a ≢ b) ys → ((x y : X) → Contains xs x → Contains ys y → x ≢ y) → AllPairs (λ a b. a ≢ b) (xs ++ ys)
+pairs_append [] ys a b apart = b
+pairs_append {X} (x ∷ xs) ys a b apart = AllPairs-cons (λ a b. a ≢ b) x (xs ++ ys) (from_all (λ w. x ≢ w) (xs ++ ys) first)
+    (pairs_append xs ys (pairs_rest (λ a b. a ≢ b) x xs a) b (λ z y c d. apart z y (in_rest x z xs c) d))
+  where
+    first : (w : X) → Contains (xs ++ ys) w → x ≢ w
+    first w c = elim (in_either xs ys w c) [ inl d ↦ pairs_first (λ a b. a ≢ b) x w xs a d | inr d ↦ apart x w (in_first x xs) d ]
+
+given_append : (q : Problem) (vs : Numbering) (cs ds : List Cause) (xs ys : List Given) → AreGiven q vs cs xs → AreGiven q vs ds ys → AreGiven q vs (cs ++ ds) (xs ++ ys)
+given_append q vs [] ds [] ys a b = b
+given_append q vs [] ds (x ∷ xs) ys a b = absurd a
+given_append q vs (c ∷ cs) ds [] ys a b = absurd a
+given_append q vs (c ∷ cs) ds (x ∷ xs) ys a b = (a.0, a.1, given_append q vs cs ds xs ys a.2 b)
+
+-- an element of the first of a list stands before that place
+pub taken_at : {X : Type 0} (xs : List X) (n : ℕ) (x : X) → Contains (take n xs) x → (i : ℕ) × (i < n) × (slice_get xs i ≡ Some x)
+taken_at [] zero x c = absurd (in_none x c)
+taken_at [] (suc n) x c = absurd (in_none x c)
+taken_at (y ∷ xs) zero x c = absurd (in_none x c)
+taken_at (y ∷ xs) (suc n) x c = elim (in_cons y x (take n xs) c) [
+  | inl e ↦ (zero, omega arith, ap Some e)
+  | inr d ↦ let r = taken_at xs n x d in let lt = r.1 in (suc r.0, omega (arith, lt), r.2)
+]
+
+pub take_none : {X : Type 0} (xs : List X) → take 0 xs ≡ []
+take_none [] = refl
+take_none (x ∷ xs) = refl
+
+append_none : {X : Type 0} (xs : List X) → xs ++ [] ≡ xs
+append_none [] = refl
+append_none (x ∷ xs) = ap (λ l. x ∷ l) (append_none xs)
+
+-- in a list where each stands once, none of the first is that which comes next
+pub not_before : {X : Type 0} (xs : List X) (n : ℕ) (x : X) → AllPairs (λ a b. a ≢ b) xs → slice_get xs n ≡ Some x → Contains (take n xs) x → ⊥
+not_before xs n x once at c = let r = taken_at xs n x c in pairs_get (λ a b. a ≢ b) xs r.0 n x x once r.1 r.2 at refl
+
+pub taken_next : {X : Type 0} (xs : List X) (n : ℕ) (x : X) → slice_get xs n ≡ Some x → take (suc n) xs ≡ take n xs ++ x ∷ []
+taken_next [] n x e = absurd (none-some x e)
+taken_next (y ∷ xs) zero x e = ap (λ z. z ∷ []) (same_Some y x e)
+taken_next (y ∷ xs) (suc n) x e = ap (λ l. y ∷ l) (taken_next xs n x e)
+
+flat_last : {X Y : Type 0} (f : X → List Y) (xs : List X) (x : X) → flat_map f (xs ++ x ∷ []) ≡ flat_map f xs ++ f x
+flat_last f [] x = append_none (f x)
+flat_last f (y ∷ xs) x = ap (λ l. f y ++ l) (flat_last f xs x) ∙ sym (append_assoc (f y) (flat_map f xs) (f x))
+
+-- the vertex of a number, as it was before more came
+pub vertex_back : (old new : Numbering) (n : ℕ) (v : Vertex) → IsGrown old new → n < length old → slice_get new n ≡ Some v → slice_get old n ≡ Some v
+vertex_back old new n v grown lt at = let r = get_below old n lt in r.1 ∙ ap Some (same_Some r.0 v (sym (still_at old new n r.0 grown r.1) ∙ at))
+
+pub number_below : (old new : Numbering) (n : ℕ) → IsGrown old new → n < length old → n < length new
+number_below old new n grown lt = let r = get_below old n lt in slice_get_within new n r.0 (still_at old new n r.0 grown r.1)
+
+module _ (q : Problem) where
+  -- ---- nothing is given for no pairs
+
+  pub given_none : (vs : Numbering) → IsGivenFor q vs [] []
+  given_none vs = record {
+    causes = [];
+    listed = λ c. (λ h. absurd (in_none c h), λ h. absurd (in_none (first_pair c) h.1));
+    once = pairs_none (λ a b. a ≢ b);
+    given = tt;
+  }
+
+  pub no_pairs : (vs all : Numbering) → IsGivenFor q vs (all_pairs q (take 0 all)) []
+  no_pairs vs [] = given_none vs
+  no_pairs vs (v ∷ all) = given_none vs
+
+  -- what was given stays as vertices come
+  pub given_stays : (vs new : Numbering) (ps : List Pair) (xs : List Given) → IsGrown vs new → IsNumbering q new → IsGivenFor q vs ps xs → IsGivenFor q new ps xs
+  given_stays vs new ps xs grown ok given = record {
+    causes = given.causes;
+    listed = given.listed;
+    once = given.once;
+    given = subst (λ w. AreGiven q w given.causes xs) (sym grown.1) (given_more q vs grown.0 given.causes xs (subst (AllPairs (λ v w. v ≢ w)) grown.1 ok.once) given.given);
+  }
+
+  -- those of one more pair
+  pub given_pair : (vs : Numbering) (ps : List Pair) (p : Pair) (xs ys : List Given) → IsGivenFor q vs ps xs → IsGivenAt q vs p ys → (Contains ps p → ⊥) → IsGivenFor q vs (ps ++ p ∷ []) (xs ++ ys)
+  given_pair vs ps p xs ys a b fresh = record {
+    causes = a.causes ++ b.causes;
+    listed = λ c. (there c, back c);
+    once = pairs_append a.causes b.causes a.once (b.are).once
+        (λ x y c d e. fresh (subst (Contains ps) (ap first_pair e ∙ (((b.are).listed y).0 d).1) ((a.listed x).0 c).1));
+    given = given_append q vs a.causes b.causes xs ys a.given b.given;
+  }
+    where
+      there : (c : Cause) → Contains (a.causes ++ b.causes) c → (is_cause q c ≡ true) × Contains (ps ++ p ∷ []) (first_pair c)
+      there c h = elim (in_either a.causes b.causes c h) [
+        | inl d ↦ let r = (a.listed c).0 d in (r.0, in_append-left ps (p ∷ []) (first_pair c) r.1)
+        | inr d ↦ let r = ((b.are).listed c).0 d in (r.0, in_append-right ps (p ∷ []) (first_pair c) (subst (Contains (p ∷ [])) (sym r.1) (in_first p [])))
+      ]
+
+      back : (c : Cause) → (is_cause q c ≡ true) × Contains (ps ++ p ∷ []) (first_pair c) → Contains (a.causes ++ b.causes) c
+      back c (t, h) = elim (in_last ps p (first_pair c) h) [
+        | inl d ↦ in_append-left a.causes b.causes c ((a.listed c).1 (t, d))
+        | inr e ↦ in_append-right a.causes b.causes c (((b.are).listed c).1 (t, sym e))
+      ]
+
+  -- ---- the states of a vertex, one after another
+
+  pub states_none : (v : Vertex) (ps : List Pair) → ps ++ map (λ s. (v, s)) (take 0 (space q v)) ≡ ps
+  states_none v ps = ap (λ l. ps ++ map (λ s. (v, s)) l) (take_none (space q v)) ∙ append_none ps
+
+  pub state_next : (v : Vertex) (n : ℕ) → n < length (space q v) → slice_get (space q v) n ≡ Some (state_at q v n)
+  state_next v n lt = let r = get_below (space q v) n lt in r.1 ∙ ap (λ o. Some (Rattle.std.specs.Prelude.unwrap_or o absent)) (sym r.1)
+
+  pub states_next : (v : Vertex) (ps : List Pair) (n : ℕ) → n < length (space q v)
+      → (ps ++ map (λ s. (v, s)) (take n (space q v))) ++ (v, state_at q v n) ∷ [] ≡ ps ++ map (λ s. (v, s)) (take (suc n) (space q v))
+  states_next v ps n lt =
+      let ss = space q v in
+      let at = state_next v n lt in
+      append_assoc ps (map (λ s. (v, s)) (take n ss)) ((v, state_at q v n) ∷ [])
+      ∙ ap (λ l. ps ++ l) (sym (map-append (λ s. (v, s)) (take n ss) (state_at q v n ∷ [])) ∙ ap (map (λ s. (v, s))) (sym (taken_next ss n (state_at q v n) at)))
+
+  pub state_fresh : IsCatalogue q → (v : Vertex) (ps : List Pair) (n : ℕ) → n < length (space q v) → ((s : State) → Contains ps (v, s) → ⊥)
+      → Contains (ps ++ map (λ s. (v, s)) (take n (space q v))) (v, state_at q v n) → ⊥
+  state_fresh known v ps n lt fresh c = elim (in_either ps (map (λ s. (v, s)) (take n (space q v))) (v, state_at q v n) c) [
+    | inl d ↦ fresh (state_at q v n) d
+    | inr d ↦ let r = in_map (λ s. (v, s)) (take n (space q v)) (v, state_at q v n) d in
+        let same : r.0 ≡ state_at q v n = ap (λ (p : Pair). p.1) r.2 in
+        not_before (space q v) n (state_at q v n) (states_once q known v) (state_next v n lt) (subst (Contains (take n (space q v))) same r.1)
+  ]
+
+  -- ---- the vertices, one after another
+
+  pub vertex_fresh : (vs : Numbering) (n : ℕ) (v : Vertex) → IsNumbering q vs → slice_get vs n ≡ Some v → (s : State) → Contains (all_pairs q (take n vs)) (v, s) → ⊥
+  vertex_fresh vs n v ok at s c =
+      let r = in_flat (pairs_of q) (take n vs) (v, s) c in
+      let m = in_map (λ s. (r.0, s)) (space q r.0) (v, s) r.2 in
+      let same : r.0 ≡ v = ap (λ (p : Pair). p.0) m.2 in
+      not_before vs n v ok.once at (subst (Contains (take n vs)) same r.1)
+
+  pub vertices_next : (vs : Numbering) (n : ℕ) (v : Vertex) → slice_get vs n ≡ Some v → all_pairs q (take n vs) ++ pairs_of q v ≡ all_pairs q (take (suc n) vs)
+  vertices_next vs n v at = sym (flat_last (pairs_of q) (take n vs) v) ∙ ap (flat_map (pairs_of q)) (sym (taken_next vs n v at))
+
+  -- each cause has its first term at one of all pairs
+  pub given_all : (vs new : Numbering) (xs : List Given) → IsWhole q vs → IsGivenFor q new (all_pairs q vs) xs → IsGivenAll q new xs
+  given_all vs new xs whole given = record {
+    causes = given.causes;
+    are = record {
+      listed = λ c. (λ h. ((given.listed c).0 h).0, λ t. (given.listed c).1 (t, pair_there c t));
+      once = given.once;
+    };
+    given = given.given;
+  }
+    where
+      pair_there : (c : Cause) → is_cause q c ≡ true → Contains (all_pairs q vs) (first_pair c)
+      pair_there c t =
+          let p = first_pair c in
+          let r = first_there q c t in
+          to_flat (pairs_of q) vs p.0 p (whole p.0 r.0) (to_map (λ s. (p.0, s)) (space q p.0) p.1 r.1)

@@ -1,0 +1,110 @@
+-- Vertices as they are put one after another.
+use Rattle.std.proofs.Common.{◌≡◌, ◌≤◌, ◌+◌, zero, suc, drop, length, arith, List, [], ◌∷◌, ◌++◌, map, Bool, true, false, cond, Option, Some, None, slice_get, refl, sym, ap, ap₂, ◌∙◌, ℕ}
+use Rattle.std.specs.Prelude.{codes, unwrap_or}
+use Rattle.std.specs.List.{flat_map}
+use Rattle.std.proofs.lemmas.List.{append_assoc}
+use Rattle.std.proofs.lemmas.Option.{none-some, same_Some}
+use Rattle.semver.specs.Identifiers.{parts_of}
+use Rattle.semver.specs.declared.Version.{Version}
+use Rattle.model.specs.Candidates.{Record, as_candidate}
+use Rattle.model.specs.Content.{Candidate}
+use Rattle.model.specs.Summary.{Dependency, Entry, Table, asked_of_target}
+use Rattle.model.specs.Selection.{Class, class_of}
+use Rattle.model.specs.Vertices.{Vertex, feat, same_class}
+use Rattle.manifest.specs.Manifests.{ManifestView, asked_by, root_asks}
+use Rattle.catalogue.specs.Problems.{problem_in}
+use Rattle.catalogue.specs.Ranks.{records}
+use Rattle.catalogue.specs.Stores.{CatalogueView, Row, candidates_at, rows_by_name}
+use Rattle.refutations.specs.Causes.{entries_or_none}
+use Rattle.looking_up.proofs.Brought.{candidates_are}
+use Rattle.full_encoding.specs.Everything.{each_feature, first_feature, versions, versions_of}
+
+-- one more of a list
+pub rest_more : {X : Type 0} (f : X → List Vertex) (vs new all : List Vertex) (x : X) (xs : List X) → vs ++ flat_map f (x ∷ xs) ≡ all → new ≡ vs ++ f x → new ++ flat_map f xs ≡ all
+rest_more f vs new all x xs told step = ap (λ l. l ++ flat_map f xs) step ∙ append_assoc vs (f x) (flat_map f xs) ∙ told
+
+pub append_none : {X : Type 0} (xs : List X) → xs ++ [] ≡ xs
+append_none [] = refl
+append_none (x ∷ xs) = ap (λ l. x ∷ l) (append_none xs)
+
+pub flat_append : {X Y : Type 0} (f : X → List Y) (xs ys : List X) → flat_map f (xs ++ ys) ≡ flat_map f xs ++ flat_map f ys
+flat_append f [] ys = refl
+flat_append f (x ∷ xs) ys = ap (λ l. f x ++ l) (flat_append f xs ys) ∙ sym (append_assoc (f x) (flat_map f xs) (flat_map f ys))
+
+flat_flat : {X Y Z : Type 0} (f : Y → List Z) (g : X → List Y) (xs : List X) → flat_map f (flat_map g xs) ≡ flat_map (λ x. flat_map f (g x)) xs
+flat_flat f g [] = refl
+flat_flat f g (x ∷ xs) = flat_append f (g x) (flat_map g xs) ∙ ap (λ l. flat_map f (g x) ++ l) (flat_flat f g xs)
+
+-- what the entries of the root ask for
+pub rows_ask : (f : List ℕ × List ℕ → List Vertex) (rows : Table) → flat_map (λ row. flat_map (λ e. flat_map f (asked_by e)) row.1) rows ≡ flat_map f (root_asks rows)
+rows_ask f [] = refl
+rows_ask f (row ∷ rows) = ap₂ (λ a b. a ++ b) (sym (flat_flat f asked_by row.1)) (rows_ask f rows) ∙ sym (flat_append f (flat_map asked_by row.1) (root_asks rows))
+
+-- the features of a dependency's own list, and `default`
+pub own_list : (f : List ℕ → List Vertex) (d : Dependency) → flat_map f d.features ++ cond d.default_features (f (codes "default")) [] ≡ flat_map f (asked_of_target d)
+own_list f d = by d.default_features
+  where
+    by : (b : Bool) → flat_map f d.features ++ cond b (f (codes "default")) [] ≡ flat_map f (cond b (d.features ++ codes "default" ∷ []) d.features)
+    by true = ap (λ l. flat_map f d.features ++ l) (sym (append_none (f (codes "default")))) ∙ sym (flat_append f d.features (codes "default" ∷ []))
+    by false = append_none (flat_map f d.features)
+
+-- ---- the versions of a name
+
+record_versions : (rs : List Record) → map (λ r. r.version) rs ≡ versions (map as_candidate rs)
+record_versions [] = refl
+record_versions (r ∷ rs) = ap (λ l. r.version ∷ l) (record_versions rs)
+
+pub versions_are : (m : ManifestView) (c : CatalogueView) (name : List ℕ) (vs : List Version) → map parts_of vs ≡ map (λ r. r.version) (candidates_at c name) → map parts_of vs ≡ versions_of (problem_in m c) name
+versions_are m c name vs e = e ∙ record_versions (candidates_at c name) ∙ ap versions (sym (candidates_are c name))
+
+-- the names that were asked for
+pub names_are : (rows : List Row) → map (λ (row : Row). row.0) rows ≡ map (λ (row : List ℕ × List Candidate). row.0) (map (λ (row : Row). (row.0, map as_candidate (records row.1))) rows)
+names_are [] = refl
+names_are (row ∷ rows) = ap (λ l. row.0 ∷ l) (names_are rows)
+
+-- the feature of a name, in the class of the first of its versions
+pub first_some : (name f : List ℕ) (vs : List Version) (v : Version) → slice_get vs 0 ≡ Some v → first_feature name f (map parts_of vs) ≡ feat name (class_of (parts_of v)) f ∷ []
+first_some name f [] v e = absurd (none-some v e)
+first_some name f (x ∷ vs) v e = ap (λ w. feat name (class_of (parts_of w)) f ∷ []) (same_Some x v e)
+
+pub first_none : (name f : List ℕ) (vs : List Version) → slice_get vs 0 ≡ None → first_feature name f (map parts_of vs) ≡ []
+first_none name f [] e = refl
+first_none name f (x ∷ vs) e = absurd (none-some x (sym e))
+
+-- the same in each class
+pub each_same : (name f : List ℕ) (k : Class) (vs : List Version) (v : Version) → slice_get vs 0 ≡ Some v → same_class k (class_of (parts_of v)) ≡ true
+    → each_feature name k f (map parts_of vs) ≡ map (λ w. feat name (class_of w) f) (map parts_of vs)
+each_same name f k [] v e t = refl
+each_same name f k (x ∷ vs) v e t = ap (λ b. cond b (map (λ w. feat name (class_of w) f) (map parts_of (x ∷ vs))) []) (ap (λ w. same_class k (class_of (parts_of w))) (same_Some x v e) ∙ t)
+
+pub each_other : (name f : List ℕ) (k : Class) (vs : List Version) (v : Version) → slice_get vs 0 ≡ Some v → same_class k (class_of (parts_of v)) ≡ false → each_feature name k f (map parts_of vs) ≡ []
+each_other name f k [] v e t = refl
+each_other name f k (x ∷ vs) v e t = ap (λ b. cond b (map (λ w. feat name (class_of w) f) (map parts_of (x ∷ vs))) []) (ap (λ w. same_class k (class_of (parts_of w))) (same_Some x v e) ∙ t)
+
+pub each_none : (name f : List ℕ) (k : Class) (vs : List Version) → slice_get vs 0 ≡ None → each_feature name k f (map parts_of vs) ≡ []
+each_none name f k [] e = refl
+each_none name f k (x ∷ vs) e = absurd (none-some x (sym e))
+
+-- ---- the rest of a list
+
+pub drop_next : {X : Type 0} (xs : List X) (n : ℕ) (x : X) → slice_get xs n ≡ Some x → drop n xs ≡ x ∷ drop (n + 1) xs
+drop_next xs n x e = let k : suc n ≡ n + 1 = omega arith in step xs n x e ∙ ap (λ k. x ∷ drop k xs) k
+  where
+    step : {X : Type 0} (xs : List X) (n : ℕ) (x : X) → slice_get xs n ≡ Some x → drop n xs ≡ x ∷ drop (suc n) xs
+    step [] n x e = absurd (none-some x e)
+    step (y ∷ []) zero x e = ap (λ z. z ∷ []) (same_Some y x e)
+    step (y ∷ (z ∷ xs)) zero x e = ap (λ w. w ∷ z ∷ xs) (same_Some y x e)
+    step (y ∷ xs) (suc n) x e = step xs n x e
+
+pub drop_past : {X : Type 0} (xs : List X) (n : ℕ) → length xs ≤ n → drop n xs ≡ []
+drop_past [] zero le = refl
+drop_past [] (suc n) le = refl
+drop_past (x ∷ xs) zero le = absurd (omega (arith, le))
+drop_past (x ∷ xs) (suc n) le = drop_past xs n (omega (arith, le))
+
+pub three : {X : Type 0} (a b c d : List X) → ((a ++ b) ++ c) ++ d ≡ a ++ (b ++ (c ++ d))
+three a b c d = append_assoc (a ++ b) c d ∙ append_assoc a b (c ++ d)
+
+pub entries_are : (o : Option (List Entry)) → unwrap_or o [] ≡ entries_or_none o
+entries_are None = refl
+entries_are (Some es) = refl

@@ -1,0 +1,51 @@
+use Rattle.std.proofs.Common.{◌≡◌, ◌<◌, ◌≤◌, ◌+◌, suc, length, take, take_all, Some, slice_get, refl, sym, ap, ◌∙◌, subst, arith}
+use Rattle.encoding.specs.CauseViews.{given_views}
+use Rattle.encoding.specs.Inputs.{problem}
+use Rattle.encoding.proofs.Needing.{grows_on, still_at}
+use Rattle.encoding.proofs.Places.{get_below}
+use Rattle.full_encoding.specs.Everywhere.{IsGivenFor, all_pairs}
+use Rattle.full_encoding.proofs.Pairing.{given_all, no_pairs, number_below, vertex_fresh, vertices_next}
+use Rattle.full_encoding.proofs.Put.{put_none}
+use Rattle.full_encoding.proofs.everywhere.all_axioms.Goals as goal
+
+pub vertices-init : goal.vertices-init
+vertices-init g c =
+    let q = problem c.args.inputs.now in
+    record {
+      same = refl;
+      grown = (put_none c.args.table.now Rattle.std.proofs.Common.[]).grown;
+      numbering = c.requires.numbering;
+      given = subst (λ xs. IsGivenFor q c.args.table.now (all_pairs q (take 0 c.args.table.now)) (given_views g.S.States.tests xs)) (sym c.new-given.ensures.items) (no_pairs q c.args.table.now c.args.table.now);
+    }
+
+pub put_vertex-requires-clause-number : goal.put_vertex-requires-clause-number
+put_vertex-requires-clause-number g c =
+    number_below c.args.table.now c.vertices.table c.vertices.number c.vertices.invariant.grown (subst (λ k. c.vertices.number < k) c.len-number-end.ensures c.vertices-test.true)
+
+pub vertices-preserved : goal.vertices-preserved
+vertices-preserved g c =
+    let q = problem c.args.inputs.now in
+    let n = c.vertices.number in
+    let old = c.args.table.now in
+    let new = c.put_vertex.new.table in
+    let xs = given_views g.S.States.tests c.put_vertex.new.given.items in
+    let lt : n < length old = subst (λ k. n < k) c.len-number-end.ensures c.vertices-test.true in
+    let r = get_below old n lt in
+    let e : n + 1 ≡ suc n = omega arith in
+    record {
+      same = refl;
+      grown = grows_on old c.vertices.table new c.vertices.invariant.grown c.put_vertex.ensures.grown;
+      numbering = c.put_vertex.ensures.numbering;
+      given = subst (λ k. IsGivenFor q new (all_pairs q (take k old)) xs) (sym e)
+          (subst (λ l. IsGivenFor q new l xs) (vertices_next q old n r.0 r.1)
+          (c.in_ok-put_vertex.ensures.given r.0 (all_pairs q (take n old)) (still_at old c.vertices.table n r.0 c.vertices.invariant.grown r.1) (vertex_fresh q old n r.0 c.requires.numbering r.1)
+          c.vertices.invariant.given));
+    }
+
+pub returns-clause-given : goal.returns-clause-given
+returns-clause-given g c =
+    let q = problem c.args.inputs.now in
+    let old = c.args.table.now in
+    let all : length old ≤ c.vertices.number = subst (λ k. k ≤ c.vertices.number) c.len-number-end.ensures (omega (arith, c.vertices-test.false)) in
+    given_all q old c.vertices.table (given_views g.S.States.tests c.vertices.given.items) c.requires.whole
+    (subst (λ vs. IsGivenFor q c.vertices.table (all_pairs q vs) (given_views g.S.States.tests c.vertices.given.items)) (take_all c.vertices.number old all) c.vertices.invariant.given)

@@ -1,0 +1,14 @@
+use Rattle.std.proofs.Common.{◌∙◌, ◌++◌, ap, ap₂}
+use Rattle.std.specs.List.{flat_map}
+use Rattle.encoding.specs.Inputs.{problem}
+use Rattle.full_encoding.specs.Everything.{of_name, of_root}
+use Rattle.full_encoding.specs.Views.{vertex_views}
+use Rattle.full_encoding.proofs.Steps.{names_are}
+use Rattle.full_encoding.proofs.naming.named.Goals as goal
+
+pub returns : goal.returns
+returns c =
+    let q = problem c.args.inputs.now in
+    c.in_ok-put_names.ensures
+    ∙ ap₂ (λ a b. a ++ flat_map (of_name q) b) (c.in_ok-put_root.ensures ∙ ap (λ l. vertex_views l ++ of_root q) c.new-vertices.ensures.items)
+    (c.names.ensures.names ∙ names_are c.args.inputs.now.catalogue.now.rows)

@@ -1,0 +1,14 @@
+use Rattle.std.proofs.Common.{◌≡◌, ◌++◌, drop}
+use Rattle.std.specs.List.{flat_map}
+use Rattle.std.specs.Prelude.{ℕ}
+use Rattle.encoding.specs.Inputs.{problem}
+use Rattle.full_encoding.specs.Everything.{of_name, of_version}
+use Rattle.full_encoding.proofs.Steps.{versions_are}
+use Rattle.full_encoding.specs.Views.{vertex_views}
+use Rattle.full_encoding.proofs.naming.put_names.Given as goal
+
+-- the vertices so far, with those of the names that are left, are all
+abbrev pub invariant-names : goal.invariant-names
+invariant-names l =
+    vertex_views l.vertices.items ++ flat_map (of_name (problem l.inputs)) (drop l.name-index l.names)
+    ≡ vertex_views l.fn.vertices.items ++ flat_map (of_name (problem l.inputs)) l.names

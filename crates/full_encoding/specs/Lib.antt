@@ -1,0 +1,5 @@
+pub mod Everything
+pub mod Views
+pub mod Putting
+pub mod Encodings
+pub mod Everywhere

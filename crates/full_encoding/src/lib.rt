@@ -1,0 +1,27 @@
+//! All vertices of the search by number, and all axioms over them.
+//!
+//! `encoding` gives numbers and axioms as they are asked for; `Encoding` stands above it, with two ways in: every vertex
+//! at once, or the root alone. A search takes the second way; tests and laws take the first.
+#![tactic(auto)]
+
+mod counting;
+mod everywhere;
+mod naming;
+mod numbering;
+mod spaces;
+#[cfg(test)]
+mod tests;
+mod whole;
+mod widening;
+
+ghost use Rattle.std.specs.Prelude.{◌≡◌, ◌↔◌, ℕ, Some, slice_get};
+ghost use Rattle.model.specs.Content.{Problem};
+ghost use Rattle.model.specs.Vertices.{Vertex};
+ghost use Rattle.encoding.specs.Numberings.{IsNumbering, Numbering, number_in};
+
+pub use whole::Encoding;
+
+/// A vertex has a number exactly where the number is that vertex's.
+pub fn numbers_are_places()
+    ensures { (q : Problem) (vs : Numbering) (v : Vertex) (n : ℕ) → IsNumbering q vs → (number_in vs v ≡ Some n) ↔ (slice_get vs n ≡ Some v) }
+{}

@@ -1,0 +1,411 @@
+//! All vertices of a manifest and a loaded index, a feature only in the first class of its name.
+
+ghost use Rattle.std.specs.Prelude.{◌≡◌, ◌++◌, ◌∷◌, [], IfOk, OnOk, map, codes, if◌then◌else◌};
+ghost use Rattle.std.specs.List.{flat_map};
+ghost use Rattle.semver.specs.Identifiers.{parts_of};
+ghost use Rattle.features.specs.EntryViews.{entry_view, entry_views};
+ghost use Rattle.features.specs.Views.{dependency_view, dependency_views, summary_view};
+ghost use Rattle.manifest.specs.Manifests.{asked_by};
+ghost use Rattle.model.specs.Summary.{asked_of_target, same_text};
+ghost use Rattle.model.specs.Vertices.{ask, version_of};
+ghost use Rattle.encoding.specs.Inputs.{KnowsDefault, problem};
+ghost use Rattle.vertices.specs.RefViews.{owner_ref_view, vertex_ref_view};
+ghost use Rattle.full_encoding.specs.Everything.{ask_if, asked_if, asked_of, each_from, feature_of, first_feature, named, of_dependency, of_entry, of_feature, of_name, of_root, of_table, of_version};
+ghost use Rattle.full_encoding.specs.Views.{vertex_views};
+
+use classes::Class;
+use encoding::Inputs;
+use features::{Dependency, Entry, FeatureName, FeatureTable, PackageName, Summary};
+use semver::Version;
+use std::alloc::{AllocError, Global};
+use vertices::{OwnerRef, VertexRef};
+
+/// A version of a package.
+#[derive(Clone, Copy)]
+struct Release<'a> {
+    name: &'a PackageName,
+    version: &'a Version,
+}
+
+/// The vertices of the root, and those of the candidates of each name.
+pub(crate) fn named<'a>(
+    alloc: Global,
+    inputs: &Inputs<'a>,
+) -> Result<Vec<VertexRef<'a>>, AllocError>
+    requires default { KnowsDefault inputs.now }
+    ensures { IfOk result (λ vs. vertex_views vs.items ≡ named (problem inputs.now)) }
+{
+    let mut vertices = Vec::new(alloc);
+    put_root(inputs, &mut vertices)?;
+    put_names(inputs, &mut vertices, inputs.catalogue.names())?;
+    Ok(vertices)
+}
+
+/// The root, its dependencies, and what the entries of its features ask these for.
+fn put_root<'a>(inputs: &Inputs<'a>, vertices: &mut Vec<VertexRef<'a>>) -> Result<(), AllocError>
+    requires default { KnowsDefault inputs.now }
+    ensures { OnOk result (vertex_views vertices.new.items ≡ vertex_views vertices.old.items ++ of_root (problem inputs.now)) }
+{
+    let dependencies = inputs.manifest.dependencies();
+    vertices.push(VertexRef::Root)?;
+    put_dependencies(inputs, vertices, OwnerRef::Root, dependencies)?;
+    put_rows(inputs, vertices, dependencies, inputs.manifest.features())
+}
+
+fn put_rows<'a>(
+    inputs: &Inputs<'a>,
+    vertices: &mut Vec<VertexRef<'a>>,
+    dependencies: &'a [Dependency],
+    table: &'a FeatureTable,
+) -> Result<(), AllocError>
+    ensures { OnOk result (vertex_views vertices.new.items ≡ vertex_views vertices.old.items ++ flat_map (λ row. flat_map (λ e. flat_map (asked_of (problem inputs.now) (dependency_views dependencies.entry.now)) (asked_by e)) row.1) table.entry.now) }
+{
+    'rows: for (_, entries) in table.iter() {
+        put_row(inputs, vertices, dependencies, entries.as_slice())?;
+    }
+    Ok(())
+}
+
+fn put_row<'a>(
+    inputs: &Inputs<'a>,
+    vertices: &mut Vec<VertexRef<'a>>,
+    dependencies: &'a [Dependency],
+    entries: &'a [Entry],
+) -> Result<(), AllocError>
+    ensures { OnOk result (vertex_views vertices.new.items ≡ vertex_views vertices.old.items ++ flat_map (λ e. flat_map (asked_of (problem inputs.now) (dependency_views dependencies.entry.now)) (asked_by e)) (entry_views entries.entry.now)) }
+{
+    'entries: for entry in entries.iter() {
+        put_asked(inputs, vertices, dependencies, entry)?;
+    }
+    Ok(())
+}
+
+/// The candidates of each name.
+fn put_names<'a>(
+    inputs: &Inputs<'a>,
+    vertices: &mut Vec<VertexRef<'a>>,
+    names: &'a [PackageName],
+) -> Result<(), AllocError>
+    requires default { KnowsDefault inputs.now }
+    ensures { OnOk result (vertex_views vertices.new.items ≡ vertex_views vertices.old.items ++ flat_map (of_name (problem inputs.now)) names.entry.now) }
+{
+    'names: for name in names.iter() {
+        put_versions(inputs, vertices, name, inputs.catalogue.versions(name))?;
+    }
+    Ok(())
+}
+
+fn put_versions<'a>(
+    inputs: &Inputs<'a>,
+    vertices: &mut Vec<VertexRef<'a>>,
+    name: &'a PackageName,
+    versions: &'a [Version],
+) -> Result<(), AllocError>
+    requires default { KnowsDefault inputs.now }
+    ensures { OnOk result (vertex_views vertices.new.items ≡ vertex_views vertices.old.items ++ flat_map (of_version (problem inputs.now) name.entry.now) (map parts_of versions.entry.now)) }
+{
+    'versions: for version in versions.iter() {
+        put_version(inputs, vertices, Release { name, version })?;
+    }
+    Ok(())
+}
+
+/// A version in its class, and what it brings.
+fn put_version<'a>(
+    inputs: &Inputs<'a>,
+    vertices: &mut Vec<VertexRef<'a>>,
+    release: Release<'a>,
+) -> Result<(), AllocError>
+    requires default { KnowsDefault inputs.now }
+    ensures { OnOk result (vertex_views vertices.new.items ≡ vertex_views vertices.old.items ++ of_version (problem inputs.now) release.entry.name.now (parts_of release.entry.version.now)) }
+{
+    vertices.push(VertexRef::Package(release.name, Class::of(release.version)))?;
+    match inputs.catalogue.candidate(release.name, release.version) {
+        Some(candidate) => put_brought(inputs, vertices, release, &candidate.brings),
+        None => Ok(()),
+    }
+}
+
+/// The dependencies of a version, and its features.
+fn put_brought<'a>(
+    inputs: &Inputs<'a>,
+    vertices: &mut Vec<VertexRef<'a>>,
+    release: Release<'a>,
+    brings: &'a Summary,
+) -> Result<(), AllocError>
+    requires default { KnowsDefault inputs.now }
+    ensures { OnOk result (vertex_views vertices.new.items ≡ vertex_views vertices.old.items ++ (each_from (of_dependency (problem inputs.now) (version_of release.entry.name.now (parts_of release.entry.version.now))) 0 (summary_view brings.entry.now).dependencies ++ of_table (problem inputs.now) release.entry.name.now (parts_of release.entry.version.now) (summary_view brings.entry.now))) }
+{
+    let owner = OwnerRef::Version(release.name, release.version);
+    put_dependencies(inputs, vertices, owner, brings.dependencies.as_slice())?;
+    put_table(inputs, vertices, release, brings)
+}
+
+fn put_table<'a>(
+    inputs: &Inputs<'a>,
+    vertices: &mut Vec<VertexRef<'a>>,
+    release: Release<'a>,
+    brings: &'a Summary,
+) -> Result<(), AllocError>
+    ensures { OnOk result (vertex_views vertices.new.items ≡ vertex_views vertices.old.items ++ of_table (problem inputs.now) release.entry.name.now (parts_of release.entry.version.now) (summary_view brings.entry.now)) }
+{
+    'rows: for (feature, _) in brings.features.iter() {
+        put_feature(inputs, vertices, release, brings, feature)?;
+    }
+    Ok(())
+}
+
+/// A feature of a version, and what its entries ask for.
+fn put_feature<'a>(
+    inputs: &Inputs<'a>,
+    vertices: &mut Vec<VertexRef<'a>>,
+    release: Release<'a>,
+    brings: &'a Summary,
+    feature: &'a FeatureName,
+) -> Result<(), AllocError>
+    ensures { OnOk result (vertex_views vertices.new.items ≡ vertex_views vertices.old.items ++ of_feature (problem inputs.now) release.entry.name.now (parts_of release.entry.version.now) (summary_view brings.entry.now) feature.entry.now) }
+{
+    put_first(inputs, vertices, release.name, feature)?;
+    let dependencies = brings.dependencies.as_slice();
+    put_entries(
+        inputs,
+        vertices,
+        release,
+        dependencies,
+        brings.features.entries(feature),
+    )
+}
+
+fn put_entries<'a>(
+    inputs: &Inputs<'a>,
+    vertices: &mut Vec<VertexRef<'a>>,
+    release: Release<'a>,
+    dependencies: &'a [Dependency],
+    entries: &'a [Entry],
+) -> Result<(), AllocError>
+    ensures { OnOk result (vertex_views vertices.new.items ≡ vertex_views vertices.old.items ++ flat_map (of_entry (problem inputs.now) release.entry.name.now (parts_of release.entry.version.now) (dependency_views dependencies.entry.now)) (entry_views entries.entry.now)) }
+{
+    'entries: for entry in entries.iter() {
+        put_entry(inputs, vertices, release, dependencies, entry)?;
+    }
+    Ok(())
+}
+
+fn put_entry<'a>(
+    inputs: &Inputs<'a>,
+    vertices: &mut Vec<VertexRef<'a>>,
+    release: Release<'a>,
+    dependencies: &'a [Dependency],
+    entry: &'a Entry,
+) -> Result<(), AllocError>
+    ensures { OnOk result (vertex_views vertices.new.items ≡ vertex_views vertices.old.items ++ of_entry (problem inputs.now) release.entry.name.now (parts_of release.entry.version.now) (dependency_views dependencies.entry.now) (entry_view entry.entry.now)) }
+{
+    put_asks(vertices, release, dependencies, entry)?;
+    put_asked(inputs, vertices, dependencies, entry)
+}
+
+/// The vertices of what an entry `d/g` asks the dependencies called d for.
+fn put_asks<'a>(
+    vertices: &mut Vec<VertexRef<'a>>,
+    release: Release<'a>,
+    dependencies: &[Dependency],
+    entry: &'a Entry,
+) -> Result<(), AllocError>
+    ensures { OnOk result (vertex_views vertices.new.items ≡ vertex_views vertices.old.items ++ each_from (ask_if release.entry.name.now (parts_of release.entry.version.now) (entry_view entry.entry.now)) 0 (dependency_views dependencies.now)) }
+{
+    'dependencies: for (number, dependency) in dependencies.iter().enumerate() {
+        put_ask(vertices, release, entry, number, dependency)?;
+    }
+    Ok(())
+}
+
+fn put_ask<'a>(
+    vertices: &mut Vec<VertexRef<'a>>,
+    release: Release<'a>,
+    entry: &'a Entry,
+    number: usize,
+    dependency: &Dependency,
+) -> Result<(), AllocError>
+    ensures { OnOk result (vertex_views vertices.new.items ≡ vertex_views vertices.old.items ++ ask_if release.entry.name.now (parts_of release.entry.version.now) (entry_view entry.entry.now) number (dependency_view dependency.now)) }
+{
+    match entry {
+        Entry::Feature(_) => Ok(()),
+        Entry::Dependency(_) => Ok(()),
+        Entry::DependencyFeature(called, asked) => {
+            put_ask_of(vertices, release, number, dependency, called, asked)
+        }
+        Entry::WeakFeature(_, _) => Ok(()),
+    }
+}
+
+fn put_ask_of<'a>(
+    vertices: &mut Vec<VertexRef<'a>>,
+    release: Release<'a>,
+    number: usize,
+    dependency: &Dependency,
+    called: &PackageName,
+    asked: &'a FeatureName,
+) -> Result<(), AllocError>
+    ensures { OnOk result (vertex_views vertices.new.items ≡ vertex_views vertices.old.items ++ (if same_text (dependency_view dependency.now).name called.now then ask release.entry.name.now (parts_of release.entry.version.now) number asked.entry.now ∷ [] else [])) }
+{
+    if dependency.name == *called {
+        vertices.push(VertexRef::Ask(release.name, release.version, number, asked))?;
+    }
+    Ok(())
+}
+
+/// The features that an entry `d/g` or `d?/g` asks of the dependencies called d.
+fn put_asked<'a>(
+    inputs: &Inputs<'a>,
+    vertices: &mut Vec<VertexRef<'a>>,
+    dependencies: &'a [Dependency],
+    entry: &'a Entry,
+) -> Result<(), AllocError>
+    ensures { OnOk result (vertex_views vertices.new.items ≡ vertex_views vertices.old.items ++ flat_map (asked_of (problem inputs.now) (dependency_views dependencies.entry.now)) (asked_by (entry_view entry.entry.now))) }
+{
+    match entry {
+        Entry::Feature(_) => Ok(()),
+        Entry::Dependency(_) => Ok(()),
+        Entry::DependencyFeature(called, asked) => {
+            put_called(inputs, vertices, dependencies, called, asked)
+        }
+        Entry::WeakFeature(called, asked) => {
+            put_called(inputs, vertices, dependencies, called, asked)
+        }
+    }
+}
+
+fn put_called<'a>(
+    inputs: &Inputs<'a>,
+    vertices: &mut Vec<VertexRef<'a>>,
+    dependencies: &'a [Dependency],
+    called: &PackageName,
+    asked: &'a FeatureName,
+) -> Result<(), AllocError>
+    ensures { OnOk result (vertex_views vertices.new.items ≡ vertex_views vertices.old.items ++ asked_of (problem inputs.now) (dependency_views dependencies.entry.now) (called.now, asked.entry.now)) }
+{
+    'dependencies: for dependency in dependencies.iter() {
+        put_if_called(inputs, vertices, dependency, called, asked)?;
+    }
+    Ok(())
+}
+
+fn put_if_called<'a>(
+    inputs: &Inputs<'a>,
+    vertices: &mut Vec<VertexRef<'a>>,
+    dependency: &'a Dependency,
+    called: &PackageName,
+    asked: &'a FeatureName,
+) -> Result<(), AllocError>
+    ensures { OnOk result (vertex_views vertices.new.items ≡ vertex_views vertices.old.items ++ asked_if (problem inputs.now) (called.now, asked.entry.now) (dependency_view dependency.entry.now)) }
+{
+    if dependency.name == *called {
+        put_first(inputs, vertices, &dependency.real_name, asked)?;
+    }
+    Ok(())
+}
+
+/// Dependencies, and the features that they ask for.
+fn put_dependencies<'a>(
+    inputs: &Inputs<'a>,
+    vertices: &mut Vec<VertexRef<'a>>,
+    owner: OwnerRef<'a>,
+    dependencies: &'a [Dependency],
+) -> Result<(), AllocError>
+    requires default { KnowsDefault inputs.now }
+    ensures { OnOk result (vertex_views vertices.new.items ≡ vertex_views vertices.old.items ++ each_from (of_dependency (problem inputs.now) (owner_ref_view owner.entry)) 0 (dependency_views dependencies.entry.now)) }
+{
+    'dependencies: for (number, dependency) in dependencies.iter().enumerate() {
+        put_dependency(inputs, vertices, owner, number, dependency)?;
+    }
+    Ok(())
+}
+
+fn put_dependency<'a>(
+    inputs: &Inputs<'a>,
+    vertices: &mut Vec<VertexRef<'a>>,
+    owner: OwnerRef<'a>,
+    number: usize,
+    dependency: &'a Dependency,
+) -> Result<(), AllocError>
+    requires default { KnowsDefault inputs.now }
+    ensures { OnOk result (vertex_views vertices.new.items ≡ vertex_views vertices.old.items ++ of_dependency (problem inputs.now) (owner_ref_view owner.entry) number (dependency_view dependency.entry.now)) }
+{
+    vertices.push(VertexRef::Dependency(owner, number))?;
+    put_wanted(inputs, vertices, dependency)
+}
+
+/// The features of a dependency's own list, and `default`.
+fn put_wanted<'a>(
+    inputs: &Inputs<'a>,
+    vertices: &mut Vec<VertexRef<'a>>,
+    dependency: &'a Dependency,
+) -> Result<(), AllocError>
+    requires default { KnowsDefault inputs.now }
+    ensures { OnOk result (vertex_views vertices.new.items ≡ vertex_views vertices.old.items ++ flat_map (feature_of (problem inputs.now) (dependency_view dependency.entry.now).real_name) (asked_of_target (dependency_view dependency.entry.now))) }
+{
+    put_listed(
+        inputs,
+        vertices,
+        &dependency.real_name,
+        dependency.features.as_slice(),
+    )?;
+    put_default(inputs, vertices, dependency)
+}
+
+fn put_listed<'a>(
+    inputs: &Inputs<'a>,
+    vertices: &mut Vec<VertexRef<'a>>,
+    name: &'a PackageName,
+    features: &'a [FeatureName],
+) -> Result<(), AllocError>
+    ensures { OnOk result (vertex_views vertices.new.items ≡ vertex_views vertices.old.items ++ flat_map (feature_of (problem inputs.now) name.entry.now) features.entry.now) }
+{
+    'features: for feature in features.iter() {
+        put_first(inputs, vertices, name, feature)?;
+    }
+    Ok(())
+}
+
+fn put_default<'a>(
+    inputs: &Inputs<'a>,
+    vertices: &mut Vec<VertexRef<'a>>,
+    dependency: &'a Dependency,
+) -> Result<(), AllocError>
+    requires default { KnowsDefault inputs.now }
+    ensures { OnOk result (vertex_views vertices.new.items ≡ vertex_views vertices.old.items ++ (if (dependency_view dependency.entry.now).default_features then feature_of (problem inputs.now) (dependency_view dependency.entry.now).real_name (codes "default") else [])) }
+{
+    if dependency.default_features {
+        put_first(inputs, vertices, &dependency.real_name, inputs.default)?;
+    }
+    Ok(())
+}
+
+/// A feature of a name, in the class of the name's first candidate.
+fn put_first<'a>(
+    inputs: &Inputs<'a>,
+    vertices: &mut Vec<VertexRef<'a>>,
+    name: &'a PackageName,
+    feature: &'a FeatureName,
+) -> Result<(), AllocError>
+    ensures { OnOk result (vertex_views vertices.new.items ≡ vertex_views vertices.old.items ++ feature_of (problem inputs.now) name.entry.now feature.entry.now) }
+{
+    put_first_of(vertices, name, feature, inputs.catalogue.versions(name))
+}
+
+fn put_first_of<'a>(
+    vertices: &mut Vec<VertexRef<'a>>,
+    name: &'a PackageName,
+    feature: &'a FeatureName,
+    versions: &[Version],
+) -> Result<(), AllocError>
+    ensures { OnOk result (vertex_views vertices.new.items ≡ vertex_views vertices.old.items ++ first_feature name.entry.now feature.entry.now (map parts_of versions.now)) }
+{
+    match versions.first() {
+        Some(version) => {
+            vertices.push(VertexRef::Feature(name, Class::of(version), feature))?;
+            Ok(())
+        }
+        None => Ok(()),
+    }
+}

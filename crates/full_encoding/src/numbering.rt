@@ -1,0 +1,54 @@
+//! Numbers for every vertex.
+
+ghost use Rattle.std.specs.Prelude.{OnOk};
+ghost use Rattle.std.specs.List.{flat_map};
+ghost use Rattle.encoding.specs.Inputs.{KnowsDefault, problem};
+ghost use Rattle.encoding.specs.Numberings.{IsGrown, IsNumbering, IsWhole};
+ghost use Rattle.full_encoding.specs.Everything.{in_classes};
+ghost use Rattle.full_encoding.specs.Putting.{AreIn, IsPut};
+ghost use Rattle.full_encoding.specs.Views.{vertex_views};
+
+use crate::naming::named;
+use crate::widening::widened;
+use catalogue::catalogues_are_well_formed;
+use encoding::{Inputs, Table};
+use std::alloc::{AllocError, Global};
+use vertices::VertexRef;
+
+/// Gives every vertex of the manifest and the loaded index a number, where it has none.
+pub(crate) fn number_all<'a>(
+    alloc: Global,
+    inputs: &Inputs<'a>,
+    table: &mut Table<'a>,
+) -> Result<(), AllocError>
+    requires default { KnowsDefault inputs.now }
+    requires numbering { IsNumbering (problem inputs.now) table.old }
+    ensures grown { IsGrown table.old table.new }
+    ensures numbering { IsNumbering (problem inputs.now) table.new }
+    ensures whole { OnOk result (IsWhole (problem inputs.now) table.new) }
+{
+    catalogues_are_well_formed(inputs.manifest, inputs.catalogue);
+    let vertices = named(alloc, inputs)?;
+    put_all(table, vertices.as_slice())?;
+    widen(alloc, inputs, table)
+}
+
+/// Gives numbers to the features of the table in all classes of their names.
+fn widen<'a>(alloc: Global, inputs: &Inputs<'a>, table: &mut Table<'a>) -> Result<(), AllocError>
+    ensures put { IsPut table.old table.new (flat_map (in_classes (problem inputs.now)) table.old) }
+    ensures all { OnOk result (AreIn table.new (flat_map (in_classes (problem inputs.now)) table.old)) }
+{
+    let vertices = widened(alloc, inputs, table)?;
+    put_all(table, vertices.as_slice())
+}
+
+/// Gives numbers to those of some vertices that have none.
+fn put_all<'a>(table: &mut Table<'a>, vertices: &[VertexRef<'a>]) -> Result<(), AllocError>
+    ensures put { IsPut table.old table.new (vertex_views vertices.now) }
+    ensures all { OnOk result (AreIn table.new (vertex_views vertices.now)) }
+{
+    'vertices: for vertex in vertices.iter() {
+        table.put(*vertex)?;
+    }
+    Ok(())
+}

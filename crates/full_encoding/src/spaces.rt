@@ -1,0 +1,73 @@
+//! How many states vertices have, beside their numbers.
+
+ghost use Rattle.std.specs.Prelude.{◌≡◌, ◌+◌, ◌<◌, ◌≤◌, IfOk, OnOk, Some, length, slice_get, take};
+ghost use Rattle.model.specs.Vertices.{Vertex, space};
+ghost use Rattle.encoding.specs.Inputs.{problem};
+ghost use Rattle.full_encoding.specs.Encodings.{AreSpaces};
+
+use encoding::{Inputs, Table, space_of};
+use std::alloc::{AllocError, Global};
+
+/// How many states each vertex of the table has.
+pub(crate) fn spaces_of(
+    alloc: Global,
+    inputs: &Inputs<'_>,
+    table: &Table<'_>,
+) -> Result<Vec<u32>, AllocError>
+    ensures are { IfOk result (λ ss. AreSpaces (problem inputs.now) table.now ss.items) }
+    ensures all { IfOk result (λ ss. take (length ss.items) table.now ≡ table.now) }
+{
+    let mut spaces = Vec::new(alloc);
+    put_spaces(alloc, inputs, table, &mut spaces)?;
+    Ok(spaces)
+}
+
+/// Puts how many states each vertex of the table has, where it isn't there yet.
+pub(crate) fn put_spaces(
+    alloc: Global,
+    inputs: &Inputs<'_>,
+    table: &Table<'_>,
+    spaces: &mut Vec<u32>,
+) -> Result<(), AllocError>
+    requires are { AreSpaces (problem inputs.now) table.now spaces.old.items }
+    ensures are { AreSpaces (problem inputs.now) table.now spaces.new.items }
+    ensures more { length spaces.old.items ≤ length spaces.new.items }
+    ensures all { OnOk result (length table.now ≤ length spaces.new.items) }
+{
+    'vertices: while spaces.len() < table.len() {
+        put_space(alloc, inputs, table, spaces)?;
+    }
+    Ok(())
+}
+
+fn put_space(
+    alloc: Global,
+    inputs: &Inputs<'_>,
+    table: &Table<'_>,
+    spaces: &mut Vec<u32>,
+) -> Result<(), AllocError>
+    requires are { AreSpaces (problem inputs.now) table.now spaces.old.items }
+    requires less { length spaces.old.items < length table.now }
+    ensures are { AreSpaces (problem inputs.now) table.now spaces.new.items }
+    ensures more { length spaces.old.items ≤ length spaces.new.items }
+    ensures longer { OnOk result (length spaces.new.items ≡ length spaces.old.items + 1) }
+{
+    let space = space_at(alloc, inputs, table, spaces.len())?;
+    spaces.push(space)?;
+    Ok(())
+}
+
+/// How many states the vertex with a number has; 0 where no vertex has it.
+pub(crate) fn space_at(
+    alloc: Global,
+    inputs: &Inputs<'_>,
+    table: &Table<'_>,
+    number: usize,
+) -> Result<u32, AllocError>
+    ensures { IfOk result (λ n. (v : Vertex) → slice_get table.now number ≡ Some v → n ≡ length (space (problem inputs.now) v)) }
+{
+    match table.vertex(number) {
+        Some(vertex) => Ok(space_of(alloc, inputs, &vertex)? as u32),
+        None => Ok(0),
+    }
+}

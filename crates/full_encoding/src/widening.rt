@@ -1,0 +1,115 @@
+//! A feature of a name in each of the name's classes, where it is in the first.
+
+ghost use Rattle.std.specs.Prelude.{◌≡◌, ◌++◌, Some, IfOk, OnOk, map, slice_get};
+ghost use Rattle.std.specs.List.{flat_map};
+ghost use Rattle.semver.specs.Identifiers.{parts_of};
+ghost use Rattle.classes.specs.Classes.{class_view};
+ghost use Rattle.model.specs.Selection.{class_of};
+ghost use Rattle.model.specs.Vertices.{Vertex, feat, same_class};
+ghost use Rattle.encoding.specs.Inputs.{problem};
+ghost use Rattle.vertices.specs.RefViews.{vertex_ref_view};
+ghost use Rattle.full_encoding.specs.Everything.{each_feature, in_classes};
+ghost use Rattle.full_encoding.specs.Views.{vertex_views};
+
+use classes::Class;
+use encoding::{Inputs, Table};
+use features::{FeatureName, PackageName};
+use semver::Version;
+use std::alloc::{AllocError, Global};
+use vertices::VertexRef;
+
+/// The features in the other classes of their names. The cost is that of each feature's name, versions and all.
+pub(crate) fn widened<'a>(
+    alloc: Global,
+    inputs: &Inputs<'a>,
+    table: &Table<'a>,
+) -> Result<Vec<VertexRef<'a>>, AllocError>
+    ensures { IfOk result (λ vs. vertex_views vs.items ≡ flat_map (in_classes (problem inputs.now)) table.now) }
+{
+    let mut vertices = Vec::new(alloc);
+    'numbers: for number in 0..table.len() {
+        put_at(inputs, &mut vertices, table, number)?;
+    }
+    Ok(vertices)
+}
+
+fn put_at<'a>(
+    inputs: &Inputs<'a>,
+    vertices: &mut Vec<VertexRef<'a>>,
+    table: &Table<'a>,
+    number: usize,
+) -> Result<(), AllocError>
+    ensures { OnOk result ((v : Vertex) → slice_get table.now number ≡ Some v → vertex_views vertices.new.items ≡ vertex_views vertices.old.items ++ in_classes (problem inputs.now) v) }
+{
+    match table.vertex(number) {
+        Some(vertex) => put_in_classes(inputs, vertices, vertex),
+        None => Ok(()),
+    }
+}
+
+fn put_in_classes<'a>(
+    inputs: &Inputs<'a>,
+    vertices: &mut Vec<VertexRef<'a>>,
+    vertex: VertexRef<'a>,
+) -> Result<(), AllocError>
+    ensures { OnOk result (vertex_views vertices.new.items ≡ vertex_views vertices.old.items ++ in_classes (problem inputs.now) (vertex_ref_view vertex.entry)) }
+{
+    match vertex {
+        VertexRef::Root => Ok(()),
+        VertexRef::Package(_, _) => Ok(()),
+        VertexRef::Dependency(_, _) => Ok(()),
+        VertexRef::Feature(name, class, feature) => {
+            put_each(
+                vertices,
+                name,
+                class,
+                feature,
+                inputs.catalogue.versions(name),
+            )
+        }
+        VertexRef::Ask(_, _, _, _) => Ok(()),
+    }
+}
+
+/// A feature in the class of each version, where it is in the class of the first.
+fn put_each<'a>(
+    vertices: &mut Vec<VertexRef<'a>>,
+    name: &'a PackageName,
+    class: Class,
+    feature: &'a FeatureName,
+    versions: &[Version],
+) -> Result<(), AllocError>
+    ensures { OnOk result (vertex_views vertices.new.items ≡ vertex_views vertices.old.items ++ each_feature name.entry.now (class_view class) feature.entry.now (map parts_of versions.now)) }
+{
+    match versions.first() {
+        Some(version) => {
+            if is_same(class, Class::of(version)) {
+                put_classes(vertices, name, feature, versions)
+            } else {
+                Ok(())
+            }
+        }
+        None => Ok(()),
+    }
+}
+
+#[tactic(auto, using(encoding::proofs::Same::class_same))]
+fn is_same(class: Class, other: Class) -> bool
+    ensures { result ≡ same_class (class_view class) (class_view other) }
+{
+    class == other
+}
+
+fn put_classes<'a>(
+    vertices: &mut Vec<VertexRef<'a>>,
+    name: &'a PackageName,
+    feature: &'a FeatureName,
+    versions: &[Version],
+) -> Result<(), AllocError>
+    ensures { OnOk result (vertex_views vertices.new.items ≡ vertex_views vertices.old.items ++ map (λ w. feat name.entry.now (class_of w) feature.entry.now) (map parts_of versions.now)) }
+{
+    'versions: for version in versions.iter() {
+        vertices.push(VertexRef::Feature(name, Class::of(version), feature))?;
+    }
+    Ok(())
+}
