@@ -6,3 +6,4 @@ pub mod FileLaws
 pub mod KeptLemmas
 pub mod SplitLemmas
 pub mod CountLemmas
+pub mod RisingLemmas

@@ -1,6 +1,8 @@
 -- What a tree of JSON that borrows its texts stands for: the value that `serde_json` reads, where of a key that comes twice the last stays.
 use Rattle.std.specs.Prelude.{ℕ, Bool, true, ◌&&◌, negsuc, List, [], ◌∷◌, Option, is_some, unwrap_or, option_and_then}
 use Rattle.std.specs.Borrow.{Bor}
+use Rattle.std.specs.Ordering.{is_lt, nat_cmp}
+use Rattle.std.specs.Cmp.Lexicographic.{slice_cmp}
 use Rattle.std.specs.declared.alloc.Global.{Global}
 use Rattle.json.specs.Json as json
 use Rattle.json.specs.Lex.{tokens}
@@ -67,3 +69,13 @@ entries_view entries = members_of (view.members_view entries) no_members
 abbrev pub sorted_view : List (Bor (List ℕ) × Bor (Value Global)) → Members
 sorted_view [] = no_members
 sorted_view (e ∷ es) = member e.0.now (tree_view e.1.now) (sorted_view es)
+
+-- members as they are listed
+abbrev pub listed_view : List (Bor (List ℕ) × Value Global) → Members
+listed_view [] = no_members
+listed_view (m ∷ ms) = member m.0.now (tree_view m.1) (listed_view ms)
+
+-- each key comes after the one before it, and the first after this one
+abbrev pub rise_after : List ℕ → List (Bor (List ℕ) × Value Global) → Bool
+rise_after key [] = true
+rise_after key (m ∷ ms) = is_lt (slice_cmp nat_cmp key m.0.now) && rise_after m.0.now ms

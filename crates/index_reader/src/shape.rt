@@ -5,10 +5,10 @@ ghost use Rattle.model.specs.Outcome.{Gives};
 ghost use Rattle.index_reader.specs.Lines.{is_memory, value_at, package_name_of, package_name_at, package_name_or_none, kind_of_text, kind_at, part_of, by_kind, dependency_of, dependencies_in, dependencies_at, features_in, features_or_none, rust_version_at, shape_of};
 ghost use Rattle.classes.specs.RustVersions.{rust_version_view};
 ghost use Rattle.index_reader.specs.Shapes.{feature_views, part_view, line_dependency_view, line_dependency_views, shape_view};
-ghost use Rattle.index_reader.specs.Trees.{tree_view, trees_view, entries_view};
+ghost use Rattle.index_reader.specs.Trees.{tree_view, trees_view, entries_view, listed_view};
 
 use crate::fault::{LineFault, Reason};
-use crate::tree::{Members, as_list, as_members, as_text, by_key};
+use crate::tree::{Members, are_rising, as_list, as_members, as_text, by_key};
 use crate::values::{flag, text, text_if_any, texts, texts_at, value, whole};
 use classes::RustVersion;
 use features::{NameFault, PackageName};
@@ -257,8 +257,38 @@ fn dependencies<'a>(alloc: Global, line: &Value<'a>) -> Result<Vec<DependencySha
     }
 }
 
-#[tactic(auto, unfolding(crate::specs::Lines::features_in))]
 fn features_in<'a>(alloc: Global, members: &Members<'a>) -> Result<Vec<FeatureShape<'a>>, LineFault>
+    ensures { Gives is_memory (λ v. feature_views v.items) result (features_in (entries_view members.now.items)) }
+{
+    if are_rising(members) {
+        return features_as_listed(alloc, members);
+    }
+    features_by_key(alloc, members)
+}
+
+/// The features of members in the order in which they are listed.
+#[tactic(auto, unfolding(crate::specs::Lines::features_in))]
+fn features_as_listed<'a>(
+    alloc: Global,
+    members: &Members<'a>,
+) -> Result<Vec<FeatureShape<'a>>, LineFault>
+    ensures { Gives is_memory (λ v. feature_views v.items) result (features_in (listed_view members.now.items)) }
+{
+    let mut found = Vec::with_capacity(alloc, members.len())?;
+    'members: for member in members {
+        let entries = texts(alloc, &member.1)?;
+        let name = member.0;
+        found.push(FeatureShape { name, entries })?;
+    }
+    Ok(found)
+}
+
+/// The features of members in whatever order.
+#[tactic(auto, unfolding(crate::specs::Lines::features_in))]
+fn features_by_key<'a>(
+    alloc: Global,
+    members: &Members<'a>,
+) -> Result<Vec<FeatureShape<'a>>, LineFault>
     ensures { Gives is_memory (λ v. feature_views v.items) result (features_in (entries_view members.now.items)) }
 {
     let mut found = Vec::with_capacity(alloc, members.len())?;

@@ -1,17 +1,9 @@
-use Rattle.std.proofs.Common.{ap, ◌∙◌}
-use Rattle.std.proofs.lemmas.List.{map-append}
-use Rattle.index_reader.specs.Lines.{features_in}
-use Rattle.index_reader.specs.Shapes.{feature_view, feature_views}
-use Rattle.index_reader.proofs.ReadLemmas.{with_front-next}
+use Rattle.std.proofs.Common.{◌≡◌, sym, ◌∙◌}
+use Rattle.index_reader.specs.Trees.{entries_view, listed_view}
+use Rattle.index_reader.proofs.RisingLemmas.{entries-listed}
 use Rattle.index_reader.proofs.shape.features_in.Goals as goal
 
-pub members-preserved : goal.members-preserved
-unfolding features_in
-members-preserved c =
-    let told = rw (c.in-Some.ensures.steps, c.in_ok-entries.ensures) at c.members.invariant.told in
-    let pushed = ap feature_views c.in_ok-push.ensures.items ∙ map-append feature_view c.members.found.items _ in
-    record {
-      can = tt;
-      finite = tt;
-      told = rw pushed (with_front-next _ _ _ _ told);
-    }
+pub returns-then-are_rising : goal.returns-then-are_rising
+returns-then-are_rising c =
+    let listed : entries_view c.args.members.now.items ≡ listed_view c.args.members.now.items = entries-listed c.args.members.now.items (sym c.are_rising.ensures ∙ c.if-are_rising.true) in
+    rw listed c.features_as_listed.ensures

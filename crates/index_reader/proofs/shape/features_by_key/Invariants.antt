@@ -3,7 +3,7 @@ use Rattle.index_reader.specs.Lines.{features_in}
 use Rattle.index_reader.specs.Shapes.{feature_views}
 use Rattle.index_reader.specs.Trees.{entries_view, sorted_view}
 use Rattle.index_reader.proofs.ReadLemmas.{with_front}
-use Rattle.index_reader.proofs.shape.features_in.Given as goal
+use Rattle.index_reader.proofs.shape.features_by_key.Given as goal
 
 -- the features so far and those of what is left are those of all
 abbrev pub invariant-members : goal.invariant-members

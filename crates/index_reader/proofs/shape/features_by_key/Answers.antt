@@ -1,0 +1,17 @@
+use Rattle.std.proofs.Common.{ap, ◌∙◌}
+use Rattle.std.proofs.lemmas.List.{map-append}
+use Rattle.index_reader.specs.Lines.{features_in}
+use Rattle.index_reader.specs.Shapes.{feature_view, feature_views}
+use Rattle.index_reader.proofs.ReadLemmas.{with_front-next}
+use Rattle.index_reader.proofs.shape.features_by_key.Goals as goal
+
+pub members-preserved : goal.members-preserved
+unfolding features_in
+members-preserved c =
+    let told = rw (c.in-Some.ensures.steps, c.in_ok-entries.ensures) at c.members.invariant.told in
+    let pushed = ap feature_views c.in_ok-push.ensures.items ∙ map-append feature_view c.members.found.items _ in
+    record {
+      can = tt;
+      finite = tt;
+      told = rw pushed (with_front-next _ _ _ _ told);
+    }
