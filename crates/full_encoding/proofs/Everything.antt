@@ -11,6 +11,8 @@ use Rattle.model.specs.Vertices.{Owner, the_root, version_of, Vertex, root, pkg,
 use Rattle.model.specs.Axioms.{IsOwner, HasDep, HasEntry, RootAsks, HasFeatVertex, IsVertex}
 use Rattle.model.specs.Axioms.HasFeatVertex.{had, asked, by_entry}
 use Rattle.model.proofs.Lists.{in_none, in_cons, in_first, in_rest, in_filter, to_filter, in_map, to_map, pairs_first, pairs_rest}
+use Rattle.model.proofs.Spaces.{class_in}
+use Rattle.model.proofs.Vertices.{class_from}
 use Rattle.model.proofs.Owners.{candidate_at-is, candidate_at-there}
 use Rattle.model.proofs.Same.{text-same, text-refl, class-same, class-refl, version-same, version-refl}
 use Rattle.model.proofs.Gathered.{place_in, at_place}
@@ -20,7 +22,8 @@ use Rattle.refutations.proofs.Bools.{in_append-left, in_append-right, in_either}
 use Rattle.refutations.proofs.Named.{dep_owner, entry-is, to_entry, row_of}
 use Rattle.encoding.proofs.ClassOrder.{IsOlder}
 use Rattle.encoding.proofs.Distinct.{of_rows, older_differ}
-use Rattle.full_encoding.specs.Everything.{each_from, versions, first_feature, each_feature, ask_if, versions_of, feature_of, asked_if, asked_of, of_dependency, of_dependencies, of_entry, of_feature, of_version, of_name, of_root, named, in_classes}
+use Rattle.full_encoding.proofs.Runs.{candidates_classed}
+use Rattle.full_encoding.specs.Everything.{classes_in, each_from, versions, first_feature, each_feature, ask_if, versions_of, feature_of, asked_if, asked_of, of_dependency, of_dependencies, of_entry, of_feature, of_version, of_name, of_root, named, in_classes}
 
 -- ---- lists
 
@@ -258,10 +261,10 @@ module _ (q : Problem) where
       by : (cs : List Candidate) → ((c : Candidate) → Contains cs c → Contains (class_candidates q name (class_of c.version)) c) → Contains (each_feature name k f (versions cs)) w → IsVertex q w
       by [] there h = absurd (in_none w h)
       by (c ∷ cs) there h =
-          let r = from_if (same_class k (class_of c.version)) w (map (λ w. feat name (class_of w) f) (versions (c ∷ cs))) h in
-          let s = in_map (λ w. feat name (class_of w) f) (versions (c ∷ cs)) w r.1 in
-          let t = in_map (λ (c : Candidate). c.version) (c ∷ cs) s.0 s.1 in
-          subst (IsVertex q) (ap (λ x. feat name (class_of x) f) t.2 ∙ s.2) (moved name k f t.0 (class_of (t.0).version) (there t.0 t.1) is)
+          let r = from_if (same_class k (class_of c.version)) w (map (λ m. feat name m f) (classes_in (versions (c ∷ cs)))) h in
+          let s = in_map (λ m. feat name m f) (classes_in (versions (c ∷ cs))) w r.1 in
+          let t = class_from (c ∷ cs) s.0 (subst (λ ks. Contains ks s.0) (candidates_classed (c ∷ cs)) s.1) in
+          subst (IsVertex q) (ap (λ m. feat name m f) t.2 ∙ s.2) (moved name k f t.0 (class_of (t.0).version) (there t.0 t.1) is)
 
   -- ---- each vertex is named, ..
 
@@ -378,12 +381,14 @@ module _ (q : Problem) where
         let r = at_first name f c.0 e.0 in
         let x = class_of (r.0).version in
         let all : List Candidate = (r.0) ∷ r.1 in
-        let in_all : Contains (versions all) (c.0).version = to_map (λ (c : Candidate). c.version) all c.0 (subst (λ l. Contains l c.0) r.2 e.0) in
-        let there : Contains (map (λ w. feat name (class_of w) f) (versions all)) (feat name k f)
-        = subst (λ m. Contains (map (λ w. feat name (class_of w) f) (versions all)) (feat name m f)) (sym e.1) (to_map (λ w. feat name (class_of w) f) (versions all) (c.0).version in_all) in
+        let ks = classes_in (versions all) in
+        let in_all : Contains ks (class_of (c.0).version)
+        = subst (λ l. Contains l (class_of (c.0).version)) (sym (candidates_classed all)) (class_in all c.0 (subst (λ l. Contains l c.0) r.2 e.0)) in
+        let there : Contains (map (λ m. feat name m f) ks) (feat name k f)
+        = subst (λ m. Contains (map (λ m. feat name m f) ks) (feat name m f)) (sym e.1) (to_map (λ m. feat name m f) ks (class_of (c.0).version) in_all) in
         inr (
           feat name x f,
           feature_first name k f (feat name x f) is r.3,
           subst (λ l. Contains (each_feature name x f (versions l)) (feat name k f)) (sym r.2)
-              (to_if (same_class x x) (feat name k f) (map (λ w. feat name (class_of w) f) (versions all)) (class-refl x) there),
+              (to_if (same_class x x) (feat name k f) (map (λ m. feat name m f) ks) (class-refl x) there),
         )

@@ -4,3 +4,4 @@ pub mod Pairing
 pub mod Counted
 pub mod Steps
 pub mod Put
+pub mod Runs

@@ -17,7 +17,7 @@ use Rattle.catalogue.specs.Ranks.{records}
 use Rattle.catalogue.specs.Stores.{CatalogueView, Row, candidates_at, rows_by_name}
 use Rattle.refutations.specs.Causes.{entries_or_none}
 use Rattle.looking_up.proofs.Brought.{candidates_are}
-use Rattle.full_encoding.specs.Everything.{each_feature, first_feature, versions, versions_of}
+use Rattle.full_encoding.specs.Everything.{classes_in, each_feature, first_feature, versions, versions_of}
 
 -- one more of a list
 pub rest_more : {X : Type 0} (f : X → List Vertex) (vs new all : List Vertex) (x : X) (xs : List X) → vs ++ flat_map f (x ∷ xs) ≡ all → new ≡ vs ++ f x → new ++ flat_map f xs ≡ all
@@ -73,13 +73,13 @@ first_none name f (x ∷ vs) e = absurd (none-some x (sym e))
 
 -- the same in each class
 pub each_same : (name f : List ℕ) (k : Class) (vs : List Version) (v : Version) → slice_get vs 0 ≡ Some v → same_class k (class_of (parts_of v)) ≡ true
-    → each_feature name k f (map parts_of vs) ≡ map (λ w. feat name (class_of w) f) (map parts_of vs)
+    → each_feature name k f (map parts_of vs) ≡ map (λ m. feat name m f) (classes_in (map parts_of vs))
 each_same name f k [] v e t = refl
-each_same name f k (x ∷ vs) v e t = ap (λ b. cond b (map (λ w. feat name (class_of w) f) (map parts_of (x ∷ vs))) []) (ap (λ w. same_class k (class_of (parts_of w))) (same_Some x v e) ∙ t)
+each_same name f k (x ∷ vs) v e t = ap (λ b. cond b (map (λ m. feat name m f) (classes_in (map parts_of (x ∷ vs)))) []) (ap (λ w. same_class k (class_of (parts_of w))) (same_Some x v e) ∙ t)
 
 pub each_other : (name f : List ℕ) (k : Class) (vs : List Version) (v : Version) → slice_get vs 0 ≡ Some v → same_class k (class_of (parts_of v)) ≡ false → each_feature name k f (map parts_of vs) ≡ []
 each_other name f k [] v e t = refl
-each_other name f k (x ∷ vs) v e t = ap (λ b. cond b (map (λ w. feat name (class_of w) f) (map parts_of (x ∷ vs))) []) (ap (λ w. same_class k (class_of (parts_of w))) (same_Some x v e) ∙ t)
+each_other name f k (x ∷ vs) v e t = ap (λ b. cond b (map (λ m. feat name m f) (classes_in (map parts_of (x ∷ vs)))) []) (ap (λ w. same_class k (class_of (parts_of w))) (same_Some x v e) ∙ t)
 
 pub each_none : (name f : List ℕ) (k : Class) (vs : List Version) → slice_get vs 0 ≡ None → each_feature name k f (map parts_of vs) ≡ []
 each_none name f k [] e = refl

@@ -6,7 +6,7 @@ use Rattle.semver.specs.Parse.{Parts}
 use Rattle.model.specs.Summary.{Summary, Dependency, Entry, feature, dependency, dependency_feature, weak_feature, asked_of_target, entries_at, same_text}
 use Rattle.model.specs.Content.{Candidate, Problem, candidates_of}
 use Rattle.model.specs.Selection.{Class, class_of}
-use Rattle.model.specs.Vertices.{Owner, the_root, version_of, Vertex, root, pkg, dep, feat, ask, owner_brings, same_class}
+use Rattle.model.specs.Vertices.{Owner, the_root, version_of, Vertex, root, pkg, dep, feat, ask, add_class, owner_brings, same_class}
 use Rattle.manifest.specs.Manifests.{asked_by}
 use Rattle.refutations.specs.Causes.{entries_or_none}
 
@@ -23,10 +23,15 @@ abbrev pub first_feature : List ℕ → List ℕ → List Parts → List Vertex
 first_feature name f [] = []
 first_feature name f (v ∷ vs) = feat name (class_of v) f ∷ []
 
--- the same in the class of each version, where the class is that of the first
+-- the classes of versions, each once
+abbrev pub classes_in : List Parts → List Class
+classes_in [] = []
+classes_in (v ∷ vs) = add_class (class_of v) (classes_in vs)
+
+-- the same in each class of the versions, where the class is that of the first
 abbrev pub each_feature : List ℕ → Class → List ℕ → List Parts → List Vertex
 each_feature name k f [] = []
-each_feature name k f (v ∷ vs) = if same_class k (class_of v) then map (λ w. feat name (class_of w) f) (v ∷ vs) else []
+each_feature name k f (v ∷ vs) = if same_class k (class_of v) then map (λ m. feat name m f) (classes_in (v ∷ vs)) else []
 
 -- an entry `d/g` of a version asks a dependency called d
 abbrev pub ask_if : List ℕ → Parts → Entry → ℕ → Dependency → List Vertex

@@ -3,3 +3,4 @@ pub mod Views
 pub mod Putting
 pub mod Encodings
 pub mod Everywhere
+pub mod Runs

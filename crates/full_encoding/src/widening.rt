@@ -1,24 +1,26 @@
 //! A feature of a name in each of the name's classes, where it is in the first.
 
-ghost use Rattle.std.specs.Prelude.{◌≡◌, ◌++◌, Some, IfOk, OnOk, map, slice_get};
+ghost use Rattle.std.specs.Prelude.{◌≡◌, ◌++◌, Some, IfOk, OnOk, map, option_map, slice_get};
 ghost use Rattle.std.specs.List.{flat_map};
 ghost use Rattle.semver.specs.Identifiers.{parts_of};
 ghost use Rattle.classes.specs.Classes.{class_view};
-ghost use Rattle.model.specs.Selection.{class_of};
 ghost use Rattle.model.specs.Vertices.{Vertex, feat, same_class};
+ghost use Rattle.looking_up.specs.Ranges.{AreRising};
 ghost use Rattle.encoding.specs.Inputs.{problem};
 ghost use Rattle.vertices.specs.RefViews.{vertex_ref_view};
-ghost use Rattle.full_encoding.specs.Everything.{each_feature, in_classes};
+ghost use Rattle.full_encoding.specs.Everything.{classes_in, each_feature, in_classes};
+ghost use Rattle.full_encoding.specs.Runs.{IsFirstRun};
 ghost use Rattle.full_encoding.specs.Views.{vertex_views};
 
 use classes::Class;
 use encoding::{Inputs, Table};
 use features::{FeatureName, PackageName};
+use looking_up::of_class;
 use semver::Version;
 use std::alloc::{AllocError, Global};
 use vertices::VertexRef;
 
-/// The features in the other classes of their names. The cost is that of each feature's name, versions and all.
+/// The features in the other classes of their names. Each costs a search among its name's versions.
 pub(crate) fn widened<'a>(
     alloc: Global,
     inputs: &Inputs<'a>,
@@ -71,7 +73,7 @@ fn put_in_classes<'a>(
     }
 }
 
-/// A feature in the class of each version, where it is in the class of the first.
+/// A feature in each class of the versions, where it is in the class of the first.
 fn put_each<'a>(
     vertices: &mut Vec<VertexRef<'a>>,
     name: &'a PackageName,
@@ -79,6 +81,7 @@ fn put_each<'a>(
     feature: &'a FeatureName,
     versions: &[Version],
 ) -> Result<(), AllocError>
+    requires rising { AreRising versions.now }
     ensures { OnOk result (vertex_views vertices.new.items ≡ vertex_views vertices.old.items ++ each_feature name.entry.now (class_view class) feature.entry.now (map parts_of versions.now)) }
 {
     match versions.first() {
@@ -106,10 +109,23 @@ fn put_classes<'a>(
     feature: &'a FeatureName,
     versions: &[Version],
 ) -> Result<(), AllocError>
-    ensures { OnOk result (vertex_views vertices.new.items ≡ vertex_views vertices.old.items ++ map (λ w. feat name.entry.now (class_of w) feature.entry.now) (map parts_of versions.now)) }
+    requires rising { AreRising versions.now }
+    ensures { OnOk result (vertex_views vertices.new.items ≡ vertex_views vertices.old.items ++ map (λ k. feat name.entry.now k feature.entry.now) (classes_in (map parts_of versions.now))) }
 {
-    'versions: for version in versions.iter() {
-        vertices.push(VertexRef::Feature(name, Class::of(version), feature))?;
+    let mut rest = versions;
+    'classes: while let Some((class, others)) = first_run(rest) {
+        vertices.push(VertexRef::Feature(name, class, feature))?;
+        rest = others;
     }
     Ok(())
+}
+
+/// The class of the first version, and the versions behind those of that class, found by search.
+fn first_run<'a>(versions: &'a [Version]) -> Option<(Class, &'a [Version])>
+    requires rising { AreRising versions.now }
+    ensures { IsFirstRun versions.entry.now (option_map (λ p. (class_view p.0, p.1.now)) result) }
+{
+    let class = Class::of(versions.first()?);
+    let count = of_class(class, versions).len();
+    Some((class, &versions[count..]))
 }
