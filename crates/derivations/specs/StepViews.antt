@@ -2,8 +2,9 @@
 use Rattle.std.specs.Prelude.{List, map}
 use Rattle.std.specs.Borrow.{Bor}
 use Rattle.serde_json.specs.Data.{Data}
-use Rattle.serde_json.specs.View.{view}
-use Rattle.serde_json.specs.declared.value.Value.{Value}
+use Rattle.std.specs.declared.alloc.Global.{Global}
+use Rattle.json.specs.declared.value.Value.{Value}
+use Rattle.trees.specs.Trees.{tree_view}
 use Rattle.vertices.specs.Kinds.{kind_view}
 use Rattle.derivations.specs.Steps.{Written, Origin, by_axiom, by_combination}
 use Rattle.derivations.specs.Views.{term_view}
@@ -12,8 +13,8 @@ use Rattle.derivations.specs.declared.line.WrittenTerm.{WrittenTerm}
 use Rattle.derivations.specs.declared.whole.WholeOrigin.{WholeOrigin}
 use Rattle.derivations.specs.declared.whole.WholeOrigin.TheVariants.{Axiom, Combination}
 
-abbrev pub two_view : Bor Value × Bor Value → Data × Data
-two_view p = (view p.0.now, view p.1.now)
+abbrev pub two_view : Bor (Value Global) × Bor (Value Global) → Data × Data
+two_view p = (tree_view p.0.now, tree_view p.1.now)
 
 abbrev pub written_view : WrittenTerm → Written
 written_view t = (t.text.now, term_view t.term)

@@ -21,6 +21,7 @@ use crate::line::read_step;
 use crate::step::{Origin, Step};
 use crate::tables::Tables;
 use crate::whole::WholeStep;
+use json::Scratch;
 use std::alloc::{AllocError, Global};
 use std::marker::Model;
 use vertices::{Kind, VertexRef};
@@ -184,8 +185,9 @@ fn read_lines(alloc: Global, lines: &[&[u8]]) -> Result<Derivation, DerivationFa
     ensures { Gives wants_memory (λ d. d) result (with_lines 1 (map (λ x. x.now) lines.now) []) }
 {
     let mut steps = Derivation::new(alloc);
+    let mut scratch = Scratch::new(alloc);
     'lines: for (index, line) in lines.iter().enumerate() {
-        steps = with_line(alloc, index as u64 + 1, line, steps)?;
+        steps = with_line(alloc, index as u64 + 1, line, steps, &mut scratch)?;
     }
     Ok(steps)
 }
@@ -196,13 +198,14 @@ fn with_line(
     number: u64,
     line: &[u8],
     steps: Derivation,
+    scratch: &mut Scratch,
 ) -> Result<Derivation, DerivationFault>
     ensures { Gives wants_memory (λ d. d) result (with_line number line.now steps) }
 {
     if is_blank(line) {
         return Ok(steps);
     }
-    match read_step(alloc, steps.len(), line) {
+    match read_step(alloc, steps.len(), line, scratch) {
         Ok(step) => with_step(alloc, number, steps, step),
         Err(fault) => Err(fault_at(number, fault)),
     }

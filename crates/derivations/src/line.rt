@@ -2,7 +2,7 @@
 
 ghost use Rattle.std.specs.Prelude.{◌≡◌, IfOk};
 ghost use Rattle.std.specs.List.{list_all};
-ghost use Rattle.serde_json.specs.View.{view, items_view};
+ghost use Rattle.trees.specs.Trees.{tree_view, trees_view};
 ghost use Rattle.serde_json.specs.Find as json;
 ghost use Rattle.model.specs.Outcome.{Gives, guard};
 ghost use Rattle.vertices.specs.Orders.{state_cmp};
@@ -17,9 +17,10 @@ use crate::fault::LineFault;
 use crate::texts::{read_state, read_vertex};
 use crate::values::{array, item, no_item, read_json, text, two, whole};
 use crate::whole::{WholeOrigin, WholeStep, WholeTerm};
-use serde_json::Value;
+use json::{Scratch, Value};
 use std::alloc::{AllocError, Global};
 use std::cmp::Ordering;
+use trees::member;
 use vertices::{Kind, State, Vertex, state_order};
 
 /// A term and the text of its vertex.
@@ -29,18 +30,23 @@ pub(crate) struct WrittenTerm<'a> {
     pub term: WholeTerm,
 }
 
-/// The step of this number that a line is.
+/// The step of this number that a line is. The room is kept from line to line.
 #[tactic(auto, unfolding(crate::specs::Steps::step_of_line))]
-pub(crate) fn read_step(alloc: Global, number: usize, line: &[u8]) -> Result<WholeStep, LineFault>
+pub(crate) fn read_step(
+    alloc: Global,
+    number: usize,
+    line: &[u8],
+    scratch: &mut Scratch,
+) -> Result<WholeStep, LineFault>
     ensures { Gives line_wants_memory step_view result (step_of_line number line.now) }
 {
-    let value = read_json(alloc, line)?;
+    let value = read_json(alloc, line, scratch)?;
     step(alloc, number, &value)
 }
 
 #[tactic(auto, unfolding(crate::specs::Steps::step_of))]
-fn step(alloc: Global, number: usize, value: &Value) -> Result<WholeStep, LineFault>
-    ensures { Gives line_wants_memory step_view result (step_of number (view value.now)) }
+fn step(alloc: Global, number: usize, value: &Value<'_>) -> Result<WholeStep, LineFault>
+    ensures { Gives line_wants_memory step_view result (step_of number (tree_view value.now)) }
 {
     let origin = origin(alloc, value)?;
     let terms = terms(alloc, value)?;
@@ -67,10 +73,10 @@ fn is_backward(number: usize, origin: &WholeOrigin) -> bool
 }
 
 /// What `axiom` or `combine` says: just one of them is there.
-fn origin(alloc: Global, value: &Value) -> Result<WholeOrigin, LineFault>
-    ensures { Gives line_wants_memory origin_view result (origin_of (view value.now)) }
+fn origin(alloc: Global, value: &Value<'_>) -> Result<WholeOrigin, LineFault>
+    ensures { Gives line_wants_memory origin_view result (origin_of (tree_view value.now)) }
 {
-    match (value.get("axiom"), value.get("combine")) {
+    match (member(value, "axiom"), member(value, "combine")) {
         (Some(kind), None) => axiom(kind),
         (None, Some(parts)) => combination(alloc, parts),
         _ => Err(LineFault::NotALine),
@@ -78,8 +84,8 @@ fn origin(alloc: Global, value: &Value) -> Result<WholeOrigin, LineFault>
 }
 
 #[tactic(auto, unfolding(crate::specs::Steps::axiom_of))]
-fn axiom(value: &Value) -> Result<WholeOrigin, LineFault>
-    ensures { Gives line_wants_memory origin_view result (axiom_of (view value.now)) }
+fn axiom(value: &Value<'_>) -> Result<WholeOrigin, LineFault>
+    ensures { Gives line_wants_memory origin_view result (axiom_of (tree_view value.now)) }
 {
     match Kind::of_code(text(value)?) {
         Some(kind) => Ok(WholeOrigin::Axiom(kind)),
@@ -89,8 +95,8 @@ fn axiom(value: &Value) -> Result<WholeOrigin, LineFault>
 
 /// `[A,B,"VERTEX"]`
 #[tactic(auto, unfolding(crate::specs::Steps::combination_of))]
-fn combination(alloc: Global, value: &Value) -> Result<WholeOrigin, LineFault>
-    ensures { Gives line_wants_memory origin_view result (combination_of (view value.now)) }
+fn combination(alloc: Global, value: &Value<'_>) -> Result<WholeOrigin, LineFault>
+    ensures { Gives line_wants_memory origin_view result (combination_of (tree_view value.now)) }
 {
     let first = whole(item(value, 0)?)?;
     let second = whole(item(value, 1)?)?;
@@ -101,10 +107,10 @@ fn combination(alloc: Global, value: &Value) -> Result<WholeOrigin, LineFault>
 
 /// The terms by the bytes of their vertices' texts, no vertex twice.
 #[tactic(auto, unfolding(crate::specs::Steps::terms_of))]
-fn terms(alloc: Global, value: &Value) -> Result<Vec<WholeTerm>, LineFault>
-    ensures { Gives line_wants_memory (λ v. term_views v.items) result (terms_of (view value.now)) }
+fn terms(alloc: Global, value: &Value<'_>) -> Result<Vec<WholeTerm>, LineFault>
+    ensures { Gives line_wants_memory (λ v. term_views v.items) result (terms_of (tree_view value.now)) }
 {
-    let Some(found) = value.get("terms") else {
+    let Some(found) = member(value, "terms") else {
         return Err(LineFault::NotALine);
     };
     let written = terms_in(alloc, array(found)?)?;
@@ -113,8 +119,8 @@ fn terms(alloc: Global, value: &Value) -> Result<Vec<WholeTerm>, LineFault>
 }
 
 #[tactic(auto, unfolding(crate::specs::Steps::terms_in))]
-fn terms_in<'a>(alloc: Global, values: &'a Vec<Value>) -> Result<Vec<WrittenTerm<'a>>, LineFault>
-    ensures { Gives line_wants_memory (λ v. written_views v.items) result (terms_in (items_view values.now.items)) }
+fn terms_in<'a>(alloc: Global, values: &Vec<Value<'a>>) -> Result<Vec<WrittenTerm<'a>>, LineFault>
+    ensures { Gives line_wants_memory (λ v. written_views v.items) result (terms_in (trees_view values.now.items)) }
 {
     let mut found = Vec::with_capacity(alloc, values.len())?;
     'items: for value in values.iter() {
@@ -125,8 +131,8 @@ fn terms_in<'a>(alloc: Global, values: &'a Vec<Value>) -> Result<Vec<WrittenTerm
 
 /// `["VERTEX",["STATE",..]]`
 #[tactic(auto, unfolding(crate::specs::Steps::term_of))]
-fn term(alloc: Global, value: &Value) -> Result<WrittenTerm<'_>, LineFault>
-    ensures { Gives line_wants_memory written_view result (term_of (view value.now)) }
+fn term<'a>(alloc: Global, value: &Value<'a>) -> Result<WrittenTerm<'a>, LineFault>
+    ensures { Gives line_wants_memory written_view result (term_of (tree_view value.now)) }
 {
     let (vertex, states_value) = two(value)?;
     let text = text(vertex)?;
@@ -165,16 +171,20 @@ fn without_texts(alloc: Global, written: Vec<WrittenTerm<'_>>) -> Result<Vec<Who
 
 /// The states in order, none twice.
 #[tactic(auto, unfolding(crate::specs::Steps::states_of))]
-fn states(alloc: Global, vertex: &Vertex, value: &Value) -> Result<Vec<State>, LineFault>
-    ensures { Gives line_wants_memory (λ v. state_views v.items) result (states_of (vertex_view vertex.now) (view value.now)) }
+fn states(alloc: Global, vertex: &Vertex, value: &Value<'_>) -> Result<Vec<State>, LineFault>
+    ensures { Gives line_wants_memory (λ v. state_views v.items) result (states_of (vertex_view vertex.now) (tree_view value.now)) }
 {
     let written = states_in(alloc, vertex, array(value)?)?;
     ordered_states(written)
 }
 
 #[tactic(auto, unfolding(crate::specs::Steps::states_in))]
-fn states_in(alloc: Global, vertex: &Vertex, values: &Vec<Value>) -> Result<Vec<State>, LineFault>
-    ensures { Gives line_wants_memory (λ v. state_views v.items) result (states_in (vertex_view vertex.now) (items_view values.now.items)) }
+fn states_in(
+    alloc: Global,
+    vertex: &Vertex,
+    values: &Vec<Value<'_>>,
+) -> Result<Vec<State>, LineFault>
+    ensures { Gives line_wants_memory (λ v. state_views v.items) result (states_in (vertex_view vertex.now) (trees_view values.now.items)) }
 {
     let mut found = Vec::with_capacity(alloc, values.len())?;
     'items: for value in values.iter() {

@@ -1,76 +1,76 @@
-//! Parts of JSON values.
+//! Parts of JSON values, as trees that borrow their texts.
 
 ghost use Rattle.std.specs.Prelude.{◌≡◌};
-ghost use Rattle.serde_json.specs.View.{view, items_view};
 ghost use Rattle.serde_json.specs.Find as json;
+ghost use Rattle.trees.specs.Trees.{tree_view, trees_view};
 ghost use Rattle.model.specs.Outcome.{Gives};
 ghost use Rattle.derivations.specs.Steps.{data_of_bytes, text_of, whole_of, item_at, none_at, two_of};
 ghost use Rattle.derivations.specs.Lines.{line_wants_memory, needed};
 ghost use Rattle.derivations.specs.StepViews.{two_view};
 
 use crate::fault::LineFault;
-use serde_json::Value;
+use json::{Scratch, Value};
 use std::alloc::Global;
+use trees::{TreeFault, as_list, as_text, as_whole, read_tree};
 
-/// The JSON value that the bytes are.
-pub(crate) fn read_json(alloc: Global, bytes: &[u8]) -> Result<Value, LineFault>
-    ensures { Gives line_wants_memory view result (data_of_bytes bytes.now) }
+/// The JSON value that the bytes are. The room is kept from line to line.
+pub(crate) fn read_json<'a>(
+    alloc: Global,
+    bytes: &'a [u8],
+    scratch: &'a mut Scratch,
+) -> Result<Value<'a>, LineFault>
+    ensures { Gives line_wants_memory tree_view result (data_of_bytes bytes.entry.now) }
 {
-    match Value::from_slice(alloc, bytes) {
-        Ok(value) => Ok(value),
-        Err(e) => {
-            if e.is_memory() {
-                Err(LineFault::OutOfMemory)
-            } else {
-                Err(LineFault::NotALine)
-            }
-        }
+    match read_tree(alloc, bytes, scratch) {
+        Ok(tree) => Ok(tree),
+        Err(TreeFault::OutOfMemory) => Err(LineFault::OutOfMemory),
+        Err(TreeFault::NotJson) => Err(LineFault::NotALine),
     }
 }
 
-pub(crate) fn text(value: &Value) -> Result<&str, LineFault>
-    ensures { Gives line_wants_memory (λ s. s.now) result (text_of (view value.now)) }
+pub(crate) fn text<'a>(value: &Value<'a>) -> Result<&'a str, LineFault>
+    ensures { Gives line_wants_memory (λ s. s.now) result (text_of (tree_view value.now)) }
 {
-    match value.as_str() {
+    match as_text(value) {
         Some(text) => Ok(text),
         None => Err(LineFault::NotALine),
     }
 }
 
 /// A whole number of 64 bits without sign.
-pub(crate) fn whole(value: &Value) -> Result<u64, LineFault>
-    ensures { Gives line_wants_memory (λ n. n) result (whole_of (view value.now)) }
+pub(crate) fn whole(value: &Value<'_>) -> Result<u64, LineFault>
+    ensures { Gives line_wants_memory (λ n. n) result (whole_of (tree_view value.now)) }
 {
-    match value.as_u64() {
+    match as_whole(value) {
         Some(number) => Ok(number),
         None => Err(LineFault::NotALine),
     }
 }
 
-pub(crate) fn array(value: &Value) -> Result<&Vec<Value>, LineFault>
-    ensures { Gives line_wants_memory (λ v. items_view v.now.items) result (needed (json.as_array (view value.now))) }
+pub(crate) fn array<'v, 'a>(value: &'v Value<'a>) -> Result<&'v Vec<Value<'a>>, LineFault>
+    ensures { Gives line_wants_memory (λ v. trees_view v.now.items) result (needed (json.as_array (tree_view value.now))) }
 {
-    match value.as_array() {
+    match as_list(value) {
         Some(values) => Ok(values),
         None => Err(LineFault::NotALine),
     }
 }
 
 /// An item of an array.
-pub(crate) fn item(value: &Value, index: usize) -> Result<&Value, LineFault>
-    ensures { Gives line_wants_memory (λ v. view v.now) result (item_at index (view value.now)) }
+pub(crate) fn item<'v, 'a>(value: &'v Value<'a>, index: usize) -> Result<&'v Value<'a>, LineFault>
+    ensures { Gives line_wants_memory (λ v. tree_view v.now) result (item_at index (tree_view value.now)) }
 {
-    match value.get(index) {
+    match trees::item(value, index) {
         Some(found) => Ok(found),
         None => Err(LineFault::NotALine),
     }
 }
 
 /// Passes where there is no such item.
-pub(crate) fn no_item(value: &Value, index: usize) -> Result<(), LineFault>
-    ensures { Gives line_wants_memory (λ u. u) result (none_at index (view value.now)) }
+pub(crate) fn no_item(value: &Value<'_>, index: usize) -> Result<(), LineFault>
+    ensures { Gives line_wants_memory (λ u. u) result (none_at index (tree_view value.now)) }
 {
-    match value.get(index) {
+    match trees::item(value, index) {
         Some(_) => Err(LineFault::NotALine),
         None => Ok(()),
     }
@@ -78,8 +78,8 @@ pub(crate) fn no_item(value: &Value, index: usize) -> Result<(), LineFault>
 
 /// The items of an array of two.
 #[tactic(auto, unfolding(crate::specs::Steps::two_of))]
-pub(crate) fn two(value: &Value) -> Result<(&Value, &Value), LineFault>
-    ensures { Gives line_wants_memory two_view result (two_of (view value.now)) }
+pub(crate) fn two<'v, 'a>(value: &'v Value<'a>) -> Result<(&'v Value<'a>, &'v Value<'a>), LineFault>
+    ensures { Gives line_wants_memory two_view result (two_of (tree_view value.now)) }
 {
     let first = item(value, 0)?;
     let second = item(value, 1)?;

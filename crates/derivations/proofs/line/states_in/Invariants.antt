@@ -1,5 +1,5 @@
 use Rattle.std.proofs.Common.{◌≡◌, drop}
-use Rattle.serde_json.specs.View.{items_view}
+use Rattle.trees.specs.Trees.{trees_view}
 use Rattle.derivations.specs.Steps.{states_in}
 use Rattle.vertices.specs.Views.{state_views, vertex_view}
 use Rattle.derivations.proofs.ReadLemmas.{with_front}
@@ -7,4 +7,4 @@ use Rattle.derivations.proofs.line.states_in.Given as goal
 
 -- the states so far and those of what is left are those of all
 abbrev pub invariant-items : goal.invariant-items
-invariant-items l = with_front (state_views l.found.items) (states_in (vertex_view l.vertex) (items_view (drop l.value-index l.values.items))) ≡ states_in (vertex_view l.vertex) (items_view l.values.items)
+invariant-items l = with_front (state_views l.found.items) (states_in (vertex_view l.vertex) (trees_view (drop l.value-index l.values.items))) ≡ states_in (vertex_view l.vertex) (trees_view l.values.items)

@@ -1,5 +1,5 @@
 use Rattle.std.proofs.Common.{◌≡◌, drop}
-use Rattle.serde_json.specs.View.{items_view}
+use Rattle.trees.specs.Trees.{trees_view}
 use Rattle.derivations.specs.Steps.{terms_in}
 use Rattle.derivations.specs.StepViews.{written_views}
 use Rattle.derivations.proofs.ReadLemmas.{with_front}
@@ -7,4 +7,4 @@ use Rattle.derivations.proofs.line.terms_in.Given as goal
 
 -- the terms so far and those of what is left are those of all
 abbrev pub invariant-items : goal.invariant-items
-invariant-items l = with_front (written_views l.found.items) (terms_in (items_view (drop l.value-index l.values.items))) ≡ terms_in (items_view l.values.items)
+invariant-items l = with_front (written_views l.found.items) (terms_in (trees_view (drop l.value-index l.values.items))) ≡ terms_in (trees_view l.values.items)

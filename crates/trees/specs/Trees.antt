@@ -1,0 +1,80 @@
+-- What a tree of JSON that borrows its texts stands for: the value that `serde_json` reads, where of a key that comes twice the last stays.
+use Rattle.std.specs.Prelude.{ℕ, Bool, true, false, if◌then◌else◌, ◌&&◌, negsuc, List, [], ◌∷◌, Option, None, is_some, unwrap_or, option_and_then}
+use Rattle.std.specs.Borrow.{Bor}
+use Rattle.std.specs.Str.{is_utf8}
+use Rattle.std.specs.declared.alloc.Global.{Global}
+use Rattle.json.specs.Json as json
+use Rattle.json.specs.Lex.{tokens}
+use Rattle.json.specs.Value.{value_view}
+use Rattle.json.specs.Value as view
+use Rattle.json.specs.declared.value.Value.{Value}
+use Rattle.serde_json.specs.Data.{Num, negative, Data, null, boolean, number, string, array, object, Items, no_items, item, Members, no_members, member, put}
+use Rattle.serde_json.specs.Read.{number_of, max_depth, read}
+use Rattle.trees.specs.declared.fault.TreeFault.{TreeFault}
+use Rattle.trees.specs.declared.fault.TreeFault.TheVariants.{OutOfMemory, NotJson}
+
+abbrev pub wants_memory : TreeFault → Bool
+wants_memory OutOfMemory = true
+wants_memory NotJson = false
+
+-- the value that `serde_json` reads off bytes
+abbrev pub data_of_bytes : List ℕ → Option Data
+data_of_bytes bytes = if is_utf8 bytes then read bytes else None
+
+-- the JSON that a text is, whatever its numbers are
+abbrev pub json_of_text : List ℕ → Option json.Json
+json_of_text text = option_and_then (λ p. json.if_last p.0 p.1) (json.value max_depth (tokens text))
+
+-- each number is one that can be kept: none is beyond the floats
+abbrev mutual
+  pub numbers_fit : json.Json → Bool
+  numbers_fit json.null = true
+  numbers_fit (json.boolean b) = true
+  numbers_fit (json.number s) = is_some (number_of s)
+  numbers_fit (json.string s) = true
+  numbers_fit (json.array js) = items_fit js
+  numbers_fit (json.object ms) = members_fit ms
+
+  pub items_fit : json.Items → Bool
+  items_fit json.no_items = true
+  items_fit (json.item j js) = numbers_fit j && items_fit js
+
+  pub members_fit : json.Members → Bool
+  members_fit json.no_members = true
+  members_fit (json.member k j ms) = numbers_fit j && members_fit ms
+
+-- a number: one that can't be kept stands for one that isn't whole
+abbrev pub num_of : List ℕ → Num
+num_of s = unwrap_or (number_of s) (negative (negsuc 0))
+
+-- the value that JSON is, and with these members put to those
+abbrev mutual
+  pub data_of : json.Json → Data
+  data_of json.null = null
+  data_of (json.boolean b) = boolean b
+  data_of (json.number s) = number (num_of s)
+  data_of (json.string s) = string s
+  data_of (json.array js) = array (items_of js)
+  data_of (json.object ms) = object (members_of ms no_members)
+
+  pub items_of : json.Items → Items
+  items_of json.no_items = no_items
+  items_of (json.item j js) = item (data_of j) (items_of js)
+
+  pub members_of : json.Members → Members → Members
+  members_of json.no_members found = found
+  members_of (json.member k j ms) found = members_of ms (put k (data_of j) found)
+
+abbrev pub tree_view : Value Global → Data
+tree_view tree = data_of (value_view tree)
+
+abbrev pub trees_view : List (Value Global) → Items
+trees_view trees = items_of (view.items_view trees)
+
+abbrev pub entries_view : List (Bor (List ℕ) × Value Global) → Members
+entries_view entries = members_of (view.members_view entries) no_members
+
+-- members by their keys
+abbrev pub sorted_view : List (Bor (List ℕ) × Bor (Value Global)) → Members
+sorted_view [] = no_members
+sorted_view (e ∷ es) = member e.0.now (tree_view e.1.now) (sorted_view es)
