@@ -1,5 +1,5 @@
 -- When words are refused, and how: as `clap` says.
-use Rattle.std.specs.Prelude.{◌≡◌, ◌⊎◌, List, [], None}
+use Rattle.std.specs.Prelude.{◌≡◌, ◌⊎◌, ℕ, Bool, true, false, List, [], None, string_bytes}
 use Rattle.clap.specs.Words.{IsAmong, Kinds, Text}
 use Rattle.clap.specs.declared.error.kind.ErrorKind.{ErrorKind}
 use Rattle.clap.specs.declared.error.kind.ErrorKind.TheVariants as kind
@@ -16,6 +16,18 @@ abbrev pub Tells : ErrorKind → WordsFault → Type 0
 Tells k OutOfMemory = Unit {0}
 Tells k (Help text) = IsMistake k → ⊥
 Tells k (Wrong text) = IsMistake k × (k ≡ kind.OutOfMemory → ⊥)
+
+-- wrong use or help, as is said; memory may run out beside it
+abbrev pub IsToldAs : Bool → WordsFault → Type 0
+IsToldAs is_wrong OutOfMemory = Unit {0}
+IsToldAs is_wrong (Help text) = is_wrong ≡ false
+IsToldAs is_wrong (Wrong text) = is_wrong ≡ true
+
+-- its text, if it has one
+abbrev pub HasText : List ℕ → WordsFault → Type 0
+HasText shown OutOfMemory = Unit {0}
+HasText shown (Help text) = string_bytes text ≡ shown
+HasText shown (Wrong text) = string_bytes text ≡ shown
 
 -- the fault stands for one of these kinds
 abbrev pub TellsOne : Kinds → WordsFault → Type 0

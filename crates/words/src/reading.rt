@@ -1,9 +1,9 @@
 //! Reading the words of a command line.
 
-ghost use Rattle.std.specs.Prelude.{◌≡◌, IfErr, IfOk, [], Some, map, option_map, option_and_then, string_bytes};
+ghost use Rattle.std.specs.Prelude.{◌≡◌, IfErr, IfOk, IfSome, [], Some, map, option_map, option_and_then, string_bytes};
 ghost use Rattle.clap.specs.Words.{first_of, found_of, kind_of, rows_of, subcommand_rows_of};
 ghost use Rattle.words.specs.Asked.{asked, command_of, faults, is_set, or_help, parsed, resolve_of, verify_of, check_of, explain_of};
-ghost use Rattle.words.specs.Refusals.{Refuses, Tells};
+ghost use Rattle.words.specs.Refusals.{HasText, IsToldAs, Refuses, Tells};
 ghost use Rattle.words.specs.Views.{text_if, words_view};
 
 use crate::command::relock;
@@ -11,6 +11,7 @@ use clap::error::ErrorKind;
 use clap::{ArgMatches, Error};
 use std::alloc::{AllocError, Global};
 use std::convert::AsStr;
+use std::fmt::Display;
 use thiserror::Error as Fault;
 
 /// A command, with the texts of its options.
@@ -176,9 +177,18 @@ fn fault_of(alloc: Global, error: &Error) -> WordsFault
     if error.kind() == ErrorKind::OutOfMemory {
         return WordsFault::OutOfMemory;
     }
-    match error.to_string(alloc) {
+    told_as(alloc, error, error.use_stderr())
+}
+
+/// Wrong use or help, in the words in which something shows itself. It may be anything, so that no other text can stand
+/// for them: `clap` states none of its errors.
+fn told_as<T: Display>(alloc: Global, shown: &T, is_wrong: bool) -> WordsFault
+    ensures kind { IsToldAs is_wrong result }
+    ensures text { IfSome (T.output shown.now) (λ text. HasText text result) }
+{
+    match shown.to_string(alloc) {
         Ok(text) => {
-            if error.use_stderr() {
+            if is_wrong {
                 WordsFault::Wrong(text)
             } else {
                 WordsFault::Help(text)
