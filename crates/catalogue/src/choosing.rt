@@ -57,8 +57,8 @@ fn kept(
     requires few { length records.items ≤ most_candidates }
     ensures { IfOk result (λ c. candidates_view c ≡ with_ranks (is_locked (packages_of run.now.old) run.now.source.now name.now) (option_map rust_version_view run.now.rust_version) (filter (may_be_locked (is_locked (packages_of run.now.old) run.now.source.now name.now)) (records_view records.items))) }
 {
-    let mut versions = Vec::new(alloc);
-    let mut kept = Vec::new(alloc);
+    let mut versions = Vec::with_capacity(alloc, records.len())?;
+    let mut kept = Vec::with_capacity(alloc, records.len())?;
     'records: for record in records {
         let locked = is_locked(run.old, name, &record.version, run.source.as_str());
         if may_be_locked(record.yanked, locked) {

@@ -11,8 +11,8 @@ use Rattle.catalogue.specs.Views.{AreRising, AreKnown}
 use Rattle.catalogue.proofs.Chosen.{chosen-yes, chosen-no, chosen-done, chosen-known, chosen-rise, read-snoc, rank-is, none-left}
 use Rattle.catalogue.proofs.choosing.kept.Goals as goal
 
-pub records-preserved-in-Continue-branch-2 : goal.records-preserved-in-Continue-branch-2
-records-preserved-in-Continue-branch-2 c =
+pub records-preserved-in-Continue-branch-4 : goal.records-preserved-in-Continue-branch-4
+records-preserved-in-Continue-branch-4 c =
     let locked = is_locked (packages_of c.args.run.now.old) c.args.run.now.source.now c.args.name.now in
     let rust = option_map rust_version_view c.args.run.now.rust_version in
     let r = as_record (record_view c.in-Some.record) in
