@@ -3,7 +3,7 @@
 ghost use Rattle.std.specs.Prelude.{◌≡◌, ◌||◌, List, ℕ, IfOk, OnOk};
 ghost use Rattle.std.specs.List.{list_any};
 ghost use Rattle.semver.specs.Identifiers.{parts_of};
-ghost use Rattle.features.specs.Drafts.{has_text, HasThose};
+ghost use Rattle.features.specs.Texts.{has_text, HasThose};
 ghost use Rattle.features.specs.EntryViews.{entry_view, entry_views};
 ghost use Rattle.features.specs.Views.{dependency_view, dependency_views};
 ghost use Rattle.model.specs.Summary.{same_text};

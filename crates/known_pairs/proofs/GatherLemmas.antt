@@ -5,7 +5,7 @@ use Rattle.std.specs.List.{list_any}
 use Rattle.semver.specs.Parse.{Parts}
 use Rattle.semver.specs.Identifiers.{parts_of}
 use Rattle.semver.specs.declared.Version.{Version}
-use Rattle.features.specs.Drafts.{has_text}
+use Rattle.features.specs.Texts.{has_text}
 use Rattle.model.specs.Summary.{Dependency, Entry, Table, nothing, asked_of_target, entries_at, has_feature, same_text}
 use Rattle.model.specs.Content.{Candidate, candidates_of}
 use Rattle.model.specs.Vertices.{the_root, version_of}

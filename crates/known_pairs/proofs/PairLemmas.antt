@@ -6,7 +6,7 @@ use Rattle.std.specs.BTreeSet.{BTreeSet, insert_key}
 use Rattle.std.specs.Map.{lookup}
 use Rattle.std.specs.Ordering.{nat_cmp}
 use Rattle.std.specs.Cmp.Lexicographic.{slice_cmp, texts_ties, nat_list_eq_equiv}
-use Rattle.features.specs.Drafts.{has_text}
+use Rattle.features.specs.Texts.{has_text}
 use Rattle.features.proofs.DraftLemmas.{has_text-insert_key}
 use Rattle.model.specs.Summary.{same_text}
 use Rattle.model.proofs.Same.{text-same}

@@ -1,6 +1,6 @@
 use Rattle.std.proofs.Common.{take}
 use Rattle.std.specs.List.{list_any}
-use Rattle.features.specs.Drafts.{HasThose}
+use Rattle.features.specs.Texts.{HasThose}
 use Rattle.features.specs.EntryViews.{entry_views}
 use Rattle.refutations.specs.Causes.{enables}
 use Rattle.causes.proofs.numbers.enabled_names.Given as goal

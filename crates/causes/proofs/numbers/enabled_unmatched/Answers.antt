@@ -1,6 +1,6 @@
 use Rattle.std.proofs.Common.{◌∙◌, sym}
 use Rattle.semver.specs.Identifiers.{parts_of}
-use Rattle.features.specs.Drafts.{has_text}
+use Rattle.features.specs.Texts.{has_text}
 use Rattle.features.specs.EntryViews.{entry_views}
 use Rattle.features.specs.Views.{dependency_views}
 use Rattle.causes.specs.NumbersViews.{problem_of}

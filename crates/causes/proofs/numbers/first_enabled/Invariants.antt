@@ -1,5 +1,5 @@
 use Rattle.std.proofs.Common.{◌≡◌, drop}
-use Rattle.features.specs.Drafts.{has_text}
+use Rattle.features.specs.Texts.{has_text}
 use Rattle.features.specs.Views.{dependency_views}
 use Rattle.causes.specs.Needs.{is_enabled_unmatched, place_from}
 use Rattle.looking_up.specs.Views.{problem}

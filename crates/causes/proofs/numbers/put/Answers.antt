@@ -1,5 +1,5 @@
 use Rattle.std.proofs.Common.{◌∙◌, ap}
-use Rattle.features.specs.Drafts.{has_text}
+use Rattle.features.specs.Texts.{has_text}
 use Rattle.features.proofs.DraftLemmas.{has_text-insert_key}
 use Rattle.causes.proofs.numbers.put.Goals as goal
 

@@ -1,6 +1,6 @@
 use Rattle.std.proofs.Common.{◌∙◌, ap}
 use Rattle.known_pairs.specs.Pairs.{keys_if}
-use Rattle.features.specs.Drafts.{has_text}
+use Rattle.features.specs.Texts.{has_text}
 use Rattle.features.proofs.DraftLemmas.{contains-has}
 use Rattle.known_pairs.proofs.PairLemmas.{text_at-get}
 use Rattle.known_pairs.proofs.pairs.Pairs.has.Goals as goal

@@ -1,6 +1,6 @@
 use Rattle.std.proofs.Common.{◌∙◌, ◌&&◌, ap}
 use Rattle.model.specs.Summary.{same_text}
-use Rattle.features.specs.Drafts.{has_text}
+use Rattle.features.specs.Texts.{has_text}
 use Rattle.known_pairs.specs.Pairs.{keys_if}
 use Rattle.known_pairs.proofs.GatherLemmas.{adds_none, adds_ok, and-none, named_keys}
 use Rattle.known_pairs.proofs.PairLemmas.{text_at-get}
