@@ -144,8 +144,18 @@ fn term<'a>(alloc: Global, value: &Value<'a>) -> Result<WrittenTerm<'a>, LineFau
     })
 }
 
-/// The terms in order, no vertex twice.
-fn ordered_terms(mut terms: Vec<WrittenTerm<'_>>) -> Result<Vec<WrittenTerm<'_>>, LineFault>
+/// The terms in order, no vertex twice. Those of a line that was written here are.
+fn ordered_terms(terms: Vec<WrittenTerm<'_>>) -> Result<Vec<WrittenTerm<'_>>, LineFault>
+    ensures { Gives line_wants_memory (λ v. written_views v.items) result (ordered written_cmp (written_views terms.entry.items)) }
+{
+    if terms.is_sorted_by(|a, b| a.text.cmp(b.text) == Ordering::Less) {
+        Ok(terms)
+    } else {
+        sorted_terms(terms)
+    }
+}
+
+fn sorted_terms(mut terms: Vec<WrittenTerm<'_>>) -> Result<Vec<WrittenTerm<'_>>, LineFault>
     ensures { Gives line_wants_memory (λ v. written_views v.items) result (ordered written_cmp (written_views terms.entry.items)) }
 {
     terms.sort_by(|a, b| a.text.cmp(b.text))?;
@@ -193,7 +203,18 @@ fn states_in(
     Ok(found)
 }
 
-fn ordered_states(mut states: Vec<State>) -> Result<Vec<State>, LineFault>
+/// The states in order, none twice. Those of a line that was written here are.
+fn ordered_states(states: Vec<State>) -> Result<Vec<State>, LineFault>
+    ensures { Gives line_wants_memory (λ v. state_views v.items) result (ordered state_cmp (state_views states.items)) }
+{
+    if states.is_sorted_by(|a, b| state_order(a.borrowed(), b.borrowed()) == Ordering::Less) {
+        Ok(states)
+    } else {
+        sorted_states(states)
+    }
+}
+
+fn sorted_states(mut states: Vec<State>) -> Result<Vec<State>, LineFault>
     ensures { Gives line_wants_memory (λ v. state_views v.items) result (ordered state_cmp (state_views states.items)) }
 {
     states.sort_by(|a, b| state_order(a.borrowed(), b.borrowed()))?;
