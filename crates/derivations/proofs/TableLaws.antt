@@ -1,10 +1,11 @@
 -- Tables that grow keep what their numbers stand for.
-use Rattle.std.proofs.Common.{sym, ◌≡◌, ℕ, ◌<◌, ◌≤◌, Bool, true, false, cond, List, [], ◌∷◌, ◌++◌, map, length, get_or, slice_get, Some, refl, ap, ap₂, ◌∙◌, subst, arith}
+use Rattle.std.proofs.Common.{sym, ◌≡◌, ℕ, ◌<◌, ◌≤◌, Bool, true, false, cond, List, [], ◌∷◌, ◌++◌, map, length, get_or, slice_get, Bor, Option, Some, None, option_map, refl, ap, ap₂, ◌∙◌, subst, arith}
 use Rattle.std.specs.List.{AllByRecursion, list_any}
+use Rattle.std.specs.Slice.{IsItemAt}
 use Rattle.std.specs.Prelude.{Result, Ok, Err}
 use Rattle.std.specs.Result.{OnErr}
 use Rattle.std.proofs.lemmas.List.{append_assoc, length-map, get_or-map, get_or_append_left, length-append, map-append}
-use Rattle.std.proofs.lemmas.Option.{slice_get_within, get_or_from_slice_get}
+use Rattle.std.proofs.lemmas.Option.{slice_get_within, slice_get-get_or, get_or_from_slice_get}
 use Rattle.indexmap.specs.IndexSet.{insert_key}
 use Rattle.model.specs.Vertices.{Vertex, State, root, absent}
 use Rattle.model.specs.Axioms as axioms
@@ -42,6 +43,15 @@ found-key view ks n k v d is same =
     let lt : n < length ks = slice_get_within ks n k is in
     let long = length-map ks view in
     (omega (arith, long), get_or-map view ks n k d lt ∙ ap view (get_or_from_slice_get ks n k k is) ∙ same)
+
+-- what is lent of a place is the element there
+pub lent : {X : Type 0} (xs : List X) (i : ℕ) (r : Option (Bor X)) (b : Bor X) → IsItemAt xs i r → r ≡ Some b → slice_get xs i ≡ Some b.now
+lent xs i None b h e = cc
+lent xs i (Some a) b h e = slice_get-get_or xs i a.now h.3.0 ∙ sym (ap Some (h.3.1 a.now)) ∙ ap (option_map (λ (x : Bor _). x.now)) e
+
+-- an element at its number
+pub found-at : {V : Type 0} (xs : List V) (n : ℕ) (x d : V) → slice_get xs n ≡ Some x → (n < length xs) × (get_or xs n d ≡ x)
+found-at xs n x d is = (slice_get_within xs n x is, get_or_from_slice_get xs n x d is)
 
 -- ---- growing
 

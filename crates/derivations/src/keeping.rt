@@ -80,8 +80,11 @@ fn keep_states(
     ensures states { IfOk result (λ v. states_at tables.new v.items ≡ state_views states.items) }
 {
     let mut kept = Vec::with_capacity(alloc, states.len())?;
+    let mut guess = 0usize;
     'states: for state in states {
-        kept.push(tables.add_state(state)?)?;
+        let number = tables.add_state(state, guess)?;
+        guess = number.wrapping_add(1);
+        kept.push(number)?;
     }
     Ok(kept)
 }

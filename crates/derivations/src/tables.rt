@@ -1,6 +1,6 @@
 //! The vertices, states and sets of states of a derivation, each once: its steps name them by their numbers.
 
-ghost use Rattle.std.specs.Prelude.{◌≡◌, ◌<◌, IfOk, length, map};
+ghost use Rattle.std.specs.Prelude.{◌≡◌, ◌<◌, IfOk, IsTrue, Some, length, map, slice_get};
 ghost use Rattle.derivations.specs.Tables.{no_tables, vertex_at, state_at, set_at, AreSetsOf, AreStatesOf, IsGrown};
 ghost use Rattle.vertices.specs.Views.{vertex_view, state_view};
 
@@ -81,8 +81,29 @@ impl Tables {
         Ok(number)
     }
 
-    /// The number of a state, which is added unless it is there.
-    pub(crate) fn add_state(&mut self, state: State) -> Result<usize, AllocError>
+    /// The number of a state, which is added unless it is there. Most states of a set follow one another in the table too,
+    /// so the number that is guessed is looked at before the hash.
+    pub(crate) fn add_state(&mut self, state: State, guess: usize) -> Result<usize, AllocError>
+        ensures grown { IsGrown self.old self.new }
+        ensures number { IfOk result (λ n. (n < length self.new.states) × (state_at self.new n ≡ state_view state)) }
+    {
+        if self.has_at(guess, &state) {
+            return Ok(guess);
+        }
+        self.hash_state(state)
+    }
+
+    /// Whether a state has this number.
+    fn has_at(&self, number: usize, state: &State) -> bool
+        ensures { IsTrue result → slice_get self.now.states number ≡ Some (state_view state.now) }
+    {
+        match self.states.as_slice().get(number) {
+            Some(there) => there == state,
+            None => false,
+        }
+    }
+
+    fn hash_state(&mut self, state: State) -> Result<usize, AllocError>
         ensures grown { IsGrown self.old self.new }
         ensures number { IfOk result (λ n. (n < length self.new.states) × (state_at self.new n ≡ state_view state)) }
     {
