@@ -9,8 +9,6 @@ mod everywhere;
 mod naming;
 mod numbering;
 mod spaces;
-#[cfg(test)]
-mod tests;
 mod whole;
 mod widening;
 
