@@ -75,7 +75,8 @@ pub fn selections_hold_with_themselves()
         → IsValidSelection (problem_of manifest old source asked) content → IsValidSelection (problem_of manifest content source again) content }
 {}
 
-/// Over a fixed index, a valid selection stays one with another old lock, if that has those of its packages that are yanked.
+/// Over a fixed index, a valid selection stays one with another old lock, if that has those of its packages that are
+/// yanked.
 pub fn selections_hold_with_other_locks()
     ensures { (files : List ℕ → Option (List ℕ)) (manifest : ManifestView) (old : Content) (source : List ℕ) (asked : List Asked) (content lock : Content) (again : List Asked)
         → IsRunOver files manifest old source asked → IsRunOver files manifest lock source again

@@ -81,8 +81,8 @@ impl Tables {
         Ok(number)
     }
 
-    /// The number of a state, which is added unless it is there. Most states of a set follow one another in the table too,
-    /// so the number that is guessed is looked at before the hash.
+    /// The number of a state, which is added unless it is there. Most states of a set follow one another in the table
+    /// too, so the number that is guessed is looked at before the hash.
     pub(crate) fn add_state(&mut self, state: State, guess: usize) -> Result<usize, AllocError>
         ensures grown { IsGrown self.old self.new }
         ensures number { IfOk result (λ n. (n < length self.new.states) × (state_at self.new n ≡ state_view state)) }

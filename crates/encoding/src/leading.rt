@@ -202,8 +202,8 @@ fn put_root_asked<'a>(
 }
 
 /// The dependencies of the same package that may lead to a higher class, to which this one may lead too. There are none
-/// where no other one is on the package, which is asked first where that is quicker told, or where this one leads to its
-/// highest class.
+/// where no other one is on the package, which is asked first where that is quicker told, or where this one leads to
+/// its highest class.
 fn put_newest<'a>(
     alloc: Global,
     inputs: &Inputs<'a>,

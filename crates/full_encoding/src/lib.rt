@@ -1,7 +1,7 @@
 //! All vertices of the search by number, and all axioms over them.
 //!
-//! `encoding` gives numbers and axioms as they are asked for; `Encoding` stands above it, with two ways in: every vertex
-//! at once, or the root alone. A search takes the second way; tests and laws take the first.
+//! `encoding` gives numbers and axioms as they are asked for; `Encoding` stands above it, with two ways in: every
+//! vertex at once, or the root alone. Tests and laws speak of it; a search goes by `encoding` itself.
 #![tactic(auto)]
 
 mod counting;

@@ -76,8 +76,8 @@ pub fn given_locks_verify()
         → Verifies MemoryCalls failed (to_verify request bytes.items) folder result later → FindsValid result }
 {}
 
-/// Over one map of files, where a lock is valid for `verify_bytes`, and the old lock that `resolve` is given has each of
-/// its packages that is yanked in the index, `resolve` answers with a lock.
+/// Over one map of files, where a lock is valid for `verify_bytes`, and the old lock that `resolve` is given has each
+/// of its packages that is yanked in the index, an answer of `resolve` is a lock.
 pub fn verified_locks_exclude_refusals()
     ensures { (failed : Files → ℕ) (folder : Files) (request : RequestView) (lock : List ℕ) (content : Content) (old : Option Content) (after : Files) (answer : Answer) (later : Files)
         → Verifies MemoryCalls failed (to_verify request lock) folder (Ok Valid) after → Resolves MemoryCalls failed request folder (Ok answer) later

@@ -1,4 +1,5 @@
--- What a tree of JSON that borrows its texts stands for: the value that `serde_json` reads, where of a key that comes twice the last stays.
+-- What a tree of JSON that borrows its texts stands for: the value that `serde_json` reads, where of a key that comes
+-- twice the last stays.
 use Rattle.std.specs.Prelude.{ℕ, Bool, true, false, if◌then◌else◌, ◌&&◌, negsuc, List, [], ◌∷◌, Option, None, is_some, unwrap_or, option_and_then}
 use Rattle.std.specs.Borrow.{Bor}
 use Rattle.std.specs.Str.{is_utf8}
