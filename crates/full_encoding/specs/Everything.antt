@@ -1,5 +1,5 @@
--- All vertices of a problem in the order in which they get numbers: the root's, then those of each candidate. A feature
--- comes in the first class of its name; at the end it comes in each of them.
+-- All vertices of a problem as they are come upon, some of them more than once: the root's, then those of each
+-- candidate. A feature comes in the first class of its name first; at the end it comes in each of them.
 use Rattle.std.specs.Prelude.{◌+◌, ℕ, List, [], ◌∷◌, ◌++◌, if◌then◌else◌, map}
 use Rattle.std.specs.List.{flat_map}
 use Rattle.semver.specs.Parse.{Parts}

@@ -12,7 +12,7 @@ AreVertices q vs = (v : Vertex) → Contains vs v → IsVertex q v
 abbrev pub AreIn : Numbering → List Vertex → Type 0
 AreIn numbering vs = (v : Vertex) → Contains vs v → Contains numbering v
 
--- numbers that were given stay, and where only vertices were put, only these have numbers
+-- numbers that were given stay, and where only vertices had numbers and only vertices were put, only vertices have them
 pub record IsPut (old new : Numbering) (vs : List Vertex) : Type 0 where
   pub grown : IsGrown old new
   pub numbering : (q : Problem) → IsNumbering q old → AreVertices q vs → IsNumbering q new
