@@ -1,6 +1,6 @@
 //! The text of a name, which lies in the name itself where it is short.
 
-ghost use Rattle.std.specs.Prelude.{◌≡◌, IfOk};
+ghost use Rattle.std.specs.Prelude.{◌≡◌, ◌≤◌, IfOk, IsOk, length};
 ghost use Rattle.features.specs.NameTexts.{text_bytes};
 
 use arrayvec::ArrayString;
@@ -15,7 +15,8 @@ pub(crate) enum NameText {
 
 impl NameText {
     pub(crate) fn of(alloc: Global, text: &str) -> Result<NameText, AllocError>
-        ensures { IfOk result (λ t. text_bytes t ≡ text.now) }
+        ensures text { IfOk result (λ t. text_bytes t ≡ text.now) }
+        ensures short { length text.now ≤ 16 → IsOk result }
     {
         match ArrayString::from(text) {
             Ok(short) => Ok(NameText::Short(short)),

@@ -105,7 +105,7 @@ pub(crate) fn version(alloc: Global, text: &str) -> Result<Version, LockFault>
 
 /// What a refusal of `semver` is as a fault.
 fn fault_of(e: semver::Error) -> LockFault
-    ensures { (result ≡ LockFault.OutOfMemory) ⊎ ((result ≡ LockFault.LockShape) × (e ≢ memory_error)) }
+    ensures { ((result ≡ LockFault.OutOfMemory) × (e ≡ memory_error)) ⊎ ((result ≡ LockFault.LockShape) × (e ≢ memory_error)) }
 {
     if e == semver::Error::from(AllocError) {
         LockFault::OutOfMemory

@@ -215,7 +215,7 @@ fn with_requirement(alloc: Global, shape: DependencyShape<'_>) -> Result<Depende
 
 /// What a refusal of `semver` is as a fault of the dependency of this name.
 fn requirement_fault(e: semver::Error, name: PackageName) -> ManifestFault
-    ensures { (result ≡ ManifestFault.OutOfMemory) ⊎ ((result ≡ ManifestFault.BadRequirement name) × (e ≢ memory_error)) }
+    ensures { ((result ≡ ManifestFault.OutOfMemory) × (e ≡ memory_error)) ⊎ ((result ≡ ManifestFault.BadRequirement name) × (e ≢ memory_error)) }
 {
     if e == semver::Error::from(AllocError) {
         ManifestFault::OutOfMemory
