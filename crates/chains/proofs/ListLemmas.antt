@@ -1,5 +1,5 @@
 -- The list of a fact has just the rules that need it.
-use Rattle.std.proofs.Common.{◌≡◌, ℕ, zero, suc, ◌<◌, List, [], ◌∷◌, ◌++◌, Vec, length, get_or, set, Contains, refl, sym, ap, ◌∙◌, subst, inl, inr, ◌⊎◌, arith}
+use Rattle.std.proofs.Common.{◌≡◌, ℕ, zero, suc, ◌<◌, List, [], ◌∷◌, ◌++◌, Vec, length, get_or, set, take, Contains, refl, sym, ap, ◌∙◌, subst, inl, inr, ◌⊎◌, arith}
 use Rattle.std.specs.declared.alloc.Global.{Global}
 use Rattle.std.proofs.lemmas.List.Elements.{Contains-append_left, Contains-push, Contains-push_cases}
 use Rattle.chains.specs.declared.rule.Rule.{Rule}
@@ -33,6 +33,14 @@ in_none x c = omega (arith, c.1)
 pub in_cons : {X : Type 0} (y x : X) (xs : List X) → Contains (y ∷ xs) x → (y ≡ x) ⊎ Contains xs x
 in_cons y x xs (zero, lt, e) = inl e
 in_cons y x xs (suc k, lt, e) = inr (k, omega arith, e)
+
+pub take_within : {X : Type 0} (n : ℕ) (xs : List X) (x : X) → Contains (take n xs) x → Contains xs x
+take_within zero xs x c = absurd (in_none x c)
+take_within (suc n) [] x c = c
+take_within (suc n) (y ∷ ys) x c = elim (in_cons y x (take n ys) c) [
+  | inl e ↦ (zero, omega arith, e)
+  | inr c ↦ let r = take_within n ys x c in (suc r.0, omega (arith, r.1), r.2)
+]
 
 pub length-put_at : (ls : List (List Rule)) (i : ℕ) (r : Rule) → length (put_at ls i r) ≡ length ls
 length-put_at [] i r = refl

@@ -15,7 +15,7 @@ given_again rules start set sound i (begins j h) = sound j h
 given_again rules start set sound i (follows r c f s) = follows r c (given_again rules start set sound r.first f) (given_again rules start set sound r.second s)
 
 -- more rules give more
-given_by_more : (few rules : List Rule) (start : List Bool) → ((r : Rule) → Contains few r → Contains rules r) → (i : ℕ) → IsGiven few start i → IsGiven rules start i
+pub given_by_more : (few rules : List Rule) (start : List Bool) → ((r : Rule) → Contains few r → Contains rules r) → (i : ℕ) → IsGiven few start i → IsGiven rules start i
 given_by_more few rules start more i (begins j h) = begins j h
 given_by_more few rules start more i (follows r c f s) = follows r (more r c) (given_by_more few rules start more r.first f) (given_by_more few rules start more r.second s)
 
@@ -145,6 +145,14 @@ one_followed done old waiting mid some r new more p below m = by (is_ready mid r
     by : (b : Bool) → is_ready mid r ≡ b → (new ≡ cond b (set mid r.gives true) mid) × (more ≡ cond b (some ++ r.gives ∷ []) some) → Follows (done ++ r ∷ []) old waiting new more
     by true e (n, w) = rw (n, w) (marked_new done old waiting mid some r p below.2 e)
     by false e (n, w) = rw (n, w) (skipped done old waiting mid some r p e)
+
+-- what some of the rules mark is given by all of them
+pub sound_by_more : (few rules : List Rule) (old new : List Bool) → ((r : Rule) → Contains few r → Contains rules r) → IsSound few old new → IsSound rules old new
+sound_by_more few rules old new more sound i h = given_by_more few rules old more i (sound i h)
+
+-- what is marked from what is given is given
+pub sound_again : (rules : List Rule) (start set new : List Bool) → IsSound rules start set → IsSound rules set new → IsSound rules start new
+sound_again rules start set new first second i h = given_again rules start set first i (second i h)
 
 -- ---- the whole
 

@@ -1,8 +1,8 @@
 //! Marking all that rules give.
 
-ghost use Rattle.std.specs.Prelude.{◌≡◌, ◌↔◌, ℕ, true, length, OnOk, IfOk};
+ghost use Rattle.std.specs.Prelude.{◌≡◌, ◌↔◌, ℕ, true, cond, length, slice_set, OnOk, IfOk};
 ghost use Rattle.chains.specs.Chains.{has, IsGiven, AreBelow};
-ghost use Rattle.chains.specs.Worklists.{IsBelow, is_ready, Marks, Follows, Waits};
+ghost use Rattle.chains.specs.Worklists.{Follows, Grows, IsBelow, IsSound, Marks, Waits, is_ready};
 
 use crate::lists::{rules_at, rules_by_fact};
 use crate::rule::Rule;
@@ -10,10 +10,13 @@ use std::alloc::{AllocError, Global};
 
 /// Marks all that the rules give from what is marked, each fact once: rules · log.
 ///
-/// `alloc` is where the facts wait meanwhile. The only error is want of memory; then some of what is given is marked.
+/// `alloc` is where the facts wait meanwhile. The only error is want of memory; then some of what is given is marked, and
+/// nothing else.
 pub fn close(alloc: Global, marked: &mut [bool], rules: &[Rule]) -> Result<(), AllocError>
     requires below { AreBelow (length marked.old) rules.now }
     ensures length { length marked.new ≡ length marked.old }
+    ensures grows { (i : ℕ) → has marked.old i ≡ true → has marked.new i ≡ true }
+    ensures sound { (i : ℕ) → has marked.new i ≡ true → IsGiven rules.now marked.old i }
     ensures given { OnOk result ((i : ℕ) → (has marked.new i ≡ true) ↔ IsGiven rules.now marked.old i) }
 {
     let lists = rules_by_fact(alloc, marked.len(), rules)?;
@@ -41,6 +44,8 @@ fn all_marked(alloc: Global, marked: &[bool]) -> Result<Vec<usize>, AllocError>
 fn follow(marked: &mut [bool], waiting: &mut Vec<usize>, rules: &[Rule]) -> Result<(), AllocError>
     requires below { AreBelow (length marked.old) rules.now }
     ensures length { length marked.new ≡ length marked.old }
+    ensures grows { Grows marked.old marked.new }
+    ensures sound { IsSound rules.now marked.old marked.new }
     ensures follows { OnOk result (Follows rules.now marked.old waiting.old.items marked.new waiting.new.items) }
 {
     'rules: for rule in rules {
@@ -52,6 +57,7 @@ fn follow(marked: &mut [bool], waiting: &mut Vec<usize>, rules: &[Rule]) -> Resu
 fn mark(marked: &mut [bool], waiting: &mut Vec<usize>, rule: &Rule) -> Result<(), AllocError>
     requires below { IsBelow (length marked.old) rule.now }
     ensures length { length marked.new ≡ length marked.old }
+    ensures marked { marked.new ≡ cond (is_ready marked.old rule.now) (slice_set marked.old rule.now.gives true) marked.old }
     ensures marks { OnOk result (Marks rule.now marked.old waiting.old.items marked.new waiting.new.items) }
 {
     if is_ready(marked, rule) {

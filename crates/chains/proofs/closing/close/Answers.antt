@@ -1,8 +1,10 @@
 use Rattle.std.proofs.Common.{rules, ◌≡◌, [], sym, ap, ◌∙◌, length, refl, subst, subst₂, arith}
 use Rattle.chains.specs.Chains.{AreBelow}
 use Rattle.chains.specs.Lists.{rule_lists, rules_at, index_of}
-use Rattle.chains.specs.Worklists.{Worked, Follows}
-use Rattle.chains.proofs.WorklistLemmas.{begun, worked_on, waits_below, followers_below, all_given}
+use Rattle.chains.specs.Worklists.{Follows, IsSound, Worked}
+use Rattle.chains.specs.Chains.IsGiven.{begins}
+use Rattle.chains.proofs.ListLemmas.{index_within}
+use Rattle.chains.proofs.WorklistLemmas.{all_given, begun, followers_below, sound_again, sound_by_more, waits_below, worked_on}
 use Rattle.chains.proofs.closing.close.Goals as goal
 
 pub facts-init : goal.facts-init
@@ -38,3 +40,31 @@ pub returns-clause-given : goal.returns-clause-given
 returns-clause-given c =
     let none : c.facts.waiting.items ≡ [] = search rules in
     all_given c.args.rules.now c.args.marked.now c.facts.marked (subst (λ w. Worked c.args.rules.now c.args.marked.now c.facts.marked w) none c.facts.invariant.worked)
+
+pub returns-clause-grows : goal.returns-clause-grows
+returns-clause-grows c = c.facts.invariant.worked.grows
+
+pub returns-clause-sound : goal.returns-clause-sound
+returns-clause-sound c = c.facts.invariant.worked.sound
+
+-- ---- where memory is wanting
+
+pub returns-in_err-lists-clause-sound : goal.returns-in_err-lists-clause-sound
+returns-in_err-lists-clause-sound c = λ i h. begins i h
+
+pub returns-in_err-waiting-clause-sound : goal.returns-in_err-waiting-clause-sound
+returns-in_err-waiting-clause-sound c = λ i h. begins i h
+
+pub returns-in_err-follow-clause-grows : goal.returns-in_err-follow-clause-grows
+returns-in_err-follow-clause-grows c = λ i h. c.in_err-follow.ensures.grows i (c.facts.invariant.worked.grows i h)
+
+pub returns-in_err-follow-clause-sound : goal.returns-in_err-follow-clause-sound
+returns-in_err-follow-clause-sound c =
+    let rules = c.args.rules.now in
+    let start = c.args.marked.now in
+    let few = rules_at (index_of (length start) rules) c.in-Some.fact in
+    let at : c.rules_at.result.now ≡ few
+    = c.rules_at.ensures ∙ ap (λ l. rules_at (rule_lists l) c.in-Some.fact) c.as_slice.ensures.value ∙ ap (λ l. rules_at l c.in-Some.fact) c.in_ok-lists.ensures.lists in
+    let sound = subst (λ rs. IsSound rs c.facts.marked c.follow.new.marked) at c.in_err-follow.ensures.sound in
+    sound_again rules start c.facts.marked c.follow.new.marked c.facts.invariant.worked.sound
+    (sound_by_more few rules c.facts.marked c.follow.new.marked (λ r in_few. index_within (length start) rules c.in-Some.fact r in_few) sound)
