@@ -1,9 +1,8 @@
 pub mod ReadLemmas
-pub mod TreeLemmas
 pub mod PathLemmas
 pub mod WrittenLemmas
+pub mod RisingLemmas
 pub mod FileLaws
 pub mod KeptLemmas
 pub mod SplitLemmas
 pub mod CountLemmas
-pub mod RisingLemmas

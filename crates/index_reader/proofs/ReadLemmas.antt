@@ -1,25 +1,17 @@
--- What the JSON reader's clauses say of `data_of_bytes`.
-use Rattle.std.proofs.Common.{◌≡◌, ℕ, List, [], ◌∷◌, ◌++◌, Bool, true, false, cond, Option, Some, None, Ok, Err, refl, ap, ◌∙◌, append_assoc, IsUtf8}
-use Rattle.std.proofs.lemmas.Str.{is_utf8-from_IsUtf8, IsUtf8-from_is_utf8}
+-- What a tree has is what the line has, and lists that are read one by one.
+use Rattle.std.proofs.Common.{◌≡◌, List, [], ◌∷◌, ◌++◌, Option, Some, None, Ok, Err, refl, ap, ◌∙◌, append_assoc}
 use Rattle.std.proofs.lemmas.List.Folds.{list_all-map}
-use Rattle.std.specs.Str.{is_utf8}
 use Rattle.std.specs.Option.{ok_or}
-use Rattle.serde_json.specs.Data.{Data}
-use Rattle.serde_json.specs.Read.{read}
 use Rattle.model.specs.Outcome.{◌>>=◌}
-use Rattle.index_reader.specs.Lines.{Line, data_of_bytes}
+use Rattle.index_reader.specs.Lines.{Line}
 use Rattle.index_reader.specs.declared.fault.LineFault.TheVariants.{Skipped}
 use Rattle.index_reader.specs.declared.fault.Reason.TheVariants.{NotJson}
+use Rattle.trees.specs.declared.fault.TreeFault.TheVariants as tree
 
-pub data-read : (bytes : List ℕ) (d : Data) → IsUtf8 bytes → read bytes ≡ Some d → data_of_bytes bytes ≡ Ok d
-data-read bytes d text is = rw (is_utf8-from_IsUtf8 bytes text, is) refl
-
-none-where : (b : Bool) (o : Option Data) → (b ≡ true → o ≡ None) → cond b o None ≡ None
-none-where true o h = h refl
-none-where false o h = refl
-
-pub data-refused : (bytes : List ℕ) → (IsUtf8 bytes → read bytes ≡ None) → data_of_bytes bytes ≡ Err (Skipped NotJson)
-data-refused bytes h = ap (λ o. ok_or o (Skipped NotJson)) (none-where (is_utf8 bytes) (read bytes) (λ e. h (IsUtf8-from_is_utf8 bytes e)))
+-- what a tree has is there in the line
+pub found-there : {A : Type 0} (o : Option A) (x : A) → ok_or o tree.NotJson ≡ Ok x → ok_or o (Skipped NotJson) ≡ Ok x
+found-there None x is = cc
+found-there (Some y) x is = cc
 
 -- what is read, behind a front that was read before
 abbrev pub with_front : {A : Type 0} → List A → Line (List A) → Line (List A)

@@ -1,60 +1,173 @@
--- Members whose keys rise stay as they are listed when they are put one after another.
-use Rattle.std.proofs.Common.{◌≡◌, ℕ, List, [], ◌∷◌, Bool, true, false, ◌&&◌, Global, Ordering, Less, Equal, Greater, Bor, refl, sym, ap, ◌∙◌}
-use Rattle.std.specs.Ordering.{nat_cmp, ordering_reverse, is_lt}
-use Rattle.std.specs.Cmp.Lexicographic.{slice_cmp, nat_list_cmp_total}
-use Rattle.json.specs.Value.{members_view}
-use Rattle.json.specs.declared.value.Value.{Value}
-use Rattle.serde_json.specs.Data.{Data, Members, no_members, member, put}
-use Rattle.index_reader.specs.Trees.{members_of, entries_view, listed_view, rise_after, tree_view}
+-- Features whose names rise are joined one behind another.
+use Rattle.std.proofs.Common.{◌≡◌, ℕ, List, [], ◌∷◌, ◌++◌, Bool, true, false, cond, ◌&&◌, T, Some, None, Ok, Err, Vec, Ordering, Less, Equal, Greater, refl, sym, ap, ◌∙◌, subst}
+use Rattle.std.proofs.lemmas.List.{append-nil}
+use Rattle.std.proofs.lemmas.Map.Keys.{IsDistinct-from_sorted}
+use Rattle.std.proofs.lemmas.Map.Lookups.{exact_bytes}
+use Rattle.std.proofs.lemmas.Map.Made.{update_all_none}
+use Rattle.std.specs.BTreeMap.{BTreeMap, IsFromIterResult, is_at}
+use Rattle.std.specs.Cmp.{eq_by_cmp_equiv}
+use Rattle.std.specs.Cmp.Lexicographic.{nat_list_cmp_total, texts_ties}
+use Rattle.std.specs.List.{AllByRecursion}
+use Rattle.std.specs.List.Sorted.{IsStrictlySortedBy}
+use Rattle.std.specs.FinMap.Entries.{below_all, find, is_sorted, same_entries}
+use Rattle.std.specs.Map.{keys_of, lookup}
+use Rattle.std.specs.Ordering.{eq_by_cmp, is_eq, is_lt, match_ordering, ordering_reverse}
+use Rattle.std.specs.declared.alloc.Global.{Global}
+use Rattle.model.specs.Outcome.{◌>>=◌}
+use Rattle.model.specs.Order.{text_cmp}
+use Rattle.model.specs.Summary as model
+use Rattle.model.specs.Summary.{entries_at}
+use Rattle.model.specs.Tables.{Written, with_row}
+use Rattle.features.specs.Names.{is_feature_name}
+use Rattle.features.specs.Tables.{rows_of}
+use Rattle.features.specs.declared.entry.Entry.{Entry}
+use Rattle.index_reader.specs.Lines.{Line, FeatureView}
+use Rattle.index_reader.specs.declared.fault.LineFault.TheVariants.{Skipped}
+use Rattle.index_reader.specs.declared.fault.Reason.TheVariants.{BadFeatures}
+use Rattle.index_reader.specs.Written.{entries_read, feature_read, features_read, joined, names_rise, with_features, with_more}
+use Rattle.index_reader.proofs.ReadLemmas.{with_front, with_front-next}
 
--- the keys of all these come before this one
-abbrev Below : Members → List ℕ → Type 0
-Below no_members k = Unit {0}
-Below (member l d ms) k = (slice_cmp nat_cmp l k ≡ Less) × Below ms k
+-- ---- a row behind others
 
-abbrev behind : Members → Members → Members
-behind no_members rest = rest
-behind (member l d ms) rest = member l d (behind ms rest)
+-- each of the rows comes before that name
+abbrev AllBefore : List ℕ → Written → Type 0
+AllBefore name rows = AllByRecursion (λ key. text_cmp key name ≡ Less) (keys_of rows)
 
-behind-none : (ms : Members) → behind ms no_members ≡ ms
-behind-none no_members = refl
-behind-none (member l d ms) = ap (member l d) (behind-none ms)
+after : (name key : List ℕ) → text_cmp key name ≡ Less → text_cmp name key ≡ Greater
+after name key less = nat_list_cmp_total.antisymm name key ∙ ap ordering_reverse less
 
-behind-one : (ms : Members) (k : List ℕ) (d : Data) (rest : Members) → behind (behind ms (member k d no_members)) rest ≡ behind ms (member k d rest)
-behind-one no_members k d rest = refl
-behind-one (member l e ms) k d rest = ap (member l e) (behind-one ms k d rest)
+-- so do they and a row before it
+before-last : (name : List ℕ) (row : List ℕ × List model.Entry) (rows : Written) → text_cmp row.0 name ≡ Less → AllBefore row.0 rows → AllBefore name (rows ++ row ∷ [])
+before-last name row [] less before = (less, tt)
+before-last name row (r ∷ rows) less (first, rest) = (nat_list_cmp_total.trans r.0 row.0 name first less, before-last name row rows less rest)
 
-below-next : (ms : Members) (k l : List ℕ) (d : Data) → Below ms k → slice_cmp nat_cmp k l ≡ Less → Below (behind ms (member k d no_members)) l
-below-next no_members k l d below less = (less, tt)
-below-next (member m e ms) k l d below less = (nat_list_cmp_total.trans m k l below.0 less, below-next ms k l d below.1 less)
+absent : (name : List ℕ) (rows : Written) → AllBefore name rows → entries_at name rows ≡ None
+absent name [] before = refl
+absent name (row ∷ rows) (first, rest) =
+    ap (λ b. cond b (Some row.1) (entries_at name rows)) (texts_ties name row.0 ∙ ap is_eq (after name row.0 first)) ∙ absent name rows rest
 
-put-last : (ms : Members) (k : List ℕ) (d : Data) → Below ms k → put k d ms ≡ behind ms (member k d no_members)
-put-last no_members k d below = refl
-put-last (member l e ms) k d below =
-    let greater : slice_cmp nat_cmp k l ≡ Greater = nat_list_cmp_total.antisymm k l ∙ ap ordering_reverse below.0 in
-    rw greater (ap (member l e) (put-last ms k d below.1))
+put-last : (name : List ℕ) (es : List model.Entry) (rows : Written) → AllBefore name rows → with_row rows name es ≡ rows ++ (name, es) ∷ []
+put-last name es [] before = refl
+put-last name es (row ∷ rows) (first, rest) =
+    ap (λ o. match_ordering o ((name, es) ∷ row ∷ rows) ((row.0, es) ∷ rows) (row ∷ with_row rows name es)) (after name row.0 first)
+    ∙ ap (λ others. row ∷ others) (put-last name es rows rest)
 
-is_less : (o : Ordering) → is_lt o ≡ true → o ≡ Less
-is_less Less e = refl
-is_less Equal e = cc
-is_less Greater e = cc
+joined-last : (row : List ℕ × List model.Entry) (rows : Written) → AllBefore row.0 rows → joined rows row ≡ rows ++ row ∷ []
+joined-last row rows before = ap (λ o. with_more o rows row.0 row.1) (absent row.0 rows before) ∙ put-last row.0 row.1 rows before
 
-both : (a b : Bool) → (a && b) ≡ true → (a ≡ true) × (b ≡ true)
-both true b e = (refl, e)
-both false b e = cc
+-- ---- rows of rising names
 
-abbrev Member : Type 0
-Member = Bor (List ℕ) × Value Global
+is-less : (o : Ordering) → is_lt o ≡ true → o ≡ Less
+is-less Less h = refl
+is-less Equal h = cc
+is-less Greater h = cc
 
-put-listed : (found : Members) (k : List ℕ) (ms : List Member) → ((l : List ℕ) → slice_cmp nat_cmp k l ≡ Less → Below found l) → rise_after k ms ≡ true
-    → members_of (members_view ms) found ≡ behind found (listed_view ms)
-put-listed found k [] below rise = sym (behind-none found)
-put-listed found k (m ∷ ms) below rise =
-    let rises = both (is_lt (slice_cmp nat_cmp k m.0.now)) (rise_after m.0.now ms) rise in
-    let here = below m.0.now (is_less (slice_cmp nat_cmp k m.0.now) rises.0) in
-    ap (members_of (members_view ms)) (put-last found m.0.now (tree_view m.1) here)
-    ∙ put-listed (behind found (member m.0.now (tree_view m.1) no_members)) m.0.now ms (λ l less. below-next found m.0.now l (tree_view m.1) here less) rises.1
-    ∙ behind-one found m.0.now (tree_view m.1) (listed_view ms)
+and-first : (a b : Bool) → (a && b) ≡ true → a ≡ true
+and-first true b h = refl
+and-first false b h = h
 
-pub entries-listed : (ms : List Member) → rise_after [] ms ≡ true → entries_view ms ≡ listed_view ms
-entries-listed ms rise = put-listed no_members [] ms (λ l less. tt) rise
+and-second : (a b : Bool) → (a && b) ≡ true → b ≡ true
+and-second true b h = h
+and-second false b h = cc
+
+named : (f : FeatureView) (row : List ℕ × List model.Entry) → feature_read f ≡ Ok row → f.name ≡ row.0
+unfolding feature_read
+named f row read = by (is_feature_name f.name) (entries_read f.entries) read
+  where
+    by : (b : Bool) (r : Line (List model.Entry)) → (cond b (Ok f.name) (Err (Skipped BadFeatures)) >>= λ name. r >>= λ entries. Ok (name, entries)) ≡ Ok row → f.name ≡ row.0
+    by true (Ok es) h = cc
+    by true (Err e) h = cc
+    by false r h = cc
+
+front-none : {A : Type 0} (r : Line (List A)) → with_front [] r ≡ r
+front-none (Ok xs) = refl
+front-none (Err e) = refl
+
+-- the row that is read first comes after that name, and the others after it
+rises-to : (name : List ℕ) (f : FeatureView) (row : List ℕ × List model.Entry) (fs : List FeatureView) → feature_read f ≡ Ok row → names_rise name (f ∷ fs) ≡ true
+    → (text_cmp name row.0 ≡ Less) × (names_rise row.0 fs ≡ true)
+rises-to name f row fs read rise =
+    let same : f.name ≡ row.0 = named f row read in (
+      ap (text_cmp name) (sym same) ∙ is-less (text_cmp name f.name) (and-first (is_lt (text_cmp name f.name)) (names_rise f.name fs) rise),
+      ap (λ n. names_rise n fs) (sym same) ∙ and-second (is_lt (text_cmp name f.name)) (names_rise f.name fs) rise,
+    )
+
+-- features whose names rise after those of the rows are put behind them
+rising-behind : (rows : Written) (name : List ℕ) (fs : List FeatureView) → ((next : List ℕ) → text_cmp name next ≡ Less → AllBefore next rows) → names_rise name fs ≡ true
+    → with_features rows fs ≡ with_front rows (features_read fs)
+unfolding with_features features_read
+rising-behind rows name [] before rise = ap Ok (sym (append-nil rows))
+rising-behind rows name (f ∷ fs) before rise = by (λ rows name before rise. rising-behind rows name fs before rise) (feature_read f) refl
+  where
+    by : ((rows : Written) (name : List ℕ) → ((next : List ℕ) → text_cmp name next ≡ Less → AllBefore next rows) → names_rise name fs ≡ true → with_features rows fs ≡ with_front rows (features_read fs))
+        → (r : Line (List ℕ × List model.Entry)) → feature_read f ≡ r
+        → ((r >>= λ row. Ok (joined rows row)) >>= λ next. with_features next fs) ≡ with_front rows (r >>= λ first. features_read fs >>= λ others. Ok (first ∷ others))
+    by others (Err e) is = refl
+    by others (Ok row) is =
+        let rises = rises-to name f row fs is rise in
+        ap (λ next. with_features next fs) (joined-last row rows (before row.0 rises.0))
+        ∙ others (rows ++ row ∷ []) row.0 (λ next h. before-last next row rows h (before row.0 rises.0)) rises.1
+        ∙ with_front-next rows row (features_read fs) _ refl
+
+-- features whose names rise are the rows that are read
+pub all-rising : (fs : List FeatureView) → names_rise [] fs ≡ true → with_features [] fs ≡ features_read fs
+all-rising fs rise = rising-behind [] [] fs (λ next less. tt) rise ∙ front-none (features_read fs)
+
+-- ---- the map of such rows
+
+all-after : (name next : List ℕ) (keys : List (List ℕ)) → text_cmp name next ≡ Less → AllByRecursion (λ key. text_cmp next key ≡ Less) keys → AllByRecursion (λ key. text_cmp name key ≡ Less) keys
+all-after name next [] less all = tt
+all-after name next (key ∷ keys) less (first, rest) = (nat_list_cmp_total.trans name next key less first, all-after name next keys less rest)
+
+sorted-read : (name : List ℕ) (fs : List FeatureView) (rows : Written) → names_rise name fs ≡ true → features_read fs ≡ Ok rows → IsStrictlySortedBy text_cmp (name ∷ keys_of rows)
+unfolding features_read IsStrictlySortedBy
+sorted-read name [] rows rise read =
+    let whole : [] ≡ rows = cc in
+    subst (λ rows. IsStrictlySortedBy text_cmp (name ∷ keys_of rows)) whole (tt, tt)
+sorted-read name (f ∷ fs) rows rise read = by (λ row others rise read. sorted-read row fs others rise read) (feature_read f) refl (features_read fs) refl rows read
+  where
+    by : ((row : List ℕ) (others : Written) → names_rise row fs ≡ true → features_read fs ≡ Ok others → IsStrictlySortedBy text_cmp (row ∷ keys_of others))
+        → (r : Line (List ℕ × List model.Entry)) → feature_read f ≡ r → (s : Line Written) → features_read fs ≡ s → (rows : Written)
+        → (r >>= λ first. s >>= λ others. Ok (first ∷ others)) ≡ Ok rows → IsStrictlySortedBy text_cmp (name ∷ keys_of rows)
+    by later (Err e) is s next rows h = cc
+    by later (Ok row) is (Err e) next rows h = cc
+    by later (Ok row) is (Ok others) next rows h =
+        let rises = rises-to name f row fs is rise in
+        let sorted = later row.0 others rises.1 next in
+        let whole : row ∷ others ≡ rows = cc in
+        subst (λ rows. IsStrictlySortedBy text_cmp (name ∷ keys_of rows)) whole ((rises.0, all-after name row.0 (keys_of others) rises.0 sorted.0), sorted)
+
+keys-rows : (es : List (List ℕ × Vec Entry Global)) → keys_of (rows_of es) ≡ keys_of es
+keys-rows [] = refl
+keys-rows (e ∷ es) = ap (λ keys. e.0 ∷ keys) (keys-rows es)
+
+-- a look-up in rows, whichever of the two ways it is written
+found-same : {X : Type 0} (q : List ℕ) (es : List (List ℕ × X)) → find text_cmp q es ≡ lookup (is_at (text_cmp q)) es
+found-same q [] = refl
+found-same q (e ∷ es) = ap (λ o. cond (is_eq (text_cmp q e.0)) (Some e.1) o) (found-same q es)
+
+below-test : {X : Type 0} (key : List ℕ) (es : List (List ℕ × X)) → AllByRecursion (λ k. text_cmp key k ≡ Less) (keys_of es) → below_all text_cmp key es ≡ true
+below-test key [] all = refl
+below-test key (e ∷ es) (first, rest) = ap (λ o. is_lt o && below_all text_cmp key es) first ∙ below-test key es rest
+
+sorted-test : {X : Type 0} (es : List (List ℕ × X)) → IsStrictlySortedBy text_cmp (keys_of es) → is_sorted text_cmp es ≡ true
+unfolding IsStrictlySortedBy
+sorted-test [] sorted = refl
+sorted-test (e ∷ es) (first, rest) = ap (λ b. b && is_sorted text_cmp es) (below-test e.0 es first) ∙ sorted-test es rest
+
+in-place : (es : List (List ℕ × Vec Entry Global)) (m : BTreeMap (List ℕ) (Vec Entry Global)) → IsFromIterResult text_cmp es m → IsStrictlySortedBy text_cmp (keys_of es) → m.entries ≡ es
+in-place es m (found, ordered) sorted =
+    same_entries text_cmp nat_list_cmp_total exact_bytes m.entries es (subst T (sym (sorted-test m.entries ordered)) tt) (subst T (sym (sorted-test es sorted)) tt)
+    (λ q. found-same q m.entries ∙ found q
+    ∙ update_all_none (eq_by_cmp_equiv nat_list_cmp_total) (eq_by_cmp text_cmp) (λ x y. refl) es q (IsDistinct-from_sorted text_cmp (keys_of es) sorted) ∙ sym (found-same q es))
+
+tail-sorted : (key : List ℕ) (keys : List (List ℕ)) → IsStrictlySortedBy text_cmp (key ∷ keys) → IsStrictlySortedBy text_cmp keys
+unfolding IsStrictlySortedBy
+tail-sorted key keys s = s.1
+
+-- the map that is collected from the rows of rising features has them all
+pub map-rising : (fs : List FeatureView) (es : List (List ℕ × Vec Entry Global)) (m : BTreeMap (List ℕ) (Vec Entry Global)) → names_rise [] fs ≡ true
+    → features_read fs ≡ Ok (rows_of es) → IsFromIterResult text_cmp es m → with_features [] fs ≡ Ok (rows_of m.entries)
+map-rising fs es m rise read made =
+    let sorted : IsStrictlySortedBy text_cmp (keys_of (rows_of es)) = tail-sorted [] (keys_of (rows_of es)) (sorted-read [] fs (rows_of es) rise read) in
+    all-rising fs rise ∙ read ∙ ap (λ x. Ok (rows_of x)) (sym (in-place es m made (subst (IsStrictlySortedBy text_cmp) (keys-rows es) sorted)))

@@ -34,12 +34,6 @@ MemoryCalls old path (Ok o) new = (o ≡ file_at old path) × (new ≡ old)
 MemoryCalls old path (Err OutOfMemory) new = new ≡ old
 MemoryCalls old path (Err Failed) new = ⊥
 
--- a call of a folder on a disk, of which the count of failures alone is known: it rises just where a call fails
-abbrev pub DiskCalls : ℕ → Answer → ℕ → Type 0
-DiskCalls old (Ok o) new = new ≡ old
-DiskCalls old (Err OutOfMemory) new = new ≡ old
-DiskCalls old (Err Failed) new = IsRisen old new
-
 -- a folder in memory that fails from its call of number k on, counted from 1, with its calls and its failures so far
 pub record Failing : Type 0 where
   pub files : Files

@@ -1,5 +1,4 @@
 pub mod Lines
-pub mod Trees
 pub mod Shapes
 pub mod Written
 pub mod Records
@@ -9,3 +8,4 @@ pub mod Views
 pub mod Kept
 pub mod Paths
 pub mod Folders
+pub mod Reading

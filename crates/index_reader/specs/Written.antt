@@ -1,9 +1,11 @@
 -- The features that a line writes, and the table that they make (Cargo book, "Registry Index", "JSON schema", and "Features"; what stands
 -- in both `features` and `features2` is joined, which is our own).
-use Rattle.std.specs.Prelude.{ℕ, false, if◌then◌else◌, List, [], ◌∷◌, ◌++◌, map, Option, Some, None, Result, Ok, Err}
+use Rattle.std.specs.Prelude.{ℕ, Bool, true, false, ◌&&◌, if◌then◌else◌, List, [], ◌∷◌, ◌++◌, map, Option, Some, None, Result, Ok, Err}
 use Rattle.std.specs.Map.{set_value}
 use Rattle.std.specs.Option.{ok_or}
+use Rattle.std.specs.Ordering.{is_lt}
 use Rattle.model.specs.Outcome.{◌>>=◌}
+use Rattle.model.specs.Order.{text_cmp}
 use Rattle.model.specs.Summary.{Entry, Table, entries_at, same_text}
 use Rattle.model.specs.Tables.{DepName, TableFault, Written, table_of, with_row}
 use Rattle.features.specs.Entries.{entry_of}
@@ -56,6 +58,19 @@ with_features written [] = Ok written
 with_features written (f ∷ fs) = do
   next ← with_feature written f
   with_features next fs
+
+-- features with their entries, one after another
+unfoldable pub features_read : List FeatureView → Line Written
+features_read [] = Ok []
+features_read (f ∷ fs) = do
+  first ← feature_read f
+  others ← features_read fs
+  Ok (first ∷ others)
+
+-- each name comes after the one before it, and the first after this one
+abbrev pub names_rise : List ℕ → List FeatureView → Bool
+names_rise name [] = true
+names_rise name (f ∷ fs) = is_lt (text_cmp name f.name) && names_rise f.name fs
 
 -- the features of a line, in the order of their bytes: `features`, then `features2`, whatever the line's format is
 abbrev pub written_of : ShapeView → Line Written

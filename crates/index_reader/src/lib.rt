@@ -9,11 +9,10 @@ mod folder;
 mod kept;
 mod laws;
 mod line;
-mod number;
 mod path;
+mod reading;
 mod record;
 mod shape;
-mod tree;
 mod values;
 mod written;
 
@@ -25,4 +24,5 @@ pub use folder::{Folder, FolderFault, MemoryFolder};
 pub use laws::{records_are_apart, records_know_their_features};
 pub use line::read_line;
 pub use path::index_path;
+pub use reading::{FileFault, Fronted, Opens, read_at};
 pub use record::{Record, Skip};

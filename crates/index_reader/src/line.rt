@@ -15,7 +15,7 @@ ghost use Rattle.index_reader.specs.Views.{record_view};
 use crate::fault::{LineFault, Reason};
 use crate::record::Record;
 use crate::shape::{DependencyShape, LineShape, PartShape, Required, read_shape};
-use crate::tree::read_tree;
+use crate::values::read_json;
 use crate::written::{feature_name, features};
 use features::{Dependency, FeatureName, PackageName, Summary};
 use json::Scratch;
@@ -45,7 +45,7 @@ pub(crate) fn read_unchecked(
 ) -> Result<Record, LineFault>
     ensures { Gives is_memory record_view result (unchecked_of_line name.now line.now) }
 {
-    let tree = read_tree(alloc, line, scratch)?;
+    let tree = read_json(alloc, line, scratch)?;
     let shape = read_shape(alloc, &tree)?;
     record_in(alloc, name, &shape)
 }

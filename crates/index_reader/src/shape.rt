@@ -5,16 +5,16 @@ ghost use Rattle.model.specs.Outcome.{Gives};
 ghost use Rattle.index_reader.specs.Lines.{is_memory, value_at, package_name_of, package_name_at, package_name_or_none, kind_of_text, kind_at, part_of, by_kind, dependency_of, dependencies_in, dependencies_at, features_in, features_or_none, rust_version_at, shape_of};
 ghost use Rattle.classes.specs.RustVersions.{rust_version_view};
 ghost use Rattle.index_reader.specs.Shapes.{feature_views, part_view, line_dependency_view, line_dependency_views, shape_view};
-ghost use Rattle.index_reader.specs.Trees.{tree_view, trees_view, entries_view, listed_view};
+ghost use Rattle.trees.specs.Trees.{tree_view, trees_view, entries_view, listed_view};
 
 use crate::fault::{LineFault, Reason};
-use crate::tree::{Members, are_rising, as_list, as_members, as_text, by_key};
 use crate::values::{flag, text, text_if_any, texts, texts_at, value, whole};
 use classes::RustVersion;
 use features::{NameFault, PackageName};
 use json::Value;
 use semver::VersionReq;
 use std::alloc::Global;
+use trees::{Members, are_rising, as_list, as_members, as_text, by_key};
 
 /// What a line says, with its texts as they stand there.
 #[derive(Drop)]

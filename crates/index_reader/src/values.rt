@@ -2,14 +2,29 @@
 
 ghost use Rattle.std.specs.Prelude.{◌≡◌, None, Some, option_map};
 ghost use Rattle.model.specs.Outcome.{Gives};
-ghost use Rattle.index_reader.specs.Lines.{is_memory, value_at, text_at, text_of, flag_at, whole_at, optional, texts_in, texts_of, texts_or_none};
+ghost use Rattle.index_reader.specs.Lines.{is_memory, data_of_bytes, value_at, text_at, text_of, flag_at, whole_at, optional, texts_in, texts_of, texts_or_none};
 ghost use Rattle.index_reader.specs.Shapes.{texts_view, text_view};
-ghost use Rattle.index_reader.specs.Trees.{tree_view, trees_view};
+ghost use Rattle.trees.specs.Trees.{tree_view, trees_view};
 
 use crate::fault::{LineFault, Reason};
-use crate::tree::{as_flag, as_list, as_text, as_whole, member};
-use json::Value;
+use json::{Scratch, Value};
 use std::alloc::Global;
+use trees::{TreeFault, as_flag, as_list, as_text, as_whole, member, read_tree};
+
+/// The JSON value that the bytes are.
+pub(crate) fn read_json<'a>(
+    alloc: Global,
+    bytes: &'a [u8],
+    scratch: &'a mut Scratch,
+) -> Result<Value<'a>, LineFault>
+    ensures { Gives is_memory tree_view result (data_of_bytes bytes.entry.now) }
+{
+    match read_tree(alloc, bytes, scratch) {
+        Ok(tree) => Ok(tree),
+        Err(TreeFault::OutOfMemory) => Err(LineFault::OutOfMemory),
+        Err(TreeFault::NotJson) => Err(LineFault::Skipped(Reason::NotJson)),
+    }
+}
 
 /// The value at a key: null counts as absent.
 pub(crate) fn value<'v, 'a>(object: &'v Value<'a>, key: &str) -> Option<&'v Value<'a>>

@@ -1,7 +1,10 @@
 //! The features that a line writes, and the table that they make.
 
-ghost use Rattle.std.specs.Prelude.{◌≡◌, IfOk, Ok};
+ghost use Rattle.std.specs.Prelude.{◌≡◌, [], true, IfOk, Ok};
+ghost use Rattle.std.specs.BTreeMap.{IsFromIterResult};
 ghost use Rattle.std.specs.Option.{ok_or};
+ghost use Rattle.std.specs.Ordering.{is_lt};
+ghost use Rattle.model.specs.Order.{text_cmp};
 ghost use Rattle.model.specs.Outcome.{Gives};
 ghost use Rattle.model.specs.Tables.{table_of};
 ghost use Rattle.features.specs.Entries.{entry_of};
@@ -9,7 +12,7 @@ ghost use Rattle.features.specs.EntryViews.{entry_view, entry_views};
 ghost use Rattle.features.specs.Tables.{built, dep_name_view, dep_names_view, rows_of, table_wants_memory};
 ghost use Rattle.index_reader.specs.Lines.{is_memory};
 ghost use Rattle.index_reader.specs.Shapes.{texts_view, feature_view, feature_views, line_dependency_view, line_dependency_views, shape_view};
-ghost use Rattle.index_reader.specs.Written.{feature_name_of, entry_read, entries_read, feature_read, joined, with_feature, with_features, written_of, dep_name_of, dep_names_of, unless_faulty, features_of, skip_of};
+ghost use Rattle.index_reader.specs.Written.{feature_name_of, entry_read, entries_read, feature_read, features_read, joined, names_rise, with_feature, with_features, written_of, dep_name_of, dep_names_of, unless_faulty, features_of, skip_of};
 
 use crate::fault::{LineFault, Reason};
 use crate::shape::{DependencyShape, FeatureShape, LineShape};
@@ -34,8 +37,86 @@ fn written(
 ) -> Result<BTreeMap<FeatureName, Vec<Entry>>, LineFault>
     ensures { Gives is_memory (λ m. rows_of m.entries) result (written_of (shape_view line.now)) }
 {
-    let written = with_features(alloc, BTreeMap::new(alloc), &line.features)?;
+    let written = first_features(alloc, &line.features)?;
     with_features(alloc, written, &line.features2)
+}
+
+/// The map of features: made at once where their names rise, as those of a registry do.
+fn first_features(
+    alloc: Global,
+    features: &[FeatureShape<'_>],
+) -> Result<BTreeMap<FeatureName, Vec<Entry>>, LineFault>
+    ensures { Gives is_memory (λ m. rows_of m.entries) result (with_features [] (feature_views features.now)) }
+{
+    if names_rise(features) {
+        return rising(alloc, features);
+    }
+    with_features(alloc, BTreeMap::new(alloc), features)
+}
+
+/// The map of features whose names rise: no row need be looked up.
+fn rising(
+    alloc: Global,
+    features: &[FeatureShape<'_>],
+) -> Result<BTreeMap<FeatureName, Vec<Entry>>, LineFault>
+    requires { names_rise [] (feature_views features.now) ≡ true }
+    ensures { Gives is_memory (λ m. rows_of m.entries) result (with_features [] (feature_views features.now)) }
+{
+    let rows = rows(alloc, features)?;
+    Ok(collected(alloc, rows)?)
+}
+
+/// Whether each feature's name comes after the one before it.
+fn names_rise(features: &[FeatureShape<'_>]) -> bool
+    ensures { result ≡ names_rise [] (feature_views features.now) }
+{
+    let mut before = "";
+    'features: for feature in features {
+        if !comes_before(before, feature.name) {
+            return false;
+        }
+        before = feature.name;
+    }
+    true
+}
+
+fn comes_before(name: &str, next: &str) -> bool
+    ensures { result ≡ is_lt (text_cmp name.now next.now) }
+{
+    name < next
+}
+
+/// The features with their entries, one after another.
+#[tactic(auto, unfolding(crate::specs::Written::features_read))]
+fn rows(
+    alloc: Global,
+    features: &[FeatureShape<'_>],
+) -> Result<Vec<(FeatureName, Vec<Entry>)>, LineFault>
+    ensures { Gives is_memory (λ v. rows_of v.items) result (features_read (feature_views features.now)) }
+{
+    let mut found = Vec::with_capacity(alloc, features.len())?;
+    'features: for feature in features {
+        found.push(row(alloc, feature)?)?;
+    }
+    Ok(found)
+}
+
+#[tactic(auto, unfolding(crate::specs::Written::feature_read))]
+fn row(alloc: Global, feature: &FeatureShape<'_>) -> Result<(FeatureName, Vec<Entry>), LineFault>
+    ensures { Gives is_memory (λ row. (row.0, entry_views row.1.items)) result (feature_read (feature_view feature.now)) }
+{
+    let name = feature_name(alloc, feature.name)?;
+    let entries = entries(alloc, &feature.entries)?;
+    Ok((name, entries))
+}
+
+fn collected(
+    alloc: Global,
+    rows: Vec<(FeatureName, Vec<Entry>)>,
+) -> Result<BTreeMap<FeatureName, Vec<Entry>>, AllocError>
+    ensures { IfOk result (IsFromIterResult text_cmp rows.items) }
+{
+    rows.into_iter().collect(alloc)
 }
 
 #[tactic(auto, unfolding(crate::specs::Written::with_features))]

@@ -2,6 +2,8 @@
 -- twice the last stays.
 use Rattle.std.specs.Prelude.{ℕ, Bool, true, false, if◌then◌else◌, ◌&&◌, negsuc, List, [], ◌∷◌, Option, None, is_some, unwrap_or, option_and_then}
 use Rattle.std.specs.Borrow.{Bor}
+use Rattle.std.specs.Ordering.{is_lt, nat_cmp}
+use Rattle.std.specs.Cmp.Lexicographic.{slice_cmp}
 use Rattle.std.specs.Str.{is_utf8}
 use Rattle.std.specs.declared.alloc.Global.{Global}
 use Rattle.json.specs.Json as json
@@ -79,3 +81,13 @@ entries_view entries = members_of (view.members_view entries) no_members
 abbrev pub sorted_view : List (Bor (List ℕ) × Bor (Value Global)) → Members
 sorted_view [] = no_members
 sorted_view (e ∷ es) = member e.0.now (tree_view e.1.now) (sorted_view es)
+
+-- members as they are listed
+abbrev pub listed_view : List (Bor (List ℕ) × Value Global) → Members
+listed_view [] = no_members
+listed_view (m ∷ ms) = member m.0.now (tree_view m.1) (listed_view ms)
+
+-- each key comes after the one before it, and the first after this one
+abbrev pub rise_after : List ℕ → List (Bor (List ℕ) × Value Global) → Bool
+rise_after key [] = true
+rise_after key (m ∷ ms) = is_lt (slice_cmp nat_cmp key m.0.now) && rise_after m.0.now ms

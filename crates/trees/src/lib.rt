@@ -7,5 +7,6 @@ mod tree;
 
 pub use fault::TreeFault;
 pub use tree::{
-    Members, as_flag, as_list, as_members, as_text, as_whole, by_key, item, member, read_tree,
+    Members, are_rising, as_flag, as_list, as_members, as_text, as_whole, by_key, item, member,
+    read_tree,
 };

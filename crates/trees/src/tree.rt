@@ -1,12 +1,14 @@
 //! JSON as a tree that borrows the texts in it.
 
-ghost use Rattle.std.specs.Prelude.{◌≡◌, IfOk, is_some, option_map, option_and_then};
+ghost use Rattle.std.specs.Prelude.{◌≡◌, [], IfOk, is_some, option_map, option_and_then};
+ghost use Rattle.std.specs.Cmp.Lexicographic.{slice_cmp};
 ghost use Rattle.std.specs.Option.{ok_or};
+ghost use Rattle.std.specs.Ordering.{is_lt, nat_cmp};
 ghost use Rattle.json.specs.Value.{value_view, items_view, members_view};
 ghost use Rattle.serde_json.specs.Find.{get, at, as_str, as_bool, as_array, as_object, as_number, as_u64};
 ghost use Rattle.serde_json.specs.Read.{number_of};
 ghost use Rattle.model.specs.Outcome.{Gives};
-ghost use Rattle.trees.specs.Trees.{wants_memory, data_of_bytes, json_of_text, numbers_fit, items_fit, members_fit, tree_view, trees_view, entries_view, sorted_view};
+ghost use Rattle.trees.specs.Trees.{wants_memory, data_of_bytes, json_of_text, numbers_fit, items_fit, members_fit, tree_view, trees_view, entries_view, rise_after, sorted_view};
 
 use crate::fault::TreeFault;
 use crate::number::number_of;
@@ -158,6 +160,27 @@ pub fn as_members<'v, 'a>(tree: &'v Value<'a>) -> Option<&'v Members<'a>>
         Value::Object(members) => Some(members),
         _ => None,
     }
+}
+
+/// Whether each key comes after the one before it, as those of a registry do: then the members are sorted, and no key
+/// comes twice.
+pub fn are_rising(members: &Members<'_>) -> bool
+    ensures { result ≡ rise_after [] members.now.items }
+{
+    let mut before = "";
+    'members: for member in members {
+        if !comes_before(before, member.0) {
+            return false;
+        }
+        before = member.0;
+    }
+    true
+}
+
+fn comes_before(key: &str, next: &str) -> bool
+    ensures { result ≡ is_lt (slice_cmp nat_cmp key.now next.now) }
+{
+    key < next
 }
 
 /// The members by their keys: of a key that comes twice the last stays.

@@ -1,5 +1,5 @@
 use Rattle.std.proofs.Common.{◌≡◌, drop}
-use Rattle.index_reader.specs.Trees.{trees_view}
+use Rattle.trees.specs.Trees.{trees_view}
 use Rattle.index_reader.specs.Lines.{dependencies_in}
 use Rattle.index_reader.specs.Shapes.{line_dependency_views}
 use Rattle.index_reader.proofs.ReadLemmas.{with_front}

@@ -1,7 +1,7 @@
 use Rattle.std.proofs.Common.{◌≡◌, drop}
 use Rattle.index_reader.specs.Lines.{features_in}
 use Rattle.index_reader.specs.Shapes.{feature_views}
-use Rattle.index_reader.specs.Trees.{listed_view}
+use Rattle.trees.specs.Trees.{listed_view}
 use Rattle.index_reader.proofs.ReadLemmas.{with_front}
 use Rattle.index_reader.proofs.shape.features_as_listed.Given as goal
 

@@ -1,6 +1,6 @@
 use Rattle.std.proofs.Common.{◌≡◌, sym, ◌∙◌}
-use Rattle.index_reader.specs.Trees.{entries_view, listed_view}
-use Rattle.index_reader.proofs.RisingLemmas.{entries-listed}
+use Rattle.trees.specs.Trees.{entries_view, listed_view}
+use Rattle.trees.proofs.RisingLemmas.{entries-listed}
 use Rattle.index_reader.proofs.shape.features_in.Goals as goal
 
 pub returns-then-are_rising : goal.returns-then-are_rising

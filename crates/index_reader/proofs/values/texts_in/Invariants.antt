@@ -1,7 +1,7 @@
 use Rattle.std.proofs.Common.{◌≡◌, drop}
 use Rattle.index_reader.specs.Lines.{texts_in}
 use Rattle.index_reader.specs.Shapes.{texts_view}
-use Rattle.index_reader.specs.Trees.{trees_view}
+use Rattle.trees.specs.Trees.{trees_view}
 use Rattle.index_reader.proofs.ReadLemmas.{with_front}
 use Rattle.index_reader.proofs.values.texts_in.Given as goal
 

@@ -1,8 +1,8 @@
 use Rattle.std.proofs.Common.{◌≡◌, [], drop}
 use denote.Shadow.{shadow}
 use denote.Text.{Utf8}
-use Rattle.index_reader.specs.Trees.{rise_after}
-use Rattle.index_reader.proofs.tree.are_rising.Given as goal
+use Rattle.trees.specs.Trees.{rise_after}
+use Rattle.trees.proofs.tree.are_rising.Given as goal
 
 -- all rise where those that are left rise after the one before
 abbrev pub invariant-members : goal.invariant-members
