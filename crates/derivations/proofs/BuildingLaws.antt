@@ -104,7 +104,7 @@ distinct-map e f (x ∷ xs) h = (each-map (λ y. e (f x) y ≡ false) f xs h.0, 
 
 -- ---- the terms
 
-term_total : IsTotalOrder term_cmp
+pub term_total : IsTotalOrder term_cmp
 term_total = on_total (λ (t : Term). vertex_text t.vertex) nat_list_cmp_total
 
 pub states-apart : (t : Term) → IsNewTerm t → IsDistinct (eq_by_cmp state_cmp) t.states

@@ -10,3 +10,4 @@ pub mod Derivations
 pub mod Written
 pub mod References
 pub mod Building
+pub mod Named

@@ -10,6 +10,7 @@ ghost use Rattle.vertices.specs.Texts.{IsReadVertex};
 ghost use Rattle.derivations.specs.Building.{AreNewTerms, term_ref_views, ordered_terms};
 ghost use Rattle.derivations.specs.Derivations.{IsDerivation, IsStepAt};
 ghost use Rattle.derivations.specs.Files.{wants_memory, is_line_end, is_blank_byte, is_blank, fault_at, most_steps, with_step, with_line, with_lines, derivation_of_bytes};
+ghost use Rattle.derivations.specs.Named.{named_views, named_step_from, set_in_order_views};
 ghost use Rattle.derivations.specs.References.{references_at, references_by};
 ghost use Rattle.derivations.specs.Tables.{AreStepsOf, steps_at};
 ghost use Rattle.derivations.specs.Views.{step_view};
@@ -18,7 +19,9 @@ use crate::building::{TermRef, new_axiom, new_combination};
 use crate::fault::{DerivationFault, LineFault};
 use crate::keeping::keep_step;
 use crate::line::read_step;
+use crate::named::{NamedTerm, SetInOrder, Spelling, named_in_order};
 use crate::step::{Origin, Step};
+use crate::stepping::{NamedOrigin, keep_named};
 use crate::tables::Tables;
 use crate::whole::WholeStep;
 use json::Scratch;
@@ -128,6 +131,81 @@ impl Derivation {
     {
         let step = new_combination(alloc, first, second, vertex, terms)?;
         self.push_step(alloc, step)
+    }
+
+    /// A vertex that is spelt and gets its number once, to stand in terms of any number of steps.
+    ///
+    /// # Errors
+    /// There is no memory.
+    pub fn spell(&mut self, alloc: Global, vertex: VertexRef<'_>) -> Result<Spelling, AllocError>
+        requires { IsReadVertex (vertex_ref_view vertex) }
+        ensures steps { self.new ≡ self.old }
+        ensures vertex { IfOk result (λ s. s ≡ vertex_ref_view vertex.entry) }
+    {
+        let first = Spelling::new(alloc, vertex, 0)?;
+        let number = self.tables.add_spelt(alloc, &first)?;
+        Spelling::new(alloc, vertex, number)
+    }
+
+    /// The same as `push_axiom`, with terms at spelt vertices.
+    ///
+    /// # Errors
+    /// There is no memory, and then nothing has changed.
+    pub fn push_named_axiom(
+        &mut self,
+        alloc: Global,
+        kind: Kind,
+        terms: &[NamedTerm<'_, '_, '_>],
+    ) -> Result<(), AllocError>
+        requires { AreNewTerms (named_views terms.now) }
+        ensures ok { OnOk result (self.new ≡ self.old ++ given (kind_view kind) (ordered_terms (named_views terms.now)) ∷ []) }
+        ensures err { OnErr result (self.new ≡ self.old) }
+    {
+        let ordered = named_in_order(alloc, terms)?;
+        self.push_named(alloc, NamedOrigin::Axiom(kind), ordered)
+    }
+
+    /// The same as `push_combination`, with terms at spelt vertices.
+    ///
+    /// # Errors
+    /// There is no memory, and then nothing has changed.
+    pub fn push_named_combination(
+        &mut self,
+        alloc: Global,
+        first: u64,
+        second: u64,
+        vertex: &Spelling,
+        terms: &[NamedTerm<'_, '_, '_>],
+    ) -> Result<(), AllocError>
+        requires first { first < length self.old }
+        requires second { second < length self.old }
+        requires vertex { IsReadVertex vertex.now }
+        requires terms { AreNewTerms (named_views terms.now) }
+        ensures ok { OnOk result (self.new ≡ self.old ++ combine first second vertex.now (ordered_terms (named_views terms.now)) ∷ []) }
+        ensures err { OnErr result (self.new ≡ self.old) }
+    {
+        let ordered = named_in_order(alloc, terms)?;
+        self.push_named(
+            alloc,
+            NamedOrigin::Combination(first, second, vertex),
+            ordered,
+        )
+    }
+
+    /// Puts a step at spelt vertices at the end.
+    fn push_named(
+        &mut self,
+        alloc: Global,
+        origin: NamedOrigin<'_>,
+        terms: Vec<SetInOrder<'_, '_>>,
+    ) -> Result<(), AllocError>
+        requires { IsStepAt (length self.old) (named_step_from origin (set_in_order_views terms.items)) }
+        ensures ok { OnOk result (self.new ≡ self.old ++ named_step_from origin.entry (set_in_order_views terms.entry.items) ∷ []) }
+        ensures err { OnErr result (self.new ≡ self.old) }
+    {
+        let kept = keep_named(alloc, &mut self.tables, origin, terms)?;
+        self.steps.push(kept)?;
+        Ok(())
     }
 
     /// The steps with one more.

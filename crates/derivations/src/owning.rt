@@ -51,7 +51,8 @@ fn owned_states(alloc: Global, states: &[StateRef<'_>]) -> Result<Vec<State>, Al
     Ok(owned)
 }
 
-fn owned_state(state: StateRef<'_>) -> Result<State, AllocError>
+/// The same state with its own version.
+pub(crate) fn owned_state(state: StateRef<'_>) -> Result<State, AllocError>
     ensures { IfOk result (λ s. state_view s ≡ state_ref_view state.entry) }
 {
     match state {

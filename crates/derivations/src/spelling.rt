@@ -55,7 +55,8 @@ fn spelt_term<'v>(alloc: Global, term: &TermRef<'v, '_>) -> Result<Spelt<'v>, Al
     Ok(Spelt { text, states })
 }
 
-fn ordered_states<'a>(
+/// The states in the written order.
+pub(crate) fn ordered_states<'a>(
     alloc: Global,
     states: &[StateRef<'a>],
 ) -> Result<Vec<StateRef<'a>>, AllocError>

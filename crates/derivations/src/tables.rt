@@ -2,12 +2,15 @@
 
 ghost use Rattle.std.specs.Prelude.{◌≡◌, ◌<◌, IfOk, IsTrue, Some, length, map, slice_get};
 ghost use Rattle.derivations.specs.Tables.{no_tables, vertex_at, state_at, set_at, AreSetsOf, AreStatesOf, IsGrown};
+ghost use Rattle.vertices.specs.RefViews.{state_ref_view};
 ghost use Rattle.vertices.specs.Views.{vertex_view, state_view};
 
+use crate::named::Spelling;
+use crate::owning::{owned_state, owned_vertex};
 use indexmap::IndexSet;
 use std::alloc::{AllocError, Global};
 use std::marker::Model;
-use vertices::{State, Vertex};
+use vertices::{State, StateRef, Vertex};
 
 /// The vertices and the sets of states that steps name by numbers. A set has the numbers of its states.
 #[derive(Drop)]
@@ -81,24 +84,67 @@ impl Tables {
         Ok(number)
     }
 
+    /// The number of a spelt vertex, which is added unless it is there. The number that is guessed is looked at before the
+    /// vertex is parsed anew and hashed.
+    pub(crate) fn add_spelt(
+        &mut self,
+        alloc: Global,
+        spelling: &Spelling,
+    ) -> Result<usize, AllocError>
+        ensures grown { IsGrown self.old self.new }
+        ensures number { IfOk result (λ n. (n < length self.new.vertices) × (vertex_at self.new n ≡ spelling.now)) }
+    {
+        let guess = spelling.guess();
+        if self.has_vertex_at(guess, spelling.vertex()) {
+            return Ok(guess);
+        }
+        let vertex = owned_vertex(alloc, spelling.text())?;
+        self.add_vertex(vertex)
+    }
+
+    /// Whether a vertex has this number.
+    fn has_vertex_at(&self, number: usize, vertex: &Vertex) -> bool
+        ensures { IsTrue result → slice_get self.now.vertices number ≡ Some (vertex_view vertex.now) }
+    {
+        match self.vertices.as_slice().get(number) {
+            Some(there) => there == vertex,
+            None => false,
+        }
+    }
+
     /// The number of a state, which is added unless it is there. Most states of a set follow one another in the table
     /// too, so the number that is guessed is looked at before the hash.
     pub(crate) fn add_state(&mut self, state: State, guess: usize) -> Result<usize, AllocError>
         ensures grown { IsGrown self.old self.new }
         ensures number { IfOk result (λ n. (n < length self.new.states) × (state_at self.new n ≡ state_view state)) }
     {
-        if self.has_at(guess, &state) {
+        if self.has_at(guess, state.borrowed()) {
             return Ok(guess);
         }
         self.hash_state(state)
     }
 
+    /// The same of a state that lies elsewhere.
+    pub(crate) fn add_state_ref(
+        &mut self,
+        state: StateRef<'_>,
+        guess: usize,
+    ) -> Result<usize, AllocError>
+        ensures grown { IsGrown self.old self.new }
+        ensures number { IfOk result (λ n. (n < length self.new.states) × (state_at self.new n ≡ state_ref_view state.entry)) }
+    {
+        if self.has_at(guess, state) {
+            return Ok(guess);
+        }
+        self.hash_state(owned_state(state)?)
+    }
+
     /// Whether a state has this number.
-    fn has_at(&self, number: usize, state: &State) -> bool
-        ensures { IsTrue result → slice_get self.now.states number ≡ Some (state_view state.now) }
+    fn has_at(&self, number: usize, state: StateRef<'_>) -> bool
+        ensures { IsTrue result → slice_get self.now.states number ≡ Some (state_ref_view state.entry) }
     {
         match self.states.as_slice().get(number) {
-            Some(there) => there == state,
+            Some(there) => there.borrowed() == state,
             None => false,
         }
     }

@@ -14,8 +14,8 @@ use Rattle.model.specs.Vertices.{Vertex}
 use Rattle.model.specs.Axioms.{Term}
 use Rattle.encoding.specs.Numberings.{Numbering}
 use Rattle.decoding.specs.Decoding.{IsOver, sizes, states_in, terms_of, with_term}
-use Rattle.derivations.specs.Building.{term_ref_view, term_ref_views}
-use Rattle.derivations.specs.declared.building.TermRef.{TermRef}
+use Rattle.derivations.specs.Named.{named_view, named_views}
+use Rattle.derivations.specs.declared.named.NamedTerm.{NamedTerm}
 use Rattle.refusing.specs.Refusing.{AreSized, spoken_view, spoken_views}
 use Rattle.refusing.specs.declared.speaking.Spoken.{Spoken}
 
@@ -99,12 +99,12 @@ module _ {S : Type 0} (tests : S → Members) (q : Problem) (vs : Numbering) whe
 
 -- ---- where terms lie
 
-pub refs_more : (all : List Spoken) (i : ℕ) (t : Spoken) (made new : List TermRef) (r : TermRef) → i < length all → t ≡ get_or all i t → term_ref_views made ≡ spoken_views (take i all) → term_ref_view r ≡ spoken_view t
-    → new ≡ made ++ r ∷ [] → term_ref_views new ≡ spoken_views (take (i + 1) all)
+pub refs_more : (all : List Spoken) (i : ℕ) (t : Spoken) (made new : List NamedTerm) (r : NamedTerm) → i < length all → t ≡ get_or all i t → named_views made ≡ spoken_views (take i all) → named_view r ≡ spoken_view t
+    → new ≡ made ++ r ∷ [] → named_views new ≡ spoken_views (take (i + 1) all)
 refs_more all i t made new r lt is now same new_is =
     let next : suc i ≡ i + 1 = omega arith in
-    ap term_ref_views new_is ∙ map-append term_ref_view made (r ∷ []) ∙ ap₂ (λ l x. l ++ x ∷ []) now same ∙ sym (map-append spoken_view (take i all) (t ∷ []))
+    ap named_views new_is ∙ map-append named_view made (r ∷ []) ∙ ap₂ (λ l x. l ++ x ∷ []) now same ∙ sym (map-append spoken_view (take i all) (t ∷ []))
     ∙ ap (λ x. spoken_views (take i all ++ x ∷ [])) is ∙ ap spoken_views (sym (take-suc all i t lt)) ∙ ap (λ n. spoken_views (take n all)) next
 
-pub all_refs : (all : List Spoken) (i : ℕ) (made : List TermRef) → length all ≤ i → term_ref_views made ≡ spoken_views (take i all) → term_ref_views made ≡ spoken_views all
+pub all_refs : (all : List Spoken) (i : ℕ) (made : List NamedTerm) → length all ≤ i → named_views made ≡ spoken_views (take i all) → named_views made ≡ spoken_views all
 all_refs all i made past now = now ∙ ap spoken_views (take_all i all past)

@@ -1,7 +1,6 @@
 -- What is asked of a store's entry, so that its step can be put at the end of a derivation, and its terms on the way.
-use Rattle.std.specs.Prelude.{◌≡◌, ℕ, suc, ◌<◌, ◌≤◌, Bool, true, false, List, [], ◌∷◌, if◌then◌else◌, length, map, nat_eq, Some, Vec, slice_get}
+use Rattle.std.specs.Prelude.{◌≡◌, ℕ, suc, ◌<◌, ◌≤◌, Bool, true, false, List, [], ◌∷◌, if◌then◌else◌, length, map, nat_eq, Some, slice_get}
 use Rattle.std.specs.HashMap.{get}
-use Rattle.std.specs.declared.alloc.Global.{Global}
 use Rattle.std.specs.List.{AllByRecursion}
 use Rattle.terms.specs.Terms.{TermView}
 use Rattle.incompatibilities.specs.Stores.{EntryView, IsAxiom, entry}
@@ -12,13 +11,13 @@ use Rattle.model.specs.Vertices.{Vertex, space}
 use Rattle.model.specs.Axioms.{Term, at}
 use Rattle.model.specs.Derivation.{Step, given, combine}
 use Rattle.model.specs.Derivation as model
-use Rattle.vertices.specs.RefViews.{vertex_ref_view, state_ref_views}
+use Rattle.vertices.specs.RefViews.{state_ref_views}
 use Rattle.vertices.specs.Texts.{IsReadVertex}
 use Rattle.encoding.specs.Numberings.{Numbering}
 use Rattle.decoding.specs.Decoding.{IsOver, sizes}
 use Rattle.decoding.specs.Steps.{IsBy, IsEncoded}
 use Rattle.searching.specs.Counting.{combinations}
-use Rattle.vertices.specs.declared.state.StateRef.{StateRef}
+use Rattle.refusing.specs.declared.spaces.Space.{Space}
 use Rattle.refusing.specs.declared.spaces.Spaces.{Spaces}
 use Rattle.refusing.specs.declared.speaking.Spoken.{Spoken}
 
@@ -28,7 +27,7 @@ AreInstances q vs es = (id : ℕ) → id < length es → IsAxiom (entry es id).o
 
 -- the terms that vertices and sets of their states stand for
 abbrev pub spoken_view : Spoken → Term
-spoken_view t = at (vertex_ref_view t.vertex) (state_ref_views t.states.items)
+spoken_view t = at t.vertex.now (state_ref_views t.states.items)
 
 abbrev pub spoken_views : List Spoken → List Term
 spoken_views ts = map spoken_view ts
@@ -39,7 +38,11 @@ AreSized q vs ts = AllByRecursion (λ t. length t.states ≡ sizes q vs t.vertex
 
 -- the states that are listed for a number are those of the vertex that has it
 abbrev pub AreListed : Problem → Numbering → Spaces → Type 0
-AreListed q vs spaces = (n : ℕ) (ss : Vec StateRef Global) → get nat_eq spaces.listed n ≡ Some ss → (v : Vertex) → slice_get vs n ≡ Some v → state_ref_views ss.items ≡ space q v
+AreListed q vs spaces = (n : ℕ) (s : Space) → get nat_eq spaces.listed n ≡ Some s → (v : Vertex) → slice_get vs n ≡ Some v → state_ref_views s.states.items ≡ space q v
+
+-- what is spelt for a number is the vertex that has it
+abbrev pub AreSpelt : Numbering → Spaces → Type 0
+AreSpelt vs spaces = (n : ℕ) (s : Space) → get nat_eq spaces.listed n ≡ Some s → (v : Vertex) → slice_get vs n ≡ Some v → s.spelling ≡ v
 
 -- each vertex is what its own text reads as
 abbrev pub AreReadVertices : Numbering → Type 0

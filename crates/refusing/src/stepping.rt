@@ -5,17 +5,18 @@ ghost use Rattle.incompatibilities.specs.Stores.{entries_view, entry};
 ghost use Rattle.model.specs.Derivation.{Step};
 ghost use Rattle.vertices.specs.Kinds.{kind_view};
 ghost use Rattle.vertices.specs.Valid.{HasValidParts};
-ghost use Rattle.derivations.specs.Building.{AreNewTerms, ordered_terms, term_ref_views};
+ghost use Rattle.derivations.specs.Building.{AreNewTerms, ordered_terms};
+ghost use Rattle.derivations.specs.Named.{named_views};
 ghost use Rattle.encoding.specs.Inputs.{problem};
 ghost use Rattle.encoding.specs.Numberings.{IsNumbering};
 ghost use Rattle.decoding.specs.Needs.{place_in};
 ghost use Rattle.decoding.specs.Steps.{IsStepOf, kind_at};
-ghost use Rattle.refusing.specs.Refusing.{AreListed, AreReadVertices, AreThere, IsNext, IsStepWith};
+ghost use Rattle.refusing.specs.Refusing.{AreListed, AreReadVertices, AreSpelt, AreThere, IsNext, IsStepWith};
 
 use crate::spaces::Spaces;
-use crate::speaking::{spoken_terms, term_refs};
+use crate::speaking::{named_terms, spoken_terms};
 use catalogue::catalogues_are_well_formed;
-use derivations::{Derivation, TermRef};
+use derivations::{Derivation, NamedTerm};
 use encoding::{Inputs, Table};
 use incompatibilities::{Id, Origin, Store};
 use std::alloc::{AllocError, Global};
@@ -55,30 +56,30 @@ fn push_by<'a>(
     alloc: Global,
     table: &Table<'a>,
     places: &[usize],
+    spaces: &Spaces<'a>,
     steps: &mut Derivation,
     origin: Origin,
-    terms: &[TermRef<'_, '_>],
+    terms: &[NamedTerm<'_, '_, '_>],
 ) -> Result<(), AllocError>
     requires valid { AreReadVertices table.now }
+    requires spelt { AreSpelt table.now spaces.now }
     requires there { AreThere table.now (place_in places.now) (length steps.old) origin }
-    requires terms { AreNewTerms (term_ref_views terms.now) }
-    ensures { OnOk result ((s : Step) × (steps.new ≡ steps.old ++ s ∷ []) × IsStepWith table.now (place_in places.now) origin (ordered_terms (term_ref_views terms.now)) s) }
+    requires terms { AreNewTerms (named_views terms.now) }
+    ensures { OnOk result ((s : Step) × (steps.new ≡ steps.old ++ s ∷ []) × IsStepWith table.now (place_in places.now) origin (ordered_terms (named_views terms.now)) s) }
 {
     match origin {
-        Origin::Axiom(number) => steps.push_axiom(alloc, kind_at(number), terms),
+        Origin::Axiom(number) => steps.push_named_axiom(alloc, kind_at(number), terms),
         Origin::Combined {
             first,
             second,
             vertex: number,
             ..
-        } => match table.vertex(number) {
-            Some(vertex) => {
-                let first = place_of(places, first);
-                let second = place_of(places, second);
-                steps.push_combination(alloc, first, second, vertex, terms)
-            }
-            None => Ok(()),
-        },
+        } => {
+            let first = place_of(places, first);
+            let second = place_of(places, second);
+            let space = spaces.space(number)?;
+            steps.push_named_combination(alloc, first, second, &space.spelling, terms)
+        }
     }
 }
 
@@ -94,19 +95,24 @@ pub(crate) fn push_step<'a, S: States + Drop>(
     id: Id,
 ) -> Result<(), AllocError>
     requires listed { AreListed (problem inputs.now) table.now spaces.old }
+    requires spelt { AreSpelt table.now spaces.old }
     requires parts { HasValidParts (problem inputs.now) }
     requires numbering { IsNumbering (problem inputs.now) table.now }
     requires next { IsNext (problem inputs.now) table.now (entries_view S.tests store.now) (place_in places.now) (length steps.old) id }
     ensures listed { AreListed (problem inputs.now) table.now spaces.new }
+    ensures spelt { AreSpelt table.now spaces.new }
     ensures step { OnOk result ((s : Step) × (steps.new ≡ steps.old ++ s ∷ []) × IsStepOf (problem inputs.now) table.now (place_in places.now) (entry (entries_view S.tests store.now) id) s) }
 {
     catalogues_are_well_formed(inputs.manifest, inputs.catalogue);
-    let terms = spoken_terms(alloc, inputs, table, spaces, store.get(id).terms())?;
-    let refs = term_refs(alloc, terms.as_slice())?;
+    let said = store.get(id).terms();
+    spaces.list_each(alloc, inputs, table, steps, said)?;
+    let terms = spoken_terms(alloc, inputs, table, spaces, said)?;
+    let refs = named_terms(alloc, terms.as_slice())?;
     push_by(
         alloc,
         table,
         places,
+        spaces,
         steps,
         store.origin(id),
         refs.as_slice(),

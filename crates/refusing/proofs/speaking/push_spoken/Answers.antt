@@ -10,17 +10,17 @@ use Rattle.refusing.proofs.speaking.push_spoken.Goals as goal
 pub speak-requires-clause-sized : goal.speak-requires-clause-sized
 speak-requires-clause-sized g c = c.requires.sized ∙ ap (size_of (problem c.args.inputs.now)) (sym c.vertex.ensures ∙ ap (option_map vertex_ref_view) c.in-Some.is)
 
-pub returns-in_ok-push-in-Some-clause-made : goal.returns-in_ok-push-in-Some-clause-made
-returns-in_ok-push-in-Some-clause-made g c =
+pub returns-in_ok-push-in-Some : goal.returns-in_ok-push-in-Some
+returns-in_ok-push-in-Some g c =
     let q = problem c.args.inputs.now in
     let m = g.S.States.tests c.args.term.now.states in
     let old = c.args.made.now.items in
     let seen : slice_get c.args.table.now c.args.term.now.vertex ≡ Some (vertex_ref_view c.in-Some.vertex) = sym c.vertex.ensures ∙ ap (option_map vertex_ref_view) c.in-Some.is in
-    ap spoken_views c.in_ok-push-in-Some.ensures.items ∙ map-append spoken_view old (c.in_ok-one-in-Some.one ∷ []) ∙ ap (λ x. spoken_views old ++ x ∷ []) c.in_ok-one-in-Some.ensures.spoken
+    ap spoken_views c.in_ok-push-in-Some.ensures.items ∙ map-append spoken_view old (c.in_ok-one-in-Some.one ∷ []) ∙ ap (λ x. spoken_views old ++ x ∷ []) c.in_ok-one-in-Some.ensures
     ∙ ap (λ o. spoken_views old ++ with_term q o m []) (sym seen)
 
-pub returns-in-None-clause-made : goal.returns-in-None-clause-made
-returns-in-None-clause-made g c =
+pub returns-in-None : goal.returns-in-None
+returns-in-None g c =
     let q = problem c.args.inputs.now in
     let m = g.S.States.tests c.args.term.now.states in
     let old = c.args.made.now.items in

@@ -9,12 +9,10 @@ push_spoken-requires-clause-sized g c =
     sized_at g.S.States.tests (problem c.args.inputs.now) c.args.table.now c.args.terms.now c.terms.term-index c.term-item.result c.requires.sized c.terms-test.true c.term-item.is
 
 pub terms-preserved : goal.terms-preserved
-terms-preserved g c = (
-  c.push_spoken.ensures.listed,
-  spoken_more g.S.States.tests (problem c.args.inputs.now) c.args.table.now c.args.terms.now c.terms.term-index c.term-item.result (spoken_views c.terms.made.items) (spoken_views c.push_spoken.new.made.items)
-      c.terms-test.true c.term-item.is c.terms.invariant.1 c.in_ok-push_spoken.ensures.made,
-)
+terms-preserved g c =
+    spoken_more g.S.States.tests (problem c.args.inputs.now) c.args.table.now c.args.terms.now c.terms.term-index c.term-item.result (spoken_views c.terms.made.items) (spoken_views c.push_spoken.new.made.items)
+    c.terms-test.true c.term-item.is c.terms.invariant c.in_ok-push_spoken.ensures
 
-pub returns-clause-terms : goal.returns-clause-terms
-returns-clause-terms g c =
-    all_spoken g.S.States.tests (problem c.args.inputs.now) c.args.table.now c.args.terms.now c.terms.term-index (spoken_views c.terms.made.items) (omega (arith, c.terms-test.false)) c.terms.invariant.1
+pub returns : goal.returns
+returns g c =
+    all_spoken g.S.States.tests (problem c.args.inputs.now) c.args.table.now c.args.terms.now c.terms.term-index (spoken_views c.terms.made.items) (omega (arith, c.terms-test.false)) c.terms.invariant

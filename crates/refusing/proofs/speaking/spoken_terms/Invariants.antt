@@ -1,9 +1,8 @@
 use Rattle.terms.specs.Terms.{terms_view}
 use Rattle.encoding.specs.Inputs.{problem}
-use Rattle.refusing.specs.Refusing.{AreListed, spoken_views}
+use Rattle.refusing.specs.Refusing.{spoken_views}
 use Rattle.refusing.proofs.Sized.{IsSpeaking}
 use Rattle.refusing.proofs.speaking.spoken_terms.Given as goal
 
 abbrev pub invariant-terms : goal.invariant-terms
-invariant-terms g l = AreListed (problem l.inputs) l.table l.spaces
-    × IsSpeaking (problem l.inputs) l.table (terms_view g.S.States.tests l.terms) l.term-index (spoken_views l.made.items)
+invariant-terms g l = IsSpeaking (problem l.inputs) l.table (terms_view g.S.States.tests l.terms) l.term-index (spoken_views l.made.items)

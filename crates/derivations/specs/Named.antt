@@ -1,0 +1,26 @@
+-- Terms at vertices that are spelt once (this project's).
+use Rattle.std.specs.Prelude.{List, map}
+use Rattle.model.specs.Axioms.{Term, at}
+use Rattle.model.specs.Derivation.{Step, given, combine}
+use Rattle.vertices.specs.Kinds.{kind_view}
+use Rattle.vertices.specs.RefViews.{state_ref_views}
+use Rattle.derivations.specs.declared.named.NamedTerm.{NamedTerm}
+use Rattle.derivations.specs.declared.named.SetInOrder.{SetInOrder}
+use Rattle.derivations.specs.declared.stepping.NamedOrigin.{NamedOrigin}
+use Rattle.derivations.specs.declared.stepping.NamedOrigin.TheVariants.{Axiom, Combination}
+
+abbrev pub named_view : NamedTerm → Term
+named_view t = at t.vertex.now (state_ref_views t.states.now)
+
+abbrev pub named_views : List NamedTerm → List Term
+named_views ts = map named_view ts
+
+abbrev pub set_in_order_view : SetInOrder → Term
+set_in_order_view t = at t.vertex.now (state_ref_views t.states.items)
+
+abbrev pub set_in_order_views : List SetInOrder → List Term
+set_in_order_views ts = map set_in_order_view ts
+
+abbrev pub named_step_from : NamedOrigin → List Term → Step
+named_step_from (Axiom k) ts = given (kind_view k) ts
+named_step_from (Combination a b v) ts = combine a b v.now ts

@@ -1,0 +1,138 @@
+//! Vertices that are spelt once, and terms at them.
+
+ghost use Rattle.std.specs.Prelude.{◌≡◌, IfOk, map};
+ghost use Rattle.std.specs.List.{All, IsDistinct};
+ghost use Rattle.std.specs.Ordering.{eq_by_cmp};
+ghost use Rattle.vertices.specs.Orders.{state_cmp};
+ghost use Rattle.vertices.specs.RefViews.{vertex_ref_view, state_ref_views};
+ghost use Rattle.vertices.specs.Texts.{vertex_text, IsReadVertex};
+ghost use Rattle.vertices.specs.Views.{vertex_view};
+ghost use Rattle.derivations.specs.Building.{IsNewTerm, AreNewTerms, ordered_term, ordered_terms};
+ghost use Rattle.derivations.specs.Named.{named_view, named_views, set_in_order_view, set_in_order_views};
+
+use crate::owning::owned_vertex;
+use crate::spelling::ordered_states;
+use std::alloc::{AllocError, Global};
+use std::marker::Model;
+use vertices::{StateRef, Vertex, VertexRef};
+
+/// A vertex with its text, to stand in terms of any number of steps.
+///
+/// It also has the number that the vertex has in a derivation's tables. Nothing follows from the number: it is looked
+/// at first, and where another derivation has another vertex there, the vertex is looked for.
+#[derive(Drop)]
+pub struct Spelling {
+    text: String,
+    vertex: Vertex,
+    number: usize,
+}
+
+impl Model for Spelling {
+    ghost use Rattle.std.specs.Prelude.{◌≡◌, string_bytes};
+    ghost use Rattle.model.specs.Vertices as model;
+    ghost use Rattle.vertices.specs.Texts.{vertex_text, IsReadVertex};
+    ghost use Rattle.vertices.specs.Views.{vertex_view};
+
+    ghost Value = { model.Vertex };
+
+    ghost view = { λ s. vertex_view s.vertex };
+
+    ghost invariant = { λ s. (string_bytes s.text ≡ vertex_text (vertex_view s.vertex)) × IsReadVertex (vertex_view s.vertex) };
+}
+
+impl Spelling {
+    /// A vertex that may have this number.
+    pub(crate) fn new(
+        alloc: Global,
+        vertex: VertexRef<'_>,
+        number: usize,
+    ) -> Result<Spelling, AllocError>
+        requires { IsReadVertex (vertex_ref_view vertex) }
+        ensures { IfOk result (λ s. s ≡ vertex_ref_view vertex.entry) }
+    {
+        let mut text = String::new(alloc);
+        write!(text, "{vertex}")?;
+        let vertex = owned_vertex(alloc, &text)?;
+        Ok(Spelling {
+            text,
+            vertex,
+            number,
+        })
+    }
+
+    /// The vertex's text.
+    pub(crate) fn text(&self) -> &str
+        ensures text { result.now ≡ vertex_text self.now }
+        ensures read { IsReadVertex self.now }
+    {
+        &self.text
+    }
+
+    /// The vertex.
+    pub(crate) fn vertex(&self) -> &Vertex
+        ensures { vertex_view result.now ≡ self.now }
+    {
+        &self.vertex
+    }
+
+    /// The number that the vertex may have.
+    pub(crate) fn guess(&self) -> usize {
+        self.number
+    }
+}
+
+/// A spelt vertex and a set of its states, in any order.
+#[derive(Clone, Copy)]
+pub struct NamedTerm<'p, 's, 'v> {
+    pub vertex: &'p Spelling,
+    pub states: &'s [StateRef<'v>],
+}
+
+/// A spelt vertex and a set of its states, in the written order.
+#[derive(Drop)]
+pub(crate) struct SetInOrder<'p, 'v> {
+    pub vertex: &'p Spelling,
+    pub states: Vec<StateRef<'v>>,
+}
+
+/// The terms in the written order.
+pub(crate) fn named_in_order<'p, 'v>(
+    alloc: Global,
+    terms: &[NamedTerm<'p, '_, 'v>],
+) -> Result<Vec<SetInOrder<'p, 'v>>, AllocError>
+    requires { AreNewTerms (named_views terms.now) }
+    ensures { IfOk result (λ v. set_in_order_views v.items ≡ ordered_terms (named_views terms.now)) }
+{
+    let mut found = sets_in_order(alloc, terms)?;
+    found.sort_unstable_by(|a, b| a.vertex.text().cmp(b.vertex.text()));
+    Ok(found)
+}
+
+/// The terms in their own order.
+fn sets_in_order<'p, 'v>(
+    alloc: Global,
+    terms: &[NamedTerm<'p, '_, 'v>],
+) -> Result<Vec<SetInOrder<'p, 'v>>, AllocError>
+    requires { All IsNewTerm (named_views terms.now) }
+    ensures { IfOk result (λ v. set_in_order_views v.items ≡ map ordered_term (named_views terms.now)) }
+{
+    let mut found = Vec::with_capacity(alloc, terms.len())?;
+    'terms: for term in terms {
+        found.push(set_in_order(alloc, term)?)?;
+    }
+    Ok(found)
+}
+
+fn set_in_order<'p, 'v>(
+    alloc: Global,
+    term: &NamedTerm<'p, '_, 'v>,
+) -> Result<SetInOrder<'p, 'v>, AllocError>
+    requires { IsNewTerm (named_view term.now) }
+    ensures { IfOk result (λ t. set_in_order_view t ≡ ordered_term (named_view term.now)) }
+{
+    let states = ordered_states(alloc, term.states)?;
+    Ok(SetInOrder {
+        vertex: term.vertex,
+        states,
+    })
+}

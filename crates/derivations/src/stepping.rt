@@ -1,0 +1,106 @@
+//! Putting a step at spelt vertices into the tables.
+
+ghost use Rattle.std.specs.Prelude.{◌≡◌, [], IfOk};
+ghost use Rattle.derivations.specs.Named.{named_step_from, set_in_order_view, set_in_order_views};
+ghost use Rattle.derivations.specs.Tables.{IsGrown, AreStatesOf, IsTermOf, AreTermsOf, IsOriginOf, IsStepOf, states_at, term_at, terms_at, step_by_origin, step_at};
+ghost use Rattle.vertices.specs.RefViews.{state_ref_views};
+
+use crate::named::{SetInOrder, Spelling};
+use crate::step::{Origin, Step, Term};
+use crate::tables::Tables;
+use std::alloc::{AllocError, Global};
+use vertices::{Kind, StateRef};
+
+/// Why the terms of a step can't all hold.
+#[derive(Clone, Copy)]
+pub(crate) enum NamedOrigin<'p> {
+    Axiom(Kind),
+    /// The numbers of two earlier steps, and the vertex at which they are combined.
+    Combination(u64, u64, &'p Spelling),
+}
+
+/// The step with the numbers of its vertices and states.
+pub(crate) fn keep_named(
+    alloc: Global,
+    tables: &mut Tables,
+    origin: NamedOrigin<'_>,
+    terms: Vec<SetInOrder<'_, '_>>,
+) -> Result<Step, AllocError>
+    ensures grown { IsGrown tables.old tables.new }
+    ensures within { IfOk result (λ s. IsStepOf tables.new s) }
+    ensures step { IfOk result (λ s. step_at tables.new s ≡ named_step_from origin.entry (set_in_order_views terms.entry.items)) }
+{
+    let origin = keep_origin(alloc, tables, origin)?;
+    let terms = keep_sets(alloc, tables, terms)?;
+    Ok(Step { origin, terms })
+}
+
+fn keep_origin(
+    alloc: Global,
+    tables: &mut Tables,
+    origin: NamedOrigin<'_>,
+) -> Result<Origin, AllocError>
+    ensures grown { IsGrown tables.old tables.new }
+    ensures within { IfOk result (λ c. IsOriginOf tables.new c) }
+    ensures origin { IfOk result (λ c. step_by_origin tables.new c [] ≡ named_step_from origin.entry []) }
+{
+    match origin {
+        NamedOrigin::Axiom(kind) => Ok(Origin::Axiom(kind)),
+        NamedOrigin::Combination(first, second, vertex) => Ok(Origin::Combination(
+            first,
+            second,
+            tables.add_spelt(alloc, vertex)?,
+        )),
+    }
+}
+
+fn keep_sets(
+    alloc: Global,
+    tables: &mut Tables,
+    terms: Vec<SetInOrder<'_, '_>>,
+) -> Result<Vec<Term>, AllocError>
+    ensures grown { IsGrown tables.old tables.new }
+    ensures within { IfOk result (λ v. AreTermsOf tables.new v.items) }
+    ensures terms { IfOk result (λ v. terms_at tables.new v.items ≡ set_in_order_views terms.entry.items) }
+{
+    let mut kept = Vec::with_capacity(alloc, terms.len())?;
+    'terms: for term in terms {
+        kept.push(keep_set(alloc, tables, term)?)?;
+    }
+    Ok(kept)
+}
+
+fn keep_set(
+    alloc: Global,
+    tables: &mut Tables,
+    term: SetInOrder<'_, '_>,
+) -> Result<Term, AllocError>
+    ensures grown { IsGrown tables.old tables.new }
+    ensures within { IfOk result (λ t. IsTermOf tables.new t) }
+    ensures term { IfOk result (λ t. term_at tables.new t ≡ set_in_order_view term.entry) }
+{
+    let SetInOrder { vertex, states } = term;
+    let vertex = tables.add_spelt(alloc, vertex)?;
+    let numbers = keep_states(alloc, tables, states)?;
+    let states = tables.add_set(numbers)?;
+    Ok(Term { vertex, states })
+}
+
+fn keep_states(
+    alloc: Global,
+    tables: &mut Tables,
+    states: Vec<StateRef<'_>>,
+) -> Result<Vec<usize>, AllocError>
+    ensures grown { IsGrown tables.old tables.new }
+    ensures within { IfOk result (λ v. AreStatesOf tables.new v.items) }
+    ensures states { IfOk result (λ v. states_at tables.new v.items ≡ state_ref_views states.entry.items) }
+{
+    let mut kept = Vec::with_capacity(alloc, states.len())?;
+    let mut guess = 0usize;
+    'states: for state in states {
+        let number = tables.add_state_ref(state, guess)?;
+        guess = number.wrapping_add(1);
+        kept.push(number)?;
+    }
+    Ok(kept)
+}
