@@ -20,5 +20,5 @@ pub use laws::{
     selections_hold_with_other_locks, selections_hold_with_themselves, selections_run_again,
 };
 pub use loading::load;
-pub use source::{Source, SourceFault};
+pub use source::{Source, SourceFault, is_source};
 pub use store::{Catalogue, Prefer};

@@ -40,7 +40,7 @@ impl Source {
         ensures ok { IfOk result (λ s. (s ≡ text.now) × (is_source text.now ≡ true)) }
         ensures refused { IsErrOf result SourceFault.NotASource ↔ (is_source text.now ≡ false) }
     {
-        if !is_source_text(text.as_bytes()) {
+        if !is_source(text) {
             return Err(SourceFault::NotASource);
         }
         match String::from_str(alloc, text) {
@@ -56,6 +56,13 @@ impl Source {
     {
         self.text.as_str()
     }
+}
+
+/// Whether a text is a source, which can be told without memory.
+pub fn is_source(text: &str) -> bool
+    ensures { result ≡ is_source text.now }
+{
+    is_source_text(text.as_bytes())
 }
 
 fn is_source_text(text: &[u8]) -> bool

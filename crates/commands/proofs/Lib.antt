@@ -1,2 +1,4 @@
 mod Both
-mod Unread
+mod CutFiles
+mod Telling
+mod SameBytes

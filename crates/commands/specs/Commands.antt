@@ -1,22 +1,23 @@
 -- What the commands do: what they read where the words say, and what they ask of it.
-use Rattle.std.specs.Prelude.{◌≡◌, ◌⊎◌, ℕ, Bool, true, false, List, Option, Some, None, Result, Ok, Err, IfErr, IfOk, Vec}
+use Rattle.std.specs.Prelude.{◌≡◌, ◌⊎◌, ℕ, Bool, true, false, List, [], ◌++◌, Option, Some, None, Result, Ok, Err, IfErr, IfOk, Vec}
 use Rattle.std.specs.Io.KnownBytes.{Appends}
 use Rattle.std.specs.declared.alloc.Global.{Global}
 use Rattle.model.specs.Derivation.{Step}
+use Rattle.model.specs.Outcome.{Faults}
 use Rattle.catalogue.specs.Runs.{Calls}
 use Rattle.catalogue.specs.declared.store.Prefer.{Prefer}
 use Rattle.catalogue.specs.declared.store.Prefer.TheVariants.{Newest, RustFirst}
 use Rattle.checker.specs.Texts.{check_text}
 use Rattle.checker.specs.declared.outcome.Check.{Check}
-use Rattle.derivations.specs.Files.{derivation_of_bytes}
+use Rattle.derivations.specs.Files.{derivation_of_bytes, wants_memory}
 use Rattle.derivations.specs.declared.fault.DerivationFault.{DerivationFault}
 use Rattle.explainer.specs.Explanations.{explanation_of}
 use Rattle.selection.specs.Texts.{verdict_text}
 use Rattle.selection.specs.declared.verdict.Verdict.{Verdict}
-use Rattle.words.specs.Asked.{WordsView, resolve, verify, check, explain, asked, or_help}
+use Rattle.words.specs.Asked.{WordsView, resolve, verify, check, explain, asked, faults, or_help}
 use Rattle.words.specs.Refusals.{Refuses}
 use Rattle.words.specs.declared.reading.WordsFault.{WordsFault}
-use Rattle.commands.specs.Refusals.{IsRefused, IsRefusalTold}
+use Rattle.commands.specs.Refusals.{IsRefused, refusal_of}
 use Rattle.resolver.specs.Answers.{Resolves, Verifies}
 use Rattle.resolver.specs.Checks.{Checks}
 use Rattle.resolver.specs.Faults.{of_derivation}
@@ -25,10 +26,10 @@ use Rattle.resolver.specs.declared.fault.CheckFault.TheVariants.{Input}
 use Rattle.resolver.specs.declared.fault.Fault.{Fault}
 use Rattle.resolver.specs.declared.resolving.Answer.{Answer}
 use Rattle.resolver.specs.declared.resolving.Answer.TheVariants.{Lock, Unsolvable}
-use Rattle.commands.specs.Disks.{Reads, Writes, IsFile, IsKept, IsOld, bytes_if, most_of_manifest, most_of_lock, most_of_proof}
-use Rattle.commands.specs.Lines.{line_of, verdict_status, check_status, IsPrinted, IsEnded, IsTold, status_of}
-use Rattle.commands.specs.Sources.{IsSource, source_text}
-use Rattle.commands.specs.Stops.{cannot_write, fault, is_stopped, out_of_memory, stop_view}
+use Rattle.commands.specs.Disks.{Reads, Writes, HasFile, HasOld, IsFile, IsKept, IsOld, bytes_if, most_of_manifest, most_of_lock, most_of_proof}
+use Rattle.commands.specs.Lines.{line_of, verdict_status, check_status, ending_of, told_of, IsPrinted, status_of}
+use Rattle.commands.specs.Sources.{IsBadSource, IsSource}
+use Rattle.commands.specs.Stops.{WantsMemory, cannot_write, fault, is_stopped, stop_view}
 use Rattle.commands.specs.declared.stop.Stop.{Stop}
 
 -- `--rust-first`
@@ -49,22 +50,21 @@ module _ (reads : Reads) where
     pub derivation : IsDerivationOf proof steps
     pub explained : text ≡ explanation_of steps
 
-  -- why there is none
+  -- why there is none: the file can't be had, its bytes are no derivation, or memory is wanting for the text
   abbrev pub LacksText : List ℕ → Stop → Type 0
-  LacksText proof stop = (stop_view stop ≡ out_of_memory)
-      ⊎ IsFile reads proof most_of_proof (Err stop)
+  LacksText proof stop = IsFile reads proof most_of_proof (Err stop)
       ⊎ ((bytes : Vec ℕ Global) × (f : DerivationFault) × IsFile reads proof most_of_proof (Ok bytes)
-      × (derivation_of_bytes bytes.items ≡ Err f) × (stop_view stop ≡ fault (of_derivation f)))
+      × Faults (wants_memory f) f (derivation_of_bytes bytes.items) × (stop_view stop ≡ fault (of_derivation f)))
+      ⊎ (((steps : List Step) × IsDerivationOf proof steps) × WantsMemory stop)
 
   -- of the source and the manifest, which are read first, one can't be had
   abbrev pub LacksFirst : List ℕ → Option (List ℕ) → Stop → Type 0
-  LacksFirst manifest source stop = (stop_view stop ≡ out_of_memory)
-      ⊎ IsSource source (Err stop)
-      ⊎ (((from : List ℕ) × IsSource source (Ok from)) × IsFile reads manifest most_of_manifest (Err stop))
+  LacksFirst manifest source stop = IsBadSource source stop
+      ⊎ (((from : List ℕ) × IsSource source from) × IsFile reads manifest most_of_manifest (Err stop))
 
   -- both can
   abbrev pub HasFirst : List ℕ → Option (List ℕ) → Type 0
-  HasFirst manifest source = ((from : List ℕ) × IsSource source (Ok from)) × ((bytes : Vec ℕ Global) × IsFile reads manifest most_of_manifest (Ok bytes))
+  HasFirst manifest source = ((from : List ℕ) × IsSource source from) × HasFile reads manifest most_of_manifest
 
 module _ {F : Type 0} (reads : Reads) (opens : List ℕ → F → Type 0) (calls : Calls F) (failed : F → ℕ) where
   -- the verdict on the lock that lies where the words say, or the fault of what was read
@@ -74,7 +74,7 @@ module _ {F : Type 0} (reads : Reads) (opens : List ℕ → F → Type 0) (calls
     pub locked : Vec ℕ Global
     pub lock_read : reads lock most_of_lock (Ok locked)
     pub from : List ℕ
-    pub source_is : from ≡ source_text source
+    pub source_is : IsSource source from
     pub folder : F
     pub opened : opens index folder
     pub after : F
@@ -89,7 +89,7 @@ module _ {F : Type 0} (reads : Reads) (opens : List ℕ → F → Type 0) (calls
     pub given : Option (List ℕ)
     pub given_is : given ≡ bytes_if old
     pub from : List ℕ
-    pub source_is : from ≡ source_text source
+    pub source_is : IsSource source from
     pub prefer : Prefer
     pub prefer_is : prefer ≡ preference rust_first
     pub folder : F
@@ -108,28 +108,31 @@ module _ {F : Type 0} (reads : Reads) (opens : List ℕ → F → Type 0) (calls
     pub derivation : Vec ℕ Global
     pub proof_read : reads proof most_of_proof (Ok derivation)
     pub from : List ℕ
-    pub source_is : from ≡ source_text source
+    pub source_is : IsSource source from
     pub folder : F
     pub opened : opens index folder
     pub after : F
     pub checks : Checks calls failed (record { manifest = bytes.items; old = given; source = from; prefer = Newest }) derivation.items folder said after
 
-  -- Why there is no answer: the first of what is read that can't be had, or the fault of what was read. That memory is
-  -- wanting is said wherever it was.
+  -- Why there is no answer: the first of what is read that can't be had; then memory, which may be wanting for the
+  -- source's own text or to open the folder; or the fault of what was read.
   abbrev pub LacksVerdict : List ℕ → List ℕ → List ℕ → Option (List ℕ) → Stop → Type 0
   LacksVerdict manifest index lock source stop = LacksFirst reads manifest source stop
       ⊎ (HasFirst reads manifest source × IsFile reads lock most_of_lock (Err stop))
+      ⊎ (HasFirst reads manifest source × HasFile reads lock most_of_lock × WantsMemory stop)
       ⊎ ((f : Fault) × IsVerdictOf manifest index lock source (Err f) × (stop_view stop ≡ fault (Input f)))
 
   abbrev pub LacksAnswer : List ℕ → List ℕ → Option (List ℕ) → Option (List ℕ) → Bool → Stop → Type 0
   LacksAnswer manifest index lock source rust_first stop = LacksFirst reads manifest source stop
       ⊎ (HasFirst reads manifest source × IsOld reads lock (Err stop))
+      ⊎ (HasFirst reads manifest source × HasOld reads lock × WantsMemory stop)
       ⊎ ((f : Fault) × IsAnswerTo manifest index lock source rust_first (Err f) × (stop_view stop ≡ fault (Input f)))
 
   abbrev pub LacksCheck : List ℕ → List ℕ → Option (List ℕ) → Option (List ℕ) → List ℕ → Stop → Type 0
   LacksCheck manifest index lock source proof stop = LacksFirst reads manifest source stop
       ⊎ (HasFirst reads manifest source × IsOld reads lock (Err stop))
-      ⊎ (HasFirst reads manifest source × ((old : Option (Vec ℕ Global)) × IsOld reads lock (Ok old)) × IsFile reads proof most_of_proof (Err stop))
+      ⊎ (HasFirst reads manifest source × HasOld reads lock × IsFile reads proof most_of_proof (Err stop))
+      ⊎ (HasFirst reads manifest source × HasOld reads lock × HasFile reads proof most_of_proof × WantsMemory stop)
       ⊎ ((f : CheckFault) × IsCheckOf manifest index lock source proof (Err f) × (stop_view stop ≡ fault f))
 
 -- the derivation of a refusal is in the file that is named, if one is
@@ -142,65 +145,49 @@ abbrev pub IsUnwritten : Writes → (List ℕ → Type 0) → Option (List ℕ) 
 IsUnwritten writes fails path (Lock bytes kept skips) stop = (stop_view stop ≡ cannot_write) × fails bytes.items
 IsUnwritten writes fails path (Unsolvable derivation text skips) stop = IsKept writes path derivation (Err stop)
 
--- standard output and standard error before and after, and whether all that was to be told on standard error was written
-pub record Outputs : Type 0 where
-  pub out_before : Option (List ℕ)
-  pub out_after : Option (List ℕ)
-  pub err_before : Option (List ℕ)
-  pub err_after : Option (List ℕ)
-  pub told : Bool
-
-abbrev pub outputs : Option (List ℕ) → Option (List ℕ) → Option (List ℕ) → Option (List ℕ) → Bool → Outputs
-outputs out_before out_after err_before err_after told =
-    record { out_before = out_before; out_after = out_after; err_before = err_before; err_after = err_after; told = told }
-
--- nothing was to be told
-abbrev pub IsQuiet : Outputs → Type 0
-IsQuiet o = o.told ≡ true → o.err_after ≡ o.err_before
-
 module _ {F : Type 0} (reads : Reads) (writes : Writes) (opens : List ℕ → F → Type 0) (calls : Calls F) (failed : F → ℕ) where
-  -- a command that has an answer: its status and what goes to standard output, and to standard error where all was told
-  abbrev pub Answers : WordsView → Outputs → ℕ → Type 0
-  Answers (resolve manifest index lock source proof rust_first) o status = (answer : Answer) × IsAnswerTo reads opens calls failed manifest index lock source rust_first (Ok answer)
-      × IsPrinted o.out_before o.out_after answer status × IsFiled writes proof answer × (o.told ≡ true → IsTold o.err_before o.err_after answer (Ok status))
-  Answers (verify manifest index lock source) o status = ((verdict : Verdict) × IsVerdictOf reads opens calls failed manifest index lock source (Ok verdict)
-      × (status ≡ verdict_status verdict) × Appends o.out_before o.out_after (line_of (verdict_text verdict))) × IsQuiet o
-  Answers (check manifest index lock source proof) o status = ((c : Check) × IsCheckOf reads opens calls failed manifest index lock source proof (Ok c)
-      × (status ≡ check_status c) × Appends o.out_before o.out_after (line_of (check_text c))) × IsQuiet o
-  Answers (explain proof) o status = ((text : List ℕ) × IsTextOf reads proof text × (status ≡ 0) × Appends o.out_before o.out_after text) × IsQuiet o
+  -- a command that has an answer: standard output before and after, what is told on standard error, and the status
+  abbrev pub Answers : WordsView → Option (List ℕ) → Option (List ℕ) → List (List ℕ) → ℕ → Type 0
+  Answers (resolve manifest index lock source proof rust_first) old new told status = (answer : Answer) × IsAnswerTo reads opens calls failed manifest index lock source rust_first (Ok answer)
+      × IsPrinted old new answer status × IsFiled writes proof answer × (told ≡ told_of answer (Ok status))
+  Answers (verify manifest index lock source) old new told status = ((verdict : Verdict) × IsVerdictOf reads opens calls failed manifest index lock source (Ok verdict)
+      × (status ≡ verdict_status verdict) × Appends old new (line_of (verdict_text verdict))) × (told ≡ [])
+  Answers (check manifest index lock source proof) old new told status = ((c : Check) × IsCheckOf reads opens calls failed manifest index lock source proof (Ok c)
+      × (status ≡ check_status c) × Appends old new (line_of (check_text c))) × (told ≡ [])
+  Answers (explain proof) old new told status = ((text : List ℕ) × IsTextOf reads proof text × (status ≡ 0) × Appends old new text) × (told ≡ [])
 
 module _ {F : Type 0} (reads : Reads) (writes : Writes) (opens : List ℕ → F → Type 0) (calls : Calls F) (failed : F → ℕ) (fails : List ℕ → Type 0) where
   -- A command that ends with the status 2: there is no answer, or it can't be written, for a write of it failed. The
   -- skipped lines are told where there is one.
-  abbrev pub Stops : WordsView → Outputs → Stop → Type 0
-  Stops (resolve manifest index lock source proof rust_first) o stop = (LacksAnswer reads opens calls failed manifest index lock source rust_first stop × IsQuiet o)
+  abbrev pub Stops : WordsView → List (List ℕ) → Stop → Type 0
+  Stops (resolve manifest index lock source proof rust_first) told stop = (LacksAnswer reads opens calls failed manifest index lock source rust_first stop × (told ≡ []))
       ⊎ ((answer : Answer) × IsAnswerTo reads opens calls failed manifest index lock source rust_first (Ok answer)
-      × IsUnwritten writes fails proof answer stop × (o.told ≡ true → IsTold o.err_before o.err_after answer (Err stop)))
-  Stops (verify manifest index lock source) o stop = (LacksVerdict reads opens calls failed manifest index lock source stop
+      × IsUnwritten writes fails proof answer stop × (told ≡ told_of answer (Err stop)))
+  Stops (verify manifest index lock source) told stop = (LacksVerdict reads opens calls failed manifest index lock source stop
       ⊎ ((verdict : Verdict) × IsVerdictOf reads opens calls failed manifest index lock source (Ok verdict)
-      × (stop_view stop ≡ cannot_write) × fails (line_of (verdict_text verdict)))) × IsQuiet o
-  Stops (check manifest index lock source proof) o stop = (LacksCheck reads opens calls failed manifest index lock source proof stop
+      × (stop_view stop ≡ cannot_write) × fails (line_of (verdict_text verdict)))) × (told ≡ [])
+  Stops (check manifest index lock source proof) told stop = (LacksCheck reads opens calls failed manifest index lock source proof stop
       ⊎ ((c : Check) × IsCheckOf reads opens calls failed manifest index lock source proof (Ok c)
-      × (stop_view stop ≡ cannot_write) × fails (line_of (check_text c)))) × IsQuiet o
-  Stops (explain proof) o stop = (LacksText reads proof stop ⊎ ((text : List ℕ) × IsTextOf reads proof text × (stop_view stop ≡ cannot_write) × fails text)) × IsQuiet o
+      × (stop_view stop ≡ cannot_write) × fails (line_of (check_text c)))) × (told ≡ [])
+  Stops (explain proof) told stop = (LacksText reads proof stop ⊎ ((text : List ℕ) × IsTextOf reads proof text × (stop_view stop ≡ cannot_write) × fails text)) × (told ≡ [])
 
-  -- A run whose words are taken: what the command does, and then, where it has no answer or can't write it, the line that
-  -- says why. Standard output is unchanged unless an answer was to be written.
-  pub record IsRunOf (words : List (List ℕ)) (o : Outputs) (unchanged : Type 0) (status : ℕ) : Type 0 where
+  -- A run whose words are taken: what the command does and tells, and then, where it has no answer or can't write it,
+  -- the line that says why. Standard output is unchanged unless an answer was to be written.
+  pub record IsRunOf (words : List (List ℕ)) (old new : Option (List ℕ)) (tells : List (List ℕ) → Type 0) (unchanged : Type 0) (status : ℕ) : Type 0 where
     pub view : WordsView
+    pub taken : faults (or_help words) ≡ []
     pub asks : asked words ≡ Some view
     pub given : Result ℕ Stop
     pub status_is : status ≡ status_of given
-    -- standard error before that line, and whether all until then was written
-    pub between : Option (List ℕ)
-    pub told : Bool
-    pub answers : IfOk given (Answers reads writes opens calls failed view (outputs o.out_before o.out_after o.err_before between told))
-    pub stops : IfErr given (Stops view (outputs o.out_before o.out_after o.err_before between told))
+    -- what the command tells on standard error
+    pub told : List (List ℕ)
+    pub answers : IfOk given (Answers reads writes opens calls failed view old new told)
+    pub stops : IfErr given (Stops view told)
     pub stopped : is_stopped given ≡ true → unchanged
-    pub ended : o.told ≡ true → (told ≡ true) × IsEnded between o.err_after given
+    pub ended : tells (told ++ ending_of given)
 
-  -- a run: as the words ask, or, where they are refused, what is said of them
-  abbrev pub Runs : List (List ℕ) → Outputs → Type 0 → ℕ → Type 0
-  Runs words o unchanged status = IsRunOf words o unchanged status
-      ⊎ ((fault : WordsFault) × Refuses (or_help words) fault × IsRefused fails o.out_before o.out_after fault status
-      × (o.told ≡ true → IsRefusalTold o.err_before o.err_after fault status))
+  -- A run: as the words ask, or, where they are refused, what is said of them; with standard output before and after,
+  -- and with what it means that texts were told on standard error.
+  abbrev pub Runs : List (List ℕ) → Option (List ℕ) → Option (List ℕ) → (List (List ℕ) → Type 0) → Type 0 → ℕ → Type 0
+  Runs words old new tells unchanged status = IsRunOf words old new tells unchanged status
+      ⊎ ((fault : WordsFault) × Refuses (or_help words) fault × IsRefused fails old new fault status × tells (refusal_of fault status))

@@ -1,20 +1,22 @@
 -- What a run reads of a disk and writes to it: by which path, how much, and how it ends where that can't be done.
-use Rattle.std.specs.Prelude.{◌≡◌, ◌≢◌, ◌⊎◌, ℕ, Bool, true, false, List, Option, Some, None, option_map, Result, Ok, Err, Vec}
+use Rattle.std.specs.Prelude.{◌≡◌, ◌≢◌, ◌⊎◌, ◌+◌, ℕ, Bool, true, false, List, Option, Some, None, option_map, Result, Ok, Err, Vec}
 use Rattle.std.specs.declared.alloc.Global.{Global}
-use Rattle.commands.specs.declared.disk.FileFault.{FileFault}
-use Rattle.commands.specs.declared.disk.FileFault.TheVariants.{OutOfMemory, NotFound, Unreadable}
+use Rattle.manifest.specs.Manifests.{limit}
+use Rattle.lockfile.specs.Locks.{most_bytes}
+use Rattle.index_reader.specs.declared.reading.FileFault.{FileFault}
+use Rattle.index_reader.specs.declared.reading.FileFault.TheVariants.{OutOfMemory, NotFound, Unreadable}
 use Rattle.commands.specs.declared.stop.Stop.{Stop}
 use Rattle.model.specs.Derivation.{Step}
 use Rattle.derivations.specs.Written.{lines_of}
-use Rattle.commands.specs.Stops.{StopView, cannot_read, cannot_write_file, out_of_memory, stop_view}
+use Rattle.commands.specs.Stops.{StopView, WantsMemory, cannot_read, cannot_write_file, out_of_memory, stop_view}
 
 -- one byte more than a manifest may have
 abbrev pub most_of_manifest : ℕ
-most_of_manifest = 1_048_577
+most_of_manifest = limit + 1
 
 -- one byte more than a lock may have
 abbrev pub most_of_lock : ℕ
-most_of_lock = 67_108_865
+most_of_lock = most_bytes + 1
 
 -- a derivation is read whole
 abbrev pub most_of_proof : ℕ
@@ -42,6 +44,13 @@ module _ (reads : Reads) where
   IsOld (Some path) (Ok None) = reads path most_of_lock (Err NotFound)
   IsOld (Some path) (Err stop) = (fault : FileFault) × reads path most_of_lock (Err fault) × (fault ≢ NotFound) × (stop_view stop ≡ file_stop path fault)
 
+  -- such a file can be had, and such an old lock
+  abbrev pub HasFile : List ℕ → ℕ → Type 0
+  HasFile path most = (bytes : Vec ℕ Global) × IsFile path most (Ok bytes)
+
+  abbrev pub HasOld : Option (List ℕ) → Type 0
+  HasOld path = (old : Option (Vec ℕ Global)) × IsOld path (Ok old)
+
 abbrev pub bytes_if : Option (Vec ℕ Global) → Option (List ℕ)
 bytes_if o = option_map (λ v. v.items) o
 
@@ -50,9 +59,9 @@ abbrev pub Writes : Type 1
 Writes = List ℕ → List ℕ → Bool → Type 0
 
 module _ (writes : Writes) where
-  -- the file of a derivation, where one is named
+  -- the file of a derivation, where one is named: memory may be wanting for its lines, before any is written
   abbrev pub IsKept : Option (List ℕ) → List Step → Result (Unit {0}) Stop → Type 0
   IsKept None steps given = given ≡ Ok tt
   IsKept (Some path) steps (Ok given) = writes path (lines_of steps) true
-  IsKept (Some path) steps (Err stop) = (stop_view stop ≡ out_of_memory)
+  IsKept (Some path) steps (Err stop) = WantsMemory stop
       ⊎ (writes path (lines_of steps) false × (stop_view stop ≡ cannot_write_file path))

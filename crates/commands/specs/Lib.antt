@@ -1,5 +1,6 @@
 pub mod Stops
 pub mod Disks
+pub mod Systems
 pub mod Sources
 pub mod Lines
 pub mod Refusals

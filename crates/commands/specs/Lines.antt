@@ -1,6 +1,5 @@
 -- The lines that a run prints and the statuses that it ends with (docs/FORMATS.md retells them; all are this project's own).
-use Rattle.std.specs.Prelude.{◌≡◌, ℕ, List, [], ◌∷◌, ◌++◌, Option, Result, Ok, Err, codes, decimal, string_bytes}
-use Rattle.std.specs.List.{flat_map}
+use Rattle.std.specs.Prelude.{◌≡◌, ℕ, Bool, true, false, ◌&&◌, List, [], ◌∷◌, ◌++◌, map, Option, Result, Ok, Err, codes, decimal, string_bytes}
 use Rattle.std.specs.Io.KnownBytes.{Appends}
 use Rattle.checker.specs.declared.outcome.Check.{Check}
 use Rattle.checker.specs.declared.outcome.Check.TheVariants.{Proves, Refused}
@@ -32,9 +31,6 @@ check_status (Refused step reason) = 1
 abbrev pub skip_line : Skip → List ℕ
 skip_line s = line_of (codes "skip " ++ (s.name ++ (codes " line " ++ (decimal s.line ++ (codes " " ++ reason_text s.reason)))))
 
-abbrev pub skip_lines : List Skip → List ℕ
-skip_lines skips = flat_map skip_line skips
-
 abbrev pub skips_of : Answer → List Skip
 skips_of (Lock bytes kept skips) = skips.items
 skips_of (Unsolvable derivation text skips) = skips.items
@@ -46,24 +42,39 @@ abbrev pub IsPrinted : Option (List ℕ) → Option (List ℕ) → Answer → �
 IsPrinted old new (Lock bytes kept skips) status = (status ≡ 0) × Appends old new bytes.items
 IsPrinted old new (Unsolvable derivation text skips) status = (status ≡ 1) × (new ≡ old)
 
--- what comes after the skipped lines on standard error: the explanation of a refusal, unless its derivation couldn't be kept
-abbrev pub IsExplained : Option (List ℕ) → Option (List ℕ) → Answer → Result ℕ Stop → Type 0
-IsExplained old new (Lock bytes kept skips) given = new ≡ old
-IsExplained old new (Unsolvable derivation text skips) (Ok status) = Appends old new (string_bytes text)
-IsExplained old new (Unsolvable derivation text skips) (Err stop) = new ≡ old
-
--- all skipped lines, and then what else is said of the answer
-pub record IsTold (old new : Option (List ℕ)) (answer : Answer) (given : Result ℕ Stop) : Type 0 where
-  pub between : Option (List ℕ)
-  pub skipped : Appends old between (skip_lines (skips_of answer))
-  pub explained : IsExplained between new answer given
-
 -- the status of a run: that of the answer, or 2
 abbrev pub status_of : Result ℕ Stop → ℕ
 status_of (Ok status) = status
 status_of (Err stop) = 2
 
--- why there is no answer comes last
-abbrev pub IsEnded : Option (List ℕ) → Option (List ℕ) → Result ℕ Stop → Type 0
-IsEnded old new (Ok status) = new ≡ old
-IsEnded old new (Err stop) = Appends old new (line_of (stop_text (stop_view stop)))
+-- ---- what is told on standard error
+
+-- a skipped line each, and then the explanation of a refusal, unless its derivation couldn't be kept
+abbrev pub explained_of : Answer → Result ℕ Stop → List (List ℕ)
+explained_of (Lock bytes kept skips) given = []
+explained_of (Unsolvable derivation text skips) (Ok status) = string_bytes text ∷ []
+explained_of (Unsolvable derivation text skips) (Err stop) = []
+
+abbrev pub told_of : Answer → Result ℕ Stop → List (List ℕ)
+told_of answer given = map skip_line (skips_of answer) ++ explained_of answer given
+
+-- why there is no answer, which comes last
+abbrev pub ending_of : Result ℕ Stop → List (List ℕ)
+ending_of (Ok status) = []
+ending_of (Err stop) = line_of (stop_text (stop_view stop)) ∷ []
+
+-- a stream before, bytes that couldn't all be written to it, and the stream after
+abbrev pub Fails : Type 0 → Type 1
+Fails E = E → List ℕ → E → Type 0
+
+module _ {E : Type 0} (contents : E → Option (List ℕ)) (fails : Fails E) where
+  -- a write of a text, and whether all of it was written: it stands at the end, or the write failed
+  abbrev pub Puts : E → List ℕ → Bool → E → Type 0
+  Puts old text true new = Appends (contents old) (contents new) text
+  Puts old text false new = fails old text new
+
+  -- Each of the texts is written, in order, whatever became of those before it, and nothing else is; and whether all
+  -- were written.
+  abbrev pub Tells : E → List (List ℕ) → Bool → E → Type 0
+  Tells old [] told new = (told ≡ true) × (new ≡ old)
+  Tells old (text ∷ texts) told new = (mid : E) × (is_told others : Bool) × Puts old text is_told mid × Tells mid texts others new × (told ≡ (is_told && others))

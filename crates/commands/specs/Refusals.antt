@@ -1,5 +1,5 @@
 -- What is printed of words that ask for nothing: the text that the command line's reader gives, as it is.
-use Rattle.std.specs.Prelude.{◌≡◌, ◌⊎◌, ℕ, List, Option, codes, string_bytes}
+use Rattle.std.specs.Prelude.{◌≡◌, ◌⊎◌, ℕ, zero, suc, List, [], ◌∷◌, Option, codes, string_bytes}
 use Rattle.std.specs.Io.KnownBytes.{Appends}
 use Rattle.words.specs.declared.reading.WordsFault.{WordsFault}
 use Rattle.words.specs.declared.reading.WordsFault.TheVariants.{OutOfMemory, Help, Wrong}
@@ -13,8 +13,9 @@ IsRefused fails old new (Help text) status = ((status ≡ 0) × Appends old new 
 IsRefused fails old new (Wrong text) status = (status ≡ 2) × (new ≡ old)
 IsRefused fails old new OutOfMemory status = (status ≡ 2) × (new ≡ old)
 
--- what goes to standard error
-abbrev pub IsRefusalTold : Option (List ℕ) → Option (List ℕ) → WordsFault → ℕ → Type 0
-IsRefusalTold old new (Help text) status = ((status ≡ 0) × (new ≡ old)) ⊎ ((status ≡ 2) × Appends old new (line_of (codes "cannot write")))
-IsRefusalTold old new (Wrong text) status = Appends old new (string_bytes text)
-IsRefusalTold old new OutOfMemory status = Appends old new (line_of (fault_text fault.OutOfMemory))
+-- what is told on standard error
+abbrev pub refusal_of : WordsFault → ℕ → List (List ℕ)
+refusal_of (Help text) zero = []
+refusal_of (Help text) (suc n) = line_of (codes "cannot write") ∷ []
+refusal_of (Wrong text) status = string_bytes text ∷ []
+refusal_of OutOfMemory status = line_of (fault_text fault.OutOfMemory) ∷ []

@@ -1,5 +1,5 @@
 -- Why a run ends before its answer, and the line that says so (the texts are this project's own).
-use Rattle.std.specs.Prelude.{ℕ, Bool, true, false, List, ◌++◌, Result, Ok, Err, codes}
+use Rattle.std.specs.Prelude.{◌≡◌, ℕ, Bool, true, false, List, ◌++◌, Result, Ok, Err, codes}
 use Rattle.resolver.specs.Texts.{check_fault_text}
 use Rattle.resolver.specs.declared.fault.CheckFault.{CheckFault}
 use Rattle.resolver.specs.declared.fault.CheckFault.TheVariants.{Input}
@@ -24,6 +24,10 @@ stop_view stop.BadSource = bad_source
 stop_view (stop.CannotRead path) = cannot_read path.now
 stop_view stop.CannotWrite = cannot_write
 stop_view (stop.CannotWriteFile path) = cannot_write_file path.now
+
+-- a call that takes memory was refused it
+abbrev pub WantsMemory : Stop → Type 0
+WantsMemory stop = stop_view stop ≡ out_of_memory
 
 abbrev pub stop_text : StopView → List ℕ
 stop_text (fault f) = check_fault_text f

@@ -1,22 +1,9 @@
-//! The disk of a run: the one place of which nothing is promised.
+//! The disk of a run: what it reads and writes there, and the system's calls, of which alone nothing is promised.
 
-ghost use Rattle.std.specs.Prelude.{◌≡◌, ◌↔◌, IfOk, IfSome, None, take};
-ghost use Rattle.std.specs.IoError.{error_kind, raw_os_error};
-
-use index_reader::{DiskFolder, Folder};
+use index_reader::{DiskFolder, FileFault, Folder, Opens, read_at};
 use std::alloc::{AllocError, Global};
-use std::fs;
-use std::io::{self, ErrorKind, Read};
 use std::rt::Files;
-
-/// Why a file gives no bytes.
-#[derive(Clone, Copy, Debug, PartialEq, Eq)]
-pub enum FileFault {
-    OutOfMemory,
-    /// The system calls it not found.
-    NotFound,
-    Unreadable,
-}
+use std::{fs, io};
 
 /// Files by their paths, which a run reads and writes.
 pub trait Disk {
@@ -25,7 +12,7 @@ pub trait Disk {
 
     ghost use Rattle.std.specs.Prelude.{ℕ, Bool, IfOk, List, Result, Vec};
     ghost use Rattle.std.specs.declared.alloc.Global.{Global};
-    ghost use Rattle.commands.specs.declared.disk.FileFault.{FileFault};
+    ghost use Rattle.index_reader.specs.declared.reading.FileFault.{FileFault};
 
     /// The disk, a path, how many bytes are wanted at most, and what reading them gave.
     ghost reads: { Self → List ℕ → ℕ → Result (Vec ℕ Global) FileFault → Type 0 };
@@ -52,62 +39,60 @@ pub trait Disk {
         ensures { IfOk result (λ folder. opens self.now path.now folder) };
 }
 
-/// The system's disk. That the bytes of a read are those of the file at the path, and that those of a write come to be
-/// there, the toolchain's files don't promise, and so nothing above does.
-#[derive(Drop)]
-pub(crate) struct System<'a, R> {
-    pub(crate) rt: &'a R,
+/// What makes bytes the file at a path.
+pub trait Puts {
+    ghost use Rattle.std.specs.Prelude.{ℕ, List, Result};
+    ghost use Rattle.std.specs.declared.io.Error.{Error};
+
+    /// Who puts, a path, bytes, and what writing them there gave.
+    ghost puts: { Self → List ℕ → List ℕ → Result (Unit {0}) Error → Type 0 };
+
+    /// Makes these bytes the file at a path.
+    fn put_at(&self, path: &str, bytes: &[u8]) -> io::Result<()>
+        ensures { puts self.now path.now bytes.now result };
 }
 
-impl<R: Files + AllocGlobal + Clone + Drop> Disk for System<'_, R> {
-    type Index = DiskFolder<R>;
+/// The system's call. That the bytes come to be the file there the toolchain's files don't promise, and so nothing above
+/// does.
+impl<R: Files> Puts for R {
+    ghost puts = { λ _ _ _ _. Unit {0} };
 
-    ghost reads = { λ _ _ _ _. Unit {0} };
+    fn put_at(&self, path: &str, bytes: &[u8]) -> io::Result<()> {
+        fs::write(self, path, bytes)
+    }
+}
 
-    ghost writes = { λ _ _ _ _. Unit {0} };
+/// The disk of what opens and writes files, as the system does.
+#[derive(Drop)]
+pub(crate) struct System<'a, O> {
+    pub(crate) rt: &'a O,
+}
 
-    ghost opens = { λ _ _ _. Unit {0} };
+impl<O: Opens + Puts + AllocGlobal + Clone + Drop> Disk for System<'_, O> {
+    type Index = DiskFolder<O>;
+
+    ghost use Rattle.index_reader.specs.Reading.{IsRead};
+    ghost use Rattle.commands.specs.Systems.{IsOpened, IsWritten};
+
+    ghost reads = { λ disk. IsRead (O.opens disk.rt.now) O.File.left O.File.fails };
+
+    ghost writes = { λ disk. IsWritten (O.puts disk.rt.now) };
+
+    ghost opens = { λ disk. IsOpened O.is_clone disk.rt.now };
 
     fn read(&self, path: &str, most: u64) -> Result<Vec<u8>, FileFault> {
-        let opened = fs::open(self.rt, path);
-        match opened.and_then(|file| read_front(self.rt.alloc(), file, most)) {
-            Ok(bytes) => Ok(bytes),
-            Err(error) => Err(fault_of(&error)),
-        }
+        read_at(self.rt, self.rt.alloc(), path, most)
     }
 
     fn write(&self, path: &str, bytes: &[u8]) -> bool {
-        fs::write(self.rt, path, bytes).is_ok()
+        self.rt.put_at(path, bytes).is_ok()
     }
 
     fn alloc(&self) -> Global {
         self.rt.alloc()
     }
 
-    /// An empty path is the present folder: put before `/1/a` it would name the system's root.
-    fn open(&self, path: &str) -> Result<DiskFolder<R>, AllocError> {
-        DiskFolder::open(self.rt, if path.is_empty() { "." } else { path })
-    }
-}
-
-/// The first bytes that a reader has, up to this many.
-fn read_front<F: Read + Drop>(alloc: Global, file: F, most: u64) -> io::Result<Vec<u8>>
-    ensures { IfOk result (λ bytes. IfSome (F.remaining file) (λ whole. bytes.items ≡ take most whole)) }
-{
-    let mut bytes = Vec::new(alloc);
-    file.take(most).read_to_end(&mut bytes)?;
-    Ok(bytes)
-}
-
-/// Only a growth that was refused here is want of memory: what the system lacks makes the file unreadable.
-fn fault_of(error: &io::Error) -> FileFault
-    ensures not_found { (result ≡ FileFault.NotFound) ↔ (error_kind error.now ≡ ErrorKind.NotFound) }
-    ensures memory { (result ≡ FileFault.OutOfMemory)
-        ↔ ((error_kind error.now ≡ ErrorKind.OutOfMemory) × (raw_os_error error.now ≡ None)) }
-{
-    match error.kind() {
-        ErrorKind::OutOfMemory if error.raw_os_error().is_none() => FileFault::OutOfMemory,
-        ErrorKind::NotFound => FileFault::NotFound,
-        _ => FileFault::Unreadable,
+    fn open(&self, path: &str) -> Result<DiskFolder<O>, AllocError> {
+        DiskFolder::open(self.rt, path)
     }
 }

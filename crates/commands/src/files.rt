@@ -3,9 +3,10 @@
 ghost use Rattle.words.specs.Views.{text_if};
 ghost use Rattle.commands.specs.Disks.{IsFile, IsOld, IsKept, most_of_manifest, most_of_lock, most_of_proof};
 
-use crate::disk::{Disk, FileFault};
+use crate::disk::Disk;
 use crate::stop::Stop;
 use derivations::Derivation;
+use index_reader::FileFault;
 use std::alloc::AllocError;
 
 /// How many bytes of a manifest are read: one more than it may have.

@@ -1,12 +1,12 @@
 //! What is printed of each answer, and where.
 
-ghost use Rattle.std.specs.Prelude.{◌≡◌, true, false, IfErr, IfOk};
+ghost use Rattle.std.specs.Prelude.{◌≡◌, true, false, map, IfErr, IfOk};
 ghost use Rattle.std.specs.Io.KnownBytes.{Appends};
 ghost use Rattle.checker.specs.Texts.{check_text};
 ghost use Rattle.selection.specs.Texts.{verdict_text};
 ghost use Rattle.words.specs.Views.{text_if};
 ghost use Rattle.commands.specs.Commands.{IsFiled, IsUnwritten};
-ghost use Rattle.commands.specs.Lines.{IsPrinted, IsTold, line_of, verdict_status, check_status, skip_line, skip_lines, skips_of};
+ghost use Rattle.commands.specs.Lines.{IsPrinted, Puts, Tells, line_of, verdict_status, check_status, skip_line, skips_of, told_of};
 ghost use Rattle.commands.specs.Stops.{cannot_write, is_stopped, stop_view};
 
 use crate::disk::Disk;
@@ -94,7 +94,7 @@ pub(crate) fn print_answer<'a, D: Disk, O: Stream, E: Stream>(
     ensures filed { IfOk result.status (λ _. IsFiled (D.writes disk.now) (text_if proof.entry) answer.now) }
     ensures unwritten { IfErr result.status (IsUnwritten (D.writes disk.now) (λ bytes. O.fails out.old bytes out.new) (text_if proof.entry) answer.now) }
     ensures stopped { is_stopped result.status ≡ true → out.new ≡ out.old }
-    ensures told { result.told ≡ true → IsTold (E.contents err.old) (E.contents err.new) answer.now result.status }
+    ensures told { Tells E.contents E.fails err.old (told_of answer.now result.status) result.told err.new }
 {
     let told = print_skips(skips_of(answer), err);
     match answer {
@@ -111,7 +111,7 @@ pub(crate) fn print_answer<'a, D: Disk, O: Stream, E: Stream>(
                 let is_told = err.put(text.as_bytes());
                 Ended {
                     status: Ok(UNSOLVABLE),
-                    told: told && is_told,
+                    told: told & is_told,
                 }
             }
             Err(stop) => Ended {
@@ -132,18 +132,17 @@ fn skips_of(answer: &Answer) -> &[Skip]
 
 /// A line for each skipped line, and whether all were written.
 fn print_skips<E: Stream>(skips: &[Skip], err: &mut E) -> bool
-    ensures { result ≡ true → Appends (E.contents err.old) (E.contents err.new) (skip_lines skips.now) }
+    ensures { Tells E.contents E.fails err.old (map skip_line skips.now) result err.new }
 {
     let mut told = true;
     'skips: for skip in skips {
-        let is_told = print_skip(skip, err);
-        told = told && is_told;
+        told &= print_skip(skip, err);
     }
     told
 }
 
 fn print_skip<E: Stream>(skip: &Skip, err: &mut E) -> bool
-    ensures { result ≡ true → Appends (E.contents err.old) (E.contents err.new) (skip_line skip.now) }
+    ensures { Puts E.contents E.fails err.old (skip_line skip.now) result err.new }
 {
     let Skip { name, line, reason } = skip;
     err.put_line(format_args!("skip {name} line {line} {reason}"))

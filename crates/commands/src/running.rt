@@ -2,63 +2,68 @@
 
 ghost use Rattle.std.specs.Prelude.{◌≡◌, ◌⊎◌, ℕ, Bool, List, true, IfErr, IfOk, Ok, map, option_copied, string_bytes};
 ghost use Rattle.std.specs.Io.KnownBytes.{Appends};
-ghost use Rattle.index_reader.specs.Folders.{DiskCalls};
+ghost use Rattle.index_reader.specs.Reading.{DiskCalls, IsRead};
 ghost use Rattle.checker.specs.Texts.{check_text};
 ghost use Rattle.selection.specs.Texts.{verdict_text};
 ghost use Rattle.words.specs.Views.{text_if, words_view};
-ghost use Rattle.commands.specs.Commands.{Answers, IsAnswerTo, IsCheckOf, IsDerivationOf, IsTextOf, IsVerdictOf, LacksAnswer, LacksCheck, LacksText, LacksVerdict, Runs, Stops, outputs, preference};
+ghost use Rattle.commands.specs.Commands.{Answers, IsAnswerTo, IsCheckOf, IsDerivationOf, IsTextOf, IsVerdictOf, LacksAnswer, LacksCheck, LacksText, LacksVerdict, Runs, Stops, preference};
 ghost use Rattle.commands.specs.Disks.{bytes_if};
-ghost use Rattle.commands.specs.Refusals.{IsRefused, IsRefusalTold};
-ghost use Rattle.commands.specs.Lines.{IsEnded, check_status, line_of, status_of, verdict_status};
+ghost use Rattle.commands.specs.Refusals.{IsRefused, refusal_of};
+ghost use Rattle.commands.specs.Lines.{Tells, check_status, ending_of, line_of, status_of, verdict_status};
 ghost use Rattle.commands.specs.Stops.{cannot_write, is_stopped, stop_view};
+ghost use Rattle.commands.specs.Systems.{IsOpened, IsWritten};
 
-use crate::disk::{Disk, System};
+use crate::disk::{Disk, Puts, System};
 use crate::files::{read_lock, read_manifest, read_old, read_proof};
 use crate::printing::{Ended, print_answer, print_bytes, print_check, print_verdict};
-use crate::sources::source_of;
+use crate::sources::{own_source, source_text};
 use crate::stop::Stop;
 use crate::streams::Stream;
 use catalogue::Prefer;
 use checker::Check;
 use derivations::Derivation;
 use explainer::explain;
+use index_reader::Opens;
 use resolver::{Answer, Fault, check_bytes, resolve, verify_bytes};
 use selection::Verdict;
 use std::io::{self, ErrorKind, Write};
-use std::rt::Files;
 use words::{Words, WordsFault, read_words};
 
 /// The status of wrong use, of a fault, of a file that can't be read and of output that can't be written.
 const FAILED: u8 = 2;
 
-/// Does what the words ask, the program's name first, and answers the exit status.
+/// Does what the words ask, the program's name first, and answers the exit status: over what opens and writes files, as
+/// the system does.
 ///
 /// The answer of a command goes to `out`, help too; every other line goes to `err`. A write to `err` that fails is
 /// passed over.
-pub fn run<R: Files + AllocGlobal + Clone + Drop, O: Write, E: Write>(
+pub fn run<R: Opens + Puts + AllocGlobal + Clone + Drop, O: Stream, E: Stream>(
     rt: &R,
     words: &[String],
     out: &mut O,
     err: &mut E,
 ) -> u8
-    ensures { (told : Bool) × Runs (λ _ _ _. Unit {0}) (λ _ _ _. Unit {0}) (λ _ _. Unit {0}) (λ old path answer new. DiskCalls old answer new) (λ count. count) (λ _. Unit {0}) (map string_bytes words.now) (outputs (O.contents out.old) (O.contents out.new) (E.contents err.old) (E.contents err.new) told) (out.new ≡ out.old) result }
+    ensures { (told : Bool) × Runs (IsRead (R.opens rt.now) R.File.left R.File.fails) (IsWritten (R.puts rt.now)) (IsOpened R.is_clone rt.now) (DiskCalls R.opens R.File.left R.File.fails) (λ folder. folder.failures) (λ bytes. O.fails out.old bytes out.new) (map string_bytes words.now) (O.contents out.old) (O.contents out.new) (λ texts. Tells E.contents E.fails err.old texts told err.new) (out.new ≡ out.old) result }
 {
     let disk = System { rt };
     run_on(&disk, words, out, err).0
 }
 
-/// The same on any disk; also says whether all that is told on standard error was written. What a run does is said
-/// here: of the system's own disk nothing is known.
+/// The same on any disk; also says whether all that is told on standard error was written.
 pub fn run_on<D: Disk, O: Stream, E: Stream>(
     disk: &D,
     words: &[String],
     out: &mut O,
     err: &mut E,
 ) -> (u8, bool)
-    ensures { Runs (D.reads disk.now) (D.writes disk.now) (D.opens disk.now) D.Index.calls D.Index.failed (λ bytes. O.fails out.old bytes out.new) (map string_bytes words.now) (outputs (O.contents out.old) (O.contents out.new) (E.contents err.old) (E.contents err.new) result.1) (out.new ≡ out.old) result.0 }
+    ensures { Runs (D.reads disk.now) (D.writes disk.now) (D.opens disk.now) D.Index.calls D.Index.failed (λ bytes. O.fails out.old bytes out.new) (map string_bytes words.now) (O.contents out.old) (O.contents out.new) (λ texts. Tells E.contents E.fails err.old texts result.1 err.new) (out.new ≡ out.old) result.0 }
 {
     match read_words(disk.alloc(), words) {
-        Ok(words) => finish(answered(disk, &words, out, err), err),
+        Ok(words) => {
+            let Ended { status, told } = answered(disk, &words, out, err);
+            let (status, is_told) = finish(status, err);
+            (status, told & is_told)
+        }
         Err(fault) => without_words(&fault, out, err),
     }
 }
@@ -70,8 +75,7 @@ fn answered<'a, D: Disk, O: Stream, E: Stream>(
     out: &mut O,
     err: &mut E,
 ) -> Ended<'a>
-    ensures answers { IfOk result.status (Answers (D.reads disk.now) (D.writes disk.now) (D.opens disk.now) D.Index.calls D.Index.failed (words_view words.entry.now) (outputs (O.contents out.old) (O.contents out.new) (E.contents err.old) (E.contents err.new) result.told)) }
-    ensures stops { IfErr result.status (Stops (D.reads disk.now) (D.writes disk.now) (D.opens disk.now) D.Index.calls D.Index.failed (λ bytes. O.fails out.old bytes out.new) (words_view words.entry.now) (outputs (O.contents out.old) (O.contents out.new) (E.contents err.old) (E.contents err.new) result.told)) }
+    ensures answers { (told : List (List ℕ)) × IfOk result.status (Answers (D.reads disk.now) (D.writes disk.now) (D.opens disk.now) D.Index.calls D.Index.failed (words_view words.entry.now) (O.contents out.old) (O.contents out.new) told) × IfErr result.status (Stops (D.reads disk.now) (D.writes disk.now) (D.opens disk.now) D.Index.calls D.Index.failed (λ bytes. O.fails out.old bytes out.new) (words_view words.entry.now) told) × Tells E.contents E.fails err.old told result.told err.new }
     ensures stopped { is_stopped result.status ≡ true → out.new ≡ out.old }
 {
     match words {
@@ -139,9 +143,10 @@ fn verdict_at<'a, D: Disk>(
     ensures verdict { IfOk result (λ verdict. IsVerdictOf (D.reads disk.now) (D.opens disk.now) D.Index.calls D.Index.failed manifest.entry.now index.now lock.entry.now (text_if source.entry) (Ok verdict)) }
     ensures lacks { IfErr result (LacksVerdict (D.reads disk.now) (D.opens disk.now) D.Index.calls D.Index.failed manifest.entry.now index.now lock.entry.now (text_if source.entry)) }
 {
-    let from = source_of(disk.alloc(), source)?;
+    let text = source_text(source)?;
     let bytes = read_manifest(disk, manifest)?;
     let locked = read_lock(disk, lock)?;
+    let from = own_source(disk.alloc(), text)?;
     let mut folder = disk.open(index)?;
     let verdict = verify_bytes(
         disk.alloc(),
@@ -165,10 +170,11 @@ fn answer_at<'a, D: Disk>(
     ensures answer { IfOk result (λ answer. IsAnswerTo (D.reads disk.now) (D.opens disk.now) D.Index.calls D.Index.failed manifest.entry.now index.now (text_if lock.entry) (text_if source.entry) rust_first (Ok answer)) }
     ensures lacks { IfErr result (LacksAnswer (D.reads disk.now) (D.opens disk.now) D.Index.calls D.Index.failed manifest.entry.now index.now (text_if lock.entry) (text_if source.entry) rust_first) }
 {
-    let from = source_of(disk.alloc(), source)?;
+    let text = source_text(source)?;
     let bytes = read_manifest(disk, manifest)?;
     let old = read_old(disk, lock)?;
     let given = slice_if(&old);
+    let from = own_source(disk.alloc(), text)?;
     let mut folder = disk.open(index)?;
     let prefer = preference(rust_first);
     let answer = resolve(
@@ -231,11 +237,12 @@ fn checked_at<'a, D: Disk>(
     ensures check { IfOk result (λ check. IsCheckOf (D.reads disk.now) (D.opens disk.now) D.Index.calls D.Index.failed manifest.entry.now index.now (text_if lock.entry) (text_if source.entry) proof.entry.now (Ok check)) }
     ensures lacks { IfErr result (LacksCheck (D.reads disk.now) (D.opens disk.now) D.Index.calls D.Index.failed manifest.entry.now index.now (text_if lock.entry) (text_if source.entry) proof.entry.now) }
 {
-    let from = source_of(disk.alloc(), source)?;
+    let text = source_text(source)?;
     let bytes = read_manifest(disk, manifest)?;
     let old = read_old(disk, lock)?;
     let given = slice_if(&old);
     let derivation = read_proof(disk, proof)?;
+    let from = own_source(disk.alloc(), text)?;
     let mut folder = disk.open(index)?;
     let checked = check_bytes(
         disk.alloc(),
@@ -278,18 +285,14 @@ fn derivation_at<'a, D: Disk>(disk: &D, proof: &'a str) -> Result<Derivation, St
     Ok(derivation)
 }
 
-/// Prints why there is no answer, where there is none; gives the status, and whether all was told.
-fn finish<'a, E: Stream>(ended: Ended<'a>, err: &mut E) -> (u8, bool)
-    ensures status { result.0 ≡ status_of ended.entry.status }
-    ensures told { result.1 ≡ true → (ended.entry.told ≡ true) × IsEnded (E.contents err.old) (E.contents err.new) ended.entry.status }
+/// Prints why there is no answer, where there is none; gives the status, and whether that was told.
+fn finish<'a, E: Stream>(status: Result<u8, Stop<'a>>, err: &mut E) -> (u8, bool)
+    ensures status { result.0 ≡ status_of status.entry }
+    ensures told { Tells E.contents E.fails err.old (ending_of status.entry) result.1 err.new }
 {
-    let Ended { status, told } = ended;
     match status {
-        Ok(status) => (status, told),
-        Err(stop) => {
-            let is_told = err.put_line(&stop);
-            (FAILED, told && is_told)
-        }
+        Ok(status) => (status, true),
+        Err(stop) => (FAILED, err.put_line(&stop)),
     }
 }
 
@@ -310,7 +313,7 @@ pub fn without_arguments<E: Write>(error: &io::Error, err: &mut E) -> u8
 /// Help goes to standard output, wrong use to standard error; gives the status, and whether all was told.
 fn without_words<O: Stream, E: Stream>(fault: &WordsFault, out: &mut O, err: &mut E) -> (u8, bool)
     ensures printed { IsRefused (λ bytes. O.fails out.old bytes out.new) (O.contents out.old) (O.contents out.new) fault.now result.0 }
-    ensures told { result.1 ≡ true → IsRefusalTold (E.contents err.old) (E.contents err.new) fault.now result.0 }
+    ensures told { Tells E.contents E.fails err.old (refusal_of fault.now result.0) result.1 err.new }
 {
     match fault {
         WordsFault::Help(text) => {

@@ -1,21 +1,35 @@
 //! The source of a run.
 
+ghost use Rattle.std.specs.Prelude.{◌≡◌, IfErr, IfOk};
 ghost use Rattle.words.specs.Views.{text_if};
-ghost use Rattle.commands.specs.Sources.{IsSource};
+ghost use Rattle.commands.specs.Sources.{IsBadSource, IsSource};
 
 use crate::stop::Stop;
-use catalogue::{Source, SourceFault};
+use catalogue::{Source, is_source};
 use std::alloc::{AllocError, Global};
 
 /// The source of packages where the words name none.
 const CRATES_IO: &str = "registry+https://github.com/rust-lang/crates.io-index";
 
-pub(crate) fn source_of<'a>(alloc: Global, text: Option<&str>) -> Result<Source, Stop<'a>>
-    ensures { IsSource (text_if text.entry) result }
+/// The text of the source, before any file is read: no memory can be wanting for it.
+pub(crate) fn source_text<'a, 's>(text: Option<&'s str>) -> Result<&'s str, Stop<'a>>
+    ensures source { IfOk result (λ source. IsSource (text_if text.entry) source.now) }
+    ensures bad { IfErr result (IsBadSource (text_if text.entry)) }
 {
-    match Source::parse(alloc, text.unwrap_or(CRATES_IO)) {
+    let source = text.unwrap_or(CRATES_IO);
+    if is_source(source) {
+        Ok(source)
+    } else {
+        Err(Stop::BadSource)
+    }
+}
+
+/// The source that this text is.
+pub(crate) fn own_source(alloc: Global, text: &str) -> Result<Source, AllocError>
+    ensures { IfOk result (λ source. source ≡ text.now) }
+{
+    match Source::parse(alloc, text) {
         Ok(source) => Ok(source),
-        Err(SourceFault::OutOfMemory) => Err(Stop::from(AllocError)),
-        Err(SourceFault::NotASource) => Err(Stop::BadSource),
+        Err(_) => Err(AllocError),
     }
 }

@@ -1,8 +1,7 @@
-use Rattle.std.proofs.Common.{◌≡◌, take, true}
-use Rattle.std.specs.Io.KnownBytes.{Appends}
-use Rattle.commands.specs.Lines.{skip_lines}
+use Rattle.std.proofs.Common.{map, take}
+use Rattle.commands.specs.Lines.{Tells, skip_line}
 use Rattle.commands.proofs.printing.print_skips.Given as goal
 
--- where all were written so far, they stand there
+-- those so far are told
 abbrev pub invariant-skips : goal.invariant-skips
-invariant-skips g l = l.told ≡ true → Appends (g.E.Stream.contents l.fn.err) (g.E.Stream.contents l.err) (skip_lines (take l.skip-index l.skips))
+invariant-skips g l = Tells g.E.Stream.contents g.E.Stream.fails l.fn.err (map skip_line (take l.skip-index l.skips)) l.told l.err

@@ -1,5 +1,7 @@
 use Rattle.std.proofs.Common.{inl, inr, option_copied, sym}
 use Rattle.std.proofs.lemmas.Result.{err_from_is_err_and}
+use Rattle.words.specs.Views.{text_if}
+use Rattle.commands.proofs.SameBytes.{source_with}
 use Rattle.commands.proofs.running.answer_at.Goals as goal
 
 pub returns-clause-answer : goal.returns-clause-answer
@@ -11,7 +13,7 @@ returns-clause-answer g c = record {
   given = option_copied c.slice_if-given.result;
   given_is = c.slice_if-given.ensures;
   from = c.in_ok-from.from;
-  source_is = c.in_ok-from.ensures.0;
+  source_is = source_with (text_if c.args.source) c.in_ok-from.from c.in_ok-text.text.now c.in_ok-from.ensures c.in_ok-text.ensures.source;
   prefer = c.preference-prefer.result;
   prefer_is = c.preference-prefer.ensures;
   folder = c.in_ok-folder.folder;
@@ -23,12 +25,22 @@ returns-clause-answer g c = record {
 pub returns-in_err-old-clause-lacks : goal.returns-in_err-old-clause-lacks
 returns-in_err-old-clause-lacks g c =
     let p = err_from_is_err_and c.from_residual-in_err-old.result c.from_residual-in_err-old.ensures.1 in
-    rw (p.1, p.2) (inr (inl (((c.in_ok-from.from, c.in_ok-from.ensures), (c.in_ok-bytes.bytes, c.in_ok-bytes.ensures)), c.in_err-old.ensures)))
+    rw (p.1, p.2) (inr (inl (((c.in_ok-text.text.now, c.in_ok-text.ensures.source), (c.in_ok-bytes.bytes, c.in_ok-bytes.ensures)), c.in_err-old.ensures)))
+
+pub returns-in_err-from-clause-lacks : goal.returns-in_err-from-clause-lacks
+returns-in_err-from-clause-lacks g c =
+    let p = err_from_is_err_and c.from_residual-in_err-from.result c.from_residual-in_err-from.ensures.1 in
+    rw p.1 (inr (inr (inl (((c.in_ok-text.text.now, c.in_ok-text.ensures.source), (c.in_ok-bytes.bytes, c.in_ok-bytes.ensures)), (c.in_ok-old.old, c.in_ok-old.ensures), p.2))))
+
+pub returns-in_err-folder-clause-lacks : goal.returns-in_err-folder-clause-lacks
+returns-in_err-folder-clause-lacks g c =
+    let p = err_from_is_err_and c.from_residual-in_err-folder.result c.from_residual-in_err-folder.ensures.1 in
+    rw p.1 (inr (inr (inl (((c.in_ok-text.text.now, c.in_ok-text.ensures.source), (c.in_ok-bytes.bytes, c.in_ok-bytes.ensures)), (c.in_ok-old.old, c.in_ok-old.ensures), p.2))))
 
 pub returns-in_err-answer-clause-lacks : goal.returns-in_err-answer-clause-lacks
 returns-in_err-answer-clause-lacks g c =
     let p = err_from_is_err_and c.from_residual-in_err-answer.result c.from_residual-in_err-answer.ensures.1 in
-    rw p.1 (inr (inr (
+    rw p.1 (inr (inr (inr (
       c.in_err-answer.field-0.0,
       record {
         bytes = c.in_ok-bytes.bytes;
@@ -38,7 +50,7 @@ returns-in_err-answer-clause-lacks g c =
         given = option_copied c.slice_if-given.result;
         given_is = c.slice_if-given.ensures;
         from = c.in_ok-from.from;
-        source_is = c.in_ok-from.ensures.0;
+        source_is = source_with (text_if c.args.source) c.in_ok-from.from c.in_ok-text.text.now c.in_ok-from.ensures c.in_ok-text.ensures.source;
         prefer = c.preference-prefer.result;
         prefer_is = c.preference-prefer.ensures;
         folder = c.in_ok-folder.folder;
@@ -47,4 +59,4 @@ returns-in_err-answer-clause-lacks g c =
         resolves = rw (sym c.as_slice.ensures.value) c.in_err-answer.ensures;
       },
       p.2,
-    )))
+    ))))
