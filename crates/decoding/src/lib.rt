@@ -1,4 +1,16 @@
 //! Incompatibilities over numbers, and how they came about, as steps of a derivation.
+//!
+//! A search leaves a store of entries over numbers; a derivation has steps over vertices and states, which somebody
+//! checks who knows no numbers. `needed` marks the entries that one entry comes from, from the last to the first, so
+//! each is looked at once; the others are left out of the derivation.
+//!
+//! The rest are laws: an entry says the terms of its vertices (`terms_are_said`), a combination at a number is the
+//! combination of the model at its vertex, the states of a term stand in the order of their vertex's, and no two terms
+//! speak of one vertex. The vertex of a combination has to have a number, which it has as one at which the first of the
+//! two entries has a term.
+//!
+//! A layer above may rely on this: the needed entries, each as the step that it is decoded to, with their places as the
+//! steps' numbers, are an accepted derivation, if the last of them has no term and the axioms among them are instances.
 #![tactic(auto)]
 
 mod needs;

@@ -1,4 +1,19 @@
 //! The vertices of the search by numbers, and the axioms as incompatibilities over them.
+//!
+//! The search speaks of vertices and states by number. A `Table` gives a vertex its number when it is first spoken of,
+//! since a run comes to few of all vertices; the states of a vertex are `absent`, which is 0, and the others in the
+//! order of the model's `space`. What an entry over numbers says is stated against the model's terms (`Says`,
+//! `specs/Numberings`), and stays so as more vertices get numbers.
+//!
+//! What is hard is to bring few axioms and to miss none. Each instance has a first term with just one state
+//! (`first_pair`, `specs/Pairs`), and belongs to that pair of a vertex and a state: while the vertex doesn't have the
+//! state, the instance isn't broken. So `axioms_at` gives the instances of one pair, and only those of pairs that stand
+//! alone are ever needed. What it gives is found from what the pair's vertex names, with no pass over all owners.
+//!
+//! A layer above may rely on the laws at the end of this file. An assignment that breaks none of the entries for the
+//! pairs that hold in it breaks no instance at all; a valid selection breaks no instance over numbers. At most one term
+//! of an instance has `absent` among its states, so where propagation is at rest, taking `absent` wherever it is left
+//! breaks none either. No number changes, also where memory is refused.
 #![tactic(auto)]
 
 mod adding;

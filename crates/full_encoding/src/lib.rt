@@ -1,7 +1,14 @@
 //! All vertices of the search by number, and all axioms over them.
 //!
 //! `encoding` gives numbers and axioms as they are asked for; `Encoding` stands above it, with two ways in: every
-//! vertex at once, or the root alone. Tests and laws speak of it; a search goes by `encoding` itself.
+//! vertex at once (`new`), or the root alone (`on_demand`). Tests and laws speak of it; a search goes by `encoding`
+//! itself.
+//!
+//! What is hard is that a list of all vertices has each just once, though a feature may be asked for in many places:
+//! features are named in the first class of their name, and put into every class afterwards, by their numbers.
+//!
+//! A layer above may rely on this: `number` and `vertex` are inverse to one another, only vertices have numbers, and no
+//! number changes; `axioms` gives just all instances, each once, once every vertex has a number.
 #![tactic(auto)]
 
 mod counting;

@@ -1,4 +1,22 @@
 //! What a search asks of a manifest and a loaded index, and the search over them.
+//!
+//! What is hard is that a large index has far more vertices and axioms than a run may look at. So `search_over` begins
+//! with the root alone on the trail, and in the store the instance that the root can't be absent. Where a vertex has
+//! one state left, not absent, that wasn't asked for, the instances of that pair go into the store and the vertices
+//! that they speak of onto the trail. That misses none, for where a pair doesn't hold none of its instances is broken
+//! (`encoding`). How many states are still to come, and how many pairs weren't asked for, by which the loop ends, is
+//! counted over the finite list of all vertices (`specs/Everything`), by the proof alone.
+//!
+//! What is decided is the first vertex, by number, that can't be absent and has several states left (`order.rt`). It
+//! takes its state in the valid selection that is followed, if one is; else that of the most preferred candidate that
+//! is left (`preferring.rt`), or of a vertex without candidates the greatest. The instances of that pair, and those of
+//! the vertices with one state beside `absent` that it needs, are asked for before (`leads.rt`), so that a version
+//! which they leave out at once opens no level. The contract asks only for a state that is left, so another preference
+//! changes no proof.
+//!
+//! A layer above may rely on this: the search ends where each vertex, taken `absent` if that is left, else in its one
+//! state, breaks no instance of an axiom; or with an entry without terms, from entries that are instances of their
+//! kinds. One that follows a valid selection ends with a selection, in which the states of the given one are left.
 #![tactic(auto)]
 
 mod asking;

@@ -1,4 +1,17 @@
 //! Why there is no selection: the entries that a store's last one comes from, as a derivation that others can check.
+//!
+//! A search that finds nothing ends at an entry without terms, which follows from axioms that are instances. `needed`
+//! (`decoding`) finds the entries that it comes from. Each of them becomes a step, in their order and each once: the
+//! numbers of vertices and states become the vertices and states that they stand for, and the builder of `derivations`
+//! puts them into the written order.
+//!
+//! What is hard is what the builder asks for: that each vertex and state is what its own text reads as. Names are so by
+//! their types, versions because they were read; that the numbers of dependencies are so is what `parts` finds out by
+//! counting them, and `refusal` is asked only after that. Each vertex that is spoken of is spelt once for all steps
+//! (`spaces.rt`).
+//!
+//! A layer above may rely on this: the derivation is accepted, by the same definition as the checker's, and has no more
+//! combinations and axioms than the store.
 #![tactic(auto)]
 
 mod laws;

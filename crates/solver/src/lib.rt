@@ -1,4 +1,18 @@
 //! A valid selection for a manifest and a loaded index, or why there is none.
+//!
+//! `solve` asks for the preferred walk first (`walks`). Where there is one, complete and valid, the search is told to
+//! follow it: it meets no conflict then, and the walk is the answer. Else the search goes its own way. Either way one
+//! search decides: what it selects is gathered (`gathering`), and where the walk was followed the walk itself is handed
+//! out; an entry without terms goes to `refusing`.
+//!
+//! What is hard is that both answers are to be right with no condition on the inputs. The laws ask that versions rise
+//! and feature tables know their features, which every `Catalogue` has by its type (`laws`); and a derivation can name
+//! only so many dependencies of one owner, which `parts` counts, so a refusal past that is given up as want of memory.
+//!
+//! A layer above may rely on this: of any manifest and any loaded index the outcome is a valid selection whose root has
+//! no checksum, the preferred walk wherever that is complete and valid, else one of which the root alone brings all; or
+//! a derivation that is accepted, and then no content at all is a valid selection. The one error is want of memory. It
+//! ends; no more is said of its time.
 #![tactic(auto)]
 
 mod counting;
