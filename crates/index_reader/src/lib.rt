@@ -1,4 +1,18 @@
 //! What an index file says of the versions of a package, and folders of such files (Cargo book, "Registry Index").
+//!
+//! An index is not one's own: each line may be anything, and a bad line is to be skipped with a reason and to spoil no
+//! other one. So the definition of a file (`specs/Files`) gives for any bytes the records and the skips, each with the
+//! first reason of a stated order; a line is looked at in three steps, its JSON, its shape (`shape.rt`) and its texts
+//! (`line.rt`), and what it says is then held against the lines before it (`kept.rt`).
+//!
+//! It is to be fast too: a line is a tree that borrows its texts (`trees`), in room that is kept from line to line;
+//! line ends are found by `memchr`; each vector of a record takes the room that it needs, and a requirement no more
+//! than its comparators take. A folder is a trait (`Folder`) with a relation of its own, so that what stands on it is
+//! proved over every folder; `DiskFolder` is exact over anything that opens files (`Opens`), and of the system's call
+//! alone nothing is promised.
+//!
+//! A layer above may rely on this: `read_line` and `read_file` give what the definitions give for the bytes, unless
+//! memory was wanting. No two records of a file have equal precedence, and each feature table knows its features.
 #![tactic(auto)]
 
 mod disk;

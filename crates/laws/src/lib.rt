@@ -1,6 +1,11 @@
 //! Why a refusal is right: the laws of refusals, of every manifest and every loaded index.
 //!
-//! A law is a function that does nothing: its contract is the statement. Nothing is asked of the arguments but their types.
+//! The laws of `model` ask that a problem be a catalogue, with each name once, its versions rising and its feature
+//! tables whole. What a `Catalogue` holds always is one, by its type, and so these laws ask nothing of their arguments:
+//! a valid selection breaks no instance of an axiom; an accepted derivation leaves no valid selection; what the root
+//! reaches in an assignment that breaks no instance is one, and there is one wherever an assignment breaks none.
+//!
+//! A law is a function that does nothing: its contract is the statement.
 #![tactic(auto)]
 
 ghost use Rattle.std.specs.Prelude.{◌↔◌, List};

@@ -1,4 +1,19 @@
 //! What a Cargo.lock says.
+//!
+//! A lock names packages by the shortest text that tells them apart: the name, the name and the version, or these and
+//! the source. So what a dependency text means depends on all packages. Reading puts the packages into package order
+//! first; then those of a name stand next to one another, and each text is looked up by search (`search.rt`). Writing
+//! keeps for each package its version's text and the text by which lists name it: the two packages beside it decide
+//! which form that is (`entry.rt`), and each list is put in order by a stable sort. Both are n log n, with no search
+//! through all packages for one text.
+//!
+//! What is hard is that what is written is read as the same again. The laws (`laws.rt`) say so: the table that a
+//! content is spelled as says that content, and where TOML reads the spelling as this table, `read` gives the content
+//! back. TOML itself is beyond them; so who hands out a new lock reads it first.
+//!
+//! A layer above may rely on this: `read` gives what the bytes mean or the first fault, `write` the one spelling. A
+//! `LockContent` is always in package order, no two packages of it alike in name, version and source, and its lists
+//! rise and stay within it.
 #![tactic(auto)]
 
 mod content;

@@ -1,6 +1,22 @@
-//! What is to be answered about a lock, as definitions that the contracts of the other crates cite, and the laws that hold of them.
+//! What is to be answered about a lock, as definitions that the contracts of the other crates cite, and the laws that
+//! hold of them.
 //!
-//! A law is a function that does nothing: its contract is the statement, and its body shows that the statement needs no code.
+//! The definitions (`specs`) speak of plain lists, numbers and texts, in the words of the Cargo book, and of no code:
+//! what a package brings (`Summary`), what a lock says and what it is held against (`Content`), when that is a valid
+//! selection (`Selection`), what is wrong with it first (`Verdict`), which walk is preferred (`Walk`). Beside them
+//! stand those of the search: vertices and their states (`Vertices`), the ten kinds of axioms (`Axioms`), when a
+//! derivation is accepted (`Derivation`).
+//!
+//! What is hard is to bring the two together, so that nobody has to believe the axioms who believes what a valid
+//! selection is. The laws below do it both ways. A valid selection breaks no instance of an axiom, and what breaks a
+//! combination breaks one of the two, so where a derivation is accepted there is no valid selection. And of an
+//! assignment that breaks no instance, what the root reaches is a valid selection.
+//!
+//! A layer above may rely on these laws of every problem that is a catalogue (`IsCatalogue`): each name once, its
+//! versions rising by precedence, each feature table knowing its features.
+//!
+//! A law is a function that does nothing: its contract is the statement, and its body shows that the statement needs no
+//! code.
 #![tactic(auto)]
 
 ghost use Rattle.std.specs.Prelude.{◌≡◌, ◌≢◌, ◌↔◌, ◌⊎◌, Bool, true, false, ℕ, List, Option, Ok, Contains};

@@ -1,4 +1,5 @@
-//! Tests of what no run of the program calls: a folder in memory, a line alone, a plain table, and the texts of its faults.
+//! Tests of what no run of the program calls: a folder in memory, a line alone, a plain table, and the texts of its
+//! faults.
 #![tactic(auto)]
 
 #[cfg(test)]

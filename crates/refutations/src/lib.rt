@@ -1,7 +1,19 @@
-//! Which terms combine, which are instances of an axiom and which step of a derivation is refused, as functions over lists, and the laws
-//! that tie them to the definitions in `model`.
+//! Which terms combine, which are instances of an axiom and which step of a derivation is refused, as functions over
+//! lists, and the laws that tie them to the definitions in `model`.
 //!
-//! A law is a function that does nothing: its contract is the statement, and its body shows that the statement needs no code.
+//! `model` says of all vertices and all instances when a step is right; a checker has nothing but the step's terms. So
+//! a cause (`specs/Causes`) names what an instance comes from: an owner, the number of a dependency, a class, a
+//! feature, an entry. From the terms of a step the one cause of its kind that they can have is read (`cause_in`), it is
+//! looked up, and its terms are compared with those of the step.
+//!
+//! What is hard is that a full term isn't written: where no candidate serves a dependency, the step doesn't say which
+//! one it is about. Then it is the first such dependency of the owner, for any other would give the same terms.
+//!
+//! A layer above may rely on the laws below: each test says just what its definition says, nothing is refused of a
+//! derivation exactly where it is accepted, and then no content at all is a valid selection.
+//!
+//! A law is a function that does nothing: its contract is the statement, and its body shows that the statement needs no
+//! code.
 #![tactic(auto)]
 
 ghost use Rattle.std.specs.Prelude.{◌≡◌, ◌≢◌, ◌↔◌, true, Contains, List, None};
