@@ -1,4 +1,18 @@
 //! The index of a run: which names were asked for, which candidates each has, and which of them is preferred.
+//!
+//! What is hard is that nobody knows beforehand which names a run needs. `load` asks the folder for what the root's
+//! dependencies mean, then, name after name, for what the dependencies of the candidates found so far mean, each name
+//! once. A candidate is a record that isn't yanked, or that the old lock has. So the names that were asked for are
+//! closed under dependencies, and a valid selection has no others. Contracts tell a load by the chain of the folder's
+//! calls (`Loads`), for any folder.
+//!
+//! Candidates stand oldest first, so a version or a class is found by search; how each is preferred is kept beside it
+//! as a rank, since the locked come first, and then, if that is asked for, those that the manifest's Rust version fits.
+//!
+//! A layer above may rely on this: each reader of a `Catalogue` is exact; names stand once, versions rise, at most
+//! 65,535 a name, and feature tables know their features, so that the laws of `model` hold with no premise
+//! (`catalogues_are_well_formed`). Over a fixed index a valid selection is one with itself as the old lock, and that
+//! run asks for no other names (`laws.rt`).
 #![tactic(auto)]
 
 mod asking;
