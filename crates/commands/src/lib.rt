@@ -1,4 +1,17 @@
 //! `commands`: one run of `relock`: words in, files read, a status and two texts out.
+//!
+//! What a run reads and writes is a matter of the system, of which contracts know nothing. So all goes through traits:
+//! `Disk` for files, behind it `Opens` and `Puts` for what opens and writes them, and `Stream` for what is printed to.
+//! Runs are proved over any of these, and of the system's own calls, their bodies in the program, alone nothing is
+//! promised.
+//!
+//! What is hard is that a write may fail and want of memory may come at any call, and still nothing wrong may be said.
+//! A run's statement (`Runs`, `specs/Commands`) has an outcome for each way to end: an answer, with what was written
+//! where and the status, or the first of what is read that can't be had. What is told on standard error stands there or
+//! its write failed, text by text.
+//!
+//! A layer above may rely on `Runs` alone: for the words that `clap` takes, a run reads what lies where they say, asks
+//! the call of that name with just this, and prints its answer.
 #![tactic(auto)]
 
 mod disk;

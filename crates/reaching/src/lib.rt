@@ -1,6 +1,15 @@
-//! What the facts find over packages is what the root reaches in an assignment of the search, and the content built of it is a valid selection.
+//! What the facts find over packages is what the root reaches in an assignment of the search, and the content built of
+//! it is a valid selection.
 //!
-//! A law is a function that does nothing: its contract is the statement, and its body shows that the statement needs no code.
+//! The laws of `model` speak of an assignment of all vertices and of owners that the root reaches in it; a program has
+//! a list of packages that were met, flags of facts, and a content that was built of these. The laws here lead from the
+//! one to the other, whatever the assignment is: if it breaks no instance of an axiom, the content is a valid
+//! selection; if it has no states but those of a valid selection and absent, and the root alone brings all of that one,
+//! it is that selection. Where dependencies lead to their picks instead, it is the preferred walk. So the search and
+//! the walk go one way.
+//!
+//! A law is a function that does nothing: its contract is the statement, and its body shows that the statement needs no
+//! code.
 #![tactic(auto)]
 
 ghost use Rattle.std.specs.Prelude.{◌≡◌, ℕ, Bool, List};

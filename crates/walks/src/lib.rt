@@ -1,4 +1,18 @@
-//! The preferred walk: where each enabled dependency leads to the first candidate that it matches, in the order of preference.
+//! The preferred walk: where each enabled dependency leads to the first candidate that it matches, in the order of
+//! preference.
+//!
+//! It is what one expects of a resolver where nothing speaks against it: what the old lock has, and else the newest. It
+//! ignores conflicts, so it may end in two versions of one class, or lack a candidate: then there is no walk to give,
+//! and the search decides.
+//!
+//! What is hard is that which dependencies are enabled depends on the picks, and the other way round. So the picks of
+//! all dependencies are followed from the root on, enabled or not, each version once (`meeting.rt`); the facts are
+//! found over these, and `contents` keeps what is here. Loading has looked at all of these dependencies too. What comes
+//! of it is asked of `verify`, and so is right whatever the walk ignored.
+//!
+//! A layer above may rely on this: `preferred` gives the walk exactly where it is complete and a valid selection, its
+//! root without a checksum. There is one walk and no other (`there_is_one_walk`), by the model's order of preference
+//! (`ranks_are_preferences`).
 #![tactic(auto)]
 
 mod finding;
