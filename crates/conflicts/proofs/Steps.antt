@@ -136,7 +136,8 @@ module _ (old : List EntryView) (t : TrailView) (es : List EntryView) (current :
   pub trail_new : IsTrail new t
   trail_new = subst (λ (xs : List EntryView). IsTrail xs t) (sym d.grown) (trail_grown es (last ∷ []) t d.way.trail (subst (λ (xs : List EntryView). LieIn t xs) d.grown lies_new))
 
-  -- were the combination satisfied at the end of a lower level, the other terms of the current entry would be satisfied there
+  -- were the combination satisfied at the end of a lower level, the other terms of the current entry would be satisfied
+  -- there
   lone_new : IsLone new t id
   lone_new l lt sat = d.way.here.satisfier.satisfied.others_no l (let top = level_top es t current s sound d.way.lone d.way.here.satisfier d.asked.0 in omega (arith, lt, top))
       (combined_others (space_of t) (end_sets t l) s.vertex (entry es current).terms (entry es c).terms made d.way.here.is (d.way.trail.lies current d.way.within) (d.way.trail.lies c cause.0.within) d.combination
@@ -228,7 +229,8 @@ open_by sets f s after (Some x) is h shrinks some others not = (
     ]))
     apart false e = e
 
--- no lower level has one open term: at the satisfier's vertex, the others would be satisfied before the level where they came to be; elsewhere, all would be satisfied at that level, below the trail's own
+-- no lower level has one open term: at the satisfier's vertex, the others would be satisfied before the level where
+-- they came to be; elsewhere, all would be satisfied at that level, below the trail's own
 least_is : (es : List EntryView) (t : TrailView) (id : ℕ) (s : Satisfier) → IsSound t → IsLone es t id → IsSatisfierOf es t id s → s.before < t.level → (l : ℕ) → l < s.before → (v : ℕ) (x : Members) → IsOneOpen (end_sets t l) (terms_of es id) v x → ⊥
 least_is es t id s sound lone found low l lt v x one = elim (cases_eq v s.vertex) [
   | inl e ↦ found.satisfied.others_no l lt (subst (OthersHold (end_sets t l) (terms_of es id)) e one.others)

@@ -52,14 +52,16 @@ pub record IsCombined (es : List EntryView) (id : ℕ) : Type 0 where
   pub term : touches vertex (entry es first).terms ≡ true
   pub is : IsCombination vertex (entry es first).terms (entry es second).terms (entry es id).terms
 
--- a store gains combinations, at most one for each assignment of the trail, and no watched entry is satisfied at the end of an earlier level of that trail
+-- a store gains combinations, at most one for each assignment of the trail, and no watched entry is satisfied at the
+-- end of an earlier level of that trail
 pub record IsGained (old : List EntryView) (t : TrailView) (new gained : List EntryView) : Type 0 where
   pub grown : new ≡ old ++ gained
   pub few : length gained ≤ length t.steps
   pub combined : (id : ℕ) → length old ≤ id → id < length new → IsCombined new id
   pub quiet : Quiet new t t.level
 
--- the learned entry follows and is watched; the trail is cut to a level below its own, where one term of the entry is open and all others are satisfied, and no lower level has that
+-- the learned entry follows and is watched; the trail is cut to a level below its own, where one term of the entry is
+-- open and all others are satisfied, and no lower level has that
 pub record IsLearned (t : TrailView) (es : List EntryView) (new : TrailView) (id back_to : ℕ) : Type 0 where
   pub within : id < length es
   pub watches : watched (entry es id).origin ≡ true

@@ -157,7 +157,8 @@ pub fn resolve_conflict<S: States + Drop>(
             }
         };
         // Going back would undo the satisfier and other terms alike, and leave nothing to force. But whatever breaks
-        // the combination breaks one of the two, and it was satisfied before the satisfier was put.
+        // the combination breaks one of the two, and it was satisfied before the satisfier was put. The vertex has a
+        // term in `current`, which stands first: by that a derivation can name it.
         current = add_combination(alloc, trail, store, current, cause, vertex)?;
         found = satisfier_of(trail, store, current);
     }

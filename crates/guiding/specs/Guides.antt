@@ -224,8 +224,8 @@ pub record HasFollowed (g : EncodedView) (t : TrailView) (a : Answer) : Type 0 w
   pub selects : IsSome g.follows → walking.IsSelection a
   pub agrees : (x : Assignment) → Follows g x → Agrees x t.sets
 
--- the vertices have one number each and are all on the trail, each combination is at a vertex at which its first has a term, and this was
--- found; in a selection each vertex that has lost absent has one state
+-- the vertices have one number each and are all on the trail, each combination is at a vertex at which its first has a
+-- term, and this was found; in a selection each vertex that has lost absent has one state
 pub record HasSearched (q : Problem) (g : EncodedView) (t : TrailView) (es : List EntryView) (a : Answer) : Type 0 where
   pub numbering : IsNumbering q g.vertices
   pub whole : length g.vertices ≤ length t.sets

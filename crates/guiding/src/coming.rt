@@ -49,6 +49,7 @@ fn come_next<S: States + Drop>(
 {
     let space = space_at(alloc, inputs, table, asked.len())?;
     let none = S::empty(alloc, space)?;
+    // Room first, so that `asked` grows where the trail does.
     asked.reserve(1)?;
     store.is_proper();
     trail.grow(space)?;

@@ -85,6 +85,7 @@ impl<'a, S: States + Drop> Encoded<'a, S> {
         catalogues_are_well_formed(inputs.manifest, inputs.catalogue);
         let mut table = Table::new(alloc);
         let mut asked = Vec::new(alloc);
+        // The one pair with absent that has an instance; others are asked for when they come to stand alone.
         let root = table.put(VertexRef::Root)?;
         let given = axioms_at(alloc, &inputs, &mut table, root, 0)?;
         come(alloc, &inputs, &table, &mut asked, trail, store)?;
@@ -144,6 +145,7 @@ impl<'a, S: States + Drop> Encoded<'a, S> {
             vertex,
             state as usize,
         )?;
+        // The vertices first: the store may speak only of those that the trail has.
         come(
             self.alloc,
             &self.inputs,
@@ -271,6 +273,7 @@ impl<'a, S: States + Drop> Guide<S> for Encoded<'a, S> {
                 self.ask(trail, store, vertex, state)?;
                 Ok(true)
             }
+            // Nothing that stands alone is left to ask for. What the decision would bring is asked for before it.
             None => {
                 self.order.follow(trail, self.asked.len())?;
                 self.next = self.order.next(trail, self.asked.len())?;
@@ -309,6 +312,7 @@ impl<'a, S: States + Drop> Guide<S> for Encoded<'a, S> {
         _conflict: Id,
         _learned: Id,
     ) -> Result<(), AllocError> {
+        // What was seen at places that were cut may stand otherwise when they are filled again.
         self.order.cut(trail.places())?;
         if trail.places() < self.seen {
             self.seen = trail.places();

@@ -24,7 +24,7 @@ impl Leads {
     }
 
     /// Takes the vertices that the entries of a store speak of, from this one on, unless it was a lead that was asked
-    /// for: it leads no further.
+    /// for: it leads no further, else much would be asked for that no decision comes to.
     pub(crate) fn note<S: States + Drop>(
         &mut self,
         lead: Option<(usize, u32)>,

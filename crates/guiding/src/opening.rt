@@ -10,7 +10,7 @@ use crate::choosing::least;
 use propagation::Trail;
 use version_sets::States;
 
-/// A state, unless it was asked for or is absent.
+/// A state, unless it was asked for or is absent, which has no instances but the root's, stored from the start.
 pub(crate) fn unless_asked<S: States>(asked: &S, state: u32) -> Option<u32>
     ensures { IsUnless (S.tests asked.now) state result }
 {

@@ -17,7 +17,8 @@ struct Taken {
     places: usize,
 }
 
-/// The vertices that may have to be decided, in order. It only helps to find one soon: nothing rests on what it says.
+/// The vertices that may have to be decided, in order, so that not all vertices are gone over for each decision. It
+/// only helps to find one soon: nothing rests on what it says.
 #[derive(Drop)]
 pub(crate) struct Order {
     /// How far the number of each is from the greatest one, so the first vertex is the greatest candidate.
@@ -92,7 +93,7 @@ impl Order {
         Ok(None)
     }
 
-    /// Gives back what was taken when the trail had more places than are left of it.
+    /// Gives back what was taken when the trail had more places than are left of it: it may be undecided again.
     pub(crate) fn cut(&mut self, places: usize) -> Result<(), AllocError> {
         if places < self.followed {
             self.followed = places;

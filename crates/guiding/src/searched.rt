@@ -30,7 +30,8 @@ pub struct Searched<'a, S: States> {
 }
 
 /// Searches until there is an answer. A search that is given a valid selection decides as that one says, and ends with
-/// it.
+/// it: its states break no instance, so they stay among what is left, and nothing that follows can rule them out
+/// (`HasFollowed`).
 pub fn search_over<'a, S: States + Drop>(
     alloc: Global,
     inputs: Inputs<'a>,

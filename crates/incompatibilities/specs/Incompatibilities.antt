@@ -1,4 +1,5 @@
--- Incompatibilities, their combination at a vertex, and what an assignment breaks (Dart pub's `solver.md`, "Incompatibility" and "Conflict Resolution", over sets of states).
+-- Incompatibilities, their combination at a vertex, and what an assignment breaks (Dart pub's `solver.md`,
+-- "Incompatibility" and "Conflict Resolution", over sets of states).
 use Rattle.std.specs.Prelude.{◌≡◌, ℕ, ◌+◌, ◌<◌, ◌≤◌, ◌==◌, ◌⊎◌, true, false, List, [], ◌∷◌, length, Option, Some, None, if◌then◌else◌}
 use Rattle.version_sets.specs.Sets.{Members, has, is_full, join, meet}
 use Rattle.terms.specs.Terms.{TermView}

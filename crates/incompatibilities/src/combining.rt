@@ -24,7 +24,8 @@ fn push_kept<S: States + Drop>(
     Ok(())
 }
 
-/// A term whose vertex has none in the other incompatibility.
+/// A term whose vertex has none in the other incompatibility, where all states count: so the union with these is full
+/// and drops out, and the intersection is the term itself.
 fn push_lone<S: States + Drop>(
     alloc: Global,
     made: &mut Vec<Term<S>>,

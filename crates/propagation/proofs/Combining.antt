@@ -1,4 +1,5 @@
--- Where a combination is satisfied: with the cause of an assignment, before the assignment, if the first of the two is satisfied after it; and then the first of the two is satisfied too, but for its term at the vertex.
+-- Where a combination is satisfied: with the cause of an assignment, before the assignment, if the first of the two is
+-- satisfied after it; and then the first of the two is satisfied too, but for its term at the vertex.
 use Rattle.std.proofs.Common.{◌≡◌, ℕ, ◌<◌, Bool, true, false, cond, eq-eqb, List, [], ◌∷◌, length, Option, Some, None, refl, sym, ap, ◌∙◌, subst, arith, inl, inr}
 use Rattle.std.proofs.lemmas.Bool.{cases_eq, false≢true, ne_eqb}
 use Rattle.version_sets.specs.Sets.{Members, inside, is_full, join, meet, rest, size}

@@ -34,7 +34,8 @@ two_open i k n f ki lt e h = record {
   ];
 }
 
--- of the terms from m on: all are satisfied, or one is open and the others are satisfied; no earlier term changes what is quiet
+-- of the terms from m on: all are satisfied, or one is open and the others are satisfied; no earlier term changes what
+-- is quiet
 abbrev pub AllFrom : ℕ → ℕ → (ℕ → Relation) → Type 0
 AllFrom m n f = (i : ℕ) → m ≤ i → i < n → f i ≡ Satisfied
 

@@ -1,4 +1,5 @@
--- The number of places after which a term came to be satisfied, and the two greatest of such numbers (Dart pub's `solver.md`, "Conflict Resolution": the satisfier and the previous satisfier's level).
+-- The number of places after which a term came to be satisfied, and the two greatest of such numbers (Dart pub's
+-- `solver.md`, "Conflict Resolution": the satisfier and the previous satisfier's level).
 use Rattle.std.specs.Prelude.{◌≡◌, ◌≢◌, ℕ, zero, suc, nat_lt, ◌<◌, ◌≤◌, List, length, Some, if◌then◌else◌}
 use Rattle.version_sets.specs.Sets.{Members}
 use Rattle.terms.specs.Terms.{TermView}

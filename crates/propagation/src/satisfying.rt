@@ -106,6 +106,7 @@ impl<S: States + Drop> Trail<S> {
         requires holds { HoldsAt (set_of (trail_view S.tests self.now).sets term.now.vertex) (Some (S.tests term.now.states)) }
         ensures { IsCount (trail_view S.tests self.now) term.now.vertex (S.tests term.now.states) result }
     {
+        // Sets only shrink from place to place, so the last one before which a state outside the term was left is it.
         let mut link = self.latest[term.vertex];
         'back: while let Some(place) = link {
             if !self.steps[place].before.subset(&term.states) {

@@ -1,4 +1,5 @@
--- Where nothing is left to propagate, an assignment out of what is left breaks no entry in which at most one vertex is undecided.
+-- Where nothing is left to propagate, an assignment out of what is left breaks no entry in which at most one vertex is
+-- undecided.
 use Rattle.std.proofs.Common.{◌≡◌, ◌≢◌, ℕ, zero, suc, ◌<◌, Bool, true, false, List, [], ◌∷◌, length, Option, Some, None, refl, sym, subst, arith, inl, inr}
 use Rattle.std.proofs.lemmas.Bool.{cases_eq, false≢true}
 use Rattle.version_sets.specs.Sets.{Members, has, inside, meets}

@@ -15,7 +15,8 @@ abbrev pub firsts : ℕ → (ℕ → ℕ) → List ℕ
 firsts zero f = []
 firsts (suc n) f = firsts n f ++ f n ∷ []
 
--- how many states are left at the end of a level, and how many there were; the vertices that are still to come have all of theirs, `late` in all
+-- how many states are left at the end of a level, and how many there were; the vertices that are still to come have all
+-- of theirs, `late` in all
 abbrev pub sum_at : ℕ → TrailView → ℕ → ℕ
 sum_at late t l = total (end_sets t l) + late
 

@@ -12,7 +12,8 @@ use Rattle.searching.specs.declared.turns.Answer.TheVariants.{Selection, Unsolva
 use Rattle.searching.specs.declared.turns.Turn.{Turn}
 use Rattle.searching.specs.declared.turns.Turn.TheVariants.{Goes, Ends}
 
--- vertices come, and axioms of new pairs: some pair is taken off those that are left, or no axiom is added and no pair is left that stands alone
+-- vertices come, and axioms of new pairs: some pair is taken off those that are left, or no axiom is added and no pair
+-- is left that stands alone
 pub record IsAdding (asked more : Pairs) (left fewer late later : ℕ) (t wide : TrailView) (old new : List EntryView) (added : Bool) : Type 0 where
   pub spaces : List ℕ
   pub wider : IsWider spaces t wide

@@ -22,7 +22,8 @@ abbrev pub RefutesNothing : Turn → Type 0
 RefutesNothing (Goes next) = Unit {0}
 RefutesNothing (Ends answer) = IsSelection answer
 
--- each such assignment of the vertices that there are afterwards was one before, and if it broke no entry and its states were left, that is so afterwards too
+-- each such assignment of the vertices that there are afterwards was one before, and if it broke no entry and its
+-- states were left, that is so afterwards too
 abbrev pub KeepsWalks : (Assignment → Type 0) → List EntryView → TrailView → (Assignment → Type 0) → List EntryView → TrailView → Type 0
 KeepsWalks was es t is more new = (x : Assignment) → is x → was x × (IsWalked x es t → IsWalked x more new)
 

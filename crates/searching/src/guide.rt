@@ -30,7 +30,8 @@ pub trait Guide<S: States + Drop>: Sized {
     /// How many pairs there are still.
     ghost left: { Self → ℕ };
 
-    /// How many places of the trail were looked at; a pair that stood alone after them was asked for.
+    /// How many places of the trail were looked at; a pair that stood alone after them was asked for. So a guide has to
+    /// look only at later ones: a cut takes seen places off, and none of the others is looked at again.
     ghost seen: { Self → ℕ };
 
     /// No vertex is to be decided.
@@ -56,6 +57,9 @@ pub trait Guide<S: States + Drop>: Sized {
 
     /// Puts the axioms of pairs that stand alone now into the store, and says whether there were any. The vertices
     /// that these speak of first come onto the trail.
+    ///
+    /// Each has a term of one state, for a pair that wasn't asked for, at a vertex that was there before. At the end of
+    /// each earlier level all pairs that stood alone had been asked for, so the axiom isn't satisfied there.
     fn axioms(&mut self, trail: &mut Trail<S>, store: &mut Store<S>) -> Result<bool, AllocError>
         requires trail { IsTrail (entries_view S.tests store.old) (trail_view S.tests trail.old) }
         requires spaces { HasSpaces (spaces self.old) (trail_view S.tests trail.old) }

@@ -92,6 +92,7 @@ fn turn_back<S: States + Drop, G: Guide<S>>(
     *steps = with_conflict(*steps, before, store.len());
     match outcome {
         Outcome::Learned { id: learned, .. } => {
+            // Before propagation, so that the guide finds the trail as the cut has left it.
             guide.noted(trail, store, id, learned)?;
             Ok(Turn::Goes(trail.propagate(store)?))
         }
@@ -121,6 +122,7 @@ fn turn_on<S: States + Drop, G: Guide<S>>(
     ensures walks { IfOk result (λ r. KeepsWalks (G.walks guide.old) (entries_view S.tests store.old) (trail_view S.tests trail.old) (G.walks guide.new) (entries_view S.tests store.new) (trail_view S.tests trail.new)) }
     ensures turns { IfOk result (λ r. TurnsOn (G.walks guide.new) (entries_view S.tests store.old) (trail_view S.tests trail.old) r) }
 {
+    // Axioms first: where none is left to ask for and nothing to decide, that is a selection.
     if guide.axioms(trail, store)? {
         return Ok(Turn::Goes(trail.propagate(store)?));
     }
@@ -191,6 +193,7 @@ pub fn search<S: States + Drop, G: Guide<S>>(
     ensures selects { IfOk result (λ f. (x : Assignment) → G.walks guide.new x → IsWalked x (entries_view S.tests store.old) (trail_view S.tests trail.old) → IsSelection f.answer) }
 {
     let mut steps = 0;
+    // An entry that is there from the start may force something, or be satisfied.
     let mut progress = trail.propagate(store)?;
     'turns: loop {
         match one_turn(alloc, guide, trail, store, &mut steps, progress)? {

@@ -75,6 +75,7 @@ pub fn solve(
         default: &default,
     };
     walks_are_unique();
+    // Where there is one, the search decides as it says, and has nothing to go back from.
     let walk = preferred(alloc, manifest, catalogue)?;
     let searched: Searched<'_, WordStates> = search_over(alloc, inputs, walk)?;
     let steps = searched.found.steps;

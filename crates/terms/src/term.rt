@@ -36,6 +36,7 @@ impl<S: States> Term<S> {
         requires { length (S.tests set.now) ≡ length (S.tests self.now.states) }
         ensures { result ≡ relation_of (S.tests set.now) (S.tests self.now.states) }
     {
+        // First, for a set with no state left is disjoint from all and within all: it satisfies nothing.
         if set.disjoint(&self.states) {
             Relation::Contradicted
         } else if set.subset(&self.states) {

@@ -1,4 +1,5 @@
--- Sets of numbers below a universe, each as the list of its tests, with the operations of set theory on them (Dart pub's `solver.md`, "Term": a term is a set of allowed versions).
+-- Sets of numbers below a universe, each as the list of its tests, with the operations of set theory on them (Dart
+-- pub's `solver.md`, "Term": a term is a set of allowed versions).
 use Rattle.std.specs.Prelude.{ℕ, ◌+◌, Bool, true, false, not, ◌&&◌, ◌||◌, List, [], ◌∷◌, map, replicate, slice_index_or, slice_set}
 use Rattle.std.specs.List.{list_all, zip}
 

@@ -1,4 +1,5 @@
--- A package that holds itself, in a ring that the root doesn't need: the selection is valid, and the root alone doesn't bring it.
+-- A package that holds itself, in a ring that the root doesn't need: the selection is valid, and the root alone doesn't
+-- bring it.
 use Rattle.std.proofs.Common.{◌≡◌, ℕ, zero, suc, [], ◌∷◌, Contains, Some, slice_get, refl, sym, ap, ◌∙◌, subst, subst₂, false, true≢false, arith}
 use Rattle.std.proofs.lemmas.Option.{none-some, same_Some}
 use Rattle.model.specs.Summary.{Dependency, Table, dependency, asked_of_target}
