@@ -90,7 +90,7 @@ fn is_needed_unmatched(known: &Known<'_>, owner: &OwnerRef<'_>, dependency: &Dep
     is_needed(owner, dependency) && is_unmatched(known, dependency)
 }
 
-/// The names that entries enable.
+/// The names that entries enable, as a set: a feature may have as many entries as its package has dependencies.
 fn enabled_names<'a>(alloc: Global, entries: &'a [Entry]) -> Result<BTreeSet<&'a str>, AllocError>
     ensures { IfOk result (λ names. HasThose names.keys (λ d. list_any (enables d) (entry_views entries.entry.now))) }
 {
