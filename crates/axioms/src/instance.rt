@@ -1,4 +1,5 @@
-//! Whether terms are those of an instance of an axiom: what may want memory is found first, and the decision is without.
+//! Whether terms are those of an instance of an axiom: what may want memory is found first, and the decision is
+//! without.
 
 ghost use Rattle.std.specs.Prelude.{◌≡◌, ◌&&◌, IfOk};
 ghost use Rattle.vertices.specs.Kinds.{kind_view};

@@ -1,4 +1,5 @@
--- The packages of a valid selection, in a run over the same index whose old lock has those of them that are yanked: each has a name that is asked for.
+-- The packages of a valid selection, in a run over the same index whose old lock has those of them that are yanked:
+-- each has a name that is asked for.
 use Rattle.std.proofs.Common.{◌≡◌, ℕ, List, Bool, true, false, not, ◌||◌, cond, Contains, Option, Some, slice_get, refl, sym, ap, ◌∙◌, subst, true≢false}
 use Rattle.std.proofs.lemmas.Bool.{or_left, or_right}
 use Rattle.std.proofs.lemmas.Option.{same_Some}

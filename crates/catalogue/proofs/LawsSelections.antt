@@ -1,4 +1,5 @@
--- The packages of a valid selection are the same candidates in a run over the same index whose old lock has those of them that are yanked.
+-- The packages of a valid selection are the same candidates in a run over the same index whose old lock has those of
+-- them that are yanked.
 use Rattle.std.proofs.Common.{◌≡◌, ℕ, List, cond, Contains, Option, Some, None, option_and_then, sym, ap, ◌∙◌}
 use Rattle.std.proofs.lemmas.Option.{slice_get_within}
 use Rattle.model.specs.Content.{Candidate, Content, Package, Problem, candidates_of, candidate_at, candidate_of, if_checksum, same_option}

@@ -1,5 +1,5 @@
--- How loading ends, by the calls of the folder (Cargo book, "Registry Index"; the limits, and the checksums that are held against an old lock,
--- are our own).
+-- How loading ends, by the calls of the folder (Cargo book, "Registry Index"; the limits, and the checksums that are
+-- held against an old lock, are our own).
 use Rattle.std.specs.Prelude.{◌≡◌, ◌<◌, ◌≤◌, ◌⊎◌, ℕ, Bool, false, not, ◌&&◌, if◌then◌else◌, List, [], ◌∷◌, ◌++◌, length, map, flat_map, Option, Some, None, option_map, Result, Ok, Err, Vec, string_bytes}
 use Rattle.std.specs.Borrow.{Bor}
 use Rattle.std.specs.List.{All}
@@ -78,7 +78,8 @@ pub record HasTooManyLines {S : Type 0} (calls : Calls S) (before : S) (name : L
 abbrev pub IsAskedAtMost : {S : Type 0} → Calls S → S → List ℕ → S → Type 0
 IsAskedAtMost calls before name after = (after ≡ before) ⊎ ((answer : Answer) × calls before (path_of name) answer after)
 
--- how reading the file of a name ends with a fault: where the folder failed, the count of its failures rose in this call
+-- how reading the file of a name ends with a fault: where the folder failed, the count of its failures rose in this
+-- call
 abbrev pub Fails : {S : Type 0} → Calls S → (S → ℕ) → S → List ℕ → LoadFault → S → Type 0
 Fails calls failed before name fault.OutOfMemory after = IsAskedAtMost calls before name after
 Fails calls failed before name (fault.FolderFailed path) after =
@@ -136,7 +137,8 @@ module _ (old : Content) (source : List ℕ) (rust : Option RustVersion) where
   abbrev pub ranked_in : Asked → List Ranked
   ranked_in a = ranked_among (is_locked old source a.0) rust (records_of a)
 
-  -- the folder answered for a name with a file within the limits; these are the candidates, and these the skips before and after
+  -- the folder answered for a name with a file within the limits; these are the candidates, and these the skips before
+  -- and after
   pub record IsAsked {S : Type 0} (calls : Calls S) (before : S) (name : List ℕ) (skipped : List SkipView) (found : List Ranked) (after : S) (skips : List SkipView) : Type 0 where
     pub answer : Option (List ℕ)
     pub call : calls before (path_of name) (Ok answer) after

@@ -37,7 +37,8 @@ problem_in manifest index = record {
   candidates = rows_by_name index;
 }
 
--- a whole run of the folder for this manifest, with this old lock and this source, gives what a selection is held against
+-- a whole run of the folder for this manifest, with this old lock and this source, gives what a selection is held
+-- against
 pub record IsProblemOfRun {S : Type 0} (calls : Calls S) (before : S) (manifest : ManifestView) (old : Content) (source : List ℕ) (q : Problem) (after : S) : Type 0 where
   pub asked : List Asked
   pub run : IsRun old source manifest.brings.dependencies calls before asked after

@@ -1,4 +1,5 @@
--- Where a candidate stands in the order of preference (Cargo book, "Dependency Resolution", yanked versions and "Rust version").
+-- Where a candidate stands in the order of preference (Cargo book, "Dependency Resolution", yanked versions and "Rust
+-- version").
 use Rattle.std.specs.Prelude.{◌≡◌, ℕ, zero, suc, Bool, true, false, List, [], ◌∷◌, ◌++◌, Option, Some, None, map, filter, length, slice_get}
 use Rattle.std.specs.List.{All}
 use Rattle.semver.specs.Parse.{Parts}

@@ -1,5 +1,5 @@
--- The run of a folder: which names are asked for, in which order, and what the folder answers (Cargo book, "Registry Index"; the order is our
--- own). The index of a run is the list of names with these answers.
+-- The run of a folder: which names are asked for, in which order, and what the folder answers (Cargo book, "Registry
+-- Index"; the order is our own). The index of a run is the list of names with these answers.
 use Rattle.std.specs.Prelude.{◌≡◌, ℕ, List, [], ◌∷◌, ◌++◌, Option, Some, None, Ok, map, filter, not, length, slice_get, flat_map}
 use Rattle.model.specs.Summary.{Dependency, same_text}
 use Rattle.model.specs.Content.{Content}
@@ -51,7 +51,8 @@ module _ (old : Content) (source : List ℕ) where
 
 -- in such a run for a root with these dependencies
 module _ (old : Content) (source : List ℕ) (root : List Dependency) where
-  -- the names in the order in which they are asked for: what the root needs, then name after name what its candidates need, each once
+  -- the names in the order in which they are asked for: what the root needs, then name after name what its candidates
+  -- need, each once
   abbrev pub names_after : List Asked → List (List ℕ)
   names_after asked = once (meant_by root ++ flat_map (needed_by old source) asked)
 

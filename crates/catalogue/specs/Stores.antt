@@ -1,4 +1,5 @@
--- What a loaded index holds: for each name that was asked for its candidates, oldest first, each with its rank (Cargo book, "Registry Index").
+-- What a loaded index holds: for each name that was asked for its candidates, oldest first, each with its rank (Cargo
+-- book, "Registry Index").
 use Rattle.std.specs.Prelude.{◌≢◌, ◌≤◌, ℕ, length, if◌then◌else◌, List, [], ◌∷◌, map, Option, Some, None, unwrap_or}
 use Rattle.std.specs.List.{All, AllPairs, zip}
 use Rattle.semver.specs.Parse.{Parts}
@@ -51,7 +52,8 @@ row_of p = (p.0, candidates_view p.1)
 abbrev pub rows_view : List (List ℕ) → List Candidates → List Row
 rows_view names cs = map row_of (zip names cs)
 
--- each name once, the versions of each rising by precedence, and not too many, each with a feature table that knows its features
+-- each name once, the versions of each rising by precedence, and not too many, each with a feature table that knows its
+-- features
 pub record IsStore (c : CatalogueView) : Type 0 where
   pub names_distinct : AllPairs (λ a b. a.0 ≢ b.0) c.rows
   pub versions_rise : All (λ row. AreRising row.1) c.rows

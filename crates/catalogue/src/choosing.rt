@@ -106,7 +106,8 @@ fn rank_of(locked: bool, needed: Option<RustVersion>, given: Option<RustVersion>
     }
 }
 
-/// Whether what a record needs fits the Rust version to go by: one that names none fits each, and without one to go by each fits.
+/// Whether what a record needs fits the Rust version to go by: one that names none fits each, and without one to go by
+/// each fits.
 fn fits(needed: Option<RustVersion>, given: Option<RustVersion>) -> bool
     ensures { result ≡ fits_given (option_map rust_version_view given) (option_map rust_version_view needed) }
 {

@@ -1,7 +1,7 @@
 //! The laws of a run: what holds of the selections that its index allows.
 //!
-//! A law is a function that does nothing: its contract is the statement, and its body shows that the statement needs no code, or only a call whose
-//! contract says it.
+//! A law is a function that does nothing: its contract is the statement, and its body shows that the statement needs no
+//! code, or only a call whose contract says it.
 
 ghost use Rattle.std.specs.Prelude.{◌≡◌, ◌≤◌, ℕ, List, [], Option, Some, Contains, length};
 ghost use Rattle.model.specs.Content.{Content, Package};
@@ -17,15 +17,16 @@ ghost use Rattle.catalogue.specs.Problems.{IsRunOver, KeepsYanked, names_in, pro
 use crate::store::Catalogue;
 use manifest::Manifest;
 
-/// What a selection is held against, for a manifest and a loaded index, is a catalogue: each name once, its versions rising by precedence, and
-/// each feature table knowing its features.
+/// What a selection is held against, for a manifest and a loaded index, is a catalogue: each name once, its versions
+/// rising by precedence, and each feature table knowing its features.
 pub fn catalogues_are_well_formed(manifest: &Manifest, catalogue: &Catalogue)
     ensures { IsCatalogue (problem_in manifest.now catalogue.now) }
 {
     let _ = catalogue.names();
 }
 
-/// What a run asks for makes a catalogue: each name once, its versions rising by precedence, and each feature table knowing its features.
+/// What a run asks for makes a catalogue: each name once, its versions rising by precedence, and each feature table
+/// knowing its features.
 pub fn runs_make_catalogues()
     ensures { (manifest : ManifestView) (old : Content) (source : List ℕ) (asked : List Asked)
         → AreNext old source manifest.brings.dependencies [] asked → IsCatalogue (problem_of manifest old source asked) }
@@ -45,7 +46,8 @@ pub fn selected_names_are_asked_for()
         → Contains (names_in asked) p.name }
 {}
 
-/// Over a fixed index, each package of a valid selection, other than the root, has the checksum of the record of its name and version.
+/// Over a fixed index, each package of a valid selection, other than the root, has the checksum of the record of its
+/// name and version.
 pub fn selections_have_their_checksums()
     ensures { (files : List ℕ → Option (List ℕ)) (manifest : ManifestView) (old : Content) (source : List ℕ) (asked : List Asked) (content : Content)
         → IsRunOver files manifest old source asked → IsValidSelection (problem_of manifest old source asked) content

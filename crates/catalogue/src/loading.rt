@@ -32,10 +32,12 @@ use std::alloc::{AllocError, Global};
 /// How many names a run asks for at most.
 const MAX_NAMES: usize = 65_536;
 
-/// Asks the folder for the names that the root's dependencies and, name after name, those of the candidates mean, each name once.
+/// Asks the folder for the names that the root's dependencies and, name after name, those of the candidates mean, each
+/// name once.
 ///
-/// A candidate is a record that isn't yanked, or whose name, version and source stand in the old lock. The folder's failures, the limits and a
-/// changed checksum of a locked package are faults; then there is no catalogue, and the folder was asked for the names so far.
+/// A candidate is a record that isn't yanked, or whose name, version and source stand in the old lock. The folder's
+/// failures, the limits and a changed checksum of a locked package are faults; then there is no catalogue, and the
+/// folder was asked for the names so far.
 pub fn load<F: Folder>(
     alloc: Global,
     manifest: &Manifest,

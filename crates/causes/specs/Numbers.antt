@@ -20,7 +20,8 @@ same_ref = on owner_ref_view same_owner
 abbrev pub same_row : Row → Row → Bool
 same_row x y = same_ref x.0 y.0 && pointwise nat_eq x.1.now y.1.now
 
--- the first dependency that entries of the feature enable and no candidate serves: none of the root, which has no such entries
+-- the first dependency that entries of the feature enable and no candidate serves: none of the root, which has no such
+-- entries
 abbrev pub enabled_by : Problem → Owner → List ℕ → Option ℕ
 enabled_by q the_root f = None
 enabled_by q (version_of name v) f = enabled_unmatched q name v f

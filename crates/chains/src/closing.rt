@@ -10,8 +10,8 @@ use std::alloc::{AllocError, Global};
 
 /// Marks all that the rules give from what is marked, each fact once: rules · log.
 ///
-/// `alloc` is where the facts wait meanwhile. The only error is want of memory; then some of what is given is marked, and
-/// nothing else.
+/// `alloc` is where the facts wait meanwhile. The only error is want of memory; then some of what is given is marked,
+/// and nothing else.
 pub fn close(alloc: Global, marked: &mut [bool], rules: &[Rule]) -> Result<(), AllocError>
     requires below { AreBelow (length marked.old) rules.now }
     ensures length { length marked.new ≡ length marked.old }

@@ -1,4 +1,5 @@
--- When the terms of a step say at a vertex what the combination of two others says there (the rule of resolution of Dart pub's `solver.md`).
+-- When the terms of a step say at a vertex what the combination of two others says there (the rule of resolution of
+-- Dart pub's `solver.md`).
 use Rattle.std.specs.Prelude.{List, Bool, ◌&&◌, ◌||◌}
 use Rattle.std.specs.List.{list_all}
 use Rattle.model.specs.Content.{Problem}

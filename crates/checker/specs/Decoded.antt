@@ -1,4 +1,5 @@
--- When what the numbers of steps stand for is at hand: an order of the vertices, and the sets of states (the layout is this project's).
+-- When what the numbers of steps stand for is at hand: an order of the vertices, and the sets of states (the layout is
+-- this project's).
 use Rattle.std.specs.Prelude.{◌≡◌, ℕ, ◌<◌, ◌≤◌, List, [], filter, length, slice_index_or, Option, Some, None, option_map}
 use Rattle.std.specs.Ordering.{is_lt, nat_cmp}
 use Rattle.model.specs.Order.{text_cmp}

@@ -1,4 +1,5 @@
--- How what a check answers is printed: a refused step by its number, with the number and the name of the reason (the texts are this project's).
+-- How what a check answers is printed: a refused step by its number, with the number and the name of the reason (the
+-- texts are this project's).
 use Rattle.std.specs.Prelude.{ℕ, List, ◌++◌, codes, decimal}
 use Rattle.checker.specs.declared.outcome.Check.{Check}
 use Rattle.checker.specs.declared.outcome.Check.TheVariants.{Proves, Refused}

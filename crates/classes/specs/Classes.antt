@@ -1,4 +1,5 @@
--- The class of a version as a type of the program, and its text (Cargo book, "Dependency Resolution", "SemVer compatibility").
+-- The class of a version as a type of the program, and its text (Cargo book, "Dependency Resolution", "SemVer
+-- compatibility").
 use Rattle.std.specs.Prelude.{ℕ, ◌∷◌, List}
 use Rattle.std.specs.Fmt.{decimal}
 use Rattle.model.specs.Selection as model

@@ -1,4 +1,5 @@
--- Which versions a requirement matches, class by class (Cargo book, "Specifying Dependencies"; "Dependency Resolution", "SemVer compatibility").
+-- Which versions a requirement matches, class by class (Cargo book, "Specifying Dependencies"; "Dependency Resolution",
+-- "SemVer compatibility").
 use Rattle.std.specs.Prelude.{◌≡◌, ℕ, suc, List, [], ◌∷◌, ◌++◌, map, filter, Bool, false, not, ◌&&◌, if◌then◌else◌, Vec}
 use Rattle.std.specs.declared.alloc.Global.{Global}
 use Rattle.std.specs.List.{AllPairs}

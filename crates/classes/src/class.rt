@@ -9,8 +9,8 @@ ghost use Rattle.classes.specs.Classes.{class_view, class_text};
 use semver::Version;
 use std::fmt;
 
-/// The leftmost nonzero number of a version with the numbers before it: a lock holds at most one version of a name in each class (Cargo book,
-/// "Dependency Resolution", "SemVer compatibility"). Classes are ordered as their versions are.
+/// The leftmost nonzero number of a version with the numbers before it: a lock holds at most one version of a name in
+/// each class (Cargo book, "Dependency Resolution", "SemVer compatibility"). Classes are ordered as their versions are.
 #[derive(Clone, Copy, Debug, PartialEq, Eq, PartialOrd, Ord, Hash)]
 pub enum Class {
     /// `0.0.N`

@@ -12,8 +12,8 @@ use crate::class::Class;
 use semver::{Version, VersionReq};
 use std::alloc::{AllocError, Global};
 
-/// The positions of the versions that a requirement matches, by class: rising in each class, and the classes in the order of their oldest
-/// versions.
+/// The positions of the versions that a requirement matches, by class: rising in each class, and the classes in the
+/// order of their oldest versions.
 ///
 /// The versions are sorted by precedence, the oldest first, and are at most 65,535.
 pub fn matching(

@@ -15,8 +15,8 @@ pub struct RustVersion {
 }
 
 impl RustVersion {
-    /// The Rust version that a text is: one to three whole numbers of 64 bits in decimal without leading zeros, joined by `.`; those that are
-    /// missing are 0.
+    /// The Rust version that a text is: one to three whole numbers of 64 bits in decimal without leading zeros, joined
+    /// by `.`; those that are missing are 0.
     pub fn parse(text: &str) -> Option<RustVersion>
         ensures { option_map rust_version_view result ≡ rust_version_of text.now }
     {

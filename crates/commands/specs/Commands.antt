@@ -80,7 +80,8 @@ module _ {F : Type 0} (reads : Reads) (opens : List ℕ → F → Type 0) (calls
     pub after : F
     pub verifies : Verifies calls failed (record { manifest = bytes.items; old = Some locked.items; source = from; prefer = Newest }) folder said after
 
-  -- the answer to the manifest, and to the old lock if there is one, that lie where the words say, or the fault of what was read
+  -- the answer to the manifest, and to the old lock if there is one, that lie where the words say, or the fault of what
+  -- was read
   pub record IsAnswerTo (manifest index : List ℕ) (lock source : Option (List ℕ)) (rust_first : Bool) (said : Result Answer Fault) : Type 0 where
     pub bytes : Vec ℕ Global
     pub manifest_read : reads manifest most_of_manifest (Ok bytes)
@@ -140,7 +141,8 @@ abbrev pub IsFiled : Writes → Option (List ℕ) → Answer → Type 0
 IsFiled writes path (Lock bytes kept skips) = Unit {0}
 IsFiled writes path (Unsolvable derivation text skips) = IsKept writes path derivation (Ok tt)
 
--- an answer that there is can't be written: a write of the lock to standard output failed, or one of the derivation to its file
+-- an answer that there is can't be written: a write of the lock to standard output failed, or one of the derivation to
+-- its file
 abbrev pub IsUnwritten : Writes → (List ℕ → Type 0) → Option (List ℕ) → Answer → Stop → Type 0
 IsUnwritten writes fails path (Lock bytes kept skips) stop = (stop_view stop ≡ cannot_write) × fails bytes.items
 IsUnwritten writes fails path (Unsolvable derivation text skips) stop = IsKept writes path derivation (Err stop)

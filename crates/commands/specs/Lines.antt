@@ -1,4 +1,5 @@
--- The lines that a run prints and the statuses that it ends with (docs/FORMATS.md retells them; all are this project's own).
+-- The lines that a run prints and the statuses that it ends with (docs/FORMATS.md retells them; all are this project's
+-- own).
 use Rattle.std.specs.Prelude.{◌≡◌, ℕ, Bool, true, false, ◌&&◌, List, [], ◌∷◌, ◌++◌, map, Option, Result, Ok, Err, codes, decimal, string_bytes}
 use Rattle.std.specs.Io.KnownBytes.{Appends}
 use Rattle.checker.specs.declared.outcome.Check.{Check}

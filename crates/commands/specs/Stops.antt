@@ -7,7 +7,8 @@ use Rattle.resolver.specs.declared.fault.Fault.TheVariants.{OutOfMemory}
 use Rattle.commands.specs.declared.stop.Stop.{Stop}
 use Rattle.commands.specs.declared.stop.Stop.TheVariants as stop
 
--- a fault of what was read, a `--source` that is none, a file that can't be read, standard output or a file that can't be written
+-- a fault of what was read, a `--source` that is none, a file that can't be read, standard output or a file that can't
+-- be written
 pub data StopView : Type 0 where
   fault : CheckFault → StopView
   bad_source : StopView

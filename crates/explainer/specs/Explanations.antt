@@ -21,7 +21,8 @@ refers_at (Some s) m = refers_to s m
 abbrev pub with_later : List Step → ℕ → List ℕ → List ℕ
 with_later steps n later = if list_any (λ m. refers_at (slice_get steps m) n) later then n ∷ later else later
 
--- of so many numbers from this one to that of the last step those of needed steps: the last one, and each that a needed one combines
+-- of so many numbers from this one to that of the last step those of needed steps: the last one, and each that a needed
+-- one combines
 unfoldable pub needed_from : List Step → ℕ → ℕ → List ℕ
 needed_from steps n zero = []
 needed_from steps n (suc zero) = n ∷ []

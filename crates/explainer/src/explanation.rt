@@ -14,7 +14,8 @@ use derivations::{Derivation, Origin, Step, Term};
 use std::alloc::{AllocError, Global};
 use vertices::Kind;
 
-/// The needed steps of a derivation as a text: the last one, and each that a needed one combines, in order and numbered from 1.
+/// The needed steps of a derivation as a text: the last one, and each that a needed one combines, in order and numbered
+/// from 1.
 pub fn explain(alloc: Global, derivation: &Derivation) -> Result<String, AllocError>
     ensures { IfOk result (λ t. string_bytes t ≡ explanation_of derivation.now) }
 {

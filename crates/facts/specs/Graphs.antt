@@ -1,5 +1,5 @@
--- Packages with where their dependencies lead, and the facts that finite chains of reasons give of them (Cargo book, "Features"). What they
--- are, packages of a lock or versions that a walk meets, is said by those who make the list.
+-- Packages with where their dependencies lead, and the facts that finite chains of reasons give of them (Cargo book,
+-- "Features"). What they are, packages of a lock or versions that a walk meets, is said by those who make the list.
 use Rattle.std.specs.Prelude.{◌≡◌, ◌<◌, ℕ, Bool, true, false, List, [], map, Option, Some, None, slice_get, slice_index_or, option_and_then, unwrap_or, length}
 use Rattle.std.specs.List.{All}
 use Rattle.features.specs.Views.{summary_view}

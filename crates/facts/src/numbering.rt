@@ -11,7 +11,8 @@ use features::{Dependency, FeatureTable, Summary};
 use std::alloc::{AllocError, Global};
 use std::collections::BTreeMap;
 
-/// The packages with the numbers of their facts. What is marked from the start is put to `marked`, a flag for each fact.
+/// The packages with the numbers of their facts. What is marked from the start is put to `marked`, a flag for each
+/// fact.
 pub(crate) fn places_of<'a>(
     alloc: Global,
     nodes: &[Node<'a>],

@@ -44,6 +44,7 @@ abbrev pub dependency_or : Option (List ℕ) → List ℕ → Option Entry
 dependency_or (Some d) text = dependency_of d
 dependency_or None text = asking_or (around 47 text) text
 
--- after `dep:` a package name; else, with a `/`, a package name before the first one and a feature name after it; else a feature name
+-- after `dep:` a package name; else, with a `/`, a package name before the first one and a feature name after it; else
+-- a feature name
 abbrev pub entry_of : List ℕ → Option Entry
 entry_of text = dependency_or (after_text (codes "dep:") text) text

@@ -1,4 +1,5 @@
--- Which texts are names of packages and of features (Cargo book, "The Manifest Format", `name` and `[features]`; ASCII alone here).
+-- Which texts are names of packages and of features (Cargo book, "The Manifest Format", `name` and `[features]`; ASCII
+-- alone here).
 use Rattle.std.specs.Prelude.{ℕ, Bool, ◌&&◌, ◌||◌, ◌==◌, nat_le, List, length}
 use Rattle.std.specs.List.{list_all}
 

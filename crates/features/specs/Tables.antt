@@ -1,4 +1,5 @@
--- A feature table as its rows: the features in the order of their names, each with its entries (Cargo book, "Features").
+-- A feature table as its rows: the features in the order of their names, each with its entries (Cargo book,
+-- "Features").
 use Rattle.std.specs.Prelude.{ℕ, Bool, true, false, List, [], ◌∷◌, map, Result, Ok, Err, Vec, codes}
 use Rattle.std.specs.declared.alloc.Global.{Global}
 use Rattle.model.specs.Summary.{Table}

@@ -25,7 +25,8 @@ pub struct DepName {
     pub optional: bool,
 }
 
-/// Why a feature table is refused: the lowest of its faults, at the first feature that has it by the bytes of the names.
+/// Why a feature table is refused: the lowest of its faults, at the first feature that has it by the bytes of the
+/// names.
 #[derive(Debug, Drop, PartialEq, Error)]
 pub enum FeatureFault {
     #[error("out of memory")]
@@ -52,7 +53,8 @@ impl From<AllocError> for FeatureFault {
     }
 }
 
-/// The features of a package, each with its entries, by the bytes of their names: implicit features and `default` are among them.
+/// The features of a package, each with its entries, by the bytes of their names: implicit features and `default` are
+/// among them.
 #[derive(Drop)]
 pub struct FeatureTable {
     features: BTreeMap<FeatureName, Vec<Entry>>,
@@ -77,8 +79,9 @@ impl FeatureTable {
         })
     }
 
-    /// The table of a package with these dependencies that writes these features: with an implicit feature for each optional dependency that
-    /// no entry `dep:d` names and no feature is called by, and with `default` (Cargo book, "Features" and "Optional dependencies").
+    /// The table of a package with these dependencies that writes these features: with an implicit feature for each
+    /// optional dependency that no entry `dep:d` names and no feature is called by, and with `default` (Cargo book,
+    /// "Features" and "Optional dependencies").
     ///
     /// # Errors
     /// The lowest fault, at the first feature that has it by the bytes of the names.

@@ -1,4 +1,5 @@
--- In package order the packages of a name stand side by side: what is looked for by name isn't among those of lower names.
+-- In package order the packages of a name stand side by side: what is looked for by name isn't among those of lower
+-- names.
 use Rattle.std.proofs.Common.{◌≡◌, ℕ, zero, suc, ◌<◌, ◌≤◌, Bool, true, false, cond, ◌&&◌, List, [], ◌∷◌, drop, find, length, get_or, map, Some, option_map, slice_get, is_some, refl, sym, ap, ◌∙◌, subst, arith, inl, inr, true≢false}
 use Rattle.std.specs.List.{AllWithin}
 use Rattle.std.specs.List.Sorted.{IsPartitionedBy}

@@ -1,5 +1,5 @@
--- What a file of an index says: its lines, and of these the records and the skips (Cargo book, "Registry Index"; skipping, and one version of
--- equal precedence a file, are our own).
+-- What a file of an index says: its lines, and of these the records and the skips (Cargo book, "Registry Index";
+-- skipping, and one version of equal precedence a file, are our own).
 use Rattle.std.specs.Prelude.{ℕ, ◌+◌, ◌-◌, ◌==◌, ◌&&◌, ◌||◌, Bool, not, if◌then◌else◌, List, [], ◌∷◌, ◌++◌, length, count_by, slice_index, Ok, Err}
 use Rattle.std.specs.List.{list_all, list_any, slice_split}
 use Rattle.std.specs.Ordering.{is_eq}

@@ -1,4 +1,5 @@
--- What a folder of files answers for a path, and when a call of it may fail (Cargo book, "Registry Index"; the counting of failures is our own).
+-- What a folder of files answers for a path, and when a call of it may fail (Cargo book, "Registry Index"; the counting
+-- of failures is our own).
 use Rattle.std.specs.Prelude.{◌≡◌, ℕ, ◌<◌, ◌⊎◌, ◌^◌, ◌-◌, ◌+◌, ◌==◌, nat_le, Bool, true, false, if◌then◌else◌, List, Option, option_map, Result, Ok, Err, String, Vec, string_bytes}
 use Rattle.std.specs.Ordering.{nat_cmp}
 use Rattle.std.specs.Cmp.Lexicographic.{slice_cmp}

@@ -1,4 +1,5 @@
--- How the versions that are kept of a file are held: without build metadata, which doesn't count in precedence (SemVer 2.0.0, sections 10 and 11).
+-- How the versions that are kept of a file are held: without build metadata, which doesn't count in precedence (SemVer
+-- 2.0.0, sections 10 and 11).
 use Rattle.std.specs.Prelude.{◌≡◌, List, [], map, Bool}
 use Rattle.std.specs.List.{All, list_any}
 use Rattle.semver.specs.Identifiers.{parts_of}

@@ -1,4 +1,5 @@
--- The shape of a line of an index file: what its JSON object holds, before the texts in it are read (Cargo book, "Registry Index", "JSON schema").
+-- The shape of a line of an index file: what its JSON object holds, before the texts in it are read (Cargo book,
+-- "Registry Index", "JSON schema").
 use Rattle.std.specs.Prelude.{ℕ, Bool, true, false, if◌then◌else◌, List, [], ◌∷◌, Option, Some, None, option_map, option_and_then, Result, Ok, Err, codes}
 use Rattle.std.specs.Option.{ok_or}
 use Rattle.std.specs.Str.{is_utf8}

@@ -1,4 +1,5 @@
--- What is read of a file by its path and up to how many bytes, what an error means for it, and what a folder on a disk answers (our own).
+-- What is read of a file by its path and up to how many bytes, what an error means for it, and what a folder on a disk
+-- answers (our own).
 use Rattle.std.specs.Prelude.{◌≡◌, ◌≢◌, ◌⊎◌, ℕ, ◌==◌, if◌then◌else◌, List, ◌++◌, length, Option, Some, None, Result, Ok, Err, IfSome, Vec, codes, take}
 use Rattle.std.specs.IoError.{error_kind, raw_os_error}
 use Rattle.std.specs.declared.alloc.Global.{Global}
@@ -64,8 +65,8 @@ failures_after n (Err folder.OutOfMemory) = n
 failures_after n (Err folder.Failed) = counted n
 
 module _ {O F : Type 0} (opens : O → List ℕ → Result F Error → Type 0) (left : F → Option (List ℕ)) (fails : F → Error → Type 0) where
-  -- A call of a folder on a disk: the file at the path below it is read, unless memory is wanting for that path. Nothing
-  -- but the count of failures changes.
+  -- A call of a folder on a disk: the file at the path below it is read, unless memory is wanting for that path.
+  -- Nothing but the count of failures changes.
   pub record DiskCalls (old : OnDisk O) (path : List ℕ) (answer : Answer) (new : OnDisk O) : Type 0 where
     pub answers : (answer ≡ Err folder.OutOfMemory)
         ⊎ ((given : Result (Vec ℕ Global) FileFault) × IsRead (opens old.opener) left fails (path_below old.path path) most_of_index given × (answer ≡ answer_of given))

@@ -74,7 +74,8 @@ is_hexadecimal b = is_between 48 57 b || is_between 97 102 b
 abbrev pub is_checksum : List ℕ → Bool
 is_checksum text = length text == 64 && list_all is_hexadecimal text
 
--- what a line of this shape says, whatever its checksum is, or the first reason to skip it, where the records of this name are asked for
+-- what a line of this shape says, whatever its checksum is, or the first reason to skip it, where the records of this
+-- name are asked for
 unfoldable pub unchecked_of_shape : List ℕ → ShapeView → Line RecordView
 unchecked_of_shape asked s = do
   format ← unless (s.format == 1 || s.format == 2) reason.NewerFormat

@@ -3,8 +3,8 @@
 use crate::folder::{Folder, FolderFault, MemoryFolder};
 use std::marker::Model;
 
-/// A folder in memory that fails at one of its calls and at every later one, for tests of what stands on a folder. Contracts see its files,
-/// the number of the call at which it fails first, its calls and its failures so far.
+/// A folder in memory that fails at one of its calls and at every later one, for tests of what stands on a folder.
+/// Contracts see its files, the number of the call at which it fails first, its calls and its failures so far.
 #[derive(Drop)]
 pub struct FailAt {
     folder: MemoryFolder,

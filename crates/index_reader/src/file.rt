@@ -26,7 +26,8 @@ pub fn lines(bytes: &[u8]) -> usize
     }
 }
 
-/// The records of the file of a name, in the order of its lines, and the lines that are skipped (Cargo book, "Registry Index").
+/// The records of the file of a name, in the order of its lines, and the lines that are skipped (Cargo book, "Registry
+/// Index").
 pub fn read_file(
     alloc: Global,
     name: &PackageName,

@@ -52,7 +52,8 @@ impl FileSoFar {
         Ok(self)
     }
 
-    /// With what a line says. Of the reasons to skip it, an earlier version of equal precedence comes before a checksum that is none.
+    /// With what a line says. Of the reasons to skip it, an earlier version of equal precedence comes before a checksum
+    /// that is none.
     pub(crate) fn with_found(
         self,
         name: &PackageName,

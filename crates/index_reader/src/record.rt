@@ -12,7 +12,8 @@ use semver::Version;
 #[derive(Drop)]
 pub struct Record {
     pub version: Version,
-    /// The checksum of its file, as the line has it: 64 lower-case hexadecimal digits in every record that a line or a file gives.
+    /// The checksum of its file, as the line has it: 64 lower-case hexadecimal digits in every record that a line or a
+    /// file gives.
     pub checksum: String,
     pub yanked: bool,
     /// The Rust version that it needs, if it says one.

@@ -1,5 +1,5 @@
--- Which features of packages are known: some candidate of the name has the feature, or some dependency asks for it; and how that is
--- gathered owner by owner.
+-- Which features of packages are known: some candidate of the name has the feature, or some dependency asks for it; and
+-- how that is gathered owner by owner.
 use Rattle.std.specs.Prelude.{ℕ, List, Bool, ◌&&◌, ◌||◌}
 use Rattle.std.specs.List.{list_any}
 use Rattle.semver.specs.Parse.{Parts}

@@ -50,8 +50,8 @@ pub fn unbroken_assignments_select(manifest: &Manifest, catalogue: &Catalogue)
     model::gathered_contents_select();
 }
 
-/// Wherever an assignment breaks no instance there is a valid selection, in which each vertex has just the state that it has in the assignment
-/// cut down to what the root reaches.
+/// Wherever an assignment breaks no instance there is a valid selection, in which each vertex has just the state that
+/// it has in the assignment cut down to what the root reaches.
 pub fn unbroken_assignments_have_selections(manifest: &Manifest, catalogue: &Catalogue)
     ensures { (state : Vertex → State) → IsUnbroken (problem_in manifest.now catalogue.now) state
         → (content : Content) × IsValidSelection (problem_in manifest.now catalogue.now) content

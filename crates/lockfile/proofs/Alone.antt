@@ -1,4 +1,5 @@
--- Among packages in order those that are wanted stand next to one another: one of them is the only one if the packages beside it aren't wanted.
+-- Among packages in order those that are wanted stand next to one another: one of them is the only one if the packages
+-- beside it aren't wanted.
 use Rattle.std.proofs.Common.{◌≡◌, ℕ, zero, suc, ◌+◌, ◌-◌, ◌≤◌, Bool, true, false, not, ◌&&◌, ◌==◌, cond, List, [], ◌∷◌, length, filter, slice_get, Some, refl, sym, ◌∙◌, ap, arith, Ordering}
 use Rattle.std.specs.List.{AllByRecursion}
 use Rattle.std.specs.List.Sorted.{IsStrictlySortedBy}

@@ -1,4 +1,5 @@
--- Among packages in order those that are wanted stand next to one another: two binary searches give the first of them and the place after the last.
+-- Among packages in order those that are wanted stand next to one another: two binary searches give the first of them
+-- and the place after the last.
 use Rattle.std.proofs.Common.{◌≡◌, ℕ, zero, suc, ◌+◌, ◌-◌, ◌<◌, ◌≤◌, Bool, true, false, not, List, [], ◌∷◌, map, length, get_or, Option, Some, None, option_map, refl, sym, ◌∙◌, ap, arith, Ordering, inl, inr}
 use Rattle.std.specs.Cmp.{IsTotalOrder}
 use Rattle.std.specs.List.{AllByRecursion, AllWithin}
@@ -28,7 +29,8 @@ index-most Less = omega arith
 index-most Equal = omega arith
 index-most Greater = omega arith
 
--- a comparison in two parts rises if its second part does where the first ties: o compares two elements, u and v are where they stand beside a third
+-- a comparison in two parts rises if its second part does where the first ties: o compares two elements, u and v are
+-- where they stand beside a third
 rises-step : (o u v : Ordering) → (o ≡ Less → v ≡ Less → u ≡ Less) → (o ≡ Less → v ≡ Equal → u ≡ Less) → (o ≡ Equal → u ≡ v)
     → (q x y : Ordering) → (q ≡ Less → ordering_index x ≤ ordering_index y) → ordering_then o q ≡ Less → ordering_index (ordering_then u x) ≤ ordering_index (ordering_then v y)
 rises-step Greater u v f g h q x y k e = cc

@@ -1,4 +1,5 @@
--- What a lock says: a function of the bytes of a Cargo.lock (Cargo book, "Cargo.toml vs Cargo.lock"; TOML; SemVer 2.0.0).
+-- What a lock says: a function of the bytes of a Cargo.lock (Cargo book, "Cargo.toml vs Cargo.lock"; TOML; SemVer
+-- 2.0.0).
 use Rattle.std.specs.Prelude.{ℕ, ◌+◌, ℤ, pos, negsuc, Bool, true, false, not, ◌&&◌, ◌||◌, ◌==◌, nat_le, nat_lt, nat_eq, if◌then◌else◌, List, [], ◌∷◌, ◌++◌, length, map, Option, Some, None, is_some, Result, Ok, Err, codes, option_and_then}
 use Rattle.std.specs.List.{list_all, list_any, zip}
 use Rattle.std.specs.Option.{ok_or}
@@ -197,8 +198,8 @@ abbrev pub or_else : Option ℕ → Option ℕ → Option ℕ
 or_else None other = other
 or_else (Some i) other = Some i
 
--- The place that a text means: of the one package of which it is a form. A `name version` that fits several packages means the one without a
--- source.
+-- The place that a text means: of the one package of which it is a form. A `name version` that fits several packages
+-- means the one without a source.
 abbrev pub place_meant : Content → List ℕ → Option ℕ
 place_meant content text = or_else (only (places (is_form text) content)) (only (places (is_form_without_source text) content))
 

@@ -1,4 +1,5 @@
--- The one text that a content is written as (Cargo book, "Cargo.toml vs Cargo.lock": the lock as Cargo writes it; the order of a list is ours).
+-- The one text that a content is written as (Cargo book, "Cargo.toml vs Cargo.lock": the lock as Cargo writes it; the
+-- order of a list is ours).
 use Rattle.std.specs.Prelude.{ℕ, ◌&&◌, ◌==◌, List, [], ◌∷◌, ◌++◌, length, map, Option, Some, None, codes, slice_get, if◌then◌else◌}
 use Rattle.std.specs.List.{flat_map, filter, filter_map}
 use Rattle.std.specs.Ordering.{ordering_then}
@@ -36,7 +37,8 @@ abbrev pub longest_form : Package → Option (List ℕ) → List ℕ
 longest_form p None = version_form p
 longest_form p (Some source) = source_form p source
 
--- the text of a dependency: its name where no other package has it, else with its version where no other has both, else with its source, if any
+-- the text of a dependency: its name where no other package has it, else with its version where no other has both, else
+-- with its source, if any
 abbrev pub dependency_text : Content → Package → List ℕ
 dependency_text content p = if named content p == 1 then p.name
     else if versioned content p == 1 then version_form p

@@ -1,5 +1,5 @@
--- The table that a content is spelled as: what a TOML reader is to find in the spelling, each table's keys in the order of their bytes (TOML 1.0.0;
--- Cargo book, "Cargo.toml vs Cargo.lock").
+-- The table that a content is spelled as: what a TOML reader is to find in the spelling, each table's keys in the order
+-- of their bytes (TOML 1.0.0; Cargo book, "Cargo.toml vs Cargo.lock").
 use Rattle.std.specs.Prelude.{◌≡◌, ℕ, true, pos, List, [], ◌∷◌, Option, Some, None, codes}
 use Rattle.std.specs.List.{list_all}
 use Rattle.toml.specs.Data.{string, integer, array, table, Items, no_items, item, Members, no_members, member}

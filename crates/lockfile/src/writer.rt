@@ -90,7 +90,8 @@ fn put_packages(alloc: Global, out: &mut Vec<u8>, entries: &[Entry]) -> Result<(
     Ok(())
 }
 
-/// The one text of a content: a lock of version 4 as Cargo writes it (Cargo book, "Cargo.toml vs Cargo.lock"), each list in an order of our own.
+/// The one text of a content: a lock of version 4 as Cargo writes it (Cargo book, "Cargo.toml vs Cargo.lock"), each
+/// list in an order of our own.
 ///
 /// # Errors
 ///

@@ -1,5 +1,5 @@
--- The faults of a manifest, and the words for its parts, for the sources that are left out and for the faults of its features (Cargo book,
--- "The Manifest Format", "Specifying Dependencies" and "Features").
+-- The faults of a manifest, and the words for its parts, for the sources that are left out and for the faults of its
+-- features (Cargo book, "The Manifest Format", "Specifying Dependencies" and "Features").
 use Rattle.std.specs.Prelude.{ℕ, List, Bool, true, false, codes}
 use Rattle.features.specs.declared.table.FeatureFault.{FeatureFault}
 use Rattle.features.specs.declared.table.FeatureFault.TheVariants as feature

@@ -1,5 +1,5 @@
--- What a manifest says: a function of its bytes, or the first fault (Cargo book, "The Manifest Format", "Specifying Dependencies" and
--- "Features").
+-- What a manifest says: a function of its bytes, or the first fault (Cargo book, "The Manifest Format", "Specifying
+-- Dependencies" and "Features").
 use Rattle.std.specs.Prelude.{ℕ, Bool, true, false, not, ◌||◌, if◌then◌else◌, List, [], ◌∷◌, map, Option, None, Result, Ok, Err, length, nat_le, is_none}
 use Rattle.std.specs.List.{list_any, flat_map}
 use Rattle.std.specs.Option.{ok_or}

@@ -1,4 +1,5 @@
--- What a manifest says of its package, and of the workspace that it may belong to (Cargo book, "The Manifest Format" and "Workspaces").
+-- What a manifest says of its package, and of the workspace that it may belong to (Cargo book, "The Manifest Format"
+-- and "Workspaces").
 use Rattle.std.specs.Prelude.{ℕ, Bool, true, false, if◌then◌else◌, List, [], Option, Some, None, Result, Ok, Err, codes, option_and_then}
 use Rattle.toml.specs.Text.{has_items}
 use Rattle.toml.specs.Data.{Data, as_str, as_array, as_table, get_member, Members}
@@ -87,6 +88,7 @@ abbrev pub package_at : Shaped Bool → Option Data → Shaped (Option PackageVi
 package_at members None = absent_package (or_false members)
 package_at members (Some d) = table_of part.Package d >>= package_in
 
--- `[package]`, or none where its name or version is left to a workspace, or where it is absent beside a workspace with members
+-- `[package]`, or none where its name or version is left to a workspace, or where it is absent beside a workspace with
+-- members
 unfoldable pub package_of : Members → Shaped (Option PackageView)
 package_of top = package_at (workspace_of top) (get_member (codes "package") top)

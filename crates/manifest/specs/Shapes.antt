@@ -1,4 +1,5 @@
--- The shape of a manifest: what its tables say before requirements are read, part by part (Cargo book, "The Manifest Format" and "Features").
+-- The shape of a manifest: what its tables say before requirements are read, part by part (Cargo book, "The Manifest
+-- Format" and "Features").
 use Rattle.std.specs.Prelude.{ℕ, Bool, List, [], ◌∷◌, ◌++◌, Option, Ok, codes, option_map}
 use Rattle.toml.specs.Data.{Data, as_array, get_member, Items, no_items, item, Members, no_members, member}
 use Rattle.model.specs.Outcome.{◌>>=◌}

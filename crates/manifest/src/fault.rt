@@ -112,8 +112,8 @@ pub enum ManifestFault {
     TooLarge,
     #[error("the manifest is no TOML")]
     NotToml,
-    /// A key of this part is absent or of a wrong kind, a name, version or entry doesn't read, a key stands in both of its spellings, or a dev
-    /// dependency is optional.
+    /// A key of this part is absent or of a wrong kind, a name, version or entry doesn't read, a key stands in both of
+    /// its spellings, or a dev dependency is optional.
     #[error("the manifest's {0} has another shape")]
     Shape(Part),
     #[error("the manifest asks for an unsupported source: {0}")]

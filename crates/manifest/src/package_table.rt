@@ -21,7 +21,8 @@ use semver::Version;
 use std::alloc::{AllocError, Global};
 use toml::{Table, Value};
 
-/// `[package]`, or none where its name or version is left to a workspace, or where it is absent beside a workspace with members.
+/// `[package]`, or none where its name or version is left to a workspace, or where it is absent beside a workspace with
+/// members.
 #[tactic(auto, unfolding(crate::specs::Packages::package_of))]
 pub(crate) fn own_package(alloc: Global, top: &Table) -> Result<Option<Package>, ManifestFault>
     ensures { Gives is_memory (option_map package_view) result (package_of (table_view top.now)) }

@@ -29,8 +29,8 @@ use toml::Table;
 /// The most bytes that a manifest may have: 1 MiB.
 const LIMIT: usize = 1_048_576;
 
-/// What a manifest says of its package: its name and version, the Rust version that it needs, its dependencies and its features (Cargo book, "The
-/// Manifest Format").
+/// What a manifest says of its package: its name and version, the Rust version that it needs, its dependencies and its
+/// features (Cargo book, "The Manifest Format").
 #[derive(Drop)]
 pub struct Manifest {
     name: PackageName,
@@ -94,7 +94,8 @@ impl Manifest {
         &self.brings
     }
 
-    /// The dependencies by number: normal, dev and build ones, then those of each target in the same way, each table by the bytes of the names.
+    /// The dependencies by number: normal, dev and build ones, then those of each target in the same way, each table by
+    /// the bytes of the names.
     pub fn dependencies(&self) -> &[Dependency]
         ensures { dependency_views result.now ≡ self.now.brings.dependencies }
     {

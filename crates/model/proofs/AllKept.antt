@@ -1,4 +1,5 @@
--- The owners that the root reaches, with their targets, are a finite list, if it can be told where each dependency leads.
+-- The owners that the root reaches, with their targets, are a finite list, if it can be told where each dependency
+-- leads.
 use Rattle.std.proofs.Common.{◌≡◌, ◌≢◌, ◌↔◌, ℕ, zero, suc, List, [], ◌∷◌, Bool, true, false, Contains, Some, slice_get, refl, sym, ap, ◌∙◌, subst, inl, inr, ◌⊎◌, true≢false}
 use Rattle.std.specs.List.{All, AllPairs, list_any}
 use Rattle.std.proofs.lemmas.List.Kept.{AllPairs-cons}

@@ -1,5 +1,5 @@
--- The assignment of a content: the state that each vertex of the search has in it (this project's). It is a relation, since which features are on is one.
--- It is the only bridge between what a valid selection is and the search.
+-- The assignment of a content: the state that each vertex of the search has in it (this project's). It is a relation,
+-- since which features are on is one. It is the only bridge between what a valid selection is and the search.
 use Rattle.std.specs.Prelude.{◌≡◌, ◌⊎◌, ℕ, List, Some, slice_get}
 use Rattle.semver.specs.Parse.{Parts}
 use Rattle.model.specs.Summary.{Dependency, dependency_feature}

@@ -1,5 +1,5 @@
--- The axioms: what an assignment of the vertices must not be, if it is to stand for a valid selection (incompatibilities in Dart pub's
--- `solver.md`; these kinds are this project's).
+-- The axioms: what an assignment of the vertices must not be, if it is to stand for a valid selection
+-- (incompatibilities in Dart pub's `solver.md`; these kinds are this project's).
 use Rattle.std.specs.Prelude.{◌≡◌, ◌≢◌, ◌⊎◌, ℕ, List, [], ◌∷◌, Bool, true, false, not, Some, slice_get, map, filter, Contains, nat_lt, ⊤}
 use Rattle.std.specs.List.{list_any, list_all, AllByRecursion}
 use Rattle.semver.specs.Parse.{Parts}

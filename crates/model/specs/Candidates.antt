@@ -1,5 +1,5 @@
--- Which records of the index may be locked, and in which order they are preferred (Cargo book, "Dependency Resolution", yanked versions and
--- "Rust version"; "Registry Index").
+-- Which records of the index may be locked, and in which order they are preferred (Cargo book, "Dependency Resolution",
+-- yanked versions and "Rust version"; "Registry Index").
 use Rattle.std.specs.Prelude.{◌≡◌, ◌≢◌, ℕ, List, [], ◌∷◌, ◌++◌, Bool, true, not, ◌&&◌, ◌||◌, if◌then◌else◌, Option, Some, None, filter, reverse}
 use Rattle.std.specs.List.{list_any}
 use Rattle.std.specs.Ordering.{nat_cmp, ordering_then, is_gt}
@@ -91,7 +91,7 @@ module _ (locked : Parts → Bool) where
   abbrev pub other_ones : Option RustVersion → List Record → List Record
   other_ones rust cs = filter (λ r. not (fits rust r)) (filter (λ r. not (locked r.version)) cs)
 
-  -- Candidates, given oldest first, in the order of preference: the locked ones, then those that fit the Rust version, then the rest,
-  -- each newest first.
+  -- Candidates, given oldest first, in the order of preference: the locked ones, then those that fit the Rust version,
+  -- then the rest, each newest first.
   abbrev pub by_preference : Option RustVersion → List Record → List Record
   by_preference rust cs = reverse (locked_ones cs) ++ (reverse (fitting_ones rust cs) ++ reverse (other_ones rust cs))

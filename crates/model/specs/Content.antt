@@ -1,5 +1,5 @@
--- What a lock says, and what it is held against (Cargo book, "Cargo.toml vs Cargo.lock" and "Registry Index"). That a dependency means the
--- last listed package that serves it is this project's reading: a lock doesn't say.
+-- What a lock says, and what it is held against (Cargo book, "Cargo.toml vs Cargo.lock" and "Registry Index"). That a
+-- dependency means the last listed package that serves it is this project's reading: a lock doesn't say.
 use Rattle.std.specs.Prelude.{ℕ, List, [], ◌∷◌, Bool, true, false, not, ◌&&◌, if◌then◌else◌, Option, Some, None, nat_eq, is_some, slice_get, option_and_then}
 use Rattle.semver.specs.Parse.{Parts}
 use Rattle.semver.specs.EvalViews.{matches_views}

@@ -1,5 +1,5 @@
--- The content of what was chosen: a package for each owner that is kept, in package order, each with the places of its targets as its list
--- (Cargo book, "Cargo.toml vs Cargo.lock").
+-- The content of what was chosen: a package for each owner that is kept, in package order, each with the places of its
+-- targets as its list (Cargo book, "Cargo.toml vs Cargo.lock").
 use Rattle.std.specs.Prelude.{◌≡◌, ◌≢◌, ◌↔◌, ℕ, suc, List, [], ◌∷◌, if◌then◌else◌, Some, None, option_map, map, Contains}
 use Rattle.std.specs.List.{list_any, All, AllPairs}
 use Rattle.std.specs.Ordering.{is_gt}

@@ -1,4 +1,5 @@
--- Package order: how the packages of a lock follow one another (Cargo book, "Cargo.toml vs Cargo.lock"; SemVer 2.0.0, section 11).
+-- Package order: how the packages of a lock follow one another (Cargo book, "Cargo.toml vs Cargo.lock"; SemVer 2.0.0,
+-- section 11).
 use Rattle.std.specs.Prelude.{Option, Some, None, ℕ, List}
 use Rattle.std.specs.Ordering.{nat_cmp, ordering_then}
 use Rattle.std.specs.Cmp.Lexicographic.{slice_cmp}

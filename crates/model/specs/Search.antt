@@ -1,5 +1,5 @@
--- What an assignment of the search says, if it breaks no instance of an axiom: the part of it that the root reaches (this project's; a
--- partial solution in Dart pub's `solver.md`).
+-- What an assignment of the search says, if it breaks no instance of an axiom: the part of it that the root reaches
+-- (this project's; a partial solution in Dart pub's `solver.md`).
 use Rattle.std.specs.Prelude.{◌≡◌, ◌≢◌, ◌⊎◌, ℕ, List, true, ⊤}
 use Rattle.semver.specs.Parse.{Parts}
 use Rattle.model.specs.Summary.{Dependency, dependency_feature}

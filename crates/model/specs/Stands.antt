@@ -1,5 +1,5 @@
--- The content that a choice of targets stands for: from the root, each enabled dependency leads where the choice says (Cargo book,
--- "Dependency Resolution").
+-- The content that a choice of targets stands for: from the root, each enabled dependency leads where the choice says
+-- (Cargo book, "Dependency Resolution").
 use Rattle.std.specs.Prelude.{◌≡◌, ◌↔◌, ℕ, true, false, Some, None, if◌then◌else◌, slice_get, Contains, option_map}
 use Rattle.model.specs.Summary.{Dependency}
 use Rattle.model.specs.Facts.{Fact, Holds, here, enabled, Brings}

@@ -1,5 +1,5 @@
--- Feature tables: which features a package has, and what is wrong with a table that is written (Cargo book, "Features" and "Optional
--- dependencies").
+-- Feature tables: which features a package has, and what is wrong with a table that is written (Cargo book, "Features"
+-- and "Optional dependencies").
 use Rattle.std.specs.Prelude.{◌≡◌, ℕ, List, [], ◌∷◌, Bool, false, not, ◌&&◌, ◌||◌, if◌then◌else◌, Option, Some, None, Result, Ok, Err, codes}
 use Rattle.std.specs.BTreeMap.{insert_entry}
 use Rattle.std.specs.List.{list_any, AllPairs}
@@ -59,7 +59,8 @@ implicit_entries d = dependency d ∷ []
 abbrev pub is_feature : List DepName → Written → List ℕ → Bool
 is_feature ds written g = has_feature written g || (is_implicit ds written g || same_text g default_feature)
 
--- The entries of a feature in the end: those that are written, else those of an implicit feature, else none for `default`.
+-- The entries of a feature in the end: those that are written, else those of an implicit feature, else none for
+-- `default`.
 abbrev pub entries_meant : List DepName → Written → List ℕ → Option (List Entry)
 entries_meant ds written f = option_or (entries_at f written)
     (if is_implicit ds written f then Some (implicit_entries f) else if same_text f default_feature then Some [] else None)

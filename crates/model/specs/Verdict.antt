@@ -1,5 +1,5 @@
--- The verdict on a content: that it is a valid selection, or the first package that breaks a rule, with the first rule that it breaks
--- (Cargo book, "Dependency Resolution" and "Features").
+-- The verdict on a content: that it is a valid selection, or the first package that breaks a rule, with the first rule
+-- that it breaks (Cargo book, "Dependency Resolution" and "Features").
 use Rattle.std.specs.Prelude.{◌≡◌, ◌<◌, ◌↔◌, ℕ, List, true, Some, slice_get, Contains, IsSome}
 use Rattle.model.specs.Summary.{Dependency, has_feature}
 use Rattle.model.specs.Facts.{on}

@@ -1,5 +1,5 @@
--- The preferred walk: from the root, each enabled dependency leads to the first candidate in the order of preference that it matches
--- (Cargo book, "Dependency Resolution"; that the walk ignores conflicts is this project's).
+-- The preferred walk: from the root, each enabled dependency leads to the first candidate in the order of preference
+-- that it matches (Cargo book, "Dependency Resolution"; that the walk ignores conflicts is this project's).
 use Rattle.std.specs.Prelude.{◌≡◌, ℕ, List, [], ◌∷◌, if◌then◌else◌, Option, Some, None, option_map}
 use Rattle.semver.specs.EvalViews.{matches_views}
 use Rattle.model.specs.Summary.{Dependency}

@@ -1,5 +1,5 @@
--- What makes a list of packages the content of a lock, and what makes lists of versions a catalogue, whatever is selected (Cargo book,
--- "Cargo.toml vs Cargo.lock" and "Registry Index").
+-- What makes a list of packages the content of a lock, and what makes lists of versions a catalogue, whatever is
+-- selected (Cargo book, "Cargo.toml vs Cargo.lock" and "Registry Index").
 use Rattle.std.specs.Prelude.{◌≡◌, ◌≢◌, ◌<◌, length}
 use Rattle.std.specs.List.{All, AllPairs}
 use Rattle.std.specs.declared.cmp.Ordering.TheVariants.{Less}

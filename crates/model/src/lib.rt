@@ -43,8 +43,8 @@ ghost use Rattle.model.specs.Search.{AssignsReached, IsPresent, IsReachedFact, I
 ghost use Rattle.model.specs.Assignment.{Assigns, Breaks};
 ghost use Rattle.model.specs.Derivation.{IsAccepted, IsCombined, Step};
 
-/// In a feature table that is built, a feature has the entries that are written; else, where it is implicit, the one entry that enables
-/// its dependency; else, where it is `default`, none; else it isn't there.
+/// In a feature table that is built, a feature has the entries that are written; else, where it is implicit, the one
+/// entry that enables its dependency; else, where it is `default`, none; else it isn't there.
 pub fn tables_have_their_features()
     ensures { (ds : List DepName) (written : Written) (table : Table) (f : List ℕ) → table_of ds written ≡ Ok table → entries_at f table ≡ entries_meant ds written f }
 {}
@@ -54,7 +54,8 @@ pub fn tables_know_their_features()
     ensures { (ds : List DepName) (written : Written) (table : Table) → table_of ds written ≡ Ok table → KnowsFeatures table }
 {}
 
-/// A feature table that is built has each feature once, in the order of their bytes, where that is so of what is written.
+/// A feature table that is built has each feature once, in the order of their bytes, where that is so of what is
+/// written.
 pub fn tables_stay_in_order()
     ensures { (ds : List DepName) (written : Written) (table : Table) → IsInOrder written → table_of ds written ≡ Ok table → IsInOrder table }
 {}
@@ -69,7 +70,8 @@ pub fn ages_rise()
     ensures { (records : List Record) → AllPairs IsApart records → AllPairs IsOlder (oldest_first records) }
 {}
 
-/// Where no two records are of equal precedence, records that are sorted by precedence are the records in the order of their age.
+/// Where no two records are of equal precedence, records that are sorted by precedence are the records in the order of
+/// their age.
 pub fn sorted_records_stand_by_age()
     ensures { (records sorted : List Record) → AllPairs IsApart records → IsPermutation records sorted
         → AllPairs (λ a b. is_gt (precedence a.version b.version) ≡ false) sorted → sorted ≡ oldest_first records }
@@ -90,7 +92,8 @@ pub fn verdicts_are_unique()
     ensures { (q : Problem) (c : Content) (v w : Verdict) → IsVerdict q c v → IsVerdict q c w → v ≡ w }
 {}
 
-/// A valid selection stays one where other candidates come or go, if each of its own packages is the same candidate as before.
+/// A valid selection stays one where other candidates come or go, if each of its own packages is the same candidate as
+/// before.
 pub fn selections_outlive_candidates()
     ensures { (q : Problem) (candidates : List (List ℕ × List Candidate)) (c : Content)
         → ((n : ℕ) (p : Package) → IsOther q c n p → candidate_of q p ≡ candidate_of (with_candidates q candidates) p)
@@ -138,12 +141,14 @@ pub fn accepted_derivations_refute()
     ensures { (q : Problem) (c : Content) (steps : List Step) → IsCatalogue q → IsValidSelection q c → IsAccepted q steps → ⊥ }
 {}
 
-/// An assignment that breaks no instance says so itself of each package, feature and dependency that the root reaches in it.
+/// An assignment that breaks no instance says so itself of each package, feature and dependency that the root reaches
+/// in it.
 pub fn reached_facts_hold()
     ensures { (q : Problem) (state : Vertex → State) (f : Fact Owner) → IsUnbroken q state → IsReachedFact q state f → Says q state f }
 {}
 
-/// In an assignment that breaks no instance, each enabled dependency that the root reaches leads to a version that it matches.
+/// In an assignment that breaks no instance, each enabled dependency that the root reaches leads to a version that it
+/// matches.
 pub fn reached_dependencies_are_met()
     ensures { (q : Problem) (state : Vertex → State) (n : Owner) (i : ℕ) (d : Dependency) → IsUnbroken q state → IsReachedFact q state (enabled n i)
         → Brings (owner_brings q) n i d → (t : Owner) × (l : LeadsTo q state n i d t) × (matches_views d.requirement l.v ≡ true) }
@@ -155,8 +160,8 @@ pub fn reached_features_exist()
         → has_feature (owner_brings q n).features f ≡ true }
 {}
 
-/// In an assignment that breaks no instance, a dependency doesn't lead to a lower class than another dependency of the same package does,
-/// if it matches the version there too.
+/// In an assignment that breaks no instance, a dependency doesn't lead to a lower class than another dependency of the
+/// same package does, if it matches the version there too.
 pub fn newest_is_chosen()
     ensures { (q : Problem) (state : Vertex → State) (n : Owner) (i j : ℕ) (d e : Dependency) (k m : Class) (v : Parts) → IsUnbroken q state → IsPresent q state n
         → Brings (owner_brings q) n i d → Brings (owner_brings q) n j e → d.real_name ≡ e.real_name → state (dep n i) ≡ in_class k → state (dep n j) ≡ in_class m
@@ -168,8 +173,8 @@ pub fn unbroken_assignments_select()
     ensures { (q : Problem) (state : Vertex → State) (c : Content) → IsCatalogue q → IsUnbroken q state → StandsFor q (LeadsTo q state) c → IsValidSelection q c }
 {}
 
-/// In the content of what the root reaches in an assignment that breaks no instance, each vertex has the state that it has in the
-/// assignment cut down to what the root reaches.
+/// In the content of what the root reaches in an assignment that breaks no instance, each vertex has the state that it
+/// has in the assignment cut down to what the root reaches.
 pub fn reached_states_stay()
     ensures { (q : Problem) (state : Vertex → State) (c : Content) (v : Vertex) (s : State) → IsCatalogue q → IsUnbroken q state → StandsFor q (LeadsTo q state) c
         → Assigns q c v s ↔ AssignsReached q state v s }
@@ -187,14 +192,16 @@ pub fn gathered_picks_walk()
         → IsWalk q preferred (content_of q kept) }
 {}
 
-/// What the root reaches in an assignment that breaks no instance is a valid selection, in which each vertex has just the state that it has
-/// in the assignment cut down to what the root reaches: so there is a valid selection wherever an assignment breaks no instance.
+/// What the root reaches in an assignment that breaks no instance is a valid selection, in which each vertex has just
+/// the state that it has in the assignment cut down to what the root reaches: so there is a valid selection wherever an
+/// assignment breaks no instance.
 pub fn unbroken_assignments_have_selections()
     ensures { (q : Problem) (state : Vertex → State) → IsCatalogue q → IsUnbroken q state
         → (c : Content) × IsValidSelection q c × ((v : Vertex) (s : State) → Assigns q c v s ↔ AssignsReached q state v s) }
 {}
 
-/// What the root reaches in an assignment that breaks no instance can be kept: a finite list has each owner once, with its targets.
+/// What the root reaches in an assignment that breaks no instance can be kept: a finite list has each owner once, with
+/// its targets.
 pub fn reached_owners_are_kept()
     ensures { (q : Problem) (state : Vertex → State) → IsUnbroken q state → (kept : List Kept) × AreKept q (LeadsTo q state) kept }
 {}

@@ -1,4 +1,5 @@
--- Comparisons of sets of states, state by state (the rule of resolution of Dart pub's `solver.md`, over sets of states).
+-- Comparisons of sets of states, state by state (the rule of resolution of Dart pub's `solver.md`, over sets of
+-- states).
 use Rattle.std.specs.Prelude.{List, Bool, not, ◌&&◌, ◌||◌}
 use Rattle.std.specs.List.{list_all}
 use Rattle.model.specs.Vertices.{State, has_state}

@@ -1,4 +1,5 @@
--- What the facts find over packages is what the root reaches, wherever dependencies lead; and the content that is built of it.
+-- What the facts find over packages is what the root reaches, wherever dependencies lead; and the content that is built
+-- of it.
 use Rattle.std.proofs.Common.{◌≡◌, ◌↔◌, ◌≢◌, ◌<◌, ℕ, zero, suc, List, [], ◌∷◌, length, Bool, true, false, nat_eq, Contains, Option, Some, None, option_map, slice_get, get_or, refl, sym, ap, ap₂, ◌∙◌, subst, subst₂, inl, inr, arith, true≢false}
 use Rattle.std.specs.Option.{option_and_then}
 use Rattle.std.proofs.lemmas.Bool.{cases_order, eqb-true}

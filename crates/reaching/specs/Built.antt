@@ -1,4 +1,5 @@
--- The owners that are found to be here, each with those to which its enabled dependencies lead, and the content that is built of them.
+-- The owners that are found to be here, each with those to which its enabled dependencies lead, and the content that is
+-- built of them.
 use Rattle.std.specs.Prelude.{◌≡◌, ◌≢◌, ◌↔◌, ℕ, List, Bool, true, None, Some, length, slice_get, Contains}
 use Rattle.std.specs.List.{AllPairs}
 use Rattle.model.specs.Content.{Package, Content, Problem, is_root}

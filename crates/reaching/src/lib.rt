@@ -32,14 +32,16 @@ pub fn packages_are_a_graph()
         → AreMet q (LeadsTo q state) owners nodes → IsGraph nodes }
 {}
 
-/// The owners that are found to be here, each with where its enabled dependencies lead, are those that the root reaches, with their targets.
+/// The owners that are found to be here, each with where its enabled dependencies lead, are those that the root
+/// reaches, with their targets.
 pub fn found_owners_are_kept()
     ensures { (q : Problem) (state : Vertex → State) (owners : List Owner) (nodes : List NodeView) (is_here : List Bool) (are_enabled : List (List Bool)) (kept : List Kept)
         → q.root_asks ≡ root_asks q.brings.features → IsUnbroken q state → AreMet q (LeadsTo q state) owners nodes → AreFlags nodes is_here are_enabled
         → AreFound owners nodes are_enabled is_here kept → AreKept q (LeadsTo q state) kept }
 {}
 
-/// The content that is built of the packages that are found to be here is a valid selection, if the assignment breaks no instance.
+/// The content that is built of the packages that are found to be here is a valid selection, if the assignment breaks
+/// no instance.
 pub fn built_contents_select()
     ensures { (q : Problem) (state : Vertex → State) (owners : List Owner) (nodes : List NodeView) (is_here : List Bool) (are_enabled : List (List Bool)) (content : Content)
         → IsCatalogue q → q.root_asks ≡ root_asks q.brings.features → IsUnbroken q state → AreMet q (LeadsTo q state) owners nodes → AreFlags nodes is_here are_enabled

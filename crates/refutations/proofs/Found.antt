@@ -444,7 +444,8 @@ cause_kind q NewestListed ts c e = reading (first_read led_read ts) _ NewestList
 cause_kind q WeakFeature ts c e = reading (first_read version_read ts) _ WeakFeature
     (λ p. reading (first_read on_read ts) _ WeakFeature (λ f. reading (first_read off_read ts) _ WeakFeature (λ g. reading (first_read led_read ts) _ WeakFeature (λ l. is_kind (of_weak p.0 p.1 f g l.1 l.2) WeakFeature refl)))) c e
 
--- Terms of which no two speak of one vertex pass the test exactly where they are those of an instance of the kind, without full ones.
+-- Terms of which no two speak of one vertex pass the test exactly where they are those of an instance of the kind,
+-- without full ones.
 pub instance-is : (q : Problem) (k : Kind) (ts : List Term) → AreApart ts → is_instance q k ts ≡ true ↔ ((us : List Term) × IsInstance q k us × SameTerms ts (without_full q us))
 instance-is q k ts apart = (λ h. by (cause_in q k ts) refl h, λ (us, inst, same). found q ts apart k us inst same)
   where

@@ -1,5 +1,5 @@
--- What gives rise to an instance of an axiom. A cause says it by names and numbers, so that it can be looked up (these kinds are this
--- project's; incompatibilities in Dart pub's `solver.md`).
+-- What gives rise to an instance of an axiom. A cause says it by names and numbers, so that it can be looked up (these
+-- kinds are this project's; incompatibilities in Dart pub's `solver.md`).
 use Rattle.std.specs.Prelude.{ℕ, List, [], ◌∷◌, Bool, true, false, not, ◌&&◌, ◌||◌, Option, Some, None, nat_eq, slice_get, map}
 use Rattle.std.specs.List.{list_any, flat_map}
 use Rattle.semver.specs.Parse.{Parts}
@@ -146,7 +146,8 @@ module _ (q : Problem) where
   abbrev pub owner_asks : List ℕ → List ℕ → Owner → Bool
   owner_asks name f o = list_any (λ d. same_text d.real_name name && (lists_feature o d f || entry_asks o d f)) (owner_brings q o).dependencies
 
-  -- whether the vertex of the feature is there: a candidate is of the class, and some candidate has the feature or some dependency asks for it
+  -- whether the vertex of the feature is there: a candidate is of the class, and some candidate has the feature or some
+  -- dependency asks for it
   abbrev pub has_feature_vertex : List ℕ → Class → List ℕ → Bool
   has_feature_vertex name k f = list_any (λ c. true) (class_candidates q name k)
       && (list_any (λ c. has_feature c.brings.features f) (candidates_of q.candidates name) || list_any (owner_asks name f) owners)

@@ -1,4 +1,5 @@
--- Which step of a derivation is refused first, and why (the rule of resolution of Dart pub's `solver.md`; the reasons are this project's).
+-- Which step of a derivation is refused first, and why (the rule of resolution of Dart pub's `solver.md`; the reasons
+-- are this project's).
 use Rattle.std.specs.Prelude.{◌≡◌, ℕ, suc, List, [], ◌∷◌, ◌++◌, Bool, true, false, if◌then◌else◌, Option, Some, None, slice_get, length}
 use Rattle.std.specs.List.{AllByRecursion}
 use Rattle.std.specs.Option.{option_or}

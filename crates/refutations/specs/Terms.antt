@@ -1,4 +1,5 @@
--- Lists of terms that are compared and combined by going over them (the rule of resolution of Dart pub's `solver.md`, over sets of states).
+-- Lists of terms that are compared and combined by going over them (the rule of resolution of Dart pub's `solver.md`,
+-- over sets of states).
 use Rattle.std.specs.Prelude.{List, [], ◌∷◌, ◌++◌, Bool, true, false, not, ◌&&◌, Option, Some, None, is_some, map, filter}
 use Rattle.std.specs.List.{list_all, AllByRecursion}
 use Rattle.std.specs.List.Sorted.{IsStrictlySortedBy}

@@ -55,7 +55,8 @@ pub fn combinations_are_plain()
     ensures { (q : Problem) (v : Vertex) (a b : List Term) → AreApart a → AreApart b → AreApart (combination q v a b) }
 {}
 
-/// Of every vertex the combination of two lists says what is defined: the union at the one vertex, the intersection at each other.
+/// Of every vertex the combination of two lists says what is defined: the union at the one vertex, the intersection at
+/// each other.
 pub fn combinations_say()
     ensures { (q : Problem) (v w : Vertex) (a b : List Term) → states_at (combination q v a b) w ≡ combined_at q a b v w }
 {}
@@ -81,7 +82,8 @@ pub fn causes_are_listed()
     ensures once { (q : Problem) → AllPairs (λ a b. a ≢ b) (causes q) }
 {}
 
-/// Terms of which no two speak of one vertex pass the test of a kind exactly where they are those of an instance of it, without full ones.
+/// Terms of which no two speak of one vertex pass the test of a kind exactly where they are those of an instance of it,
+/// without full ones.
 pub fn instances_decide()
     ensures { (q : Problem) (k : Kind) (ts : List Term) → AreApart ts
         → is_instance q k ts ≡ true ↔ ((us : List Term) × IsInstance q k us × SameTerms ts (without_full q us)) }

@@ -1,4 +1,5 @@
--- A run over the same map of files with a valid selection as its old lock ends without a fault, and asks for no more names.
+-- A run over the same map of files with a valid selection as its old lock ends without a fault, and asks for no more
+-- names.
 use Rattle.std.proofs.Common.{◌≡◌, ℕ, ◌<◌, Bool, true, false, not, cond, ◌&&◌, List, [], ◌∷◌, ◌++◌, length, map, Contains, Option, Some, None, is_some, option_and_then, option_map, Err, refl, sym, ap, ◌∙◌, subst, arith, inl, inr}
 use Rattle.std.specs.List.{All}
 use Rattle.std.proofs.lemmas.List.{length-append, length-map}

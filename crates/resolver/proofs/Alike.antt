@@ -1,4 +1,5 @@
--- Two runs over the same map of files, with the same old lock and source, ask for the same names and load the same, whatever is preferred.
+-- Two runs over the same map of files, with the same old lock and source, ask for the same names and load the same,
+-- whatever is preferred.
 use Rattle.std.proofs.Common.{◌≡◌, ℕ, ◌<◌, Bool, true, false, cond, ◌&&◌, List, [], ◌∷◌, ◌++◌, length, Contains, Option, Some, None, unwrap_or, option_map, Err, refl, sym, ap, ap₂, ◌∙◌, subst, arith}
 use Rattle.std.specs.List.{All}
 use Rattle.std.proofs.lemmas.List.{append-nil, append_assoc, length-append}

@@ -1,4 +1,5 @@
--- A run over a map of files ends without a fault but for want of memory, where each name that comes next was asked for in a whole run.
+-- A run over a map of files ends without a fault but for want of memory, where each name that comes next was asked for
+-- in a whole run.
 use Rattle.std.proofs.Common.{◌≡◌, ℕ, ◌<◌, ◌≤◌, true, List, length, Option, Some, None, Ok, Err, refl, sym, ap, ◌∙◌, subst, arith}
 use Rattle.model.specs.Content.{Content}
 use Rattle.model.specs.Candidates.{RustVersion}

@@ -20,7 +20,8 @@ use Rattle.resolver.specs.declared.fault.CheckFault.TheVariants.{Input, Proof}
 abbrev pub IsProof : Inputs → List ℕ → Type 0
 IsProof inputs bytes = (steps : List Step) × (derivation_of_bytes bytes ≡ Ok steps) × IsAccepted (problem_of inputs) steps
 
--- the bytes are a derivation, and this is its first refused step, exactly where there is one; if there is none, there is no selection at all
+-- the bytes are a derivation, and this is its first refused step, exactly where there is one; if there is none, there
+-- is no selection at all
 pub record IsChecked (inputs : Inputs) (bytes : List ℕ) (check : Check) : Type 0 where
   pub steps : List Step
   pub says : derivation_of_bytes bytes ≡ Ok steps

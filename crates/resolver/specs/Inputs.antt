@@ -1,4 +1,5 @@
--- What a call has read before it answers: the manifest, the old lock if there is one, and the index; or the first fault on the way.
+-- What a call has read before it answers: the manifest, the old lock if there is one, and the index; or the first fault
+-- on the way.
 use Rattle.std.specs.Prelude.{◌≡◌, ◌<◌, Bool, true, false, List, [], ◌∷◌, ◌++◌, length, map, ℕ, Option, Some, None, option_copied, Result, Ok, Err}
 use Rattle.model.specs.Outcome.{◌>>=◌}
 use Rattle.model.specs.Content.{Content, Problem}
@@ -81,7 +82,8 @@ module _ {S : Type 0} (calls : Calls S) (failed : S → ℕ) (request : RequestV
     -- it was asked for all
     after_loading : (inputs : Inputs) (after : S) → AreRead inputs after → IsCutShort (names_of inputs) after
 
-  -- how a call ends with a fault: where memory was wanting that says only what the folder was asked for, and what is left of it
+  -- how a call ends with a fault: where memory was wanting that says only what the folder was asked for, and what is
+  -- left of it
   abbrev pub EndsWith : Bool → Type 0 → S → Type 0
   EndsWith true says after = (names : List (List ℕ)) × IsCutShort names after
   EndsWith false says after = says

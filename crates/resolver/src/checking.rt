@@ -11,10 +11,12 @@ use checker::{Check, check};
 use index_reader::Folder;
 use std::alloc::Global;
 
-/// Whether the bytes of a derivation show that the manifest has no valid selection over what is loaded from the folder with the old lock.
+/// Whether the bytes of a derivation show that the manifest has no valid selection over what is loaded from the folder
+/// with the old lock.
 ///
 /// # Errors
-/// Want of memory; the first fault of the manifest, of the old lock and of loading, in this order; then that of the derivation.
+/// Want of memory; the first fault of the manifest, of the old lock and of loading, in this order; then that of the
+/// derivation.
 pub fn check_bytes<F: Folder>(
     alloc: Global,
     manifest: &[u8],

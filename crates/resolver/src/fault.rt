@@ -20,7 +20,8 @@ pub enum TooLarge {
     Index(Limit),
 }
 
-/// Why a run has no answer. The numbers are those of the printed lines, in the order in which the faults are looked for.
+/// Why a run has no answer. The numbers are those of the printed lines, in the order in which the faults are looked
+/// for.
 #[derive(Debug, Drop)]
 pub enum Fault {
     /// 1: a growth was refused.

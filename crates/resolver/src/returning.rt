@@ -106,8 +106,8 @@ pub fn loaded_inputs_make_a_catalogue<F: Folder>()
 
 /// Names that weren't asked for can't matter. Where a run over one map of files has read its inputs, every other map
 /// that has the same files for the names which it asked for is read as the same inputs, and as no other: the same
-/// candidates, and so the same valid selections. A run over that map ends with no fault of an input, and what it answers
-/// is an answer to the first run's inputs.
+/// candidates, and so the same valid selections. A run over that map ends with no fault of an input, and what it
+/// answers is an answer to the first run's inputs.
 pub fn names_not_asked_for_cannot_matter()
     ensures read { (failed : Files → ℕ) (folder other : Files) (request : RequestView) (inputs : Inputs) (after : Files)
         → AreRead MemoryCalls failed request folder inputs after → AreAlike (names_of inputs) folder other → AreRead MemoryCalls failed request other inputs other }

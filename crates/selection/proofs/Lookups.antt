@@ -1,4 +1,5 @@
--- The candidate that a package is, in a loaded index, is the one that is meant where a selection is held against that index.
+-- The candidate that a package is, in a loaded index, is the one that is meant where a selection is held against that
+-- index.
 use Rattle.std.proofs.Common.{◌≡◌, ℕ, Bool, true, false, cond, ◌||◌, List, [], ◌∷◌, map, Option, Some, None, option_map, option_and_then, unwrap_or, is_some, refl, sym, ap, ◌∙◌, subst}
 use Rattle.std.specs.Borrow.{Bor}
 use Rattle.std.proofs.lemmas.Option.{none-some, same_Some}

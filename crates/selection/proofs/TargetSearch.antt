@@ -1,4 +1,5 @@
--- The target of a dependency: of a list, those of its real name stand side by side, and the last of these that serves is the target.
+-- The target of a dependency: of a list, those of its real name stand side by side, and the last of these that serves
+-- is the target.
 use Rattle.std.proofs.Common.{◌≡◌, ℕ, zero, suc, ◌<◌, ◌≤◌, Bool, true, false, cond, not, ◌&&◌, List, [], ◌∷◌, take, length, get_or, Option, Some, None, slice_get, is_some, refl, sym, ap, ◌∙◌, subst, arith, Ordering, inl, inr, true≢false}
 use Rattle.std.specs.List.{All, AllPairs, AllWithin}
 use Rattle.std.specs.List.Sorted.{IsPartitionedBy, IsNonDecreasingBy}

@@ -1,4 +1,5 @@
--- Where names of packages stand beside the name that a dependency means: in a lock the packages of one name stand side by side.
+-- Where names of packages stand beside the name that a dependency means: in a lock the packages of one name stand side
+-- by side.
 use Rattle.std.specs.Prelude.{Bool, ◌&&◌, Option, Some, None}
 use Rattle.std.specs.declared.cmp.Ordering.{Ordering}
 use Rattle.std.specs.declared.cmp.Ordering.TheVariants.{Greater}

@@ -1,5 +1,5 @@
--- What is said of a lock: the model's verdict on its content, with the name and version of the package that has the fault (Cargo book,
--- "Dependency Resolution" and "Features").
+-- What is said of a lock: the model's verdict on its content, with the name and version of the package that has the
+-- fault (Cargo book, "Dependency Resolution" and "Features").
 use Rattle.std.specs.Prelude.{◌≡◌, ℕ, List, Some, slice_get}
 use Rattle.semver.specs.Identifiers.{parts_of}
 use Rattle.semver.specs.Parse.{Parts}

@@ -13,8 +13,8 @@ ghost use Rattle.selection.specs.Names.{is_like};
 use classes::Class;
 use lockfile::Package;
 
-/// Whether the package at a place isn't the root, and an earlier one other than the root has its name and class: in package order these stand
-/// side by side, but for the root.
+/// Whether the package at a place isn't the root, and an earlier one other than the root has its name and class: in
+/// package order these stand side by side, but for the root.
 pub(crate) fn is_second(content: &[Package], root: usize, at: usize) -> bool
     requires content { IsContent (package_views content.now) }
     requires at { at < length content.now }

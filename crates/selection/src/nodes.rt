@@ -17,7 +17,8 @@ use lockfile::Package;
 use manifest::Manifest;
 use std::alloc::{AllocError, Global};
 
-/// What the packages bring and where that leads, place by place. All packages of a lock count, whether or not something needs them.
+/// What the packages bring and where that leads, place by place. All packages of a lock count, whether or not something
+/// needs them.
 pub(crate) fn nodes<'a>(
     alloc: Global,
     manifest: &'a Manifest,

@@ -61,7 +61,8 @@ fn name_order(content: &[Package], at: usize, dependency: &Dependency) -> Orderi
     }
 }
 
-/// The last place of the list whose package serves the dependency, where none before `first` does, and none from `after` on.
+/// The last place of the list whose package serves the dependency, where none before `first` does, and none from
+/// `after` on.
 fn search(
     content: &[Package],
     list: &[usize],

@@ -1,5 +1,5 @@
--- The versions that a walk may meet: from the root, those that the picks of all dependencies lead to, enabled or not (own; a superset of what
--- the preferred walk reaches, on which the facts are found).
+-- The versions that a walk may meet: from the root, those that the picks of all dependencies lead to, enabled or not
+-- (own; a superset of what the preferred walk reaches, on which the facts are found).
 use Rattle.std.specs.Prelude.{Vec, ◌≡◌, ℕ, Bool, false, List, map, length, Option, Some, None, slice_get, not, ◌||◌, is_some}
 use Rattle.std.specs.List.{find, list_all, zip}
 use Rattle.semver.specs.Parse.{Held, Parts}

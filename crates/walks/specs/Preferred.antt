@@ -1,5 +1,5 @@
--- The preferred walk of a run, and when it is the answer (Cargo book, "Dependency Resolution": locked versions stay, and new ones are the
--- newest; "Rust version"). The walk itself is the model's.
+-- The preferred walk of a run, and when it is the answer (Cargo book, "Dependency Resolution": locked versions stay,
+-- and new ones are the newest; "Rust version"). The walk itself is the model's.
 use Rattle.std.specs.Prelude.{ℕ, List, ◌++◌, map, filter, reverse, Option, Some, None}
 use Rattle.model.specs.Content.{Candidate, Content, Problem}
 use Rattle.model.specs.Candidates.{Record, RustVersion, as_candidate, by_preference, is_locked}

@@ -18,8 +18,8 @@ use std::alloc::{AllocError, Global};
 
 /// The preferred walk, exactly where it is complete and a valid selection.
 ///
-/// The facts are found over all versions that picks lead to, enabled or not: their dependencies are looked at once, which loading did too, with
-/// one pass over the candidates of a name for each. The only error is want of memory.
+/// The facts are found over all versions that picks lead to, enabled or not: their dependencies are looked at once,
+/// which loading did too, with one pass over the candidates of a name for each. The only error is want of memory.
 pub fn preferred(
     alloc: Global,
     manifest: &Manifest,

@@ -1,4 +1,5 @@
--- What words ask of the program, by the meaning that `clap` gives them: a command, each of whose options stands at most once.
+-- What words ask of the program, by the meaning that `clap` gives them: a command, each of whose options stands at most
+-- once.
 use Rattle.std.specs.Prelude.{Bool, true, false, nat_lt, List, [], ◌∷◌, length, if◌then◌else◌, Option, Some, None, option_map, option_and_then, codes}
 use Rattle.clap.specs.Words.{App, Kinds, Row, Rule, Text, fault_of, first_of, new_app, new_rule, subcommand_of, with_rule, with_subcommand}
 use Rattle.clap.specs.Simple.{on_top}

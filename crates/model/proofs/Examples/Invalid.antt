@@ -1,4 +1,5 @@
--- Contents that are no valid selection: two versions of one class, a package that nobody needs, an older package beside the target, no root.
+-- Contents that are no valid selection: two versions of one class, a package that nobody needs, an older package beside
+-- the target, no root.
 use Rattle.std.proofs.Common.{◌≡◌, ◌⊎◌, ℕ, zero, suc, [], ◌∷◌, Contains, Some, slice_get, refl, sym, ap, ◌∙◌, subst, inl, inr, true≢false, arith}
 use Rattle.std.proofs.lemmas.Option.{none-some, same_Some}
 use Rattle.model.specs.Summary.{Dependency}

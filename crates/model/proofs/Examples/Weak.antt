@@ -1,4 +1,5 @@
--- A weak entry asks the target of its dependency for a feature where something else enables the dependency, and does nothing where not.
+-- A weak entry asks the target of its dependency for a feature where something else enables the dependency, and does
+-- nothing where not.
 use Rattle.std.proofs.Common.{◌≡◌, ◌⊎◌, ℕ, zero, suc, List, [], ◌∷◌, Contains, Some, refl, sym, ap, ◌∙◌, subst, subst₂, inl, inr, true≢false, arith}
 use Rattle.std.proofs.lemmas.Option.{none-some, same_Some}
 use Rattle.model.specs.Summary.{Dependency, Entry, Table, feature, dependency, dependency_feature, weak_feature, entries_at, asked_of_target}
