@@ -2,7 +2,7 @@
 //!
 //! What a run reads and writes is a matter of the system, of which contracts know nothing. So all goes through traits:
 //! `Disk` for files, behind it `Opens` and `Puts` for what opens and writes them, and `Stream` for what is printed to.
-//! Runs are proved over any of these, and of the system's own calls, their bodies in the program, alone nothing is
+//! Runs are proved over any bodies of these; in the program these are the system's own calls, of which alone nothing is
 //! promised.
 //!
 //! What is hard is that a write may fail and want of memory may come at any call, and still nothing wrong may be said.

@@ -1,8 +1,8 @@
 //! Names of packages and features, the entries of features, and tables of features.
 //!
 //! A name is one by its type: who holds a `PackageName` or a `FeatureName` needs no test, and contracts speak of its
-//! bytes alone. Names are what an index has most of, so one of at most 16 bytes lies in the name itself and asks for no
-//! memory (`name_text.rt`).
+//! bytes alone. An index has very many names, so one of at most 16 bytes lies in the name itself and asks for no memory
+//! (`name_text.rt`).
 //!
 //! What is hard is the table. A package writes some features; Cargo adds one for each optional dependency that no entry
 //! `dep:d` names and no feature is called by, and adds `default`; and an entry may name what isn't there.

@@ -7,8 +7,8 @@
 //!
 //! What is hard is that which dependencies are enabled depends on the picks, and the other way round. So the picks of
 //! all dependencies are followed from the root on, enabled or not, each version once (`meeting.rt`); the facts are
-//! found over these, and `contents` keeps what is here. Loading has looked at all of these dependencies too. What comes
-//! of it is asked of `verify`, and so is right whatever the walk ignored.
+//! found over these, and `contents` keeps what is here. Each dependency is looked at once, as in loading. What comes of
+//! it is put to `verify`, and so is right whatever the walk ignored.
 //!
 //! A layer above may rely on this: `preferred` gives the walk exactly where it is complete and a valid selection, its
 //! root without a checksum. There is one walk and no other (`there_is_one_walk`), by the model's order of preference
