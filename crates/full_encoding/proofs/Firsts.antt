@@ -11,11 +11,12 @@ use Rattle.model.proofs.Same.{both, class-refl}
 use Rattle.refutations.specs.Causes.{Cause, of_root, of_need, of_target, of_feature, of_list, of_ask, of_entry, of_enabling, of_asking, of_newest, of_weak, same_entry, enables, passes, is_needed, dependency_at, has_class, has_entry, some_entry, lists_feature, is_overtaken, is_weak_on, is_cause}
 use Rattle.refutations.proofs.Named.{entry-same, passes-is, dep_owner, has_entry-is, some_entry-is, class-is, feature-is}
 use Rattle.encoding.specs.Pairs.{Pair, owner_pair, first_pair}
+use Rattle.full_encoding.specs.Everywhere.{IsPair}
 
 module _ (q : Problem) where
   -- a vertex, and one of its states
   abbrev pub IsThere : Pair → Type 0
-  IsThere p = IsVertex q p.0 × Contains (space q p.0) p.1
+  IsThere p = IsPair q p
 
   owner_there : (o : Owner) → IsOwner q o → IsThere (owner_pair o)
   owner_there the_root h = (tt, in_rest absent present (present ∷ []) (in_first present []))

@@ -11,12 +11,14 @@ use Rattle.model.proofs.Lists.{in_none, in_cons, in_first, in_rest, in_map, to_m
 use Rattle.refutations.specs.Causes.{Cause, is_cause, kind_of, terms_of_cause}
 use Rattle.refutations.proofs.Bools.{in_append-left, in_append-right, in_either}
 use Rattle.encoding.specs.Assignments.{state_at}
+use Rattle.encoding.specs.CausesAt.{causes_at, with_causes}
 use Rattle.encoding.specs.Numberings.{IsGrown, IsNumbering, IsWhole, Numbering}
-use Rattle.encoding.specs.Pairs.{AreGiven, Given, IsGivenAt, Pair, first_pair}
+use Rattle.encoding.specs.Pairs.{AreCausesAt, AreGiven, Given, IsGivenAt, Pair, first_pair}
+use Rattle.encoding.proofs.CausesLaws.{at_exact}
 use Rattle.encoding.proofs.Distinct.{states_once}
 use Rattle.encoding.proofs.Needing.{from_all, given_more, in_last, still_at}
 use Rattle.encoding.proofs.Places.{get_below, got_in, place_of}
-use Rattle.full_encoding.specs.Everywhere.{IsGivenAll, IsGivenFor, all_pairs, pairs_of}
+use Rattle.full_encoding.specs.Everywhere.{ComesOnce, IsGivenAll, IsGivenFor, all_pairs, pairs_of}
 use Rattle.full_encoding.proofs.Everything.{in_flat, to_flat}
 use Rattle.full_encoding.proofs.Firsts.{first_there}
 
@@ -173,3 +175,18 @@ module _ (q : Problem) where
           let p = first_pair c in
           let r = first_there q c t in
           to_flat (pairs_of q) vs p.0 p (whole p.0 r.0) (to_map (λ s. (p.0, s)) (space q p.0) p.1 r.1)
+
+  -- ---- each cause at one pair
+
+  pub come_once : (c : Cause) → is_cause q c ≡ true → ComesOnce q c
+  come_once c t =
+      let p = first_pair c in
+      let there = first_there q c t in
+      let cs = with_causes [] (causes_at q p.0 p.1) in
+      let are : AreCausesAt q p cs = at_exact q p.0 p.1 there.0 there.1 cs refl in
+      record {
+        pair = p;
+        is = there;
+        comes = (cs, are, (are.listed c).1 (t, refl));
+        only = λ r h. sym (((h.1).listed c).0 h.2).1;
+      }

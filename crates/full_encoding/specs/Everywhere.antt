@@ -3,9 +3,10 @@ use Rattle.std.specs.Prelude.{◌≡◌, ◌≢◌, ◌↔◌, ◌∷◌, List, 
 use Rattle.std.specs.List.{AllPairs, flat_map}
 use Rattle.model.specs.Content.{Problem}
 use Rattle.model.specs.Vertices.{Vertex, space}
+use Rattle.model.specs.Axioms.{IsVertex}
 use Rattle.refutations.specs.Causes.{Cause, is_cause}
 use Rattle.encoding.specs.Numberings.{Numbering}
-use Rattle.encoding.specs.Pairs.{AreAllCauses, AreGiven, Given, Pair, first_pair}
+use Rattle.encoding.specs.Pairs.{AreAllCauses, AreCausesAt, AreGiven, Given, Pair, first_pair}
 
 -- a vertex with each of its states
 abbrev pub pairs_of : Problem → Vertex → List Pair
@@ -26,3 +27,18 @@ pub record IsGivenAll (q : Problem) (vs : Numbering) (xs : List Given) : Type 0 
   pub causes : List Cause
   pub are : AreAllCauses q causes
   pub given : AreGiven q vs causes xs
+
+-- a vertex, and one of its states
+abbrev pub IsPair : Problem → Pair → Type 0
+IsPair q p = IsVertex q p.0 × Contains (space q p.0) p.1
+
+-- the cause is one of those whose instances are given for the pair
+abbrev pub ComesFor : Problem → Pair → Cause → Type 0
+ComesFor q p c = (cs : List Cause) × AreCausesAt q p cs × Contains cs c
+
+-- the instance of the cause comes for one pair, and for no other
+pub record ComesOnce (q : Problem) (c : Cause) : Type 0 where
+  pub pair : Pair
+  pub is : IsPair q pair
+  pub comes : ComesFor q pair c
+  pub only : (p : Pair) → ComesFor q p c → p ≡ pair

@@ -19,14 +19,21 @@ mod spaces;
 mod whole;
 mod widening;
 
-ghost use Rattle.std.specs.Prelude.{◌≡◌, ◌↔◌, ℕ, Some, slice_get};
+ghost use Rattle.std.specs.Prelude.{◌≡◌, ◌↔◌, ℕ, Some, slice_get, true};
 ghost use Rattle.model.specs.Content.{Problem};
 ghost use Rattle.model.specs.Vertices.{Vertex};
+ghost use Rattle.refutations.specs.Causes.{Cause, is_cause};
 ghost use Rattle.encoding.specs.Numberings.{IsNumbering, Numbering, number_in};
+ghost use Rattle.full_encoding.specs.Everywhere.{ComesOnce};
 
 pub use whole::Encoding;
 
 /// A vertex has a number exactly where the number is that vertex's.
 pub fn numbers_are_places()
     ensures { (q : Problem) (vs : Numbering) (v : Vertex) (n : ℕ) → IsNumbering q vs → (number_in vs v ≡ Some n) ↔ (slice_get vs n ≡ Some v) }
+{}
+
+/// Over all pairs of a vertex and a state, each instance comes for just one.
+pub fn instances_come_once()
+    ensures { (q : Problem) (c : Cause) → is_cause q c ≡ true → ComesOnce q c }
 {}
