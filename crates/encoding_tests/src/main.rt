@@ -1,0 +1,80 @@
+//! Prints what the encodings of small problems give: the vertices with their states, all instances, and those of each
+//! pair of a vertex and a state. What is to be printed was derived by hand from the axioms.
+#![tactic(auto)]
+
+mod lines;
+mod loading;
+
+ghost use Rattle.encoding.specs.Inputs.{KnowsDefault};
+
+use catalogue::Catalogue;
+use encoding::Inputs;
+use full_encoding::Encoding;
+use lines::{all_lines, pair_lines, vertex_lines};
+use loading::{default_name, read_index, read_manifest};
+use manifest::Manifest;
+use std::alloc::{AllocError, Global};
+use std::{env, io};
+
+fn main(rt: HostRuntime) -> io::Result<()> {
+    for name in ["refused", "newest", "features"] {
+        println!(rt; "{name}")?;
+        env::set_current_dir(&rt, name)?;
+        tell(&rt)?;
+        env::set_current_dir(&rt, "..")?;
+    }
+    Ok(())
+}
+
+/// Tells of the problem in the present folder.
+fn tell(rt: &HostRuntime) -> io::Result<()> {
+    let manifest = read_manifest(rt)?;
+    let catalogue = read_index(rt, &manifest)?;
+    tell_over(rt, &manifest, &catalogue)
+}
+
+fn tell_over(rt: &HostRuntime, manifest: &Manifest, catalogue: &Catalogue) -> io::Result<()> {
+    let default = default_name(rt.alloc())?;
+    let inputs = Inputs {
+        manifest,
+        catalogue,
+        default: &default,
+    };
+    tell_both(rt, inputs)
+}
+
+fn tell_both(rt: &HostRuntime, inputs: Inputs<'_>) -> io::Result<()>
+    requires { KnowsDefault inputs }
+{
+    let pairs = tell_whole(rt, inputs)?;
+    let others = on_demand(rt.alloc(), inputs)?;
+    println!(rt; "The same on demand: {}.", others == pairs)
+}
+
+/// Tells what there is where every vertex has a number first. The instances of all pairs.
+fn tell_whole(rt: &HostRuntime, inputs: Inputs<'_>) -> io::Result<Vec<String>>
+    requires { KnowsDefault inputs }
+{
+    let mut encoding = Encoding::new(rt.alloc(), inputs)?;
+    print(rt, &vertex_lines(rt.alloc(), &encoding)?)?;
+    print(rt, &all_lines(rt.alloc(), &mut encoding)?)?;
+    let pairs = pair_lines(rt.alloc(), &mut encoding)?;
+    print(rt, &pairs)?;
+    Ok(pairs)
+}
+
+/// The instances of all pairs, where vertices get numbers as instances speak of them.
+fn on_demand(alloc: Global, inputs: Inputs<'_>) -> Result<Vec<String>, AllocError>
+    requires { KnowsDefault inputs }
+{
+    let mut encoding = Encoding::on_demand(alloc, inputs)?;
+    pair_lines(alloc, &mut encoding)
+}
+
+fn print(rt: &HostRuntime, lines: &[String]) -> io::Result<()> {
+    println!(rt; "{}:", lines.len())?;
+    for line in lines.iter() {
+        println!(rt; "{line}")?;
+    }
+    Ok(())
+}
