@@ -136,15 +136,15 @@ module _ {F : Type 0} (reads : Reads) (opens : List ℕ → F → Type 0) (calls
       ⊎ (HasFirst reads manifest source × HasOld reads lock × HasFile reads proof most_of_proof × WantsMemory stop)
       ⊎ ((f : CheckFault) × IsCheckOf manifest index lock source proof (Err f) × (stop_view stop ≡ fault f))
 
--- the derivation of a refusal is in the file that is named, if one is
+-- the derivation of a refusal is in the file that is named, if one is, and nothing else is written to the disk
 abbrev pub IsFiled : Writes → Option (List ℕ) → Answer → Type 0
-IsFiled writes path (Lock bytes kept skips) = Unit {0}
+IsFiled writes path (Lock bytes kept skips) = writes None
 IsFiled writes path (Unsolvable derivation text skips) = IsKept writes path derivation (Ok tt)
 
 -- an answer that there is can't be written: a write of the lock to standard output failed, or one of the derivation to
 -- its file
 abbrev pub IsUnwritten : Writes → (List ℕ → Type 0) → Option (List ℕ) → Answer → Stop → Type 0
-IsUnwritten writes fails path (Lock bytes kept skips) stop = (stop_view stop ≡ cannot_write) × fails bytes.items
+IsUnwritten writes fails path (Lock bytes kept skips) stop = (stop_view stop ≡ cannot_write) × fails bytes.items × writes None
 IsUnwritten writes fails path (Unsolvable derivation text skips) stop = IsKept writes path derivation (Err stop)
 
 module _ {F : Type 0} (reads : Reads) (writes : Writes) (opens : List ℕ → F → Type 0) (calls : Calls F) (failed : F → ℕ) where
@@ -153,25 +153,25 @@ module _ {F : Type 0} (reads : Reads) (writes : Writes) (opens : List ℕ → F 
   Answers (resolve manifest index lock source proof rust_first) old new told status = (answer : Answer) × IsAnswerTo reads opens calls failed manifest index lock source rust_first (Ok answer)
       × IsPrinted old new answer status × IsFiled writes proof answer × (told ≡ told_of answer (Ok status))
   Answers (verify manifest index lock source) old new told status = ((verdict : Verdict) × IsVerdictOf reads opens calls failed manifest index lock source (Ok verdict)
-      × (status ≡ verdict_status verdict) × Appends old new (line_of (verdict_text verdict))) × (told ≡ [])
+      × (status ≡ verdict_status verdict) × Appends old new (line_of (verdict_text verdict))) × (told ≡ []) × writes None
   Answers (check manifest index lock source proof) old new told status = ((c : Check) × IsCheckOf reads opens calls failed manifest index lock source proof (Ok c)
-      × (status ≡ check_status c) × Appends old new (line_of (check_text c))) × (told ≡ [])
-  Answers (explain proof) old new told status = ((text : List ℕ) × IsTextOf reads proof text × (status ≡ 0) × Appends old new text) × (told ≡ [])
+      × (status ≡ check_status c) × Appends old new (line_of (check_text c))) × (told ≡ []) × writes None
+  Answers (explain proof) old new told status = ((text : List ℕ) × IsTextOf reads proof text × (status ≡ 0) × Appends old new text) × (told ≡ []) × writes None
 
 module _ {F : Type 0} (reads : Reads) (writes : Writes) (opens : List ℕ → F → Type 0) (calls : Calls F) (failed : F → ℕ) (fails : List ℕ → Type 0) where
   -- A command that ends with the status 2: there is no answer, or it can't be written, for a write of it failed. The
   -- skipped lines are told where there is one.
   abbrev pub Stops : WordsView → List (List ℕ) → Stop → Type 0
-  Stops (resolve manifest index lock source proof rust_first) told stop = (LacksAnswer reads opens calls failed manifest index lock source rust_first stop × (told ≡ []))
+  Stops (resolve manifest index lock source proof rust_first) told stop = (LacksAnswer reads opens calls failed manifest index lock source rust_first stop × (told ≡ []) × writes None)
       ⊎ ((answer : Answer) × IsAnswerTo reads opens calls failed manifest index lock source rust_first (Ok answer)
       × IsUnwritten writes fails proof answer stop × (told ≡ told_of answer (Err stop)))
   Stops (verify manifest index lock source) told stop = (LacksVerdict reads opens calls failed manifest index lock source stop
       ⊎ ((verdict : Verdict) × IsVerdictOf reads opens calls failed manifest index lock source (Ok verdict)
-      × (stop_view stop ≡ cannot_write) × fails (line_of (verdict_text verdict)))) × (told ≡ [])
+      × (stop_view stop ≡ cannot_write) × fails (line_of (verdict_text verdict)))) × (told ≡ []) × writes None
   Stops (check manifest index lock source proof) told stop = (LacksCheck reads opens calls failed manifest index lock source proof stop
       ⊎ ((c : Check) × IsCheckOf reads opens calls failed manifest index lock source proof (Ok c)
-      × (stop_view stop ≡ cannot_write) × fails (line_of (check_text c)))) × (told ≡ [])
-  Stops (explain proof) told stop = (LacksText reads proof stop ⊎ ((text : List ℕ) × IsTextOf reads proof text × (stop_view stop ≡ cannot_write) × fails text)) × (told ≡ [])
+      × (stop_view stop ≡ cannot_write) × fails (line_of (check_text c)))) × (told ≡ []) × writes None
+  Stops (explain proof) told stop = (LacksText reads proof stop ⊎ ((text : List ℕ) × IsTextOf reads proof text × (stop_view stop ≡ cannot_write) × fails text)) × (told ≡ []) × writes None
 
   -- A run whose words are taken: what the command does and tells, and then, where it has no answer or can't write it,
   -- the line that says why. Standard output is unchanged unless an answer was to be written.
@@ -192,4 +192,4 @@ module _ {F : Type 0} (reads : Reads) (writes : Writes) (opens : List ℕ → F 
   -- and with what it means that texts were told on standard error.
   abbrev pub Runs : List (List ℕ) → Option (List ℕ) → Option (List ℕ) → (List (List ℕ) → Type 0) → Type 0 → ℕ → Type 0
   Runs words old new tells unchanged status = IsRunOf words old new tells unchanged status
-      ⊎ ((fault : WordsFault) × Refuses (or_help words) fault × IsRefused fails old new fault status × tells (refusal_of fault status))
+      ⊎ ((fault : WordsFault) × Refuses (or_help words) fault × IsRefused fails old new fault status × tells (refusal_of fault status) × writes None)

@@ -54,14 +54,26 @@ module _ (reads : Reads) where
 abbrev pub bytes_if : Option (Vec ℕ Global) → Option (List ℕ)
 bytes_if o = option_map (λ v. v.items) o
 
--- whether bytes came to be the file at a path
+-- a write to the disk: the path, the bytes, and whether they came to be the file there
+pub record FileWrite : Type 0 where
+  pub path : List ℕ
+  pub bytes : List ℕ
+  pub is_made : Bool
+
+-- all that is written to the disk: nothing, or once
 abbrev pub Writes : Type 1
-Writes = List ℕ → List ℕ → Bool → Type 0
+Writes = Option FileWrite → Type 0
+
+-- by what a write does to a disk: where nothing is written, the disk is as it was
+module _ {D : Type 0} (puts : D → List ℕ → List ℕ → Bool → D → Type 0) (old new : D) where
+  abbrev pub writes : Writes
+  writes None = new ≡ old
+  writes (Some w) = puts old w.path w.bytes w.is_made new
 
 module _ (writes : Writes) where
   -- the file of a derivation, where one is named: memory may be wanting for its lines, before any is written
   abbrev pub IsKept : Option (List ℕ) → List Step → Result (Unit {0}) Stop → Type 0
-  IsKept None steps given = given ≡ Ok tt
-  IsKept (Some path) steps (Ok given) = writes path (lines_of steps) true
-  IsKept (Some path) steps (Err stop) = WantsMemory stop
-      ⊎ (writes path (lines_of steps) false × (stop_view stop ≡ cannot_write_file path))
+  IsKept None steps given = (given ≡ Ok tt) × writes None
+  IsKept (Some path) steps (Ok given) = writes (Some (record { path = path; bytes = lines_of steps; is_made = true }))
+  IsKept (Some path) steps (Err stop) = (WantsMemory stop × writes None)
+      ⊎ (writes (Some (record { path = path; bytes = lines_of steps; is_made = false })) × (stop_view stop ≡ cannot_write_file path))

@@ -17,8 +17,8 @@ pub trait Disk {
     /// The disk, a path, how many bytes are wanted at most, and what reading them gave.
     ghost reads: { Self → List ℕ → ℕ → Result (Vec ℕ Global) FileFault → Type 0 };
 
-    /// The disk, a path, bytes, and whether they became the file there.
-    ghost writes: { Self → List ℕ → List ℕ → Bool → Type 0 };
+    /// The disk before, a path, bytes, whether they became the file there, and the disk after.
+    ghost writes: { Self → List ℕ → List ℕ → Bool → Self → Type 0 };
 
     /// The disk, a path, and the folder there.
     ghost opens: { Self → List ℕ → Self.Index → Type 0 };
@@ -28,11 +28,11 @@ pub trait Disk {
         ensures { reads self.now path.now most result };
 
     /// Makes these bytes the file at a path, and says whether that could be done.
-    fn write(&self, path: &str, bytes: &[u8]) -> bool
-        ensures { writes self.now path.now bytes.now result };
+    fn write(&mut self, path: &str, bytes: &[u8]) -> bool
+        ensures { writes self.old path.now bytes.now result self.new };
 
     /// What memory comes from.
-    fn alloc(&self) -> Global;
+    fn memory(&self) -> Global;
 
     /// The folder at a path.
     fn open(&self, path: &str) -> Result<Self::Index, AllocError>
@@ -44,55 +44,50 @@ pub trait Puts {
     ghost use Rattle.std.specs.Prelude.{ℕ, List, Result};
     ghost use Rattle.std.specs.declared.io.Error.{Error};
 
-    /// Who puts, a path, bytes, and what writing them there gave.
-    ghost puts: { Self → List ℕ → List ℕ → Result (Unit {0}) Error → Type 0 };
+    /// Who puts, before, a path, bytes, what writing them there gave, and who puts, after.
+    ghost puts: { Self → List ℕ → List ℕ → Result (Unit {0}) Error → Self → Type 0 };
 
     /// Makes these bytes the file at a path.
-    fn put_at(&self, path: &str, bytes: &[u8]) -> io::Result<()>
-        ensures { puts self.now path.now bytes.now result };
+    fn put_at(&mut self, path: &str, bytes: &[u8]) -> io::Result<()>
+        ensures { puts self.old path.now bytes.now result self.new };
 }
 
 /// The system's call. That the bytes come to be the file there the toolchain's files don't promise, and so nothing above
 /// does.
 impl<R: Files> Puts for R {
-    ghost puts = { λ _ _ _ _. Unit {0} };
+    ghost puts = { λ _ _ _ _ _. Unit {0} };
 
-    fn put_at(&self, path: &str, bytes: &[u8]) -> io::Result<()> {
+    fn put_at(&mut self, path: &str, bytes: &[u8]) -> io::Result<()> {
         fs::write(self, path, bytes)
     }
 }
 
-/// The disk of what opens and writes files, as the system does.
-#[derive(Drop)]
-pub(crate) struct System<'a, O> {
-    pub(crate) rt: &'a O,
-}
-
-impl<O: Opens + Puts + AllocGlobal + Clone + Drop> Disk for System<'_, O> {
-    type Index = DiskFolder<O>;
+/// What opens and puts files is a disk.
+impl<R: Opens + Puts + AllocGlobal + Clone + Drop> Disk for R {
+    type Index = DiskFolder<R>;
 
     ghost use Rattle.index_reader.specs.Reading.{IsRead};
     ghost use Rattle.commands.specs.Systems.{IsOpened, IsWritten};
 
-    ghost reads = { λ disk. IsRead (O.opens disk.rt.now) O.File.left O.File.fails };
+    ghost reads = { λ disk. IsRead (R.opens disk) R.File.left R.File.fails };
 
-    ghost writes = { λ disk. IsWritten (O.puts disk.rt.now) };
+    ghost writes = { IsWritten R.puts };
 
-    ghost opens = { λ disk. IsOpened O.is_clone disk.rt.now };
+    ghost opens = { λ disk. IsOpened R.is_clone disk };
 
     fn read(&self, path: &str, most: u64) -> Result<Vec<u8>, FileFault> {
-        read_at(self.rt, self.rt.alloc(), path, most)
+        read_at(self, self.alloc(), path, most)
     }
 
-    fn write(&self, path: &str, bytes: &[u8]) -> bool {
-        self.rt.put_at(path, bytes).is_ok()
+    fn write(&mut self, path: &str, bytes: &[u8]) -> bool {
+        self.put_at(path, bytes).is_ok()
     }
 
-    fn alloc(&self) -> Global {
-        self.rt.alloc()
+    fn memory(&self) -> Global {
+        self.alloc()
     }
 
-    fn open(&self, path: &str) -> Result<DiskFolder<O>, AllocError> {
-        DiskFolder::open(self.rt, path)
+    fn open(&self, path: &str) -> Result<DiskFolder<R>, AllocError> {
+        DiskFolder::open(self, path)
     }
 }

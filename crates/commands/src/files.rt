@@ -1,7 +1,7 @@
 //! The files that a run reads, by their paths and their limits.
 
 ghost use Rattle.words.specs.Views.{text_if};
-ghost use Rattle.commands.specs.Disks.{IsFile, IsOld, IsKept, most_of_manifest, most_of_lock, most_of_proof};
+ghost use Rattle.commands.specs.Disks.{IsFile, IsOld, IsKept, writes, most_of_manifest, most_of_lock, most_of_proof};
 
 use crate::disk::Disk;
 use crate::stop::Stop;
@@ -65,16 +65,16 @@ fn read_file<'a, D: Disk>(disk: &D, path: &'a str, most: u64) -> Result<Vec<u8>,
 
 /// The derivation of a refusal goes to a file, if one is named.
 pub(crate) fn write_proof<'a, D: Disk>(
-    disk: &D,
+    disk: &mut D,
     path: Option<&'a str>,
     derivation: &Derivation,
 ) -> Result<(), Stop<'a>>
-    ensures { IsKept (D.writes disk.now) (text_if path.entry) derivation.now result }
+    ensures { IsKept (writes D.writes disk.old disk.new) (text_if path.entry) derivation.now result }
 {
     let Some(path) = path else {
         return Ok(());
     };
-    let bytes = derivations::write(disk.alloc(), derivation)?;
+    let bytes = derivations::write(disk.memory(), derivation)?;
     if disk.write(path, bytes.as_slice()) {
         Ok(())
     } else {

@@ -6,6 +6,7 @@ ghost use Rattle.checker.specs.Texts.{check_text};
 ghost use Rattle.selection.specs.Texts.{verdict_text};
 ghost use Rattle.words.specs.Views.{text_if};
 ghost use Rattle.commands.specs.Commands.{IsFiled, IsUnwritten};
+ghost use Rattle.commands.specs.Disks.{writes};
 ghost use Rattle.commands.specs.Lines.{IsPrinted, Puts, Tells, line_of, verdict_status, check_status, skip_line, skips_of, told_of};
 ghost use Rattle.commands.specs.Stops.{cannot_write, is_stopped, stop_view};
 
@@ -84,15 +85,15 @@ fn after<'a>(written: bool, status: u8) -> Result<u8, Stop<'a>>
 /// The skipped lines go to `err` first. Then a lock goes to `out`; of a refusal the derivation goes to the file for it,
 /// and then the text to `err`.
 pub(crate) fn print_answer<'a, D: Disk, O: Stream, E: Stream>(
-    disk: &D,
+    disk: &mut D,
     answer: &Answer,
     proof: Option<&'a str>,
     out: &mut O,
     err: &mut E,
 ) -> Ended<'a>
     ensures printed { IfOk result.status (IsPrinted (O.contents out.old) (O.contents out.new) answer.now) }
-    ensures filed { IfOk result.status (λ _. IsFiled (D.writes disk.now) (text_if proof.entry) answer.now) }
-    ensures unwritten { IfErr result.status (IsUnwritten (D.writes disk.now) (λ bytes. O.fails out.old bytes out.new) (text_if proof.entry) answer.now) }
+    ensures filed { IfOk result.status (λ _. IsFiled (writes D.writes disk.old disk.new) (text_if proof.entry) answer.now) }
+    ensures unwritten { IfErr result.status (IsUnwritten (writes D.writes disk.old disk.new) (λ bytes. O.fails out.old bytes out.new) (text_if proof.entry) answer.now) }
     ensures stopped { is_stopped result.status ≡ true → out.new ≡ out.old }
     ensures told { Tells E.contents E.fails err.old (told_of answer.now result.status) result.told err.new }
 {

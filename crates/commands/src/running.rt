@@ -7,13 +7,13 @@ ghost use Rattle.checker.specs.Texts.{check_text};
 ghost use Rattle.selection.specs.Texts.{verdict_text};
 ghost use Rattle.words.specs.Views.{text_if, words_view};
 ghost use Rattle.commands.specs.Commands.{Answers, IsAnswerTo, IsCheckOf, IsDerivationOf, IsTextOf, IsVerdictOf, LacksAnswer, LacksCheck, LacksText, LacksVerdict, Runs, Stops, preference};
-ghost use Rattle.commands.specs.Disks.{bytes_if};
+ghost use Rattle.commands.specs.Disks.{bytes_if, writes};
 ghost use Rattle.commands.specs.Refusals.{IsRefused, refusal_of};
 ghost use Rattle.commands.specs.Lines.{Tells, check_status, ending_of, line_of, status_of, verdict_status};
 ghost use Rattle.commands.specs.Stops.{cannot_write, is_stopped, stop_view};
 ghost use Rattle.commands.specs.Systems.{IsOpened, IsWritten};
 
-use crate::disk::{Disk, Puts, System};
+use crate::disk::{Disk, Puts};
 use crate::files::{read_lock, read_manifest, read_old, read_proof};
 use crate::printing::{Ended, print_answer, print_bytes, print_check, print_verdict};
 use crate::sources::{own_source, source_text};
@@ -38,27 +38,26 @@ const FAILED: u8 = 2;
 /// The answer of a command goes to `out`, help too; every other line goes to `err`. A write to `err` that fails is
 /// passed over.
 pub fn run<R: Opens + Puts + AllocGlobal + Clone + Drop, O: Stream, E: Stream>(
-    rt: &R,
+    rt: &mut R,
     words: &[String],
     out: &mut O,
     err: &mut E,
 ) -> u8
-    ensures { (told : Bool) × Runs (IsRead (R.opens rt.now) R.File.left R.File.fails) (IsWritten (R.puts rt.now)) (IsOpened R.is_clone rt.now) (DiskCalls R.opens R.File.left R.File.fails) (λ folder. folder.failures) (λ bytes. O.fails out.old bytes out.new) (map string_bytes words.now) (O.contents out.old) (O.contents out.new) (λ texts. Tells E.contents E.fails err.old texts told err.new) (out.new ≡ out.old) result }
+    ensures { (told : Bool) × Runs (IsRead (R.opens rt.old) R.File.left R.File.fails) (writes (IsWritten R.puts) rt.old rt.new) (IsOpened R.is_clone rt.old) (DiskCalls R.opens R.File.left R.File.fails) (λ folder. folder.failures) (λ bytes. O.fails out.old bytes out.new) (map string_bytes words.now) (O.contents out.old) (O.contents out.new) (λ texts. Tells E.contents E.fails err.old texts told err.new) (out.new ≡ out.old) result }
 {
-    let disk = System { rt };
-    run_on(&disk, words, out, err).0
+    run_on(rt, words, out, err).0
 }
 
 /// The same on any disk; also says whether all that is told on standard error was written.
 pub fn run_on<D: Disk, O: Stream, E: Stream>(
-    disk: &D,
+    disk: &mut D,
     words: &[String],
     out: &mut O,
     err: &mut E,
 ) -> (u8, bool)
-    ensures { Runs (D.reads disk.now) (D.writes disk.now) (D.opens disk.now) D.Index.calls D.Index.failed (λ bytes. O.fails out.old bytes out.new) (map string_bytes words.now) (O.contents out.old) (O.contents out.new) (λ texts. Tells E.contents E.fails err.old texts result.1 err.new) (out.new ≡ out.old) result.0 }
+    ensures { Runs (D.reads disk.old) (writes D.writes disk.old disk.new) (D.opens disk.old) D.Index.calls D.Index.failed (λ bytes. O.fails out.old bytes out.new) (map string_bytes words.now) (O.contents out.old) (O.contents out.new) (λ texts. Tells E.contents E.fails err.old texts result.1 err.new) (out.new ≡ out.old) result.0 }
 {
-    match read_words(disk.alloc(), words) {
+    match read_words(disk.memory(), words) {
         Ok(words) => {
             let Ended { status, told } = answered(disk, &words, out, err);
             let (status, is_told) = finish(status, err);
@@ -70,12 +69,12 @@ pub fn run_on<D: Disk, O: Stream, E: Stream>(
 
 /// What a command answers.
 fn answered<'a, D: Disk, O: Stream, E: Stream>(
-    disk: &D,
+    disk: &mut D,
     words: &Words<'a>,
     out: &mut O,
     err: &mut E,
 ) -> Ended<'a>
-    ensures answers { (told : List (List ℕ)) × IfOk result.status (Answers (D.reads disk.now) (D.writes disk.now) (D.opens disk.now) D.Index.calls D.Index.failed (words_view words.entry.now) (O.contents out.old) (O.contents out.new) told) × IfErr result.status (Stops (D.reads disk.now) (D.writes disk.now) (D.opens disk.now) D.Index.calls D.Index.failed (λ bytes. O.fails out.old bytes out.new) (words_view words.entry.now) told) × Tells E.contents E.fails err.old told result.told err.new }
+    ensures answers { (told : List (List ℕ)) × IfOk result.status (Answers (D.reads disk.old) (writes D.writes disk.old disk.new) (D.opens disk.old) D.Index.calls D.Index.failed (words_view words.entry.now) (O.contents out.old) (O.contents out.new) told) × IfErr result.status (Stops (D.reads disk.old) (writes D.writes disk.old disk.new) (D.opens disk.old) D.Index.calls D.Index.failed (λ bytes. O.fails out.old bytes out.new) (words_view words.entry.now) told) × Tells E.contents E.fails err.old told result.told err.new }
     ensures stopped { is_stopped result.status ≡ true → out.new ≡ out.old }
 {
     match words {
@@ -146,10 +145,10 @@ fn verdict_at<'a, D: Disk>(
     let text = source_text(source)?;
     let bytes = read_manifest(disk, manifest)?;
     let locked = read_lock(disk, lock)?;
-    let from = own_source(disk.alloc(), text)?;
+    let from = own_source(disk.memory(), text)?;
     let mut folder = disk.open(index)?;
     let verdict = verify_bytes(
-        disk.alloc(),
+        disk.memory(),
         bytes.as_slice(),
         &mut folder,
         locked.as_slice(),
@@ -174,11 +173,11 @@ fn answer_at<'a, D: Disk>(
     let bytes = read_manifest(disk, manifest)?;
     let old = read_old(disk, lock)?;
     let given = slice_if(&old);
-    let from = own_source(disk.alloc(), text)?;
+    let from = own_source(disk.memory(), text)?;
     let mut folder = disk.open(index)?;
     let prefer = preference(rust_first);
     let answer = resolve(
-        disk.alloc(),
+        disk.memory(),
         bytes.as_slice(),
         &mut folder,
         given,
@@ -242,10 +241,10 @@ fn checked_at<'a, D: Disk>(
     let old = read_old(disk, lock)?;
     let given = slice_if(&old);
     let derivation = read_proof(disk, proof)?;
-    let from = own_source(disk.alloc(), text)?;
+    let from = own_source(disk.memory(), text)?;
     let mut folder = disk.open(index)?;
     let checked = check_bytes(
-        disk.alloc(),
+        disk.memory(),
         bytes.as_slice(),
         &mut folder,
         given,
@@ -271,7 +270,7 @@ fn text_at<'a, D: Disk>(disk: &D, proof: &'a str) -> Result<String, Stop<'a>>
     ensures lacks { IfErr result (LacksText (D.reads disk.now) proof.entry.now) }
 {
     let derivation = derivation_at(disk, proof)?;
-    let text = explain(disk.alloc(), &derivation)?;
+    let text = explain(disk.memory(), &derivation)?;
     Ok(text)
 }
 
@@ -281,7 +280,7 @@ fn derivation_at<'a, D: Disk>(disk: &D, proof: &'a str) -> Result<Derivation, St
     ensures lacks { IfErr result (LacksText (D.reads disk.now) proof.entry.now) }
 {
     let bytes = read_proof(disk, proof)?;
-    let derivation = derivations::read(disk.alloc(), bytes.as_slice())?;
+    let derivation = derivations::read(disk.memory(), bytes.as_slice())?;
     Ok(derivation)
 }
 

@@ -5,10 +5,12 @@ use commands::{run, without_arguments};
 use std::process::ExitCode;
 use std::{env, io};
 
-fn main(rt: HostRuntime) -> io::Result<ExitCode> {
+fn main(mut rt: HostRuntime) -> io::Result<ExitCode> {
+    let mut out = rt.stdout();
+    let mut err = rt.stderr();
     let status = match words(&rt) {
-        Ok(words) => run(&rt, words.as_slice(), &mut rt.stdout(), &mut rt.stderr()),
-        Err(error) => without_arguments(&error, &mut rt.stderr()),
+        Ok(words) => run(&mut rt, words.as_slice(), &mut out, &mut err),
+        Err(error) => without_arguments(&error, &mut err),
     };
     Ok(ExitCode::from(status))
 }

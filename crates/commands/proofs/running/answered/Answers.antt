@@ -18,28 +18,28 @@ returns-in-Ok-clause-answers g c =
     )
 
 pub returns-in-Err-clause-answers : goal.returns-in-Err-clause-answers
-returns-in-Err-clause-answers g c = rw (c.in-Resolve.is, c.quiet-in-Err.ensures.status) ([], tt, inl (c.in-Err.ensures.lacks, refl), (c.quiet-in-Err.ensures.told, refl))
+returns-in-Err-clause-answers g c = rw (c.in-Resolve.is, c.quiet-in-Err.ensures.status) ([], tt, inl (c.in-Err.ensures.lacks, refl, refl), (c.quiet-in-Err.ensures.told, refl))
 
 pub returns-in-Verify-clause-answers : goal.returns-in-Verify-clause-answers
 returns-in-Verify-clause-answers g c = rw (c.in-Verify.is, c.quiet.ensures.status) (
   [],
-  map_ok c.verify_at.result (λ status said. (said, refl)) c.verify_at.ensures.answers,
-  map_err c.verify_at.result (λ stop lacks. (lacks, refl)) c.verify_at.ensures.stops,
+  map_ok c.verify_at.result (λ status said. (said, refl, refl)) c.verify_at.ensures.answers,
+  map_err c.verify_at.result (λ stop lacks. (lacks, refl, refl)) c.verify_at.ensures.stops,
   (c.quiet.ensures.told, refl),
 )
 
 pub returns-in-Check-clause-answers : goal.returns-in-Check-clause-answers
 returns-in-Check-clause-answers g c = rw (c.in-Check.is, c.quiet-in-Check.ensures.status) (
   [],
-  map_ok c.check_at.result (λ status said. (said, refl)) c.check_at.ensures.answers,
-  map_err c.check_at.result (λ stop lacks. (lacks, refl)) c.check_at.ensures.stops,
+  map_ok c.check_at.result (λ status said. (said, refl, refl)) c.check_at.ensures.answers,
+  map_err c.check_at.result (λ stop lacks. (lacks, refl, refl)) c.check_at.ensures.stops,
   (c.quiet-in-Check.ensures.told, refl),
 )
 
 pub returns-in-Explain-clause-answers : goal.returns-in-Explain-clause-answers
 returns-in-Explain-clause-answers g c = rw (c.in-Explain.is, c.quiet-in-Explain.ensures.status) (
   [],
-  map_ok c.explain_at.result (λ status said. (said, refl)) c.explain_at.ensures.answers,
-  map_err c.explain_at.result (λ stop lacks. (lacks, refl)) c.explain_at.ensures.stops,
+  map_ok c.explain_at.result (λ status said. (said, refl, refl)) c.explain_at.ensures.answers,
+  map_err c.explain_at.result (λ stop lacks. (lacks, refl, refl)) c.explain_at.ensures.stops,
   (c.quiet-in-Explain.ensures.told, refl),
 )

@@ -1,4 +1,4 @@
-use Rattle.std.proofs.Common.{inl, inr}
+use Rattle.std.proofs.Common.{inl, inr, refl}
 use Rattle.words.specs.Views.{words_view}
 use Rattle.commands.specs.Lines.{ending_of}
 use Rattle.commands.proofs.Telling.{tells-then}
@@ -22,4 +22,4 @@ returns-in-Ok g c =
     })
 
 pub returns-in-Err : goal.returns-in-Err
-returns-in-Err g c = inr (c.in-Err.fault, c.in-Err.ensures.refused, c.without_words.ensures.printed, c.without_words.ensures.told)
+returns-in-Err g c = inr (c.in-Err.fault, c.in-Err.ensures.refused, c.without_words.ensures.printed, c.without_words.ensures.told, refl)
