@@ -84,7 +84,7 @@ fn run_command(rt: &HostRuntime, command: &str) -> io::Result<Ended> {
     let mut err = sink(rt, err)?;
     let words = words_of(rt.alloc(), command)?;
     let status = match words.first().map(|word| word.as_str()) {
-        Some("relock") => run(&mut rt.clone(), words.as_slice(), &mut out, &mut err),
+        Some("relock") => run(&mut rt.clone()?, words.as_slice(), &mut out, &mut err),
         Some("repeat") => repeat(rt, words.as_slice(), &mut out)?,
         Some("cat") => cat(rt, words.as_slice(), &mut out)?,
         Some("cmp") => cmp(rt, words.as_slice())?,
