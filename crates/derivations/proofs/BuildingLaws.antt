@@ -1,9 +1,9 @@
 -- Terms in any order, put into the written one, are those of a step.
-use Rattle.std.proofs.Common.{◌≡◌, ℕ, ◌<◌, List, [], ◌∷◌, map, length, get_or, Bool, true, false, cond, Ok, refl, sym, ap, ap₂, ◌∙◌, subst, Ordering, Less, Equal, Greater}
+use Rattle.std.proofs.Common.{◌≡◌, ℕ, ◌<◌, List, [], ◌∷◌, map, length, get_or, Bool, true, false, refl, sym, ap, ◌∙◌, subst, Ordering, Less, Equal, Greater}
 use Rattle.std.specs.Cmp.{IsTotalOrder, unsigned_tied}
 use Rattle.std.specs.Cmp.Lexicographic.{texts_ties}
 use Rattle.std.specs.List.{All, AllByRecursion, IsDistinct}
-use Rattle.std.specs.Ordering.{is_eq, is_gt, eq_by_cmp, nat_cmp, on, ordering_then}
+use Rattle.std.specs.Ordering.{is_eq, eq_by_cmp, nat_cmp, on, ordering_then}
 use Rattle.std.proofs.lemmas.Bool.{eqb-true}
 use Rattle.std.proofs.lemmas.Cmp.{nat_list_cmp_total, on_total}
 use Rattle.std.proofs.lemmas.List.{get_or-map, length-map}
@@ -11,16 +11,14 @@ use Rattle.std.proofs.lemmas.List.Elements.{All-get_or, recursion_from_All}
 use Rattle.model.specs.Order.{text_cmp, precedence}
 use Rattle.model.specs.Selection.{Class, patch, minor, major}
 use Rattle.model.specs.Vertices.{Vertex, State, absent, present, version, in_class, same_vertex, same_state}
-use Rattle.model.specs.Axioms.{Term, at}
-use Rattle.model.specs.Outcome.{◌>>=◌}
+use Rattle.model.specs.Axioms.{Term}
 use Rattle.model.proofs.Same.{text-same, state-refl, vertex-refl}
 use Rattle.vertices.specs.Orders.{state_cmp}
 use Rattle.vertices.specs.Texts.{vertex_text, state_text, vertex_of_text, state_of_text, IsReadVertex, IsReadState}
 use Rattle.vertices.proofs.Bound.{same-Ok}
 use Rattle.vertices.proofs.OrderLaws.{state_total}
-use Rattle.derivations.specs.Building.{IsNewTerm, AreNewTerms, ordered_term, ordered_terms, text_term, text_term_cmp, read_term}
+use Rattle.derivations.specs.Building.{IsNewTerm, AreNewTerms, ordered_term, ordered_terms}
 use Rattle.derivations.specs.Derivations.{IsTerm, term_cmp, AreTerms}
-use Rattle.derivations.specs.Orders.{put_in, in_order}
 use Rattle.derivations.proofs.Sorting.{each-in_order, sorted-in_order}
 
 -- ---- what the orders don't tell apart
@@ -133,42 +131,3 @@ terms-are ts h =
 -- a term at its place among new ones
 pub new-at : {X : Type 0} (v : X → Term) (xs : List X) (k : ℕ) (x : X) → All IsNewTerm (map v xs) → k < length xs → x ≡ get_or xs k x → IsNewTerm (v x)
 new-at v xs k x h l is = subst IsNewTerm (get_or-map v xs k x (v x) l ∙ ap v (sym is)) (All-get_or IsNewTerm (map v xs) k (v x) (rw (length-map xs v) l) h)
-
--- ---- the same by texts
-
-module _ {X Y : Type 0} (R : Y → Y → Ordering) (f : X → Y) where
-  put-map : (x : X) (ys : List X) → put_in R (f x) (map f ys) ≡ map f (put_in (on f R) x ys)
-  put-map x [] = refl
-  put-map x (y ∷ ys) = by (is_gt (R (f x) (f y))) (put-map x ys)
-    where
-      by : (b : Bool) → put_in R (f x) (map f ys) ≡ map f (put_in (on f R) x ys)
-          → cond b (f y ∷ put_in R (f x) (map f ys)) (f x ∷ (f y ∷ map f ys)) ≡ map f (cond b (y ∷ put_in (on f R) x ys) (x ∷ (y ∷ ys)))
-      by true rest = ap (λ zs. f y ∷ zs) rest
-      by false rest = refl
-
-  order-map : (xs : List X) → in_order R (map f xs) ≡ map f (in_order (on f R) xs)
-  order-map [] = refl
-  order-map (x ∷ xs) = ap (put_in R (f x)) (order-map xs) ∙ put-map x (in_order (on f R) xs)
-
-pub text_term_total : IsTotalOrder text_term_cmp
-text_term_total = on_total (λ t. t.0) nat_list_cmp_total
-
-pub texts-ordered : (ts : List Term) → in_order text_term_cmp (map text_term (map ordered_term ts)) ≡ map text_term (ordered_terms ts)
-texts-ordered ts = order-map text_term_cmp text_term (map ordered_term ts)
-
-pub texts-apart : (ts : List Term) → AreNewTerms ts → IsDistinct (eq_by_cmp text_term_cmp) (map text_term (map ordered_term ts))
-texts-apart ts h = distinct-map (eq_by_cmp text_term_cmp) text_term (map ordered_term ts) (terms-apart ts h)
-
--- ---- the terms that texts read as
-
-own-term : (t : Term) → IsReadVertex t.vertex → read_term (text_term t) ≡ Ok t
-own-term t h = ap (λ r. r >>= λ v. Ok (at v t.states)) h
-
-pub own-terms : (ts us : List Term) → AllByRecursion IsTerm ts → map read_term (map text_term ts) ≡ map Ok us → us ≡ ts
-own-terms [] [] each h = refl
-own-terms [] (u ∷ us) each h = cc
-own-terms (t ∷ ts) [] each h = cc
-own-terms (t ∷ ts) (u ∷ us) each h =
-    let here : read_term (text_term t) ≡ Ok u = cc in
-    let rest : map read_term (map text_term ts) ≡ map Ok us = cc in
-    ap₂ (λ x xs. x ∷ xs) (same-Ok _ _ (sym here ∙ own-term t each.0.vertex)) (own-terms ts us each.1 rest)

@@ -7,3 +7,5 @@ pub mod JsonLaws
 pub mod WriteLaws
 pub mod TableLaws
 pub mod BuildingLaws
+pub mod EarlierLaws
+pub mod LineLaws

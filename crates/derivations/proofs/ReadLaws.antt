@@ -1,5 +1,5 @@
 -- What is read keeps what each derivation keeps.
-use Rattle.std.proofs.Common.{◌≡◌, ℕ, ◌+◌, List, [], ◌∷◌, ◌++◌, map, length, Bool, true, false, cond, ◌&&◌, Option, Some, None, Ok, Err, option_and_then, refl, sym, ap, ap₂, ◌∙◌, subst, arith, Ordering, Less, codes}
+use Rattle.std.proofs.Common.{◌≡◌, ℕ, ◌+◌, List, [], ◌∷◌, ◌++◌, length, Bool, true, false, cond, ◌&&◌, Option, Some, None, Ok, Err, option_and_then, refl, sym, ap, ap₂, ◌∙◌, subst, arith, Ordering, Less, codes}
 use Rattle.std.specs.Cmp.{IsTotalOrder}
 use Rattle.std.specs.List.{AllByRecursion}
 use Rattle.std.specs.List.Sorted.{IsStrictlySortedBy}
@@ -171,9 +171,3 @@ one-more n (t ∷ ss) s each h = (each.0, one-more (n + 1) ss s each.1 (subst (�
 -- one more step after those of a derivation
 pub one-after : (ss : List Step) (s : Step) → IsDerivation ss → IsStepAt (length ss) s → IsDerivation (ss ++ s ∷ [])
 one-after ss s h step = one-more 0 ss s h (subst (λ n. IsStepAt n s) (omega arith) step)
-
--- ---- terms without their texts
-
-pub texts-dropped : {X : Type 0} (f : X → Written) (g : X → Term) → ((x : X) → g x ≡ (f x).1) → (xs : List X) → map g xs ≡ terms_without_texts (map f xs)
-texts-dropped f g same [] = refl
-texts-dropped f g same (x ∷ xs) = ap₂ (λ a b. a ∷ b) (same x) (texts-dropped f g same xs)

@@ -37,6 +37,15 @@ kept-key eq view ks k d n lt = by (list_any (eq k) ks)
         let long = length-append (map view ks) (view k ∷ []) in
         rw whole (omega (arith, long), get_or_append_left (map view ks) (view k ∷ []) d n lt)
 
+-- so does each number of a list of keys themselves
+pub kept-own : {K : Type 0} (eq : K → K → Bool) (ks : List K) (k : K) (d : K) (n : ℕ) → n < length ks
+    → (n < length (insert_key eq ks k)) × (get_or (insert_key eq ks k) n d ≡ get_or ks n d)
+kept-own eq ks k d n lt = by (list_any (eq k) ks)
+  where
+    by : (b : Bool) → (n < length (cond b ks (ks ++ k ∷ []))) × (get_or (cond b ks (ks ++ k ∷ [])) n d ≡ get_or ks n d)
+    by true = (lt, refl)
+    by false = let long = length-append ks (k ∷ []) in (omega (arith, long), get_or_append_left ks (k ∷ []) d n lt)
+
 -- the key that is found stands for what was put in
 pub found-key : {K V : Type 0} (view : K → V) (ks : List K) (n : ℕ) (k : K) (v d : V) → slice_get ks n ≡ Some k → view k ≡ v → (n < length (map view ks)) × (get_or (map view ks) n d ≡ v)
 found-key view ks n k v d is same =
@@ -58,19 +67,19 @@ found-at xs n x d is = (slice_get_within xs n x is, get_or_from_slice_get xs n x
 pub grown-refl : (t : TablesView) → IsGrown t t
 grown-refl t = record { vertices = λ n lt. (lt, refl); states = λ n lt. (lt, refl); sets = λ n lt. (lt, refl) }
 
-pub grown-vertices : {K : Type 0} (eq : K → K → Bool) (view : K → Vertex) (ks : List K) (k : K) (keys : List K) (ss : List State) (ns : List (List ℕ)) (t : TablesView) → keys ≡ insert_key eq ks k
-    → (record { vertices = map view ks; states = ss; sets = ns }) ≡ t → IsGrown t (record { vertices = map view keys; states = ss; sets = ns })
-grown-vertices eq view ks k keys ss ns t new is =
-    let each : (n : ℕ) → n < length (map view ks) → (n < length (map view keys)) × (get_or (map view keys) n root ≡ get_or (map view ks) n root)
-    = rw new (λ n lt. kept-key eq view ks k root n lt) in
-    subst (λ (u : TablesView). IsGrown u (record { vertices = map view keys; states = ss; sets = ns })) is (record { vertices = each; states = λ n lt. (lt, refl); sets = λ n lt. (lt, refl) })
+pub grown-vertices : (eq : Vertex → Vertex → Bool) (ks : List Vertex) (k : Vertex) (keys : List Vertex) (ss : List State) (ns : List (List ℕ)) (t : TablesView) → keys ≡ insert_key eq ks k
+    → (record { vertices = ks; states = ss; sets = ns }) ≡ t → IsGrown t (record { vertices = keys; states = ss; sets = ns })
+grown-vertices eq ks k keys ss ns t new is =
+    let each : (n : ℕ) → n < length ks → (n < length keys) × (get_or keys n root ≡ get_or ks n root)
+    = rw new (λ n lt. kept-own eq ks k root n lt) in
+    subst (λ (u : TablesView). IsGrown u (record { vertices = keys; states = ss; sets = ns })) is (record { vertices = each; states = λ n lt. (lt, refl); sets = λ n lt. (lt, refl) })
 
-pub grown-states : {K : Type 0} (eq : K → K → Bool) (view : K → State) (ks : List K) (k : K) (keys : List K) (vs : List Vertex) (ns : List (List ℕ)) (t : TablesView) → keys ≡ insert_key eq ks k
-    → (record { vertices = vs; states = map view ks; sets = ns }) ≡ t → IsGrown t (record { vertices = vs; states = map view keys; sets = ns })
-grown-states eq view ks k keys vs ns t new is =
-    let each : (n : ℕ) → n < length (map view ks) → (n < length (map view keys)) × (get_or (map view keys) n absent ≡ get_or (map view ks) n absent)
-    = rw new (λ n lt. kept-key eq view ks k absent n lt) in
-    subst (λ (u : TablesView). IsGrown u (record { vertices = vs; states = map view keys; sets = ns })) is (record { vertices = λ n lt. (lt, refl); states = each; sets = λ n lt. (lt, refl) })
+pub grown-states : (eq : State → State → Bool) (ks : List State) (k : State) (keys : List State) (vs : List Vertex) (ns : List (List ℕ)) (t : TablesView) → keys ≡ insert_key eq ks k
+    → (record { vertices = vs; states = ks; sets = ns }) ≡ t → IsGrown t (record { vertices = vs; states = keys; sets = ns })
+grown-states eq ks k keys vs ns t new is =
+    let each : (n : ℕ) → n < length ks → (n < length keys) × (get_or keys n absent ≡ get_or ks n absent)
+    = rw new (λ n lt. kept-own eq ks k absent n lt) in
+    subst (λ (u : TablesView). IsGrown u (record { vertices = vs; states = keys; sets = ns })) is (record { vertices = λ n lt. (lt, refl); states = each; sets = λ n lt. (lt, refl) })
 
 pub grown-sets : {K : Type 0} (eq : K → K → Bool) (view : K → List ℕ) (ks : List K) (k : K) (keys : List K) (vs : List Vertex) (ss : List State) (t : TablesView) → keys ≡ insert_key eq ks k
     → (record { vertices = vs; states = ss; sets = map view ks }) ≡ t → IsGrown t (record { vertices = vs; states = ss; sets = map view keys })

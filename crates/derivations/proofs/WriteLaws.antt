@@ -135,7 +135,7 @@ step-read n (combine a b v ts) few h =
     let second : b < 2 ^ 64 = let lt = h.0.1 in omega arith in
     two-read (codes "combine") (codes "terms") (combination_data a b v) (array (terms_data ts)) (first, (second, (tt, tt))) (terms-simple ts) (omega arith) (let low = terms-shallow ts in omega arith) refl
 
-ordered-same : {X : Type 0} {R : X → X → Ordering} (o : IsTotalOrder R) (xs : List X) → IsStrictlySortedBy R xs → ordered R xs ≡ Ok xs
+pub ordered-same : {X : Type 0} {R : X → X → Ordering} (o : IsTotalOrder R) (xs : List X) → IsStrictlySortedBy R xs → ordered R xs ≡ Ok xs
 ordered-same {R = R} o xs s = rw (none-from_distinct _ xs (distinct-sorted o xs xs (IsPermutation-refl xs) s), in_order-sorted o xs xs (IsPermutation-refl xs) s) refl
 
 states-back : (v : Vertex) (ss : List State) → AllByRecursion (λ s. IsReadState v s) ss → states_in v (states_data ss) ≡ Ok ss

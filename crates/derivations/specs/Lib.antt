@@ -11,3 +11,4 @@ pub mod Written
 pub mod References
 pub mod Building
 pub mod Named
+pub mod Earlier

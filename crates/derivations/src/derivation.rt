@@ -1,36 +1,24 @@
-//! Derivations, and reading them.
+//! Derivations, and building them step by step.
 
-ghost use Rattle.std.specs.Prelude.{◌≡◌, ◌<◌, ◌==◌, ◌||◌, ◌++◌, ◌∷◌, [], IfOk, OnErr, OnOk, length, map};
-ghost use Rattle.std.specs.List.{list_all, slice_split};
+ghost use Rattle.std.specs.Prelude.{◌≡◌, ◌<◌, ◌++◌, ◌∷◌, [], IfOk, OnErr, OnOk, length};
 ghost use Rattle.model.specs.Derivation.{given, combine};
-ghost use Rattle.model.specs.Outcome.{Gives};
 ghost use Rattle.vertices.specs.Kinds.{kind_view};
 ghost use Rattle.vertices.specs.RefViews.{vertex_ref_view};
 ghost use Rattle.vertices.specs.Texts.{IsReadVertex};
-ghost use Rattle.derivations.specs.Building.{AreNewTerms, term_ref_views, ordered_terms};
+ghost use Rattle.derivations.specs.Building.{AreNewTerms, ordered_terms};
 ghost use Rattle.derivations.specs.Derivations.{IsDerivation, IsStepAt};
-ghost use Rattle.derivations.specs.Files.{wants_memory, is_line_end, is_blank_byte, is_blank, fault_at, most_steps, with_step, with_line, with_lines, derivation_of_bytes};
+ghost use Rattle.derivations.specs.Earlier.{IsReading};
 ghost use Rattle.derivations.specs.Named.{named_views, named_step_from, set_in_order_views};
 ghost use Rattle.derivations.specs.References.{references_at, references_by};
 ghost use Rattle.derivations.specs.Tables.{AreStepsOf, steps_at};
-ghost use Rattle.derivations.specs.Views.{step_view};
 
-use crate::building::{TermRef, new_axiom, new_combination};
-use crate::fault::{DerivationFault, LineFault};
-use crate::keeping::keep_step;
-use crate::line::read_step;
 use crate::named::{NamedTerm, SetInOrder, Spelling, named_in_order};
 use crate::step::{Origin, Step};
 use crate::stepping::{NamedOrigin, keep_named};
 use crate::tables::Tables;
-use crate::whole::WholeStep;
-use json::Scratch;
 use std::alloc::{AllocError, Global};
 use std::marker::Model;
 use vertices::{Kind, VertexRef};
-
-/// How many steps are read.
-const MOST_STEPS: usize = 16_777_216;
 
 /// Why there is no selection: steps, each by an axiom or from two earlier ones. Terms stand by the bytes of their vertices' texts, states
 /// `absent` first and then oldest or lowest first, none of them twice, and each vertex, state and version is what its own text reads as.
@@ -66,6 +54,14 @@ impl Derivation {
         }
     }
 
+    /// The derivation of steps, whose vertices and states tables have.
+    pub(crate) fn of(tables: Tables, steps: Vec<Step>) -> Derivation
+        requires { IsReading tables steps.items }
+        ensures { result ≡ steps_at tables steps.items }
+    {
+        Derivation { tables, steps }
+    }
+
     /// How many steps it has.
     pub fn len(&self) -> usize
         ensures { result ≡ length self.now }
@@ -92,47 +88,6 @@ impl Derivation {
         }
     }
 
-    /// Puts an axiom at the end. Its terms, and the states of each, may stand in any order: they are put into the written one.
-    ///
-    /// # Errors
-    /// There is no memory, and then nothing has changed.
-    pub fn push_axiom(
-        &mut self,
-        alloc: Global,
-        kind: Kind,
-        terms: &[TermRef<'_, '_>],
-    ) -> Result<(), AllocError>
-        requires { AreNewTerms (term_ref_views terms.now) }
-        ensures ok { OnOk result (self.new ≡ self.old ++ given (kind_view kind) (ordered_terms (term_ref_views terms.now)) ∷ []) }
-        ensures err { OnErr result (self.new ≡ self.old) }
-    {
-        let step = new_axiom(alloc, kind, terms)?;
-        self.push_step(alloc, step)
-    }
-
-    /// Puts a combination of two earlier steps at a vertex at the end, and its terms into the written order.
-    ///
-    /// # Errors
-    /// There is no memory, and then nothing has changed.
-    pub fn push_combination(
-        &mut self,
-        alloc: Global,
-        first: u64,
-        second: u64,
-        vertex: VertexRef<'_>,
-        terms: &[TermRef<'_, '_>],
-    ) -> Result<(), AllocError>
-        requires first { first < length self.old }
-        requires second { second < length self.old }
-        requires vertex { IsReadVertex (vertex_ref_view vertex) }
-        requires terms { AreNewTerms (term_ref_views terms.now) }
-        ensures ok { OnOk result (self.new ≡ self.old ++ combine first second (vertex_ref_view vertex.entry) (ordered_terms (term_ref_views terms.now)) ∷ []) }
-        ensures err { OnErr result (self.new ≡ self.old) }
-    {
-        let step = new_combination(alloc, first, second, vertex, terms)?;
-        self.push_step(alloc, step)
-    }
-
     /// A vertex that is spelt and gets its number once, to stand in terms of any number of steps.
     ///
     /// # Errors
@@ -147,7 +102,7 @@ impl Derivation {
         Spelling::new(alloc, vertex, number)
     }
 
-    /// The same as `push_axiom`, with terms at spelt vertices.
+    /// Puts an axiom at the end. Its terms, and the states of each, may stand in any order: they are put into the written one.
     ///
     /// # Errors
     /// There is no memory, and then nothing has changed.
@@ -165,7 +120,7 @@ impl Derivation {
         self.push_named(alloc, NamedOrigin::Axiom(kind), ordered)
     }
 
-    /// The same as `push_combination`, with terms at spelt vertices.
+    /// Puts a combination of two earlier steps at a vertex at the end, and its terms into the written order.
     ///
     /// # Errors
     /// There is no memory, and then nothing has changed.
@@ -203,28 +158,7 @@ impl Derivation {
         ensures ok { OnOk result (self.new ≡ self.old ++ named_step_from origin.entry (set_in_order_views terms.entry.items) ∷ []) }
         ensures err { OnErr result (self.new ≡ self.old) }
     {
-        let kept = keep_named(alloc, &mut self.tables, origin, terms)?;
-        self.steps.push(kept)?;
-        Ok(())
-    }
-
-    /// The steps with one more.
-    fn with_step(self, alloc: Global, step: WholeStep) -> Result<Derivation, AllocError>
-        requires { IsStepAt (length self) (step_view step) }
-        ensures { IfOk result (λ d. d ≡ self ++ step_view step ∷ []) }
-    {
-        let mut steps = self;
-        steps.push_step(alloc, step)?;
-        Ok(steps)
-    }
-
-    /// Puts a step at the end.
-    fn push_step(&mut self, alloc: Global, step: WholeStep) -> Result<(), AllocError>
-        requires { IsStepAt (length self.old) (step_view step) }
-        ensures ok { OnOk result (self.new ≡ self.old ++ step_view step ∷ []) }
-        ensures err { OnErr result (self.new ≡ self.old) }
-    {
-        let kept = keep_step(alloc, &mut self.tables, step)?;
+        let kept = keep_named(alloc, &mut self.tables, &self.steps, origin, terms)?;
         self.steps.push(kept)?;
         Ok(())
     }
@@ -237,94 +171,4 @@ fn references(origin: &Origin) -> Option<(u64, u64)>
         Origin::Axiom(_) => None,
         Origin::Combination(first, second, _) => Some((*first, *second)),
     }
-}
-
-/// The derivation that bytes are.
-///
-/// # Errors
-/// The first line with a fault, counted from 1, and the first fault that it has.
-pub fn read(alloc: Global, bytes: &[u8]) -> Result<Derivation, DerivationFault>
-    ensures { Gives wants_memory (λ d. d) result (derivation_of_bytes bytes.now) }
-{
-    let lines = lines_in(alloc, bytes)?;
-    read_lines(alloc, &lines)
-}
-
-/// The texts between the line ends: the last is empty where bytes end with a line.
-fn lines_in(alloc: Global, bytes: &[u8]) -> Result<Vec<&[u8]>, AllocError>
-    ensures { IfOk result (λ v. map (λ x. x.now) v.items ≡ slice_split is_line_end bytes.now) }
-{
-    bytes.split(|b| *b == b'\n').collect(alloc)
-}
-
-/// The steps that lines are.
-#[tactic(auto, unfolding(crate::specs::Files::with_lines))]
-fn read_lines(alloc: Global, lines: &[&[u8]]) -> Result<Derivation, DerivationFault>
-    ensures { Gives wants_memory (λ d. d) result (with_lines 1 (map (λ x. x.now) lines.now) []) }
-{
-    let mut steps = Derivation::new(alloc);
-    let mut scratch = Scratch::new(alloc);
-    'lines: for (index, line) in lines.iter().enumerate() {
-        steps = with_line(alloc, index as u64 + 1, line, steps, &mut scratch)?;
-    }
-    Ok(steps)
-}
-
-/// The steps with that of one more line, if it isn't blank.
-fn with_line(
-    alloc: Global,
-    number: u64,
-    line: &[u8],
-    steps: Derivation,
-    scratch: &mut Scratch,
-) -> Result<Derivation, DerivationFault>
-    ensures { Gives wants_memory (λ d. d) result (with_line number line.now steps) }
-{
-    if is_blank(line) {
-        return Ok(steps);
-    }
-    match read_step(alloc, steps.len(), line, scratch) {
-        Ok(step) => with_step(alloc, number, steps, step),
-        Err(fault) => Err(fault_at(number, fault)),
-    }
-}
-
-/// The steps with one more, if there is room for it.
-fn with_step(
-    alloc: Global,
-    number: u64,
-    steps: Derivation,
-    step: WholeStep,
-) -> Result<Derivation, DerivationFault>
-    requires { IsStepAt (length steps) (step_view step) }
-    ensures { Gives wants_memory (λ d. d) result (with_step number steps (step_view step)) }
-{
-    if steps.len() < MOST_STEPS {
-        Ok(steps.with_step(alloc, step)?)
-    } else {
-        Err(DerivationFault::TooMany(number))
-    }
-}
-
-/// A fault of a line, with the line's number.
-fn fault_at(number: u64, fault: LineFault) -> DerivationFault
-    ensures { result ≡ fault_at number fault }
-{
-    match fault {
-        LineFault::OutOfMemory => DerivationFault::OutOfMemory,
-        LineFault::NotALine => DerivationFault::NotALine(number),
-        LineFault::Forward => DerivationFault::Forward(number),
-    }
-}
-
-fn is_blank(line: &[u8]) -> bool
-    ensures { result ≡ is_blank line.now }
-{
-    line.iter().all(|b| is_blank_byte(*b))
-}
-
-fn is_blank_byte(byte: u8) -> bool
-    ensures { result ≡ is_blank_byte byte }
-{
-    byte == b' ' || byte == b'\t' || byte == b'\r'
 }

@@ -1,22 +1,28 @@
 //! Reading a line as a step.
 
-ghost use Rattle.std.specs.Prelude.{◌≡◌, IfOk};
-ghost use Rattle.std.specs.List.{list_all};
+ghost use Rattle.std.specs.Prelude.{◌≡◌, IfOk, OnOk, length, map};
+ghost use Rattle.std.specs.List.Sorted.{IsPermutation};
 ghost use Rattle.trees.specs.Trees.{tree_view, trees_view};
 ghost use Rattle.serde_json.specs.Find as json;
 ghost use Rattle.model.specs.Outcome.{Gives, guard};
 ghost use Rattle.vertices.specs.Orders.{state_cmp};
+ghost use Rattle.derivations.specs.Earlier.{AreEarlier, IsReading, term_from};
 ghost use Rattle.derivations.specs.Orders.{ordered};
-ghost use Rattle.derivations.specs.Steps.{states_in, states_of, written_cmp, term_of, terms_in, terms_without_texts, terms_of, axiom_of, combination_of, origin_from, origin_of, is_backward, step_of, step_of_line};
-ghost use Rattle.derivations.specs.StepViews.{written_view, written_views, origin_view};
+ghost use Rattle.derivations.specs.Steps.{states_in, states_of, written_cmp, term_of, terms_in, terms_of, axiom_of, combination_of, origin_from, origin_of, is_backward, step_of, step_of_line};
+ghost use Rattle.derivations.specs.StepViews.{written_term, written_view, written_views, origin_view};
 ghost use Rattle.derivations.specs.Lines.{line_wants_memory};
+ghost use Rattle.derivations.specs.Tables.{AreTermsOf, IsGrown, IsStepOf, IsTermOf, TablesView, step_at, term_at, terms_at};
 ghost use Rattle.vertices.specs.Views.{vertex_view, state_views};
-ghost use Rattle.derivations.specs.Views.{term_view, term_views, step_view};
+ghost use Rattle.derivations.specs.Views.{term_view};
 
+use crate::earlier::{Earlier, Places};
 use crate::fault::LineFault;
+use crate::keeping::{keep_origin, keep_term};
+use crate::step::{Step, Term};
+use crate::tables::Tables;
 use crate::texts::{read_state, read_vertex};
 use crate::values::{array, item, no_item, read_json, text, two, whole};
-use crate::whole::{WholeOrigin, WholeStep, WholeTerm};
+use crate::whole::{WholeOrigin, WholeTerm};
 use json::{Scratch, Value};
 use std::alloc::{AllocError, Global};
 use std::cmp::Ordering;
@@ -24,34 +30,55 @@ use trees::member;
 use vertices::{Kind, State, Vertex, state_order};
 
 /// A term and the text of its vertex.
-#[derive(Drop)]
+#[derive(Clone, Copy)]
 pub(crate) struct WrittenTerm<'a> {
     pub text: &'a str,
-    pub term: WholeTerm,
+    pub term: Term,
 }
 
-/// The step of this number that a line is. The room is kept from line to line.
+/// The step that a line after these steps is. The room is kept from line to line.
 #[tactic(auto, unfolding(crate::specs::Steps::step_of_line))]
 pub(crate) fn read_step(
     alloc: Global,
-    number: usize,
+    tables: &mut Tables,
+    steps: &[Step],
     line: &[u8],
     scratch: &mut Scratch,
-) -> Result<WholeStep, LineFault>
-    ensures { Gives line_wants_memory step_view result (step_of_line number line.now) }
+) -> Result<Step, LineFault>
+    requires { IsReading tables.old steps.now }
+    ensures grown { OnOk result (IsGrown tables.old tables.new) }
+    ensures within { IfOk result (IsStepOf tables.new) }
+    ensures step { Gives line_wants_memory (step_at tables.new) result (step_of_line (length steps.now) line.now) }
 {
     let value = read_json(alloc, line, scratch)?;
-    step(alloc, number, &value)
+    step(alloc, tables, steps, &value)
 }
 
 #[tactic(auto, unfolding(crate::specs::Steps::step_of))]
-fn step(alloc: Global, number: usize, value: &Value<'_>) -> Result<WholeStep, LineFault>
-    ensures { Gives line_wants_memory step_view result (step_of number (tree_view value.now)) }
+fn step(
+    alloc: Global,
+    tables: &mut Tables,
+    steps: &[Step],
+    value: &Value<'_>,
+) -> Result<Step, LineFault>
+    requires { IsReading tables.old steps.now }
+    ensures grown { OnOk result (IsGrown tables.old tables.new) }
+    ensures within { IfOk result (IsStepOf tables.new) }
+    ensures step { Gives line_wants_memory (step_at tables.new) result (step_of (length steps.now) (tree_view value.now)) }
 {
     let origin = origin(alloc, value)?;
-    let terms = terms(alloc, value)?;
-    check(is_backward(number, &origin), LineFault::Forward)?;
-    Ok(WholeStep { origin, terms })
+    let terms = terms(alloc, tables, Earlier::of(steps, parents(&origin)), value)?;
+    check(is_backward(steps.len(), &origin), LineFault::Forward)?;
+    let origin = keep_origin(tables, origin)?;
+    Ok(Step { origin, terms })
+}
+
+/// The numbers of the two steps that are combined, if an origin does that.
+fn parents(origin: &WholeOrigin) -> Option<(u64, u64)> {
+    match origin {
+        WholeOrigin::Axiom(_) => None,
+        WholeOrigin::Combination(first, second, _) => Some((*first, *second)),
+    }
 }
 
 fn check(passes: bool, why: LineFault) -> Result<(), LineFault>
@@ -107,46 +134,99 @@ fn combination(alloc: Global, value: &Value<'_>) -> Result<WholeOrigin, LineFaul
 
 /// The terms by the bytes of their vertices' texts, no vertex twice.
 #[tactic(auto, unfolding(crate::specs::Steps::terms_of))]
-fn terms(alloc: Global, value: &Value<'_>) -> Result<Vec<WholeTerm>, LineFault>
-    ensures { Gives line_wants_memory (λ v. term_views v.items) result (terms_of (tree_view value.now)) }
+fn terms(
+    alloc: Global,
+    tables: &mut Tables,
+    earlier: Earlier<'_>,
+    value: &Value<'_>,
+) -> Result<Vec<Term>, LineFault>
+    requires { AreEarlier tables.old earlier }
+    ensures grown { OnOk result (IsGrown tables.old tables.new) }
+    ensures within { IfOk result (λ v. AreTermsOf tables.new v.items) }
+    ensures terms { Gives line_wants_memory (λ v. terms_at tables.new v.items) result (terms_of (tree_view value.now)) }
 {
     let Some(found) = member(value, "terms") else {
         return Err(LineFault::NotALine);
     };
-    let written = terms_in(alloc, array(found)?)?;
+    let written = terms_in(alloc, tables, earlier, array(found)?)?;
     let sorted = ordered_terms(written)?;
-    Ok(without_texts(alloc, sorted)?)
+    Ok(without_texts(alloc, &sorted)?)
 }
 
 #[tactic(auto, unfolding(crate::specs::Steps::terms_in))]
-fn terms_in<'a>(alloc: Global, values: &Vec<Value<'a>>) -> Result<Vec<WrittenTerm<'a>>, LineFault>
-    ensures { Gives line_wants_memory (λ v. written_views v.items) result (terms_in (trees_view values.now.items)) }
+fn terms_in<'a>(
+    alloc: Global,
+    tables: &mut Tables,
+    earlier: Earlier<'_>,
+    values: &Vec<Value<'a>>,
+) -> Result<Vec<WrittenTerm<'a>>, LineFault>
+    requires { AreEarlier tables.old earlier }
+    ensures grown { OnOk result (IsGrown tables.old tables.new) }
+    ensures within { IfOk result (λ v. AreTermsOf tables.new (map written_term v.items)) }
+    ensures terms { Gives line_wants_memory (λ v. written_views tables.new v.items) result (terms_in (trees_view values.now.items)) }
 {
     let mut found = Vec::with_capacity(alloc, values.len())?;
+    let mut places = Places::new();
     'items: for value in values.iter() {
-        found.push(term(alloc, value)?)?;
+        found.push(term(alloc, tables, earlier, &mut places, value)?)?;
     }
     Ok(found)
 }
 
 /// `["VERTEX",["STATE",..]]`
 #[tactic(auto, unfolding(crate::specs::Steps::term_of))]
-fn term<'a>(alloc: Global, value: &Value<'a>) -> Result<WrittenTerm<'a>, LineFault>
-    ensures { Gives line_wants_memory written_view result (term_of (tree_view value.now)) }
+fn term<'a>(
+    alloc: Global,
+    tables: &mut Tables,
+    earlier: Earlier<'_>,
+    places: &mut Places,
+    value: &Value<'a>,
+) -> Result<WrittenTerm<'a>, LineFault>
+    requires { AreEarlier tables.old earlier }
+    ensures grown { OnOk result (IsGrown tables.old tables.new) }
+    ensures within { IfOk result (λ w. IsTermOf tables.new w.term) }
+    ensures term { Gives line_wants_memory (written_view tables.new) result (term_of (tree_view value.now)) }
 {
-    let (vertex, states_value) = two(value)?;
+    let (vertex, states) = two(value)?;
     let text = text(vertex)?;
+    let term = found_or_new(alloc, tables, earlier, places, text, states)?;
+    Ok(WrittenTerm { text, term })
+}
+
+/// The term of a vertex's text and of its states: an earlier one, if it is found there.
+fn found_or_new(
+    alloc: Global,
+    tables: &mut Tables,
+    earlier: Earlier<'_>,
+    places: &mut Places,
+    text: &str,
+    states: &Value<'_>,
+) -> Result<Term, LineFault>
+    requires { AreEarlier tables.old earlier }
+    ensures grown { OnOk result (IsGrown tables.old tables.new) }
+    ensures within { IfOk result (IsTermOf tables.new) }
+    ensures term { Gives line_wants_memory (term_at tables.new) result (term_from text.now (tree_view states.now)) }
+{
+    if let Some(term) = earlier.find(tables, places, text, states) {
+        return Ok(term);
+    }
+    let whole = whole_term(alloc, text, states)?;
+    Ok(keep_term(alloc, tables, whole)?)
+}
+
+#[tactic(auto, unfolding(crate::specs::Earlier::term_from))]
+fn whole_term(alloc: Global, text: &str, value: &Value<'_>) -> Result<WholeTerm, LineFault>
+    ensures { Gives line_wants_memory term_view result (term_from text.now (tree_view value.now)) }
+{
     let vertex = read_vertex(alloc, text)?;
-    let states = states(alloc, &vertex, states_value)?;
-    Ok(WrittenTerm {
-        text,
-        term: WholeTerm { vertex, states },
-    })
+    let states = states(alloc, vertex.vertex(), value)?;
+    Ok(WholeTerm { vertex, states })
 }
 
 /// The terms in order, no vertex twice. Those of a line that was written here are.
 fn ordered_terms(terms: Vec<WrittenTerm<'_>>) -> Result<Vec<WrittenTerm<'_>>, LineFault>
-    ensures { Gives line_wants_memory (λ v. written_views v.items) result (ordered written_cmp (written_views terms.entry.items)) }
+    ensures same { IfOk result (λ v. IsPermutation terms.entry.items v.items) }
+    ensures terms { (t : TablesView) → Gives line_wants_memory (λ v. written_views t v.items) result (ordered written_cmp (written_views t terms.entry.items)) }
 {
     if terms.is_sorted_by(|a, b| a.text.cmp(b.text) == Ordering::Less) {
         Ok(terms)
@@ -156,7 +236,8 @@ fn ordered_terms(terms: Vec<WrittenTerm<'_>>) -> Result<Vec<WrittenTerm<'_>>, Li
 }
 
 fn sorted_terms(mut terms: Vec<WrittenTerm<'_>>) -> Result<Vec<WrittenTerm<'_>>, LineFault>
-    ensures { Gives line_wants_memory (λ v. written_views v.items) result (ordered written_cmp (written_views terms.entry.items)) }
+    ensures same { IfOk result (λ v. IsPermutation terms.entry.items v.items) }
+    ensures terms { (t : TablesView) → Gives line_wants_memory (λ v. written_views t v.items) result (ordered written_cmp (written_views t terms.entry.items)) }
 {
     terms.sort_by(|a, b| a.text.cmp(b.text))?;
     if terms.is_sorted_by(|a, b| a.text.cmp(b.text) == Ordering::Less) {
@@ -166,17 +247,14 @@ fn sorted_terms(mut terms: Vec<WrittenTerm<'_>>) -> Result<Vec<WrittenTerm<'_>>,
     }
 }
 
-fn without_texts(alloc: Global, written: Vec<WrittenTerm<'_>>) -> Result<Vec<WholeTerm>, AllocError>
-    ensures { IfOk result (λ v. term_views v.items ≡ terms_without_texts (written_views written.entry.items)) }
+fn without_texts(alloc: Global, written: &[WrittenTerm<'_>]) -> Result<Vec<Term>, AllocError>
+    ensures { IfOk result (λ v. v.items ≡ map written_term written.now) }
 {
-    written
-        .into_iter()
-        .map(
-            |one: WrittenTerm<'_>| -> WholeTerm
-                ensures { term_view result ≡ (written_view one.entry).1 }
-            { one.term },
-        )
-        .collect(alloc)
+    let mut terms = Vec::with_capacity(alloc, written.len())?;
+    'written: for one in written {
+        terms.push(one.term)?;
+    }
+    Ok(terms)
 }
 
 /// The states in order, none twice.

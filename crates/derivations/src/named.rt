@@ -8,13 +8,13 @@ ghost use Rattle.vertices.specs.RefViews.{vertex_ref_view, state_ref_views};
 ghost use Rattle.vertices.specs.Texts.{vertex_text, IsReadVertex};
 ghost use Rattle.vertices.specs.Views.{vertex_view};
 ghost use Rattle.derivations.specs.Building.{IsNewTerm, AreNewTerms, ordered_term, ordered_terms};
+ghost use Rattle.derivations.specs.Orders.{in_order};
 ghost use Rattle.derivations.specs.Named.{named_view, named_views, set_in_order_view, set_in_order_views};
 
 use crate::owning::owned_vertex;
-use crate::spelling::ordered_states;
 use std::alloc::{AllocError, Global};
 use std::marker::Model;
-use vertices::{StateRef, Vertex, VertexRef};
+use vertices::{StateRef, Vertex, VertexRef, state_order};
 
 /// A vertex with its text, to stand in terms of any number of steps.
 ///
@@ -135,4 +135,18 @@ fn set_in_order<'p, 'v>(
         vertex: term.vertex,
         states,
     })
+}
+
+/// The states in the written order.
+fn ordered_states<'a>(
+    alloc: Global,
+    states: &[StateRef<'a>],
+) -> Result<Vec<StateRef<'a>>, AllocError>
+    requires { IsDistinct (eq_by_cmp state_cmp) (state_ref_views states.now) }
+    ensures { IfOk result (λ v. state_ref_views v.items ≡ in_order state_cmp (state_ref_views states.now)) }
+{
+    let mut ordered = Vec::with_capacity(alloc, states.len())?;
+    ordered.extend_from_slice(states)?;
+    ordered.sort_unstable_by(|a, b| state_order(*a, *b));
+    Ok(ordered)
 }

@@ -1,10 +1,12 @@
 //! Putting a step at spelt vertices into the tables.
 
 ghost use Rattle.std.specs.Prelude.{◌≡◌, [], IfOk};
+ghost use Rattle.derivations.specs.Earlier.{AreEarlier, IsReading};
 ghost use Rattle.derivations.specs.Named.{named_step_from, set_in_order_view, set_in_order_views};
 ghost use Rattle.derivations.specs.Tables.{IsGrown, AreStatesOf, IsTermOf, AreTermsOf, IsOriginOf, IsStepOf, states_at, term_at, terms_at, step_by_origin, step_at};
 ghost use Rattle.vertices.specs.RefViews.{state_ref_views};
 
+use crate::earlier::{Earlier, Places};
 use crate::named::{SetInOrder, Spelling};
 use crate::step::{Origin, Step, Term};
 use crate::tables::Tables;
@@ -23,16 +25,27 @@ pub(crate) enum NamedOrigin<'p> {
 pub(crate) fn keep_named(
     alloc: Global,
     tables: &mut Tables,
+    steps: &[Step],
     origin: NamedOrigin<'_>,
     terms: Vec<SetInOrder<'_, '_>>,
 ) -> Result<Step, AllocError>
+    requires { IsReading tables.old steps.now }
     ensures grown { IsGrown tables.old tables.new }
     ensures within { IfOk result (λ s. IsStepOf tables.new s) }
     ensures step { IfOk result (λ s. step_at tables.new s ≡ named_step_from origin.entry (set_in_order_views terms.entry.items)) }
 {
+    let earlier = Earlier::of(steps, parents(origin));
     let origin = keep_origin(alloc, tables, origin)?;
-    let terms = keep_sets(alloc, tables, terms)?;
+    let terms = keep_sets(alloc, tables, earlier, terms)?;
     Ok(Step { origin, terms })
+}
+
+/// The numbers of the two steps that are combined, if an origin does that.
+fn parents(origin: NamedOrigin<'_>) -> Option<(u64, u64)> {
+    match origin {
+        NamedOrigin::Axiom(_) => None,
+        NamedOrigin::Combination(first, second, _) => Some((first, second)),
+    }
 }
 
 fn keep_origin(
@@ -57,17 +70,39 @@ fn keep_origin(
 fn keep_sets(
     alloc: Global,
     tables: &mut Tables,
+    earlier: Earlier<'_>,
     terms: Vec<SetInOrder<'_, '_>>,
 ) -> Result<Vec<Term>, AllocError>
+    requires { AreEarlier tables.old earlier }
     ensures grown { IsGrown tables.old tables.new }
     ensures within { IfOk result (λ v. AreTermsOf tables.new v.items) }
     ensures terms { IfOk result (λ v. terms_at tables.new v.items ≡ set_in_order_views terms.entry.items) }
 {
     let mut kept = Vec::with_capacity(alloc, terms.len())?;
+    let mut places = Places::new();
     'terms: for term in terms {
-        kept.push(keep_set(alloc, tables, term)?)?;
+        kept.push(found_or_new(alloc, tables, earlier, &mut places, term)?)?;
     }
     Ok(kept)
+}
+
+/// The number of a term's vertex and set: those of an earlier term, if it is found there.
+fn found_or_new(
+    alloc: Global,
+    tables: &mut Tables,
+    earlier: Earlier<'_>,
+    places: &mut Places,
+    term: SetInOrder<'_, '_>,
+) -> Result<Term, AllocError>
+    requires { AreEarlier tables.old earlier }
+    ensures grown { IsGrown tables.old tables.new }
+    ensures within { IfOk result (λ t. IsTermOf tables.new t) }
+    ensures term { IfOk result (λ t. term_at tables.new t ≡ set_in_order_view term.entry) }
+{
+    match earlier.find_set(tables, places, &term) {
+        Some(known) => Ok(known),
+        None => keep_set(alloc, tables, term),
+    }
 }
 
 fn keep_set(
@@ -98,7 +133,7 @@ fn keep_states(
     let mut kept = Vec::with_capacity(alloc, states.len())?;
     let mut guess = 0usize;
     'states: for state in states {
-        let number = tables.add_state_ref(state, guess)?;
+        let number = tables.add_state_ref(alloc, state, guess)?;
         guess = number.wrapping_add(1);
         kept.push(number)?;
     }

@@ -5,15 +5,16 @@ ghost use Rattle.vertices.specs.Views.{vertex_view, state_view};
 ghost use Rattle.derivations.specs.Lines.{line_wants_memory, vertex_in_line, state_in_line};
 
 use crate::fault::LineFault;
+use crate::spelt::SpeltVertex;
 use std::alloc::Global;
 use vertices::{State, TextFault, Vertex};
 
 /// The vertex that a text is.
-pub(crate) fn read_vertex(alloc: Global, text: &str) -> Result<Vertex, LineFault>
-    ensures { Gives line_wants_memory vertex_view result (vertex_in_line text.now) }
+pub(crate) fn read_vertex(alloc: Global, text: &str) -> Result<SpeltVertex, LineFault>
+    ensures { Gives line_wants_memory (λ v. v) result (vertex_in_line text.now) }
 {
     match Vertex::parse(alloc, text) {
-        Ok(vertex) => Ok(vertex),
+        Ok(vertex) => Ok(SpeltVertex::new(alloc, text, vertex)?),
         Err(TextFault::OutOfMemory) => Err(LineFault::OutOfMemory),
         Err(TextFault::NotAText) => Err(LineFault::NotALine),
     }

@@ -1,25 +1,19 @@
-//! A step that holds its own vertices and states, as it is read off its line.
+//! What a line says before its vertices and states have numbers.
 
-use vertices::{Kind, State, Vertex};
+use crate::spelt::SpeltVertex;
+use vertices::{Kind, State};
 
 /// A vertex and a set of its states.
 #[derive(Drop)]
-pub struct WholeTerm {
-    pub vertex: Vertex,
+pub(crate) struct WholeTerm {
+    pub vertex: SpeltVertex,
     pub states: Vec<State>,
 }
 
 /// Why the terms of a step can't all hold.
 #[derive(Drop)]
-pub enum WholeOrigin {
+pub(crate) enum WholeOrigin {
     Axiom(Kind),
     /// The numbers of two earlier steps, and the vertex at which they are combined.
-    Combination(u64, u64, Vertex),
-}
-
-/// A step: a set of terms that can't all hold, and why.
-#[derive(Drop)]
-pub struct WholeStep {
-    pub origin: WholeOrigin,
-    pub terms: Vec<WholeTerm>,
+    Combination(u64, u64, SpeltVertex),
 }

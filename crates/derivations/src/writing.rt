@@ -1,19 +1,18 @@
 //! Writing derivations.
 
-ghost use Rattle.std.specs.Prelude.{◌≡◌, ◌≤◌, ◌++◌, List, Ok, length, IfOk, OnOk, codes, decimal, map, string_bytes};
+ghost use Rattle.std.specs.Prelude.{◌≡◌, ◌<◌, ◌≤◌, ◌++◌, List, Ok, length, IfOk, OnOk, codes, decimal, map, string_bytes};
 ghost use Rattle.model.specs.Axioms as axioms;
 ghost use Rattle.vertices.specs.Texts.{vertex_text};
 ghost use Rattle.vertices.specs.Kinds.{kind_text, kind_view};
-ghost use Rattle.vertices.specs.Views.{state_view, vertex_view};
 ghost use Rattle.derivations.specs.Files.{derivation_of_bytes, most_steps};
-ghost use Rattle.derivations.specs.Tables.{AreStatesOf, AreStepsOf, AreTermsOf, IsOriginOf, IsStepOf, IsTermOf, states_at, step_at, step_by_origin, steps_at, term_at, terms_at};
+ghost use Rattle.derivations.specs.Tables.{AreStatesOf, AreStepsOf, AreTermsOf, IsOriginOf, IsStepOf, IsTermOf, state_at, states_at, step_at, step_by_origin, steps_at, term_at, terms_at, vertex_at};
 ghost use Rattle.derivations.specs.Written.{quoted, comma_if, with_commas, state_json, term_json, combination_json, origin_json, step_json, lines_of};
 
 use crate::derivation::Derivation;
 use crate::step::{Origin, Step, Term};
 use crate::tables::Tables;
 use std::alloc::{AllocError, Global};
-use vertices::{Kind, State, Vertex};
+use vertices::Kind;
 
 /// The bytes of a derivation of any length: a line of compact JSON for each step. `read` takes them back, unless there are more lines than it
 /// reads.
@@ -65,7 +64,7 @@ fn push_origin(text: &mut String, tables: &Tables, origin: &Origin) -> Result<()
     match origin {
         Origin::Axiom(kind) => push_kind(text, *kind),
         Origin::Combination(first, second, vertex) => {
-            push_combination(text, *first, *second, tables.vertex(*vertex))
+            push_combination(text, tables, *first, *second, *vertex)
         }
     }
 }
@@ -78,22 +77,34 @@ fn push_kind(text: &mut String, kind: Kind) -> Result<(), AllocError>
 
 fn push_combination(
     text: &mut String,
+    tables: &Tables,
     first: u64,
     second: u64,
-    vertex: &Vertex,
+    vertex: usize,
 ) -> Result<(), AllocError>
-    ensures { OnOk result (string_bytes text.new ≡ string_bytes text.old ++ combination_json first second (vertex_view vertex.now)) }
+    requires { vertex < length tables.now.vertices }
+    ensures { OnOk result (string_bytes text.new ≡ string_bytes text.old ++ combination_json first second (vertex_at tables.now vertex)) }
 {
     text.push_str("\"combine\":[")?;
     push_number(text, first)?;
     push_number(text, second)?;
-    push_vertex(text, vertex)
+    push_vertex(text, tables, vertex)
 }
 
-fn push_vertex(text: &mut String, vertex: &Vertex) -> Result<(), AllocError>
-    ensures { OnOk result (string_bytes text.new ≡ string_bytes text.old ++ (quoted (vertex_text (vertex_view vertex.now)) ++ codes "]")) }
+fn push_vertex(text: &mut String, tables: &Tables, vertex: usize) -> Result<(), AllocError>
+    requires { vertex < length tables.now.vertices }
+    ensures { OnOk result (string_bytes text.new ≡ string_bytes text.old ++ (quoted (vertex_text (vertex_at tables.now vertex)) ++ codes "]")) }
 {
-    write!(text, "\"{vertex}\"]")
+    push_quoted(text, tables.vertex_text(vertex))?;
+    text.push_str("]")
+}
+
+fn push_quoted(text: &mut String, inner: &str) -> Result<(), AllocError>
+    ensures { OnOk result (string_bytes text.new ≡ string_bytes text.old ++ quoted inner.now) }
+{
+    text.push_str("\"")?;
+    text.push_str(inner)?;
+    text.push_str("\"")
 }
 
 /// A number and a comma.
@@ -121,8 +132,9 @@ fn push_term(text: &mut String, later: bool, tables: &Tables, term: &Term) -> Re
     ensures { OnOk result (string_bytes text.new ≡ string_bytes text.old ++ (comma_if later ++ term_json (term_at tables.now term.now))) }
 {
     push_comma(text, later)?;
-    let vertex = tables.vertex(term.vertex);
-    write!(text, "[\"{vertex}\",[")?;
+    text.push_str("[")?;
+    push_quoted(text, tables.vertex_text(term.vertex))?;
+    text.push_str(",[")?;
     push_states(text, tables, tables.set(term.states))?;
     text.push_str("]]")
 }
@@ -139,16 +151,22 @@ fn push_states(text: &mut String, tables: &Tables, states: &[usize]) -> Result<(
 {
     let mut later = false;
     'states: for number in states {
-        push_state(text, later, tables.state(*number))?;
+        push_state(text, later, tables, *number)?;
         later = true;
     }
     Ok(())
 }
 
 /// A state, after a comma if it is a later one.
-fn push_state(text: &mut String, later: bool, state: &State) -> Result<(), AllocError>
-    ensures { OnOk result (string_bytes text.new ≡ string_bytes text.old ++ (comma_if later ++ state_json (state_view state.now))) }
+fn push_state(
+    text: &mut String,
+    later: bool,
+    tables: &Tables,
+    number: usize,
+) -> Result<(), AllocError>
+    requires { number < length tables.now.states }
+    ensures { OnOk result (string_bytes text.new ≡ string_bytes text.old ++ (comma_if later ++ state_json (state_at tables.now number))) }
 {
     push_comma(text, later)?;
-    write!(text, "\"{state}\"")
+    push_quoted(text, tables.state_text(number))
 }

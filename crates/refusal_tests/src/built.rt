@@ -1,9 +1,10 @@
 //! A derivation that is built.
 
 ghost use Rattle.std.specs.Prelude.{◌∷◌, []};
-ghost use Rattle.derivations.specs.Building.{AreNewTerms, term_ref_view};
+ghost use Rattle.derivations.specs.Building.{AreNewTerms};
+ghost use Rattle.derivations.specs.Named.{named_view};
 
-use derivations::{Derivation, TermRef, write};
+use derivations::{Derivation, NamedTerm, write};
 use std::alloc::{AllocError, Global};
 use std::test::Fail;
 use vertices::{
@@ -14,28 +15,30 @@ use vertices::{
 fn push_turned(alloc: Global, steps: &mut Derivation) -> Result<(), AllocError> {
     valid_vertices_are_read();
     valid_states_are_read();
+    let root = steps.spell(alloc, VertexRef::Root)?;
     let either = [StateRef::Present, StateRef::Absent];
-    let root = TermRef {
-        vertex: VertexRef::Root,
+    let present = NamedTerm {
+        vertex: &root,
         states: &either,
     };
+    let need = steps.spell(alloc, VertexRef::Dependency(OwnerRef::Root, 7))?;
     let absent = [StateRef::Absent];
-    let need = TermRef {
-        vertex: VertexRef::Dependency(OwnerRef::Root, 7),
+    let unmet = NamedTerm {
+        vertex: &need,
         states: &absent,
     };
-    push_two(alloc, steps, root, need)
+    push_two(alloc, steps, present, unmet)
 }
 
-fn push_two<'v, 's>(
+fn push_two<'p, 's, 'v>(
     alloc: Global,
     steps: &mut Derivation,
-    term: TermRef<'v, 's>,
-    other: TermRef<'v, 's>,
+    term: NamedTerm<'p, 's, 'v>,
+    other: NamedTerm<'p, 's, 'v>,
 ) -> Result<(), AllocError>
-    requires { AreNewTerms (term_ref_view term ∷ (term_ref_view other ∷ [])) }
+    requires { AreNewTerms (named_view term ∷ (named_view other ∷ [])) }
 {
-    steps.push_axiom(alloc, Kind::Needed, &[term, other])
+    steps.push_named_axiom(alloc, Kind::Needed, &[term, other])
 }
 
 /// The first step combined with itself, which then has no term.
@@ -44,7 +47,8 @@ fn push_end(alloc: Global, steps: &mut Derivation) -> Result<(), AllocError> {
         return Ok(());
     }
     valid_vertices_are_read();
-    steps.push_combination(alloc, 0, 0, VertexRef::Root, &[])
+    let root = steps.spell(alloc, VertexRef::Root)?;
+    steps.push_named_combination(alloc, 0, 0, &root, &[])
 }
 
 #[test]

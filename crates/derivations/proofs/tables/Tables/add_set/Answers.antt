@@ -1,10 +1,9 @@
-use Rattle.std.specs.Prelude.{nat_eq, [], ◌<◌, length, map}
+use Rattle.std.specs.Prelude.{nat_eq, [], ◌<◌, length}
 use Rattle.std.specs.Cmp.Lexicographic.{pointwise}
 use Rattle.std.specs.List.{AllByRecursion}
 use Rattle.std.specs.Ordering.{on}
 use Rattle.std.proofs.Common.{subst, sym}
 use Rattle.model.proofs.Same.{text-same}
-use Rattle.vertices.specs.Views.{state_view}
 use Rattle.derivations.specs.Tables.{AreStatesOf}
 use Rattle.derivations.proofs.TableLaws.{each-key, found-key, grown-sets}
 use Rattle.derivations.proofs.tables.Tables.add_set.Goals as goal
@@ -12,7 +11,7 @@ use Rattle.derivations.proofs.tables.Tables.add_set.Goals as goal
 pub invariant_of-self-2 : goal.invariant_of-self-2
 invariant_of-self-2 c =
     let own = subst (λ t. AreStatesOf t c.args.states.items) (sym c.self.view_is) c.requires in
-    rw c.in_ok-number.ensures.keys (each-key (on (λ v. v.items) (pointwise nat_eq)) (λ v. v.items) (λ ns. AllByRecursion (λ n. n < length (map state_view c.self.inside.states.keys)) ns) c.self.inside.sets.keys c.args.states c.self.invariant own)
+    rw c.in_ok-number.ensures.keys (each-key (on (λ v. v.items) (pointwise nat_eq)) (λ v. v.items) (λ ns. AllByRecursion (λ n. n < length c.self.inside.states.keys) ns) c.self.inside.sets.keys c.args.states c.self.invariant own)
 
 pub returns-clause-grown : goal.returns-clause-grown
 returns-clause-grown c = grown-sets (on (λ v. v.items) (pointwise nat_eq)) (λ v. v.items) c.self.inside.sets.keys c.args.states _ _ _ _ c.in_ok-number.ensures.keys c.self.view_is

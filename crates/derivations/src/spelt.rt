@@ -1,0 +1,147 @@
+//! Vertices and states with their texts.
+
+ghost use Rattle.std.specs.Prelude.{◌≡◌, IfOk};
+ghost use Rattle.std.specs.Cmp.{partial_equiv_from_equiv};
+ghost use Rattle.model.specs.Vertices.{same_state, same_vertex};
+ghost use Rattle.vertices.specs.Same.{state_alike, state_equivalence, state_fed, vertex_alike, vertex_equivalence, vertex_fed};
+ghost use Rattle.vertices.specs.Texts.{state_text, vertex_text};
+ghost use Rattle.vertices.specs.Views.{state_view, vertex_view};
+
+use std::alloc::{AllocError, Global};
+use std::hash::{Hash, Hasher};
+use std::marker::Model;
+use vertices::{State, Vertex};
+
+/// A vertex with its text.
+#[derive(Drop)]
+pub(crate) struct SpeltVertex {
+    text: String,
+    vertex: Vertex,
+}
+
+impl Model for SpeltVertex {
+    ghost use Rattle.std.specs.Prelude.{◌≡◌, string_bytes};
+    ghost use Rattle.model.specs.Vertices as model;
+    ghost use Rattle.vertices.specs.Texts.{vertex_text};
+    ghost use Rattle.vertices.specs.Views.{vertex_view};
+
+    ghost Value = { model.Vertex };
+
+    ghost view = { λ s. vertex_view s.vertex };
+
+    ghost invariant = { λ s. string_bytes s.text ≡ vertex_text (vertex_view s.vertex) };
+}
+
+impl SpeltVertex {
+    /// A vertex and its text.
+    pub(crate) fn new(alloc: Global, text: &str, vertex: Vertex) -> Result<SpeltVertex, AllocError>
+        requires { text.now ≡ vertex_text (vertex_view vertex) }
+        ensures { IfOk result (λ s. s ≡ vertex_view vertex) }
+    {
+        let text = String::from_str(alloc, text)?;
+        Ok(SpeltVertex { text, vertex })
+    }
+
+    pub(crate) fn text(&self) -> &str
+        ensures { result.now ≡ vertex_text self.now }
+    {
+        &self.text
+    }
+
+    pub(crate) fn vertex(&self) -> &Vertex
+        ensures { vertex_view result.now ≡ self.now }
+    {
+        &self.vertex
+    }
+}
+
+impl PartialEq for SpeltVertex {
+    ghost eq = { same_vertex };
+
+    ghost laws = { partial_equiv_from_equiv vertex_equivalence };
+
+    fn eq(&self, other: &SpeltVertex) -> bool {
+        self.vertex == other.vertex
+    }
+}
+
+impl Eq for SpeltVertex {
+    ghost laws = { vertex_equivalence };
+}
+
+impl Hash for SpeltVertex {
+    ghost hash_input = { vertex_fed };
+
+    ghost respects_eq = { vertex_alike };
+
+    fn hash<H: Hasher>(&self, state: &mut H) {
+        self.vertex.hash(state)
+    }
+}
+
+/// A state with its text.
+#[derive(Drop)]
+pub(crate) struct SpeltState {
+    text: String,
+    state: State,
+}
+
+impl Model for SpeltState {
+    ghost use Rattle.std.specs.Prelude.{◌≡◌, string_bytes};
+    ghost use Rattle.model.specs.Vertices as model;
+    ghost use Rattle.vertices.specs.Texts.{state_text};
+    ghost use Rattle.vertices.specs.Views.{state_view};
+
+    ghost Value = { model.State };
+
+    ghost view = { λ s. state_view s.state };
+
+    ghost invariant = { λ s. string_bytes s.text ≡ state_text (state_view s.state) };
+}
+
+impl SpeltState {
+    /// A state and its text.
+    pub(crate) fn new(alloc: Global, state: State) -> Result<SpeltState, AllocError>
+        ensures { IfOk result (λ s. s ≡ state_view state) }
+    {
+        let mut text = String::new(alloc);
+        write!(text, "{state}")?;
+        Ok(SpeltState { text, state })
+    }
+
+    pub(crate) fn text(&self) -> &str
+        ensures { result.now ≡ state_text self.now }
+    {
+        &self.text
+    }
+
+    pub(crate) fn state(&self) -> &State
+        ensures { state_view result.now ≡ self.now }
+    {
+        &self.state
+    }
+}
+
+impl PartialEq for SpeltState {
+    ghost eq = { same_state };
+
+    ghost laws = { partial_equiv_from_equiv state_equivalence };
+
+    fn eq(&self, other: &SpeltState) -> bool {
+        self.state == other.state
+    }
+}
+
+impl Eq for SpeltState {
+    ghost laws = { state_equivalence };
+}
+
+impl Hash for SpeltState {
+    ghost hash_input = { state_fed };
+
+    ghost respects_eq = { state_alike };
+
+    fn hash<H: Hasher>(&self, state: &mut H) {
+        self.state.hash(state)
+    }
+}
