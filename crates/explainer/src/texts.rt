@@ -2,16 +2,14 @@
 
 ghost use Rattle.std.specs.Prelude.{◌≡◌, ◌<◌, ◌++◌, IfOk, OnOk, codes, length, map, string_bytes};
 ghost use Rattle.std.specs.List.{AllByRecursion};
-ghost use Rattle.vertices.specs.Texts.{state_text};
-ghost use Rattle.vertices.specs.Views.{state_view, vertex_view};
-ghost use Rattle.derivations.specs.Tables.{AreStatesOf, set_at, vertex_at};
+ghost use Rattle.vertices.specs.Texts.{state_text, vertex_text};
+ghost use Rattle.derivations.specs.Tables.{AreStatesOf, set_at, state_at, vertex_at};
 ghost use Rattle.explainer.specs.Explanations.{text_if};
 ghost use Rattle.explainer.specs.Texts.{set_words, sets_words};
 
 use derivations::Tables;
 use std::alloc::{AllocError, Global};
 use std::marker::Model;
-use vertices::{State, Vertex};
 
 /// The tables of a derivation, and the text of each set of states: so each is made once, however many terms have it.
 #[derive(Drop)]
@@ -40,12 +38,12 @@ impl<'a> Texts<'a> {
         Ok(Texts { tables, sets })
     }
 
-    /// The vertex of this number.
-    pub(crate) fn vertex(&self, number: usize) -> &Vertex
+    /// The text of the vertex of this number.
+    pub(crate) fn vertex(&self, number: usize) -> &str
         requires { number < length self.now.vertices }
-        ensures { vertex_view result.now ≡ vertex_at self.now number }
+        ensures { result.now ≡ vertex_text (vertex_at self.now number) }
     {
-        self.tables.vertex(number)
+        self.tables.vertex_text(number)
     }
 
     /// The texts of the states in the set of this number, with commas between.
@@ -83,18 +81,24 @@ fn push_states(text: &mut String, tables: &Tables, states: &[usize]) -> Result<(
 {
     let mut later = false;
     'states: for number in states {
-        push_state(text, later, tables.state(*number))?;
+        push_state(text, later, tables, *number)?;
         later = true;
     }
     Ok(())
 }
 
 /// A state, after a comma if it is a later one.
-fn push_state(text: &mut String, later: bool, state: &State) -> Result<(), AllocError>
-    ensures { OnOk result (string_bytes text.new ≡ string_bytes text.old ++ (text_if later (codes ", ") ++ state_text (state_view state.now))) }
+fn push_state(
+    text: &mut String,
+    later: bool,
+    tables: &Tables,
+    number: usize,
+) -> Result<(), AllocError>
+    requires { number < length tables.now.states }
+    ensures { OnOk result (string_bytes text.new ≡ string_bytes text.old ++ (text_if later (codes ", ") ++ state_text (state_at tables.now number))) }
 {
     push_if(text, later, ", ")?;
-    write!(text, "{state}")
+    text.push_str(tables.state_text(number))
 }
 
 /// A text before a later one.
