@@ -1,5 +1,5 @@
 -- Which vertices have numbers, and what an incompatibility over numbers says of them.
-use Rattle.std.specs.Prelude.{◌≡◌, ◌≢◌, ℕ, suc, List, [], ◌∷◌, ◌++◌, if◌then◌else◌, Option, Some, None, option_map, slice_get, map, Contains}
+use Rattle.std.specs.Prelude.{◌≡◌, ◌≢◌, ◌⊎◌, ℕ, suc, List, [], ◌∷◌, ◌++◌, if◌then◌else◌, Option, Some, None, option_map, slice_get, map, Contains}
 use Rattle.std.specs.List.{AllPairs, AllByRecursion, list_any}
 use Rattle.version_sets.specs.Sets.{Members}
 use Rattle.terms.specs.Terms.{TermView}
@@ -47,3 +47,7 @@ with_vertex vs v = if list_any (same_vertex v) vs then vs else vs ++ v ∷ []
 -- more vertices at the end
 abbrev pub IsGrown : Numbering → Numbering → Type 0
 IsGrown old new = (more : List Vertex) × (new ≡ old ++ more)
+
+-- each vertex that came is such a one
+abbrev pub AddsOnly : (Vertex → Type 0) → Numbering → Numbering → Type 0
+AddsOnly Is old new = (v : Vertex) → Contains new v → Contains old v ⊎ Is v

@@ -1,6 +1,6 @@
 -- The vertex and the one state of an instance's first term, by which it is added on demand, and what is given for such
 -- a pair.
-use Rattle.std.specs.Prelude.{◌≡◌, ◌≢◌, ◌↔◌, List, [], ◌∷◌, true, Contains}
+use Rattle.std.specs.Prelude.{◌≡◌, ◌≢◌, ◌↔◌, List, [], ◌∷◌, true, Contains, map}
 use Rattle.std.specs.List.{AllPairs}
 use Rattle.terms.specs.Terms.{TermView}
 use Rattle.model.specs.Content.{Problem}
@@ -31,6 +31,10 @@ first_pair (of_asking name v f g i) = owner_pair (version_of name v)
 first_pair (of_newest o i j k m) = (dep o i, in_class k)
 first_pair (of_weak name v f g i k) = owner_pair (version_of name v)
 
+-- a cause whose first term is that pair
+abbrev pub IsCauseAt : Problem → Pair → Cause → Type 0
+IsCauseAt q p c = (is_cause q c ≡ true) × (first_pair c ≡ p)
+
 -- just the causes whose first term is that pair, each once
 pub record AreCausesAt (q : Problem) (p : Pair) (cs : List Cause) : Type 0 where
   pub listed : (c : Cause) → Contains cs c ↔ ((is_cause q c ≡ true) × (first_pair c ≡ p))
@@ -57,3 +61,11 @@ pub record IsGivenAt (q : Problem) (vs : Numbering) (p : Pair) (xs : List Given)
   pub causes : List Cause
   pub are : AreCausesAt q p causes
   pub given : AreGiven q vs causes xs
+
+-- the vertices of a cause's instance, those of full terms too
+abbrev pub spoken_by : Problem → Cause → List Vertex
+spoken_by q c = map (λ t. t.vertex) (terms_of_cause q c)
+
+-- a vertex of the instance of such a cause
+abbrev pub IsSpokenOf : Problem → (Cause → Type 0) → Vertex → Type 0
+IsSpokenOf q Is v = (c : Cause) × Is c × Contains (spoken_by q c) v

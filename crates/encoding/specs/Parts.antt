@@ -23,6 +23,10 @@ part_of q t = (t.vertex, members_at q t.vertex t.states)
 abbrev pub parts_of_terms : Problem → List Term → List Part
 parts_of_terms q ts = map (part_of q) ts
 
+-- the vertices of parts
+abbrev pub vertices_of : List Part → List Vertex
+vertices_of ps = map (λ p. p.0) ps
+
 abbrev pub part_view : code.Part → Part
 part_view p = (vertex_ref_view p.vertex, p.tests.items)
 

@@ -1,6 +1,6 @@
 //! The instances that are added once a vertex has a state.
 
-ghost use Rattle.std.specs.Prelude.{◌≡◌, ◌<◌, ◌++◌, ◌∷◌, [], true, List, Some, IfOk, OnOk, length, slice_get};
+ghost use Rattle.std.specs.Prelude.{◌≡◌, ◌<◌, ◌++◌, ◌∷◌, [], true, Contains, List, Some, IfOk, OnOk, length, slice_get};
 ghost use Rattle.std.specs.List.{AllByRecursion};
 ghost use Rattle.model.specs.Axioms.{IsVertex};
 ghost use Rattle.model.specs.Vertices.{Vertex, space};
@@ -10,8 +10,8 @@ ghost use Rattle.vertices.specs.Kinds.{kind_view};
 ghost use Rattle.encoding.specs.Assignments.{state_at};
 ghost use Rattle.encoding.specs.CauseViews.{cause_view, cause_views, given_views};
 ghost use Rattle.encoding.specs.Inputs.{KnowsDefault, problem};
-ghost use Rattle.encoding.specs.Numberings.{IsGrown, IsNumbering};
-ghost use Rattle.encoding.specs.Pairs.{AreGiven, IsGivenAt};
+ghost use Rattle.encoding.specs.Numberings.{AddsOnly, IsGrown, IsNumbering};
+ghost use Rattle.encoding.specs.Pairs.{AreGiven, IsCauseAt, IsGivenAt, IsSpokenOf, spoken_by};
 ghost use Rattle.vertices.specs.RefViews.{vertex_ref_view};
 
 use crate::cause::Cause;
@@ -26,7 +26,7 @@ use version_sets::States;
 use vertices::{Kind, VertexRef};
 
 /// The instances that have the vertex of this number in the state of this number as their first term, each once, with
-/// its kind; their vertices get numbers where they have none.
+/// its kind; their vertices get numbers where they have none, and no others do.
 pub fn axioms_at<'a, S: States + Drop>(
     alloc: Global,
     inputs: &Inputs<'a>,
@@ -39,6 +39,7 @@ pub fn axioms_at<'a, S: States + Drop>(
     requires state { (v : Vertex) → slice_get table.old number ≡ Some v → state < length (space (problem inputs.now) v) }
     ensures grown { IsGrown table.old table.new }
     ensures numbering { IsNumbering (problem inputs.now) table.new }
+    ensures only { (v : Vertex) → slice_get table.old number ≡ Some v → AddsOnly (IsSpokenOf (problem inputs.now) (IsCauseAt (problem inputs.now) (v, state_at (problem inputs.now) v state))) table.old table.new }
     ensures given { IfOk result (λ xs. (v : Vertex) → slice_get table.old number ≡ Some v → IsGivenAt (problem inputs.now) table.new (v, state_at (problem inputs.now) v state) (given_views S.tests xs.items)) }
 {
     match table.vertex(number) {
@@ -61,6 +62,7 @@ fn vertex_axioms<'a, S: States + Drop>(
     requires state { number < length (space (problem inputs.now) (vertex_ref_view vertex)) }
     ensures grown { IsGrown table.old table.new }
     ensures numbering { IsNumbering (problem inputs.now) table.new }
+    ensures only { AddsOnly (IsSpokenOf (problem inputs.now) (IsCauseAt (problem inputs.now) (vertex_ref_view vertex.entry, state_at (problem inputs.now) (vertex_ref_view vertex.entry) number))) table.old table.new }
     ensures given { IfOk result (λ xs. IsGivenAt (problem inputs.now) table.new (vertex_ref_view vertex.entry, state_at (problem inputs.now) (vertex_ref_view vertex.entry) number) (given_views S.tests xs.items)) }
 {
     let state = state_at(alloc, inputs, &vertex, number)?;
@@ -79,6 +81,7 @@ fn instances<'a, S: States + Drop>(
     requires there { AllByRecursion (λ c. is_cause (problem inputs.now) c ≡ true) (cause_views causes.now) }
     ensures grown { IsGrown table.old table.new }
     ensures numbering { IsNumbering (problem inputs.now) table.new }
+    ensures only { AddsOnly (IsSpokenOf (problem inputs.now) (Contains (cause_views causes.now))) table.old table.new }
     ensures given { IfOk result (λ xs. AreGiven (problem inputs.now) table.new (cause_views causes.now) (given_views S.tests xs.items)) }
 {
     let mut given = Vec::new(alloc);
@@ -99,6 +102,7 @@ fn put_instance<'a, S: States + Drop>(
     requires there { is_cause (problem inputs.now) (cause_view cause.now) ≡ true }
     ensures grown { IsGrown table.old table.new }
     ensures numbering { IsNumbering (problem inputs.now) table.new }
+    ensures only { AddsOnly (Contains (spoken_by (problem inputs.now) (cause_view cause.now))) table.old table.new }
     ensures given { OnOk result ((cs : List causes.Cause) → AreGiven (problem inputs.now) table.old cs (given_views S.tests given.old.items)
         → AreGiven (problem inputs.now) table.new (cs ++ cause_view cause.now ∷ []) (given_views S.tests given.new.items)) }
 {

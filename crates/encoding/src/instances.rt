@@ -1,13 +1,14 @@
 //! Instances of axioms as incompatibilities over numbers.
 
-ghost use Rattle.std.specs.Prelude.{◌≡◌, ◌++◌, ◌∷◌, [], true, List, IfOk, OnOk};
+ghost use Rattle.std.specs.Prelude.{◌≡◌, ◌++◌, ◌∷◌, [], true, Contains, List, IfOk, OnOk};
 ghost use Rattle.std.specs.List.{AllByRecursion};
 ghost use Rattle.terms.specs.Terms.{term_view, terms_view};
 ghost use Rattle.refutations.specs.Causes.{is_cause, terms_of_cause};
 ghost use Rattle.encoding.specs.CauseViews.{cause_view};
 ghost use Rattle.encoding.specs.Inputs.{problem};
-ghost use Rattle.encoding.specs.Numberings.{IsGrown, IsNumbering, Says};
-ghost use Rattle.encoding.specs.Parts.{AreOfParts, IsFitting, Part as PartView, part_view, part_views};
+ghost use Rattle.encoding.specs.Numberings.{AddsOnly, IsGrown, IsNumbering, Says};
+ghost use Rattle.encoding.specs.Pairs.{spoken_by};
+ghost use Rattle.encoding.specs.Parts.{AreOfParts, IsFitting, Part as PartView, part_view, part_views, vertices_of};
 
 use crate::cause::Cause;
 use crate::inputs::Inputs;
@@ -31,6 +32,7 @@ pub fn instance<'a, S: States + Drop>(
     requires there { is_cause (problem inputs.now) (cause_view cause.now) ≡ true }
     ensures grown { IsGrown table.old table.new }
     ensures numbering { IsNumbering (problem inputs.now) table.new }
+    ensures only { AddsOnly (Contains (spoken_by (problem inputs.now) (cause_view cause.now))) table.old table.new }
     ensures says { IfOk result (λ i. Says (problem inputs.now) table.new (terms_view S.tests i) (terms_of_cause (problem inputs.now) (cause_view cause.now))) }
 {
     catalogues_are_well_formed(inputs.manifest, inputs.catalogue);
@@ -51,6 +53,7 @@ fn put_parts<'a, S: States + Drop>(
     requires fit { AllByRecursion (IsFitting (problem inputs.now)) (part_views parts.now) }
     ensures grown { IsGrown table.old table.new }
     ensures numbering { IsNumbering (problem inputs.now) table.new }
+    ensures only { AddsOnly (Contains (vertices_of (part_views parts.now))) table.old table.new }
     ensures terms { IfOk result (λ ts. AreOfParts table.new (terms_view S.tests ts.items) (part_views parts.now)) }
 {
     let mut terms = Vec::new(alloc);
@@ -72,6 +75,7 @@ fn put_part<'a, S: States + Drop>(
     requires fit { IsFitting (problem inputs.now) (part_view part.now) }
     ensures grown { IsGrown table.old table.new }
     ensures numbering { IsNumbering (problem inputs.now) table.new }
+    ensures only { AddsOnly (λ v. (part_view part.now).0 ≡ v) table.old table.new }
     ensures terms { OnOk result ((ps : List PartView) → AreOfParts table.old (terms_view S.tests terms.old.items) ps → AreOfParts table.new (terms_view S.tests terms.new.items) (ps ++ part_view part.now ∷ [])) }
 {
     let vertex = table.put(part.vertex)?;

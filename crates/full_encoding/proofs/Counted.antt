@@ -9,11 +9,12 @@ use Rattle.model.specs.Vertices.{State, Vertex, absent, same_vertex, space}
 use Rattle.model.specs.Axioms.{IsVertex}
 use Rattle.model.proofs.Lists.{pairs_first, pairs_none, pairs_rest}
 use Rattle.encoding.specs.Assignments.{state_at}
-use Rattle.encoding.specs.Numberings.{IsGrown, IsNumbering, IsWhole, Numbering, number_in}
-use Rattle.encoding.specs.Pairs.{Pair}
+use Rattle.encoding.specs.Numberings.{AddsOnly, IsGrown, IsNumbering, IsWhole, Numbering, number_in}
+use Rattle.encoding.specs.Pairs.{IsCauseAt, IsSpokenOf, Pair}
+use Rattle.encoding.proofs.Adds.{adds_none}
 use Rattle.encoding.proofs.Needing.{from_all, still_at}
 use Rattle.encoding.proofs.Places.{get_below, got_in}
-use Rattle.full_encoding.specs.Encodings.{AreSpaces, below, beside, pair_of}
+use Rattle.full_encoding.specs.Encodings.{AddsFor, AreSpaces, below, beside, pair_of}
 use Rattle.full_encoding.proofs.Pairing.{taken_at, taken_next}
 use Rattle.std.proofs.lemmas.List.Kept.{AllPairs-cons}
 
@@ -199,3 +200,23 @@ module _ (q : Problem) where
       by : (o : Option Pair) → is_some o ≡ false → o ≡ None
       by None h = refl
       by (Some p) h = let x : true ≡ false = h in cc
+
+  -- ---- vertices that come
+
+  pub adds_same : (o : Option Pair) (vs : Numbering) → AddsFor q o vs vs
+  adds_same None vs = refl
+  adds_same (Some p) vs = adds_none (IsSpokenOf q (IsCauseAt q p)) vs
+
+  -- those that come to the table are those that come to what counts or waits
+  adds_split : (Is : Vertex → Type 0) (vs new : Numbering) (few more : ℕ) → AddsOnly Is vs new → AddsOnly Is (take few vs ++ drop few vs) (take more new ++ drop more new)
+  adds_split Is vs new few more adds =
+      subst (λ l. AddsOnly Is l (take more new ++ drop more new)) (sym (take-append-drop few vs)) (subst (AddsOnly Is vs) (sym (take-append-drop more new)) adds)
+
+  pub pair_adds : (vs new : Numbering) (few more n s : ℕ) → is_some (pair_in (take few vs) n s) ≡ true
+      → ((v : Vertex) → slice_get vs n ≡ Some v → AddsOnly (IsSpokenOf q (IsCauseAt q (v, state_at q v s))) vs new)
+      → AddsFor q (pair_in (take few vs) n s) (take few vs ++ drop few vs) (take more new ++ drop more new)
+  pair_adds vs new few more n s there adds =
+      let r = pair_parts (take few vs) n s there in
+      let at : slice_get vs n ≡ Some r.0 = still_at (take few vs) vs n r.0 (drop few vs, sym (take-append-drop few vs)) r.1 in
+      subst (λ o. AddsFor q o (take few vs ++ drop few vs) (take more new ++ drop more new)) (sym (pair_there (take few vs) n s r.0 r.1 r.2))
+      (adds_split (IsSpokenOf q (IsCauseAt q (r.0, state_at q r.0 s))) vs new few more (adds r.0 at))

@@ -1,19 +1,25 @@
--- The vertices of a problem that have numbers, each with how many states it has.
-use Rattle.std.specs.Prelude.{◌≡◌, [], ℕ, List, Option, None, Some, length, map, take, option_map, option_and_then, slice_get, nat_lt, if◌then◌else◌}
+-- The vertices of a problem that have numbers, each with how many states it has, and how more of them come.
+use Rattle.std.specs.Prelude.{◌≡◌, ◌++◌, [], ℕ, List, Option, None, Some, length, map, take, drop, option_map, option_and_then, slice_get, nat_lt, if◌then◌else◌}
 use Rattle.model.specs.Content.{Problem}
 use Rattle.model.specs.Vertices.{State, Vertex, space}
 use Rattle.encoding.specs.Inputs.{KnowsDefault, problem}
-use Rattle.encoding.specs.Numberings.{IsNumbering, Numbering}
-use Rattle.encoding.specs.Pairs.{Given, IsGivenAt, Pair}
+use Rattle.encoding.specs.Numberings.{AddsOnly, IsNumbering, Numbering}
+use Rattle.encoding.specs.Pairs.{Given, IsCauseAt, IsGivenAt, IsSpokenOf, Pair}
 use Rattle.encoding.specs.declared.inputs.Inputs.{Inputs}
 
 pub record EncodingView : Type 0 where
   pub problem : Problem
   pub vertices : Numbering
+  -- they get their numbers with the next ones, since memory ran out before
+  pub waiting : List Vertex
 
 -- a vertex counts once the size of its space is known
 abbrev pub encoding_view : Inputs → Numbering → List ℕ → EncodingView
-encoding_view i vs spaces = record { problem = problem i; vertices = take (length spaces) vs }
+encoding_view i vs spaces = record { problem = problem i; vertices = take (length spaces) vs; waiting = drop (length spaces) vs }
+
+-- the vertices that have numbers or wait for them
+abbrev pub spoken : EncodingView → Numbering
+spoken e = e.vertices ++ e.waiting
 
 -- at the place of each vertex that counts, how many states it has
 abbrev pub AreSpaces : Problem → Numbering → List ℕ → Type 0
@@ -38,6 +44,11 @@ pair_at e n s = option_and_then (λ v. pair_of e.problem v s) (slice_get e.verti
 abbrev pub IsGivenIf : Problem → Numbering → Option Pair → List Given → Type 0
 IsGivenIf q vs None xs = xs ≡ []
 IsGivenIf q vs (Some p) xs = IsGivenAt q vs p xs
+
+-- those that come are vertices of the instances of a pair, none where there is none
+abbrev pub AddsFor : Problem → Option Pair → Numbering → Numbering → Type 0
+AddsFor q None old new = new ≡ old
+AddsFor q (Some p) old new = AddsOnly (IsSpokenOf q (IsCauseAt q p)) old new
 
 -- a number, if it is below a count
 abbrev pub below : ℕ → Option ℕ → Option ℕ

@@ -5,7 +5,7 @@ ghost use Rattle.encoding.specs.CauseViews.{given_views};
 ghost use Rattle.encoding.specs.Inputs.{problem};
 ghost use Rattle.encoding.specs.Numberings.{IsGrown, IsWhole, number_in};
 ghost use Rattle.vertices.specs.RefViews.{state_ref_view, vertex_ref_view};
-ghost use Rattle.full_encoding.specs.Encodings.{AreSpaces, IsEncoding, IsGivenIf, below, encoding_view, pair_at};
+ghost use Rattle.full_encoding.specs.Encodings.{AddsFor, AreSpaces, IsEncoding, IsGivenIf, below, encoding_view, pair_at, spoken};
 ghost use Rattle.full_encoding.specs.Everywhere.{IsGivenAll};
 
 use crate::everywhere::all_axioms;
@@ -98,6 +98,7 @@ pub(crate) fn pair_axioms<'a, S: States + Drop>(
     requires encoding { IsEncoding inputs.now table.old spaces.old.items }
     ensures encoding { IsEncoding inputs.now table.new spaces.new.items }
     ensures grown { IsGrown (take (length spaces.old.items) table.old) (take (length spaces.new.items) table.new) }
+    ensures only { AddsFor (problem inputs.now) (pair_at (encoding_view inputs.now table.old spaces.old.items) vertex state) (spoken (encoding_view inputs.now table.old spaces.old.items)) (spoken (encoding_view inputs.now table.new spaces.new.items)) }
     ensures given { IfOk result (λ xs. IsGivenIf (problem inputs.now) (take (length spaces.new.items) table.new) (pair_at (encoding_view inputs.now table.old spaces.old.items) vertex state) (given_views S.tests xs.items)) }
 {
     if !has(inputs, table, spaces.as_slice(), vertex, state) {

@@ -1,6 +1,6 @@
 //! How many states vertices have, beside their numbers.
 
-ghost use Rattle.std.specs.Prelude.{◌≡◌, ◌+◌, ◌<◌, ◌≤◌, IfOk, OnOk, Some, length, slice_get, take};
+ghost use Rattle.std.specs.Prelude.{◌≡◌, ◌+◌, ◌<◌, ◌≤◌, [], IfOk, OnOk, Some, length, slice_get, take, drop};
 ghost use Rattle.model.specs.Vertices.{Vertex, space};
 ghost use Rattle.encoding.specs.Inputs.{problem};
 ghost use Rattle.full_encoding.specs.Encodings.{AreSpaces};
@@ -16,6 +16,7 @@ pub(crate) fn spaces_of(
 ) -> Result<Vec<u32>, AllocError>
     ensures are { IfOk result (λ ss. AreSpaces (problem inputs.now) table.now ss.items) }
     ensures all { IfOk result (λ ss. take (length ss.items) table.now ≡ table.now) }
+    ensures none_waits { IfOk result (λ ss. drop (length ss.items) table.now ≡ []) }
 {
     let mut spaces = Vec::new(alloc);
     put_spaces(alloc, inputs, table, &mut spaces)?;

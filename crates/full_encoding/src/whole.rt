@@ -6,7 +6,7 @@ ghost use Rattle.encoding.specs.CauseViews.{given_views};
 ghost use Rattle.encoding.specs.Inputs.{KnowsDefault, problem};
 ghost use Rattle.encoding.specs.Numberings.{IsGrown, IsNumbering, IsWhole, number_in};
 ghost use Rattle.vertices.specs.RefViews.{state_ref_view, vertex_ref_view};
-ghost use Rattle.full_encoding.specs.Encodings.{IsGivenIf, pair_at};
+ghost use Rattle.full_encoding.specs.Encodings.{AddsFor, IsGivenIf, pair_at, spoken};
 ghost use Rattle.full_encoding.specs.Everywhere.{IsGivenAll};
 
 use crate::counting::{every_axiom, number_below, pair_axioms, value_of, vertex_below};
@@ -51,6 +51,7 @@ impl<'a> Encoding<'a> {
         requires default { KnowsDefault inputs }
         ensures problem { IfOk result (λ e. e.problem ≡ problem inputs.entry) }
         ensures whole { IfOk result (λ e. IsWhole (problem inputs.entry) e.vertices) }
+        ensures none_waits { IfOk result (λ e. e.waiting ≡ []) }
     {
         let mut table = Table::new(alloc);
         number_all(alloc, &inputs, &mut table)?;
@@ -65,6 +66,7 @@ impl<'a> Encoding<'a> {
         requires default { KnowsDefault inputs }
         ensures problem { IfOk result (λ e. e.problem ≡ problem inputs.entry) }
         ensures root { IfOk result (λ e. e.vertices ≡ root ∷ []) }
+        ensures none_waits { IfOk result (λ e. e.waiting ≡ []) }
     {
         let mut table = Table::new(alloc);
         table.put(VertexRef::Root)?;
@@ -77,6 +79,7 @@ impl<'a> Encoding<'a> {
         requires numbering { IsNumbering (problem inputs) table }
         ensures problem { IfOk result (λ e. e.problem ≡ problem inputs.entry) }
         ensures vertices { IfOk result (λ e. e.vertices ≡ table.entry) }
+        ensures none_waits { IfOk result (λ e. e.waiting ≡ []) }
     {
         let spaces = spaces_of(alloc, &inputs, &table)?;
         Ok(Encoding {
@@ -144,10 +147,11 @@ impl<'a> Encoding<'a> {
 
     /// The instances whose first term is the vertex with a number, in the state with a number, each once and with its
     /// kind: for the root also that of its absence. There are none where there is no such vertex or state. The vertices
-    /// that they speak of get numbers.
+    /// that they speak of get numbers, and no others.
     ///
     /// # Errors
-    /// There is no memory. Some of these vertices may have numbers then.
+    /// There is no memory. Some of these vertices may have numbers then, or wait for them: they get them with the next
+    /// instances that are asked for.
     pub fn axioms_at<S: States + Drop>(
         &mut self,
         vertex: usize,
@@ -155,6 +159,7 @@ impl<'a> Encoding<'a> {
     ) -> Result<Vec<(Kind, Incompatibility<S>)>, AllocError>
         ensures problem { self.new.problem ≡ self.old.problem }
         ensures grown { IsGrown self.old.vertices self.new.vertices }
+        ensures only { AddsFor self.new.problem (pair_at self.old vertex state) (spoken self.old) (spoken self.new) }
         ensures given { IfOk result (λ xs. IsGivenIf self.new.problem self.new.vertices (pair_at self.old vertex state) (given_views S.tests xs.items)) }
     {
         pair_axioms(

@@ -7,7 +7,8 @@ use Rattle.model.specs.Vertices.{Vertex}
 use Rattle.encoding.specs.Assignments.{state_at}
 use Rattle.encoding.specs.CauseViews.{given_views}
 use Rattle.encoding.specs.Inputs.{problem}
-use Rattle.encoding.specs.Pairs.{IsGivenAt}
+use Rattle.encoding.specs.Numberings.{AddsOnly}
+use Rattle.encoding.specs.Pairs.{IsCauseAt, IsGivenAt, IsSpokenOf}
 use Rattle.vertices.specs.RefViews.{vertex_ref_view}
 use Rattle.encoding.proofs.AddLaws.{vertex_there}
 use Rattle.encoding.proofs.adding.axioms_at.Goals as goal
@@ -35,3 +36,14 @@ returns-in-Some-clause-given g c =
 
 pub returns-in-None-clause-given : goal.returns-in-None-clause-given
 returns-in-None-clause-given g c = λ v e. absurd (none-some v (sym (sym c.vertex.ensures ∙ ap (option_map vertex_ref_view) c.in-None.is) ∙ e))
+
+pub returns-in-Some-clause-only : goal.returns-in-Some-clause-only
+returns-in-Some-clause-only g c = λ v e.
+    let q = problem c.args.inputs.now in
+    let w = vertex_ref_view c.in-Some.vertex in
+    let n = c.args.state in
+    let seen : slice_get c.args.table.now c.args.number ≡ Some w = sym c.vertex.ensures ∙ ap (option_map vertex_ref_view) c.in-Some.is in
+    subst (λ (u : Vertex). AddsOnly (IsSpokenOf q (IsCauseAt q (u, state_at q u n))) c.args.table.now c.vertex_axioms.new.table) (same_Some w v (sym seen ∙ e)) c.vertex_axioms.ensures.only
+
+pub returns-in-None-clause-only : goal.returns-in-None-clause-only
+returns-in-None-clause-only g c = λ v e. absurd (none-some v (sym (sym c.vertex.ensures ∙ ap (option_map vertex_ref_view) c.in-None.is) ∙ e))

@@ -1,8 +1,8 @@
-use Rattle.std.proofs.Common.{◌≡◌, take}
+use Rattle.std.proofs.Common.{◌≡◌, take, Contains}
 use Rattle.encoding.specs.CauseViews.{cause_views, given_views}
 use Rattle.encoding.specs.Inputs.{problem}
-use Rattle.encoding.specs.Numberings.{IsGrown, IsNumbering}
-use Rattle.encoding.specs.Pairs.{AreGiven}
+use Rattle.encoding.specs.Numberings.{AddsOnly, IsGrown, IsNumbering}
+use Rattle.encoding.specs.Pairs.{AreGiven, IsSpokenOf}
 use Rattle.encoding.proofs.adding.instances.Given as goal
 
 -- the instances so far are those of the causes so far
@@ -11,5 +11,6 @@ invariant-causes g l = record {
   same : l.inputs ≡ l.fn.inputs;
   grown : IsGrown l.fn.table l.table;
   numbering : IsNumbering (problem l.fn.inputs) l.table;
+  only : AddsOnly (IsSpokenOf (problem l.fn.inputs) (Contains (cause_views l.causes))) l.fn.table l.table;
   are : AreGiven (problem l.fn.inputs) l.table (cause_views (take l.cause-index l.causes)) (given_views g.S.States.tests l.given.items);
 }

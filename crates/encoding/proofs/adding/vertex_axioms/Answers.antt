@@ -7,6 +7,7 @@ use Rattle.encoding.specs.Inputs.{problem}
 use Rattle.encoding.specs.Pairs.{Pair, AreCausesAt, AreGiven, IsGivenAt}
 use Rattle.vertices.specs.RefViews.{state_ref_view, vertex_ref_view}
 use Rattle.encoding.proofs.AddLaws.{causes_there, state_in}
+use Rattle.encoding.proofs.Adds.{pair_adds}
 use Rattle.encoding.proofs.adding.vertex_axioms.Goals as goal
 
 pub causes_at-requires-clause-state : goal.causes_at-requires-clause-state
@@ -32,3 +33,13 @@ returns-clause-given g c =
       given = are;
     })
     c.instances.ensures.given
+
+pub returns-clause-only : goal.returns-clause-only
+returns-clause-only g c =
+    let q = problem c.args.inputs.now in
+    let v = vertex_ref_view c.args.vertex in
+    let n = c.args.number in
+    let cs = cause_views c.as_slice.result.now in
+    pair_adds q (v, state_at q v n) cs c.args.table.now c.instances.new.table
+    (subst (λ l. AreCausesAt q (v, state_at q v n) (cause_views l)) (sym c.as_slice.ensures.keys) (subst (λ (s : State). AreCausesAt q (v, s) (cause_views c.in_ok-causes.causes.keys)) c.in_ok-state.ensures c.in_ok-causes.ensures))
+    c.instances.ensures.only

@@ -6,6 +6,7 @@ use Rattle.refutations.proofs.CauseLaws.{cause_instance}
 use Rattle.encoding.specs.CauseViews.{cause_view}
 use Rattle.encoding.specs.Inputs.{problem}
 use Rattle.encoding.specs.Parts.{AreOfParts, part_views}
+use Rattle.encoding.proofs.Adds.{cause_adds}
 use Rattle.encoding.proofs.Putting.{are_numbered, cause_fits}
 use Rattle.encoding.proofs.Saying.{one_each}
 use Rattle.encoding.proofs.instances.instance.Goals as goal
@@ -31,3 +32,11 @@ returns-clause-says g c =
     let are = are_numbered q c.put_parts.new.table (terms_view g.S.States.tests c.in_ok-terms.terms.items) ts
     (subst (AreOfParts c.put_parts.new.table (terms_view g.S.States.tests c.in_ok-terms.terms.items)) (ap part_views c.as_slice.ensures.value ∙ c.in_ok-parts.ensures) c.in_ok-terms.ensures.terms) in
     c.made_of.ensures.says q c.put_parts.new.table ts c.put_parts.ensures.numbering are
+
+pub returns-in_err-terms-clause-only : goal.returns-in_err-terms-clause-only
+returns-in_err-terms-clause-only g c =
+    cause_adds (problem c.args.inputs.now) (cause_view c.args.cause.now) (part_views c.as_slice.result.now) c.args.table.now c.put_parts.new.table (ap part_views c.as_slice.ensures.value ∙ c.in_ok-parts.ensures) c.put_parts.ensures.only
+
+pub returns-clause-only : goal.returns-clause-only
+returns-clause-only g c =
+    cause_adds (problem c.args.inputs.now) (cause_view c.args.cause.now) (part_views c.as_slice.result.now) c.args.table.now c.put_parts.new.table (ap part_views c.as_slice.ensures.value ∙ c.in_ok-parts.ensures) c.put_parts.ensures.only

@@ -2,6 +2,7 @@ use Rattle.std.proofs.Common.{◌≤◌, length, arith, refl, sym, subst}
 use Rattle.terms.specs.Terms.{terms_view}
 use Rattle.encoding.specs.Inputs.{problem}
 use Rattle.encoding.specs.Parts.{AreOfParts, IsFitting}
+use Rattle.encoding.proofs.Adds.{part_adds}
 use Rattle.encoding.proofs.Needing.{grows_on}
 use Rattle.encoding.proofs.Putting.{fit_at, parts_next, parts_whole}
 use Rattle.encoding.proofs.instances.put_parts.Goals as goal
@@ -13,6 +14,10 @@ put_part-requires-clause-fit g c =
 pub returns-in_err-put_part-clause-grown : goal.returns-in_err-put_part-clause-grown
 returns-in_err-put_part-clause-grown g c = grows_on c.args.table.now c.parts.table c.put_part.new.table c.parts.invariant.grown c.put_part.ensures.grown
 
+pub returns-in_err-put_part-clause-only : goal.returns-in_err-put_part-clause-only
+returns-in_err-put_part-clause-only g c =
+    part_adds c.args.parts.now c.parts.part-index c.part-item.result c.args.table.now c.parts.table c.put_part.new.table c.parts-test.true c.part-item.is c.parts.invariant.only c.put_part.ensures.only
+
 pub parts-preserved : goal.parts-preserved
 parts-preserved g c =
     let next = parts_next c.args.parts.now c.parts.part-index c.part-item.result c.parts-test.true c.part-item.is in
@@ -20,6 +25,7 @@ parts-preserved g c =
       same = refl;
       grown = grows_on c.args.table.now c.parts.table c.put_part.new.table c.parts.invariant.grown c.put_part.ensures.grown;
       numbering = c.put_part.ensures.numbering;
+      only = part_adds c.args.parts.now c.parts.part-index c.part-item.result c.args.table.now c.parts.table c.put_part.new.table c.parts-test.true c.part-item.is c.parts.invariant.only c.put_part.ensures.only;
       are = subst (AreOfParts c.put_part.new.table (terms_view g.S.States.tests c.put_part.new.terms.items)) (sym next) (c.in_ok-put_part.ensures.terms _ c.parts.invariant.are);
     }
 

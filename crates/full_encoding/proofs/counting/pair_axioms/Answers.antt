@@ -1,4 +1,4 @@
-use Rattle.std.proofs.Common.{◌≡◌, ◌∙◌, ap, is_some, true, length, drop, take, take_all, Some, slice_get, sym, subst}
+use Rattle.std.proofs.Common.{◌≡◌, ◌∙◌, ◌++◌, ap, is_some, true, length, drop, take, take_all, Some, slice_get, sym, subst}
 use Rattle.std.proofs.lemmas.List.{take-append-drop}
 use Rattle.encoding.specs.Assignments.{state_at}
 use Rattle.encoding.specs.CauseViews.{given_views}
@@ -6,7 +6,7 @@ use Rattle.encoding.specs.Inputs.{problem}
 use Rattle.encoding.specs.Pairs.{IsGivenAt}
 use Rattle.encoding.proofs.Needing.{still_at}
 use Rattle.full_encoding.specs.Encodings.{IsGivenIf}
-use Rattle.full_encoding.proofs.Counted.{pair_in, pair_parts, pair_there, spaces_few, taken_grows}
+use Rattle.full_encoding.proofs.Counted.{adds_same, pair_adds, pair_in, pair_parts, pair_there, spaces_few, taken_grows}
 use Rattle.full_encoding.proofs.counting.pair_axioms.Goals as goal
 
 pub returns-in_err-put_spaces-clause-grown : goal.returns-in_err-put_spaces-clause-grown
@@ -34,3 +34,40 @@ returns-clause-given g c =
     let at : slice_get vs n ≡ Some r.0 = still_at seen vs n r.0 (drop few vs, sym (take-append-drop few vs)) r.1 in
     subst (λ p. IsGivenIf q (take (length c.put_spaces.new.spaces.items) new) p xs) (sym (pair_there q seen n s r.0 r.1 r.2))
     (subst (λ w. IsGivenAt q w (r.0, state_at q r.0 s) xs) (sym (take_all (length c.put_spaces.new.spaces.items) new c.in_ok-put_spaces.ensures.all)) (c.in_ok-given.ensures.given r.0 at))
+
+pub returns-then-not-has-clause-only : goal.returns-then-not-has-clause-only
+returns-then-not-has-clause-only g c =
+    let q = problem c.args.inputs.now in
+    let vs = c.args.table.now in
+    let few = length c.args.spaces.now.items in
+    adds_same q (pair_in q (take few vs) c.args.vertex c.args.state) (take few vs ++ drop few vs)
+
+pub returns-in_err-given-clause-only : goal.returns-in_err-given-clause-only
+returns-in_err-given-clause-only g c =
+    let q = problem c.args.inputs.now in
+    let vs = c.args.table.now in
+    let few = length c.args.spaces.now.items in
+    let n = c.args.vertex in
+    let s = c.args.state in
+    let there : is_some (pair_in q (take few vs) n s) ≡ true = sym (ap (λ ss. is_some (pair_in q (take (length ss) vs) n s)) c.as_slice.ensures.value) ∙ sym c.has.ensures ∙ c.if-not-has.false in
+    pair_adds q vs c.axioms_at.new.table few (length c.args.spaces.now.items) n s there c.axioms_at.ensures.only
+
+pub returns-in_err-put_spaces-clause-only : goal.returns-in_err-put_spaces-clause-only
+returns-in_err-put_spaces-clause-only g c =
+    let q = problem c.args.inputs.now in
+    let vs = c.args.table.now in
+    let few = length c.args.spaces.now.items in
+    let n = c.args.vertex in
+    let s = c.args.state in
+    let there : is_some (pair_in q (take few vs) n s) ≡ true = sym (ap (λ ss. is_some (pair_in q (take (length ss) vs) n s)) c.as_slice.ensures.value) ∙ sym c.has.ensures ∙ c.if-not-has.false in
+    pair_adds q vs c.axioms_at.new.table few (length c.put_spaces.new.spaces.items) n s there c.axioms_at.ensures.only
+
+pub returns-clause-only : goal.returns-clause-only
+returns-clause-only g c =
+    let q = problem c.args.inputs.now in
+    let vs = c.args.table.now in
+    let few = length c.args.spaces.now.items in
+    let n = c.args.vertex in
+    let s = c.args.state in
+    let there : is_some (pair_in q (take few vs) n s) ≡ true = sym (ap (λ ss. is_some (pair_in q (take (length ss) vs) n s)) c.as_slice.ensures.value) ∙ sym c.has.ensures ∙ c.if-not-has.false in
+    pair_adds q vs c.axioms_at.new.table few (length c.put_spaces.new.spaces.items) n s there c.axioms_at.ensures.only

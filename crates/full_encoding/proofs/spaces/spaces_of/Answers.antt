@@ -1,4 +1,5 @@
 use Rattle.std.proofs.Common.{length, sym, subst, take_all}
+use Rattle.std.proofs.lemmas.List.{drop_all}
 use Rattle.encoding.specs.Inputs.{problem}
 use Rattle.full_encoding.specs.Encodings.{AreSpaces}
 use Rattle.full_encoding.proofs.Counted.{spaces_none}
@@ -9,3 +10,6 @@ put_spaces-requires c = record { are = subst (AreSpaces (problem c.args.inputs.n
 
 pub returns-clause-all : goal.returns-clause-all
 returns-clause-all c = take_all (length c.put_spaces.new.spaces.items) c.args.table.now c.in_ok-put_spaces.ensures.all
+
+pub returns-clause-none_waits : goal.returns-clause-none_waits
+returns-clause-none_waits c = drop_all (length c.put_spaces.new.spaces.items) c.args.table.now c.in_ok-put_spaces.ensures.all
