@@ -1,5 +1,5 @@
 -- Numberings that gain only certain vertices.
-use Rattle.std.proofs.Common.{◌≡◌, ◌⊎◌, ◌<◌, ℕ, get_or, List, [], ◌∷◌, ◌++◌, length, map, Bool, true, false, cond, Contains, Some, slice_get, refl, ap, ◌∙◌, subst, inl, inr}
+use Rattle.std.proofs.Common.{◌≡◌, ◌⊎◌, ◌<◌, ℕ, get_or, List, [], ◌∷◌, ◌++◌, length, map, Bool, true, false, cond, Contains, refl, ap, ◌∙◌, subst, inl, inr}
 use Rattle.std.specs.List.{list_any}
 use Rattle.std.proofs.lemmas.Option.{slice_get_read}
 use Rattle.model.specs.Content.{Problem}

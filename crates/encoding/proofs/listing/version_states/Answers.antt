@@ -2,7 +2,6 @@ use Rattle.std.proofs.Common.{◌∷◌, sym, ap, ◌∙◌}
 use Rattle.semver.specs.Identifiers.{parts_of}
 use Rattle.classes.specs.Classes.{class_view}
 use Rattle.model.specs.Vertices.{absent, version}
-use Rattle.encoding.specs.Inputs.{problem}
 use Rattle.encoding.proofs.Tested.{map_map, states_here}
 use Rattle.encoding.proofs.listing.version_states.Goals as goal
 
