@@ -12,7 +12,7 @@ use Rattle.model.specs.Content.{Problem}
 use Rattle.model.specs.Summary.{Dependency, Entry, feature, dependency, dependency_feature, weak_feature, same_text}
 use Rattle.model.proofs.Same.{text-same}
 use Rattle.refutations.specs.Causes.{Cause}
-use Rattle.encoding.specs.Called.{Puts, called, called_in, if_some, named_by, numbered_from, numbered_view, numbered_views, same_name}
+use Rattle.encoding.specs.Called.{Puts, called_in, called_so, if_some, named_by, numbered_from, numbered_view, numbered_views, same_name}
 use Rattle.encoding.specs.CausesAt.{each_from, entry_if}
 use Rattle.encoding.specs.declared.called.Numbered.{Numbered}
 
@@ -48,12 +48,12 @@ put_new m mid new name one w same named is none more = put_first m new name one 
 
 -- what isn't given off a name is given for those called so
 pub each_called : (f : ℕ → Dependency → List Cause) (x : List ℕ) → ((i : ℕ) (d : Dependency) → same_text d.name x ≡ false → f i d ≡ []) → (n : ℕ) (ds : List Dependency)
-    → flat_map (λ p. f p.0 p.1) (called x (numbered_from n ds)) ≡ each_from f n ds
+    → flat_map (λ p. f p.0 p.1) (called_so x (numbered_from n ds)) ≡ each_from f n ds
 each_called f x off n [] = refl
 each_called f x off n (d ∷ ds) = by (same_text d.name x) refl (each_called f x off (n + 1) ds)
   where
-    by : (b : Bool) → same_text d.name x ≡ b → flat_map (λ p. f p.0 p.1) (called x (numbered_from (n + 1) ds)) ≡ each_from f (n + 1) ds
-        → flat_map (λ p. f p.0 p.1) (cond b ((n, d) ∷ called x (numbered_from (n + 1) ds)) (called x (numbered_from (n + 1) ds))) ≡ f n d ++ each_from f (n + 1) ds
+    by : (b : Bool) → same_text d.name x ≡ b → flat_map (λ p. f p.0 p.1) (called_so x (numbered_from (n + 1) ds)) ≡ each_from f (n + 1) ds
+        → flat_map (λ p. f p.0 p.1) (cond b ((n, d) ∷ called_so x (numbered_from (n + 1) ds)) (called_so x (numbered_from (n + 1) ds))) ≡ f n d ++ each_from f (n + 1) ds
     by true e rest = ap (λ l. f n d ++ l) rest
     by false e rest = rest ∙ ap (λ l. l ++ each_from f (n + 1) ds) (sym (off n d e))
 
@@ -80,7 +80,7 @@ module _ (q : Problem) (name : List ℕ) (v : Parts) (f : List ℕ) where
   no_name (weak_feature y g) is i d = let no : None ≡ Some y = is in cc
 
   pub entry_called : (e : Entry) (x : List ℕ) → Some x ≡ named_by e → (ds : List Dependency)
-      → flat_map (λ p. entry_if q name v f e p.0 p.1) (called x (numbered_from 0 ds)) ≡ each_from (entry_if q name v f e) 0 ds
+      → flat_map (λ p. entry_if q name v f e p.0 p.1) (called_so x (numbered_from 0 ds)) ≡ each_from (entry_if q name v f e) 0 ds
   entry_called e x is ds = each_called (entry_if q name v f e) x (off_name e x is) 0 ds
 
   pub entry_without : (e : Entry) → None ≡ named_by e → (ds : List Dependency) → each_from (entry_if q name v f e) 0 ds ≡ []

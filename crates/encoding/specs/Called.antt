@@ -22,9 +22,8 @@ abbrev pub numbered_from : ℕ → List Dependency → List (ℕ × Dependency)
 numbered_from n [] = []
 numbered_from n (d ∷ ds) = (n, d) ∷ numbered_from (n + 1) ds
 
--- those called so
-abbrev pub called : List ℕ → List (ℕ × Dependency) → List (ℕ × Dependency)
-called x ps = filter (λ p. same_text p.1.name x) ps
+abbrev pub called_so : List ℕ → List (ℕ × Dependency) → List (ℕ × Dependency)
+called_so x ps = filter (λ p. same_text p.1.name x) ps
 
 abbrev pub same_name : Bor (List ℕ) → Bor (List ℕ) → Bool
 same_name a b = same_text a.now b.now
@@ -33,6 +32,11 @@ abbrev pub if_some : Option (Vec Numbered Global) → List (ℕ × Dependency)
 if_some None = []
 if_some (Some those) = numbered_views those.items
 
+-- those of a slice that may not be there
+abbrev pub those_views : Option (Bor (List Numbered)) → List (ℕ × Dependency)
+those_views None = []
+those_views (Some those) = numbered_views those.now
+
 module _ {S : Type 0} where
   -- what a map has at a name
   abbrev pub called_in : HashMap (Bor (List ℕ)) (Vec Numbered Global) S → Bor (List ℕ) → List (ℕ × Dependency)
@@ -40,15 +44,15 @@ module _ {S : Type 0} where
 
   -- it has at each name those called so, in their order
   abbrev pub IsByName : HashMap (Bor (List ℕ)) (Vec Numbered Global) S → List (ℕ × Dependency) → Type 0
-  IsByName m ps = (x : Bor (List ℕ)) → called_in m x ≡ called x.now ps
+  IsByName m ps = (x : Bor (List ℕ)) → called_in m x ≡ called_so x.now ps
 
   -- one more behind those that it has
   abbrev pub Puts : HashMap (Bor (List ℕ)) (Vec Numbered Global) S → Numbered → HashMap (Bor (List ℕ)) (Vec Numbered Global) S → Type 0
-  Puts old n new = (x : Bor (List ℕ)) → called_in new x ≡ called_in old x ++ called x.now (numbered_view n ∷ [])
+  Puts old n new = (x : Bor (List ℕ)) → called_in new x ≡ called_in old x ++ called_so x.now (numbered_view n ∷ [])
 
-  -- it has those of a version
-  abbrev pub AreOfVersion : Problem → List ℕ → Parts → HashMap (Bor (List ℕ)) (Vec Numbered Global) S → Type 0
-  AreOfVersion q name v m = IsByName m (numbered_from 0 (owner_brings q (version_of name v)).dependencies)
+-- these are those of a version
+abbrev pub AreOfVersion : Problem → List ℕ → Parts → List Dependency → Type 0
+AreOfVersion q name v ds = ds ≡ (owner_brings q (version_of name v)).dependencies
 
 -- the name by which an entry calls dependencies
 abbrev pub named_by : Entry → Option (List ℕ)

@@ -12,13 +12,13 @@ ghost use Rattle.model.specs.Summary.{same_text};
 ghost use Rattle.model.specs.Vertices as model_vertices;
 ghost use Rattle.model.specs.Vertices.{feat, owner_brings, same_class, same_vertex};
 ghost use Rattle.refutations.specs.Causes.{is_needed, of_asking, of_enabling, table_of_owner};
-ghost use Rattle.encoding.specs.Called.{AreOfVersion, called_in, named_by, numbered_views};
+ghost use Rattle.encoding.specs.Called.{AreOfVersion, called_so, named_by, numbered_from, numbered_views};
 ghost use Rattle.encoding.specs.CauseViews.{cause_views};
 ghost use Rattle.encoding.specs.CausesAt.{each_from, entry_causes, entry_if, feature_causes, need_if, turned_if, version_causes, weak_if, with_causes};
 ghost use Rattle.encoding.specs.Inputs.{problem};
 ghost use Rattle.vertices.specs.RefViews.{owner_ref_view};
 
-use crate::called::{ByName, Numbered, by_name};
+use crate::called::{ByName, Numbered};
 use crate::cause::{Cause, Enabling};
 use crate::inputs::Inputs;
 use crate::lookups::{brings, dependencies_of, entries_of};
@@ -180,10 +180,10 @@ fn put_called<'a>(
     entry: &'a Entry,
     name: &'a str,
 ) -> Result<(), AllocError>
-    ensures { OnOk result (cause_views causes.new.items ≡ cause_views causes.old.items ++ flat_map (λ p. entry_if (problem inputs.now) own.entry.name.now (parts_of own.entry.version.now) own.entry.feature.now (entry_view entry.entry.now) p.0 p.1) (called_in called.now name.entry)) }
+    ensures { OnOk result (cause_views causes.new.items ≡ cause_views causes.old.items ++ flat_map (λ p. entry_if (problem inputs.now) own.entry.name.now (parts_of own.entry.version.now) own.entry.feature.now (entry_view entry.entry.now) p.0 p.1) (called_so name.entry.now (numbered_from 0 called.now))) }
 {
-    match called.get(&name) {
-        Some(those) => put_those(alloc, inputs, causes, own, entry, those.as_slice()),
+    match called.those(name) {
+        Some(those) => put_those(alloc, inputs, causes, own, entry, those),
         None => Ok(()),
     }
 }
@@ -385,7 +385,7 @@ fn put_features<'a>(
 {
     match brings(inputs, &OwnerRef::Version(name, version)) {
         Some(summary) => {
-            let called = by_name(alloc, summary.dependencies.as_slice())?;
+            let called = ByName::of(alloc, summary.dependencies.as_slice())?;
             put_rows(
                 alloc,
                 inputs,

@@ -57,6 +57,7 @@ ghost use Rattle.encoding.specs.Absences.{OneZero};
 ghost use Rattle.encoding.specs.Assignments.{IsOf, IsSettled, state_of};
 
 pub use adding::axioms_at;
+pub use called::{ByName, Numbered};
 pub use cause::{Cause, Enabling};
 pub use inputs::Inputs;
 pub use instances::instance;

@@ -1,4 +1,4 @@
-use Rattle.std.proofs.Common.{◌++◌, ℕ, sym, ap, ◌∙◌}
+use Rattle.std.proofs.Common.{◌≡◌, ◌++◌, ℕ, sym, ap, ap₂, ◌∙◌}
 use Rattle.std.specs.List.{flat_map}
 use Rattle.std.proofs.lemmas.List.{append-nil}
 use Rattle.std.proofs.lemmas.Result.{on_ok_weaker}
@@ -6,7 +6,7 @@ use Rattle.semver.specs.Identifiers.{parts_of}
 use Rattle.features.specs.EntryViews.{entry_view}
 use Rattle.model.specs.Summary.{Dependency}
 use Rattle.model.specs.Vertices.{owner_brings, version_of}
-use Rattle.encoding.specs.Called.{called, numbered_from}
+use Rattle.encoding.specs.Called.{called_so, numbered_from}
 use Rattle.encoding.specs.CauseViews.{cause_views}
 use Rattle.encoding.specs.CausesAt.{entry_if}
 use Rattle.encoding.specs.Inputs.{problem}
@@ -22,9 +22,11 @@ returns-in-Some c =
     let e = entry_view c.args.entry.now in
     let ds = (owner_brings q (version_of name v)).dependencies in
     let cs = cause_views c.args.causes.now.items in
+    let named : called_so c.as_str.result.now (numbered_from 0 c.args.called.now) ≡ called_so c.in-Some.name.now (numbered_from 0 ds)
+    = ap₂ (λ x l. called_so x (numbered_from 0 l)) c.as_str.ensures.text c.requires.called in
     on_ok_weaker c.put_called.result
     (λ put. put ∙ ap (λ l. cs ++ l)
-    (ap (flat_map (λ (p : ℕ × Dependency). entry_if q name v f e p.0 p.1)) (c.requires.called c.as_str.result ∙ ap (λ x. called x (numbered_from 0 ds)) c.as_str.ensures.text)
+    (ap (flat_map (λ (p : ℕ × Dependency). entry_if q name v f e p.0 p.1)) named
     ∙ entry_called q name v f e c.in-Some.name.now c.in-Some.ensures ds))
     c.put_called.ensures
 
