@@ -7,17 +7,19 @@ use Rattle.std.proofs.lemmas.Option.{none-some, same_Some}
 use Rattle.semver.specs.Identifiers.{parts_of}
 use Rattle.semver.specs.declared.Version.{Version}
 use Rattle.model.specs.Candidates.{Record, as_candidate}
-use Rattle.model.specs.Content.{Candidate}
-use Rattle.model.specs.Summary.{Dependency, Entry, Table, asked_of_target}
+use Rattle.semver.specs.Parse.{Parts}
+use Rattle.model.specs.Content.{Candidate, Problem}
+use Rattle.model.specs.Summary.{Dependency, Entry, Table, asked_of_target, dependency_feature, same_text}
 use Rattle.model.specs.Selection.{Class, class_of}
-use Rattle.model.specs.Vertices.{Vertex, feat, same_class}
+use Rattle.model.specs.Vertices.{Vertex, ask, feat, same_class}
 use Rattle.manifest.specs.Manifests.{ManifestView, asked_by, root_asks}
 use Rattle.catalogue.specs.Problems.{problem_in}
 use Rattle.catalogue.specs.Ranks.{records}
 use Rattle.catalogue.specs.Stores.{CatalogueView, Row, candidates_at, rows_by_name}
 use Rattle.refutations.specs.Causes.{entries_or_none}
 use Rattle.looking_up.proofs.Brought.{candidates_are}
-use Rattle.full_encoding.specs.Everything.{classes_in, each_feature, first_feature, versions, versions_of}
+use Rattle.encoding.specs.Called.{called_so, numbered_from}
+use Rattle.full_encoding.specs.Everything.{ask_if, asked_of, classes_in, each_feature, each_from, feature_of, first_feature, versions, versions_of}
 
 -- one more of a list
 pub rest_more : {X : Type 0} (f : X → List Vertex) (vs new all : List Vertex) (x : X) (xs : List X) → vs ++ flat_map f (x ∷ xs) ≡ all → new ≡ vs ++ f x → new ++ flat_map f xs ≡ all
@@ -108,3 +110,36 @@ three a b c d = append_assoc (a ++ b) c d ∙ append_assoc a b (c ++ d)
 pub entries_are : (o : Option (List Entry)) → unwrap_or o [] ≡ entries_or_none o
 entries_are None = refl
 entries_are (Some es) = refl
+
+-- ---- the dependencies that an entry names
+
+-- what it asks each for, it asks those for that are called so
+pub asks_called : (name : List ℕ) (v : Parts) (x g : List ℕ) (n : ℕ) (ds : List Dependency)
+    → map (λ p. ask name v p.0 g) (called_so x (numbered_from n ds)) ≡ each_from (ask_if name v (dependency_feature x g)) n ds
+asks_called name v x g n [] = refl
+asks_called name v x g n (d ∷ ds) = by (same_text d.name x) (asks_called name v x g (n + 1) ds)
+  where
+    left : List (ℕ × Dependency)
+    left = called_so x (numbered_from (n + 1) ds)
+
+    by : (b : Bool) → map (λ p. ask name v p.0 g) left ≡ each_from (ask_if name v (dependency_feature x g)) (n + 1) ds
+        → map (λ p. ask name v p.0 g) (cond b ((n, d) ∷ left) left) ≡ cond b (ask name v n g ∷ []) [] ++ each_from (ask_if name v (dependency_feature x g)) (n + 1) ds
+    by true rest = ap (λ l. ask name v n g ∷ l) rest
+    by false rest = rest
+
+pub asks_none : (vs : List Vertex) (f : ℕ → Dependency → List Vertex) → ((i : ℕ) (d : Dependency) → f i d ≡ []) → (n : ℕ) (ds : List Dependency) → vs ≡ vs ++ each_from f n ds
+asks_none vs f none n [] = sym (append_none vs)
+asks_none vs f none n (d ∷ ds) = asks_none vs f none (n + 1) ds ∙ ap (λ l. vs ++ (l ++ each_from f (n + 1) ds)) (sym (none n d))
+
+pub asked_called : (q : Problem) (x g : List ℕ) (n : ℕ) (ds : List Dependency)
+    → flat_map (λ p. feature_of q p.1.real_name g) (called_so x (numbered_from n ds)) ≡ asked_of q ds (x, g)
+asked_called q x g n [] = refl
+asked_called q x g n (d ∷ ds) = by (same_text d.name x) (asked_called q x g (n + 1) ds)
+  where
+    left : List (ℕ × Dependency)
+    left = called_so x (numbered_from (n + 1) ds)
+
+    by : (b : Bool) → flat_map (λ p. feature_of q p.1.real_name g) left ≡ asked_of q ds (x, g)
+        → flat_map (λ p. feature_of q p.1.real_name g) (cond b ((n, d) ∷ left) left) ≡ cond b (feature_of q d.real_name g) [] ++ asked_of q ds (x, g)
+    by true rest = ap (λ l. feature_of q d.real_name g ++ l) rest
+    by false rest = rest

@@ -1,20 +1,21 @@
 //! All vertices of a manifest and a loaded index, a feature only in the first class of its name.
 
-ghost use Rattle.std.specs.Prelude.{◌≡◌, ◌++◌, ◌∷◌, [], IfOk, OnOk, map, codes, if◌then◌else◌};
+ghost use Rattle.std.specs.Prelude.{◌≡◌, ◌++◌, [], IfOk, OnOk, map, codes, if◌then◌else◌};
 ghost use Rattle.std.specs.List.{flat_map};
 ghost use Rattle.semver.specs.Identifiers.{parts_of};
 ghost use Rattle.features.specs.EntryViews.{entry_view, entry_views};
 ghost use Rattle.features.specs.Views.{dependency_view, dependency_views, summary_view};
 ghost use Rattle.manifest.specs.Manifests.{asked_by};
-ghost use Rattle.model.specs.Summary.{asked_of_target, same_text};
+ghost use Rattle.model.specs.Summary.{asked_of_target};
 ghost use Rattle.model.specs.Vertices.{ask, version_of};
+ghost use Rattle.encoding.specs.Called.{called_so, numbered_from, numbered_views};
 ghost use Rattle.encoding.specs.Inputs.{KnowsDefault, problem};
 ghost use Rattle.vertices.specs.RefViews.{owner_ref_view, vertex_ref_view};
-ghost use Rattle.full_encoding.specs.Everything.{ask_if, asked_if, asked_of, each_from, feature_of, first_feature, named, of_dependency, of_entry, of_feature, of_name, of_root, of_table, of_version};
+ghost use Rattle.full_encoding.specs.Everything.{ask_if, asked_of, each_from, feature_of, first_feature, named, of_dependency, of_entry, of_feature, of_name, of_root, of_table, of_version};
 ghost use Rattle.full_encoding.specs.Views.{vertex_views};
 
 use classes::Class;
-use encoding::Inputs;
+use encoding::{ByName, Inputs, Numbered};
 use features::{Dependency, Entry, FeatureName, FeatureTable, PackageName, Summary};
 use semver::Version;
 use std::alloc::{AllocError, Global};
@@ -36,32 +37,37 @@ pub(crate) fn named<'a>(
     ensures { IfOk result (λ vs. vertex_views vs.items ≡ named (problem inputs.now)) }
 {
     let mut vertices = Vec::new(alloc);
-    put_root(inputs, &mut vertices)?;
-    put_names(inputs, &mut vertices, inputs.catalogue.names())?;
+    put_root(alloc, inputs, &mut vertices)?;
+    put_names(alloc, inputs, &mut vertices, inputs.catalogue.names())?;
     Ok(vertices)
 }
 
 /// The root, its dependencies, and what the entries of its features ask these for.
-fn put_root<'a>(inputs: &Inputs<'a>, vertices: &mut Vec<VertexRef<'a>>) -> Result<(), AllocError>
+fn put_root<'a>(
+    alloc: Global,
+    inputs: &Inputs<'a>,
+    vertices: &mut Vec<VertexRef<'a>>,
+) -> Result<(), AllocError>
     requires default { KnowsDefault inputs.now }
     ensures { OnOk result (vertex_views vertices.new.items ≡ vertex_views vertices.old.items ++ of_root (problem inputs.now)) }
 {
     let dependencies = inputs.manifest.dependencies();
     vertices.push(VertexRef::Root)?;
     put_dependencies(inputs, vertices, OwnerRef::Root, dependencies)?;
-    put_rows(inputs, vertices, dependencies, inputs.manifest.features())
+    let called = ByName::of(alloc, dependencies)?;
+    put_rows(inputs, vertices, &called, inputs.manifest.features())
 }
 
 fn put_rows<'a>(
     inputs: &Inputs<'a>,
     vertices: &mut Vec<VertexRef<'a>>,
-    dependencies: &'a [Dependency],
+    called: &ByName<'a>,
     table: &'a FeatureTable,
 ) -> Result<(), AllocError>
-    ensures { OnOk result (vertex_views vertices.new.items ≡ vertex_views vertices.old.items ++ flat_map (λ row. flat_map (λ e. flat_map (asked_of (problem inputs.now) (dependency_views dependencies.entry.now)) (asked_by e)) row.1) table.entry.now) }
+    ensures { OnOk result (vertex_views vertices.new.items ≡ vertex_views vertices.old.items ++ flat_map (λ row. flat_map (λ e. flat_map (asked_of (problem inputs.now) called.now) (asked_by e)) row.1) table.entry.now) }
 {
     'rows: for (_, entries) in table.iter() {
-        put_row(inputs, vertices, dependencies, entries.as_slice())?;
+        put_row(inputs, vertices, called, entries.as_slice())?;
     }
     Ok(())
 }
@@ -69,19 +75,20 @@ fn put_rows<'a>(
 fn put_row<'a>(
     inputs: &Inputs<'a>,
     vertices: &mut Vec<VertexRef<'a>>,
-    dependencies: &'a [Dependency],
+    called: &ByName<'a>,
     entries: &'a [Entry],
 ) -> Result<(), AllocError>
-    ensures { OnOk result (vertex_views vertices.new.items ≡ vertex_views vertices.old.items ++ flat_map (λ e. flat_map (asked_of (problem inputs.now) (dependency_views dependencies.entry.now)) (asked_by e)) (entry_views entries.entry.now)) }
+    ensures { OnOk result (vertex_views vertices.new.items ≡ vertex_views vertices.old.items ++ flat_map (λ e. flat_map (asked_of (problem inputs.now) called.now) (asked_by e)) (entry_views entries.entry.now)) }
 {
     'entries: for entry in entries.iter() {
-        put_asked(inputs, vertices, dependencies, entry)?;
+        put_asked(inputs, vertices, called, entry)?;
     }
     Ok(())
 }
 
 /// The candidates of each name.
 fn put_names<'a>(
+    alloc: Global,
     inputs: &Inputs<'a>,
     vertices: &mut Vec<VertexRef<'a>>,
     names: &'a [PackageName],
@@ -90,12 +97,19 @@ fn put_names<'a>(
     ensures { OnOk result (vertex_views vertices.new.items ≡ vertex_views vertices.old.items ++ flat_map (of_name (problem inputs.now)) names.entry.now) }
 {
     'names: for name in names.iter() {
-        put_versions(inputs, vertices, name, inputs.catalogue.versions(name))?;
+        put_versions(
+            alloc,
+            inputs,
+            vertices,
+            name,
+            inputs.catalogue.versions(name),
+        )?;
     }
     Ok(())
 }
 
 fn put_versions<'a>(
+    alloc: Global,
     inputs: &Inputs<'a>,
     vertices: &mut Vec<VertexRef<'a>>,
     name: &'a PackageName,
@@ -105,13 +119,14 @@ fn put_versions<'a>(
     ensures { OnOk result (vertex_views vertices.new.items ≡ vertex_views vertices.old.items ++ flat_map (of_version (problem inputs.now) name.entry.now) (map parts_of versions.entry.now)) }
 {
     'versions: for version in versions.iter() {
-        put_version(inputs, vertices, Release { name, version })?;
+        put_version(alloc, inputs, vertices, Release { name, version })?;
     }
     Ok(())
 }
 
 /// A version in its class, and what it brings.
 fn put_version<'a>(
+    alloc: Global,
     inputs: &Inputs<'a>,
     vertices: &mut Vec<VertexRef<'a>>,
     release: Release<'a>,
@@ -121,13 +136,14 @@ fn put_version<'a>(
 {
     vertices.push(VertexRef::Package(release.name, Class::of(release.version)))?;
     match inputs.catalogue.candidate(release.name, release.version) {
-        Some(candidate) => put_brought(inputs, vertices, release, &candidate.brings),
+        Some(candidate) => put_brought(alloc, inputs, vertices, release, &candidate.brings),
         None => Ok(()),
     }
 }
 
 /// The dependencies of a version, and its features.
 fn put_brought<'a>(
+    alloc: Global,
     inputs: &Inputs<'a>,
     vertices: &mut Vec<VertexRef<'a>>,
     release: Release<'a>,
@@ -138,19 +154,22 @@ fn put_brought<'a>(
 {
     let owner = OwnerRef::Version(release.name, release.version);
     put_dependencies(inputs, vertices, owner, brings.dependencies.as_slice())?;
-    put_table(inputs, vertices, release, brings)
+    let called = ByName::of(alloc, brings.dependencies.as_slice())?;
+    put_table(inputs, vertices, release, &called, brings)
 }
 
 fn put_table<'a>(
     inputs: &Inputs<'a>,
     vertices: &mut Vec<VertexRef<'a>>,
     release: Release<'a>,
+    called: &ByName<'a>,
     brings: &'a Summary,
 ) -> Result<(), AllocError>
+    requires called { called.now ≡ (summary_view brings.now).dependencies }
     ensures { OnOk result (vertex_views vertices.new.items ≡ vertex_views vertices.old.items ++ of_table (problem inputs.now) release.entry.name.now (parts_of release.entry.version.now) (summary_view brings.entry.now)) }
 {
     'rows: for (feature, _) in brings.features.iter() {
-        put_feature(inputs, vertices, release, brings, feature)?;
+        put_feature(inputs, vertices, release, called, brings, feature)?;
     }
     Ok(())
 }
@@ -160,18 +179,19 @@ fn put_feature<'a>(
     inputs: &Inputs<'a>,
     vertices: &mut Vec<VertexRef<'a>>,
     release: Release<'a>,
+    called: &ByName<'a>,
     brings: &'a Summary,
     feature: &'a FeatureName,
 ) -> Result<(), AllocError>
+    requires called { called.now ≡ (summary_view brings.now).dependencies }
     ensures { OnOk result (vertex_views vertices.new.items ≡ vertex_views vertices.old.items ++ of_feature (problem inputs.now) release.entry.name.now (parts_of release.entry.version.now) (summary_view brings.entry.now) feature.entry.now) }
 {
     put_first(inputs, vertices, release.name, feature)?;
-    let dependencies = brings.dependencies.as_slice();
     put_entries(
         inputs,
         vertices,
         release,
-        dependencies,
+        called,
         brings.features.entries(feature),
     )
 }
@@ -180,13 +200,13 @@ fn put_entries<'a>(
     inputs: &Inputs<'a>,
     vertices: &mut Vec<VertexRef<'a>>,
     release: Release<'a>,
-    dependencies: &'a [Dependency],
+    called: &ByName<'a>,
     entries: &'a [Entry],
 ) -> Result<(), AllocError>
-    ensures { OnOk result (vertex_views vertices.new.items ≡ vertex_views vertices.old.items ++ flat_map (of_entry (problem inputs.now) release.entry.name.now (parts_of release.entry.version.now) (dependency_views dependencies.entry.now)) (entry_views entries.entry.now)) }
+    ensures { OnOk result (vertex_views vertices.new.items ≡ vertex_views vertices.old.items ++ flat_map (of_entry (problem inputs.now) release.entry.name.now (parts_of release.entry.version.now) called.now) (entry_views entries.entry.now)) }
 {
     'entries: for entry in entries.iter() {
-        put_entry(inputs, vertices, release, dependencies, entry)?;
+        put_entry(inputs, vertices, release, called, entry)?;
     }
     Ok(())
 }
@@ -195,61 +215,59 @@ fn put_entry<'a>(
     inputs: &Inputs<'a>,
     vertices: &mut Vec<VertexRef<'a>>,
     release: Release<'a>,
-    dependencies: &'a [Dependency],
+    called: &ByName<'a>,
     entry: &'a Entry,
 ) -> Result<(), AllocError>
-    ensures { OnOk result (vertex_views vertices.new.items ≡ vertex_views vertices.old.items ++ of_entry (problem inputs.now) release.entry.name.now (parts_of release.entry.version.now) (dependency_views dependencies.entry.now) (entry_view entry.entry.now)) }
+    ensures { OnOk result (vertex_views vertices.new.items ≡ vertex_views vertices.old.items ++ of_entry (problem inputs.now) release.entry.name.now (parts_of release.entry.version.now) called.now (entry_view entry.entry.now)) }
 {
-    put_asks(vertices, release, dependencies, entry)?;
-    put_asked(inputs, vertices, dependencies, entry)
+    put_asks(vertices, release, called, entry)?;
+    put_asked(inputs, vertices, called, entry)
 }
 
-/// The vertices of what an entry `d/g` asks the dependencies called d for.
+/// The vertices of what an entry `d/g` asks the dependencies called d for: no other dependency is looked at.
 fn put_asks<'a>(
     vertices: &mut Vec<VertexRef<'a>>,
     release: Release<'a>,
-    dependencies: &[Dependency],
+    called: &ByName<'a>,
     entry: &'a Entry,
 ) -> Result<(), AllocError>
-    ensures { OnOk result (vertex_views vertices.new.items ≡ vertex_views vertices.old.items ++ each_from (ask_if release.entry.name.now (parts_of release.entry.version.now) (entry_view entry.entry.now)) 0 (dependency_views dependencies.now)) }
-{
-    'dependencies: for (number, dependency) in dependencies.iter().enumerate() {
-        put_ask(vertices, release, entry, number, dependency)?;
-    }
-    Ok(())
-}
-
-fn put_ask<'a>(
-    vertices: &mut Vec<VertexRef<'a>>,
-    release: Release<'a>,
-    entry: &'a Entry,
-    number: usize,
-    dependency: &Dependency,
-) -> Result<(), AllocError>
-    ensures { OnOk result (vertex_views vertices.new.items ≡ vertex_views vertices.old.items ++ ask_if release.entry.name.now (parts_of release.entry.version.now) (entry_view entry.entry.now) number (dependency_view dependency.now)) }
+    ensures { OnOk result (vertex_views vertices.new.items ≡ vertex_views vertices.old.items ++ each_from (ask_if release.entry.name.now (parts_of release.entry.version.now) (entry_view entry.entry.now)) 0 called.now) }
 {
     match entry {
         Entry::Feature(_) => Ok(()),
         Entry::Dependency(_) => Ok(()),
-        Entry::DependencyFeature(called, asked) => {
-            put_ask_of(vertices, release, number, dependency, called, asked)
-        }
+        Entry::DependencyFeature(name, asked) => put_asks_of(
+            vertices, release, called, name, asked,
+        ),
         Entry::WeakFeature(_, _) => Ok(()),
     }
 }
 
-fn put_ask_of<'a>(
+fn put_asks_of<'a>(
     vertices: &mut Vec<VertexRef<'a>>,
     release: Release<'a>,
-    number: usize,
-    dependency: &Dependency,
-    called: &PackageName,
+    called: &ByName<'a>,
+    name: &'a PackageName,
     asked: &'a FeatureName,
 ) -> Result<(), AllocError>
-    ensures { OnOk result (vertex_views vertices.new.items ≡ vertex_views vertices.old.items ++ (if same_text (dependency_view dependency.now).name called.now then ask release.entry.name.now (parts_of release.entry.version.now) number asked.entry.now ∷ [] else [])) }
+    ensures { OnOk result (vertex_views vertices.new.items ≡ vertex_views vertices.old.items ++ map (λ p. ask release.entry.name.now (parts_of release.entry.version.now) p.0 asked.entry.now) (called_so name.entry.now (numbered_from 0 called.now))) }
 {
-    if dependency.name == *called {
-        vertices.push(VertexRef::Ask(release.name, release.version, number, asked))?;
+    match called.those(name.as_str()) {
+        Some(those) => put_each_ask(vertices, release, those, asked),
+        None => Ok(()),
+    }
+}
+
+fn put_each_ask<'a>(
+    vertices: &mut Vec<VertexRef<'a>>,
+    release: Release<'a>,
+    those: &[Numbered<'a>],
+    asked: &'a FeatureName,
+) -> Result<(), AllocError>
+    ensures { OnOk result (vertex_views vertices.new.items ≡ vertex_views vertices.old.items ++ map (λ p. ask release.entry.name.now (parts_of release.entry.version.now) p.0 asked.entry.now) (numbered_views those.now)) }
+{
+    'those: for one in those.iter() {
+        vertices.push(VertexRef::Ask(release.name, release.version, one.number, asked))?;
     }
     Ok(())
 }
@@ -258,49 +276,44 @@ fn put_ask_of<'a>(
 fn put_asked<'a>(
     inputs: &Inputs<'a>,
     vertices: &mut Vec<VertexRef<'a>>,
-    dependencies: &'a [Dependency],
+    called: &ByName<'a>,
     entry: &'a Entry,
 ) -> Result<(), AllocError>
-    ensures { OnOk result (vertex_views vertices.new.items ≡ vertex_views vertices.old.items ++ flat_map (asked_of (problem inputs.now) (dependency_views dependencies.entry.now)) (asked_by (entry_view entry.entry.now))) }
+    ensures { OnOk result (vertex_views vertices.new.items ≡ vertex_views vertices.old.items ++ flat_map (asked_of (problem inputs.now) called.now) (asked_by (entry_view entry.entry.now))) }
 {
     match entry {
         Entry::Feature(_) => Ok(()),
         Entry::Dependency(_) => Ok(()),
-        Entry::DependencyFeature(called, asked) => {
-            put_called(inputs, vertices, dependencies, called, asked)
-        }
-        Entry::WeakFeature(called, asked) => {
-            put_called(inputs, vertices, dependencies, called, asked)
-        }
+        Entry::DependencyFeature(name, asked) => put_called(inputs, vertices, called, name, asked),
+        Entry::WeakFeature(name, asked) => put_called(inputs, vertices, called, name, asked),
     }
 }
 
 fn put_called<'a>(
     inputs: &Inputs<'a>,
     vertices: &mut Vec<VertexRef<'a>>,
-    dependencies: &'a [Dependency],
-    called: &PackageName,
+    called: &ByName<'a>,
+    name: &'a PackageName,
     asked: &'a FeatureName,
 ) -> Result<(), AllocError>
-    ensures { OnOk result (vertex_views vertices.new.items ≡ vertex_views vertices.old.items ++ asked_of (problem inputs.now) (dependency_views dependencies.entry.now) (called.now, asked.entry.now)) }
+    ensures { OnOk result (vertex_views vertices.new.items ≡ vertex_views vertices.old.items ++ asked_of (problem inputs.now) called.now (name.entry.now, asked.entry.now)) }
 {
-    'dependencies: for dependency in dependencies.iter() {
-        put_if_called(inputs, vertices, dependency, called, asked)?;
+    match called.those(name.as_str()) {
+        Some(those) => put_each_asked(inputs, vertices, those, asked),
+        None => Ok(()),
     }
-    Ok(())
 }
 
-fn put_if_called<'a>(
+fn put_each_asked<'a>(
     inputs: &Inputs<'a>,
     vertices: &mut Vec<VertexRef<'a>>,
-    dependency: &'a Dependency,
-    called: &PackageName,
+    those: &[Numbered<'a>],
     asked: &'a FeatureName,
 ) -> Result<(), AllocError>
-    ensures { OnOk result (vertex_views vertices.new.items ≡ vertex_views vertices.old.items ++ asked_if (problem inputs.now) (called.now, asked.entry.now) (dependency_view dependency.entry.now)) }
+    ensures { OnOk result (vertex_views vertices.new.items ≡ vertex_views vertices.old.items ++ flat_map (λ p. feature_of (problem inputs.now) p.1.real_name asked.entry.now) (numbered_views those.now)) }
 {
-    if dependency.name == *called {
-        put_first(inputs, vertices, &dependency.real_name, asked)?;
+    'those: for one in those.iter() {
+        put_first(inputs, vertices, &one.dependency.real_name, asked)?;
     }
     Ok(())
 }

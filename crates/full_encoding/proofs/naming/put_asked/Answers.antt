@@ -2,7 +2,6 @@ use Rattle.std.proofs.Common.{◌∙◌, ◌++◌, ap, sym}
 use Rattle.std.specs.List.{flat_map}
 use Rattle.std.proofs.lemmas.Result.{on_ok_weaker}
 use Rattle.features.specs.EntryViews.{entry_view}
-use Rattle.features.specs.Views.{dependency_views}
 use Rattle.manifest.specs.Manifests.{asked_by}
 use Rattle.encoding.specs.Inputs.{problem}
 use Rattle.full_encoding.specs.Everything.{asked_of}
@@ -12,7 +11,7 @@ use Rattle.full_encoding.proofs.naming.put_asked.Goals as goal
 
 pub returns-in-DependencyFeature : goal.returns-in-DependencyFeature
 returns-in-DependencyFeature c =
-    let f = asked_of (problem c.args.inputs.now) (dependency_views c.args.dependencies.now) in
+    let f = asked_of (problem c.args.inputs.now) c.args.called.now in
     let vs = vertex_views c.args.vertices.now.items in
     on_ok_weaker c.put_called.result
     (λ e. e ∙ ap (λ l. vs ++ l) (sym (append_none _)) ∙ ap (λ x. vs ++ flat_map f (asked_by (entry_view x))) (sym c.in-DependencyFeature.is))
@@ -20,7 +19,7 @@ returns-in-DependencyFeature c =
 
 pub returns-in-WeakFeature : goal.returns-in-WeakFeature
 returns-in-WeakFeature c =
-    let f = asked_of (problem c.args.inputs.now) (dependency_views c.args.dependencies.now) in
+    let f = asked_of (problem c.args.inputs.now) c.args.called.now in
     let vs = vertex_views c.args.vertices.now.items in
     on_ok_weaker c.put_called-in-WeakFeature.result
     (λ e. e ∙ ap (λ l. vs ++ l) (sym (append_none _)) ∙ ap (λ x. vs ++ flat_map f (asked_by (entry_view x))) (sym c.in-WeakFeature.is))

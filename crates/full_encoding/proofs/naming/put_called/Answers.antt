@@ -1,24 +1,35 @@
-use Rattle.std.proofs.Common.{◌≡◌, ◌∙◌, ◌+◌, ◌++◌, ◌∷◌, List, drop, ap, sym}
+use Rattle.std.proofs.Common.{◌≡◌, ◌∙◌, ◌++◌, ℕ, List, ap, sym}
 use Rattle.std.specs.List.{flat_map}
-use Rattle.std.proofs.lemmas.List.{append_assoc, drop_more}
+use Rattle.std.proofs.lemmas.Result.{on_ok_weaker}
+use Rattle.model.specs.Summary.{Dependency}
 use Rattle.model.specs.Vertices.{Vertex}
-use Rattle.features.specs.Views.{dependency_view, dependency_views}
-use Rattle.model.specs.Summary as model
+use Rattle.encoding.specs.Called.{called_so, numbered_from, those_views}
 use Rattle.encoding.specs.Inputs.{problem}
-use Rattle.full_encoding.specs.Everything.{asked_if}
+use Rattle.full_encoding.specs.Everything.{asked_of, feature_of}
 use Rattle.full_encoding.specs.Views.{vertex_views}
+use Rattle.full_encoding.proofs.Steps.{append_none, asked_called}
 use Rattle.full_encoding.proofs.naming.put_called.Goals as goal
 
-pub dependencies-preserved : goal.dependencies-preserved
-dependencies-preserved c =
-    let f : model.Dependency → List Vertex = asked_if (problem c.args.inputs.now) (c.args.called.now, c.args.asked.now) in
-    let xs = c.args.dependencies.now in
-    let i = c.dependencies.dependency-index in
-    let e = c.dependency-item.result in
-    let left = drop (i + 1) xs in
-    let here : drop i xs ≡ e ∷ left = drop_more xs i e c.dependencies-test.true ∙ ap (λ y. y ∷ left) (sym c.dependency-item.is) in
-    let all = vertex_views c.dependencies.vertices.items in
-    ap (λ l. l ++ flat_map f (dependency_views left)) c.in_ok-put_if_called.ensures
-    ∙ append_assoc all (f (dependency_view e)) (flat_map f (dependency_views left))
-    ∙ ap (λ l. all ++ flat_map f (dependency_views l)) (sym here)
-    ∙ c.dependencies.invariant
+pub returns-in-Some : goal.returns-in-Some
+returns-in-Some c =
+    let q = problem c.args.inputs.now in
+    let ds = c.args.called.now in
+    let vs = vertex_views c.args.vertices.now.items in
+    let g = c.args.asked.now in
+    let f : ℕ × Dependency → List Vertex = λ p. feature_of q p.1.real_name g in
+    on_ok_weaker c.put_each_asked.result
+    (λ e. e
+    ∙ ap (λ l. vs ++ flat_map f l) (ap those_views (sym c.in-Some.is) ∙ c.those.ensures ∙ ap (λ x. called_so x (numbered_from 0 ds)) c.as_str.ensures.text)
+    ∙ ap (λ l. vs ++ l) (asked_called q c.args.name.now g 0 ds))
+    c.put_each_asked.ensures
+
+pub returns-in-None : goal.returns-in-None
+returns-in-None c =
+    let q = problem c.args.inputs.now in
+    let ds = c.args.called.now in
+    let vs = vertex_views c.args.vertices.now.items in
+    let g = c.args.asked.now in
+    let f : ℕ × Dependency → List Vertex = λ p. feature_of q p.1.real_name g in
+    sym (append_none vs)
+    ∙ ap (λ l. vs ++ flat_map f l) (ap those_views (sym c.in-None.is) ∙ c.those.ensures ∙ ap (λ x. called_so x (numbered_from 0 ds)) c.as_str.ensures.text)
+    ∙ ap (λ l. vs ++ l) (asked_called q c.args.name.now g 0 ds)

@@ -4,7 +4,6 @@ use Rattle.std.proofs.lemmas.List.{append_assoc, drop_more}
 use Rattle.model.specs.Vertices.{Vertex}
 use Rattle.semver.specs.Identifiers.{parts_of}
 use Rattle.features.specs.EntryViews.{entry_view, entry_views}
-use Rattle.features.specs.Views.{dependency_views}
 use Rattle.model.specs.Summary as model
 use Rattle.encoding.specs.Inputs.{problem}
 use Rattle.full_encoding.specs.Everything.{of_entry}
@@ -13,7 +12,7 @@ use Rattle.full_encoding.proofs.naming.put_entries.Goals as goal
 
 pub entries-preserved : goal.entries-preserved
 entries-preserved c =
-    let f : model.Entry → List Vertex = of_entry (problem c.args.inputs.now) c.args.release.name.now (parts_of c.args.release.version.now) (dependency_views c.args.dependencies.now) in
+    let f : model.Entry → List Vertex = of_entry (problem c.args.inputs.now) c.args.release.name.now (parts_of c.args.release.version.now) c.args.called.now in
     let xs = c.args.entries.now in
     let i = c.entries.entry-index in
     let e = c.entry-item.result in

@@ -2,7 +2,6 @@ use Rattle.std.proofs.Common.{◌≡◌, ◌++◌, drop}
 use Rattle.std.specs.List.{flat_map}
 use Rattle.semver.specs.Identifiers.{parts_of}
 use Rattle.features.specs.EntryViews.{entry_view, entry_views}
-use Rattle.features.specs.Views.{dependency_views}
 use Rattle.model.specs.Summary as model
 use Rattle.encoding.specs.Inputs.{problem}
 use Rattle.full_encoding.specs.Everything.{of_entry}
@@ -12,5 +11,5 @@ use Rattle.full_encoding.proofs.naming.put_entries.Given as goal
 -- the vertices so far, with those of the entries that are left, are all
 abbrev pub invariant-entries : goal.invariant-entries
 invariant-entries l =
-    vertex_views l.vertices.items ++ flat_map (of_entry (problem l.inputs) l.release.name.now (parts_of l.release.version.now) (dependency_views l.dependencies)) (entry_views (drop l.entry-index l.entries))
-    ≡ vertex_views l.fn.vertices.items ++ flat_map (of_entry (problem l.inputs) l.release.name.now (parts_of l.release.version.now) (dependency_views l.dependencies)) (entry_views l.entries)
+    vertex_views l.vertices.items ++ flat_map (of_entry (problem l.inputs) l.release.name.now (parts_of l.release.version.now) l.called) (entry_views (drop l.entry-index l.entries))
+    ≡ vertex_views l.fn.vertices.items ++ flat_map (of_entry (problem l.inputs) l.release.name.now (parts_of l.release.version.now) l.called) (entry_views l.entries)

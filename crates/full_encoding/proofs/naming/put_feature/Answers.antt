@@ -4,7 +4,7 @@ use Rattle.std.proofs.lemmas.List.{append_assoc}
 use Rattle.std.proofs.lemmas.Result.{on_ok_weaker}
 use Rattle.semver.specs.Identifiers.{parts_of}
 use Rattle.features.specs.EntryViews.{entry_views}
-use Rattle.features.specs.Views.{dependency_views, summary_view}
+use Rattle.features.specs.Views.{summary_view}
 use Rattle.model.specs.Summary.{Entry, entries_at}
 use Rattle.refutations.specs.Causes.{entries_or_none}
 use Rattle.encoding.specs.Inputs.{problem}
@@ -24,7 +24,7 @@ returns c =
     let of : List Entry → List Rattle.model.specs.Vertices.Vertex = λ es. flat_map (of_entry q name v s.dependencies) es in
     on_ok_weaker c.put_entries.result
     (λ e. e
-    ∙ ap (λ ds. vertex_views c.put_first.new.vertices.items ++ flat_map (of_entry q name v (dependency_views ds)) (entry_views c.entries.result.now)) c.as_slice-dependencies.ensures.value
+    ∙ ap (λ ds. vertex_views c.put_first.new.vertices.items ++ flat_map (of_entry q name v ds) (entry_views c.entries.result.now)) c.requires.called
     ∙ ap (λ es. vertex_views c.put_first.new.vertices.items ++ of es) (c.entries.ensures ∙ entries_are (entries_at f s.features))
     ∙ ap (λ l. l ++ of (entries_or_none (entries_at f s.features))) c.in_ok-put_first.ensures
     ∙ append_assoc vs (feature_of q name f) (of (entries_or_none (entries_at f s.features))))

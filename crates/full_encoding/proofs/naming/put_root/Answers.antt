@@ -22,6 +22,7 @@ returns c =
     let asked : List Dependency → Table → List Vertex = λ l t. flat_map (λ row. flat_map (λ e. flat_map (asked_of q l) (asked_by e)) row.1) t in
     on_ok_weaker c.put_rows.result
     (λ e. e
+    ∙ ap (λ l. vertex_views c.put_dependencies.new.vertices.items ++ asked l c.features.result.now) c.in_ok-called.ensures
     ∙ ap (λ l. l ++ asked ds c.features.result.now) (c.in_ok-put_dependencies.ensures ∙ ap (λ l. l ++ owned ds) (ap vertex_views c.in_ok-push.ensures.items ∙ map-append vertex_ref_view c.args.vertices.now.items _))
     ∙ three vs (root ∷ []) (owned ds) (asked ds c.features.result.now)
     ∙ ap (λ l. vs ++ (root ∷ (owned l ++ asked l c.features.result.now))) c.dependencies-dependencies.ensures

@@ -3,7 +3,6 @@ use Rattle.std.specs.List.{flat_map}
 use Rattle.std.proofs.lemmas.List.{append_assoc, drop_more}
 use Rattle.model.specs.Vertices.{Vertex}
 use Rattle.features.specs.EntryViews.{entry_view, entry_views}
-use Rattle.features.specs.Views.{dependency_views}
 use Rattle.manifest.specs.Manifests.{asked_by}
 use Rattle.model.specs.Summary as model
 use Rattle.encoding.specs.Inputs.{problem}
@@ -13,7 +12,7 @@ use Rattle.full_encoding.proofs.naming.put_row.Goals as goal
 
 pub entries-preserved : goal.entries-preserved
 entries-preserved c =
-    let f : model.Entry → List Vertex = λ e. flat_map (asked_of (problem c.args.inputs.now) (dependency_views c.args.dependencies.now)) (asked_by e) in
+    let f : model.Entry → List Vertex = λ e. flat_map (asked_of (problem c.args.inputs.now) c.args.called.now) (asked_by e) in
     let xs = c.args.entries.now in
     let i = c.entries.entry-index in
     let e = c.entry-item.result in

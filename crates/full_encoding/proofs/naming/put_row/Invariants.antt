@@ -1,7 +1,6 @@
 use Rattle.std.proofs.Common.{◌≡◌, ◌++◌, drop}
 use Rattle.std.specs.List.{flat_map}
 use Rattle.features.specs.EntryViews.{entry_view, entry_views}
-use Rattle.features.specs.Views.{dependency_views}
 use Rattle.manifest.specs.Manifests.{asked_by}
 use Rattle.model.specs.Summary as model
 use Rattle.encoding.specs.Inputs.{problem}
@@ -12,5 +11,5 @@ use Rattle.full_encoding.proofs.naming.put_row.Given as goal
 -- the vertices so far, with those of the entries that are left, are all
 abbrev pub invariant-entries : goal.invariant-entries
 invariant-entries l =
-    vertex_views l.vertices.items ++ flat_map (λ e. flat_map (asked_of (problem l.inputs) (dependency_views l.dependencies)) (asked_by e)) (entry_views (drop l.entry-index l.entries))
-    ≡ vertex_views l.fn.vertices.items ++ flat_map (λ e. flat_map (asked_of (problem l.inputs) (dependency_views l.dependencies)) (asked_by e)) (entry_views l.entries)
+    vertex_views l.vertices.items ++ flat_map (λ e. flat_map (asked_of (problem l.inputs) l.called) (asked_by e)) (entry_views (drop l.entry-index l.entries))
+    ≡ vertex_views l.fn.vertices.items ++ flat_map (λ e. flat_map (asked_of (problem l.inputs) l.called) (asked_by e)) (entry_views l.entries)

@@ -3,7 +3,6 @@ use Rattle.std.specs.List.{flat_map}
 use Rattle.std.specs.declared.alloc.Global.{Global}
 use Rattle.features.specs.Tables.{rows_of}
 use Rattle.features.specs.EntryViews.{entry_views}
-use Rattle.features.specs.Views.{dependency_views}
 use Rattle.features.specs.declared.entry.Entry.{Entry}
 use Rattle.manifest.specs.Manifests.{asked_by}
 use Rattle.model.specs.Summary as model
@@ -19,7 +18,7 @@ rows-preserved c =
     let row : List ℕ × Vec Entry Global = (c.in-Some.field-0-0.now, c.in-Some.entries.now) in
     let rest : List (List ℕ × Vec Entry Global) = c.next.new.self in
     let steps : c.rows.entries-iterator ≡ row ∷ rest = search rules in
-    let g : model.Entry → List Vertex = λ e. flat_map (asked_of (problem c.args.inputs.now) (dependency_views c.args.dependencies.now)) (asked_by e) in
+    let g : model.Entry → List Vertex = λ e. flat_map (asked_of (problem c.args.inputs.now) c.args.called.now) (asked_by e) in
     let f : List ℕ × List model.Entry → List Vertex = λ r. flat_map g r.1 in
     let first : List ℕ × List model.Entry = (row.0, entry_views row.1.items) in
     let vs = vertex_views c.rows.vertices.items in

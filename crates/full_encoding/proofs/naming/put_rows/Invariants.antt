@@ -1,7 +1,6 @@
 use Rattle.std.proofs.Common.{◌≡◌, ◌++◌}
 use Rattle.std.specs.List.{flat_map}
 use Rattle.features.specs.Tables.{rows_of}
-use Rattle.features.specs.Views.{dependency_views}
 use Rattle.manifest.specs.Manifests.{asked_by}
 use Rattle.encoding.specs.Inputs.{problem}
 use Rattle.full_encoding.specs.Everything.{asked_of}
@@ -13,6 +12,6 @@ abbrev pub invariant-rows : goal.invariant-rows
 invariant-rows l = record {
   can : (goal.iterator-rows).can_next l.entries-iterator;
   finite : (goal.iterator-rows).is_finite l.entries-iterator;
-  told : vertex_views l.vertices.items ++ flat_map (λ row. flat_map (λ e. flat_map (asked_of (problem l.inputs) (dependency_views l.dependencies)) (asked_by e)) row.1) (rows_of l.entries-iterator)
-      ≡ vertex_views l.fn.vertices.items ++ flat_map (λ row. flat_map (λ e. flat_map (asked_of (problem l.inputs) (dependency_views l.dependencies)) (asked_by e)) row.1) l.table;
+  told : vertex_views l.vertices.items ++ flat_map (λ row. flat_map (λ e. flat_map (asked_of (problem l.inputs) l.called) (asked_by e)) row.1) (rows_of l.entries-iterator)
+      ≡ vertex_views l.fn.vertices.items ++ flat_map (λ row. flat_map (λ e. flat_map (asked_of (problem l.inputs) l.called) (asked_by e)) row.1) l.table;
 }
