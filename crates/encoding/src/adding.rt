@@ -12,7 +12,7 @@ ghost use Rattle.encoding.specs.CauseViews.{cause_view, cause_views, given_views
 ghost use Rattle.encoding.specs.Inputs.{KnowsDefault, problem};
 ghost use Rattle.encoding.specs.Numberings.{AddsOnly, IsGrown, IsNumbering};
 ghost use Rattle.encoding.specs.Pairs.{AreGiven, IsCauseAt, IsGivenAt, IsSpokenOf, spoken_by};
-ghost use Rattle.vertices.specs.RefViews.{vertex_ref_view};
+ghost use Rattle.vertices.specs.RefViews.{state_ref_view, vertex_ref_view};
 
 use crate::cause::Cause;
 use crate::inputs::Inputs;
@@ -23,7 +23,7 @@ use crate::table::Table;
 use incompatibilities::Incompatibility;
 use std::alloc::{AllocError, Global};
 use version_sets::States;
-use vertices::{Kind, VertexRef};
+use vertices::{Kind, StateRef, VertexRef};
 
 /// The instances that have the vertex of this number in the state of this number as their first term, each once, with
 /// its kind; their vertices get numbers where they have none, and no others do.
@@ -66,6 +66,28 @@ fn vertex_axioms<'a, S: States + Drop>(
     ensures given { IfOk result (λ xs. IsGivenAt (problem inputs.now) table.new (vertex_ref_view vertex.entry, state_at (problem inputs.now) (vertex_ref_view vertex.entry) number) (given_views S.tests xs.items)) }
 {
     let state = state_at(alloc, inputs, &vertex, number)?;
+    axioms_of(alloc, inputs, table, vertex, state)
+}
+
+/// The instances that have the vertex in the state as their first term, each once, with its kind; their vertices get
+/// numbers where they have none, and no others do. Who has the states of a vertex at hand need not look each up by its
+/// number.
+pub fn axioms_of<'a, S: States + Drop>(
+    alloc: Global,
+    inputs: &Inputs<'a>,
+    table: &mut Table<'a>,
+    vertex: VertexRef<'a>,
+    state: StateRef<'a>,
+) -> Result<Vec<(Kind, Incompatibility<S>)>, AllocError>
+    requires default { KnowsDefault inputs.now }
+    requires numbering { IsNumbering (problem inputs.now) table.old }
+    requires vertex { IsVertex (problem inputs.now) (vertex_ref_view vertex) }
+    requires state { Contains (space (problem inputs.now) (vertex_ref_view vertex)) (state_ref_view state) }
+    ensures grown { IsGrown table.old table.new }
+    ensures numbering { IsNumbering (problem inputs.now) table.new }
+    ensures only { AddsOnly (IsSpokenOf (problem inputs.now) (IsCauseAt (problem inputs.now) (vertex_ref_view vertex.entry, state_ref_view state.entry))) table.old table.new }
+    ensures given { IfOk result (λ xs. IsGivenAt (problem inputs.now) table.new (vertex_ref_view vertex.entry, state_ref_view state.entry) (given_views S.tests xs.items)) }
+{
     let causes = causes_at(alloc, inputs, vertex, state)?;
     instances(alloc, inputs, table, causes.as_slice())
 }

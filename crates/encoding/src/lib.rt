@@ -56,7 +56,7 @@ ghost use Rattle.encoding.specs.Numberings.{IsNumbering, Numbering, Says};
 ghost use Rattle.encoding.specs.Absences.{OneZero};
 ghost use Rattle.encoding.specs.Assignments.{IsOf, IsSettled, state_of};
 
-pub use adding::axioms_at;
+pub use adding::{axioms_at, axioms_of};
 pub use called::{ByName, Numbered};
 pub use cause::{Cause, Enabling};
 pub use inputs::Inputs;

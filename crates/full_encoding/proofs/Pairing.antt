@@ -1,23 +1,25 @@
 -- The instances of pairs, put one pair after another.
-use Rattle.std.proofs.Common.{◌≡◌, ◌≢◌, ◌<◌, ◌+◌, ℕ, zero, suc, List, [], ◌∷◌, ◌++◌, length, map, take, true, Contains, Some, slice_get, refl, sym, ap, ◌∙◌, subst, inl, inr, ◌⊎◌, arith}
+use Rattle.std.proofs.Common.{◌≡◌, ◌≢◌, ◌<◌, ℕ, zero, suc, get_or, List, [], ◌∷◌, ◌++◌, length, map, take, true, Contains, Some, slice_get, refl, sym, ap, ◌∙◌, subst, inl, inr, arith}
 use Rattle.std.specs.List.{AllPairs, flat_map}
 use Rattle.std.proofs.lemmas.List.{append_assoc, map-append}
 use Rattle.std.proofs.lemmas.List.Kept.{AllPairs-cons}
-use Rattle.std.proofs.lemmas.Option.{none-some, same_Some, slice_get_within}
+use Rattle.std.proofs.lemmas.Option.{none-some, same_Some, slice_get_read, slice_get_within}
 use Rattle.model.specs.Content.{Problem}
 use Rattle.model.specs.WellFormed.{IsCatalogue}
 use Rattle.model.specs.Vertices.{State, Vertex, absent, space}
 use Rattle.model.proofs.Lists.{in_none, in_cons, in_first, in_rest, in_map, to_map, pairs_first, pairs_get, pairs_none, pairs_rest}
-use Rattle.refutations.specs.Causes.{Cause, is_cause, kind_of, terms_of_cause}
+use Rattle.refutations.specs.Causes.{Cause, is_cause}
 use Rattle.refutations.proofs.Bools.{in_append-left, in_append-right, in_either}
 use Rattle.encoding.specs.Assignments.{state_at}
 use Rattle.encoding.specs.CausesAt.{causes_at, with_causes}
 use Rattle.encoding.specs.Numberings.{IsGrown, IsNumbering, IsWhole, Numbering}
 use Rattle.encoding.specs.Pairs.{AreCausesAt, AreGiven, Given, IsGivenAt, Pair, first_pair}
+use Rattle.vertices.specs.RefViews.{state_ref_view, state_ref_views}
+use Rattle.vertices.specs.declared.state.StateRef.{StateRef}
 use Rattle.encoding.proofs.CausesLaws.{at_exact}
 use Rattle.encoding.proofs.Distinct.{states_once}
-use Rattle.encoding.proofs.Needing.{from_all, given_more, in_last, still_at}
-use Rattle.encoding.proofs.Places.{get_below, got_in, place_of}
+use Rattle.encoding.proofs.Needing.{from_all, given_more, in_last}
+use Rattle.encoding.proofs.Places.{get_below}
 use Rattle.full_encoding.specs.Everywhere.{ComesOnce, IsGivenAll, IsGivenFor, all_pairs, pairs_of}
 use Rattle.full_encoding.proofs.Everything.{in_flat, to_flat}
 use Rattle.full_encoding.proofs.Firsts.{first_there}
@@ -69,12 +71,10 @@ flat_last : {X Y : Type 0} (f : X → List Y) (xs : List X) (x : X) → flat_map
 flat_last f [] x = append_none (f x)
 flat_last f (y ∷ xs) x = ap (λ l. f y ++ l) (flat_last f xs x) ∙ sym (append_assoc (f y) (flat_map f xs) (f x))
 
--- the vertex of a number, as it was before more came
-pub vertex_back : (old new : Numbering) (n : ℕ) (v : Vertex) → IsGrown old new → n < length old → slice_get new n ≡ Some v → slice_get old n ≡ Some v
-vertex_back old new n v grown lt at = let r = get_below old n lt in r.1 ∙ ap Some (same_Some r.0 v (sym (still_at old new n r.0 grown r.1) ∙ at))
-
-pub number_below : (old new : Numbering) (n : ℕ) → IsGrown old new → n < length old → n < length new
-number_below old new n grown lt = let r = get_below old n lt in slice_get_within new n r.0 (still_at old new n r.0 grown r.1)
+mapped_at : {X Y : Type 0} (f : X → Y) (xs : List X) (n : ℕ) (x : X) → slice_get xs n ≡ Some x → slice_get (map f xs) n ≡ Some (f x)
+mapped_at f [] n x e = absurd (none-some x e)
+mapped_at f (y ∷ xs) zero x e = ap (λ z. Some (f z)) (same_Some y x e)
+mapped_at f (y ∷ xs) (suc n) x e = mapped_at f xs n x e
 
 module _ (q : Problem) where
   -- ---- nothing is given for no pairs
@@ -137,6 +137,15 @@ module _ (q : Problem) where
       let at = state_next v n lt in
       append_assoc ps (map (λ s. (v, s)) (take n ss)) ((v, state_at q v n) ∷ [])
       ∙ ap (λ l. ps ++ l) (sym (map-append (λ s. (v, s)) (take n ss) (state_at q v n ∷ [])) ∙ ap (map (λ s. (v, s))) (sym (taken_next ss n (state_at q v n) at)))
+
+  -- the states as they are listed
+  pub state_listed : (v : Vertex) (xs : List StateRef) (n : ℕ) (x : StateRef) → state_ref_views xs ≡ space q v → n < length xs → x ≡ get_or xs n x
+      → (n < length (space q v)) × (state_ref_view x ≡ state_at q v n)
+  state_listed v xs n x same lt is =
+      let at : slice_get (space q v) n ≡ Some (state_ref_view x)
+      = ap (λ l. slice_get l n) (sym same) ∙ mapped_at state_ref_view xs n x (slice_get_read xs (length xs) n x refl lt is) in
+      let below : n < length (space q v) = slice_get_within (space q v) n (state_ref_view x) at in
+      (below, same_Some (state_ref_view x) (state_at q v n) (sym at ∙ state_next v n below))
 
   pub state_fresh : IsCatalogue q → (v : Vertex) (ps : List Pair) (n : ℕ) → n < length (space q v) → ((s : State) → Contains ps (v, s) → ⊥)
       → Contains (ps ++ map (λ s. (v, s)) (take n (space q v))) (v, state_at q v n) → ⊥

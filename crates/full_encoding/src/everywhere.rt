@@ -1,21 +1,21 @@
 //! The instances of all pairs of a vertex and a state.
 
-ghost use Rattle.std.specs.Prelude.{◌≡◌, ◌<◌, ◌++◌, ◌∷◌, [], List, Some, Contains, IfOk, OnOk, length, slice_get};
+ghost use Rattle.std.specs.Prelude.{◌≡◌, ◌++◌, ◌∷◌, [], List, Some, Contains, IfOk, OnOk, slice_get};
+ghost use Rattle.model.specs.Axioms.{IsVertex};
 ghost use Rattle.model.specs.Vertices.{State, Vertex, space};
-ghost use Rattle.encoding.specs.Assignments.{state_at};
+ghost use Rattle.vertices.specs.RefViews.{state_ref_view, state_ref_views, vertex_ref_view};
 ghost use Rattle.encoding.specs.CauseViews.{given_views};
 ghost use Rattle.encoding.specs.Inputs.{KnowsDefault, problem};
 ghost use Rattle.encoding.specs.Numberings.{IsGrown, IsNumbering, IsWhole};
 ghost use Rattle.encoding.specs.Pairs.{Pair};
 ghost use Rattle.full_encoding.specs.Everywhere.{IsGivenAll, IsGivenFor, pairs_of};
 
-use crate::spaces::space_at;
 use catalogue::catalogues_are_well_formed;
-use encoding::{Inputs, Table, axioms_at};
+use encoding::{Inputs, Table, axioms_of, states_of};
 use incompatibilities::Incompatibility;
 use std::alloc::{AllocError, Global};
 use version_sets::States;
-use vertices::Kind;
+use vertices::{Kind, StateRef, VertexRef};
 
 /// The instances of all pairs of a vertex and a state, where every vertex has a number.
 pub(crate) fn all_axioms<'a, S: States + Drop>(
@@ -38,7 +38,7 @@ pub(crate) fn all_axioms<'a, S: States + Drop>(
     Ok(given)
 }
 
-/// The instances of a vertex in each of its states.
+/// The instances of the vertex with a number, in each of its states.
 fn put_vertex<'a, S: States + Drop>(
     alloc: Global,
     inputs: &Inputs<'a>,
@@ -48,17 +48,61 @@ fn put_vertex<'a, S: States + Drop>(
 ) -> Result<(), AllocError>
     requires default { KnowsDefault inputs.now }
     requires numbering { IsNumbering (problem inputs.now) table.old }
-    requires number { number < length table.old }
     ensures grown { IsGrown table.old table.new }
     ensures numbering { IsNumbering (problem inputs.now) table.new }
     ensures given { OnOk result ((v : Vertex) (ps : List Pair) → slice_get table.old number ≡ Some v → ((s : State) → Contains ps (v, s) → ⊥)
         → IsGivenFor (problem inputs.now) table.old ps (given_views S.tests given.old.items)
         → IsGivenFor (problem inputs.now) table.new (ps ++ pairs_of (problem inputs.now) v) (given_views S.tests given.new.items)) }
 {
+    match table.vertex(number) {
+        Some(vertex) => put_each(alloc, inputs, table, given, vertex),
+        None => Ok(()),
+    }
+}
+
+/// The same of a vertex. Its states are listed once, since those of a dependency cost a pass over all versions of a
+/// name.
+fn put_each<'a, S: States + Drop>(
+    alloc: Global,
+    inputs: &Inputs<'a>,
+    table: &mut Table<'a>,
+    given: &mut Vec<(Kind, Incompatibility<S>)>,
+    vertex: VertexRef<'a>,
+) -> Result<(), AllocError>
+    requires default { KnowsDefault inputs.now }
+    requires numbering { IsNumbering (problem inputs.now) table.old }
+    requires vertex { IsVertex (problem inputs.now) (vertex_ref_view vertex) }
+    ensures grown { IsGrown table.old table.new }
+    ensures numbering { IsNumbering (problem inputs.now) table.new }
+    ensures given { OnOk result ((ps : List Pair) → ((s : State) → Contains ps (vertex_ref_view vertex.entry, s) → ⊥)
+        → IsGivenFor (problem inputs.now) table.old ps (given_views S.tests given.old.items)
+        → IsGivenFor (problem inputs.now) table.new (ps ++ pairs_of (problem inputs.now) (vertex_ref_view vertex.entry)) (given_views S.tests given.new.items)) }
+{
+    let states = states_of(alloc, inputs, &vertex)?;
+    put_states(alloc, inputs, table, given, vertex, states.as_slice())
+}
+
+fn put_states<'a, S: States + Drop>(
+    alloc: Global,
+    inputs: &Inputs<'a>,
+    table: &mut Table<'a>,
+    given: &mut Vec<(Kind, Incompatibility<S>)>,
+    vertex: VertexRef<'a>,
+    states: &[StateRef<'a>],
+) -> Result<(), AllocError>
+    requires default { KnowsDefault inputs.now }
+    requires numbering { IsNumbering (problem inputs.now) table.old }
+    requires vertex { IsVertex (problem inputs.now) (vertex_ref_view vertex) }
+    requires states { state_ref_views states.now ≡ space (problem inputs.now) (vertex_ref_view vertex) }
+    ensures grown { IsGrown table.old table.new }
+    ensures numbering { IsNumbering (problem inputs.now) table.new }
+    ensures given { OnOk result ((ps : List Pair) → ((s : State) → Contains ps (vertex_ref_view vertex.entry, s) → ⊥)
+        → IsGivenFor (problem inputs.now) table.old ps (given_views S.tests given.old.items)
+        → IsGivenFor (problem inputs.now) table.new (ps ++ pairs_of (problem inputs.now) (vertex_ref_view vertex.entry)) (given_views S.tests given.new.items)) }
+{
     catalogues_are_well_formed(inputs.manifest, inputs.catalogue);
-    let count = space_at(alloc, inputs, table, number)?;
-    'states: for state in 0..count {
-        put_state(alloc, inputs, table, given, number, state as usize)?;
+    'states: for state in states.iter() {
+        put_state(alloc, inputs, table, given, vertex, *state)?;
     }
     Ok(())
 }
@@ -69,19 +113,20 @@ fn put_state<'a, S: States + Drop>(
     inputs: &Inputs<'a>,
     table: &mut Table<'a>,
     given: &mut Vec<(Kind, Incompatibility<S>)>,
-    number: usize,
-    state: usize,
+    vertex: VertexRef<'a>,
+    state: StateRef<'a>,
 ) -> Result<(), AllocError>
     requires default { KnowsDefault inputs.now }
     requires numbering { IsNumbering (problem inputs.now) table.old }
-    requires state { (v : Vertex) → slice_get table.old number ≡ Some v → state < length (space (problem inputs.now) v) }
+    requires vertex { IsVertex (problem inputs.now) (vertex_ref_view vertex) }
+    requires state { Contains (space (problem inputs.now) (vertex_ref_view vertex)) (state_ref_view state) }
     ensures grown { IsGrown table.old table.new }
     ensures numbering { IsNumbering (problem inputs.now) table.new }
-    ensures given { OnOk result ((v : Vertex) (ps : List Pair) → slice_get table.old number ≡ Some v → (Contains ps (v, state_at (problem inputs.now) v state) → ⊥)
+    ensures given { OnOk result ((ps : List Pair) → (Contains ps (vertex_ref_view vertex.entry, state_ref_view state.entry) → ⊥)
         → IsGivenFor (problem inputs.now) table.old ps (given_views S.tests given.old.items)
-        → IsGivenFor (problem inputs.now) table.new (ps ++ (v, state_at (problem inputs.now) v state) ∷ []) (given_views S.tests given.new.items)) }
+        → IsGivenFor (problem inputs.now) table.new (ps ++ (vertex_ref_view vertex.entry, state_ref_view state.entry) ∷ []) (given_views S.tests given.new.items)) }
 {
-    let mut more = axioms_at(alloc, inputs, table, number, state)?;
+    let mut more = axioms_of(alloc, inputs, table, vertex, state)?;
     given.append(&mut more)?;
     Ok(())
 }

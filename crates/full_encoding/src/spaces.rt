@@ -59,7 +59,7 @@ fn put_space(
 }
 
 /// How many states the vertex with a number has; 0 where no vertex has it.
-pub(crate) fn space_at(
+fn space_at(
     alloc: Global,
     inputs: &Inputs<'_>,
     table: &Table<'_>,

@@ -4,7 +4,7 @@ use Rattle.encoding.specs.Inputs.{problem}
 use Rattle.encoding.proofs.Needing.{grows_on, still_at}
 use Rattle.encoding.proofs.Places.{get_below}
 use Rattle.full_encoding.specs.Everywhere.{IsGivenFor, all_pairs}
-use Rattle.full_encoding.proofs.Pairing.{given_all, no_pairs, number_below, vertex_fresh, vertices_next}
+use Rattle.full_encoding.proofs.Pairing.{given_all, no_pairs, vertex_fresh, vertices_next}
 use Rattle.full_encoding.proofs.Put.{put_none}
 use Rattle.full_encoding.proofs.everywhere.all_axioms.Goals as goal
 
@@ -17,10 +17,6 @@ vertices-init g c =
       numbering = c.requires.numbering;
       given = subst (λ xs. IsGivenFor q c.args.table.now (all_pairs q (take 0 c.args.table.now)) (given_views g.S.States.tests xs)) (sym c.new-given.ensures.items) (no_pairs q c.args.table.now c.args.table.now);
     }
-
-pub put_vertex-requires-clause-number : goal.put_vertex-requires-clause-number
-put_vertex-requires-clause-number g c =
-    number_below c.args.table.now c.vertices.table c.vertices.number c.vertices.invariant.grown (subst (λ k. c.vertices.number < k) c.len-number-end.ensures c.vertices-test.true)
 
 pub vertices-preserved : goal.vertices-preserved
 vertices-preserved g c =

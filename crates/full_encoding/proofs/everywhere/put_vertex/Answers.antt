@@ -1,48 +1,32 @@
-use Rattle.std.proofs.Common.{◌≡◌, ◌<◌, ◌≤◌, ◌+◌, ◌++◌, suc, length, map, take, take_all, Some, slice_get, refl, sym, ap, ◌∙◌, subst, arith}
-use Rattle.model.specs.Vertices.{space}
+use Rattle.std.proofs.Common.{◌≡◌, ◌++◌, Some, slice_get, sym, ap, ◌∙◌, subst, Contains}
+use Rattle.std.specs.Prelude.{option_map}
+use Rattle.std.proofs.lemmas.Option.{none-some, same_Some}
+use Rattle.std.proofs.lemmas.Result.{on_ok_weaker}
+use Rattle.model.specs.Axioms.{IsVertex}
+use Rattle.model.specs.Vertices.{State, Vertex}
 use Rattle.encoding.specs.CauseViews.{given_views}
 use Rattle.encoding.specs.Inputs.{problem}
-use Rattle.encoding.proofs.Needing.{grows_on, still_at}
-use Rattle.full_encoding.specs.Everywhere.{IsGivenFor}
-use Rattle.full_encoding.proofs.Pairing.{state_fresh, states_next, states_none, vertex_back}
-use Rattle.full_encoding.proofs.Put.{put_none}
+use Rattle.encoding.proofs.AddLaws.{vertex_there}
+use Rattle.vertices.specs.RefViews.{vertex_ref_view}
+use Rattle.full_encoding.specs.Everywhere.{IsGivenFor, pairs_of}
 use Rattle.full_encoding.proofs.everywhere.put_vertex.Goals as goal
 
-pub states-init : goal.states-init
-states-init g c =
+pub put_each-requires-clause-vertex : goal.put_each-requires-clause-vertex
+put_each-requires-clause-vertex g c =
     let q = problem c.args.inputs.now in
-    record {
-      same = refl;
-      grown = (put_none c.args.table.now Rattle.std.proofs.Common.[]).grown;
-      numbering = c.requires.numbering;
-      given = λ v ps at fresh old. subst (λ l. IsGivenFor q c.args.table.now l (given_views g.S.States.tests c.args.given.now.items)) (sym (states_none q v ps)) old;
-    }
+    vertex_there (λ v. IsVertex q v) c.args.table.now c.args.number (vertex_ref_view c.in-Some.vertex) c.requires.numbering.there (sym c.vertex.ensures ∙ ap (option_map vertex_ref_view) c.in-Some.is)
 
-pub put_state-requires-clause-state : goal.put_state-requires-clause-state
-put_state-requires-clause-state g c = λ v at.
-    subst (λ k. c.states.state < k) (c.in_ok-count.ensures v (vertex_back c.args.table.now c.states.table c.args.number v c.states.invariant.grown c.requires.number at)) c.states-test.true
-
-pub states-preserved : goal.states-preserved
-states-preserved g c =
+pub returns-in-Some-clause-given : goal.returns-in-Some-clause-given
+returns-in-Some-clause-given g c =
     let q = problem c.args.inputs.now in
-    let n = c.states.state in
-    record {
-      same = refl;
-      grown = grows_on c.args.table.now c.states.table c.put_state.new.table c.states.invariant.grown c.put_state.ensures.grown;
-      numbering = c.put_state.ensures.numbering;
-      given = λ v ps at fresh old.
-          let here : slice_get c.states.table c.args.number ≡ Some v = still_at c.args.table.now c.states.table c.args.number v c.states.invariant.grown at in
-          let lt : n < length (space q v) = subst (λ k. n < k) (c.in_ok-count.ensures v at) c.states-test.true in
-          let e : n + 1 ≡ suc n = omega arith in
-          subst (λ k. IsGivenFor q c.put_state.new.table (ps ++ map (λ s. (v, s)) (take k (space q v))) (given_views g.S.States.tests c.put_state.new.given.items)) (sym e)
-          (subst (λ l. IsGivenFor q c.put_state.new.table l (given_views g.S.States.tests c.put_state.new.given.items)) (states_next q v ps n lt)
-          (c.in_ok-put_state.ensures.given v (ps ++ map (λ s. (v, s)) (take n (space q v))) here (state_fresh q c.catalogues_are_well_formed.ensures v ps n lt fresh)
-          (c.states.invariant.given v ps at fresh old)));
-    }
+    let w = vertex_ref_view c.in-Some.vertex in
+    let old = given_views g.S.States.tests c.args.given.now.items in
+    let new = given_views g.S.States.tests c.put_each.new.given.items in
+    let seen : slice_get c.args.table.now c.args.number ≡ Some w = sym c.vertex.ensures ∙ ap (option_map vertex_ref_view) c.in-Some.is in
+    on_ok_weaker c.put_each.result
+    (λ h v ps at. subst (λ (u : Vertex). ((s : State) → Contains ps (u, s) → ⊥) → IsGivenFor q c.args.table.now ps old → IsGivenFor q c.put_each.new.table (ps ++ pairs_of q u) new)
+    (same_Some w v (sym seen ∙ at)) (h ps))
+    c.put_each.ensures.given
 
-pub returns-clause-given : goal.returns-clause-given
-returns-clause-given g c = λ v ps at fresh old.
-    let q = problem c.args.inputs.now in
-    let all : length (space q v) ≤ c.states.state = subst (λ k. k ≤ c.states.state) (c.in_ok-count.ensures v at) (omega (arith, c.states-test.false)) in
-    subst (λ ss. IsGivenFor q c.states.table (ps ++ map (λ s. (v, s)) ss) (given_views g.S.States.tests c.states.given.items)) (take_all c.states.state (space q v) all)
-    (c.states.invariant.given v ps at fresh old)
+pub returns-in-None-clause-given : goal.returns-in-None-clause-given
+returns-in-None-clause-given g c = λ v ps at. absurd (none-some v (sym (sym c.vertex.ensures ∙ ap (option_map vertex_ref_view) c.in-None.is) ∙ at))
