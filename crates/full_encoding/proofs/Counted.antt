@@ -1,15 +1,15 @@
 -- The vertices that count, of those that a table has: as many as have the sizes of their spaces beside them.
-use Rattle.std.proofs.Common.{◌≡◌, ◌≢◌, ◌<◌, ◌≤◌, ◌+◌, ℕ, zero, suc, List, [], ◌∷◌, ◌++◌, length, map, take, drop, take_all, Bool, true, false, cond, nat_lt, is_some, Option, Some, None, slice_get, refl, sym, ap, ◌∙◌, subst, arith}
+use Rattle.std.proofs.Common.{◌≡◌, ◌≢◌, ◌<◌, ◌≤◌, ℕ, zero, suc, List, [], ◌∷◌, ◌++◌, length, map, take, drop, Bool, true, false, cond, nat_lt, is_some, Option, Some, None, slice_get, refl, sym, ap, ◌∙◌, subst, arith}
 use Rattle.std.specs.Prelude.{option_and_then, option_map}
 use Rattle.std.specs.List.{AllByRecursion, AllPairs}
-use Rattle.std.proofs.lemmas.List.{length-take, map-append, take-append-drop, take-append-le}
+use Rattle.std.proofs.lemmas.List.{map-append, take-append-drop, take-append-le}
 use Rattle.std.proofs.lemmas.Option.{none-some, same_Some, slice_get_past, slice_get_within}
 use Rattle.model.specs.Content.{Problem}
 use Rattle.model.specs.Vertices.{State, Vertex, absent, same_vertex, space}
 use Rattle.model.specs.Axioms.{IsVertex}
 use Rattle.model.proofs.Lists.{pairs_first, pairs_none, pairs_rest}
 use Rattle.encoding.specs.Assignments.{state_at}
-use Rattle.encoding.specs.Numberings.{AddsOnly, IsGrown, IsNumbering, IsWhole, Numbering, number_in}
+use Rattle.encoding.specs.Numberings.{AddsOnly, IsGrown, IsNumbering, Numbering, number_in}
 use Rattle.encoding.specs.Pairs.{IsCauseAt, IsSpokenOf, Pair}
 use Rattle.encoding.proofs.Adds.{adds_none}
 use Rattle.encoding.proofs.Needing.{from_all, still_at}

@@ -1,5 +1,5 @@
 -- Just the vertices of a problem are named, each feature at least in the first class of its name.
-use Rattle.std.proofs.Common.{◌≡◌, ◌≢◌, ◌+◌, ℕ, zero, suc, List, [], ◌∷◌, ◌++◌, map, Bool, true, false, cond, Contains, Option, Some, None, is_some, slice_get, refl, sym, ap, ◌∙◌, subst, inl, inr, ◌⊎◌, arith, true≢false}
+use Rattle.std.proofs.Common.{◌≡◌, ◌+◌, ℕ, zero, suc, List, [], ◌∷◌, ◌++◌, map, Bool, true, false, cond, Contains, Option, Some, None, is_some, slice_get, refl, sym, ap, ◌∙◌, subst, inl, inr, ◌⊎◌, arith, true≢false}
 use Rattle.std.specs.List.{flat_map, AllPairs}
 use Rattle.std.proofs.lemmas.Option.{none-some, same_Some}
 use Rattle.semver.specs.Parse.{Parts}
@@ -13,11 +13,11 @@ use Rattle.model.specs.Axioms.HasFeatVertex.{had, asked, by_entry}
 use Rattle.model.proofs.Lists.{in_none, in_cons, in_first, in_rest, in_filter, to_filter, in_map, to_map, pairs_first, pairs_rest}
 use Rattle.model.proofs.Spaces.{class_in}
 use Rattle.model.proofs.Vertices.{class_from}
-use Rattle.model.proofs.Owners.{candidate_at-is, candidate_at-there}
+use Rattle.model.proofs.Owners.{candidate_at-is}
 use Rattle.model.proofs.Same.{text-same, text-refl, class-same, class-refl, version-same, version-refl}
 use Rattle.model.proofs.Gathered.{place_in, at_place}
 use Rattle.manifest.specs.Manifests.{asked_by}
-use Rattle.refutations.specs.Causes.{dependency_at, entries_of, table_of_owner}
+use Rattle.refutations.specs.Causes.{entries_of, table_of_owner}
 use Rattle.refutations.proofs.Bools.{in_append-left, in_append-right, in_either}
 use Rattle.refutations.proofs.Named.{dep_owner, entry-is, to_entry, row_of}
 use Rattle.encoding.proofs.ClassOrder.{IsOlder}

@@ -1,11 +1,11 @@
 -- The first term of a cause is on a vertex that is there, in one of its states.
-use Rattle.std.proofs.Common.{◌≡◌, ℕ, List, [], ◌∷◌, map, Bool, true, not, ◌&&◌, Contains, Option, Some, slice_get, nat_eq, refl, sym, ap, subst}
+use Rattle.std.proofs.Common.{◌≡◌, ℕ, List, [], ◌∷◌, map, true, not, ◌&&◌, Contains, Option, Some, nat_eq, refl, sym, subst}
 use Rattle.semver.specs.Parse.{Parts}
-use Rattle.model.specs.Summary.{Dependency, Entry, dependency_feature, feature, weak_feature, same_text}
+use Rattle.model.specs.Summary.{Dependency, Entry, dependency_feature, feature, same_text}
 use Rattle.model.specs.Content.{Candidate, Problem, candidates_of}
 use Rattle.model.specs.Selection.{Class, class_of}
-use Rattle.model.specs.Vertices.{Owner, the_root, version_of, Vertex, State, pkg, dep, feat, ask, absent, present, version, in_class, same_vertex, in_that_class, dep_classes, dep_space, class_candidates, space}
-use Rattle.model.specs.Axioms.{HasDep, HasEntry, IsOwner, IsVertex, is_lower}
+use Rattle.model.specs.Vertices.{Owner, the_root, version_of, Vertex, dep, feat, ask, absent, present, version, in_class, in_that_class, dep_classes, dep_space, class_candidates, space}
+use Rattle.model.specs.Axioms.{HasEntry, IsOwner, IsVertex, is_lower}
 use Rattle.model.proofs.Lists.{in_first, in_rest, to_filter, to_map}
 use Rattle.model.proofs.Same.{both, class-refl}
 use Rattle.refutations.specs.Causes.{Cause, of_root, of_need, of_target, of_feature, of_list, of_ask, of_entry, of_enabling, of_asking, of_newest, of_weak, same_entry, enables, passes, is_needed, dependency_at, has_class, has_entry, some_entry, lists_feature, is_overtaken, is_weak_on, is_cause}

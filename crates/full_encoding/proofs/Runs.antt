@@ -1,5 +1,5 @@
 -- The classes of versions that are oldest first come in runs: behind those of the first class stand those of others.
-use Rattle.std.proofs.Common.{◌≡◌, ◌<◌, ◌≤◌, ◌-◌, ℕ, zero, suc, List, [], ◌∷◌, map, filter, take, drop, length, Bool, true, false, cond, ◌||◌, Contains, nat_lt, Some, slice_get, refl, sym, ap, ◌∙◌, subst, inl, inr, arith, true≢false}
+use Rattle.std.proofs.Common.{◌≡◌, ◌<◌, ◌≤◌, ℕ, zero, suc, List, [], ◌∷◌, map, filter, drop, length, Bool, true, false, cond, ◌||◌, Contains, nat_lt, Some, slice_get, refl, sym, ap, ◌∙◌, subst, inl, inr, arith, true≢false}
 use Rattle.std.specs.List.{list_any, AllPairs}
 use Rattle.std.specs.Ordering.{is_gt}
 use Rattle.std.specs.declared.cmp.Ordering.TheVariants.{Less}
@@ -13,7 +13,7 @@ use Rattle.model.specs.Content.{Candidate}
 use Rattle.model.specs.Order.{precedence}
 use Rattle.model.specs.Selection.{Class, patch, minor, major, class_of}
 use Rattle.model.specs.Vertices.{add_class, classes_of, same_class}
-use Rattle.model.proofs.Lists.{any_of, in_cons, in_first, in_none, in_rest, pairs_first, pairs_rest}
+use Rattle.model.proofs.Lists.{any_of, in_cons, in_first, in_rest, pairs_first, pairs_rest}
 use Rattle.model.proofs.Orders.{class_above}
 use Rattle.model.proofs.Same.{class-refl, class-same}
 use Rattle.looking_up.specs.Ranges.{AreRising, is_of}

@@ -15,7 +15,7 @@ use Rattle.model.specs.Vertices.{Vertex, ask, feat, same_class}
 use Rattle.manifest.specs.Manifests.{ManifestView, asked_by, root_asks}
 use Rattle.catalogue.specs.Problems.{problem_in}
 use Rattle.catalogue.specs.Ranks.{records}
-use Rattle.catalogue.specs.Stores.{CatalogueView, Row, candidates_at, rows_by_name}
+use Rattle.catalogue.specs.Stores.{CatalogueView, Row, candidates_at}
 use Rattle.refutations.specs.Causes.{entries_or_none}
 use Rattle.looking_up.proofs.Brought.{candidates_are}
 use Rattle.encoding.specs.Called.{called_so, numbered_from}

@@ -1,5 +1,5 @@
 -- The instances of pairs of a vertex and a state, and those of all pairs.
-use Rattle.std.specs.Prelude.{◌≡◌, ◌≢◌, ◌↔◌, ◌∷◌, List, true, Contains, map}
+use Rattle.std.specs.Prelude.{◌≡◌, ◌≢◌, ◌↔◌, List, true, Contains, map}
 use Rattle.std.specs.List.{AllPairs, flat_map}
 use Rattle.model.specs.Content.{Problem}
 use Rattle.model.specs.Vertices.{Vertex, space}

@@ -1,4 +1,4 @@
-use Rattle.std.proofs.Common.{◌≡◌, ◌≤◌, arith, length, take, take_all, sym, subst}
+use Rattle.std.proofs.Common.{◌≤◌, arith, length, take_all, sym, subst}
 use Rattle.encoding.specs.Inputs.{problem}
 use Rattle.encoding.specs.Numberings.{IsWhole}
 use Rattle.encoding.proofs.Needing.{grows_on}

@@ -1,4 +1,4 @@
-use Rattle.std.proofs.Common.{◌≡◌, ◌∙◌, ◌++◌, ℕ, map, ap, sym}
+use Rattle.std.proofs.Common.{◌∙◌, ◌++◌, ℕ, map, ap, sym}
 use Rattle.std.proofs.lemmas.Result.{on_ok_weaker}
 use Rattle.semver.specs.Identifiers.{parts_of}
 use Rattle.model.specs.Summary.{Dependency}

@@ -1,11 +1,11 @@
-use Rattle.std.proofs.Common.{◌≡◌, ◌∙◌, ◌++◌, ℕ, List, ap, sym}
+use Rattle.std.proofs.Common.{◌∙◌, ◌++◌, ℕ, List, ap, sym}
 use Rattle.std.specs.List.{flat_map}
 use Rattle.std.proofs.lemmas.Result.{on_ok_weaker}
 use Rattle.model.specs.Summary.{Dependency}
 use Rattle.model.specs.Vertices.{Vertex}
 use Rattle.encoding.specs.Called.{called_so, numbered_from, those_views}
 use Rattle.encoding.specs.Inputs.{problem}
-use Rattle.full_encoding.specs.Everything.{asked_of, feature_of}
+use Rattle.full_encoding.specs.Everything.{feature_of}
 use Rattle.full_encoding.specs.Views.{vertex_views}
 use Rattle.full_encoding.proofs.Steps.{append_none, asked_called}
 use Rattle.full_encoding.proofs.naming.put_called.Goals as goal

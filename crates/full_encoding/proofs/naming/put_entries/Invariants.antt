@@ -1,8 +1,7 @@
 use Rattle.std.proofs.Common.{◌≡◌, ◌++◌, drop}
 use Rattle.std.specs.List.{flat_map}
 use Rattle.semver.specs.Identifiers.{parts_of}
-use Rattle.features.specs.EntryViews.{entry_view, entry_views}
-use Rattle.model.specs.Summary as model
+use Rattle.features.specs.EntryViews.{entry_views}
 use Rattle.encoding.specs.Inputs.{problem}
 use Rattle.full_encoding.specs.Everything.{of_entry}
 use Rattle.full_encoding.specs.Views.{vertex_views}

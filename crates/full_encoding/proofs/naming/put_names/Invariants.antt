@@ -1,9 +1,7 @@
 use Rattle.std.proofs.Common.{◌≡◌, ◌++◌, drop}
 use Rattle.std.specs.List.{flat_map}
-use Rattle.std.specs.Prelude.{ℕ}
 use Rattle.encoding.specs.Inputs.{problem}
-use Rattle.full_encoding.specs.Everything.{of_name, of_version}
-use Rattle.full_encoding.proofs.Steps.{versions_are}
+use Rattle.full_encoding.specs.Everything.{of_name}
 use Rattle.full_encoding.specs.Views.{vertex_views}
 use Rattle.full_encoding.proofs.naming.put_names.Given as goal
 

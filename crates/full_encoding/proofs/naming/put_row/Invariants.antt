@@ -1,8 +1,7 @@
 use Rattle.std.proofs.Common.{◌≡◌, ◌++◌, drop}
 use Rattle.std.specs.List.{flat_map}
-use Rattle.features.specs.EntryViews.{entry_view, entry_views}
+use Rattle.features.specs.EntryViews.{entry_views}
 use Rattle.manifest.specs.Manifests.{asked_by}
-use Rattle.model.specs.Summary as model
 use Rattle.encoding.specs.Inputs.{problem}
 use Rattle.full_encoding.specs.Everything.{asked_of}
 use Rattle.full_encoding.specs.Views.{vertex_views}

@@ -1,12 +1,11 @@
-use Rattle.std.proofs.Common.{◌≡◌, ◌∙◌, ◌++◌, ◌∷◌, [], List, ap, sym, option_map}
-use Rattle.std.specs.List.{flat_map}
+use Rattle.std.proofs.Common.{◌∙◌, ◌++◌, ◌∷◌, [], List, ap, sym, option_map}
 use Rattle.std.specs.Borrow.{Bor}
 use Rattle.std.proofs.lemmas.List.{append_assoc, map-append}
 use Rattle.std.proofs.lemmas.Result.{on_ok_weaker}
 use Rattle.semver.specs.Identifiers.{parts_of}
 use Rattle.model.specs.Selection.{Class, class_of}
 use Rattle.model.specs.Summary.{Summary}
-use Rattle.model.specs.Vertices.{Vertex, pkg, version_of, owner_brings}
+use Rattle.model.specs.Vertices.{Vertex, pkg, version_of}
 use Rattle.catalogue.specs.Views.{said_by}
 use Rattle.catalogue.specs.declared.candidate.Candidate.{Candidate}
 use Rattle.encoding.specs.Inputs.{problem}
