@@ -3,7 +3,7 @@ use Rattle.features.specs.Views.{dependency_views}
 use Rattle.causes.specs.Needs.{is_needed_unmatched, place_from}
 use Rattle.looking_up.specs.Views.{problem}
 use Rattle.vertices.specs.RefViews.{owner_ref_view}
-use Rattle.causes.proofs.numbers.first_needed.Given as goal
+use Rattle.causes.proofs.needed.first_needed.Given as goal
 
 -- the first among the dependencies that are left is the first of all
 abbrev pub invariant-dependencies : goal.invariant-dependencies

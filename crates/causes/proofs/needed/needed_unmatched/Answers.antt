@@ -6,7 +6,7 @@ use Rattle.causes.specs.Numbers.{same_ref}
 use Rattle.vertices.specs.RefViews.{owner_ref_view}
 use Rattle.causes.proofs.Kept.{needed-alike, put-found}
 use Rattle.causes.proofs.Places.{needed_first}
-use Rattle.causes.proofs.numbers.needed_unmatched.Goals as goal
+use Rattle.causes.proofs.needed.needed_unmatched.Goals as goal
 
 pub returns-in_default-first_needed-clause-number : goal.returns-in_default-first_needed-clause-number
 returns-in_default-first_needed-clause-number c =

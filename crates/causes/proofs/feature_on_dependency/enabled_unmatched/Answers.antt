@@ -9,7 +9,7 @@ use Rattle.vertices.specs.RefViews.{owner_ref_view}
 use Rattle.vertices.specs.declared.vertex.OwnerRef.TheVariants.{Version}
 use Rattle.causes.proofs.Kept.{enabled-alike, put-found}
 use Rattle.causes.proofs.Places.{enabled_first}
-use Rattle.causes.proofs.numbers.enabled_unmatched.Goals as goal
+use Rattle.causes.proofs.feature_on_dependency.enabled_unmatched.Goals as goal
 
 pub returns-in-Some-clause-number : goal.returns-in-Some-clause-number
 returns-in-Some-clause-number c = sym (c.args.numbers.now.enabled_are (Version c.args.name c.args.version, c.args.on) c.in-Some.number.now (sym c.in-Some.ensures.value))

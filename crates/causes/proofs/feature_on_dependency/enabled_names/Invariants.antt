@@ -3,7 +3,7 @@ use Rattle.std.specs.List.{list_any}
 use Rattle.features.specs.Texts.{HasThose}
 use Rattle.features.specs.EntryViews.{entry_views}
 use Rattle.refutations.specs.Causes.{enables}
-use Rattle.causes.proofs.numbers.enabled_names.Given as goal
+use Rattle.causes.proofs.feature_on_dependency.enabled_names.Given as goal
 
 -- the names that the entries so far enable
 abbrev pub invariant-loop-entry : goal.invariant-loop-entry

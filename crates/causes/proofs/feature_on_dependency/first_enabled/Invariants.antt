@@ -3,7 +3,7 @@ use Rattle.features.specs.Texts.{has_text}
 use Rattle.features.specs.Views.{dependency_views}
 use Rattle.causes.specs.Needs.{is_enabled_unmatched, place_from}
 use Rattle.looking_up.specs.Views.{problem}
-use Rattle.causes.proofs.numbers.first_enabled.Given as goal
+use Rattle.causes.proofs.feature_on_dependency.first_enabled.Given as goal
 
 -- the first among the dependencies that are left is the first of all
 abbrev pub invariant-dependencies : goal.invariant-dependencies
