@@ -1,4 +1,4 @@
 pub mod Spaces
 pub mod Rising
 pub mod Matched
-pub mod Lacking
+pub mod HasFeature

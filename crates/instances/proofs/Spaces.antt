@@ -17,7 +17,7 @@ use Rattle.manifest.specs.Manifests.{ManifestView}
 use Rattle.refutations.specs.Causes.{dependency_at}
 use Rattle.catalogue.specs.Problems.{problem_in}
 use Rattle.catalogue.specs.Stores.{CatalogueView, candidates_at, rows_by_name}
-use Rattle.instances.specs.Full.{classes_if, others, has_if_matched}
+use Rattle.instances.specs.FullTerms.{classes_if, others, has_if_matched}
 use Rattle.looking_up.specs.Ranges.{is_of}
 use Rattle.looking_up.proofs.Brought.{candidates_are}
 use Rattle.looking_up.proofs.Classed.{all_classed}

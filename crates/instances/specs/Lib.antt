@@ -1,2 +1,2 @@
-pub mod Full
+pub mod FullTerms
 pub mod Matching

@@ -7,8 +7,8 @@ ghost use Rattle.looking_up.specs.Views.{problem};
 ghost use Rattle.named_terms.specs.CauseViews.{cause_view};
 ghost use Rattle.named_terms.specs.Views.{term_views};
 
-use crate::full::without_full;
-use crate::terms::terms_of_cause;
+use crate::full_terms::without_full;
+use crate::kinds::terms_of_cause;
 use looking_up::Known;
 use named_terms::{Cause, Term};
 use std::alloc::{AllocError, Global};

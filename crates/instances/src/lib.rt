@@ -5,12 +5,20 @@
 //! alone, and stand in the written order. A term with all states of its vertex says nothing and is left out; whether a
 //! set is full is told by going over what its vertex may be, which ends at the first state that is missing.
 //!
+//! `kinds.rt` goes through the kinds; one that takes more than a function has a file of its name, and what several have
+//! stands in `terms.rt`.
+//!
 //! A layer above may rely on this: `instance_terms` gives exactly the terms of the definition (`terms_of_cause`),
 //! without the full ones, whether or not what the cause names is there.
 #![tactic(auto)]
 
-mod full;
+mod full_terms;
+mod has_feature;
 mod instance;
+mod kinds;
+mod newest_listed;
+mod target;
 mod terms;
+mod wants_feature;
 
 pub use instance::instance_terms;

@@ -9,7 +9,7 @@ ghost use Rattle.model.specs.Vertices as model;
 ghost use Rattle.classes.specs.Classes.{class_view};
 ghost use Rattle.semver.specs.Identifiers.{parts_of};
 ghost use Rattle.features.specs.Views.{requirement_view};
-ghost use Rattle.instances.specs.Full.{has_if_matched, others};
+ghost use Rattle.instances.specs.FullTerms.{has_if_matched, others};
 ghost use Rattle.looking_up.specs.Views.{problem};
 ghost use Rattle.named_terms.specs.Views.{term_view, term_views};
 ghost use Rattle.vertices.specs.RefViews.{owner_ref_view, vertex_ref_view};
@@ -116,7 +116,7 @@ fn all_matched(versions: &[Version], requirement: &VersionReq, states: &States<'
         .all(|version| has_if_matched(states, requirement, version))
 }
 
-#[tactic(auto, unfolding(crate::specs::Full::has_if_matched))]
+#[tactic(auto, unfolding(crate::specs::FullTerms::has_if_matched))]
 fn has_if_matched(states: &States<'_>, requirement: &VersionReq, version: &Version) -> bool
     ensures { result ≡ has_if_matched states.now (requirement_view requirement.now) (parts_of version.now) }
 {

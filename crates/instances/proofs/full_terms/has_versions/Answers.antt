@@ -1,7 +1,7 @@
 use Rattle.std.proofs.Common.{◌∙◌}
 use Rattle.classes.specs.Classes.{class_view}
 use Rattle.instances.proofs.Spaces.{versions_full}
-use Rattle.instances.proofs.full.has_versions.Goals as goal
+use Rattle.instances.proofs.full_terms.has_versions.Goals as goal
 
 pub returns : goal.returns
 returns c =

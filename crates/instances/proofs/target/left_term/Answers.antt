@@ -8,7 +8,7 @@ use Rattle.model.specs.Vertices.{absent, pkg}
 use Rattle.instances.specs.Matching.{is_left}
 use Rattle.instances.proofs.Rising.{absent_first}
 use Rattle.instances.proofs.Matched.{left_is}
-use Rattle.instances.proofs.terms.left_term.Goals as goal
+use Rattle.instances.proofs.target.left_term.Goals as goal
 
 pub rising-requires : goal.rising-requires
 rising-requires c =

@@ -8,7 +8,7 @@ use Rattle.model.specs.Vertices.{pkg}
 use Rattle.instances.specs.Matching.{is_taken}
 use Rattle.instances.proofs.Rising.{those_rise}
 use Rattle.instances.proofs.Matched.{taken_is}
-use Rattle.instances.proofs.terms.taken_term.Goals as goal
+use Rattle.instances.proofs.newest_listed.taken_term.Goals as goal
 
 pub rising-requires : goal.rising-requires
 rising-requires c =

@@ -5,7 +5,7 @@ use Rattle.model.specs.Vertices.{absent}
 use Rattle.instances.specs.Matching.{is_left}
 use Rattle.looking_up.specs.Ranges.{versions_with}
 use Rattle.vertices.specs.RefViews.{state_ref_views}
-use Rattle.instances.proofs.terms.left_states.Given as goal
+use Rattle.instances.proofs.target.left_states.Given as goal
 
 -- those taken so far, with those among the versions that are left, are those of all
 abbrev pub invariant-versions : goal.invariant-versions

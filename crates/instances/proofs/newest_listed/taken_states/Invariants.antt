@@ -4,7 +4,7 @@ use Rattle.features.specs.Views.{requirement_view}
 use Rattle.instances.specs.Matching.{is_taken}
 use Rattle.looking_up.specs.Ranges.{versions_with}
 use Rattle.vertices.specs.RefViews.{state_ref_views}
-use Rattle.instances.proofs.terms.taken_states.Given as goal
+use Rattle.instances.proofs.newest_listed.taken_states.Given as goal
 
 -- those taken so far, with those among the versions that are left, are those of all
 abbrev pub invariant-versions : goal.invariant-versions

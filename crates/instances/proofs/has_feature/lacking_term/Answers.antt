@@ -11,9 +11,9 @@ use Rattle.std.proofs.lemmas.List.Kept.{AllPairs-filter}
 use Rattle.instances.specs.Matching.{is_lacking}
 use Rattle.looking_up.specs.Ranges.{AreRising, is_of}
 use Rattle.looking_up.specs.Views.{problem}
-use Rattle.instances.proofs.Lacking.{lacking_is}
+use Rattle.instances.proofs.HasFeature.{lacking_is}
 use Rattle.instances.proofs.Rising.{absent_first}
-use Rattle.instances.proofs.terms.lacking_term.Goals as goal
+use Rattle.instances.proofs.has_feature.lacking_term.Goals as goal
 
 pub rising-requires : goal.rising-requires
 rising-requires c =

@@ -3,7 +3,7 @@ use Rattle.std.specs.Vec.Iter.{into_iter_items}
 use Rattle.model.specs.Axioms.{without_full}
 use Rattle.looking_up.specs.Views.{problem}
 use Rattle.named_terms.specs.Views.{term_views}
-use Rattle.instances.proofs.full.without_full.Given as goal
+use Rattle.instances.proofs.full_terms.without_full.Given as goal
 
 -- those kept so far, with those of the terms that are left, are those of all
 abbrev pub invariant-terms : goal.invariant-terms

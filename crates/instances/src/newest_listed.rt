@@ -1,0 +1,96 @@
+//! The terms of `NewestListed`: two dependencies lead to two classes, and the first matches the version in the higher.
+
+ghost use Rattle.std.specs.Prelude.{◌≡◌, IfOk, map};
+ghost use Rattle.semver.specs.Identifiers.{parts_of};
+ghost use Rattle.classes.specs.Classes.{class_view};
+ghost use Rattle.features.specs.Views.{dependency_view, requirement_view};
+ghost use Rattle.model.specs.Axioms.{at, matched, versions_that};
+ghost use Rattle.model.specs.Vertices as model;
+ghost use Rattle.refutations.specs.Causes as causes;
+ghost use Rattle.refutations.specs.Causes.{terms_of_cause};
+ghost use Rattle.vertices.specs.RefViews.{state_ref_views, owner_ref_view};
+ghost use Rattle.looking_up.specs.Ranges.{versions_with};
+ghost use Rattle.looking_up.specs.Views.{problem};
+ghost use Rattle.named_terms.specs.Views.{term_view, term_views};
+ghost use Rattle.instances.specs.Matching.{is_taken};
+
+use crate::terms::{term, three};
+use classes::Class;
+use features::Dependency;
+use looking_up::{Known, class_versions, dependency_at, is_matched};
+use named_terms::{States, Term};
+use semver::{Version, VersionReq};
+use std::alloc::{AllocError, Global};
+use vertices::{OwnerRef, StateRef, VertexRef};
+
+pub(crate) fn newest_terms<'a>(
+    alloc: Global,
+    known: &Known<'a>,
+    owner: OwnerRef<'a>,
+    number: usize,
+    other: usize,
+    class: Class,
+    higher: Class,
+) -> Result<Vec<Term<'a>>, AllocError>
+    ensures { IfOk result (λ v. term_views v.items ≡ terms_of_cause (problem known.now) (causes.of_newest (owner_ref_view owner.entry) number other (class_view class) (class_view higher))) }
+{
+    match dependency_at(known, &owner, number) {
+        Some(dependency) => three(
+            alloc,
+            term(
+                alloc,
+                VertexRef::Dependency(owner, number),
+                StateRef::Class(class),
+            )?,
+            term(
+                alloc,
+                VertexRef::Dependency(owner, other),
+                StateRef::Class(higher),
+            )?,
+            taken_term(alloc, known, dependency, higher)?,
+        ),
+        None => Ok(Vec::new(alloc)),
+    }
+}
+
+/// The package has a version of the class that is matched.
+fn taken_term<'a>(
+    alloc: Global,
+    known: &Known<'a>,
+    dependency: &'a Dependency,
+    class: Class,
+) -> Result<Term<'a>, AllocError>
+    ensures { IfOk result (λ t. term_view t ≡ at (model.pkg (dependency_view dependency.entry.now).real_name (class_view class)) (versions_that (problem known.now) (matched (dependency_view dependency.entry.now)) (dependency_view dependency.entry.now).real_name (class_view class))) }
+{
+    let versions = class_versions(known.catalogue, &dependency.real_name, class);
+    let states = taken_states(alloc, &dependency.requirement, versions)?;
+    Ok(Term {
+        vertex: VertexRef::Package(&dependency.real_name, class),
+        states: States::rising(states),
+    })
+}
+
+/// The versions that are matched.
+fn taken_states<'a>(
+    alloc: Global,
+    requirement: &VersionReq,
+    versions: &'a [Version],
+) -> Result<Vec<StateRef<'a>>, AllocError>
+    ensures { IfOk result (λ v. state_ref_views v.items ≡ versions_with (is_taken (requirement_view requirement.now)) (map parts_of versions.entry.now)) }
+{
+    let mut states = Vec::new(alloc);
+    'versions: for version in versions.iter() {
+        if is_taken(requirement, version) {
+            states.push(StateRef::Version(version))?;
+        }
+    }
+    Ok(states)
+}
+
+/// Whether the requirement matches the version.
+#[tactic(auto, unfolding(crate::specs::Matching::is_taken))]
+fn is_taken(requirement: &VersionReq, version: &Version) -> bool
+    ensures { result ≡ is_taken (requirement_view requirement.now) (parts_of version.now) }
+{
+    is_matched(requirement, version)
+}

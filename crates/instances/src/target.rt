@@ -1,0 +1,90 @@
+//! The terms of `Target`: a dependency leads to a class, and no version there is matched.
+
+ghost use Rattle.std.specs.Prelude.{◌≡◌, ◌∷◌, IfOk, map, not};
+ghost use Rattle.semver.specs.Identifiers.{parts_of};
+ghost use Rattle.classes.specs.Classes.{class_view};
+ghost use Rattle.features.specs.Views.{dependency_view, requirement_view};
+ghost use Rattle.model.specs.Axioms.{absent_or, at, matched};
+ghost use Rattle.model.specs.Vertices as model;
+ghost use Rattle.refutations.specs.Causes as causes;
+ghost use Rattle.refutations.specs.Causes.{terms_of_cause};
+ghost use Rattle.vertices.specs.RefViews.{state_ref_views, owner_ref_view};
+ghost use Rattle.looking_up.specs.Ranges.{versions_with};
+ghost use Rattle.looking_up.specs.Views.{problem};
+ghost use Rattle.named_terms.specs.Views.{term_view, term_views};
+ghost use Rattle.instances.specs.Matching.{is_left};
+
+use crate::terms::{term, two};
+use classes::Class;
+use features::Dependency;
+use looking_up::{Known, class_versions, dependency_at, is_matched};
+use named_terms::{States, Term};
+use semver::{Version, VersionReq};
+use std::alloc::{AllocError, Global};
+use vertices::{OwnerRef, StateRef, VertexRef};
+
+pub(crate) fn target_terms<'a>(
+    alloc: Global,
+    known: &Known<'a>,
+    owner: OwnerRef<'a>,
+    number: usize,
+    class: Class,
+) -> Result<Vec<Term<'a>>, AllocError>
+    ensures { IfOk result (λ v. term_views v.items ≡ terms_of_cause (problem known.now) (causes.of_target (owner_ref_view owner.entry) number (class_view class))) }
+{
+    match dependency_at(known, &owner, number) {
+        Some(dependency) => two(
+            alloc,
+            term(
+                alloc,
+                VertexRef::Dependency(owner, number),
+                StateRef::Class(class),
+            )?,
+            left_term(alloc, known, dependency, class)?,
+        ),
+        None => Ok(Vec::new(alloc)),
+    }
+}
+
+/// The package is absent or has a version of the class that isn't matched.
+fn left_term<'a>(
+    alloc: Global,
+    known: &Known<'a>,
+    dependency: &'a Dependency,
+    class: Class,
+) -> Result<Term<'a>, AllocError>
+    ensures { IfOk result (λ t. term_view t ≡ at (model.pkg (dependency_view dependency.entry.now).real_name (class_view class)) (absent_or (problem known.now) (λ c. not (matched (dependency_view dependency.entry.now) c)) (dependency_view dependency.entry.now).real_name (class_view class))) }
+{
+    let versions = class_versions(known.catalogue, &dependency.real_name, class);
+    let states = left_states(alloc, &dependency.requirement, versions)?;
+    Ok(Term {
+        vertex: VertexRef::Package(&dependency.real_name, class),
+        states: States::rising(states),
+    })
+}
+
+/// `absent`, and the versions that aren't matched.
+fn left_states<'a>(
+    alloc: Global,
+    requirement: &VersionReq,
+    versions: &'a [Version],
+) -> Result<Vec<StateRef<'a>>, AllocError>
+    ensures { IfOk result (λ v. state_ref_views v.items ≡ model.absent ∷ versions_with (is_left (requirement_view requirement.now)) (map parts_of versions.entry.now)) }
+{
+    let mut states = Vec::new(alloc);
+    states.push(StateRef::Absent)?;
+    'versions: for version in versions.iter() {
+        if is_left(requirement, version) {
+            states.push(StateRef::Version(version))?;
+        }
+    }
+    Ok(states)
+}
+
+/// Whether the requirement doesn't match the version.
+#[tactic(auto, unfolding(crate::specs::Matching::is_left))]
+fn is_left(requirement: &VersionReq, version: &Version) -> bool
+    ensures { result ≡ is_left (requirement_view requirement.now) (parts_of version.now) }
+{
+    !is_matched(requirement, version)
+}
