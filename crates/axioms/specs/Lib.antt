@@ -1,3 +1,3 @@
-pub mod Asking
 pub mod GatheredViews
 pub mod Instances
+pub mod WantsFeature

@@ -14,8 +14,8 @@ ghost use Rattle.axioms.specs.Instances.{IsFound};
 ghost use Rattle.looking_up.specs.Views.{problem};
 ghost use Rattle.named_terms.specs.Views.{term_views};
 
-use crate::checks::is_cause;
 use crate::gathered::Gathered;
+use crate::kinds::is_cause;
 use causes::cause_in;
 use instances::instance_terms;
 use looking_up::Known;

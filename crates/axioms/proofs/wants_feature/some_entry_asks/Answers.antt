@@ -3,8 +3,8 @@ use Rattle.semver.specs.Identifiers.{parts_of}
 use Rattle.features.specs.Views as features
 use Rattle.model.specs.Vertices.{owner_brings, version_of}
 use Rattle.looking_up.specs.Views.{brings_view, problem}
-use Rattle.axioms.proofs.Asked.{owner_asks_is}
-use Rattle.axioms.proofs.asking.some_entry_asks.Goals as goal
+use Rattle.axioms.proofs.WantsFeature.{owner_asks_is}
+use Rattle.axioms.proofs.wants_feature.some_entry_asks.Goals as goal
 
 pub returns-in-Some : goal.returns-in-Some
 returns-in-Some c = c.some_row_asks.ensures

@@ -1,26 +1,57 @@
-//! What dependencies are asked for, by their lists and by entries.
+//! Whether what `WantsFeature` names is there: a dependency that asks for the feature, by its list or by an entry.
 
-ghost use Rattle.std.specs.Prelude.{◌≡◌, ◌&&◌, List, ℕ, codes};
+ghost use Rattle.std.specs.Prelude.{◌≡◌, ◌&&◌, codes, List, ℕ};
 ghost use Rattle.std.specs.List.{list_any};
 ghost use Rattle.semver.specs.Identifiers.{parts_of};
+ghost use Rattle.classes.specs.Classes.{class_view};
 ghost use Rattle.features.specs.Views.{dependency_view};
 ghost use Rattle.features.specs.EntryViews.{entry_views};
+ghost use Rattle.model.specs.Summary.{asked_of_target, same_text, dependency_feature};
 ghost use Rattle.model.specs.Summary as model;
-ghost use Rattle.model.specs.Summary.{asked_of_target, dependency_feature, same_text};
-ghost use Rattle.refutations.specs.Causes.{asks_for, root_asks_for, same_entry, same_pair, some_entry};
-ghost use Rattle.axioms.specs.Asking.{row_asks};
-ghost use Rattle.known_pairs.specs.Asking.{row_names};
-ghost use Rattle.looking_up.specs.Views.{problem};
+ghost use Rattle.refutations.specs.Causes.{is_cause, lists_feature, of_ask, of_list, asks_for, root_asks_for, same_entry, same_pair, some_entry};
 ghost use Rattle.vertices.specs.RefViews.{owner_ref_view};
+ghost use Rattle.looking_up.specs.Views.{problem};
+ghost use Rattle.known_pairs.specs.Asking.{row_names};
+ghost use Rattle.axioms.specs.WantsFeature.{row_asks};
 
 use crate::entries::{asks_for, has_asking};
+use classes::Class;
 use features::{Dependency, Entry, FeatureName, FeatureTable, PackageName};
-use looking_up::{Known, brings};
+use looking_up::{Known, brings, dependency_at, has_class};
 use semver::Version;
 use vertices::OwnerRef;
 
+pub(crate) fn is_list(
+    known: &Known<'_>,
+    owner: &OwnerRef<'_>,
+    number: usize,
+    class: Class,
+    feature: &FeatureName,
+) -> bool
+    ensures { result ≡ is_cause (problem known.now) (of_list (owner_ref_view owner.now) number (class_view class) feature.now) }
+{
+    match dependency_at(known, owner, number) {
+        Some(dependency) => {
+            has_class(known, class, dependency) && lists_feature(known, owner, dependency, feature)
+        }
+        None => false,
+    }
+}
+
+/// Whether the dependency asks for the feature, by its list or an entry of the root.
+fn lists_feature(
+    known: &Known<'_>,
+    owner: &OwnerRef<'_>,
+    dependency: &Dependency,
+    feature: &FeatureName,
+) -> bool
+    ensures { result ≡ lists_feature (problem known.now) (owner_ref_view owner.now) (dependency_view dependency.now) feature.now }
+{
+    is_listed(dependency, feature) || root_asks_for(known, owner, dependency, feature)
+}
+
 /// Whether a dependency asks for the feature by its list.
-pub(crate) fn is_listed(dependency: &Dependency, feature: &FeatureName) -> bool
+fn is_listed(dependency: &Dependency, feature: &FeatureName) -> bool
     ensures { result ≡ list_any (same_text feature.now) (asked_of_target (dependency_view dependency.now)) }
 {
     has_name(feature, dependency.features.as_slice()) || is_default(dependency, feature)
@@ -39,7 +70,7 @@ fn is_default(dependency: &Dependency, feature: &FeatureName) -> bool
 }
 
 /// Whether the root asks its dependency for the feature by an entry.
-pub(crate) fn root_asks_for(
+fn root_asks_for(
     known: &Known<'_>,
     owner: &OwnerRef<'_>,
     dependency: &Dependency,
@@ -83,8 +114,27 @@ fn has_named(name: &PackageName, feature: &FeatureName, entries: &[Entry]) -> bo
     entries.iter().any(|entry| asks_for(name, feature, entry))
 }
 
+pub(crate) fn is_ask(
+    known: &Known<'_>,
+    name: &PackageName,
+    version: &Version,
+    number: usize,
+    feature: &FeatureName,
+    class: Class,
+) -> bool
+    ensures { result ≡ is_cause (problem known.now) (of_ask name.now (parts_of version.now) number feature.now (class_view class)) }
+{
+    match dependency_at(known, &OwnerRef::Version(name, version), number) {
+        Some(dependency) => {
+            has_class(known, class, dependency)
+                && some_entry_asks(known, name, version, &dependency.name, feature)
+        }
+        None => false,
+    }
+}
+
 /// Whether an entry `d/g` of the version asks for the feature.
-pub(crate) fn some_entry_asks(
+fn some_entry_asks(
     known: &Known<'_>,
     owner: &PackageName,
     version: &Version,
@@ -110,7 +160,7 @@ fn some_row_asks(table: &FeatureTable, name: &PackageName, feature: &FeatureName
     false
 }
 
-#[tactic(auto, unfolding(crate::specs::Asking::row_asks))]
+#[tactic(auto, unfolding(crate::specs::WantsFeature::row_asks))]
 fn row_asks(
     table: &FeatureTable,
     row: &FeatureName,

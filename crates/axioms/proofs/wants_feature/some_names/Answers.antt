@@ -1,5 +1,5 @@
 use Rattle.known_pairs.specs.Asking.{row_names}
-use Rattle.axioms.proofs.asking.some_names.Goals as goal
+use Rattle.axioms.proofs.wants_feature.some_names.Goals as goal
 
 pub returns : goal.returns
 unfolding row_names

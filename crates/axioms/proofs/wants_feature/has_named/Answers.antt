@@ -6,7 +6,7 @@ use Rattle.features.specs.EntryViews.{entry_view}
 use Rattle.features.specs.declared.entry.Entry.{Entry}
 use Rattle.refutations.specs.Causes.{asks_for}
 use Rattle.looking_up.proofs.Versions.{any-map}
-use Rattle.axioms.proofs.asking.has_named.Goals as goal
+use Rattle.axioms.proofs.wants_feature.has_named.Goals as goal
 
 pub returns : goal.returns
 returns c = any_from_yields_List (λ (e : Entry). asks_for c.args.name.now c.args.feature.now (entry_view e)) _ _ _ c.any.ensures.ran (YieldsList-from_slice c.args.entries.now cc) (λ x b q k. search (rules, tests)) ∙ sym (any-map (asks_for c.args.name.now c.args.feature.now) entry_view c.args.entries.now)

@@ -1,4 +1,4 @@
-//! Whether the vertex of a feature is there.
+//! Whether what `HasFeature` names is there: a candidate of the class, and a feature that is known of its name.
 
 ghost use Rattle.std.specs.Prelude.{◌≡◌, ◌&&◌, true};
 ghost use Rattle.std.specs.List.{list_any};

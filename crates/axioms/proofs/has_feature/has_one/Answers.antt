@@ -1,7 +1,7 @@
 use Rattle.std.proofs.Common.{◌≡◌, ◌==◌, ◌∙◌, ℕ, suc, Bool, true, false, not, length, List, [], ◌∷◌, refl, ap, arith}
 use Rattle.std.specs.List.{list_any}
 use Rattle.std.proofs.lemmas.Bool.{eqb-true}
-use Rattle.axioms.proofs.feature_vertex.has_one.Goals as goal
+use Rattle.axioms.proofs.has_feature.has_one.Goals as goal
 
 not_empty : (n : ℕ) → (suc n == 0) ≡ false
 not_empty n = by (suc n == 0) refl

@@ -4,7 +4,7 @@ use Rattle.std.specs.Prelude.{ℕ}
 use Rattle.std.specs.List.{list_any}
 use Rattle.model.specs.Summary.{Summary, dependency_feature, Table, entries_at}
 use Rattle.refutations.specs.Causes.{entries_or_none, same_entry}
-use Rattle.axioms.specs.Asking.{row_asks}
+use Rattle.axioms.specs.WantsFeature.{row_asks}
 
 asks_is : (d g : List ℕ) (table : Table)
     → list_any (row_asks d g table) table ≡ list_any (λ row. list_any (same_entry (dependency_feature d g)) (entries_or_none (entries_at row.0 table))) table

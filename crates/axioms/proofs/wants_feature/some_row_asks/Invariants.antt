@@ -1,8 +1,8 @@
 use Rattle.std.proofs.Common.{◌≡◌}
 use Rattle.std.specs.List.{list_any}
 use Rattle.features.specs.Tables.{rows_of}
-use Rattle.axioms.specs.Asking.{row_asks}
-use Rattle.axioms.proofs.asking.some_row_asks.Given as goal
+use Rattle.axioms.specs.WantsFeature.{row_asks}
+use Rattle.axioms.proofs.wants_feature.some_row_asks.Given as goal
 
 -- some row of those that are left passes where one of all does
 abbrev pub invariant-rows : goal.invariant-rows

@@ -1,0 +1,111 @@
+//! Whether all that a cause names is there. A kind that takes more than a function has a file of its name.
+
+ghost use Rattle.std.specs.Prelude.{◌≡◌};
+ghost use Rattle.semver.specs.Identifiers.{parts_of};
+ghost use Rattle.classes.specs.Classes.{class_view};
+ghost use Rattle.refutations.specs.Causes.{is_cause, of_asking, of_entry, of_need, of_target};
+ghost use Rattle.vertices.specs.RefViews.{owner_ref_view};
+ghost use Rattle.looking_up.specs.Views.{problem};
+ghost use Rattle.named_terms.specs.CauseViews.{cause_view};
+ghost use Rattle.axioms.specs.GatheredViews.{problem_of};
+
+use crate::entries::{has_asking, has_feature};
+use crate::feature_on_dependency::is_enabling;
+use crate::gathered::Gathered;
+use crate::has_feature::has_feature_vertex;
+use crate::newest_listed::is_newest;
+use crate::wants_feature::{is_ask, is_list};
+use crate::weak_feature::is_weak;
+use causes::is_needed;
+use classes::Class;
+use features::{FeatureName, PackageName};
+use looking_up::{Known, dependency_at, entries_of, has_class};
+use named_terms::Cause;
+use semver::Version;
+use vertices::OwnerRef;
+
+/// Whether all that a cause names is there.
+pub(crate) fn is_cause(gathered: &Gathered<'_>, cause: &Cause<'_>) -> bool
+    ensures { result ≡ is_cause (problem_of gathered.now) (cause_view cause.now) }
+{
+    let known = &gathered.known;
+    match cause {
+        Cause::Root => true,
+        Cause::Need(owner, number) => is_need(known, owner, *number),
+        Cause::Target(owner, number, class) => is_target(known, owner, *number, *class),
+        Cause::Feature(name, class, feature) => has_feature_vertex(gathered, name, *class, feature),
+        Cause::List(owner, number, class, feature) => {
+            is_list(known, owner, *number, *class, feature)
+        }
+        Cause::Ask(name, version, number, feature, class) => {
+            is_ask(known, name, version, *number, feature, *class)
+        }
+        Cause::Entry(name, version, on, off) => is_entry(known, name, version, on, off),
+        Cause::Enabling(name, version, on, entry, number) => {
+            is_enabling(known, name, version, on, entry, *number)
+        }
+        Cause::Asking(name, version, on, asked, number) => {
+            is_asking(known, name, version, on, asked, *number)
+        }
+        Cause::Newest(owner, number, other, class, higher) => {
+            is_newest(known, owner, *number, *other, *class, *higher)
+        }
+        Cause::Weak(name, version, on, off, number, class) => {
+            is_weak(known, name, version, on, off, *number, *class)
+        }
+    }
+}
+
+/// `Needed`: the owner needs the dependency.
+fn is_need(known: &Known<'_>, owner: &OwnerRef<'_>, number: usize) -> bool
+    ensures { result ≡ is_cause (problem known.now) (of_need (owner_ref_view owner.now) number) }
+{
+    match dependency_at(known, owner, number) {
+        Some(dependency) => is_needed(owner, dependency),
+        None => false,
+    }
+}
+
+/// `Target`: the requirement matches a version of the class.
+fn is_target(known: &Known<'_>, owner: &OwnerRef<'_>, number: usize, class: Class) -> bool
+    ensures { result ≡ is_cause (problem known.now) (of_target (owner_ref_view owner.now) number (class_view class)) }
+{
+    match dependency_at(known, owner, number) {
+        Some(dependency) => has_class(known, class, dependency),
+        None => false,
+    }
+}
+
+/// `FeatureOnFeature`: the other feature is an entry of the feature.
+fn is_entry(
+    known: &Known<'_>,
+    name: &PackageName,
+    version: &Version,
+    on: &FeatureName,
+    off: &FeatureName,
+) -> bool
+    ensures { result ≡ is_cause (problem known.now) (of_entry name.now (parts_of version.now) on.now off.now) }
+{
+    has_feature(off, entries_of(known, name, version, on)) && on != off
+}
+
+/// `FeatureAsks`: the feature has an entry that asks the dependency.
+fn is_asking(
+    known: &Known<'_>,
+    name: &PackageName,
+    version: &Version,
+    on: &FeatureName,
+    asked: &FeatureName,
+    number: usize,
+) -> bool
+    ensures { result ≡ is_cause (problem known.now) (of_asking name.now (parts_of version.now) on.now asked.now number) }
+{
+    match dependency_at(known, &OwnerRef::Version(name, version), number) {
+        Some(dependency) => has_asking(
+            &dependency.name,
+            asked,
+            entries_of(known, name, version, on),
+        ),
+        None => false,
+    }
+}

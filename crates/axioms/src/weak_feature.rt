@@ -1,0 +1,77 @@
+//! Whether what `WeakFeature` names is there: an entry `d?/g` of the feature, and a dependency called d.
+
+ghost use Rattle.std.specs.Prelude.{◌≡◌};
+ghost use Rattle.semver.specs.Identifiers.{parts_of};
+ghost use Rattle.classes.specs.Classes.{class_view};
+ghost use Rattle.features.specs.Views.{dependency_view};
+ghost use Rattle.model.specs.Vertices.{feat, same_class, same_vertex};
+ghost use Rattle.refutations.specs.Causes.{is_cause, is_weak_on, of_weak};
+ghost use Rattle.looking_up.specs.Views.{problem};
+
+use crate::entries::has_weak;
+use classes::Class;
+use features::{Dependency, FeatureName, PackageName};
+use looking_up::{Known, dependency_at, entries_of, has_class};
+use semver::Version;
+use vertices::OwnerRef;
+
+pub(crate) fn is_weak(
+    known: &Known<'_>,
+    name: &PackageName,
+    version: &Version,
+    on: &FeatureName,
+    off: &FeatureName,
+    number: usize,
+    class: Class,
+) -> bool
+    ensures { result ≡ is_cause (problem known.now) (of_weak name.now (parts_of version.now) on.now off.now number (class_view class)) }
+{
+    match dependency_at(known, &OwnerRef::Version(name, version), number) {
+        Some(dependency) => is_weak_on(known, name, version, on, off, class, dependency),
+        None => false,
+    }
+}
+
+/// An entry `d?/g` of the feature of a version, whose two terms on features differ.
+fn is_weak_on(
+    known: &Known<'_>,
+    name: &PackageName,
+    version: &Version,
+    on: &FeatureName,
+    off: &FeatureName,
+    class: Class,
+    dependency: &Dependency,
+) -> bool
+    ensures { result ≡ is_weak_on (problem known.now) name.now (parts_of version.now) on.now off.now (class_view class) (dependency_view dependency.now) }
+{
+    has_class(known, class, dependency)
+        && has_weak(&dependency.name, off, entries_of(known, name, version, on))
+        && !is_same_feature(
+            name,
+            Class::of(version),
+            on,
+            &dependency.real_name,
+            class,
+            off,
+        )
+}
+
+/// Whether two features of classes are one.
+fn is_same_feature(
+    name: &PackageName,
+    class: Class,
+    feature: &FeatureName,
+    other_name: &PackageName,
+    other_class: Class,
+    other: &FeatureName,
+) -> bool
+    ensures { result ≡ same_vertex (feat name.now (class_view class) feature.now) (feat other_name.now (class_view other_class) other.now) }
+{
+    name == other_name && is_same(class, other_class) && feature == other
+}
+
+fn is_same(a: Class, b: Class) -> bool
+    ensures { result ≡ same_class (class_view a) (class_view b) }
+{
+    a == b
+}
