@@ -15,14 +15,15 @@
 //! run asks for no other names (`laws.rt`).
 #![tactic(auto)]
 
-mod asking;
 mod candidate;
 mod candidates;
 mod choosing;
 mod fault;
+mod file;
 mod laws;
 mod loading;
 mod locked;
+mod places;
 mod source;
 mod store;
 
@@ -34,5 +35,6 @@ pub use laws::{
     selections_hold_with_other_locks, selections_hold_with_themselves, selections_run_again,
 };
 pub use loading::load;
+pub use places::place_of;
 pub use source::{Source, SourceFault, is_source};
 pub use store::{Catalogue, Prefer};

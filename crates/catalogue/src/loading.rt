@@ -14,11 +14,11 @@ ghost use Rattle.lockfile.specs.Views.{package_view, package_views};
 ghost use Rattle.model.specs.Content.{same_option};
 ghost use Rattle.catalogue.specs.Runs.{meant_by};
 
-use crate::asking::read_name;
 use crate::candidate::Candidate;
 use crate::candidates::Candidates;
 use crate::choosing::{Run, candidates_of};
 use crate::fault::{Limit, LoadFault};
+use crate::file::read_name;
 use crate::source::Source;
 use crate::store::{Catalogue, Prefer};
 use classes::RustVersion;

@@ -1,14 +1,12 @@
 //! The store behind a loaded index: for each name that was asked for, its candidates.
 
-ghost use Rattle.std.specs.Prelude.{◌≡◌, ◌≤◌, ◌++◌, [], map, length, option_map, option_and_then, unwrap_or, slice_get, Bool, false, Option, Some, IfOk, OnOk};
-ghost use Rattle.std.specs.List.{All, AllPairs};
+ghost use Rattle.std.specs.Prelude.{◌≡◌, ◌≤◌, ◌++◌, [], map, length, option_map, slice_get, Bool, Option, Some, IfOk, OnOk};
+ghost use Rattle.std.specs.List.{AllPairs};
 ghost use Rattle.std.specs.List.Sorted.{IsPermutation};
 ghost use Rattle.std.specs.declared.cmp.Ordering.TheVariants.{Less};
 ghost use Rattle.semver.specs.Eval.{precedence_cmp};
 ghost use Rattle.semver.specs.Identifiers.{parts_of};
 ghost use Rattle.semver.specs.Parse.{Parts};
-ghost use Rattle.std.specs.Option.{MatchOption};
-ghost use Rattle.model.specs.Content.{same_version};
 ghost use Rattle.model.specs.Candidates.{RustVersion as Rust, by_preference};
 ghost use Rattle.index_reader.specs.Views.{skip_view};
 ghost use Rattle.catalogue.specs.Ranks.{AreRanked, places_down, places_of, places_by_rank};
@@ -17,6 +15,7 @@ ghost use Rattle.catalogue.specs.Stores.{row_at, ranked_at, candidates_at, recor
 
 use crate::candidate::{Candidate, Rank};
 use crate::candidates::Candidates;
+use crate::places::place_of;
 use features::PackageName;
 use index_reader::Skip;
 use indexmap::IndexSet;
@@ -140,30 +139,6 @@ fn candidate_in<'a>(candidates: &'a Candidates, version: &Version) -> Option<&'a
 {
     let place = place_of(candidates.versions.as_slice(), version)?;
     candidates.records.get(place)
-}
-
-/// The place of a version, by its whole text, among versions that rise by precedence.
-fn place_of(versions: &[Version], version: &Version) -> Option<usize>
-    requires { AllPairs (λ v w. precedence_cmp v w ≡ Less) versions.now }
-    ensures { MatchOption result (All (λ v. same_version (parts_of version.now) (parts_of v) ≡ false) versions.now) (λ i. slice_get (map parts_of versions.now) i ≡ Some (parts_of version.now)) }
-{
-    match versions.binary_search_by(|v| v.cmp_precedence(version)) {
-        Ok(place) => {
-            if is_same(version, &versions[place]) {
-                Some(place)
-            } else {
-                None
-            }
-        }
-        Err(_) => None,
-    }
-}
-
-/// Whether two versions are the same, by their whole texts.
-fn is_same(a: &Version, b: &Version) -> bool
-    ensures { result ≡ same_version (parts_of a.now) (parts_of b.now) }
-{
-    a == b
 }
 
 /// The places of candidates by rank, in each rank the newest first.

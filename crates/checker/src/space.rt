@@ -3,7 +3,6 @@
 ghost use Rattle.std.specs.Prelude.{◌≡◌, ◌++◌, slice_get, option_map};
 ghost use Rattle.std.specs.List.{list_all};
 ghost use Rattle.semver.specs.Identifiers.{parts_of};
-ghost use Rattle.semver.specs.EvalViews.{matches_views};
 ghost use Rattle.model.specs.Axioms.{at, is_full};
 ghost use Rattle.model.specs.Vertices.{has_state, owner_brings};
 ghost use Rattle.model.specs.Vertices as model;
@@ -14,7 +13,7 @@ ghost use Rattle.vertices.specs.RefViews.{state_ref_view};
 ghost use Rattle.checker.specs.Spaces.{has_if_matched};
 
 use catalogue::Catalogue;
-use classes::Class;
+use classes::{Class, is_matched};
 use features::Dependency;
 use looking_up::class_versions;
 use manifest::Manifest;
@@ -119,12 +118,6 @@ fn has_if_matched(
     ensures { result ≡ has_if_matched (a.now ++ b.now) (requirement_view requirement.now) (parts_of version.now) }
 {
     !is_matched(requirement, version) || is_in_either(a, b, &StateRef::Class(Class::of(version)))
-}
-
-fn is_matched(requirement: &VersionReq, version: &Version) -> bool
-    ensures { result ≡ matches_views (requirement_view requirement.now) (parts_of version.now) }
-{
-    requirement.matches(version)
 }
 
 /// Whether the state is in one of two sets.

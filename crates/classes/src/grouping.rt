@@ -46,7 +46,8 @@ fn grouped(
     Ok(groups)
 }
 
-fn is_matched(requirement: &VersionReq, version: &Version) -> bool
+/// Whether the requirement matches the version.
+pub fn is_matched(requirement: &VersionReq, version: &Version) -> bool
     ensures { result ≡ matches_views (requirement_view requirement.now) (parts_of version.now) }
 {
     requirement.matches(version)

@@ -18,7 +18,7 @@ mod order;
 mod rust_version;
 
 pub use class::Class;
-pub use grouping::matching;
+pub use grouping::{is_matched, matching};
 pub use numbers::whole_number;
 pub use order::{rust_version_order, version_order};
 pub use rust_version::RustVersion;

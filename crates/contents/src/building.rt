@@ -6,9 +6,9 @@ ghost use Rattle.std.specs.List.Sorted.{IsPermutation};
 ghost use Rattle.std.specs.declared.cmp.Ordering.TheVariants.{Equal};
 ghost use Rattle.facts.specs.Graphs.{node_views};
 ghost use Rattle.catalogue.specs.Problems.{problem_in};
-ghost use Rattle.lockfile.specs.Views.{package_view, package_views};
+ghost use Rattle.lockfile.specs.Views.{package_view};
 ghost use Rattle.model.specs.Vertices.{the_root};
-ghost use Rattle.model.specs.Order.{package_cmp, source_cmp};
+ghost use Rattle.model.specs.Order.{package_cmp};
 ghost use Rattle.model.specs.ContentOf.{package_of};
 ghost use Rattle.reaching.specs.Built.{IsBuilt};
 ghost use Rattle.contents.specs.Contents.{AreInOrder, AreKept, AreStops, IsThere, kept_views, kept_with, owners_of, package_if, stop_owner};
@@ -17,12 +17,10 @@ use crate::kept::Kept;
 use crate::listing::listed;
 use crate::stop::{Stop, store_holds};
 use catalogue::Catalogue;
-use classes::version_order;
 use facts::{Facts, Node};
-use lockfile::{LockContent, Package};
+use lockfile::{LockContent, Package, package_order};
 use manifest::Manifest;
 use std::alloc::{AllocError, Global};
-use std::cmp::Ordering;
 
 /// The content of the packages that are here, each with the targets of its enabled dependencies.
 pub fn content_of(
@@ -167,26 +165,4 @@ fn sorted(mut kept: Vec<Kept>) -> Result<Vec<Kept>, AllocError>
 {
     kept.sort_by(|a, b| package_order(&a.locked, &b.locked))?;
     Ok(kept)
-}
-
-/// Packages by name, then version, then source.
-fn package_order(a: &Package, b: &Package) -> Ordering
-    ensures { result ≡ package_cmp (package_view a.now) (package_view b.now) }
-{
-    a.name
-        .cmp(&b.name)
-        .then_with(|| version_order(&a.version, &b.version))
-        .then_with(|| source_order(a.source(), b.source()))
-}
-
-/// A source before none, two by their bytes.
-fn source_order(a: Option<&str>, b: Option<&str>) -> Ordering
-    ensures { result ≡ source_cmp (option_map (λ s. s.now) a.entry) (option_map (λ s. s.now) b.entry) }
-{
-    match (a, b) {
-        (Some(a), Some(b)) => a.cmp(b),
-        (Some(_), None) => Ordering::Less,
-        (None, Some(_)) => Ordering::Greater,
-        (None, None) => Ordering::Equal,
-    }
 }

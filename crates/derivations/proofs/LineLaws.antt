@@ -4,7 +4,8 @@ use Rattle.std.proofs.lemmas.List.{length-map}
 use Rattle.model.specs.Outcome.{Faults}
 use Rattle.derivations.specs.Derivations.{IsDerivation}
 use Rattle.derivations.specs.Earlier.{IsReading}
-use Rattle.derivations.specs.Files.{wants_memory, is_blank, fault_at, most_steps, with_line}
+use Rattle.derivations.specs.Files.{wants_memory, fault_at, most_steps, with_line}
+use Rattle.trees.specs.Lines.{is_blank}
 use Rattle.derivations.specs.Lines.{line_wants_memory}
 use Rattle.derivations.specs.Steps.{step_of_line}
 use Rattle.derivations.specs.Tables.{TablesView, IsStepOf, IsGrown, step_at, steps_at}

@@ -20,7 +20,8 @@ use Rattle.model.specs.Axioms.{Kind, Root, Needed, Target, HasFeature, WantsFeat
 use Rattle.model.specs.Derivation.{Step, given, combine, terms_of as terms_in_step}
 use Rattle.vertices.specs.Texts.{IsReadVertex, IsReadState}
 use Rattle.derivations.specs.Derivations.{IsTerm, term_cmp, AreTerms, IsStepAt, AreStepsFrom, IsDerivation}
-use Rattle.derivations.specs.Files.{is_line_end, most_steps, with_read, with_line, with_lines, derivation_of_bytes}
+use Rattle.derivations.specs.Files.{most_steps, with_read, with_line, with_lines, derivation_of_bytes}
+use Rattle.trees.specs.Lines.{is_line_end}
 use Rattle.vertices.specs.Kinds.{kind_text, kind_of_text}
 use Rattle.derivations.specs.Orders.{ordered}
 use Rattle.derivations.specs.Steps.{two_of, states_in, states_of, Written, written_cmp, term_of, terms_in, terms_without_texts, terms_of, Origin, by_axiom, by_combination, axiom_of, combination_of, origin_of, is_backward, step_by, step_of, step_of_line}

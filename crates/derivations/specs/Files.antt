@@ -1,8 +1,9 @@
 -- Which bytes are derivations, and which derivations they are (the format is this project's).
-use Rattle.std.specs.Prelude.{ℕ, ◌+◌, ◌==◌, ◌||◌, nat_lt, Bool, true, false, if◌then◌else◌, List, [], ◌∷◌, ◌++◌, length}
+use Rattle.std.specs.Prelude.{ℕ, ◌+◌, nat_lt, Bool, true, false, if◌then◌else◌, List, [], ◌∷◌, ◌++◌, length}
 use Rattle.std.specs.Prelude.{Result, Ok, Err}
-use Rattle.std.specs.List.{list_all, slice_split}
+use Rattle.std.specs.List.{slice_split}
 use Rattle.model.specs.Outcome.{◌>>=◌}
+use Rattle.trees.specs.Lines.{is_blank, is_line_end}
 use Rattle.model.specs.Derivation.{Step}
 use Rattle.derivations.specs.Steps.{step_of_line}
 use Rattle.derivations.specs.Lines.{Line}
@@ -16,17 +17,6 @@ wants_memory OutOfMemory = true
 wants_memory (NotALine n) = false
 wants_memory (Forward n) = false
 wants_memory (TooMany n) = false
-
--- a line ends with `\n`
-abbrev pub is_line_end : ℕ → Bool
-is_line_end b = b == 10
-
--- a space, a tab or `\r`
-abbrev pub is_blank_byte : ℕ → Bool
-is_blank_byte b = b == 32 || (b == 9 || b == 13)
-
-abbrev pub is_blank : List ℕ → Bool
-is_blank line = list_all is_blank_byte line
 
 -- a fault of a line, with the line's number
 abbrev pub fault_at : ℕ → LineFault → DerivationFault

@@ -1,10 +1,11 @@
 //! Reading derivations.
 
-ghost use Rattle.std.specs.Prelude.{◌≡◌, ◌<◌, ◌==◌, ◌||◌, [], IfOk, OnOk, map};
-ghost use Rattle.std.specs.List.{list_all, slice_split};
+ghost use Rattle.std.specs.Prelude.{◌≡◌, ◌<◌, [], IfOk, OnOk, map};
+ghost use Rattle.std.specs.List.{slice_split};
 ghost use Rattle.model.specs.Outcome.{Gives};
 ghost use Rattle.derivations.specs.Earlier.{IsReading};
-ghost use Rattle.derivations.specs.Files.{wants_memory, is_line_end, is_blank_byte, is_blank, fault_at, with_line, with_lines, derivation_of_bytes};
+ghost use Rattle.derivations.specs.Files.{wants_memory, fault_at, with_line, with_lines, derivation_of_bytes};
+ghost use Rattle.trees.specs.Lines.{is_line_end};
 ghost use Rattle.derivations.specs.Tables.{steps_at};
 
 use crate::derivation::Derivation;
@@ -14,6 +15,7 @@ use crate::step::Step;
 use crate::tables::Tables;
 use json::Scratch;
 use std::alloc::{AllocError, Global};
+use trees::is_blank;
 
 /// How many steps are read.
 const MOST_STEPS: usize = 16_777_216;
@@ -101,16 +103,4 @@ fn fault_at(number: u64, fault: LineFault) -> DerivationFault
         LineFault::NotALine => DerivationFault::NotALine(number),
         LineFault::Forward => DerivationFault::Forward(number),
     }
-}
-
-fn is_blank(line: &[u8]) -> bool
-    ensures { result ≡ is_blank line.now }
-{
-    line.iter().all(|b| is_blank_byte(*b))
-}
-
-fn is_blank_byte(byte: u8) -> bool
-    ensures { result ≡ is_blank_byte byte }
-{
-    byte == b' ' || byte == b'\t' || byte == b'\r'
 }

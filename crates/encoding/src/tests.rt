@@ -1,7 +1,6 @@
 //! Sets of a vertex's states, as tests of its space: absent first, then the versions or classes in their order.
 
 ghost use Rattle.std.specs.Prelude.{◌≡◌, ◌∷◌, true, false, map, IfOk};
-ghost use Rattle.semver.specs.EvalViews.{matches_views};
 ghost use Rattle.semver.specs.Identifiers.{parts_of};
 ghost use Rattle.classes.specs.Classes.{class_view};
 ghost use Rattle.features.specs.Views.{requirement_view};
@@ -10,17 +9,11 @@ ghost use Rattle.encoding.specs.Parts.{is_chosen, is_class, is_lacking, is_left,
 
 use crate::inputs::Inputs;
 use crate::lookups::brings;
-use classes::Class;
+use classes::{Class, is_matched};
 use features::{FeatureName, PackageName};
 use semver::{Version, VersionReq};
 use std::alloc::{AllocError, Global};
 use vertices::OwnerRef;
-
-pub(crate) fn is_matched(requirement: &VersionReq, version: &Version) -> bool
-    ensures { result ≡ matches_views (requirement_view requirement.now) (parts_of version.now) }
-{
-    requirement.matches(version)
-}
 
 #[tactic(auto, unfolding(crate::specs::Parts::is_left))]
 fn is_left(requirement: &VersionReq, version: &Version) -> bool

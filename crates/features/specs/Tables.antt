@@ -1,6 +1,6 @@
 -- A feature table as its rows: the features in the order of their names, each with its entries (Cargo book,
 -- "Features").
-use Rattle.std.specs.Prelude.{ℕ, Bool, true, false, List, [], ◌∷◌, map, Result, Ok, Err, Vec, codes}
+use Rattle.std.specs.Prelude.{ℕ, Bool, true, false, List, map, Result, Ok, Err, Vec}
 use Rattle.std.specs.declared.alloc.Global.{Global}
 use Rattle.model.specs.Summary.{Table}
 use Rattle.model.specs.Tables as model
@@ -13,10 +13,6 @@ use Rattle.features.specs.declared.table.FeatureFault.TheVariants.{OutOfMemory, 
 -- what a map of vectors is as a table
 abbrev pub rows_of : List (List ℕ × Vec Entry Global) → Table
 rows_of es = map (λ e. (e.0, entry_views e.1.items)) es
-
--- no feature is written and no dependency is optional: `default` alone
-abbrev pub plain_table : Table
-plain_table = (codes "default", []) ∷ []
 
 abbrev pub dep_name_view : DepName → model.DepName
 dep_name_view d = record { name = d.name; optional = d.optional }

@@ -5,7 +5,7 @@ ghost use Rattle.model.specs.Outcome.{Gives};
 ghost use Rattle.model.specs.Summary.{entries_at, has_feature};
 ghost use Rattle.model.specs.Tables.{with_default};
 ghost use Rattle.features.specs.Drafts.{with_rows};
-ghost use Rattle.features.specs.Tables.{dep_names_view, plain_table, rows_of, table_wants_memory, built};
+ghost use Rattle.features.specs.Tables.{dep_names_view, rows_of, table_wants_memory, built};
 ghost use Rattle.features.specs.EntryViews.{entry_views};
 
 use crate::draft::implicit_rows;
@@ -70,15 +70,6 @@ impl Model for FeatureTable {
 }
 
 impl FeatureTable {
-    /// The table of a package that writes no feature and has no optional dependency: `default` alone, without entries.
-    pub fn plain(alloc: Global) -> Result<FeatureTable, AllocError>
-        ensures { IfOk result (λ t. t ≡ plain_table) }
-    {
-        Ok(FeatureTable {
-            features: with_default(alloc, BTreeMap::new(alloc))?,
-        })
-    }
-
     /// The table of a package with these dependencies that writes these features: with an implicit feature for each
     /// optional dependency that no entry `dep:d` names and no feature is called by, and with `default` (Cargo book,
     /// "Features" and "Optional dependencies").

@@ -12,7 +12,7 @@
 //! is to be asked of those that can't be absent.
 #![tactic(auto)]
 
-mod finding;
+mod in_content;
 mod numbers;
 mod states;
 

@@ -1,18 +1,16 @@
 //! The numbers of versions and of classes among the states of a vertex, where they follow absent.
 
-ghost use Rattle.std.specs.Prelude.{◌≡◌, ◌<◌, ◌≤◌, IfSome, Some, true, false, suc, length, map, option_map, position, slice_get};
-ghost use Rattle.std.specs.List.{All};
+ghost use Rattle.std.specs.Prelude.{◌≡◌, ◌<◌, ◌≤◌, IfSome, Some, true, false, suc, length, option_map, position};
 ghost use Rattle.std.specs.List.Sorted.{IsPartitionPoint};
-ghost use Rattle.std.specs.Option.{MatchOption};
 ghost use Rattle.semver.specs.Identifiers.{parts_of};
 ghost use Rattle.classes.specs.Classes.{class_view};
-ghost use Rattle.model.specs.Content.{same_version};
 ghost use Rattle.model.specs.Vertices.{has_state, pkg, same_class, space};
 ghost use Rattle.model.specs.Vertices as model;
 ghost use Rattle.encoding.specs.Inputs.{problem};
 ghost use Rattle.looking_up.specs.Ranges.{AreRising, is_below};
 ghost use Rattle.following.specs.Found.{IsNumberOf};
 
+use catalogue::place_of;
 use classes::Class;
 use encoding::Inputs;
 use features::PackageName;
@@ -48,30 +46,6 @@ fn is_below(class: Class, version: &Version) -> bool
     ensures { result ≡ is_below (class_view class) (parts_of version.now) }
 {
     Class::of(version).is_lower(class)
-}
-
-/// The place of a version, by its whole text, among versions that rise by precedence.
-fn place_of(versions: &[Version], version: &Version) -> Option<usize>
-    requires { AreRising versions.now }
-    ensures { MatchOption result (All (λ v. same_version (parts_of version.now) (parts_of v) ≡ false) versions.now) (λ i. slice_get (map parts_of versions.now) i ≡ Some (parts_of version.now)) }
-{
-    match versions.binary_search_by(|v| v.cmp_precedence(version)) {
-        Ok(place) => {
-            if is_same(version, &versions[place]) {
-                Some(place)
-            } else {
-                None
-            }
-        }
-        Err(_) => None,
-    }
-}
-
-/// Whether two versions are the same, by their whole texts.
-fn is_same(a: &Version, b: &Version) -> bool
-    ensures { result ≡ same_version (parts_of a.now) (parts_of b.now) }
-{
-    a == b
 }
 
 /// The number of a class among the states of a dependency that may lead to these classes.

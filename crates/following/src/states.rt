@@ -11,7 +11,7 @@ ghost use Rattle.encoding.specs.Inputs.{problem};
 ghost use Rattle.vertices.specs.RefViews.{owner_ref_view, vertex_ref_view};
 ghost use Rattle.following.specs.Found.{IsStateIn};
 
-use crate::finding::{led_to, package_in};
+use crate::in_content::{led_to, package_in};
 use crate::numbers::{class_number, version_number};
 use classes::Class;
 use encoding::{Inputs, classes_of, dependency_at, spaces_are_small};

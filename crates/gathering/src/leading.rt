@@ -11,9 +11,8 @@ ghost use Rattle.encoding.specs.Inputs.{problem};
 ghost use Rattle.contents.specs.Contents.{AreStops, owners_of};
 ghost use Rattle.gathering.specs.Leads.{AreLed, HasEnded, IsLed, class_if, ends, version_if};
 
-use crate::places::place_of;
 use crate::states::{class_if, state_of, version_if};
-use catalogue::Catalogue;
+use catalogue::{Catalogue, place_of};
 use classes::Class;
 use contents::Stop;
 use encoding::{Inputs, Table};

@@ -15,7 +15,6 @@
 
 mod leading;
 mod meeting;
-mod places;
 mod selected;
 mod states;
 mod targets;

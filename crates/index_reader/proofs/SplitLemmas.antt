@@ -3,7 +3,7 @@ use Rattle.std.proofs.Common.{◌≡◌, ℕ, zero, suc, ◌+◌, ◌<◌, List,
 use Rattle.std.specs.List.{onto_first, slice_split}
 use Rattle.std.specs.Prelude.{slice_index}
 use Rattle.std.proofs.lemmas.List.Splits.{slice_split-cons_yes, slice_split-cons_no}
-use Rattle.index_reader.specs.Files.{is_line_end}
+use Rattle.trees.specs.Lines.{is_line_end}
 
 is_no : (b : Bool) → (b ≡ true → ⊥) → b ≡ false
 is_no true h = absurd (h refl)

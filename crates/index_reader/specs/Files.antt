@@ -1,19 +1,16 @@
 -- What a file of an index says: its lines, and of these the records and the skips (Cargo book, "Registry Index";
 -- skipping, and one version of equal precedence a file, are our own).
-use Rattle.std.specs.Prelude.{ℕ, ◌+◌, ◌-◌, ◌==◌, ◌&&◌, ◌||◌, Bool, not, if◌then◌else◌, List, [], ◌∷◌, ◌++◌, length, count_by, slice_index, Ok, Err}
-use Rattle.std.specs.List.{list_all, list_any, slice_split}
+use Rattle.std.specs.Prelude.{ℕ, ◌+◌, ◌-◌, ◌==◌, ◌&&◌, Bool, not, if◌then◌else◌, List, [], ◌∷◌, ◌++◌, length, count_by, slice_index, Ok, Err}
+use Rattle.std.specs.List.{list_any, slice_split}
 use Rattle.std.specs.Ordering.{is_eq}
 use Rattle.semver.specs.Parse.{Parts}
 use Rattle.model.specs.Order.{precedence}
+use Rattle.trees.specs.Lines.{is_blank, is_line_end}
 use Rattle.index_reader.specs.Lines.{Line}
 use Rattle.index_reader.specs.Records.{RecordView, is_checksum, unchecked_of_line}
 use Rattle.index_reader.specs.declared.fault.Reason.{Reason}
 use Rattle.index_reader.specs.declared.fault.Reason.TheVariants.{BadChecksum, Duplicate}
 use Rattle.index_reader.specs.declared.fault.LineFault.TheVariants.{OutOfMemory, Skipped}
-
--- a line ends with `\n`
-abbrev pub is_line_end : ℕ → Bool
-is_line_end b = b == 10
 
 -- some bytes, the last of which ends no line
 abbrev pub ends_open : List ℕ → Bool
@@ -22,13 +19,6 @@ ends_open bytes = not (length bytes == 0) && not (is_line_end (slice_index bytes
 -- how many lines: the line ends, and one more where bytes follow the last of them
 abbrev pub line_count : List ℕ → ℕ
 line_count bytes = count_by is_line_end bytes + (if ends_open bytes then 1 else 0)
-
--- a space, a tab or `\r`
-abbrev pub is_blank_byte : ℕ → Bool
-is_blank_byte b = b == 32 || (b == 9 || b == 13)
-
-abbrev pub is_blank : List ℕ → Bool
-is_blank line = list_all is_blank_byte line
 
 -- a line that is skipped: the package of its file, its number from 1, and why
 pub record SkipView : Type 0 where

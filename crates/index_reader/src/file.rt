@@ -1,9 +1,10 @@
 //! Reading a file of an index.
 
 ghost use Rattle.std.specs.Prelude.{◌≡◌, ◌+◌, ◌≤◌, IfOk, map};
-ghost use Rattle.std.specs.List.{list_all, slice_split};
-ghost use Rattle.index_reader.specs.Files.{is_line_end, line_count, is_blank_byte, is_blank, with_skip, with_record, with_line, with_lines, no_lines, records_of_file};
-ghost use Rattle.index_reader.specs.Views.{record_view, file_view, contents_view};
+ghost use Rattle.std.specs.List.{slice_split};
+ghost use Rattle.index_reader.specs.Files.{line_count, with_skip, with_line, with_lines, no_lines, records_of_file};
+ghost use Rattle.trees.specs.Lines.{is_line_end};
+ghost use Rattle.index_reader.specs.Views.{file_view, contents_view};
 
 use crate::fault::{LineFault, Reason};
 use crate::kept::FileSoFar;
@@ -13,6 +14,7 @@ use features::PackageName;
 use json::Scratch;
 use memchr::{memchr, memchr_iter};
 use std::alloc::{AllocError, Global};
+use trees::is_blank;
 
 /// How many lines bytes have: the number of `\n`, and one more where bytes follow the last of them.
 pub fn lines(bytes: &[u8]) -> usize
@@ -87,16 +89,4 @@ fn with_line(
         Err(LineFault::Skipped(reason)) => file.with_skip(name, number, reason),
         Err(LineFault::OutOfMemory) => Err(AllocError),
     }
-}
-
-fn is_blank(line: &[u8]) -> bool
-    ensures { result ≡ is_blank line.now }
-{
-    line.iter().all(|b| is_blank_byte(*b))
-}
-
-fn is_blank_byte(byte: u8) -> bool
-    ensures { result ≡ is_blank_byte byte }
-{
-    byte == b' ' || byte == b'\t' || byte == b'\r'
 }

@@ -14,9 +14,9 @@ ghost use Rattle.looking_up.specs.Views.{problem};
 ghost use Rattle.named_terms.specs.Views.{term_view, term_views};
 ghost use Rattle.vertices.specs.RefViews.{owner_ref_view, vertex_ref_view};
 
-use classes::Class;
+use classes::{Class, is_matched};
 use features::{Dependency, PackageName};
-use looking_up::{Known, class_versions, dependency_at, is_matched};
+use looking_up::{Known, class_versions, dependency_at};
 use named_terms::{States, Term};
 use semver::{Version, VersionReq};
 use std::alloc::{AllocError, Global};

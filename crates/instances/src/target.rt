@@ -15,9 +15,9 @@ ghost use Rattle.named_terms.specs.Views.{term_view, term_views};
 ghost use Rattle.instances.specs.Matching.{is_left};
 
 use crate::terms::{term, two};
-use classes::Class;
+use classes::{Class, is_matched};
 use features::Dependency;
-use looking_up::{Known, class_versions, dependency_at, is_matched};
+use looking_up::{Known, class_versions, dependency_at};
 use named_terms::{States, Term};
 use semver::{Version, VersionReq};
 use std::alloc::{AllocError, Global};

@@ -26,7 +26,7 @@ pub(crate) fn source_order(a: Option<&str>, b: Option<&str>) -> Ordering
 }
 
 /// Packages by name, then version, then source.
-fn package_order(a: &Package, b: &Package) -> Ordering
+pub fn package_order(a: &Package, b: &Package) -> Ordering
     ensures { result ≡ package_cmp (package_view a.now) (package_view b.now) }
 {
     a.name

@@ -15,6 +15,6 @@ mod owners;
 mod ranges;
 
 pub use known::Known;
-pub use matching::{has_class, is_matched, is_unmatched};
+pub use matching::{has_class, is_unmatched};
 pub use owners::{brings, dependencies_of, dependency_at, entries_of};
 pub use ranges::{class_versions, of_class};

@@ -11,7 +11,7 @@ ghost use Rattle.looking_up.specs.Views.{problem};
 
 use crate::known::Known;
 use crate::ranges::class_versions;
-use classes::Class;
+use classes::{Class, is_matched};
 use features::Dependency;
 use semver::{Version, VersionReq};
 
@@ -41,11 +41,4 @@ fn some_matched(requirement: &VersionReq, versions: &[Version]) -> bool
     versions
         .iter()
         .any(|version| is_matched(requirement, version))
-}
-
-/// Whether the requirement matches the version.
-pub fn is_matched(requirement: &VersionReq, version: &Version) -> bool
-    ensures { result ≡ matches_views (requirement_view requirement.now) (parts_of version.now) }
-{
-    requirement.matches(version)
 }

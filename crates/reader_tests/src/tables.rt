@@ -2,11 +2,12 @@
 
 use features::{FeatureFault, FeatureName, FeatureTable};
 use std::alloc::{AllocError, Global};
+use std::collections::BTreeMap;
 use std::test::Fail;
 
 #[test]
 fn has_default(rt: HostRuntime) -> Result<(), Fail> {
-    let table = FeatureTable::plain(rt.alloc())?;
+    let table = FeatureTable::build(rt.alloc(), &[], BTreeMap::new(rt.alloc()))?;
     let default = FeatureName::parse(rt.alloc(), "default")?;
     assert!(rt; table.has(&default));
     assert!(rt; table.entries(&default).is_empty());

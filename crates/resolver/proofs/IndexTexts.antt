@@ -15,7 +15,8 @@ use Rattle.features.specs.Names.{is_package_name}
 use Rattle.index_reader.specs.Lines.{Line, ShapeView, PartView, DependencyView, dev, part, data_of_bytes, needed, value_at, text_at, text_of, flag_at, whole_at, texts_or_none, features_at, optional, package_name_of, package_name_at, package_name_or_none, kind_at, is_dev, part_of, dependency_of, dependencies_in, dependencies_at, shape_of}
 use Rattle.index_reader.specs.Records.{RecordView, unless, semver_or, required, dependency_read, dependencies_read, is_of_index, is_checksum, feature_names, unchecked_of_shape, unchecked_of_line}
 use Rattle.index_reader.specs.Written.{features_of}
-use Rattle.index_reader.specs.Files.{FileView, is_line_end, is_blank, has_version, no_lines, with_skip, with_record, with_found, with_read, with_line, with_lines, records_of_file}
+use Rattle.index_reader.specs.Files.{FileView, has_version, no_lines, with_skip, with_record, with_found, with_read, with_line, with_lines, records_of_file}
+use Rattle.trees.specs.Lines.{is_line_end, is_blank}
 use Rattle.index_reader.specs.declared.fault.Reason.{Reason}
 use Rattle.index_reader.specs.declared.fault.Reason.TheVariants.{BadChecksum, BadRequirement, BadVersion, Duplicate, NewerFormat, OtherName, OtherRegistry}
 use Rattle.index_reader.specs.declared.fault.LineFault.TheVariants.{OutOfMemory, Skipped}

@@ -13,7 +13,6 @@
 #![tactic(auto)]
 
 mod checked;
-mod checks;
 mod classes_once;
 mod enabled;
 mod faults;
@@ -24,7 +23,8 @@ mod roots;
 mod summaries;
 mod targets;
 mod verdict;
+mod verifying;
 
-pub use checks::verify;
 pub use targets::target;
 pub use verdict::{Fault, Verdict};
+pub use verifying::verify;

@@ -2,15 +2,14 @@
 
 ghost use Rattle.std.specs.Prelude.{◌≡◌, ◌<◌, ◌≤◌, length, false, IfOk, slice_get};
 ghost use Rattle.std.specs.List.{All, AllPairs, AllWithin};
-ghost use Rattle.semver.specs.EvalViews.{matches_views};
-ghost use Rattle.semver.specs.Identifiers.{parts_of};
 ghost use Rattle.model.specs.Content.{last_serving, serves, serves_if};
 ghost use Rattle.model.specs.WellFormed.{IsContent};
-ghost use Rattle.features.specs.Views.{dependency_view, dependency_views, requirement_view};
+ghost use Rattle.features.specs.Views.{dependency_view, dependency_views};
 ghost use Rattle.lockfile.specs.Views.{package_view, package_views};
 ghost use Rattle.selection.specs.Graphs.{targets_in};
 ghost use Rattle.selection.specs.Names.{name_cmp};
 
+use classes::is_matched;
 use features::Dependency;
 use lockfile::Package;
 use semver::{Version, VersionReq};
@@ -103,10 +102,4 @@ fn serves(locked: &Package, dependency: &Dependency) -> bool
     locked.source.is_some()
         && dependency.real_name == locked.name
         && is_matched(&dependency.requirement, &locked.version)
-}
-
-fn is_matched(requirement: &VersionReq, version: &Version) -> bool
-    ensures { result ≡ matches_views (requirement_view requirement.now) (parts_of version.now) }
-{
-    requirement.matches(version)
 }

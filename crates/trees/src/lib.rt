@@ -13,10 +13,12 @@
 //! `serde_json` reads none; `member`, `item` and the like give what that value has there.
 #![tactic(auto)]
 
+mod blank;
 mod fault;
 mod number;
 mod tree;
 
+pub use blank::is_blank;
 pub use fault::TreeFault;
 pub use tree::{
     Members, are_rising, as_flag, as_list, as_members, as_text, as_whole, by_key, item, member,

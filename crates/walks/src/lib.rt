@@ -15,10 +15,10 @@
 //! (`ranks_are_preferences`).
 #![tactic(auto)]
 
-mod finding;
 mod laws;
 mod meeting;
 mod picking;
+mod walk;
 
-pub use finding::preferred;
 pub use laws::{ranks_are_preferences, there_is_one_walk};
+pub use walk::preferred;

@@ -2,7 +2,6 @@
 
 ghost use Rattle.std.specs.Prelude.{◌≡◌, IfOk, map, option_map, slice_get};
 ghost use Rattle.std.specs.List.{find};
-ghost use Rattle.semver.specs.EvalViews.{matches_views};
 ghost use Rattle.semver.specs.Identifiers.{parts_of};
 ghost use Rattle.features.specs.Views.{dependency_view, requirement_view};
 ghost use Rattle.walks.specs.Met.{is_matched, place_picked};
@@ -40,13 +39,7 @@ fn is_matched(requirement: &VersionReq, version: Option<&Version>) -> bool
     ensures { result ≡ is_matched (requirement_view requirement.now) (option_map (λ v. parts_of v.now) version.entry) }
 {
     match version {
-        Some(version) => matches(requirement, version),
+        Some(version) => classes::is_matched(requirement, version),
         None => false,
     }
-}
-
-fn matches(requirement: &VersionReq, version: &Version) -> bool
-    ensures { result ≡ matches_views (requirement_view requirement.now) (parts_of version.now) }
-{
-    requirement.matches(version)
 }

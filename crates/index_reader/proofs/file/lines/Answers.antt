@@ -1,6 +1,6 @@
 use Rattle.std.proofs.Common.{rules, ◌≡◌, length, ap, ◌∙◌}
 use Rattle.std.specs.Prelude.{count_by}
-use Rattle.index_reader.specs.Files.{is_line_end}
+use Rattle.trees.specs.Lines.{is_line_end}
 use Rattle.index_reader.proofs.CountLemmas.{count-places}
 use Rattle.index_reader.proofs.file.lines.Goals as goal
 

@@ -1,7 +1,7 @@
 use Rattle.std.proofs.Common.{◌≡◌, ◌+◌, ◌-◌, ◌++◌, ◌∷◌, [], length, take, drop, map, ap, sym, ◌∙◌, arith, append_assoc, take_all, length-drop}
 use Rattle.std.proofs.lemmas.List.{map-append}
 use Rattle.std.specs.List.{slice_split}
-use Rattle.index_reader.specs.Files.{is_line_end}
+use Rattle.trees.specs.Lines.{is_line_end}
 use Rattle.index_reader.proofs.SplitLemmas.{split-at, split-none}
 use Rattle.index_reader.proofs.file.texts_in.Goals as goal
 

@@ -6,7 +6,7 @@ use Rattle.selection.specs.Graphs.{HasNoRoot}
 use Rattle.selection.specs.declared.findings.Findings.{Findings}
 use Rattle.selection.proofs.Holding.{graph_within}
 use Rattle.selection.proofs.Composing.{findings_are, said_of, rootless_said, selected}
-use Rattle.selection.proofs.checks.verify.Goals as goal
+use Rattle.selection.proofs.verifying.verify.Goals as goal
 
 pub returns-in_default-clause-says : goal.returns-in_default-clause-says
 returns-in_default-clause-says c =

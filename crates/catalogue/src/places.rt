@@ -11,7 +11,7 @@ ghost use Rattle.model.specs.Content.{same_version};
 use semver::Version;
 
 /// The place of a version, by its whole text, among versions that rise by precedence.
-pub(crate) fn place_of(versions: &[Version], version: &Version) -> Option<usize>
+pub fn place_of(versions: &[Version], version: &Version) -> Option<usize>
     requires { AllPairs (λ v w. precedence_cmp v w ≡ Less) versions.now }
     ensures { MatchOption result (All (λ v. same_version (parts_of version.now) (parts_of v) ≡ false) versions.now) (λ i. slice_get (map parts_of versions.now) i ≡ Some (parts_of version.now)) }
 {

@@ -5,7 +5,7 @@ use Rattle.lockfile.specs.declared.locked.Package.{Package}
 use Rattle.model.specs.Content.{last_serving}
 use Rattle.vertices.specs.RefViews.{owner_ref_view}
 use Rattle.following.proofs.Led.{no_owner, no_place, at_place, list_rises, list_within}
-use Rattle.following.proofs.finding.led_to.Goals as goal
+use Rattle.following.proofs.in_content.led_to.Goals as goal
 
 pub target-requires-clause-content : goal.target-requires-clause-content
 target-requires-clause-content c = c.requires.is_content

@@ -4,7 +4,7 @@ use Rattle.lockfile.specs.Views.{package_view}
 use Rattle.following.specs.Found.{is_locked}
 use Rattle.std.proofs.lemmas.List.{take_rest}
 use Rattle.following.proofs.Named.{find_past, lower_is_other}
-use Rattle.following.proofs.finding.package_in.Goals as goal
+use Rattle.following.proofs.in_content.package_in.Goals as goal
 
 pub returns : goal.returns
 returns c =

@@ -2,7 +2,7 @@ use Rattle.std.proofs.Common.{◌∙◌, sym, rules}
 use Rattle.std.proofs.lemmas.Fn.{always_returns_same}
 use Rattle.semver.specs.Eval.{precedence_cmp}
 use Rattle.catalogue.proofs.Found.{search_ends, search_differs, search_finds}
-use Rattle.following.proofs.numbers.place_of.Goals as goal
+use Rattle.catalogue.proofs.places.place_of.Goals as goal
 
 pub returns-then-is_same : goal.returns-then-is_same
 returns-then-is_same c =

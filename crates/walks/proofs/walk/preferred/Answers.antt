@@ -11,7 +11,7 @@ use Rattle.walks.specs.Preferred.{preferred_in}
 use Rattle.walks.specs.Met.{all_met}
 use Rattle.walks.proofs.Completeness.{AllMet, all_met_says, if_all_met, complete, met_if_complete}
 use Rattle.model.proofs.Unique.{one_content}
-use Rattle.walks.proofs.finding.preferred.Goals as goal
+use Rattle.walks.proofs.walk.preferred.Goals as goal
 
 pub facts_of-requires : goal.facts_of-requires
 facts_of-requires c =

@@ -2,7 +2,7 @@ use Rattle.std.proofs.Common.{◌∙◌, nat_eq}
 use Rattle.semver.specs.Identifiers.{parts_of}
 use Rattle.model.specs.Summary.{same_text}
 use Rattle.catalogue.proofs.Found.{and-five}
-use Rattle.gathering.proofs.places.is_same.Goals as goal
+use Rattle.catalogue.proofs.places.is_same.Goals as goal
 
 pub returns : goal.returns
 returns c =

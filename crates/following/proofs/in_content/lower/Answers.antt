@@ -5,7 +5,7 @@ use Rattle.std.proofs.lemmas.List.Sorted.{IsPartitionPoint-from_clause}
 use Rattle.lockfile.specs.Views.{package_view}
 use Rattle.following.specs.Found.{beside}
 use Rattle.following.proofs.Named.{lower_first}
-use Rattle.following.proofs.finding.lower.Goals as goal
+use Rattle.following.proofs.in_content.lower.Goals as goal
 
 pub returns-clause-place : goal.returns-clause-place
 returns-clause-place c =

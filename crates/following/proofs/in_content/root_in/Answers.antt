@@ -4,7 +4,7 @@ use Rattle.lockfile.specs.Views.{package_view}
 use Rattle.encoding.specs.Inputs.{problem}
 use Rattle.following.specs.Found.{is_sourceless}
 use Rattle.following.proofs.Named.{find_past, lower_is_sourced}
-use Rattle.following.proofs.finding.root_in.Goals as goal
+use Rattle.following.proofs.in_content.root_in.Goals as goal
 
 pub returns : goal.returns
 returns c =
