@@ -3,7 +3,7 @@
 #![tactic(auto)]
 
 mod chains;
-mod kept;
+mod memory;
 mod pigeons;
 mod sets;
 mod ternary;
@@ -25,7 +25,7 @@ fn main(rt: HostRuntime) -> io::Result<()> {
         "chain" => chains::run(&rt, size),
         "ternary" => ternary::run(&rt, size),
         "pigeons" => pigeons::run(&rt, size),
-        "vertices" | "pairs" | "triples" | "steps" => kept::run(&rt, kind.as_str(), size),
+        "vertices" | "pairs" | "triples" | "steps" => memory::run(&rt, kind.as_str(), size),
         _ => Ok(()),
     }
 }

@@ -12,7 +12,7 @@ use Rattle.facts.specs.Graphs.{NodeView, brings_if, starts_if, starts_at, IsFact
 use Rattle.facts.specs.Places.{LinkView, PlaceView, unmarked_for, flags_of, flags_of_all, ArePlacesFrom}
 use Rattle.facts.specs.RuleLists.{number_on, all_rules, here_flags, lacks_flags, enabled_flags}
 use Rattle.facts.specs.Answers.{AreGivenBy}
-use Rattle.facts.specs.declared.finding.Facts.{Facts}
+use Rattle.facts.specs.declared.facts.Facts.{Facts}
 use Rattle.facts.proofs.Numbers.{Mark, is_here, lacking, is_on, is_enabled, on_marks, enabled_marks, block, marks_from, IsNumbered, numbered}
 use Rattle.facts.proofs.Sound.{IsTable, At, HoldsMark, rule_step, sound}
 use Rattle.facts.proofs.Complete.{Got, got}

@@ -4,7 +4,7 @@ use Rattle.chains.specs.Chains.{has, IsGiven}
 use Rattle.chains.specs.declared.rule.Rule.{Rule}
 use Rattle.facts.specs.Places.{PlaceView}
 use Rattle.facts.specs.RuleLists.{here_flags, lacks_flags, enabled_flags}
-use Rattle.facts.specs.declared.finding.Facts.{Facts}
+use Rattle.facts.specs.declared.facts.Facts.{Facts}
 
 -- the facts of places are those whose numbers the rules give from the start
 pub record AreGivenBy (rules : List Rule) (start : List Bool) (ps : List PlaceView) (f : Facts) : Type 0 where

@@ -15,11 +15,11 @@
 //! (`model/specs/Facts`) give.
 #![tactic(auto)]
 
-mod finding;
+mod facts;
 mod node;
 mod numbering;
 mod place;
 mod rules;
 
-pub use finding::{Facts, facts_of};
+pub use facts::{Facts, facts_of};
 pub use node::Node;

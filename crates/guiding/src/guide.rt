@@ -14,9 +14,9 @@ ghost use Rattle.vertices.specs.RefViews.{vertex_ref_view};
 ghost use Rattle.guiding.specs.Guides.{CanAsk, CanFollow, Follows, HasBegun, IsAsking, IsFollowed, IsUnasked, known};
 ghost use Rattle.guiding.specs.Remaining.{spaces_of};
 
-use crate::asking::{mark, put_given};
 use crate::choosing::{greatest, is_undecided};
 use crate::coming::come;
+use crate::given::{mark, put_given};
 use crate::leads::Leads;
 use crate::opening::{next_open, unless_asked};
 use crate::order::Order;

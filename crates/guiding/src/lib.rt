@@ -19,9 +19,9 @@
 //! kinds. One that follows a valid selection ends with a selection, in which the states of the given one are left.
 #![tactic(auto)]
 
-mod asking;
 mod choosing;
 mod coming;
+mod given;
 mod guide;
 mod leads;
 mod opening;

@@ -10,7 +10,7 @@ ghost use Rattle.manifest.specs.Values.{or_absent};
 ghost use Rattle.manifest.specs.Dependencies.{bare, registry, unsupported_in, source_of, real_name_of, named_feature, feature_names, feature_list, default_features_in, dependency_in, described, dependency_of, dependencies_in, section_at, section_of, sections_of, targets_in, targets_of};
 ghost use Rattle.manifest.specs.ShapeViews.{source_view, dependency_view, dependency_views};
 
-use crate::checks::check;
+use crate::check::check;
 use crate::fault::{ManifestFault, Part, Unsupported};
 use crate::section::{Kind, Place};
 use crate::table::{

@@ -13,7 +13,7 @@
 //! was wanting. The names and the version in a `Manifest` are valid ones by its type.
 #![tactic(auto)]
 
-mod checks;
+mod check;
 mod dependency;
 mod fault;
 mod feature;

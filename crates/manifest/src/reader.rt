@@ -12,7 +12,7 @@ ghost use Rattle.manifest.specs.Faults.{is_memory};
 ghost use Rattle.manifest.specs.Manifests.{uses, needs_workspace, sources_allowed, dependency_with, dependencies_of, manifest_of, manifest_of_bytes};
 ghost use Rattle.manifest.specs.ShapeViews as shaped;
 
-use crate::checks::check;
+use crate::check::check;
 use crate::dependency::{DependencyShape, Source};
 use crate::fault::{ManifestFault, Unsupported};
 use crate::feature::root_features;

@@ -2,7 +2,7 @@ use Rattle.std.proofs.Common.{◌≡◌, ℕ, zero, suc, List, [], ◌∷◌, ma
 use Rattle.version_sets.specs.Sets.{join, only}
 use Rattle.propagation.specs.Trails.{set_of}
 use Rattle.propagation.proofs.Vertices.{view_at}
-use Rattle.guiding.proofs.asking.mark.Goals as goal
+use Rattle.guiding.proofs.given.mark.Goals as goal
 
 map_set : {A B : Type 0} (f : A → B) (xs : List A) (i : ℕ) (x : A) → map f (slice_set xs i x) ≡ slice_set (map f xs) i (f x)
 map_set f [] i x = refl

@@ -3,7 +3,7 @@ use Rattle.facts.specs.Graphs.{node_views}
 use Rattle.facts.specs.Places.{place_views}
 use Rattle.facts.specs.RuleLists.{all_rules}
 use Rattle.facts.proofs.Whole.{below_made, here_made, enabled_made, lacks_made}
-use Rattle.facts.proofs.finding.facts_of.Goals as goal
+use Rattle.facts.proofs.facts.facts_of.Goals as goal
 
 pub facts_by-requires : goal.facts_by-requires
 facts_by-requires c =

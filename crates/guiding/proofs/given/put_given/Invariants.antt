@@ -3,7 +3,7 @@ use Rattle.std.specs.Vec.Iter.{into_iter_items}
 use Rattle.incompatibilities.specs.Stores.{entries_view}
 use Rattle.encoding.specs.CauseViews.{given_views}
 use Rattle.guiding.specs.Guides.{with_given}
-use Rattle.guiding.proofs.asking.put_given.Given as goal
+use Rattle.guiding.proofs.given.put_given.Given as goal
 
 -- the store so far with the instances that are left is the store with all of them
 abbrev pub invariant-given : goal.invariant-given

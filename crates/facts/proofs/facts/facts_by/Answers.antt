@@ -1,4 +1,4 @@
-use Rattle.facts.proofs.finding.facts_by.Goals as goal
+use Rattle.facts.proofs.facts.facts_by.Goals as goal
 
 pub returns : goal.returns
 returns c = record {
