@@ -16,6 +16,7 @@ use std::alloc::{AllocError, Global};
 use std::collections::BTreeMap;
 use std::collections::btree_map::Iter;
 use std::marker::Model;
+use std::rc::Rc;
 use thiserror::Error;
 
 /// The name that a dependency is called by, and whether it is optional.
@@ -54,10 +55,10 @@ impl From<AllocError> for FeatureFault {
 }
 
 /// The features of a package, each with its entries, by the bytes of their names: implicit features and `default` are
-/// among them.
+/// among them. A clone has the same map, for many versions of a package have the same features.
 #[derive(Drop)]
 pub struct FeatureTable {
-    features: BTreeMap<FeatureName, Vec<Entry>>,
+    features: Rc<BTreeMap<FeatureName, Vec<Entry>>>,
 }
 
 impl Model for FeatureTable {
@@ -66,7 +67,7 @@ impl Model for FeatureTable {
 
     ghost Value = { Table };
 
-    ghost view = { λ t. rows_of t.features.entries };
+    ghost view = { λ t. rows_of t.features.value.entries };
 }
 
 impl FeatureTable {
@@ -85,9 +86,7 @@ impl FeatureTable {
     {
         let implicit = implicit_rows(alloc, dependencies, &written)?;
         let features = with_rows(written, implicit)?;
-        Ok(FeatureTable {
-            features: with_default(alloc, features)?,
-        })
+        Ok(of_map(alloc, with_default(alloc, features)?)?)
     }
 
     /// The entries of a feature: none where the table lacks it.
@@ -113,6 +112,28 @@ impl FeatureTable {
     {
         self.features.contains_key(name)
     }
+}
+
+impl Clone for FeatureTable {
+    ghost is_clone = { λ table copy. copy ≡ table };
+
+    fn clone(&self) -> Result<FeatureTable, AllocError> {
+        Ok(FeatureTable {
+            features: self.features.clone()?,
+        })
+    }
+}
+
+/// The table with just these features.
+fn of_map(
+    alloc: Global,
+    features: BTreeMap<FeatureName, Vec<Entry>>,
+) -> Result<FeatureTable, AllocError>
+    ensures { IfOk result (λ t. t ≡ rows_of features.entries) }
+{
+    Ok(FeatureTable {
+        features: Rc::new(alloc, features)?,
+    })
 }
 
 /// A table with these rows too.

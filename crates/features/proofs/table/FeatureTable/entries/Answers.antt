@@ -1,14 +1,19 @@
-use Rattle.std.proofs.Common.{ap}
+use Rattle.std.proofs.Common.{◌≡◌, rules, ap, ◌∙◌}
 use Rattle.features.specs.EntryViews.{entry_views}
+use Rattle.features.specs.Tables.{rows_of}
 use Rattle.features.proofs.TableLemmas.{entries_at-get}
 use Rattle.features.proofs.table.FeatureTable.entries.Goals as goal
 
 pub returns-in-Some : goal.returns-in-Some
 returns-in-Some c =
-    let at = entries_at-get c.args.self.now c.self.inside.features.entries c.args.name.now _ c.self.view_is c.get.ensures.value in
+    let same : c.deref.result.now ≡ c.self.inside.features.value = search rules in
+    let seen : rows_of c.deref.result.now.entries ≡ c.args.self.now = ap (λ m. rows_of m.entries) same ∙ c.self.view_is in
+    let at = entries_at-get c.args.self.now c.deref.result.now.entries c.args.name.now _ seen c.get.ensures.value in
     rw (at, c.in-Some.is) (ap entry_views c.as_slice.ensures.value)
 
 pub returns-in-None : goal.returns-in-None
 returns-in-None c =
-    let at = entries_at-get c.args.self.now c.self.inside.features.entries c.args.name.now _ c.self.view_is c.get.ensures.value in
+    let same : c.deref.result.now ≡ c.self.inside.features.value = search rules in
+    let seen : rows_of c.deref.result.now.entries ≡ c.args.self.now = ap (λ m. rows_of m.entries) same ∙ c.self.view_is in
+    let at = entries_at-get c.args.self.now c.deref.result.now.entries c.args.name.now _ seen c.get.ensures.value in
     rw (at, c.in-None.is)
