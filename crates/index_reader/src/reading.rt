@@ -8,6 +8,10 @@ use std::fs;
 use std::io::{self, ErrorKind, Read};
 use std::rt::Files;
 
+/// The room that a file is read into at first. Most files of an index are shorter: of these one call reads the whole,
+/// and another finds the end. What is read into is cleared first, so more room would cost more than further calls.
+const FIRST_ROOM: usize = 4_096;
+
 /// Why a file gives no bytes.
 #[derive(Clone, Copy, Debug, PartialEq, Eq)]
 pub enum FileFault {
@@ -68,7 +72,7 @@ impl<F: Read + Drop> Fronted for F {
     ghost fails = { λ _ _. Unit {0} };
 
     fn front(self, alloc: Global, most: u64) -> io::Result<Vec<u8>> {
-        let mut bytes = Vec::new(alloc);
+        let mut bytes = Vec::with_capacity(alloc, FIRST_ROOM)?;
         self.take(most).read_to_end(&mut bytes)?;
         Ok(bytes)
     }
