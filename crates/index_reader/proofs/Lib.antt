@@ -1,6 +1,7 @@
 pub mod ReadLemmas
 pub mod PathLemmas
 pub mod WrittenLemmas
+pub mod MadeLemmas
 pub mod RisingLemmas
 pub mod FileLaws
 pub mod KeptLemmas

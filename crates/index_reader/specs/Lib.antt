@@ -1,6 +1,7 @@
 pub mod Lines
 pub mod Shapes
 pub mod Written
+pub mod Made
 pub mod Records
 pub mod Reasons
 pub mod Files

@@ -9,6 +9,7 @@ ghost use Rattle.index_reader.specs.Views.{file_view, contents_view};
 use crate::fault::{LineFault, Reason};
 use crate::kept::FileSoFar;
 use crate::line::read_unchecked;
+use crate::made::LineBefore;
 use crate::record::{Record, Skip};
 use features::PackageName;
 use json::Scratch;
@@ -64,8 +65,10 @@ fn read_texts(alloc: Global, name: &PackageName, texts: &[&[u8]]) -> Result<File
 {
     let mut file = FileSoFar::with_room(alloc, texts.len())?;
     let mut scratch = Scratch::new(alloc);
+    let mut before = LineBefore::none(texts.len());
     'texts: for (index, text) in texts.iter().enumerate() {
-        file = with_line(alloc, name, index as u64 + 1, text, file, &mut scratch)?;
+        let number = index as u64 + 1;
+        file = with_line(alloc, name, number, text, file, &mut scratch, &mut before)?;
     }
     Ok(file)
 }
@@ -78,13 +81,14 @@ fn with_line(
     text: &[u8],
     file: FileSoFar,
     scratch: &mut Scratch,
+    before: &mut LineBefore,
 ) -> Result<FileSoFar, AllocError>
     ensures { IfOk result (λ f. file_view f.records.items f.skips.items ≡ with_line name.now number text.now (file_view file.records.items file.skips.items)) }
 {
     if is_blank(text) {
         return Ok(file);
     }
-    match read_unchecked(alloc, name, text, scratch) {
+    match read_unchecked(alloc, name, text, scratch, before) {
         Ok(record) => file.with_found(name, number, record),
         Err(LineFault::Skipped(reason)) => file.with_skip(name, number, reason),
         Err(LineFault::OutOfMemory) => Err(AllocError),

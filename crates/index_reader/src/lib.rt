@@ -7,9 +7,9 @@
 //!
 //! It is to be fast too: a line is a tree that borrows its texts (`trees`), in room that is kept from line to line;
 //! line ends are found by `memchr`; each vector of a record takes the room that it needs, and a requirement no more
-//! than its comparators take. A folder is a trait (`Folder`) with a relation of its own, so that what stands on it is
-//! proved over every folder; `DiskFolder` is exact over anything that opens files (`Opens`), and of the system's call
-//! alone nothing is promised.
+//! than its comparators take; neighbouring lines that write the same features share one table (`made.rt`). A folder is
+//! a trait (`Folder`) with a relation of its own, so that what stands on it is proved over every folder; `DiskFolder`
+//! is exact over anything that opens files (`Opens`), and of the system's call alone nothing is promised.
 //!
 //! A layer above may rely on this: `read_line` and `read_file` give what the definitions give for the bytes, unless
 //! memory was wanting. No two records of a file have equal precedence, and each feature table knows its features.
@@ -23,6 +23,7 @@ mod folder;
 mod kept;
 mod laws;
 mod line;
+mod made;
 mod path;
 mod reading;
 mod record;

@@ -13,10 +13,11 @@ ghost use Rattle.index_reader.specs.Shapes.{texts_view, line_dependency_view, li
 ghost use Rattle.index_reader.specs.Views.{record_view};
 
 use crate::fault::{LineFault, Reason};
+use crate::made::{LineBefore, features_after};
 use crate::record::Record;
 use crate::shape::{DependencyShape, LineShape, PartShape, Required, read_shape};
 use crate::values::read_json;
-use crate::written::{feature_name, features};
+use crate::written::feature_name;
 use features::{Dependency, FeatureName, PackageName, Summary};
 use json::Scratch;
 use semver::{Version, VersionReq};
@@ -30,28 +31,40 @@ use std::alloc::{AllocError, Global};
 pub fn read_line(alloc: Global, name: &PackageName, line: &[u8]) -> Result<Record, LineFault>
     ensures { Gives is_memory record_view result (record_of_line name.now line.now) }
 {
-    let record = read_unchecked(alloc, name, line, &mut Scratch::new(alloc))?;
+    let record = read_unchecked(
+        alloc,
+        name,
+        line,
+        &mut Scratch::new(alloc),
+        &mut LineBefore::none(1),
+    )?;
     check(is_checksum(record.checksum.as_str()), Reason::BadChecksum)?;
     Ok(record)
 }
 
-/// The same, whatever the checksum is, with room that is kept from line to line.
+/// The same, whatever the checksum is, with room and a feature table that are kept from line to line.
 #[tactic(auto, unfolding(crate::specs::Records::unchecked_of_line))]
 pub(crate) fn read_unchecked(
     alloc: Global,
     name: &PackageName,
     line: &[u8],
     scratch: &mut Scratch,
+    before: &mut LineBefore,
 ) -> Result<Record, LineFault>
     ensures { Gives is_memory record_view result (unchecked_of_line name.now line.now) }
 {
     let tree = read_json(alloc, line, scratch)?;
     let shape = read_shape(alloc, &tree)?;
-    record_in(alloc, name, &shape)
+    record_in(alloc, name, &shape, before)
 }
 
 #[tactic(auto, unfolding(crate::specs::Records::unchecked_of_shape))]
-fn record_in(alloc: Global, name: &PackageName, shape: &LineShape<'_>) -> Result<Record, LineFault>
+fn record_in(
+    alloc: Global,
+    name: &PackageName,
+    shape: &LineShape<'_>,
+    before: &mut LineBefore,
+) -> Result<Record, LineFault>
     ensures { Gives is_memory record_view result (unchecked_of_shape name.now (shape_view shape.now)) }
 {
     check(shape.format == 1 || shape.format == 2, Reason::NewerFormat)?;
@@ -59,7 +72,7 @@ fn record_in(alloc: Global, name: &PackageName, shape: &LineShape<'_>) -> Result
     let version = version(alloc, shape.version)?;
     let parts = requirements(alloc, &shape.dependencies)?;
     let dependencies = dependencies(alloc, parts)?;
-    let features = features(alloc, shape)?;
+    let features = features_after(alloc, shape, before)?;
     check_registries(&shape.dependencies)?;
     Ok(Record {
         version,

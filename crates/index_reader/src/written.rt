@@ -20,14 +20,18 @@ use features::{DepName, Entry, EntryFault, FeatureFault, FeatureName, FeatureTab
 use std::alloc::{AllocError, Global};
 use std::collections::BTreeMap;
 
-/// The feature table of a line.
+/// The feature table of a line whose dependencies are called so.
 #[tactic(auto, unfolding(crate::specs::Written::features_of))]
-pub(crate) fn features(alloc: Global, line: &LineShape<'_>) -> Result<FeatureTable, LineFault>
+pub(crate) fn features(
+    alloc: Global,
+    line: &LineShape<'_>,
+    names: &[DepName],
+) -> Result<FeatureTable, LineFault>
+    requires { dep_names_view names.now ≡ dep_names_of (line_dependency_views line.now.dependencies.items) }
     ensures { Gives is_memory (λ t. t) result (features_of (shape_view line.now)) }
 {
     let written = written(alloc, line)?;
-    let names = dep_names(alloc, &line.dependencies)?;
-    table(alloc, &names, written)
+    table(alloc, names, written)
 }
 
 /// The features that a line writes: those of `features2` behind those of `features`.
@@ -194,7 +198,7 @@ pub(crate) fn feature_name(alloc: Global, text: &str) -> Result<FeatureName, Lin
 }
 
 /// What the dependencies are called, of whatever kind.
-fn dep_names(
+pub(crate) fn dep_names(
     alloc: Global,
     dependencies: &[DependencyShape<'_>],
 ) -> Result<Vec<DepName>, AllocError>
