@@ -4,8 +4,11 @@ use Rattle.model.specs.Axioms.{Term, at}
 use Rattle.model.specs.Derivation.{Step, given, combine}
 use Rattle.vertices.specs.Kinds.{kind_view}
 use Rattle.vertices.specs.RefViews.{state_ref_views}
+use Rattle.vertices.specs.declared.state.StateRef.{StateRef}
 use Rattle.derivations.specs.declared.named.NamedTerm.{NamedTerm}
 use Rattle.derivations.specs.declared.named.SetInOrder.{SetInOrder}
+use Rattle.derivations.specs.declared.named.StatesInOrder.{StatesInOrder}
+use Rattle.derivations.specs.declared.named.StatesInOrder.TheVariants.{Given, Sorted}
 use Rattle.derivations.specs.declared.stepping.NamedOrigin.{NamedOrigin}
 use Rattle.derivations.specs.declared.stepping.NamedOrigin.TheVariants.{Axiom, Combination}
 
@@ -15,8 +18,12 @@ named_view t = at t.vertex.now (state_ref_views t.states.now)
 abbrev pub named_views : List NamedTerm → List Term
 named_views ts = map named_view ts
 
+abbrev pub states_in_order : StatesInOrder → List StateRef
+states_in_order (Given states) = states.now
+states_in_order (Sorted states) = states.items
+
 abbrev pub set_in_order_view : SetInOrder → Term
-set_in_order_view t = at t.vertex.now (state_ref_views t.states.items)
+set_in_order_view t = at t.vertex.now (state_ref_views (states_in_order t.states))
 
 abbrev pub set_in_order_views : List SetInOrder → List Term
 set_in_order_views ts = map set_in_order_view ts

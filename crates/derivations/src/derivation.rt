@@ -152,7 +152,7 @@ impl Derivation {
         &mut self,
         alloc: Global,
         origin: NamedOrigin<'_>,
-        terms: Vec<SetInOrder<'_, '_>>,
+        terms: Vec<SetInOrder<'_, '_, '_>>,
     ) -> Result<(), AllocError>
         requires { IsStepAt (length self.old) (named_step_from origin (set_in_order_views terms.items)) }
         ensures ok { OnOk result (self.new ≡ self.old ++ named_step_from origin.entry (set_in_order_views terms.entry.items) ∷ []) }

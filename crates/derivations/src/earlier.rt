@@ -3,6 +3,7 @@
 ghost use Rattle.std.specs.Prelude.{◌≡◌, ◌<◌, IfSome, IsTrue, Ok, Some, length};
 ghost use Rattle.serde_json.specs.Find as json;
 ghost use Rattle.trees.specs.Trees.{tree_view, trees_view};
+ghost use Rattle.model.specs.Axioms.{at};
 ghost use Rattle.vertices.specs.RefViews.{state_ref_views};
 ghost use Rattle.vertices.specs.Texts.{state_text, vertex_text};
 ghost use Rattle.derivations.specs.Derivations.{IsTerm};
@@ -81,15 +82,34 @@ impl<'s> Earlier<'s> {
         &self,
         tables: &Tables,
         places: &mut Places,
-        set: &SetInOrder<'_, '_>,
+        set: &SetInOrder<'_, '_, '_>,
     ) -> Option<Term>
         requires { AreEarlier tables.now self.now }
         ensures within { IfSome result (IsTermOf tables.now) }
         ensures term { IfSome result (λ t. term_at tables.now t ≡ set_in_order_view set.now) }
     {
-        match find_set_among(tables, self.first, &mut places.first, set) {
+        let vertex = set.vertex.guess();
+        if !tables.has_vertex_at(vertex, set.vertex.vertex()) {
+            return None;
+        }
+        self.find_states(tables, places, vertex, set.states.as_slice())
+    }
+
+    /// The term among them with the vertex of this number and these states, if it is found.
+    fn find_states(
+        &self,
+        tables: &Tables,
+        places: &mut Places,
+        vertex: usize,
+        states: &[StateRef<'_>],
+    ) -> Option<Term>
+        requires { AreEarlier tables.now self.now }
+        ensures within { IfSome result (IsTermOf tables.now) }
+        ensures term { IfSome result (λ t. term_at tables.now t ≡ at (vertex_at tables.now vertex) (state_ref_views states.now)) }
+    {
+        match find_states_among(tables, self.first, &mut places.first, vertex, states) {
             Some(term) => Some(term),
-            None => find_set_among(tables, self.second, &mut places.second, set),
+            None => find_states_among(tables, self.second, &mut places.second, vertex, states),
         }
     }
 }
@@ -206,38 +226,61 @@ fn has_text(tables: &Tables, number: usize, value: &Value<'_>) -> bool
     }
 }
 
-/// The term with this vertex and these states among the terms of one step.
-fn find_set_among(
+/// The place of the first term whose vertex's number isn't less, among terms whose numbers rise: nothing follows from
+/// that. Most terms are looked for in their order here too.
+fn seek_number(terms: &[Term], from: usize, vertex: usize) -> usize {
+    if !is_below(terms, from, vertex) {
+        return from;
+    }
+    let next = from.wrapping_add(1);
+    if !is_below(terms, next, vertex) {
+        return next;
+    }
+    terms.partition_point(|term| term.vertex < vertex)
+}
+
+fn is_below(terms: &[Term], place: usize, vertex: usize) -> bool {
+    match terms.get(place) {
+        Some(term) => term.vertex < vertex,
+        None => false,
+    }
+}
+
+/// The term with the vertex of this number and these states among the terms of one step.
+fn find_states_among(
     tables: &Tables,
     terms: &[Term],
     from: &mut usize,
-    set: &SetInOrder<'_, '_>,
+    vertex: usize,
+    states: &[StateRef<'_>],
 ) -> Option<Term>
     requires { AreTermsBefore tables.now terms.now }
     ensures within { IfSome result (IsTermOf tables.now) }
-    ensures term { IfSome result (λ t. term_at tables.now t ≡ set_in_order_view set.now) }
+    ensures term { IfSome result (λ t. term_at tables.now t ≡ at (vertex_at tables.now vertex) (state_ref_views states.now)) }
 {
-    let place = seek(tables, terms, *from, set.vertex.text());
+    let place = seek_number(terms, *from, vertex);
+    *from = place;
     let Some(term) = terms.get(place) else {
         return None;
     };
-    let found = known_set(tables, term, set);
-    if found.is_some() {
-        *from = place.wrapping_add(1);
-    }
-    found
+    known_states(tables, term, vertex, states)
 }
 
-/// The term, if it has this vertex and these states.
-fn known_set(tables: &Tables, term: &Term, set: &SetInOrder<'_, '_>) -> Option<Term>
+/// The term, if it has the vertex of this number and these states.
+fn known_states(
+    tables: &Tables,
+    term: &Term,
+    vertex: usize,
+    states: &[StateRef<'_>],
+) -> Option<Term>
     requires { IsTermOf tables.now term.now }
     ensures within { IfSome result (IsTermOf tables.now) }
-    ensures term { IfSome result (λ t. term_at tables.now t ≡ set_in_order_view set.now) }
+    ensures term { IfSome result (λ t. term_at tables.now t ≡ at (vertex_at tables.now vertex) (state_ref_views states.now)) }
 {
-    if !tables.has_vertex_at(term.vertex, set.vertex.vertex()) {
+    if term.vertex != vertex {
         return None;
     }
-    if are_states(tables, tables.set(term.states), &set.states) {
+    if are_states(tables, tables.set(term.states), states) {
         Some(*term)
     } else {
         None

@@ -27,7 +27,7 @@ pub(crate) fn keep_named(
     tables: &mut Tables,
     steps: &[Step],
     origin: NamedOrigin<'_>,
-    terms: Vec<SetInOrder<'_, '_>>,
+    terms: Vec<SetInOrder<'_, '_, '_>>,
 ) -> Result<Step, AllocError>
     requires { IsReading tables.old steps.now }
     ensures grown { IsGrown tables.old tables.new }
@@ -71,7 +71,7 @@ fn keep_sets(
     alloc: Global,
     tables: &mut Tables,
     earlier: Earlier<'_>,
-    terms: Vec<SetInOrder<'_, '_>>,
+    terms: Vec<SetInOrder<'_, '_, '_>>,
 ) -> Result<Vec<Term>, AllocError>
     requires { AreEarlier tables.old earlier }
     ensures grown { IsGrown tables.old tables.new }
@@ -92,7 +92,7 @@ fn found_or_new(
     tables: &mut Tables,
     earlier: Earlier<'_>,
     places: &mut Places,
-    term: SetInOrder<'_, '_>,
+    term: SetInOrder<'_, '_, '_>,
 ) -> Result<Term, AllocError>
     requires { AreEarlier tables.old earlier }
     ensures grown { IsGrown tables.old tables.new }
@@ -108,15 +108,14 @@ fn found_or_new(
 fn keep_set(
     alloc: Global,
     tables: &mut Tables,
-    term: SetInOrder<'_, '_>,
+    term: SetInOrder<'_, '_, '_>,
 ) -> Result<Term, AllocError>
     ensures grown { IsGrown tables.old tables.new }
     ensures within { IfOk result (λ t. IsTermOf tables.new t) }
     ensures term { IfOk result (λ t. term_at tables.new t ≡ set_in_order_view term.entry) }
 {
-    let SetInOrder { vertex, states } = term;
-    let vertex = tables.add_spelt(alloc, vertex)?;
-    let numbers = keep_states(alloc, tables, states)?;
+    let vertex = tables.add_spelt(alloc, term.vertex)?;
+    let numbers = keep_states(alloc, tables, term.states.as_slice())?;
     let states = tables.add_set(numbers)?;
     Ok(Term { vertex, states })
 }
@@ -124,16 +123,16 @@ fn keep_set(
 fn keep_states(
     alloc: Global,
     tables: &mut Tables,
-    states: Vec<StateRef<'_>>,
+    states: &[StateRef<'_>],
 ) -> Result<Vec<usize>, AllocError>
     ensures grown { IsGrown tables.old tables.new }
     ensures within { IfOk result (λ v. AreStatesOf tables.new v.items) }
-    ensures states { IfOk result (λ v. states_at tables.new v.items ≡ state_ref_views states.entry.items) }
+    ensures states { IfOk result (λ v. states_at tables.new v.items ≡ state_ref_views states.now) }
 {
     let mut kept = Vec::with_capacity(alloc, states.len())?;
     let mut guess = 0usize;
     'states: for state in states {
-        let number = tables.add_state_ref(alloc, state, guess)?;
+        let number = tables.add_state_ref(alloc, *state, guess)?;
         guess = number.wrapping_add(1);
         kept.push(number)?;
     }

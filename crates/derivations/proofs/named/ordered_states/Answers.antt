@@ -1,15 +1,14 @@
-use Rattle.std.proofs.Common.{◌≡◌, ◌++◌, ap, rules, subst, ◌∙◌}
-use Rattle.std.specs.List.Sorted.{IsPermutation}
+use Rattle.std.proofs.Common.{rules, sym}
 use Rattle.std.specs.Ordering.{is_lt}
-use Rattle.std.proofs.lemmas.List.Sorted.{answers_always, ranks_by}
+use Rattle.std.proofs.lemmas.Cmp.{is_lt_index}
+use Rattle.std.proofs.lemmas.List.Sorted.{answers_always, IsPermutation-refl}
 use Rattle.vertices.specs.Orders.{state_cmp}
 use Rattle.vertices.specs.RefViews.{state_ref_view}
 use Rattle.vertices.proofs.OrderLaws.{state_total}
-use Rattle.derivations.proofs.Sorting.{sorted-run}
+use Rattle.derivations.proofs.Sorting.{ordered-run}
 use Rattle.derivations.proofs.named.ordered_states.Goals as goal
 
-pub returns : goal.returns
-returns c =
-    let sorted = c.sort_unstable_by.ensures.sorted (λ x y. is_lt (state_cmp (state_ref_view x) (state_ref_view y))) (ranks_by state_total state_ref_view) (answers_always _ _ _ (λ f a r g called. search rules)) in
-    let copied : c.extend_from_slice.new.self.items ≡ c.args.states.now = c.in_ok-extend_from_slice.ensures.items ∙ ap (λ xs. xs ++ c.args.states.now) c.in_ok-ordered.ensures.items in
-    sorted-run state_total state_ref_view c.args.states.now c.sort_unstable_by.new.self.items (subst (λ xs. IsPermutation xs c.sort_unstable_by.new.self.items) copied c.sort_unstable_by.ensures.permutation) sorted c.requires
+pub returns-then-is_sorted_by : goal.returns-then-is_sorted_by
+returns-then-is_sorted_by c =
+    let cases = c.is_sorted_by.ensures.cases (λ x y. is_lt (state_cmp (state_ref_view x) (state_ref_view y))) (answers_always _ _ _ (λ f a r g called. search (rules, is_lt_index))) in
+    sym (ordered-run state_total state_ref_view c.args.states.now c.args.states.now (IsPermutation-refl _) _ c.if-is_sorted_by.true cases).1

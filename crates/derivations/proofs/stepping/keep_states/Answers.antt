@@ -1,22 +1,24 @@
-use Rattle.std.proofs.Common.{◌≡◌, ◌+◌, ◌∷◌, length, arith, ap}
-use Rattle.std.specs.Vec.Iter.{into_iter_items, into_iter_len}
+use Rattle.std.proofs.Common.{◌≡◌, ◌+◌, ◌++◌, ◌∷◌, [], append-nil, ap, ap₂, sym, take, ◌∙◌}
+use Rattle.std.proofs.lemmas.List.{map_more}
 use Rattle.vertices.specs.RefViews.{state_ref_view, state_ref_views}
 use Rattle.derivations.proofs.TableLaws.{grown-trans, more-states}
 use Rattle.derivations.proofs.stepping.keep_states.Goals as goal
 
 pub states-preserved : goal.states-preserved
 states-preserved c =
-    let here : into_iter_items c.states.state-iterator ≡ c.in-Some.state ∷ into_iter_items c.next.new.self = c.in-Some.ensures.steps.0 in
-    let left : into_iter_len c.next.new.self + 1 ≡ into_iter_len c.states.state-iterator = c.in-Some.ensures.steps.1 in
-    let count = ap length here in
+    let i = c.states.state-index in
+    let s = c.state-item.result in
     let number = c.in_ok-number.ensures.number in
-    let more = more-states c.states.tables c.add_state_ref.new.self c.states.kept.items c.in_ok-number.number (state_ref_view c.in-Some.state) (state_ref_views (into_iter_items c.next.new.self)) (state_ref_views c.args.states.items)
-    c.in_ok-number.ensures.grown c.states.invariant.within number.0 number.1 (rw here at c.states.invariant.told) in
-    record {
-      can = tt;
-      finite = tt;
-      counted = let before = c.states.invariant.counted in omega arith;
-      grown = grown-trans c.args.tables.now c.states.tables c.add_state_ref.new.self c.states.invariant.grown c.in_ok-number.ensures.grown;
-      within = rw c.in_ok-push.ensures.items more.0;
-      told = rw c.in_ok-push.ensures.items more.1;
-    }
+    let next = ap₂ (λ xs x. xs ++ x ∷ []) c.states.invariant.2 (ap state_ref_view c.state-item.is) ∙ sym (map_more state_ref_view c.args.states.now i s c.states-test.true) in
+    let more = more-states c.states.tables c.add_state_ref.new.self c.states.kept.items c.in_ok-number.number (state_ref_view s) [] (state_ref_views (take (i + 1) c.args.states.now))
+    c.in_ok-number.ensures.grown c.states.invariant.1 number.0 number.1 next in (
+      grown-trans c.args.tables.now c.states.tables c.add_state_ref.new.self c.states.invariant.0 c.in_ok-number.ensures.grown,
+      rw c.in_ok-push.ensures.items more.0,
+      rw c.in_ok-push.ensures.items (sym (append-nil _) ∙ more.1),
+    )
+
+pub returns-in_err-number-clause-grown : goal.returns-in_err-number-clause-grown
+returns-in_err-number-clause-grown c = grown-trans c.args.tables.now c.states.tables c.add_state_ref.new.self c.states.invariant.0 c.in_err-number.ensures.grown
+
+pub returns-in_err-push-clause-grown : goal.returns-in_err-push-clause-grown
+returns-in_err-push-clause-grown c = grown-trans c.args.tables.now c.states.tables c.add_state_ref.new.self c.states.invariant.0 c.in_ok-number.ensures.grown
