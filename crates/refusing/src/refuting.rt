@@ -11,6 +11,7 @@ ghost use Rattle.decoding.specs.Steps.{AreStepsOf, IsNeeded};
 ghost use Rattle.searching.specs.Searching.{AreTouching};
 ghost use Rattle.refusing.specs.Refusing.{AreInstances, HasNoMore};
 
+use crate::listing::list_by_text;
 use crate::spaces::Spaces;
 use crate::stepping::push_step;
 use catalogue::catalogues_are_well_formed;
@@ -39,6 +40,8 @@ fn steps_of<'a, S: States + Drop>(
     catalogues_are_well_formed(inputs.manifest, inputs.catalogue);
     let mut spaces = Spaces::new(alloc);
     let mut steps = Derivation::new(alloc);
+    let ids = kept.ids.as_slice();
+    list_by_text(alloc, inputs, table, store, ids, &mut spaces, &mut steps)?;
     'entries: for id in kept.ids.iter() {
         push_step(
             alloc,

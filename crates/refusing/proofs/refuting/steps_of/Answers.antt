@@ -1,19 +1,29 @@
-use Rattle.std.proofs.Common.{◌≡◌, ◌≤◌, ◌++◌, ◌∷◌, [], ℕ, List, length, sym, subst, arith}
+use Rattle.std.proofs.Common.{◌≡◌, ◌≤◌, ◌++◌, ◌∷◌, [], ℕ, List, length, sym, subst, arith, ◌∙◌}
 use Rattle.incompatibilities.specs.Stores.{entries_view, entry}
 use Rattle.model.specs.Derivation.{Step}
 use Rattle.encoding.specs.Inputs.{problem}
 use Rattle.decoding.specs.Needs.{place_in}
 use Rattle.decoding.specs.Steps.{AreStepsOf, IsStepOf}
 use Rattle.refusing.specs.Refusing.{IsNext}
+use Rattle.refusing.proofs.NewTerms.{vertices_read}
 use Rattle.refusing.proofs.Places.{IsRead, all_at, more_at, next_at}
 use Rattle.refusing.proofs.refuting.steps_of.Goals as goal
 
 pub entries-init : goal.entries-init
 entries-init g c = (
-  c.new-spaces.ensures.listed (problem c.args.inputs.now) c.args.table.now,
-  c.new-spaces.ensures.spelt c.args.table.now,
-  subst (λ d. AreStepsOf (problem c.args.inputs.now) c.args.table.now (entries_view g.S.States.tests c.args.store.now) (place_in c.args.kept.now.places.items) [] d) (sym c.new-steps.ensures) tt,
+  c.list_by_text.ensures.listed,
+  c.list_by_text.ensures.spelt,
+  subst (λ d. AreStepsOf (problem c.args.inputs.now) c.args.table.now (entries_view g.S.States.tests c.args.store.now) (place_in c.args.kept.now.places.items) [] d) (sym (c.list_by_text.ensures.steps ∙ c.new-steps.ensures)) tt,
 )
+
+pub list_by_text-requires-clause-listed : goal.list_by_text-requires-clause-listed
+list_by_text-requires-clause-listed g c = c.new-spaces.ensures.listed (problem c.args.inputs.now) c.args.table.now
+
+pub list_by_text-requires-clause-spelt : goal.list_by_text-requires-clause-spelt
+list_by_text-requires-clause-spelt g c = c.new-spaces.ensures.spelt c.args.table.now
+
+pub list_by_text-requires-clause-valid : goal.list_by_text-requires-clause-valid
+list_by_text-requires-clause-valid g c = vertices_read (problem c.args.inputs.now) c.requires.parts c.args.table.now c.requires.numbering.there
 
 pub push_step-requires-clause-next : goal.push_step-requires-clause-next
 push_step-requires-clause-next g c =
