@@ -117,9 +117,10 @@ fn push_term(
     ensures { OnOk result (string_bytes text.new ≡ string_bytes text.old ++ (text_if later (codes " and ") ++ term_words (term_at texts.now term.now))) }
 {
     push_if(text, later, " and ")?;
-    let vertex = texts.vertex(term.vertex);
-    let states = texts.set(term.states);
-    write!(text, "{vertex} in {{{states}}}")
+    text.push_str(texts.vertex(term.vertex))?;
+    text.push_str(" in {")?;
+    text.push_str(texts.set(term.states))?;
+    text.push_str("}")
 }
 
 fn push_origin(text: &mut String, needed: &[usize], origin: &Origin) -> Result<(), AllocError>
