@@ -1,8 +1,9 @@
-"""What the scripts of hostile and large inputs share: manifests, index files and locks as texts, and runs."""
+"""What the scripts share: manifests, index files and locks as texts, runs of the program, and programs of their own."""
 import contextlib
 import json
 import os
 import resource
+import shutil
 import signal
 import subprocess
 import sys
@@ -184,3 +185,19 @@ class Tally:
     def end(self):
         print(f"{self.well} as promised, {self.wrong} not")
         sys.exit(1 if self.wrong else 0)
+
+
+# ---- programs of their own
+
+def tried(main, uses, words):
+    """What a program over these crates prints for words that are paths, in a copy of the repository and unproved."""
+    with tempfile.TemporaryDirectory() as at:
+        for name in ("crates.txt", "HANDLES"):
+            shutil.copy(name, at)
+        shutil.copytree("crates", f"{at}/crates", ignore=shutil.ignore_patterns("out", "data"))
+        write(f"{at}/crates/counting/src/main.rt", main)
+        with open(f"{at}/crates.txt", "a", encoding="utf-8") as it:
+            it.write(f"counting: {uses}\n")
+        call = ["rt", "try", "--seconds", "1800", "--", *map(os.path.abspath, words)]
+        how = {"cwd": f"{at}/crates/counting", "stdout": subprocess.PIPE, "stderr": subprocess.STDOUT}
+        return subprocess.run(call, encoding="utf-8", errors="replace", **how).stdout
