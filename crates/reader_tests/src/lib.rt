@@ -1,10 +1,14 @@
-//! Tests of what no run of the program calls: a folder in memory, a line alone, a plain table, and the texts of its
-//! faults.
+//! Tests of what no run of the program calls: a folder in memory, a line of an index alone, a plain table, the texts of
+//! its faults; derivations as lines, and one that is built.
 #![tactic(auto)]
 
+#[cfg(test)]
+mod built_refusals;
 #[cfg(test)]
 mod folders;
 #[cfg(test)]
 mod lines;
+#[cfg(test)]
+mod refusals;
 #[cfg(test)]
 mod tables;

@@ -1,16 +1,34 @@
-//! Tests of the algebra under the search and of its trail, at both bodies of their sets. Data and few functions: each
-//! function is proved before it runs.
+//! Tests of the algebra under the search, of its trail and of the search itself, at both bodies of their sets. The search
+//! runs with three small guides: one whose axioms all stand in the store from the start, one whose vertices and axioms
+//! come as they are asked for, and one that borrows what it knows. Each function is proved before it runs; all are
+//! compiled for the tests alone, so that they are proved once.
 #![tactic(auto)]
 
 #[cfg(test)]
 mod against_plain;
 #[cfg(test)]
+mod borrowing;
+#[cfg(test)]
 mod both_bodies;
 #[cfg(test)]
+mod demanding;
+#[cfg(test)]
+mod generated;
+#[cfg(test)]
+mod made_stores;
+#[cfg(test)]
+mod on_demand;
+#[cfg(test)]
+mod pigeons;
+#[cfg(test)]
 mod plain;
+#[cfg(test)]
+mod preferring;
 #[cfg(test)]
 mod sets;
 #[cfg(test)]
 mod stores;
 #[cfg(test)]
 mod trails;
+#[cfg(test)]
+mod worked;

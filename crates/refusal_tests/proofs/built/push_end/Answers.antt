@@ -1,5 +1,0 @@
-use Rattle.refusal_tests.proofs.NewTerms.{no-term}
-use Rattle.refusal_tests.proofs.built.push_end.Goals as goal
-
-pub push_named_combination-requires-clause-terms : goal.push_named_combination-requires-clause-terms
-push_named_combination-requires-clause-terms c = no-term

@@ -1,0 +1,55 @@
+-- The start of a search on full sets.
+use Rattle.std.proofs.Common.{◌≡◌, ℕ, zero, suc, ◌<◌, true, false, List, [], ◌∷◌, length, get_or, refl, sym, ap, ◌∙◌, subst, arith}
+use Rattle.std.proofs.lemmas.Bool.{false≢true}
+use Rattle.std.proofs.lemmas.List.{length-replicate}
+use Rattle.version_sets.specs.Sets.{Members, every, has, size}
+use Rattle.incompatibilities.specs.Incompatibilities.{Assignment}
+use Rattle.incompatibilities.specs.Stores.{EntryView, terms_of}
+use Rattle.propagation.specs.Satisfaction.{Agrees}
+use Rattle.propagation.specs.Promises.{IsNew, IsTrail, LieIn}
+use Rattle.propagation.specs.Trails.{TrailView, set_of, space_of}
+use Rattle.propagation.proofs.SetLemmas.{has_some}
+use Rattle.propagation.proofs.Vertices.{in_range}
+use Rattle.searching.specs.Searching.{HasSpaces, Pairs}
+use Rattle.searching.specs.Turning.{HasEnded}
+use Rattle.searching.specs.Walking.{IsDecidedBut}
+use Rattle.searching.specs.declared.turns.Answer.{Answer}
+use Rattle.searching.specs.declared.turns.Answer.TheVariants.{Selection, Unsolvable}
+use Rattle.searching.proofs.Selections.{not_broken}
+use Rattle.search_tests.specs.Universes.{AllDecided, AllLie, IsWithinAll, Selects}
+
+pub none_size : (s : Members) → ((i : ℕ) → i < length s → has s i ≡ false) → size s ≡ 0
+none_size [] none = refl
+none_size (true ∷ s) none = absurd (false≢true (sym (none 0 (omega arith))))
+none_size (false ∷ s) none = none_size s (λ i lt. none (suc i) (omega (arith, lt)))
+
+space_is : (spaces : List ℕ) (t : TrailView) → IsNew spaces t → (u : ℕ) → space_of t u ≡ get_or spaces u 0
+space_is spaces t new u = ap length (new.full u) ∙ length-replicate (get_or spaces u 0) true
+
+pub has_spaces : (spaces : List ℕ) (t : TrailView) → IsNew spaces t → HasSpaces spaces t
+has_spaces spaces t new = record { vertices = new.vertices; each = space_is spaces t new }
+
+pub lie_in : (spaces : List ℕ) (t : TrailView) (es : List EntryView) → IsNew spaces t → AllLie spaces es → LieIn t es
+lie_in spaces t es new all id lt u s e = all id lt u s e ∙ sym (space_is spaces t new u)
+
+has_every : (n i : ℕ) → i < n → has (every n) i ≡ true
+has_every zero i lt = absurd (omega (arith, lt))
+has_every (suc n) zero lt = refl
+has_every (suc n) (suc i) lt = has_every n i (omega (arith, lt))
+
+pub agrees_new : (spaces : List ℕ) (t : TrailView) (x : Assignment) → IsNew spaces t → IsWithinAll spaces x → Agrees x t.sets
+agrees_new spaces t x new within u lt = subst (λ s. has s (x u) ≡ true) (sym (new.full u)) (has_every (get_or spaces u 0) (x u) (within u (omega (arith, lt, new.vertices))))
+
+-- the end of a search that decides all vertices
+has_long : (s : Members) (i : ℕ) → has s i ≡ true → 0 < length s
+has_long [] i h = absurd (false≢true h)
+has_long (b ∷ s) i h = omega arith
+
+decided_all : (es : List EntryView) (t : TrailView) (x : Assignment) → IsTrail es t → AllDecided t → Agrees x t.sets → (id : ℕ) → id < length es → IsDecidedBut 0 x t.sets (terms_of es id)
+decided_all es t x trail done agrees id lt u ne s e h =
+    let within : u < length t.sets = in_range t.sets u (omega (arith, trail.lies id lt u s e, has_long s (x u) h)) in
+    omega (arith, done u within, has_some (set_of t.sets u) (x u) (agrees u within))
+
+pub selects : (asked : Pairs) (es : List EntryView) (t : TrailView) (a : Answer) → IsTrail es t → HasEnded (AllDecided t) asked es t a → Selects es t a
+selects asked es t Selection trail ended = λ x agrees id lt on breaks. not_broken x t.sets (terms_of es id) 0 (trail.lies id lt) agrees (ended.2 id lt on) (decided_all es t x trail ended.0 agrees id lt) breaks
+selects asked es t (Unsolvable i) trail ended = tt

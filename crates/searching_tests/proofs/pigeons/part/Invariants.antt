@@ -1,6 +1,0 @@
-use Rattle.incompatibilities.specs.Stores.{entries_view}
-use Rattle.searching_tests.specs.Universes.{AllLie}
-use Rattle.searching_tests.proofs.pigeons.part.Given as goal
-
-abbrev pub invariant-holes : goal.invariant-holes
-invariant-holes g l = AllLie l.spaces (entries_view g.S.States.tests l.store)

@@ -1,7 +1,0 @@
-use Rattle.terms.specs.Terms.{terms_view}
-use Rattle.search_trials.proofs.Fitting.{AreSoFar}
-use Rattle.searching_tests.specs.Universes.{universe_at}
-use Rattle.searching_tests.proofs.stores.terms_of.Given as goal
-
-abbrev pub invariant-said : goal.invariant-said
-invariant-said g l = AreSoFar (universe_at l.spaces) l.low (terms_view g.S.States.tests l.terms.items)
