@@ -1,12 +1,12 @@
 //! `worked_cases FOLDER`: plays the cases of a folder, and says which commands end otherwise than told.
 #![tactic(auto)]
 
+mod case;
 mod helping;
-mod playing;
 mod sessions;
 mod sink;
 
-use playing::play;
+use case::play;
 use std::process::ExitCode;
 use std::{env, fs, io};
 
