@@ -11,7 +11,7 @@ use Rattle.model.specs.Vertices.{Owner, the_root, version_of}
 use Rattle.catalogue.specs.Stores.{CatalogueView, rows_by_name}
 use Rattle.lockfile.specs.Views.{package_view}
 use Rattle.facts.specs.Graphs.{NodeView, flag_at, flag_in, target_at}
-use Rattle.contents.specs.declared.kept.Kept.{Kept}
+use Rattle.contents.specs.declared.placed.PlacedPackage.{PlacedPackage}
 use Rattle.contents.specs.declared.stop.Stop.{Stop}
 
 -- ---- stops
@@ -61,11 +61,11 @@ pub record Grows (index : CatalogueView) (old new : List Stop) : Type 0 where
 abbrev pub Placed : Type 0
 Placed = Package × ℕ
 
-abbrev pub kept_view : Kept → Placed
-kept_view k = (package_view k.locked, k.place)
+abbrev pub placed_view : PlacedPackage → Placed
+placed_view k = (package_view k.locked, k.place)
 
-abbrev pub kept_views : List Kept → List Placed
-kept_views ks = map kept_view ks
+abbrev pub placed_views : List PlacedPackage → List Placed
+placed_views ks = map placed_view ks
 
 -- the package at a place that is here
 abbrev pub package_if : Problem → Bool → Option Owner → Option Package

@@ -11,9 +11,9 @@ ghost use Rattle.model.specs.Vertices.{the_root};
 ghost use Rattle.model.specs.Order.{package_cmp};
 ghost use Rattle.model.specs.ContentOf.{package_of};
 ghost use Rattle.reaching.specs.Built.{IsBuilt};
-ghost use Rattle.contents.specs.Contents.{AreInOrder, AreKept, AreStops, IsThere, kept_views, kept_with, owners_of, package_if, stop_owner};
+ghost use Rattle.contents.specs.Contents.{AreInOrder, AreKept, AreStops, IsThere, placed_views, kept_with, owners_of, package_if, stop_owner};
 
-use crate::kept::Kept;
+use crate::placed::PlacedPackage;
 use crate::listing::listed;
 use crate::stop::{Stop, store_holds};
 use catalogue::Catalogue;
@@ -49,9 +49,9 @@ fn kept_of(
     catalogue: &Catalogue,
     stops: &[Stop],
     here: &[bool],
-) -> Result<Vec<Kept>, AllocError>
+) -> Result<Vec<PlacedPackage>, AllocError>
     requires stops { AreStops catalogue.now stops.now }
-    ensures { IfOk result (λ v. AreKept (problem_in manifest.now catalogue.now) (owners_of catalogue.now stops.now) here.now (length here.now) (kept_views v.items)) }
+    ensures { IfOk result (λ v. AreKept (problem_in manifest.now catalogue.now) (owners_of catalogue.now stops.now) here.now (length here.now) (placed_views v.items)) }
 {
     let mut kept = Vec::new(alloc);
     'places: for (place, here) in here.iter().enumerate() {
@@ -81,11 +81,11 @@ fn package_if(
 }
 
 /// Puts a package last, if there is one.
-fn keep(kept: &mut Vec<Kept>, found: Option<Package>, place: usize) -> Result<(), AllocError>
-    ensures { OnOk result (kept_views kept.new.items ≡ kept_with (kept_views kept.old.items) (option_map package_view found) place) }
+fn keep(kept: &mut Vec<PlacedPackage>, found: Option<Package>, place: usize) -> Result<(), AllocError>
+    ensures { OnOk result (placed_views kept.new.items ≡ kept_with (placed_views kept.old.items) (option_map package_view found) place) }
 {
     if let Some(locked) = found {
-        kept.push(Kept { locked, place })?;
+        kept.push(PlacedPackage { locked, place })?;
     }
     Ok(())
 }
@@ -158,10 +158,10 @@ fn stop_package(
 }
 
 /// The packages in package order; no two of them tie.
-fn sorted(mut kept: Vec<Kept>) -> Result<Vec<Kept>, AllocError>
-    requires { AllPairs (λ k m. package_cmp k.0 m.0 ≢ Equal) (kept_views kept.items) }
-    ensures permutes { IfOk result (λ v. IsPermutation (kept_views kept.items) (kept_views v.items)) }
-    ensures order { IfOk result (λ v. AreInOrder (kept_views v.items)) }
+fn sorted(mut kept: Vec<PlacedPackage>) -> Result<Vec<PlacedPackage>, AllocError>
+    requires { AllPairs (λ k m. package_cmp k.0 m.0 ≢ Equal) (placed_views kept.items) }
+    ensures permutes { IfOk result (λ v. IsPermutation (placed_views kept.items) (placed_views v.items)) }
+    ensures order { IfOk result (λ v. AreInOrder (placed_views v.items)) }
 {
     kept.sort_by(|a, b| package_order(&a.locked, &b.locked))?;
     Ok(kept)

@@ -15,8 +15,8 @@
 
 mod bringing;
 mod building;
-mod kept;
 mod listing;
+mod placed;
 mod putting;
 mod stop;
 

@@ -4,9 +4,9 @@ ghost use Rattle.std.specs.Prelude.{◌≡◌, ◌≢◌, ◌↔◌, ◌<◌, �
 ghost use Rattle.std.specs.List.{All, AllPairs};
 ghost use Rattle.facts.specs.Graphs.{flag_at, node_views};
 ghost use Rattle.lockfile.specs.Views.{package_views};
-ghost use Rattle.contents.specs.Contents.{AreListed, AreRanks, HaveLists, IsListed, IsRising, flags_at, kept_views, places_in, rank_if, ranks_from, targets_at, with_rank};
+ghost use Rattle.contents.specs.Contents.{AreListed, AreRanks, HaveLists, IsListed, IsRising, flags_at, placed_views, places_in, rank_if, ranks_from, targets_at, with_rank};
 
-use crate::kept::Kept;
+use crate::placed::PlacedPackage;
 use facts::{Facts, Node};
 use lockfile::Package;
 use std::alloc::{AllocError, Global};
@@ -14,13 +14,13 @@ use std::alloc::{AllocError, Global};
 /// The packages, each with the ranks of the targets of its enabled dependencies.
 pub(crate) fn listed(
     alloc: Global,
-    kept: Vec<Kept>,
+    kept: Vec<PlacedPackage>,
     nodes: &[Node<'_>],
     facts: &Facts,
 ) -> Result<Vec<Package>, AllocError>
-    requires apart { AllPairs (λ m n. m ≢ n) (places_in (kept_views kept.items)) }
-    requires within { All (λ n. n < length nodes.now) (places_in (kept_views kept.items)) }
-    ensures { IfOk result (λ v. AreListed (node_views nodes.now) (map (λ v. v.items) facts.now.enabled.items) (kept_views kept.items) (package_views v.items)) }
+    requires apart { AllPairs (λ m n. m ≢ n) (places_in (placed_views kept.items)) }
+    requires within { All (λ n. n < length nodes.now) (places_in (placed_views kept.items)) }
+    ensures { IfOk result (λ v. AreListed (node_views nodes.now) (map (λ v. v.items) facts.now.enabled.items) (placed_views kept.items) (package_views v.items)) }
 {
     let ranks = ranks_of(alloc, nodes.len(), kept.as_slice())?;
     with_lists(
@@ -35,16 +35,16 @@ pub(crate) fn listed(
 /// The packages with the lists that the ranks give.
 fn with_lists(
     alloc: Global,
-    kept: Vec<Kept>,
+    kept: Vec<PlacedPackage>,
     nodes: &[Node<'_>],
     enabled: &[Vec<bool>],
     ranks: &[Option<usize>],
 ) -> Result<Vec<Package>, AllocError>
-    ensures { IfOk result (λ v. HaveLists (node_views nodes.now) (map (λ v. v.items) enabled.now) ranks.now (kept_views kept.items) (package_views v.items)) }
+    ensures { IfOk result (λ v. HaveLists (node_views nodes.now) (map (λ v. v.items) enabled.now) ranks.now (placed_views kept.items) (package_views v.items)) }
 {
     let mut packages = Vec::new(alloc);
     'kept: for kept in kept {
-        let Kept { mut locked, place } = kept;
+        let PlacedPackage { mut locked, place } = kept;
         locked.list = list_at(alloc, nodes, enabled, ranks, place)?;
         packages.push(locked)?;
     }
@@ -52,10 +52,10 @@ fn with_lists(
 }
 
 /// By place, the rank of the package that has this place.
-fn ranks_of(alloc: Global, count: usize, kept: &[Kept]) -> Result<Vec<Option<usize>>, AllocError>
-    requires apart { AllPairs (λ m n. m ≢ n) (places_in (kept_views kept.now)) }
-    requires within { All (λ n. n < count) (places_in (kept_views kept.now)) }
-    ensures { IfOk result (λ v. AreRanks (places_in (kept_views kept.now)) v.items) }
+fn ranks_of(alloc: Global, count: usize, kept: &[PlacedPackage]) -> Result<Vec<Option<usize>>, AllocError>
+    requires apart { AllPairs (λ m n. m ≢ n) (places_in (placed_views kept.now)) }
+    requires within { All (λ n. n < count) (places_in (placed_views kept.now)) }
+    ensures { IfOk result (λ v. AreRanks (places_in (placed_views kept.now)) v.items) }
 {
     let mut ranks = vec![in alloc; None; count]?;
     'kept: for (rank, kept) in kept.iter().enumerate() {
