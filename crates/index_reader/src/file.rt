@@ -7,7 +7,7 @@ ghost use Rattle.trees.specs.Lines.{is_line_end};
 ghost use Rattle.index_reader.specs.Views.{file_view, contents_view};
 
 use crate::fault::{LineFault, Reason};
-use crate::kept::FileSoFar;
+use crate::file_so_far::FileSoFar;
 use crate::line::read_unchecked;
 use crate::made::LineBefore;
 use crate::record::{Record, Skip};

@@ -9,7 +9,7 @@ use Rattle.index_reader.specs.Files.{has_version}
 use Rattle.index_reader.specs.Kept.{bare, has_equal}
 use Rattle.index_reader.specs.Views.{record_view}
 use Rattle.index_reader.proofs.KeptLemmas.{found-bare, agrees-more, from_not}
-use Rattle.index_reader.proofs.kept.FileSoFar.with_record.Goals as goal
+use Rattle.index_reader.proofs.file_so_far.FileSoFar.with_record.Goals as goal
 
 pub returns-then-not-branch : goal.returns-then-not-branch
 returns-then-not-branch c =
