@@ -1,4 +1,4 @@
--- What the function that says the first refusal means: which step is the first that isn't accepted.
+-- What the function that gives the first refused step means: which step is the first that isn't accepted.
 use Rattle.std.proofs.Common.{◌≡◌, ◌↔◌, inl, inr, ℕ, suc, ◌+◌, ◌-◌, List, [], ◌∷◌, ◌++◌, Bool, true, false, cond, Option, Some, None, slice_get, length, refl, sym, ap, ap₂, ◌∙◌, subst, true≢false, arith}
 use Rattle.std.specs.Option.{option_or}
 use Rattle.std.proofs.lemmas.List.{append-nil, append_assoc}
@@ -7,12 +7,12 @@ use Rattle.model.specs.Content.{Problem}
 use Rattle.model.specs.Axioms.{AreApart}
 use Rattle.model.specs.Derivation.{Step, given, combine, terms_of, IsStep, AreSteps, none_yet, one_more, IsAccepted}
 use Rattle.refutations.specs.Checks as model
-use Rattle.refutations.specs.Checks.{Refusal, ArePlain, combines, is_step, reason_of, first_refused, is_none_left, end_if, end_refused, refusal, not_an_axiom, not_combined, not_final}
-use Rattle.refutations.proofs.Accepting.{refusal-is}
+use Rattle.refutations.specs.Checks.{RefusedStep, ArePlain, combines, is_step, reason_of, first_refused, is_none_left, end_if, end_refused, refused_step, not_an_axiom, not_combined, not_final}
+use Rattle.refutations.proofs.Accepting.{refused-is}
 use Rattle.refutations.proofs.Found.{instance-is}
 use Rattle.refutations.proofs.Sets.{is_combination-is}
 use Rattle.checker.specs.Answers.{check_view, reason_view}
-use Rattle.checker.specs.Refusals.{reason_for, IsRefusedAt}
+use Rattle.checker.specs.RefusedSteps.{reason_for, IsRefusedAt}
 use Rattle.checker.specs.declared.outcome.Check.{Check}
 use Rattle.checker.specs.declared.outcome.Check.TheVariants.{Proves, Refused}
 use Rattle.checker.specs.declared.outcome.Reason.{Reason}
@@ -88,7 +88,7 @@ module _ (q : Problem) where
       ∙ ap (λ l. Some (length l, reason_of s)) same
 
   -- all are accepted, or those before this one
-  abbrev Told : List Step → Option Refusal → Type 0
+  abbrev Told : List Step → Option RefusedStep → Type 0
   Told steps None = AreSteps q steps
   Told steps (Some r) = (before after : List Step) × (s : Step) × (steps ≡ before ++ s ∷ after) × (r ≡ (length before, reason_of s)) × AreSteps q before × (IsStep q before s → ⊥)
 
@@ -103,7 +103,7 @@ module _ (q : Problem) where
 
   -- ---- the end
 
-  ends : (n : ℕ) (steps : List Step) (r : Refusal) → end_refused n steps ≡ Some r → r ≡ (n + (length steps - 1), not_final)
+  ends : (n : ℕ) (steps : List Step) (r : RefusedStep) → end_refused n steps ≡ Some r → r ≡ (n + (length steps - 1), not_final)
   ends n [] r e = let place : n ≡ n + (0 - 1) = omega arith in sym (same_Some (n, not_final) r e) ∙ ap (λ k. (k, not_final)) place
   ends n (s ∷ []) r e = by (is_none_left (terms_of s)) e
     where
@@ -114,16 +114,16 @@ module _ (q : Problem) where
       let place : suc n + (length (t ∷ steps) - 1) ≡ n + (length (s ∷ t ∷ steps) - 1) = omega arith in
       ends (suc n) (t ∷ steps) r e ∙ ap (λ k. (k, not_final)) place
 
-  ends_at_last : (steps : List Step) (r : Refusal) → end_refused 0 steps ≡ Some r → r ≡ (length steps - 1, not_final)
+  ends_at_last : (steps : List Step) (r : RefusedStep) → end_refused 0 steps ≡ Some r → r ≡ (length steps - 1, not_final)
   ends_at_last steps r e = let place : 0 + (length steps - 1) ≡ length steps - 1 = omega arith in ends 0 steps r e ∙ ap (λ k. (k, not_final)) place
 
   -- ---- the whole derivation
 
-  abbrev as_refusal : ℕ → model.Reason → Refusal
-  as_refusal n r = (n, r)
+  abbrev as_refused : ℕ → model.Reason → RefusedStep
+  as_refused n r = (n, r)
 
   module _ (steps : List Step) (plain : ArePlain steps) where
-    refused_told : (n : ℕ) (r : Reason) (x y : Option Refusal) → Told steps x → first_refused q [] steps ≡ x → end_refused 0 steps ≡ y → option_or x y ≡ Some (n, reason_view r) → IsRefusedAt q steps n r
+    refused_told : (n : ℕ) (r : Reason) (x y : Option RefusedStep) → Told steps x → first_refused q [] steps ≡ x → end_refused 0 steps ≡ y → option_or x y ≡ Some (n, reason_view r) → IsRefusedAt q steps n r
     refused_told n r (Some p) y t e f h =
         let same : (n, reason_view r) ≡ (length t.0, reason_of t.2) = sym (same_Some p (n, reason_view r) h) ∙ t.4 in
         inl (record {
@@ -131,50 +131,50 @@ module _ (q : Problem) where
           step = t.2;
           after = t.1;
           whole = t.3;
-          number = ap (λ (p : Refusal). p.0) same;
+          number = ap (λ (p : RefusedStep). p.0) same;
           accepted = t.5;
           refused = t.6;
-          why = same_reason r (reason_for t.2) (ap (λ (p : Refusal). p.1) same ∙ sym (reason_is t.2));
+          why = same_reason r (reason_for t.2) (ap (λ (p : RefusedStep). p.1) same ∙ sym (reason_is t.2));
         })
     refused_told n r None (Some p) t e f h =
         let same : (n, reason_view r) ≡ (length steps - 1, not_final) = sym (same_Some p (n, reason_view r) h) ∙ ends_at_last steps p f in
         inr (record {
           accepted = t;
-          unended = λ a. none-some p (sym ((refusal-is q steps plain).1 a) ∙ ap₂ option_or e f);
-          number = ap (λ (p : Refusal). p.0) same;
-          why = same_reason r NotFinal (ap (λ (p : Refusal). p.1) same);
+          unended = λ a. none-some p (sym ((refused-is q steps plain).1 a) ∙ ap₂ option_or e f);
+          number = ap (λ (p : RefusedStep). p.0) same;
+          why = same_reason r NotFinal (ap (λ (p : RefusedStep). p.1) same);
         })
     refused_told n r None None t e f h = absurd (none-some (n, reason_view r) h)
 
-    refused_where : (n : ℕ) (r : Reason) → IsRefusedAt q steps n r → refusal q steps ≡ Some (n, reason_view r)
+    refused_where : (n : ℕ) (r : Reason) → IsRefusedAt q steps n r → refused_step q steps ≡ Some (n, reason_view r)
     refused_where n r (inl h) =
         let found = ap (first_refused q []) h.whole ∙ first_at [] h.before h.step h.after (subst ArePlain h.whole plain) (each_of h.before h.accepted) h.refused in
-        ap (λ o. option_or o (end_refused 0 steps)) found ∙ sym (ap Some (ap₂ as_refusal h.number (ap reason_view h.why ∙ reason_is h.step)))
+        ap (λ o. option_or o (end_refused 0 steps)) found ∙ sym (ap Some (ap₂ as_refused h.number (ap reason_view h.why ∙ reason_is h.step)))
     refused_where n r (inr h) = none ∙ by (end_refused 0 steps) refl
       where
-        none : refusal q steps ≡ end_refused 0 steps
+        none : refused_step q steps ≡ end_refused 0 steps
         none = ap (λ o. option_or o (end_refused 0 steps)) (first_none [] steps plain (each_of steps h.accepted))
 
-        by : (y : Option Refusal) → end_refused 0 steps ≡ y → y ≡ Some (n, reason_view r)
-        by None e = absurd (h.unended ((refusal-is q steps plain).0 (none ∙ e)))
-        by (Some p) e = ap Some (ends_at_last steps p e ∙ sym (ap₂ as_refusal h.number (ap reason_view h.why)))
+        by : (y : Option RefusedStep) → end_refused 0 steps ≡ y → y ≡ Some (n, reason_view r)
+        by None e = absurd (h.unended ((refused-is q steps plain).0 (none ∙ e)))
+        by (Some p) e = ap Some (ends_at_last steps p e ∙ sym (ap₂ as_refused h.number (ap reason_view h.why)))
 
     refused_as : (c : Check) (n : ℕ) (r : Reason) → check_view c ≡ Some (n, reason_view r) → c ≡ Refused n r
     refused_as Proves n r h = absurd (none-some (n, reason_view r) h)
     refused_as (Refused m p) n r h =
         let same : (m, reason_view p) ≡ (n, reason_view r) = same_Some (m, reason_view p) (n, reason_view r) h in
-        ap₂ Refused (ap (λ (p : Refusal). p.0) same) (same_reason p r (ap (λ (p : Refusal). p.1) same))
+        ap₂ Refused (ap (λ (p : RefusedStep). p.0) same) (same_reason p r (ap (λ (p : RefusedStep). p.1) same))
 
     proves_as : (c : Check) → check_view c ≡ None → c ≡ Proves
     proves_as Proves h = refl
     proves_as (Refused n r) h = absurd (none-some (n, reason_view r) (sym h))
 
-    module _ (c : Check) (answer : check_view c ≡ refusal q steps) where
+    module _ (c : Check) (answer : check_view c ≡ refused_step q steps) where
       -- it proves exactly where all is accepted
       pub proves_where : c ≡ Proves ↔ IsAccepted q steps
       proves_where = (
-        λ e. (refusal-is q steps plain).0 (sym answer ∙ ap check_view e),
-        λ a. proves_as c (answer ∙ (refusal-is q steps plain).1 a),
+        λ e. (refused-is q steps plain).0 (sym answer ∙ ap check_view e),
+        λ a. proves_as c (answer ∙ (refused-is q steps plain).1 a),
       )
 
       -- and refuses exactly the first step that isn't

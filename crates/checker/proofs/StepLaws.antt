@@ -16,7 +16,7 @@ use Rattle.model.specs.Derivation as steps
 use Rattle.model.specs.Order.{text_cmp}
 use Rattle.model.specs.Vertices.{same_vertex}
 use Rattle.model.proofs.Same.{vertex-other}
-use Rattle.refutations.specs.Checks.{ArePlain, Refusal, combines, is_step, is_none_left, end_if, end_refused, first_refused, reason_of}
+use Rattle.refutations.specs.Checks.{ArePlain, RefusedStep, combines, is_step, is_none_left, end_if, end_refused, first_refused, reason_of}
 use Rattle.refutations.specs.Terms.{is_combination}
 use Rattle.vertices.specs.Texts.{vertex_text}
 use Rattle.derivations.specs.Derivations.{IsTerm, AreTerms, AreStepsFrom, term_cmp}
@@ -63,7 +63,7 @@ combined_step q t earlier s a b first second v is e f =
     ∙ ap (λ c. is_step q (steps_at t earlier) (step_by_origin t c terms)) (sym is)
 
 -- the first step that isn't accepted after those before it
-pub refused_at : (q : Problem) (t : TablesView) (ss : List Step) (n : ℕ) (s : Step) (whole : Option Refusal) → n < length ss → s ≡ get_or ss n s → is_step q (steps_at t (take n ss)) (step_at t s) ≡ false
+pub refused_at : (q : Problem) (t : TablesView) (ss : List Step) (n : ℕ) (s : Step) (whole : Option RefusedStep) → n < length ss → s ≡ get_or ss n s → is_step q (steps_at t (take n ss)) (step_at t s) ≡ false
     → first_refused q (steps_at t (take n ss)) (steps_at t (drop n ss)) ≡ whole → Some (n, reason_of (step_at t s)) ≡ whole
 refused_at q t ss n s whole lt item fails told =
     let earlier = steps_at t (take n ss) in

@@ -11,6 +11,6 @@ reason_view NotAnAxiom = model.not_an_axiom
 reason_view BadCombination = model.not_combined
 reason_view NotFinal = model.not_final
 
-abbrev pub check_view : Check → Option model.Refusal
+abbrev pub check_view : Check → Option model.RefusedStep
 check_view Proves = None
 check_view (Refused step reason) = Some (step, reason_view reason)

@@ -7,5 +7,5 @@ pub mod Ready
 pub mod Spaces
 pub mod Steps
 pub mod Answers
-pub mod Refusals
+pub mod RefusedSteps
 pub mod Texts

@@ -6,14 +6,14 @@ ghost use Rattle.model.specs.Content.{Content};
 ghost use Rattle.model.specs.Derivation.{IsAccepted};
 ghost use Rattle.model.specs.Selection.{IsValidSelection};
 ghost use Rattle.refutations.specs.Checks.{combines, end_refused, first_refused, is_none_left, is_step, reason_of};
-ghost use Rattle.refutations.specs.Checks.{refusal};
+ghost use Rattle.refutations.specs.Checks.{refused_step};
 ghost use Rattle.catalogue.specs.Problems.{problem_in};
 ghost use Rattle.derivations.specs.Derivations.{IsDerivation};
 ghost use Rattle.derivations.specs.Tables.{TablesView, step_at, step_by_origin, steps_at, terms_at};
 ghost use Rattle.vertices.specs.Views.{vertex_view};
 ghost use Rattle.axioms.specs.GatheredViews.{problem_of};
 ghost use Rattle.checker.specs.Answers.{check_view, reason_view};
-ghost use Rattle.checker.specs.Refusals.{IsRefusedAt};
+ghost use Rattle.checker.specs.RefusedSteps.{IsRefusedAt};
 ghost use Rattle.checker.specs.Prepared.{IsPrepared};
 ghost use Rattle.checker.specs.Ready.{AreReadySteps, IsReadyStep, tables_of};
 ghost use Rattle.checker.specs.Steps.{AreOrderedSteps};
@@ -46,17 +46,17 @@ pub fn check(
 {
     catalogues_are_well_formed(manifest, catalogue);
     unrefused_derivations_refute();
-    refusal_of(alloc, manifest, catalogue, derivation)
+    refused_step_of(alloc, manifest, catalogue, derivation)
 }
 
 /// What refuses the steps of a derivation, looked up in the manifest and the loaded index.
-fn refusal_of<'a>(
+fn refused_step_of<'a>(
     alloc: Global,
     manifest: &'a Manifest,
     catalogue: &'a Catalogue,
     derivation: &'a Derivation,
 ) -> Result<Check, AllocError>
-    ensures refusal { IfOk result (λ c. check_view c ≡ refusal (problem_in manifest.now catalogue.now) derivation.now) }
+    ensures refused_step { IfOk result (λ c. check_view c ≡ refused_step (problem_in manifest.now catalogue.now) derivation.now) }
     ensures derivation { IsDerivation derivation.now }
 {
     let (tables, steps) = derivation.parts();
@@ -72,7 +72,7 @@ fn answer<'a>(
     steps: &[Step],
 ) -> Result<Check, AllocError>
     requires { AreOrderedSteps tables.now steps.now }
-    ensures { IfOk result (λ c. check_view c ≡ refusal (problem_of gathered.old) (steps_at tables.now steps.now)) }
+    ensures { IfOk result (λ c. check_view c ≡ refused_step (problem_of gathered.old) (steps_at tables.now steps.now)) }
 {
     let decoded = decode(alloc, tables, steps)?;
     match first_refused(alloc, gathered, &decoded, steps)? {

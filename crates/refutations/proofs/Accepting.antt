@@ -5,7 +5,7 @@ use Rattle.std.proofs.lemmas.Option.{none-some}
 use Rattle.model.specs.Content.{Problem}
 use Rattle.model.specs.Axioms.{Term, AreApart}
 use Rattle.model.specs.Derivation.{Step, given, combine, terms_of, IsStep, AreSteps, none_yet, one_more, IsAccepted}
-use Rattle.refutations.specs.Checks.{Refusal, not_final, ArePlain, combines, is_step, reason_of, first_refused, is_none_left, end_if, end_refused, refusal}
+use Rattle.refutations.specs.Checks.{RefusedStep, not_final, ArePlain, combines, is_step, reason_of, first_refused, is_none_left, end_if, end_refused, refused_step}
 use Rattle.refutations.proofs.Found.{instance-is}
 use Rattle.refutations.proofs.Sets.{is_combination-is}
 
@@ -84,13 +84,13 @@ module _ (q : Problem) where
   to_end n (s ∷ []) last h = ap (λ ts. end_if (suc n) (is_none_left ts)) h
   to_end n (s ∷ r ∷ before) last h = to_end (suc n) (r ∷ before) last h
 
-  parts-none : (x y : Option Refusal) → option_or x y ≡ None → (x ≡ None) × (y ≡ None)
+  parts-none : (x y : Option RefusedStep) → option_or x y ≡ None → (x ≡ None) × (y ≡ None)
   parts-none None y e = (refl, e)
   parts-none (Some a) y e = absurd (none-some a (sym e))
 
   -- Nothing is refused of a derivation exactly where it is accepted.
-  pub refusal-is : (steps : List Step) → ArePlain steps → refusal q steps ≡ None ↔ IsAccepted q steps
-  refusal-is steps plain = (
+  pub refused-is : (steps : List Step) → ArePlain steps → refused_step q steps ≡ None ↔ IsAccepted q steps
+  refused-is steps plain = (
     λ e. let x = parts-none (first_refused q [] steps) (end_refused 0 steps) e in
         record { each = steps-are [] steps plain none_yet x.0; final = end-is 0 steps x.1 },
     λ a. let f = a.final in

@@ -19,8 +19,8 @@ pub data Reason : Type 0 where
   not_final : Reason
 
 -- a step's number, and why it is refused
-abbrev pub Refusal : Type 0
-Refusal = ℕ × Reason
+abbrev pub RefusedStep : Type 0
+RefusedStep = ℕ × Reason
 
 abbrev pub combines : Problem → Vertex → Option Step → Option Step → List Term → Bool
 combines q v (Some a) (Some b) ts = is_combination q v (terms_of a) (terms_of b) ts
@@ -45,7 +45,7 @@ reason_of (given k ts) = not_an_axiom
 reason_of (combine i j v ts) = not_combined
 
 -- the first step that isn't, of those that follow the earlier ones
-abbrev pub first_refused : Problem → List Step → List Step → Option Refusal
+abbrev pub first_refused : Problem → List Step → List Step → Option RefusedStep
 first_refused q earlier [] = None
 first_refused q earlier (s ∷ steps) = if is_step q earlier s then first_refused q (earlier ++ s ∷ []) steps else Some (length earlier, reason_of s)
 
@@ -53,16 +53,16 @@ abbrev pub is_none_left : List Term → Bool
 is_none_left [] = true
 is_none_left (t ∷ ts) = false
 
-abbrev pub end_if : ℕ → Bool → Option Refusal
+abbrev pub end_if : ℕ → Bool → Option RefusedStep
 end_if n true = None
 end_if n false = Some (n, not_final)
 
 -- what is wrong with the end, where the first of the steps has this number
-abbrev pub end_refused : ℕ → List Step → Option Refusal
+abbrev pub end_refused : ℕ → List Step → Option RefusedStep
 end_refused n [] = Some (n, not_final)
 end_refused n (s ∷ []) = end_if n (is_none_left (terms_of s))
 end_refused n (s ∷ r ∷ steps) = end_refused (suc n) (r ∷ steps)
 
--- the refusal of a derivation, if there is one
-abbrev pub refusal : Problem → List Step → Option Refusal
-refusal q steps = option_or (first_refused q [] steps) (end_refused 0 steps)
+-- the step of a derivation that is refused first, if there is one
+abbrev pub refused_step : Problem → List Step → Option RefusedStep
+refused_step q steps = option_or (first_refused q [] steps) (end_refused 0 steps)

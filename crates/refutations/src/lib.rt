@@ -30,7 +30,7 @@ ghost use Rattle.model.specs.Derivation.{AreSteps, IsAccepted, IsCombined, SameT
 ghost use Rattle.refutations.specs.Terms.{IsInOrder, combination, is_combination, same_terms};
 ghost use Rattle.refutations.specs.Causes.{Cause, is_cause, kind_of, terms_of_cause};
 ghost use Rattle.refutations.specs.Instances.{is_instance};
-ghost use Rattle.refutations.specs.Checks.{ArePlain, HasNoFull, refusal};
+ghost use Rattle.refutations.specs.Checks.{ArePlain, HasNoFull, refused_step};
 ghost use Rattle.refutations.specs.Listed.{causes};
 
 /// Two lists of terms pass the comparison exactly where they say the same of every vertex.
@@ -91,7 +91,7 @@ pub fn instances_decide()
 
 /// Nothing is refused of a derivation exactly where it is accepted.
 pub fn refusals_decide()
-    ensures { (q : Problem) (steps : List Step) → ArePlain steps → refusal q steps ≡ None ↔ IsAccepted q steps }
+    ensures { (q : Problem) (steps : List Step) → ArePlain steps → refused_step q steps ≡ None ↔ IsAccepted q steps }
 {}
 
 /// No step that is accepted has a term with all states of its vertex, so that none is ever left to be dropped.
@@ -101,5 +101,5 @@ pub fn accepted_steps_have_no_full_term()
 
 /// Where nothing is refused of a derivation no content at all is a valid selection.
 pub fn unrefused_derivations_refute()
-    ensures { (q : Problem) (c : Content) (steps : List Step) → IsCatalogue q → ArePlain steps → refusal q steps ≡ None → IsValidSelection q c → ⊥ }
+    ensures { (q : Problem) (c : Content) (steps : List Step) → IsCatalogue q → ArePlain steps → refused_step q steps ≡ None → IsValidSelection q c → ⊥ }
 {}

@@ -6,7 +6,7 @@ use Rattle.model.specs.Selection.{IsValidSelection}
 use Rattle.catalogue.specs.Runs.{Calls}
 use Rattle.derivations.specs.Files.{derivation_of_bytes}
 use Rattle.vertices.proofs.Bound.{same-Ok}
-use Rattle.checker.specs.Refusals.{IsRefusedAt}
+use Rattle.checker.specs.RefusedSteps.{IsRefusedAt}
 use Rattle.checker.specs.declared.outcome.Check.{Check}
 use Rattle.checker.specs.declared.outcome.Check.TheVariants.{Proves, Refused}
 use Rattle.checker.specs.declared.outcome.Reason.{Reason}

@@ -6,7 +6,7 @@ use Rattle.model.specs.Selection.{major}
 use Rattle.model.specs.Vertices.{the_root, version_of, Vertex, root, pkg, dep, absent, present, version}
 use Rattle.model.specs.Axioms.{Term, at, Root, Needed, Target}
 use Rattle.model.specs.Derivation.{Step, given, combine}
-use Rattle.refutations.specs.Checks.{not_an_axiom, not_combined, not_final, refusal}
+use Rattle.refutations.specs.Checks.{not_an_axiom, not_combined, not_final, refused_step}
 use Rattle.refutations.proofs.Examples.Pieces.{plain, exactly, within, on, candidate, demo, no_features, class_1, one}
 
 abbrev pub text_a : List ℕ
@@ -59,32 +59,32 @@ with_eleventh ts = on_a ++ on_b ++ eleventh ts ∷ ending
 abbrev pub thirteen : List Step
 thirteen = with_eleventh (at a (absent ∷ version (plain 1 0 0) ∷ []) ∷ one root present ∷ [])
 
-pub accepted : refusal unmeetable thirteen ≡ None
+pub accepted : refused_step unmeetable thirteen ≡ None
 accepted = refl
 
 -- a state less in the eleventh step
-pub state_missing : refusal unmeetable (with_eleventh (one a absent ∷ one root present ∷ [])) ≡ Some (10, not_combined)
+pub state_missing : refused_step unmeetable (with_eleventh (one a absent ∷ one root present ∷ [])) ≡ Some (10, not_combined)
 state_missing = refl
 
 -- a state less in an axiom's step
-pub axiom_missing : refusal unmeetable (given Target (one (dep the_root 0) class_1 ∷ one a absent ∷ []) ∷ []) ≡ Some (0, not_an_axiom)
+pub axiom_missing : refused_step unmeetable (given Target (one (dep the_root 0) class_1 ∷ one a absent ∷ []) ∷ []) ≡ Some (0, not_an_axiom)
 axiom_missing = refl
 
 -- one kind taken for another
-pub other_kind : refusal unmeetable (given Needed (one root absent ∷ []) ∷ []) ≡ Some (0, not_an_axiom)
+pub other_kind : refused_step unmeetable (given Needed (one root absent ∷ []) ∷ []) ≡ Some (0, not_an_axiom)
 other_kind = refl
 
 -- the last step has a term
-pub not_at_end : refusal unmeetable on_a ≡ Some (3, not_final)
+pub not_at_end : refused_step unmeetable on_a ≡ Some (3, not_final)
 not_at_end = refl
 
-pub nothing_said : refusal unmeetable [] ≡ Some (0, not_final)
+pub nothing_said : refused_step unmeetable [] ≡ Some (0, not_final)
 nothing_said = refl
 
 -- a step that combines itself
-pub itself : refusal unmeetable (given Root (one root absent ∷ []) ∷ combine 0 1 root [] ∷ []) ≡ Some (1, not_combined)
+pub itself : refused_step unmeetable (given Root (one root absent ∷ []) ∷ combine 0 1 root [] ∷ []) ≡ Some (1, not_combined)
 itself = refl
 
 -- the vertex need not be spoken of, nor be there: both terms stay
-pub elsewhere : refusal unmeetable (given Root (one root absent ∷ []) ∷ combine 0 0 (pkg (codes "z") (major 7)) (one root absent ∷ []) ∷ []) ≡ Some (1, not_final)
+pub elsewhere : refused_step unmeetable (given Root (one root absent ∷ []) ∷ combine 0 0 (pkg (codes "z") (major 7)) (one root absent ∷ []) ∷ []) ≡ Some (1, not_final)
 elsewhere = refl

@@ -1,12 +1,12 @@
 use Rattle.std.proofs.Common.{◌∙◌, sym, ap₂, subst}
 use Rattle.std.proofs.lemmas.Result.{IfOk-weaker}
-use Rattle.refutations.specs.Checks.{refusal}
+use Rattle.refutations.specs.Checks.{refused_step}
 use Rattle.derivations.specs.Derivations.{IsDerivation}
 use Rattle.checker.proofs.StepLaws.{each_step}
-use Rattle.checker.proofs.checking.refusal_of.Goals as goal
+use Rattle.checker.proofs.checking.refused_step_of.Goals as goal
 
 pub answer-requires : goal.answer-requires
 answer-requires c = each_step c.parts.result.0.now 0 c.parts.result.1.now c.parts.ensures.within (subst IsDerivation (sym c.parts.ensures.steps) c.parts.ensures.derivation)
 
-pub returns-clause-refusal : goal.returns-clause-refusal
-returns-clause-refusal c = IfOk-weaker c.answer.result _ _ (λ k h. h ∙ ap₂ refusal c.in_ok-gathered.ensures c.parts.ensures.steps) c.answer.ensures
+pub returns-clause-refused_step : goal.returns-clause-refused_step
+returns-clause-refused_step c = IfOk-weaker c.answer.result _ _ (λ k h. h ∙ ap₂ refused_step c.in_ok-gathered.ensures c.parts.ensures.steps) c.answer.ensures
