@@ -26,7 +26,7 @@ stop_view (stop.CannotRead path) = cannot_read path.now
 stop_view stop.CannotWrite = cannot_write
 stop_view (stop.CannotWriteFile path) = cannot_write_file path.now
 
--- a call that takes memory was refused it
+-- memory was wanting
 abbrev pub WantsMemory : Stop → Type 0
 WantsMemory stop = stop_view stop ≡ out_of_memory
 

@@ -297,7 +297,7 @@ fn finish<'a, E: Stream>(status: Result<u8, Stop<'a>>, err: &mut E) -> (u8, bool
 
 /// Prints why the command line can't be read, to `err`, and answers the exit status.
 ///
-/// That is wrong use, unless memory was refused.
+/// That is wrong use, unless memory was wanting.
 pub fn without_arguments<E: Write>(error: &io::Error, err: &mut E) -> u8
     ensures { result ≡ 2 }
 {

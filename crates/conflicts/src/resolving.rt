@@ -120,7 +120,7 @@ fn add_combination<S: States + Drop>(
 /// were satisfied at an earlier level, and cuts the trail to that level. The store gains each combination, of which the
 /// last, which is learned, and the short ones are watched.
 ///
-/// Where memory is refused, the trail is as it was before, and the store has gained some of the combinations.
+/// Where memory is wanting, the trail is as it was before, and the store has gained some of the combinations.
 pub fn resolve_conflict<S: States + Drop>(
     alloc: Global,
     trail: &mut Trail<S>,

@@ -8,7 +8,7 @@ ghost use Rattle.vertices.specs.Views.{vertex_view, state_view};
 use std::alloc::{AllocError, Global};
 use vertices::{State, StateRef, Vertex};
 
-/// The vertex that a text is. A text of another kind is refused as if there were no memory: no caller has one.
+/// The vertex that a text is. A text of another kind counts as want of memory: no caller has one.
 pub(crate) fn owned_vertex(alloc: Global, text: &str) -> Result<Vertex, AllocError>
     ensures { IfOk result (λ v. vertex_of_text text.now ≡ Ok (vertex_view v)) }
 {

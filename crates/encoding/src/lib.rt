@@ -13,7 +13,7 @@
 //! A layer above may rely on the laws at the end of this file. An assignment that breaks none of the entries for the
 //! pairs that hold in it breaks no instance at all; a valid selection breaks no instance over numbers. At most one term
 //! of an instance has `absent` among its states, so where propagation is at rest, taking `absent` wherever it is left
-//! breaks none either. No number changes, also where memory is refused.
+//! breaks none either. No number changes, also where memory is wanting.
 #![tactic(auto)]
 
 mod adding;

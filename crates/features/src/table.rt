@@ -26,7 +26,7 @@ pub struct DepName {
     pub optional: bool,
 }
 
-/// Why a feature table is refused: the lowest of its faults, at the first feature that has it by the bytes of the
+/// The fault of a feature table: the lowest of its faults, at the first feature that has it by the bytes of the
 /// names.
 #[derive(Debug, Drop, PartialEq, Error)]
 pub enum FeatureFault {

@@ -14,7 +14,7 @@
 //! combinations of which it is said when they are added. What the others say follows from the watched ones; they stay
 //! for the derivation, and propagation never looks at them.
 //!
-//! A layer above may rely on this: the contracts of `combine` and `add` are exact, and where memory is refused `add`
+//! A layer above may rely on this: the contracts of `combine` and `add` are exact, and where memory is wanting `add`
 //! leaves all entries as they were.
 #![tactic(auto)]
 

@@ -25,7 +25,7 @@ pub record RecordView : Type 0 where
 abbrev pub unless : Bool → Reason → Line (Unit {0})
 unless test why = guard test (Skipped why)
 
--- what semver refuses is skipped
+-- what semver doesn't read is skipped
 abbrev pub semver_or : {A : Type 0} → Reason → Result A Error → Line A
 semver_or why (Ok p) = Ok p
 semver_or why (Err e) = Err (Skipped why)

@@ -124,7 +124,7 @@ fn fitted(alloc: Global, mut requirement: VersionReq) -> Result<VersionReq, Allo
     Ok(VersionReq { comparators })
 }
 
-/// What a refusal of `semver` is as a reason to skip.
+/// What an error of `semver` is as a reason to skip.
 fn fault_of(e: semver::Error, why: Reason) -> LineFault
     ensures { ((result ≡ LineFault.OutOfMemory) × (e ≡ memory_error)) ⊎ ((result ≡ LineFault.Skipped why) × (e ≢ memory_error)) }
 {

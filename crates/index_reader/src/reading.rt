@@ -100,7 +100,7 @@ fn front_at<O: Opens>(opener: &O, alloc: Global, path: &str, most: u64) -> io::R
     file.front(alloc, most)
 }
 
-/// Only a growth that was refused here is want of memory: what the system lacks makes the file unreadable.
+/// Only a growth that failed here is want of memory: what the system lacks makes the file unreadable.
 fn fault_of(error: &io::Error) -> FileFault
     ensures { IsFaultOf error.now result }
 {

@@ -251,6 +251,6 @@ content_of_table top = do
 abbrev pub most_bytes : ℕ
 most_bytes = 67108864
 
--- the content that the bytes of a lock say, or why they are refused
+-- the content that the bytes of a lock say, or their fault
 unfoldable pub content_of_bytes : List ℕ → Result Content LockFault
 content_of_bytes bytes = if nat_lt most_bytes (length bytes) then Err TooLarge else (table_of_bytes bytes >>= content_of_table)

@@ -1,9 +1,9 @@
-//! Why a lock is refused.
+//! The faults of a lock.
 
 use std::alloc::{AllocError, AllocFailed};
 use thiserror::Error;
 
-/// Why a lock is refused.
+/// The fault of a lock that doesn't read.
 #[derive(Clone, Copy, Debug, PartialEq, Eq, Error)]
 pub enum LockFault {
     #[error("out of memory")]

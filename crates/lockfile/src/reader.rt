@@ -21,7 +21,7 @@ use toml::Table;
 /// The greatest number of bytes that a lock may have: 64 MiB.
 const MOST_BYTES: usize = 67_108_864;
 
-/// What the bytes of a Cargo.lock say, or why they are refused (Cargo book, "Cargo.toml vs Cargo.lock").
+/// What the bytes of a Cargo.lock say, or their fault (Cargo book, "Cargo.toml vs Cargo.lock").
 #[tactic(auto, unfolding(crate::specs::Locks::content_of_bytes))]
 pub fn read(alloc: Global, bytes: &[u8]) -> Result<LockContent, LockFault>
     ensures { Gives is_memory (λ c. c) result (content_of_bytes bytes.now) }

@@ -34,7 +34,7 @@ pub(crate) fn read_table(alloc: Global, bytes: &[u8]) -> Result<Table, LockFault
     }
 }
 
-/// Refuses what doesn't pass.
+/// A fault for what doesn't pass.
 pub(crate) fn check(passes: bool, fault: LockFault) -> Result<(), LockFault>
     ensures { Gives is_memory (λ u. u) result (guard passes fault) }
 {
@@ -48,7 +48,7 @@ pub(crate) fn member<'a>(table: &'a Table, key: &str) -> Option<&'a Value>
     table.get(key)
 }
 
-/// Refuses a `version` of the format that isn't read.
+/// A fault for a `version` of the format that isn't read.
 pub(crate) fn check_version(table: &Table) -> Result<(), LockFault>
     ensures { Gives is_memory (λ u. u) result (version_known (table_view table.now)) }
 {
@@ -103,7 +103,7 @@ pub(crate) fn version(alloc: Global, text: &str) -> Result<Version, LockFault>
     }
 }
 
-/// What a refusal of `semver` is as a fault.
+/// What an error of `semver` is as a fault.
 fn fault_of(e: semver::Error) -> LockFault
     ensures { ((result ≡ LockFault.OutOfMemory) × (e ≡ memory_error)) ⊎ ((result ≡ LockFault.LockShape) × (e ≢ memory_error)) }
 {

@@ -48,7 +48,7 @@ table_fault_code NoSuchFeature = codes "F1"
 table_fault_code NoSuchDependency = codes "F2"
 table_fault_code NotOptional = codes "F3"
 
--- what a refusal of the feature table is as a fault of the manifest
+-- what a fault of the feature table is as a fault of the manifest
 abbrev pub root_fault : FeatureFault → ManifestFault
 root_fault feature.OutOfMemory = OutOfMemory
 root_fault (feature.NoSuchFeature f) = RootFeature NoSuchFeature f

@@ -65,7 +65,7 @@ abbrev pub requirement_or : List ℕ → Result (List Held) Error → Result (Li
 requirement_or name (Ok r) = Ok r
 requirement_or name (Err e) = Err (BadRequirement name)
 
--- the requirement of a dependency; one from elsewhere has been refused already
+-- the requirement of a dependency; one from elsewhere is a fault before
 abbrev pub requirement_of : List ℕ → SourceView → Result (List Held) ManifestFault
 requirement_of name (registry text) = requirement_or name (req_of text)
 requirement_of name (unsupported s) = Err (UnsupportedSource s)

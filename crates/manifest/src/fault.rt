@@ -1,4 +1,4 @@
-//! Why a manifest is refused.
+//! The faults of a manifest.
 
 use features::{FeatureFault, FeatureName, PackageName};
 use std::alloc::{AllocError, AllocFailed};
@@ -102,7 +102,7 @@ impl fmt::Display for TableFault {
     }
 }
 
-/// Why a manifest is refused, in the order in which the faults are looked for; memory may be wanting at any point.
+/// The fault of a manifest, in the order in which faults are looked for; memory may be wanting at any point.
 #[derive(Debug, Drop, PartialEq, Error)]
 pub enum ManifestFault {
     #[error("out of memory")]

@@ -1,4 +1,4 @@
-//! What a Cargo.toml says: the package, its dependencies by number, its features, and why a manifest is refused.
+//! What a Cargo.toml says: the package, its dependencies by number, its features, and the faults that it may have.
 //!
 //! What is hard is that a manifest may have many faults and only the first of them is told. So the definition
 //! (`specs/Manifests`) is a function of the bytes, step after step: the size, the TOML, the shape of each part in the

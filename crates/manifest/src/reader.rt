@@ -192,7 +192,7 @@ fn requirements(
     Ok(found)
 }
 
-/// A dependency with its requirement read. One of a source that is left out has been refused before.
+/// A dependency with its requirement read. One of a source that is left out is a fault before.
 #[tactic(auto, unfolding(crate::specs::Manifests::dependency_with))]
 fn with_requirement(alloc: Global, shape: DependencyShape<'_>) -> Result<Dependency, ManifestFault>
     ensures { Gives is_memory dependency_view result (dependency_with (shaped.dependency_view shape.entry)) }
@@ -214,7 +214,7 @@ fn with_requirement(alloc: Global, shape: DependencyShape<'_>) -> Result<Depende
     }
 }
 
-/// What a refusal of `semver` is as a fault of the dependency of this name.
+/// What an error of `semver` is as a fault of the dependency of this name.
 fn requirement_fault(e: semver::Error, name: PackageName) -> ManifestFault
     ensures { ((result ≡ ManifestFault.OutOfMemory) × (e ≡ memory_error)) ⊎ ((result ≡ ManifestFault.BadRequirement name) × (e ≢ memory_error)) }
 {

@@ -1,4 +1,4 @@
-//! Tables of features: one without any, and what is said of those that are refused.
+//! Tables of features: one without any, and what is said of those that have a fault.
 
 use features::{FeatureFault, FeatureName, FeatureTable};
 use std::alloc::{AllocError, Global};

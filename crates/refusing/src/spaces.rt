@@ -112,7 +112,7 @@ impl<'a> Spaces<'a> {
         Ok(())
     }
 
-    /// What is listed for a number. One that isn't listed is refused as if there were no memory: no caller has one.
+    /// What is listed for a number. One that isn't listed counts as want of memory: no caller has one.
     pub(crate) fn space(&self, number: usize) -> Result<&Space<'a>, AllocError>
         ensures { IfOk result (λ s. get nat_eq self.now.listed number ≡ Some s.now) }
     {

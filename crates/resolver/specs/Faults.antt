@@ -54,7 +54,7 @@ of_load (load.FolderFailed path) = fault.FolderFailed path
 of_load (load.TooLarge limit) = fault.TooLarge (large.Index limit)
 of_load (load.ChecksumChanged name version) = fault.ChecksumChanged name version
 
--- what is wrong with our own bytes, where they are refused
+-- what is wrong with our own bytes, where they don't read
 abbrev pub not_read_back : LockFault → Fault
 not_read_back lock.OutOfMemory = fault.OutOfMemory
 not_read_back lock.TooLarge = fault.NotReadBack

@@ -61,7 +61,7 @@ module _ {S : Type 0} (calls : Calls S) (failed : S → ℕ) (request : RequestV
     pub lock_says : old_of_bytes request.old ≡ Ok inputs.old
     pub loads : LoadsFor inputs.manifest inputs.old (Ok inputs.catalogue) after
 
-  -- the manifest is refused; the old lock is, after it; loading ends with a fault, after both
+  -- the manifest has a fault; the old lock has one, after it; loading ends with a fault, after both
   pub data IsRefused : Fault → S → Type 0 where
     by_manifest : (e : ManifestFault) → manifest_of_bytes request.manifest ≡ Err e → IsRefused (of_manifest e) before
     by_lock : (m : ManifestView) (e : LockFault) → manifest_of_bytes request.manifest ≡ Ok m → old_of_bytes request.old ≡ Err e → IsRefused (of_lock e) before

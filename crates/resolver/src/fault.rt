@@ -24,7 +24,7 @@ pub enum TooLarge {
 /// for.
 #[derive(Debug, Drop)]
 pub enum Fault {
-    /// 1: a growth was refused.
+    /// 1: memory was wanting.
     OutOfMemory,
     /// 2: the manifest is no TOML.
     ManifestNotToml,
@@ -55,7 +55,7 @@ pub enum Fault {
 /// Why a derivation isn't checked.
 #[derive(Debug, Drop)]
 pub enum CheckFault {
-    /// An input has this fault, or a growth was refused.
+    /// An input has this fault, or memory was wanting.
     Input(Fault),
     /// The bytes are no derivation.
     Proof(DerivationFault),

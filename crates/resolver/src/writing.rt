@@ -26,7 +26,7 @@ pub(crate) fn written(alloc: Global, content: &LockContent) -> Result<Vec<u8>, F
     }
 }
 
-/// That bytes of our own are refused.
+/// That bytes of our own don't read.
 fn not_read_back(fault: LockFault) -> Fault
     ensures { result ≡ not_read_back fault }
 {

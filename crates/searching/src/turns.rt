@@ -167,7 +167,7 @@ fn one_turn<S: States + Drop, G: Guide<S>>(
 
 /// Searches until there is an answer, from a trail without assignments; vertices and axioms may come as it goes.
 ///
-/// It ends without a budget, since every turn brings a number down. Where memory is refused, nothing is promised of the
+/// It ends without a budget, since every turn brings a number down. Where memory is wanting, nothing is promised of the
 /// guide, the trail and the store but that they are sound.
 pub fn search<S: States + Drop, G: Guide<S>>(
     alloc: Global,

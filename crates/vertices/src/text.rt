@@ -77,7 +77,7 @@ pub(crate) fn version(alloc: Global, text: &str) -> Result<Version, TextFault>
     }
 }
 
-/// What a refusal of `semver` is.
+/// What an error of `semver` is.
 fn fault_of(e: semver::Error) -> TextFault
     ensures { ((result ≡ TextFault.OutOfMemory) × (e ≡ memory_error)) ⊎ ((result ≡ TextFault.NotAText) × (e ≢ memory_error)) }
 {

@@ -5,7 +5,7 @@
 //! is dear to check and nothing else needs it.
 //!
 //! A layer above may rely on this: where `clap` accepts the words, the command and its values are those that its
-//! meaning gives, and no other. Where it refuses them, `Help` and `Wrong` stand for kinds of its refusal, and their
+//! meaning gives, and no other. Where it doesn't, `Help` and `Wrong` stand for kinds of its error, and their
 //! texts are `clap`'s, of which no contract says anything.
 #![tactic(auto)]
 
