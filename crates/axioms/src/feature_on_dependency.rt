@@ -5,39 +5,39 @@ ghost use Rattle.semver.specs.Identifiers.{parts_of};
 ghost use Rattle.features.specs.EntryViews.{entry_view};
 ghost use Rattle.model.specs.Vertices.{version_of};
 ghost use Rattle.refutations.specs.Causes.{dependency_at, enables, is_cause, of_enabling, passes};
-ghost use Rattle.looking_up.specs.Views.{problem};
+ghost use Rattle.looking_up.specs.Views.{problem_view};
 
 use crate::entries::has_same;
 use causes::enables;
 use features::{Entry, FeatureName, PackageName};
-use looking_up::{Known, dependency_at, entries_of};
+use looking_up::{Problem, dependency_at, entries_of};
 use semver::Version;
 use vertices::OwnerRef;
 
 pub(crate) fn is_enabling(
-    known: &Known<'_>,
+    problem: &Problem<'_>,
     name: &PackageName,
     version: &Version,
     on: &FeatureName,
     entry: &Entry,
     number: usize,
 ) -> bool
-    ensures { result ≡ is_cause (problem known.now) (of_enabling name.now (parts_of version.now) on.now (entry_view entry.now) number) }
+    ensures { result ≡ is_cause (problem_view problem.now) (of_enabling name.now (parts_of version.now) on.now (entry_view entry.now) number) }
 {
-    has_same(entry, entries_of(known, name, version, on))
-        && enables_number(known, name, version, entry, number)
+    has_same(entry, entries_of(problem, name, version, on))
+        && enables_number(problem, name, version, entry, number)
 }
 
 fn enables_number(
-    known: &Known<'_>,
+    problem: &Problem<'_>,
     name: &PackageName,
     version: &Version,
     entry: &Entry,
     number: usize,
 ) -> bool
-    ensures { result ≡ passes (λ d. enables d.name (entry_view entry.now)) (dependency_at (problem known.now) (version_of name.now (parts_of version.now)) number) }
+    ensures { result ≡ passes (λ d. enables d.name (entry_view entry.now)) (dependency_at (problem_view problem.now) (version_of name.now (parts_of version.now)) number) }
 {
-    match dependency_at(known, &OwnerRef::Version(name, version), number) {
+    match dependency_at(problem, &OwnerRef::Version(name, version), number) {
         Some(dependency) => enables(&dependency.name, entry),
         None => false,
     }

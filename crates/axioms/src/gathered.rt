@@ -5,12 +5,12 @@ ghost use Rattle.catalogue.specs.Problems.{problem_in};
 ghost use Rattle.known_pairs.specs.Gathered.{is_known_feature};
 ghost use Rattle.causes.specs.NumbersViews as kept;
 ghost use Rattle.known_pairs.specs.Pairs.{HasThose};
-ghost use Rattle.looking_up.specs.Views.{problem};
+ghost use Rattle.looking_up.specs.Views.{problem_view};
 
 use catalogue::Catalogue;
 use causes::Numbers;
 use known_pairs::{Pairs, known_features};
-use looking_up::Known;
+use looking_up::Problem;
 use manifest::Manifest;
 use std::alloc::{AllocError, Global};
 
@@ -18,11 +18,11 @@ use std::alloc::{AllocError, Global};
 /// looked for before.
 #[derive(Drop)]
 pub struct Gathered<'a> {
-    pub(crate) known: Known<'a>,
+    pub(crate) problem: Problem<'a>,
     pub(crate) features: Pairs<'a>,
     pub(crate) numbers: Numbers<'a>,
-    ghost features_are: { HasThose features (is_known_feature (problem known)) },
-    ghost numbers_are: { kept.problem_of numbers ≡ problem known },
+    ghost features_are: { HasThose features (is_known_feature (problem_view problem)) },
+    ghost numbers_are: { kept.problem_of numbers ≡ problem_view problem },
 }
 
 impl<'a> Gathered<'a> {
@@ -39,26 +39,26 @@ impl<'a> Gathered<'a> {
     ) -> Result<Gathered<'a>, AllocError>
         ensures { IfOk result (λ g. problem_of g ≡ problem_in manifest.entry.now catalogue.entry.now) }
     {
-        let known = Known {
+        let problem = Problem {
             manifest,
             catalogue,
         };
         Ok(Gathered {
-            known,
+            problem,
             features: known_features(alloc, manifest, catalogue)?,
-            numbers: Numbers::new(alloc, known),
+            numbers: Numbers::new(alloc, problem),
         })
     }
 
     pub fn manifest(&self) -> &'a Manifest
         ensures { result.now ≡ manifest_of self.now }
     {
-        self.known.manifest
+        self.problem.manifest
     }
 
     pub fn catalogue(&self) -> &'a Catalogue
         ensures { result.now ≡ catalogue_of self.now }
     {
-        self.known.catalogue
+        self.problem.catalogue
     }
 }

@@ -7,12 +7,12 @@ ghost use Rattle.model.specs.Vertices.{class_candidates};
 ghost use Rattle.refutations.specs.Causes.{has_feature_vertex};
 ghost use Rattle.known_pairs.specs.Gathered.{is_known_feature};
 ghost use Rattle.axioms.specs.GatheredViews.{problem_of};
-ghost use Rattle.looking_up.specs.Views.{problem};
+ghost use Rattle.looking_up.specs.Views.{problem_view};
 
 use crate::gathered::Gathered;
 use classes::Class;
 use features::{FeatureName, PackageName};
-use looking_up::{Known, class_versions};
+use looking_up::{Problem, class_versions};
 use semver::Version;
 
 /// Whether a candidate is of the class, and some candidate has the feature or some dependency asks for it.
@@ -24,7 +24,7 @@ pub(crate) fn has_feature_vertex(
 ) -> bool
     ensures { result ≡ has_feature_vertex (problem_of gathered.now) name.now (class_view class) feature.now }
 {
-    has_candidate(&gathered.known, name, class) && is_known_feature(gathered, name, feature)
+    has_candidate(&gathered.problem, name, class) && is_known_feature(gathered, name, feature)
 }
 
 /// Whether some candidate of the name has the feature, or some dependency asks for it.
@@ -34,10 +34,10 @@ fn is_known_feature(gathered: &Gathered<'_>, name: &PackageName, feature: &Featu
     gathered.features.has(name.as_str(), feature.as_str())
 }
 
-fn has_candidate(known: &Known<'_>, name: &PackageName, class: Class) -> bool
-    ensures { result ≡ list_any (λ c. true) (class_candidates (problem known.now) name.now (class_view class)) }
+fn has_candidate(problem: &Problem<'_>, name: &PackageName, class: Class) -> bool
+    ensures { result ≡ list_any (λ c. true) (class_candidates (problem_view problem.now) name.now (class_view class)) }
 {
-    has_one(class_versions(known.catalogue, name, class))
+    has_one(class_versions(problem.catalogue, name, class))
 }
 
 fn has_one(versions: &[Version]) -> bool

@@ -11,14 +11,14 @@ ghost use Rattle.refutations.specs.Terms.{same_terms};
 ghost use Rattle.named_terms.specs.CauseViews.{cause_view};
 ghost use Rattle.axioms.specs.GatheredViews.{problem_of};
 ghost use Rattle.axioms.specs.Instances.{IsFound};
-ghost use Rattle.looking_up.specs.Views.{problem};
+ghost use Rattle.looking_up.specs.Views.{problem_view};
 ghost use Rattle.named_terms.specs.Views.{term_views};
 
 use crate::gathered::Gathered;
 use crate::kinds::is_cause;
 use causes::cause_in;
 use instances::instance_terms;
-use looking_up::Known;
+use looking_up::Problem;
 use named_terms::{Cause, Term, same_terms};
 use std::alloc::{AllocError, Global};
 use vertices::Kind;
@@ -50,7 +50,7 @@ pub fn find_candidate<'a>(
     ensures same { problem_of gathered.new ≡ problem_of gathered.old }
 {
     let instance = match cause_in(alloc, &mut gathered.numbers, kind, terms)? {
-        Some(cause) => Some(instance_of(alloc, &gathered.known, cause)?),
+        Some(cause) => Some(instance_of(alloc, &gathered.problem, cause)?),
         None => None,
     };
     Ok(Candidate { instance })
@@ -58,13 +58,13 @@ pub fn find_candidate<'a>(
 
 fn instance_of<'a>(
     alloc: Global,
-    known: &Known<'a>,
+    problem: &Problem<'a>,
     cause: Cause<'a>,
 ) -> Result<Instance<'a>, AllocError>
     ensures cause { IfOk result (λ i. cause_view i.cause ≡ cause_view cause.entry) }
-    ensures terms { IfOk result (λ i. term_views i.terms.items ≡ without_full (problem known.now) (terms_of_cause (problem known.now) (cause_view cause.entry))) }
+    ensures terms { IfOk result (λ i. term_views i.terms.items ≡ without_full (problem_view problem.now) (terms_of_cause (problem_view problem.now) (cause_view cause.entry))) }
 {
-    let terms = instance_terms(alloc, known, &cause)?;
+    let terms = instance_terms(alloc, problem, &cause)?;
     Ok(Instance { cause, terms })
 }
 

@@ -5,7 +5,7 @@ ghost use Rattle.semver.specs.Identifiers.{parts_of};
 ghost use Rattle.classes.specs.Classes.{class_view};
 ghost use Rattle.refutations.specs.Causes.{is_cause, of_asking, of_entry, of_need, of_target};
 ghost use Rattle.vertices.specs.RefViews.{owner_ref_view};
-ghost use Rattle.looking_up.specs.Views.{problem};
+ghost use Rattle.looking_up.specs.Views.{problem_view};
 ghost use Rattle.named_terms.specs.CauseViews.{cause_view};
 ghost use Rattle.axioms.specs.GatheredViews.{problem_of};
 
@@ -19,7 +19,7 @@ use crate::weak_feature::is_weak;
 use causes::is_needed;
 use classes::Class;
 use features::{FeatureName, PackageName};
-use looking_up::{Known, dependency_at, entries_of, has_class};
+use looking_up::{Problem, dependency_at, entries_of, has_class};
 use named_terms::Cause;
 use semver::Version;
 use vertices::OwnerRef;
@@ -28,83 +28,83 @@ use vertices::OwnerRef;
 pub(crate) fn is_cause(gathered: &Gathered<'_>, cause: &Cause<'_>) -> bool
     ensures { result ≡ is_cause (problem_of gathered.now) (cause_view cause.now) }
 {
-    let known = &gathered.known;
+    let problem = &gathered.problem;
     match cause {
         Cause::Root => true,
-        Cause::Need(owner, number) => is_need(known, owner, *number),
-        Cause::Target(owner, number, class) => is_target(known, owner, *number, *class),
+        Cause::Need(owner, number) => is_need(problem, owner, *number),
+        Cause::Target(owner, number, class) => is_target(problem, owner, *number, *class),
         Cause::Feature(name, class, feature) => has_feature_vertex(gathered, name, *class, feature),
         Cause::List(owner, number, class, feature) => {
-            is_list(known, owner, *number, *class, feature)
+            is_list(problem, owner, *number, *class, feature)
         }
         Cause::Ask(name, version, number, feature, class) => {
-            is_ask(known, name, version, *number, feature, *class)
+            is_ask(problem, name, version, *number, feature, *class)
         }
-        Cause::Entry(name, version, on, off) => is_entry(known, name, version, on, off),
+        Cause::Entry(name, version, on, off) => is_entry(problem, name, version, on, off),
         Cause::Enabling(name, version, on, entry, number) => {
-            is_enabling(known, name, version, on, entry, *number)
+            is_enabling(problem, name, version, on, entry, *number)
         }
         Cause::Asking(name, version, on, asked, number) => {
-            is_asking(known, name, version, on, asked, *number)
+            is_asking(problem, name, version, on, asked, *number)
         }
         Cause::Newest(owner, number, other, class, higher) => {
-            is_newest(known, owner, *number, *other, *class, *higher)
+            is_newest(problem, owner, *number, *other, *class, *higher)
         }
         Cause::Weak(name, version, on, off, number, class) => {
-            is_weak(known, name, version, on, off, *number, *class)
+            is_weak(problem, name, version, on, off, *number, *class)
         }
     }
 }
 
 /// `Needed`: the owner needs the dependency.
-fn is_need(known: &Known<'_>, owner: &OwnerRef<'_>, number: usize) -> bool
-    ensures { result ≡ is_cause (problem known.now) (of_need (owner_ref_view owner.now) number) }
+fn is_need(problem: &Problem<'_>, owner: &OwnerRef<'_>, number: usize) -> bool
+    ensures { result ≡ is_cause (problem_view problem.now) (of_need (owner_ref_view owner.now) number) }
 {
-    match dependency_at(known, owner, number) {
+    match dependency_at(problem, owner, number) {
         Some(dependency) => is_needed(owner, dependency),
         None => false,
     }
 }
 
 /// `Target`: the requirement matches a version of the class.
-fn is_target(known: &Known<'_>, owner: &OwnerRef<'_>, number: usize, class: Class) -> bool
-    ensures { result ≡ is_cause (problem known.now) (of_target (owner_ref_view owner.now) number (class_view class)) }
+fn is_target(problem: &Problem<'_>, owner: &OwnerRef<'_>, number: usize, class: Class) -> bool
+    ensures { result ≡ is_cause (problem_view problem.now) (of_target (owner_ref_view owner.now) number (class_view class)) }
 {
-    match dependency_at(known, owner, number) {
-        Some(dependency) => has_class(known, class, dependency),
+    match dependency_at(problem, owner, number) {
+        Some(dependency) => has_class(problem, class, dependency),
         None => false,
     }
 }
 
 /// `FeatureOnFeature`: the other feature is an entry of the feature.
 fn is_entry(
-    known: &Known<'_>,
+    problem: &Problem<'_>,
     name: &PackageName,
     version: &Version,
     on: &FeatureName,
     off: &FeatureName,
 ) -> bool
-    ensures { result ≡ is_cause (problem known.now) (of_entry name.now (parts_of version.now) on.now off.now) }
+    ensures { result ≡ is_cause (problem_view problem.now) (of_entry name.now (parts_of version.now) on.now off.now) }
 {
-    has_feature(off, entries_of(known, name, version, on)) && on != off
+    has_feature(off, entries_of(problem, name, version, on)) && on != off
 }
 
 /// `FeatureAsks`: the feature has an entry that asks the dependency.
 fn is_asking(
-    known: &Known<'_>,
+    problem: &Problem<'_>,
     name: &PackageName,
     version: &Version,
     on: &FeatureName,
     asked: &FeatureName,
     number: usize,
 ) -> bool
-    ensures { result ≡ is_cause (problem known.now) (of_asking name.now (parts_of version.now) on.now asked.now number) }
+    ensures { result ≡ is_cause (problem_view problem.now) (of_asking name.now (parts_of version.now) on.now asked.now number) }
 {
-    match dependency_at(known, &OwnerRef::Version(name, version), number) {
+    match dependency_at(problem, &OwnerRef::Version(name, version), number) {
         Some(dependency) => has_asking(
             &dependency.name,
             asked,
-            entries_of(known, name, version, on),
+            entries_of(problem, name, version, on),
         ),
         None => false,
     }

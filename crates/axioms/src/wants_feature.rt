@@ -10,29 +10,29 @@ ghost use Rattle.model.specs.Summary.{asked_of_target, same_text, dependency_fea
 ghost use Rattle.model.specs.Summary as model;
 ghost use Rattle.refutations.specs.Causes.{is_cause, lists_feature, of_ask, of_list, asks_for, root_asks_for, same_entry, same_pair, some_entry};
 ghost use Rattle.vertices.specs.RefViews.{owner_ref_view};
-ghost use Rattle.looking_up.specs.Views.{problem};
+ghost use Rattle.looking_up.specs.Views.{problem_view};
 ghost use Rattle.known_pairs.specs.Asking.{row_names};
 ghost use Rattle.axioms.specs.WantsFeature.{row_asks};
 
 use crate::entries::{asks_for, has_asking};
 use classes::Class;
 use features::{Dependency, Entry, FeatureName, FeatureTable, PackageName};
-use looking_up::{Known, brings, dependency_at, has_class};
+use looking_up::{Problem, brings, dependency_at, has_class};
 use semver::Version;
 use vertices::OwnerRef;
 
 pub(crate) fn is_list(
-    known: &Known<'_>,
+    problem: &Problem<'_>,
     owner: &OwnerRef<'_>,
     number: usize,
     class: Class,
     feature: &FeatureName,
 ) -> bool
-    ensures { result ≡ is_cause (problem known.now) (of_list (owner_ref_view owner.now) number (class_view class) feature.now) }
+    ensures { result ≡ is_cause (problem_view problem.now) (of_list (owner_ref_view owner.now) number (class_view class) feature.now) }
 {
-    match dependency_at(known, owner, number) {
+    match dependency_at(problem, owner, number) {
         Some(dependency) => {
-            has_class(known, class, dependency) && lists_feature(known, owner, dependency, feature)
+            has_class(problem, class, dependency) && lists_feature(problem, owner, dependency, feature)
         }
         None => false,
     }
@@ -40,14 +40,14 @@ pub(crate) fn is_list(
 
 /// Whether the dependency asks for the feature, by its list or an entry of the root.
 fn lists_feature(
-    known: &Known<'_>,
+    problem: &Problem<'_>,
     owner: &OwnerRef<'_>,
     dependency: &Dependency,
     feature: &FeatureName,
 ) -> bool
-    ensures { result ≡ lists_feature (problem known.now) (owner_ref_view owner.now) (dependency_view dependency.now) feature.now }
+    ensures { result ≡ lists_feature (problem_view problem.now) (owner_ref_view owner.now) (dependency_view dependency.now) feature.now }
 {
-    is_listed(dependency, feature) || root_asks_for(known, owner, dependency, feature)
+    is_listed(dependency, feature) || root_asks_for(problem, owner, dependency, feature)
 }
 
 /// Whether a dependency asks for the feature by its list.
@@ -71,23 +71,23 @@ fn is_default(dependency: &Dependency, feature: &FeatureName) -> bool
 
 /// Whether the root asks its dependency for the feature by an entry.
 fn root_asks_for(
-    known: &Known<'_>,
+    problem: &Problem<'_>,
     owner: &OwnerRef<'_>,
     dependency: &Dependency,
     feature: &FeatureName,
 ) -> bool
-    ensures { result ≡ root_asks_for (problem known.now) (owner_ref_view owner.now) (dependency_view dependency.now) feature.now }
+    ensures { result ≡ root_asks_for (problem_view problem.now) (owner_ref_view owner.now) (dependency_view dependency.now) feature.now }
 {
     match owner {
-        OwnerRef::Root => root_asks(known, &dependency.name, feature),
+        OwnerRef::Root => root_asks(problem, &dependency.name, feature),
         OwnerRef::Version(_, _) => false,
     }
 }
 
-fn root_asks(known: &Known<'_>, name: &PackageName, feature: &FeatureName) -> bool
-    ensures { result ≡ list_any (same_pair (name.now, feature.now)) (problem known.now).root_asks }
+fn root_asks(problem: &Problem<'_>, name: &PackageName, feature: &FeatureName) -> bool
+    ensures { result ≡ list_any (same_pair (name.now, feature.now)) (problem_view problem.now).root_asks }
 {
-    some_row_names(known.manifest.features(), name, feature)
+    some_row_names(problem.manifest.features(), name, feature)
 }
 
 /// Whether some row has an entry `d/g` or `d?/g`.
@@ -115,19 +115,19 @@ fn has_named(name: &PackageName, feature: &FeatureName, entries: &[Entry]) -> bo
 }
 
 pub(crate) fn is_ask(
-    known: &Known<'_>,
+    problem: &Problem<'_>,
     name: &PackageName,
     version: &Version,
     number: usize,
     feature: &FeatureName,
     class: Class,
 ) -> bool
-    ensures { result ≡ is_cause (problem known.now) (of_ask name.now (parts_of version.now) number feature.now (class_view class)) }
+    ensures { result ≡ is_cause (problem_view problem.now) (of_ask name.now (parts_of version.now) number feature.now (class_view class)) }
 {
-    match dependency_at(known, &OwnerRef::Version(name, version), number) {
+    match dependency_at(problem, &OwnerRef::Version(name, version), number) {
         Some(dependency) => {
-            has_class(known, class, dependency)
-                && some_entry_asks(known, name, version, &dependency.name, feature)
+            has_class(problem, class, dependency)
+                && some_entry_asks(problem, name, version, &dependency.name, feature)
         }
         None => false,
     }
@@ -135,15 +135,15 @@ pub(crate) fn is_ask(
 
 /// Whether an entry `d/g` of the version asks for the feature.
 fn some_entry_asks(
-    known: &Known<'_>,
+    problem: &Problem<'_>,
     owner: &PackageName,
     version: &Version,
     name: &PackageName,
     feature: &FeatureName,
 ) -> bool
-    ensures { result ≡ some_entry (problem known.now) (same_entry (dependency_feature name.now feature.now)) owner.now (parts_of version.now) }
+    ensures { result ≡ some_entry (problem_view problem.now) (same_entry (dependency_feature name.now feature.now)) owner.now (parts_of version.now) }
 {
-    match brings(known, &OwnerRef::Version(owner, version)) {
+    match brings(problem, &OwnerRef::Version(owner, version)) {
         Some(owner) => some_row_asks(&owner.features, name, feature),
         None => false,
     }

@@ -6,17 +6,17 @@ ghost use Rattle.classes.specs.Classes.{class_view};
 ghost use Rattle.features.specs.Views.{dependency_view};
 ghost use Rattle.model.specs.Vertices.{feat, same_class, same_vertex};
 ghost use Rattle.refutations.specs.Causes.{is_cause, is_weak_on, of_weak};
-ghost use Rattle.looking_up.specs.Views.{problem};
+ghost use Rattle.looking_up.specs.Views.{problem_view};
 
 use crate::entries::has_weak;
 use classes::Class;
 use features::{Dependency, FeatureName, PackageName};
-use looking_up::{Known, dependency_at, entries_of, has_class};
+use looking_up::{Problem, dependency_at, entries_of, has_class};
 use semver::Version;
 use vertices::OwnerRef;
 
 pub(crate) fn is_weak(
-    known: &Known<'_>,
+    problem: &Problem<'_>,
     name: &PackageName,
     version: &Version,
     on: &FeatureName,
@@ -24,17 +24,17 @@ pub(crate) fn is_weak(
     number: usize,
     class: Class,
 ) -> bool
-    ensures { result ≡ is_cause (problem known.now) (of_weak name.now (parts_of version.now) on.now off.now number (class_view class)) }
+    ensures { result ≡ is_cause (problem_view problem.now) (of_weak name.now (parts_of version.now) on.now off.now number (class_view class)) }
 {
-    match dependency_at(known, &OwnerRef::Version(name, version), number) {
-        Some(dependency) => is_weak_on(known, name, version, on, off, class, dependency),
+    match dependency_at(problem, &OwnerRef::Version(name, version), number) {
+        Some(dependency) => is_weak_on(problem, name, version, on, off, class, dependency),
         None => false,
     }
 }
 
 /// An entry `d?/g` of the feature of a version, whose two terms on features differ.
 fn is_weak_on(
-    known: &Known<'_>,
+    problem: &Problem<'_>,
     name: &PackageName,
     version: &Version,
     on: &FeatureName,
@@ -42,10 +42,10 @@ fn is_weak_on(
     class: Class,
     dependency: &Dependency,
 ) -> bool
-    ensures { result ≡ is_weak_on (problem known.now) name.now (parts_of version.now) on.now off.now (class_view class) (dependency_view dependency.now) }
+    ensures { result ≡ is_weak_on (problem_view problem.now) name.now (parts_of version.now) on.now off.now (class_view class) (dependency_view dependency.now) }
 {
-    has_class(known, class, dependency)
-        && has_weak(&dependency.name, off, entries_of(known, name, version, on))
+    has_class(problem, class, dependency)
+        && has_weak(&dependency.name, off, entries_of(problem, name, version, on))
         && !is_same_feature(
             name,
             Class::of(version),

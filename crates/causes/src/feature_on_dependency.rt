@@ -11,7 +11,7 @@ ghost use Rattle.features.specs.Texts.{has_text, HasThose};
 ghost use Rattle.model.specs.Summary.{same_text};
 ghost use Rattle.refutations.specs.Instances.{enabled_unmatched, enabling_in, number_read};
 ghost use Rattle.refutations.specs.Causes.{enables};
-ghost use Rattle.looking_up.specs.Views.{problem};
+ghost use Rattle.looking_up.specs.Views.{problem_view};
 ghost use Rattle.named_terms.specs.CauseViews.{cause_view};
 ghost use Rattle.named_terms.specs.Views.{term_views};
 ghost use Rattle.causes.specs.NumbersViews.{problem_of};
@@ -20,7 +20,7 @@ ghost use Rattle.causes.specs.Needs.{enabling_by, is_enabled_unmatched, place_fr
 use crate::numbers::Numbers;
 use crate::reading::{first_dependency, first_on, first_version};
 use features::{Dependency, Entry, FeatureName, PackageName};
-use looking_up::{Known, dependencies_of, dependency_at, entries_of, is_unmatched};
+use looking_up::{Problem, dependencies_of, dependency_at, entries_of, is_unmatched};
 use named_terms::{Cause, Term};
 use semver::Version;
 use std::alloc::{AllocError, Global};
@@ -42,23 +42,23 @@ pub(crate) fn enabling_in<'a>(
         return Ok(None);
     };
     match enabled_number(alloc, numbers, name, version, on, terms)? {
-        Some(number) => Ok(enabling(&numbers.known, name, version, on, number)),
+        Some(number) => Ok(enabling(&numbers.problem, name, version, on, number)),
         None => Ok(None),
     }
 }
 
 /// The cause with the first entry that enables the dependency of this number.
 fn enabling<'a>(
-    known: &Known<'a>,
+    problem: &Problem<'a>,
     name: &'a PackageName,
     version: &'a Version,
     on: &'a FeatureName,
     number: usize,
 ) -> Option<Cause<'a>>
-    ensures { option_map cause_view result ≡ enabling_by (problem known.now) name.entry.now (parts_of version.entry.now) on.entry.now number }
+    ensures { option_map cause_view result ≡ enabling_by (problem_view problem.now) name.entry.now (parts_of version.entry.now) on.entry.now number }
 {
-    let dependency = dependency_at(known, &OwnerRef::Version(name, version), number)?;
-    let entry = first_enabling(&dependency.name, entries_of(known, name, version, on))?;
+    let dependency = dependency_at(problem, &OwnerRef::Version(name, version), number)?;
+    let entry = first_enabling(&dependency.name, entries_of(problem, name, version, on))?;
     Some(Cause::Enabling(name, version, on, entry, number))
 }
 
@@ -119,9 +119,9 @@ fn enabled_unmatched<'a>(
     if let Some(number) = numbers.enabled.get(&row) {
         return Ok(Some(*number));
     }
-    let known = numbers.known;
-    let names = enabled_names(alloc, entries_of(&known, name, version, on))?;
-    let Some(number) = first_enabled(&known, dependencies_of(&known, &owner), &names) else {
+    let problem = numbers.problem;
+    let names = enabled_names(alloc, entries_of(&problem, name, version, on))?;
+    let Some(number) = first_enabled(&problem, dependencies_of(&problem, &owner), &names) else {
         return Ok(None);
     };
     numbers.enabled.insert(row, number)?;
@@ -158,14 +158,14 @@ fn put<'a>(names: &mut BTreeSet<&'a str>, name: &'a str) -> Result<(), AllocErro
 
 /// The number of the first dependency that is called by one of the names and that no candidate serves.
 fn first_enabled(
-    known: &Known<'_>,
+    problem: &Problem<'_>,
     dependencies: &[Dependency],
     names: &BTreeSet<&str>,
 ) -> Option<usize>
-    ensures { result ≡ place_from (is_enabled_unmatched (problem known.now) (has_text names.now.keys)) 0 (dependency_views dependencies.now) }
+    ensures { result ≡ place_from (is_enabled_unmatched (problem_view problem.now) (has_text names.now.keys)) 0 (dependency_views dependencies.now) }
 {
     'dependencies: for (number, dependency) in dependencies.iter().enumerate() {
-        if is_enabled_unmatched(known, dependency, names) {
+        if is_enabled_unmatched(problem, dependency, names) {
             return Some(number);
         }
     }
@@ -173,10 +173,10 @@ fn first_enabled(
 }
 
 #[tactic(auto, unfolding(crate::specs::Needs::is_enabled_unmatched))]
-fn is_enabled_unmatched(known: &Known<'_>, dependency: &Dependency, names: &BTreeSet<&str>) -> bool
-    ensures { result ≡ is_enabled_unmatched (problem known.now) (has_text names.now.keys) (dependency_view dependency.now) }
+fn is_enabled_unmatched(problem: &Problem<'_>, dependency: &Dependency, names: &BTreeSet<&str>) -> bool
+    ensures { result ≡ is_enabled_unmatched (problem_view problem.now) (has_text names.now.keys) (dependency_view dependency.now) }
 {
-    has(names, dependency.name.as_str()) && is_unmatched(known, dependency)
+    has(names, dependency.name.as_str()) && is_unmatched(problem, dependency)
 }
 
 fn has(names: &BTreeSet<&str>, name: &str) -> bool

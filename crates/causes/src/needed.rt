@@ -6,7 +6,7 @@ ghost use Rattle.features.specs.Views.{dependency_view, dependency_views};
 ghost use Rattle.refutations.specs.Causes.{is_needed};
 ghost use Rattle.refutations.specs.Instances.{need_in, needed_unmatched, number_read};
 ghost use Rattle.vertices.specs.RefViews.{owner_ref_view};
-ghost use Rattle.looking_up.specs.Views.{problem};
+ghost use Rattle.looking_up.specs.Views.{problem_view};
 ghost use Rattle.named_terms.specs.CauseViews.{cause_view};
 ghost use Rattle.named_terms.specs.Views.{term_views};
 ghost use Rattle.causes.specs.NumbersViews.{problem_of};
@@ -15,7 +15,7 @@ ghost use Rattle.causes.specs.Needs.{is_needed_unmatched, place_from};
 use crate::numbers::Numbers;
 use crate::reading::{first_dependency, first_owner};
 use features::Dependency;
-use looking_up::{Known, dependencies_of, is_unmatched};
+use looking_up::{Problem, dependencies_of, is_unmatched};
 use named_terms::{Cause, Term};
 use std::alloc::AllocError;
 use vertices::OwnerRef;
@@ -61,8 +61,8 @@ fn needed_unmatched<'a>(
     if let Some(number) = numbers.needed.get(&owner) {
         return Ok(Some(*number));
     }
-    let known = numbers.known;
-    let Some(number) = first_needed(&known, &owner, dependencies_of(&known, &owner)) else {
+    let problem = numbers.problem;
+    let Some(number) = first_needed(&problem, &owner, dependencies_of(&problem, &owner)) else {
         return Ok(None);
     };
     numbers.needed.insert(owner, number)?;
@@ -71,14 +71,14 @@ fn needed_unmatched<'a>(
 
 /// The number of the first dependency that the owner needs and no candidate serves.
 fn first_needed(
-    known: &Known<'_>,
+    problem: &Problem<'_>,
     owner: &OwnerRef<'_>,
     dependencies: &[Dependency],
 ) -> Option<usize>
-    ensures { result ≡ place_from (is_needed_unmatched (problem known.now) (owner_ref_view owner.now)) 0 (dependency_views dependencies.now) }
+    ensures { result ≡ place_from (is_needed_unmatched (problem_view problem.now) (owner_ref_view owner.now)) 0 (dependency_views dependencies.now) }
 {
     'dependencies: for (number, dependency) in dependencies.iter().enumerate() {
-        if is_needed_unmatched(known, owner, dependency) {
+        if is_needed_unmatched(problem, owner, dependency) {
             return Some(number);
         }
     }
@@ -86,10 +86,10 @@ fn first_needed(
 }
 
 #[tactic(auto, unfolding(crate::specs::Needs::is_needed_unmatched))]
-fn is_needed_unmatched(known: &Known<'_>, owner: &OwnerRef<'_>, dependency: &Dependency) -> bool
-    ensures { result ≡ is_needed_unmatched (problem known.now) (owner_ref_view owner.now) (dependency_view dependency.now) }
+fn is_needed_unmatched(problem: &Problem<'_>, owner: &OwnerRef<'_>, dependency: &Dependency) -> bool
+    ensures { result ≡ is_needed_unmatched (problem_view problem.now) (owner_ref_view owner.now) (dependency_view dependency.now) }
 {
-    is_needed(owner, dependency) && is_unmatched(known, dependency)
+    is_needed(owner, dependency) && is_unmatched(problem, dependency)
 }
 
 /// Whether the owner needs the dependency: the root each one, a version those that aren't optional.

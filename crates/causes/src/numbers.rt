@@ -2,10 +2,10 @@
 
 ghost use Rattle.std.specs.Prelude.{◌≡◌};
 ghost use Rattle.causes.specs.Numbers.{AreEnabled, AreNeeded};
-ghost use Rattle.looking_up.specs.Views.{problem};
+ghost use Rattle.looking_up.specs.Views.{problem_view};
 
 use features::FeatureName;
-use looking_up::Known;
+use looking_up::Problem;
 use std::alloc::Global;
 use std::collections::HashMap;
 use vertices::OwnerRef;
@@ -13,24 +13,24 @@ use vertices::OwnerRef;
 /// The manifest and the loaded index, with the numbers that were looked for before.
 #[derive(Drop)]
 pub struct Numbers<'a> {
-    pub(crate) known: Known<'a>,
+    pub(crate) problem: Problem<'a>,
     /// By owner, the number of the first dependency that it needs and no candidate serves.
     pub(crate) needed: HashMap<OwnerRef<'a>, usize>,
     /// By version and feature, the number of the first dependency that entries enable and no candidate serves.
     pub(crate) enabled: HashMap<(OwnerRef<'a>, &'a FeatureName), usize>,
-    ghost needed_are: { AreNeeded (problem known) needed },
-    ghost enabled_are: { AreEnabled (problem known) enabled },
+    ghost needed_are: { AreNeeded (problem_view problem) needed },
+    ghost enabled_are: { AreEnabled (problem_view problem) enabled },
 }
 
 impl<'a> Numbers<'a> {
     ghost use Rattle.causes.specs.NumbersViews.{problem_of};
 
     /// None yet.
-    pub fn new(alloc: Global, known: Known<'a>) -> Numbers<'a>
-        ensures { problem_of result ≡ problem known.entry }
+    pub fn new(alloc: Global, problem: Problem<'a>) -> Numbers<'a>
+        ensures { problem_of result ≡ problem_view problem.entry }
     {
         Numbers {
-            known,
+            problem,
             needed: HashMap::new(alloc),
             enabled: HashMap::new(alloc),
         }

@@ -19,16 +19,16 @@ use vertices::OwnerRef;
 pub(crate) fn brings<'a>(inputs: &Inputs<'a>, owner: &OwnerRef<'_>) -> Option<&'a Summary>
     ensures { brings_view result ≡ owner_brings (problem inputs.now) (owner_ref_view owner.now) }
 {
-    let known = inputs.known();
-    looking_up::brings(&known, owner)
+    let held = inputs.held();
+    looking_up::brings(&held, owner)
 }
 
 /// The dependencies of an owner.
 pub(crate) fn dependencies_of<'a>(inputs: &Inputs<'a>, owner: &OwnerRef<'_>) -> &'a [Dependency]
     ensures { dependency_views result.now ≡ (owner_brings (problem inputs.now) (owner_ref_view owner.now)).dependencies }
 {
-    let known = inputs.known();
-    looking_up::dependencies_of(&known, owner)
+    let held = inputs.held();
+    looking_up::dependencies_of(&held, owner)
 }
 
 /// The dependency of an owner that has this number.
@@ -39,8 +39,8 @@ pub fn dependency_at<'a>(
 ) -> Option<&'a Dependency>
     ensures { option_map (λ d. dependency_view d.now) result ≡ dependency_at (problem inputs.now) (owner_ref_view owner.now) number }
 {
-    let known = inputs.known();
-    looking_up::dependency_at(&known, owner, number)
+    let held = inputs.held();
+    looking_up::dependency_at(&held, owner, number)
 }
 
 /// The entries of a feature of a version.
@@ -52,6 +52,6 @@ pub(crate) fn entries_of<'a>(
 ) -> &'a [Entry]
     ensures { entry_views result.now ≡ entries_of (problem inputs.now) name.now (parts_of version.now) feature.now }
 {
-    let known = inputs.known();
-    looking_up::entries_of(&known, name, version, feature)
+    let held = inputs.held();
+    looking_up::entries_of(&held, name, version, feature)
 }

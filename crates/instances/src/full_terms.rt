@@ -10,13 +10,13 @@ ghost use Rattle.classes.specs.Classes.{class_view};
 ghost use Rattle.semver.specs.Identifiers.{parts_of};
 ghost use Rattle.features.specs.Views.{requirement_view};
 ghost use Rattle.instances.specs.FullTerms.{has_if_matched, others};
-ghost use Rattle.looking_up.specs.Views.{problem};
+ghost use Rattle.looking_up.specs.Views.{problem_view};
 ghost use Rattle.named_terms.specs.Views.{term_view, term_views};
 ghost use Rattle.vertices.specs.RefViews.{owner_ref_view, vertex_ref_view};
 
 use classes::{Class, is_matched};
 use features::{Dependency, PackageName};
-use looking_up::{Known, class_versions, dependency_at};
+use looking_up::{Problem, class_versions, dependency_at};
 use named_terms::{States, Term};
 use semver::{Version, VersionReq};
 use std::alloc::{AllocError, Global};
@@ -25,14 +25,14 @@ use vertices::{OwnerRef, StateRef, VertexRef};
 /// The terms that aren't full.
 pub(crate) fn without_full<'a>(
     alloc: Global,
-    known: &Known<'a>,
+    problem: &Problem<'a>,
     terms: Vec<Term<'a>>,
 ) -> Result<Vec<Term<'a>>, AllocError>
-    ensures { IfOk result (λ v. term_views v.items ≡ without_full (problem known.now) (term_views terms.entry.items)) }
+    ensures { IfOk result (λ v. term_views v.items ≡ without_full (problem_view problem.now) (term_views terms.entry.items)) }
 {
     let mut kept = Vec::new(alloc);
     'terms: for term in terms {
-        if !is_full(known, &term) {
+        if !is_full(problem, &term) {
             kept.push(term)?;
         }
     }
@@ -40,10 +40,10 @@ pub(crate) fn without_full<'a>(
 }
 
 /// Whether all states of the vertex are among these.
-fn is_full<'a>(known: &Known<'a>, term: &Term<'a>) -> bool
-    ensures { result ≡ is_full (problem known.now) (term_view term.now) }
+fn is_full<'a>(problem: &Problem<'a>, term: &Term<'a>) -> bool
+    ensures { result ≡ is_full (problem_view problem.now) (term_view term.now) }
 {
-    has_absent(&term.states) && has_others(known, &term.vertex, &term.states)
+    has_absent(&term.states) && has_others(problem, &term.vertex, &term.states)
 }
 
 fn has_absent(states: &States<'_>) -> bool
@@ -59,22 +59,22 @@ fn has_present(states: &States<'_>) -> bool
 }
 
 /// Whether the states have all of the vertex but `absent`.
-fn has_others<'a>(known: &Known<'a>, vertex: &VertexRef<'a>, states: &States<'a>) -> bool
-    ensures { result ≡ list_all (has_state states.now) (others (problem known.now) (vertex_ref_view vertex.now)) }
+fn has_others<'a>(problem: &Problem<'a>, vertex: &VertexRef<'a>, states: &States<'a>) -> bool
+    ensures { result ≡ list_all (has_state states.now) (others (problem_view problem.now) (vertex_ref_view vertex.now)) }
 {
     match vertex {
         VertexRef::Root => has_present(states),
-        VertexRef::Package(name, class) => has_versions(known, name, *class, states),
-        VertexRef::Dependency(owner, number) => has_classes(known, owner, *number, states),
+        VertexRef::Package(name, class) => has_versions(problem, name, *class, states),
+        VertexRef::Dependency(owner, number) => has_classes(problem, owner, *number, states),
         VertexRef::Feature(_, _, _) => has_present(states),
         VertexRef::Ask(_, _, _, _) => has_present(states),
     }
 }
 
-fn has_versions(known: &Known<'_>, name: &PackageName, class: Class, states: &States<'_>) -> bool
-    ensures { result ≡ list_all (has_state states.now) (others (problem known.now) (model.pkg name.now (class_view class))) }
+fn has_versions(problem: &Problem<'_>, name: &PackageName, class: Class, states: &States<'_>) -> bool
+    ensures { result ≡ list_all (has_state states.now) (others (problem_view problem.now) (model.pkg name.now (class_view class))) }
 {
-    all_in(class_versions(known.catalogue, name, class), states)
+    all_in(class_versions(problem.catalogue, name, class), states)
 }
 
 fn all_in(versions: &[Version], states: &States<'_>) -> bool
@@ -89,20 +89,20 @@ fn has_version(states: &States<'_>, version: &Version) -> bool
     states.has(&StateRef::Version(version))
 }
 
-fn has_classes(known: &Known<'_>, owner: &OwnerRef<'_>, number: usize, states: &States<'_>) -> bool
-    ensures { result ≡ list_all (has_state states.now) (others (problem known.now) (model.dep (owner_ref_view owner.now) number)) }
+fn has_classes(problem: &Problem<'_>, owner: &OwnerRef<'_>, number: usize, states: &States<'_>) -> bool
+    ensures { result ≡ list_all (has_state states.now) (others (problem_view problem.now) (model.dep (owner_ref_view owner.now) number)) }
 {
-    match dependency_at(known, owner, number) {
-        Some(dependency) => has_classes_of(known, dependency, states),
+    match dependency_at(problem, owner, number) {
+        Some(dependency) => has_classes_of(problem, dependency, states),
         None => true,
     }
 }
 
-fn has_classes_of(known: &Known<'_>, dependency: &Dependency, states: &States<'_>) -> bool
-    ensures { result ≡ list_all (has_state states.now) (map model.in_class (dep_classes (problem known.now) (dependency_view dependency.now))) }
+fn has_classes_of(problem: &Problem<'_>, dependency: &Dependency, states: &States<'_>) -> bool
+    ensures { result ≡ list_all (has_state states.now) (map model.in_class (dep_classes (problem_view problem.now) (dependency_view dependency.now))) }
 {
     all_matched(
-        known.catalogue.versions(&dependency.real_name),
+        problem.catalogue.versions(&dependency.real_name),
         &dependency.requirement,
         states,
     )

@@ -11,14 +11,14 @@ ghost use Rattle.refutations.specs.Causes as causes;
 ghost use Rattle.refutations.specs.Causes.{terms_of_cause};
 ghost use Rattle.vertices.specs.RefViews.{state_ref_views};
 ghost use Rattle.looking_up.specs.Ranges.{versions_with};
-ghost use Rattle.looking_up.specs.Views.{problem};
+ghost use Rattle.looking_up.specs.Views.{problem_view};
 ghost use Rattle.named_terms.specs.Views.{term_view, term_views};
 ghost use Rattle.instances.specs.Matching.{is_lacking};
 
 use crate::terms::{term, two};
 use classes::Class;
 use features::{FeatureName, PackageName};
-use looking_up::{Known, brings, of_class};
+use looking_up::{Problem, brings, of_class};
 use named_terms::{States, Term};
 use semver::Version;
 use std::alloc::{AllocError, Global};
@@ -26,14 +26,14 @@ use vertices::{OwnerRef, StateRef, VertexRef};
 
 pub(crate) fn feature_terms<'a>(
     alloc: Global,
-    known: &Known<'a>,
+    problem: &Problem<'a>,
     name: &'a PackageName,
     class: Class,
     feature: &'a FeatureName,
 ) -> Result<Vec<Term<'a>>, AllocError>
-    ensures { IfOk result (λ v. term_views v.items ≡ terms_of_cause (problem known.now) (causes.of_feature name.entry.now (class_view class) feature.entry.now)) }
+    ensures { IfOk result (λ v. term_views v.items ≡ terms_of_cause (problem_view problem.now) (causes.of_feature name.entry.now (class_view class) feature.entry.now)) }
 {
-    let lacking = lacking_term(alloc, known, name, class, feature)?;
+    let lacking = lacking_term(alloc, problem, name, class, feature)?;
     two(
         alloc,
         term(
@@ -48,15 +48,15 @@ pub(crate) fn feature_terms<'a>(
 /// The package is absent or has a version of the class that lacks the feature.
 fn lacking_term<'a>(
     alloc: Global,
-    known: &Known<'a>,
+    problem: &Problem<'a>,
     name: &'a PackageName,
     class: Class,
     feature: &FeatureName,
 ) -> Result<Term<'a>, AllocError>
-    ensures { IfOk result (λ t. term_view t ≡ at (model.pkg name.entry.now (class_view class)) (absent_or (problem known.now) (λ c. not (has_feature c.brings.features feature.now)) name.entry.now (class_view class))) }
+    ensures { IfOk result (λ t. term_view t ≡ at (model.pkg name.entry.now (class_view class)) (absent_or (problem_view problem.now) (λ c. not (has_feature c.brings.features feature.now)) name.entry.now (class_view class))) }
 {
-    let versions = known.catalogue.versions(name);
-    let states = lacking_states(alloc, known, name, feature, of_class(class, versions))?;
+    let versions = problem.catalogue.versions(name);
+    let states = lacking_states(alloc, problem, name, feature, of_class(class, versions))?;
     Ok(Term {
         vertex: VertexRef::Package(name, class),
         states: States::rising(states),
@@ -66,17 +66,17 @@ fn lacking_term<'a>(
 /// `absent`, and the versions that lack the feature.
 fn lacking_states<'a>(
     alloc: Global,
-    known: &Known<'_>,
+    problem: &Problem<'_>,
     name: &PackageName,
     feature: &FeatureName,
     versions: &'a [Version],
 ) -> Result<Vec<StateRef<'a>>, AllocError>
-    ensures { IfOk result (λ v. state_ref_views v.items ≡ model.absent ∷ versions_with (is_lacking (problem known.now) name.now feature.now) (map parts_of versions.entry.now)) }
+    ensures { IfOk result (λ v. state_ref_views v.items ≡ model.absent ∷ versions_with (is_lacking (problem_view problem.now) name.now feature.now) (map parts_of versions.entry.now)) }
 {
     let mut states = Vec::new(alloc);
     states.push(StateRef::Absent)?;
     'versions: for version in versions.iter() {
-        if is_lacking(known, name, feature, version) {
+        if is_lacking(problem, name, feature, version) {
             states.push(StateRef::Version(version))?;
         }
     }
@@ -85,26 +85,26 @@ fn lacking_states<'a>(
 
 #[tactic(auto, unfolding(crate::specs::Matching::is_lacking))]
 fn is_lacking(
-    known: &Known<'_>,
+    problem: &Problem<'_>,
     name: &PackageName,
     feature: &FeatureName,
     version: &Version,
 ) -> bool
-    ensures { result ≡ is_lacking (problem known.now) name.now feature.now (parts_of version.now) }
+    ensures { result ≡ is_lacking (problem_view problem.now) name.now feature.now (parts_of version.now) }
 {
-    !has_feature(known, name, feature, version)
+    !has_feature(problem, name, feature, version)
 }
 
 /// Whether a version has the feature.
 fn has_feature(
-    known: &Known<'_>,
+    problem: &Problem<'_>,
     name: &PackageName,
     feature: &FeatureName,
     version: &Version,
 ) -> bool
-    ensures { result ≡ has_feature (owner_brings (problem known.now) (model.version_of name.now (parts_of version.now))).features feature.now }
+    ensures { result ≡ has_feature (owner_brings (problem_view problem.now) (model.version_of name.now (parts_of version.now))).features feature.now }
 {
-    match brings(known, &OwnerRef::Version(name, version)) {
+    match brings(problem, &OwnerRef::Version(name, version)) {
         Some(owner) => owner.features.has(feature),
         None => false,
     }

@@ -9,7 +9,7 @@ ghost use Rattle.model.specs.Vertices as model;
 ghost use Rattle.refutations.specs.Causes as causes;
 ghost use Rattle.refutations.specs.Causes.{feature_holds, terms_of_cause};
 ghost use Rattle.vertices.specs.RefViews.{owner_ref_view};
-ghost use Rattle.looking_up.specs.Views.{problem};
+ghost use Rattle.looking_up.specs.Views.{problem_view};
 ghost use Rattle.named_terms.specs.CauseViews.{cause_view};
 ghost use Rattle.named_terms.specs.Views.{term_views};
 
@@ -20,7 +20,7 @@ use crate::terms::{chosen, holds, off_term, on_term, one, term, three, two};
 use crate::wants_feature::{ask_terms, list_terms};
 use classes::Class;
 use features::{FeatureName, PackageName};
-use looking_up::{Known, dependency_at};
+use looking_up::{Problem, dependency_at};
 use named_terms::{Cause, Term};
 use semver::Version;
 use std::alloc::{AllocError, Global};
@@ -29,23 +29,23 @@ use vertices::{OwnerRef, StateRef, VertexRef};
 /// The terms of the instance.
 pub(crate) fn terms_of_cause<'a>(
     alloc: Global,
-    known: &Known<'a>,
+    problem: &Problem<'a>,
     cause: &Cause<'a>,
 ) -> Result<Vec<Term<'a>>, AllocError>
-    ensures { IfOk result (λ v. term_views v.items ≡ terms_of_cause (problem known.now) (cause_view cause.now)) }
+    ensures { IfOk result (λ v. term_views v.items ≡ terms_of_cause (problem_view problem.now) (cause_view cause.now)) }
 {
     match *cause {
         Cause::Root => one(alloc, term(alloc, VertexRef::Root, StateRef::Absent)?),
         Cause::Need(owner, number) => need_terms(alloc, owner, number),
-        Cause::Target(owner, number, class) => target_terms(alloc, known, owner, number, class),
+        Cause::Target(owner, number, class) => target_terms(alloc, problem, owner, number, class),
         Cause::Feature(name, class, feature) => {
-            feature_terms(alloc, known, name, class, feature)
+            feature_terms(alloc, problem, name, class, feature)
         }
         Cause::List(owner, number, class, feature) => {
-            list_terms(alloc, known, owner, number, class, feature)
+            list_terms(alloc, problem, owner, number, class, feature)
         }
         Cause::Ask(name, version, number, feature, class) => {
-            ask_terms(alloc, known, name, version, number, feature, class)
+            ask_terms(alloc, problem, name, version, number, feature, class)
         }
         Cause::Entry(name, version, on, off) => entry_terms(alloc, name, version, on, off),
         Cause::Enabling(name, version, on, _, number) => {
@@ -55,10 +55,10 @@ pub(crate) fn terms_of_cause<'a>(
             asking_terms(alloc, name, version, on, asked, number)
         }
         Cause::Newest(owner, number, other, class, higher) => {
-            newest_terms(alloc, known, owner, number, other, class, higher)
+            newest_terms(alloc, problem, owner, number, other, class, higher)
         }
         Cause::Weak(name, version, on, off, number, class) => {
-            weak_terms(alloc, known, name, version, on, off, number, class)
+            weak_terms(alloc, problem, name, version, on, off, number, class)
         }
     }
 }
@@ -152,7 +152,7 @@ fn asking_terms<'a>(
 /// `WeakFeature`: a feature is on, the dependency leads to the class, and the other feature is off there.
 fn weak_terms<'a>(
     alloc: Global,
-    known: &Known<'a>,
+    problem: &Problem<'a>,
     name: &'a PackageName,
     version: &'a Version,
     on: &'a FeatureName,
@@ -160,10 +160,10 @@ fn weak_terms<'a>(
     number: usize,
     class: Class,
 ) -> Result<Vec<Term<'a>>, AllocError>
-    ensures { IfOk result (λ v. term_views v.items ≡ terms_of_cause (problem known.now) (causes.of_weak name.entry.now (parts_of version.entry.now) on.entry.now off.entry.now number (class_view class))) }
+    ensures { IfOk result (λ v. term_views v.items ≡ terms_of_cause (problem_view problem.now) (causes.of_weak name.entry.now (parts_of version.entry.now) on.entry.now off.entry.now number (class_view class))) }
 {
     let owner = OwnerRef::Version(name, version);
-    match dependency_at(known, &owner, number) {
+    match dependency_at(problem, &owner, number) {
         Some(dependency) => {
             let mut terms = three(
                 alloc,

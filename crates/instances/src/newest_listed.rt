@@ -10,14 +10,14 @@ ghost use Rattle.refutations.specs.Causes as causes;
 ghost use Rattle.refutations.specs.Causes.{terms_of_cause};
 ghost use Rattle.vertices.specs.RefViews.{state_ref_views, owner_ref_view};
 ghost use Rattle.looking_up.specs.Ranges.{versions_with};
-ghost use Rattle.looking_up.specs.Views.{problem};
+ghost use Rattle.looking_up.specs.Views.{problem_view};
 ghost use Rattle.named_terms.specs.Views.{term_view, term_views};
 ghost use Rattle.instances.specs.Matching.{is_taken};
 
 use crate::terms::{term, three};
 use classes::{Class, is_matched};
 use features::Dependency;
-use looking_up::{Known, class_versions, dependency_at};
+use looking_up::{Problem, class_versions, dependency_at};
 use named_terms::{States, Term};
 use semver::{Version, VersionReq};
 use std::alloc::{AllocError, Global};
@@ -25,16 +25,16 @@ use vertices::{OwnerRef, StateRef, VertexRef};
 
 pub(crate) fn newest_terms<'a>(
     alloc: Global,
-    known: &Known<'a>,
+    problem: &Problem<'a>,
     owner: OwnerRef<'a>,
     number: usize,
     other: usize,
     class: Class,
     higher: Class,
 ) -> Result<Vec<Term<'a>>, AllocError>
-    ensures { IfOk result (λ v. term_views v.items ≡ terms_of_cause (problem known.now) (causes.of_newest (owner_ref_view owner.entry) number other (class_view class) (class_view higher))) }
+    ensures { IfOk result (λ v. term_views v.items ≡ terms_of_cause (problem_view problem.now) (causes.of_newest (owner_ref_view owner.entry) number other (class_view class) (class_view higher))) }
 {
-    match dependency_at(known, &owner, number) {
+    match dependency_at(problem, &owner, number) {
         Some(dependency) => three(
             alloc,
             term(
@@ -47,7 +47,7 @@ pub(crate) fn newest_terms<'a>(
                 VertexRef::Dependency(owner, other),
                 StateRef::Class(higher),
             )?,
-            taken_term(alloc, known, dependency, higher)?,
+            taken_term(alloc, problem, dependency, higher)?,
         ),
         None => Ok(Vec::new(alloc)),
     }
@@ -56,13 +56,13 @@ pub(crate) fn newest_terms<'a>(
 /// The package has a version of the class that is matched.
 fn taken_term<'a>(
     alloc: Global,
-    known: &Known<'a>,
+    problem: &Problem<'a>,
     dependency: &'a Dependency,
     class: Class,
 ) -> Result<Term<'a>, AllocError>
-    ensures { IfOk result (λ t. term_view t ≡ at (model.pkg (dependency_view dependency.entry.now).real_name (class_view class)) (versions_that (problem known.now) (matched (dependency_view dependency.entry.now)) (dependency_view dependency.entry.now).real_name (class_view class))) }
+    ensures { IfOk result (λ t. term_view t ≡ at (model.pkg (dependency_view dependency.entry.now).real_name (class_view class)) (versions_that (problem_view problem.now) (matched (dependency_view dependency.entry.now)) (dependency_view dependency.entry.now).real_name (class_view class))) }
 {
-    let versions = class_versions(known.catalogue, &dependency.real_name, class);
+    let versions = class_versions(problem.catalogue, &dependency.real_name, class);
     let states = taken_states(alloc, &dependency.requirement, versions)?;
     Ok(Term {
         vertex: VertexRef::Package(&dependency.real_name, class),

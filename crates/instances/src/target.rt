@@ -10,14 +10,14 @@ ghost use Rattle.refutations.specs.Causes as causes;
 ghost use Rattle.refutations.specs.Causes.{terms_of_cause};
 ghost use Rattle.vertices.specs.RefViews.{state_ref_views, owner_ref_view};
 ghost use Rattle.looking_up.specs.Ranges.{versions_with};
-ghost use Rattle.looking_up.specs.Views.{problem};
+ghost use Rattle.looking_up.specs.Views.{problem_view};
 ghost use Rattle.named_terms.specs.Views.{term_view, term_views};
 ghost use Rattle.instances.specs.Matching.{is_left};
 
 use crate::terms::{term, two};
 use classes::{Class, is_matched};
 use features::Dependency;
-use looking_up::{Known, class_versions, dependency_at};
+use looking_up::{Problem, class_versions, dependency_at};
 use named_terms::{States, Term};
 use semver::{Version, VersionReq};
 use std::alloc::{AllocError, Global};
@@ -25,14 +25,14 @@ use vertices::{OwnerRef, StateRef, VertexRef};
 
 pub(crate) fn target_terms<'a>(
     alloc: Global,
-    known: &Known<'a>,
+    problem: &Problem<'a>,
     owner: OwnerRef<'a>,
     number: usize,
     class: Class,
 ) -> Result<Vec<Term<'a>>, AllocError>
-    ensures { IfOk result (λ v. term_views v.items ≡ terms_of_cause (problem known.now) (causes.of_target (owner_ref_view owner.entry) number (class_view class))) }
+    ensures { IfOk result (λ v. term_views v.items ≡ terms_of_cause (problem_view problem.now) (causes.of_target (owner_ref_view owner.entry) number (class_view class))) }
 {
-    match dependency_at(known, &owner, number) {
+    match dependency_at(problem, &owner, number) {
         Some(dependency) => two(
             alloc,
             term(
@@ -40,7 +40,7 @@ pub(crate) fn target_terms<'a>(
                 VertexRef::Dependency(owner, number),
                 StateRef::Class(class),
             )?,
-            left_term(alloc, known, dependency, class)?,
+            left_term(alloc, problem, dependency, class)?,
         ),
         None => Ok(Vec::new(alloc)),
     }
@@ -49,13 +49,13 @@ pub(crate) fn target_terms<'a>(
 /// The package is absent or has a version of the class that isn't matched.
 fn left_term<'a>(
     alloc: Global,
-    known: &Known<'a>,
+    problem: &Problem<'a>,
     dependency: &'a Dependency,
     class: Class,
 ) -> Result<Term<'a>, AllocError>
-    ensures { IfOk result (λ t. term_view t ≡ at (model.pkg (dependency_view dependency.entry.now).real_name (class_view class)) (absent_or (problem known.now) (λ c. not (matched (dependency_view dependency.entry.now) c)) (dependency_view dependency.entry.now).real_name (class_view class))) }
+    ensures { IfOk result (λ t. term_view t ≡ at (model.pkg (dependency_view dependency.entry.now).real_name (class_view class)) (absent_or (problem_view problem.now) (λ c. not (matched (dependency_view dependency.entry.now) c)) (dependency_view dependency.entry.now).real_name (class_view class))) }
 {
-    let versions = class_versions(known.catalogue, &dependency.real_name, class);
+    let versions = class_versions(problem.catalogue, &dependency.real_name, class);
     let states = left_states(alloc, &dependency.requirement, versions)?;
     Ok(Term {
         vertex: VertexRef::Package(&dependency.real_name, class),

@@ -6,13 +6,13 @@ ghost use Rattle.classes.specs.Classes.{class_view};
 ghost use Rattle.refutations.specs.Causes as causes;
 ghost use Rattle.refutations.specs.Causes.{terms_of_cause};
 ghost use Rattle.vertices.specs.RefViews.{owner_ref_view};
-ghost use Rattle.looking_up.specs.Views.{problem};
+ghost use Rattle.looking_up.specs.Views.{problem_view};
 ghost use Rattle.named_terms.specs.Views.{term_views};
 
 use crate::terms::{off_term, term, three, two};
 use classes::Class;
 use features::{FeatureName, PackageName};
-use looking_up::{Known, dependency_at};
+use looking_up::{Problem, dependency_at};
 use named_terms::Term;
 use semver::Version;
 use std::alloc::{AllocError, Global};
@@ -20,15 +20,15 @@ use vertices::{OwnerRef, StateRef, VertexRef};
 
 pub(crate) fn list_terms<'a>(
     alloc: Global,
-    known: &Known<'a>,
+    problem: &Problem<'a>,
     owner: OwnerRef<'a>,
     number: usize,
     class: Class,
     feature: &'a FeatureName,
 ) -> Result<Vec<Term<'a>>, AllocError>
-    ensures { IfOk result (λ v. term_views v.items ≡ terms_of_cause (problem known.now) (causes.of_list (owner_ref_view owner.entry) number (class_view class) feature.entry.now)) }
+    ensures { IfOk result (λ v. term_views v.items ≡ terms_of_cause (problem_view problem.now) (causes.of_list (owner_ref_view owner.entry) number (class_view class) feature.entry.now)) }
 {
-    match dependency_at(known, &owner, number) {
+    match dependency_at(problem, &owner, number) {
         Some(dependency) => two(
             alloc,
             term(
@@ -44,17 +44,17 @@ pub(crate) fn list_terms<'a>(
 
 pub(crate) fn ask_terms<'a>(
     alloc: Global,
-    known: &Known<'a>,
+    problem: &Problem<'a>,
     name: &'a PackageName,
     version: &'a Version,
     number: usize,
     feature: &'a FeatureName,
     class: Class,
 ) -> Result<Vec<Term<'a>>, AllocError>
-    ensures { IfOk result (λ v. term_views v.items ≡ terms_of_cause (problem known.now) (causes.of_ask name.entry.now (parts_of version.entry.now) number feature.entry.now (class_view class))) }
+    ensures { IfOk result (λ v. term_views v.items ≡ terms_of_cause (problem_view problem.now) (causes.of_ask name.entry.now (parts_of version.entry.now) number feature.entry.now (class_view class))) }
 {
     let owner = OwnerRef::Version(name, version);
-    match dependency_at(known, &owner, number) {
+    match dependency_at(problem, &owner, number) {
         Some(dependency) => three(
             alloc,
             term(

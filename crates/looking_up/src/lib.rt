@@ -9,12 +9,12 @@
 //! from the manifest or the index, and takes no memory; an owner that is no candidate brings nothing.
 #![tactic(auto)]
 
-mod known;
 mod matching;
 mod owners;
+mod problem;
 mod ranges;
 
-pub use known::Known;
 pub use matching::{has_class, is_unmatched};
 pub use owners::{brings, dependencies_of, dependency_at, entries_of};
+pub use problem::Problem;
 pub use ranges::{class_versions, of_class};

@@ -6,32 +6,32 @@ ghost use Rattle.features.specs.Views.{dependency_view, dependency_views};
 ghost use Rattle.features.specs.EntryViews.{entry_views};
 ghost use Rattle.model.specs.Vertices.{owner_brings};
 ghost use Rattle.refutations.specs.Causes.{dependency_at, entries_of};
-ghost use Rattle.looking_up.specs.Views.{brings_view, problem};
+ghost use Rattle.looking_up.specs.Views.{brings_view, problem_view};
 ghost use Rattle.vertices.specs.RefViews.{owner_ref_view};
 
-use crate::known::Known;
+use crate::problem::Problem;
 use features::{Dependency, Entry, FeatureName, PackageName, Summary};
 use semver::Version;
 use vertices::OwnerRef;
 
 /// What an owner brings: nothing where it is neither the root nor a candidate.
-pub fn brings<'a>(known: &Known<'a>, owner: &OwnerRef<'_>) -> Option<&'a Summary>
-    ensures { brings_view result ≡ owner_brings (problem known.now) (owner_ref_view owner.now) }
+pub fn brings<'a>(problem: &Problem<'a>, owner: &OwnerRef<'_>) -> Option<&'a Summary>
+    ensures { brings_view result ≡ owner_brings (problem_view problem.now) (owner_ref_view owner.now) }
 {
     match owner {
-        OwnerRef::Root => Some(known.manifest.summary()),
+        OwnerRef::Root => Some(problem.manifest.summary()),
         OwnerRef::Version(name, version) => {
-            let candidate = known.catalogue.candidate(name, version)?;
+            let candidate = problem.catalogue.candidate(name, version)?;
             Some(&candidate.brings)
         }
     }
 }
 
 /// The dependencies of an owner.
-pub fn dependencies_of<'a>(known: &Known<'a>, owner: &OwnerRef<'_>) -> &'a [Dependency]
-    ensures { dependency_views result.now ≡ (owner_brings (problem known.now) (owner_ref_view owner.now)).dependencies }
+pub fn dependencies_of<'a>(problem: &Problem<'a>, owner: &OwnerRef<'_>) -> &'a [Dependency]
+    ensures { dependency_views result.now ≡ (owner_brings (problem_view problem.now) (owner_ref_view owner.now)).dependencies }
 {
-    match brings(known, owner) {
+    match brings(problem, owner) {
         Some(owner) => owner.dependencies.as_slice(),
         None => &[],
     }
@@ -39,25 +39,25 @@ pub fn dependencies_of<'a>(known: &Known<'a>, owner: &OwnerRef<'_>) -> &'a [Depe
 
 /// The dependency of an owner that has this number.
 pub fn dependency_at<'a>(
-    known: &Known<'a>,
+    problem: &Problem<'a>,
     owner: &OwnerRef<'_>,
     number: usize,
 ) -> Option<&'a Dependency>
-    ensures { option_map (λ d. dependency_view d.now) result ≡ dependency_at (problem known.now) (owner_ref_view owner.now) number }
+    ensures { option_map (λ d. dependency_view d.now) result ≡ dependency_at (problem_view problem.now) (owner_ref_view owner.now) number }
 {
-    dependencies_of(known, owner).get(number)
+    dependencies_of(problem, owner).get(number)
 }
 
 /// The entries of a feature of a version.
 pub fn entries_of<'a>(
-    known: &Known<'a>,
+    problem: &Problem<'a>,
     name: &PackageName,
     version: &Version,
     feature: &FeatureName,
 ) -> &'a [Entry]
-    ensures { entry_views result.now ≡ entries_of (problem known.now) name.now (parts_of version.now) feature.now }
+    ensures { entry_views result.now ≡ entries_of (problem_view problem.now) name.now (parts_of version.now) feature.now }
 {
-    match brings(known, &OwnerRef::Version(name, version)) {
+    match brings(problem, &OwnerRef::Version(name, version)) {
         Some(owner) => owner.features.entries(feature),
         None => &[],
     }

@@ -4,10 +4,10 @@ use Rattle.model.specs.Vertices.{absent}
 use Rattle.instances.specs.Matching.{is_lacking}
 use Rattle.looking_up.specs.Ranges.{versions_with}
 use Rattle.vertices.specs.RefViews.{state_ref_views}
-use Rattle.looking_up.specs.Views.{problem}
+use Rattle.looking_up.specs.Views.{problem_view}
 use Rattle.instances.proofs.has_feature.lacking_states.Given as goal
 
 -- those taken so far, with those among the versions that are left, are those of all
 abbrev pub invariant-versions : goal.invariant-versions
-invariant-versions l = state_ref_views l.states.items ++ versions_with (is_lacking (problem l.known) l.name l.feature) (map parts_of (drop l.version-index l.versions))
-    ≡ absent ∷ versions_with (is_lacking (problem l.known) l.name l.feature) (map parts_of l.versions)
+invariant-versions l = state_ref_views l.states.items ++ versions_with (is_lacking (problem_view l.problem) l.name l.feature) (map parts_of (drop l.version-index l.versions))
+    ≡ absent ∷ versions_with (is_lacking (problem_view l.problem) l.name l.feature) (map parts_of l.versions)

@@ -10,7 +10,7 @@ use Rattle.std.specs.declared.cmp.Ordering.TheVariants.{Less}
 use Rattle.std.proofs.lemmas.List.Kept.{AllPairs-filter}
 use Rattle.instances.specs.Matching.{is_lacking}
 use Rattle.looking_up.specs.Ranges.{AreRising, is_of}
-use Rattle.looking_up.specs.Views.{problem}
+use Rattle.looking_up.specs.Views.{problem_view}
 use Rattle.instances.proofs.HasFeature.{lacking_is}
 use Rattle.instances.proofs.Rising.{absent_first}
 use Rattle.instances.proofs.has_feature.lacking_term.Goals as goal
@@ -18,11 +18,11 @@ use Rattle.instances.proofs.has_feature.lacking_term.Goals as goal
 pub rising-requires : goal.rising-requires
 rising-requires c =
     let those = subst AreRising (sym c.of_class.ensures) (AllPairs-filter (λ v w. precedence_cmp v w ≡ Less) (λ v. is_of (class_view c.args.class) (parts_of v)) c.versions-versions.result.now c.versions-versions.ensures.rising) in
-    subst (IsStrictlySortedBy state_cmp) (sym c.in_ok-states.ensures) (absent_first (is_lacking (problem c.args.known.now) c.args.name.now c.args.feature.now) c.of_class.result.now those)
+    subst (IsStrictlySortedBy state_cmp) (sym c.in_ok-states.ensures) (absent_first (is_lacking (problem_view c.args.problem.now) c.args.name.now c.args.feature.now) c.of_class.result.now those)
 
 pub returns : goal.returns
 returns c =
-    let k = c.args.known.now in
+    let k = c.args.problem.now in
     let name = c.args.name.now in
     ap (at (pkg name (class_view c.args.class)))
     (c.rising.ensures ∙ c.in_ok-states.ensures

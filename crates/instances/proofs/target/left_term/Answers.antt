@@ -16,7 +16,7 @@ rising-requires c =
 
 pub returns : goal.returns
 returns c =
-    let k = c.args.known.now in
+    let k = c.args.problem.now in
     let d = dependency_view c.args.dependency.now in
     ap (at (pkg d.real_name (class_view c.args.class)))
     (c.rising.ensures ∙ c.in_ok-states.ensures ∙ ap (λ ss. absent ∷ ss) (left_is k.manifest.now k.catalogue.now d (class_view c.args.class) c.class_versions-versions.result.now c.class_versions-versions.ensures.versions))
