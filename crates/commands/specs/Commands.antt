@@ -26,7 +26,7 @@ use Rattle.resolver.specs.declared.fault.CheckFault.TheVariants.{Input}
 use Rattle.resolver.specs.declared.fault.Fault.{Fault}
 use Rattle.resolver.specs.declared.resolving.Answer.{Answer}
 use Rattle.resolver.specs.declared.resolving.Answer.TheVariants.{Lock, Unsolvable}
-use Rattle.commands.specs.Disks.{Reads, Writes, HasFile, HasOld, IsFile, IsKept, IsOld, bytes_if, most_of_manifest, most_of_lock, most_of_proof}
+use Rattle.commands.specs.Disks.{Reading, Writing, HasFile, HasOld, IsFile, IsKept, IsOld, bytes_if, most_of_manifest, most_of_lock, most_of_proof}
 use Rattle.commands.specs.Lines.{line_of, verdict_status, check_status, ending_of, told_of, IsPrinted, status_of}
 use Rattle.commands.specs.Sources.{IsBadSource, IsSource}
 use Rattle.commands.specs.Stops.{WantsMemory, cannot_write, fault, is_stopped, stop_view}
@@ -37,7 +37,7 @@ abbrev pub preference : Bool → Prefer
 preference true = RustFirst
 preference false = Newest
 
-module _ (reads : Reads) where
+module _ (reads : Reading) where
   -- the derivation that lies where the words say
   pub record IsDerivationOf (proof : List ℕ) (steps : List Step) : Type 0 where
     pub bytes : Vec ℕ Global
@@ -66,7 +66,7 @@ module _ (reads : Reads) where
   abbrev pub HasFirst : List ℕ → Option (List ℕ) → Type 0
   HasFirst manifest source = ((from : List ℕ) × IsSource source from) × HasFile reads manifest most_of_manifest
 
-module _ {F : Type 0} (reads : Reads) (opens : List ℕ → F → Type 0) (calls : Calls F) (failed : F → ℕ) where
+module _ {F : Type 0} (reads : Reading) (opens : List ℕ → F → Type 0) (calls : Calls F) (failed : F → ℕ) where
   -- the verdict on the lock that lies where the words say, or the fault of what was read
   pub record IsVerdictOf (manifest index lock : List ℕ) (source : Option (List ℕ)) (said : Result Verdict Fault) : Type 0 where
     pub bytes : Vec ℕ Global
@@ -137,17 +137,17 @@ module _ {F : Type 0} (reads : Reads) (opens : List ℕ → F → Type 0) (calls
       ⊎ ((f : CheckFault) × IsCheckOf manifest index lock source proof (Err f) × (stop_view stop ≡ fault f))
 
 -- the derivation of a refusal is in the file that is named, if one is, and nothing else is written to the disk
-abbrev pub IsFiled : Writes → Option (List ℕ) → Answer → Type 0
+abbrev pub IsFiled : Writing → Option (List ℕ) → Answer → Type 0
 IsFiled writes path (Lock bytes kept skips) = writes None
 IsFiled writes path (Unsolvable derivation text skips) = IsKept writes path derivation (Ok tt)
 
 -- an answer that there is can't be written: a write of the lock to standard output failed, or one of the derivation to
 -- its file
-abbrev pub IsUnwritten : Writes → (List ℕ → Type 0) → Option (List ℕ) → Answer → Stop → Type 0
+abbrev pub IsUnwritten : Writing → (List ℕ → Type 0) → Option (List ℕ) → Answer → Stop → Type 0
 IsUnwritten writes fails path (Lock bytes kept skips) stop = (stop_view stop ≡ cannot_write) × fails bytes.items × writes None
 IsUnwritten writes fails path (Unsolvable derivation text skips) stop = IsKept writes path derivation (Err stop)
 
-module _ {F : Type 0} (reads : Reads) (writes : Writes) (opens : List ℕ → F → Type 0) (calls : Calls F) (failed : F → ℕ) where
+module _ {F : Type 0} (reads : Reading) (writes : Writing) (opens : List ℕ → F → Type 0) (calls : Calls F) (failed : F → ℕ) where
   -- a command that has an answer: standard output before and after, what is told on standard error, and the status
   abbrev pub Answers : WordsView → Option (List ℕ) → Option (List ℕ) → List (List ℕ) → ℕ → Type 0
   Answers (resolve manifest index lock source proof rust_first) old new told status = (answer : Answer) × IsAnswerTo reads opens calls failed manifest index lock source rust_first (Ok answer)
@@ -158,7 +158,7 @@ module _ {F : Type 0} (reads : Reads) (writes : Writes) (opens : List ℕ → F 
       × (status ≡ check_status c) × Appends old new (line_of (check_text c))) × (told ≡ []) × writes None
   Answers (explain proof) old new told status = ((text : List ℕ) × IsTextOf reads proof text × (status ≡ 0) × Appends old new text) × (told ≡ []) × writes None
 
-module _ {F : Type 0} (reads : Reads) (writes : Writes) (opens : List ℕ → F → Type 0) (calls : Calls F) (failed : F → ℕ) (fails : List ℕ → Type 0) where
+module _ {F : Type 0} (reads : Reading) (writes : Writing) (opens : List ℕ → F → Type 0) (calls : Calls F) (failed : F → ℕ) (fails : List ℕ → Type 0) where
   -- A command that ends with the status 2: there is no answer, or it can't be written, for a write of it failed. The
   -- skipped lines are told where there is one.
   abbrev pub Stops : WordsView → List (List ℕ) → Stop → Type 0

@@ -28,10 +28,10 @@ file_stop path NotFound = cannot_read path
 file_stop path Unreadable = cannot_read path
 
 -- what reading gives, by the path and by how many bytes are wanted at most
-abbrev pub Reads : Type 1
-Reads = List ℕ → ℕ → Result (Vec ℕ Global) FileFault → Type 0
+abbrev pub Reading : Type 1
+Reading = List ℕ → ℕ → Result (Vec ℕ Global) FileFault → Type 0
 
-module _ (reads : Reads) where
+module _ (reads : Reading) where
   -- a file that has to be there
   abbrev pub IsFile : List ℕ → ℕ → Result (Vec ℕ Global) Stop → Type 0
   IsFile path most (Ok bytes) = reads path most (Ok bytes)
@@ -61,16 +61,16 @@ pub record FileWrite : Type 0 where
   pub is_made : Bool
 
 -- all that is written to the disk: nothing, or once
-abbrev pub Writes : Type 1
-Writes = Option FileWrite → Type 0
+abbrev pub Writing : Type 1
+Writing = Option FileWrite → Type 0
 
 -- by what a write does to a disk: where nothing is written, the disk is as it was
 module _ {D : Type 0} (puts : D → List ℕ → List ℕ → Bool → D → Type 0) (old new : D) where
-  abbrev pub writes : Writes
+  abbrev pub writes : Writing
   writes None = new ≡ old
   writes (Some w) = puts old w.path w.bytes w.is_made new
 
-module _ (writes : Writes) where
+module _ (writes : Writing) where
   -- the file of a derivation, where one is named: memory may be wanting for its lines, before any is written
   abbrev pub IsKept : Option (List ℕ) → List Step → Result (Unit {0}) Stop → Type 0
   IsKept None steps given = (given ≡ Ok tt) × writes None

@@ -16,7 +16,7 @@ use Rattle.refutations.specs.Listed.{causes, numbers, numbers_of, once}
 use Rattle.refutations.proofs.Bools.{in_append-left, in_append-right}
 use Rattle.refutations.proofs.Listing.{listed-is}
 use Rattle.refutations.proofs.Named.{to_feature, to_has_entry, to_owners, to_passes}
-use Rattle.guiding.specs.Everything.{dependencies_of, named, packages_of, spoken_by, vertices}
+use Rattle.guiding.specs.Everything.{dependency_vertices, named, package_vertices, spoken_by, vertices}
 
 -- ---- lists
 
@@ -75,10 +75,10 @@ name_there (row ∷ rows) name c i = by (λ i. name_there rows name c i) (same_t
 
 module _ (q : Problem) where
   owned : List Vertex
-  owned = flat_map (dependencies_of q) (owners q)
+  owned = flat_map (dependency_vertices q) (owners q)
 
   packaged : List Vertex
-  packaged = flat_map (packages_of q) q.candidates
+  packaged = flat_map (package_vertices q) q.candidates
 
   spoken : List Vertex
   spoken = flat_map spoken_by (causes q)
@@ -88,7 +88,7 @@ module _ (q : Problem) where
   of_dep : (o : Owner) (i : ℕ) (d : Dependency) → HasDep q o i d → Contains (named q) (dep o i)
   unfolding owned packaged spoken
   of_dep o i d h = in_rest root (dep o i) (owned ++ (packaged ++ spoken)) (in_append-left owned (packaged ++ spoken) (dep o i)
-      (in_flat_map (dependencies_of q) (owners q) o (dep o i) (to_owners q o h.0) (to_map (dep o) (numbers_of q o) i (in_numbers (owner_brings q o).dependencies i d h.1))))
+      (in_flat_map (dependency_vertices q) (owners q) o (dep o i) (to_owners q o h.0) (to_map (dep o) (numbers_of q o) i (in_numbers (owner_brings q o).dependencies i d h.1))))
 
   of_package : (name : List ℕ) (k : Class) (c : Candidate) → Contains (class_candidates q name k) c → Contains (named q) (pkg name k)
   unfolding owned packaged spoken
@@ -98,7 +98,7 @@ module _ (q : Problem) where
       let k_in : Contains (classes_of (candidates_of q.candidates name)) k = subst (Contains (classes_of (candidates_of q.candidates name))) (sym (class-same k (class_of c.version) x.1))
       (class_in (candidates_of q.candidates name) c x.0) in
       in_rest root (pkg name k) (owned ++ (packaged ++ spoken)) (in_append-right owned (packaged ++ spoken) (pkg name k) (in_append-left packaged spoken (pkg name k)
-      (in_flat_map (packages_of q) q.candidates r.0 (pkg name k) r.1
+      (in_flat_map (package_vertices q) q.candidates r.0 (pkg name k) r.1
       (subst (λ n. Contains (map (pkg n) (classes_of (candidates_of q.candidates n))) (pkg name k)) r.2 (to_map (pkg name) (classes_of (candidates_of q.candidates name)) k k_in)))))
 
   of_cause : (c : Cause) (v : Vertex) → is_cause q c ≡ true → Contains (spoken_by c) v → Contains (named q) v

@@ -13,14 +13,14 @@ spoken_by (of_asking name v f g i) = ask name v i g ∷ []
 spoken_by _ = []
 
 module _ (q : Problem) where
-  abbrev pub dependencies_of : Owner → List Vertex
-  dependencies_of o = map (dep o) (numbers_of q o)
+  abbrev pub dependency_vertices : Owner → List Vertex
+  dependency_vertices o = map (dep o) (numbers_of q o)
 
-  abbrev pub packages_of : List ℕ × List Candidate → List Vertex
-  packages_of row = map (pkg row.0) (classes_of (candidates_of q.candidates row.0))
+  abbrev pub package_vertices : List ℕ × List Candidate → List Vertex
+  package_vertices row = map (pkg row.0) (classes_of (candidates_of q.candidates row.0))
 
   abbrev pub named : List Vertex
-  named = root ∷ (flat_map dependencies_of (owners q) ++ (flat_map packages_of q.candidates ++ flat_map spoken_by (causes q)))
+  named = root ∷ (flat_map dependency_vertices (owners q) ++ (flat_map package_vertices q.candidates ++ flat_map spoken_by (causes q)))
 
   abbrev pub vertices : List Vertex
   vertices = once same_vertex named

@@ -13,7 +13,7 @@ use Rattle.vertices.proofs.Bound.{same-Ok}
 use Rattle.resolver.specs.Faults.{is_memory}
 use Rattle.resolver.specs.Inputs.{RequestView, AreRead, EndsWith, UnlessMemory, names_of, old_of_bytes, problem_of}
 use Rattle.resolver.specs.Inputs.IsCutShort.{after_loading}
-use Rattle.resolver.specs.Answers.{AreSkips, CanKeep, HoldsOld, IsAnswer, IsKept, IsMisread, IsNew, IsReply, IsUnanswered, IsWritten, MeansSelection, Gives, Resolves, with_skips}
+use Rattle.resolver.specs.Answers.{AreSkips, CanKeep, HoldsOld, IsAnswer, IsKept, IsMisread, IsNew, IsReply, IsUnanswered, IsWritten, MeansSelection, RepliesWith, Resolves, with_skips}
 use Rattle.resolver.specs.Answers.IsAnswer.{kept_lock, new_lock, no_lock}
 use Rattle.resolver.specs.Same.{same_content}
 use Rattle.resolver.specs.declared.inputs.Inputs.{Inputs}
@@ -117,7 +117,7 @@ misread calls failed request before after inputs (fault.TooLarge which) address 
 misread calls failed request before after inputs (fault.ChecksumChanged name version) address read not_kept h = absurd h
 
 pub unanswered : {S : Type 0} (calls : Calls S) (failed : S → ℕ) (request : RequestView) (before after : S) (inputs : Inputs) (f : Fault) → is_source request.source ≡ true
-    → AreRead calls failed request before inputs after → Gives request.old inputs (Err f) → Resolves calls failed request before (Err f) after
+    → AreRead calls failed request before inputs after → RepliesWith request.old inputs (Err f) → Resolves calls failed request before (Err f) after
 unanswered calls failed request before after inputs f address read h = ended calls failed request before after inputs (is_memory f) read
     (λ (w : (HoldsOld inputs → ⊥) × IsMisread inputs f). inr (misread calls failed request before after inputs f address read
     (λ can. w.0 (can-hold request.old inputs read.lock_says can)) w.1)) h

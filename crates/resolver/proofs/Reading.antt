@@ -17,7 +17,7 @@ use Rattle.catalogue.specs.declared.fault.LoadFault.{LoadFault}
 use Rattle.catalogue.specs.declared.fault.LoadFault.TheVariants as load
 use Rattle.model.specs.Outcome.{Faults}
 use Rattle.resolver.specs.Faults.{of_manifest, of_lock, of_load}
-use Rattle.resolver.specs.Inputs.{RequestView, IsCutShort, Reads, LoadsFor, old_of_bytes, packages_in}
+use Rattle.resolver.specs.Inputs.{RequestView, IsCutShort, ReadsInputs, LoadsFor, old_of_bytes, packages_in}
 use Rattle.resolver.specs.Inputs.IsRefused.{by_manifest, by_lock, by_index}
 use Rattle.resolver.specs.Inputs.IsCutShort.{before_loading, while_loading, while_asking}
 
@@ -27,7 +27,7 @@ packages_behind None = refl
 packages_behind (Some c) = refl
 
 module _ {S : Type 0} (calls : Calls S) (failed : S → ℕ) (request : RequestView) (before : S) where
-  pub manifest_refused : (e : ManifestFault) → Faults (manifests.is_memory e) e (manifest_of_bytes request.manifest) → Reads calls failed request before (Err (of_manifest e)) before
+  pub manifest_refused : (e : ManifestFault) → Faults (manifests.is_memory e) e (manifest_of_bytes request.manifest) → ReadsInputs calls failed request before (Err (of_manifest e)) before
   manifest_refused manifest.OutOfMemory f = ([], before_loading)
   manifest_refused manifest.TooLarge f = by_manifest manifest.TooLarge f
   manifest_refused manifest.NotToml f = by_manifest manifest.NotToml f
@@ -37,7 +37,7 @@ module _ {S : Type 0} (calls : Calls S) (failed : S → ℕ) (request : RequestV
   manifest_refused (manifest.RootFeature fault name) f = by_manifest (manifest.RootFeature fault name) f
 
   pub lock_refused : (m : ManifestView) (e : LockFault) → manifest_of_bytes request.manifest ≡ Ok m
-      → Faults (locks.is_memory e) e (old_of_bytes request.old) → Reads calls failed request before (Err (of_lock e)) before
+      → Faults (locks.is_memory e) e (old_of_bytes request.old) → ReadsInputs calls failed request before (Err (of_lock e)) before
   lock_refused m lock.OutOfMemory h f = ([], before_loading)
   lock_refused m lock.TooLarge h f = by_lock m lock.TooLarge h f
   lock_refused m lock.NotToml h f = by_lock m lock.NotToml h f
@@ -52,7 +52,7 @@ module _ {S : Type 0} (calls : Calls S) (failed : S → ℕ) (request : RequestV
       (names_in stop.asked ++ stop.name ∷ [], while_asking m old stop.asked stop.mid stop.name after h l stop.so_far stop.next stop.fewer stop.fails)
 
   pub index_refused : (m : ManifestView) (old : Option Content) (e : LoadFault) (after : S) → manifest_of_bytes request.manifest ≡ Ok m
-      → old_of_bytes request.old ≡ Ok old → LoadsFor calls failed request before m old (Err e) after → Reads calls failed request before (Err (of_load e)) after
+      → old_of_bytes request.old ≡ Ok old → LoadsFor calls failed request before m old (Err e) after → ReadsInputs calls failed request before (Err (of_load e)) after
   index_refused m old load.OutOfMemory after h l f = cut m old after h l f
   index_refused m old (load.FolderFailed path) after h l f = by_index m old (load.FolderFailed path) after h l f
   index_refused m old (load.TooLarge limit) after h l f = by_index m old (load.TooLarge limit) after h l f

@@ -10,7 +10,7 @@ use Rattle.lockfile.specs.Locks.{content_of_bytes, most_bytes, table_of_bytes}
 use Rattle.lockfile.specs.Spelling.{spelling}
 use Rattle.lockfile.specs.Table.{table_of}
 use Rattle.catalogue.specs.Runs.{Calls}
-use Rattle.selection.specs.Verdicts.{Says}
+use Rattle.selection.specs.Verdicts.{IsVerdictOn}
 use Rattle.selection.specs.declared.verdict.Verdict.{Verdict}
 use Rattle.selection.specs.declared.verdict.Verdict.TheVariants.{Valid}
 use Rattle.explainer.specs.Explanations.{explanation_of}
@@ -37,7 +37,7 @@ module _ {S : Type 0} (calls : Calls S) (failed : S → ℕ) (request : RequestV
     pub content : Content
     pub read : AreRead calls failed request before inputs after
     pub old : inputs.old ≡ Some content
-    pub says : Says (problem_of inputs) content verdict
+    pub says : IsVerdictOn (problem_of inputs) content verdict
     pub selects : (verdict ≡ Valid) ↔ IsValidSelection (problem_of inputs) content
 
   abbrev pub Verifies : Result Verdict Fault → S → Type 0
@@ -157,9 +157,9 @@ with_skips (reply.Lock bytes kept) skips = Lock bytes kept skips
 with_skips (reply.Unsolvable derivation text) skips = Unsolvable derivation text skips
 
 -- the same, or that there is none
-abbrev pub Gives : Option (List ℕ) → Inputs → Result Reply Fault → Type 0
-Gives old inputs (Ok given) = IsReply old inputs given
-Gives old inputs (Err f) = UnlessMemory (is_memory f) ((HoldsOld inputs → ⊥) × IsMisread inputs f)
+abbrev pub RepliesWith : Option (List ℕ) → Inputs → Result Reply Fault → Type 0
+RepliesWith old inputs (Ok given) = IsReply old inputs given
+RepliesWith old inputs (Err f) = UnlessMemory (is_memory f) ((HoldsOld inputs → ⊥) × IsMisread inputs f)
 
 -- ---- the call
 

@@ -89,9 +89,9 @@ module _ {S : Type 0} (calls : Calls S) (failed : S → ℕ) (request : RequestV
   EndsWith false says after = says
 
   -- reading all inputs gives them, or the first fault
-  abbrev pub Reads : Result Inputs Fault → S → Type 0
-  Reads (Ok inputs) after = AreRead inputs after
-  Reads (Err f) after = EndsWith (is_memory f) (IsRefused f after) after
+  abbrev pub ReadsInputs : Result Inputs Fault → S → Type 0
+  ReadsInputs (Ok inputs) after = AreRead inputs after
+  ReadsInputs (Err f) after = EndsWith (is_memory f) (IsRefused f after) after
 
 -- where no folder is asked, want of memory says nothing
 abbrev pub UnlessMemory : Bool → Type 0 → Type 0

@@ -1,7 +1,7 @@
 //! What a call has read before it answers.
 
 ghost use Rattle.std.specs.Prelude.{◌≡◌, option_copied};
-ghost use Rattle.resolver.specs.Inputs.{request_view, Reads, old_of_bytes};
+ghost use Rattle.resolver.specs.Inputs.{request_view, ReadsInputs, old_of_bytes};
 ghost use Rattle.lockfile.specs.Locks as locks;
 ghost use Rattle.model.specs.Outcome.{Gives};
 
@@ -35,7 +35,7 @@ pub(crate) fn read_inputs<F: Folder>(
     request: &Request<'_>,
     folder: &mut F,
 ) -> Result<Inputs, Fault>
-    ensures { Reads F.calls F.failed (request_view request.now) folder.old result folder.new }
+    ensures { ReadsInputs F.calls F.failed (request_view request.now) folder.old result folder.new }
 {
     let manifest = Manifest::read(alloc, request.manifest)?;
     let old = read_old(alloc, request.old)?;

@@ -2,7 +2,7 @@
 
 ghost use Rattle.std.specs.Prelude.{◌≡◌, ◌↔◌, true, IfOk, Ok, option_copied};
 ghost use Rattle.resolver.specs.Inputs.{old_of_bytes};
-ghost use Rattle.resolver.specs.Answers.{HoldsOld, Gives, Resolves, with_skips};
+ghost use Rattle.resolver.specs.Answers.{HoldsOld, RepliesWith, Resolves, with_skips};
 
 use crate::fault::Fault;
 use crate::inputs::{Inputs, Request, read_inputs};
@@ -91,7 +91,7 @@ fn with_skips(reply: Reply, skips: Vec<Skip>) -> Answer
 /// The old lock's own bytes where they say a valid selection, else what is found anew.
 fn reply_to(alloc: Global, old: Option<&[u8]>, inputs: &Inputs) -> Result<Reply, Fault>
     requires { old_of_bytes (option_copied old) ≡ Ok inputs.now.old }
-    ensures { Gives (option_copied old.entry) inputs.now result }
+    ensures { RepliesWith (option_copied old.entry) inputs.now result }
 {
     if !holds_old(alloc, inputs)? {
         return anew(alloc, old, inputs);
@@ -118,7 +118,7 @@ fn holds_old(alloc: Global, inputs: &Inputs) -> Result<bool, AllocError>
 /// The spelling of a new content, or why there is none.
 fn anew(alloc: Global, old: Option<&[u8]>, inputs: &Inputs) -> Result<Reply, Fault>
     requires not_held { HoldsOld inputs.now → ⊥ }
-    ensures { Gives (option_copied old.entry) inputs.now result }
+    ensures { RepliesWith (option_copied old.entry) inputs.now result }
 {
     match solve(alloc, &inputs.manifest, &inputs.catalogue)?.outcome {
         Outcome::Selection(content) => Ok(Reply::Lock(written(alloc, &content)?, false)),

@@ -15,7 +15,7 @@ use Rattle.facts.specs.Graphs.{node_views, flag_at, flag_in, IsFactOf, LacksFeat
 use Rattle.facts.specs.declared.node.Node.{Node}
 use Rattle.selection.specs.Graphs.{graph_of, is_known, are_known, IsOnlyRoot, HasNoRoot}
 use Rattle.selection.specs.Places.{content_in, AreFindings}
-use Rattle.selection.specs.Verdicts.{IsAt, IsInvalid, Says, IsFaultOf}
+use Rattle.selection.specs.Verdicts.{IsAt, IsInvalid, IsVerdictOn, IsFaultOf}
 use Rattle.selection.specs.declared.findings.Findings.{Findings}
 use Rattle.selection.specs.declared.verdict.Fault.{Fault}
 use Rattle.selection.specs.declared.verdict.Fault.TheVariants as fault
@@ -49,20 +49,20 @@ findings_are m index f nodes same only graph known facts lacks reached =
     }
 
 pub said_of : {E : Type 0} (r : Result Verdict E) (q : Problem) (f : Findings) (content : Content) → content_in f ≡ content → AreFindings q f
-    → IfOk r (λ v. (p : Problem) → AreFindings p f → Says p (content_in f) v) → IfOk r (λ v. Says q content v)
+    → IfOk r (λ v. (p : Problem) → AreFindings p f → IsVerdictOn p (content_in f) v) → IfOk r (λ v. IsVerdictOn q content v)
 said_of r q f content same found h =
-    if_ok (λ v. (p : Problem) → AreFindings p f → Says p (content_in f) v) (λ v. Says q content v) r (λ v says. subst (λ c. Says q c v) same (says q found)) h
+    if_ok (λ v. (p : Problem) → AreFindings p f → IsVerdictOn p (content_in f) v) (λ v. IsVerdictOn q content v) r (λ v says. subst (λ c. IsVerdictOn q c v) same (says q found)) h
 
 module _ (q : Problem) (content : Content) where
-  rootless : (name : List ℕ) (version : Parts) → name ≡ q.name → version ≡ q.version → HasNoRoot q content → (v : Verdict) → IsFaultOf fault.Root name version v → Says q content v
+  rootless : (name : List ℕ) (version : Parts) → name ≡ q.name → version ≡ q.version → HasNoRoot q content → (v : Verdict) → IsFaultOf fault.Root name version v → IsVerdictOn q content v
   rootless name version n w none Valid h = absurd h
   rootless name version n w none (Invalid f m u) h =
       subst (λ x. IsInvalid q content x m (parts_of u)) (sym h.0) (h.1 ∙ n, h.2 ∙ w, λ has. none has.0 has.1)
 
   -- no package is the root
   pub rootless_said : {E : Type 0} (r : Result Verdict E) (name : List ℕ) (version : Parts) → name ≡ q.name → version ≡ q.version → HasNoRoot q content
-      → IfOk r (λ v. IsFaultOf fault.Root name version v) → IfOk r (λ v. Says q content v)
-  rootless_said r name version n w none h = if_ok (λ v. IsFaultOf fault.Root name version v) (λ v. Says q content v) r (rootless name version n w none) h
+      → IfOk r (λ v. IsFaultOf fault.Root name version v) → IfOk r (λ v. IsVerdictOn q content v)
+  rootless_said r name version n w none h = if_ok (λ v. IsFaultOf fault.Root name version v) (λ v. IsVerdictOn q content v) r (rootless name version n w none) h
 
   module _ (formed : IsContent content) where
     never_at : (v : VerdictFault) (name : List ℕ) (version : Parts) → IsAt q content v name version → IsValidSelection q content → ⊥
@@ -77,9 +77,9 @@ module _ (q : Problem) (content : Content) where
     never fault.List name version h s = never_at _ name version h s
     never fault.Unreached name version h s = never_at _ name version h s
 
-    selects : (v : Verdict) → Says q content v → (v ≡ Valid) ↔ IsValidSelection q content
+    selects : (v : Verdict) → IsVerdictOn q content v → (v ≡ Valid) ↔ IsValidSelection q content
     selects Valid h = (λ e. (valid_iff q content formed).0 h, λ s. refl)
     selects (Invalid f n w) h = (λ e. absurd (let x : Invalid f n w ≡ Valid = e in cc), λ s. absurd (never f n (parts_of w) h s))
 
-    pub selected : {E : Type 0} (r : Result Verdict E) → IfOk r (λ v. Says q content v) → IfOk r (λ v. (v ≡ Valid) ↔ IsValidSelection q content)
-    selected r h = if_ok (λ v. Says q content v) (λ v. (v ≡ Valid) ↔ IsValidSelection q content) r selects h
+    pub selected : {E : Type 0} (r : Result Verdict E) → IfOk r (λ v. IsVerdictOn q content v) → IfOk r (λ v. (v ≡ Valid) ↔ IsValidSelection q content)
+    selected r h = if_ok (λ v. IsVerdictOn q content v) (λ v. (v ≡ Valid) ↔ IsValidSelection q content) r selects h

@@ -8,7 +8,7 @@ use Rattle.model.specs.Selection.{IsPlace}
 use Rattle.model.specs.Verdict.{VerdictFault, not_candidate, two_in_class, unmet, no_feature, wrong_list, unreached, number_of, HasRoot, IsFaultless, IsFirstFault}
 use Rattle.selection.specs.Places.{is_free, lowest_of, lowest, fault_of, IsChecked, content_in, AreFindings}
 use Rattle.selection.specs.declared.findings.Findings.{Findings}
-use Rattle.selection.specs.Verdicts.{IsAt, IsInvalid, Says, IsFaultOf}
+use Rattle.selection.specs.Verdicts.{IsAt, IsInvalid, IsVerdictOn, IsFaultOf}
 use Rattle.selection.specs.declared.checked.Checked.{Checked}
 use Rattle.selection.specs.declared.verdict.Fault.{Fault}
 use Rattle.selection.specs.declared.verdict.Verdict.{Verdict}
@@ -134,7 +134,7 @@ module _ (q : Problem) (content : Content) where
   invalid_at unreached name version h = h
 
   said_first : (n : ℕ) (p : Package) (v : VerdictFault) (f : Fault) → fault_of v ≡ f → slice_get content n ≡ Some p → HasRoot q content → IsFirstFault q content n v
-      → (w : Verdict) → IsFaultOf f p.name p.version w → Says q content w
+      → (w : Verdict) → IsFaultOf f p.name p.version w → IsVerdictOn q content w
   said_first n p v f e got root first Valid h = absurd h
   said_first n p v f e got root first (Invalid g name version) h =
       subst (λ x. IsInvalid q content x name (parts_of version)) (e ∙ sym h.0)
@@ -143,7 +143,7 @@ module _ (q : Problem) (content : Content) where
 -- what is said of the first package with a fault
 pub first_said : {E : Type 0} (r : Result Verdict E) (f : Findings) (n : ℕ) (p : Package) (k : Checked) (x : Fault) → option_map fault_of (lowest k) ≡ Some x → slice_get (content_in f) n ≡ Some p
     → ((q : Problem) → AreFindings q f → IsChecked q (content_in f) n k) → n < length (content_in f) → ((q : Problem) → AreFindings q f → (m : ℕ) → m < n → IsFaultless q (content_in f) m)
-    → IfOk r (λ w. IsFaultOf x p.name p.version w) → IfOk r (λ w. (q : Problem) → AreFindings q f → Says q (content_in f) w)
+    → IfOk r (λ w. IsFaultOf x p.name p.version w) → IfOk r (λ w. (q : Problem) → AreFindings q f → IsVerdictOn q (content_in f) w)
 first_said (Err e) f n p k x named_as got h lt before said = tt
 first_said (Ok w) f n p k x named_as got h lt before said =
     let v = named (lowest k) x named_as in

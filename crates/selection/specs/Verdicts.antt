@@ -31,9 +31,9 @@ module _ (q : Problem) (content : Content) where
   IsInvalid fault.Unreached name version = IsAt unreached name version
 
   -- what is said is the verdict on the content
-  abbrev pub Says : Verdict → Type 0
-  Says Valid = IsVerdict q content valid
-  Says (Invalid f name version) = IsInvalid f name (parts_of version)
+  abbrev pub IsVerdictOn : Verdict → Type 0
+  IsVerdictOn Valid = IsVerdict q content valid
+  IsVerdictOn (Invalid f name version) = IsInvalid f name (parts_of version)
 
 -- what is said is this fault, of a package with this name and version
 abbrev pub IsFaultOf : Fault → List ℕ → Parts → Verdict → Type 0

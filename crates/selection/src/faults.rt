@@ -5,7 +5,7 @@ ghost use Rattle.model.specs.Content.{Problem};
 ghost use Rattle.model.specs.WellFormed.{IsContent};
 ghost use Rattle.semver.specs.Identifiers.{parts_of};
 ghost use Rattle.selection.specs.Places.{content_in, AreFindings, IsChecked};
-ghost use Rattle.selection.specs.Verdicts.{Says, IsFaultOf};
+ghost use Rattle.selection.specs.Verdicts.{IsVerdictOn, IsFaultOf};
 
 use crate::checked::{Checked, lowest};
 use crate::classes_once::is_second;
@@ -20,7 +20,7 @@ use std::alloc::{AllocError, Global};
 pub(crate) fn verdict_by(alloc: Global, findings: &Findings<'_>) -> Result<Verdict, AllocError>
     requires content { IsContent (content_in findings.now) }
     requires beside { length findings.now.nodes.items ≡ length findings.now.content.now }
-    ensures { IfOk result (λ v. (q : Problem) → AreFindings q findings.now → Says q (content_in findings.now) v) }
+    ensures { IfOk result (λ v. (q : Problem) → AreFindings q findings.now → IsVerdictOn q (content_in findings.now) v) }
 {
     'places: for at in 0..findings.content.len() {
         let checked = checked_at(alloc, findings, at)?;

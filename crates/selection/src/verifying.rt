@@ -3,7 +3,7 @@
 ghost use Rattle.std.specs.Prelude.{◌≡◌, ◌↔◌, IfOk};
 ghost use Rattle.model.specs.Selection.{IsValidSelection};
 ghost use Rattle.catalogue.specs.Problems.{problem_in};
-ghost use Rattle.selection.specs.Verdicts.{Says};
+ghost use Rattle.selection.specs.Verdicts.{IsVerdictOn};
 
 use crate::faults::{invalid, verdict_by};
 use crate::findings::Findings;
@@ -26,7 +26,7 @@ pub fn verify(
     catalogue: &Catalogue,
     content: &LockContent,
 ) -> Result<Verdict, AllocError>
-    ensures says { IfOk result (λ v. Says (problem_in manifest.now catalogue.now) content.now v) }
+    ensures says { IfOk result (λ v. IsVerdictOn (problem_in manifest.now catalogue.now) content.now v) }
     ensures selects { IfOk result (λ v. (v ≡ Verdict.Valid) ↔ IsValidSelection (problem_in manifest.now catalogue.now) content.now) }
 {
     let content = content.packages();
