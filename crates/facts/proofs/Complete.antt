@@ -13,8 +13,8 @@ use Rattle.model.proofs.Same.{text-refl}
 use Rattle.model.proofs.Lists.{in_none, in_first, in_rest, to_filter, all_get}
 use Rattle.manifest.specs.Manifests.{root_asks, asked_by}
 use Rattle.facts.specs.Graphs.{NodeView, brings_if, starts_if, target_if, brings_at, target_at, IsFactOf, AreWithin, IsGraph}
-use Rattle.facts.specs.Places.{LinkView, PlaceView}
-use Rattle.facts.specs.RuleLists.{one, both, number_on, place_at, ask, ask_features, arrive, is_needed, need, enable_all, ask_all, entry_rules, root_rules, all_rules}
+use Rattle.facts.specs.FactNumbers.{LinkView, FactNumbersView}
+use Rattle.facts.specs.RuleLists.{one, both, number_on, package_at, ask, ask_features, arrive, is_needed, need, enable_all, ask_all, entry_rules, root_rules, all_rules}
 use Rattle.facts.proofs.Numbers.{Mark, IsLink}
 use Rattle.facts.proofs.Members.{in_flat, to_flat, in_one, get_contains, to_link, to_entry, to_root}
 use Rattle.facts.proofs.Sound.{IsTable, At}
@@ -30,18 +30,18 @@ get_within [] n lt = absurd (omega arith)
 get_within (x ∷ xs) zero lt = (x, refl)
 get_within (x ∷ xs) (suc n) lt = get_within xs n (omega arith)
 
-module _ (nodes : List NodeView) (root : ℕ) (ps : List PlaceView) (marks : List Mark) (t : IsTable nodes ps marks) (graph : IsGraph nodes)
-    (flags : List Bool) (begun : (n : ℕ) (x : NodeView) (p : PlaceView) → At nodes ps marks n x p → x.starts ≡ true → has flags p.here ≡ true) where
-  abbrev IsAt : ℕ → NodeView → PlaceView → Type 0
+module _ (nodes : List NodeView) (root : ℕ) (ps : List FactNumbersView) (marks : List Mark) (t : IsTable nodes ps marks) (graph : IsGraph nodes)
+    (flags : List Bool) (begun : (n : ℕ) (x : NodeView) (p : FactNumbersView) → At nodes ps marks n x p → x.starts ≡ true → has flags p.here ≡ true) where
+  abbrev IsAt : ℕ → NodeView → FactNumbersView → Type 0
   IsAt = At nodes ps marks
 
   abbrev G : ℕ → Type 0
   G = IsGiven (all_rules root ps) flags
 
   -- the number of a fact is given
-  pub record IsGot (n : ℕ) (number : PlaceView → ℕ → Type 0) : Type 0 where
+  pub record IsGot (n : ℕ) (number : FactNumbersView → ℕ → Type 0) : Type 0 where
     pub x : NodeView
-    pub p : PlaceView
+    pub p : FactNumbersView
     pub at : At nodes ps marks n x p
     pub k : ℕ
     pub is : number p k
@@ -52,26 +52,26 @@ module _ (nodes : List NodeView) (root : ℕ) (ps : List PlaceView) (marks : Lis
   Got (on n f) = IsGot n (λ p k. number_on p f ≡ k)
   Got (enabled n i) = IsGot n (λ p k. (l : LinkView) × (slice_get p.links i ≡ Some l) × (l.enabled ≡ k))
 
-  brings_is : (n : ℕ) (x : NodeView) (p : PlaceView) → IsAt n x p → brings_at nodes n ≡ x.brings
+  brings_is : (n : ℕ) (x : NodeView) (p : FactNumbersView) → IsAt n x p → brings_at nodes n ≡ x.brings
   brings_is n x p h = ap brings_if h.got
 
-  same_place : (n : ℕ) (x y : NodeView) (p q : PlaceView) → IsAt n x p → IsAt n y q → p ≡ q
-  same_place n x y p q a b = some_inner p q (sym a.had ∙ b.had)
+  same_numbers : (n : ℕ) (x y : NodeView) (p q : FactNumbersView) → IsAt n x p → IsAt n y q → p ≡ q
+  same_numbers n x y p q a b = some_inner p q (sym a.had ∙ b.had)
 
   -- the dependency with its number
-  record Dep (n : ℕ) (x : NodeView) (p : PlaceView) (i : ℕ) (d : Dependency) : Type 0 where
+  record Dep (n : ℕ) (x : NodeView) (p : FactNumbersView) (i : ℕ) (d : Dependency) : Type 0 where
     pub l : LinkView
     pub had : slice_get p.links i ≡ Some l
     pub is : IsLink marks n x.targets i d l
 
-  dep : (n : ℕ) (x : NodeView) (p : PlaceView) (i : ℕ) (d : Dependency) → IsAt n x p → Brings (brings_at nodes) n i d → Dep n x p i d
+  dep : (n : ℕ) (x : NodeView) (p : FactNumbersView) (i : ℕ) (d : Dependency) → IsAt n x p → Brings (brings_at nodes) n i d → Dep n x p i d
   dep n x p i d h b = let r = h.is.link i d (ap (λ (o : Summary). slice_get o.dependencies i) (sym (brings_is n x p h)) ∙ b) in record { l = r.0; had = r.1; is = r.2 }
 
   -- the number of an enabled dependency
-  enabled_given : (n : ℕ) (x : NodeView) (p : PlaceView) (i : ℕ) (d : Dependency) → IsAt n x p → (k : Dep n x p i d) → Got (enabled n i) → G (k.l).enabled
+  enabled_given : (n : ℕ) (x : NodeView) (p : FactNumbersView) (i : ℕ) (d : Dependency) → IsAt n x p → (k : Dep n x p i d) → Got (enabled n i) → G (k.l).enabled
   enabled_given n x p i d h k got =
-      let s : got.p ≡ p = same_place n got.x x got.p p got.at h in
-      let e : (got.is).0 ≡ k.l = some_inner (got.is).0 k.l (sym (got.is).1 ∙ ap (λ (q : PlaceView). slice_get q.links i) s ∙ k.had) in
+      let s : got.p ≡ p = same_numbers n got.x x got.p p got.at h in
+      let e : (got.is).0 ≡ k.l = some_inner (got.is).0 k.l (sym (got.is).1 ∙ ap (λ (q : FactNumbersView). slice_get q.links i) s ∙ k.had) in
       subst G (sym (got.is).2 ∙ ap (λ (l : LinkView). l.enabled) e) got.given
 
   here_given : (n : ℕ) → (got : Got (here n)) → G (got.p).here
@@ -83,9 +83,9 @@ module _ (nodes : List NodeView) (root : ℕ) (ps : List PlaceView) (marks : Lis
   -- the target of a dependency
   record To (u : ℕ) (l : LinkView) : Type 0 where
     pub y : NodeView
-    pub q : PlaceView
+    pub q : FactNumbersView
     pub at : At nodes ps marks u y q
-    pub leads : place_at ps l.target ≡ Some q
+    pub leads : package_at ps l.target ≡ Some q
 
   inner_some : (targets : List (Option ℕ)) (i u : ℕ) → option_and_then (λ o. o) (slice_get targets i) ≡ Some u → slice_get targets i ≡ Some (Some u)
   inner_some targets i u e = by (slice_get targets i) refl e
@@ -94,55 +94,55 @@ module _ (nodes : List NodeView) (root : ℕ) (ps : List PlaceView) (marks : Lis
       by None z e = let w : None ≡ Some u = e in absurd cc
       by (Some v) z e = z ∙ ap Some e
 
-  to : (n : ℕ) (x : NodeView) (p : PlaceView) (i : ℕ) (d : Dependency) (u : ℕ) → IsAt n x p → (k : Dep n x p i d) → target_at nodes n i ≡ Some u → To u k.l
+  to : (n : ℕ) (x : NodeView) (p : FactNumbersView) (i : ℕ) (d : Dependency) (u : ℕ) → IsAt n x p → (k : Dep n x p i d) → target_at nodes n i ≡ Some u → To u k.l
   to n x p i d u h k e =
       let e2 : option_and_then (λ o. o) (slice_get x.targets i) ≡ Some u = ap (target_if i) (sym h.got) ∙ e in
       let within = all_get (λ (x : NodeView). AreWithin (length nodes) x.targets) nodes n x graph h.got in
       let lt = all_get (λ o. (t : ℕ) → o ≡ Some t → t < length nodes) x.targets i (Some u) within (inner_some x.targets i u e2) u refl in
       let y = get_within nodes u lt in
-      let q = t.place u y.0 y.1 in
+      let q = t.numbers u y.0 y.1 in
       record {
         y = y.0;
         q = q.0;
         at = record { got = y.1; had = q.1; is = q.2 };
-        leads = ap (place_at ps) ((k.is).target ∙ e2) ∙ q.1;
+        leads = ap (package_at ps) ((k.is).target ∙ e2) ∙ q.1;
       }
 
   by_rule : (r : Rule) → Contains (all_rules root ps) r → G r.first → G r.second → G r.gives
   by_rule r c f s = follows r c f s
 
   -- what the arrival of a target gives
-  arrived : (n : ℕ) (x : NodeView) (p : PlaceView) (i : ℕ) (d : Dependency) (u : ℕ) (r : Rule) → IsAt n x p → (k : Dep n x p i d) → (g : To u k.l)
+  arrived : (n : ℕ) (x : NodeView) (p : FactNumbersView) (i : ℕ) (d : Dependency) (u : ℕ) (r : Rule) → IsAt n x p → (k : Dep n x p i d) → (g : To u k.l)
       → Contains (arrive k.l (Some g.q)) r → Contains (all_rules root ps) r
   arrived n x p i d u r h k g c = to_link ps root n p i k.l r h.had k.had
-      (Contains-append_right (need (nat_eq n root) p.here k.l) (arrive k.l (place_at ps (k.l).target)) r (subst (λ o. Contains (arrive k.l o) r) (sym g.leads) c))
+      (Contains-append_right (need (nat_eq n root) p.here k.l) (arrive k.l (package_at ps (k.l).target)) r (subst (λ o. Contains (arrive k.l o) r) (sym g.leads) c))
 
-  needed : (n : ℕ) (x : NodeView) (p : PlaceView) (i : ℕ) (d : Dependency) → IsAt n x p → (k : Dep n x p i d) → is_needed (nat_eq n root) k.l ≡ true → G p.here → G (k.l).enabled
+  needed : (n : ℕ) (x : NodeView) (p : FactNumbersView) (i : ℕ) (d : Dependency) → IsAt n x p → (k : Dep n x p i d) → is_needed (nat_eq n root) k.l ≡ true → G p.here → G (k.l).enabled
   needed n x p i d h k e g =
       let r = one p.here (k.l).enabled in
       by_rule r
-      (to_link ps root n p i k.l r h.had k.had (Contains-append_left (need (nat_eq n root) p.here k.l) (arrive k.l (place_at ps (k.l).target)) r
+      (to_link ps root n p i k.l r h.had k.had (Contains-append_left (need (nat_eq n root) p.here k.l) (arrive k.l (package_at ps (k.l).target)) r
       (subst (λ b. Contains (cond b (r ∷ []) []) r) (sym e) (in_first r [])))) g g
 
-  enabled_got : (n : ℕ) (x : NodeView) (p : PlaceView) (i : ℕ) (d : Dependency) → IsAt n x p → (k : Dep n x p i d) → G (k.l).enabled → Got (enabled n i)
+  enabled_got : (n : ℕ) (x : NodeView) (p : FactNumbersView) (i : ℕ) (d : Dependency) → IsAt n x p → (k : Dep n x p i d) → G (k.l).enabled → Got (enabled n i)
   enabled_got n x p i d h k g = record { x = x; p = p; at = h; k = (k.l).enabled; is = (k.l, k.had, refl); given = g }
 
   on_got : (u : ℕ) (f : List ℕ) (l : LinkView) (g : To u l) → G (number_on g.q f) → Got (on u f)
   on_got u f l g h = record { x = g.y; p = g.q; at = g.at; k = number_on g.q f; is = refl; given = h }
 
   -- dependencies that are called so
-  called : (n : ℕ) (x : NodeView) (p : PlaceView) (i : ℕ) (d : Dependency) → IsAt n x p → (k : Dep n x p i d) → Contains (p.called d.name) k.l
+  called : (n : ℕ) (x : NodeView) (p : FactNumbersView) (i : ℕ) (d : Dependency) → IsAt n x p → (k : Dep n x p i d) → Contains (p.called d.name) k.l
   called n x p i d h k = subst (λ ls. Contains ls k.l) (sym (h.is.called d.name))
       (to_filter (λ (l : LinkView). same_text d.name l.dependency.name) p.links k.l (get_contains p.links i k.l k.had)
       (ap (λ (e : Dependency). same_text d.name e.name) (k.is).dependency ∙ text-refl d.name))
 
   -- a rule of an entry of a feature of the package
-  of_entry : (n : ℕ) (x : NodeView) (p : PlaceView) (f : List ℕ) (e : Entry) (r : Rule) → IsAt n x p → Lists (brings_at nodes) n f e → Contains (entry_rules ps p (number_on p f) e) r
+  of_entry : (n : ℕ) (x : NodeView) (p : FactNumbersView) (f : List ℕ) (e : Entry) (r : Rule) → IsAt n x p → Lists (brings_at nodes) n f e → Contains (entry_rules ps p (number_on p f) e) r
       → Contains (all_rules root ps) r
   of_entry n x p f e r h l c = to_entry ps root n p f l.0 e r h.had (ap (λ (o : Summary). entries_at f o.features) (h.is.brings ∙ sym (brings_is n x p h)) ∙ l.1) l.2 c
 
   -- asking the target of a dependency
-  asked : (a b : ℕ) (l : LinkView) (u : ℕ) (g : List ℕ) (q : To u l) → Contains (ask a b (place_at ps l.target) g) (both a b (number_on q.q g))
+  asked : (a b : ℕ) (l : LinkView) (u : ℕ) (g : List ℕ) (q : To u l) → Contains (ask a b (package_at ps l.target) g) (both a b (number_on q.q g))
   asked a b l u g q = subst (λ o. Contains (ask a b o g) (both a b (number_on q.q g))) (sym q.leads) (in_first (both a b (number_on q.q g)) [])
 
   pub got : (w : Fact ℕ) → IsFactOf nodes root w → Got w
@@ -151,7 +151,7 @@ module _ (nodes : List NodeView) (root : ℕ) (ps : List PlaceView) (marks : Lis
       by : (o : Option NodeView) → slice_get nodes n ≡ o → starts_if o ≡ true → Got (here n)
       by None z s = absurd (true≢false (sym s))
       by (Some x) z s =
-          let q = t.place n x z in
+          let q = t.numbers n x z in
           let h : IsAt n x q.0 = record { got = z; had = q.1; is = q.2 } in
           record { x = x; p = q.0; at = h; k = (q.0).here; is = refl; given = begins (q.0).here (begun n x q.0 h s) }
   got w (arrives n u i d h b l) =
@@ -202,12 +202,12 @@ module _ (nodes : List NodeView) (root : ℕ) (ps : List PlaceView) (marks : Lis
       let row = in_flat (λ row. flat_map asked_by row.1) (e.p).brings.features (d.name, g) (subst (λ t. Contains (root_asks t) (d.name, g)) rows a) in
       let entry = in_flat asked_by (row.0).1 (d.name, g) row.2 in
       let all : Contains (ask_all ps hn ((e.p).called d.name) g) r
-      = to_flat (λ l. ask hn hn (place_at ps l.target) g) ((e.p).called d.name) k.l r (called n e.x e.p i d e.at k) (asked hn hn k.l u g q) in
+      = to_flat (λ l. ask hn hn (package_at ps l.target) g) ((e.p).called d.name) k.l r (called n e.x e.p i d e.at k) (asked hn hn k.l u g q) in
       let hg = here_given n e in
       on_got u g k.l q
       (by_rule r (to_root ps root n e.p row.0 entry.0 r e.at.had (ap (nat_eq n) (sym is) ∙ eq-refl n) row.1 entry.1 (root_rule entry.0 e.p d.name g r entry.2 all)) hg hg)
     where
-      root_rule : (e : Entry) (p : PlaceView) (d g : List ℕ) (r : Rule) → Contains (asked_by e) (d, g) → Contains (ask_all ps p.here (p.called d) g) r → Contains (root_rules ps p e) r
+      root_rule : (e : Entry) (p : FactNumbersView) (d g : List ℕ) (r : Rule) → Contains (asked_by e) (d, g) → Contains (ask_all ps p.here (p.called d) g) r → Contains (root_rules ps p e) r
       root_rule (feature f) p d g r c all = absurd (in_none (d, g) c)
       root_rule (dependency f) p d g r c all = absurd (in_none (d, g) c)
       root_rule (dependency_feature a f) p d g r c all = let s = in_one (a, f) (d, g) c in
@@ -255,7 +255,7 @@ module _ (nodes : List NodeView) (root : ℕ) (ps : List PlaceView) (marks : Lis
       on_got u g k.l q
       (by_rule r (of_entry n e.x e.p f (dependency_feature d.name g) r e.at l
       (Contains-append_right (enable_all a ((e.p).called d.name)) (ask_all ps a ((e.p).called d.name) g) r
-      (to_flat (λ l. ask a a (place_at ps l.target) g) ((e.p).called d.name) k.l r (called n e.x e.p i d e.at k) (asked a a k.l u g q)))) o o)
+      (to_flat (λ l. ask a a (package_at ps l.target) g) ((e.p).called d.name) k.l r (called n e.x e.p i d e.at k) (asked a a k.l u g q)))) o o)
   got w (wants_weakly n u i d f g h b l en leads) =
       let e = got (on n f) h in
       let k = dep n e.x e.p i d e.at b in
@@ -264,5 +264,5 @@ module _ (nodes : List NodeView) (root : ℕ) (ps : List PlaceView) (marks : Lis
       let r = both a (k.l).enabled (number_on q.q g) in
       on_got u g k.l q
       (by_rule r (of_entry n e.x e.p f (weak_feature d.name g) r e.at l
-      (to_flat (λ l. ask a l.enabled (place_at ps l.target) g) ((e.p).called d.name) k.l r (called n e.x e.p i d e.at k) (asked a (k.l).enabled k.l u g q)))
+      (to_flat (λ l. ask a l.enabled (package_at ps l.target) g) ((e.p).called d.name) k.l r (called n e.x e.p i d e.at k) (asked a (k.l).enabled k.l u g q)))
       (on_given n f e) (enabled_given n e.x e.p i d e.at k (got (enabled n i) en)))

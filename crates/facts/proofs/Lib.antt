@@ -1,6 +1,6 @@
 pub mod Mapped
 pub mod LoopLemmas
-pub mod PlaceLemmas
+pub mod NumbersLemmas
 pub mod Numbers
 pub mod Members
 pub mod Sound

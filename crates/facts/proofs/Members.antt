@@ -7,8 +7,8 @@ use Rattle.chains.specs.declared.rule.Rule.{Rule}
 use Rattle.model.specs.Summary.{Entry, Table, entries_at, same_text}
 use Rattle.model.proofs.Same.{text-same}
 use Rattle.model.proofs.Lists.{in_none, in_cons, in_first, in_rest}
-use Rattle.facts.specs.Places.{LinkView, PlaceView}
-use Rattle.facts.specs.RuleLists.{number_on, link_rules, entry_rules, root_rules, root_entries, root_table, entries_rules, feature_rules, features_rules, table_rules, place_rules, rules_from, all_rules}
+use Rattle.facts.specs.FactNumbers.{LinkView, FactNumbersView}
+use Rattle.facts.specs.RuleLists.{number_on, link_rules, entry_rules, root_rules, root_entries, root_table, entries_rules, feature_rules, features_rules, table_rules, package_rules, rules_from, all_rules}
 
 module _ {X Y : Type 0} (f : X → List Y) where
   pub in_flat : (xs : List X) (y : Y) → Contains (flat_map f xs) y → (x : X) × Contains xs x × Contains (f x) y
@@ -46,54 +46,54 @@ row_of f (row ∷ rows) es e = by (same_text f row.0) refl e (λ e. row_of f row
     by true x e rest = (row, in_first row rows, sym (text-same f row.0 x), let s : row.1 ≡ es = cc in s)
     by false x e rest = let r = rest e in (r.0, in_rest row r.0 rows r.1, r.2, r.3)
 
-module _ (ps : List PlaceView) (root : ℕ) where
+module _ (ps : List FactNumbersView) (root : ℕ) where
   -- a rule is one of some package
-  in_from : (n : ℕ) (qs : List PlaceView) (r : Rule) → Contains (rules_from ps root n qs) r
-      → (j : ℕ) × (p : PlaceView) × (slice_get qs j ≡ Some p) × Contains (place_rules ps (nat_eq (n + j) root) p) r
+  in_from : (n : ℕ) (qs : List FactNumbersView) (r : Rule) → Contains (rules_from ps root n qs) r
+      → (j : ℕ) × (p : FactNumbersView) × (slice_get qs j ≡ Some p) × Contains (package_rules ps (nat_eq (n + j) root) p) r
   in_from n [] r c = absurd (in_none r c)
-  in_from n (q ∷ qs) r c = elim (Contains-append_cases (place_rules ps (nat_eq n root) q) (rules_from ps root (suc n) qs) r c) [
-    | inl c ↦ (0, q, refl, let e : n ≡ n + 0 = omega arith in subst (λ m. Contains (place_rules ps (nat_eq m root) q) r) e c)
+  in_from n (q ∷ qs) r c = elim (Contains-append_cases (package_rules ps (nat_eq n root) q) (rules_from ps root (suc n) qs) r c) [
+    | inl c ↦ (0, q, refl, let e : n ≡ n + 0 = omega arith in subst (λ m. Contains (package_rules ps (nat_eq m root) q) r) e c)
     | inr c ↦
         let (j, p, got, has) = in_from (suc n) qs r c in
-        (suc j, p, got, let e : suc n + j ≡ n + suc j = omega arith in subst (λ m. Contains (place_rules ps (nat_eq m root) p) r) e has)
+        (suc j, p, got, let e : suc n + j ≡ n + suc j = omega arith in subst (λ m. Contains (package_rules ps (nat_eq m root) p) r) e has)
   ]
 
-  pub in_rules : (r : Rule) → Contains (all_rules root ps) r → (n : ℕ) × (p : PlaceView) × (slice_get ps n ≡ Some p) × Contains (place_rules ps (nat_eq n root) p) r
+  pub in_rules : (r : Rule) → Contains (all_rules root ps) r → (n : ℕ) × (p : FactNumbersView) × (slice_get ps n ≡ Some p) × Contains (package_rules ps (nat_eq n root) p) r
   in_rules r c =
       let (j, p, got, has) = in_from 0 ps r c in
-      (j, p, got, let e : 0 + j ≡ j = omega arith in subst (λ m. Contains (place_rules ps (nat_eq m root) p) r) e has)
+      (j, p, got, let e : 0 + j ≡ j = omega arith in subst (λ m. Contains (package_rules ps (nat_eq m root) p) r) e has)
 
-  to_from : (n : ℕ) (qs : List PlaceView) (j : ℕ) (p : PlaceView) (r : Rule) → slice_get qs j ≡ Some p → Contains (place_rules ps (nat_eq (n + j) root) p) r
+  to_from : (n : ℕ) (qs : List FactNumbersView) (j : ℕ) (p : FactNumbersView) (r : Rule) → slice_get qs j ≡ Some p → Contains (package_rules ps (nat_eq (n + j) root) p) r
       → Contains (rules_from ps root n qs) r
   to_from n [] j p r got c = let z : None ≡ Some p = got in absurd cc
   to_from n (q ∷ qs) zero p r got c =
       let s : p ≡ q = cc in
       let e : n + 0 ≡ n = omega arith in
-      Contains-append_left (place_rules ps (nat_eq n root) q) (rules_from ps root (suc n) qs) r
-      (subst (λ w. Contains (place_rules ps (nat_eq n root) w) r) s (subst (λ m. Contains (place_rules ps (nat_eq m root) p) r) e c))
+      Contains-append_left (package_rules ps (nat_eq n root) q) (rules_from ps root (suc n) qs) r
+      (subst (λ w. Contains (package_rules ps (nat_eq n root) w) r) s (subst (λ m. Contains (package_rules ps (nat_eq m root) p) r) e c))
   to_from n (q ∷ qs) (suc j) p r got c =
       let e : n + suc j ≡ suc n + j = omega arith in
-      Contains-append_right (place_rules ps (nat_eq n root) q) (rules_from ps root (suc n) qs) r
-      (to_from (suc n) qs j p r got (subst (λ m. Contains (place_rules ps (nat_eq m root) p) r) e c))
+      Contains-append_right (package_rules ps (nat_eq n root) q) (rules_from ps root (suc n) qs) r
+      (to_from (suc n) qs j p r got (subst (λ m. Contains (package_rules ps (nat_eq m root) p) r) e c))
 
-  to_rules : (n : ℕ) (p : PlaceView) (r : Rule) → slice_get ps n ≡ Some p → Contains (place_rules ps (nat_eq n root) p) r → Contains (all_rules root ps) r
-  to_rules n p r got c = let e : n ≡ 0 + n = omega arith in to_from 0 ps n p r got (subst (λ m. Contains (place_rules ps (nat_eq m root) p) r) e c)
+  to_rules : (n : ℕ) (p : FactNumbersView) (r : Rule) → slice_get ps n ≡ Some p → Contains (package_rules ps (nat_eq n root) p) r → Contains (all_rules root ps) r
+  to_rules n p r got c = let e : n ≡ 0 + n = omega arith in to_from 0 ps n p r got (subst (λ m. Contains (package_rules ps (nat_eq m root) p) r) e c)
 
-  abbrev all_links : Bool → PlaceView → List Rule
+  abbrev all_links : Bool → FactNumbersView → List Rule
   all_links b p = flat_map (link_rules ps b p.here) p.links
 
   -- a rule of a dependency is among all
-  pub to_link : (n : ℕ) (p : PlaceView) (i : ℕ) (l : LinkView) (r : Rule) → slice_get ps n ≡ Some p → slice_get p.links i ≡ Some l
+  pub to_link : (n : ℕ) (p : FactNumbersView) (i : ℕ) (l : LinkView) (r : Rule) → slice_get ps n ≡ Some p → slice_get p.links i ≡ Some l
       → Contains (link_rules ps (nat_eq n root) p.here l) r → Contains (all_rules root ps) r
   to_link n p i l r got at c = to_rules n p r got
       (Contains-append_left (all_links (nat_eq n root) p) (table_rules ps (nat_eq n root) p p.brings.features) r
       (to_flat (link_rules ps (nat_eq n root) p.here) p.links l r (get_contains p.links i l at) c))
 
-  abbrev root_part : Bool → PlaceView → List Rule
+  abbrev root_part : Bool → FactNumbersView → List Rule
   root_part b p = cond b (root_table ps p p.brings.features) []
 
   -- a rule of an entry is among all
-  pub to_entry : (n : ℕ) (p : PlaceView) (f : List ℕ) (es : List Entry) (e : Entry) (r : Rule) → slice_get ps n ≡ Some p → entries_at f p.brings.features ≡ Some es → Contains es e
+  pub to_entry : (n : ℕ) (p : FactNumbersView) (f : List ℕ) (es : List Entry) (e : Entry) (r : Rule) → slice_get ps n ≡ Some p → entries_at f p.brings.features ≡ Some es → Contains es e
       → Contains (entry_rules ps p (number_on p f) e) r → Contains (all_rules root ps) r
   to_entry n p f es e r got found has c =
       let rows = p.brings.features in
@@ -107,7 +107,7 @@ module _ (ps : List PlaceView) (root : ℕ) where
       (to_flat (λ row. feature_rules ps p rows row.0) rows row.0 r row.1 (subst (λ g. Contains (feature_rules ps p rows g) r) (sym row.2) all))))
 
   -- a rule of an entry of the root is among all
-  pub to_root : (n : ℕ) (p : PlaceView) (row : List ℕ × List Entry) (e : Entry) (r : Rule) → slice_get ps n ≡ Some p → nat_eq n root ≡ true → Contains p.brings.features row
+  pub to_root : (n : ℕ) (p : FactNumbersView) (row : List ℕ × List Entry) (e : Entry) (r : Rule) → slice_get ps n ≡ Some p → nat_eq n root ≡ true → Contains p.brings.features row
       → Contains row.1 e → Contains (root_rules ps p e) r → Contains (all_rules root ps) r
   to_root n p row e r got z has m c =
       let rows = p.brings.features in

@@ -4,7 +4,7 @@ use Rattle.std.proofs.lemmas.List.{length-append, append_assoc}
 use Rattle.model.specs.Summary.{Dependency, Table, same_text, has_feature, entries_at}
 use Rattle.model.proofs.Same.{text-same}
 use Rattle.facts.specs.Graphs.{NodeView}
-use Rattle.facts.specs.Places.{LinkView, PlaceView, number_in, links_from, links_called, IsPlaceFrom}
+use Rattle.facts.specs.FactNumbers.{LinkView, FactNumbersView, number_in, links_from, links_called, IsNumberedFrom}
 
 -- a fact of a package
 pub data Mark : Type 0 where
@@ -112,7 +112,7 @@ link_back n targets k i (x ∷ ds) zero l e = (x, refl)
 link_back n targets k i (x ∷ ds) (suc j) l e = link_back n targets (suc k) (suc i) ds j l e
 
 -- the numbers of the package at place n stand for its facts
-pub record IsNumbered (marks : List Mark) (n : ℕ) (x : NodeView) (p : PlaceView) : Type 0 where
+pub record IsNumbered (marks : List Mark) (n : ℕ) (x : NodeView) (p : FactNumbersView) : Type 0 where
   pub brings : p.brings ≡ x.brings
   pub here : slice_get marks p.here ≡ Some (is_here n)
   pub lacks : slice_get marks p.lacks ≡ Some (lacking n)
@@ -122,7 +122,7 @@ pub record IsNumbered (marks : List Mark) (n : ℕ) (x : NodeView) (p : PlaceVie
   pub back : (i : ℕ) (l : LinkView) → slice_get p.links i ≡ Some l → (d : Dependency) × (slice_get x.brings.dependencies i ≡ Some d)
   pub called : (d : List ℕ) → p.called d ≡ links_called d p.links
 
-pub numbered : (front : List Mark) (n : ℕ) (x : NodeView) (p : PlaceView) (rest : List Mark) → IsPlaceFrom (length front) x p → IsNumbered (front ++ (block n x ++ rest)) n x p
+pub numbered : (front : List Mark) (n : ℕ) (x : NodeView) (p : FactNumbersView) (rest : List Mark) → IsNumberedFrom (length front) x p → IsNumbered (front ++ (block n x ++ rest)) n x p
 numbered front n x p rest h =
     let rows = x.brings.features in
     let ds = x.brings.dependencies in

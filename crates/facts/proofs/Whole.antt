@@ -9,7 +9,7 @@ use Rattle.model.specs.Summary.{Summary, Dependency, Table, has_feature}
 use Rattle.model.specs.Facts.{Fact, here, on, enabled}
 use Rattle.model.specs.Facts.Holds.{starts}
 use Rattle.facts.specs.Graphs.{NodeView, brings_if, starts_if, starts_at, IsFactOf, LacksFeature, IsGraph, flag_at, flag_in}
-use Rattle.facts.specs.Places.{LinkView, PlaceView, unmarked_for, flags_of, flags_of_all, ArePlacesFrom}
+use Rattle.facts.specs.FactNumbers.{LinkView, FactNumbersView, unmarked_for, flags_of, flags_of_all, AreNumberedFrom}
 use Rattle.facts.specs.RuleLists.{number_on, all_rules, here_flags, lacks_flags, enabled_flags}
 use Rattle.facts.specs.Answers.{AreGivenBy}
 use Rattle.facts.specs.declared.facts.Facts.{Facts}
@@ -34,7 +34,7 @@ length-block n x =
     ap (λ m. suc (suc m)) (length-append (on_marks n rows) (enabled_marks n 0 ds) ∙ ap₂ (λ a b. a + b) (length-on n rows) (length-enabled n 0 ds)
     ∙ sym (length-append (unmarked_for rows) (unmarked_for ds)))
 
-all_numbered : (front : List Mark) (n : ℕ) (xs : List NodeView) (ps : List PlaceView) (j : ℕ) (x : NodeView) (p : PlaceView) → ArePlacesFrom (length front) xs ps
+all_numbered : (front : List Mark) (n : ℕ) (xs : List NodeView) (ps : List FactNumbersView) (j : ℕ) (x : NodeView) (p : FactNumbersView) → AreNumberedFrom (length front) xs ps
     → slice_get xs j ≡ Some x → slice_get ps j ≡ Some p → IsNumbered (front ++ marks_from n xs) (n + j) x p
 all_numbered front n [] ps j x p a e g = let z : None ≡ Some x = e in absurd cc
 all_numbered front n (y ∷ ys) [] j x p a e g = absurd a
@@ -50,27 +50,27 @@ all_numbered front n (y ∷ ys) (q ∷ qs) (suc j) x p a e g =
     let long : length front + length (flags_of y) ≡ length (front ++ block n y) = ap (λ m. length front + m) (sym (length-block n y)) ∙ sym (length-append front (block n y)) in
     subst (λ m. IsNumbered (front ++ (block n y ++ marks_from (suc n) ys)) m x p) at
     (subst (λ ms. IsNumbered ms (suc n + j) x p) (append_assoc front (block n y) (marks_from (suc n) ys))
-    (all_numbered (front ++ block n y) (suc n) ys qs j x p (subst (λ m. ArePlacesFrom m ys qs) long a.1) e g))
+    (all_numbered (front ++ block n y) (suc n) ys qs j x p (subst (λ m. AreNumberedFrom m ys qs) long a.1) e g))
 
-place_there : (k : ℕ) (xs : List NodeView) (ps : List PlaceView) (j : ℕ) (x : NodeView) → ArePlacesFrom k xs ps → slice_get xs j ≡ Some x → (p : PlaceView) × (slice_get ps j ≡ Some p)
-place_there k [] ps j x a e = let z : None ≡ Some x = e in absurd cc
-place_there k (y ∷ ys) [] j x a e = absurd a
-place_there k (y ∷ ys) (q ∷ qs) zero x a e = (q, refl)
-place_there k (y ∷ ys) (q ∷ qs) (suc j) x a e = place_there (k + length (flags_of y)) ys qs j x a.1 e
+numbers_there : (k : ℕ) (xs : List NodeView) (ps : List FactNumbersView) (j : ℕ) (x : NodeView) → AreNumberedFrom k xs ps → slice_get xs j ≡ Some x → (p : FactNumbersView) × (slice_get ps j ≡ Some p)
+numbers_there k [] ps j x a e = let z : None ≡ Some x = e in absurd cc
+numbers_there k (y ∷ ys) [] j x a e = absurd a
+numbers_there k (y ∷ ys) (q ∷ qs) zero x a e = (q, refl)
+numbers_there k (y ∷ ys) (q ∷ qs) (suc j) x a e = numbers_there (k + length (flags_of y)) ys qs j x a.1 e
 
-node_there : (k : ℕ) (xs : List NodeView) (ps : List PlaceView) (j : ℕ) (p : PlaceView) → ArePlacesFrom k xs ps → slice_get ps j ≡ Some p → (x : NodeView) × (slice_get xs j ≡ Some x)
+node_there : (k : ℕ) (xs : List NodeView) (ps : List FactNumbersView) (j : ℕ) (p : FactNumbersView) → AreNumberedFrom k xs ps → slice_get ps j ≡ Some p → (x : NodeView) × (slice_get xs j ≡ Some x)
 node_there k xs [] j p a e = let z : None ≡ Some p = e in absurd cc
 node_there k [] (q ∷ qs) j p a e = absurd a
 node_there k (y ∷ ys) (q ∷ qs) zero p a e = (y, refl)
 node_there k (y ∷ ys) (q ∷ qs) (suc j) p a e = node_there (k + length (flags_of y)) ys qs j p a.1 e
 
-table : (nodes : List NodeView) (ps : List PlaceView) → ArePlacesFrom 0 nodes ps → IsTable nodes ps (marks_from 0 nodes)
+table : (nodes : List NodeView) (ps : List FactNumbersView) → AreNumberedFrom 0 nodes ps → IsTable nodes ps (marks_from 0 nodes)
 table nodes ps a = record {
-  place = λ n x e. let r = place_there 0 nodes ps n x a e in (r.0, r.1, is n x r.0 e r.1);
+  numbers = λ n x e. let r = numbers_there 0 nodes ps n x a e in (r.0, r.1, is n x r.0 e r.1);
   node = λ n p e. let r = node_there 0 nodes ps n p a e in (r.0, r.1, is n r.0 p r.1 e);
 }
   where
-    is : (n : ℕ) (x : NodeView) (p : PlaceView) → slice_get nodes n ≡ Some x → slice_get ps n ≡ Some p → IsNumbered (marks_from 0 nodes) n x p
+    is : (n : ℕ) (x : NodeView) (p : FactNumbersView) → slice_get nodes n ≡ Some x → slice_get ps n ≡ Some p → IsNumbered (marks_from 0 nodes) n x p
     is n x p e g = let at : 0 + n ≡ n = omega arith in subst (λ m. IsNumbered (marks_from 0 nodes) m x p) at (all_numbered [] 0 nodes ps n x p a e g)
 
 -- ---- what is marked from the start
@@ -132,7 +132,7 @@ some_inner x y e = cc
 
 -- ---- the answers
 
-module _ (nodes : List NodeView) (root : ℕ) (ps : List PlaceView) (a : ArePlacesFrom 0 nodes ps) where
+module _ (nodes : List NodeView) (root : ℕ) (ps : List FactNumbersView) (a : AreNumberedFrom 0 nodes ps) where
   marks : List Mark
   marks = marks_from 0 nodes
 
@@ -163,7 +163,7 @@ module _ (nodes : List NodeView) (root : ℕ) (ps : List PlaceView) (a : ArePlac
       by (is_on n f) e = absurd (true≢false (sym e))
       by (is_enabled n i) e = absurd (true≢false (sym e))
 
-  begun : (n : ℕ) (x : NodeView) (p : PlaceView) → At nodes ps (marks_from 0 nodes) n x p → x.starts ≡ true → has (flags_of_all nodes) p.here ≡ true
+  begun : (n : ℕ) (x : NodeView) (p : FactNumbersView) → At nodes ps (marks_from 0 nodes) n x p → x.starts ≡ true → has (flags_of_all nodes) p.here ≡ true
   begun n x p h s = ap (λ fs. has fs p.here) flags_is ∙ has-map (flag nodes) (marks_from 0 nodes) p.here (is_here n) h.is.here ∙ ap starts_if h.got ∙ s
 
   module _ (graph : IsGraph nodes) (set : List Bool) (given : (i : ℕ) → (has set i ≡ true) ↔ IsGiven (all_rules root ps) (flags_of_all nodes) i) where
@@ -175,7 +175,7 @@ module _ (nodes : List NodeView) (root : ℕ) (ps : List PlaceView) (a : ArePlac
     gets : (w : Fact ℕ) → IsFactOf nodes root w → Got nodes root ps (marks_from 0 nodes) (table nodes ps a) graph (flags_of_all nodes) begun w
     gets w h = got nodes root ps (marks_from 0 nodes) (table nodes ps a) graph (flags_of_all nodes) begun w h
 
-    at : (n : ℕ) (p : PlaceView) → slice_get ps n ≡ Some p → (x : NodeView) × At nodes ps (marks_from 0 nodes) n x p
+    at : (n : ℕ) (p : FactNumbersView) → slice_get ps n ≡ Some p → (x : NodeView) × At nodes ps (marks_from 0 nodes) n x p
     at n p e = let r = (table nodes ps a).node n p e in (r.0, record { got = r.1; had = e; is = r.2 })
 
     pub here_holds : (n : ℕ) → (flag_at (here_flags set ps) n ≡ true) ↔ IsFactOf nodes root (here n)
@@ -193,7 +193,7 @@ module _ (nodes : List NodeView) (root : ℕ) (ps : List PlaceView) (a : ArePlac
           has-map (λ p. has set p.lacks) ps n g.p g.at.had ∙ ap (has set) (is_lacks n g.x g.p h.0 g.at none ∙ g.is) ∙ (given g.k).1 g.given),
     )
       where
-        is_lacks : (n : ℕ) (x : NodeView) (p : PlaceView) (f : List ℕ) → At nodes ps (marks_from 0 nodes) n x p → has_feature x.brings.features f ≡ false → p.lacks ≡ number_on p f
+        is_lacks : (n : ℕ) (x : NodeView) (p : FactNumbersView) (f : List ℕ) → At nodes ps (marks_from 0 nodes) n x p → has_feature x.brings.features f ≡ false → p.lacks ≡ number_on p f
         is_lacks n x p f h none = by (p.numbers f) refl
           where
             by : (o : Option ℕ) → p.numbers f ≡ o → p.lacks ≡ unwrap_or o p.lacks
@@ -219,44 +219,44 @@ module _ (nodes : List NodeView) (root : ℕ) (ps : List PlaceView) (a : ArePlac
 -- ---- the same of what the code has made
 
 -- a set is closed under the rules of the packages
-pub record IsClosed (nodes : List NodeView) (root : ℕ) (ps : List PlaceView) (set : List Bool) : Type 0 where
-  pub places : ArePlacesFrom 0 nodes ps
+pub record IsClosed (nodes : List NodeView) (root : ℕ) (ps : List FactNumbersView) (set : List Bool) : Type 0 where
+  pub packages : AreNumberedFrom 0 nodes ps
   pub graph : IsGraph nodes
   pub given : (i : ℕ) → (has set i ≡ true) ↔ IsGiven (all_rules root ps) (flags_of_all nodes) i
 
-pub places_made : (nodes : List NodeView) (ps : List PlaceView) (none : List Bool) → none ≡ [] → ArePlacesFrom (length none) nodes ps → ArePlacesFrom 0 nodes ps
-places_made nodes ps none e a = subst (λ m. ArePlacesFrom (length m) nodes ps) e a
+pub numbers_made : (nodes : List NodeView) (ps : List FactNumbersView) (none : List Bool) → none ≡ [] → AreNumberedFrom (length none) nodes ps → AreNumberedFrom 0 nodes ps
+numbers_made nodes ps none e a = subst (λ m. AreNumberedFrom (length m) nodes ps) e a
 
-pub closed_made : (nodes : List NodeView) (root : ℕ) (ps : List PlaceView) (none flags set : List Bool) (rs : List Rule) → none ≡ [] → ArePlacesFrom (length none) nodes ps
+pub closed_made : (nodes : List NodeView) (root : ℕ) (ps : List FactNumbersView) (none flags set : List Bool) (rs : List Rule) → none ≡ [] → AreNumberedFrom (length none) nodes ps
     → flags ≡ none ++ flags_of_all nodes → rs ≡ all_rules root ps → IsGraph nodes → ((i : ℕ) → (has set i ≡ true) ↔ IsGiven rs flags i) → IsClosed nodes root ps set
 closed_made nodes root ps none flags set rs e a fs is graph given = record {
-  places = places_made nodes ps none e a;
+  packages = numbers_made nodes ps none e a;
   graph = graph;
   given = λ i. subst₂ (λ rs fs. (has set i ≡ true) ↔ IsGiven rs fs i) is (fs ∙ ap (λ m. m ++ flags_of_all nodes) e) (given i);
 }
 
-pub below_made : (nodes : List NodeView) (root : ℕ) (ps : List PlaceView) (none flags : List Bool) (rs : List Rule) → none ≡ [] → ArePlacesFrom (length none) nodes ps
+pub below_made : (nodes : List NodeView) (root : ℕ) (ps : List FactNumbersView) (none flags : List Bool) (rs : List Rule) → none ≡ [] → AreNumberedFrom (length none) nodes ps
     → flags ≡ none ++ flags_of_all nodes → rs ≡ all_rules root ps → AreBelow (length flags) rs
 below_made nodes root ps none flags rs e a fs is =
-    subst₂ (λ fs rs. AreBelow (length fs) rs) (sym (fs ∙ ap (λ m. m ++ flags_of_all nodes) e)) (sym is) (rules_below nodes root ps (places_made nodes ps none e a))
+    subst₂ (λ fs rs. AreBelow (length fs) rs) (sym (fs ∙ ap (λ m. m ++ flags_of_all nodes) e)) (sym is) (rules_below nodes root ps (numbers_made nodes ps none e a))
 
-module _ (nodes : List NodeView) (root : ℕ) (ps : List PlaceView) (set : List Bool) (k : IsClosed nodes root ps set) where
+module _ (nodes : List NodeView) (root : ℕ) (ps : List FactNumbersView) (set : List Bool) (k : IsClosed nodes root ps set) where
   pub here_shown : (fs : List Bool) → fs ≡ here_flags set ps → (n : ℕ) → (flag_at fs n ≡ true) ↔ IsFactOf nodes root (here n)
-  here_shown fs e n = subst (λ fs. (flag_at fs n ≡ true) ↔ IsFactOf nodes root (here n)) (sym e) (here_holds nodes root ps k.places k.graph set k.given n)
+  here_shown fs e n = subst (λ fs. (flag_at fs n ≡ true) ↔ IsFactOf nodes root (here n)) (sym e) (here_holds nodes root ps k.packages k.graph set k.given n)
 
   pub lacks_shown : (fs : List Bool) → fs ≡ lacks_flags set ps → (n : ℕ) → (flag_at fs n ≡ true) ↔ LacksFeature nodes root n
-  lacks_shown fs e n = subst (λ fs. (flag_at fs n ≡ true) ↔ LacksFeature nodes root n) (sym e) (lacks_holds nodes root ps k.places k.graph set k.given n)
+  lacks_shown fs e n = subst (λ fs. (flag_at fs n ≡ true) ↔ LacksFeature nodes root n) (sym e) (lacks_holds nodes root ps k.packages k.graph set k.given n)
 
   pub enabled_shown : (fs : List (List Bool)) → fs ≡ enabled_flags set ps → (n i : ℕ) → (flag_in fs n i ≡ true) ↔ IsFactOf nodes root (enabled n i)
-  enabled_shown fs e n i = subst (λ fs. (flag_in fs n i ≡ true) ↔ IsFactOf nodes root (enabled n i)) (sym e) (enabled_holds nodes root ps k.places k.graph set k.given n i)
+  enabled_shown fs e n i = subst (λ fs. (flag_in fs n i ≡ true) ↔ IsFactOf nodes root (enabled n i)) (sym e) (enabled_holds nodes root ps k.packages k.graph set k.given n i)
 
 if_ok : {X E : Type 0} (P Q : X → Type 0) (r : Result X E) → ((x : X) → P x → Q x) → IfOk r P → IfOk r Q
 if_ok P Q (Ok x) h p = h x p
 if_ok P Q (Err e) h p = tt
 
 -- what the answers say, where the rules and the start are those of the packages
-module _ {E : Type 0} (nodes : List NodeView) (root : ℕ) (ps qs : List PlaceView) (none flags : List Bool) (rs : List Rule) (r : Result Facts E) (e : none ≡ [])
-    (a : ArePlacesFrom (length none) nodes ps) (fs : flags ≡ none ++ flags_of_all nodes) (is : rs ≡ all_rules root ps) (graph : IsGraph nodes) (same : qs ≡ ps)
+module _ {E : Type 0} (nodes : List NodeView) (root : ℕ) (ps qs : List FactNumbersView) (none flags : List Bool) (rs : List Rule) (r : Result Facts E) (e : none ≡ [])
+    (a : AreNumberedFrom (length none) nodes ps) (fs : flags ≡ none ++ flags_of_all nodes) (is : rs ≡ all_rules root ps) (graph : IsGraph nodes) (same : qs ≡ ps)
     (shows : IfOk r (AreGivenBy rs flags qs)) where
   shown : (f : Facts) → AreGivenBy rs flags qs f → AreGivenBy rs flags ps f
   shown f g = subst (λ ps. AreGivenBy rs flags ps f) same g

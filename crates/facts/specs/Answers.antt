@@ -2,12 +2,12 @@
 use Rattle.std.specs.Prelude.{◌≡◌, ◌↔◌, ℕ, Bool, true, List, map}
 use Rattle.chains.specs.Chains.{has, IsGiven}
 use Rattle.chains.specs.declared.rule.Rule.{Rule}
-use Rattle.facts.specs.Places.{PlaceView}
+use Rattle.facts.specs.FactNumbers.{FactNumbersView}
 use Rattle.facts.specs.RuleLists.{here_flags, lacks_flags, enabled_flags}
 use Rattle.facts.specs.declared.facts.Facts.{Facts}
 
 -- the facts of places are those whose numbers the rules give from the start
-pub record AreGivenBy (rules : List Rule) (start : List Bool) (ps : List PlaceView) (f : Facts) : Type 0 where
+pub record AreGivenBy (rules : List Rule) (start : List Bool) (ps : List FactNumbersView) (f : Facts) : Type 0 where
   pub set : List Bool
   pub given : (i : ℕ) → (has set i ≡ true) ↔ IsGiven rules start i
   pub here : f.here.items ≡ here_flags set ps

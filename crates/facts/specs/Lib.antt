@@ -1,5 +1,5 @@
 pub use Rattle.model.specs.Facts
 pub mod Graphs
-pub mod Places
+pub mod FactNumbers
 pub mod RuleLists
 pub mod Answers

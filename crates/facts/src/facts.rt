@@ -5,12 +5,12 @@ ghost use Rattle.model.specs.Facts.{here, enabled};
 ghost use Rattle.chains.specs.Chains.{has, AreBelow};
 ghost use Rattle.facts.specs.Answers.{AreGivenBy};
 ghost use Rattle.facts.specs.Graphs.{node_views, flag_at, flag_in, IsFactOf, LacksFeature, IsGraph};
-ghost use Rattle.facts.specs.Places.{link_views, place_view, place_views};
+ghost use Rattle.facts.specs.FactNumbers.{link_views, numbers_view, numbers_views};
 ghost use Rattle.facts.specs.RuleLists.{here_flags, lacks_flags, enabled_flags, link_flags};
 
 use crate::node::Node;
-use crate::numbering::places_of;
-use crate::place::{Link, Place};
+use crate::numbering::numbers_of_all;
+use crate::fact_numbers::{Link, FactNumbers};
 use crate::rules::rules_of;
 use chains::{Rule, close};
 use std::alloc::{AllocError, Global};
@@ -36,12 +36,12 @@ pub fn facts_of(alloc: Global, nodes: &[Node<'_>], root: usize) -> Result<Facts,
     ensures lacks { IfOk result (λ f. (n : ℕ) → (flag_at f.lacks.items n ≡ true) ↔ LacksFeature (node_views nodes.now) root n) }
 {
     let mut marked = Vec::new(alloc);
-    let places = places_of(alloc, nodes, &mut marked)?;
-    let rules = rules_of(alloc, places.as_slice(), root)?;
+    let packages = numbers_of_all(alloc, nodes, &mut marked)?;
+    let rules = rules_of(alloc, packages.as_slice(), root)?;
     facts_by(
         alloc,
         marked.as_mut_slice(),
-        places.as_slice(),
+        packages.as_slice(),
         rules.as_slice(),
     )
 }
@@ -50,26 +50,26 @@ pub fn facts_of(alloc: Global, nodes: &[Node<'_>], root: usize) -> Result<Facts,
 fn facts_by(
     alloc: Global,
     marked: &mut [bool],
-    places: &[Place<'_>],
+    packages: &[FactNumbers<'_>],
     rules: &[Rule],
 ) -> Result<Facts, AllocError>
     requires below { AreBelow (length marked.old) rules.now }
-    ensures { IfOk result (AreGivenBy rules.now marked.old (place_views places.now)) }
+    ensures { IfOk result (AreGivenBy rules.now marked.old (numbers_views packages.now)) }
 {
     close(alloc, marked, rules)?;
     Ok(Facts {
-        here: here_flags(alloc, marked, places)?,
-        enabled: enabled_flags(alloc, marked, places)?,
-        lacks: lacks_flags(alloc, marked, places)?,
+        here: here_flags(alloc, marked, packages)?,
+        enabled: enabled_flags(alloc, marked, packages)?,
+        lacks: lacks_flags(alloc, marked, packages)?,
     })
 }
 
-fn here_flags(alloc: Global, marked: &[bool], places: &[Place<'_>]) -> Result<Vec<bool>, AllocError>
-    ensures { IfOk result (λ v. v.items ≡ here_flags marked.now (place_views places.now)) }
+fn here_flags(alloc: Global, marked: &[bool], packages: &[FactNumbers<'_>]) -> Result<Vec<bool>, AllocError>
+    ensures { IfOk result (λ v. v.items ≡ here_flags marked.now (numbers_views packages.now)) }
 {
     let mut flags = Vec::new(alloc);
-    'places: for place in places {
-        flags.push(is_marked(marked, place.here))?;
+    'packages: for node in packages {
+        flags.push(is_marked(marked, node.here))?;
     }
     Ok(flags)
 }
@@ -77,13 +77,13 @@ fn here_flags(alloc: Global, marked: &[bool], places: &[Place<'_>]) -> Result<Ve
 fn lacks_flags(
     alloc: Global,
     marked: &[bool],
-    places: &[Place<'_>],
+    packages: &[FactNumbers<'_>],
 ) -> Result<Vec<bool>, AllocError>
-    ensures { IfOk result (λ v. v.items ≡ lacks_flags marked.now (place_views places.now)) }
+    ensures { IfOk result (λ v. v.items ≡ lacks_flags marked.now (numbers_views packages.now)) }
 {
     let mut flags = Vec::new(alloc);
-    'places: for place in places {
-        flags.push(is_marked(marked, place.lacks))?;
+    'packages: for node in packages {
+        flags.push(is_marked(marked, node.lacks))?;
     }
     Ok(flags)
 }
@@ -91,13 +91,13 @@ fn lacks_flags(
 fn enabled_flags(
     alloc: Global,
     marked: &[bool],
-    places: &[Place<'_>],
+    packages: &[FactNumbers<'_>],
 ) -> Result<Vec<Vec<bool>>, AllocError>
-    ensures { IfOk result (λ v. map (λ v. v.items) v.items ≡ enabled_flags marked.now (place_views places.now)) }
+    ensures { IfOk result (λ v. map (λ v. v.items) v.items ≡ enabled_flags marked.now (numbers_views packages.now)) }
 {
     let mut flags = Vec::new(alloc);
-    'places: for place in places {
-        flags.push(link_flags(alloc, marked, place.links.as_slice())?)?;
+    'packages: for node in packages {
+        flags.push(link_flags(alloc, marked, node.links.as_slice())?)?;
     }
     Ok(flags)
 }

@@ -15,10 +15,10 @@
 //! (`model/specs/Facts`) give.
 #![tactic(auto)]
 
+mod fact_numbers;
 mod facts;
 mod node;
 mod numbering;
-mod place;
 mod rules;
 
 pub use facts::{Facts, facts_of};

@@ -3,38 +3,38 @@
 ghost use Rattle.std.specs.Prelude.{◌≡◌, ◌++◌, ◌∷◌, [], ℕ, List, None, Some, length, map, OnOk, IfOk};
 ghost use Rattle.features.specs.Views.{dependency_views};
 ghost use Rattle.facts.specs.Graphs.{brings_view, node_view, node_views, target_if};
-ghost use Rattle.facts.specs.Places.{at_text, number_in, link_view, link_views, links_if, links_from, links_called, unmarked_for, flags_of, flags_of_all, place_view, place_views, IsPlaceFrom, ArePlacesFrom};
+ghost use Rattle.facts.specs.FactNumbers.{at_text, number_in, link_view, link_views, links_if, links_from, links_called, unmarked_for, flags_of, flags_of_all, numbers_view, numbers_views, IsNumberedFrom, AreNumberedFrom};
 
 use crate::node::Node;
-use crate::place::{Link, Place};
+use crate::fact_numbers::{Link, FactNumbers};
 use features::{Dependency, FeatureTable, Summary};
 use std::alloc::{AllocError, Global};
 use std::collections::BTreeMap;
 
 /// The packages with the numbers of their facts. What is marked from the start is put to `marked`, a flag for each
 /// fact.
-pub(crate) fn places_of<'a>(
+pub(crate) fn numbers_of_all<'a>(
     alloc: Global,
     nodes: &[Node<'a>],
     marked: &mut Vec<bool>,
-) -> Result<Vec<Place<'a>>, AllocError>
+) -> Result<Vec<FactNumbers<'a>>, AllocError>
     ensures marked { OnOk result (marked.new.items ≡ marked.old.items ++ flags_of_all (node_views nodes.now)) }
-    ensures places { IfOk result (λ v. ArePlacesFrom (length marked.old.items) (node_views nodes.now) (place_views v.items)) }
+    ensures packages { IfOk result (λ v. AreNumberedFrom (length marked.old.items) (node_views nodes.now) (numbers_views v.items)) }
 {
-    let mut places = Vec::new(alloc);
+    let mut packages = Vec::new(alloc);
     'nodes: for node in nodes {
-        places.push(place_of(alloc, node, marked)?)?;
+        packages.push(numbers_of(alloc, node, marked)?)?;
     }
-    Ok(places)
+    Ok(packages)
 }
 
-fn place_of<'a>(
+fn numbers_of<'a>(
     alloc: Global,
     node: &Node<'a>,
     marked: &mut Vec<bool>,
-) -> Result<Place<'a>, AllocError>
+) -> Result<FactNumbers<'a>, AllocError>
     ensures marked { OnOk result (marked.new.items ≡ marked.old.items ++ flags_of (node_view node.now)) }
-    ensures place { IfOk result (λ p. IsPlaceFrom (length marked.old.items) (node_view node.now) (place_view p)) }
+    ensures numbers { IfOk result (λ p. IsNumberedFrom (length marked.old.items) (node_view node.now) (numbers_view p)) }
 {
     let here = marked.len();
     marked.push(node.starts)?;
@@ -43,7 +43,7 @@ fn place_of<'a>(
     let features = features_of(alloc, node.brings, marked)?;
     let links = links_of(alloc, node, marked)?;
     let called = by_name(alloc, links.as_slice())?;
-    Ok(Place {
+    Ok(FactNumbers {
         brings: node.brings,
         here,
         lacks,

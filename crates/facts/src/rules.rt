@@ -4,10 +4,10 @@ ghost use Rattle.std.specs.Prelude.{◌≡◌, ◌++◌, ◌||◌, ◌∷◌, []
 ghost use Rattle.std.specs.List.{flat_map};
 ghost use Rattle.features.specs.Views.{dependency_view};
 ghost use Rattle.features.specs.EntryViews.{entry_view, entry_views};
-ghost use Rattle.facts.specs.Places.{link_view, link_views, place_view, place_views};
-ghost use Rattle.facts.specs.RuleLists.{one, both, number_on, place_at, ask, ask_features, arrive, need, is_needed, link_rules, enable_all, ask_all, ask_enabled, entry_rules, root_rules, root_entries, root_table, entries_rules, features_rules, table_rules, place_rules, all_rules};
+ghost use Rattle.facts.specs.FactNumbers.{link_view, link_views, numbers_view, numbers_views};
+ghost use Rattle.facts.specs.RuleLists.{one, both, number_on, package_at, ask, ask_features, arrive, need, is_needed, link_rules, enable_all, ask_all, ask_enabled, entry_rules, root_rules, root_entries, root_table, entries_rules, features_rules, table_rules, package_rules, all_rules};
 
-use crate::place::{Link, Place};
+use crate::fact_numbers::{Link, FactNumbers};
 use chains::Rule;
 use features::{Entry, FeatureName, FeatureTable, PackageName};
 use std::alloc::{AllocError, Global};
@@ -15,31 +15,31 @@ use std::alloc::{AllocError, Global};
 /// The rules of all packages, of which the one at the place `root` is the root.
 pub(crate) fn rules_of(
     alloc: Global,
-    places: &[Place<'_>],
+    packages: &[FactNumbers<'_>],
     root: usize,
 ) -> Result<Vec<Rule>, AllocError>
-    ensures { IfOk result (λ v. v.items ≡ all_rules root (place_views places.now)) }
+    ensures { IfOk result (λ v. v.items ≡ all_rules root (numbers_views packages.now)) }
 {
     let mut rules = Vec::new(alloc);
-    'places: for (number, place) in places.iter().enumerate() {
-        place_rules(&mut rules, places, place, number == root)?;
+    'packages: for (number, node) in packages.iter().enumerate() {
+        package_rules(&mut rules, packages, node, number == root)?;
     }
     Ok(rules)
 }
 
-fn place_rules(
+fn package_rules(
     rules: &mut Vec<Rule>,
-    places: &[Place<'_>],
-    place: &Place<'_>,
+    packages: &[FactNumbers<'_>],
+    node: &FactNumbers<'_>,
     is_root: bool,
 ) -> Result<(), AllocError>
-    ensures { OnOk result (rules.new.items ≡ rules.old.items ++ place_rules (place_views places.now) is_root (place_view place.now)) }
+    ensures { OnOk result (rules.new.items ≡ rules.old.items ++ package_rules (numbers_views packages.now) is_root (numbers_view node.now)) }
 {
-    'links: for link in &place.links {
-        link_rules(rules, places, place.here, is_root, link)?;
+    'links: for link in &node.links {
+        link_rules(rules, packages, node.here, is_root, link)?;
     }
-    match place.brings {
-        Some(summary) => table_rules(rules, places, place, is_root, &summary.features),
+    match node.brings {
+        Some(summary) => table_rules(rules, packages, node, is_root, &summary.features),
         None => Ok(()),
     }
 }
@@ -47,15 +47,15 @@ fn place_rules(
 /// A dependency that is needed is enabled, and one that is enabled brings its target.
 fn link_rules(
     rules: &mut Vec<Rule>,
-    places: &[Place<'_>],
+    packages: &[FactNumbers<'_>],
     here: usize,
     is_root: bool,
     link: &Link<'_>,
 ) -> Result<(), AllocError>
-    ensures { OnOk result (rules.new.items ≡ rules.old.items ++ link_rules (place_views places.now) is_root here (link_view link.now)) }
+    ensures { OnOk result (rules.new.items ≡ rules.old.items ++ link_rules (numbers_views packages.now) is_root here (link_view link.now)) }
 {
     need(rules, here, is_root, link)?;
-    match place_at(places, link.target) {
+    match package_at(packages, link.target) {
         Some(target) => arrive(rules, link, target),
         None => Ok(()),
     }
@@ -83,8 +83,8 @@ fn is_needed(is_root: bool, link: &Link<'_>) -> bool
 }
 
 /// An enabled dependency brings its target, and asks it for features.
-fn arrive(rules: &mut Vec<Rule>, link: &Link<'_>, target: &Place<'_>) -> Result<(), AllocError>
-    ensures { OnOk result (rules.new.items ≡ rules.old.items ++ arrive (link_view link.now) (Some (place_view target.now))) }
+fn arrive(rules: &mut Vec<Rule>, link: &Link<'_>, target: &FactNumbers<'_>) -> Result<(), AllocError>
+    ensures { OnOk result (rules.new.items ≡ rules.old.items ++ arrive (link_view link.now) (Some (numbers_view target.now))) }
 {
     rules.push(one(link.enabled, target.here))?;
     ask_features(
@@ -102,10 +102,10 @@ fn arrive(rules: &mut Vec<Rule>, link: &Link<'_>, target: &Place<'_>) -> Result<
 fn ask_features(
     rules: &mut Vec<Rule>,
     fact: usize,
-    target: &Place<'_>,
+    target: &FactNumbers<'_>,
     features: &[FeatureName],
 ) -> Result<(), AllocError>
-    ensures { OnOk result (rules.new.items ≡ rules.old.items ++ ask_features fact (place_view target.now) features.now) }
+    ensures { OnOk result (rules.new.items ≡ rules.old.items ++ ask_features fact (numbers_view target.now) features.now) }
 {
     'features: for feature in features {
         rules.push(one(fact, number_on(target, feature.as_str())))?;
@@ -115,16 +115,16 @@ fn ask_features(
 
 fn table_rules(
     rules: &mut Vec<Rule>,
-    places: &[Place<'_>],
-    place: &Place<'_>,
+    packages: &[FactNumbers<'_>],
+    node: &FactNumbers<'_>,
     is_root: bool,
     table: &FeatureTable,
 ) -> Result<(), AllocError>
-    ensures { OnOk result (rules.new.items ≡ rules.old.items ++ table_rules (place_views places.now) is_root (place_view place.now) table.now) }
+    ensures { OnOk result (rules.new.items ≡ rules.old.items ++ table_rules (numbers_views packages.now) is_root (numbers_view node.now) table.now) }
 {
-    features_rules(rules, places, place, table)?;
+    features_rules(rules, packages, node, table)?;
     if is_root {
-        root_table(rules, places, place, table)?;
+        root_table(rules, packages, node, table)?;
     }
     Ok(())
 }
@@ -132,15 +132,15 @@ fn table_rules(
 /// What the features of a table do.
 fn features_rules(
     rules: &mut Vec<Rule>,
-    places: &[Place<'_>],
-    place: &Place<'_>,
+    packages: &[FactNumbers<'_>],
+    node: &FactNumbers<'_>,
     table: &FeatureTable,
 ) -> Result<(), AllocError>
-    ensures { OnOk result (rules.new.items ≡ rules.old.items ++ features_rules (place_views places.now) (place_view place.now) table.now) }
+    ensures { OnOk result (rules.new.items ≡ rules.old.items ++ features_rules (numbers_views packages.now) (numbers_view node.now) table.now) }
 {
     'rows: for (name, _) in table.iter() {
-        let fact = number_on(place, name.as_str());
-        entries_rules(rules, places, place, fact, table.entries(name))?;
+        let fact = number_on(node, name.as_str());
+        entries_rules(rules, packages, node, fact, table.entries(name))?;
     }
     Ok(())
 }
@@ -148,15 +148,15 @@ fn features_rules(
 /// What the entries of a feature do, whose fact has this number.
 fn entries_rules(
     rules: &mut Vec<Rule>,
-    places: &[Place<'_>],
-    place: &Place<'_>,
+    packages: &[FactNumbers<'_>],
+    node: &FactNumbers<'_>,
     fact: usize,
     entries: &[Entry],
 ) -> Result<(), AllocError>
-    ensures { OnOk result (rules.new.items ≡ rules.old.items ++ entries_rules (place_views places.now) (place_view place.now) fact (entry_views entries.now)) }
+    ensures { OnOk result (rules.new.items ≡ rules.old.items ++ entries_rules (numbers_views packages.now) (numbers_view node.now) fact (entry_views entries.now)) }
 {
     'entries: for entry in entries {
-        entry_rules(rules, places, place, fact, entry)?;
+        entry_rules(rules, packages, node, fact, entry)?;
     }
     Ok(())
 }
@@ -164,69 +164,69 @@ fn entries_rules(
 /// All features of the root count, and its dependencies are enabled: an entry asks whatever else is on.
 fn root_table(
     rules: &mut Vec<Rule>,
-    places: &[Place<'_>],
-    place: &Place<'_>,
+    packages: &[FactNumbers<'_>],
+    node: &FactNumbers<'_>,
     table: &FeatureTable,
 ) -> Result<(), AllocError>
-    ensures { OnOk result (rules.new.items ≡ rules.old.items ++ root_table (place_views places.now) (place_view place.now) table.now) }
+    ensures { OnOk result (rules.new.items ≡ rules.old.items ++ root_table (numbers_views packages.now) (numbers_view node.now) table.now) }
 {
     'rows: for (_, entries) in table.iter() {
-        root_entries(rules, places, place, entries.as_slice())?;
+        root_entries(rules, packages, node, entries.as_slice())?;
     }
     Ok(())
 }
 
 fn root_entries(
     rules: &mut Vec<Rule>,
-    places: &[Place<'_>],
-    place: &Place<'_>,
+    packages: &[FactNumbers<'_>],
+    node: &FactNumbers<'_>,
     entries: &[Entry],
 ) -> Result<(), AllocError>
-    ensures { OnOk result (rules.new.items ≡ rules.old.items ++ root_entries (place_views places.now) (place_view place.now) (entry_views entries.now)) }
+    ensures { OnOk result (rules.new.items ≡ rules.old.items ++ root_entries (numbers_views packages.now) (numbers_view node.now) (entry_views entries.now)) }
 {
     'entries: for entry in entries {
-        root_rules(rules, places, place, entry)?;
+        root_rules(rules, packages, node, entry)?;
     }
     Ok(())
 }
 
 fn entry_rules(
     rules: &mut Vec<Rule>,
-    places: &[Place<'_>],
-    place: &Place<'_>,
+    packages: &[FactNumbers<'_>],
+    node: &FactNumbers<'_>,
     fact: usize,
     entry: &Entry,
 ) -> Result<(), AllocError>
-    ensures { OnOk result (rules.new.items ≡ rules.old.items ++ entry_rules (place_views places.now) (place_view place.now) fact (entry_view entry.now)) }
+    ensures { OnOk result (rules.new.items ≡ rules.old.items ++ entry_rules (numbers_views packages.now) (numbers_view node.now) fact (entry_view entry.now)) }
 {
     match entry {
         Entry::Feature(feature) => {
-            rules.push(one(fact, number_on(place, feature.as_str())))?;
+            rules.push(one(fact, number_on(node, feature.as_str())))?;
             Ok(())
         }
-        Entry::Dependency(name) => enable_called(rules, place, fact, name),
+        Entry::Dependency(name) => enable_called(rules, node, fact, name),
         Entry::DependencyFeature(name, feature) => {
-            enable_called(rules, place, fact, name)?;
-            ask_called(rules, places, place, fact, name, feature)
+            enable_called(rules, node, fact, name)?;
+            ask_called(rules, packages, node, fact, name, feature)
         }
         Entry::WeakFeature(name, feature) => {
-            ask_weakly(rules, places, place, fact, name, feature)
+            ask_weakly(rules, packages, node, fact, name, feature)
         }
     }
 }
 
 fn root_rules(
     rules: &mut Vec<Rule>,
-    places: &[Place<'_>],
-    place: &Place<'_>,
+    packages: &[FactNumbers<'_>],
+    node: &FactNumbers<'_>,
     entry: &Entry,
 ) -> Result<(), AllocError>
-    ensures { OnOk result (rules.new.items ≡ rules.old.items ++ root_rules (place_views places.now) (place_view place.now) (entry_view entry.now)) }
+    ensures { OnOk result (rules.new.items ≡ rules.old.items ++ root_rules (numbers_views packages.now) (numbers_view node.now) (entry_view entry.now)) }
 {
     match entry {
         Entry::Feature(_) | Entry::Dependency(_) => Ok(()),
         Entry::DependencyFeature(name, feature) | Entry::WeakFeature(name, feature) => {
-            ask_called(rules, places, place, place.here, name, feature)
+            ask_called(rules, packages, node, node.here, name, feature)
         }
     }
 }
@@ -234,13 +234,13 @@ fn root_rules(
 /// The fact enables each dependency called so.
 fn enable_called(
     rules: &mut Vec<Rule>,
-    place: &Place<'_>,
+    node: &FactNumbers<'_>,
     fact: usize,
     name: &PackageName,
 ) -> Result<(), AllocError>
-    ensures { OnOk result (rules.new.items ≡ rules.old.items ++ enable_all fact ((place_view place.now).called name.now)) }
+    ensures { OnOk result (rules.new.items ≡ rules.old.items ++ enable_all fact ((numbers_view node.now).called name.now)) }
 {
-    match place.called.get(name.as_str()) {
+    match node.called.get(name.as_str()) {
         Some(links) => enable_all(rules, fact, links.as_slice()),
         None => Ok(()),
     }
@@ -249,16 +249,16 @@ fn enable_called(
 /// The fact asks the target of each dependency called so for a feature.
 fn ask_called(
     rules: &mut Vec<Rule>,
-    places: &[Place<'_>],
-    place: &Place<'_>,
+    packages: &[FactNumbers<'_>],
+    node: &FactNumbers<'_>,
     fact: usize,
     name: &PackageName,
     feature: &FeatureName,
 ) -> Result<(), AllocError>
-    ensures { OnOk result (rules.new.items ≡ rules.old.items ++ ask_all (place_views places.now) fact ((place_view place.now).called name.now) feature.now) }
+    ensures { OnOk result (rules.new.items ≡ rules.old.items ++ ask_all (numbers_views packages.now) fact ((numbers_view node.now).called name.now) feature.now) }
 {
-    match place.called.get(name.as_str()) {
-        Some(links) => ask_all(rules, places, fact, links.as_slice(), feature.as_str()),
+    match node.called.get(name.as_str()) {
+        Some(links) => ask_all(rules, packages, fact, links.as_slice(), feature.as_str()),
         None => Ok(()),
     }
 }
@@ -266,16 +266,16 @@ fn ask_called(
 /// The same of those that are enabled.
 fn ask_weakly(
     rules: &mut Vec<Rule>,
-    places: &[Place<'_>],
-    place: &Place<'_>,
+    packages: &[FactNumbers<'_>],
+    node: &FactNumbers<'_>,
     fact: usize,
     name: &PackageName,
     feature: &FeatureName,
 ) -> Result<(), AllocError>
-    ensures { OnOk result (rules.new.items ≡ rules.old.items ++ ask_enabled (place_views places.now) fact ((place_view place.now).called name.now) feature.now) }
+    ensures { OnOk result (rules.new.items ≡ rules.old.items ++ ask_enabled (numbers_views packages.now) fact ((numbers_view node.now).called name.now) feature.now) }
 {
-    match place.called.get(name.as_str()) {
-        Some(links) => ask_enabled(rules, places, fact, links.as_slice(), feature.as_str()),
+    match node.called.get(name.as_str()) {
+        Some(links) => ask_enabled(rules, packages, fact, links.as_slice(), feature.as_str()),
         None => Ok(()),
     }
 }
@@ -293,15 +293,15 @@ fn enable_all(rules: &mut Vec<Rule>, fact: usize, links: &[Link<'_>]) -> Result<
 /// The fact asks the target of each of these dependencies for a feature.
 fn ask_all(
     rules: &mut Vec<Rule>,
-    places: &[Place<'_>],
+    packages: &[FactNumbers<'_>],
     fact: usize,
     links: &[Link<'_>],
     feature: &str,
 ) -> Result<(), AllocError>
-    ensures { OnOk result (rules.new.items ≡ rules.old.items ++ ask_all (place_views places.now) fact (link_views links.now) feature.now) }
+    ensures { OnOk result (rules.new.items ≡ rules.old.items ++ ask_all (numbers_views packages.now) fact (link_views links.now) feature.now) }
 {
     'links: for link in links {
-        ask(rules, fact, fact, place_at(places, link.target), feature)?;
+        ask(rules, fact, fact, package_at(packages, link.target), feature)?;
     }
     Ok(())
 }
@@ -309,19 +309,19 @@ fn ask_all(
 /// The fact asks the target of each of these dependencies for a feature, where the dependency is enabled.
 fn ask_enabled(
     rules: &mut Vec<Rule>,
-    places: &[Place<'_>],
+    packages: &[FactNumbers<'_>],
     fact: usize,
     links: &[Link<'_>],
     feature: &str,
 ) -> Result<(), AllocError>
-    ensures { OnOk result (rules.new.items ≡ rules.old.items ++ ask_enabled (place_views places.now) fact (link_views links.now) feature.now) }
+    ensures { OnOk result (rules.new.items ≡ rules.old.items ++ ask_enabled (numbers_views packages.now) fact (link_views links.now) feature.now) }
 {
     'links: for link in links {
         ask(
             rules,
             fact,
             link.enabled,
-            place_at(places, link.target),
+            package_at(packages, link.target),
             feature,
         )?;
     }
@@ -332,10 +332,10 @@ fn ask(
     rules: &mut Vec<Rule>,
     first: usize,
     second: usize,
-    target: Option<&Place<'_>>,
+    target: Option<&FactNumbers<'_>>,
     feature: &str,
 ) -> Result<(), AllocError>
-    ensures { OnOk result (rules.new.items ≡ rules.old.items ++ ask first second (option_map (λ p. place_view p.now) target.entry) feature.now) }
+    ensures { OnOk result (rules.new.items ≡ rules.old.items ++ ask first second (option_map (λ p. numbers_view p.now) target.entry) feature.now) }
 {
     let Some(target) = target else {
         return Ok(());
@@ -360,20 +360,20 @@ fn one(fact: usize, gives: usize) -> Rule
 }
 
 /// The number of the fact that a feature is on at a package.
-fn number_on(place: &Place<'_>, feature: &str) -> usize
-    ensures { result ≡ number_on (place_view place.now) feature.now }
+fn number_on(node: &FactNumbers<'_>, feature: &str) -> usize
+    ensures { result ≡ number_on (numbers_view node.now) feature.now }
 {
-    match place.features.get(feature) {
+    match node.features.get(feature) {
         Some(number) => *number,
-        None => place.lacks,
+        None => node.lacks,
     }
 }
 
-fn place_at<'a, 'b>(places: &'a [Place<'b>], target: Option<usize>) -> Option<&'a Place<'b>>
-    ensures { option_map (λ p. place_view p.now) result ≡ place_at (place_views places.now) target }
+fn package_at<'a, 'b>(packages: &'a [FactNumbers<'b>], target: Option<usize>) -> Option<&'a FactNumbers<'b>>
+    ensures { option_map (λ p. numbers_view p.now) result ≡ package_at (numbers_views packages.now) target }
 {
     match target {
-        Some(target) => places.get(target),
+        Some(target) => packages.get(target),
         None => None,
     }
 }

@@ -1,7 +1,7 @@
 use Rattle.std.proofs.Common.{◌≡◌, take}
-use Rattle.facts.specs.Places.{place_views}
+use Rattle.facts.specs.FactNumbers.{numbers_views}
 use Rattle.facts.specs.RuleLists.{here_flags}
 use Rattle.facts.proofs.facts.here_flags.Given as goal
 
-abbrev pub invariant-places : goal.invariant-places
-invariant-places l = l.flags.items ≡ here_flags l.marked (place_views (take l.place-index l.places))
+abbrev pub invariant-packages : goal.invariant-packages
+invariant-packages l = l.flags.items ≡ here_flags l.marked (numbers_views (take l.node-index l.packages))

@@ -1,5 +1,5 @@
 use Rattle.std.proofs.Common.{◌≡◌, take}
-use Rattle.facts.specs.Places.{link_views}
+use Rattle.facts.specs.FactNumbers.{link_views}
 use Rattle.facts.specs.RuleLists.{link_flags}
 use Rattle.facts.proofs.facts.link_flags.Given as goal
 

@@ -1,6 +1,6 @@
 use Rattle.std.proofs.Common.{sym, ap, ◌∙◌, ◌∷◌, ◌++◌, []}
 use Rattle.std.specs.BTreeMap.{insert_entry}
-use Rattle.facts.proofs.PlaceLemmas.{str_cmp, put_behind, put_first}
+use Rattle.facts.proofs.NumbersLemmas.{str_cmp, put_behind, put_first}
 use Rattle.facts.proofs.numbering.put.Goals as goal
 
 pub returns-in-Some : goal.returns-in-Some

@@ -4,8 +4,8 @@ use Rattle.std.specs.declared.alloc.Global.{Global}
 use Rattle.features.specs.EntryViews.{entry_views}
 use Rattle.features.specs.Tables.{rows_of}
 use Rattle.features.specs.declared.entry.Entry.{Entry}
-use Rattle.facts.specs.Places.{at_text, number_in, unmarked_for}
-use Rattle.facts.proofs.PlaceLemmas.{str_cmp, flag_more, number_more}
+use Rattle.facts.specs.FactNumbers.{at_text, number_in, unmarked_for}
+use Rattle.facts.proofs.NumbersLemmas.{str_cmp, flag_more, number_more}
 use Rattle.facts.proofs.numbering.table_numbers.Goals as goal
 
 pub rows-preserved : goal.rows-preserved

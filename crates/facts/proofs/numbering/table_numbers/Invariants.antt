@@ -1,6 +1,6 @@
 use Rattle.std.proofs.Common.{◌≡◌, ◌++◌, ℕ, List, None, length}
 use Rattle.features.specs.Tables.{rows_of}
-use Rattle.facts.specs.Places.{at_text, number_in, unmarked_for}
+use Rattle.facts.specs.FactNumbers.{at_text, number_in, unmarked_for}
 use Rattle.facts.proofs.numbering.table_numbers.Given as goal
 
 abbrev pub invariant-rows : goal.invariant-rows

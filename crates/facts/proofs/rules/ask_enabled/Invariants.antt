@@ -1,7 +1,7 @@
 use Rattle.std.proofs.Common.{◌≡◌, ◌++◌, take}
-use Rattle.facts.specs.Places.{link_views, place_views}
+use Rattle.facts.specs.FactNumbers.{link_views, numbers_views}
 use Rattle.facts.specs.RuleLists.{ask_enabled}
 use Rattle.facts.proofs.rules.ask_enabled.Given as goal
 
 abbrev pub invariant-links : goal.invariant-links
-invariant-links l = l.rules.items ≡ l.fn.rules.items ++ ask_enabled (place_views l.places) l.fact (link_views (take l.link-index l.links)) l.feature
+invariant-links l = l.rules.items ≡ l.fn.rules.items ++ ask_enabled (numbers_views l.packages) l.fact (link_views (take l.link-index l.links)) l.feature

@@ -1,7 +1,7 @@
 use Rattle.std.proofs.Common.{◌≡◌, ◌++◌, take}
-use Rattle.facts.specs.Places.{place_view}
+use Rattle.facts.specs.FactNumbers.{numbers_view}
 use Rattle.facts.specs.RuleLists.{ask_features}
 use Rattle.facts.proofs.rules.ask_features.Given as goal
 
 abbrev pub invariant-features : goal.invariant-features
-invariant-features l = l.rules.items ≡ l.fn.rules.items ++ ask_features l.fact (place_view l.target) (take l.feature-index l.features)
+invariant-features l = l.rules.items ≡ l.fn.rules.items ++ ask_features l.fact (numbers_view l.target) (take l.feature-index l.features)

@@ -1,5 +1,5 @@
 use Rattle.std.proofs.Common.{◌≡◌, ◌++◌, take}
-use Rattle.facts.specs.Places.{link_views}
+use Rattle.facts.specs.FactNumbers.{link_views}
 use Rattle.facts.specs.RuleLists.{enable_all}
 use Rattle.facts.proofs.rules.enable_all.Given as goal
 

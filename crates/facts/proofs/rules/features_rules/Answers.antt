@@ -6,15 +6,15 @@ use Rattle.features.specs.EntryViews.{entry_views}
 use Rattle.features.specs.declared.entry.Entry.{Entry}
 use Rattle.model.specs.Summary as model
 use Rattle.chains.specs.declared.rule.Rule.{Rule}
-use Rattle.facts.specs.Places.{place_view, place_views}
+use Rattle.facts.specs.FactNumbers.{numbers_view, numbers_views}
 use Rattle.facts.specs.RuleLists.{number_on, entries_rules, feature_rules}
 use Rattle.facts.proofs.LoopLemmas.{rest_more}
 use Rattle.facts.proofs.rules.features_rules.Goals as goal
 
 pub rows-preserved : goal.rows-preserved
 rows-preserved c =
-    let ps = place_views c.args.places.now in
-    let p = place_view c.args.place.now in
+    let ps = numbers_views c.args.packages.now in
+    let p = numbers_view c.args.node.now in
     let table = c.args.table.now in
     let row : List ℕ × Vec Entry Global = (c.in-Some.name.now, c.in-Some.field-0-1.now) in
     let rest : List (List ℕ × Vec Entry Global) = c.next.new.self in

@@ -1,7 +1,7 @@
 use Rattle.std.proofs.Common.{◌≡◌, ◌++◌}
 use Rattle.std.specs.List.{flat_map}
 use Rattle.features.specs.Tables.{rows_of}
-use Rattle.facts.specs.Places.{place_view, place_views}
+use Rattle.facts.specs.FactNumbers.{numbers_view, numbers_views}
 use Rattle.facts.specs.RuleLists.{feature_rules}
 use Rattle.facts.proofs.rules.features_rules.Given as goal
 
@@ -9,6 +9,6 @@ abbrev pub invariant-rows : goal.invariant-rows
 invariant-rows l = record {
   can : (goal.iterator-rows).can_next l.name-iterator;
   finite : (goal.iterator-rows).is_finite l.name-iterator;
-  told : l.rules.items ++ flat_map (λ row. feature_rules (place_views l.places) (place_view l.place) l.table row.0) (rows_of l.name-iterator)
-      ≡ l.fn.rules.items ++ flat_map (λ row. feature_rules (place_views l.places) (place_view l.place) l.table row.0) l.table;
+  told : l.rules.items ++ flat_map (λ row. feature_rules (numbers_views l.packages) (numbers_view l.node) l.table row.0) (rows_of l.name-iterator)
+      ≡ l.fn.rules.items ++ flat_map (λ row. feature_rules (numbers_views l.packages) (numbers_view l.node) l.table row.0) l.table;
 }

@@ -1,8 +1,8 @@
 use Rattle.std.proofs.Common.{◌≡◌, ◌++◌, take}
 use Rattle.features.specs.EntryViews.{entry_views}
-use Rattle.facts.specs.Places.{place_view, place_views}
+use Rattle.facts.specs.FactNumbers.{numbers_view, numbers_views}
 use Rattle.facts.specs.RuleLists.{root_entries}
 use Rattle.facts.proofs.rules.root_entries.Given as goal
 
 abbrev pub invariant-entries : goal.invariant-entries
-invariant-entries l = l.rules.items ≡ l.fn.rules.items ++ root_entries (place_views l.places) (place_view l.place) (entry_views (take l.entry-index l.entries))
+invariant-entries l = l.rules.items ≡ l.fn.rules.items ++ root_entries (numbers_views l.packages) (numbers_view l.node) (entry_views (take l.entry-index l.entries))

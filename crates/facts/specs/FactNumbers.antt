@@ -6,8 +6,8 @@ use Rattle.std.specs.Borrow.{Bor}
 use Rattle.std.specs.declared.alloc.Global.{Global}
 use Rattle.model.specs.Summary.{Summary, Dependency, Table, same_text}
 use Rattle.features.specs.Views.{dependency_view}
-use Rattle.facts.specs.declared.place.Link.{Link}
-use Rattle.facts.specs.declared.place.Place.{Place}
+use Rattle.facts.specs.declared.fact_numbers.Link.{Link}
+use Rattle.facts.specs.declared.fact_numbers.FactNumbers.{FactNumbers}
 use Rattle.facts.specs.Graphs.{brings_view, NodeView}
 
 -- a dependency with the number of the fact that it is enabled, and the place to which it leads
@@ -30,7 +30,7 @@ abbrev pub links_if : Option (Vec Link Global) → List LinkView
 links_if None = []
 links_if (Some v) = link_views v.items
 
-pub record PlaceView : Type 0 where
+pub record FactNumbersView : Type 0 where
   pub brings : Summary
   -- that it is here
   pub here : ℕ
@@ -42,8 +42,8 @@ pub record PlaceView : Type 0 where
   pub links : List LinkView
   pub called : List ℕ → List LinkView
 
-abbrev pub place_view : Place → PlaceView
-place_view p = record {
+abbrev pub numbers_view : FactNumbers → FactNumbersView
+numbers_view p = record {
   brings = brings_view p.brings;
   here = p.here;
   lacks = p.lacks;
@@ -52,8 +52,8 @@ place_view p = record {
   called = λ d. links_if (at_text p.called.entries d);
 }
 
-abbrev pub place_views : List Place → List PlaceView
-place_views ps = map place_view ps
+abbrev pub numbers_views : List FactNumbers → List FactNumbersView
+numbers_views ps = map numbers_view ps
 
 -- the number of a feature, where the first row has the number k and o was found before
 abbrev pub number_in : ℕ → Option ℕ → List ℕ → Table → Option ℕ
@@ -70,7 +70,7 @@ abbrev pub links_called : List ℕ → List LinkView → List LinkView
 links_called d ls = filter (λ l. same_text d l.dependency.name) ls
 
 -- the numbers of a package's facts begin at k
-pub record IsPlaceFrom (k : ℕ) (x : NodeView) (p : PlaceView) : Type 0 where
+pub record IsNumberedFrom (k : ℕ) (x : NodeView) (p : FactNumbersView) : Type 0 where
   pub brings : p.brings ≡ x.brings
   pub here : p.here ≡ k
   pub lacks : p.lacks ≡ suc k
@@ -87,11 +87,11 @@ abbrev pub flags_of : NodeView → List Bool
 flags_of x = x.starts ∷ false ∷ unmarked_for x.brings.features ++ unmarked_for x.brings.dependencies
 
 -- the numbers of the packages' facts, one package after another from k on
-abbrev pub ArePlacesFrom : ℕ → List NodeView → List PlaceView → Type 0
-ArePlacesFrom k [] [] = Unit {0}
-ArePlacesFrom k [] (p ∷ ps) = ⊥
-ArePlacesFrom k (x ∷ xs) [] = ⊥
-ArePlacesFrom k (x ∷ xs) (p ∷ ps) = IsPlaceFrom k x p × ArePlacesFrom (k + length (flags_of x)) xs ps
+abbrev pub AreNumberedFrom : ℕ → List NodeView → List FactNumbersView → Type 0
+AreNumberedFrom k [] [] = Unit {0}
+AreNumberedFrom k [] (p ∷ ps) = ⊥
+AreNumberedFrom k (x ∷ xs) [] = ⊥
+AreNumberedFrom k (x ∷ xs) (p ∷ ps) = IsNumberedFrom k x p × AreNumberedFrom (k + length (flags_of x)) xs ps
 
 abbrev pub flags_of_all : List NodeView → List Bool
 flags_of_all xs = flat_map flags_of xs

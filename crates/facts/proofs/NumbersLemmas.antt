@@ -13,8 +13,8 @@ use Rattle.features.specs.declared.entry.Entry.{Entry}
 use Rattle.model.specs.Summary.{same_text}
 use Rattle.model.proofs.Same.{text-same}
 use Rattle.facts.specs.Graphs.{NodeView}
-use Rattle.facts.specs.declared.place.Link.{Link}
-use Rattle.facts.specs.Places.{at_text, number_in, unmarked_for, link_view, link_views, links_if, links_called, flags_of, flags_of_all, PlaceView, IsPlaceFrom, ArePlacesFrom}
+use Rattle.facts.specs.declared.fact_numbers.Link.{Link}
+use Rattle.facts.specs.FactNumbers.{at_text, number_in, unmarked_for, link_view, link_views, links_if, links_called, flags_of, flags_of_all, FactNumbersView, IsNumberedFrom, AreNumberedFrom}
 
 abbrev pub str_cmp : Bor (List ℕ) → Bor (List ℕ) → Ordering
 str_cmp x y = slice_cmp nat_cmp x.now y.now
@@ -127,13 +127,13 @@ put_first es new k l w none is more named d =
 
 -- ---- package after package
 
-pub places_more : (k : ℕ) (xs : List NodeView) (ps : List PlaceView) (x : NodeView) (p : PlaceView)
-    → ArePlacesFrom k xs ps → IsPlaceFrom (k + length (flags_of_all xs)) x p → ArePlacesFrom k (xs ++ x ∷ []) (ps ++ p ∷ [])
-places_more k [] [] x p a h = (subst (λ n. IsPlaceFrom n x p) (omega arith) h, tt)
-places_more k [] (q ∷ qs) x p a h = absurd a
-places_more k (y ∷ ys) [] x p a h = absurd a
-places_more k (y ∷ ys) (q ∷ qs) x p a h = (
+pub numbers_more : (k : ℕ) (xs : List NodeView) (ps : List FactNumbersView) (x : NodeView) (p : FactNumbersView)
+    → AreNumberedFrom k xs ps → IsNumberedFrom (k + length (flags_of_all xs)) x p → AreNumberedFrom k (xs ++ x ∷ []) (ps ++ p ∷ [])
+numbers_more k [] [] x p a h = (subst (λ n. IsNumberedFrom n x p) (omega arith) h, tt)
+numbers_more k [] (q ∷ qs) x p a h = absurd a
+numbers_more k (y ∷ ys) [] x p a h = absurd a
+numbers_more k (y ∷ ys) (q ∷ qs) x p a h = (
   a.0,
-  places_more (k + length (flags_of y)) ys qs x p a.1 (subst (λ n. IsPlaceFrom n x p)
+  numbers_more (k + length (flags_of y)) ys qs x p a.1 (subst (λ n. IsNumberedFrom n x p)
       (let e = length-append (flags_of y) (flags_of_all ys) in let f : length (flags_of_all (y ∷ ys)) ≡ length (flags_of y) + length (flags_of_all ys) = e in omega (arith, f)) h),
 )

@@ -13,7 +13,7 @@ pub(crate) struct Link<'a> {
 
 /// A package with the numbers of its facts.
 #[derive(Drop)]
-pub(crate) struct Place<'a> {
+pub(crate) struct FactNumbers<'a> {
     pub(crate) brings: Option<&'a Summary>,
     /// That it is here.
     pub(crate) here: usize,
