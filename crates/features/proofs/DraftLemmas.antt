@@ -2,7 +2,7 @@
 use Rattle.std.proofs.Common.{◌≡◌, ℕ, List, [], ◌∷◌, ◌++◌, map, Bool, true, false, ◌||◌, cond, Some, None, is_some, Vec, Ordering, Less, Equal, Greater, refl, sym, ap, ap₂, ◌∙◌, subst}
 use Rattle.std.specs.Borrow.{Bor}
 use Rattle.std.specs.BTreeMap.{is_at}
-use Rattle.std.specs.BTreeSet.{insert_key}
+use Rattle.std.specs.BTreeSet.{BTreeSet, insert_key, IsFromIterResult}
 use Rattle.std.specs.Ordering.{nat_cmp, match_ordering}
 use Rattle.std.specs.Cmp.Lexicographic.{slice_cmp, texts_ties}
 use Rattle.std.specs.List.{list_any}
@@ -12,13 +12,10 @@ use Rattle.std.specs.declared.alloc.Global.{Global}
 use Rattle.model.specs.Summary.{entries_at, has_feature, same_text}
 use Rattle.model.specs.Summary as model
 use Rattle.model.specs.Tables.{first_with}
-use Rattle.features.specs.Texts.{has_text}
+use Rattle.features.specs.Texts.{has_text, borrowed_cmp}
 use Rattle.features.specs.EntryViews.{entry_view, entry_views}
 use Rattle.features.specs.Tables.{rows_of}
 use Rattle.features.specs.declared.entry.Entry.{Entry}
-
-abbrev str_cmp : Bor (List ℕ) → Bor (List ℕ) → Ordering
-str_cmp x y = slice_cmp nat_cmp x.now y.now
 
 pub contains-has : (d : List ℕ) (ks : List (Bor (List ℕ))) → list_any (is_at (λ k. slice_cmp nat_cmp d k.now)) ks ≡ has_text ks d
 contains-has d [] = refl
@@ -39,12 +36,12 @@ or_assoc : (a b c : Bool) → (a || (b || c)) ≡ ((a || b) || c)
 or_assoc true b c = refl
 or_assoc false b c = refl
 
-pub has_text-insert_key : (d : List ℕ) (k : Bor (List ℕ)) (ks : List (Bor (List ℕ))) → has_text (insert_key str_cmp ks k) d ≡ (has_text ks d || same_text d k.now)
+pub has_text-insert_key : (d : List ℕ) (k : Bor (List ℕ)) (ks : List (Bor (List ℕ))) → has_text (insert_key borrowed_cmp ks k) d ≡ (has_text ks d || same_text d k.now)
 has_text-insert_key d k [] = or_swap (same_text d k.now) false
-has_text-insert_key d k (x ∷ xs) = by (str_cmp k x) refl (has_text-insert_key d k xs)
+has_text-insert_key d k (x ∷ xs) = by (borrowed_cmp k x) refl (has_text-insert_key d k xs)
   where
-    by : (o : Ordering) → str_cmp k x ≡ o → has_text (insert_key str_cmp xs k) d ≡ (has_text xs d || same_text d k.now)
-        → has_text (match_ordering o (k ∷ x ∷ xs) (x ∷ xs) (x ∷ insert_key str_cmp xs k)) d ≡ (has_text (x ∷ xs) d || same_text d k.now)
+    by : (o : Ordering) → borrowed_cmp k x ≡ o → has_text (insert_key borrowed_cmp xs k) d ≡ (has_text xs d || same_text d k.now)
+        → has_text (match_ordering o (k ∷ x ∷ xs) (x ∷ xs) (x ∷ insert_key borrowed_cmp xs k)) d ≡ (has_text (x ∷ xs) d || same_text d k.now)
     by Less e rest = or_swap (same_text d k.now) (has_text (x ∷ xs) d)
     by Equal e rest = subst (λ n. has_text (x ∷ xs) d ≡ (has_text (x ∷ xs) d || same_text d n)) (sym (exact_bytes k.now x.now e)) (or_twice (same_text d x.now) (has_text xs d))
     by Greater e rest = ap (λ b. same_text d x.now || b) rest ∙ or_assoc (same_text d x.now) (has_text xs d) (same_text d k.now)
@@ -54,13 +51,19 @@ pub has_text-others : (d : List ℕ) (few more : List (Bor (List ℕ))) → has_
 has_text-others d few more none = sym (list_any-append (λ k. same_text d k.now) few more ∙ ap (λ b. b || has_text more d) none)
 
 -- a text is put to the others
-pub has_text-put : (d : List ℕ) (k : Bor (List ℕ)) (few more new : List (Bor (List ℕ))) → new ≡ insert_key str_cmp more k
+pub has_text-put : (d : List ℕ) (k : Bor (List ℕ)) (few more new : List (Bor (List ℕ))) → new ≡ insert_key borrowed_cmp more k
     → has_text (few ++ new) d ≡ (has_text (few ++ more) d || same_text d k.now)
 has_text-put d k few more new put =
     list_any-append (λ k. same_text d k.now) few new
     ∙ ap (λ b. has_text few d || b) (ap (λ ks. has_text ks d) put ∙ has_text-insert_key d k more)
     ∙ or_assoc (has_text few d) (has_text more d) (same_text d k.now)
     ∙ ap (λ b. b || same_text d k.now) (sym (list_any-append (λ k. same_text d k.now) few more))
+
+-- what is made of a list of texts has just these
+pub has_text-collected : (d : List ℕ) (texts : List (Bor (List ℕ))) (set : BTreeSet (Bor (List ℕ))) → IsFromIterResult borrowed_cmp texts set → has_text set.keys d ≡ has_text texts d
+has_text-collected d texts set made =
+    let q : Bor (List ℕ) = record { ref_ptr = (0, 0); now = d } in
+    sym (contains-has d set.keys) ∙ made.0 q ∙ contains-has d texts
 
 -- the keys of a map of rows are the features that it has
 pub keys-has : (d : List ℕ) (es : List (List ℕ × Vec Entry Global)) → list_any (same_text d) (map (λ e. e.0) es) ≡ has_feature (rows_of es) d

@@ -104,11 +104,11 @@ fn features<'a>(
 ) -> Result<Texts<'a>, AllocError>
     ensures { IfOk result (λ names. HasThose (texts_in names) (has_feature (rows_of written.entry.now.entries))) }
 {
-    let mut names = Texts::new(alloc);
+    let mut names = Vec::with_capacity(alloc, written.len())?;
     'rows: for name in written.keys() {
-        names.put(name.as_str())?;
+        names.push(name.as_str())?;
     }
-    Ok(names)
+    Texts::of(alloc, names)
 }
 
 impl<'a> Draft<'a> {
