@@ -1,22 +1,24 @@
 -- The classes of the groups that a requirement makes of a name's versions are those that a dependency may lead to.
-use Rattle.std.proofs.Common.{◌≡◌, ℕ, List, [], ◌∷◌, map, Vec, refl, ap, ◌∙◌}
+use Rattle.std.proofs.Common.{◌≡◌, ℕ, List, [], ◌∷◌, map, filter, Vec, refl, ap, ◌∙◌}
 use Rattle.std.specs.declared.alloc.Global.{Global}
 use Rattle.std.specs.List.{AllPairs}
 use Rattle.std.specs.Ordering.{is_gt}
 use Rattle.std.specs.declared.cmp.Ordering.TheVariants.{Less}
 use Rattle.semver.specs.Eval.{precedence_cmp}
+use Rattle.semver.specs.EvalViews.{matches_views}
 use Rattle.semver.specs.Identifiers.{parts_of}
 use Rattle.semver.specs.declared.Version.{Version}
 use Rattle.model.specs.Summary.{Dependency}
 use Rattle.model.specs.Order.{precedence}
 use Rattle.model.specs.Selection as model
+use Rattle.model.specs.Selection.{class_of}
 use Rattle.model.specs.WellFormed.{IsCatalogue}
 use Rattle.model.specs.Vertices.{dep_classes}
 use Rattle.manifest.specs.Manifests.{ManifestView}
 use Rattle.catalogue.specs.Problems.{problem_in}
 use Rattle.catalogue.specs.Stores.{CatalogueView, candidates_at}
 use Rattle.classes.specs.Classes.{class_view}
-use Rattle.classes.specs.Groups.{Group, IsOldestFirst, classes_matched, group_views, groups_of, positions_matched}
+use Rattle.classes.specs.Groups.{Group, IsOldestFirst, classes_matched, each_once, group_views, groups_of, positions_matched}
 use Rattle.classes.specs.declared.class.Class.{Class}
 use Rattle.looking_up.specs.Ranges.{AreRising}
 use Rattle.encoding.proofs.ClassOrder.{matched_classes}
@@ -37,10 +39,14 @@ firsts_are : (f : model.Class → List ℕ) (ks : List model.Class) → map (λ 
 firsts_are f [] = refl
 firsts_are f (k ∷ ks) = ap (λ l. k ∷ l) (firsts_are f ks)
 
-pub classes_are : (m : ManifestView) (c : CatalogueView) (d : Dependency) (vs : List Version) (gs : List (Class × Vec ℕ Global)) → IsCatalogue (problem_in m c)
-    → map parts_of vs ≡ map (λ r. r.version) (candidates_at c d.real_name) → group_views gs ≡ groups_of d.requirement (map parts_of vs)
+-- those that aren't matched may be left out
+pub classes_are : (m : ManifestView) (c : CatalogueView) (d : Dependency) (all vs : List Version) (gs : List (Class × Vec ℕ Global)) → IsCatalogue (problem_in m c)
+    → map parts_of all ≡ map (λ r. r.version) (candidates_at c d.real_name)
+    → filter (matches_views d.requirement) (map parts_of vs) ≡ filter (matches_views d.requirement) (map parts_of all)
+    → group_views gs ≡ groups_of d.requirement (map parts_of vs)
     → map (λ g. class_view g.0) gs ≡ dep_classes (problem_in m c) d
-classes_are m c d vs gs known are groups =
+classes_are m c d all vs gs known are left groups =
     firsts_viewed gs ∙ ap (map (λ (g : Group). g.0)) groups ∙ firsts_are (positions_matched d.requirement (map parts_of vs)) (classes_matched d.requirement (map parts_of vs))
+    ∙ ap (λ ms. each_once (map class_of ms)) left
     ∙ ap (classes_matched d.requirement) (are ∙ versions_are m c d.real_name)
     ∙ matched_classes (problem_in m c) d (of_rows (problem_in m c).candidates known.versions_rise d.real_name)

@@ -10,3 +10,4 @@ pub mod CauseViews
 pub mod CausesAt
 pub mod Higher
 pub mod Called
+pub mod Narrowed

@@ -17,6 +17,7 @@ ghost use Rattle.vertices.specs.RefViews.{owner_ref_view};
 use crate::cause::Cause;
 use crate::inputs::Inputs;
 use crate::lookups::{dependencies_of, dependency_at};
+use crate::narrowing::within;
 use crate::spaces::classes_of;
 use classes::Class;
 use features::{Dependency, Entry, FeatureName, FeatureTable, PackageName};
@@ -214,7 +215,10 @@ fn put_newest<'a>(
 ) -> Result<(), AllocError>
     ensures { OnOk result (cause_views causes.new.items ≡ cause_views causes.old.items ++ each_from (newest_if (problem inputs.now) (owner_ref_view lead.entry.owner) lead.entry.number (class_view lead.entry.class) (dependency_view dependency.now)) 0 (dependency_views others.now)) }
 {
-    let versions = inputs.catalogue.versions(&dependency.real_name);
+    let versions = within(
+        &dependency.requirement,
+        inputs.catalogue.versions(&dependency.real_name),
+    );
     if others.len() <= versions.len() && is_alone(lead.number, &dependency.real_name, others) {
         return Ok(());
     }

@@ -26,6 +26,7 @@ mod leading;
 mod listing;
 mod lookups;
 mod making;
+mod narrowing;
 mod pairing;
 mod parts;
 mod spaces;

@@ -10,6 +10,7 @@ ghost use Rattle.vertices.specs.RefViews.{owner_ref_view};
 
 use crate::inputs::Inputs;
 use crate::lookups::dependency_at;
+use crate::narrowing::within;
 use catalogue::catalogues_are_well_formed;
 use classes::{Class, matching};
 use features::Dependency;
@@ -40,7 +41,10 @@ pub fn classes_of(
     ensures { IfOk result (λ ks. map class_view ks.items ≡ dep_classes (problem inputs.now) (dependency_view dependency.now)) }
 {
     catalogues_are_well_formed(inputs.manifest, inputs.catalogue);
-    let versions = inputs.catalogue.versions(&dependency.real_name);
+    let versions = within(
+        &dependency.requirement,
+        inputs.catalogue.versions(&dependency.real_name),
+    );
     let groups = matching(alloc, &dependency.requirement, versions)?;
     firsts(alloc, groups.as_slice())
 }

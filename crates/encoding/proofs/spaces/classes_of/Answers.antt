@@ -8,7 +8,7 @@ use Rattle.encoding.proofs.Grouped.{classes_are, oldest_first}
 use Rattle.encoding.proofs.spaces.classes_of.Goals as goal
 
 pub matching-requires-clause-oldest_first : goal.matching-requires-clause-oldest_first
-matching-requires-clause-oldest_first c = oldest_first c.versions-versions.result.now c.versions-versions.ensures.rising
+matching-requires-clause-oldest_first c = oldest_first c.within-versions.result.now c.within-versions.ensures.rising
 
 pub returns : goal.returns
 returns c =
@@ -16,5 +16,5 @@ returns c =
     let d = dependency_view c.args.dependency.now in
     IfOk-weaker c.firsts.result (λ ks. map class_view ks.items ≡ map (λ g. class_view g.0) c.as_slice.result.now) (λ ks. map class_view ks.items ≡ dep_classes (problem k) d)
     (λ ks e. e ∙ ap (map (λ g. class_view g.0)) c.as_slice.ensures.value
-    ∙ classes_are k.manifest.now k.catalogue.now d c.versions-versions.result.now c.in_ok-groups.groups.items c.catalogues_are_well_formed.ensures c.versions-versions.ensures.versions c.in_ok-groups.ensures)
+    ∙ classes_are k.manifest.now k.catalogue.now d c.versions.result.now c.within-versions.result.now c.in_ok-groups.groups.items c.catalogues_are_well_formed.ensures c.versions.ensures.versions c.within-versions.ensures.matched c.in_ok-groups.ensures)
     c.firsts.ensures
