@@ -1,6 +1,5 @@
 -- What is asked of a store's entry, so that its step can be put at the end of a derivation, and its terms on the way.
-use Rattle.std.specs.Prelude.{◌≡◌, ℕ, suc, ◌<◌, ◌≤◌, Bool, true, false, List, [], ◌∷◌, if◌then◌else◌, length, map, nat_eq, Some, slice_get}
-use Rattle.std.specs.HashMap.{get}
+use Rattle.std.specs.Prelude.{◌≡◌, ℕ, suc, ◌<◌, ◌≤◌, Bool, true, false, List, [], ◌∷◌, if◌then◌else◌, length, map, None, Some, slice_get, slice_index_or}
 use Rattle.std.specs.List.{AllByRecursion}
 use Rattle.terms.specs.Terms.{TermView}
 use Rattle.incompatibilities.specs.Stores.{EntryView, IsAxiom, entry}
@@ -38,11 +37,11 @@ AreSized q vs ts = AllByRecursion (λ t. length t.states ≡ sizes q vs t.vertex
 
 -- the states that are listed for a number are those of the vertex that has it
 abbrev pub AreListed : Problem → Numbering → Spaces → Type 0
-AreListed q vs spaces = (n : ℕ) (s : Space) → get nat_eq spaces.listed n ≡ Some s → (v : Vertex) → slice_get vs n ≡ Some v → state_ref_views s.states.items ≡ space q v
+AreListed q vs spaces = (n : ℕ) (s : Space) → slice_index_or spaces.listed.items n None ≡ Some s → (v : Vertex) → slice_get vs n ≡ Some v → state_ref_views s.states.items ≡ space q v
 
 -- what is spelt for a number is the vertex that has it
 abbrev pub AreSpelt : Numbering → Spaces → Type 0
-AreSpelt vs spaces = (n : ℕ) (s : Space) → get nat_eq spaces.listed n ≡ Some s → (v : Vertex) → slice_get vs n ≡ Some v → s.spelling ≡ v
+AreSpelt vs spaces = (n : ℕ) (s : Space) → slice_index_or spaces.listed.items n None ≡ Some s → (v : Vertex) → slice_get vs n ≡ Some v → s.spelling ≡ v
 
 -- each vertex is what its own text reads as
 abbrev pub AreReadVertices : Numbering → Type 0

@@ -1,7 +1,6 @@
 //! The vertices that are spoken of, spelt once each, and their states, listed once each.
 
-ghost use Rattle.std.specs.HashMap.{get};
-ghost use Rattle.std.specs.Prelude.{◌≡◌, ℕ, IfOk, Some, nat_eq, slice_get};
+ghost use Rattle.std.specs.Prelude.{◌≡◌, ◌<◌, ℕ, IfOk, None, OnOk, Some, length, slice_get, slice_index_or};
 ghost use Rattle.model.specs.Content.{Problem};
 ghost use Rattle.vertices.specs.RefViews.{vertex_ref_view};
 ghost use Rattle.vertices.specs.Texts.{IsReadVertex};
@@ -12,7 +11,6 @@ ghost use Rattle.refusing.specs.Refusing.{AreListed, AreReadVertices, AreSpelt};
 use derivations::{Derivation, Spelling};
 use encoding::{Inputs, Table, states_of};
 use std::alloc::{AllocError, Global};
-use std::collections::HashMap;
 use terms::Term;
 use version_sets::States;
 use vertices::{StateRef, VertexRef};
@@ -24,10 +22,21 @@ pub(crate) struct Space<'a> {
     pub states: Vec<StateRef<'a>>,
 }
 
-/// Vertices and their states by the vertices' numbers.
+/// Vertices and their states by the vertices' numbers; none at the numbers of those that aren't listed.
 #[derive(Drop)]
 pub(crate) struct Spaces<'a> {
-    listed: HashMap<usize, Space<'a>>,
+    listed: Vec<Option<Space<'a>>>,
+}
+
+/// Adds places up to this one.
+fn add_places<'a>(listed: &mut Vec<Option<Space<'a>>>, number: usize) -> Result<(), AllocError>
+    ensures same { (n : ℕ) → slice_index_or listed.new.items n None ≡ slice_index_or listed.old.items n None }
+    ensures there { OnOk result (number < length listed.new.items) }
+{
+    'places: while listed.len() <= number {
+        listed.push(None)?;
+    }
+    Ok(())
 }
 
 impl<'a> Spaces<'a> {
@@ -37,7 +46,7 @@ impl<'a> Spaces<'a> {
         ensures spelt { (vs : Numbering) → AreSpelt vs result }
     {
         Spaces {
-            listed: HashMap::new(alloc),
+            listed: Vec::new(alloc),
         }
     }
 
@@ -61,8 +70,17 @@ impl<'a> Spaces<'a> {
     {
         let spelling = steps.spell(alloc, vertex)?;
         let states = states_of(alloc, inputs, &vertex)?;
-        self.listed.insert(number, Space { spelling, states })?;
+        add_places(&mut self.listed, number)?;
+        self.listed[number] = Some(Space { spelling, states });
         Ok(())
+    }
+
+    /// Whether a number is listed. Nothing follows from it: what is listed twice is the same.
+    fn has(&self, number: usize) -> bool {
+        match self.listed.get(number) {
+            Some(space) => space.is_some(),
+            None => false,
+        }
     }
 
     /// Lists the vertex of a number, if it isn't yet.
@@ -81,7 +99,7 @@ impl<'a> Spaces<'a> {
         ensures spelt { AreSpelt table.now self.new }
         ensures steps { steps.new ≡ steps.old }
     {
-        if self.listed.contains_key(&number) {
+        if self.has(number) {
             return Ok(());
         }
         match table.vertex(number) {
@@ -114,9 +132,12 @@ impl<'a> Spaces<'a> {
 
     /// What is listed for a number. One that isn't listed counts as want of memory: no caller has one.
     pub(crate) fn space(&self, number: usize) -> Result<&Space<'a>, AllocError>
-        ensures { IfOk result (λ s. get nat_eq self.now.listed number ≡ Some s.now) }
+        ensures { IfOk result (λ s. slice_index_or self.now.listed.items number None ≡ Some s.now) }
     {
-        match self.listed.get(&number) {
+        let Some(place) = self.listed.get(number) else {
+            return Err(AllocError);
+        };
+        match place {
             Some(space) => Ok(space),
             None => Err(AllocError),
         }
