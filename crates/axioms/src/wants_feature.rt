@@ -32,7 +32,8 @@ pub(crate) fn is_list(
 {
     match dependency_at(problem, owner, number) {
         Some(dependency) => {
-            has_class(problem, class, dependency) && lists_feature(problem, owner, dependency, feature)
+            has_class(problem, class, dependency)
+                && lists_feature(problem, owner, dependency, feature)
         }
         None => false,
     }

@@ -45,7 +45,11 @@ fn is_weak_on(
     ensures { result ≡ is_weak_on (problem_view problem.now) name.now (parts_of version.now) on.now off.now (class_view class) (dependency_view dependency.now) }
 {
     has_class(problem, class, dependency)
-        && has_weak(&dependency.name, off, entries_of(problem, name, version, on))
+        && has_weak(
+            &dependency.name,
+            off,
+            entries_of(problem, name, version, on),
+        )
         && !is_same_feature(
             name,
             Class::of(version),

@@ -173,7 +173,11 @@ fn first_enabled(
 }
 
 #[tactic(auto, unfolding(crate::specs::Needs::is_enabled_unmatched))]
-fn is_enabled_unmatched(problem: &Problem<'_>, dependency: &Dependency, names: &BTreeSet<&str>) -> bool
+fn is_enabled_unmatched(
+    problem: &Problem<'_>,
+    dependency: &Dependency,
+    names: &BTreeSet<&str>,
+) -> bool
     ensures { result ≡ is_enabled_unmatched (problem_view problem.now) (has_text names.now.keys) (dependency_view dependency.now) }
 {
     has(names, dependency.name.as_str()) && is_unmatched(problem, dependency)

@@ -13,8 +13,8 @@ ghost use Rattle.model.specs.ContentOf.{package_of};
 ghost use Rattle.reaching.specs.Built.{IsBuilt};
 ghost use Rattle.contents.specs.Contents.{AreInOrder, AreKept, AreStops, IsThere, placed_views, kept_with, owners_of, package_if, stop_owner};
 
-use crate::placed::PlacedPackage;
 use crate::listing::listed;
+use crate::placed::PlacedPackage;
 use crate::stop::{Stop, store_holds};
 use catalogue::Catalogue;
 use facts::{Facts, Node};
@@ -81,7 +81,11 @@ fn package_if(
 }
 
 /// Puts a package last, if there is one.
-fn keep(kept: &mut Vec<PlacedPackage>, found: Option<Package>, place: usize) -> Result<(), AllocError>
+fn keep(
+    kept: &mut Vec<PlacedPackage>,
+    found: Option<Package>,
+    place: usize,
+) -> Result<(), AllocError>
     ensures { OnOk result (placed_views kept.new.items ≡ kept_with (placed_views kept.old.items) (option_map package_view found) place) }
 {
     if let Some(locked) = found {

@@ -52,7 +52,11 @@ fn with_lists(
 }
 
 /// By place, the rank of the package that has this place.
-fn ranks_of(alloc: Global, count: usize, kept: &[PlacedPackage]) -> Result<Vec<Option<usize>>, AllocError>
+fn ranks_of(
+    alloc: Global,
+    count: usize,
+    kept: &[PlacedPackage],
+) -> Result<Vec<Option<usize>>, AllocError>
     requires apart { AllPairs (λ m n. m ≢ n) (places_in (placed_views kept.now)) }
     requires within { All (λ n. n < count) (places_in (placed_views kept.now)) }
     ensures { IfOk result (λ v. AreRanks (places_in (placed_views kept.now)) v.items) }

@@ -8,9 +8,9 @@ ghost use Rattle.facts.specs.Graphs.{node_views, flag_at, flag_in, IsFactOf, Lac
 ghost use Rattle.facts.specs.FactNumbers.{link_views, numbers_view, numbers_views};
 ghost use Rattle.facts.specs.RuleLists.{here_flags, lacks_flags, enabled_flags, link_flags};
 
+use crate::fact_numbers::{FactNumbers, Link};
 use crate::node::Node;
 use crate::numbering::numbers_of_all;
-use crate::fact_numbers::{Link, FactNumbers};
 use crate::rules::rules_of;
 use chains::{Rule, close};
 use std::alloc::{AllocError, Global};
@@ -64,7 +64,11 @@ fn facts_by(
     })
 }
 
-fn here_flags(alloc: Global, marked: &[bool], packages: &[FactNumbers<'_>]) -> Result<Vec<bool>, AllocError>
+fn here_flags(
+    alloc: Global,
+    marked: &[bool],
+    packages: &[FactNumbers<'_>],
+) -> Result<Vec<bool>, AllocError>
     ensures { IfOk result (λ v. v.items ≡ here_flags marked.now (numbers_views packages.now)) }
 {
     let mut flags = Vec::new(alloc);

@@ -5,8 +5,8 @@ ghost use Rattle.features.specs.Views.{dependency_views};
 ghost use Rattle.facts.specs.Graphs.{brings_view, node_view, node_views, target_if};
 ghost use Rattle.facts.specs.FactNumbers.{at_text, number_in, link_view, link_views, links_if, links_from, links_called, unmarked_for, flags_of, flags_of_all, numbers_view, numbers_views, IsNumberedFrom, AreNumberedFrom};
 
+use crate::fact_numbers::{FactNumbers, Link};
 use crate::node::Node;
-use crate::fact_numbers::{Link, FactNumbers};
 use features::{Dependency, FeatureTable, Summary};
 use std::alloc::{AllocError, Global};
 use std::collections::BTreeMap;

@@ -7,7 +7,7 @@ ghost use Rattle.features.specs.EntryViews.{entry_view, entry_views};
 ghost use Rattle.facts.specs.FactNumbers.{link_view, link_views, numbers_view, numbers_views};
 ghost use Rattle.facts.specs.RuleLists.{one, both, number_on, package_at, ask, ask_features, arrive, need, is_needed, link_rules, enable_all, ask_all, ask_enabled, entry_rules, root_rules, root_entries, root_table, entries_rules, features_rules, table_rules, package_rules, all_rules};
 
-use crate::fact_numbers::{Link, FactNumbers};
+use crate::fact_numbers::{FactNumbers, Link};
 use chains::Rule;
 use features::{Entry, FeatureName, FeatureTable, PackageName};
 use std::alloc::{AllocError, Global};
@@ -83,7 +83,11 @@ fn is_needed(is_root: bool, link: &Link<'_>) -> bool
 }
 
 /// An enabled dependency brings its target, and asks it for features.
-fn arrive(rules: &mut Vec<Rule>, link: &Link<'_>, target: &FactNumbers<'_>) -> Result<(), AllocError>
+fn arrive(
+    rules: &mut Vec<Rule>,
+    link: &Link<'_>,
+    target: &FactNumbers<'_>,
+) -> Result<(), AllocError>
     ensures { OnOk result (rules.new.items ≡ rules.old.items ++ arrive (link_view link.now) (Some (numbers_view target.now))) }
 {
     rules.push(one(link.enabled, target.here))?;
@@ -301,7 +305,13 @@ fn ask_all(
     ensures { OnOk result (rules.new.items ≡ rules.old.items ++ ask_all (numbers_views packages.now) fact (link_views links.now) feature.now) }
 {
     'links: for link in links {
-        ask(rules, fact, fact, package_at(packages, link.target), feature)?;
+        ask(
+            rules,
+            fact,
+            fact,
+            package_at(packages, link.target),
+            feature,
+        )?;
     }
     Ok(())
 }
@@ -369,7 +379,10 @@ fn number_on(node: &FactNumbers<'_>, feature: &str) -> usize
     }
 }
 
-fn package_at<'a, 'b>(packages: &'a [FactNumbers<'b>], target: Option<usize>) -> Option<&'a FactNumbers<'b>>
+fn package_at<'a, 'b>(
+    packages: &'a [FactNumbers<'b>],
+    target: Option<usize>,
+) -> Option<&'a FactNumbers<'b>>
     ensures { option_map (λ p. numbers_view p.now) result ≡ package_at (numbers_views packages.now) target }
 {
     match target {

@@ -71,7 +71,12 @@ fn has_others<'a>(problem: &Problem<'a>, vertex: &VertexRef<'a>, states: &States
     }
 }
 
-fn has_versions(problem: &Problem<'_>, name: &PackageName, class: Class, states: &States<'_>) -> bool
+fn has_versions(
+    problem: &Problem<'_>,
+    name: &PackageName,
+    class: Class,
+    states: &States<'_>,
+) -> bool
     ensures { result ≡ list_all (has_state states.now) (others (problem_view problem.now) (model.pkg name.now (class_view class))) }
 {
     all_in(class_versions(problem.catalogue, name, class), states)
@@ -89,7 +94,12 @@ fn has_version(states: &States<'_>, version: &Version) -> bool
     states.has(&StateRef::Version(version))
 }
 
-fn has_classes(problem: &Problem<'_>, owner: &OwnerRef<'_>, number: usize, states: &States<'_>) -> bool
+fn has_classes(
+    problem: &Problem<'_>,
+    owner: &OwnerRef<'_>,
+    number: usize,
+    states: &States<'_>,
+) -> bool
     ensures { result ≡ list_all (has_state states.now) (others (problem_view problem.now) (model.dep (owner_ref_view owner.now) number)) }
 {
     match dependency_at(problem, owner, number) {

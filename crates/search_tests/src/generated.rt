@@ -4,8 +4,8 @@ ghost use Rattle.incompatibilities.specs.Stores.{entries_view};
 ghost use Rattle.search_tests.specs.Universes.{AllLie, AreSmall};
 ghost use Rattle.std.specs.Prelude.{◌≤◌, IfOk, length};
 
-use crate::preferring::search_from_full;
 use crate::made_stores::{guide_of, put, written};
+use crate::preferring::search_from_full;
 use incompatibilities::{Id, Incompatibility, Store};
 use searching::Answer;
 use std::alloc::{AllocError, Global};

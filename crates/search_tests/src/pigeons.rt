@@ -5,8 +5,8 @@ ghost use Rattle.search_tests.specs.Universes.{AllLie, AreSmall};
 ghost use Rattle.std.specs.Prelude.{◌≤◌, IfOk};
 
 use crate::borrowing::search_borrowed;
-use crate::preferring::search_from_full;
 use crate::made_stores::{guide_of, put};
+use crate::preferring::search_from_full;
 use incompatibilities::{Id, Store};
 use searching::{Answer, Found};
 use std::alloc::{AllocError, Global};

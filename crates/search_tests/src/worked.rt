@@ -4,8 +4,8 @@ ghost use Rattle.incompatibilities.specs.Stores.{entries_view};
 ghost use Rattle.search_tests.specs.Universes.{AllLie, AreSmall};
 ghost use Rattle.std.specs.Prelude.{IfOk};
 
-use crate::preferring::{Lesson, search_from_full};
 use crate::made_stores::{guide_of, put, written};
+use crate::preferring::{Lesson, search_from_full};
 use incompatibilities::Store;
 use searching::Answer;
 use std::alloc::{AllocError, Global};
