@@ -1,17 +1,17 @@
 -- What a comparator that names a class matches is of that class, so that the others may be left out.
 use Rattle.std.proofs.Common.{◌≡◌, ℕ, zero, suc, ◌<◌, ◌≤◌, ◌==◌, Bool, true, false, cond, ◌&&◌, List, [], ◌∷◌, map, filter, length, get_or, Option, Some, None, nat_lt, nat_le, refl, sym, ap, ◌∙◌, subst, arith, true≢false}
 use Rattle.std.specs.Prelude.{IfSome, option_map}
-use Rattle.std.specs.List.{list_all, list_any}
+use Rattle.std.specs.List.{list_all}
 use Rattle.std.proofs.lemmas.Bool.{eqb-true}
 use Rattle.std.proofs.lemmas.Option.{none-some, same_Some}
 use Rattle.semver.specs.Eval.{allows}
-use Rattle.semver.specs.EvalViews.{matches_views, view_caret_full, view_caret_minor, view_caret_of, view_op, view_pre_at_least, view_pre_is_compatible, view_same_pre, view_tilde_patch}
+use Rattle.semver.specs.EvalViews.{view_caret_minor, view_caret_of, view_op, view_pre_at_least, view_same_pre, view_tilde_patch}
 use Rattle.semver.specs.Identifiers.{comparator_view}
 use Rattle.semver.specs.Parse.{Held, Parts}
 use Rattle.semver.specs.declared.Comparator.{Comparator}
 use Rattle.semver.specs.declared.Op.{Op}
 use Rattle.semver.specs.declared.Op.TheVariants as op
-use Rattle.model.specs.Selection.{Class, class_of, patch, minor, major}
+use Rattle.model.specs.Selection.{Class, patch, minor, major}
 use Rattle.model.specs.Vertices.{same_class}
 use Rattle.model.proofs.Same.{class-refl}
 use Rattle.classes.specs.Classes.{class_view}
