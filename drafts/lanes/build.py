@@ -16,14 +16,35 @@ CRATES = crates_of(TOP)
 BELOW = {name: [dep.name for dep in it.below()] for name, it in CRATES.items()}
 WANTED = {it for name in ONLY or CRATES for it in [*BELOW[name], name]}
 ORDER = [name for name in CRATES if name in WANTED and not CRATES[name].is_program]
+# Crates of the longest chain, beside which little else can be built.
+WIDE = ["encoding", "guiding", "refusing", "solver", "resolver", "commands"]
 HEIGHT = {}
 for one in reversed(ORDER):
     HEIGHT[one] = 1 + max([HEIGHT[up] for up in HEIGHT if one in BELOW[up]] or [0])
 
 
+def is_running(name):
+    """Whether an earlier build.py, which was stopped, left a build of the crate running."""
+    for it in os.listdir("/proc"):
+        try:
+            words = open(f"/proc/{it}/cmdline", encoding="utf-8").read().split("\0")
+            if "--crate-name" in words and words[words.index("--crate-name") + 1] == name and os.readlink(f"/proc/{it}/cwd") == os.path.realpath(CRATES[name].folder):
+                return True
+        except (OSError, UnicodeDecodeError):
+            continue
+    return False
+
+
 def run(name):
     start = time.time()
-    words = ["nice", "-n", os.environ.get("NICE", "5"), RT, "lib", "--jobs", "1"]
+    if is_running(name):
+        while is_running(name):
+            time.sleep(1)
+        time.sleep(4)
+        if is_built(CRATES[name], {}):
+            print(f"{time.strftime('%H:%M:%S')} {name} ok (by another)", flush=True)
+            return name, 0
+    words = ["nice", "-n", os.environ.get("NICE", "5"), RT, "lib", "--jobs", "3" if name in WIDE else "1"]
     with open(f"{TOP}.{name}.log", "w", encoding="utf-8") as log:
         status = subprocess.run(words, cwd=CRATES[name].folder, stdout=log, stderr=log, check=False).returncode
     how = "ok" if status == 0 else "FAILED"
