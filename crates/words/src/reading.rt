@@ -3,7 +3,7 @@
 ghost use Rattle.std.specs.Prelude.{◌≡◌, IfErr, IfOk, IfSome, [], Some, map, option_map, option_and_then, string_bytes};
 ghost use Rattle.clap.specs.Words.{first_of, found_of, kind_of, rows_of, subcommand_rows_of};
 ghost use Rattle.words.specs.Asked.{asked, command_of, faults, is_set, or_help, parsed, resolve_of, verify_of, check_of, explain_of};
-ghost use Rattle.words.specs.Refusals.{HasText, IsToldAs, Refuses, Tells};
+ghost use Rattle.words.specs.WordsFaults.{HasText, IsToldAs, IsWordsFault, Tells};
 ghost use Rattle.words.specs.Views.{text_if, words_view};
 
 use crate::command::relock;
@@ -74,7 +74,7 @@ static HELP: [&str; 2] = ["relock", "--help"];
 pub fn read_words<'a>(alloc: Global, words: &'a [String]) -> Result<Words<'a>, WordsFault>
     ensures asked { IfOk result (λ w. asked (map string_bytes words.entry.now) ≡ Some (words_view w)) }
     ensures taken { IfOk result (λ _. faults (or_help (map string_bytes words.entry.now)) ≡ []) }
-    ensures refused { IfErr result (Refuses (or_help (map string_bytes words.entry.now))) }
+    ensures fault { IfErr result (IsWordsFault (or_help (map string_bytes words.entry.now))) }
 {
     if words.len() > 1 {
         parsed(alloc, words)
@@ -86,7 +86,7 @@ pub fn read_words<'a>(alloc: Global, words: &'a [String]) -> Result<Words<'a>, W
 fn parsed<'a, S: AsStr>(alloc: Global, words: &'a [S]) -> Result<Words<'a>, WordsFault>
     ensures asked { IfOk result (λ w. parsed (map S.text words.entry.now) ≡ Some (words_view w)) }
     ensures taken { IfOk result (λ _. faults (map S.text words.entry.now) ≡ []) }
-    ensures refused { IfErr result (Refuses (map S.text words.entry.now)) }
+    ensures fault { IfErr result (IsWordsFault (map S.text words.entry.now)) }
 {
     match relock(alloc)?.try_get_matches_from(words) {
         Ok(matches) => match words_of(&matches) {

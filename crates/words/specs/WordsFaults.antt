@@ -1,4 +1,4 @@
--- When words are refused, and how: as `clap` says.
+-- When words are wrong use, or ask for help: as `clap` says.
 use Rattle.std.specs.Prelude.{◌≡◌, ◌⊎◌, ℕ, Bool, true, false, List, [], None, string_bytes}
 use Rattle.clap.specs.Words.{IsAmong, Kinds, Text}
 use Rattle.clap.specs.declared.error.kind.ErrorKind.{ErrorKind}
@@ -33,8 +33,8 @@ HasText shown (Wrong text) = string_bytes text ≡ shown
 abbrev pub TellsOne : Kinds → WordsFault → Type 0
 TellsOne kinds fault = (k : ErrorKind) × IsAmong k kinds × Tells k fault
 
--- the words are refused by `clap`, or they name no command with all that it needs
-abbrev pub Refuses : List Text → WordsFault → Type 0
-Refuses words OutOfMemory = Unit {0}
-Refuses words (Help text) = TellsOne (faults words) (Help text)
-Refuses words (Wrong text) = TellsOne (faults words) (Wrong text) ⊎ ((faults words ≡ []) × (parsed words ≡ None))
+-- `clap` has an error for the words, or they name no command with all that it needs
+abbrev pub IsWordsFault : List Text → WordsFault → Type 0
+IsWordsFault words OutOfMemory = Unit {0}
+IsWordsFault words (Help text) = TellsOne (faults words) (Help text)
+IsWordsFault words (Wrong text) = TellsOne (faults words) (Wrong text) ⊎ ((faults words ≡ []) × (parsed words ≡ None))
