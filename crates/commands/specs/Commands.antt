@@ -15,9 +15,9 @@ use Rattle.explainer.specs.Explanations.{explanation_of}
 use Rattle.selection.specs.Texts.{verdict_text}
 use Rattle.selection.specs.declared.verdict.Verdict.{Verdict}
 use Rattle.words.specs.Asked.{WordsView, resolve, verify, check, explain, asked, faults, or_help}
-use Rattle.words.specs.Refusals.{Refuses}
+use Rattle.words.specs.WordsFaults.{IsWordsFault}
 use Rattle.words.specs.declared.reading.WordsFault.{WordsFault}
-use Rattle.commands.specs.Refusals.{IsRefused, refusal_of}
+use Rattle.commands.specs.WordsFaults.{IsToldOfWords, told_of_words}
 use Rattle.resolver.specs.Answers.{Resolves, Verifies}
 use Rattle.resolver.specs.Checks.{Checks}
 use Rattle.resolver.specs.Faults.{of_derivation}
@@ -29,8 +29,8 @@ use Rattle.resolver.specs.declared.resolving.Answer.TheVariants.{Lock, Unsolvabl
 use Rattle.commands.specs.Disks.{Reading, Writing, HasFile, HasOld, IsFile, IsKept, IsOld, bytes_if, most_of_manifest, most_of_lock, most_of_proof}
 use Rattle.commands.specs.Lines.{line_of, verdict_status, check_status, ending_of, told_of, IsPrinted, status_of}
 use Rattle.commands.specs.Sources.{IsBadSource, IsSource}
-use Rattle.commands.specs.Stops.{WantsMemory, cannot_write, fault, is_stopped, stop_view}
-use Rattle.commands.specs.declared.stop.Stop.{Stop}
+use Rattle.commands.specs.Endings.{WantsMemory, cannot_write, fault, is_stopped, ending_view}
+use Rattle.commands.specs.declared.ending.Ending.{Ending}
 
 -- `--rust-first`
 abbrev pub preference : Bool → Prefer
@@ -51,16 +51,16 @@ module _ (reads : Reading) where
     pub explained : text ≡ explanation_of steps
 
   -- why there is none: the file can't be had, its bytes are no derivation, or memory is wanting for the text
-  abbrev pub LacksText : List ℕ → Stop → Type 0
-  LacksText proof stop = IsFile reads proof most_of_proof (Err stop)
+  abbrev pub LacksText : List ℕ → Ending → Type 0
+  LacksText proof ending = IsFile reads proof most_of_proof (Err ending)
       ⊎ ((bytes : Vec ℕ Global) × (f : DerivationFault) × IsFile reads proof most_of_proof (Ok bytes)
-      × Faults (wants_memory f) f (derivation_of_bytes bytes.items) × (stop_view stop ≡ fault (of_derivation f)))
-      ⊎ (((steps : List Step) × IsDerivationOf proof steps) × WantsMemory stop)
+      × Faults (wants_memory f) f (derivation_of_bytes bytes.items) × (ending_view ending ≡ fault (of_derivation f)))
+      ⊎ (((steps : List Step) × IsDerivationOf proof steps) × WantsMemory ending)
 
   -- of the source and the manifest, which are read first, one can't be had
-  abbrev pub LacksFirst : List ℕ → Option (List ℕ) → Stop → Type 0
-  LacksFirst manifest source stop = IsBadSource source stop
-      ⊎ (((from : List ℕ) × IsSource source from) × IsFile reads manifest most_of_manifest (Err stop))
+  abbrev pub LacksFirst : List ℕ → Option (List ℕ) → Ending → Type 0
+  LacksFirst manifest source ending = IsBadSource source ending
+      ⊎ (((from : List ℕ) × IsSource source from) × IsFile reads manifest most_of_manifest (Err ending))
 
   -- both can
   abbrev pub HasFirst : List ℕ → Option (List ℕ) → Type 0
@@ -117,24 +117,24 @@ module _ {F : Type 0} (reads : Reading) (opens : List ℕ → F → Type 0) (cal
 
   -- Why there is no answer: the first of what is read that can't be had; then memory, which may be wanting for the
   -- source's own text or to open the folder; or the fault of what was read.
-  abbrev pub LacksVerdict : List ℕ → List ℕ → List ℕ → Option (List ℕ) → Stop → Type 0
-  LacksVerdict manifest index lock source stop = LacksFirst reads manifest source stop
-      ⊎ (HasFirst reads manifest source × IsFile reads lock most_of_lock (Err stop))
-      ⊎ (HasFirst reads manifest source × HasFile reads lock most_of_lock × WantsMemory stop)
-      ⊎ ((f : Fault) × IsVerdictOf manifest index lock source (Err f) × (stop_view stop ≡ fault (Input f)))
+  abbrev pub LacksVerdict : List ℕ → List ℕ → List ℕ → Option (List ℕ) → Ending → Type 0
+  LacksVerdict manifest index lock source ending = LacksFirst reads manifest source ending
+      ⊎ (HasFirst reads manifest source × IsFile reads lock most_of_lock (Err ending))
+      ⊎ (HasFirst reads manifest source × HasFile reads lock most_of_lock × WantsMemory ending)
+      ⊎ ((f : Fault) × IsVerdictOf manifest index lock source (Err f) × (ending_view ending ≡ fault (Input f)))
 
-  abbrev pub LacksAnswer : List ℕ → List ℕ → Option (List ℕ) → Option (List ℕ) → Bool → Stop → Type 0
-  LacksAnswer manifest index lock source rust_first stop = LacksFirst reads manifest source stop
-      ⊎ (HasFirst reads manifest source × IsOld reads lock (Err stop))
-      ⊎ (HasFirst reads manifest source × HasOld reads lock × WantsMemory stop)
-      ⊎ ((f : Fault) × IsAnswerTo manifest index lock source rust_first (Err f) × (stop_view stop ≡ fault (Input f)))
+  abbrev pub LacksAnswer : List ℕ → List ℕ → Option (List ℕ) → Option (List ℕ) → Bool → Ending → Type 0
+  LacksAnswer manifest index lock source rust_first ending = LacksFirst reads manifest source ending
+      ⊎ (HasFirst reads manifest source × IsOld reads lock (Err ending))
+      ⊎ (HasFirst reads manifest source × HasOld reads lock × WantsMemory ending)
+      ⊎ ((f : Fault) × IsAnswerTo manifest index lock source rust_first (Err f) × (ending_view ending ≡ fault (Input f)))
 
-  abbrev pub LacksCheck : List ℕ → List ℕ → Option (List ℕ) → Option (List ℕ) → List ℕ → Stop → Type 0
-  LacksCheck manifest index lock source proof stop = LacksFirst reads manifest source stop
-      ⊎ (HasFirst reads manifest source × IsOld reads lock (Err stop))
-      ⊎ (HasFirst reads manifest source × HasOld reads lock × IsFile reads proof most_of_proof (Err stop))
-      ⊎ (HasFirst reads manifest source × HasOld reads lock × HasFile reads proof most_of_proof × WantsMemory stop)
-      ⊎ ((f : CheckFault) × IsCheckOf manifest index lock source proof (Err f) × (stop_view stop ≡ fault f))
+  abbrev pub LacksCheck : List ℕ → List ℕ → Option (List ℕ) → Option (List ℕ) → List ℕ → Ending → Type 0
+  LacksCheck manifest index lock source proof ending = LacksFirst reads manifest source ending
+      ⊎ (HasFirst reads manifest source × IsOld reads lock (Err ending))
+      ⊎ (HasFirst reads manifest source × HasOld reads lock × IsFile reads proof most_of_proof (Err ending))
+      ⊎ (HasFirst reads manifest source × HasOld reads lock × HasFile reads proof most_of_proof × WantsMemory ending)
+      ⊎ ((f : CheckFault) × IsCheckOf manifest index lock source proof (Err f) × (ending_view ending ≡ fault f))
 
 -- the derivation of a refusal is in the file that is named, if one is, and nothing else is written to the disk
 abbrev pub IsFiled : Writing → Option (List ℕ) → Answer → Type 0
@@ -143,9 +143,9 @@ IsFiled writes path (Unsolvable derivation text skips) = IsKept writes path deri
 
 -- an answer that there is can't be written: a write of the lock to standard output failed, or one of the derivation to
 -- its file
-abbrev pub IsUnwritten : Writing → (List ℕ → Type 0) → Option (List ℕ) → Answer → Stop → Type 0
-IsUnwritten writes fails path (Lock bytes kept skips) stop = (stop_view stop ≡ cannot_write) × fails bytes.items × writes None
-IsUnwritten writes fails path (Unsolvable derivation text skips) stop = IsKept writes path derivation (Err stop)
+abbrev pub IsUnwritten : Writing → (List ℕ → Type 0) → Option (List ℕ) → Answer → Ending → Type 0
+IsUnwritten writes fails path (Lock bytes kept skips) ending = (ending_view ending ≡ cannot_write) × fails bytes.items × writes None
+IsUnwritten writes fails path (Unsolvable derivation text skips) ending = IsKept writes path derivation (Err ending)
 
 module _ {F : Type 0} (reads : Reading) (writes : Writing) (opens : List ℕ → F → Type 0) (calls : Calls F) (failed : F → ℕ) where
   -- a command that has an answer: standard output before and after, what is told on standard error, and the status
@@ -161,17 +161,17 @@ module _ {F : Type 0} (reads : Reading) (writes : Writing) (opens : List ℕ →
 module _ {F : Type 0} (reads : Reading) (writes : Writing) (opens : List ℕ → F → Type 0) (calls : Calls F) (failed : F → ℕ) (fails : List ℕ → Type 0) where
   -- A command that ends with the status 2: there is no answer, or it can't be written, for a write of it failed. The
   -- skipped lines are told where there is one.
-  abbrev pub Stops : WordsView → List (List ℕ) → Stop → Type 0
-  Stops (resolve manifest index lock source proof rust_first) told stop = (LacksAnswer reads opens calls failed manifest index lock source rust_first stop × (told ≡ []) × writes None)
+  abbrev pub Endings : WordsView → List (List ℕ) → Ending → Type 0
+  Endings (resolve manifest index lock source proof rust_first) told ending = (LacksAnswer reads opens calls failed manifest index lock source rust_first ending × (told ≡ []) × writes None)
       ⊎ ((answer : Answer) × IsAnswerTo reads opens calls failed manifest index lock source rust_first (Ok answer)
-      × IsUnwritten writes fails proof answer stop × (told ≡ told_of answer (Err stop)))
-  Stops (verify manifest index lock source) told stop = (LacksVerdict reads opens calls failed manifest index lock source stop
+      × IsUnwritten writes fails proof answer ending × (told ≡ told_of answer (Err ending)))
+  Endings (verify manifest index lock source) told ending = (LacksVerdict reads opens calls failed manifest index lock source ending
       ⊎ ((verdict : Verdict) × IsVerdictOf reads opens calls failed manifest index lock source (Ok verdict)
-      × (stop_view stop ≡ cannot_write) × fails (line_of (verdict_text verdict)))) × (told ≡ []) × writes None
-  Stops (check manifest index lock source proof) told stop = (LacksCheck reads opens calls failed manifest index lock source proof stop
+      × (ending_view ending ≡ cannot_write) × fails (line_of (verdict_text verdict)))) × (told ≡ []) × writes None
+  Endings (check manifest index lock source proof) told ending = (LacksCheck reads opens calls failed manifest index lock source proof ending
       ⊎ ((c : Check) × IsCheckOf reads opens calls failed manifest index lock source proof (Ok c)
-      × (stop_view stop ≡ cannot_write) × fails (line_of (check_text c)))) × (told ≡ []) × writes None
-  Stops (explain proof) told stop = (LacksText reads proof stop ⊎ ((text : List ℕ) × IsTextOf reads proof text × (stop_view stop ≡ cannot_write) × fails text)) × (told ≡ []) × writes None
+      × (ending_view ending ≡ cannot_write) × fails (line_of (check_text c)))) × (told ≡ []) × writes None
+  Endings (explain proof) told ending = (LacksText reads proof ending ⊎ ((text : List ℕ) × IsTextOf reads proof text × (ending_view ending ≡ cannot_write) × fails text)) × (told ≡ []) × writes None
 
   -- A run whose words are taken: what the command does and tells, and then, where it has no answer or can't write it,
   -- the line that says why. Standard output is unchanged unless an answer was to be written.
@@ -179,17 +179,17 @@ module _ {F : Type 0} (reads : Reading) (writes : Writing) (opens : List ℕ →
     pub view : WordsView
     pub taken : faults (or_help words) ≡ []
     pub asks : asked words ≡ Some view
-    pub given : Result ℕ Stop
+    pub given : Result ℕ Ending
     pub status_is : status ≡ status_of given
     -- what the command tells on standard error
     pub told : List (List ℕ)
     pub answers : IfOk given (Answers reads writes opens calls failed view old new told)
-    pub stops : IfErr given (Stops view told)
+    pub stops : IfErr given (Endings view told)
     pub stopped : is_stopped given ≡ true → unchanged
     pub ended : tells (told ++ ending_of given)
 
-  -- A run: as the words ask, or, where they are refused, what is said of them; with standard output before and after,
+  -- A run: as the words ask, or, where they ask for nothing, what is said of them; with standard output before and after,
   -- and with what it means that texts were told on standard error.
   abbrev pub Runs : List (List ℕ) → Option (List ℕ) → Option (List ℕ) → (List (List ℕ) → Type 0) → Type 0 → ℕ → Type 0
   Runs words old new tells unchanged status = IsRunOf words old new tells unchanged status
-      ⊎ ((fault : WordsFault) × Refuses (or_help words) fault × IsRefused fails old new fault status × tells (refusal_of fault status) × writes None)
+      ⊎ ((fault : WordsFault) × IsWordsFault (or_help words) fault × IsToldOfWords fails old new fault status × tells (told_of_words fault status) × writes None)

@@ -5,10 +5,10 @@ use Rattle.manifest.specs.Manifests.{limit}
 use Rattle.lockfile.specs.Locks.{most_bytes}
 use Rattle.index_reader.specs.declared.reading.FileFault.{FileFault}
 use Rattle.index_reader.specs.declared.reading.FileFault.TheVariants.{OutOfMemory, NotFound, Unreadable}
-use Rattle.commands.specs.declared.stop.Stop.{Stop}
+use Rattle.commands.specs.declared.ending.Ending.{Ending}
 use Rattle.model.specs.Derivation.{Step}
 use Rattle.derivations.specs.Written.{lines_of}
-use Rattle.commands.specs.Stops.{StopView, WantsMemory, cannot_read, cannot_write_file, out_of_memory, stop_view}
+use Rattle.commands.specs.Endings.{EndingView, WantsMemory, cannot_read, cannot_write_file, out_of_memory, ending_view}
 
 -- one byte more than a manifest may have
 abbrev pub most_of_manifest : ℕ
@@ -22,10 +22,10 @@ most_of_lock = most_bytes + 1
 abbrev pub most_of_proof : ℕ
 most_of_proof = 18_446_744_073_709_551_615
 
-abbrev pub file_stop : List ℕ → FileFault → StopView
-file_stop path OutOfMemory = out_of_memory
-file_stop path NotFound = cannot_read path
-file_stop path Unreadable = cannot_read path
+abbrev pub file_ending : List ℕ → FileFault → EndingView
+file_ending path OutOfMemory = out_of_memory
+file_ending path NotFound = cannot_read path
+file_ending path Unreadable = cannot_read path
 
 -- what reading gives, by the path and by how many bytes are wanted at most
 abbrev pub Reading : Type 1
@@ -33,16 +33,16 @@ Reading = List ℕ → ℕ → Result (Vec ℕ Global) FileFault → Type 0
 
 module _ (reads : Reading) where
   -- a file that has to be there
-  abbrev pub IsFile : List ℕ → ℕ → Result (Vec ℕ Global) Stop → Type 0
+  abbrev pub IsFile : List ℕ → ℕ → Result (Vec ℕ Global) Ending → Type 0
   IsFile path most (Ok bytes) = reads path most (Ok bytes)
-  IsFile path most (Err stop) = (fault : FileFault) × reads path most (Err fault) × (stop_view stop ≡ file_stop path fault)
+  IsFile path most (Err ending) = (fault : FileFault) × reads path most (Err fault) × (ending_view ending ≡ file_ending path fault)
 
   -- an old lock: none where no path is given, and none where there is no file
-  abbrev pub IsOld : Option (List ℕ) → Result (Option (Vec ℕ Global)) Stop → Type 0
+  abbrev pub IsOld : Option (List ℕ) → Result (Option (Vec ℕ Global)) Ending → Type 0
   IsOld None given = given ≡ Ok None
   IsOld (Some path) (Ok (Some bytes)) = reads path most_of_lock (Ok bytes)
   IsOld (Some path) (Ok None) = reads path most_of_lock (Err NotFound)
-  IsOld (Some path) (Err stop) = (fault : FileFault) × reads path most_of_lock (Err fault) × (fault ≢ NotFound) × (stop_view stop ≡ file_stop path fault)
+  IsOld (Some path) (Err ending) = (fault : FileFault) × reads path most_of_lock (Err fault) × (fault ≢ NotFound) × (ending_view ending ≡ file_ending path fault)
 
   -- such a file can be had, and such an old lock
   abbrev pub HasFile : List ℕ → ℕ → Type 0
@@ -72,8 +72,8 @@ module _ {D : Type 0} (puts : D → List ℕ → List ℕ → Bool → D → Typ
 
 module _ (writes : Writing) where
   -- the file of a derivation, where one is named: memory may be wanting for its lines, before any is written
-  abbrev pub IsKept : Option (List ℕ) → List Step → Result (Unit {0}) Stop → Type 0
+  abbrev pub IsKept : Option (List ℕ) → List Step → Result (Unit {0}) Ending → Type 0
   IsKept None steps given = (given ≡ Ok tt) × writes None
   IsKept (Some path) steps (Ok given) = writes (Some (record { path = path; bytes = lines_of steps; is_made = true }))
-  IsKept (Some path) steps (Err stop) = (WantsMemory stop × writes None)
-      ⊎ (writes (Some (record { path = path; bytes = lines_of steps; is_made = false })) × (stop_view stop ≡ cannot_write_file path))
+  IsKept (Some path) steps (Err ending) = (WantsMemory ending × writes None)
+      ⊎ (writes (Some (record { path = path; bytes = lines_of steps; is_made = false })) × (ending_view ending ≡ cannot_write_file path))

@@ -1,7 +1,7 @@
-pub mod Stops
+pub mod Endings
 pub mod Disks
 pub mod Systems
 pub mod Sources
 pub mod Lines
-pub mod Refusals
+pub mod WordsFaults
 pub mod Commands

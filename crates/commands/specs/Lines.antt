@@ -10,8 +10,8 @@ use Rattle.selection.specs.declared.verdict.Verdict.{Verdict}
 use Rattle.selection.specs.declared.verdict.Verdict.TheVariants.{Valid, Invalid}
 use Rattle.resolver.specs.declared.resolving.Answer.{Answer}
 use Rattle.resolver.specs.declared.resolving.Answer.TheVariants.{Lock, Unsolvable}
-use Rattle.commands.specs.Stops.{stop_text, stop_view}
-use Rattle.commands.specs.declared.stop.Stop.{Stop}
+use Rattle.commands.specs.Endings.{ending_text, ending_view}
+use Rattle.commands.specs.declared.ending.Ending.{Ending}
 
 abbrev pub line_of : List ℕ → List ℕ
 line_of text = text ++ 10 ∷ []
@@ -44,25 +44,25 @@ IsPrinted old new (Lock bytes kept skips) status = (status ≡ 0) × Appends old
 IsPrinted old new (Unsolvable derivation text skips) status = (status ≡ 1) × (new ≡ old)
 
 -- the status of a run: that of the answer, or 2
-abbrev pub status_of : Result ℕ Stop → ℕ
+abbrev pub status_of : Result ℕ Ending → ℕ
 status_of (Ok status) = status
-status_of (Err stop) = 2
+status_of (Err ending) = 2
 
 -- ---- what is told on standard error
 
 -- a skipped line each, and then the explanation of a refusal, unless its derivation couldn't be kept
-abbrev pub explained_of : Answer → Result ℕ Stop → List (List ℕ)
+abbrev pub explained_of : Answer → Result ℕ Ending → List (List ℕ)
 explained_of (Lock bytes kept skips) given = []
 explained_of (Unsolvable derivation text skips) (Ok status) = string_bytes text ∷ []
-explained_of (Unsolvable derivation text skips) (Err stop) = []
+explained_of (Unsolvable derivation text skips) (Err ending) = []
 
-abbrev pub told_of : Answer → Result ℕ Stop → List (List ℕ)
+abbrev pub told_of : Answer → Result ℕ Ending → List (List ℕ)
 told_of answer given = map skip_line (skips_of answer) ++ explained_of answer given
 
 -- why there is no answer, which comes last
-abbrev pub ending_of : Result ℕ Stop → List (List ℕ)
+abbrev pub ending_of : Result ℕ Ending → List (List ℕ)
 ending_of (Ok status) = []
-ending_of (Err stop) = line_of (stop_text (stop_view stop)) ∷ []
+ending_of (Err ending) = line_of (ending_text (ending_view ending)) ∷ []
 
 -- a stream before, bytes that couldn't all be written to it, and the stream after
 abbrev pub Fails : Type 0 → Type 1

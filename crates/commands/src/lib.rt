@@ -15,12 +15,12 @@
 #![tactic(auto)]
 
 mod disk;
+mod ending;
 mod files;
 mod limits;
 mod printing;
 mod running;
 mod sources;
-mod stop;
 mod streams;
 
 pub use disk::{Disk, Puts};

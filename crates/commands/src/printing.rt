@@ -8,11 +8,11 @@ ghost use Rattle.words.specs.Views.{text_if};
 ghost use Rattle.commands.specs.Commands.{IsFiled, IsUnwritten};
 ghost use Rattle.commands.specs.Disks.{writes};
 ghost use Rattle.commands.specs.Lines.{IsPrinted, Puts, Tells, line_of, verdict_status, check_status, skip_line, skips_of, told_of};
-ghost use Rattle.commands.specs.Stops.{cannot_write, is_stopped, stop_view};
+ghost use Rattle.commands.specs.Endings.{cannot_write, is_stopped, ending_view};
 
 use crate::disk::Disk;
+use crate::ending::Ending;
 use crate::files::write_proof;
-use crate::stop::Stop;
 use crate::streams::Stream;
 use checker::Check;
 use derivations::Derivation;
@@ -32,14 +32,14 @@ const REFUSED: u8 = 1;
 /// How a command ended: its status or why it has none, and whether all that it had to tell on standard error was written.
 #[derive(Drop)]
 pub(crate) struct Ended<'a> {
-    pub(crate) status: Result<u8, Stop<'a>>,
+    pub(crate) status: Result<u8, Ending<'a>>,
     pub(crate) told: bool,
 }
 
-pub(crate) fn print_verdict<'a, O: Stream>(verdict: &Verdict, out: &mut O) -> Result<u8, Stop<'a>>
+pub(crate) fn print_verdict<'a, O: Stream>(verdict: &Verdict, out: &mut O) -> Result<u8, Ending<'a>>
     ensures printed { IfOk result (λ status. (status ≡ verdict_status verdict.now) × Appends (O.contents out.old) (O.contents out.new) (line_of (verdict_text verdict.now))) }
     ensures written { is_stopped result ≡ false }
-    ensures unwritten { IfErr result (λ stop. (stop_view stop ≡ cannot_write) × O.fails out.old (line_of (verdict_text verdict.now)) out.new) }
+    ensures unwritten { IfErr result (λ ending. (ending_view ending ≡ cannot_write) × O.fails out.old (line_of (verdict_text verdict.now)) out.new) }
 {
     let status = match verdict {
         Verdict::Valid => 0,
@@ -48,10 +48,10 @@ pub(crate) fn print_verdict<'a, O: Stream>(verdict: &Verdict, out: &mut O) -> Re
     after(out.put_line(verdict), status)
 }
 
-pub(crate) fn print_check<'a, O: Stream>(checked: &Check, out: &mut O) -> Result<u8, Stop<'a>>
+pub(crate) fn print_check<'a, O: Stream>(checked: &Check, out: &mut O) -> Result<u8, Ending<'a>>
     ensures printed { IfOk result (λ status. (status ≡ check_status checked.now) × Appends (O.contents out.old) (O.contents out.new) (line_of (check_text checked.now))) }
     ensures written { is_stopped result ≡ false }
-    ensures unwritten { IfErr result (λ stop. (stop_view stop ≡ cannot_write) × O.fails out.old (line_of (check_text checked.now)) out.new) }
+    ensures unwritten { IfErr result (λ ending. (ending_view ending ≡ cannot_write) × O.fails out.old (line_of (check_text checked.now)) out.new) }
 {
     let status = match checked {
         Check::Proves => 0,
@@ -61,24 +61,24 @@ pub(crate) fn print_check<'a, O: Stream>(checked: &Check, out: &mut O) -> Result
 }
 
 /// A whole text, with the status 0.
-pub(crate) fn print_bytes<'a, O: Stream>(bytes: &[u8], out: &mut O) -> Result<u8, Stop<'a>>
+pub(crate) fn print_bytes<'a, O: Stream>(bytes: &[u8], out: &mut O) -> Result<u8, Ending<'a>>
     ensures printed { IfOk result (λ status. (status ≡ 0) × Appends (O.contents out.old) (O.contents out.new) bytes.now) }
     ensures written { is_stopped result ≡ false }
-    ensures unwritten { IfErr result (λ stop. (stop_view stop ≡ cannot_write) × O.fails out.old bytes.now out.new) }
+    ensures unwritten { IfErr result (λ ending. (ending_view ending ≡ cannot_write) × O.fails out.old bytes.now out.new) }
 {
     after(out.put(bytes), 0)
 }
 
 /// This status, where the answer could be written.
-fn after<'a>(written: bool, status: u8) -> Result<u8, Stop<'a>>
+fn after<'a>(written: bool, status: u8) -> Result<u8, Ending<'a>>
     ensures ok { IfOk result (λ given. (given ≡ status) × (written ≡ true)) }
     ensures written { is_stopped result ≡ false }
-    ensures unwritten { IfErr result (λ stop. (stop_view stop ≡ cannot_write) × (written ≡ false)) }
+    ensures unwritten { IfErr result (λ ending. (ending_view ending ≡ cannot_write) × (written ≡ false)) }
 {
     if written {
         Ok(status)
     } else {
-        Err(Stop::CannotWrite)
+        Err(Ending::CannotWrite)
     }
 }
 
@@ -115,8 +115,8 @@ pub(crate) fn print_answer<'a, D: Disk, O: Stream, E: Stream>(
                     told: told & is_told,
                 }
             }
-            Err(stop) => Ended {
-                status: Err(stop),
+            Err(ending) => Ended {
+                status: Err(ending),
                 told,
             },
         },

@@ -6,18 +6,18 @@ ghost use Rattle.index_reader.specs.Reading.{DiskCalls, IsRead};
 ghost use Rattle.checker.specs.Texts.{check_text};
 ghost use Rattle.selection.specs.Texts.{verdict_text};
 ghost use Rattle.words.specs.Views.{text_if, words_view};
-ghost use Rattle.commands.specs.Commands.{Answers, IsAnswerTo, IsCheckOf, IsDerivationOf, IsTextOf, IsVerdictOf, LacksAnswer, LacksCheck, LacksText, LacksVerdict, Runs, Stops, preference};
+ghost use Rattle.commands.specs.Commands.{Answers, IsAnswerTo, IsCheckOf, IsDerivationOf, IsTextOf, IsVerdictOf, LacksAnswer, LacksCheck, LacksText, LacksVerdict, Runs, Endings, preference};
 ghost use Rattle.commands.specs.Disks.{bytes_if, writes};
-ghost use Rattle.commands.specs.Refusals.{IsRefused, refusal_of};
+ghost use Rattle.commands.specs.WordsFaults.{IsToldOfWords, told_of_words};
 ghost use Rattle.commands.specs.Lines.{Tells, check_status, ending_of, line_of, status_of, verdict_status};
-ghost use Rattle.commands.specs.Stops.{cannot_write, is_stopped, stop_view};
+ghost use Rattle.commands.specs.Endings.{cannot_write, is_stopped, ending_view};
 ghost use Rattle.commands.specs.Systems.{IsOpened, IsWritten};
 
 use crate::disk::{Disk, Puts};
+use crate::ending::Ending;
 use crate::files::{read_lock, read_manifest, read_old, read_proof};
 use crate::printing::{Ended, print_answer, print_bytes, print_check, print_verdict};
 use crate::sources::{own_source, source_text};
-use crate::stop::Stop;
 use crate::streams::Stream;
 use catalogue::Prefer;
 use checker::Check;
@@ -74,7 +74,7 @@ fn answered<'a, D: Disk, O: Stream, E: Stream>(
     out: &mut O,
     err: &mut E,
 ) -> Ended<'a>
-    ensures answers { (told : List (List ℕ)) × IfOk result.status (Answers (D.reads disk.old) (writes D.writes disk.old disk.new) (D.opens disk.old) D.Index.calls D.Index.failed (words_view words.entry.now) (O.contents out.old) (O.contents out.new) told) × IfErr result.status (Stops (D.reads disk.old) (writes D.writes disk.old disk.new) (D.opens disk.old) D.Index.calls D.Index.failed (λ bytes. O.fails out.old bytes out.new) (words_view words.entry.now) told) × Tells E.contents E.fails err.old told result.told err.new }
+    ensures answers { (told : List (List ℕ)) × IfOk result.status (Answers (D.reads disk.old) (writes D.writes disk.old disk.new) (D.opens disk.old) D.Index.calls D.Index.failed (words_view words.entry.now) (O.contents out.old) (O.contents out.new) told) × IfErr result.status (Endings (D.reads disk.old) (writes D.writes disk.old disk.new) (D.opens disk.old) D.Index.calls D.Index.failed (λ bytes. O.fails out.old bytes out.new) (words_view words.entry.now) told) × Tells E.contents E.fails err.old told result.told err.new }
     ensures stopped { is_stopped result.status ≡ true → out.new ≡ out.old }
 {
     match words {
@@ -93,7 +93,7 @@ fn answered<'a, D: Disk, O: Stream, E: Stream>(
             rust_first,
         } => match answer_at(disk, manifest, index, *lock, *source, *rust_first) {
             Ok(answer) => print_answer(disk, &answer, *proof, out, err),
-            Err(stop) => quiet(Err(stop)),
+            Err(ending) => quiet(Err(ending)),
         },
         Words::Check {
             manifest,
@@ -107,7 +107,7 @@ fn answered<'a, D: Disk, O: Stream, E: Stream>(
 }
 
 /// A command that has told nothing on standard error.
-fn quiet<'a>(status: Result<u8, Stop<'a>>) -> Ended<'a>
+fn quiet<'a>(status: Result<u8, Ending<'a>>) -> Ended<'a>
     ensures status { result.status ≡ status.entry }
     ensures told { result.told ≡ true }
 {
@@ -121,9 +121,9 @@ fn verify_at<'a, D: Disk, O: Stream>(
     lock: &'a str,
     source: Option<&str>,
     out: &mut O,
-) -> Result<u8, Stop<'a>>
+) -> Result<u8, Ending<'a>>
     ensures answers { IfOk result (λ status. (said : Verdict) × IsVerdictOf (D.reads disk.now) (D.opens disk.now) D.Index.calls D.Index.failed manifest.entry.now index.now lock.entry.now (text_if source.entry) (Ok said) × (status ≡ verdict_status said) × Appends (O.contents out.old) (O.contents out.new) (line_of (verdict_text said))) }
-    ensures stops { IfErr result (λ stop. LacksVerdict (D.reads disk.now) (D.opens disk.now) D.Index.calls D.Index.failed manifest.entry.now index.now lock.entry.now (text_if source.entry) stop ⊎ ((said : Verdict) × IsVerdictOf (D.reads disk.now) (D.opens disk.now) D.Index.calls D.Index.failed manifest.entry.now index.now lock.entry.now (text_if source.entry) (Ok said) × (stop_view stop ≡ cannot_write) × O.fails out.old (line_of (verdict_text said)) out.new)) }
+    ensures stops { IfErr result (λ ending. LacksVerdict (D.reads disk.now) (D.opens disk.now) D.Index.calls D.Index.failed manifest.entry.now index.now lock.entry.now (text_if source.entry) ending ⊎ ((said : Verdict) × IsVerdictOf (D.reads disk.now) (D.opens disk.now) D.Index.calls D.Index.failed manifest.entry.now index.now lock.entry.now (text_if source.entry) (Ok said) × (ending_view ending ≡ cannot_write) × O.fails out.old (line_of (verdict_text said)) out.new)) }
     ensures stopped { is_stopped result ≡ true → out.new ≡ out.old }
 {
     let verdict = verdict_at(disk, manifest, index, lock, source)?;
@@ -138,7 +138,7 @@ fn verdict_at<'a, D: Disk>(
     index: &str,
     lock: &'a str,
     source: Option<&str>,
-) -> Result<Verdict, Stop<'a>>
+) -> Result<Verdict, Ending<'a>>
     ensures verdict { IfOk result (λ verdict. IsVerdictOf (D.reads disk.now) (D.opens disk.now) D.Index.calls D.Index.failed manifest.entry.now index.now lock.entry.now (text_if source.entry) (Ok verdict)) }
     ensures lacks { IfErr result (LacksVerdict (D.reads disk.now) (D.opens disk.now) D.Index.calls D.Index.failed manifest.entry.now index.now lock.entry.now (text_if source.entry)) }
 {
@@ -165,7 +165,7 @@ fn answer_at<'a, D: Disk>(
     lock: Option<&'a str>,
     source: Option<&str>,
     rust_first: bool,
-) -> Result<Answer, Stop<'a>>
+) -> Result<Answer, Ending<'a>>
     ensures answer { IfOk result (λ answer. IsAnswerTo (D.reads disk.now) (D.opens disk.now) D.Index.calls D.Index.failed manifest.entry.now index.now (text_if lock.entry) (text_if source.entry) rust_first (Ok answer)) }
     ensures lacks { IfErr result (LacksAnswer (D.reads disk.now) (D.opens disk.now) D.Index.calls D.Index.failed manifest.entry.now index.now (text_if lock.entry) (text_if source.entry) rust_first) }
 {
@@ -214,9 +214,9 @@ fn check_at<'a, D: Disk, O: Stream>(
     source: Option<&str>,
     proof: &'a str,
     out: &mut O,
-) -> Result<u8, Stop<'a>>
+) -> Result<u8, Ending<'a>>
     ensures answers { IfOk result (λ status. (said : Check) × IsCheckOf (D.reads disk.now) (D.opens disk.now) D.Index.calls D.Index.failed manifest.entry.now index.now (text_if lock.entry) (text_if source.entry) proof.entry.now (Ok said) × (status ≡ check_status said) × Appends (O.contents out.old) (O.contents out.new) (line_of (check_text said))) }
-    ensures stops { IfErr result (λ stop. LacksCheck (D.reads disk.now) (D.opens disk.now) D.Index.calls D.Index.failed manifest.entry.now index.now (text_if lock.entry) (text_if source.entry) proof.entry.now stop ⊎ ((said : Check) × IsCheckOf (D.reads disk.now) (D.opens disk.now) D.Index.calls D.Index.failed manifest.entry.now index.now (text_if lock.entry) (text_if source.entry) proof.entry.now (Ok said) × (stop_view stop ≡ cannot_write) × O.fails out.old (line_of (check_text said)) out.new)) }
+    ensures stops { IfErr result (λ ending. LacksCheck (D.reads disk.now) (D.opens disk.now) D.Index.calls D.Index.failed manifest.entry.now index.now (text_if lock.entry) (text_if source.entry) proof.entry.now ending ⊎ ((said : Check) × IsCheckOf (D.reads disk.now) (D.opens disk.now) D.Index.calls D.Index.failed manifest.entry.now index.now (text_if lock.entry) (text_if source.entry) proof.entry.now (Ok said) × (ending_view ending ≡ cannot_write) × O.fails out.old (line_of (check_text said)) out.new)) }
     ensures stopped { is_stopped result ≡ true → out.new ≡ out.old }
 {
     let checked = checked_at(disk, manifest, index, lock, source, proof)?;
@@ -232,7 +232,7 @@ fn checked_at<'a, D: Disk>(
     lock: Option<&'a str>,
     source: Option<&str>,
     proof: &'a str,
-) -> Result<Check, Stop<'a>>
+) -> Result<Check, Ending<'a>>
     ensures check { IfOk result (λ check. IsCheckOf (D.reads disk.now) (D.opens disk.now) D.Index.calls D.Index.failed manifest.entry.now index.now (text_if lock.entry) (text_if source.entry) proof.entry.now (Ok check)) }
     ensures lacks { IfErr result (LacksCheck (D.reads disk.now) (D.opens disk.now) D.Index.calls D.Index.failed manifest.entry.now index.now (text_if lock.entry) (text_if source.entry) proof.entry.now) }
 {
@@ -254,9 +254,13 @@ fn checked_at<'a, D: Disk>(
     Ok(checked)
 }
 
-fn explain_at<'a, D: Disk, O: Stream>(disk: &D, proof: &'a str, out: &mut O) -> Result<u8, Stop<'a>>
+fn explain_at<'a, D: Disk, O: Stream>(
+    disk: &D,
+    proof: &'a str,
+    out: &mut O,
+) -> Result<u8, Ending<'a>>
     ensures answers { IfOk result (λ status. (text : List ℕ) × IsTextOf (D.reads disk.now) proof.entry.now text × (status ≡ 0) × Appends (O.contents out.old) (O.contents out.new) text) }
-    ensures stops { IfErr result (λ stop. LacksText (D.reads disk.now) proof.entry.now stop ⊎ ((text : List ℕ) × IsTextOf (D.reads disk.now) proof.entry.now text × (stop_view stop ≡ cannot_write) × O.fails out.old text out.new)) }
+    ensures stops { IfErr result (λ ending. LacksText (D.reads disk.now) proof.entry.now ending ⊎ ((text : List ℕ) × IsTextOf (D.reads disk.now) proof.entry.now text × (ending_view ending ≡ cannot_write) × O.fails out.old text out.new)) }
     ensures stopped { is_stopped result ≡ true → out.new ≡ out.old }
 {
     let text = text_at(disk, proof)?;
@@ -265,7 +269,7 @@ fn explain_at<'a, D: Disk, O: Stream>(disk: &D, proof: &'a str, out: &mut O) -> 
 }
 
 /// The text of the derivation.
-fn text_at<'a, D: Disk>(disk: &D, proof: &'a str) -> Result<String, Stop<'a>>
+fn text_at<'a, D: Disk>(disk: &D, proof: &'a str) -> Result<String, Ending<'a>>
     ensures text { IfOk result (λ text. IsTextOf (D.reads disk.now) proof.entry.now (string_bytes text)) }
     ensures lacks { IfErr result (LacksText (D.reads disk.now) proof.entry.now) }
 {
@@ -275,7 +279,7 @@ fn text_at<'a, D: Disk>(disk: &D, proof: &'a str) -> Result<String, Stop<'a>>
 }
 
 /// The derivation of a file, whose bytes are let go.
-fn derivation_at<'a, D: Disk>(disk: &D, proof: &'a str) -> Result<Derivation, Stop<'a>>
+fn derivation_at<'a, D: Disk>(disk: &D, proof: &'a str) -> Result<Derivation, Ending<'a>>
     ensures derivation { IfOk result (IsDerivationOf (D.reads disk.now) proof.entry.now) }
     ensures lacks { IfErr result (LacksText (D.reads disk.now) proof.entry.now) }
 {
@@ -285,13 +289,13 @@ fn derivation_at<'a, D: Disk>(disk: &D, proof: &'a str) -> Result<Derivation, St
 }
 
 /// Prints why there is no answer, where there is none; gives the status, and whether that was told.
-fn finish<'a, E: Stream>(status: Result<u8, Stop<'a>>, err: &mut E) -> (u8, bool)
+fn finish<'a, E: Stream>(status: Result<u8, Ending<'a>>, err: &mut E) -> (u8, bool)
     ensures status { result.0 ≡ status_of status.entry }
     ensures told { Tells E.contents E.fails err.old (ending_of status.entry) result.1 err.new }
 {
     match status {
         Ok(status) => (status, true),
-        Err(stop) => (FAILED, err.put_line(&stop)),
+        Err(ending) => (FAILED, err.put_line(&ending)),
     }
 }
 
@@ -311,8 +315,8 @@ pub fn without_arguments<E: Write>(error: &io::Error, err: &mut E) -> u8
 
 /// Help goes to standard output, wrong use to standard error; gives the status, and whether all was told.
 fn without_words<O: Stream, E: Stream>(fault: &WordsFault, out: &mut O, err: &mut E) -> (u8, bool)
-    ensures printed { IsRefused (λ bytes. O.fails out.old bytes out.new) (O.contents out.old) (O.contents out.new) fault.now result.0 }
-    ensures told { Tells E.contents E.fails err.old (refusal_of fault.now result.0) result.1 err.new }
+    ensures printed { IsToldOfWords (λ bytes. O.fails out.old bytes out.new) (O.contents out.old) (O.contents out.new) fault.now result.0 }
+    ensures told { Tells E.contents E.fails err.old (told_of_words fault.now result.0) result.1 err.new }
 {
     match fault {
         WordsFault::Help(text) => {

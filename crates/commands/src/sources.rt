@@ -4,7 +4,7 @@ ghost use Rattle.std.specs.Prelude.{◌≡◌, IfErr, IfOk};
 ghost use Rattle.words.specs.Views.{text_if};
 ghost use Rattle.commands.specs.Sources.{IsBadSource, IsSource};
 
-use crate::stop::Stop;
+use crate::ending::Ending;
 use catalogue::{Source, is_source};
 use std::alloc::{AllocError, Global};
 
@@ -12,7 +12,7 @@ use std::alloc::{AllocError, Global};
 const CRATES_IO: &str = "registry+https://github.com/rust-lang/crates.io-index";
 
 /// The text of the source, before any file is read: no memory can be wanting for it.
-pub(crate) fn source_text<'a, 's>(text: Option<&'s str>) -> Result<&'s str, Stop<'a>>
+pub(crate) fn source_text<'a, 's>(text: Option<&'s str>) -> Result<&'s str, Ending<'a>>
     ensures source { IfOk result (λ source. IsSource (text_if text.entry) source.now) }
     ensures bad { IfErr result (IsBadSource (text_if text.entry)) }
 {
@@ -20,7 +20,7 @@ pub(crate) fn source_text<'a, 's>(text: Option<&'s str>) -> Result<&'s str, Stop
     if is_source(source) {
         Ok(source)
     } else {
-        Err(Stop::BadSource)
+        Err(Ending::BadSource)
     }
 }
 

@@ -11,7 +11,7 @@ use Rattle.checker.specs.declared.outcome.Check.{Check}
 use Rattle.checker.specs.declared.outcome.Check.TheVariants.{Proves, Refused}
 use Rattle.checker.specs.declared.outcome.Reason.{Reason}
 use Rattle.resolver.specs.Checks.{IsProof, IsChecked, Decides, Checks}
-use Rattle.resolver.specs.Inputs.{RequestView, AreRead, IsRefused, EndsWith, names_of, problem_of}
+use Rattle.resolver.specs.Inputs.{RequestView, AreRead, IsInputFault, EndsWith, names_of, problem_of}
 use Rattle.resolver.specs.Inputs.IsCutShort.{after_loading}
 use Rattle.resolver.specs.declared.inputs.Inputs.{Inputs}
 use Rattle.resolver.specs.declared.fault.CheckFault.{CheckFault}
@@ -38,5 +38,5 @@ pub answered : {S : Type 0} (calls : Calls S) (failed : S → ℕ) (request : Re
     → AreRead calls failed request before inputs after → Decides inputs bytes r → Checks calls failed request bytes before r after
 answered calls failed request bytes before after inputs (Ok check) read h = record { inputs = inputs; read = read; checked = h }
 answered calls failed request bytes before after inputs (Err (Input f)) read h =
-    subst (λ b. EndsWith calls failed request before b (IsRefused calls failed request before f after) after) (sym h) (names_of inputs, after_loading inputs after read)
+    subst (λ b. EndsWith calls failed request before b (IsInputFault calls failed request before f after) after) (sym h) (names_of inputs, after_loading inputs after read)
 answered calls failed request bytes before after inputs (Err (Proof fault)) read h = record { inputs = inputs; read = read; no_derivation = h }

@@ -18,7 +18,7 @@ use Rattle.catalogue.specs.declared.fault.LoadFault.TheVariants as load
 use Rattle.model.specs.Outcome.{Faults}
 use Rattle.resolver.specs.Faults.{of_manifest, of_lock, of_load}
 use Rattle.resolver.specs.Inputs.{RequestView, IsCutShort, ReadsInputs, LoadsFor, old_of_bytes, packages_in}
-use Rattle.resolver.specs.Inputs.IsRefused.{by_manifest, by_lock, by_index}
+use Rattle.resolver.specs.Inputs.IsInputFault.{by_manifest, by_lock, by_index}
 use Rattle.resolver.specs.Inputs.IsCutShort.{before_loading, while_loading, while_asking}
 
 -- the packages behind a reference to the old lock

@@ -17,8 +17,8 @@ use Rattle.derivations.specs.Files.{derivation_of_bytes}
 use Rattle.checker.specs.declared.outcome.Check.{Check}
 use Rattle.vertices.proofs.Bound.{same-Ok}
 use Rattle.resolver.specs.Faults.{is_memory}
-use Rattle.resolver.specs.Inputs.{RequestView, AreRead, IsRefused, LoadsFor, EndsWith, old_of_bytes, packages_in, problem_of}
-use Rattle.resolver.specs.Inputs.IsRefused.{by_manifest, by_lock, by_index}
+use Rattle.resolver.specs.Inputs.{RequestView, AreRead, IsInputFault, LoadsFor, EndsWith, old_of_bytes, packages_in, problem_of}
+use Rattle.resolver.specs.Inputs.IsInputFault.{by_manifest, by_lock, by_index}
 use Rattle.resolver.specs.Answers.{IsAnswer, Resolves}
 use Rattle.resolver.specs.Answers.IsAnswer.{kept_lock, new_lock, no_lock}
 use Rattle.resolver.specs.Checks.{Checks}
@@ -58,7 +58,7 @@ module _ (failed : Files → ℕ) (folder : Files) (request : RequestView) (inpu
       ∙ same-problem folder manifest (packages_in inputs.old) request.source (rust request.prefer) (rust prefer) inputs.catalogue after first.loads.0 other.catalogue later loads.0
 
   -- and no fault of an input is left
-  pub unrefused : (f : Fault) (later : Files) → IsRefused MemoryCalls failed again folder f later → is_memory f ≡ true
+  pub unrefused : (f : Fault) (later : Files) → IsInputFault MemoryCalls failed again folder f later → is_memory f ≡ true
   unrefused f later (by_manifest e h) = absurd (ok-err (manifest_of_bytes request.manifest) manifest e first.manifest_says h)
   unrefused f later (by_lock m e h k) = absurd (ok-err (old_of_bytes request.old) inputs.old e first.lock_says k)
   unrefused f later (by_index m old e end h k l) =
@@ -84,7 +84,7 @@ proved failed folder request derivation text skips after bytes (Ok check) later 
     second.checked.proves.1 (derivation, reads, subst (λ q. IsAccepted q derivation) (sym same) (accepted-in request.old first.inputs (Unsolvable derivation text skips) first.is))
 proved failed folder request derivation text skips after bytes (Err (Input f)) later first reads second = by (is_memory f) refl second
   where
-    by : (b : Bool) → is_memory f ≡ b → EndsWith MemoryCalls failed (to_check request) folder b (IsRefused MemoryCalls failed (to_check request) folder f later) later → is_memory f ≡ true
+    by : (b : Bool) → is_memory f ≡ b → EndsWith MemoryCalls failed (to_check request) folder b (IsInputFault MemoryCalls failed (to_check request) folder f later) later → is_memory f ≡ true
     by true e s = e
     by false e r = unrefused failed folder request first.inputs after first.read Newest f later r
 proved failed folder request derivation text skips after bytes (Err (Proof fault)) later first reads second = ok-err (derivation_of_bytes bytes) derivation fault reads (second.no_derivation).says

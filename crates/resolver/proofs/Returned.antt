@@ -20,8 +20,8 @@ use Rattle.catalogue.specs.declared.store.Prefer.TheVariants.{Newest}
 use Rattle.selection.specs.declared.verdict.Verdict.{Verdict}
 use Rattle.vertices.proofs.Bound.{same-Ok, same-Some}
 use Rattle.resolver.specs.Faults.{is_memory}
-use Rattle.resolver.specs.Inputs.{RequestView, AreRead, IsRefused, IsCutShort, IsSoFarFor, LoadsFor, EndsWith, names_of, old_of_bytes, packages_in, problem_of}
-use Rattle.resolver.specs.Inputs.IsRefused.{by_manifest, by_lock, by_index}
+use Rattle.resolver.specs.Inputs.{RequestView, AreRead, IsInputFault, IsCutShort, IsSoFarFor, LoadsFor, EndsWith, names_of, old_of_bytes, packages_in, problem_of}
+use Rattle.resolver.specs.Inputs.IsInputFault.{by_manifest, by_lock, by_index}
 use Rattle.resolver.specs.Inputs.IsCutShort.{before_loading, while_loading, while_asking, after_loading}
 use Rattle.resolver.specs.Answers.{CanKeep, IsAnswer, IsAnswered, IsUnanswered, MeansSelection, Resolves, Verifies}
 use Rattle.resolver.specs.Answers.IsAnswer.{kept_lock, new_lock, no_lock}
@@ -93,7 +93,7 @@ module _ (failed : Files → ℕ) (folder : Files) (request : RequestView) (byte
           one.content (first.inputs).catalogue after first.read.loads.0 one.valid rust inputs.catalogue later loads-is.0
 
     -- no fault of an input is left
-    refused : (f : Fault) (later : Files) → IsRefused MemoryCalls failed again folder f later → is_memory f ≡ true
+    refused : (f : Fault) (later : Files) → IsInputFault MemoryCalls failed again folder f later → is_memory f ≡ true
     refused f later (by_manifest e h) = absurd (ok-err (manifest_of_bytes request.manifest) manifest e first.read.manifest_says h)
     refused f later (by_lock m e h k) = absurd (ok-err (old_of_bytes again.old) (Some one.content) e old-is k)
     refused f later (by_index m old e end h k l) =
@@ -146,7 +146,7 @@ module _ (failed : Files → ℕ) (folder : Files) (request : RequestView) (byte
   comes (Err f) later second = by (is_memory f) refl second
     where
       by : (b : Bool) → is_memory f ≡ b
-          → EndsWith MemoryCalls failed (again request.prefer) folder b (IsRefused MemoryCalls failed (again request.prefer) folder f later ⊎ IsUnanswered MemoryCalls failed (again request.prefer) folder f later) later
+          → EndsWith MemoryCalls failed (again request.prefer) folder b (IsInputFault MemoryCalls failed (again request.prefer) folder f later ⊎ IsUnanswered MemoryCalls failed (again request.prefer) folder f later) later
           → is_memory f ≡ true
       by true e s = e
       by false e (inl r) = refused request.prefer f later r
@@ -158,7 +158,7 @@ module _ (failed : Files → ℕ) (folder : Files) (request : RequestView) (byte
       second.selects.1 (subst (IsValidSelection (problem_of second.inputs)) same (valid-again Newest second.inputs later second.read))
   verifies (Err f) later second = by (is_memory f) refl second
     where
-      by : (b : Bool) → is_memory f ≡ b → EndsWith MemoryCalls failed (again Newest) folder b (IsRefused MemoryCalls failed (again Newest) folder f later) later → is_memory f ≡ true
+      by : (b : Bool) → is_memory f ≡ b → EndsWith MemoryCalls failed (again Newest) folder b (IsInputFault MemoryCalls failed (again Newest) folder f later) later → is_memory f ≡ true
       by true e s = e
       by false e r = refused Newest f later r
 

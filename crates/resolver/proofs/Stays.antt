@@ -17,8 +17,8 @@ use Rattle.catalogue.specs.declared.fault.Limit.TheVariants as limit
 use Rattle.selection.specs.declared.verdict.Verdict.{Verdict}
 use Rattle.checker.specs.declared.outcome.Check.{Check}
 use Rattle.resolver.specs.Faults.{is_memory}
-use Rattle.resolver.specs.Inputs.{RequestView, AreRead, IsRefused, IsCutShort, EndsWith, LoadsFor, packages_in}
-use Rattle.resolver.specs.Inputs.IsRefused.{by_manifest, by_lock, by_index}
+use Rattle.resolver.specs.Inputs.{RequestView, AreRead, IsInputFault, IsCutShort, EndsWith, LoadsFor, packages_in}
+use Rattle.resolver.specs.Inputs.IsInputFault.{by_manifest, by_lock, by_index}
 use Rattle.resolver.specs.Inputs.IsCutShort.{before_loading, while_loading, while_asking, after_loading}
 use Rattle.resolver.specs.Answers.{IsUnanswered, Resolves, Verifies}
 use Rattle.resolver.specs.Checks.{Checks}
@@ -74,7 +74,7 @@ module _ (failed : Files → ℕ) (request : RequestView) (before : Files) where
   read-stays : (inputs : Inputs) (after : Files) → AreRead MemoryCalls failed request before inputs after → after ≡ before
   read-stays inputs after read = loads-stays inputs.manifest inputs.old (Ok inputs.catalogue) after read.loads
 
-  refused-stays : (f : Fault) (after : Files) → IsRefused MemoryCalls failed request before f after → after ≡ before
+  refused-stays : (f : Fault) (after : Files) → IsInputFault MemoryCalls failed request before f after → after ≡ before
   refused-stays f after (by_manifest e h) = refl
   refused-stays f after (by_lock m e h k) = refl
   refused-stays f after (by_index m old e end h k l) = loads-stays m old (Err e) end l
@@ -92,17 +92,17 @@ module _ (failed : Files → ℕ) (request : RequestView) (before : Files) where
   pub resolve-stays : (result : Result Answer Fault) (after : Files) → Resolves MemoryCalls failed request before result after → after ≡ before
   resolve-stays (Ok answer) after h = read-stays h.inputs after h.read
   resolve-stays (Err f) after h =
-      ended-stays (is_memory f) (IsRefused MemoryCalls failed request before f after ⊎ IsUnanswered MemoryCalls failed request before f after) after by h
+      ended-stays (is_memory f) (IsInputFault MemoryCalls failed request before f after ⊎ IsUnanswered MemoryCalls failed request before f after) after by h
     where
-      by : IsRefused MemoryCalls failed request before f after ⊎ IsUnanswered MemoryCalls failed request before f after → after ≡ before
+      by : IsInputFault MemoryCalls failed request before f after ⊎ IsUnanswered MemoryCalls failed request before f after → after ≡ before
       by (inl r) = refused-stays f after r
       by (inr u) = read-stays u.inputs after u.read
 
   pub verify-stays : (result : Result Verdict Fault) (after : Files) → Verifies MemoryCalls failed request before result after → after ≡ before
   verify-stays (Ok verdict) after h = read-stays h.inputs after h.read
-  verify-stays (Err f) after h = ended-stays (is_memory f) (IsRefused MemoryCalls failed request before f after) after (refused-stays f after) h
+  verify-stays (Err f) after h = ended-stays (is_memory f) (IsInputFault MemoryCalls failed request before f after) after (refused-stays f after) h
 
   pub check-stays : (bytes : List ℕ) (result : Result Check CheckFault) (after : Files) → Checks MemoryCalls failed request bytes before result after → after ≡ before
   check-stays bytes (Ok check) after h = read-stays h.inputs after h.read
-  check-stays bytes (Err (Input f)) after h = ended-stays (is_memory f) (IsRefused MemoryCalls failed request before f after) after (refused-stays f after) h
+  check-stays bytes (Err (Input f)) after h = ended-stays (is_memory f) (IsInputFault MemoryCalls failed request before f after) after (refused-stays f after) h
   check-stays bytes (Err (Proof fault)) after h = read-stays h.inputs after h.read

@@ -13,7 +13,7 @@ use Rattle.catalogue.proofs.LawsIndexes.{chain-answers}
 use Rattle.catalogue.proofs.LawsLists.{all_in, at_in}
 use Rattle.vertices.proofs.Bound.{same-Ok}
 use Rattle.resolver.specs.Faults.{is_memory}
-use Rattle.resolver.specs.Inputs.{RequestView, AreRead, IsRefused, names_of, packages_in}
+use Rattle.resolver.specs.Inputs.{RequestView, AreRead, IsInputFault, names_of, packages_in}
 use Rattle.resolver.specs.Answers.{IsAnswer, IsAnswered}
 use Rattle.resolver.specs.Returning.{AreAlike}
 use Rattle.resolver.specs.declared.inputs.Inputs.{Inputs}
@@ -83,7 +83,7 @@ module _ (failed : Files → ℕ) (folder other : Files) (request : RequestView)
           ∙ sym loaded.is
 
   -- nor does it end with a fault of an input
-  pub unrefused-there : (f : Fault) (later : Files) → IsRefused MemoryCalls failed request other f later → is_memory f ≡ true
+  pub unrefused-there : (f : Fault) (later : Files) → IsInputFault MemoryCalls failed request other f later → is_memory f ≡ true
   unrefused-there = unrefused failed other request inputs other read-there request.prefer
 
 pub answered-there : (failed : Files → ℕ) (folder other : Files) (request : RequestView) (answer again : Answer) (after later : Files)

@@ -19,7 +19,7 @@ use Rattle.reaching.specs.Followed.{IsBrought}
 use Rattle.solver.specs.Solving.{IsSelected, IsUnsolvable}
 use Rattle.walks.specs.Preferred.{IsPreferred, preferred_in}
 use Rattle.resolver.specs.Faults.{is_memory}
-use Rattle.resolver.specs.Inputs.{RequestView, AreRead, IsRefused, EndsWith, UnlessMemory, problem_of}
+use Rattle.resolver.specs.Inputs.{RequestView, AreRead, IsInputFault, EndsWith, UnlessMemory, problem_of}
 use Rattle.resolver.specs.declared.inputs.Inputs.{Inputs}
 use Rattle.resolver.specs.declared.fault.Fault.{Fault}
 use Rattle.resolver.specs.declared.fault.Fault.TheVariants as fault
@@ -42,7 +42,7 @@ module _ {S : Type 0} (calls : Calls S) (failed : S → ℕ) (request : RequestV
 
   abbrev pub Verifies : Result Verdict Fault → S → Type 0
   Verifies (Ok verdict) after = IsVerdictFor verdict after
-  Verifies (Err f) after = EndsWith calls failed request before (is_memory f) (IsRefused calls failed request before f after) after
+  Verifies (Err f) after = EndsWith calls failed request before (is_memory f) (IsInputFault calls failed request before f after) after
 
 -- ---- the answer to a manifest
 
@@ -183,4 +183,4 @@ module _ {S : Type 0} (calls : Calls S) (failed : S → ℕ) (request : RequestV
 
   abbrev pub Resolves : Result Answer Fault → S → Type 0
   Resolves (Ok answer) after = IsAnswered answer after
-  Resolves (Err f) after = EndsWith calls failed request before (is_memory f) (IsRefused calls failed request before f after ⊎ IsUnanswered f after) after
+  Resolves (Err f) after = EndsWith calls failed request before (is_memory f) (IsInputFault calls failed request before f after ⊎ IsUnanswered f after) after

@@ -11,7 +11,7 @@ use Rattle.checker.specs.declared.outcome.Check.{Check}
 use Rattle.checker.specs.declared.outcome.Check.TheVariants.{Proves, Refused}
 use Rattle.checker.specs.declared.outcome.Reason.{Reason}
 use Rattle.resolver.specs.Faults.{is_memory}
-use Rattle.resolver.specs.Inputs.{RequestView, AreRead, IsRefused, EndsWith, problem_of}
+use Rattle.resolver.specs.Inputs.{RequestView, AreRead, IsInputFault, EndsWith, problem_of}
 use Rattle.resolver.specs.declared.inputs.Inputs.{Inputs}
 use Rattle.resolver.specs.declared.fault.CheckFault.{CheckFault}
 use Rattle.resolver.specs.declared.fault.CheckFault.TheVariants.{Input, Proof}
@@ -54,5 +54,5 @@ module _ {S : Type 0} (calls : Calls S) (failed : S → ℕ) (request : RequestV
 
   abbrev pub Checks : Result Check CheckFault → S → Type 0
   Checks (Ok check) after = IsCheckFor check after
-  Checks (Err (Input f)) after = EndsWith calls failed request before (is_memory f) (IsRefused calls failed request before f after) after
+  Checks (Err (Input f)) after = EndsWith calls failed request before (is_memory f) (IsInputFault calls failed request before f after) after
   Checks (Err (Proof fault)) after = IsUnread fault after

@@ -62,11 +62,11 @@ module _ {S : Type 0} (calls : Calls S) (failed : S → ℕ) (request : RequestV
     pub loads : LoadsFor inputs.manifest inputs.old (Ok inputs.catalogue) after
 
   -- the manifest has a fault; the old lock has one, after it; loading ends with a fault, after both
-  pub data IsRefused : Fault → S → Type 0 where
-    by_manifest : (e : ManifestFault) → manifest_of_bytes request.manifest ≡ Err e → IsRefused (of_manifest e) before
-    by_lock : (m : ManifestView) (e : LockFault) → manifest_of_bytes request.manifest ≡ Ok m → old_of_bytes request.old ≡ Err e → IsRefused (of_lock e) before
+  pub data IsInputFault : Fault → S → Type 0 where
+    by_manifest : (e : ManifestFault) → manifest_of_bytes request.manifest ≡ Err e → IsInputFault (of_manifest e) before
+    by_lock : (m : ManifestView) (e : LockFault) → manifest_of_bytes request.manifest ≡ Ok m → old_of_bytes request.old ≡ Err e → IsInputFault (of_lock e) before
     by_index : (m : ManifestView) (old : Option Content) (e : LoadFault) (after : S) → manifest_of_bytes request.manifest ≡ Ok m
-        → old_of_bytes request.old ≡ Ok old → LoadsFor m old (Err e) after → IsRefused (of_load e) after
+        → old_of_bytes request.old ≡ Ok old → LoadsFor m old (Err e) after → IsInputFault (of_load e) after
 
   -- what is left of the folder where memory was wanting, and the names that it was asked for until then, in order
   pub data IsCutShort : List (List ℕ) → S → Type 0 where
@@ -91,7 +91,7 @@ module _ {S : Type 0} (calls : Calls S) (failed : S → ℕ) (request : RequestV
   -- reading all inputs gives them, or the first fault
   abbrev pub ReadsInputs : Result Inputs Fault → S → Type 0
   ReadsInputs (Ok inputs) after = AreRead inputs after
-  ReadsInputs (Err f) after = EndsWith (is_memory f) (IsRefused f after) after
+  ReadsInputs (Err f) after = EndsWith (is_memory f) (IsInputFault f after) after
 
 -- where no folder is asked, want of memory says nothing
 abbrev pub UnlessMemory : Bool → Type 0 → Type 0

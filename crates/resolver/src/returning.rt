@@ -19,7 +19,7 @@ ghost use Rattle.selection.specs.declared.verdict.Verdict.TheVariants.{Valid};
 ghost use Rattle.checker.specs.declared.outcome.Check.{Check};
 ghost use Rattle.resolver.specs.Checks.{Checks};
 ghost use Rattle.resolver.specs.Faults.{is_memory};
-ghost use Rattle.resolver.specs.Inputs.{RequestView, AreRead, IsCutShort, IsRefused, names_of, old_of_bytes, packages_in, problem_of};
+ghost use Rattle.resolver.specs.Inputs.{RequestView, AreRead, IsCutShort, IsInputFault, names_of, old_of_bytes, packages_in, problem_of};
 ghost use Rattle.resolver.specs.Answers.{Resolves, Verifies, IsAnswer, IsAnswered, IsChosen};
 ghost use Rattle.resolver.specs.Returning.{handed_in, to_verify, to_check, AreAlike, ComesBack, FindsValid, FindsProof, IsSomeLock, files_of};
 ghost use Rattle.resolver.specs.declared.fault.Fault.{Fault};
@@ -116,7 +116,7 @@ pub fn names_not_asked_for_cannot_matter()
         → (again : Inputs) (later : Files) → AreRead MemoryCalls failed request other again later → again ≡ inputs }
     ensures unrefused { (failed : Files → ℕ) (folder other : Files) (request : RequestView) (inputs : Inputs) (after : Files)
         → AreRead MemoryCalls failed request folder inputs after → AreAlike (names_of inputs) folder other
-        → (fault : Fault) (later : Files) → IsRefused MemoryCalls failed request other fault later → is_memory fault ≡ true }
+        → (fault : Fault) (later : Files) → IsInputFault MemoryCalls failed request other fault later → is_memory fault ≡ true }
     ensures answered { (failed : Files → ℕ) (folder other : Files) (request : RequestView) (answer again : Answer) (after later : Files)
         (first : IsAnswered MemoryCalls failed request folder answer after) → AreAlike (names_of first.inputs) folder other
         → IsAnswered MemoryCalls failed request other again later → IsAnswer request.old first.inputs again }

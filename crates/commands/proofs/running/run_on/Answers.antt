@@ -22,4 +22,4 @@ returns-in-Ok g c =
     })
 
 pub returns-in-Err : goal.returns-in-Err
-returns-in-Err g c = inr (c.in-Err.fault, c.in-Err.ensures.refused, c.without_words.ensures.printed, c.without_words.ensures.told, refl)
+returns-in-Err g c = inr (c.in-Err.fault, c.in-Err.ensures.fault, c.without_words.ensures.printed, c.without_words.ensures.told, refl)
