@@ -15,10 +15,11 @@ use Rattle.refutations.specs.Causes.{Cause, is_cause, kind_of, terms_of_cause}
 use Rattle.vertices.specs.Kinds.{kind_view}
 use Rattle.vertices.specs.declared.kind.Kind.{Kind}
 use Rattle.encoding.specs.Assignments.{state_at}
-use Rattle.encoding.specs.CauseViews.{cause_view, cause_views, given_views}
+use Rattle.encoding.specs.CauseViews.{cause_views, given_views}
+use Rattle.named_terms.specs.CauseViews.{cause_view}
 use Rattle.encoding.specs.Numberings.{Numbering, IsGrown, IsNumbering, Says}
 use Rattle.encoding.specs.Pairs.{Pair, AreCausesAt, AreGiven}
-use Rattle.encoding.specs.declared.cause.Cause as code
+use Rattle.named_terms.specs.declared.cause.Cause as code
 use Rattle.encoding.proofs.Needing.{given_last, given_more}
 
 pub given_put : {S : Type 0} (tests : S → Members) (q : Problem) (vs new : Numbering) (cs : List Cause) (c : Cause) (old is : List (Kind × List (Numbered.Term S))) (k : Kind) (i : List (Numbered.Term S))

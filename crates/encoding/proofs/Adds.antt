@@ -7,11 +7,12 @@ use Rattle.model.specs.Vertices.{Vertex, same_vertex}
 use Rattle.model.specs.Axioms.{Term}
 use Rattle.model.proofs.Lists.{to_map}
 use Rattle.refutations.specs.Causes.{Cause, terms_of_cause}
-use Rattle.encoding.specs.CauseViews.{cause_view, cause_views}
+use Rattle.encoding.specs.CauseViews.{cause_views}
+use Rattle.named_terms.specs.CauseViews.{cause_view}
 use Rattle.encoding.specs.Numberings.{AddsOnly, Numbering, with_vertex}
 use Rattle.encoding.specs.Pairs.{AreCausesAt, IsCauseAt, IsSpokenOf, Pair, spoken_by}
 use Rattle.encoding.specs.Parts.{Part, part_view, part_views, parts_of_terms, vertices_of}
-use Rattle.encoding.specs.declared.cause.Cause as cause
+use Rattle.named_terms.specs.declared.cause.Cause as cause
 use Rattle.encoding.specs.declared.parts.Part as part
 use Rattle.encoding.proofs.Needing.{in_last}
 use Rattle.encoding.proofs.Places.{got_in}

@@ -10,22 +10,36 @@ use Rattle.refutations.specs.Causes.{same_entry}
 use Rattle.refutations.specs.Listed.{same_cause}
 use Rattle.refutations.proofs.Bools.{in_append-left, in_append-right}
 use Rattle.refutations.proofs.Listing.{cause-same, cause-refl}
-use Rattle.encoding.specs.CauseViews.{cause_view, cause_views, enabling_view}
+use Rattle.encoding.specs.CauseViews.{cause_views}
+use Rattle.named_terms.specs.CauseViews.{cause_view}
 use Rattle.encoding.specs.CausesAt.{with_cause, with_causes}
-use Rattle.encoding.specs.declared.cause.Cause.{Cause}
-use Rattle.encoding.specs.declared.cause.Cause.TheVariants as cause
-use Rattle.encoding.specs.declared.cause.Enabling.{Enabling}
-use Rattle.encoding.specs.declared.cause.Enabling.TheVariants as enabling
-use Rattle.encoding.specs.contracts.cause.CausePartialEq.TheImpl as cause_eq
-use Rattle.encoding.specs.contracts.cause.EnablingPartialEq.TheImpl as enabling_eq
+use Rattle.named_terms.specs.declared.cause.Cause.{Cause}
+use Rattle.named_terms.specs.declared.cause.Cause.TheVariants as cause
+use Rattle.features.specs.declared.entry.Entry.{Entry}
+use Rattle.features.specs.declared.entry.Entry.TheVariants as entry
+use Rattle.named_terms.specs.contracts.cause.CausePartialEq.TheImpl as cause_eq
+use Rattle.features.specs.EntryViews.{entry_view}
+use Rattle.features.specs.contracts.entry.EntryPartialEq.TheImpl as entry_eq
 use Rattle.encoding.proofs.Same.{class_same, owner_same, version_same}
 use Rattle.encoding.proofs.Needing.{apart_last, in_last}
 
-enabling_same : (a b : Enabling) → (enabling_eq.eq-value).it a b ≡ same_entry (enabling_view a) (enabling_view b)
-enabling_same (enabling.Dependency d) (enabling.Dependency e) = refl
-enabling_same (enabling.Dependency d) (enabling.Feature e g) = refl
-enabling_same (enabling.Feature d f) (enabling.Dependency e) = refl
-enabling_same (enabling.Feature d f) (enabling.Feature e g) = refl
+entry_same : (a b : Entry) → (entry_eq.eq-value).it a b ≡ same_entry (entry_view a) (entry_view b)
+entry_same (entry.Feature d) (entry.Feature e) = refl
+entry_same (entry.Feature d) (entry.Dependency e) = refl
+entry_same (entry.Feature d) (entry.DependencyFeature e g) = refl
+entry_same (entry.Feature d) (entry.WeakFeature e g) = refl
+entry_same (entry.Dependency d) (entry.Feature e) = refl
+entry_same (entry.Dependency d) (entry.Dependency e) = refl
+entry_same (entry.Dependency d) (entry.DependencyFeature e g) = refl
+entry_same (entry.Dependency d) (entry.WeakFeature e g) = refl
+entry_same (entry.DependencyFeature d f) (entry.Feature e) = refl
+entry_same (entry.DependencyFeature d f) (entry.Dependency e) = refl
+entry_same (entry.DependencyFeature d f) (entry.DependencyFeature e g) = refl
+entry_same (entry.DependencyFeature d f) (entry.WeakFeature e g) = refl
+entry_same (entry.WeakFeature d f) (entry.Feature e) = refl
+entry_same (entry.WeakFeature d f) (entry.Dependency e) = refl
+entry_same (entry.WeakFeature d f) (entry.DependencyFeature e g) = refl
+entry_same (entry.WeakFeature d f) (entry.WeakFeature e g) = refl
 
 cause_same : (a b : Cause) → (cause_eq.eq-value).it a b ≡ same_cause (cause_view a) (cause_view b)
 cause_same cause.Root cause.Root = refl
@@ -112,7 +126,7 @@ cause_same (cause.Enabling n v f e i) (cause.Feature n2 k2 f2) = refl
 cause_same (cause.Enabling n v f e i) (cause.List o2 i2 k2 g2) = refl
 cause_same (cause.Enabling n v f e i) (cause.Ask n2 v2 i2 g2 k2) = refl
 cause_same (cause.Enabling n v f e i) (cause.Entry n2 v2 f2 g2) = refl
-cause_same (cause.Enabling n v f e i) (cause.Enabling n2 v2 f2 e2 i2) = ap₂ (λ a b. same_text n.now n2.now && (a && (same_text f.now f2.now && (b && (nat_eq i i2))))) (version_same v.now v2.now) (enabling_same e e2)
+cause_same (cause.Enabling n v f e i) (cause.Enabling n2 v2 f2 e2 i2) = ap₂ (λ a b. same_text n.now n2.now && (a && (same_text f.now f2.now && (b && (nat_eq i i2))))) (version_same v.now v2.now) (entry_same e.now e2.now)
 cause_same (cause.Enabling n v f e i) (cause.Asking n2 v2 f2 g2 i2) = refl
 cause_same (cause.Enabling n v f e i) (cause.Newest o2 i2 j2 k2 m2) = refl
 cause_same (cause.Enabling n v f e i) (cause.Weak n2 v2 f2 g2 i2 k2) = refl

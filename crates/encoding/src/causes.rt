@@ -19,13 +19,13 @@ ghost use Rattle.encoding.specs.Inputs.{problem};
 ghost use Rattle.vertices.specs.RefViews.{owner_ref_view};
 
 use crate::called::{ByName, Numbered};
-use crate::cause::{Cause, Enabling};
 use crate::inputs::Inputs;
 use crate::lookups::{brings, dependencies_of, entries_of};
 use crate::spaces::classes_of;
 use classes::Class;
 use features::{Dependency, Entry, FeatureName, FeatureTable, PackageName};
 use indexmap::IndexSet;
+use named_terms::Cause;
 use semver::Version;
 use std::alloc::{AllocError, Global};
 use vertices::OwnerRef;
@@ -226,9 +226,9 @@ fn put_on<'a>(
 {
     match entry {
         Entry::Feature(_) => Ok(()),
-        Entry::Dependency(called) => put_enabled(causes, own, called, number, dependency),
+        Entry::Dependency(called) => { put_enabled(causes, own, entry, called, number, dependency) }
         Entry::DependencyFeature(called, asked) => {
-            put_asked(causes, own, called, asked, number, dependency)
+            put_asked(causes, own, entry, called, asked, number, dependency)
         }
         Entry::WeakFeature(called, asked) => {
             put_weak(
@@ -242,14 +242,14 @@ fn put_on<'a>(
 fn put_enabled<'a>(
     causes: &mut Vec<Cause<'a>>,
     own: Own<'a>,
-    called: &'a PackageName,
+    entry: &'a Entry,
+    called: &PackageName,
     number: usize,
     dependency: &Dependency,
 ) -> Result<(), AllocError>
-    ensures { OnOk result (cause_views causes.new.items ≡ cause_views causes.old.items ++ (if same_text (dependency_view dependency.now).name called.entry.now then of_enabling own.entry.name.now (parts_of own.entry.version.now) own.entry.feature.now (model.dependency called.entry.now) number ∷ [] else [])) }
+    ensures { OnOk result (cause_views causes.new.items ≡ cause_views causes.old.items ++ (if same_text (dependency_view dependency.now).name called.now then of_enabling own.entry.name.now (parts_of own.entry.version.now) own.entry.feature.now (entry_view entry.entry.now) number ∷ [] else [])) }
 {
     if dependency.name == *called {
-        let entry = Enabling::Dependency(called);
         causes.push(Cause::Enabling(own.name, own.version, own.feature, entry, number))?;
     }
     Ok(())
@@ -259,15 +259,15 @@ fn put_enabled<'a>(
 fn put_asked<'a>(
     causes: &mut Vec<Cause<'a>>,
     own: Own<'a>,
-    called: &'a PackageName,
+    entry: &'a Entry,
+    called: &PackageName,
     asked: &'a FeatureName,
     number: usize,
     dependency: &Dependency,
 ) -> Result<(), AllocError>
-    ensures { OnOk result (cause_views causes.new.items ≡ cause_views causes.old.items ++ (if same_text (dependency_view dependency.now).name called.entry.now then of_enabling own.entry.name.now (parts_of own.entry.version.now) own.entry.feature.now (model.dependency_feature called.entry.now asked.entry.now) number ∷ of_asking own.entry.name.now (parts_of own.entry.version.now) own.entry.feature.now asked.entry.now number ∷ [] else [])) }
+    ensures { OnOk result (cause_views causes.new.items ≡ cause_views causes.old.items ++ (if same_text (dependency_view dependency.now).name called.now then of_enabling own.entry.name.now (parts_of own.entry.version.now) own.entry.feature.now (entry_view entry.entry.now) number ∷ of_asking own.entry.name.now (parts_of own.entry.version.now) own.entry.feature.now asked.entry.now number ∷ [] else [])) }
 {
     if dependency.name == *called {
-        let entry = Enabling::Feature(called, asked);
         causes.push(Cause::Enabling(own.name, own.version, own.feature, entry, number))?;
         causes.push(Cause::Asking(own.name, own.version, own.feature, asked, number))?;
     }

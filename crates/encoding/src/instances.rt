@@ -4,19 +4,19 @@ ghost use Rattle.std.specs.Prelude.{◌≡◌, ◌++◌, ◌∷◌, [], true, Co
 ghost use Rattle.std.specs.List.{AllByRecursion};
 ghost use Rattle.terms.specs.Terms.{term_view, terms_view};
 ghost use Rattle.refutations.specs.Causes.{is_cause, terms_of_cause};
-ghost use Rattle.encoding.specs.CauseViews.{cause_view};
+ghost use Rattle.named_terms.specs.CauseViews.{cause_view};
 ghost use Rattle.encoding.specs.Inputs.{problem};
 ghost use Rattle.encoding.specs.Numberings.{AddsOnly, IsGrown, IsNumbering, Says};
 ghost use Rattle.encoding.specs.Pairs.{spoken_by};
 ghost use Rattle.encoding.specs.Parts.{AreOfParts, IsFitting, Part as PartView, part_view, part_views, vertices_of};
 
-use crate::cause::Cause;
 use crate::inputs::Inputs;
 use crate::making::made_of;
 use crate::parts::{Part, parts_of_cause};
 use crate::table::Table;
 use catalogue::catalogues_are_well_formed;
 use incompatibilities::Incompatibility;
+use named_terms::Cause;
 use std::alloc::{AllocError, Global};
 use terms::Term;
 use version_sets::States;

@@ -14,7 +14,6 @@ ghost use Rattle.encoding.specs.Higher.{Adds, AreAbove, AreHigher, alone_from, i
 ghost use Rattle.encoding.specs.Inputs.{KnowsDefault, problem};
 ghost use Rattle.vertices.specs.RefViews.{owner_ref_view};
 
-use crate::cause::Cause;
 use crate::inputs::Inputs;
 use crate::lookups::{dependencies_of, dependency_at};
 use crate::narrowing::within;
@@ -22,6 +21,7 @@ use crate::spaces::classes_of;
 use classes::Class;
 use features::{Dependency, Entry, FeatureName, FeatureTable, PackageName};
 use indexmap::IndexSet;
+use named_terms::Cause;
 use std::alloc::{AllocError, Global};
 use vertices::OwnerRef;
 

@@ -18,7 +18,6 @@
 
 mod adding;
 mod called;
-mod cause;
 mod causes;
 mod inputs;
 mod instances;
@@ -59,7 +58,6 @@ ghost use Rattle.encoding.specs.Assignments.{IsOf, IsSettled, state_of};
 
 pub use adding::{axioms_at, axioms_of};
 pub use called::{ByName, Numbered};
-pub use cause::{Cause, Enabling};
 pub use inputs::Inputs;
 pub use instances::instance;
 pub use listing::states_of;

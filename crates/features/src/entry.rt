@@ -13,7 +13,7 @@ use std::alloc::Global;
 use thiserror::Error;
 
 /// What a feature puts on (Cargo book, "Features").
-#[derive(Debug, Drop, PartialEq)]
+#[derive(Debug, Drop, PartialEq, Eq, Hash)]
 pub enum Entry {
     /// `g`: another feature of the same package.
     Feature(FeatureName),

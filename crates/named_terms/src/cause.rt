@@ -6,7 +6,7 @@ use semver::Version;
 use vertices::OwnerRef;
 
 /// What an instance comes from.
-#[derive(Clone, Copy)]
+#[derive(Clone, Copy, PartialEq, Eq, Hash)]
 pub enum Cause<'a> {
     Root,
     /// An owner, and the number of a dependency that it needs.

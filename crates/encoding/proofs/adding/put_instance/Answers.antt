@@ -1,4 +1,4 @@
-use Rattle.encoding.specs.CauseViews.{cause_view}
+use Rattle.named_terms.specs.CauseViews.{cause_view}
 use Rattle.encoding.specs.Inputs.{problem}
 use Rattle.encoding.proofs.AddLaws.{given_put}
 use Rattle.encoding.proofs.adding.put_instance.Goals as goal

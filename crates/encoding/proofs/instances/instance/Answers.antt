@@ -3,7 +3,7 @@ use Rattle.terms.specs.Terms.{terms_view}
 use Rattle.model.proofs.Accepted.{instance_apart}
 use Rattle.refutations.specs.Causes.{kind_of, terms_of_cause}
 use Rattle.refutations.proofs.CauseLaws.{cause_instance}
-use Rattle.encoding.specs.CauseViews.{cause_view}
+use Rattle.named_terms.specs.CauseViews.{cause_view}
 use Rattle.encoding.specs.Inputs.{problem}
 use Rattle.encoding.specs.Parts.{AreOfParts, part_views}
 use Rattle.encoding.proofs.Adds.{cause_adds}
