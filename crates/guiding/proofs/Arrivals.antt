@@ -1,9 +1,8 @@
 -- The vertices that a trail has, as one more of those with numbers comes onto it.
-use Rattle.std.proofs.Common.{◌≡◌, ℕ, zero, suc, ◌<◌, true, false, List, [], ◌∷◌, ◌++◌, length, map, take, Some, slice_get, refl, sym, ap, ap₂, ◌∙◌, subst, arith}
-use Rattle.std.proofs.lemmas.Bool.{false≢true}
+use Rattle.std.proofs.Common.{◌≡◌, ℕ, zero, suc, ◌<◌, false, List, [], ◌∷◌, ◌++◌, length, map, take, Some, slice_get, refl, sym, ap, ap₂, ◌∙◌, subst, arith}
 use Rattle.std.proofs.lemmas.List.{length-append, length-replicate}
 use Rattle.std.proofs.lemmas.Option.{none-some, same_Some}
-use Rattle.version_sets.specs.Sets.{Members, has, none, size}
+use Rattle.version_sets.specs.Sets.{Members, none}
 use Rattle.model.specs.Vertices.{Vertex, space}
 use Rattle.encoding.specs.Inputs.{problem}
 use Rattle.encoding.specs.Numberings.{Numbering}
@@ -13,11 +12,6 @@ use Rattle.propagation.specs.Trails.{TrailView}
 use Rattle.propagation.proofs.Widened.{wider_again, wider_none}
 use Rattle.guiding.specs.Guides.{IsCome, IsEncoding}
 use Rattle.guiding.specs.Remaining.{spaces_of}
-
-pub none_size : (s : Members) → ((i : ℕ) → i < length s → has s i ≡ false) → size s ≡ 0
-none_size [] all = refl
-none_size (true ∷ s) all = absurd (false≢true (sym (all 0 (omega arith))))
-none_size (false ∷ s) all = none_size s (λ i lt. all (suc i) (omega (arith, lt)))
 
 pub map_append : {A B : Type 0} (f : A → B) (xs ys : List A) → map f (xs ++ ys) ≡ map f xs ++ map f ys
 map_append f [] ys = refl

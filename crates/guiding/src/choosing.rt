@@ -1,23 +1,10 @@
-//! The least and the greatest state that is left to a vertex, and whether it is to be decided.
+//! The greatest state that is left to a vertex, and whether it is to be decided.
 
 ghost use Rattle.std.specs.Prelude.{◌≡◌, ◌<◌, ◌≤◌, true, false};
 ghost use Rattle.std.specs.Bool.{OnFalse, OnTrue};
 ghost use Rattle.version_sets.specs.Sets.{has, size};
 
 use version_sets::States;
-
-/// The least number of a set that isn't empty.
-pub(crate) fn least<S: States>(set: &S) -> u32
-    requires { 0 < size (S.tests set.now) }
-    ensures { has (S.tests set.now) result ≡ true }
-{
-    'numbers: for number in 0..set.universe() {
-        if set.member(number) {
-            return number;
-        }
-    }
-    0
-}
 
 /// The greatest number of a set that isn't empty.
 pub(crate) fn greatest<S: States>(set: &S) -> u32

@@ -6,8 +6,8 @@ ghost use Rattle.propagation.specs.Trails.{set_of, trail_view};
 ghost use Rattle.searching.specs.Searching.{IsSeen};
 ghost use Rattle.guiding.specs.Guides.{IsNextOpen, IsOpenAt, IsUnless, asked_of};
 
-use crate::choosing::least;
 use propagation::Trail;
+use searching::least;
 use version_sets::States;
 
 /// A state, unless it was asked for or is absent, which has no instances but the root's, stored from the start.

@@ -1,8 +1,8 @@
 -- The start of a search on full sets.
-use Rattle.std.proofs.Common.{◌≡◌, ℕ, zero, suc, ◌<◌, true, false, List, [], ◌∷◌, length, get_or, refl, sym, ap, ◌∙◌, subst, arith}
+use Rattle.std.proofs.Common.{◌≡◌, ℕ, zero, suc, ◌<◌, true, List, [], ◌∷◌, length, get_or, refl, sym, ap, ◌∙◌, subst, arith}
 use Rattle.std.proofs.lemmas.Bool.{false≢true}
 use Rattle.std.proofs.lemmas.List.{length-replicate}
-use Rattle.version_sets.specs.Sets.{Members, every, has, size}
+use Rattle.version_sets.specs.Sets.{Members, every, has}
 use Rattle.incompatibilities.specs.Incompatibilities.{Assignment}
 use Rattle.incompatibilities.specs.Stores.{EntryView, terms_of}
 use Rattle.propagation.specs.Satisfaction.{Agrees}
@@ -17,11 +17,6 @@ use Rattle.searching.specs.declared.turns.Answer.{Answer}
 use Rattle.searching.specs.declared.turns.Answer.TheVariants.{Selection, Unsolvable}
 use Rattle.searching.proofs.Selections.{not_broken}
 use Rattle.search_tests.specs.Universes.{AllDecided, AllLie, IsWithinAll, Selects}
-
-pub none_size : (s : Members) → ((i : ℕ) → i < length s → has s i ≡ false) → size s ≡ 0
-none_size [] none = refl
-none_size (true ∷ s) none = absurd (false≢true (sym (none 0 (omega arith))))
-none_size (false ∷ s) none = none_size s (λ i lt. none (suc i) (omega (arith, lt)))
 
 space_is : (spaces : List ℕ) (t : TrailView) → IsNew spaces t → (u : ℕ) → space_of t u ≡ get_or spaces u 0
 space_is spaces t new u = ap length (new.full u) ∙ length-replicate (get_or spaces u 0) true

@@ -22,6 +22,10 @@ AreSmall spaces = (i : ℕ) → i < length spaces → slice_index_or spaces i 0 
 abbrev pub AllDecided : TrailView → Type 0
 AllDecided t = (v : ℕ) → v < length t.sets → size (set_of t.sets v) ≤ 1
 
+-- a vertex has more than one
+abbrev pub IsOpen : TrailView → ℕ → Type 0
+IsOpen t v = (v < length t.sets) × (1 < size (set_of t.sets v))
+
 -- an assignment has the preferred states
 abbrev pub Prefers : List ℕ → List ℕ → Assignment → Type 0
 Prefers spaces states x = (v : ℕ) → v < length spaces → (v < length states) × (slice_index_or states v 0 ≡ x v)

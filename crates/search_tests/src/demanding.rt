@@ -13,10 +13,10 @@ ghost use Rattle.std.specs.Bool.{OnFalse, OnTrue};
 ghost use Rattle.std.specs.Prelude.{◌≡◌, ◌≢◌, ◌<◌, ◌≤◌, ◌∷◌, ◌++◌, [], IfOk, OnOk, length, map};
 ghost use Rattle.terms.specs.Terms.{terms_view};
 
-use crate::preferring::least;
+use crate::deciding::first_open;
 use incompatibilities::{Id, Incompatibility, Origin, Store};
 use propagation::Trail;
-use searching::{Answer, Guide, search};
+use searching::{Answer, Guide, least, search};
 use std::alloc::{AllocError, Global};
 use terms::Term;
 use version_sets::States;
@@ -264,13 +264,10 @@ impl<S: States + Drop> Guide<S> for Demanding<S> {
     }
 
     fn choose(&self, trail: &Trail<S>) -> Result<Option<(usize, u32)>, AllocError> {
-        'vertices: for vertex in 0..self.spaces.len() {
-            let left = trail.states(vertex);
-            if left.count() > 1 {
-                return Ok(Some((vertex, least(left))));
-            }
+        match first_open(trail, self.spaces.len()) {
+            Some(vertex) => Ok(Some((vertex, least(trail.states(vertex))))),
+            None => Ok(None),
         }
-        Ok(None)
     }
 
     fn noted(

@@ -1,15 +1,15 @@
 //! Tests of the algebra under the search, of its trail and of the search itself, at both bodies of their sets. The search
-//! runs with three small guides: one whose axioms all stand in the store from the start, one whose vertices and axioms
-//! come as they are asked for, and one that borrows what it knows. Each function is proved before it runs; all are
-//! compiled for the tests alone, so that they are proved once.
+//! runs with two small guides: one whose axioms all stand in the store from the start, and one whose vertices and axioms
+//! come as they are asked for. Each function is proved before it runs; all are compiled for the tests alone, so that they
+//! are proved once.
 #![tactic(auto)]
 
 #[cfg(test)]
 mod against_plain;
 #[cfg(test)]
-mod borrowing;
-#[cfg(test)]
 mod both_bodies;
+#[cfg(test)]
+mod deciding;
 #[cfg(test)]
 mod demanding;
 #[cfg(test)]

@@ -4,11 +4,10 @@ ghost use Rattle.incompatibilities.specs.Stores.{entries_view};
 ghost use Rattle.search_tests.specs.Universes.{AllLie, AreSmall};
 ghost use Rattle.std.specs.Prelude.{◌≤◌, IfOk};
 
-use crate::borrowing::search_borrowed;
 use crate::made_stores::{guide_of, put};
 use crate::preferring::search_from_full;
 use incompatibilities::{Id, Store};
-use searching::{Answer, Found};
+use searching::Answer;
 use std::alloc::{AllocError, Global};
 use std::process::Abort;
 use version_sets::States;
@@ -72,19 +71,6 @@ fn found<S: States + Drop>(
     Ok((is_selection, gained, found.steps))
 }
 
-/// The same, by the guide that borrows.
-fn borrowed<S: States + Drop>(
-    alloc: Global,
-    pigeons_there: usize,
-    holes: u32,
-) -> Result<Found, AllocError>
-    requires { holes ≤ 65536 }
-{
-    let guide = guide_of(alloc, pigeons_there, holes)?;
-    let mut store: Store<S> = pigeons(alloc, &guide.spaces, holes)?;
-    search_borrowed(alloc, &guide.spaces, &mut store)
-}
-
 pub(crate) fn four_to_seven<S: States + Drop>(
     rt: &impl Abort,
     alloc: Global,
@@ -95,11 +81,6 @@ pub(crate) fn four_to_seven<S: States + Drop>(
         // Each combination is a step, and its conflict another.
         assert!(rt; steps > gained as u64);
         assert!(rt; steps < 1_000_000);
-        // Both guides take the least hole that is left.
-        assert_eq!(rt;
-            borrowed::<S>(alloc, holes as usize + 1, holes)?.steps,
-            steps
-        );
         let (fits, _, steps) = found::<S>(rt, alloc, holes as usize, holes)?;
         assert!(rt; fits);
         // The least hole that is left is right, so each pigeon is put once, by a decision or by propagation in parts.

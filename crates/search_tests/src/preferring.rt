@@ -11,9 +11,10 @@ ghost use Rattle.searching.specs.Walking.{IsSelection};
 ghost use Rattle.std.specs.Prelude.{◌≡◌, ◌+◌, ◌<◌, ◌≤◌, IfOk, length, slice_index_or, true};
 ghost use Rattle.version_sets.specs.Sets.{has, size};
 
+use crate::deciding::first_open;
 use incompatibilities::{Id, Store};
 use propagation::Trail;
-use searching::{Found, Guide, search};
+use searching::{Found, Guide, least, search};
 use std::alloc::{AllocError, Global};
 use version_sets::States;
 
@@ -37,19 +38,6 @@ pub struct Preferring {
     pub states: Vec<u32>,
     /// What was learned, in order.
     pub lessons: Vec<Lesson>,
-}
-
-/// The least number of a set that isn't empty.
-pub(crate) fn least<S: States>(set: &S) -> u32
-    requires { 0 < size (S.tests set.now) }
-    ensures { has (S.tests set.now) result ≡ true }
-{
-    'numbers: for number in 0..set.universe() {
-        if set.member(number) {
-            return number;
-        }
-    }
-    0
 }
 
 impl Preferring {
@@ -101,13 +89,10 @@ impl<S: States + Drop> Guide<S> for Preferring {
     }
 
     fn choose(&self, trail: &Trail<S>) -> Result<Option<(usize, u32)>, AllocError> {
-        'vertices: for vertex in 0..self.spaces.len() {
-            let left = trail.states(vertex);
-            if left.count() > 1 {
-                return Ok(Some((vertex, self.state_of(vertex, left))));
-            }
+        match first_open(trail, self.spaces.len()) {
+            Some(vertex) => Ok(Some((vertex, self.state_of(vertex, trail.states(vertex))))),
+            None => Ok(None),
         }
-        Ok(None)
     }
 
     fn noted(

@@ -1,8 +1,8 @@
--- What a guide has to show, where nothing comes and where vertices come.
+-- What a guide has to show, where nothing comes and where vertices come, and that a set without a number is empty.
 use Rattle.std.proofs.Common.{◌≡◌, ℕ, zero, suc, ◌+◌, ◌-◌, ◌<◌, ◌≤◌, true, false, List, [], ◌∷◌, ◌++◌, length, map, get_or, refl, sym, ap, ap₂, ◌∙◌, subst, arith, inl, inr}
 use Rattle.std.proofs.lemmas.Bool.{cases_lt, false≢true}
 use Rattle.std.proofs.lemmas.List.{get_or_append_left, get_or-append_right, length-append, length-map, length-replicate}
-use Rattle.version_sets.specs.Sets.{every, size}
+use Rattle.version_sets.specs.Sets.{Members, every, has, size}
 use Rattle.incompatibilities.specs.Stores.{EntryView}
 use Rattle.propagation.specs.Trails.{TrailView, set_of, space_of}
 use Rattle.propagation.specs.Promises.{LieIn}
@@ -11,6 +11,11 @@ use Rattle.propagation.proofs.SetLemmas.{size_every}
 use Rattle.propagation.proofs.Widened.{wider_none}
 use Rattle.searching.specs.Searching.{AllAsked, HasSpaces, IsOnly, Pairs}
 use Rattle.searching.specs.Turning.{IsAdding}
+
+pub none_size : (s : Members) → ((i : ℕ) → i < length s → has s i ≡ false) → size s ≡ 0
+none_size [] all = refl
+none_size (true ∷ s) all = absurd (false≢true (sym (all 0 (omega arith))))
+none_size (false ∷ s) all = none_size s (λ i lt. all (suc i) (omega (arith, lt)))
 
 nothing_put : (es : List EntryView) → es ≡ es ++ []
 nothing_put [] = refl

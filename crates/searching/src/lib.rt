@@ -19,7 +19,9 @@
 #![tactic(auto)]
 
 mod guide;
+mod states_left;
 mod turns;
 
 pub use guide::Guide;
+pub use states_left::least;
 pub use turns::{Answer, Found, search};

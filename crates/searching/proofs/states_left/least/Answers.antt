@@ -1,6 +1,6 @@
 use Rattle.std.proofs.Common.{arith}
-use Rattle.guiding.proofs.Arrivals.{none_size}
-use Rattle.guiding.proofs.choosing.least.Goals as goal
+use Rattle.searching.proofs.Guides.{none_size}
+use Rattle.searching.proofs.states_left.least.Goals as goal
 
 pub returns : goal.returns
 returns g c =
