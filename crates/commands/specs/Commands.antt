@@ -29,7 +29,7 @@ use Rattle.resolver.specs.declared.resolving.Answer.TheVariants.{Lock, Unsolvabl
 use Rattle.commands.specs.Disks.{Reading, Writing, HasFile, HasOld, IsFile, IsKept, IsOld, bytes_if, most_of_manifest, most_of_lock, most_of_proof}
 use Rattle.commands.specs.Lines.{line_of, verdict_status, check_status, ending_of, told_of, IsPrinted, status_of}
 use Rattle.commands.specs.Sources.{IsBadSource, IsSource}
-use Rattle.commands.specs.Endings.{WantsMemory, cannot_write, fault, is_stopped, ending_view}
+use Rattle.commands.specs.Endings.{WantsMemory, cannot_write, fault, has_ended_before, ending_view}
 use Rattle.commands.specs.declared.ending.Ending.{Ending}
 
 -- `--rust-first`
@@ -184,8 +184,8 @@ module _ {F : Type 0} (reads : Reading) (writes : Writing) (opens : List ℕ →
     -- what the command tells on standard error
     pub told : List (List ℕ)
     pub answers : IfOk given (Answers reads writes opens calls failed view old new told)
-    pub stops : IfErr given (Endings view told)
-    pub stopped : is_stopped given ≡ true → unchanged
+    pub ends : IfErr given (Endings view told)
+    pub ended_before : has_ended_before given ≡ true → unchanged
     pub ended : tells (told ++ ending_of given)
 
   -- A run: as the words ask, or, where they ask for nothing, what is said of them; with standard output before and after,

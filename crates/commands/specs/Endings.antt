@@ -45,6 +45,6 @@ is_before (cannot_read path) = true
 is_before cannot_write = false
 is_before (cannot_write_file path) = true
 
-abbrev pub is_stopped : {T : Type 0} → Result T Ending → Bool
-is_stopped (Ok x) = false
-is_stopped (Err ending) = is_before (ending_view ending)
+abbrev pub has_ended_before : {T : Type 0} → Result T Ending → Bool
+has_ended_before (Ok x) = false
+has_ended_before (Err ending) = is_before (ending_view ending)

@@ -8,7 +8,7 @@ ghost use Rattle.words.specs.Views.{text_if};
 ghost use Rattle.commands.specs.Commands.{IsFiled, IsUnwritten};
 ghost use Rattle.commands.specs.Disks.{writes};
 ghost use Rattle.commands.specs.Lines.{IsPrinted, Puts, Tells, line_of, verdict_status, check_status, skip_line, skips_of, told_of};
-ghost use Rattle.commands.specs.Endings.{cannot_write, is_stopped, ending_view};
+ghost use Rattle.commands.specs.Endings.{cannot_write, has_ended_before, ending_view};
 
 use crate::disk::Disk;
 use crate::ending::Ending;
@@ -38,7 +38,7 @@ pub(crate) struct Ended<'a> {
 
 pub(crate) fn print_verdict<'a, O: Stream>(verdict: &Verdict, out: &mut O) -> Result<u8, Ending<'a>>
     ensures printed { IfOk result (λ status. (status ≡ verdict_status verdict.now) × Appends (O.contents out.old) (O.contents out.new) (line_of (verdict_text verdict.now))) }
-    ensures written { is_stopped result ≡ false }
+    ensures written { has_ended_before result ≡ false }
     ensures unwritten { IfErr result (λ ending. (ending_view ending ≡ cannot_write) × O.fails out.old (line_of (verdict_text verdict.now)) out.new) }
 {
     let status = match verdict {
@@ -50,7 +50,7 @@ pub(crate) fn print_verdict<'a, O: Stream>(verdict: &Verdict, out: &mut O) -> Re
 
 pub(crate) fn print_check<'a, O: Stream>(checked: &Check, out: &mut O) -> Result<u8, Ending<'a>>
     ensures printed { IfOk result (λ status. (status ≡ check_status checked.now) × Appends (O.contents out.old) (O.contents out.new) (line_of (check_text checked.now))) }
-    ensures written { is_stopped result ≡ false }
+    ensures written { has_ended_before result ≡ false }
     ensures unwritten { IfErr result (λ ending. (ending_view ending ≡ cannot_write) × O.fails out.old (line_of (check_text checked.now)) out.new) }
 {
     let status = match checked {
@@ -63,7 +63,7 @@ pub(crate) fn print_check<'a, O: Stream>(checked: &Check, out: &mut O) -> Result
 /// A whole text, with the status 0.
 pub(crate) fn print_bytes<'a, O: Stream>(bytes: &[u8], out: &mut O) -> Result<u8, Ending<'a>>
     ensures printed { IfOk result (λ status. (status ≡ 0) × Appends (O.contents out.old) (O.contents out.new) bytes.now) }
-    ensures written { is_stopped result ≡ false }
+    ensures written { has_ended_before result ≡ false }
     ensures unwritten { IfErr result (λ ending. (ending_view ending ≡ cannot_write) × O.fails out.old bytes.now out.new) }
 {
     after(out.put(bytes), 0)
@@ -72,7 +72,7 @@ pub(crate) fn print_bytes<'a, O: Stream>(bytes: &[u8], out: &mut O) -> Result<u8
 /// This status, where the answer could be written.
 fn after<'a>(written: bool, status: u8) -> Result<u8, Ending<'a>>
     ensures ok { IfOk result (λ given. (given ≡ status) × (written ≡ true)) }
-    ensures written { is_stopped result ≡ false }
+    ensures written { has_ended_before result ≡ false }
     ensures unwritten { IfErr result (λ ending. (ending_view ending ≡ cannot_write) × (written ≡ false)) }
 {
     if written {
@@ -94,7 +94,7 @@ pub(crate) fn print_answer<'a, D: Disk, O: Stream, E: Stream>(
     ensures printed { IfOk result.status (IsPrinted (O.contents out.old) (O.contents out.new) answer.now) }
     ensures filed { IfOk result.status (λ _. IsFiled (writes D.writes disk.old disk.new) (text_if proof.entry) answer.now) }
     ensures unwritten { IfErr result.status (IsUnwritten (writes D.writes disk.old disk.new) (λ bytes. O.fails out.old bytes out.new) (text_if proof.entry) answer.now) }
-    ensures stopped { is_stopped result.status ≡ true → out.new ≡ out.old }
+    ensures ended_before { has_ended_before result.status ≡ true → out.new ≡ out.old }
     ensures told { Tells E.contents E.fails err.old (told_of answer.now result.status) result.told err.new }
 {
     let told = print_skips(skips_of(answer), err);

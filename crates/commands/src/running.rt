@@ -10,7 +10,7 @@ ghost use Rattle.commands.specs.Commands.{Answers, IsAnswerTo, IsCheckOf, IsDeri
 ghost use Rattle.commands.specs.Disks.{bytes_if, writes};
 ghost use Rattle.commands.specs.WordsFaults.{IsToldOfWords, told_of_words};
 ghost use Rattle.commands.specs.Lines.{Tells, check_status, ending_of, line_of, status_of, verdict_status};
-ghost use Rattle.commands.specs.Endings.{cannot_write, is_stopped, ending_view};
+ghost use Rattle.commands.specs.Endings.{cannot_write, has_ended_before, ending_view};
 ghost use Rattle.commands.specs.Systems.{IsOpened, IsWritten};
 
 use crate::disk::{Disk, Puts};
@@ -75,7 +75,7 @@ fn answered<'a, D: Disk, O: Stream, E: Stream>(
     err: &mut E,
 ) -> Ended<'a>
     ensures answers { (told : List (List ℕ)) × IfOk result.status (Answers (D.reads disk.old) (writes D.writes disk.old disk.new) (D.opens disk.old) D.Index.calls D.Index.failed (words_view words.entry.now) (O.contents out.old) (O.contents out.new) told) × IfErr result.status (Endings (D.reads disk.old) (writes D.writes disk.old disk.new) (D.opens disk.old) D.Index.calls D.Index.failed (λ bytes. O.fails out.old bytes out.new) (words_view words.entry.now) told) × Tells E.contents E.fails err.old told result.told err.new }
-    ensures stopped { is_stopped result.status ≡ true → out.new ≡ out.old }
+    ensures ended_before { has_ended_before result.status ≡ true → out.new ≡ out.old }
 {
     match words {
         Words::Verify {
@@ -123,8 +123,8 @@ fn verify_at<'a, D: Disk, O: Stream>(
     out: &mut O,
 ) -> Result<u8, Ending<'a>>
     ensures answers { IfOk result (λ status. (said : Verdict) × IsVerdictOf (D.reads disk.now) (D.opens disk.now) D.Index.calls D.Index.failed manifest.entry.now index.now lock.entry.now (text_if source.entry) (Ok said) × (status ≡ verdict_status said) × Appends (O.contents out.old) (O.contents out.new) (line_of (verdict_text said))) }
-    ensures stops { IfErr result (λ ending. LacksVerdict (D.reads disk.now) (D.opens disk.now) D.Index.calls D.Index.failed manifest.entry.now index.now lock.entry.now (text_if source.entry) ending ⊎ ((said : Verdict) × IsVerdictOf (D.reads disk.now) (D.opens disk.now) D.Index.calls D.Index.failed manifest.entry.now index.now lock.entry.now (text_if source.entry) (Ok said) × (ending_view ending ≡ cannot_write) × O.fails out.old (line_of (verdict_text said)) out.new)) }
-    ensures stopped { is_stopped result ≡ true → out.new ≡ out.old }
+    ensures ends { IfErr result (λ ending. LacksVerdict (D.reads disk.now) (D.opens disk.now) D.Index.calls D.Index.failed manifest.entry.now index.now lock.entry.now (text_if source.entry) ending ⊎ ((said : Verdict) × IsVerdictOf (D.reads disk.now) (D.opens disk.now) D.Index.calls D.Index.failed manifest.entry.now index.now lock.entry.now (text_if source.entry) (Ok said) × (ending_view ending ≡ cannot_write) × O.fails out.old (line_of (verdict_text said)) out.new)) }
+    ensures ended_before { has_ended_before result ≡ true → out.new ≡ out.old }
 {
     let verdict = verdict_at(disk, manifest, index, lock, source)?;
     let status = print_verdict(&verdict, out)?;
@@ -216,8 +216,8 @@ fn check_at<'a, D: Disk, O: Stream>(
     out: &mut O,
 ) -> Result<u8, Ending<'a>>
     ensures answers { IfOk result (λ status. (said : Check) × IsCheckOf (D.reads disk.now) (D.opens disk.now) D.Index.calls D.Index.failed manifest.entry.now index.now (text_if lock.entry) (text_if source.entry) proof.entry.now (Ok said) × (status ≡ check_status said) × Appends (O.contents out.old) (O.contents out.new) (line_of (check_text said))) }
-    ensures stops { IfErr result (λ ending. LacksCheck (D.reads disk.now) (D.opens disk.now) D.Index.calls D.Index.failed manifest.entry.now index.now (text_if lock.entry) (text_if source.entry) proof.entry.now ending ⊎ ((said : Check) × IsCheckOf (D.reads disk.now) (D.opens disk.now) D.Index.calls D.Index.failed manifest.entry.now index.now (text_if lock.entry) (text_if source.entry) proof.entry.now (Ok said) × (ending_view ending ≡ cannot_write) × O.fails out.old (line_of (check_text said)) out.new)) }
-    ensures stopped { is_stopped result ≡ true → out.new ≡ out.old }
+    ensures ends { IfErr result (λ ending. LacksCheck (D.reads disk.now) (D.opens disk.now) D.Index.calls D.Index.failed manifest.entry.now index.now (text_if lock.entry) (text_if source.entry) proof.entry.now ending ⊎ ((said : Check) × IsCheckOf (D.reads disk.now) (D.opens disk.now) D.Index.calls D.Index.failed manifest.entry.now index.now (text_if lock.entry) (text_if source.entry) proof.entry.now (Ok said) × (ending_view ending ≡ cannot_write) × O.fails out.old (line_of (check_text said)) out.new)) }
+    ensures ended_before { has_ended_before result ≡ true → out.new ≡ out.old }
 {
     let checked = checked_at(disk, manifest, index, lock, source, proof)?;
     let status = print_check(&checked, out)?;
@@ -260,8 +260,8 @@ fn explain_at<'a, D: Disk, O: Stream>(
     out: &mut O,
 ) -> Result<u8, Ending<'a>>
     ensures answers { IfOk result (λ status. (text : List ℕ) × IsTextOf (D.reads disk.now) proof.entry.now text × (status ≡ 0) × Appends (O.contents out.old) (O.contents out.new) text) }
-    ensures stops { IfErr result (λ ending. LacksText (D.reads disk.now) proof.entry.now ending ⊎ ((text : List ℕ) × IsTextOf (D.reads disk.now) proof.entry.now text × (ending_view ending ≡ cannot_write) × O.fails out.old text out.new)) }
-    ensures stopped { is_stopped result ≡ true → out.new ≡ out.old }
+    ensures ends { IfErr result (λ ending. LacksText (D.reads disk.now) proof.entry.now ending ⊎ ((text : List ℕ) × IsTextOf (D.reads disk.now) proof.entry.now text × (ending_view ending ≡ cannot_write) × O.fails out.old text out.new)) }
+    ensures ended_before { has_ended_before result ≡ true → out.new ≡ out.old }
 {
     let text = text_at(disk, proof)?;
     let status = print_bytes(text.as_bytes(), out)?;

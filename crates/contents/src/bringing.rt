@@ -1,7 +1,6 @@
 //! What stands at the places of versions that were met.
 
 ghost use Rattle.std.specs.Prelude.{◌≡◌, Some, slice_get};
-ghost use Rattle.features.specs.Views.{dependency_views};
 ghost use Rattle.model.specs.Vertices.{Owner, owner_brings};
 ghost use Rattle.facts.specs.Graphs.{brings_view};
 ghost use Rattle.catalogue.specs.Problems.{problem_in};
@@ -9,7 +8,7 @@ ghost use Rattle.contents.specs.Contents.{AreStops, owners_of};
 
 use crate::stop::{Stop, store_holds};
 use catalogue::Catalogue;
-use features::{Dependency, Summary};
+use features::Summary;
 use manifest::Manifest;
 
 /// What the root or the version at a place brings.
@@ -29,14 +28,4 @@ pub fn brings_at<'a>(
     let stop = stops.get(place - 1)?;
     let candidate = catalogue.record(&stop.name, stop.place)?;
     Some(&candidate.brings)
-}
-
-/// The dependencies of what stands at a place.
-pub fn dependencies_of<'a>(brings: Option<&'a Summary>) -> &'a [Dependency]
-    ensures { dependency_views result.now ≡ (brings_view brings.entry).dependencies }
-{
-    match brings {
-        Some(summary) => summary.dependencies.as_slice(),
-        None => &[],
-    }
 }

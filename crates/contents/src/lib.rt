@@ -20,7 +20,7 @@ mod placed;
 mod putting;
 mod stop;
 
-pub use bringing::{brings_at, dependencies_of};
+pub use bringing::brings_at;
 pub use building::content_of;
 pub use putting::put_stop;
 pub use stop::{Stop, store_holds};

@@ -15,7 +15,7 @@ use Rattle.refutations.specs.Causes.{Cause, is_cause, kind_of, terms_of_cause}
 use Rattle.vertices.specs.Kinds.{kind_view}
 use Rattle.vertices.specs.declared.kind.Kind.{Kind}
 use Rattle.encoding.specs.Assignments.{state_at}
-use Rattle.encoding.specs.CauseViews.{cause_views, given_views}
+use Rattle.encoding.specs.GivenViews.{cause_views, given_views}
 use Rattle.named_terms.specs.CauseViews.{cause_view}
 use Rattle.encoding.specs.Numberings.{Numbering, IsGrown, IsNumbering, Says}
 use Rattle.encoding.specs.Pairs.{Pair, AreCausesAt, AreGiven}

@@ -7,7 +7,7 @@ use Rattle.model.specs.Vertices.{Vertex, same_vertex}
 use Rattle.model.specs.Axioms.{Term}
 use Rattle.model.proofs.Lists.{to_map}
 use Rattle.refutations.specs.Causes.{Cause, terms_of_cause}
-use Rattle.encoding.specs.CauseViews.{cause_views}
+use Rattle.encoding.specs.GivenViews.{cause_views}
 use Rattle.named_terms.specs.CauseViews.{cause_view}
 use Rattle.encoding.specs.Numberings.{AddsOnly, Numbering, with_vertex}
 use Rattle.encoding.specs.Pairs.{AreCausesAt, IsCauseAt, IsSpokenOf, Pair, spoken_by}

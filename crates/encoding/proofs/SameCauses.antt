@@ -10,7 +10,7 @@ use Rattle.refutations.specs.Causes.{same_entry}
 use Rattle.refutations.specs.Listed.{same_cause}
 use Rattle.refutations.proofs.Bools.{in_append-left, in_append-right}
 use Rattle.refutations.proofs.Listing.{cause-same, cause-refl}
-use Rattle.encoding.specs.CauseViews.{cause_views}
+use Rattle.encoding.specs.GivenViews.{cause_views}
 use Rattle.named_terms.specs.CauseViews.{cause_view}
 use Rattle.encoding.specs.CausesAt.{with_cause, with_causes}
 use Rattle.named_terms.specs.declared.cause.Cause.{Cause}

@@ -6,7 +6,7 @@ pub mod Absences
 pub mod Finals
 pub mod Inputs
 pub mod Parts
-pub mod CauseViews
+pub mod GivenViews
 pub mod CausesAt
 pub mod Higher
 pub mod Called

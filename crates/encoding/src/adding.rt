@@ -8,7 +8,7 @@ ghost use Rattle.refutations.specs.Causes as causes;
 ghost use Rattle.refutations.specs.Causes.{is_cause, kind_of};
 ghost use Rattle.vertices.specs.Kinds.{kind_view};
 ghost use Rattle.encoding.specs.Assignments.{state_at};
-ghost use Rattle.encoding.specs.CauseViews.{cause_views, given_views};
+ghost use Rattle.encoding.specs.GivenViews.{cause_views, given_views};
 ghost use Rattle.named_terms.specs.CauseViews.{cause_view};
 ghost use Rattle.encoding.specs.Inputs.{KnowsDefault, problem};
 ghost use Rattle.encoding.specs.Numberings.{AddsOnly, IsGrown, IsNumbering};

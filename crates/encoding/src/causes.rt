@@ -1,4 +1,4 @@
-//! The causes whose instances are added for a vertex and one of its states.
+//! What the needs of an owner and the entries of its features give rise to.
 
 ghost use Rattle.std.specs.Prelude.{◌≡◌, ◌++◌, ◌∷◌, [], ◌&&◌, List, Some, None, OnOk, IfOk, map, option_map, if◌then◌else◌};
 ghost use Rattle.std.specs.List.{flat_map, list_any};
@@ -13,7 +13,7 @@ ghost use Rattle.model.specs.Vertices as model_vertices;
 ghost use Rattle.model.specs.Vertices.{feat, owner_brings, same_class, same_vertex};
 ghost use Rattle.refutations.specs.Causes.{is_needed, of_asking, of_enabling, table_of_owner};
 ghost use Rattle.encoding.specs.Called.{AreOfVersion, called_so, named_by, numbered_from, numbered_views};
-ghost use Rattle.encoding.specs.CauseViews.{cause_views};
+ghost use Rattle.encoding.specs.GivenViews.{cause_views};
 ghost use Rattle.encoding.specs.CausesAt.{each_from, entry_causes, entry_if, feature_causes, need_if, turned_if, version_causes, weak_if, with_causes};
 ghost use Rattle.encoding.specs.Inputs.{problem};
 ghost use Rattle.vertices.specs.RefViews.{owner_ref_view};

@@ -8,7 +8,7 @@ ghost use Rattle.features.specs.Views.{dependency_view, dependency_views};
 ghost use Rattle.model.specs.Summary.{asked_of_target, same_text};
 ghost use Rattle.model.specs.Vertices.{dep_classes, same_class};
 ghost use Rattle.refutations.specs.Causes.{dependency_at, of_list};
-ghost use Rattle.encoding.specs.CauseViews.{cause_views};
+ghost use Rattle.encoding.specs.GivenViews.{cause_views};
 ghost use Rattle.encoding.specs.CausesAt.{each_from, lead_causes, listed_by, newest_if, root_asked};
 ghost use Rattle.encoding.specs.Higher.{Adds, AreAbove, AreHigher, alone_from, is_other, newest_among, newest_in};
 ghost use Rattle.encoding.specs.Inputs.{KnowsDefault, problem};

@@ -64,7 +64,7 @@ pub use listing::states_of;
 pub use lookups::dependency_at;
 pub use pairing::causes_at;
 pub use spaces::classes_of;
-pub use states::{space_of, spaces_are_small, state_at};
+pub use states::{space_at, space_of, spaces_are_small, state_at};
 pub use table::Table;
 
 /// An assignment over numbers that breaks no entry of a store, where each pair that holds in it has been added, breaks

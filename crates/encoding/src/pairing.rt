@@ -7,7 +7,7 @@ ghost use Rattle.model.specs.Axioms.{IsVertex};
 ghost use Rattle.model.specs.Vertices as model;
 ghost use Rattle.refutations.specs.Causes.{of_ask};
 ghost use Rattle.refutations.specs.Listed.{classes_at};
-ghost use Rattle.encoding.specs.CauseViews.{cause_views};
+ghost use Rattle.encoding.specs.GivenViews.{cause_views};
 ghost use Rattle.named_terms.specs.CauseViews.{cause_view};
 ghost use Rattle.encoding.specs.CausesAt.{causes_at};
 ghost use Rattle.encoding.specs.Inputs.{KnowsDefault, problem};

@@ -1,6 +1,6 @@
 //! The states of vertices by their numbers: absent is 0, the others follow in the order of the space.
 
-ghost use Rattle.std.specs.Prelude.{◌≡◌, ◌≤◌, ◌∷◌, [], IfOk, length, map, slice_get, unwrap_or};
+ghost use Rattle.std.specs.Prelude.{◌≡◌, ◌≤◌, ◌∷◌, [], IfOk, Some, length, map, slice_get, unwrap_or};
 ghost use Rattle.semver.specs.Identifiers.{parts_of};
 ghost use Rattle.classes.specs.Classes.{class_view};
 ghost use Rattle.model.specs.Vertices.{Vertex, absent, dep, in_class, pkg, present, space, version};
@@ -10,6 +10,7 @@ ghost use Rattle.vertices.specs.RefViews.{owner_ref_view, state_ref_view, vertex
 
 use crate::inputs::Inputs;
 use crate::spaces::classes_at;
+use crate::table::Table;
 use classes::Class;
 use features::PackageName;
 use looking_up::class_versions;
@@ -35,6 +36,22 @@ pub fn space_of(
 {
     spaces_are_small(inputs);
     states_counted(alloc, inputs, vertex)
+}
+
+/// How many states the vertex with a number has, absent among them; 0 where no vertex has it.
+pub fn space_at(
+    alloc: Global,
+    inputs: &Inputs<'_>,
+    table: &Table<'_>,
+    number: usize,
+) -> Result<u32, AllocError>
+    ensures small { IfOk result (λ n. n ≤ 65536) }
+    ensures space { IfOk result (λ n. (v : Vertex) → slice_get table.now number ≡ Some v → n ≡ length (space (problem inputs.now) v)) }
+{
+    match table.vertex(number) {
+        Some(vertex) => Ok(space_of(alloc, inputs, &vertex)? as u32),
+        None => Ok(0),
+    }
 }
 
 fn states_counted(

@@ -23,3 +23,4 @@ mod rules;
 
 pub use facts::{Facts, facts_of};
 pub use node::Node;
+pub use numbering::dependencies_of;

@@ -105,7 +105,8 @@ fn links_of<'a>(
     Ok(links)
 }
 
-fn dependencies_of(brings: Option<&Summary>) -> &[Dependency]
+/// The dependencies of what is brought; none where nothing is.
+pub fn dependencies_of<'a>(brings: Option<&'a Summary>) -> &'a [Dependency]
     ensures { dependency_views result.now ≡ (brings_view brings.entry).dependencies }
 {
     match brings {

@@ -1,19 +1,18 @@
 //! The numbers of versions and of classes among the states of a vertex, where they follow absent.
 
-ghost use Rattle.std.specs.Prelude.{◌≡◌, ◌<◌, ◌≤◌, IfSome, Some, true, false, suc, length, option_map, position};
-ghost use Rattle.std.specs.List.Sorted.{IsPartitionPoint};
+ghost use Rattle.std.specs.Prelude.{◌≡◌, ◌<◌, ◌≤◌, IfSome, true, suc, length, option_map, position};
 ghost use Rattle.semver.specs.Identifiers.{parts_of};
 ghost use Rattle.classes.specs.Classes.{class_view};
 ghost use Rattle.model.specs.Vertices.{has_state, pkg, same_class, space};
 ghost use Rattle.model.specs.Vertices as model;
 ghost use Rattle.encoding.specs.Inputs.{problem};
-ghost use Rattle.looking_up.specs.Ranges.{AreRising, is_below};
 ghost use Rattle.following.specs.Found.{IsNumberOf};
 
 use catalogue::place_of;
 use classes::Class;
 use encoding::Inputs;
 use features::PackageName;
+use looking_up::below;
 use semver::Version;
 
 /// The number of a version among the states of a name in its class.
@@ -30,22 +29,6 @@ pub(crate) fn version_number(
     let rest = &versions[below(class, versions)..];
     let place = place_of(rest, version)?;
     Some(place as u32 + 1)
-}
-
-/// How many are of lower classes.
-fn below(class: Class, versions: &[Version]) -> usize
-    requires { AreRising versions.now }
-    ensures few { result ≤ length versions.now }
-    ensures place { IsPartitionPoint (λ v. is_below (class_view class) (parts_of v) ≡ true) (λ v. is_below (class_view class) (parts_of v) ≡ false) versions.now result }
-{
-    versions.partition_point(|version| is_below(class, version))
-}
-
-/// Whether a version is of a lower class.
-fn is_below(class: Class, version: &Version) -> bool
-    ensures { result ≡ is_below (class_view class) (parts_of version.now) }
-{
-    Class::of(version).is_lower(class)
 }
 
 /// The number of a class among the states of a dependency that may lead to these classes.

@@ -1,7 +1,7 @@
 //! What vertices of a table count, by the sizes of their spaces, and the axioms of these.
 
 ghost use Rattle.std.specs.Prelude.{◌≡◌, IfOk, is_some, length, option_map, slice_get, take};
-ghost use Rattle.encoding.specs.CauseViews.{given_views};
+ghost use Rattle.encoding.specs.GivenViews.{given_views};
 ghost use Rattle.encoding.specs.Inputs.{problem};
 ghost use Rattle.encoding.specs.Numberings.{IsGrown, IsWhole, number_in};
 ghost use Rattle.vertices.specs.RefViews.{state_ref_view, vertex_ref_view};

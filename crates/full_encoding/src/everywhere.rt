@@ -4,7 +4,7 @@ ghost use Rattle.std.specs.Prelude.{◌≡◌, ◌++◌, ◌∷◌, [], List, So
 ghost use Rattle.model.specs.Axioms.{IsVertex};
 ghost use Rattle.model.specs.Vertices.{State, Vertex, space};
 ghost use Rattle.vertices.specs.RefViews.{state_ref_view, state_ref_views, vertex_ref_view};
-ghost use Rattle.encoding.specs.CauseViews.{given_views};
+ghost use Rattle.encoding.specs.GivenViews.{given_views};
 ghost use Rattle.encoding.specs.Inputs.{KnowsDefault, problem};
 ghost use Rattle.encoding.specs.Numberings.{IsGrown, IsNumbering, IsWhole};
 ghost use Rattle.encoding.specs.Pairs.{Pair};

@@ -1,11 +1,10 @@
 //! How many states vertices have, beside their numbers.
 
-ghost use Rattle.std.specs.Prelude.{◌≡◌, ◌+◌, ◌<◌, ◌≤◌, [], IfOk, OnOk, Some, length, slice_get, take, drop};
-ghost use Rattle.model.specs.Vertices.{Vertex, space};
+ghost use Rattle.std.specs.Prelude.{◌≡◌, ◌+◌, ◌<◌, ◌≤◌, [], IfOk, OnOk, length, take, drop};
 ghost use Rattle.encoding.specs.Inputs.{problem};
 ghost use Rattle.full_encoding.specs.Encodings.{AreSpaces};
 
-use encoding::{Inputs, Table, space_of};
+use encoding::{Inputs, Table, space_at};
 use std::alloc::{AllocError, Global};
 
 /// How many states each vertex of the table has.
@@ -56,19 +55,4 @@ fn put_space(
     let space = space_at(alloc, inputs, table, spaces.len())?;
     spaces.push(space)?;
     Ok(())
-}
-
-/// How many states the vertex with a number has; 0 where no vertex has it.
-fn space_at(
-    alloc: Global,
-    inputs: &Inputs<'_>,
-    table: &Table<'_>,
-    number: usize,
-) -> Result<u32, AllocError>
-    ensures { IfOk result (λ n. (v : Vertex) → slice_get table.now number ≡ Some v → n ≡ length (space (problem inputs.now) v)) }
-{
-    match table.vertex(number) {
-        Some(vertex) => Ok(space_of(alloc, inputs, &vertex)? as u32),
-        None => Ok(0),
-    }
 }

@@ -2,7 +2,7 @@
 
 ghost use Rattle.std.specs.Prelude.{◌≡◌, ◌∷◌, [], IfOk, length, option_map, slice_get};
 ghost use Rattle.model.specs.Vertices.{root, space};
-ghost use Rattle.encoding.specs.CauseViews.{given_views};
+ghost use Rattle.encoding.specs.GivenViews.{given_views};
 ghost use Rattle.encoding.specs.Inputs.{KnowsDefault, problem};
 ghost use Rattle.encoding.specs.Numberings.{IsGrown, IsNumbering, IsWhole, number_in};
 ghost use Rattle.vertices.specs.RefViews.{state_ref_view, vertex_ref_view};

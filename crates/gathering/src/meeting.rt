@@ -11,9 +11,9 @@ ghost use Rattle.gathering.specs.Leads.{HasEnded, ends};
 
 use crate::leading::led_at;
 use crate::targets::targets_of;
-use contents::{Stop, brings_at, dependencies_of, store_holds};
+use contents::{Stop, brings_at, store_holds};
 use encoding::{Inputs, Table};
-use facts::Node;
+use facts::{Node, dependencies_of};
 use indexmap::IndexSet;
 use propagation::Trail;
 use std::alloc::{AllocError, Global};

@@ -1,34 +1,16 @@
 //! Vertices that come onto the trail once an instance speaks of them.
 
-ghost use Rattle.std.specs.Prelude.{◌≡◌, ◌+◌, ◌<◌, ◌≤◌, IfOk, OnOk, Some, length, map, slice_get};
+ghost use Rattle.std.specs.Prelude.{◌≡◌, ◌+◌, ◌<◌, ◌≤◌, OnOk, length, map};
 ghost use Rattle.incompatibilities.specs.Stores.{entries_view};
 ghost use Rattle.propagation.specs.Promises.{IsTrail};
 ghost use Rattle.propagation.specs.Trails.{trail_view};
-ghost use Rattle.model.specs.Vertices.{Vertex, space};
-ghost use Rattle.encoding.specs.Inputs.{problem};
 ghost use Rattle.guiding.specs.Guides.{IsCome, IsEncoding};
 
-use encoding::{Inputs, Table, space_of};
+use encoding::{Inputs, Table, space_at};
 use incompatibilities::Store;
 use propagation::Trail;
 use std::alloc::{AllocError, Global};
 use version_sets::States;
-
-/// How many states the vertex with a number has.
-fn space_at(
-    alloc: Global,
-    inputs: &Inputs<'_>,
-    table: &Table<'_>,
-    number: usize,
-) -> Result<u32, AllocError>
-    ensures small { IfOk result (λ n. n ≤ 65536) }
-    ensures space { IfOk result (λ n. (v : Vertex) → slice_get table.now number ≡ Some v → n ≡ length (space (problem inputs.now) v)) }
-{
-    match table.vertex(number) {
-        Some(vertex) => Ok(space_of(alloc, inputs, &vertex)? as u32),
-        None => Ok(0),
-    }
-}
 
 /// Gives the trail the next vertex.
 fn come_next<S: States + Drop>(

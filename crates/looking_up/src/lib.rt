@@ -17,4 +17,4 @@ mod ranges;
 pub use matching::{has_class, is_unmatched};
 pub use owners::{brings, dependencies_of, dependency_at, entries_of};
 pub use problem::Problem;
-pub use ranges::{class_versions, of_class};
+pub use ranges::{below, class_versions, of_class};

@@ -33,8 +33,8 @@ pub fn of_class<'a>(class: Class, versions: &'a [Version]) -> &'a [Version]
     &rest[..up_to(class, rest)]
 }
 
-/// How many are of lower classes.
-fn below(class: Class, versions: &[Version]) -> usize
+/// How many are of lower classes than this one.
+pub fn below(class: Class, versions: &[Version]) -> usize
     requires { AreRising versions.now }
     ensures few { result ≤ length versions.now }
     ensures place { IsPartitionPoint (λ v. is_below (class_view class) (parts_of v) ≡ true) (λ v. is_below (class_view class) (parts_of v) ≡ false) versions.now result }

@@ -12,8 +12,8 @@ ghost use Rattle.walks.specs.Met.{ArePicks, IsPick};
 
 use crate::picking::pick;
 use catalogue::Catalogue;
-use contents::{Stop, brings_at, dependencies_of, put_stop, store_holds};
-use facts::Node;
+use contents::{Stop, brings_at, put_stop, store_holds};
+use facts::{Node, dependencies_of};
 use features::Dependency;
 use indexmap::IndexSet;
 use manifest::Manifest;

@@ -24,7 +24,7 @@ pub returns-in-Verify-clause-answers : goal.returns-in-Verify-clause-answers
 returns-in-Verify-clause-answers g c = rw (c.in-Verify.is, c.quiet.ensures.status) (
   [],
   map_ok c.verify_at.result (λ status said. (said, refl, refl)) c.verify_at.ensures.answers,
-  map_err c.verify_at.result (λ ending lacks. (lacks, refl, refl)) c.verify_at.ensures.stops,
+  map_err c.verify_at.result (λ ending lacks. (lacks, refl, refl)) c.verify_at.ensures.ends,
   (c.quiet.ensures.told, refl),
 )
 
@@ -32,7 +32,7 @@ pub returns-in-Check-clause-answers : goal.returns-in-Check-clause-answers
 returns-in-Check-clause-answers g c = rw (c.in-Check.is, c.quiet-in-Check.ensures.status) (
   [],
   map_ok c.check_at.result (λ status said. (said, refl, refl)) c.check_at.ensures.answers,
-  map_err c.check_at.result (λ ending lacks. (lacks, refl, refl)) c.check_at.ensures.stops,
+  map_err c.check_at.result (λ ending lacks. (lacks, refl, refl)) c.check_at.ensures.ends,
   (c.quiet-in-Check.ensures.told, refl),
 )
 
@@ -40,6 +40,6 @@ pub returns-in-Explain-clause-answers : goal.returns-in-Explain-clause-answers
 returns-in-Explain-clause-answers g c = rw (c.in-Explain.is, c.quiet-in-Explain.ensures.status) (
   [],
   map_ok c.explain_at.result (λ status said. (said, refl, refl)) c.explain_at.ensures.answers,
-  map_err c.explain_at.result (λ ending lacks. (lacks, refl, refl)) c.explain_at.ensures.stops,
+  map_err c.explain_at.result (λ ending lacks. (lacks, refl, refl)) c.explain_at.ensures.ends,
   (c.quiet-in-Explain.ensures.told, refl),
 )

@@ -15,8 +15,8 @@ returns-in-Ok g c =
       status_is = c.finish-status.ensures.status;
       told = answered.0;
       answers = answered.1;
-      stops = answered.2;
-      stopped = c.answered-status.ensures.stopped;
+      ends = answered.2;
+      ended_before = c.answered-status.ensures.ended_before;
       ended = tells-then g.E.Stream.contents g.E.Stream.fails answered.0 (ending_of c.answered-status.result.status) c.args.err.now c.answered-status.new.err c.finish-status.new.err
           c.answered-status.result.told c.finish-status.result.1 answered.3 c.finish-status.ensures.told;
     })

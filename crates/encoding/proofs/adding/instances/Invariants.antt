@@ -1,5 +1,5 @@
 use Rattle.std.proofs.Common.{◌≡◌, take, Contains}
-use Rattle.encoding.specs.CauseViews.{cause_views, given_views}
+use Rattle.encoding.specs.GivenViews.{cause_views, given_views}
 use Rattle.encoding.specs.Inputs.{problem}
 use Rattle.encoding.specs.Numberings.{AddsOnly, IsGrown, IsNumbering}
 use Rattle.encoding.specs.Pairs.{AreGiven, IsSpokenOf}

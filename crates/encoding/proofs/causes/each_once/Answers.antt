@@ -1,6 +1,6 @@
 use Rattle.std.proofs.Common.{◌≡◌, ◌∙◌, ◌+◌, ◌∷◌, drop, ap, sym}
 use Rattle.std.proofs.lemmas.List.{drop_more}
-use Rattle.encoding.specs.CauseViews.{cause_views}
+use Rattle.encoding.specs.GivenViews.{cause_views}
 use Rattle.encoding.specs.CausesAt.{with_causes}
 use Rattle.encoding.proofs.SameCauses.{cause_put}
 use Rattle.encoding.proofs.causes.each_once.Goals as goal

@@ -7,7 +7,7 @@ use Rattle.features.specs.EntryViews.{entry_view}
 use Rattle.model.specs.Summary.{Dependency}
 use Rattle.model.specs.Vertices.{owner_brings, version_of}
 use Rattle.encoding.specs.Called.{called_so, numbered_from}
-use Rattle.encoding.specs.CauseViews.{cause_views}
+use Rattle.encoding.specs.GivenViews.{cause_views}
 use Rattle.encoding.specs.CausesAt.{entry_if}
 use Rattle.encoding.specs.Inputs.{problem}
 use Rattle.encoding.proofs.CalledLaws.{entry_called, entry_without}

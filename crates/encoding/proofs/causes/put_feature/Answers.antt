@@ -5,7 +5,7 @@ use Rattle.semver.specs.Identifiers.{parts_of}
 use Rattle.features.specs.EntryViews.{entry_view, entry_views}
 use Rattle.model.specs.Summary as model
 use Rattle.refutations.specs.Causes.{Cause}
-use Rattle.encoding.specs.CauseViews.{cause_views}
+use Rattle.encoding.specs.GivenViews.{cause_views}
 use Rattle.encoding.specs.CausesAt.{entry_causes}
 use Rattle.encoding.specs.Inputs.{problem}
 use Rattle.encoding.proofs.causes.put_feature.Goals as goal

@@ -2,7 +2,7 @@ use Rattle.std.proofs.Common.{◌≡◌, ◌++◌, drop}
 use Rattle.std.specs.List.{flat_map}
 use Rattle.semver.specs.Identifiers.{parts_of}
 use Rattle.features.specs.EntryViews.{entry_views}
-use Rattle.encoding.specs.CauseViews.{cause_views}
+use Rattle.encoding.specs.GivenViews.{cause_views}
 use Rattle.encoding.specs.CausesAt.{entry_causes}
 use Rattle.encoding.specs.Inputs.{problem}
 use Rattle.encoding.proofs.causes.put_feature.Given as goal

@@ -1,6 +1,6 @@
 use Rattle.std.proofs.Common.{◌≡◌, ◌++◌, drop}
 use Rattle.features.specs.Views.{dependency_views}
-use Rattle.encoding.specs.CauseViews.{cause_views}
+use Rattle.encoding.specs.GivenViews.{cause_views}
 use Rattle.encoding.specs.CausesAt.{each_from, need_if}
 use Rattle.vertices.specs.RefViews.{owner_ref_view}
 use Rattle.encoding.proofs.causes.put_needs.Given as goal

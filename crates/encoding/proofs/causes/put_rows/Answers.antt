@@ -7,7 +7,7 @@ use Rattle.features.specs.EntryViews.{entry_views}
 use Rattle.features.specs.declared.entry.Entry.{Entry}
 use Rattle.model.specs.Summary as model
 use Rattle.refutations.specs.Causes.{Cause}
-use Rattle.encoding.specs.CauseViews.{cause_views}
+use Rattle.encoding.specs.GivenViews.{cause_views}
 use Rattle.encoding.specs.CausesAt.{entry_causes, feature_causes}
 use Rattle.encoding.specs.Inputs.{problem}
 use Rattle.encoding.proofs.SameCauses.{rest_more}

@@ -3,7 +3,7 @@ use Rattle.std.specs.List.{flat_map}
 use Rattle.semver.specs.Identifiers.{parts_of}
 use Rattle.features.specs.EntryViews.{entry_view}
 use Rattle.encoding.specs.Called.{numbered_views}
-use Rattle.encoding.specs.CauseViews.{cause_views}
+use Rattle.encoding.specs.GivenViews.{cause_views}
 use Rattle.encoding.specs.CausesAt.{entry_if}
 use Rattle.encoding.specs.Inputs.{problem}
 use Rattle.encoding.proofs.causes.put_those.Given as goal

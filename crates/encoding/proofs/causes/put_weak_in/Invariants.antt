@@ -3,7 +3,7 @@ use Rattle.std.specs.List.{flat_map}
 use Rattle.semver.specs.Identifiers.{parts_of}
 use Rattle.classes.specs.Classes.{class_view}
 use Rattle.features.specs.Views.{dependency_view}
-use Rattle.encoding.specs.CauseViews.{cause_views}
+use Rattle.encoding.specs.GivenViews.{cause_views}
 use Rattle.encoding.specs.CausesAt.{weak_if}
 use Rattle.encoding.proofs.causes.put_weak_in.Given as goal
 

@@ -1,7 +1,7 @@
 use Rattle.std.proofs.Common.{◌≡◌, ◌++◌, drop, map}
 use Rattle.std.specs.List.{flat_map}
 use Rattle.classes.specs.Classes.{class_view}
-use Rattle.encoding.specs.CauseViews.{cause_views}
+use Rattle.encoding.specs.GivenViews.{cause_views}
 use Rattle.encoding.specs.Higher.{newest_in}
 use Rattle.vertices.specs.RefViews.{owner_ref_view}
 use Rattle.encoding.proofs.leading.put_classes.Given as goal

@@ -3,7 +3,7 @@ use Rattle.std.proofs.lemmas.List.{append-nil}
 use Rattle.std.proofs.lemmas.Result.{on_ok_weaker}
 use Rattle.classes.specs.Classes.{class_view}
 use Rattle.features.specs.Views.{dependency_view, dependency_views}
-use Rattle.encoding.specs.CauseViews.{cause_views}
+use Rattle.encoding.specs.GivenViews.{cause_views}
 use Rattle.encoding.specs.Inputs.{problem}
 use Rattle.vertices.specs.RefViews.{owner_ref_view}
 use Rattle.encoding.proofs.HigherLaws.{each_same, no_views, none_alone, none_newest}

@@ -1,6 +1,6 @@
 use Rattle.std.proofs.Common.{◌≡◌, ◌++◌, drop, map}
 use Rattle.features.specs.Views.{dependency_views}
-use Rattle.encoding.specs.CauseViews.{cause_views}
+use Rattle.encoding.specs.GivenViews.{cause_views}
 use Rattle.encoding.specs.CausesAt.{each_from}
 use Rattle.encoding.specs.Higher.{newest_among}
 use Rattle.encoding.specs.Inputs.{problem}

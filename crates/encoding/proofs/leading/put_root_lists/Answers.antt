@@ -4,7 +4,7 @@ use Rattle.std.proofs.lemmas.Result.{on_ok_weaker}
 use Rattle.features.specs.Views.{dependency_view}
 use Rattle.model.specs.Summary.{Table}
 use Rattle.refutations.specs.Causes.{of_list}
-use Rattle.encoding.specs.CauseViews.{cause_views}
+use Rattle.encoding.specs.GivenViews.{cause_views}
 use Rattle.encoding.specs.CausesAt.{listed_by, root_asked}
 use Rattle.encoding.specs.Inputs.{problem}
 use Rattle.classes.specs.Classes.{class_view}

@@ -5,7 +5,7 @@ use Rattle.features.specs.EntryViews.{entry_view, entry_views}
 use Rattle.features.specs.Views.{dependency_view}
 use Rattle.model.specs.Summary as model
 use Rattle.refutations.specs.Causes.{Cause}
-use Rattle.encoding.specs.CauseViews.{cause_views}
+use Rattle.encoding.specs.GivenViews.{cause_views}
 use Rattle.encoding.specs.CausesAt.{listed_by}
 use Rattle.classes.specs.Classes.{class_view}
 use Rattle.vertices.specs.RefViews.{owner_ref_view}

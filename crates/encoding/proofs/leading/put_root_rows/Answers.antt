@@ -7,7 +7,7 @@ use Rattle.features.specs.Views.{dependency_view}
 use Rattle.features.specs.declared.entry.Entry.{Entry}
 use Rattle.model.specs.Summary as model
 use Rattle.refutations.specs.Causes.{Cause}
-use Rattle.encoding.specs.CauseViews.{cause_views}
+use Rattle.encoding.specs.GivenViews.{cause_views}
 use Rattle.encoding.specs.CausesAt.{listed_by}
 use Rattle.classes.specs.Classes.{class_view}
 use Rattle.vertices.specs.RefViews.{owner_ref_view}

@@ -1,7 +1,7 @@
 use Rattle.std.proofs.Common.{◌≡◌, ◌∙◌, ◌++◌, ap, is_some, true, length, drop, take, take_all, Some, slice_get, sym, subst}
 use Rattle.std.proofs.lemmas.List.{take-append-drop}
 use Rattle.encoding.specs.Assignments.{state_at}
-use Rattle.encoding.specs.CauseViews.{given_views}
+use Rattle.encoding.specs.GivenViews.{given_views}
 use Rattle.encoding.specs.Inputs.{problem}
 use Rattle.encoding.specs.Pairs.{IsGivenAt}
 use Rattle.encoding.proofs.Needing.{still_at}

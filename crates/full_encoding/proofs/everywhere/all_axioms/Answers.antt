@@ -1,5 +1,5 @@
 use Rattle.std.proofs.Common.{◌≡◌, ◌<◌, ◌≤◌, ◌+◌, suc, length, take, take_all, Some, slice_get, refl, sym, ap, ◌∙◌, subst, arith}
-use Rattle.encoding.specs.CauseViews.{given_views}
+use Rattle.encoding.specs.GivenViews.{given_views}
 use Rattle.encoding.specs.Inputs.{problem}
 use Rattle.encoding.proofs.Needing.{grows_on, still_at}
 use Rattle.encoding.proofs.Places.{get_below}

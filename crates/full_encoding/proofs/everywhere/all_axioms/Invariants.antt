@@ -1,5 +1,5 @@
 use Rattle.std.proofs.Common.{◌≡◌, take}
-use Rattle.encoding.specs.CauseViews.{given_views}
+use Rattle.encoding.specs.GivenViews.{given_views}
 use Rattle.encoding.specs.Inputs.{problem}
 use Rattle.encoding.specs.Numberings.{IsGrown, IsNumbering}
 use Rattle.full_encoding.specs.Everywhere.{IsGivenFor, all_pairs}

@@ -1,7 +1,7 @@
 use Rattle.std.proofs.Common.{◌≡◌, ◌≤◌, ◌+◌, ◌++◌, ◌∷◌, [], suc, length, map, take, take_all, refl, sym, ap, ◌∙◌, subst, Contains, arith}
 use Rattle.std.proofs.lemmas.List.{length-map}
 use Rattle.model.specs.Vertices.{State, space}
-use Rattle.encoding.specs.CauseViews.{given_views}
+use Rattle.encoding.specs.GivenViews.{given_views}
 use Rattle.encoding.specs.Inputs.{problem}
 use Rattle.encoding.proofs.AddLaws.{state_in}
 use Rattle.encoding.proofs.Needing.{grows_on}

@@ -1,6 +1,6 @@
 use Rattle.std.proofs.Common.{◌≡◌, ◌++◌, List, map, take, Contains}
 use Rattle.model.specs.Vertices.{State, space}
-use Rattle.encoding.specs.CauseViews.{given_views}
+use Rattle.encoding.specs.GivenViews.{given_views}
 use Rattle.encoding.specs.Inputs.{problem}
 use Rattle.encoding.specs.Numberings.{IsGrown, IsNumbering}
 use Rattle.encoding.specs.Pairs.{Pair}

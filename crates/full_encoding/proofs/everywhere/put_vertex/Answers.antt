@@ -4,7 +4,7 @@ use Rattle.std.proofs.lemmas.Option.{none-some, same_Some}
 use Rattle.std.proofs.lemmas.Result.{on_ok_weaker}
 use Rattle.model.specs.Axioms.{IsVertex}
 use Rattle.model.specs.Vertices.{State, Vertex}
-use Rattle.encoding.specs.CauseViews.{given_views}
+use Rattle.encoding.specs.GivenViews.{given_views}
 use Rattle.encoding.specs.Inputs.{problem}
 use Rattle.encoding.proofs.AddLaws.{vertex_there}
 use Rattle.vertices.specs.RefViews.{vertex_ref_view}

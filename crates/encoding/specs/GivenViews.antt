@@ -1,4 +1,4 @@
--- What causes stand for.
+-- What several causes stand for, and what is given for them.
 use Rattle.std.specs.Prelude.{List, map}
 use Rattle.version_sets.specs.Sets.{Members}
 use Rattle.terms.specs.Terms.{terms_view}
