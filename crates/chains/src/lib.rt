@@ -1,7 +1,7 @@
-//! What finite chains of reasons give.
+//! What finite chains of rules give.
 //!
 //! Features turn one another on, and a ring of them turns nothing on by itself: a fact holds where a finite chain of
-//! reasons leads to it. Here a fact is a number, and a reason a rule by which at most two facts give a third. `close`
+//! rules leads to it. Here a fact is a number, and by a rule at most two facts give a third. `close`
 //! marks all that is given from what is marked: each fact waits once on a worklist, and is followed by the rules that
 //! need it. So no chain is followed twice, and the stack stays as it is.
 //!

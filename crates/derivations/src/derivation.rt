@@ -91,7 +91,7 @@ impl Derivation {
     /// A vertex that is spelt and gets its number once, to stand in terms of any number of steps.
     ///
     /// # Errors
-    /// There is no memory.
+    /// Memory is wanting.
     pub fn spell(&mut self, alloc: Global, vertex: VertexRef<'_>) -> Result<Spelling, AllocError>
         requires { IsReadVertex (vertex_ref_view vertex) }
         ensures steps { self.new ≡ self.old }
@@ -105,7 +105,7 @@ impl Derivation {
     /// Puts an axiom at the end. Its terms, and the states of each, may stand in any order: they are put into the written one.
     ///
     /// # Errors
-    /// There is no memory, and then nothing has changed.
+    /// Memory is wanting, and then nothing has changed.
     pub fn push_named_axiom(
         &mut self,
         alloc: Global,
@@ -123,7 +123,7 @@ impl Derivation {
     /// Puts a combination of two earlier steps at a vertex at the end, and its terms into the written order.
     ///
     /// # Errors
-    /// There is no memory, and then nothing has changed.
+    /// Memory is wanting, and then nothing has changed.
     pub fn push_named_combination(
         &mut self,
         alloc: Global,

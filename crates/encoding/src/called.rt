@@ -42,7 +42,7 @@ impl<'a> ByName<'a> {
     /// These dependencies, put by their names in one pass.
     ///
     /// # Errors
-    /// There is no memory.
+    /// Memory is wanting.
     pub fn of(alloc: Global, dependencies: &'a [Dependency]) -> Result<ByName<'a>, AllocError>
         ensures { IfOk result (λ b. b ≡ dependency_views dependencies.entry.now) }
     {

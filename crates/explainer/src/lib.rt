@@ -5,7 +5,8 @@
 //! their order. Many terms have one set of states, so the text of each set is made once (`texts.rt`).
 //!
 //! A layer above may rely on this: the text is exactly what the definition makes of the derivation (`explanation_of`).
-//! It looks at nothing else, and tells a wrong derivation too: whether a step is right is for the checker to say.
+//! It looks at nothing else, and tells a wrong derivation too: whether a step is right is for the checker to say, which
+//! has the manifest and the index that this crate does without.
 #![tactic(auto)]
 
 mod explanation;

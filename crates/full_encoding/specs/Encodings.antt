@@ -10,7 +10,7 @@ use Rattle.encoding.specs.declared.inputs.Inputs.{Inputs}
 pub record EncodingView : Type 0 where
   pub problem : Problem
   pub vertices : Numbering
-  -- they get their numbers with the next ones, since memory ran out before
+  -- they get their numbers with the next ones, since memory was wanting before
   pub waiting : List Vertex
 
 -- a vertex counts once the size of its space is known

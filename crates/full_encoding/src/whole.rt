@@ -46,7 +46,7 @@ impl<'a> Encoding<'a> {
     /// The encoding in which every vertex has a number.
     ///
     /// # Errors
-    /// There is no memory.
+    /// Memory is wanting.
     pub fn new(alloc: Global, inputs: Inputs<'a>) -> Result<Encoding<'a>, AllocError>
         requires default { KnowsDefault inputs }
         ensures problem { IfOk result (λ e. e.problem ≡ problem inputs.entry) }
@@ -61,7 +61,7 @@ impl<'a> Encoding<'a> {
     /// The encoding in which the root has a number, and others get theirs once an axiom speaks of them.
     ///
     /// # Errors
-    /// There is no memory.
+    /// Memory is wanting.
     pub fn on_demand(alloc: Global, inputs: Inputs<'a>) -> Result<Encoding<'a>, AllocError>
         requires default { KnowsDefault inputs }
         ensures problem { IfOk result (λ e. e.problem ≡ problem inputs.entry) }
@@ -131,7 +131,7 @@ impl<'a> Encoding<'a> {
     /// What the state with a number is, of the vertex with a number.
     ///
     /// # Errors
-    /// There is no memory.
+    /// Memory is wanting.
     pub fn value(&self, vertex: usize, state: usize) -> Result<Option<StateRef<'a>>, AllocError>
         ensures { IfOk result (λ s. option_map state_ref_view s ≡ option_map (λ p. p.1) (pair_at self.now vertex state)) }
     {
@@ -150,7 +150,7 @@ impl<'a> Encoding<'a> {
     /// that they speak of get numbers, and no others.
     ///
     /// # Errors
-    /// There is no memory. Some of these vertices may have numbers then, or wait for them: they get them with the next
+    /// Memory is wanting. Some of these vertices may have numbers then, or wait for them: they get them with the next
     /// instances that are asked for.
     pub fn axioms_at<S: States + Drop>(
         &mut self,
@@ -175,7 +175,7 @@ impl<'a> Encoding<'a> {
     /// All instances, each once and with its kind. Every vertex gets a number first.
     ///
     /// # Errors
-    /// There is no memory. More vertices may have numbers then.
+    /// Memory is wanting. More vertices may have numbers then.
     pub fn axioms<S: States + Drop>(
         &mut self,
     ) -> Result<Vec<(Kind, Incompatibility<S>)>, AllocError>

@@ -3,7 +3,7 @@
 //! An index is not one's own: each line may be anything, and a bad line is to be skipped with a reason and to spoil no
 //! other one. So the definition of a file (`specs/Files`) gives for any bytes the records and the skips, each with the
 //! first reason of a stated order; a line is looked at in three steps, its JSON, its shape (`shape.rt`) and its texts
-//! (`line.rt`), and what it says is then held against the lines before it (`kept.rt`).
+//! (`line.rt`), and what it says is then held against the lines before it (`file_so_far.rt`).
 //!
 //! It is to be fast too: a line is a tree that borrows its texts (`trees`), in room that is kept from line to line;
 //! line ends are found by `memchr`; each vector of a record takes the room that it needs, and a requirement no more

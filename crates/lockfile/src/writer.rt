@@ -95,7 +95,7 @@ fn put_packages(alloc: Global, out: &mut Vec<u8>, entries: &[Entry]) -> Result<(
 ///
 /// # Errors
 ///
-/// Memory ran out.
+/// Memory is wanting.
 pub fn write(alloc: Global, content: &LockContent) -> Result<Vec<u8>, AllocError>
     ensures { IfOk result (λ v. v.items ≡ spelling content.now) }
 {

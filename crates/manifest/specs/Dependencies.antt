@@ -13,7 +13,7 @@ use Rattle.manifest.specs.declared.section.Kind.TheVariants.{Normal, Dev, Build}
 use Rattle.manifest.specs.declared.section.Place.{Place}
 use Rattle.manifest.specs.declared.section.Place.TheVariants.{Top, Target}
 
--- where a dependency is from: the registry, with the text of its requirement, or a source that is left out
+-- where a dependency is from: the registry, with the text of its requirement, or a source that is unsupported
 pub data SourceView : Type 0 where
   registry : List ℕ → SourceView
   unsupported : Unsupported → SourceView
@@ -31,7 +31,7 @@ pub record DependencyShapeView : Type 0 where
 abbrev pub bare : List ℕ → SourceView → DependencyShapeView
 bare name from = record { name = name; real_name = name; source = from; optional = false; default_features = true; features = [] }
 
--- the first source that is left out and that a key of the dependency asks for
+-- the first source that is unsupported and that a key of the dependency asks for
 abbrev pub unsupported_in : Members → Option Unsupported
 unsupported_in t = if has_key (codes "git") t then Some source.Git
     else if has_key (codes "path") t then Some source.Path

@@ -1,4 +1,4 @@
--- The faults of a manifest, and the words for its parts, for the sources that are left out and for the faults of its
+-- The faults of a manifest, and the words for its parts, for the sources that are unsupported and for the faults of its
 -- features (Cargo book, "The Manifest Format", "Specifying Dependencies" and "Features").
 use Rattle.std.specs.Prelude.{ℕ, List, Bool, true, false, codes}
 use Rattle.features.specs.declared.table.FeatureFault.{FeatureFault}
@@ -33,7 +33,7 @@ part_name part.Workspace = codes "workspace"
 part_name part.Patch = codes "patch"
 part_name part.Replace = codes "replace"
 
--- the word for a source that is left out
+-- the word for a source that is unsupported
 abbrev pub source_name : Unsupported → List ℕ
 source_name source.Patch = codes "Patch"
 source_name source.Replace = codes "Replace"

@@ -26,7 +26,7 @@ pub record ManifestView : Type 0 where
   pub rust_version : Option (ℕ × ℕ × ℕ)
   pub brings : Summary
 
--- ---- sources that are left out
+-- ---- sources that are unsupported
 
 abbrev pub same_source : Unsupported → Unsupported → Bool
 same_source Patch Patch = true
@@ -49,7 +49,7 @@ uses s ds = list_any (λ d. is_from s d.source) ds
 abbrev pub needs_workspace : ShapeView → Bool
 needs_workspace shape = shape.has_members || (is_none shape.own || uses Workspace shape.dependencies)
 
--- the first source, in this order, that is left out and is asked for
+-- the first source, in this order, that is unsupported and is asked for
 unfoldable pub sources_allowed : ShapeView → Result (Unit {0}) ManifestFault
 sources_allowed shape = do
   unpatched ← guard (not shape.patches) (UnsupportedSource Patch)

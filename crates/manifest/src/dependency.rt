@@ -25,7 +25,7 @@ use toml::value::{Array, Table, Value};
 pub(crate) enum Source<'a> {
     /// The registry, with the text of the requirement.
     Registry(&'a str),
-    /// A source that is left out: the first that its keys ask for.
+    /// A source that is unsupported: the first that its keys ask for.
     Unsupported(Unsupported),
 }
 
@@ -234,7 +234,7 @@ fn default_features(table: &Table, part: Part) -> Result<bool, ManifestFault>
     flag(value, true, part)
 }
 
-/// The first source that is left out and that a key of the dependency asks for.
+/// The first source that is unsupported and that a key of the dependency asks for.
 fn unsupported_source(table: &Table) -> Option<Unsupported>
     ensures { result ≡ unsupported_in (table_view table.now) }
 {

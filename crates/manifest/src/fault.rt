@@ -41,7 +41,7 @@ impl fmt::Display for Part {
     }
 }
 
-/// A source of packages that is left out here, in the order in which they are looked for.
+/// A source of packages that is unsupported here, in the order in which they are looked for.
 #[derive(Clone, Copy, Debug, PartialEq, Eq)]
 pub enum Unsupported {
     /// `[patch]` isn't empty.

@@ -139,7 +139,7 @@ fn manifest_in(alloc: Global, top: &Table) -> Result<Manifest, ManifestFault>
     })
 }
 
-/// The first source, in the order of `Unsupported`, that is left out and is asked for.
+/// The first source, in the order of `Unsupported`, that is unsupported and is asked for.
 #[tactic(auto, unfolding(crate::specs::Manifests::sources_allowed))]
 fn check_sources(shape: &Shape<'_>) -> Result<(), ManifestFault>
     ensures { Gives is_memory (λ u. u) result (sources_allowed (shaped.shape_view shape.now)) }
@@ -192,7 +192,7 @@ fn requirements(
     Ok(found)
 }
 
-/// A dependency with its requirement read. One of a source that is left out is a fault before.
+/// A dependency with its requirement read. One of a source that is unsupported is a fault before.
 #[tactic(auto, unfolding(crate::specs::Manifests::dependency_with))]
 fn with_requirement(alloc: Global, shape: DependencyShape<'_>) -> Result<Dependency, ManifestFault>
     ensures { Gives is_memory dependency_view result (dependency_with (shaped.dependency_view shape.entry)) }

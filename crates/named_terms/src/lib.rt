@@ -7,6 +7,7 @@
 //!
 //! A layer above may rely on this: `same_terms` says whether two lists of terms say the same of each vertex, in
 //! whichever order they stand; a `Cause` names what an instance comes from, and its view is the cause of `refutations`.
+//! The search's encoding takes causes from here too.
 #![tactic(auto)]
 
 mod cause;

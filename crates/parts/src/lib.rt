@@ -1,8 +1,11 @@
 //! Whether the parts of a manifest and of a loaded index read back from the text of a derivation.
 //!
 //! The types of names and the readers of versions see to all parts but one: nothing keeps an owner from more
-//! dependencies than a derivation has numbers for. So these are counted, and the walk hands on what the types say of
-//! the rest.
+//! dependencies than a derivation has numbers for. So these are counted, and the pass over the parts hands on what the
+//! types say of the rest.
+//!
+//! A layer above may rely on this: all names, versions and numbers read back, but where the answer is no; then some
+//! owner has more than 4,294,967,296 dependencies.
 #![tactic(auto)]
 
 mod index;

@@ -11,7 +11,7 @@ use Rattle.words.specs.declared.reading.WordsFault.TheVariants.{OutOfMemory, Hel
 abbrev pub IsMistake : ErrorKind → Type 0
 IsMistake k = (k ≡ kind.DisplayHelp → ⊥) × (k ≡ kind.DisplayVersion → ⊥)
 
--- the fault that stands for an error of this kind; memory may run out beside it
+-- the fault that stands for an error of this kind; memory may be wanting beside it
 abbrev pub Tells : ErrorKind → WordsFault → Type 0
 Tells k OutOfMemory = Unit {0}
 Tells k (Help text) = IsMistake k → ⊥
