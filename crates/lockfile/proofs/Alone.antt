@@ -13,31 +13,17 @@ use Rattle.semver.specs.Parse.{Parts}
 use Rattle.model.specs.Content.{Package, Content, same_version}
 use Rattle.model.specs.Order.{text_cmp, version_cmp, package_cmp}
 use Rattle.model.specs.Summary.{same_text}
-use Rattle.lockfile.specs.Search.{IsOrdered, IsRead, named_cmp, versioned_cmp, wanted_cmp, is_wanted}
+use Rattle.lockfile.specs.Search.{IsOrdered, IsRead, named_cmp, versioned_cmp, wanted_cmp, is_wanted, passes}
 use Rattle.lockfile.specs.Spelling.{named, versioned}
 use Rattle.lockfile.specs.Views.{package_view, package_views}
-use Rattle.lockfile.specs.Written.{passes, AreRead}
+use Rattle.lockfile.specs.Written.{AreRead}
 use Rattle.lockfile.specs.declared.locked.Package.{Package as Locked}
 use Rattle.lockfile.specs.declared.search.Wanted.{Wanted}
 use Rattle.lockfile.proofs.PackageOrder.{text-eq, version-eq, version_total, then-eq, true-and}
-use Rattle.lockfile.proofs.Ranges.{wanted-rises}
+use Rattle.lockfile.proofs.Ranges.{wanted-rises, above, none-later}
 use Rattle.lockfile.proofs.Sorting.{each-weaker}
 
 -- ---- where the packages stand beside those that are wanted
-
-above : (r s : Ordering) → ordering_index r ≤ ordering_index s → is_eq r ≡ true → is_eq s ≡ false → s ≡ Greater
-above r Greater l h k = refl
-above r Equal l h k = cc
-above Equal Less l h k = absurd (omega arith)
-above Less Less l h k = cc
-above Greater Less l h k = cc
-
-greater : (r s : Ordering) → ordering_index r ≤ ordering_index s → r ≡ Greater → is_eq s ≡ false
-greater r Less l h = refl
-greater r Greater l h = refl
-greater Greater Equal l h = absurd (omega arith)
-greater Less Equal l h = cc
-greater Equal Equal l h = cc
 
 between : (r s t : Ordering) → ordering_index r ≤ ordering_index s → ordering_index s ≤ ordering_index t → is_eq r ≡ true → is_eq t ≡ true → is_eq s ≡ true
 between r Equal t l k h e = refl
@@ -63,11 +49,6 @@ some-pass test (p ∷ ps) (suc n) h =
 
 more-than-one : (n : ℕ) → 1 ≤ n → (suc n == 1) ≡ false
 more-than-one n l = grind (arith, nat_tests)
-
--- once one isn't wanted, none of the later ones is
-none-later : (w : Wanted) (p : Package) (ps : Content) → IsOrdered (p ∷ ps) → wanted_cmp w p ≡ Greater → AllByRecursion (λ r. is_wanted w r ≡ false) ps
-unfolding IsStrictlySortedBy
-none-later w p ps s h = each-weaker (λ r. package_cmp p r ≡ Less) (λ r. is_wanted w r ≡ false) (λ r less. greater (wanted_cmp w p) (wanted_cmp w r) (wanted-rises w p r less) h) ps s.0
 
 pub first-alone : (w : Wanted) (p : Package) (ps : Content) → IsOrdered (p ∷ ps) → is_wanted w p ≡ true → not (passes (is_wanted w) (slice_get ps 0)) ≡ (length (filter (is_wanted w) (p ∷ ps)) == 1)
 unfolding IsStrictlySortedBy

@@ -1,10 +1,10 @@
--- Among packages in order those that are wanted stand next to one another: two binary searches give the first of them
--- and the place after the last.
-use Rattle.std.proofs.Common.{◌≡◌, ℕ, zero, suc, ◌+◌, ◌-◌, ◌<◌, ◌≤◌, Bool, true, false, not, List, [], ◌∷◌, map, length, get_or, Option, Some, None, option_map, refl, sym, ◌∙◌, ap, arith, Ordering, inl, inr}
+-- Among packages in order those that are wanted stand next to one another: a binary search gives the first that isn't
+-- below them, and it and the next one tell whether one alone is wanted.
+use Rattle.std.proofs.Common.{◌≡◌, ℕ, zero, suc, ◌+◌, ◌<◌, ◌≤◌, Bool, true, false, List, [], ◌∷◌, map, length, get_or, slice_get, Option, Some, None, option_map, refl, sym, ◌∙◌, ap, arith, Ordering, inl, inr}
 use Rattle.std.specs.Cmp.{IsTotalOrder}
-use Rattle.std.specs.List.{AllByRecursion, AllWithin}
-use Rattle.std.specs.List.Sorted.{IsPartitionedBy, IsPartitionPoint, IsNonDecreasingBy}
-use Rattle.std.specs.Ordering.{is_lt, is_eq, is_gt, ordering_then, ordering_index}
+use Rattle.std.specs.List.{AllByRecursion}
+use Rattle.std.specs.List.Sorted.{IsPartitionedBy, IsPartitionPoint, IsNonDecreasingBy, IsStrictlySortedBy}
+use Rattle.std.specs.Ordering.{is_lt, is_eq, ordering_then, ordering_index}
 use Rattle.std.specs.declared.cmp.Ordering.TheVariants.{Less, Equal, Greater}
 use Rattle.std.proofs.lemmas.Bool.{cases_lt}
 use Rattle.std.proofs.lemmas.Cmp.{alike_right, nat_list_cmp_total}
@@ -12,15 +12,16 @@ use Rattle.std.proofs.lemmas.List.{length-map}
 use Rattle.std.proofs.Math.ListN.{get_or-map}
 use Rattle.std.proofs.lemmas.Map.Keys.{Less-from_sorted}
 use Rattle.semver.specs.Identifiers.{parts_of}
-use Rattle.model.specs.Content.{Package}
+use Rattle.model.specs.Content.{Package, Content}
 use Rattle.model.specs.Order.{text_cmp, version_cmp, source_cmp, package_cmp}
 use Rattle.lockfile.specs.Locks.{locked_packages, only, places, places_from}
-use Rattle.lockfile.specs.Views.{package_view, unlinked_views}
+use Rattle.lockfile.specs.Views.{unlinked_views, locked_view, locked_views}
 use Rattle.lockfile.specs.declared.packages.UnlinkedPackage.{UnlinkedPackage}
-use Rattle.lockfile.specs.Search.{IsOrdered, wanted_cmp, is_wanted}
+use Rattle.lockfile.specs.Search.{IsOrdered, wanted_cmp, is_wanted, passes}
 use Rattle.lockfile.specs.declared.search.Wanted.{Wanted}
 use Rattle.lockfile.specs.declared.search.Wanted.TheVariants.{Name, Version, Source}
 use Rattle.lockfile.proofs.PackageOrder.{version_total, source_total}
+use Rattle.lockfile.proofs.Sorting.{each-weaker}
 
 -- ---- an answer that rises along an order
 
@@ -84,26 +85,22 @@ wanted-rises (Source n v s) p r e =
     rises-name p.name r.name n.now _ _ _ (λ h.
     rises-then version_total p.version r.version wanted (source_cmp p.source r.source) _ _ (rises-one source_total p.source r.source (option_map (λ t. t.now) s)) h) e
 
--- what a list of packages is seen as
-abbrev pub locked_of : UnlinkedPackage → Package
-locked_of p = package_view p.locked
-
-same-packages : (ps : List UnlinkedPackage) → locked_packages (unlinked_views ps) ≡ map locked_of ps
+same-packages : (ps : List UnlinkedPackage) → locked_packages (unlinked_views ps) ≡ locked_views ps
 same-packages [] = refl
-same-packages (p ∷ ps) = ap (λ rest. locked_of p ∷ rest) (same-packages ps)
+same-packages (p ∷ ps) = ap (λ rest. locked_view p ∷ rest) (same-packages ps)
 
 -- where a package stands
 abbrev pub beside : Wanted → UnlinkedPackage → Ordering
-beside w p = wanted_cmp w (locked_of p)
+beside w p = wanted_cmp w (locked_view p)
 
 -- packages in order stand beside those that are wanted in rising order
 pub beside-rises : (w : Wanted) (ps : List UnlinkedPackage) → IsOrdered (locked_packages (unlinked_views ps)) → IsNonDecreasingBy (λ p. ordering_index (beside w p)) ps
 beside-rises w ps s i j d l k = elim (cases_lt i j) [
   | inl less ↦
-      let sorted : IsOrdered (map locked_of ps) = rw same-packages at s in
-      let inside : j < length (map locked_of ps) = rw length-map k in
-      let below = Less-from_sorted package_cmp (map locked_of ps) i j (locked_of d) sorted less inside in
-      wanted-rises w (locked_of (get_or ps i d)) (locked_of (get_or ps j d)) (rw (get_or-map locked_of ps i d, get_or-map locked_of ps j d) at below)
+      let sorted : IsOrdered (locked_views ps) = rw same-packages at s in
+      let inside : j < length (locked_views ps) = rw length-map k in
+      let below = Less-from_sorted package_cmp (locked_views ps) i j (locked_view d) sorted less inside in
+      wanted-rises w (locked_view (get_or ps i d)) (locked_view (get_or ps j d)) (rw (get_or-map locked_view ps i d, get_or-map locked_view ps j d) at below)
   | inr back ↦ let e : i ≡ j = omega arith in rw e (omega arith)
 ]
 
@@ -116,125 +113,130 @@ below-less Equal Greater l h = cc
 below-less Greater Equal l h = cc
 below-less Greater Greater l h = cc
 
-below-most : (r s : Ordering) → ordering_index r ≤ ordering_index s → not (is_gt s) ≡ true → not (is_gt r) ≡ true
-below-most Less s l h = refl
-below-most Equal s l h = refl
-below-most Greater Less l h = absurd (omega arith)
-below-most Greater Equal l h = absurd (omega arith)
-below-most Greater Greater l h = cc
-
 pub less-partitioned : (w : Wanted) (ps : List UnlinkedPackage) → IsOrdered (locked_packages (unlinked_views ps)) → IsPartitionedBy (λ p. is_lt (beside w p)) ps
 less-partitioned w ps s i j d l k h = below-less (beside w (get_or ps i d)) (beside w (get_or ps j d)) (beside-rises w ps s i j d l k) h
 
-pub most-partitioned : (w : Wanted) (ps : List UnlinkedPackage) → IsOrdered (locked_packages (unlinked_views ps)) → IsPartitionedBy (λ p. not (is_gt (beside w p))) ps
-most-partitioned w ps s i j d l k h = below-most (beside w (get_or ps i d)) (beside w (get_or ps j d)) (beside-rises w ps s i j d l k) h
+-- ---- once a package is above those that are wanted, the later ones are
+
+pub above : (r s : Ordering) → ordering_index r ≤ ordering_index s → is_eq r ≡ true → is_eq s ≡ false → s ≡ Greater
+above r Greater l h k = refl
+above r Equal l h k = cc
+above Equal Less l h k = absurd (omega arith)
+above Less Less l h k = cc
+above Greater Less l h k = cc
+
+greater : (r s : Ordering) → ordering_index r ≤ ordering_index s → r ≡ Greater → is_eq s ≡ false
+greater r Less l h = refl
+greater r Greater l h = refl
+greater Greater Equal l h = absurd (omega arith)
+greater Less Equal l h = cc
+greater Equal Equal l h = cc
+
+-- once one isn't wanted, none of the later ones is
+pub none-later : (w : Wanted) (p : Package) (ps : Content) → IsOrdered (p ∷ ps) → wanted_cmp w p ≡ Greater → AllByRecursion (λ r. is_wanted w r ≡ false) ps
+unfolding IsStrictlySortedBy
+none-later w p ps s h = each-weaker (λ r. package_cmp p r ≡ Less) (λ r. is_wanted w r ≡ false) (λ r less. greater (wanted_cmp w p) (wanted_cmp w r) (wanted-rises w p r less) h) ps s.0
 
 -- ---- the only place that passes
-
--- the first i of these fail a test, the next n pass it, and the others fail it
-abbrev Bands : {X : Type 0} → (X → Bool) → List X → ℕ → ℕ → Type 0
-Bands test xs zero zero = AllByRecursion (λ x. test x ≡ false) xs
-Bands test [] zero (suc n) = ⊥
-Bands test (x ∷ xs) zero (suc n) = (test x ≡ true) × Bands test xs zero n
-Bands test [] (suc i) n = ⊥
-Bands test (x ∷ xs) (suc i) n = (test x ≡ false) × Bands test xs i n
-
-abbrev one_of : ℕ → ℕ → Option ℕ
-one_of place zero = None
-one_of place (suc zero) = Some place
-one_of place (suc (suc n)) = None
 
 none-from : {X : Type 0} (test : X → Bool) (n : ℕ) (xs : List X) → AllByRecursion (λ x. test x ≡ false) xs → places_from n test xs ≡ []
 none-from test n [] h = refl
 none-from test n (x ∷ xs) h = rw h.0 (none-from test (n + 1) xs h.1)
 
-only-bands : {X : Type 0} (test : X → Bool) (m : ℕ) (xs : List X) (i n : ℕ) → Bands test xs i n → only (places_from m test xs) ≡ one_of (m + i) n
-only-bands test m xs zero zero h = rw (none-from test m xs h) refl
-only-bands test m [] zero (suc n) h = absurd h
-only-bands test m (x ∷ xs) zero (suc zero) h = rw (h.0, none-from test (m + 1) xs h.1) (ap Some (omega arith))
-only-bands test m (x ∷ []) zero (suc (suc n)) h = absurd h.1
-only-bands test m (x ∷ (y ∷ ys)) zero (suc (suc n)) h = rw (h.0, h.1.0) refl
-only-bands test m [] (suc i) n h = absurd h
-only-bands test m (x ∷ xs) (suc i) n h = let place : m + 1 + i ≡ m + suc i = omega arith in rw (h.0, only-bands test (m + 1) xs i n h.1, place) refl
+pub places-map : {X Y : Type 0} (test : Y → Bool) (f : X → Y) (n : ℕ) (xs : List X) → places_from n test (map f xs) ≡ places_from n (λ x. test (f x)) xs
+places-map test f n [] = refl
+places-map test f n (x ∷ xs) = rw (places-map test f (n + 1) xs) refl
 
-bands : {X : Type 0} (test : X → Bool) (xs : List X) (i n : ℕ) → i + n ≤ length xs → AllWithin (λ x. test x ≡ false) xs 0 i → AllWithin (λ x. test x ≡ true) xs i (i + n) → AllWithin (λ x. test x ≡ false) xs (i + n) (length xs) → Bands test xs i n
-bands test [] zero zero l a b c = tt
-bands test [] zero (suc n) l a b c = absurd (omega arith)
-bands test [] (suc i) n l a b c = absurd (omega arith)
-bands test (x ∷ xs) zero zero l a b c = (c 0 x (omega arith) (omega arith), bands test xs zero zero (omega arith) (λ k d p q. absurd (omega arith)) (λ k d p q. absurd (omega arith)) (λ k d p q. c (suc k) d (omega arith) (omega arith)))
-bands test (x ∷ xs) zero (suc n) l a b c = (b 0 x (omega arith) (omega arith), bands test xs zero n (omega arith) (λ k d p q. absurd (omega arith)) (λ k d p q. b (suc k) d (omega arith) (omega arith)) (λ k d p q. c (suc k) d (omega arith) (omega arith)))
-bands test (x ∷ xs) (suc i) n l a b c = (a 0 x (omega arith) (omega arith), bands test xs i n (omega arith) (λ k d p q. a (suc k) d (omega arith) (omega arith)) (λ k d p q. b (suc k) d (omega arith) (omega arith)) (λ k d p q. c (suc k) d (omega arith) (omega arith)))
+-- ---- from the first that isn't below those that are wanted
 
--- ---- what two searches find
+-- the packages before a place are below those that are wanted, and the one there isn't
+abbrev IsFirst : Wanted → Content → ℕ → Type 0
+IsFirst w [] i = Unit {0}
+IsFirst w (p ∷ ps) zero = is_lt (wanted_cmp w p) ≡ false
+IsFirst w (p ∷ ps) (suc i) = (is_lt (wanted_cmp w p) ≡ true) × IsFirst w ps i
 
-between : (r : Ordering) → is_lt r ≡ false → not (is_gt r) ≡ true → is_eq r ≡ true
-between Less l g = cc
-between Equal l g = refl
-between Greater l g = cc
+first-found : (w : Wanted) (ps : List UnlinkedPackage) (i : ℕ) → IsPartitionPoint (λ p. is_lt (beside w p) ≡ true) (λ p. is_lt (beside w p) ≡ false) ps i → IsFirst w (locked_views ps) i
+first-found w [] i h = tt
+first-found w (p ∷ ps) zero h = h.1 0 p (omega arith) (omega arith)
+first-found w (p ∷ ps) (suc i) h =
+    (h.0 0 p (omega arith) (omega arith), first-found w ps i (λ k d a b. h.0 (suc k) d (omega arith) (omega arith), λ k d a b. h.1 (suc k) d (omega arith) (omega arith)))
 
 lower : (r : Ordering) → is_lt r ≡ true → is_eq r ≡ false
 lower Less l = refl
 lower Equal l = cc
 lower Greater l = cc
 
-upper : (r : Ordering) → not (is_gt r) ≡ false → is_eq r ≡ false
-upper Less g = cc
-upper Equal g = cc
-upper Greater g = refl
+higher : (r : Ordering) → is_lt r ≡ false → is_eq r ≡ false → r ≡ Greater
+higher Less l e = cc
+higher Equal l e = cc
+higher Greater l e = refl
 
-apart : (r : Ordering) → is_lt r ≡ true → not (is_gt r) ≡ false → ⊥
-apart Less l g = cc
-apart Equal l g = cc
-apart Greater l g = cc
+-- what is the only place, if here says whether the package there is wanted, and next whether the one after it is
+abbrev pub only_there : ℕ → Bool → Bool → Option ℕ
+only_there place false next = None
+only_there place true true = None
+only_there place true false = Some place
 
--- the two searches for r(x): the first place that isn't below, and the first that is above
-abbrev pub Found : {X : Type 0} → (X → Ordering) → List X → ℕ → ℕ → Type 0
-Found r xs first after = IsPartitionPoint (λ x. is_lt (r x) ≡ true) (λ x. is_lt (r x) ≡ false) xs first × IsPartitionPoint (λ x. not (is_gt (r x)) ≡ true) (λ x. not (is_gt (r x)) ≡ false) xs after
+only-begin : (w : Wanted) (m : ℕ) (p : Package) (ps : Content) → IsOrdered (p ∷ ps) → is_wanted w p ≡ true → only (places_from m (is_wanted w) (p ∷ ps)) ≡ only_there m true (passes (is_wanted w) (slice_get ps 0))
+unfolding IsStrictlySortedBy
+only-begin w m p [] s h = rw h refl
+only-begin w m p (r ∷ rs) s h = by_case (is_wanted w r) refl
+  where
+    by_case : (b : Bool) → is_wanted w r ≡ b → only (places_from m (is_wanted w) (p ∷ (r ∷ rs))) ≡ only_there m true (is_wanted w r)
+    by_case true e = rw (h, e) refl
+    by_case false e =
+        let past : wanted_cmp w r ≡ Greater = above (wanted_cmp w p) (wanted_cmp w r) (wanted-rises w p r s.0.0) h e in
+        rw (h, e, none-from (is_wanted w) (m + 1 + 1) rs (none-later w r rs s.1 past)) refl
 
-in-order : {X : Type 0} (r : X → Ordering) (xs : List X) (first after : ℕ) → first ≤ length xs → Found r xs first after → first ≤ after
-in-order r [] first after l h = omega arith
-in-order r (x ∷ xs) first after l h = elim (cases_lt after first) [
-  | inl less ↦ absurd (apart (r (get_or (x ∷ xs) after x)) (h.0.0 after x (omega arith) less) (h.1.1 after x (omega arith) (omega arith)))
-  | inr fine ↦ fine
-]
+only-first : (w : Wanted) (m i : ℕ) (ps : Content) → IsOrdered ps → IsFirst w ps i
+    → only (places_from m (is_wanted w) ps) ≡ only_there (m + i) (passes (is_wanted w) (slice_get ps i)) (passes (is_wanted w) (slice_get ps (suc i)))
+unfolding IsStrictlySortedBy
+only-first w m i [] s h = refl
+only-first w m zero (p ∷ ps) s h = by_case (is_wanted w p) refl
+  where
+    by_case : (b : Bool) → is_wanted w p ≡ b → only (places_from m (is_wanted w) (p ∷ ps)) ≡ only_there (m + 0) (is_wanted w p) (passes (is_wanted w) (slice_get ps 0))
+    by_case true e =
+        let place : m ≡ m + 0 = omega arith in
+        let next = passes (is_wanted w) (slice_get ps 0) in
+        only-begin w m p ps s e ∙ ap (λ n. only_there n true next) place ∙ ap (λ b. only_there (m + 0) b next) (sym e)
+    by_case false e = rw (e, none-from (is_wanted w) (m + 1) ps (none-later w p ps s (higher (wanted_cmp w p) h e))) refl
+only-first w m (suc i) (p ∷ ps) s h =
+    let place : m + 1 + i ≡ m + suc i = omega arith in
+    rw (lower (wanted_cmp w p) h.0, only-first w (m + 1) i ps s.1 h.1, place) refl
 
-only-found : {X : Type 0} (r : X → Ordering) (xs : List X) (first n : ℕ) → first + n ≤ length xs → Found r xs first (first + n) → only (places (λ x. is_eq (r x)) xs) ≡ one_of first n
-only-found r xs first n l h =
-    let banded = bands (λ x. is_eq (r x)) xs first n l (λ k d p q. lower (r (get_or xs k d)) (h.0.0 k d p q)) (λ k d p q. between (r (get_or xs k d)) (h.0.1 k d p (omega arith)) (h.1.0 k d (omega arith) q)) (λ k d p q. upper (r (get_or xs k d)) (h.1.1 k d p q)) in
+-- ---- in the words of the calls
+
+-- the place that a search found, and whether the package there and the next one are wanted
+abbrev pub Told : Wanted → List UnlinkedPackage → ℕ → Bool → Bool → Type 0
+Told w ps first here next = (here ≡ passes (is_wanted w) (slice_get (locked_views ps) first)) × (next ≡ passes (is_wanted w) (slice_get (locked_views ps) (first + 1)))
+
+only-told : (w : Wanted) (ps : List UnlinkedPackage) (first : ℕ) (here next : Bool) → IsOrdered (locked_packages (unlinked_views ps))
+    → IsPartitionPoint (λ p. is_lt (beside w p) ≡ true) (λ p. is_lt (beside w p) ≡ false) ps first → Told w ps first here next
+    → only_there first here next ≡ only (places (is_wanted w) (locked_packages (unlinked_views ps)))
+only-told w ps first here next s h t =
+    let sorted : IsOrdered (locked_views ps) = rw same-packages at s in
+    let found = only-first w 0 first (locked_views ps) sorted (first-found w ps first h) in
     let start : 0 + first ≡ first = omega arith in
-    rw start at (only-bands (λ x. is_eq (r x)) 0 xs first n banded)
+    let after : first + 1 ≡ suc first = omega arith in
+    let here-is = t.0 in
+    let next-is = rw after at t.1 in
+    rw (same-packages ps, here-is, next-is) (sym (rw start at found))
 
-pub places-map : {X Y : Type 0} (test : Y → Bool) (f : X → Y) (n : ℕ) (xs : List X) → places_from n test (map f xs) ≡ places_from n (λ x. test (f x)) xs
-places-map test f n [] = refl
-places-map test f n (x ∷ xs) = rw (places-map test f (n + 1) xs) refl
+next-fails : (place : ℕ) (here : Bool) → only_there place here true ≡ None
+next-fails place true = refl
+next-fails place false = refl
 
-only-wanted : (w : Wanted) (ps : List UnlinkedPackage) (first after : ℕ) → first ≤ length ps → after ≤ length ps → Found (beside w) ps first after
-    → (n : ℕ) × (first + n ≡ after) × (only (places (is_wanted w) (locked_packages (unlinked_views ps))) ≡ one_of first n)
-only-wanted w ps first after l k h =
-    let n = after - first in
-    let rises : first ≤ after = in-order (beside w) ps first after l h in
-    let e : first + n ≡ after = omega arith in
-    let found = only-found (beside w) ps first n (omega arith) (rw e h) in
-    (n, e, rw (same-packages ps, places-map (is_wanted w) locked_of 0 ps) found)
-
-one-there : (place n : ℕ) → place + 1 ≡ place + n → one_of place n ≡ Some place
-one-there place zero e = absurd (omega arith)
-one-there place (suc zero) e = refl
-one-there place (suc (suc n)) e = absurd (omega arith)
-
-none-there : (place n : ℕ) → (place + 1 ≡ place + n → ⊥) → one_of place n ≡ None
-none-there place zero e = refl
-none-there place (suc zero) e = absurd (e (omega arith))
-none-there place (suc (suc n)) e = refl
-
-pub wanted-there : (w : Wanted) (ps : List UnlinkedPackage) (first after : ℕ) → first ≤ length ps → after ≤ length ps → Found (beside w) ps first after → first + 1 ≡ after
-    → Some first ≡ only (places (is_wanted w) (locked_packages (unlinked_views ps)))
-wanted-there w ps first after l k h e =
-    let found = only-wanted w ps first after l k h in
-    sym (found.2 ∙ one-there first found.0 (e ∙ sym found.1))
-
-pub wanted-nowhere : (w : Wanted) (ps : List UnlinkedPackage) (first after : ℕ) → first ≤ length ps → after ≤ length ps → Found (beside w) ps first after → (first + 1 ≡ after → ⊥)
+pub wanted-twice : (w : Wanted) (ps : List UnlinkedPackage) (first : ℕ) (here next : Bool) → IsOrdered (locked_packages (unlinked_views ps))
+    → IsPartitionPoint (λ p. is_lt (beside w p) ≡ true) (λ p. is_lt (beside w p) ≡ false) ps first → Told w ps first here next → next ≡ true
     → None ≡ only (places (is_wanted w) (locked_packages (unlinked_views ps)))
-wanted-nowhere w ps first after l k h e =
-    let found = only-wanted w ps first after l k h in
-    sym (found.2 ∙ none-there first found.0 (λ f. e (f ∙ found.1)))
+wanted-twice w ps first here next s h t e = sym (ap (only_there first here) e ∙ next-fails first here) ∙ only-told w ps first here next s h t
+
+pub wanted-there : (w : Wanted) (ps : List UnlinkedPackage) (first : ℕ) (here next : Bool) → IsOrdered (locked_packages (unlinked_views ps))
+    → IsPartitionPoint (λ p. is_lt (beside w p) ≡ true) (λ p. is_lt (beside w p) ≡ false) ps first → Told w ps first here next → here ≡ true → next ≡ false
+    → Some first ≡ only (places (is_wanted w) (locked_packages (unlinked_views ps)))
+wanted-there w ps first here next s h t e f = sym (ap (λ b. only_there first b next) e ∙ ap (only_there first true) f) ∙ only-told w ps first here next s h t
+
+pub wanted-nowhere : (w : Wanted) (ps : List UnlinkedPackage) (first : ℕ) (here next : Bool) → IsOrdered (locked_packages (unlinked_views ps))
+    → IsPartitionPoint (λ p. is_lt (beside w p) ≡ true) (λ p. is_lt (beside w p) ≡ false) ps first → Told w ps first here next → here ≡ false
+    → None ≡ only (places (is_wanted w) (locked_packages (unlinked_views ps)))
+wanted-nowhere w ps first here next s h t e = sym (ap (λ b. only_there first b next) e) ∙ only-told w ps first here next s h t

@@ -1,5 +1,5 @@
 -- How a dependency text is looked up among packages in order: what its parts ask for, and which packages that fits.
-use Rattle.std.specs.Prelude.{◌≡◌, ◌≢◌, ℕ, ◌<◌, Bool, true, List, length, slice_index, Option, option_map}
+use Rattle.std.specs.Prelude.{◌≡◌, ◌≢◌, ℕ, ◌<◌, Bool, true, false, List, length, slice_index, Option, Some, None, option_map}
 use Rattle.std.specs.List.Sorted.{IsStrictlySortedBy}
 use Rattle.std.specs.Ordering.{ordering_then, is_eq}
 use Rattle.std.specs.declared.cmp.Ordering.{Ordering}
@@ -51,3 +51,8 @@ wanted_cmp (Source name version source) p = sourced_cmp name.now (parts_of versi
 
 abbrev pub is_wanted : Wanted → Package → Bool
 is_wanted w p = is_eq (wanted_cmp w p)
+
+-- whether there is a package, and it passes
+abbrev pub passes : (Package → Bool) → Option Package → Bool
+passes test None = false
+passes test (Some p) = test p

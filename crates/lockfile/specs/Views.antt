@@ -24,5 +24,12 @@ unlinked_view p = record { locked = package_view p.locked; texts = text_views p.
 abbrev pub unlinked_views : List UnlinkedPackage → List Unlinked
 unlinked_views ps = map unlinked_view ps
 
+-- the packages alone
+abbrev pub locked_view : UnlinkedPackage → model.Package
+locked_view p = package_view p.locked
+
+abbrev pub locked_views : List UnlinkedPackage → model.Content
+locked_views ps = map locked_view ps
+
 abbrev pub list_views : List (Vec ℕ Global) → List (List ℕ)
 list_views lists = map (λ v. v.items) lists

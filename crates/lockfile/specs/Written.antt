@@ -1,5 +1,5 @@
 -- What a lock's writer keeps of each package: the texts that are written for it more than once.
-use Rattle.std.specs.Prelude.{ℕ, Bool, false, List, map, Option, Some, None, string_bytes}
+use Rattle.std.specs.Prelude.{ℕ, List, map, string_bytes}
 use Rattle.std.specs.List.{AllByRecursion}
 use Rattle.std.specs.Ordering.{ordering_then}
 use Rattle.std.specs.declared.cmp.Ordering.{Ordering}
@@ -33,11 +33,6 @@ written_list all w = in_order written_cmp (at_places all w.locked.list)
 -- an empty line and the lines of a package, whose list has these
 abbrev pub written_block : Written → List Written → List ℕ
 written_block w listed = block w.locked w.version (map (λ x. x.text) listed)
-
--- whether there is a package, and it passes
-abbrev pub passes : (Package → Bool) → Option Package → Bool
-passes test None = false
-passes test (Some p) = test p
 
 -- each name and each version is what its text reads as
 abbrev pub AreRead : Content → Type 0

@@ -1,6 +1,6 @@
 //! What a dependency text means.
 
-ghost use Rattle.std.specs.Prelude.{◌≡◌, ◌≢◌, ℕ, List, [], ◌∷◌, ◌++◌, MatchOption};
+ghost use Rattle.std.specs.Prelude.{◌≡◌, ◌≢◌, ℕ, List, [], ◌∷◌, ◌++◌, slice_get, MatchOption};
 ghost use Rattle.std.specs.Option.{ok_or};
 ghost use Rattle.std.specs.Ordering.{ordering_then};
 ghost use Rattle.semver.specs.Identifiers.{parts_of};
@@ -8,8 +8,8 @@ ghost use Rattle.model.specs.Order.{text_cmp, version_cmp};
 ghost use Rattle.model.specs.Content as model;
 ghost use Rattle.model.specs.Outcome.{Gives};
 ghost use Rattle.lockfile.specs.Locks.{is_memory, place_meant, places_meant, list_of, lists_of, only, places, locked_packages};
-ghost use Rattle.lockfile.specs.Search.{named_cmp, versioned_cmp, wanted_cmp, is_wanted, IsOrdered, HasNoSpace};
-ghost use Rattle.lockfile.specs.Views.{package_view, unlinked_views, list_views, text_views};
+ghost use Rattle.lockfile.specs.Search.{named_cmp, versioned_cmp, wanted_cmp, is_wanted, passes, IsOrdered, HasNoSpace};
+ghost use Rattle.lockfile.specs.Views.{package_view, unlinked_views, locked_views, list_views, text_views};
 
 use crate::fault::LockFault;
 use crate::locked::Package;
@@ -74,18 +74,28 @@ fn compare_versions(locked: &Package, name: &str, version: &Version) -> Ordering
         .then_with(|| version_order(&locked.version, version))
 }
 
-/// The place of the only package that is wanted.
+/// Whether there is a package at a place, and it is wanted.
+fn is_wanted_at(packages: &[UnlinkedPackage], place: usize, wanted: Wanted) -> bool
+    ensures { result ≡ passes (is_wanted wanted.entry) (slice_get (locked_views packages.now) place) }
+{
+    match packages.get(place) {
+        Some(package) => wanted.compare(&package.locked) == Ordering::Equal,
+        None => false,
+    }
+}
+
+/// The place of the only package that is wanted: those that are stand next to one another.
 fn only_place(packages: &[UnlinkedPackage], wanted: Wanted) -> Option<usize>
     requires { IsOrdered (locked_packages (unlinked_views packages.now)) }
     ensures { result ≡ only (places (is_wanted wanted.entry) (locked_packages (unlinked_views packages.now))) }
 {
     let first = packages.partition_point(|p| wanted.compare(&p.locked) == Ordering::Less);
-    let after = packages.partition_point(|p| wanted.compare(&p.locked) != Ordering::Greater);
-    if first + 1 == after {
-        Some(first)
-    } else {
-        None
+    let here = is_wanted_at(packages, first, wanted);
+    let next = is_wanted_at(packages, first + 1, wanted);
+    if next {
+        return None;
     }
+    if here { Some(first) } else { None }
 }
 
 /// The place of the package that the text `name version` means.
