@@ -1,18 +1,20 @@
--- An index from vertices to numbers, as a row a vertex (an inverted index).
+-- An index from vertices to what is listed there, as a row a vertex (an inverted index).
 use Rattle.std.specs.Prelude.{◌≡◌, ℕ, ◌<◌, ◌==◌, Bool, false, List, [], ◌∷◌, if◌then◌else◌, length, map, slice_index_or, Vec, vec_len, vec_capacity}
 use Rattle.std.specs.List.{list_any}
 use Rattle.std.specs.declared.alloc.Global.{Global}
+use Rattle.terms.specs.declared.term.Term.{Term}
+use Rattle.incompatibilities.specs.declared.rows.Posting.{Posting}
 
-abbrev pub Rows : Type 0
-Rows = List (Vec ℕ Global)
+abbrev pub Rows : Type 0 → Type 0
+Rows E = List (Vec E Global)
 
--- the numbers in a vertex's row; a vertex past the rows has none
-abbrev pub numbers_at : Rows → ℕ → List ℕ
-numbers_at rows v = slice_index_or (map (λ r. r.items) rows) v []
+-- what a vertex's row holds; a vertex past the rows has nothing
+abbrev pub row_at : {E : Type 0} → Rows E → ℕ → List E
+row_at rows v = slice_index_or (map (λ r. r.items) rows) v []
 
--- a row has room for one more number
-abbrev pub HasRoom : Rows → ℕ → Type 0
-HasRoom rows v = (v < length rows) × ((d : Vec ℕ Global) → vec_len (slice_index_or rows v d) < vec_capacity (slice_index_or rows v d))
+-- a row has room for one more
+abbrev pub HasRoom : {E : Type 0} → Rows E → ℕ → Type 0
+HasRoom {E} rows v = (v < length rows) × ((d : Vec E Global) → vec_len (slice_index_or rows v d) < vec_capacity (slice_index_or rows v d))
 
 -- a vertex is one of a list, and no vertex stands twice
 abbrev pub stands_in : ℕ → List ℕ → Bool
@@ -22,11 +24,16 @@ abbrev pub IsApart : List ℕ → Type 0
 IsApart [] = Unit {0}
 IsApart (v ∷ vs) = (stands_in v vs ≡ false) × IsApart vs
 
--- a number for a vertex that is one of a list
-abbrev pub once_in : ℕ → ℕ → List ℕ → List ℕ
-once_in id v vs = if stands_in v vs then id ∷ [] else []
+-- what a row has of a term: a number, and the term's states
+abbrev pub posting_of : {S : Type 0} → ℕ → Term S → Posting S
+posting_of id t = record { id = id; states = t.states }
 
--- the same numbers, and no less room
-pub record IsGrown (old new : Rows) : Type 0 where
-  pub same : (v : ℕ) → numbers_at new v ≡ numbers_at old v
+-- what a vertex's row gets of terms
+abbrev pub postings_in : {S : Type 0} → ℕ → ℕ → List (Term S) → List (Posting S)
+postings_in id v [] = []
+postings_in id v (t ∷ ts) = if t.vertex == v then posting_of id t ∷ postings_in id v ts else postings_in id v ts
+
+-- the same rows, and no less room
+pub record IsGrown {E : Type 0} (old new : Rows E) : Type 0 where
+  pub same : (v : ℕ) → row_at new v ≡ row_at old v
   pub kept : (v : ℕ) → HasRoom old v → HasRoom new v

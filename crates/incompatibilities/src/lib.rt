@@ -1,8 +1,8 @@
 //! PubGrub's incompatibilities over any set of states, and a store that remembers where each came from.
 //!
 //! An incompatibility is a list of terms that don't all hold: one term a vertex, by rising vertex, and none with all
-//! states of its vertex, since such a term says nothing. So two are combined by one merge, the term at a vertex is
-//! found by binary search, and of those that say the same of each vertex there is one form.
+//! states of its vertex, since such a term says nothing. So two are combined by one merge, and of those that say the same
+//! of each vertex there is one form.
 //!
 //! `combine` is the one rule by which anything follows: the union of the two at one vertex, the intersection at each
 //! other one. What breaks the combination breaks one of the two. A `Store` keeps for each entry that it is an axiom or
@@ -10,9 +10,9 @@
 //! breaks an axiom of the store (`Follows`). A refusal is made of nothing else.
 //!
 //! Entries are only added, and an `Id` means one entry for good, so what was said of a store holds of the grown one.
-//! The store lists entries by the vertices of their terms (`at`), but only the watched ones: the axioms, and those
-//! combinations of which it is said when they are added. What the others say follows from the watched ones; they stay
-//! for the derivation, and propagation never looks at them.
+//! The store lists entries by the vertices of their terms (`at`), with the states of the term beside (`Posting`), but
+//! only the watched ones: the axioms, and those combinations of which it is said when they are added. What the others
+//! say follows from the watched ones; they stay for the derivation, and propagation never looks at them.
 //!
 //! A layer above may rely on this: the contracts of `combine` and `add` are exact, and where memory is wanting `add`
 //! leaves all entries as they were.
@@ -27,4 +27,5 @@ mod store;
 pub use combining::combine;
 pub use incompatibility::Incompatibility;
 pub use origin::{Id, Origin};
+pub use rows::Posting;
 pub use store::Store;

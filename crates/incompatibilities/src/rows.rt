@@ -1,14 +1,69 @@
-//! The index of a store: for each vertex the places of the incompatibilities with a term there.
+//! The index of a store: for each vertex the places of the incompatibilities with a term there, and the term's states.
 
-ghost use Rattle.incompatibilities.specs.Rows.{HasRoom, IsApart, IsGrown, numbers_at, once_in, stands_in};
-ghost use Rattle.std.specs.Prelude.{◌≡◌, ◌≢◌, ◌++◌, ◌∷◌, [], ℕ, OnOk, map, true};
+ghost use Rattle.incompatibilities.specs.Rows.{HasRoom, IsApart, IsGrown, postings_in, row_at, stands_in};
+ghost use Rattle.std.specs.Prelude.{◌≡◌, ◌≢◌, ◌++◌, ◌∷◌, [], ℕ, IfOk, OnOk, map, true};
+ghost use Rattle.terms.specs.Terms.{term_view, terms_view};
 
 use crate::origin::Id;
 use std::alloc::{AllocError, Global};
+use std::mem::size_of;
 use terms::Term;
+use version_sets::{States, WordStates};
 
-/// Makes room for one more place in a vertex's row.
-fn reserve_at(rows: &mut Vec<Vec<Id>>, alloc: Global, vertex: usize) -> Result<(), AllocError>
+/// What a vertex's row has of an incompatibility with a term there.
+///
+/// The states stand in the row too, so that who goes through it reads memory in order: most often they are all that
+/// has to be looked at, and the incompatibility and its terms lie elsewhere.
+#[derive(Drop)]
+pub struct Posting<S> {
+    /// The place of the incompatibility.
+    pub id: Id,
+    /// The states of its term at the vertex.
+    pub states: S,
+}
+
+const _: () = prove!(size_of::<Posting<WordStates>>() == 24);
+
+/// A vertex's row; a vertex past the rows has nothing.
+pub(crate) fn row_of<E>(rows: &[Vec<E>], vertex: usize) -> &[E]
+    ensures { result.now ≡ row_at rows.now vertex }
+{
+    match rows.get(vertex) {
+        Some(row) => row,
+        None => &[],
+    }
+}
+
+/// The same term again.
+fn copy_of<S: States + Drop>(alloc: Global, term: &Term<S>) -> Result<Term<S>, AllocError>
+    ensures { IfOk result (λ t. term_view S.tests t ≡ term_view S.tests term.now) }
+{
+    Ok(Term {
+        vertex: term.vertex,
+        states: term.states.copy(alloc)?,
+    })
+}
+
+/// The same terms again, to be listed.
+pub(crate) fn copies_of<S: States + Drop>(
+    alloc: Global,
+    terms: &[Term<S>],
+) -> Result<Vec<Term<S>>, AllocError>
+    ensures { IfOk result (λ v. terms_view S.tests v.items ≡ terms_view S.tests terms.now) }
+{
+    let mut copies = Vec::with_capacity(alloc, terms.len())?;
+    'terms: for term in terms {
+        copies.push(copy_of(alloc, term)?)?;
+    }
+    Ok(copies)
+}
+
+/// Makes room for one more in a vertex's row.
+fn reserve_at<E: Drop>(
+    rows: &mut Vec<Vec<E>>,
+    alloc: Global,
+    vertex: usize,
+) -> Result<(), AllocError>
     ensures grown { IsGrown rows.old.items rows.new.items }
     ensures room { OnOk result (HasRoom rows.new.items vertex) }
 {
@@ -18,9 +73,9 @@ fn reserve_at(rows: &mut Vec<Vec<Id>>, alloc: Global, vertex: usize) -> Result<(
     rows[vertex].reserve(1)
 }
 
-/// Makes room for one more place in the row of each term's vertex.
-pub(crate) fn reserve_rows<S>(
-    rows: &mut Vec<Vec<Id>>,
+/// Makes room for one more in the row of each term's vertex.
+pub(crate) fn reserve_rows<S: Drop>(
+    rows: &mut Vec<Vec<Posting<S>>>,
     alloc: Global,
     terms: &[Term<S>],
 ) -> Result<(), AllocError>
@@ -33,23 +88,24 @@ pub(crate) fn reserve_rows<S>(
     Ok(())
 }
 
-/// Puts a place at the end of a vertex's row.
-fn push_at(rows: &mut Vec<Vec<Id>>, vertex: usize, id: Id)
+/// Puts one at the end of a vertex's row.
+fn push_at<E: Drop>(rows: &mut Vec<Vec<E>>, vertex: usize, item: E)
     requires { HasRoom rows.old.items vertex }
-    ensures here { numbers_at rows.new.items vertex ≡ numbers_at rows.old.items vertex ++ id ∷ [] }
-    ensures others { (v : ℕ) → v ≢ vertex → numbers_at rows.new.items v ≡ numbers_at rows.old.items v }
+    ensures here { row_at rows.new.items vertex ≡ row_at rows.old.items vertex ++ item ∷ [] }
+    ensures others { (v : ℕ) → v ≢ vertex → row_at rows.new.items v ≡ row_at rows.old.items v }
     ensures room { (v : ℕ) → v ≢ vertex → HasRoom rows.old.items v → HasRoom rows.new.items v }
 {
-    rows[vertex].push_reserved(id);
+    rows[vertex].push_reserved(item);
 }
 
-/// Puts a place at the end of the row of each term's vertex.
-pub(crate) fn push_rows<S>(rows: &mut Vec<Vec<Id>>, terms: &[Term<S>], id: Id)
-    requires room { (v : ℕ) → stands_in v (map (λ t. t.vertex) terms.now) ≡ true → HasRoom rows.old.items v }
-    requires apart { IsApart (map (λ t. t.vertex) terms.now) }
-    ensures { (v : ℕ) → numbers_at rows.new.items v ≡ numbers_at rows.old.items v ++ once_in id v (map (λ t. t.vertex) terms.now) }
+/// Puts a place and the states of each term at the end of the row of the term's vertex.
+pub(crate) fn push_rows<S: Drop>(rows: &mut Vec<Vec<Posting<S>>>, terms: Vec<Term<S>>, id: Id)
+    requires room { (v : ℕ) → stands_in v (map (λ t. t.vertex) terms.items) ≡ true → HasRoom rows.old.items v }
+    requires apart { IsApart (map (λ t. t.vertex) terms.items) }
+    ensures { (v : ℕ) → row_at rows.new.items v ≡ row_at rows.old.items v ++ postings_in id v terms.items }
 {
     'terms: for term in terms {
-        push_at(rows, term.vertex, id);
+        let Term { vertex, states } = term;
+        push_at(rows, vertex, Posting { id, states });
     }
 }

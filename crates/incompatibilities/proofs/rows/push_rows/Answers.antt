@@ -1,15 +1,39 @@
-use Rattle.std.proofs.Common.{drop, map, ◌+◌}
-use Rattle.incompatibilities.proofs.RowLemmas.{entering_more, first_room, vertices_left}
+use Rattle.std.proofs.Common.{rules, ◌≡◌, ◌∙◌, ◌+◌, [], ◌∷◌, length, ap, sym, arith, vec_len}
+use Rattle.std.specs.Vec.Iter.{into_iter_items, into_iter_len}
+use Rattle.incompatibilities.proofs.RowLemmas.{entering_first, entering_last, entering_more, first_room, none_left}
 use Rattle.incompatibilities.proofs.rows.push_rows.Goals as goal
+
+pub terms-init : goal.terms-init
+terms-init g c =
+    let gives = c.into_iter-term-iterator.ensures.into_iter_gives in
+    let long : vec_len c.args.terms ≡ length c.args.terms.items = search rules in
+    record {
+      can = tt;
+      finite = tt;
+      counted = gives.1 ∙ long ∙ sym (ap length gives.0);
+      entering = entering_first c.args.id c.args.rows.now.items c.args.terms.items _ gives.0 c.requires.room c.requires.apart;
+    }
 
 pub push_at-requires : goal.push_at-requires
 push_at-requires g c =
-    let i = c.terms.term-index in
-    first_room c.args.id c.args.rows.now.items c.terms.rows.items (map (λ t. t.vertex) c.args.terms.now) (map (λ t. t.vertex) (drop i c.args.terms.now)) (map (λ t. t.vertex) (drop (i + 1) c.args.terms.now)) c.term-item.result.vertex
-    (vertices_left c.args.terms.now i c.term-item.result c.terms-test.true c.term-item.is) c.terms.invariant
+    let here : into_iter_items c.terms.term-iterator ≡ c.in-Some.term ∷ into_iter_items c.next.new.self = c.in-Some.ensures.steps.0 in
+    first_room c.args.id c.args.rows.now.items c.terms.rows.items c.args.terms.items (into_iter_items c.terms.term-iterator) (into_iter_items c.next.new.self) c.in-Some.term here c.terms.invariant.entering
 
 pub terms-preserved : goal.terms-preserved
 terms-preserved g c =
-    let i = c.terms.term-index in
-    entering_more c.args.id c.args.rows.now.items c.terms.rows.items c.push_at.new.rows.items (map (λ t. t.vertex) c.args.terms.now) (map (λ t. t.vertex) (drop i c.args.terms.now)) (map (λ t. t.vertex) (drop (i + 1) c.args.terms.now)) c.term-item.result.vertex
-    (vertices_left c.args.terms.now i c.term-item.result c.terms-test.true c.term-item.is) c.push_at.ensures.here c.push_at.ensures.others c.push_at.ensures.room c.terms.invariant
+    let here : into_iter_items c.terms.term-iterator ≡ c.in-Some.term ∷ into_iter_items c.next.new.self = c.in-Some.ensures.steps.0 in
+    let left : into_iter_len c.next.new.self + 1 ≡ into_iter_len c.terms.term-iterator = c.in-Some.ensures.steps.1 in
+    let count = ap length here in
+    let counted = c.terms.invariant.counted in
+    record {
+      can = tt;
+      finite = tt;
+      counted = omega (arith, counted, count, left);
+      entering = entering_more c.args.id c.args.rows.now.items c.terms.rows.items c.push_at.new.rows.items c.args.terms.items (into_iter_items c.terms.term-iterator) (into_iter_items c.next.new.self) c.in-Some.term
+          here c.push_at.ensures.here c.push_at.ensures.others c.push_at.ensures.room c.terms.invariant.entering;
+    }
+
+pub returns : goal.returns
+returns g c =
+    let none : into_iter_items c.terms.term-iterator ≡ [] = none_left (into_iter_len c.terms.term-iterator) (into_iter_items c.terms.term-iterator) c.terms.invariant.counted c.in-None.ensures.steps.0 in
+    entering_last c.args.id c.args.rows.now.items c.terms.rows.items c.args.terms.items (into_iter_items c.terms.term-iterator) none c.terms.invariant.entering

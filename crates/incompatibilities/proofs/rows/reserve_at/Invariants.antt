@@ -3,7 +3,7 @@ use Rattle.incompatibilities.specs.Rows.{IsGrown}
 use Rattle.incompatibilities.proofs.rows.reserve_at.Given as goal
 
 abbrev pub invariant-shorter : goal.invariant-shorter
-invariant-shorter l = IsGrown l.fn.rows.items l.rows.items
+invariant-shorter g l = IsGrown l.fn.rows.items l.rows.items
 
 abbrev pub decreases-shorter : goal.decreases-shorter
-decreases-shorter l = suc l.vertex - length l.rows.items
+decreases-shorter g l = suc l.vertex - length l.rows.items
