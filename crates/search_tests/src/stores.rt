@@ -7,7 +7,7 @@ ghost use Rattle.std.specs.Prelude.{◌≡◌, IfOk, length, true};
 ghost use Rattle.terms.specs.Terms.{terms_view};
 
 use crate::sets::{set_of, write_set};
-use incompatibilities::{Id, Incompatibility, Origin, Store, combine};
+use incompatibilities::{Id, Incompatibility, Origin, Posting, Store, combine};
 use std::alloc::{AllocError, Global};
 use std::process::Abort;
 use terms::Term;
@@ -98,11 +98,15 @@ fn have_origins<S: States + Drop>(alloc: Global) -> Result<bool, AllocError> {
     )
 }
 
-/// Writes down which entries have a term at a vertex.
-fn write_at(out: &mut Vec<usize>, ids: &[Id]) -> Result<(), AllocError> {
-    out.push(ids.len())?;
-    'ids: for id in ids {
-        out.push(id.index())?;
+/// Writes down which entries have a term at a vertex, and the states of each.
+fn write_at<S: States + Drop>(
+    out: &mut Vec<usize>,
+    postings: &[Posting<S>],
+) -> Result<(), AllocError> {
+    out.push(postings.len())?;
+    'postings: for posting in postings {
+        out.push(posting.id.index())?;
+        write_set(out, &posting.states)?;
     }
     Ok(())
 }
@@ -123,7 +127,7 @@ fn write_store<S: States + Drop>(out: &mut Vec<usize>, store: &Store<S>) -> Resu
 static FIRST: [usize; 13] = [2, 0, 2, 1, 1, 2, 1, 3, 2, 0, 1, 2, 3];
 
 /// The empty store, which has nothing at the three vertices, and that of three entries.
-static STORES: [usize; 43] = [
+static STORES: [usize; 65] = [
     1, 0, 0, 0, 0,
     // as above
     2, 0, 2, 1, 1, 2, 1, 3, 2, 0, 1, 2, 3,
@@ -132,7 +136,7 @@ static STORES: [usize; 43] = [
     // the two combined at vertex 1: {1} of two at vertex 0
     1, 0, 2, 1, 1, 2,
     // all three have a term at vertex 0, two at 1, none at 7
-    3, 0, 1, 2, 2, 0, 1, 0,
+    3, 0, 2, 1, 1, 2, 1, 2, 1, 1, 2, 2, 2, 1, 1, 2, 2, 0, 3, 2, 0, 1, 2, 3, 1, 3, 2, 0, 2, 0,
 ];
 
 /// What two stores hold.
