@@ -1,6 +1,5 @@
 pub mod Broken
 pub mod Lookups
-pub mod Finding
 pub mod Making
 pub mod Merges
 pub mod Merged

@@ -3,7 +3,7 @@
 ghost use Rattle.incompatibilities.specs.Incompatibilities.{IsIncompatibility, IsMadeOf, LiesIn, OneEach, states_at};
 ghost use Rattle.std.specs.List.Sorted.{IsNonDecreasingBy, IsPermutation};
 ghost use Rattle.std.specs.List.{filter};
-ghost use Rattle.std.specs.Prelude.{◌≡◌, ℕ, not, option_map};
+ghost use Rattle.std.specs.Prelude.{◌≡◌, ℕ, not};
 ghost use Rattle.terms.specs.Terms.{terms_view};
 ghost use Rattle.version_sets.specs.Sets.{is_full};
 
@@ -73,16 +73,6 @@ impl<S: States + Drop> Incompatibility<S> {
         ensures is { IsIncompatibility (terms_view S.tests self.now) }
     {
         &self.terms
-    }
-
-    /// The states of the term at a vertex, if there is one; a binary search.
-    pub fn states_at(&self, vertex: usize) -> Option<&S>
-        ensures { option_map (λ s. S.tests s.now) result ≡ states_at (terms_view S.tests self.now) vertex }
-    {
-        match self.terms.binary_search_by_key(&vertex, |term| term.vertex) {
-            Ok(place) => Some(&self.terms[place].states),
-            Err(_) => None,
-        }
     }
 
     /// Terms that are an incompatibility as they stand.
