@@ -1,6 +1,6 @@
 //! What a search asks of a manifest and a loaded index: its vertices and axioms on demand, and what to decide.
 
-ghost use Rattle.std.specs.Prelude.{◌≡◌, ◌<◌, [], IfOk, IfSome, OnOk, false, length, map, true};
+ghost use Rattle.std.specs.Prelude.{◌≡◌, ◌<◌, [], IfOk, IfSome, OnOk, false, is_some, length, map, true};
 ghost use Rattle.encoding.specs.Inputs.{KnowsDefault, problem};
 ghost use Rattle.encoding.specs.Numberings.{IsNumbering};
 ghost use Rattle.incompatibilities.specs.Incompatibilities.{Assignment};
@@ -108,6 +108,13 @@ impl<'a, S: States + Drop> Encoded<'a, S> {
         ensures { result.now ≡ self.now.vertices }
     {
         &self.table
+    }
+
+    /// Whether a content is followed.
+    pub fn is_following(&self) -> bool
+        ensures { result ≡ is_some self.now.follows }
+    {
+        self.follows.is_some()
     }
 
     /// The content that is followed.
