@@ -13,7 +13,7 @@ use Rattle.index_reader.specs.Files.{FileView, no_lines, same_precedence, has_ve
 use Rattle.trees.specs.Lines.{is_line_end, is_blank}
 use Rattle.index_reader.specs.Lines.{Line}
 use Rattle.index_reader.specs.Records.{RecordView, is_checksum, unchecked_of_line}
-use Rattle.index_reader.specs.declared.fault.Reason.TheVariants.{Duplicate, BadChecksum}
+use Rattle.index_reader.specs.declared.fault.SkipReason.TheVariants.{Duplicate, BadChecksum}
 use Rattle.index_reader.specs.declared.fault.LineFault.TheVariants as line
 use Rattle.index_reader.specs.Views.{record_view}
 use Rattle.index_reader.specs.declared.record.Record as reader

@@ -18,7 +18,7 @@ use Rattle.catalogue.specs.Ranks.{Ranked, records}
 use Rattle.catalogue.specs.Views.{ranked_view}
 use Rattle.catalogue.specs.Stores.{Row, CatalogueView, candidates_view, rows_view}
 use Rattle.catalogue.specs.Runs.{Asked, Calls, Chain, meant_by, once, needed_by, candidates_in, names_after, next_name, AreNext}
-use Rattle.catalogue.specs.Loads.{IsWithin, skips_of, needs_of, most_names, ranked_in, IsAsked, IsSoFar, IsLoaded, HasTooMany, IsStopped, IsCutShort, Fails, Stops}
+use Rattle.catalogue.specs.Loads.{IsWithin, skips_of, needs_of, most_names, ranked_in, IsAsked, IsSoFar, IsLoaded, HasTooMany, HasFailed, IsCutShort, Fails, AskingEnds}
 use Rattle.catalogue.specs.declared.fault.LoadFault.{LoadFault}
 use Rattle.catalogue.specs.declared.fault.LoadFault.TheVariants as fault
 use Rattle.catalogue.specs.declared.fault.Limit.TheVariants as limit
@@ -246,13 +246,13 @@ module _ (old : Content) (source : List ℕ) (rust : Option RustVersion) (root :
 module _ (old : Content) (source : List ℕ) (rust : Option RustVersion) (root : List Dependency) {S : Type 0} (calls : Calls S) (failed : S → ℕ) (before : S) where
   -- at a name whose call failed
   pub stopped : (names : List (List ℕ)) (found : List Candidates) (skips : List SkipView) (mid after : S) (name : List ℕ) (e : LoadFault) → SoFar old source rust root calls before names found skips mid
-      → slice_get names (length found) ≡ Some name → length found < most_names → Fails calls failed mid name e after → Stops old source rust root calls failed before e after
+      → slice_get names (length found) ≡ Some name → length found < most_names → Fails calls failed mid name e after → AskingEnds old source rust root calls failed before e after
   stopped names found skips mid after name e s at less fails = by e fails
     where
-      here : (e : LoadFault) → Fails calls failed mid name e after → IsStopped old source rust root calls failed before e after
+      here : (e : LoadFault) → Fails calls failed mid name e after → HasFailed old source rust root calls failed before e after
       here e f = record { asked = s.asked; mid = mid; name = name; so_far = s.so_far; next = next_known old source rust root calls before names found skips mid name s at; fewer = (let long = found-long old source rust root calls before found s.asked s.found_are in omega (arith, less, long)); fails = f }
 
-      by : (e : LoadFault) → Fails calls failed mid name e after → Stops old source rust root calls failed before e after
+      by : (e : LoadFault) → Fails calls failed mid name e after → AskingEnds old source rust root calls failed before e after
       by fault.OutOfMemory f = inr (here fault.OutOfMemory f)
       by (fault.FolderFailed path) f = here (fault.FolderFailed path) f
       by (fault.TooLarge limit.Names) f = absurd f

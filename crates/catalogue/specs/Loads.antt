@@ -182,7 +182,7 @@ module _ (old : Content) (source : List ℕ) (rust : Option RustVersion) (root :
     pub next : next_name old source root asked ≡ Some name
 
   -- the call for the next name ended with this fault
-  pub record IsStopped {S : Type 0} (calls : Calls S) (failed : S → ℕ) (before : S) (e : LoadFault) (after : S) : Type 0 where
+  pub record HasFailed {S : Type 0} (calls : Calls S) (failed : S → ℕ) (before : S) (e : LoadFault) (after : S) : Type 0 where
     pub asked : List Asked
     pub mid : S
     pub name : List ℕ
@@ -198,20 +198,20 @@ module _ (old : Content) (source : List ℕ) (rust : Option RustVersion) (root :
 
   -- memory was wanting: the folder was asked for the names so far, and perhaps for the next one
   abbrev pub IsCutShort : {S : Type 0} → Calls S → (S → ℕ) → S → S → Type 0
-  IsCutShort calls failed before after = IsAskedSoFar calls before after ⊎ IsStopped calls failed before fault.OutOfMemory after
+  IsCutShort calls failed before after = IsAskedSoFar calls before after ⊎ HasFailed calls failed before fault.OutOfMemory after
 
   -- how asking for all names ends with a fault
-  abbrev pub Stops : {S : Type 0} → Calls S → (S → ℕ) → S → LoadFault → S → Type 0
-  Stops calls failed before fault.OutOfMemory after = IsCutShort calls failed before after
-  Stops calls failed before (fault.FolderFailed path) after = IsStopped calls failed before (fault.FolderFailed path) after
-  Stops calls failed before (fault.TooLarge limit.Names) after = HasTooMany calls before after
-  Stops calls failed before (fault.TooLarge (limit.File n)) after = IsStopped calls failed before (fault.TooLarge (limit.File n)) after
-  Stops calls failed before (fault.TooLarge (limit.Lines n)) after = IsStopped calls failed before (fault.TooLarge (limit.Lines n)) after
-  Stops calls failed before (fault.ChecksumChanged n v) after = ⊥
+  abbrev pub AskingEnds : {S : Type 0} → Calls S → (S → ℕ) → S → LoadFault → S → Type 0
+  AskingEnds calls failed before fault.OutOfMemory after = IsCutShort calls failed before after
+  AskingEnds calls failed before (fault.FolderFailed path) after = HasFailed calls failed before (fault.FolderFailed path) after
+  AskingEnds calls failed before (fault.TooLarge limit.Names) after = HasTooMany calls before after
+  AskingEnds calls failed before (fault.TooLarge (limit.File n)) after = HasFailed calls failed before (fault.TooLarge (limit.File n)) after
+  AskingEnds calls failed before (fault.TooLarge (limit.Lines n)) after = HasFailed calls failed before (fault.TooLarge (limit.Lines n)) after
+  AskingEnds calls failed before (fault.ChecksumChanged n v) after = ⊥
 
   abbrev pub AsksAll : {S : Type 0} → Calls S → (S → ℕ) → S → Result CatalogueView LoadFault → S → Type 0
   AsksAll calls failed before (Ok index) after = IsLoaded calls before index after
-  AsksAll calls failed before (Err e) after = Stops calls failed before e after
+  AsksAll calls failed before (Err e) after = AskingEnds calls failed before e after
 
 -- ---- what the old lock says beside the index
 
@@ -254,7 +254,7 @@ rust_for prefer.RustFirst rust = preferred_rust rust_first rust
 -- in a run that has this old lock, this source and this Rust version to go by, for a root with these dependencies
 module _ (old : Content) (source : List ℕ) (rust : Option RustVersion) (root : List Dependency) where
   -- a whole run gave an index, and a locked package has another checksum
-  pub record IsRefused {S : Type 0} (calls : Calls S) (before : S) (name : List ℕ) (version : Parts) (after : S) : Type 0 where
+  pub record HasChangedChecksum {S : Type 0} (calls : Calls S) (before : S) (name : List ℕ) (version : Parts) (after : S) : Type 0 where
     pub index : CatalogueView
     pub loaded : IsLoaded old source rust root calls before index after
     pub changed : IsChanged index old name version
@@ -262,7 +262,7 @@ module _ (old : Content) (source : List ℕ) (rust : Option RustVersion) (root :
   -- how loading ends
   abbrev pub Loads : {S : Type 0} → Calls S → (S → ℕ) → S → Result CatalogueView LoadFault → S → Type 0
   Loads calls failed before (Ok index) after = IsLoaded old source rust root calls before index after × (first_changed index old ≡ None)
-  Loads calls failed before (Err fault.OutOfMemory) after = Stops old source rust root calls failed before fault.OutOfMemory after
-  Loads calls failed before (Err (fault.FolderFailed path)) after = Stops old source rust root calls failed before (fault.FolderFailed path) after
-  Loads calls failed before (Err (fault.TooLarge which)) after = Stops old source rust root calls failed before (fault.TooLarge which) after
-  Loads calls failed before (Err (fault.ChecksumChanged n v)) after = IsRefused calls before n (parts_of v) after
+  Loads calls failed before (Err fault.OutOfMemory) after = AskingEnds old source rust root calls failed before fault.OutOfMemory after
+  Loads calls failed before (Err (fault.FolderFailed path)) after = AskingEnds old source rust root calls failed before (fault.FolderFailed path) after
+  Loads calls failed before (Err (fault.TooLarge which)) after = AskingEnds old source rust root calls failed before (fault.TooLarge which) after
+  Loads calls failed before (Err (fault.ChecksumChanged n v)) after = HasChangedChecksum calls before n (parts_of v) after

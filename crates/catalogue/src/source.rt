@@ -38,7 +38,7 @@ impl Source {
     /// The source that a text is.
     pub fn parse(alloc: Global, text: &str) -> Result<Source, SourceFault>
         ensures ok { IfOk result (λ s. (s ≡ text.now) × (is_source text.now ≡ true)) }
-        ensures refused { IsErrOf result SourceFault.NotASource ↔ (is_source text.now ≡ false) }
+        ensures no_source { IsErrOf result SourceFault.NotASource ↔ (is_source text.now ≡ false) }
     {
         if !is_source(text) {
             return Err(SourceFault::NotASource);

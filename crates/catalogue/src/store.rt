@@ -80,7 +80,7 @@ impl Catalogue {
     }
 
     /// The candidate of a name at a place of its `versions`.
-    pub fn record(&self, name: &PackageName, place: usize) -> Option<&Candidate>
+    pub fn candidate_at(&self, name: &PackageName, place: usize) -> Option<&Candidate>
         ensures { option_map (λ c. said_by c.now) result ≡ option_map said (slice_get (candidates_at self.now name.now) place) }
     {
         self.of(name)?.records.get(place)

@@ -4,7 +4,7 @@ ghost use Rattle.std.specs.Prelude.{◌≤◌, length};
 ghost use Rattle.checker.specs.Decoded.{AreVertexRanks};
 
 use derivations::{Tables, Term};
-use named_terms::States;
+use named_terms::StateSet;
 use std::cmp::Ordering;
 use vertices::Vertex;
 
@@ -15,7 +15,7 @@ pub(crate) struct Decoded<'a> {
     /// By vertex: two compare as the vertices' texts do.
     ranks: Vec<usize>,
     /// By number, those that steps name.
-    sets: Vec<Option<States<'a>>>,
+    sets: Vec<Option<StateSet<'a>>>,
     ghost within: { length ranks.items ≤ length tables.now.vertices },
     ghost order: { AreVertexRanks tables.now ranks.items },
 }
@@ -34,7 +34,7 @@ impl<'a> Decoded<'a> {
     pub(crate) fn new(
         tables: &'a Tables,
         ranks: Vec<usize>,
-        sets: Vec<Option<States<'a>>>,
+        sets: Vec<Option<StateSet<'a>>>,
     ) -> Decoded<'a>
         requires within { length ranks.items ≤ length tables.now.vertices }
         requires order { AreVertexRanks tables.now ranks.items }
@@ -57,7 +57,7 @@ impl<'a> Decoded<'a> {
     }
 
     /// The set of states of this number.
-    pub(crate) fn set(&self, number: usize) -> &States<'a>
+    pub(crate) fn set(&self, number: usize) -> &StateSet<'a>
         requires { IsMade (tables_of self.now) self.now.sets.items number }
         ensures { result.now ≡ named_set (tables_of self.now) number }
     {

@@ -16,7 +16,7 @@ use crate::decoded::Decoded;
 use crate::ranks::ranks_of;
 use crate::states::read_states;
 use derivations::{Step, Tables, Term};
-use named_terms::States;
+use named_terms::StateSet;
 use std::alloc::{AllocError, Global};
 use vertices::Vertex;
 
@@ -27,7 +27,7 @@ pub(crate) struct Decoding<'a> {
     /// The texts of vertices, by number.
     texts: Vec<String>,
     /// By number, the sets that terms name.
-    sets: Vec<Option<States<'a>>>,
+    sets: Vec<Option<StateSet<'a>>>,
 }
 
 /// What the numbers of steps stand for.
@@ -120,7 +120,7 @@ fn text_of(alloc: Global, vertex: &Vertex) -> Result<String, AllocError>
 fn add_set<'a>(
     alloc: Global,
     tables: &'a Tables,
-    sets: &mut Vec<Option<States<'a>>>,
+    sets: &mut Vec<Option<StateSet<'a>>>,
     number: usize,
 ) -> Result<(), AllocError>
     requires number { number < length tables.now.sets }
@@ -140,7 +140,7 @@ fn add_set<'a>(
 }
 
 /// Adds places up to this one.
-fn add_places<'a>(sets: &mut Vec<Option<States<'a>>>, number: usize) -> Result<(), AllocError>
+fn add_places<'a>(sets: &mut Vec<Option<StateSet<'a>>>, number: usize) -> Result<(), AllocError>
     ensures same { (n : ℕ) → slice_index_or sets.new.items n None ≡ slice_index_or sets.old.items n None }
     ensures more { length sets.old.items ≤ length sets.new.items }
     ensures there { OnOk result (number < length sets.new.items) }

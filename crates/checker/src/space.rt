@@ -17,7 +17,7 @@ use classes::{Class, is_matched};
 use features::Dependency;
 use looking_up::class_versions;
 use manifest::Manifest;
-use named_terms::States;
+use named_terms::StateSet;
 use semver::{Version, VersionReq};
 use vertices::{Owner, StateRef, Vertex};
 
@@ -26,8 +26,8 @@ pub(crate) fn is_full(
     manifest: &Manifest,
     catalogue: &Catalogue,
     vertex: &Vertex,
-    a: &States<'_>,
-    b: &States<'_>,
+    a: &StateSet<'_>,
+    b: &StateSet<'_>,
 ) -> bool
     ensures { result ≡ is_full (problem_in manifest.now catalogue.now) (at (vertex_view vertex.now) (a.now ++ b.now)) }
 {
@@ -83,13 +83,13 @@ fn dependencies_of<'a>(
 }
 
 /// Whether two sets together have each of these versions.
-fn has_versions(versions: &[Version], a: &States<'_>, b: &States<'_>) -> bool
+fn has_versions(versions: &[Version], a: &StateSet<'_>, b: &StateSet<'_>) -> bool
     ensures { result ≡ list_all (λ v. has_state (a.now ++ b.now) (model.version (parts_of v))) versions.now }
 {
     versions.iter().all(|version| has_version(version, a, b))
 }
 
-fn has_version(version: &Version, a: &States<'_>, b: &States<'_>) -> bool
+fn has_version(version: &Version, a: &StateSet<'_>, b: &StateSet<'_>) -> bool
     ensures { result ≡ has_state (a.now ++ b.now) (model.version (parts_of version.now)) }
 {
     is_in_either(a, b, &StateRef::Version(version))
@@ -99,8 +99,8 @@ fn has_version(version: &Version, a: &States<'_>, b: &States<'_>) -> bool
 fn has_matching(
     versions: &[Version],
     requirement: &VersionReq,
-    a: &States<'_>,
-    b: &States<'_>,
+    a: &StateSet<'_>,
+    b: &StateSet<'_>,
 ) -> bool
     ensures { result ≡ list_all (λ v. has_if_matched (a.now ++ b.now) (requirement_view requirement.now) (parts_of v)) versions.now }
 {
@@ -112,8 +112,8 @@ fn has_matching(
 fn has_if_matched(
     version: &Version,
     requirement: &VersionReq,
-    a: &States<'_>,
-    b: &States<'_>,
+    a: &StateSet<'_>,
+    b: &StateSet<'_>,
 ) -> bool
     ensures { result ≡ has_if_matched (a.now ++ b.now) (requirement_view requirement.now) (parts_of version.now) }
 {
@@ -121,7 +121,7 @@ fn has_if_matched(
 }
 
 /// Whether the state is in one of two sets.
-fn is_in_either(a: &States<'_>, b: &States<'_>, state: &StateRef<'_>) -> bool
+fn is_in_either(a: &StateSet<'_>, b: &StateSet<'_>, state: &StateRef<'_>) -> bool
     ensures { result ≡ has_state (a.now ++ b.now) (state_ref_view state.now) }
 {
     a.has(state) || b.has(state)

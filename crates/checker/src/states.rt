@@ -7,7 +7,7 @@ ghost use Rattle.derivations.specs.Tables.{AreStatesOf, states_at};
 ghost use Rattle.vertices.specs.RefViews.{state_ref_views};
 
 use derivations::Tables;
-use named_terms::States;
+use named_terms::StateSet;
 use std::alloc::{AllocError, Global};
 use vertices::StateRef;
 
@@ -16,13 +16,13 @@ pub(crate) fn read_states<'a>(
     alloc: Global,
     tables: &'a Tables,
     numbers: &[usize],
-) -> Result<States<'a>, AllocError>
+) -> Result<StateSet<'a>, AllocError>
     requires within { AreStatesOf tables.now numbers.now }
     requires ordered { IsStrictlySortedBy state_cmp (states_at tables.now numbers.now) }
     ensures { IfOk result (λ s. s ≡ states_at tables.entry.now numbers.now) }
 {
     let states = states_in(alloc, tables, numbers)?;
-    Ok(States::rising(states))
+    Ok(StateSet::rising(states))
 }
 
 fn states_in<'a>(

@@ -9,8 +9,8 @@ use Rattle.propagation.specs.Trails.{StepView, TrailView, end_sets}
 use Rattle.propagation.specs.Satisfaction.{IsOneOpen, Sat}
 use Rattle.propagation.specs.Promises.{CauseFits, IsCut, IsSatisfied, OpenFits}
 use Rattle.propagation.specs.declared.satisfying.Satisfier.{Satisfier}
-use Rattle.conflicts.specs.declared.resolving.Outcome.{Outcome}
-use Rattle.conflicts.specs.declared.resolving.Outcome.TheVariants.{Learned, Unsolvable}
+use Rattle.conflicts.specs.declared.resolving.Resolution.{Resolution}
+use Rattle.conflicts.specs.declared.resolving.Resolution.TheVariants.{Learned, Unsolvable}
 
 -- no watched entry of a store is satisfied at the end of a level below one
 abbrev pub Quiet : List EntryView → TrailView → ℕ → Type 0
@@ -81,6 +81,6 @@ pub record IsRefuted (t : TrailView) (es : List EntryView) (new : TrailView) (id
   pub none : (entry es id).terms ≡ []
   pub stays : new ≡ t
 
-abbrev pub Resolved : TrailView → List EntryView → TrailView → Outcome → Type 0
+abbrev pub Resolved : TrailView → List EntryView → TrailView → Resolution → Type 0
 Resolved t es new (Learned id back_to) = IsLearned t es new id back_to
 Resolved t es new (Unsolvable id) = IsRefuted t es new id

@@ -20,7 +20,7 @@ const SHORT: usize = 3;
 
 /// How the resolution of a conflict ends.
 #[derive(Clone, Copy, PartialEq, Eq, Debug)]
-pub enum Outcome {
+pub enum Resolution {
     /// An incompatibility was learned, and the trail was cut to the lowest level where all its terms but one are
     /// satisfied; that one is open, so the next propagation forces an assignment.
     Learned {
@@ -126,7 +126,7 @@ pub fn resolve_conflict<S: States + Drop>(
     trail: &mut Trail<S>,
     store: &mut Store<S>,
     id: Id,
-) -> Result<Outcome, AllocError>
+) -> Result<Resolution, AllocError>
     requires trail { IsTrail (entries_view S.tests store.old) (trail_view S.tests trail.old) }
     requires within { id < length (entries_view S.tests store.old) }
     requires satisfied { Sat (trail_view S.tests trail.old).sets (terms_of (entries_view S.tests store.old) id) }
@@ -150,7 +150,7 @@ pub fn resolve_conflict<S: States + Drop>(
             // `current` would have forced the opposite there. It is learned.
             None => {
                 trail.cut(back_to);
-                return Ok(Outcome::Learned {
+                return Ok(Resolution::Learned {
                     id: current,
                     back_to,
                 });
@@ -163,5 +163,5 @@ pub fn resolve_conflict<S: States + Drop>(
         found = satisfier_of(trail, store, current);
     }
     // Nothing satisfied it, since it has no term.
-    Ok(Outcome::Unsolvable(current))
+    Ok(Resolution::Unsolvable(current))
 }

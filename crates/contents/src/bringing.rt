@@ -23,9 +23,9 @@ pub fn brings_at<'a>(
 {
     store_holds(catalogue);
     if place == 0 {
-        return Some(manifest.summary());
+        return Some(manifest.brings());
     }
     let stop = stops.get(place - 1)?;
-    let candidate = catalogue.record(&stop.name, stop.place)?;
+    let candidate = catalogue.candidate_at(&stop.name, stop.place)?;
     Some(&candidate.brings)
 }

@@ -149,7 +149,7 @@ fn stop_package(
     let Some(version) = catalogue.versions(&stop.name).get(stop.place) else {
         return Ok(None);
     };
-    let Some(candidate) = catalogue.record(&stop.name, stop.place) else {
+    let Some(candidate) = catalogue.candidate_at(&stop.name, stop.place) else {
         return Ok(None);
     };
     Ok(Some(Package {

@@ -31,7 +31,7 @@ mod parts;
 mod spaces;
 mod states;
 mod table;
-mod tests;
+mod space_tests;
 
 ghost use Rattle.std.specs.Prelude.{◌≡◌, ◌≢◌, ℕ, List, Some, map};
 ghost use Rattle.incompatibilities.specs.Incompatibilities.{Assignment, Breaks, Terms};

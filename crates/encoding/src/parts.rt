@@ -19,7 +19,7 @@ ghost use Rattle.vertices.specs.RefViews.{owner_ref_view, vertex_ref_view};
 use crate::inputs::Inputs;
 use crate::lookups::dependency_at;
 use crate::spaces::classes_at;
-use crate::tests::{chosen_tests, class_tests, lacking_tests, left_tests, no_class, taken_tests};
+use crate::space_tests::{chosen_tests, class_tests, lacking_tests, left_tests, no_class, taken_tests};
 use catalogue::catalogues_are_well_formed;
 use classes::Class;
 use features::{Dependency, FeatureName, PackageName};

@@ -19,7 +19,7 @@ use Rattle.index_reader.specs.Written.{written_of, dep_names_of, unless_faulty, 
 use Rattle.index_reader.specs.Records.{RecordView, unless, semver_or, required, dependencies_read, is_of_index, is_checksum, unchecked_of_shape, unchecked_of_line}
 use Rattle.index_reader.specs.Files.{FileView, same_precedence, has_version, no_lines, with_skip, with_record, with_found, with_read, with_line, with_lines, records_of_file}
 use Rattle.trees.specs.Lines.{is_line_end, is_blank}
-use Rattle.index_reader.specs.declared.fault.Reason.TheVariants.{NewerFormat, OtherName, BadVersion, OtherRegistry, BadChecksum, Duplicate}
+use Rattle.index_reader.specs.declared.fault.SkipReason.TheVariants.{NewerFormat, OtherName, BadVersion, OtherRegistry, BadChecksum, Duplicate}
 use Rattle.index_reader.specs.declared.fault.LineFault.TheVariants.{OutOfMemory, Skipped}
 
 abbrev pub Differ : RecordView → RecordView → Type 0

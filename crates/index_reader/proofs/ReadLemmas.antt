@@ -5,7 +5,7 @@ use Rattle.std.specs.Option.{ok_or}
 use Rattle.model.specs.Outcome.{◌>>=◌}
 use Rattle.index_reader.specs.Lines.{Line}
 use Rattle.index_reader.specs.declared.fault.LineFault.TheVariants.{Skipped}
-use Rattle.index_reader.specs.declared.fault.Reason.TheVariants.{NotJson}
+use Rattle.index_reader.specs.declared.fault.SkipReason.TheVariants.{NotJson}
 use Rattle.trees.specs.declared.fault.TreeFault.TheVariants as tree
 
 -- what a tree has is there in the line

@@ -23,7 +23,7 @@ use Rattle.features.specs.Tables.{rows_of}
 use Rattle.features.specs.declared.entry.Entry.{Entry}
 use Rattle.index_reader.specs.Lines.{Line, FeatureView}
 use Rattle.index_reader.specs.declared.fault.LineFault.TheVariants.{Skipped}
-use Rattle.index_reader.specs.declared.fault.Reason.TheVariants.{BadFeatures}
+use Rattle.index_reader.specs.declared.fault.SkipReason.TheVariants.{BadFeatures}
 use Rattle.index_reader.specs.Written.{entries_read, feature_read, features_read, joined, names_rise, with_features, with_more}
 use Rattle.index_reader.proofs.ReadLemmas.{with_front, with_front-next}
 

@@ -8,8 +8,8 @@ use Rattle.model.specs.Order.{precedence}
 use Rattle.trees.specs.Lines.{is_blank, is_line_end}
 use Rattle.index_reader.specs.Lines.{Line}
 use Rattle.index_reader.specs.Records.{RecordView, is_checksum, unchecked_of_line}
-use Rattle.index_reader.specs.declared.fault.Reason.{Reason}
-use Rattle.index_reader.specs.declared.fault.Reason.TheVariants.{BadChecksum, Duplicate}
+use Rattle.index_reader.specs.declared.fault.SkipReason.{SkipReason}
+use Rattle.index_reader.specs.declared.fault.SkipReason.TheVariants.{BadChecksum, Duplicate}
 use Rattle.index_reader.specs.declared.fault.LineFault.TheVariants.{OutOfMemory, Skipped}
 
 -- some bytes, the last of which ends no line
@@ -24,7 +24,7 @@ line_count bytes = count_by is_line_end bytes + (if ends_open bytes then 1 else 
 pub record SkipView : Type 0 where
   pub name : List ℕ
   pub line : ℕ
-  pub reason : Reason
+  pub reason : SkipReason
 
 pub record FileView : Type 0 where
   pub records : List RecordView
@@ -40,7 +40,7 @@ same_precedence v w = is_eq (precedence v w)
 abbrev pub has_version : List RecordView → Parts → Bool
 has_version records v = list_any (λ r. same_precedence v r.version) records
 
-abbrev pub with_skip : List ℕ → ℕ → Reason → FileView → FileView
+abbrev pub with_skip : List ℕ → ℕ → SkipReason → FileView → FileView
 with_skip name n why file = record { records = file.records; skips = file.skips ++ record { name = name; line = n; reason = why } ∷ [] }
 
 -- a record is kept where no earlier one that is kept has a version of equal precedence

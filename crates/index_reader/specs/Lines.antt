@@ -12,9 +12,9 @@ use Rattle.features.specs.Names.{is_package_name}
 use Rattle.classes.specs.RustVersions.{rust_version_of}
 use Rattle.index_reader.specs.declared.fault.LineFault.{LineFault}
 use Rattle.index_reader.specs.declared.fault.LineFault.TheVariants.{OutOfMemory, Skipped}
-use Rattle.index_reader.specs.declared.fault.Reason.TheVariants as reason
-use Rattle.index_reader.specs.declared.shape.Kind.{Kind}
-use Rattle.index_reader.specs.declared.shape.Kind.TheVariants.{Normal, Build, Dev}
+use Rattle.index_reader.specs.declared.fault.SkipReason.TheVariants as reason
+use Rattle.index_reader.specs.declared.shape.DependencyKind.{DependencyKind}
+use Rattle.index_reader.specs.declared.shape.DependencyKind.TheVariants.{Normal, Build, Dev}
 
 abbrev pub is_memory : LineFault → Bool
 is_memory OutOfMemory = true
@@ -112,19 +112,19 @@ abbrev pub package_name_or_none : Option Data → Line (Option (List ℕ))
 package_name_or_none None = Ok None
 package_name_or_none (Some d) = package_name_of d >>= λ name. Ok (Some name)
 
-abbrev pub kind_of_text : List ℕ → Option Kind
+abbrev pub kind_of_text : List ℕ → Option DependencyKind
 kind_of_text text = if same_text text (codes "normal") then Some Normal
     else if same_text text (codes "build") then Some Build
     else if same_text text (codes "dev") then Some Dev
     else None
 
-abbrev pub kind_of : Data → Option Kind
+abbrev pub kind_of : Data → Option DependencyKind
 kind_of d = option_and_then kind_of_text (as_str d)
 
-abbrev pub kind_at : Data → Line Kind
+abbrev pub kind_at : Data → Line DependencyKind
 kind_at d = optional Normal kind_of (value_at (codes "kind") d)
 
-abbrev pub is_dev : Kind → Bool
+abbrev pub is_dev : DependencyKind → Bool
 is_dev Normal = false
 is_dev Build = false
 is_dev Dev = true
@@ -154,7 +154,7 @@ part_of name d = do
   registry ← optional None text_of (value_at (codes "registry") d)
   Ok (record { name = name; real_name = real_name; requirement = requirement; optional = optional_flag; default_features = default_flag; features = features; registry = registry })
 
-abbrev pub by_kind : List ℕ → Kind → Data → Line DependencyView
+abbrev pub by_kind : List ℕ → DependencyKind → Data → Line DependencyView
 by_kind name kind d = if is_dev kind then Ok (dev name) else (part_of name d >>= λ p. Ok (part p))
 
 unfoldable pub dependency_of : Data → Line DependencyView

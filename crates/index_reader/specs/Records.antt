@@ -10,8 +10,8 @@ use Rattle.features.specs.Names.{is_between}
 use Rattle.index_reader.specs.Lines.{Line, PartView, DependencyView, dev, part, ShapeView, data_of_bytes, shape_of}
 use Rattle.index_reader.specs.Written.{feature_name_of, features_of}
 use Rattle.index_reader.specs.declared.fault.LineFault.TheVariants.{Skipped}
-use Rattle.index_reader.specs.declared.fault.Reason.{Reason}
-use Rattle.index_reader.specs.declared.fault.Reason.TheVariants as reason
+use Rattle.index_reader.specs.declared.fault.SkipReason.{SkipReason}
+use Rattle.index_reader.specs.declared.fault.SkipReason.TheVariants as reason
 
 -- a version of a package, as its line has it
 pub record RecordView : Type 0 where
@@ -22,11 +22,11 @@ pub record RecordView : Type 0 where
   pub brings : model.Summary
 
 -- the line goes on only where the test passes
-abbrev pub unless : Bool → Reason → Line (Unit {0})
+abbrev pub unless : Bool → SkipReason → Line (Unit {0})
 unless test why = guard test (Skipped why)
 
 -- what semver doesn't read is skipped
-abbrev pub semver_or : {A : Type 0} → Reason → Result A Error → Line A
+abbrev pub semver_or : {A : Type 0} → SkipReason → Result A Error → Line A
 semver_or why (Ok p) = Ok p
 semver_or why (Err e) = Err (Skipped why)
 

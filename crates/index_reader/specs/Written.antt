@@ -15,7 +15,7 @@ use Rattle.features.specs.declared.table.FeatureFault.{FeatureFault}
 use Rattle.features.specs.declared.table.FeatureFault.TheVariants as feature
 use Rattle.index_reader.specs.declared.fault.LineFault.{LineFault}
 use Rattle.index_reader.specs.declared.fault.LineFault.TheVariants.{OutOfMemory, Skipped}
-use Rattle.index_reader.specs.declared.fault.Reason.TheVariants.{BadFeatures}
+use Rattle.index_reader.specs.declared.fault.SkipReason.TheVariants.{BadFeatures}
 
 -- a text that names a feature
 abbrev pub feature_name_of : List ℕ → Line (List ℕ)

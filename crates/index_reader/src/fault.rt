@@ -6,7 +6,7 @@ use thiserror::Error;
 
 /// Why a line is skipped: of several reasons the first in this order.
 #[derive(Clone, Copy, Debug, PartialEq, Eq)]
-pub enum Reason {
+pub enum SkipReason {
     /// The line is no JSON.
     NotJson,
     /// It is no object, lacks a key that it needs, or has a value of a wrong kind.
@@ -29,7 +29,7 @@ pub enum Reason {
     BadChecksum,
 }
 
-impl fmt::Display for Reason {
+impl fmt::Display for SkipReason {
     ghost use Rattle.std.specs.Prelude.{Some};
     ghost use Rattle.index_reader.specs.Reasons.{reason_text};
 
@@ -37,16 +37,16 @@ impl fmt::Display for Reason {
 
     fn fmt<W: fmt::Write>(&self, f: &mut fmt::Formatter<W>) -> fmt::Result {
         f.write_str(match self {
-            Reason::NotJson => "S1 NotJson",
-            Reason::Shape => "S2 Shape",
-            Reason::NewerFormat => "S3 NewerFormat",
-            Reason::OtherName => "S4 OtherName",
-            Reason::BadVersion => "S5 BadVersion",
-            Reason::BadRequirement => "S6 BadRequirement",
-            Reason::BadFeatures => "S7 BadFeatures",
-            Reason::OtherRegistry => "S8 OtherRegistry",
-            Reason::Duplicate => "S10 Duplicate",
-            Reason::BadChecksum => "S11 BadChecksum",
+            SkipReason::NotJson => "S1 NotJson",
+            SkipReason::Shape => "S2 Shape",
+            SkipReason::NewerFormat => "S3 NewerFormat",
+            SkipReason::OtherName => "S4 OtherName",
+            SkipReason::BadVersion => "S5 BadVersion",
+            SkipReason::BadRequirement => "S6 BadRequirement",
+            SkipReason::BadFeatures => "S7 BadFeatures",
+            SkipReason::OtherRegistry => "S8 OtherRegistry",
+            SkipReason::Duplicate => "S10 Duplicate",
+            SkipReason::BadChecksum => "S11 BadChecksum",
         })
     }
 }
@@ -57,7 +57,7 @@ pub enum LineFault {
     #[error("out of memory")]
     OutOfMemory,
     #[error("{0}")]
-    Skipped(Reason),
+    Skipped(SkipReason),
 }
 
 impl From<AllocError> for LineFault {

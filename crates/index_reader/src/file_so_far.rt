@@ -7,7 +7,7 @@ ghost use Rattle.index_reader.specs.Files.{has_version, with_skip, with_record, 
 ghost use Rattle.index_reader.specs.Kept.{bare, WithoutBuild, Agrees};
 ghost use Rattle.index_reader.specs.Views.{record_view, file_view};
 
-use crate::fault::Reason;
+use crate::fault::SkipReason;
 use crate::line::is_checksum;
 use crate::record::{Record, Skip};
 use features::PackageName;
@@ -43,7 +43,7 @@ impl FileSoFar {
         mut self,
         name: &PackageName,
         line: u64,
-        reason: Reason,
+        reason: SkipReason,
     ) -> Result<FileSoFar, AllocError>
         ensures { IfOk result (λ f. file_view f.records.items f.skips.items ≡ with_skip name.now line reason (file_view self.records.items self.skips.items)) }
     {
@@ -66,9 +66,9 @@ impl FileSoFar {
             return self.with_record(name, line, found);
         }
         if self.has_version(&found.version)? {
-            return self.with_skip(name, line, Reason::Duplicate);
+            return self.with_skip(name, line, SkipReason::Duplicate);
         }
-        self.with_skip(name, line, Reason::BadChecksum)
+        self.with_skip(name, line, SkipReason::BadChecksum)
     }
 
     /// Whether a record that is kept has a version of equal precedence.
@@ -90,7 +90,7 @@ impl FileSoFar {
     {
         let version = without_build(&found.version)?;
         if !self.kept.insert(version)? {
-            return self.with_skip(name, line, Reason::Duplicate);
+            return self.with_skip(name, line, SkipReason::Duplicate);
         }
         self.records.push(found)?;
         Ok(self)

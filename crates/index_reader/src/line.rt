@@ -12,7 +12,7 @@ ghost use Rattle.index_reader.specs.Records.{unless, semver_or, required, featur
 ghost use Rattle.index_reader.specs.Shapes.{texts_view, line_dependency_view, line_dependency_views, shape_view, required_view, required_views};
 ghost use Rattle.index_reader.specs.Views.{record_view};
 
-use crate::fault::{LineFault, Reason};
+use crate::fault::{LineFault, SkipReason};
 use crate::made::{LineBefore, features_after};
 use crate::record::Record;
 use crate::shape::{DependencyShape, LineShape, PartShape, Required, read_shape};
@@ -38,7 +38,7 @@ pub fn read_line(alloc: Global, name: &PackageName, line: &[u8]) -> Result<Recor
         &mut Scratch::new(alloc),
         &mut LineBefore::none(1),
     )?;
-    check(is_checksum(record.checksum.as_str()), Reason::BadChecksum)?;
+    check(is_checksum(record.checksum.as_str()), SkipReason::BadChecksum)?;
     Ok(record)
 }
 
@@ -67,8 +67,8 @@ fn record_in(
 ) -> Result<Record, LineFault>
     ensures { Gives is_memory record_view result (unchecked_of_shape name.now (shape_view shape.now)) }
 {
-    check(shape.format == 1 || shape.format == 2, Reason::NewerFormat)?;
-    check(shape.name == name.as_str(), Reason::OtherName)?;
+    check(shape.format == 1 || shape.format == 2, SkipReason::NewerFormat)?;
+    check(shape.name == name.as_str(), SkipReason::OtherName)?;
     let version = version(alloc, shape.version)?;
     let parts = requirements(alloc, &shape.dependencies)?;
     let dependencies = dependencies(alloc, parts)?;
@@ -86,7 +86,7 @@ fn record_in(
     })
 }
 
-fn check(passes: bool, why: Reason) -> Result<(), LineFault>
+fn check(passes: bool, why: SkipReason) -> Result<(), LineFault>
     ensures { Gives is_memory (λ u. u) result (unless passes why) }
 {
     if passes {
@@ -97,21 +97,21 @@ fn check(passes: bool, why: Reason) -> Result<(), LineFault>
 }
 
 fn version(alloc: Global, text: &str) -> Result<Version, LineFault>
-    ensures read { Gives is_memory parts_of result (semver_or Reason.BadVersion (version_parts text.now)) }
+    ensures read { Gives is_memory parts_of result (semver_or SkipReason.BadVersion (version_parts text.now)) }
     ensures valid { IfOk result (λ v. IsValid (parts_of v)) }
 {
     match Version::parse(alloc, text) {
         Ok(version) => Ok(version),
-        Err(e) => Err(fault_of(e, Reason::BadVersion)),
+        Err(e) => Err(fault_of(e, SkipReason::BadVersion)),
     }
 }
 
 fn requirement(alloc: Global, text: &str) -> Result<VersionReq, LineFault>
-    ensures { Gives is_memory requirement_view result (semver_or Reason.BadRequirement (req_of text.now)) }
+    ensures { Gives is_memory requirement_view result (semver_or SkipReason.BadRequirement (req_of text.now)) }
 {
     match VersionReq::parse(alloc, text) {
         Ok(requirement) => Ok(fitted(alloc, requirement)?),
-        Err(e) => Err(fault_of(e, Reason::BadRequirement)),
+        Err(e) => Err(fault_of(e, SkipReason::BadRequirement)),
     }
 }
 
@@ -125,7 +125,7 @@ fn fitted(alloc: Global, mut requirement: VersionReq) -> Result<VersionReq, Allo
 }
 
 /// What an error of `semver` is as a reason to skip.
-fn fault_of(e: semver::Error, why: Reason) -> LineFault
+fn fault_of(e: semver::Error, why: SkipReason) -> LineFault
     ensures { ((result ≡ LineFault.OutOfMemory) × (e ≡ memory_error)) ⊎ ((result ≡ LineFault.Skipped why) × (e ≢ memory_error)) }
 {
     if e == semver::Error::from(AllocError) {
@@ -211,9 +211,9 @@ fn feature_names(alloc: Global, texts: &[&str]) -> Result<Vec<FeatureName>, Line
 /// A dependency of another registry is one of another index.
 #[tactic(auto, using(crate::proofs::ReadLemmas::views))]
 fn check_registries(dependencies: &[DependencyShape<'_>]) -> Result<(), LineFault>
-    ensures { Gives is_memory (λ u. u) result (unless (list_all is_of_index (line_dependency_views dependencies.now)) Reason.OtherRegistry) }
+    ensures { Gives is_memory (λ u. u) result (unless (list_all is_of_index (line_dependency_views dependencies.now)) SkipReason.OtherRegistry) }
 {
-    check(are_of_index(dependencies), Reason::OtherRegistry)
+    check(are_of_index(dependencies), SkipReason::OtherRegistry)
 }
 
 fn are_of_index(dependencies: &[DependencyShape<'_>]) -> bool

@@ -3,7 +3,7 @@
 ghost use Rattle.semver.specs.Grammar.{IsValid};
 ghost use Rattle.semver.specs.Identifiers.{parts_of};
 
-use crate::fault::Reason;
+use crate::fault::SkipReason;
 use classes::RustVersion;
 use features::{PackageName, Summary};
 use semver::Version;
@@ -29,5 +29,5 @@ pub struct Skip {
     pub name: PackageName,
     /// Its number in the file, from 1.
     pub line: u64,
-    pub reason: Reason,
+    pub reason: SkipReason,
 }

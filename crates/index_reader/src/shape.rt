@@ -7,7 +7,7 @@ ghost use Rattle.classes.specs.RustVersions.{rust_version_view};
 ghost use Rattle.index_reader.specs.Shapes.{feature_views, part_view, line_dependency_view, line_dependency_views, shape_view};
 ghost use Rattle.trees.specs.Trees.{tree_view, trees_view, entries_view, listed_view};
 
-use crate::fault::{LineFault, Reason};
+use crate::fault::{LineFault, SkipReason};
 use crate::values::{flag, text, text_if_any, texts, texts_at, value, whole};
 use classes::RustVersion;
 use features::{NameFault, PackageName};
@@ -61,7 +61,7 @@ pub(crate) struct Required<'a> {
 
 /// When a dependency is needed.
 #[derive(Clone, Copy, PartialEq, Eq)]
-pub(crate) enum Kind {
+pub(crate) enum DependencyKind {
     Normal,
     Build,
     Dev,
@@ -118,12 +118,12 @@ fn package_name(alloc: Global, value: &Value<'_>) -> Result<PackageName, LineFau
     ensures { Gives is_memory (λ n. n) result (package_name_of (tree_view value.now)) }
 {
     let Some(text) = as_text(value) else {
-        return Err(LineFault::Skipped(Reason::Shape));
+        return Err(LineFault::Skipped(SkipReason::Shape));
     };
     match PackageName::parse(alloc, text) {
         Ok(name) => Ok(name),
         Err(NameFault::OutOfMemory) => Err(LineFault::OutOfMemory),
-        Err(NameFault::NotAName) => Err(LineFault::Skipped(Reason::Shape)),
+        Err(NameFault::NotAName) => Err(LineFault::Skipped(SkipReason::Shape)),
     }
 }
 
@@ -133,7 +133,7 @@ fn package_name_at(alloc: Global, object: &Value<'_>, key: &str) -> Result<Packa
 {
     match value(object, key) {
         Some(found) => package_name(alloc, found),
-        None => Err(LineFault::Skipped(Reason::Shape)),
+        None => Err(LineFault::Skipped(SkipReason::Shape)),
     }
 }
 
@@ -152,33 +152,33 @@ fn package_name_if_any(
 }
 
 /// The kind that a text names.
-fn kind_of_text(text: &str) -> Option<Kind>
+fn kind_of_text(text: &str) -> Option<DependencyKind>
     ensures { result ≡ kind_of_text text.now }
 {
     if text == "normal" {
-        Some(Kind::Normal)
+        Some(DependencyKind::Normal)
     } else if text == "build" {
-        Some(Kind::Build)
+        Some(DependencyKind::Build)
     } else if text == "dev" {
-        Some(Kind::Dev)
+        Some(DependencyKind::Dev)
     } else {
         None
     }
 }
 
 /// The kind of a dependency: normal where it says none.
-fn kind_at(dependency: &Value<'_>) -> Result<Kind, LineFault>
+fn kind_at(dependency: &Value<'_>) -> Result<DependencyKind, LineFault>
     ensures { Gives is_memory (λ k. k) result (kind_at (tree_view dependency.now)) }
 {
     let Some(found) = value(dependency, "kind") else {
-        return Ok(Kind::Normal);
+        return Ok(DependencyKind::Normal);
     };
     let Some(text) = as_text(found) else {
-        return Err(LineFault::Skipped(Reason::Shape));
+        return Err(LineFault::Skipped(SkipReason::Shape));
     };
     match kind_of_text(text) {
         Some(kind) => Ok(kind),
-        None => Err(LineFault::Skipped(Reason::Shape)),
+        None => Err(LineFault::Skipped(SkipReason::Shape)),
     }
 }
 
@@ -210,14 +210,14 @@ fn part<'a>(
 fn of_kind<'a>(
     alloc: Global,
     name: PackageName,
-    kind: Kind,
+    kind: DependencyKind,
     dependency: &Value<'a>,
 ) -> Result<DependencyShape<'a>, LineFault>
     ensures { Gives is_memory line_dependency_view result (by_kind name kind (tree_view dependency.now)) }
 {
     match kind {
-        Kind::Dev => Ok(DependencyShape::Dev(name)),
-        Kind::Normal | Kind::Build => Ok(DependencyShape::Part(part(alloc, name, dependency)?)),
+        DependencyKind::Dev => Ok(DependencyShape::Dev(name)),
+        DependencyKind::Normal | DependencyKind::Build => Ok(DependencyShape::Part(part(alloc, name, dependency)?)),
     }
 }
 
@@ -251,9 +251,9 @@ fn dependencies<'a>(alloc: Global, line: &Value<'a>) -> Result<Vec<DependencySha
     match value(line, "deps") {
         Some(found) => match as_list(found) {
             Some(values) => dependencies_in(alloc, values),
-            None => Err(LineFault::Skipped(Reason::Shape)),
+            None => Err(LineFault::Skipped(SkipReason::Shape)),
         },
-        None => Err(LineFault::Skipped(Reason::Shape)),
+        None => Err(LineFault::Skipped(SkipReason::Shape)),
     }
 }
 
@@ -311,7 +311,7 @@ fn features_at<'a>(
     match value(line, key) {
         Some(found) => match as_members(found) {
             Some(members) => features_in(alloc, members),
-            None => Err(LineFault::Skipped(Reason::Shape)),
+            None => Err(LineFault::Skipped(SkipReason::Shape)),
         },
         None => Ok(Vec::new(alloc)),
     }

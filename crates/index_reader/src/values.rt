@@ -6,7 +6,7 @@ ghost use Rattle.index_reader.specs.Lines.{is_memory, data_of_bytes, value_at, t
 ghost use Rattle.index_reader.specs.Shapes.{texts_view, text_view};
 ghost use Rattle.trees.specs.Trees.{tree_view, trees_view};
 
-use crate::fault::{LineFault, Reason};
+use crate::fault::{LineFault, SkipReason};
 use json::{Scratch, Value};
 use std::alloc::Global;
 use trees::{TreeFault, as_flag, as_list, as_text, as_whole, member, read_tree};
@@ -22,7 +22,7 @@ pub(crate) fn read_json<'a>(
     match read_tree(alloc, bytes, scratch) {
         Ok(tree) => Ok(tree),
         Err(TreeFault::OutOfMemory) => Err(LineFault::OutOfMemory),
-        Err(TreeFault::NotJson) => Err(LineFault::Skipped(Reason::NotJson)),
+        Err(TreeFault::NotJson) => Err(LineFault::Skipped(SkipReason::NotJson)),
     }
 }
 
@@ -43,9 +43,9 @@ pub(crate) fn text<'a>(object: &Value<'a>, key: &str) -> Result<&'a str, LineFau
     match value(object, key) {
         Some(found) => match as_text(found) {
             Some(text) => Ok(text),
-            None => Err(LineFault::Skipped(Reason::Shape)),
+            None => Err(LineFault::Skipped(SkipReason::Shape)),
         },
-        None => Err(LineFault::Skipped(Reason::Shape)),
+        None => Err(LineFault::Skipped(SkipReason::Shape)),
     }
 }
 
@@ -56,7 +56,7 @@ pub(crate) fn text_if_any<'a>(object: &Value<'a>, key: &str) -> Result<Option<&'
     match value(object, key) {
         Some(found) => match as_text(found) {
             Some(text) => Ok(Some(text)),
-            None => Err(LineFault::Skipped(Reason::Shape)),
+            None => Err(LineFault::Skipped(SkipReason::Shape)),
         },
         None => Ok(None),
     }
@@ -69,7 +69,7 @@ pub(crate) fn flag(object: &Value<'_>, key: &str, absent: bool) -> Result<bool, 
     match value(object, key) {
         Some(found) => match as_flag(found) {
             Some(flag) => Ok(flag),
-            None => Err(LineFault::Skipped(Reason::Shape)),
+            None => Err(LineFault::Skipped(SkipReason::Shape)),
         },
         None => Ok(absent),
     }
@@ -82,7 +82,7 @@ pub(crate) fn whole(object: &Value<'_>, key: &str, absent: u64) -> Result<u64, L
     match value(object, key) {
         Some(found) => match as_whole(found) {
             Some(number) => Ok(number),
-            None => Err(LineFault::Skipped(Reason::Shape)),
+            None => Err(LineFault::Skipped(SkipReason::Shape)),
         },
         None => Ok(absent),
     }
@@ -97,7 +97,7 @@ fn texts_in<'a>(alloc: Global, values: &Vec<Value<'a>>) -> Result<Vec<&'a str>, 
     'items: for value in values.iter() {
         match as_text(value) {
             Some(text) => found.push(text)?,
-            None => return Err(LineFault::Skipped(Reason::Shape)),
+            None => return Err(LineFault::Skipped(SkipReason::Shape)),
         }
     }
     Ok(found)
@@ -110,7 +110,7 @@ pub(crate) fn texts<'a>(alloc: Global, value: &Value<'a>) -> Result<Vec<&'a str>
 {
     match as_list(value) {
         Some(values) => texts_in(alloc, values),
-        None => Err(LineFault::Skipped(Reason::Shape)),
+        None => Err(LineFault::Skipped(SkipReason::Shape)),
     }
 }
 

@@ -14,7 +14,7 @@ ghost use Rattle.index_reader.specs.Lines.{is_memory};
 ghost use Rattle.index_reader.specs.Shapes.{texts_view, feature_view, feature_views, line_dependency_view, line_dependency_views, shape_view};
 ghost use Rattle.index_reader.specs.Written.{feature_name_of, entry_read, entries_read, feature_read, features_read, joined, names_rise, with_feature, with_features, written_of, dep_name_of, dep_names_of, unless_faulty, features_of, skip_of};
 
-use crate::fault::{LineFault, Reason};
+use crate::fault::{LineFault, SkipReason};
 use crate::shape::{DependencyShape, FeatureShape, LineShape};
 use features::{DepName, Entry, EntryFault, FeatureFault, FeatureName, FeatureTable, NameFault};
 use std::alloc::{AllocError, Global};
@@ -183,7 +183,7 @@ fn entry(alloc: Global, text: &str) -> Result<Entry, LineFault>
     match Entry::parse(alloc, text) {
         Ok(entry) => Ok(entry),
         Err(EntryFault::OutOfMemory) => Err(LineFault::OutOfMemory),
-        Err(EntryFault::NotAnEntry) => Err(LineFault::Skipped(Reason::BadFeatures)),
+        Err(EntryFault::NotAnEntry) => Err(LineFault::Skipped(SkipReason::BadFeatures)),
     }
 }
 
@@ -193,7 +193,7 @@ pub(crate) fn feature_name(alloc: Global, text: &str) -> Result<FeatureName, Lin
     match FeatureName::parse(alloc, text) {
         Ok(name) => Ok(name),
         Err(NameFault::OutOfMemory) => Err(LineFault::OutOfMemory),
-        Err(NameFault::NotAName) => Err(LineFault::Skipped(Reason::BadFeatures)),
+        Err(NameFault::NotAName) => Err(LineFault::Skipped(SkipReason::BadFeatures)),
     }
 }
 
@@ -247,6 +247,6 @@ fn fault_of(fault: FeatureFault) -> LineFault
         FeatureFault::OutOfMemory => LineFault::OutOfMemory,
         FeatureFault::NoSuchFeature(_)
         | FeatureFault::NoSuchDependency(_)
-        | FeatureFault::NotOptional(_) => LineFault::Skipped(Reason::BadFeatures),
+        | FeatureFault::NotOptional(_) => LineFault::Skipped(SkipReason::BadFeatures),
     }
 }

@@ -17,7 +17,7 @@ ghost use Rattle.vertices.specs.RefViews.{owner_ref_view, vertex_ref_view};
 use classes::{Class, is_matched};
 use features::{Dependency, PackageName};
 use looking_up::{Problem, class_versions, dependency_at};
-use named_terms::{States, Term};
+use named_terms::{StateSet, Term};
 use semver::{Version, VersionReq};
 use std::alloc::{AllocError, Global};
 use vertices::{OwnerRef, StateRef, VertexRef};
@@ -46,20 +46,20 @@ fn is_full<'a>(problem: &Problem<'a>, term: &Term<'a>) -> bool
     has_absent(&term.states) && has_others(problem, &term.vertex, &term.states)
 }
 
-fn has_absent(states: &States<'_>) -> bool
+fn has_absent(states: &StateSet<'_>) -> bool
     ensures { result ≡ has_state states.now model.absent }
 {
     states.has(&StateRef::Absent)
 }
 
-fn has_present(states: &States<'_>) -> bool
+fn has_present(states: &StateSet<'_>) -> bool
     ensures { result ≡ has_state states.now model.present }
 {
     states.has(&StateRef::Present)
 }
 
 /// Whether the states have all of the vertex but `absent`.
-fn has_others<'a>(problem: &Problem<'a>, vertex: &VertexRef<'a>, states: &States<'a>) -> bool
+fn has_others<'a>(problem: &Problem<'a>, vertex: &VertexRef<'a>, states: &StateSet<'a>) -> bool
     ensures { result ≡ list_all (has_state states.now) (others (problem_view problem.now) (vertex_ref_view vertex.now)) }
 {
     match vertex {
@@ -75,20 +75,20 @@ fn has_versions(
     problem: &Problem<'_>,
     name: &PackageName,
     class: Class,
-    states: &States<'_>,
+    states: &StateSet<'_>,
 ) -> bool
     ensures { result ≡ list_all (has_state states.now) (others (problem_view problem.now) (model.pkg name.now (class_view class))) }
 {
     all_in(class_versions(problem.catalogue, name, class), states)
 }
 
-fn all_in(versions: &[Version], states: &States<'_>) -> bool
+fn all_in(versions: &[Version], states: &StateSet<'_>) -> bool
     ensures { result ≡ list_all (λ v. has_state states.now (model.version (parts_of v))) versions.now }
 {
     versions.iter().all(|version| has_version(states, version))
 }
 
-fn has_version(states: &States<'_>, version: &Version) -> bool
+fn has_version(states: &StateSet<'_>, version: &Version) -> bool
     ensures { result ≡ has_state states.now (model.version (parts_of version.now)) }
 {
     states.has(&StateRef::Version(version))
@@ -98,7 +98,7 @@ fn has_classes(
     problem: &Problem<'_>,
     owner: &OwnerRef<'_>,
     number: usize,
-    states: &States<'_>,
+    states: &StateSet<'_>,
 ) -> bool
     ensures { result ≡ list_all (has_state states.now) (others (problem_view problem.now) (model.dep (owner_ref_view owner.now) number)) }
 {
@@ -108,7 +108,7 @@ fn has_classes(
     }
 }
 
-fn has_classes_of(problem: &Problem<'_>, dependency: &Dependency, states: &States<'_>) -> bool
+fn has_classes_of(problem: &Problem<'_>, dependency: &Dependency, states: &StateSet<'_>) -> bool
     ensures { result ≡ list_all (has_state states.now) (map model.in_class (dep_classes (problem_view problem.now) (dependency_view dependency.now))) }
 {
     all_matched(
@@ -118,7 +118,7 @@ fn has_classes_of(problem: &Problem<'_>, dependency: &Dependency, states: &State
     )
 }
 
-fn all_matched(versions: &[Version], requirement: &VersionReq, states: &States<'_>) -> bool
+fn all_matched(versions: &[Version], requirement: &VersionReq, states: &StateSet<'_>) -> bool
     ensures { result ≡ list_all (λ v. has_if_matched states.now (requirement_view requirement.now) (parts_of v)) versions.now }
 {
     versions
@@ -127,13 +127,13 @@ fn all_matched(versions: &[Version], requirement: &VersionReq, states: &States<'
 }
 
 #[tactic(auto, unfolding(crate::specs::FullTerms::has_if_matched))]
-fn has_if_matched(states: &States<'_>, requirement: &VersionReq, version: &Version) -> bool
+fn has_if_matched(states: &StateSet<'_>, requirement: &VersionReq, version: &Version) -> bool
     ensures { result ≡ has_if_matched states.now (requirement_view requirement.now) (parts_of version.now) }
 {
     !is_matched(requirement, version) || has_class(states, Class::of(version))
 }
 
-fn has_class(states: &States<'_>, class: Class) -> bool
+fn has_class(states: &StateSet<'_>, class: Class) -> bool
     ensures { result ≡ has_state states.now (model.in_class (class_view class)) }
 {
     states.has(&StateRef::Class(class))

@@ -19,7 +19,7 @@ use crate::terms::{term, two};
 use classes::Class;
 use features::{FeatureName, PackageName};
 use looking_up::{Problem, brings, of_class};
-use named_terms::{States, Term};
+use named_terms::{StateSet, Term};
 use semver::Version;
 use std::alloc::{AllocError, Global};
 use vertices::{OwnerRef, StateRef, VertexRef};
@@ -59,7 +59,7 @@ fn lacking_term<'a>(
     let states = lacking_states(alloc, problem, name, feature, of_class(class, versions))?;
     Ok(Term {
         vertex: VertexRef::Package(name, class),
-        states: States::rising(states),
+        states: StateSet::rising(states),
     })
 }
 

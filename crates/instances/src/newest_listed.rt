@@ -18,7 +18,7 @@ use crate::terms::{term, three};
 use classes::{Class, is_matched};
 use features::Dependency;
 use looking_up::{Problem, class_versions, dependency_at};
-use named_terms::{States, Term};
+use named_terms::{StateSet, Term};
 use semver::{Version, VersionReq};
 use std::alloc::{AllocError, Global};
 use vertices::{OwnerRef, StateRef, VertexRef};
@@ -66,7 +66,7 @@ fn taken_term<'a>(
     let states = taken_states(alloc, &dependency.requirement, versions)?;
     Ok(Term {
         vertex: VertexRef::Package(&dependency.real_name, class),
-        states: States::rising(states),
+        states: StateSet::rising(states),
     })
 }
 

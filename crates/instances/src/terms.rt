@@ -12,7 +12,7 @@ ghost use Rattle.named_terms.specs.Views.{term_view, term_views};
 
 use classes::Class;
 use features::{Dependency, FeatureName, PackageName};
-use named_terms::{States, Term};
+use named_terms::{StateSet, Term};
 use semver::Version;
 use std::alloc::{AllocError, Global};
 use vertices::{OwnerRef, StateRef, VertexRef};
@@ -54,7 +54,7 @@ pub(crate) fn term<'a>(
 ) -> Result<Term<'a>, AllocError>
     ensures { IfOk result (λ t. term_view t ≡ at (vertex_ref_view vertex.entry) (state_ref_view state.entry ∷ [])) }
 {
-    let states = States::one(alloc, state)?;
+    let states = StateSet::one(alloc, state)?;
     Ok(Term { vertex, states })
 }
 

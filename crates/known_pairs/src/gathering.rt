@@ -30,7 +30,7 @@ pub fn known_features<'a>(
     ensures { IfOk result (λ p. HasThose p (is_known_feature (problem_in manifest.entry.now catalogue.entry.now))) }
 {
     let mut known = Pairs::new(alloc);
-    put_root(alloc, &mut known, manifest.summary())?;
+    put_root(alloc, &mut known, manifest.brings())?;
     put_names(alloc, &mut known, catalogue, catalogue.names())?;
     Ok(known)
 }
@@ -95,7 +95,7 @@ fn put_had_at<'a>(
 ) -> Result<(), AllocError>
     ensures { OnOk result (Adds known.old known.new (λ n f. same_text n name.now && passes (λ c. has_feature c.brings.features f) (slice_get (candidates_of (rows_by_name catalogue.now) name.now) place))) }
 {
-    match catalogue.record(name, place) {
+    match catalogue.candidate_at(name, place) {
         Some(candidate) => put_table(known, name.as_str(), &candidate.brings.features),
         None => Ok(()),
     }

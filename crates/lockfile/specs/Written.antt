@@ -10,8 +10,8 @@ use Rattle.lockfile.specs.Locks.{in_order}
 use Rattle.lockfile.specs.Search.{IsRead}
 use Rattle.lockfile.specs.Spelling.{block, dependency_text, listed_source_cmp, at_places}
 use Rattle.lockfile.specs.Views.{package_view}
-use Rattle.lockfile.specs.declared.entry.Entry.{Entry}
-use Rattle.lockfile.specs.declared.entry.Listed.{Listed}
+use Rattle.lockfile.specs.declared.written_package.WrittenPackage.{WrittenPackage}
+use Rattle.lockfile.specs.declared.written_package.Listed.{Listed}
 
 -- a package, its version's text, and the text by which lists name it
 pub record Written : Type 0 where
@@ -38,10 +38,10 @@ written_block w listed = block w.locked w.version (map (λ x. x.text) listed)
 abbrev pub AreRead : Content → Type 0
 AreRead = AllByRecursion IsRead
 
-abbrev pub entry_view : Entry → Written
+abbrev pub entry_view : WrittenPackage → Written
 entry_view e = record { locked = package_view e.locked.now; version = string_bytes e.version; text = string_bytes e.text }
 
-abbrev pub entry_views : List Entry → List Written
+abbrev pub entry_views : List WrittenPackage → List Written
 entry_views es = map entry_view es
 
 abbrev pub listed_view : Listed → Written

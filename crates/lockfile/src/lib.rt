@@ -17,7 +17,7 @@
 #![tactic(auto)]
 
 mod content;
-mod entry;
+mod written_package;
 mod fault;
 mod laws;
 mod listed;

@@ -5,7 +5,7 @@ ghost use Rattle.lockfile.specs.Locks.{in_order};
 ghost use Rattle.lockfile.specs.Spelling.{listed_source_cmp, at_places};
 ghost use Rattle.lockfile.specs.Written.{written_cmp, entry_views, listed_view, listed_views};
 
-use crate::entry::{Entry, Listed};
+use crate::written_package::{WrittenPackage, Listed};
 use std::alloc::{AllocError, Global};
 use std::cmp::Ordering;
 
@@ -32,7 +32,7 @@ fn listed_order(a: &Listed, b: &Listed) -> Ordering
         .then_with(|| listed_source_order(a.locked.source(), b.locked.source()))
 }
 
-fn listed_at<'e>(entries: &'e [Entry<'_>], place: usize) -> Option<Listed<'e>>
+fn listed_at<'e>(entries: &'e [WrittenPackage<'_>], place: usize) -> Option<Listed<'e>>
     ensures { option_map listed_view result ≡ slice_get (entry_views entries.now) place }
 {
     match entries.get(place) {
@@ -44,7 +44,7 @@ fn listed_at<'e>(entries: &'e [Entry<'_>], place: usize) -> Option<Listed<'e>>
 /// The entries at these places.
 fn entries_at<'e>(
     alloc: Global,
-    entries: &'e [Entry<'_>],
+    entries: &'e [WrittenPackage<'_>],
     places: &[usize],
 ) -> Result<Vec<Listed<'e>>, AllocError>
     ensures { IfOk result (λ v. listed_views v.items ≡ at_places (entry_views entries.now) places.now) }
@@ -61,7 +61,7 @@ fn entries_at<'e>(
 /// The entries at these places, in the order of a list.
 pub(crate) fn listed<'e>(
     alloc: Global,
-    entries: &'e [Entry<'_>],
+    entries: &'e [WrittenPackage<'_>],
     places: &[usize],
 ) -> Result<Vec<Listed<'e>>, AllocError>
     ensures { IfOk result (λ v. listed_views v.items ≡ in_order written_cmp (at_places (entry_views entries.now) places.now)) }

@@ -19,7 +19,7 @@ pub fn brings<'a>(problem: &Problem<'a>, owner: &OwnerRef<'_>) -> Option<&'a Sum
     ensures { brings_view result ≡ owner_brings (problem_view problem.now) (owner_ref_view owner.now) }
 {
     match owner {
-        OwnerRef::Root => Some(problem.manifest.summary()),
+        OwnerRef::Root => Some(problem.manifest.brings()),
         OwnerRef::Version(name, version) => {
             let candidate = problem.catalogue.candidate(name, version)?;
             Some(&candidate.brings)

@@ -8,8 +8,8 @@ use Rattle.manifest.specs.declared.fault.Part.{Part}
 use Rattle.manifest.specs.declared.fault.Part.TheVariants as part
 use Rattle.manifest.specs.declared.fault.Unsupported.{Unsupported}
 use Rattle.manifest.specs.declared.fault.Unsupported.TheVariants as source
-use Rattle.manifest.specs.declared.section.Kind.{Kind}
-use Rattle.manifest.specs.declared.section.Kind.TheVariants.{Normal, Dev, Build}
+use Rattle.manifest.specs.declared.section.DependencyKind.{DependencyKind}
+use Rattle.manifest.specs.declared.section.DependencyKind.TheVariants.{Normal, Dev, Build}
 use Rattle.manifest.specs.declared.section.Place.{Place}
 use Rattle.manifest.specs.declared.section.Place.TheVariants.{Top, Target}
 
@@ -72,13 +72,13 @@ abbrev pub default_features_in : Part → Members → Shaped Bool
 default_features_in p t = either_at p (codes "default-features") (codes "default_features") t >>= or_absent true (flag_of p)
 
 -- a dev dependency may not be optional
-abbrev pub may_be_optional : Kind → Bool
+abbrev pub may_be_optional : DependencyKind → Bool
 may_be_optional Normal = true
 may_be_optional Dev = false
 may_be_optional Build = true
 
 -- a dependency that is written as a table
-unfoldable pub dependency_in : Part → Kind → List ℕ → Members → Shaped DependencyShapeView
+unfoldable pub dependency_in : Part → DependencyKind → List ℕ → Members → Shaped DependencyShapeView
 dependency_in p kind name t = do
   version ← if_there (text_of p) (get_member (codes "version") t)
   from ← source_of p (unsupported_in t) version
@@ -102,7 +102,7 @@ abbrev pub inherited : SourceView
 inherited = unsupported source.Workspace
 
 -- a dependency: a requirement or a table
-abbrev pub described : Part → Kind → List ℕ → Data → Shaped DependencyShapeView
+abbrev pub described : Part → DependencyKind → List ℕ → Data → Shaped DependencyShapeView
 described p kind name (string text) = Ok (bare name (registry text))
 described p kind name (table t) = if has_key (codes "workspace") t then Ok (bare name inherited) else dependency_in p kind name t
 described p kind name (integer z) = Err (Shape p)
@@ -111,13 +111,13 @@ described p kind name (boolean b) = Err (Shape p)
 described p kind name (datetime dt) = Err (Shape p)
 described p kind name (array ds) = Err (Shape p)
 
-unfoldable pub dependency_of : Part → Kind → List ℕ → Data → Shaped DependencyShapeView
+unfoldable pub dependency_of : Part → DependencyKind → List ℕ → Data → Shaped DependencyShapeView
 dependency_of p kind key d = do
   name ← package_name_of p key
   described p kind name d
 
 -- the dependencies of a table, in the order of their names
-unfoldable pub dependencies_in : Part → Kind → Members → Shaped (List DependencyShapeView)
+unfoldable pub dependencies_in : Part → DependencyKind → Members → Shaped (List DependencyShapeView)
 dependencies_in p kind no_members = Ok []
 dependencies_in p kind (member key d rest) = do
   first ← dependency_of p kind key d
@@ -125,19 +125,19 @@ dependencies_in p kind (member key d rest) = do
   Ok (first ∷ others)
 
 -- the part that a table of dependencies is
-abbrev pub part_of : Place → Kind → Part
+abbrev pub part_of : Place → DependencyKind → Part
 part_of Top Normal = part.Dependencies
 part_of Top Dev = part.DevDependencies
 part_of Top Build = part.BuildDependencies
 part_of Target kind = part.Target
 
-abbrev pub section_at : Part → Kind → Members → Shaped (Option Data)
+abbrev pub section_at : Part → DependencyKind → Members → Shaped (Option Data)
 section_at p Normal t = Ok (get_member (codes "dependencies") t)
 section_at p Dev t = either_at p (codes "dev-dependencies") (codes "dev_dependencies") t
 section_at p Build t = either_at p (codes "build-dependencies") (codes "build_dependencies") t
 
 -- the dependencies of one kind
-unfoldable pub section_of : Part → Kind → Members → Shaped (List DependencyShapeView)
+unfoldable pub section_of : Part → DependencyKind → Members → Shaped (List DependencyShapeView)
 section_of p kind t = do
   found ← section_at p kind t
   or_absent [] (λ d. table_of p d >>= dependencies_in p kind) found

@@ -98,18 +98,18 @@ abbrev pub dep_name : Dependency → DepName
 dep_name d = record { name = d.name; optional = d.optional }
 
 -- what is wrong with the feature table, as a fault of the manifest
-abbrev pub refused_as : TableFault → List ℕ → ManifestFault
-refused_as no_such_feature f = RootFeature NoSuchFeature f
-refused_as no_such_dependency f = RootFeature NoSuchDependency f
-refused_as not_optional f = RootFeature NotOptional f
+abbrev pub fault_as : TableFault → List ℕ → ManifestFault
+fault_as no_such_feature f = RootFeature NoSuchFeature f
+fault_as no_such_dependency f = RootFeature NoSuchDependency f
+fault_as not_optional f = RootFeature NotOptional f
 
-abbrev pub table_or_refused : Result Table (TableFault × List ℕ) → Result Table ManifestFault
-table_or_refused (Ok table) = Ok table
-table_or_refused (Err e) = Err (refused_as e.0 e.1)
+abbrev pub table_or_fault : Result Table (TableFault × List ℕ) → Result Table ManifestFault
+table_or_fault (Ok table) = Ok table
+table_or_fault (Err e) = Err (fault_as e.0 e.1)
 
 -- the feature table of the root: of all its dependencies, dev ones too, and of the features that it writes
 abbrev pub features_with : List Dependency → Table → Result Table ManifestFault
-features_with ds written = table_or_refused (table_of (map dep_name ds) written)
+features_with ds written = table_or_fault (table_of (map dep_name ds) written)
 
 -- what an entry `d/g` or `d?/g` asks of each dependency called d: all dependencies of the root are enabled
 abbrev pub asked_by : Entry → List (List ℕ × List ℕ)

@@ -6,13 +6,13 @@ use Rattle.features.specs.Tables.{rows_of}
 use Rattle.manifest.specs.Packages.{PackageView}
 use Rattle.manifest.specs.Dependencies.{SourceView, registry, unsupported, DependencyShapeView}
 use Rattle.manifest.specs.Shapes.{ShapeView}
-use Rattle.manifest.specs.declared.dependency.Source.{Source}
-use Rattle.manifest.specs.declared.dependency.Source.TheVariants.{Registry, Unsupported}
+use Rattle.manifest.specs.declared.dependency.DependencySource.{DependencySource}
+use Rattle.manifest.specs.declared.dependency.DependencySource.TheVariants.{Registry, Unsupported}
 use Rattle.manifest.specs.declared.dependency.DependencyShape.{DependencyShape}
 use Rattle.manifest.specs.declared.shape.Package.{Package}
 use Rattle.manifest.specs.declared.shape.Shape.{Shape}
 
-abbrev pub source_view : Source → SourceView
+abbrev pub source_view : DependencySource → SourceView
 source_view (Registry text) = registry text.now
 source_view (Unsupported s) = unsupported s
 

@@ -12,7 +12,7 @@ ghost use Rattle.manifest.specs.ShapeViews.{source_view, dependency_view, depend
 
 use crate::check::check;
 use crate::fault::{ManifestFault, Part, Unsupported};
-use crate::section::{Kind, Place};
+use crate::section::{DependencyKind, Place};
 use crate::table::{
     either, feature_name, flag, has_key, list, member, package_name, table, text, text_at,
 };
@@ -22,7 +22,7 @@ use toml::value::{Array, Table, Value};
 
 /// Where a dependency is from.
 #[derive(Clone, Copy)]
-pub(crate) enum Source<'a> {
+pub(crate) enum DependencySource<'a> {
     /// The registry, with the text of the requirement.
     Registry(&'a str),
     /// A source that is unsupported: the first that its keys ask for.
@@ -36,7 +36,7 @@ pub(crate) struct DependencyShape<'a> {
     pub name: PackageName,
     /// The name of the package that it means.
     pub real_name: PackageName,
-    pub source: Source<'a>,
+    pub source: DependencySource<'a>,
     pub optional: bool,
     pub default_features: bool,
     pub features: Vec<FeatureName>,
@@ -48,8 +48,8 @@ impl DependencyShape<'_> {
         ensures { result ≡ is_from source (source_view self.now.source) }
     {
         match self.source {
-            Source::Registry(_) => false,
-            Source::Unsupported(own) => own == source,
+            DependencySource::Registry(_) => false,
+            DependencySource::Unsupported(own) => own == source,
         }
     }
 }
@@ -88,9 +88,9 @@ pub(crate) fn sections(
 ) -> Result<Vec<DependencyShape<'_>>, ManifestFault>
     ensures { Gives is_memory (λ v. dependency_views v.items) result (sections_of place (table_view table.now)) }
 {
-    let mut found = section(alloc, table, place.part(Kind::Normal), Kind::Normal)?;
-    let mut dev = section(alloc, table, place.part(Kind::Dev), Kind::Dev)?;
-    let mut build = section(alloc, table, place.part(Kind::Build), Kind::Build)?;
+    let mut found = section(alloc, table, place.part(DependencyKind::Normal), DependencyKind::Normal)?;
+    let mut dev = section(alloc, table, place.part(DependencyKind::Dev), DependencyKind::Dev)?;
+    let mut build = section(alloc, table, place.part(DependencyKind::Build), DependencyKind::Build)?;
     found.append(&mut dev)?;
     found.append(&mut build)?;
     Ok(found)
@@ -102,7 +102,7 @@ fn section(
     alloc: Global,
     table_in: &Table,
     part: Part,
-    kind: Kind,
+    kind: DependencyKind,
 ) -> Result<Vec<DependencyShape<'_>>, ManifestFault>
     ensures { Gives is_memory (λ v. dependency_views v.items) result (section_of part kind (table_view table_in.now)) }
 {
@@ -112,13 +112,13 @@ fn section(
     dependencies_in(alloc, table(value, part)?, part, kind)
 }
 
-fn section_value(table: &Table, part: Part, kind: Kind) -> Result<Option<&Value>, ManifestFault>
+fn section_value(table: &Table, part: Part, kind: DependencyKind) -> Result<Option<&Value>, ManifestFault>
     ensures { Gives is_memory (option_map (λ v. view v.now)) result (section_at part kind (table_view table.now)) }
 {
     match kind {
-        Kind::Normal => Ok(member(table, "dependencies")),
-        Kind::Dev => either(table, "dev-dependencies", "dev_dependencies", part),
-        Kind::Build => either(table, "build-dependencies", "build_dependencies", part),
+        DependencyKind::Normal => Ok(member(table, "dependencies")),
+        DependencyKind::Dev => either(table, "dev-dependencies", "dev_dependencies", part),
+        DependencyKind::Build => either(table, "build-dependencies", "build_dependencies", part),
     }
 }
 
@@ -127,7 +127,7 @@ fn dependencies_in(
     alloc: Global,
     table: &Table,
     part: Part,
-    kind: Kind,
+    kind: DependencyKind,
 ) -> Result<Vec<DependencyShape<'_>>, ManifestFault>
     ensures { Gives is_memory (λ v. dependency_views v.items) result (dependencies_in part kind (table_view table.now)) }
 {
@@ -144,7 +144,7 @@ fn dependency<'a>(
     key: &str,
     value: &'a Value,
     part: Part,
-    kind: Kind,
+    kind: DependencyKind,
 ) -> Result<DependencyShape<'a>, ManifestFault>
     ensures { Gives is_memory dependency_view result (dependency_of part kind key.now (view value.now)) }
 {
@@ -158,15 +158,15 @@ fn described<'a>(
     name: PackageName,
     value: &'a Value,
     part: Part,
-    kind: Kind,
+    kind: DependencyKind,
 ) -> Result<DependencyShape<'a>, ManifestFault>
     ensures { Gives is_memory dependency_view result (described part kind name (view value.now)) }
 {
     match value {
-        Value::String(text) => bare(alloc, name, Source::Registry(text.as_str())),
+        Value::String(text) => bare(alloc, name, DependencySource::Registry(text.as_str())),
         Value::Table(table) => {
             if has_key(table, "workspace") {
-                bare(alloc, name, Source::Unsupported(Unsupported::Workspace))
+                bare(alloc, name, DependencySource::Unsupported(Unsupported::Workspace))
             } else {
                 dependency_in(alloc, name, table, part, kind)
             }
@@ -179,7 +179,7 @@ fn described<'a>(
 fn bare(
     alloc: Global,
     name: PackageName,
-    source: Source<'_>,
+    source: DependencySource<'_>,
 ) -> Result<DependencyShape<'_>, ManifestFault>
     ensures { Gives is_memory dependency_view result (Ok (bare name (source_view source.entry))) }
 {
@@ -201,7 +201,7 @@ fn dependency_in<'a>(
     name: PackageName,
     table: &'a Table,
     part: Part,
-    kind: Kind,
+    kind: DependencyKind,
 ) -> Result<DependencyShape<'a>, ManifestFault>
     ensures { Gives is_memory dependency_view result (dependency_in part kind name (table_view table.now)) }
 {
@@ -256,13 +256,13 @@ fn dependency_source(
     unsupported: Option<Unsupported>,
     version: Option<&str>,
     part: Part,
-) -> Result<Source<'_>, ManifestFault>
+) -> Result<DependencySource<'_>, ManifestFault>
     ensures { Gives is_memory source_view result (source_of part unsupported (option_map (λ s. s.now) version.entry)) }
 {
     match unsupported {
-        Some(unsupported) => Ok(Source::Unsupported(unsupported)),
+        Some(unsupported) => Ok(DependencySource::Unsupported(unsupported)),
         None => match version {
-            Some(text) => Ok(Source::Registry(text)),
+            Some(text) => Ok(DependencySource::Registry(text)),
             None => Err(ManifestFault::Shape(part)),
         },
     }

@@ -13,7 +13,7 @@ ghost use Rattle.manifest.specs.Manifests.{uses, needs_workspace, sources_allowe
 ghost use Rattle.manifest.specs.ShapeViews as shaped;
 
 use crate::check::check;
-use crate::dependency::{DependencyShape, Source};
+use crate::dependency::{DependencyShape, DependencySource};
 use crate::fault::{ManifestFault, Unsupported};
 use crate::feature::root_features;
 use crate::shape::Shape;
@@ -88,7 +88,7 @@ impl Manifest {
     }
 
     /// What the package brings: its dependencies by number, and its features.
-    pub fn summary(&self) -> &Summary
+    pub fn brings(&self) -> &Summary
         ensures { summary_view result.now ≡ self.now.brings }
     {
         &self.brings
@@ -198,8 +198,8 @@ fn with_requirement(alloc: Global, shape: DependencyShape<'_>) -> Result<Depende
     ensures { Gives is_memory dependency_view result (dependency_with (shaped.dependency_view shape.entry)) }
 {
     let text = match shape.source {
-        Source::Registry(text) => text,
-        Source::Unsupported(source) => return Err(ManifestFault::UnsupportedSource(source)),
+        DependencySource::Registry(text) => text,
+        DependencySource::Unsupported(source) => return Err(ManifestFault::UnsupportedSource(source)),
     };
     match VersionReq::parse(alloc, text) {
         Ok(requirement) => Ok(Dependency {

@@ -7,7 +7,7 @@ use crate::fault::Part;
 
 /// What a dependency is needed for.
 #[derive(Clone, Copy, Debug, PartialEq, Eq)]
-pub(crate) enum Kind {
+pub(crate) enum DependencyKind {
     Normal,
     Dev,
     Build,
@@ -22,28 +22,28 @@ pub(crate) enum Place {
     Target,
 }
 
-impl Kind {
+impl DependencyKind {
     /// Whether a dependency of this kind may be optional.
     pub(crate) fn may_be_optional(self) -> bool
         ensures { result ≡ may_be_optional self }
     {
         match self {
-            Kind::Normal | Kind::Build => true,
-            Kind::Dev => false,
+            DependencyKind::Normal | DependencyKind::Build => true,
+            DependencyKind::Dev => false,
         }
     }
 }
 
 impl Place {
     /// The part that the table of this kind is, here.
-    pub(crate) fn part(self, kind: Kind) -> Part
+    pub(crate) fn part(self, kind: DependencyKind) -> Part
         ensures { result ≡ part_of self kind }
     {
         match (self, kind) {
             (Place::Target, _) => Part::Target,
-            (Place::Top, Kind::Normal) => Part::Dependencies,
-            (Place::Top, Kind::Dev) => Part::DevDependencies,
-            (Place::Top, Kind::Build) => Part::BuildDependencies,
+            (Place::Top, DependencyKind::Normal) => Part::Dependencies,
+            (Place::Top, DependencyKind::Dev) => Part::DevDependencies,
+            (Place::Top, DependencyKind::Build) => Part::BuildDependencies,
         }
     }
 }

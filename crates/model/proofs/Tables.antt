@@ -11,7 +11,7 @@ use Rattle.std.proofs.lemmas.Option.{none-some, same_Some}
 use Rattle.model.specs.Summary.{Entry, feature, dependency, Table, entries_at, has_feature, same_text, KnowsFeatures}
 use Rattle.model.specs.Order.{text_cmp}
 use Rattle.model.specs.Outcome.{◌>>=◌}
-use Rattle.model.specs.Tables.{Before, IsInOrder, DepName, Written, default_feature, is_optional, has_dep_entry, is_implicit, implicit_entries, is_feature, entries_meant, with_row, with_implicit, with_default, completed, no_such_feature, no_such_dependency, not_optional, has_fault, first_with, refused_at, table_of}
+use Rattle.model.specs.Tables.{Before, IsInOrder, DepName, Written, default_feature, is_optional, has_dep_entry, is_implicit, implicit_entries, is_feature, entries_meant, with_row, with_implicit, with_default, completed, no_such_feature, no_such_dependency, not_optional, has_fault, first_with, fault_at, table_of}
 use Rattle.model.proofs.Same.{both, text-same}
 use Rattle.std.proofs.lemmas.List.Kept.{AllPairs-cons}
 use Rattle.model.proofs.Lists.{in_none, in_cons, any_of, to_any, all_first, all_rest, all_cons, pairs_one, pairs_rest, pairs_all}
@@ -168,7 +168,7 @@ module _ (ds : List DepName) (written : Written) where
     where
       by : (a b c : Option (List ℕ)) → first_with (has_fault ds written no_such_feature) written ≡ a → first_with (has_fault ds written no_such_dependency) written ≡ b
           → first_with (has_fault ds written not_optional) written ≡ c
-          → (refused_at no_such_feature a >>= λ x. refused_at no_such_dependency b >>= λ y. refused_at not_optional c >>= λ z. Ok (completed ds written)) ≡ Ok table
+          → (fault_at no_such_feature a >>= λ x. fault_at no_such_dependency b >>= λ y. fault_at not_optional c >>= λ z. Ok (completed ds written)) ≡ Ok table
           → IsBuilt table
       by None None None x y z e = record { is_completed = ok_inner (completed ds written) table e; features = x; dependencies = y; optional = z }
       by None None (Some f) x y z e = absurd (err_ok (not_optional, f) table e)

@@ -104,13 +104,13 @@ unfoldable pub first_with : (Entry → Bool) → Written → Option (List ℕ)
 first_with test [] = None
 first_with test (row ∷ rows) = if list_any test row.1 then Some row.0 else first_with test rows
 
-abbrev pub refused_at : TableFault → Option (List ℕ) → Result (Unit {0}) (TableFault × List ℕ)
-refused_at fault None = Ok tt
-refused_at fault (Some f) = Err (fault, f)
+abbrev pub fault_at : TableFault → Option (List ℕ) → Result (Unit {0}) (TableFault × List ℕ)
+fault_at fault None = Ok tt
+fault_at fault (Some f) = Err (fault, f)
 
 -- passes where no entry has the fault
 abbrev pub free_of : List DepName → Written → TableFault → Result (Unit {0}) (TableFault × List ℕ)
-free_of ds written fault = refused_at fault (first_with (has_fault ds written fault) written)
+free_of ds written fault = fault_at fault (first_with (has_fault ds written fault) written)
 
 -- the table of a package, or its lowest fault at the first feature that has it
 unfoldable pub table_of : List DepName → Written → Result Table (TableFault × List ℕ)

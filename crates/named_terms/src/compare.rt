@@ -7,7 +7,7 @@ ghost use Rattle.refutations.specs.Terms.{agree, same_at, same_terms};
 ghost use Rattle.named_terms.specs.Views.{term_views};
 ghost use Rattle.vertices.specs.RefViews.{vertex_ref_view};
 
-use crate::states::States;
+use crate::states::StateSet;
 use crate::term::Term;
 use vertices::{VertexRef, same_vertex};
 
@@ -35,7 +35,7 @@ fn agree<'a>(a: &[Term<'a>], b: &[Term<'a>], vertex: &VertexRef<'a>) -> bool
 }
 
 /// The states that the terms leave at a vertex.
-fn states_at<'s, 'a>(terms: &'s [Term<'a>], vertex: &VertexRef<'_>) -> Option<&'s States<'a>>
+fn states_at<'s, 'a>(terms: &'s [Term<'a>], vertex: &VertexRef<'_>) -> Option<&'s StateSet<'a>>
     ensures { option_map (λ s. s.now) result ≡ states_at (term_views terms.entry.now) (vertex_ref_view vertex.now) }
 {
     'terms: for term in terms.iter() {

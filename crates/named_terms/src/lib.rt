@@ -17,5 +17,5 @@ mod term;
 
 pub use cause::Cause;
 pub use compare::same_terms;
-pub use states::States;
+pub use states::StateSet;
 pub use term::Term;

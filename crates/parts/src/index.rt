@@ -50,7 +50,7 @@ fn are_valid_records(catalogue: &Catalogue, name: &PackageName) -> bool
 fn brings_valid(catalogue: &Catalogue, name: &PackageName, place: usize) -> bool
     ensures { (r : Record) → slice_get (candidates_at catalogue.now name.now) place ≡ Some r → MatchBool result (BringsValid r.brings) (IsFew r.brings → ⊥) }
 {
-    match catalogue.record(name, place) {
+    match catalogue.candidate_at(name, place) {
         Some(candidate) => owners::is_valid(&candidate.brings),
         None => true,
     }

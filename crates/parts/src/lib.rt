@@ -26,7 +26,7 @@ pub fn are_valid(manifest: &Manifest, catalogue: &Catalogue) -> bool
     ensures valid { OnTrue result (HasValidParts (problem_in manifest.now catalogue.now)) }
     ensures few { OnFalse result (AreFew (problem_in manifest.now catalogue.now) → ⊥) }
 {
-    if !owners::is_valid(manifest.summary()) {
+    if !owners::is_valid(manifest.brings()) {
         return false;
     }
     index::are_valid(catalogue, catalogue.names())

@@ -17,8 +17,8 @@ use Rattle.index_reader.specs.Records.{RecordView, unless, semver_or, required, 
 use Rattle.index_reader.specs.Written.{features_of}
 use Rattle.index_reader.specs.Files.{FileView, has_version, no_lines, with_skip, with_record, with_found, with_read, with_line, with_lines, records_of_file}
 use Rattle.trees.specs.Lines.{is_line_end, is_blank}
-use Rattle.index_reader.specs.declared.fault.Reason.{Reason}
-use Rattle.index_reader.specs.declared.fault.Reason.TheVariants.{BadChecksum, BadRequirement, BadVersion, Duplicate, NewerFormat, OtherName, OtherRegistry}
+use Rattle.index_reader.specs.declared.fault.SkipReason.{SkipReason}
+use Rattle.index_reader.specs.declared.fault.SkipReason.TheVariants.{BadChecksum, BadRequirement, BadVersion, Duplicate, NewerFormat, OtherName, OtherRegistry}
 use Rattle.index_reader.specs.declared.fault.LineFault.TheVariants.{OutOfMemory, Skipped}
 use Rattle.resolver.proofs.Given.{Given, IfSome, any, next, tested, either, each-append}
 
@@ -101,7 +101,7 @@ all-read-named [] h = tt
 all-read-named (d ∷ ds) h = next MeansName (AllByRecursion MeansName) (dependency_read d) _ (read-named d h.0) (λ first is.
     next (AllByRecursion MeansName) (AllByRecursion MeansName) (dependencies_read ds) _ (all-read-named ds h.1) (λ others are. (is, are)))
 
-version-valid : (why : Reason) (text : List ℕ) → Given IsValid (semver_or why (version_parts text))
+version-valid : (why : SkipReason) (text : List ℕ) → Given IsValid (semver_or why (version_parts text))
 version-valid why text = by (version_parts text) refl
   where
     by : (r : Result Parts Error) → version_parts text ≡ r → Given IsValid (semver_or why r)

@@ -9,7 +9,7 @@ use Rattle.index_reader.specs.Folders.{Files, MemoryCalls}
 use Rattle.index_reader.specs.Paths.{path_of}
 use Rattle.index_reader.specs.declared.folder.FolderFault.TheVariants.{OutOfMemory, Failed}
 use Rattle.catalogue.specs.Runs.{Asked, Chain}
-use Rattle.catalogue.specs.Loads.{Fails, IsAskedAtMost, IsStopped, Loads, rust_for}
+use Rattle.catalogue.specs.Loads.{Fails, IsAskedAtMost, HasFailed, Loads, rust_for}
 use Rattle.catalogue.specs.Stores.{CatalogueView}
 use Rattle.catalogue.specs.declared.fault.LoadFault.{LoadFault}
 use Rattle.catalogue.specs.declared.fault.LoadFault.TheVariants as load
@@ -52,7 +52,7 @@ module _ (old : Content) (source : List ℕ) (rust : Option RustVersion) (root :
   fails-stays mid name (load.TooLarge (limit.Lines n)) f = f.1.call.1
   fails-stays mid name (load.ChecksumChanged n v) f = absurd f
 
-  stopped-stays : (e : LoadFault) → IsStopped old source rust root MemoryCalls failed before e after → after ≡ before
+  stopped-stays : (e : LoadFault) → HasFailed old source rust root MemoryCalls failed before e after → after ≡ before
   stopped-stays e h = fails-stays h.mid h.name e h.fails ∙ chain-stays h.asked before h.mid h.so_far.chain
 
   load-stays : (r : Result CatalogueView LoadFault) → Loads old source rust root MemoryCalls failed before r after → after ≡ before

@@ -7,7 +7,7 @@ use Rattle.model.specs.Summary.{Dependency}
 use Rattle.index_reader.specs.Folders.{Files, MemoryCalls, file_at}
 use Rattle.index_reader.specs.Paths.{path_of}
 use Rattle.catalogue.specs.Runs.{Asked, next_name}
-use Rattle.catalogue.specs.Loads.{IsWithin, IsSoFar, IsLoaded, HasTooMany, IsStopped, Loads, first_changed, most_names}
+use Rattle.catalogue.specs.Loads.{IsWithin, IsSoFar, IsLoaded, HasTooMany, HasFailed, Loads, first_changed, most_names}
 use Rattle.catalogue.specs.Stores.{CatalogueView}
 use Rattle.catalogue.specs.declared.fault.LoadFault.{LoadFault}
 use Rattle.catalogue.specs.declared.fault.LoadFault.TheVariants as fault
@@ -31,14 +31,14 @@ module _ (folder : Files) (failed : Files → ℕ) (old : Content) (source : Lis
       let most = h.most in
       omega (arith, fewer, few, most)
 
-  short-enough : (n : List ℕ) (later : Files) → IsStopped old source rust root MemoryCalls failed folder (fault.TooLarge (limit.File n)) later → ⊥
+  short-enough : (n : List ℕ) (later : Files) → HasFailed old source rust root MemoryCalls failed folder (fault.TooLarge (limit.File n)) later → ⊥
   short-enough n later h =
       let f = h.fails.1 in
       let fit = (within h.asked h.mid h.name (Some f.bytes) later h.so_far h.next f.call).0 in
       let many = f.too_many in
       omega (arith, fit, many)
 
-  lines-enough : (n : List ℕ) (later : Files) → IsStopped old source rust root MemoryCalls failed folder (fault.TooLarge (limit.Lines n)) later → ⊥
+  lines-enough : (n : List ℕ) (later : Files) → HasFailed old source rust root MemoryCalls failed folder (fault.TooLarge (limit.Lines n)) later → ⊥
   lines-enough n later h =
       let f = h.fails.1 in
       let fit = (within h.asked h.mid h.name (Some f.bytes) later h.so_far h.next f.call).1 in

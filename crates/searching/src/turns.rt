@@ -12,7 +12,7 @@ ghost use Rattle.searching.specs.Walking.{AreGiven, IsSelection, IsWalked, Keeps
 ghost use Rattle.std.specs.Prelude.{◌≡◌, ℕ, ◌+◌, ◌<◌, ◌≤◌, ◌⊎◌, [], IfOk};
 
 use crate::guide::Guide;
-use conflicts::{Outcome, resolve_conflict};
+use conflicts::{Resolution, resolve_conflict};
 use incompatibilities::{Id, Store};
 use propagation::{Progress, Trail};
 use std::alloc::{AllocError, Global};
@@ -91,12 +91,12 @@ fn turn_back<S: States + Drop, G: Guide<S>>(
     let outcome = resolve_conflict(alloc, trail, store, id)?;
     *steps = with_conflict(*steps, before, store.len());
     match outcome {
-        Outcome::Learned { id: learned, .. } => {
+        Resolution::Learned { id: learned, .. } => {
             // Before propagation, so that the guide finds the trail as the cut has left it.
             guide.noted(trail, store, id, learned)?;
             Ok(Turn::Goes(trail.propagate(store)?))
         }
-        Outcome::Unsolvable(none) => Ok(Turn::Ends(Answer::Unsolvable(none))),
+        Resolution::Unsolvable(none) => Ok(Turn::Ends(Answer::Unsolvable(none))),
     }
 }
 

@@ -43,7 +43,7 @@ pub(crate) fn summary_of<'a>(
     ensures known { is_some result ≡ is_known (problem_in manifest.entry.now catalogue.entry.now) (package_view locked.now) }
 {
     if is_root(manifest, locked) {
-        Some(manifest.summary())
+        Some(manifest.brings())
     } else {
         candidate_of(catalogue, locked)
     }

@@ -8,14 +8,14 @@ use Rattle.words.specs.declared.reading.WordsFault.{WordsFault}
 use Rattle.words.specs.declared.reading.WordsFault.TheVariants.{OutOfMemory, Help, Wrong}
 
 -- the error doesn't only show a text that was asked for
-abbrev pub IsMistake : ErrorKind → Type 0
-IsMistake k = (k ≡ kind.DisplayHelp → ⊥) × (k ≡ kind.DisplayVersion → ⊥)
+abbrev pub IsWrongUse : ErrorKind → Type 0
+IsWrongUse k = (k ≡ kind.DisplayHelp → ⊥) × (k ≡ kind.DisplayVersion → ⊥)
 
 -- the fault that stands for an error of this kind; memory may be wanting beside it
 abbrev pub Tells : ErrorKind → WordsFault → Type 0
 Tells k OutOfMemory = Unit {0}
-Tells k (Help text) = IsMistake k → ⊥
-Tells k (Wrong text) = IsMistake k × (k ≡ kind.OutOfMemory → ⊥)
+Tells k (Help text) = IsWrongUse k → ⊥
+Tells k (Wrong text) = IsWrongUse k × (k ≡ kind.OutOfMemory → ⊥)
 
 -- wrong use or help, as is said; memory may run out beside it
 abbrev pub IsToldAs : Bool → WordsFault → Type 0

@@ -16,11 +16,11 @@ returns-in-Some c =
     (λ n f. ap (λ name. list_any (λ row. same_pair (n, f) (name, row.0)) table) c.as_str.ensures.text ∙ named_rows n f c.args.name.now table
     ∙ ap (λ b. same_text n c.args.name.now && b)
     (one_at (λ (o : Summary). has_feature o.features f) c.args.catalogue.now c.args.name.now c.args.place (said_by c.in-Some.candidate.now)
-    (sym (ap (option_map (λ (x : Bor Candidate). said_by x.now)) c.in-Some.is) ∙ c.record.ensures)))
+    (sym (ap (option_map (λ (x : Bor Candidate). said_by x.now)) c.in-Some.is) ∙ c.candidate_at.ensures)))
     c.put_table.ensures
 
 pub returns-in-None : goal.returns-in-None
 returns-in-None c =
     adds_none c.args.known.now _ (λ n f. and-none (same_text n c.args.name.now) _
     (none_at (λ (o : Summary). has_feature o.features f) c.args.catalogue.now c.args.name.now c.args.place
-    (sym (ap (option_map (λ (x : Bor Candidate). said_by x.now)) c.in-None.is) ∙ c.record.ensures)))
+    (sym (ap (option_map (λ (x : Bor Candidate). said_by x.now)) c.in-None.is) ∙ c.candidate_at.ensures)))

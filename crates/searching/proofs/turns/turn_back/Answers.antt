@@ -2,7 +2,7 @@ use Rattle.std.proofs.Common.{◌+◌, ◌<◌, ◌≤◌, ◌⊎◌, refl, subs
 use Rattle.incompatibilities.specs.Stores.{entries_view, entry}
 use Rattle.propagation.specs.Trails.{trail_view}
 use Rattle.conflicts.specs.Resolving.{Resolved}
-use Rattle.conflicts.specs.declared.resolving.Outcome.TheVariants.{Learned}
+use Rattle.conflicts.specs.declared.resolving.Resolution.TheVariants.{Learned}
 use Rattle.searching.specs.Searching.{space}
 use Rattle.searching.proofs.Counts.{counts_gained}
 use Rattle.searching.proofs.Falls.{turn_jump, turn_noted}

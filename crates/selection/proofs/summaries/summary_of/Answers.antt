@@ -9,7 +9,7 @@ pub returns-then-is_root : goal.returns-then-is_root
 returns-then-is_root c =
     let q = problem_in c.args.manifest.now c.args.catalogue.now in
     let root = root_brings q (package_view c.args.locked.now) (sym (c.is_root.ensures c.args.catalogue.now) ∙ c.if-is_root.true) in
-    record { brings = c.summary.ensures ∙ sym root.0; known = sym root.1 }
+    record { brings = c.brings.ensures ∙ sym root.0; known = sym root.1 }
 
 pub returns-else-is_root : goal.returns-else-is_root
 returns-else-is_root c =

@@ -1,8 +1,0 @@
-use Rattle.std.proofs.Common.{◌≡◌, map, take}
-use Rattle.lockfile.specs.Views.{package_views}
-use Rattle.lockfile.specs.Written.{written_of, entry_views}
-use Rattle.lockfile.proofs.entry.entries.Given as goal
-
--- the entries so far
-abbrev pub invariant-packages : goal.invariant-packages
-invariant-packages l = entry_views l.found.items ≡ map (written_of (package_views l.packages)) (package_views (take l.place l.packages))
