@@ -15,7 +15,8 @@ use Rattle.model.specs.Derivation.{Step}
 use Rattle.vertices.specs.Texts.{IsReadVertex, IsReadState}
 use Rattle.derivations.specs.Derivations.{IsTerm, term_cmp, AreTerms, IsStepAt, AreStepsFrom, IsDerivation}
 use Rattle.vertices.specs.Kinds.{kind_of_text}
-use Rattle.derivations.specs.Orders.{in_order, has_alike, ordered}
+use Rattle.derivations.specs.Orders.{ordered}
+use Rattle.model.specs.Sorting.{in_order, has_alike}
 use Rattle.vertices.specs.Orders.{state_cmp}
 use Rattle.derivations.specs.Steps.{data_of_bytes, text_of, whole_of, item_at, none_at, two_of, states_in, states_of, Written, written_cmp, term_of, terms_in, terms_without_texts, terms_of, Origin, by_axiom, by_combination, axiom_of, combination_of, origin_from, origin_of, is_backward, step_by, step_of, step_of_line}
 use Rattle.derivations.specs.Lines.{needed, in_line, vertex_in_line, state_in_line}

@@ -8,7 +8,7 @@ ghost use Rattle.vertices.specs.RefViews.{vertex_ref_view, state_ref_views};
 ghost use Rattle.vertices.specs.Texts.{vertex_text, IsReadVertex};
 ghost use Rattle.vertices.specs.Views.{vertex_view};
 ghost use Rattle.derivations.specs.Building.{IsNewTerm, AreNewTerms, ordered_term, ordered_terms};
-ghost use Rattle.derivations.specs.Orders.{in_order};
+ghost use Rattle.model.specs.Sorting.{in_order};
 ghost use Rattle.derivations.specs.Named.{named_view, named_views, set_in_order_view, set_in_order_views, states_in_order};
 
 use crate::owning::owned_vertex;

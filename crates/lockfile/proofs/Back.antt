@@ -17,7 +17,8 @@ use Rattle.features.specs.Names.{is_package_name}
 use Rattle.model.specs.Content.{Package, Content}
 use Rattle.model.specs.Order.{package_cmp}
 use Rattle.model.specs.WellFormed.{IsContent}
-use Rattle.lockfile.specs.Locks.{Unlinked, version_known, has_alike, put_in, in_order, unlinked_of, unlinked_in, packages_at, texts_in, unlinked_alike, unlinked_cmp, ordered_packages, locked_packages, linked, place_meant, places_meant, ordered_places, list_of, lists_of, content_of, content_of_table, content_of_bytes, table_of_bytes, most_bytes}
+use Rattle.lockfile.specs.Locks.{Unlinked, version_known, unlinked_of, unlinked_in, packages_at, texts_in, unlinked_alike, unlinked_cmp, ordered_packages, locked_packages, linked, place_meant, places_meant, ordered_places, list_of, lists_of, content_of, content_of_table, content_of_bytes, table_of_bytes, most_bytes}
+use Rattle.model.specs.Sorting.{has_alike, put_in, in_order}
 use Rattle.lockfile.specs.Search.{IsOrdered, IsRead}
 use Rattle.lockfile.specs.Spelling.{dependency_text, listed_cmp, at_places, list_texts, spelling}
 use Rattle.lockfile.specs.Table.{text_items, section_of, sections_of, table_of, IsPlain, IsWritable}

@@ -15,6 +15,7 @@ use Rattle.model.specs.Outcome.{◌>>=◌, guard}
 use Rattle.model.specs.Summary.{same_text}
 use Rattle.model.specs.Content.{Package, Content, same_version, same_option}
 use Rattle.model.specs.Order.{package_cmp}
+use Rattle.model.specs.Sorting.{has_alike, in_order}
 use Rattle.features.specs.Names.{is_package_name}
 use Rattle.lockfile.specs.declared.fault.LockFault.{LockFault}
 use Rattle.lockfile.specs.declared.fault.LockFault.TheVariants.{OutOfMemory, NotToml, LockVersion, LockShape, TooLarge}
@@ -128,21 +129,6 @@ abbrev pub packages_at : Members → Result (List Unlinked) LockFault
 packages_at top = packages_in (get_member (codes "package") top)
 
 -- ---- order, and what may stand once
-
--- x among xs, before the first that comes after it
-abbrev pub put_in : {X : Type 0} → (X → X → Ordering) → X → List X → List X
-put_in cmp x [] = x ∷ []
-put_in cmp x (y ∷ ys) = if is_gt (cmp x y) then y ∷ put_in cmp x ys else x ∷ (y ∷ ys)
-
--- the elements by an order
-abbrev pub in_order : {X : Type 0} → (X → X → Ordering) → List X → List X
-in_order cmp [] = []
-in_order cmp (x ∷ xs) = put_in cmp x (in_order cmp xs)
-
--- whether some two elements are alike
-abbrev pub has_alike : {X : Type 0} → (X → X → Bool) → List X → Bool
-has_alike alike [] = false
-has_alike alike (x ∷ xs) = list_any (alike x) xs || has_alike alike xs
 
 -- two packages are alike if they agree in name, version and source
 abbrev pub is_alike : Package → Package → Bool

@@ -9,7 +9,8 @@ use Rattle.semver.specs.Identifiers.{parts_text}
 use Rattle.model.specs.Content.{Package, Content, same_version}
 use Rattle.model.specs.Summary.{same_text}
 use Rattle.model.specs.Order.{text_cmp}
-use Rattle.lockfile.specs.Locks.{version_form, source_form, in_order}
+use Rattle.lockfile.specs.Locks.{version_form, source_form}
+use Rattle.model.specs.Sorting.{in_order}
 
 -- a line, with its end
 abbrev pub line : List ℕ → List ℕ

@@ -3,6 +3,7 @@ pub mod Summary
 pub mod Facts
 pub mod Content
 pub mod Order
+pub mod Sorting
 pub mod Tables
 pub mod WellFormed
 pub mod Candidates

@@ -10,7 +10,7 @@ use Rattle.model.proofs.Same.{vertex-same, vertex-refl}
 use Rattle.vertices.specs.Orders.{state_cmp}
 use Rattle.derivations.specs.Building.{ordered_term, ordered_terms}
 use Rattle.derivations.specs.Derivations.{term_cmp}
-use Rattle.derivations.specs.Orders.{in_order, put_in}
+use Rattle.model.specs.Sorting.{in_order, put_in}
 use Rattle.derivations.proofs.Sorting.{each-in_order}
 
 -- ---- states

@@ -5,7 +5,7 @@ use Rattle.std.proofs.lemmas.List.Sorted.{answers_always, IsPermutation-trans, r
 use Rattle.derivations.specs.Building.{ordered_term}
 use Rattle.derivations.specs.Derivations.{term_cmp}
 use Rattle.derivations.specs.Named.{named_views, set_in_order_view, set_in_order_views}
-use Rattle.derivations.specs.Orders.{in_order}
+use Rattle.model.specs.Sorting.{in_order}
 use Rattle.derivations.proofs.BuildingLaws.{term_total, terms-apart}
 use Rattle.derivations.proofs.Sorting.{sorted-run}
 use Rattle.derivations.proofs.named.named_in_order.Goals as goal
