@@ -1,13 +1,11 @@
 -- Terms of an instance as vertices and tests of their spaces: which of the vertex's states, in their order, the term
 -- has.
-use Rattle.std.specs.Prelude.{◌≡◌, ◌≤◌, ℕ, List, [], ◌∷◌, Bool, not, map, length, Some, slice_get}
+use Rattle.std.specs.Prelude.{◌≡◌, ◌≤◌, ℕ, List, [], ◌∷◌, Bool, map, length, Some, slice_get}
 use Rattle.terms.specs.Terms.{TermView}
-use Rattle.semver.specs.Parse.{Held, Parts}
-use Rattle.semver.specs.EvalViews.{matches_views}
-use Rattle.model.specs.Summary.{has_feature}
+use Rattle.semver.specs.Parse.{Parts}
 use Rattle.model.specs.Content.{Problem, same_version}
 use Rattle.model.specs.Selection.{Class}
-use Rattle.model.specs.Vertices.{Vertex, version_of, same_class, owner_brings}
+use Rattle.model.specs.Vertices.{Vertex, same_class}
 use Rattle.model.specs.Axioms.{Term, IsVertex}
 use Rattle.version_sets.specs.Sets.{Members}
 use Rattle.encoding.specs.Numberings.{Numbering, members_at}
@@ -35,21 +33,9 @@ part_views ps = map part_view ps
 
 -- ---- tests of the versions of a class, and of classes
 
--- the requirement doesn't match the version
-unfoldable pub is_left : List Held → Parts → Bool
-is_left req v = not (matches_views req v)
-
--- the requirement does
-unfoldable pub is_taken : List Held → Parts → Bool
-is_taken req v = matches_views req v
-
 -- it is this version
 unfoldable pub is_chosen : Parts → Parts → Bool
 is_chosen v w = same_version w v
-
--- this version of the name lacks the feature
-unfoldable pub is_lacking : Problem → List ℕ → List ℕ → Parts → Bool
-is_lacking q name f v = not (has_feature (owner_brings q (version_of name v)).features f)
 
 -- it is this class
 unfoldable pub is_class : Class → Class → Bool

@@ -5,29 +5,15 @@ ghost use Rattle.semver.specs.Identifiers.{parts_of};
 ghost use Rattle.classes.specs.Classes.{class_view};
 ghost use Rattle.features.specs.Views.{requirement_view};
 ghost use Rattle.encoding.specs.Inputs.{problem};
-ghost use Rattle.encoding.specs.Parts.{is_chosen, is_class, is_lacking, is_left, is_taken};
+ghost use Rattle.encoding.specs.Parts.{is_chosen, is_class};
+ghost use Rattle.looking_up.specs.Matching.{is_lacking, is_left, is_taken};
 
 use crate::inputs::Inputs;
-use crate::lookups::brings;
-use classes::{Class, is_matched};
+use classes::Class;
 use features::{FeatureName, PackageName};
+use looking_up::{is_left, is_taken};
 use semver::{Version, VersionReq};
 use std::alloc::{AllocError, Global};
-use vertices::OwnerRef;
-
-#[tactic(auto, unfolding(crate::specs::Parts::is_left))]
-fn is_left(requirement: &VersionReq, version: &Version) -> bool
-    ensures { result ≡ is_left (requirement_view requirement.now) (parts_of version.now) }
-{
-    !is_matched(requirement, version)
-}
-
-#[tactic(auto, unfolding(crate::specs::Parts::is_taken))]
-fn is_taken(requirement: &VersionReq, version: &Version) -> bool
-    ensures { result ≡ is_taken (requirement_view requirement.now) (parts_of version.now) }
-{
-    is_matched(requirement, version)
-}
 
 #[tactic(auto, unfolding(crate::specs::Parts::is_chosen))]
 fn is_chosen(version: &Version, other: &Version) -> bool
@@ -43,7 +29,6 @@ fn is_class(class: Class, other: Class) -> bool
     other == class
 }
 
-#[tactic(auto, unfolding(crate::specs::Parts::is_lacking))]
 fn is_lacking(
     inputs: &Inputs<'_>,
     name: &PackageName,
@@ -52,10 +37,7 @@ fn is_lacking(
 ) -> bool
     ensures { result ≡ is_lacking (problem inputs.now) name.now feature.now (parts_of version.now) }
 {
-    match brings(inputs, &OwnerRef::Version(name, version)) {
-        Some(owner) => !owner.features.has(feature),
-        None => true,
-    }
+    looking_up::is_lacking(&inputs.held(), name, feature, version)
 }
 
 /// Absent, and the versions that aren't matched.

@@ -20,7 +20,7 @@ use Rattle.manifest.specs.Manifests.{ManifestView}
 use Rattle.vertices.proofs.OrderLaws.{state_total}
 use Rattle.catalogue.specs.Problems.{problem_in}
 use Rattle.catalogue.specs.Stores.{CatalogueView, candidates_at, rows_by_name}
-use Rattle.instances.specs.Matching.{is_lacking}
+use Rattle.looking_up.specs.Matching.{is_lacking}
 use Rattle.looking_up.specs.Ranges.{AreRising, is_of, versions_with}
 use Rattle.looking_up.proofs.Brought.{candidates_are}
 use Rattle.looking_up.proofs.Classed.{with_classed}

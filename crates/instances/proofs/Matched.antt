@@ -11,7 +11,7 @@ use Rattle.catalogue.specs.Problems.{problem_in}
 use Rattle.catalogue.specs.Stores.{CatalogueView, candidates_at}
 use Rattle.looking_up.specs.Ranges.{is_of, versions_with}
 use Rattle.looking_up.proofs.Classed.{with_classed}
-use Rattle.instances.specs.Matching.{is_left, is_taken}
+use Rattle.looking_up.specs.Matching.{is_left, is_taken}
 
 pub left_is : (m : ManifestView) (c : CatalogueView) (d : Dependency) (k : Class) (vs : List Version) → map parts_of vs ≡ filter (is_of k) (map (λ r. r.version) (candidates_at c d.real_name))
     → versions_with (is_left d.requirement) (map parts_of vs) ≡ versions_that (problem_in m c) (λ e. not (matched d e)) d.real_name k

@@ -1,2 +1,1 @@
 pub mod FullTerms
-pub mod Matching

@@ -6,19 +6,18 @@ ghost use Rattle.classes.specs.Classes.{class_view};
 ghost use Rattle.model.specs.Axioms.{absent_or, at};
 ghost use Rattle.model.specs.Summary.{has_feature};
 ghost use Rattle.model.specs.Vertices as model;
-ghost use Rattle.model.specs.Vertices.{owner_brings};
 ghost use Rattle.refutations.specs.Causes as causes;
 ghost use Rattle.refutations.specs.Causes.{terms_of_cause};
 ghost use Rattle.vertices.specs.RefViews.{state_ref_views};
 ghost use Rattle.looking_up.specs.Ranges.{versions_with};
 ghost use Rattle.looking_up.specs.Views.{problem_view};
 ghost use Rattle.named_terms.specs.Views.{term_view, term_views};
-ghost use Rattle.instances.specs.Matching.{is_lacking};
+ghost use Rattle.looking_up.specs.Matching.{is_lacking};
 
 use crate::terms::{term, two};
 use classes::Class;
 use features::{FeatureName, PackageName};
-use looking_up::{Problem, brings, of_class};
+use looking_up::{Problem, is_lacking, of_class};
 use named_terms::{StateSet, Term};
 use semver::Version;
 use std::alloc::{AllocError, Global};
@@ -81,31 +80,4 @@ fn lacking_states<'a>(
         }
     }
     Ok(states)
-}
-
-#[tactic(auto, unfolding(crate::specs::Matching::is_lacking))]
-fn is_lacking(
-    problem: &Problem<'_>,
-    name: &PackageName,
-    feature: &FeatureName,
-    version: &Version,
-) -> bool
-    ensures { result ≡ is_lacking (problem_view problem.now) name.now feature.now (parts_of version.now) }
-{
-    !has_feature(problem, name, feature, version)
-}
-
-/// Whether a version has the feature.
-fn has_feature(
-    problem: &Problem<'_>,
-    name: &PackageName,
-    feature: &FeatureName,
-    version: &Version,
-) -> bool
-    ensures { result ≡ has_feature (owner_brings (problem_view problem.now) (model.version_of name.now (parts_of version.now))).features feature.now }
-{
-    match brings(problem, &OwnerRef::Version(name, version)) {
-        Some(owner) => owner.features.has(feature),
-        None => false,
-    }
 }

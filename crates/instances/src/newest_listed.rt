@@ -12,12 +12,12 @@ ghost use Rattle.vertices.specs.RefViews.{state_ref_views, owner_ref_view};
 ghost use Rattle.looking_up.specs.Ranges.{versions_with};
 ghost use Rattle.looking_up.specs.Views.{problem_view};
 ghost use Rattle.named_terms.specs.Views.{term_view, term_views};
-ghost use Rattle.instances.specs.Matching.{is_taken};
+ghost use Rattle.looking_up.specs.Matching.{is_taken};
 
 use crate::terms::{term, three};
-use classes::{Class, is_matched};
+use classes::Class;
 use features::Dependency;
-use looking_up::{Problem, class_versions, dependency_at};
+use looking_up::{Problem, class_versions, dependency_at, is_taken};
 use named_terms::{StateSet, Term};
 use semver::{Version, VersionReq};
 use std::alloc::{AllocError, Global};
@@ -85,12 +85,4 @@ fn taken_states<'a>(
         }
     }
     Ok(states)
-}
-
-/// Whether the requirement matches the version.
-#[tactic(auto, unfolding(crate::specs::Matching::is_taken))]
-fn is_taken(requirement: &VersionReq, version: &Version) -> bool
-    ensures { result ≡ is_taken (requirement_view requirement.now) (parts_of version.now) }
-{
-    is_matched(requirement, version)
 }

@@ -12,12 +12,12 @@ ghost use Rattle.vertices.specs.RefViews.{state_ref_views, owner_ref_view};
 ghost use Rattle.looking_up.specs.Ranges.{versions_with};
 ghost use Rattle.looking_up.specs.Views.{problem_view};
 ghost use Rattle.named_terms.specs.Views.{term_view, term_views};
-ghost use Rattle.instances.specs.Matching.{is_left};
+ghost use Rattle.looking_up.specs.Matching.{is_left};
 
 use crate::terms::{term, two};
-use classes::{Class, is_matched};
+use classes::Class;
 use features::Dependency;
-use looking_up::{Problem, class_versions, dependency_at};
+use looking_up::{Problem, class_versions, dependency_at, is_left};
 use named_terms::{StateSet, Term};
 use semver::{Version, VersionReq};
 use std::alloc::{AllocError, Global};
@@ -79,12 +79,4 @@ fn left_states<'a>(
         }
     }
     Ok(states)
-}
-
-/// Whether the requirement doesn't match the version.
-#[tactic(auto, unfolding(crate::specs::Matching::is_left))]
-fn is_left(requirement: &VersionReq, version: &Version) -> bool
-    ensures { result ≡ is_left (requirement_view requirement.now) (parts_of version.now) }
-{
-    !is_matched(requirement, version)
 }

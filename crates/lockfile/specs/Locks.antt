@@ -1,9 +1,9 @@
 -- What a lock says: a function of the bytes of a Cargo.lock (Cargo book, "Cargo.toml vs Cargo.lock"; TOML; SemVer
 -- 2.0.0).
 use Rattle.std.specs.Prelude.{ℕ, ◌+◌, ℤ, pos, negsuc, Bool, true, false, not, ◌&&◌, ◌||◌, ◌==◌, nat_le, nat_lt, nat_eq, if◌then◌else◌, List, [], ◌∷◌, ◌++◌, length, map, Option, Some, None, is_some, Result, Ok, Err, codes, option_and_then}
-use Rattle.std.specs.List.{list_all, list_any, zip}
+use Rattle.std.specs.List.{list_all, zip}
 use Rattle.std.specs.Option.{ok_or}
-use Rattle.std.specs.Ordering.{nat_cmp, is_gt}
+use Rattle.std.specs.Ordering.{nat_cmp}
 use Rattle.std.specs.Str.{is_utf8}
 use Rattle.std.specs.declared.cmp.Ordering.{Ordering}
 use Rattle.toml.specs.Data.{Data, as_str, as_integer, as_array, as_table, get_member, Items, no_items, item, Members}

@@ -1,4 +1,4 @@
-//! Which candidates requirements match.
+//! Which candidates requirements match, and which lack a feature.
 
 ghost use Rattle.std.specs.Prelude.{◌≡◌};
 ghost use Rattle.std.specs.List.{list_any};
@@ -7,13 +7,16 @@ ghost use Rattle.semver.specs.Identifiers.{parts_of};
 ghost use Rattle.features.specs.Views.{dependency_view, requirement_view};
 ghost use Rattle.classes.specs.Classes.{class_view};
 ghost use Rattle.refutations.specs.Causes.{has_class, is_unmatched};
+ghost use Rattle.looking_up.specs.Matching.{is_lacking, is_left, is_taken};
 ghost use Rattle.looking_up.specs.Views.{problem_view};
 
+use crate::owners::brings;
 use crate::problem::Problem;
 use crate::ranges::class_versions;
 use classes::{Class, is_matched};
-use features::Dependency;
+use features::{Dependency, FeatureName, PackageName};
 use semver::{Version, VersionReq};
+use vertices::OwnerRef;
 
 /// Whether some candidate of the class is matched.
 pub fn has_class(problem: &Problem<'_>, class: Class, dependency: &Dependency) -> bool
@@ -41,4 +44,36 @@ fn some_matched(requirement: &VersionReq, versions: &[Version]) -> bool
     versions
         .iter()
         .any(|version| is_matched(requirement, version))
+}
+
+/// Whether the requirement doesn't match the version.
+#[tactic(auto, unfolding(crate::specs::Matching::is_left))]
+pub fn is_left(requirement: &VersionReq, version: &Version) -> bool
+    ensures { result ≡ is_left (requirement_view requirement.now) (parts_of version.now) }
+{
+    !is_matched(requirement, version)
+}
+
+/// Whether the requirement matches the version.
+#[tactic(auto, unfolding(crate::specs::Matching::is_taken))]
+pub fn is_taken(requirement: &VersionReq, version: &Version) -> bool
+    ensures { result ≡ is_taken (requirement_view requirement.now) (parts_of version.now) }
+{
+    is_matched(requirement, version)
+}
+
+/// Whether a version of the name lacks the feature; one that is no candidate does.
+#[tactic(auto, unfolding(crate::specs::Matching::is_lacking))]
+pub fn is_lacking(
+    problem: &Problem<'_>,
+    name: &PackageName,
+    feature: &FeatureName,
+    version: &Version,
+) -> bool
+    ensures { result ≡ is_lacking (problem_view problem.now) name.now feature.now (parts_of version.now) }
+{
+    match brings(problem, &OwnerRef::Version(name, version)) {
+        Some(owner) => !owner.features.has(feature),
+        None => true,
+    }
 }

@@ -1,7 +1,7 @@
 use Rattle.std.proofs.Common.{◌≡◌, ◌++◌, ◌∷◌, true, map, drop}
 use Rattle.semver.specs.Identifiers.{parts_of}
 use Rattle.encoding.specs.Inputs.{problem}
-use Rattle.encoding.specs.Parts.{is_lacking}
+use Rattle.looking_up.specs.Matching.{is_lacking}
 use Rattle.encoding.proofs.space_tests.lacking_tests.Given as goal
 
 -- the tests so far, with those of the versions that are left, are those of all

@@ -1,7 +1,7 @@
 use Rattle.std.proofs.Common.{◌≡◌, ◌++◌, ◌∷◌, false, map, drop}
 use Rattle.semver.specs.Identifiers.{parts_of}
 use Rattle.features.specs.Views.{requirement_view}
-use Rattle.encoding.specs.Parts.{is_taken}
+use Rattle.looking_up.specs.Matching.{is_taken}
 use Rattle.encoding.proofs.space_tests.taken_tests.Given as goal
 
 -- the tests so far, with those of the versions that are left, are those of all

@@ -1,7 +1,7 @@
 use Rattle.std.proofs.Common.{◌≡◌, ◌++◌, ◌∷◌, map, drop}
 use Rattle.semver.specs.Identifiers.{parts_of}
 use Rattle.model.specs.Vertices.{absent}
-use Rattle.instances.specs.Matching.{is_lacking}
+use Rattle.looking_up.specs.Matching.{is_lacking}
 use Rattle.looking_up.specs.Ranges.{versions_with}
 use Rattle.vertices.specs.RefViews.{state_ref_views}
 use Rattle.looking_up.specs.Views.{problem_view}

@@ -5,7 +5,7 @@ use Rattle.classes.specs.Classes.{class_view}
 use Rattle.vertices.specs.Orders.{state_cmp}
 use Rattle.model.specs.Axioms.{at}
 use Rattle.model.specs.Vertices.{pkg}
-use Rattle.instances.specs.Matching.{is_taken}
+use Rattle.looking_up.specs.Matching.{is_taken}
 use Rattle.instances.proofs.Rising.{those_rise}
 use Rattle.instances.proofs.Matched.{taken_is}
 use Rattle.instances.proofs.newest_listed.taken_term.Goals as goal

@@ -5,7 +5,7 @@ use Rattle.classes.specs.Classes.{class_view}
 use Rattle.vertices.specs.Orders.{state_cmp}
 use Rattle.model.specs.Axioms.{at}
 use Rattle.model.specs.Vertices.{absent, pkg}
-use Rattle.instances.specs.Matching.{is_left}
+use Rattle.looking_up.specs.Matching.{is_left}
 use Rattle.instances.proofs.Rising.{absent_first}
 use Rattle.instances.proofs.Matched.{left_is}
 use Rattle.instances.proofs.target.left_term.Goals as goal
