@@ -28,10 +28,10 @@ mod making;
 mod narrowing;
 mod pairing;
 mod parts;
+mod space_tests;
 mod spaces;
 mod states;
 mod table;
-mod space_tests;
 
 ghost use Rattle.std.specs.Prelude.{◌≡◌, ◌≢◌, ℕ, List, Some, map};
 ghost use Rattle.incompatibilities.specs.Incompatibilities.{Assignment, Breaks, Terms};

@@ -18,8 +18,10 @@ ghost use Rattle.vertices.specs.RefViews.{owner_ref_view, vertex_ref_view};
 
 use crate::inputs::Inputs;
 use crate::lookups::dependency_at;
+use crate::space_tests::{
+    chosen_tests, class_tests, lacking_tests, left_tests, no_class, taken_tests,
+};
 use crate::spaces::classes_at;
-use crate::space_tests::{chosen_tests, class_tests, lacking_tests, left_tests, no_class, taken_tests};
 use catalogue::catalogues_are_well_formed;
 use classes::Class;
 use features::{Dependency, FeatureName, PackageName};
@@ -45,7 +47,7 @@ pub(crate) fn parts_of_cause<'a>(
     ensures { IfOk result (λ v. part_views v.items ≡ parts_of_terms (problem inputs.now) (terms_of_cause (problem inputs.now) (cause_view cause.now))) }
 {
     match *cause {
-        Cause::Root => one(alloc, two_states(alloc, VertexRef::Root, false)?),
+        Cause::Root => Ok(vec![in alloc; two_states(alloc, VertexRef::Root, false)?]?),
         Cause::Need(owner, number) => need_parts(alloc, inputs, owner, number),
         Cause::Target(owner, number, class) => target_parts(alloc, inputs, owner, number, class),
         Cause::Feature(name, class, feature) => feature_parts(alloc, inputs, name, class, feature),
@@ -69,35 +71,6 @@ pub(crate) fn parts_of_cause<'a>(
             weak_parts(alloc, inputs, name, version, on, off, number, class)
         }
     }
-}
-
-fn one(alloc: Global, a: Part<'_>) -> Result<Vec<Part<'_>>, AllocError>
-    ensures { IfOk result (λ v. part_views v.items ≡ part_view a.entry ∷ []) }
-{
-    let mut parts = Vec::new(alloc);
-    parts.push(a)?;
-    Ok(parts)
-}
-
-fn two<'a>(alloc: Global, a: Part<'a>, b: Part<'a>) -> Result<Vec<Part<'a>>, AllocError>
-    ensures { IfOk result (λ v. part_views v.items ≡ part_view a.entry ∷ part_view b.entry ∷ []) }
-{
-    let mut parts = one(alloc, a)?;
-    parts.push(b)?;
-    Ok(parts)
-}
-
-fn three<'a>(
-    alloc: Global,
-    a: Part<'a>,
-    b: Part<'a>,
-    c: Part<'a>,
-) -> Result<Vec<Part<'a>>, AllocError>
-    ensures { IfOk result (λ v. part_views v.items ≡ part_view a.entry ∷ part_view b.entry ∷ part_view c.entry ∷ []) }
-{
-    let mut parts = two(alloc, a, b)?;
-    parts.push(c)?;
-    Ok(parts)
 }
 
 /// A vertex that may be absent or present: it is the one of them.
@@ -218,11 +191,10 @@ fn need_parts<'a>(
 ) -> Result<Vec<Part<'a>>, AllocError>
     ensures { IfOk result (λ v. part_views v.items ≡ parts_of_terms (problem inputs.now) (terms_of_cause (problem inputs.now) (causes.of_need (owner_ref_view owner.entry) number))) }
 {
-    two(
-        alloc,
+    Ok(vec![in alloc;
         holds(alloc, inputs, owner)?,
         absent(alloc, inputs, owner, number)?,
-    )
+    ]?)
 }
 
 fn entry_parts<'a>(
@@ -235,12 +207,11 @@ fn entry_parts<'a>(
 ) -> Result<Vec<Part<'a>>, AllocError>
     ensures { IfOk result (λ v. part_views v.items ≡ parts_of_terms (problem inputs.now) (feature_holds name.entry.now (parts_of version.entry.now) on.entry.now (at (model.feat name.entry.now (class_of (parts_of version.entry.now)) off.entry.now) (model.absent ∷ []) ∷ []))) }
 {
-    three(
-        alloc,
+    Ok(vec![in alloc;
         chosen(alloc, inputs, name, version)?,
         own_feature(alloc, name, version, on, true)?,
         own_feature(alloc, name, version, off, false)?,
-    )
+    ]?)
 }
 
 fn enabling_parts<'a>(
@@ -253,12 +224,11 @@ fn enabling_parts<'a>(
 ) -> Result<Vec<Part<'a>>, AllocError>
     ensures { IfOk result (λ v. part_views v.items ≡ parts_of_terms (problem inputs.now) (feature_holds name.entry.now (parts_of version.entry.now) on.entry.now (at (model.dep (model.version_of name.entry.now (parts_of version.entry.now)) number) (model.absent ∷ []) ∷ []))) }
 {
-    three(
-        alloc,
+    Ok(vec![in alloc;
         chosen(alloc, inputs, name, version)?,
         own_feature(alloc, name, version, on, true)?,
         absent(alloc, inputs, OwnerRef::Version(name, version), number)?,
-    )
+    ]?)
 }
 
 fn asking_parts<'a>(
@@ -272,12 +242,11 @@ fn asking_parts<'a>(
 ) -> Result<Vec<Part<'a>>, AllocError>
     ensures { IfOk result (λ v. part_views v.items ≡ parts_of_terms (problem inputs.now) (feature_holds name.entry.now (parts_of version.entry.now) on.entry.now (at (model.ask name.entry.now (parts_of version.entry.now) number asked.entry.now) (model.absent ∷ []) ∷ []))) }
 {
-    three(
-        alloc,
+    Ok(vec![in alloc;
         chosen(alloc, inputs, name, version)?,
         own_feature(alloc, name, version, on, true)?,
         two_states(alloc, VertexRef::Ask(name, version, number, asked), false)?,
-    )
+    ]?)
 }
 
 fn target_parts<'a>(
@@ -290,11 +259,10 @@ fn target_parts<'a>(
     ensures { IfOk result (λ v. part_views v.items ≡ parts_of_terms (problem inputs.now) (terms_of_cause (problem inputs.now) (causes.of_target (owner_ref_view owner.entry) number (class_view class)))) }
 {
     match dependency_at(inputs, &owner, number) {
-        Some(dependency) => two(
-            alloc,
+        Some(dependency) => Ok(vec![in alloc;
             leads(alloc, inputs, owner, number, class)?,
             left(alloc, inputs, dependency, class)?,
-        ),
+        ]?),
         None => Ok(Vec::new(alloc)),
     }
 }
@@ -361,11 +329,10 @@ fn feature_parts<'a>(
 ) -> Result<Vec<Part<'a>>, AllocError>
     ensures { IfOk result (λ v. part_views v.items ≡ parts_of_terms (problem inputs.now) (terms_of_cause (problem inputs.now) (causes.of_feature name.entry.now (class_view class) feature.entry.now))) }
 {
-    two(
-        alloc,
+    Ok(vec![in alloc;
         two_states(alloc, VertexRef::Feature(name, class, feature), true)?,
         lacking(alloc, inputs, name, class, feature)?,
-    )
+    ]?)
 }
 
 fn list_parts<'a>(
@@ -379,11 +346,10 @@ fn list_parts<'a>(
     ensures { IfOk result (λ v. part_views v.items ≡ parts_of_terms (problem inputs.now) (terms_of_cause (problem inputs.now) (causes.of_list (owner_ref_view owner.entry) number (class_view class) feature.entry.now))) }
 {
     match dependency_at(inputs, &owner, number) {
-        Some(dependency) => two(
-            alloc,
+        Some(dependency) => Ok(vec![in alloc;
             leads(alloc, inputs, owner, number, class)?,
             off_there(alloc, dependency, class, feature)?,
-        ),
+        ]?),
         None => Ok(Vec::new(alloc)),
     }
 }
@@ -401,12 +367,11 @@ fn ask_parts<'a>(
 {
     let owner = OwnerRef::Version(name, version);
     match dependency_at(inputs, &owner, number) {
-        Some(dependency) => three(
-            alloc,
+        Some(dependency) => Ok(vec![in alloc;
             two_states(alloc, VertexRef::Ask(name, version, number, feature), true)?,
             leads(alloc, inputs, owner, number, class)?,
             off_there(alloc, dependency, class, feature)?,
-        ),
+        ]?),
         None => Ok(Vec::new(alloc)),
     }
 }
@@ -423,12 +388,11 @@ fn newest_parts<'a>(
     ensures { IfOk result (λ v. part_views v.items ≡ parts_of_terms (problem inputs.now) (terms_of_cause (problem inputs.now) (causes.of_newest (owner_ref_view owner.entry) number other (class_view class) (class_view higher)))) }
 {
     match dependency_at(inputs, &owner, number) {
-        Some(dependency) => three(
-            alloc,
+        Some(dependency) => Ok(vec![in alloc;
             leads(alloc, inputs, owner, number, class)?,
             leads(alloc, inputs, owner, other, higher)?,
             taken(alloc, inputs, dependency, higher)?,
-        ),
+        ]?),
         None => Ok(Vec::new(alloc)),
     }
 }
@@ -467,7 +431,7 @@ fn four<'a>(
 ) -> Result<Vec<Part<'a>>, AllocError>
     ensures { IfOk result (λ v. part_views v.items ≡ part_view a.entry ∷ part_view b.entry ∷ part_view c.entry ∷ part_view d.entry ∷ []) }
 {
-    let mut parts = three(alloc, a, b, c)?;
+    let mut parts = vec![in alloc; a, b, c]?;
     parts.push(d)?;
     Ok(parts)
 }

@@ -38,7 +38,10 @@ pub fn read_line(alloc: Global, name: &PackageName, line: &[u8]) -> Result<Recor
         &mut Scratch::new(alloc),
         &mut LineBefore::none(1),
     )?;
-    check(is_checksum(record.checksum.as_str()), SkipReason::BadChecksum)?;
+    check(
+        is_checksum(record.checksum.as_str()),
+        SkipReason::BadChecksum,
+    )?;
     Ok(record)
 }
 
@@ -67,7 +70,10 @@ fn record_in(
 ) -> Result<Record, LineFault>
     ensures { Gives is_memory record_view result (unchecked_of_shape name.now (shape_view shape.now)) }
 {
-    check(shape.format == 1 || shape.format == 2, SkipReason::NewerFormat)?;
+    check(
+        shape.format == 1 || shape.format == 2,
+        SkipReason::NewerFormat,
+    )?;
     check(shape.name == name.as_str(), SkipReason::OtherName)?;
     let version = version(alloc, shape.version)?;
     let parts = requirements(alloc, &shape.dependencies)?;

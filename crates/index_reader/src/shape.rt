@@ -217,7 +217,9 @@ fn of_kind<'a>(
 {
     match kind {
         DependencyKind::Dev => Ok(DependencyShape::Dev(name)),
-        DependencyKind::Normal | DependencyKind::Build => Ok(DependencyShape::Part(part(alloc, name, dependency)?)),
+        DependencyKind::Normal | DependencyKind::Build => Ok(DependencyShape::Part(part(
+            alloc, name, dependency,
+        )?)),
     }
 }
 

@@ -14,7 +14,7 @@ ghost use Rattle.looking_up.specs.Views.{problem_view};
 ghost use Rattle.named_terms.specs.Views.{term_view, term_views};
 ghost use Rattle.looking_up.specs.Matching.{is_lacking};
 
-use crate::terms::{term, two};
+use crate::terms::term;
 use classes::Class;
 use features::{FeatureName, PackageName};
 use looking_up::{Problem, is_lacking, of_class};
@@ -33,15 +33,14 @@ pub(crate) fn feature_terms<'a>(
     ensures { IfOk result (λ v. term_views v.items ≡ terms_of_cause (problem_view problem.now) (causes.of_feature name.entry.now (class_view class) feature.entry.now)) }
 {
     let lacking = lacking_term(alloc, problem, name, class, feature)?;
-    two(
-        alloc,
+    Ok(vec![in alloc;
         term(
             alloc,
             VertexRef::Feature(name, class, feature),
             StateRef::Present,
         )?,
         lacking,
-    )
+    ]?)
 }
 
 /// The package is absent or has a version of the class that lacks the feature.

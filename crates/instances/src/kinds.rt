@@ -16,7 +16,7 @@ ghost use Rattle.named_terms.specs.Views.{term_views};
 use crate::has_feature::feature_terms;
 use crate::newest_listed::newest_terms;
 use crate::target::target_terms;
-use crate::terms::{chosen, holds, off_term, on_term, one, term, three, two};
+use crate::terms::{chosen, holds, off_term, on_term, term};
 use crate::wants_feature::{ask_terms, list_terms};
 use classes::Class;
 use features::{FeatureName, PackageName};
@@ -35,7 +35,7 @@ pub(crate) fn terms_of_cause<'a>(
     ensures { IfOk result (λ v. term_views v.items ≡ terms_of_cause (problem_view problem.now) (cause_view cause.now)) }
 {
     match *cause {
-        Cause::Root => one(alloc, term(alloc, VertexRef::Root, StateRef::Absent)?),
+        Cause::Root => Ok(vec![in alloc; term(alloc, VertexRef::Root, StateRef::Absent)?]?),
         Cause::Need(owner, number) => need_terms(alloc, owner, number),
         Cause::Target(owner, number, class) => target_terms(alloc, problem, owner, number, class),
         Cause::Feature(name, class, feature) => {
@@ -71,15 +71,14 @@ fn need_terms(
 ) -> Result<Vec<Term<'_>>, AllocError>
     ensures { IfOk result (λ v. term_views v.items ≡ owner_holds (owner_ref_view owner.entry) ∷ at (model.dep (owner_ref_view owner.entry) number) (model.absent ∷ []) ∷ []) }
 {
-    two(
-        alloc,
+    Ok(vec![in alloc;
         holds(alloc, owner)?,
         term(
             alloc,
             VertexRef::Dependency(owner, number),
             StateRef::Absent,
         )?,
-    )
+    ]?)
 }
 
 /// `FeatureOnFeature`: a feature is on, and the feature that is an entry of it is off.
@@ -92,8 +91,7 @@ fn entry_terms<'a>(
 ) -> Result<Vec<Term<'a>>, AllocError>
     ensures { IfOk result (λ v. term_views v.items ≡ feature_holds name.entry.now (parts_of version.entry.now) on.entry.now (at (model.feat name.entry.now (class_of (parts_of version.entry.now)) off.entry.now) (model.absent ∷ []) ∷ [])) }
 {
-    three(
-        alloc,
+    Ok(vec![in alloc;
         chosen(alloc, name, version)?,
         on_term(alloc, name, version, on)?,
         term(
@@ -101,7 +99,7 @@ fn entry_terms<'a>(
             VertexRef::Feature(name, Class::of(version), off),
             StateRef::Absent,
         )?,
-    )
+    ]?)
 }
 
 /// `FeatureOnDependency`: a feature is on, and the dependency that an entry of it enables is absent.
@@ -114,8 +112,7 @@ fn enabling_terms<'a>(
 ) -> Result<Vec<Term<'a>>, AllocError>
     ensures { IfOk result (λ v. term_views v.items ≡ feature_holds name.entry.now (parts_of version.entry.now) on.entry.now (at (model.dep (model.version_of name.entry.now (parts_of version.entry.now)) number) (model.absent ∷ []) ∷ [])) }
 {
-    three(
-        alloc,
+    Ok(vec![in alloc;
         chosen(alloc, name, version)?,
         on_term(alloc, name, version, on)?,
         term(
@@ -123,7 +120,7 @@ fn enabling_terms<'a>(
             VertexRef::Dependency(OwnerRef::Version(name, version), number),
             StateRef::Absent,
         )?,
-    )
+    ]?)
 }
 
 /// `FeatureAsks`: a feature is on, and doesn't ask for what an entry of it asks for.
@@ -137,8 +134,7 @@ fn asking_terms<'a>(
 ) -> Result<Vec<Term<'a>>, AllocError>
     ensures { IfOk result (λ v. term_views v.items ≡ feature_holds name.entry.now (parts_of version.entry.now) on.entry.now (at (model.ask name.entry.now (parts_of version.entry.now) number asked.entry.now) (model.absent ∷ []) ∷ [])) }
 {
-    three(
-        alloc,
+    Ok(vec![in alloc;
         chosen(alloc, name, version)?,
         on_term(alloc, name, version, on)?,
         term(
@@ -146,7 +142,7 @@ fn asking_terms<'a>(
             VertexRef::Ask(name, version, number, asked),
             StateRef::Absent,
         )?,
-    )
+    ]?)
 }
 
 /// `WeakFeature`: a feature is on, the dependency leads to the class, and the other feature is off there.
@@ -165,8 +161,7 @@ fn weak_terms<'a>(
     let owner = OwnerRef::Version(name, version);
     match dependency_at(problem, &owner, number) {
         Some(dependency) => {
-            let mut terms = three(
-                alloc,
+            let mut terms = vec![in alloc;
                 chosen(alloc, name, version)?,
                 on_term(alloc, name, version, on)?,
                 term(
@@ -174,7 +169,7 @@ fn weak_terms<'a>(
                     VertexRef::Dependency(owner, number),
                     StateRef::Class(class),
                 )?,
-            )?;
+            ]?;
             terms.push(off_term(alloc, dependency, class, off)?)?;
             Ok(terms)
         }

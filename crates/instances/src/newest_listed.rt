@@ -14,7 +14,7 @@ ghost use Rattle.looking_up.specs.Views.{problem_view};
 ghost use Rattle.named_terms.specs.Views.{term_view, term_views};
 ghost use Rattle.looking_up.specs.Matching.{is_taken};
 
-use crate::terms::{term, three};
+use crate::terms::term;
 use classes::Class;
 use features::Dependency;
 use looking_up::{Problem, class_versions, dependency_at, is_taken};
@@ -35,8 +35,7 @@ pub(crate) fn newest_terms<'a>(
     ensures { IfOk result (λ v. term_views v.items ≡ terms_of_cause (problem_view problem.now) (causes.of_newest (owner_ref_view owner.entry) number other (class_view class) (class_view higher))) }
 {
     match dependency_at(problem, &owner, number) {
-        Some(dependency) => three(
-            alloc,
+        Some(dependency) => Ok(vec![in alloc;
             term(
                 alloc,
                 VertexRef::Dependency(owner, number),
@@ -48,7 +47,7 @@ pub(crate) fn newest_terms<'a>(
                 StateRef::Class(higher),
             )?,
             taken_term(alloc, problem, dependency, higher)?,
-        ),
+        ]?),
         None => Ok(Vec::new(alloc)),
     }
 }

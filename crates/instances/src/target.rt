@@ -14,7 +14,7 @@ ghost use Rattle.looking_up.specs.Views.{problem_view};
 ghost use Rattle.named_terms.specs.Views.{term_view, term_views};
 ghost use Rattle.looking_up.specs.Matching.{is_left};
 
-use crate::terms::{term, two};
+use crate::terms::term;
 use classes::Class;
 use features::Dependency;
 use looking_up::{Problem, class_versions, dependency_at, is_left};
@@ -33,15 +33,14 @@ pub(crate) fn target_terms<'a>(
     ensures { IfOk result (λ v. term_views v.items ≡ terms_of_cause (problem_view problem.now) (causes.of_target (owner_ref_view owner.entry) number (class_view class))) }
 {
     match dependency_at(problem, &owner, number) {
-        Some(dependency) => two(
-            alloc,
+        Some(dependency) => Ok(vec![in alloc;
             term(
                 alloc,
                 VertexRef::Dependency(owner, number),
                 StateRef::Class(class),
             )?,
             left_term(alloc, problem, dependency, class)?,
-        ),
+        ]?),
         None => Ok(Vec::new(alloc)),
     }
 }

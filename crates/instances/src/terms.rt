@@ -1,4 +1,4 @@
-//! Terms that several kinds have, and short lists of terms.
+//! Terms that several kinds have.
 
 ghost use Rattle.std.specs.Prelude.{◌≡◌, ◌∷◌, [], IfOk};
 ghost use Rattle.semver.specs.Identifiers.{parts_of};
@@ -16,35 +16,6 @@ use named_terms::{StateSet, Term};
 use semver::Version;
 use std::alloc::{AllocError, Global};
 use vertices::{OwnerRef, StateRef, VertexRef};
-
-pub(crate) fn one(alloc: Global, a: Term<'_>) -> Result<Vec<Term<'_>>, AllocError>
-    ensures { IfOk result (λ v. term_views v.items ≡ term_view a.entry ∷ []) }
-{
-    let mut terms = Vec::new(alloc);
-    terms.push(a)?;
-    Ok(terms)
-}
-
-pub(crate) fn two<'a>(alloc: Global, a: Term<'a>, b: Term<'a>) -> Result<Vec<Term<'a>>, AllocError>
-    ensures { IfOk result (λ v. term_views v.items ≡ term_view a.entry ∷ term_view b.entry ∷ []) }
-{
-    let mut terms = one(alloc, a)?;
-    terms.push(b)?;
-    Ok(terms)
-}
-
-pub(crate) fn three<'a>(
-    alloc: Global,
-    a: Term<'a>,
-    b: Term<'a>,
-    c: Term<'a>,
-) -> Result<Vec<Term<'a>>, AllocError>
-    ensures { IfOk result (λ v. term_views v.items ≡ term_view a.entry ∷ term_view b.entry ∷ term_view c.entry ∷ []) }
-{
-    let mut terms = two(alloc, a, b)?;
-    terms.push(c)?;
-    Ok(terms)
-}
 
 /// A vertex with one state.
 pub(crate) fn term<'a>(

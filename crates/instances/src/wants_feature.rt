@@ -9,7 +9,7 @@ ghost use Rattle.vertices.specs.RefViews.{owner_ref_view};
 ghost use Rattle.looking_up.specs.Views.{problem_view};
 ghost use Rattle.named_terms.specs.Views.{term_views};
 
-use crate::terms::{off_term, term, three, two};
+use crate::terms::{off_term, term};
 use classes::Class;
 use features::{FeatureName, PackageName};
 use looking_up::{Problem, dependency_at};
@@ -29,15 +29,14 @@ pub(crate) fn list_terms<'a>(
     ensures { IfOk result (λ v. term_views v.items ≡ terms_of_cause (problem_view problem.now) (causes.of_list (owner_ref_view owner.entry) number (class_view class) feature.entry.now)) }
 {
     match dependency_at(problem, &owner, number) {
-        Some(dependency) => two(
-            alloc,
+        Some(dependency) => Ok(vec![in alloc;
             term(
                 alloc,
                 VertexRef::Dependency(owner, number),
                 StateRef::Class(class),
             )?,
             off_term(alloc, dependency, class, feature)?,
-        ),
+        ]?),
         None => Ok(Vec::new(alloc)),
     }
 }
@@ -55,8 +54,7 @@ pub(crate) fn ask_terms<'a>(
 {
     let owner = OwnerRef::Version(name, version);
     match dependency_at(problem, &owner, number) {
-        Some(dependency) => three(
-            alloc,
+        Some(dependency) => Ok(vec![in alloc;
             term(
                 alloc,
                 VertexRef::Ask(name, version, number, feature),
@@ -68,7 +66,7 @@ pub(crate) fn ask_terms<'a>(
                 StateRef::Class(class),
             )?,
             off_term(alloc, dependency, class, feature)?,
-        ),
+        ]?),
         None => Ok(Vec::new(alloc)),
     }
 }

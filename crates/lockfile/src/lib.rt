@@ -17,7 +17,6 @@
 #![tactic(auto)]
 
 mod content;
-mod written_package;
 mod fault;
 mod laws;
 mod listed;
@@ -28,6 +27,7 @@ mod reader;
 mod search;
 mod table;
 mod writer;
+mod written_package;
 
 pub use content::LockContent;
 pub use fault::LockFault;

@@ -5,7 +5,7 @@ ghost use Rattle.model.specs.Sorting.{in_order};
 ghost use Rattle.lockfile.specs.Spelling.{listed_source_cmp, at_places};
 ghost use Rattle.lockfile.specs.Written.{written_cmp, entry_views, listed_view, listed_views};
 
-use crate::written_package::{WrittenPackage, Listed};
+use crate::written_package::{Listed, WrittenPackage};
 use std::alloc::{AllocError, Global};
 use std::cmp::Ordering;
 

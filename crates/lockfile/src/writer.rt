@@ -6,8 +6,8 @@ ghost use Rattle.lockfile.specs.Spelling.{key_line, optional_line, dependency_li
 ghost use Rattle.lockfile.specs.Written.{written_block, written_list, entry_view, entry_views, listed_views};
 
 use crate::content::LockContent;
-use crate::written_package::{WrittenPackage, Listed, entries};
 use crate::listed::listed;
+use crate::written_package::{Listed, WrittenPackage, entries};
 use std::alloc::{AllocError, Global};
 
 /// The lines that stand above the packages.
@@ -66,7 +66,11 @@ fn put_list(out: &mut Vec<u8>, listed: &[Listed]) -> Result<(), AllocError>
 }
 
 /// Puts an empty line and the lines of a package, whose list has these.
-fn put_package(out: &mut Vec<u8>, entry: &WrittenPackage, listed: &[Listed]) -> Result<(), AllocError>
+fn put_package(
+    out: &mut Vec<u8>,
+    entry: &WrittenPackage,
+    listed: &[Listed],
+) -> Result<(), AllocError>
     ensures { OnOk result (out.new.items ≡ out.old.items ++ written_block (entry_view entry.now) (listed_views listed.now)) }
 {
     let locked = entry.locked;
@@ -80,7 +84,11 @@ fn put_package(out: &mut Vec<u8>, entry: &WrittenPackage, listed: &[Listed]) -> 
 }
 
 /// Puts the lines of all packages.
-fn put_packages(alloc: Global, out: &mut Vec<u8>, entries: &[WrittenPackage]) -> Result<(), AllocError>
+fn put_packages(
+    alloc: Global,
+    out: &mut Vec<u8>,
+    entries: &[WrittenPackage],
+) -> Result<(), AllocError>
     ensures { OnOk result (out.new.items ≡ out.old.items ++ flat_map (λ w. written_block w (written_list (entry_views entries.now) w)) (entry_views entries.now)) }
 {
     'entries: for entry in entries.iter() {

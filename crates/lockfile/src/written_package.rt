@@ -155,7 +155,10 @@ fn make_entry<'a>(
 }
 
 /// The entries of the packages of a content.
-pub(crate) fn entries(alloc: Global, packages: &[Package]) -> Result<Vec<WrittenPackage<'_>>, AllocError>
+pub(crate) fn entries(
+    alloc: Global,
+    packages: &[Package],
+) -> Result<Vec<WrittenPackage<'_>>, AllocError>
     requires { IsOrdered (package_views packages.now) }
     ensures { IfOk result (λ v. entry_views v.items ≡ map (written_of (package_views packages.now)) (package_views packages.now)) }
 {

@@ -88,9 +88,24 @@ pub(crate) fn sections(
 ) -> Result<Vec<DependencyShape<'_>>, ManifestFault>
     ensures { Gives is_memory (λ v. dependency_views v.items) result (sections_of place (table_view table.now)) }
 {
-    let mut found = section(alloc, table, place.part(DependencyKind::Normal), DependencyKind::Normal)?;
-    let mut dev = section(alloc, table, place.part(DependencyKind::Dev), DependencyKind::Dev)?;
-    let mut build = section(alloc, table, place.part(DependencyKind::Build), DependencyKind::Build)?;
+    let mut found = section(
+        alloc,
+        table,
+        place.part(DependencyKind::Normal),
+        DependencyKind::Normal,
+    )?;
+    let mut dev = section(
+        alloc,
+        table,
+        place.part(DependencyKind::Dev),
+        DependencyKind::Dev,
+    )?;
+    let mut build = section(
+        alloc,
+        table,
+        place.part(DependencyKind::Build),
+        DependencyKind::Build,
+    )?;
     found.append(&mut dev)?;
     found.append(&mut build)?;
     Ok(found)
@@ -112,7 +127,11 @@ fn section(
     dependencies_in(alloc, table(value, part)?, part, kind)
 }
 
-fn section_value(table: &Table, part: Part, kind: DependencyKind) -> Result<Option<&Value>, ManifestFault>
+fn section_value(
+    table: &Table,
+    part: Part,
+    kind: DependencyKind,
+) -> Result<Option<&Value>, ManifestFault>
     ensures { Gives is_memory (option_map (λ v. view v.now)) result (section_at part kind (table_view table.now)) }
 {
     match kind {
@@ -166,7 +185,11 @@ fn described<'a>(
         Value::String(text) => bare(alloc, name, DependencySource::Registry(text.as_str())),
         Value::Table(table) => {
             if has_key(table, "workspace") {
-                bare(alloc, name, DependencySource::Unsupported(Unsupported::Workspace))
+                bare(
+                    alloc,
+                    name,
+                    DependencySource::Unsupported(Unsupported::Workspace),
+                )
             } else {
                 dependency_in(alloc, name, table, part, kind)
             }

@@ -199,7 +199,9 @@ fn with_requirement(alloc: Global, shape: DependencyShape<'_>) -> Result<Depende
 {
     let text = match shape.source {
         DependencySource::Registry(text) => text,
-        DependencySource::Unsupported(source) => return Err(ManifestFault::UnsupportedSource(source)),
+        DependencySource::Unsupported(source) => return Err(ManifestFault::UnsupportedSource(
+            source,
+        )),
     };
     match VersionReq::parse(alloc, text) {
         Ok(requirement) => Ok(Dependency {
