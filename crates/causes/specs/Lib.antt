@@ -1,4 +1,4 @@
 pub mod Needs
 pub mod Numbers
 pub mod NumbersViews
-pub mod Readings
+pub mod NamedByTerms

@@ -17,8 +17,8 @@ ghost use Rattle.named_terms.specs.Views.{term_views};
 ghost use Rattle.causes.specs.NumbersViews.{problem_of};
 ghost use Rattle.causes.specs.Needs.{enabling_by, is_enabled_unmatched, place_from};
 
+use crate::named_by_terms::{first_dependency, first_on, first_version};
 use crate::numbers::Numbers;
-use crate::reading::{first_dependency, first_on, first_version};
 use features::{Dependency, Entry, FeatureName, PackageName};
 use looking_up::{Problem, dependencies_of, dependency_at, entries_of, is_unmatched};
 use named_terms::{Cause, Term};

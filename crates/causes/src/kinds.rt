@@ -8,10 +8,12 @@ ghost use Rattle.named_terms.specs.Views.{term_views};
 ghost use Rattle.causes.specs.NumbersViews.{problem_of};
 
 use crate::feature_on_dependency::enabling_in;
+use crate::named_by_terms::{
+    first_ask, first_feature, first_led, first_off, first_on, first_version,
+};
 use crate::needed::need_in;
 use crate::newest_listed::newest_in;
 use crate::numbers::Numbers;
-use crate::reading::{first_ask, first_feature, first_led, first_off, first_on, first_version};
 use crate::wants_feature::ask_or_list_in;
 use named_terms::{Cause, Term};
 use std::alloc::{AllocError, Global};

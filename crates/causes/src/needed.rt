@@ -12,8 +12,8 @@ ghost use Rattle.named_terms.specs.Views.{term_views};
 ghost use Rattle.causes.specs.NumbersViews.{problem_of};
 ghost use Rattle.causes.specs.Needs.{is_needed_unmatched, place_from};
 
+use crate::named_by_terms::{first_dependency, first_owner};
 use crate::numbers::Numbers;
-use crate::reading::{first_dependency, first_owner};
 use features::Dependency;
 use looking_up::{Problem, dependencies_of, is_unmatched};
 use named_terms::{Cause, Term};

@@ -7,7 +7,7 @@ ghost use Rattle.vertices.specs.RefViews.{owner_ref_view};
 ghost use Rattle.named_terms.specs.CauseViews.{cause_view};
 ghost use Rattle.named_terms.specs.Views.{term_views};
 
-use crate::reading::{first_led, first_other};
+use crate::named_by_terms::{first_led, first_other};
 use classes::Class;
 use named_terms::{Cause, Term};
 use vertices::OwnerRef;

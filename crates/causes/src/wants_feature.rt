@@ -6,7 +6,7 @@ ghost use Rattle.refutations.specs.Instances.{ask_in, list_in};
 ghost use Rattle.named_terms.specs.CauseViews.{cause_view};
 ghost use Rattle.named_terms.specs.Views.{term_views};
 
-use crate::reading::{first_ask, first_led, first_off};
+use crate::named_by_terms::{first_ask, first_led, first_off};
 use named_terms::{Cause, Term};
 
 pub(crate) fn ask_or_list_in<'a>(terms: &[Term<'a>]) -> Option<Cause<'a>>

@@ -3,8 +3,8 @@ use Rattle.std.specs.Prelude.{◌≡◌, ◌≢◌, ◌⊎◌, ◌+◌, ℕ, Boo
 use Rattle.std.specs.declared.alloc.Global.{Global}
 use Rattle.manifest.specs.Manifests.{limit}
 use Rattle.lockfile.specs.Locks.{most_bytes}
-use Rattle.index_reader.specs.declared.reading.FileFault.{FileFault}
-use Rattle.index_reader.specs.declared.reading.FileFault.TheVariants.{OutOfMemory, NotFound, Unreadable}
+use Rattle.index_reader.specs.declared.opened.FileFault.{FileFault}
+use Rattle.index_reader.specs.declared.opened.FileFault.TheVariants.{OutOfMemory, NotFound, Unreadable}
 use Rattle.commands.specs.declared.ending.Ending.{Ending}
 use Rattle.model.specs.Derivation.{Step}
 use Rattle.derivations.specs.Written.{lines_of}

@@ -1,7 +1,7 @@
 -- How a run's disk stands on what opens and what writes files: those of the system, or any other.
 use Rattle.std.specs.Prelude.{◌≡◌, ℕ, Bool, List, Result, is_ok}
 use Rattle.std.specs.declared.io.Error.{Error}
-use Rattle.index_reader.specs.Reading.{OnDisk}
+use Rattle.index_reader.specs.Opened.{OnDisk}
 
 -- bytes became the file at a path just where writing them there ended without an error
 abbrev pub IsWritten : {R : Type 0} → (R → List ℕ → List ℕ → Result (Unit {0}) Error → R → Type 0) → R → List ℕ → List ℕ → Bool → R → Type 0

@@ -12,7 +12,7 @@ pub trait Disk {
 
     ghost use Rattle.std.specs.Prelude.{ℕ, Bool, IfOk, List, Result, Vec};
     ghost use Rattle.std.specs.declared.alloc.Global.{Global};
-    ghost use Rattle.index_reader.specs.declared.reading.FileFault.{FileFault};
+    ghost use Rattle.index_reader.specs.declared.opened.FileFault.{FileFault};
 
     /// The disk, a path, how many bytes are wanted at most, and what reading them gave.
     ghost reads: { Self → List ℕ → ℕ → Result (Vec ℕ Global) FileFault → Type 0 };
@@ -66,7 +66,7 @@ impl<R: Files> Puts for R {
 impl<R: Opens + Puts + AllocGlobal + Clone + Drop> Disk for R {
     type Index = DiskFolder<R>;
 
-    ghost use Rattle.index_reader.specs.Reading.{IsRead};
+    ghost use Rattle.index_reader.specs.Opened.{IsRead};
     ghost use Rattle.commands.specs.Systems.{IsOpened, IsWritten};
 
     ghost reads = { λ disk. IsRead (R.opens disk) R.File.left R.File.fails };

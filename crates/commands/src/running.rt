@@ -2,7 +2,7 @@
 
 ghost use Rattle.std.specs.Prelude.{◌≡◌, ◌⊎◌, ℕ, Bool, List, true, IfErr, IfOk, Ok, map, option_copied, string_bytes};
 ghost use Rattle.std.specs.Io.KnownBytes.{Appends};
-ghost use Rattle.index_reader.specs.Reading.{DiskCalls, IsRead};
+ghost use Rattle.index_reader.specs.Opened.{DiskCalls, IsRead};
 ghost use Rattle.checker.specs.Texts.{check_text};
 ghost use Rattle.selection.specs.Texts.{verdict_text};
 ghost use Rattle.words.specs.Views.{text_if, words_view};

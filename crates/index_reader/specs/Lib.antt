@@ -9,4 +9,4 @@ pub mod Views
 pub mod Kept
 pub mod Paths
 pub mod Folders
-pub mod Reading
+pub mod Opened

@@ -1,7 +1,7 @@
 //! A folder on a disk.
 
 use crate::folder::{Folder, FolderFault};
-use crate::reading::{FileFault, Opens, path_below, read_at};
+use crate::opened::{FileFault, Opens, path_below, read_at};
 use std::alloc::AllocError;
 use std::marker::Model;
 
@@ -19,7 +19,7 @@ pub struct DiskFolder<O: Opens + AllocGlobal + Clone + Drop> {
 
 impl<O: Opens + AllocGlobal + Clone + Drop> Model for DiskFolder<O> {
     ghost use Rattle.std.specs.Prelude.{string_bytes};
-    ghost use Rattle.index_reader.specs.Reading.{OnDisk};
+    ghost use Rattle.index_reader.specs.Opened.{OnDisk};
 
     ghost Value = { OnDisk O };
 
@@ -29,7 +29,7 @@ impl<O: Opens + AllocGlobal + Clone + Drop> Model for DiskFolder<O> {
 impl<O: Opens + AllocGlobal + Clone + Drop> DiskFolder<O> {
     ghost use Rattle.std.specs.Prelude.{◌≡◌, IfOk};
     ghost use Rattle.index_reader.specs.Folders.{answer_view};
-    ghost use Rattle.index_reader.specs.Reading.{answer_of, failures_after};
+    ghost use Rattle.index_reader.specs.Opened.{answer_of, failures_after};
 
     /// The folder at a path; an empty path is the present folder. Nothing is touched: where the folder isn't there, it
     /// has no files.
@@ -61,7 +61,7 @@ impl<O: Opens + AllocGlobal + Clone + Drop> DiskFolder<O> {
 }
 
 impl<O: Opens + AllocGlobal + Clone + Drop> Folder for DiskFolder<O> {
-    ghost use Rattle.index_reader.specs.Reading.{DiskCalls};
+    ghost use Rattle.index_reader.specs.Opened.{DiskCalls};
 
     ghost calls = { DiskCalls O.opens O.File.left O.File.fails };
 

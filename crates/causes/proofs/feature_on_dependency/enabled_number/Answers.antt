@@ -3,7 +3,7 @@ use Rattle.std.proofs.lemmas.Result.{IfOk-weaker}
 use Rattle.semver.specs.Identifiers.{parts_of}
 use Rattle.refutations.specs.Instances.{enabled_unmatched, number_read}
 use Rattle.causes.specs.NumbersViews.{problem_of}
-use Rattle.causes.specs.Readings.{dep_seen}
+use Rattle.causes.specs.NamedByTerms.{dep_seen}
 use Rattle.named_terms.specs.Views.{term_views}
 use Rattle.causes.proofs.Places.{or_found}
 use Rattle.causes.proofs.feature_on_dependency.enabled_number.Goals as goal

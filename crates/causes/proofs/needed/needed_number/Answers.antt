@@ -2,7 +2,7 @@ use Rattle.std.proofs.Common.{◌∙◌, ap, sym, option_map}
 use Rattle.std.proofs.lemmas.Result.{IfOk-weaker}
 use Rattle.refutations.specs.Instances.{needed_unmatched, number_read}
 use Rattle.causes.specs.NumbersViews.{problem_of}
-use Rattle.causes.specs.Readings.{dep_seen}
+use Rattle.causes.specs.NamedByTerms.{dep_seen}
 use Rattle.named_terms.specs.Views.{term_views}
 use Rattle.vertices.specs.RefViews.{owner_ref_view}
 use Rattle.causes.proofs.Places.{or_found}

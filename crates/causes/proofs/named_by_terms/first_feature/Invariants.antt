@@ -1,7 +1,7 @@
 use Rattle.std.proofs.Common.{◌≡◌, drop}
 use Rattle.refutations.specs.Instances.{first_read, feature_read}
 use Rattle.named_terms.specs.Views.{term_views}
-use Rattle.causes.proofs.reading.first_feature.Given as goal
+use Rattle.causes.proofs.named_by_terms.first_feature.Given as goal
 
 -- the first among the terms that are left is the first of all
 abbrev pub invariant-terms : goal.invariant-terms

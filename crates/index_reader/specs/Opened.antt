@@ -6,8 +6,8 @@ use Rattle.std.specs.declared.alloc.Global.{Global}
 use Rattle.std.specs.declared.io.Error.{Error}
 use Rattle.std.specs.declared.io.ErrorKind.TheVariants as kind
 use Rattle.index_reader.specs.declared.folder.FolderFault.TheVariants as folder
-use Rattle.index_reader.specs.declared.reading.FileFault.{FileFault}
-use Rattle.index_reader.specs.declared.reading.FileFault.TheVariants.{OutOfMemory, NotFound, Unreadable}
+use Rattle.index_reader.specs.declared.opened.FileFault.{FileFault}
+use Rattle.index_reader.specs.declared.opened.FileFault.TheVariants.{OutOfMemory, NotFound, Unreadable}
 use Rattle.index_reader.specs.Folders.{Answer, counted}
 
 -- an empty path of a folder is the present one

@@ -1,7 +1,7 @@
 //! Files by their paths: opened by the system's call, read up to a limit, and told apart where that fails.
 
 ghost use Rattle.std.specs.Prelude.{◌≡◌, ◌++◌, IfOk, codes, string_bytes};
-ghost use Rattle.index_reader.specs.Reading.{IsFaultOf, IsFront, IsRead, or_present, path_below};
+ghost use Rattle.index_reader.specs.Opened.{IsFaultOf, IsFront, IsRead, or_present, path_below};
 
 use std::alloc::{AllocError, Global};
 use std::fs;
