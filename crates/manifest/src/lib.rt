@@ -22,7 +22,6 @@ mod reader;
 mod section;
 mod shape;
 mod table;
-mod top;
 
 pub use fault::{ManifestFault, Part, TableFault, Unsupported};
 pub use reader::Manifest;
