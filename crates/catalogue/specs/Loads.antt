@@ -94,21 +94,21 @@ Reads calls failed before name (Ok contents) after = IsRead calls before name (c
 Reads calls failed before name (Err e) after = Fails calls failed before name e after
 
 -- how reading a file within the limits, or not within them, ends
-abbrev pub Says : List ℕ → List ℕ → Result (Vec Record Global × Vec Skip Global) LoadFault → Type 0
-Says name bytes (Ok contents) = IsWithin (Some bytes) × (records_of_file name bytes ≡ contents_view contents)
-Says name bytes (Err fault.OutOfMemory) = Unit {0}
-Says name bytes (Err (fault.FolderFailed path)) = ⊥
-Says name bytes (Err (fault.TooLarge limit.Names)) = ⊥
-Says name bytes (Err (fault.TooLarge (limit.File n))) = (n ≡ name) × (most_bytes < length bytes)
-Says name bytes (Err (fault.TooLarge (limit.Lines n))) = (n ≡ name) × (length bytes ≤ most_bytes) × (most_lines < line_count bytes)
-Says name bytes (Err (fault.ChecksumChanged n v)) = ⊥
+abbrev pub SaysOfFile : List ℕ → List ℕ → Result (Vec Record Global × Vec Skip Global) LoadFault → Type 0
+SaysOfFile name bytes (Ok contents) = IsWithin (Some bytes) × (records_of_file name bytes ≡ contents_view contents)
+SaysOfFile name bytes (Err fault.OutOfMemory) = Unit {0}
+SaysOfFile name bytes (Err (fault.FolderFailed path)) = ⊥
+SaysOfFile name bytes (Err (fault.TooLarge limit.Names)) = ⊥
+SaysOfFile name bytes (Err (fault.TooLarge (limit.File n))) = (n ≡ name) × (most_bytes < length bytes)
+SaysOfFile name bytes (Err (fault.TooLarge (limit.Lines n))) = (n ≡ name) × (length bytes ≤ most_bytes) × (most_lines < line_count bytes)
+SaysOfFile name bytes (Err (fault.ChecksumChanged n v)) = ⊥
 
 -- ---- the candidates of a name
 
 -- the packages of the old lock: none where there is no old lock
-abbrev pub packages_of : Option (Bor Content) → Content
-packages_of None = []
-packages_of (Some content) = content.now
+abbrev pub packages_of_old : Option (Bor Content) → Content
+packages_of_old None = []
+packages_of_old (Some content) = content.now
 
 abbrev pub records_view : List Record → List ModelRecord
 records_view rs = map (λ r. as_record (record_view r)) rs

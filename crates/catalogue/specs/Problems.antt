@@ -15,27 +15,24 @@ names_in asked = map (λ a. a.0) asked
 abbrev pub candidates_by_name : Content → List ℕ → List Asked → List (List ℕ × List Candidate)
 candidates_by_name old source asked = map (λ a. (a.0, map as_candidate (candidates_in old source a))) asked
 
--- what a selection is held against, where the run with this old lock and this source asked for these names
-abbrev pub problem_of : ManifestView → Content → List ℕ → List Asked → Problem
-problem_of manifest old source asked = record {
+-- what a selection is held against, for a manifest, with these candidates by name from this source
+abbrev pub problem_over : ManifestView → List ℕ → List (List ℕ × List Candidate) → Problem
+problem_over manifest source candidates = record {
   name = manifest.name;
   version = manifest.version;
   brings = manifest.brings;
   root_asks = root_asks manifest.brings.features;
   source = source;
-  candidates = candidates_by_name old source asked;
+  candidates = candidates;
 }
 
--- what a selection is held against, for a manifest and a loaded index
+-- where the run with this old lock and this source asked for these names
+abbrev pub problem_of : ManifestView → Content → List ℕ → List Asked → Problem
+problem_of manifest old source asked = problem_over manifest source (candidates_by_name old source asked)
+
+-- over a loaded index
 abbrev pub problem_in : ManifestView → CatalogueView → Problem
-problem_in manifest index = record {
-  name = manifest.name;
-  version = manifest.version;
-  brings = manifest.brings;
-  root_asks = root_asks manifest.brings.features;
-  source = index.source;
-  candidates = rows_by_name index;
-}
+problem_in manifest index = problem_over manifest index.source (rows_by_name index)
 
 -- a whole run of the folder for this manifest, with this old lock and this source, gives what a selection is held
 -- against

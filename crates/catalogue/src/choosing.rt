@@ -5,7 +5,7 @@ ghost use Rattle.std.specs.List.{AllPairs};
 ghost use Rattle.semver.specs.Identifiers.{parts_of};
 ghost use Rattle.classes.specs.RustVersions.{rust_version_view};
 ghost use Rattle.model.specs.Candidates.{IsApart, IsOlder, is_locked, may_be_locked};
-ghost use Rattle.catalogue.specs.Loads.{packages_of, records_view, with_ranks, ranked_among};
+ghost use Rattle.catalogue.specs.Loads.{packages_of_old, records_view, with_ranks, ranked_among};
 ghost use Rattle.catalogue.specs.Ranks.{rank_by, fits_given};
 ghost use Rattle.catalogue.specs.Stores.{candidates_view};
 ghost use Rattle.catalogue.specs.Views.{KnowFeatures, most_candidates};
@@ -39,7 +39,7 @@ pub(crate) fn candidates_of(
     requires apart { AllPairs IsApart (records_view records.items) }
     requires known { KnowFeatures (records_view records.items) }
     requires few { length records.items ≤ most_candidates }
-    ensures { IfOk result (λ c. candidates_view c ≡ ranked_among (is_locked (packages_of run.now.old) run.now.source.now name.now) (option_map rust_version_view run.now.rust_version) (records_view records.items)) }
+    ensures { IfOk result (λ c. candidates_view c ≡ ranked_among (is_locked (packages_of_old run.now.old) run.now.source.now name.now) (option_map rust_version_view run.now.rust_version) (records_view records.items)) }
 {
     records.sort_by(|a, b| a.version.cmp_precedence(&b.version))?;
     kept(alloc, name, records, run)
@@ -55,7 +55,7 @@ fn kept(
     requires rising { AllPairs IsOlder (records_view records.items) }
     requires known { KnowFeatures (records_view records.items) }
     requires few { length records.items ≤ most_candidates }
-    ensures { IfOk result (λ c. candidates_view c ≡ with_ranks (is_locked (packages_of run.now.old) run.now.source.now name.now) (option_map rust_version_view run.now.rust_version) (filter (may_be_locked (is_locked (packages_of run.now.old) run.now.source.now name.now)) (records_view records.items))) }
+    ensures { IfOk result (λ c. candidates_view c ≡ with_ranks (is_locked (packages_of_old run.now.old) run.now.source.now name.now) (option_map rust_version_view run.now.rust_version) (filter (may_be_locked (is_locked (packages_of_old run.now.old) run.now.source.now name.now)) (records_view records.items))) }
 {
     let mut versions = Vec::with_capacity(alloc, records.len())?;
     let mut kept = Vec::with_capacity(alloc, records.len())?;

@@ -1,7 +1,7 @@
 //! Asking a folder for the file of a name.
 
 ghost use Rattle.std.specs.Prelude.{◌≡◌};
-ghost use Rattle.catalogue.specs.Loads.{Reads, Says};
+ghost use Rattle.catalogue.specs.Loads.{Reads, SaysOfFile};
 
 use crate::fault::{Limit, LoadFault};
 use features::PackageName;
@@ -37,7 +37,7 @@ fn read_bytes(
     name: &PackageName,
     bytes: &[u8],
 ) -> Result<(Vec<Record>, Vec<Skip>), LoadFault>
-    ensures { Says name.now bytes.now result }
+    ensures { SaysOfFile name.now bytes.now result }
 {
     if bytes.len() > MAX_BYTES {
         return Err(LoadFault::TooLarge(Limit::File(name.clone()?)));

@@ -6,7 +6,7 @@ ghost use Rattle.index_reader.specs.Views.{skip_view};
 ghost use Rattle.indexmap.specs.IndexSet.{insert_key, insert_all};
 ghost use Rattle.model.specs.Summary.{same_text};
 ghost use Rattle.features.specs.Views.{dependency_views};
-ghost use Rattle.catalogue.specs.Loads.{packages_of, needs_of, Asks, AsksAll, differs, has_changed, Checks, rust_for, Loads};
+ghost use Rattle.catalogue.specs.Loads.{packages_of_old, needs_of, Asks, AsksAll, differs, has_changed, Checks, rust_for, Loads};
 ghost use Rattle.catalogue.specs.Problems.{IsProblemOfRun, problem_in};
 ghost use Rattle.catalogue.specs.Stores.{candidates_at, record_at};
 ghost use Rattle.catalogue.specs.Views.{said};
@@ -46,8 +46,8 @@ pub fn load<F: Folder>(
     source: &Source,
     prefer: Prefer,
 ) -> Result<Catalogue, LoadFault>
-    ensures loads { Loads (packages_of old.entry) source.now (rust_for prefer manifest.now.rust_version) manifest.now.brings.dependencies F.calls F.failed folder.old result folder.new }
-    ensures problem { IfOk result (λ c. IsProblemOfRun F.calls folder.old manifest.now (packages_of old.entry) source.now (problem_in manifest.now c) folder.new) }
+    ensures loads { Loads (packages_of_old old.entry) source.now (rust_for prefer manifest.now.rust_version) manifest.now.brings.dependencies F.calls F.failed folder.old result folder.new }
+    ensures problem { IfOk result (λ c. IsProblemOfRun F.calls folder.old manifest.now (packages_of_old old.entry) source.now (problem_in manifest.now c) folder.new) }
 {
     let run = Run {
         old,
@@ -76,7 +76,7 @@ fn ask_all<F: Folder>(
     folder: &mut F,
     run: &Run<'_>,
 ) -> Result<Catalogue, LoadFault>
-    ensures { AsksAll (packages_of run.now.old) run.now.source.now (option_map rust_version_view run.now.rust_version) (dependency_views dependencies.now) F.calls F.failed folder.old result folder.new }
+    ensures { AsksAll (packages_of_old run.now.old) run.now.source.now (option_map rust_version_view run.now.rust_version) (dependency_views dependencies.now) F.calls F.failed folder.old result folder.new }
 {
     let mut names = IndexSet::new(alloc);
     let mut candidates = Vec::new(alloc);
@@ -114,7 +114,7 @@ fn ask<F: Folder>(
     run: &Run<'_>,
     skips: &mut Vec<Skip>,
 ) -> Result<Candidates, LoadFault>
-    ensures { Asks F.calls F.failed (packages_of run.now.old) run.now.source.now (option_map rust_version_view run.now.rust_version) folder.old name.now (map skip_view skips.old.items) result folder.new (map skip_view skips.new.items) }
+    ensures { Asks F.calls F.failed (packages_of_old run.now.old) run.now.source.now (option_map rust_version_view run.now.rust_version) folder.old name.now (map skip_view skips.old.items) result folder.new (map skip_view skips.new.items) }
 {
     let (records, mut skipped) = read_name(alloc, folder, name)?;
     skips.append(&mut skipped)?;
@@ -156,7 +156,7 @@ fn add_name(names: &mut IndexSet<PackageName>, name: &PackageName) -> Result<(),
 
 /// The first package of the old lock, in package order, with a checksum other than the index's.
 fn check_checksums(old: Option<&LockContent>, catalogue: &Catalogue) -> Result<(), LoadFault>
-    ensures { Checks catalogue.now (packages_of old.entry) result }
+    ensures { Checks catalogue.now (packages_of_old old.entry) result }
 {
     match old {
         Some(content) => check_packages(content.packages(), catalogue),

@@ -1,17 +1,16 @@
 //! What an old lock holds.
 
-ghost use Rattle.std.specs.Prelude.{◌≡◌, Some, option_map};
+ghost use Rattle.std.specs.Prelude.{◌≡◌, Some};
 ghost use Rattle.semver.specs.Grammar.{IsValid};
 ghost use Rattle.semver.specs.Identifiers.{parts_of};
 ghost use Rattle.model.specs.Candidates.{is_locked};
-ghost use Rattle.model.specs.Order.{source_cmp};
 ghost use Rattle.lockfile.specs.Search.{sourced_cmp};
 ghost use Rattle.lockfile.specs.Views.{package_view};
-ghost use Rattle.catalogue.specs.Loads.{packages_of};
+ghost use Rattle.catalogue.specs.Loads.{packages_of_old};
 
 use classes::version_order;
 use features::PackageName;
-use lockfile::{LockContent, Package};
+use lockfile::{source_order, LockContent, Package};
 use semver::Version;
 use std::cmp::Ordering;
 
@@ -23,7 +22,7 @@ pub(crate) fn is_locked(
     source: &str,
 ) -> bool
     requires { IsValid (parts_of version.now) }
-    ensures { result ≡ is_locked (packages_of old.entry) source.now name.now (parts_of version.now) }
+    ensures { result ≡ is_locked (packages_of_old old.entry) source.now name.now (parts_of version.now) }
 {
     match old {
         Some(content) => is_locked_in(content, name, version, source),
@@ -50,15 +49,5 @@ fn order_to(locked: &Package, name: &PackageName, version: &Version, source: &st
         .name
         .cmp(name)
         .then_with(|| version_order(&locked.version, version))
-        .then_with(|| source_order(locked.source(), source))
-}
-
-/// A package with a source comes before one without.
-fn source_order(a: Option<&str>, source: &str) -> Ordering
-    ensures { result ≡ source_cmp (option_map (λ s. s.now) a.entry) (Some source.now) }
-{
-    match a {
-        Some(text) => text.cmp(source),
-        None => Ordering::Greater,
-    }
+        .then_with(|| source_order(locked.source(), Some(source)))
 }

@@ -1,16 +1,15 @@
 -- Which lines are steps of a derivation, and which steps they are (JSON, RFC 8259, in the meaning of `serde_json`; the format is this project's).
 use Rattle.std.specs.Prelude.{ℕ, Bool, true, if◌then◌else◌, nat_lt, ◌&&◌, List, [], ◌∷◌, map, Option, Some, None}
 use Rattle.std.specs.Prelude.{option_and_then, is_none, Ok, Err, codes}
-use Rattle.std.specs.Str.{is_utf8}
 use Rattle.std.specs.declared.cmp.Ordering.{Ordering}
 use Rattle.serde_json.specs.Data.{Data, Items, no_items, item}
-use Rattle.serde_json.specs.Read.{read}
 use Rattle.serde_json.specs.Find as json
 use Rattle.model.specs.Outcome.{◌>>=◌, guard}
 use Rattle.model.specs.Order.{text_cmp}
 use Rattle.model.specs.Vertices.{Vertex, State}
 use Rattle.model.specs.Axioms.{Kind, Term, at}
 use Rattle.model.specs.Derivation.{Step, given, combine}
+use Rattle.trees.specs.Trees as trees
 use Rattle.vertices.specs.Kinds.{kind_of_text}
 use Rattle.vertices.specs.Orders.{state_cmp}
 use Rattle.derivations.specs.Orders.{ordered}
@@ -19,7 +18,7 @@ use Rattle.derivations.specs.declared.fault.LineFault.TheVariants.{NotALine, For
 
 -- the JSON value that the bytes are
 abbrev pub data_of_bytes : List ℕ → Line Data
-data_of_bytes bytes = needed (if is_utf8 bytes then read bytes else None)
+data_of_bytes bytes = needed (trees.data_of_bytes bytes)
 
 abbrev pub text_of : Data → Line (List ℕ)
 text_of d = needed (json.as_str d)

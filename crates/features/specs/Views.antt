@@ -11,9 +11,9 @@ use Rattle.features.specs.declared.entry.EntryFault.TheVariants.{OutOfMemory, No
 use Rattle.features.specs.declared.name.NameFault.{NameFault}
 use Rattle.features.specs.declared.name.NameFault.TheVariants as name
 
-abbrev pub is_memory : EntryFault → Bool
-is_memory OutOfMemory = true
-is_memory NotAnEntry = false
+abbrev pub wants_memory : EntryFault → Bool
+wants_memory OutOfMemory = true
+wants_memory NotAnEntry = false
 
 abbrev pub entry_fault_of : NameFault → EntryFault
 entry_fault_of name.OutOfMemory = OutOfMemory

@@ -5,7 +5,7 @@ ghost use Rattle.std.specs.Option.{ok_or};
 ghost use Rattle.model.specs.Outcome.{Gives};
 ghost use Rattle.features.specs.Entries.{after_text, around, asking_of, before_text, entry_of};
 ghost use Rattle.features.specs.EntryViews.{entry_view};
-ghost use Rattle.features.specs.Views.{is_memory};
+ghost use Rattle.features.specs.Views.{wants_memory};
 
 use crate::feature_name::FeatureName;
 use crate::name::{NameFault, PackageName};
@@ -51,7 +51,7 @@ impl From<NameFault> for EntryFault {
 impl Entry {
     /// The entry that a text is.
     pub fn parse(alloc: Global, text: &str) -> Result<Entry, EntryFault>
-        ensures { Gives is_memory entry_view result (ok_or (entry_of text.now) EntryFault.NotAnEntry) }
+        ensures { Gives wants_memory entry_view result (ok_or (entry_of text.now) EntryFault.NotAnEntry) }
     {
         if let Some(name) = after_dep(text) {
             return Ok(Entry::Dependency(PackageName::parse(alloc, name)?));
@@ -65,7 +65,7 @@ impl Entry {
 
 /// `left/feature`, where a `?` at the end of the left is the weak form.
 fn asking(alloc: Global, left: &str, feature: &str) -> Result<Entry, EntryFault>
-    ensures { Gives is_memory entry_view result (ok_or (asking_of left.now feature.now) EntryFault.NotAnEntry) }
+    ensures { Gives wants_memory entry_view result (ok_or (asking_of left.now feature.now) EntryFault.NotAnEntry) }
 {
     match before_mark(left) {
         Some(name) => Ok(Entry::WeakFeature(

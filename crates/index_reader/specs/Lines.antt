@@ -2,30 +2,29 @@
 -- "Registry Index", "JSON schema").
 use Rattle.std.specs.Prelude.{ℕ, Bool, true, false, if◌then◌else◌, List, [], ◌∷◌, Option, Some, None, option_map, option_and_then, Result, Ok, Err, codes}
 use Rattle.std.specs.Option.{ok_or}
-use Rattle.std.specs.Str.{is_utf8}
 use Rattle.serde_json.specs.Data.{Data, null, boolean, number, string, array, object, Items, no_items, item, Members, no_members, member}
-use Rattle.serde_json.specs.Read.{read}
 use Rattle.serde_json.specs.Find.{get, as_str, as_bool, as_array, as_object, as_number, as_u64}
 use Rattle.model.specs.Outcome.{◌>>=◌}
 use Rattle.model.specs.Summary.{same_text}
 use Rattle.features.specs.Names.{is_package_name}
 use Rattle.classes.specs.RustVersions.{rust_version_of}
+use Rattle.trees.specs.Trees as trees
 use Rattle.index_reader.specs.declared.fault.LineFault.{LineFault}
 use Rattle.index_reader.specs.declared.fault.LineFault.TheVariants.{OutOfMemory, Skipped}
 use Rattle.index_reader.specs.declared.fault.SkipReason.TheVariants as reason
 use Rattle.index_reader.specs.declared.shape.DependencyKind.{DependencyKind}
 use Rattle.index_reader.specs.declared.shape.DependencyKind.TheVariants.{Normal, Build, Dev}
 
-abbrev pub is_memory : LineFault → Bool
-is_memory OutOfMemory = true
-is_memory (Skipped r) = false
+abbrev pub wants_memory : LineFault → Bool
+wants_memory OutOfMemory = true
+wants_memory (Skipped r) = false
 
 abbrev pub Line : Type 0 → Type 0
 Line A = Result A LineFault
 
 -- the JSON value that the bytes are
 abbrev pub data_of_bytes : List ℕ → Line Data
-data_of_bytes bytes = ok_or (if is_utf8 bytes then read bytes else None) (Skipped reason.NotJson)
+data_of_bytes bytes = ok_or (trees.data_of_bytes bytes) (Skipped reason.NotJson)
 
 -- what has to be there, and of its kind
 abbrev pub needed : {A : Type 0} → Option A → Line A

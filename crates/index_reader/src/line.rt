@@ -6,7 +6,7 @@ ghost use Rattle.semver.specs.Grammar.{IsValid};
 ghost use Rattle.semver.specs.Identifiers.{parts_of};
 ghost use Rattle.semver.specs.Parse.{memory_error, req_of, version_parts};
 ghost use Rattle.model.specs.Outcome.{Gives};
-ghost use Rattle.index_reader.specs.Lines.{is_memory};
+ghost use Rattle.index_reader.specs.Lines.{wants_memory};
 ghost use Rattle.features.specs.Views.{requirement_view, dependency_view, dependency_views};
 ghost use Rattle.index_reader.specs.Records.{unless, semver_or, required, feature_names, dependency_read, dependencies_read, is_of_index, is_hexadecimal, is_checksum, checked, unchecked_of_shape, unchecked_of_line, record_of_line};
 ghost use Rattle.index_reader.specs.Shapes.{texts_view, line_dependency_view, line_dependency_views, shape_view, required_view, required_views};
@@ -29,7 +29,7 @@ use std::alloc::{AllocError, Global};
 /// `Skipped` with the first reason that applies; an earlier line of equal precedence is `read_file`'s alone.
 #[tactic(auto, unfolding(crate::specs::Records::record_of_line, crate::specs::Records::checked))]
 pub fn read_line(alloc: Global, name: &PackageName, line: &[u8]) -> Result<Record, LineFault>
-    ensures { Gives is_memory record_view result (record_of_line name.now line.now) }
+    ensures { Gives wants_memory record_view result (record_of_line name.now line.now) }
 {
     let record = read_unchecked(
         alloc,
@@ -54,7 +54,7 @@ pub(crate) fn read_unchecked(
     scratch: &mut Scratch,
     before: &mut LineBefore,
 ) -> Result<Record, LineFault>
-    ensures { Gives is_memory record_view result (unchecked_of_line name.now line.now) }
+    ensures { Gives wants_memory record_view result (unchecked_of_line name.now line.now) }
 {
     let tree = read_json(alloc, line, scratch)?;
     let shape = read_shape(alloc, &tree)?;
@@ -68,7 +68,7 @@ fn record_in(
     shape: &LineShape<'_>,
     before: &mut LineBefore,
 ) -> Result<Record, LineFault>
-    ensures { Gives is_memory record_view result (unchecked_of_shape name.now (shape_view shape.now)) }
+    ensures { Gives wants_memory record_view result (unchecked_of_shape name.now (shape_view shape.now)) }
 {
     check(
         shape.format == 1 || shape.format == 2,
@@ -93,7 +93,7 @@ fn record_in(
 }
 
 fn check(passes: bool, why: SkipReason) -> Result<(), LineFault>
-    ensures { Gives is_memory (λ u. u) result (unless passes why) }
+    ensures { Gives wants_memory (λ u. u) result (unless passes why) }
 {
     if passes {
         Ok(())
@@ -103,7 +103,7 @@ fn check(passes: bool, why: SkipReason) -> Result<(), LineFault>
 }
 
 fn version(alloc: Global, text: &str) -> Result<Version, LineFault>
-    ensures read { Gives is_memory parts_of result (semver_or SkipReason.BadVersion (version_parts text.now)) }
+    ensures read { Gives wants_memory parts_of result (semver_or SkipReason.BadVersion (version_parts text.now)) }
     ensures valid { IfOk result (λ v. IsValid (parts_of v)) }
 {
     match Version::parse(alloc, text) {
@@ -113,7 +113,7 @@ fn version(alloc: Global, text: &str) -> Result<Version, LineFault>
 }
 
 fn requirement(alloc: Global, text: &str) -> Result<VersionReq, LineFault>
-    ensures { Gives is_memory requirement_view result (semver_or SkipReason.BadRequirement (req_of text.now)) }
+    ensures { Gives wants_memory requirement_view result (semver_or SkipReason.BadRequirement (req_of text.now)) }
 {
     match VersionReq::parse(alloc, text) {
         Ok(requirement) => Ok(fitted(alloc, requirement)?),
@@ -147,7 +147,7 @@ fn requirements<'a>(
     alloc: Global,
     shapes: &'a [DependencyShape<'a>],
 ) -> Result<Vec<Required<'a>>, LineFault>
-    ensures { Gives is_memory (λ v. required_views v.items) result (required (line_dependency_views shapes.now)) }
+    ensures { Gives wants_memory (λ v. required_views v.items) result (required (line_dependency_views shapes.now)) }
 {
     let mut found = Vec::with_capacity(alloc, shapes.len())?;
     'shapes: for shape in shapes {
@@ -164,7 +164,7 @@ fn requirements<'a>(
 
 #[tactic(auto, unfolding(crate::specs::Records::dependencies_read))]
 fn dependencies(alloc: Global, parts: Vec<Required<'_>>) -> Result<Vec<Dependency>, LineFault>
-    ensures { Gives is_memory (λ v. dependency_views v.items) result (dependencies_read (required_views parts.entry.items)) }
+    ensures { Gives wants_memory (λ v. dependency_views v.items) result (dependencies_read (required_views parts.entry.items)) }
 {
     let mut found = Vec::with_capacity(alloc, parts.len())?;
     'parts: for part in parts {
@@ -175,7 +175,7 @@ fn dependencies(alloc: Global, parts: Vec<Required<'_>>) -> Result<Vec<Dependenc
 
 #[tactic(auto, unfolding(crate::specs::Records::dependency_read))]
 fn dependency(alloc: Global, required: Required<'_>) -> Result<Dependency, LineFault>
-    ensures { Gives is_memory dependency_view result (dependency_read (required_view required.entry)) }
+    ensures { Gives wants_memory dependency_view result (dependency_read (required_view required.entry)) }
 {
     let part = required.part;
     let features = feature_names(alloc, &part.features)?;
@@ -202,7 +202,7 @@ fn real_name(part: &PartShape<'_>) -> Result<PackageName, AllocError>
 /// The features that texts name: empty ones are left out.
 #[tactic(auto, unfolding(crate::specs::Records::feature_names))]
 fn feature_names(alloc: Global, texts: &[&str]) -> Result<Vec<FeatureName>, LineFault>
-    ensures { Gives is_memory (λ v. v.items) result (feature_names (texts_view texts.now)) }
+    ensures { Gives wants_memory (λ v. v.items) result (feature_names (texts_view texts.now)) }
 {
     let mut found = Vec::with_capacity(alloc, texts.len())?;
     'texts: for text in texts {
@@ -217,7 +217,7 @@ fn feature_names(alloc: Global, texts: &[&str]) -> Result<Vec<FeatureName>, Line
 /// A dependency of another registry is one of another index.
 #[tactic(auto, using(crate::proofs::ReadLemmas::views))]
 fn check_registries(dependencies: &[DependencyShape<'_>]) -> Result<(), LineFault>
-    ensures { Gives is_memory (λ u. u) result (unless (list_all is_of_index (line_dependency_views dependencies.now)) SkipReason.OtherRegistry) }
+    ensures { Gives wants_memory (λ u. u) result (unless (list_all is_of_index (line_dependency_views dependencies.now)) SkipReason.OtherRegistry) }
 {
     check(are_of_index(dependencies), SkipReason::OtherRegistry)
 }

@@ -6,7 +6,7 @@ ghost use Rattle.std.specs.List.{list_all, zip};
 ghost use Rattle.model.specs.Outcome.{Gives};
 ghost use Rattle.model.specs.Summary.{same_text};
 ghost use Rattle.features.specs.Tables.{dep_name_view, dep_names_view};
-ghost use Rattle.index_reader.specs.Lines.{is_memory};
+ghost use Rattle.index_reader.specs.Lines.{wants_memory};
 ghost use Rattle.index_reader.specs.Made.{feature_text_view, feature_text_views, same_name, same_feature, Makes};
 ghost use Rattle.index_reader.specs.Shapes.{texts_view, feature_view, feature_views, line_dependency_views, shape_view};
 ghost use Rattle.index_reader.specs.Written.{dep_names_of, features_of};
@@ -59,7 +59,7 @@ pub(crate) fn features_after(
     line: &LineShape<'_>,
     before: &mut LineBefore,
 ) -> Result<FeatureTable, LineFault>
-    ensures { Gives is_memory (λ t. t) result (features_of (shape_view line.now)) }
+    ensures { Gives wants_memory (λ t. t) result (features_of (shape_view line.now)) }
 {
     let names = dep_names(alloc, &line.dependencies)?;
     if !before.has_next {
@@ -95,7 +95,7 @@ fn same_again(
 impl MadeTable {
     fn of(alloc: Global, names: Vec<DepName>, line: &LineShape<'_>) -> Result<MadeTable, LineFault>
         requires { dep_names_view names.items ≡ dep_names_of (line_dependency_views line.now.dependencies.items) }
-        ensures { Gives is_memory (λ m. m.table) result (features_of (shape_view line.now)) }
+        ensures { Gives wants_memory (λ m. m.table) result (features_of (shape_view line.now)) }
     {
         let table = features(alloc, line, &names)?;
         Ok(MadeTable {

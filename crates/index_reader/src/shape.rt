@@ -2,7 +2,7 @@
 
 ghost use Rattle.std.specs.Prelude.{◌≡◌, Some, None, option_map};
 ghost use Rattle.model.specs.Outcome.{Gives};
-ghost use Rattle.index_reader.specs.Lines.{is_memory, value_at, package_name_of, package_name_at, package_name_or_none, kind_of_text, kind_at, part_of, by_kind, dependency_of, dependencies_in, dependencies_at, features_in, features_or_none, rust_version_at, shape_of};
+ghost use Rattle.index_reader.specs.Lines.{wants_memory, value_at, package_name_of, package_name_at, package_name_or_none, kind_of_text, kind_at, part_of, by_kind, dependency_of, dependencies_in, dependencies_at, features_in, features_or_none, rust_version_at, shape_of};
 ghost use Rattle.classes.specs.RustVersions.{rust_version_view};
 ghost use Rattle.index_reader.specs.Shapes.{feature_views, part_view, line_dependency_view, line_dependency_views, shape_view};
 ghost use Rattle.trees.specs.Trees.{tree_view, trees_view, entries_view, listed_view};
@@ -77,7 +77,7 @@ pub(crate) struct FeatureShape<'a> {
 /// The shape of a line.
 #[tactic(auto, unfolding(crate::specs::Lines::shape_of))]
 pub(crate) fn read_shape<'a>(alloc: Global, line: &Value<'a>) -> Result<LineShape<'a>, LineFault>
-    ensures { Gives is_memory shape_view result (shape_of (tree_view line.now)) }
+    ensures { Gives wants_memory shape_view result (shape_of (tree_view line.now)) }
 {
     let name = text(line, "name")?;
     let version = text(line, "vers")?;
@@ -115,7 +115,7 @@ fn rust_version(line: &Value<'_>) -> Option<RustVersion>
 
 /// The package name that a value has to be.
 fn package_name(alloc: Global, value: &Value<'_>) -> Result<PackageName, LineFault>
-    ensures { Gives is_memory (λ n. n) result (package_name_of (tree_view value.now)) }
+    ensures { Gives wants_memory (λ n. n) result (package_name_of (tree_view value.now)) }
 {
     let Some(text) = as_text(value) else {
         return Err(LineFault::Skipped(SkipReason::Shape));
@@ -129,7 +129,7 @@ fn package_name(alloc: Global, value: &Value<'_>) -> Result<PackageName, LineFau
 
 /// The package name at a key that has to be there.
 fn package_name_at(alloc: Global, object: &Value<'_>, key: &str) -> Result<PackageName, LineFault>
-    ensures { Gives is_memory (λ n. n) result (package_name_at key.now (tree_view object.now)) }
+    ensures { Gives wants_memory (λ n. n) result (package_name_at key.now (tree_view object.now)) }
 {
     match value(object, key) {
         Some(found) => package_name(alloc, found),
@@ -143,7 +143,7 @@ fn package_name_if_any(
     object: &Value<'_>,
     key: &str,
 ) -> Result<Option<PackageName>, LineFault>
-    ensures { Gives is_memory (λ n. n) result (package_name_or_none (value_at key.now (tree_view object.now))) }
+    ensures { Gives wants_memory (λ n. n) result (package_name_or_none (value_at key.now (tree_view object.now))) }
 {
     match value(object, key) {
         Some(found) => Ok(Some(package_name(alloc, found)?)),
@@ -168,7 +168,7 @@ fn kind_of_text(text: &str) -> Option<DependencyKind>
 
 /// The kind of a dependency: normal where it says none.
 fn kind_at(dependency: &Value<'_>) -> Result<DependencyKind, LineFault>
-    ensures { Gives is_memory (λ k. k) result (kind_at (tree_view dependency.now)) }
+    ensures { Gives wants_memory (λ k. k) result (kind_at (tree_view dependency.now)) }
 {
     let Some(found) = value(dependency, "kind") else {
         return Ok(DependencyKind::Normal);
@@ -188,7 +188,7 @@ fn part<'a>(
     name: PackageName,
     dependency: &Value<'a>,
 ) -> Result<PartShape<'a>, LineFault>
-    ensures { Gives is_memory part_view result (part_of name (tree_view dependency.now)) }
+    ensures { Gives wants_memory part_view result (part_of name (tree_view dependency.now)) }
 {
     let real_name = package_name_if_any(alloc, dependency, "package")?;
     let requirement = text(dependency, "req")?;
@@ -213,7 +213,7 @@ fn of_kind<'a>(
     kind: DependencyKind,
     dependency: &Value<'a>,
 ) -> Result<DependencyShape<'a>, LineFault>
-    ensures { Gives is_memory line_dependency_view result (by_kind name kind (tree_view dependency.now)) }
+    ensures { Gives wants_memory line_dependency_view result (by_kind name kind (tree_view dependency.now)) }
 {
     match kind {
         DependencyKind::Dev => Ok(DependencyShape::Dev(name)),
@@ -225,7 +225,7 @@ fn of_kind<'a>(
 
 #[tactic(auto, unfolding(crate::specs::Lines::dependency_of))]
 fn dependency<'a>(alloc: Global, value: &Value<'a>) -> Result<DependencyShape<'a>, LineFault>
-    ensures { Gives is_memory line_dependency_view result (dependency_of (tree_view value.now)) }
+    ensures { Gives wants_memory line_dependency_view result (dependency_of (tree_view value.now)) }
 {
     let name = package_name_at(alloc, value, "name")?;
     let kind = kind_at(value)?;
@@ -237,7 +237,7 @@ fn dependencies_in<'a>(
     alloc: Global,
     values: &Vec<Value<'a>>,
 ) -> Result<Vec<DependencyShape<'a>>, LineFault>
-    ensures { Gives is_memory (λ v. line_dependency_views v.items) result (dependencies_in (trees_view values.now.items)) }
+    ensures { Gives wants_memory (λ v. line_dependency_views v.items) result (dependencies_in (trees_view values.now.items)) }
 {
     let mut found = Vec::with_capacity(alloc, values.len())?;
     'items: for value in values.iter() {
@@ -248,7 +248,7 @@ fn dependencies_in<'a>(
 
 #[tactic(auto, unfolding(crate::specs::Lines::dependencies_at))]
 fn dependencies<'a>(alloc: Global, line: &Value<'a>) -> Result<Vec<DependencyShape<'a>>, LineFault>
-    ensures { Gives is_memory (λ v. line_dependency_views v.items) result (dependencies_at (tree_view line.now)) }
+    ensures { Gives wants_memory (λ v. line_dependency_views v.items) result (dependencies_at (tree_view line.now)) }
 {
     match value(line, "deps") {
         Some(found) => match as_list(found) {
@@ -260,7 +260,7 @@ fn dependencies<'a>(alloc: Global, line: &Value<'a>) -> Result<Vec<DependencySha
 }
 
 fn features_in<'a>(alloc: Global, members: &Members<'a>) -> Result<Vec<FeatureShape<'a>>, LineFault>
-    ensures { Gives is_memory (λ v. feature_views v.items) result (features_in (entries_view members.now.items)) }
+    ensures { Gives wants_memory (λ v. feature_views v.items) result (features_in (entries_view members.now.items)) }
 {
     if are_rising(members) {
         return features_as_listed(alloc, members);
@@ -274,7 +274,7 @@ fn features_as_listed<'a>(
     alloc: Global,
     members: &Members<'a>,
 ) -> Result<Vec<FeatureShape<'a>>, LineFault>
-    ensures { Gives is_memory (λ v. feature_views v.items) result (features_in (listed_view members.now.items)) }
+    ensures { Gives wants_memory (λ v. feature_views v.items) result (features_in (listed_view members.now.items)) }
 {
     let mut found = Vec::with_capacity(alloc, members.len())?;
     'members: for member in members {
@@ -291,7 +291,7 @@ fn features_by_key<'a>(
     alloc: Global,
     members: &Members<'a>,
 ) -> Result<Vec<FeatureShape<'a>>, LineFault>
-    ensures { Gives is_memory (λ v. feature_views v.items) result (features_in (entries_view members.now.items)) }
+    ensures { Gives wants_memory (λ v. feature_views v.items) result (features_in (entries_view members.now.items)) }
 {
     let mut found = Vec::with_capacity(alloc, members.len())?;
     let sorted = by_key(alloc, members)?;
@@ -308,7 +308,7 @@ fn features_at<'a>(
     line: &Value<'a>,
     key: &str,
 ) -> Result<Vec<FeatureShape<'a>>, LineFault>
-    ensures { Gives is_memory (λ v. feature_views v.items) result (features_or_none (value_at key.now (tree_view line.now))) }
+    ensures { Gives wants_memory (λ v. feature_views v.items) result (features_or_none (value_at key.now (tree_view line.now))) }
 {
     match value(line, key) {
         Some(found) => match as_members(found) {

@@ -2,7 +2,7 @@
 
 ghost use Rattle.std.specs.Prelude.{◌≡◌, None, Some, option_map};
 ghost use Rattle.model.specs.Outcome.{Gives};
-ghost use Rattle.index_reader.specs.Lines.{is_memory, data_of_bytes, value_at, text_at, text_of, flag_at, whole_at, optional, texts_in, texts_of, texts_or_none};
+ghost use Rattle.index_reader.specs.Lines.{wants_memory, data_of_bytes, value_at, text_at, text_of, flag_at, whole_at, optional, texts_in, texts_of, texts_or_none};
 ghost use Rattle.index_reader.specs.Shapes.{texts_view, text_view};
 ghost use Rattle.trees.specs.Trees.{tree_view, trees_view};
 
@@ -17,7 +17,7 @@ pub(crate) fn read_json<'a>(
     bytes: &'a [u8],
     scratch: &'a mut Scratch,
 ) -> Result<Value<'a>, LineFault>
-    ensures { Gives is_memory tree_view result (data_of_bytes bytes.entry.now) }
+    ensures { Gives wants_memory tree_view result (data_of_bytes bytes.entry.now) }
 {
     match read_tree(alloc, bytes, scratch) {
         Ok(tree) => Ok(tree),
@@ -38,7 +38,7 @@ pub(crate) fn value<'v, 'a>(object: &'v Value<'a>, key: &str) -> Option<&'v Valu
 
 /// The text at a key that has to be there.
 pub(crate) fn text<'a>(object: &Value<'a>, key: &str) -> Result<&'a str, LineFault>
-    ensures { Gives is_memory (λ s. s.now) result (text_at key.now (tree_view object.now)) }
+    ensures { Gives wants_memory (λ s. s.now) result (text_at key.now (tree_view object.now)) }
 {
     match value(object, key) {
         Some(found) => match as_text(found) {
@@ -51,7 +51,7 @@ pub(crate) fn text<'a>(object: &Value<'a>, key: &str) -> Result<&'a str, LineFau
 
 /// The text at a key, if it is there.
 pub(crate) fn text_if_any<'a>(object: &Value<'a>, key: &str) -> Result<Option<&'a str>, LineFault>
-    ensures { Gives is_memory text_view result (optional None text_of (value_at key.now (tree_view object.now))) }
+    ensures { Gives wants_memory text_view result (optional None text_of (value_at key.now (tree_view object.now))) }
 {
     match value(object, key) {
         Some(found) => match as_text(found) {
@@ -64,7 +64,7 @@ pub(crate) fn text_if_any<'a>(object: &Value<'a>, key: &str) -> Result<Option<&'
 
 /// The flag at a key, or what it is where the key is absent.
 pub(crate) fn flag(object: &Value<'_>, key: &str, absent: bool) -> Result<bool, LineFault>
-    ensures { Gives is_memory (λ b. b) result (flag_at key.now absent (tree_view object.now)) }
+    ensures { Gives wants_memory (λ b. b) result (flag_at key.now absent (tree_view object.now)) }
 {
     match value(object, key) {
         Some(found) => match as_flag(found) {
@@ -77,7 +77,7 @@ pub(crate) fn flag(object: &Value<'_>, key: &str, absent: bool) -> Result<bool, 
 
 /// The whole number at a key, or what it is where the key is absent.
 pub(crate) fn whole(object: &Value<'_>, key: &str, absent: u64) -> Result<u64, LineFault>
-    ensures { Gives is_memory (λ n. n) result (whole_at key.now absent (tree_view object.now)) }
+    ensures { Gives wants_memory (λ n. n) result (whole_at key.now absent (tree_view object.now)) }
 {
     match value(object, key) {
         Some(found) => match as_whole(found) {
@@ -91,7 +91,7 @@ pub(crate) fn whole(object: &Value<'_>, key: &str, absent: u64) -> Result<u64, L
 /// The texts of a list.
 #[tactic(auto, unfolding(crate::specs::Lines::texts_in))]
 fn texts_in<'a>(alloc: Global, values: &Vec<Value<'a>>) -> Result<Vec<&'a str>, LineFault>
-    ensures { Gives is_memory (λ v. texts_view v.items) result (texts_in (trees_view values.now.items)) }
+    ensures { Gives wants_memory (λ v. texts_view v.items) result (texts_in (trees_view values.now.items)) }
 {
     let mut found = Vec::with_capacity(alloc, values.len())?;
     'items: for value in values.iter() {
@@ -106,7 +106,7 @@ fn texts_in<'a>(alloc: Global, values: &Vec<Value<'a>>) -> Result<Vec<&'a str>, 
 /// The texts of a value that has to be a list of them.
 #[tactic(auto, unfolding(crate::specs::Lines::texts_of))]
 pub(crate) fn texts<'a>(alloc: Global, value: &Value<'a>) -> Result<Vec<&'a str>, LineFault>
-    ensures { Gives is_memory (λ v. texts_view v.items) result (texts_of (tree_view value.now)) }
+    ensures { Gives wants_memory (λ v. texts_view v.items) result (texts_of (tree_view value.now)) }
 {
     match as_list(value) {
         Some(values) => texts_in(alloc, values),
@@ -120,7 +120,7 @@ pub(crate) fn texts_at<'a>(
     object: &Value<'a>,
     key: &str,
 ) -> Result<Vec<&'a str>, LineFault>
-    ensures { Gives is_memory (λ v. texts_view v.items) result (texts_or_none (value_at key.now (tree_view object.now))) }
+    ensures { Gives wants_memory (λ v. texts_view v.items) result (texts_or_none (value_at key.now (tree_view object.now))) }
 {
     match value(object, key) {
         Some(found) => texts(alloc, found),

@@ -10,7 +10,7 @@ ghost use Rattle.model.specs.Tables.{table_of};
 ghost use Rattle.features.specs.Entries.{entry_of};
 ghost use Rattle.features.specs.EntryViews.{entry_view, entry_views};
 ghost use Rattle.features.specs.Tables.{built, dep_name_view, dep_names_view, rows_of, table_wants_memory};
-ghost use Rattle.index_reader.specs.Lines.{is_memory};
+ghost use Rattle.index_reader.specs.Lines.{wants_memory};
 ghost use Rattle.index_reader.specs.Shapes.{texts_view, feature_view, feature_views, line_dependency_view, line_dependency_views, shape_view};
 ghost use Rattle.index_reader.specs.Written.{feature_name_of, entry_read, entries_read, feature_read, features_read, joined, names_rise, with_feature, with_features, written_of, dep_name_of, dep_names_of, unless_faulty, features_of, skip_of};
 
@@ -28,7 +28,7 @@ pub(crate) fn features(
     names: &[DepName],
 ) -> Result<FeatureTable, LineFault>
     requires { dep_names_view names.now ≡ dep_names_of (line_dependency_views line.now.dependencies.items) }
-    ensures { Gives is_memory (λ t. t) result (features_of (shape_view line.now)) }
+    ensures { Gives wants_memory (λ t. t) result (features_of (shape_view line.now)) }
 {
     let written = written(alloc, line)?;
     table(alloc, names, written)
@@ -39,7 +39,7 @@ fn written(
     alloc: Global,
     line: &LineShape<'_>,
 ) -> Result<BTreeMap<FeatureName, Vec<Entry>>, LineFault>
-    ensures { Gives is_memory (λ m. rows_of m.entries) result (written_of (shape_view line.now)) }
+    ensures { Gives wants_memory (λ m. rows_of m.entries) result (written_of (shape_view line.now)) }
 {
     let written = first_features(alloc, &line.features)?;
     with_features(alloc, written, &line.features2)
@@ -50,7 +50,7 @@ fn first_features(
     alloc: Global,
     features: &[FeatureShape<'_>],
 ) -> Result<BTreeMap<FeatureName, Vec<Entry>>, LineFault>
-    ensures { Gives is_memory (λ m. rows_of m.entries) result (with_features [] (feature_views features.now)) }
+    ensures { Gives wants_memory (λ m. rows_of m.entries) result (with_features [] (feature_views features.now)) }
 {
     if names_rise(features) {
         return rising(alloc, features);
@@ -64,7 +64,7 @@ fn rising(
     features: &[FeatureShape<'_>],
 ) -> Result<BTreeMap<FeatureName, Vec<Entry>>, LineFault>
     requires { names_rise [] (feature_views features.now) ≡ true }
-    ensures { Gives is_memory (λ m. rows_of m.entries) result (with_features [] (feature_views features.now)) }
+    ensures { Gives wants_memory (λ m. rows_of m.entries) result (with_features [] (feature_views features.now)) }
 {
     let rows = rows(alloc, features)?;
     Ok(collected(alloc, rows)?)
@@ -96,7 +96,7 @@ fn rows(
     alloc: Global,
     features: &[FeatureShape<'_>],
 ) -> Result<Vec<(FeatureName, Vec<Entry>)>, LineFault>
-    ensures { Gives is_memory (λ v. rows_of v.items) result (features_read (feature_views features.now)) }
+    ensures { Gives wants_memory (λ v. rows_of v.items) result (features_read (feature_views features.now)) }
 {
     let mut found = Vec::with_capacity(alloc, features.len())?;
     'features: for feature in features {
@@ -107,7 +107,7 @@ fn rows(
 
 #[tactic(auto, unfolding(crate::specs::Written::feature_read))]
 fn row(alloc: Global, feature: &FeatureShape<'_>) -> Result<(FeatureName, Vec<Entry>), LineFault>
-    ensures { Gives is_memory (λ row. (row.0, entry_views row.1.items)) result (feature_read (feature_view feature.now)) }
+    ensures { Gives wants_memory (λ row. (row.0, entry_views row.1.items)) result (feature_read (feature_view feature.now)) }
 {
     let name = feature_name(alloc, feature.name)?;
     let entries = entries(alloc, &feature.entries)?;
@@ -129,7 +129,7 @@ fn with_features(
     mut written: BTreeMap<FeatureName, Vec<Entry>>,
     features: &[FeatureShape<'_>],
 ) -> Result<BTreeMap<FeatureName, Vec<Entry>>, LineFault>
-    ensures { Gives is_memory (λ m. rows_of m.entries) result (with_features (rows_of written.entries) (feature_views features.now)) }
+    ensures { Gives wants_memory (λ m. rows_of m.entries) result (with_features (rows_of written.entries) (feature_views features.now)) }
 {
     'features: for feature in features {
         written = with_feature(alloc, written, feature)?;
@@ -143,7 +143,7 @@ fn with_feature(
     written: BTreeMap<FeatureName, Vec<Entry>>,
     feature: &FeatureShape<'_>,
 ) -> Result<BTreeMap<FeatureName, Vec<Entry>>, LineFault>
-    ensures { Gives is_memory (λ m. rows_of m.entries) result (with_feature (rows_of written.entries) (feature_view feature.now)) }
+    ensures { Gives wants_memory (λ m. rows_of m.entries) result (with_feature (rows_of written.entries) (feature_view feature.now)) }
 {
     let name = feature_name(alloc, feature.name)?;
     let entries = entries(alloc, &feature.entries)?;
@@ -168,7 +168,7 @@ fn with_entries(
 
 #[tactic(auto, unfolding(crate::specs::Written::entries_read))]
 fn entries(alloc: Global, texts: &[&str]) -> Result<Vec<Entry>, LineFault>
-    ensures { Gives is_memory (λ v. entry_views v.items) result (entries_read (texts_view texts.now)) }
+    ensures { Gives wants_memory (λ v. entry_views v.items) result (entries_read (texts_view texts.now)) }
 {
     let mut found = Vec::with_capacity(alloc, texts.len())?;
     'texts: for text in texts {
@@ -178,7 +178,7 @@ fn entries(alloc: Global, texts: &[&str]) -> Result<Vec<Entry>, LineFault>
 }
 
 fn entry(alloc: Global, text: &str) -> Result<Entry, LineFault>
-    ensures { Gives is_memory entry_view result (entry_read text.now) }
+    ensures { Gives wants_memory entry_view result (entry_read text.now) }
 {
     match Entry::parse(alloc, text) {
         Ok(entry) => Ok(entry),
@@ -188,7 +188,7 @@ fn entry(alloc: Global, text: &str) -> Result<Entry, LineFault>
 }
 
 pub(crate) fn feature_name(alloc: Global, text: &str) -> Result<FeatureName, LineFault>
-    ensures { Gives is_memory (λ n. n) result (feature_name_of text.now) }
+    ensures { Gives wants_memory (λ n. n) result (feature_name_of text.now) }
 {
     match FeatureName::parse(alloc, text) {
         Ok(name) => Ok(name),
@@ -231,7 +231,7 @@ fn table(
     names: &[DepName],
     written: BTreeMap<FeatureName, Vec<Entry>>,
 ) -> Result<FeatureTable, LineFault>
-    ensures { Gives is_memory (λ t. t) result (unless_faulty (table_of (dep_names_view names.now) (rows_of written.entries))) }
+    ensures { Gives wants_memory (λ t. t) result (unless_faulty (table_of (dep_names_view names.now) (rows_of written.entries))) }
 {
     match FeatureTable::build(alloc, names, written) {
         Ok(table) => Ok(table),

@@ -20,12 +20,12 @@ use Rattle.features.specs.Names.{is_package_name}
 use Rattle.lockfile.specs.declared.fault.LockFault.{LockFault}
 use Rattle.lockfile.specs.declared.fault.LockFault.TheVariants.{OutOfMemory, NotToml, LockVersion, LockShape, TooLarge}
 
-abbrev pub is_memory : LockFault → Bool
-is_memory OutOfMemory = true
-is_memory NotToml = false
-is_memory LockVersion = false
-is_memory LockShape = false
-is_memory TooLarge = false
+abbrev pub wants_memory : LockFault → Bool
+wants_memory OutOfMemory = true
+wants_memory NotToml = false
+wants_memory LockVersion = false
+wants_memory LockShape = false
+wants_memory TooLarge = false
 
 -- ---- the shape of the table
 

@@ -33,6 +33,6 @@ pub use content::LockContent;
 pub use fault::LockFault;
 pub use laws::{locks_say_contents, spellings_read_back, tables_say_their_contents};
 pub use locked::Package;
-pub use order::package_order;
+pub use order::{package_order, source_order};
 pub use reader::read;
 pub use writer::write;

@@ -3,7 +3,7 @@
 ghost use Rattle.std.specs.Prelude.{◌≡◌, IfOk, option_map};
 ghost use Rattle.model.specs.Order.{source_cmp, package_cmp};
 ghost use Rattle.model.specs.Outcome.{Gives};
-ghost use Rattle.lockfile.specs.Locks.{is_memory, ordered_packages, ordered_places, locked_packages};
+ghost use Rattle.lockfile.specs.Locks.{wants_memory, ordered_packages, ordered_places, locked_packages};
 ghost use Rattle.lockfile.specs.Search.{IsOrdered};
 ghost use Rattle.lockfile.specs.Views.{package_view, unlinked_views};
 
@@ -14,7 +14,7 @@ use classes::version_order;
 use std::cmp::Ordering;
 
 /// A source before none, two by their bytes.
-pub(crate) fn source_order(a: Option<&str>, b: Option<&str>) -> Ordering
+pub fn source_order(a: Option<&str>, b: Option<&str>) -> Ordering
     ensures { result ≡ source_cmp (option_map (λ s. s.now) a.entry) (option_map (λ s. s.now) b.entry) }
 {
     match (a, b) {
@@ -37,7 +37,7 @@ pub fn package_order(a: &Package, b: &Package) -> Ordering
 
 /// The packages in package order, no two alike.
 pub(crate) fn ordered(mut packages: Vec<UnlinkedPackage>) -> Result<Vec<UnlinkedPackage>, LockFault>
-    ensures value { Gives is_memory (λ v. unlinked_views v.items) result (ordered_packages (unlinked_views packages.entry.items)) }
+    ensures value { Gives wants_memory (λ v. unlinked_views v.items) result (ordered_packages (unlinked_views packages.entry.items)) }
     ensures ordered { IfOk result (λ v. IsOrdered (locked_packages (unlinked_views v.items))) }
 {
     packages.sort_by(|a, b| package_order(&a.locked, &b.locked))?;
@@ -50,7 +50,7 @@ pub(crate) fn ordered(mut packages: Vec<UnlinkedPackage>) -> Result<Vec<Unlinked
 
 /// The places lowest first, none twice.
 pub(crate) fn ordered_list(mut places: Vec<usize>) -> Result<Vec<usize>, LockFault>
-    ensures { Gives is_memory (λ v. v.items) result (ordered_places places.items) }
+    ensures { Gives wants_memory (λ v. v.items) result (ordered_places places.items) }
 {
     places.sort_unstable();
     if places.is_sorted_by(|a, b| *a < *b) {

@@ -3,7 +3,7 @@
 ghost use Rattle.std.specs.Prelude.{◌≡◌};
 ghost use Rattle.toml.specs.View.{table_view, items_view};
 ghost use Rattle.model.specs.Outcome.{Gives};
-ghost use Rattle.lockfile.specs.Locks.{is_memory, linked, unlinked_of, unlinked_in, packages_at};
+ghost use Rattle.lockfile.specs.Locks.{wants_memory, linked, unlinked_of, unlinked_in, packages_at};
 ghost use Rattle.lockfile.specs.Views.{package_view, unlinked_view, unlinked_views};
 
 use crate::fault::LockFault;
@@ -36,7 +36,7 @@ impl UnlinkedPackage<'_> {
 /// One table of `package`.
 #[tactic(auto, unfolding(crate::specs::Locks::unlinked_of))]
 fn one_package(alloc: Global, section: &Table) -> Result<UnlinkedPackage<'_>, LockFault>
-    ensures { Gives is_memory unlinked_view result (unlinked_of (table_view section.now)) }
+    ensures { Gives wants_memory unlinked_view result (unlinked_of (table_view section.now)) }
 {
     let name = package_name(alloc, text(section, "name")?)?;
     let version = version(alloc, text(section, "version")?)?;
@@ -56,7 +56,7 @@ fn one_package(alloc: Global, section: &Table) -> Result<UnlinkedPackage<'_>, Lo
 
 #[tactic(auto, unfolding(crate::specs::Locks::unlinked_in))]
 fn packages_in(alloc: Global, values: &Vec<Value>) -> Result<Vec<UnlinkedPackage<'_>>, LockFault>
-    ensures { Gives is_memory (λ v. unlinked_views v.items) result (unlinked_in (items_view values.now.items)) }
+    ensures { Gives wants_memory (λ v. unlinked_views v.items) result (unlinked_in (items_view values.now.items)) }
 {
     let mut found = Vec::new(alloc);
     'items: for value in values.iter() {
@@ -70,7 +70,7 @@ fn packages_in(alloc: Global, values: &Vec<Value>) -> Result<Vec<UnlinkedPackage
 
 /// The packages as they stand in the lock.
 pub(crate) fn packages(alloc: Global, table: &Table) -> Result<Vec<UnlinkedPackage<'_>>, LockFault>
-    ensures { Gives is_memory (λ v. unlinked_views v.items) result (packages_at (table_view table.now)) }
+    ensures { Gives wants_memory (λ v. unlinked_views v.items) result (packages_at (table_view table.now)) }
 {
     let Some(value) = member(table, "package") else {
         return Ok(Vec::new(alloc));

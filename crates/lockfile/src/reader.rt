@@ -4,7 +4,7 @@ ghost use Rattle.std.specs.Prelude.{◌≡◌, IfOk, map};
 ghost use Rattle.std.specs.List.{zip};
 ghost use Rattle.toml.specs.View.{table_view};
 ghost use Rattle.model.specs.Outcome.{Gives};
-ghost use Rattle.lockfile.specs.Locks.{is_memory, linked, locked_packages, content_of, content_of_table, content_of_bytes};
+ghost use Rattle.lockfile.specs.Locks.{wants_memory, linked, locked_packages, content_of, content_of_table, content_of_bytes};
 ghost use Rattle.lockfile.specs.Search.{IsOrdered};
 ghost use Rattle.lockfile.specs.Views.{package_view, package_views, unlinked_view, unlinked_views, list_views};
 
@@ -24,7 +24,7 @@ const MOST_BYTES: usize = 67_108_864;
 /// What the bytes of a Cargo.lock say, or their fault (Cargo book, "Cargo.toml vs Cargo.lock").
 #[tactic(auto, unfolding(crate::specs::Locks::content_of_bytes))]
 pub fn read(alloc: Global, bytes: &[u8]) -> Result<LockContent, LockFault>
-    ensures { Gives is_memory (λ c. c) result (content_of_bytes bytes.now) }
+    ensures { Gives wants_memory (λ c. c) result (content_of_bytes bytes.now) }
 {
     if bytes.len() > MOST_BYTES {
         return Err(LockFault::TooLarge);
@@ -35,7 +35,7 @@ pub fn read(alloc: Global, bytes: &[u8]) -> Result<LockContent, LockFault>
 
 #[tactic(auto, unfolding(crate::specs::Locks::content_of_table))]
 fn content_in(alloc: Global, table: &Table) -> Result<LockContent, LockFault>
-    ensures { Gives is_memory (λ c. c) result (content_of_table (table_view table.now)) }
+    ensures { Gives wants_memory (λ c. c) result (content_of_table (table_view table.now)) }
 {
     check_version(table)?;
     let packages = ordered(packages(alloc, table)?)?;
@@ -46,7 +46,7 @@ fn content_in(alloc: Global, table: &Table) -> Result<LockContent, LockFault>
 #[tactic(auto, unfolding(crate::specs::Locks::content_of))]
 fn content(alloc: Global, packages: Vec<UnlinkedPackage>) -> Result<LockContent, LockFault>
     requires { IsOrdered (locked_packages (unlinked_views packages.items)) }
-    ensures { Gives is_memory (λ c. c) result (content_of (unlinked_views packages.entry.items)) }
+    ensures { Gives wants_memory (λ c. c) result (content_of (unlinked_views packages.entry.items)) }
 {
     let lists = lists(alloc, &packages)?;
     Ok(LockContent::new(all_linked(alloc, packages, lists)?))

@@ -7,7 +7,7 @@ ghost use Rattle.semver.specs.Identifiers.{parts_of};
 ghost use Rattle.model.specs.Order.{text_cmp, version_cmp};
 ghost use Rattle.model.specs.Content as model;
 ghost use Rattle.model.specs.Outcome.{Gives};
-ghost use Rattle.lockfile.specs.Locks.{is_memory, place_meant, places_meant, list_of, lists_of, only, places, locked_packages};
+ghost use Rattle.lockfile.specs.Locks.{wants_memory, place_meant, places_meant, list_of, lists_of, only, places, locked_packages};
 ghost use Rattle.lockfile.specs.Search.{named_cmp, versioned_cmp, wanted_cmp, is_wanted, passes, IsOrdered, HasNoSpace};
 ghost use Rattle.lockfile.specs.Views.{package_view, unlinked_views, locked_views, list_views, text_views};
 
@@ -108,7 +108,7 @@ fn place_with_version(
     requires ordered { IsOrdered (locked_packages (unlinked_views packages.now)) }
     requires name { HasNoSpace name.now }
     requires version_text { HasNoSpace version_text.now }
-    ensures { Gives is_memory (λ i. i) result (ok_or (place_meant (locked_packages (unlinked_views packages.now)) (name.now ++ (32 ∷ version_text.now))) LockFault.LockShape) }
+    ensures { Gives wants_memory (λ i. i) result (ok_or (place_meant (locked_packages (unlinked_views packages.now)) (name.now ++ (32 ∷ version_text.now))) LockFault.LockShape) }
 {
     let version = version(alloc, version_text)?;
     match only_place(packages, Wanted::Version(name, &version)) {
@@ -130,7 +130,7 @@ fn place_with_source<'t>(
     requires ordered { IsOrdered (locked_packages (unlinked_views packages.now)) }
     requires name { HasNoSpace name.now }
     requires version_text { HasNoSpace version_text.now }
-    ensures { Gives is_memory (λ i. i) result (ok_or (place_meant (locked_packages (unlinked_views packages.now)) (name.now ++ (32 ∷ (version_text.now ++ (32 ∷ end.now))))) LockFault.LockShape) }
+    ensures { Gives wants_memory (λ i. i) result (ok_or (place_meant (locked_packages (unlinked_views packages.now)) (name.now ++ (32 ∷ (version_text.now ++ (32 ∷ end.now))))) LockFault.LockShape) }
 {
     let Some(source) = in_parentheses(end) else {
         return Err(LockFault::LockShape);
@@ -152,7 +152,7 @@ fn in_parentheses(text: &str) -> Option<&str>
 /// The place of the package that a text means.
 fn place(alloc: Global, packages: &[UnlinkedPackage], text: &str) -> Result<usize, LockFault>
     requires { IsOrdered (locked_packages (unlinked_views packages.now)) }
-    ensures { Gives is_memory (λ i. i) result (ok_or (place_meant (locked_packages (unlinked_views packages.now)) text.now) LockFault.LockShape) }
+    ensures { Gives wants_memory (λ i. i) result (ok_or (place_meant (locked_packages (unlinked_views packages.now)) text.now) LockFault.LockShape) }
 {
     let Some((name, rest)) = text.split_once(' ') else {
         return only_place(packages, Wanted::Name(text)).ok_or(LockFault::LockShape);
@@ -170,7 +170,7 @@ fn places_in(
     texts: &[&str],
 ) -> Result<Vec<usize>, LockFault>
     requires { IsOrdered (locked_packages (unlinked_views packages.now)) }
-    ensures { Gives is_memory (λ v. v.items) result (places_meant (locked_packages (unlinked_views packages.now)) (text_views texts.now)) }
+    ensures { Gives wants_memory (λ v. v.items) result (places_meant (locked_packages (unlinked_views packages.now)) (text_views texts.now)) }
 {
     let mut found = Vec::new(alloc);
     'texts: for text in texts.iter() {
@@ -186,7 +186,7 @@ fn list(
     texts: &[&str],
 ) -> Result<Vec<usize>, LockFault>
     requires { IsOrdered (locked_packages (unlinked_views packages.now)) }
-    ensures { Gives is_memory (λ v. v.items) result (list_of (locked_packages (unlinked_views packages.now)) (text_views texts.now)) }
+    ensures { Gives wants_memory (λ v. v.items) result (list_of (locked_packages (unlinked_views packages.now)) (text_views texts.now)) }
 {
     ordered_list(places_in(alloc, packages, texts)?)
 }
@@ -198,7 +198,7 @@ pub(crate) fn lists(
     packages: &[UnlinkedPackage],
 ) -> Result<Vec<Vec<usize>>, LockFault>
     requires { IsOrdered (locked_packages (unlinked_views packages.now)) }
-    ensures { Gives is_memory (λ v. list_views v.items) result (lists_of (locked_packages (unlinked_views packages.now)) (unlinked_views packages.now)) }
+    ensures { Gives wants_memory (λ v. list_views v.items) result (lists_of (locked_packages (unlinked_views packages.now)) (unlinked_views packages.now)) }
 {
     let mut found = Vec::new(alloc);
     'packages: for package in packages.iter() {

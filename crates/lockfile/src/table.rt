@@ -9,7 +9,7 @@ ghost use Rattle.semver.specs.Parse.{memory_error};
 ghost use Rattle.toml.specs.Data.{get_member};
 ghost use Rattle.toml.specs.View.{view, table_view, items_view};
 ghost use Rattle.model.specs.Outcome.{Gives, guard};
-ghost use Rattle.lockfile.specs.Locks.{is_memory, table_of_bytes, is_known_version, version_known, text_at, checked_name, checked_version, is_plain_byte, checked_plain, plain_at, texts_in, dependencies_at};
+ghost use Rattle.lockfile.specs.Locks.{wants_memory, table_of_bytes, is_known_version, version_known, text_at, checked_name, checked_version, is_plain_byte, checked_plain, plain_at, texts_in, dependencies_at};
 ghost use Rattle.lockfile.specs.Views.{text_views};
 
 use crate::fault::LockFault;
@@ -20,7 +20,7 @@ use toml::{Table, Value};
 
 /// The table that the bytes are.
 pub(crate) fn read_table(alloc: Global, bytes: &[u8]) -> Result<Table, LockFault>
-    ensures { Gives is_memory table_view result (table_of_bytes bytes.now) }
+    ensures { Gives wants_memory table_view result (table_of_bytes bytes.now) }
 {
     match toml::table_from_slice(alloc, bytes) {
         Ok(table) => Ok(table),
@@ -36,7 +36,7 @@ pub(crate) fn read_table(alloc: Global, bytes: &[u8]) -> Result<Table, LockFault
 
 /// A fault for what doesn't pass.
 pub(crate) fn check(passes: bool, fault: LockFault) -> Result<(), LockFault>
-    ensures { Gives is_memory (λ u. u) result (guard passes fault) }
+    ensures { Gives wants_memory (λ u. u) result (guard passes fault) }
 {
     if passes { Ok(()) } else { Err(fault) }
 }
@@ -50,7 +50,7 @@ pub(crate) fn member<'a>(table: &'a Table, key: &str) -> Option<&'a Value>
 
 /// A fault for a `version` of the format that isn't read.
 pub(crate) fn check_version(table: &Table) -> Result<(), LockFault>
-    ensures { Gives is_memory (λ u. u) result (version_known (table_view table.now)) }
+    ensures { Gives wants_memory (λ u. u) result (version_known (table_view table.now)) }
 {
     let Some(value) = member(table, "version") else {
         return Ok(());
@@ -69,7 +69,7 @@ fn is_known(version: i64) -> bool
 
 /// The text at a key that has to be there.
 pub(crate) fn text<'a>(section: &'a Table, key: &str) -> Result<&'a str, LockFault>
-    ensures { Gives is_memory (λ s. s.now) result (text_at key.now (table_view section.now)) }
+    ensures { Gives wants_memory (λ s. s.now) result (text_at key.now (table_view section.now)) }
 {
     match member(section, key) {
         Some(value) => match value.as_str() {
@@ -82,7 +82,7 @@ pub(crate) fn text<'a>(section: &'a Table, key: &str) -> Result<&'a str, LockFau
 
 /// The package name that a text has to be.
 pub(crate) fn package_name(alloc: Global, text: &str) -> Result<PackageName, LockFault>
-    ensures value { Gives is_memory (λ n. n) result (checked_name text.now) }
+    ensures value { Gives wants_memory (λ n. n) result (checked_name text.now) }
     ensures named { IfOk result (λ n. is_package_name n ≡ true) }
 {
     match PackageName::parse(alloc, text) {
@@ -94,7 +94,7 @@ pub(crate) fn package_name(alloc: Global, text: &str) -> Result<PackageName, Loc
 
 /// The version that a text has to be.
 pub(crate) fn version(alloc: Global, text: &str) -> Result<Version, LockFault>
-    ensures value { Gives is_memory parts_of result (checked_version text.now) }
+    ensures value { Gives wants_memory parts_of result (checked_version text.now) }
     ensures reads { IfOk result (λ v. IsValid (parts_of v)) }
 {
     match Version::parse(alloc, text) {
@@ -120,7 +120,7 @@ pub(crate) fn plain_text(
     section: &Table,
     key: &str,
 ) -> Result<Option<String>, LockFault>
-    ensures { Gives is_memory (option_map string_bytes) result (plain_at key.now (table_view section.now)) }
+    ensures { Gives wants_memory (option_map string_bytes) result (plain_at key.now (table_view section.now)) }
 {
     let Some(value) = member(section, key) else {
         return Ok(None);
@@ -132,7 +132,7 @@ pub(crate) fn plain_text(
 }
 
 fn plain(alloc: Global, text: &str) -> Result<String, LockFault>
-    ensures { Gives is_memory string_bytes result (checked_plain text.now) }
+    ensures { Gives wants_memory string_bytes result (checked_plain text.now) }
 {
     if is_plain(text.as_bytes()) {
         Ok(String::from_str(alloc, text)?)
@@ -155,7 +155,7 @@ fn is_plain_ascii(byte: u8) -> bool
 
 /// The texts of `dependencies`, none where it is absent.
 pub(crate) fn dependencies(alloc: Global, section: &Table) -> Result<Vec<&str>, LockFault>
-    ensures { Gives is_memory (λ v. text_views v.items) result (dependencies_at (table_view section.now)) }
+    ensures { Gives wants_memory (λ v. text_views v.items) result (dependencies_at (table_view section.now)) }
 {
     let Some(value) = member(section, "dependencies") else {
         return Ok(Vec::new(alloc));
@@ -168,7 +168,7 @@ pub(crate) fn dependencies(alloc: Global, section: &Table) -> Result<Vec<&str>, 
 
 #[tactic(auto, unfolding(crate::specs::Locks::texts_in))]
 fn texts(alloc: Global, values: &Vec<Value>) -> Result<Vec<&str>, LockFault>
-    ensures { Gives is_memory (λ v. text_views v.items) result (texts_in (items_view values.now.items)) }
+    ensures { Gives wants_memory (λ v. text_views v.items) result (texts_in (items_view values.now.items)) }
 {
     let mut found = Vec::new(alloc);
     'items: for value in values.iter() {

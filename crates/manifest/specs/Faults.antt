@@ -12,14 +12,14 @@ use Rattle.manifest.specs.declared.fault.TableFault.TheVariants.{NoSuchFeature, 
 use Rattle.manifest.specs.declared.fault.Unsupported.{Unsupported}
 use Rattle.manifest.specs.declared.fault.Unsupported.TheVariants as source
 
-abbrev pub is_memory : ManifestFault → Bool
-is_memory OutOfMemory = true
-is_memory TooLarge = false
-is_memory NotToml = false
-is_memory (Shape p) = false
-is_memory (UnsupportedSource s) = false
-is_memory (BadRequirement name) = false
-is_memory (RootFeature fault f) = false
+abbrev pub wants_memory : ManifestFault → Bool
+wants_memory OutOfMemory = true
+wants_memory TooLarge = false
+wants_memory NotToml = false
+wants_memory (Shape p) = false
+wants_memory (UnsupportedSource s) = false
+wants_memory (BadRequirement name) = false
+wants_memory (RootFeature fault f) = false
 
 -- the name of a part: the key of its table
 abbrev pub part_name : Part → List ℕ

@@ -4,7 +4,7 @@ ghost use Rattle.std.specs.Prelude.{◌≡◌, ◌++◌, [], codes, option_map, 
 ghost use Rattle.toml.specs.Data.{get_member};
 ghost use Rattle.toml.specs.View.{view, table_view, array_view};
 ghost use Rattle.model.specs.Outcome.{Gives};
-ghost use Rattle.manifest.specs.Faults.{is_memory};
+ghost use Rattle.manifest.specs.Faults.{wants_memory};
 ghost use Rattle.manifest.specs.Manifests.{is_from};
 ghost use Rattle.manifest.specs.Values.{or_absent};
 ghost use Rattle.manifest.specs.Dependencies.{bare, registry, unsupported_in, source_of, real_name_of, named_feature, feature_names, feature_list, default_features_in, dependency_in, described, dependency_of, dependencies_in};
@@ -61,7 +61,7 @@ pub(crate) fn dependencies_in(
     part: Part,
     kind: DependencyKind,
 ) -> Result<Vec<DependencyShape<'_>>, ManifestFault>
-    ensures { Gives is_memory (λ v. dependency_views v.items) result (dependencies_in part kind (table_view table.now)) }
+    ensures { Gives wants_memory (λ v. dependency_views v.items) result (dependencies_in part kind (table_view table.now)) }
 {
     let mut found = Vec::new(alloc);
     'members: for (key, value) in table.iter() {
@@ -78,7 +78,7 @@ fn dependency<'a>(
     part: Part,
     kind: DependencyKind,
 ) -> Result<DependencyShape<'a>, ManifestFault>
-    ensures { Gives is_memory dependency_view result (dependency_of part kind key.now (view value.now)) }
+    ensures { Gives wants_memory dependency_view result (dependency_of part kind key.now (view value.now)) }
 {
     let name = package_name(alloc, key, part)?;
     described(alloc, name, value, part, kind)
@@ -92,7 +92,7 @@ fn described<'a>(
     part: Part,
     kind: DependencyKind,
 ) -> Result<DependencyShape<'a>, ManifestFault>
-    ensures { Gives is_memory dependency_view result (described part kind name (view value.now)) }
+    ensures { Gives wants_memory dependency_view result (described part kind name (view value.now)) }
 {
     match value {
         Value::String(text) => bare(alloc, name, DependencySource::Registry(text.as_str())),
@@ -117,7 +117,7 @@ fn bare(
     name: PackageName,
     source: DependencySource<'_>,
 ) -> Result<DependencyShape<'_>, ManifestFault>
-    ensures { Gives is_memory dependency_view result (Ok (bare name (source_view source.entry))) }
+    ensures { Gives wants_memory dependency_view result (Ok (bare name (source_view source.entry))) }
 {
     let real_name = name.clone()?;
     Ok(DependencyShape {
@@ -139,7 +139,7 @@ fn dependency_in<'a>(
     part: Part,
     kind: DependencyKind,
 ) -> Result<DependencyShape<'a>, ManifestFault>
-    ensures { Gives is_memory dependency_view result (dependency_in part kind name (table_view table.now)) }
+    ensures { Gives wants_memory dependency_view result (dependency_in part kind name (table_view table.now)) }
 {
     let version = text_at(table, "version", part)?;
     let source = dependency_source(unsupported_source(table), version, part)?;
@@ -164,7 +164,7 @@ fn dependency_in<'a>(
 
 /// Whether a dependency asks for `default`: it does where it says nothing.
 fn default_features(table: &Table, part: Part) -> Result<bool, ManifestFault>
-    ensures { Gives is_memory (λ b. b) result (default_features_in part (table_view table.now)) }
+    ensures { Gives wants_memory (λ b. b) result (default_features_in part (table_view table.now)) }
 {
     let value = either(table, "default-features", "default_features", part)?;
     flag(value, true, part)
@@ -193,7 +193,7 @@ fn dependency_source(
     version: Option<&str>,
     part: Part,
 ) -> Result<DependencySource<'_>, ManifestFault>
-    ensures { Gives is_memory source_view result (source_of part unsupported (option_map (λ s. s.now) version.entry)) }
+    ensures { Gives wants_memory source_view result (source_of part unsupported (option_map (λ s. s.now) version.entry)) }
 {
     match unsupported {
         Some(unsupported) => Ok(DependencySource::Unsupported(unsupported)),
@@ -211,7 +211,7 @@ fn real_name(
     given: Option<&str>,
     part: Part,
 ) -> Result<PackageName, ManifestFault>
-    ensures { Gives is_memory (λ n. n) result (real_name_of part name.now (option_map (λ s. s.now) given.entry)) }
+    ensures { Gives wants_memory (λ n. n) result (real_name_of part name.now (option_map (λ s. s.now) given.entry)) }
 {
     match given {
         Some(text) => package_name(alloc, text, part),
@@ -221,7 +221,7 @@ fn real_name(
 
 /// The features that the key `features` asks for.
 fn feature_list(alloc: Global, table: &Table, part: Part) -> Result<Vec<FeatureName>, ManifestFault>
-    ensures { Gives is_memory (λ v. v.items) result (or_absent [] (feature_list part) (get_member (codes "features") (table_view table.now))) }
+    ensures { Gives wants_memory (λ v. v.items) result (or_absent [] (feature_list part) (get_member (codes "features") (table_view table.now))) }
 {
     match member(table, "features") {
         Some(value) => feature_names(alloc, list(value, part)?, part),
@@ -235,7 +235,7 @@ fn feature_names(
     items: &Array,
     part: Part,
 ) -> Result<Vec<FeatureName>, ManifestFault>
-    ensures { Gives is_memory (λ v. v.items) result (feature_names part (array_view items.now)) }
+    ensures { Gives wants_memory (λ v. v.items) result (feature_names part (array_view items.now)) }
 {
     let mut found = Vec::new(alloc);
     'items: for value in items.iter() {

@@ -6,7 +6,7 @@ ghost use Rattle.model.specs.Outcome.{Gives};
 ghost use Rattle.features.specs.EntryViews.{entry_view, entry_views};
 ghost use Rattle.features.specs.Tables.{dep_name_view, dep_names_view, rows_of};
 ghost use Rattle.features.specs.Views.{dependency_view, dependency_views};
-ghost use Rattle.manifest.specs.Faults.{is_memory};
+ghost use Rattle.manifest.specs.Faults.{wants_memory};
 ghost use Rattle.manifest.specs.Values.{wanted};
 ghost use Rattle.manifest.specs.Manifests.{dep_name, features_with};
 ghost use Rattle.manifest.specs.Shapes.{strong, root_entry, entries_in, feature_of, features_in, features_of};
@@ -24,7 +24,7 @@ pub(crate) fn root_features(
     dependencies: &[Dependency],
     written: BTreeMap<FeatureName, Vec<Entry>>,
 ) -> Result<FeatureTable, ManifestFault>
-    ensures { Gives is_memory (λ t. t) result (features_with (dependency_views dependencies.now) (rows_of written.entries)) }
+    ensures { Gives wants_memory (λ t. t) result (features_with (dependency_views dependencies.now) (rows_of written.entries)) }
 {
     let names = dep_names(alloc, dependencies)?;
     Ok(FeatureTable::build(alloc, names.as_slice(), written)?)
@@ -55,7 +55,7 @@ pub(crate) fn written_features(
     alloc: Global,
     top: &Table,
 ) -> Result<BTreeMap<FeatureName, Vec<Entry>>, ManifestFault>
-    ensures { Gives is_memory (λ m. rows_of m.entries) result (features_of (table_view top.now)) }
+    ensures { Gives wants_memory (λ m. rows_of m.entries) result (features_of (table_view top.now)) }
 {
     match member(top, "features") {
         Some(value) => features_in(alloc, table(value, Part::Features)?),
@@ -68,7 +68,7 @@ fn features_in(
     alloc: Global,
     table: &Table,
 ) -> Result<BTreeMap<FeatureName, Vec<Entry>>, ManifestFault>
-    ensures { Gives is_memory (λ m. rows_of m.entries) result (features_in (table_view table.now)) }
+    ensures { Gives wants_memory (λ m. rows_of m.entries) result (features_in (table_view table.now)) }
 {
     let mut found = BTreeMap::new(alloc);
     'members: for (key, value) in table.iter() {
@@ -84,7 +84,7 @@ fn one_feature(
     key: &str,
     value: &Value,
 ) -> Result<(FeatureName, Vec<Entry>), ManifestFault>
-    ensures row { Gives is_memory (λ p. (p.0, entry_views p.1.items)) result (feature_of key.now (view value.now)) }
+    ensures row { Gives wants_memory (λ p. (p.0, entry_views p.1.items)) result (feature_of key.now (view value.now)) }
     ensures name { IfOk result (λ p. p.0 ≡ key.now) }
 {
     let name = feature_name(alloc, key, Part::Features)?;
@@ -94,7 +94,7 @@ fn one_feature(
 
 #[tactic(auto, unfolding(crate::specs::Shapes::entries_in))]
 fn entries(alloc: Global, items: &Array) -> Result<Vec<Entry>, ManifestFault>
-    ensures { Gives is_memory (λ v. entry_views v.items) result (entries_in (array_view items.now)) }
+    ensures { Gives wants_memory (λ v. entry_views v.items) result (entries_in (array_view items.now)) }
 {
     let mut found = Vec::new(alloc);
     'items: for value in items.iter() {
@@ -105,7 +105,7 @@ fn entries(alloc: Global, items: &Array) -> Result<Vec<Entry>, ManifestFault>
 
 /// A text that has to be an entry of a feature, as the root means it.
 fn entry(alloc: Global, text: &str) -> Result<Entry, ManifestFault>
-    ensures { Gives is_memory entry_view result (wanted Part.Features (root_entry text.now)) }
+    ensures { Gives wants_memory entry_view result (wanted Part.Features (root_entry text.now)) }
 {
     match Entry::parse(alloc, text) {
         Ok(entry) => Ok(strong(entry)),

@@ -8,7 +8,7 @@ ghost use Rattle.semver.specs.Identifiers.{parts_of};
 ghost use Rattle.semver.specs.Parse.{version_parts};
 ghost use Rattle.classes.specs.RustVersions.{rust_version_view};
 ghost use Rattle.model.specs.Outcome.{Gives};
-ghost use Rattle.manifest.specs.Faults.{is_memory};
+ghost use Rattle.manifest.specs.Faults.{wants_memory};
 ghost use Rattle.manifest.specs.Packages.{is_inherited, name_of, version_of_text, version_of, rust_version_in, members_at, package_in, package_of, workspace_of};
 ghost use Rattle.manifest.specs.ShapeViews.{package_view};
 
@@ -25,7 +25,7 @@ use toml::{Table, Value};
 /// members.
 #[tactic(auto, unfolding(crate::specs::Packages::package_of))]
 pub(crate) fn own_package(alloc: Global, top: &Table) -> Result<Option<Package>, ManifestFault>
-    ensures { Gives is_memory (option_map package_view) result (package_of (table_view top.now)) }
+    ensures { Gives wants_memory (option_map package_view) result (package_of (table_view top.now)) }
 {
     match member(top, "package") {
         Some(value) => package_in(alloc, table(value, Part::Package)?),
@@ -41,7 +41,7 @@ pub(crate) fn own_package(alloc: Global, top: &Table) -> Result<Option<Package>,
 
 #[tactic(auto, unfolding(crate::specs::Packages::package_in))]
 fn package_in(alloc: Global, section: &Table) -> Result<Option<Package>, ManifestFault>
-    ensures { Gives is_memory (option_map package_view) result (package_in (table_view section.now)) }
+    ensures { Gives wants_memory (option_map package_view) result (package_in (table_view section.now)) }
 {
     let name = own_name(alloc, section)?;
     let version = own_version(alloc, section)?;
@@ -58,7 +58,7 @@ fn package_in(alloc: Global, section: &Table) -> Result<Option<Package>, Manifes
 /// `package.name`, or none where it is left to a workspace.
 #[tactic(auto, unfolding(crate::specs::Packages::name_of))]
 fn own_name(alloc: Global, section: &Table) -> Result<Option<PackageName>, ManifestFault>
-    ensures { Gives is_memory (λ o. o) result (name_of (table_view section.now)) }
+    ensures { Gives wants_memory (λ o. o) result (name_of (table_view section.now)) }
 {
     let Some(value) = member(section, "name") else {
         return Err(ManifestFault::Shape(Part::Package));
@@ -73,7 +73,7 @@ fn own_name(alloc: Global, section: &Table) -> Result<Option<PackageName>, Manif
 /// `package.version`, 0.0.0 where it is absent, or none where it is left to a workspace.
 #[tactic(auto, unfolding(crate::specs::Packages::version_of))]
 fn own_version(alloc: Global, section: &Table) -> Result<Option<Version>, ManifestFault>
-    ensures value { Gives is_memory (option_map parts_of) result (version_of (table_view section.now)) }
+    ensures value { Gives wants_memory (option_map parts_of) result (version_of (table_view section.now)) }
     ensures valid { IfOk result (λ o. IfSome o (λ v. IsValid (parts_of v))) }
 {
     let Some(value) = member(section, "version") else {
@@ -86,7 +86,7 @@ fn own_version(alloc: Global, section: &Table) -> Result<Option<Version>, Manife
 }
 
 fn version(alloc: Global, text: &str) -> Result<Version, ManifestFault>
-    ensures value { Gives is_memory parts_of result (version_of_text (version_parts text.now)) }
+    ensures value { Gives wants_memory parts_of result (version_of_text (version_parts text.now)) }
     ensures valid { IfOk result (λ v. IsValid (parts_of v)) }
 {
     match Version::parse(alloc, text) {

@@ -8,7 +8,7 @@ ghost use Rattle.toml.specs.View.{table_view};
 ghost use Rattle.model.specs.Outcome.{Gives, guard};
 ghost use Rattle.classes.specs.RustVersions.{rust_version_view};
 ghost use Rattle.features.specs.Views.{dependency_view, dependency_views, summary_view};
-ghost use Rattle.manifest.specs.Faults.{is_memory};
+ghost use Rattle.manifest.specs.Faults.{wants_memory};
 ghost use Rattle.manifest.specs.Manifests.{uses, needs_workspace, sources_allowed, dependency_with, dependencies_of, manifest_of, manifest_of_bytes};
 ghost use Rattle.manifest.specs.ShapeViews as shaped;
 
@@ -57,7 +57,7 @@ impl Manifest {
     /// The manifest that the bytes of a Cargo.toml are, or the first fault.
     #[tactic(auto, unfolding(crate::specs::Manifests::manifest_of_bytes))]
     pub fn read(alloc: Global, bytes: &[u8]) -> Result<Manifest, ManifestFault>
-        ensures { Gives is_memory (λ m. m) result (manifest_of_bytes bytes.now) }
+        ensures { Gives wants_memory (λ m. m) result (manifest_of_bytes bytes.now) }
     {
         check(bytes.len() <= LIMIT, ManifestFault::TooLarge)?;
         let table = read_table(alloc, bytes)?;
@@ -112,7 +112,7 @@ impl Manifest {
 /// What a table says as a manifest.
 #[tactic(auto, unfolding(crate::specs::Manifests::manifest_of))]
 fn manifest_in(alloc: Global, top: &Table) -> Result<Manifest, ManifestFault>
-    ensures { Gives is_memory (λ m. m) result (manifest_of (table_view top.now)) }
+    ensures { Gives wants_memory (λ m. m) result (manifest_of (table_view top.now)) }
 {
     let shape = read_shape(alloc, top)?;
     check_sources(&shape)?;
@@ -141,7 +141,7 @@ fn manifest_in(alloc: Global, top: &Table) -> Result<Manifest, ManifestFault>
 /// The first source, in the order of `Unsupported`, that is unsupported and is asked for.
 #[tactic(auto, unfolding(crate::specs::Manifests::sources_allowed))]
 fn check_sources(shape: &Shape<'_>) -> Result<(), ManifestFault>
-    ensures { Gives is_memory (λ u. u) result (sources_allowed (shaped.shape_view shape.now)) }
+    ensures { Gives wants_memory (λ u. u) result (sources_allowed (shaped.shape_view shape.now)) }
 {
     let dependencies = shape.dependencies.as_slice();
     allow(!shape.patches, Unsupported::Patch)?;
@@ -156,7 +156,7 @@ fn check_sources(shape: &Shape<'_>) -> Result<(), ManifestFault>
 }
 
 fn allow(passes: bool, source: Unsupported) -> Result<(), ManifestFault>
-    ensures { Gives is_memory (λ u. u) result (guard passes (ManifestFault.UnsupportedSource source)) }
+    ensures { Gives wants_memory (λ u. u) result (guard passes (ManifestFault.UnsupportedSource source)) }
 {
     check(passes, ManifestFault::UnsupportedSource(source))
 }
@@ -182,7 +182,7 @@ fn requirements(
     alloc: Global,
     shapes: Vec<DependencyShape<'_>>,
 ) -> Result<Vec<Dependency>, ManifestFault>
-    ensures { Gives is_memory (λ v. dependency_views v.items) result (dependencies_of (shaped.dependency_views shapes.entry.items)) }
+    ensures { Gives wants_memory (λ v. dependency_views v.items) result (dependencies_of (shaped.dependency_views shapes.entry.items)) }
 {
     let mut found = Vec::new(alloc);
     'shapes: for shape in shapes {
@@ -194,7 +194,7 @@ fn requirements(
 /// A dependency with its requirement read. One of a source that is unsupported is a fault before.
 #[tactic(auto, unfolding(crate::specs::Manifests::dependency_with))]
 fn with_requirement(alloc: Global, shape: DependencyShape<'_>) -> Result<Dependency, ManifestFault>
-    ensures { Gives is_memory dependency_view result (dependency_with (shaped.dependency_view shape.entry)) }
+    ensures { Gives wants_memory dependency_view result (dependency_with (shaped.dependency_view shape.entry)) }
 {
     let text = match shape.source {
         DependencySource::Registry(text) => text,

@@ -4,7 +4,7 @@ ghost use Rattle.std.specs.Prelude.{◌≡◌, option_map};
 ghost use Rattle.toml.specs.View.{table_view, view};
 ghost use Rattle.model.specs.Outcome.{Gives};
 ghost use Rattle.manifest.specs.Dependencies.{may_be_optional, part_of, section_at, section_of, sections_of, targets_in, targets_of};
-ghost use Rattle.manifest.specs.Faults.{is_memory};
+ghost use Rattle.manifest.specs.Faults.{wants_memory};
 ghost use Rattle.manifest.specs.ShapeViews.{dependency_views};
 
 use crate::dependency::{DependencyShape, dependencies_in};
@@ -61,7 +61,7 @@ pub(crate) fn target_dependencies(
     alloc: Global,
     top: &Table,
 ) -> Result<Vec<DependencyShape<'_>>, ManifestFault>
-    ensures { Gives is_memory (λ v. dependency_views v.items) result (targets_of (table_view top.now)) }
+    ensures { Gives wants_memory (λ v. dependency_views v.items) result (targets_of (table_view top.now)) }
 {
     match member(top, "target") {
         Some(value) => targets(alloc, table(value, Part::Target)?),
@@ -71,7 +71,7 @@ pub(crate) fn target_dependencies(
 
 #[tactic(auto, unfolding(crate::specs::Dependencies::targets_in))]
 fn targets(alloc: Global, targets: &Table) -> Result<Vec<DependencyShape<'_>>, ManifestFault>
-    ensures { Gives is_memory (λ v. dependency_views v.items) result (targets_in (table_view targets.now)) }
+    ensures { Gives wants_memory (λ v. dependency_views v.items) result (targets_in (table_view targets.now)) }
 {
     let mut found = Vec::new(alloc);
     'members: for (_, value) in targets.iter() {
@@ -88,7 +88,7 @@ pub(crate) fn sections(
     table: &Table,
     place: Place,
 ) -> Result<Vec<DependencyShape<'_>>, ManifestFault>
-    ensures { Gives is_memory (λ v. dependency_views v.items) result (sections_of place (table_view table.now)) }
+    ensures { Gives wants_memory (λ v. dependency_views v.items) result (sections_of place (table_view table.now)) }
 {
     let mut found = section(
         alloc,
@@ -121,7 +121,7 @@ fn section(
     part: Part,
     kind: DependencyKind,
 ) -> Result<Vec<DependencyShape<'_>>, ManifestFault>
-    ensures { Gives is_memory (λ v. dependency_views v.items) result (section_of part kind (table_view table_in.now)) }
+    ensures { Gives wants_memory (λ v. dependency_views v.items) result (section_of part kind (table_view table_in.now)) }
 {
     let Some(value) = section_value(table_in, part, kind)? else {
         return Ok(Vec::new(alloc));
@@ -134,7 +134,7 @@ fn section_value(
     part: Part,
     kind: DependencyKind,
 ) -> Result<Option<&Value>, ManifestFault>
-    ensures { Gives is_memory (option_map (λ v. view v.now)) result (section_at part kind (table_view table.now)) }
+    ensures { Gives wants_memory (option_map (λ v. view v.now)) result (section_at part kind (table_view table.now)) }
 {
     match kind {
         DependencyKind::Normal => Ok(member(table, "dependencies")),

@@ -4,7 +4,7 @@ ghost use Rattle.semver.specs.Grammar.{IsValid};
 ghost use Rattle.semver.specs.Identifiers.{parts_of};
 ghost use Rattle.toml.specs.View.{table_view};
 ghost use Rattle.model.specs.Outcome.{Gives};
-ghost use Rattle.manifest.specs.Faults.{is_memory};
+ghost use Rattle.manifest.specs.Faults.{wants_memory};
 ghost use Rattle.manifest.specs.Shapes.{all_dependencies, shape_of};
 ghost use Rattle.manifest.specs.ShapeViews.{dependency_views, shape_view};
 
@@ -50,7 +50,7 @@ pub(crate) struct Shape<'a> {
 /// The shape of a manifest, or the first part that has another one.
 #[tactic(auto, unfolding(crate::specs::Shapes::shape_of))]
 pub(crate) fn read_shape(alloc: Global, top: &Table) -> Result<Shape<'_>, ManifestFault>
-    ensures { Gives is_memory shape_view result (shape_of (table_view top.now)) }
+    ensures { Gives wants_memory shape_view result (shape_of (table_view top.now)) }
 {
     let own = own_package(alloc, top)?;
     let dependencies = all_dependencies(alloc, top)?;
@@ -71,7 +71,7 @@ pub(crate) fn read_shape(alloc: Global, top: &Table) -> Result<Shape<'_>, Manife
 /// The dependencies by number: those at the top, then those of the targets.
 #[tactic(auto, unfolding(crate::specs::Shapes::all_dependencies))]
 fn all_dependencies(alloc: Global, top: &Table) -> Result<Vec<DependencyShape<'_>>, ManifestFault>
-    ensures { Gives is_memory (λ v. dependency_views v.items) result (all_dependencies (table_view top.now)) }
+    ensures { Gives wants_memory (λ v. dependency_views v.items) result (all_dependencies (table_view top.now)) }
 {
     let mut found = sections(alloc, top, Place::Top)?;
     let mut targets = target_dependencies(alloc, top)?;

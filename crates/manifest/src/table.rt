@@ -5,7 +5,7 @@ ghost use Rattle.toml.specs.Data.{as_str, as_bool, as_table, as_array, get_membe
 ghost use Rattle.toml.specs.Text.{has_items};
 ghost use Rattle.toml.specs.View.{view, table_view, array_view};
 ghost use Rattle.model.specs.Outcome.{Gives};
-ghost use Rattle.manifest.specs.Faults.{is_memory};
+ghost use Rattle.manifest.specs.Faults.{wants_memory};
 ghost use Rattle.manifest.specs.Manifests.{table_of_bytes};
 ghost use Rattle.manifest.specs.Values.{wanted, if_there, or_absent, text_of, flag_of, table_of, either_at, package_name_of, feature_name_of, has_key, has_rows};
 ghost use Rattle.manifest.specs.Packages.{is_written};
@@ -17,7 +17,7 @@ use toml::value::{Array, Table, Value};
 
 /// The table that the bytes are.
 pub(crate) fn read_table(alloc: Global, bytes: &[u8]) -> Result<Table, ManifestFault>
-    ensures { Gives is_memory table_view result (table_of_bytes bytes.now) }
+    ensures { Gives wants_memory table_view result (table_of_bytes bytes.now) }
 {
     match toml::table_from_slice(alloc, bytes) {
         Ok(table) => Ok(table),
@@ -51,7 +51,7 @@ pub(crate) fn either<'a>(
     underscored: &str,
     part: Part,
 ) -> Result<Option<&'a Value>, ManifestFault>
-    ensures { Gives is_memory (option_map (λ v. view v.now)) result (either_at part dashed.now underscored.now (table_view table.now)) }
+    ensures { Gives wants_memory (option_map (λ v. view v.now)) result (either_at part dashed.now underscored.now (table_view table.now)) }
 {
     match member(table, dashed) {
         Some(value) => match member(table, underscored) {
@@ -64,7 +64,7 @@ pub(crate) fn either<'a>(
 
 /// A value that has to be a text.
 pub(crate) fn text(value: &Value, part: Part) -> Result<&str, ManifestFault>
-    ensures { Gives is_memory (λ s. s.now) result (text_of part (view value.now)) }
+    ensures { Gives wants_memory (λ s. s.now) result (text_of part (view value.now)) }
 {
     match value.as_str() {
         Some(text) => Ok(text),
@@ -74,7 +74,7 @@ pub(crate) fn text(value: &Value, part: Part) -> Result<&str, ManifestFault>
 
 /// A value that has to be a list.
 pub(crate) fn list(value: &Value, part: Part) -> Result<&Array, ManifestFault>
-    ensures { Gives is_memory (λ v. array_view v.now) result (wanted part (as_array (view value.now))) }
+    ensures { Gives wants_memory (λ v. array_view v.now) result (wanted part (as_array (view value.now))) }
 {
     match value.as_array() {
         Some(items) => Ok(items),
@@ -84,7 +84,7 @@ pub(crate) fn list(value: &Value, part: Part) -> Result<&Array, ManifestFault>
 
 /// A value that has to be a table.
 pub(crate) fn table(value: &Value, part: Part) -> Result<&Table, ManifestFault>
-    ensures { Gives is_memory (λ t. table_view t.now) result (table_of part (view value.now)) }
+    ensures { Gives wants_memory (λ t. table_view t.now) result (table_of part (view value.now)) }
 {
     match value.as_table() {
         Some(table) => Ok(table),
@@ -98,7 +98,7 @@ pub(crate) fn text_at<'a>(
     key: &str,
     part: Part,
 ) -> Result<Option<&'a str>, ManifestFault>
-    ensures { Gives is_memory (option_map (λ s. s.now)) result (if_there (text_of part) (get_member key.now (table_view table.now))) }
+    ensures { Gives wants_memory (option_map (λ s. s.now)) result (if_there (text_of part) (get_member key.now (table_view table.now))) }
 {
     match member(table, key) {
         Some(value) => Ok(Some(text(value, part)?)),
@@ -108,7 +108,7 @@ pub(crate) fn text_at<'a>(
 
 /// A flag that may be absent.
 pub(crate) fn flag(value: Option<&Value>, absent: bool, part: Part) -> Result<bool, ManifestFault>
-    ensures { Gives is_memory (λ b. b) result (or_absent absent (flag_of part) (option_map (λ v. view v.now) value.entry)) }
+    ensures { Gives wants_memory (λ b. b) result (or_absent absent (flag_of part) (option_map (λ v. view v.now) value.entry)) }
 {
     match value {
         Some(value) => match value.as_bool() {
@@ -135,7 +135,7 @@ fn has_rows(table: &Table) -> bool
 
 /// Whether the table at a key, which may be absent, has entries.
 pub(crate) fn is_written(top: &Table, key: &str, part: Part) -> Result<bool, ManifestFault>
-    ensures { Gives is_memory (λ b. b) result (is_written part key.now (table_view top.now)) }
+    ensures { Gives wants_memory (λ b. b) result (is_written part key.now (table_view top.now)) }
 {
     match member(top, key) {
         Some(value) => Ok(has_rows(table(value, part)?)),
@@ -149,7 +149,7 @@ pub(crate) fn package_name(
     text: &str,
     part: Part,
 ) -> Result<PackageName, ManifestFault>
-    ensures { Gives is_memory (λ n. n) result (package_name_of part text.now) }
+    ensures { Gives wants_memory (λ n. n) result (package_name_of part text.now) }
 {
     match PackageName::parse(alloc, text) {
         Ok(name) => Ok(name),
@@ -164,7 +164,7 @@ pub(crate) fn feature_name(
     text: &str,
     part: Part,
 ) -> Result<FeatureName, ManifestFault>
-    ensures { Gives is_memory (λ n. n) result (feature_name_of part text.now) }
+    ensures { Gives wants_memory (λ n. n) result (feature_name_of part text.now) }
 {
     match FeatureName::parse(alloc, text) {
         Ok(name) => Ok(name),

@@ -14,7 +14,8 @@ use Rattle.semver.specs.declared.Version.{Version}
 use Rattle.semver.specs.OrderLaws.{pre_total}
 use Rattle.semver.specs.Parse.{Parts}
 use Rattle.model.specs.Order.{precedence}
-use Rattle.model.specs.Candidates.{RustVersion, Record, IsOlder, IsApart, place_by_age, oldest_first, fits, locked_ones, fitting_ones, other_ones, by_preference}
+use Rattle.model.specs.Sorting.{put_in}
+use Rattle.model.specs.Candidates.{RustVersion, Record, IsOlder, IsApart, age_cmp, oldest_first, fits, locked_ones, fitting_ones, other_ones, by_preference}
 use Rattle.model.proofs.Lists.{all_cons, all_first, all_rest, pairs_none, pairs_one, pairs_rest, pairs_all}
 
 -- precedence is a total order
@@ -38,11 +39,11 @@ preference-permutes locked rust cs =
 pub precedence-is : (v w : Version) → precedence_cmp v w ≡ precedence (parts_of v) (parts_of w)
 precedence-is v w = refl
 
-place-permutes : (r : Record) (es : List Record) → IsPermutation (r ∷ es) (place_by_age r es)
+place-permutes : (r : Record) (es : List Record) → IsPermutation (r ∷ es) (put_in age_cmp r es)
 place-permutes r [] = IsPermutation-refl (r ∷ [])
-place-permutes r (e ∷ es) = elim (is_gt (precedence r.version e.version)) as (λ b. IsPermutation (r ∷ e ∷ es) (cond b (e ∷ place_by_age r es) (r ∷ e ∷ es))) [
-  | true ↦ IsPermutation-trans (r ∷ e ∷ es) (e ∷ r ∷ es) (e ∷ place_by_age r es)
-      (IsPermutation-sym (e ∷ r ∷ es) (r ∷ e ∷ es) (IsPermutation-middle (e ∷ []) r es)) (IsPermutation-cons e (r ∷ es) (place_by_age r es) (place-permutes r es))
+place-permutes r (e ∷ es) = elim (is_gt (precedence r.version e.version)) as (λ b. IsPermutation (r ∷ e ∷ es) (cond b (e ∷ put_in age_cmp r es) (r ∷ e ∷ es))) [
+  | true ↦ IsPermutation-trans (r ∷ e ∷ es) (e ∷ r ∷ es) (e ∷ put_in age_cmp r es)
+      (IsPermutation-sym (e ∷ r ∷ es) (r ∷ e ∷ es) (IsPermutation-middle (e ∷ []) r es)) (IsPermutation-cons e (r ∷ es) (put_in age_cmp r es) (place-permutes r es))
   | false ↦ IsPermutation-refl (r ∷ e ∷ es)
 ]
 
@@ -50,22 +51,22 @@ place-permutes r (e ∷ es) = elim (is_gt (precedence r.version e.version)) as (
 pub oldest_first-permutes : (rs : List Record) → IsPermutation rs (oldest_first rs)
 unfolding oldest_first
 oldest_first-permutes [] = IsPermutation-refl []
-oldest_first-permutes (r ∷ rs) = IsPermutation-trans (r ∷ rs) (r ∷ oldest_first rs) (place_by_age r (oldest_first rs))
+oldest_first-permutes (r ∷ rs) = IsPermutation-trans (r ∷ rs) (r ∷ oldest_first rs) (put_in age_cmp r (oldest_first rs))
     (IsPermutation-cons r rs (oldest_first rs) (oldest_first-permutes rs)) (place-permutes r (oldest_first rs))
 
-place-rises : (r : Record) (es : List Record) → AllPairs IsOlder es → All (IsApart r) es → AllPairs IsOlder (place_by_age r es)
+place-rises : (r : Record) (es : List Record) → AllPairs IsOlder es → All (IsApart r) es → AllPairs IsOlder (put_in age_cmp r es)
 place-rises r [] h apart = pairs_one IsOlder r
 place-rises r (e ∷ es) h apart = by (precedence r.version e.version) refl (place-rises r es (pairs_rest IsOlder e es h) (all_rest (IsApart r) e es apart))
   where
     above : All (IsOlder e) es
     above = pairs_all IsOlder e es h
 
-    by : (o : Ordering) → precedence r.version e.version ≡ o → AllPairs IsOlder (place_by_age r es) → AllPairs IsOlder (cond (is_gt o) (e ∷ place_by_age r es) (r ∷ e ∷ es))
+    by : (o : Ordering) → precedence r.version e.version ≡ o → AllPairs IsOlder (put_in age_cmp r es) → AllPairs IsOlder (cond (is_gt o) (e ∷ put_in age_cmp r es) (r ∷ e ∷ es))
     by Less x rest = AllPairs-cons IsOlder r (e ∷ es)
         (all_cons (IsOlder r) e es x (λ k d lt. precedence_total.trans r.version e.version (get_or es k d).version x (above k d lt))) h
     by Equal x rest = absurd (all_first (IsApart r) e es apart x)
-    by Greater x rest = AllPairs-cons IsOlder e (place_by_age r es)
-        (All-permutation (IsOlder e) (r ∷ es) (place_by_age r es) (place-permutes r es)
+    by Greater x rest = AllPairs-cons IsOlder e (put_in age_cmp r es)
+        (All-permutation (IsOlder e) (r ∷ es) (put_in age_cmp r es) (place-permutes r es)
         (all_cons (IsOlder e) r es (precedence_total.antisymm e.version r.version ∙ ap ordering_reverse x) above)) rest
 
 -- and where no two are of equal precedence, they rise

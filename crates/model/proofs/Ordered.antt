@@ -15,7 +15,8 @@ use Rattle.model.specs.Order.{text_cmp, precedence, version_cmp, source_cmp, pac
 use Rattle.model.specs.WellFormed.{IsCatalogue}
 use Rattle.model.specs.Vertices.{Owner, the_root, version_of}
 use Rattle.model.specs.Axioms.{IsOwner}
-use Rattle.model.specs.ContentOf.{Kept, package_of, kept_cmp, place_in_order, in_package_order}
+use Rattle.model.specs.Sorting.{put_in}
+use Rattle.model.specs.ContentOf.{Kept, package_of, kept_cmp, in_package_order}
 use Rattle.model.proofs.Contents.{each_version_tied}
 use Rattle.model.proofs.Lists.{all_cons, all_first, all_rest, pairs_none, pairs_one, pairs_rest, pairs_all}
 use Rattle.model.proofs.PackageOrder.{package_total}
@@ -49,32 +50,32 @@ module _ (q : Problem) where
   pub kept_total : IsTotalOrder (kept_cmp q)
   kept_total = on_total (λ (k : Kept). package_of q k.owner []) package_total
 
-  pub place-permutes : (k : Kept) (ms : List Kept) → IsPermutation (k ∷ ms) (place_in_order q k ms)
+  pub place-permutes : (k : Kept) (ms : List Kept) → IsPermutation (k ∷ ms) (put_in (kept_cmp q) k ms)
   place-permutes k [] = IsPermutation-refl (k ∷ [])
-  place-permutes k (m ∷ ms) = elim (is_gt (kept_cmp q k m)) as (λ b. IsPermutation (k ∷ m ∷ ms) (cond b (m ∷ place_in_order q k ms) (k ∷ m ∷ ms))) [
-    | true ↦ IsPermutation-trans (k ∷ m ∷ ms) (m ∷ k ∷ ms) (m ∷ place_in_order q k ms)
-        (IsPermutation-sym (m ∷ k ∷ ms) (k ∷ m ∷ ms) (IsPermutation-middle (m ∷ []) k ms)) (IsPermutation-cons m (k ∷ ms) (place_in_order q k ms) (place-permutes k ms))
+  place-permutes k (m ∷ ms) = elim (is_gt (kept_cmp q k m)) as (λ b. IsPermutation (k ∷ m ∷ ms) (cond b (m ∷ put_in (kept_cmp q) k ms) (k ∷ m ∷ ms))) [
+    | true ↦ IsPermutation-trans (k ∷ m ∷ ms) (m ∷ k ∷ ms) (m ∷ put_in (kept_cmp q) k ms)
+        (IsPermutation-sym (m ∷ k ∷ ms) (k ∷ m ∷ ms) (IsPermutation-middle (m ∷ []) k ms)) (IsPermutation-cons m (k ∷ ms) (put_in (kept_cmp q) k ms) (place-permutes k ms))
     | false ↦ IsPermutation-refl (k ∷ m ∷ ms)
   ]
 
   pub order-permutes : (ks : List Kept) → IsPermutation ks (in_package_order q ks)
   unfolding in_package_order
   order-permutes [] = IsPermutation-refl []
-  order-permutes (k ∷ ks) = IsPermutation-trans (k ∷ ks) (k ∷ in_package_order q ks) (place_in_order q k (in_package_order q ks))
+  order-permutes (k ∷ ks) = IsPermutation-trans (k ∷ ks) (k ∷ in_package_order q ks) (put_in (kept_cmp q) k (in_package_order q ks))
       (IsPermutation-cons k ks (in_package_order q ks) (order-permutes ks)) (place-permutes k (in_package_order q ks))
 
-  place-rises : (k : Kept) (ms : List Kept) → AllPairs Rises ms → All (Differ k) ms → AllPairs Rises (place_in_order q k ms)
+  place-rises : (k : Kept) (ms : List Kept) → AllPairs Rises ms → All (Differ k) ms → AllPairs Rises (put_in (kept_cmp q) k ms)
   place-rises k [] h apart = pairs_one Rises k
   place-rises k (m ∷ ms) h apart = by (kept_cmp q k m) refl (place-rises k ms (pairs_rest Rises m ms h) (all_rest (Differ k) m ms apart))
     where
       above : All (Rises m) ms
       above = pairs_all Rises m ms h
 
-      by : (o : Ordering) → kept_cmp q k m ≡ o → AllPairs Rises (place_in_order q k ms) → AllPairs Rises (cond (is_gt o) (m ∷ place_in_order q k ms) (k ∷ m ∷ ms))
+      by : (o : Ordering) → kept_cmp q k m ≡ o → AllPairs Rises (put_in (kept_cmp q) k ms) → AllPairs Rises (cond (is_gt o) (m ∷ put_in (kept_cmp q) k ms) (k ∷ m ∷ ms))
       by Less x rest = AllPairs-cons Rises k (m ∷ ms) (all_cons (Rises k) m ms x (λ i d lt. kept_total.trans k m (get_or ms i d) x (above i d lt))) h
       by Equal x rest = absurd (all_first (Differ k) m ms apart x)
-      by Greater x rest = AllPairs-cons Rises m (place_in_order q k ms)
-          (All-permutation (Rises m) (k ∷ ms) (place_in_order q k ms) (place-permutes k ms)
+      by Greater x rest = AllPairs-cons Rises m (put_in (kept_cmp q) k ms)
+          (All-permutation (Rises m) (k ∷ ms) (put_in (kept_cmp q) k ms) (place-permutes k ms)
           (all_cons (Rises m) k ms (kept_total.antisymm m k ∙ ap ordering_reverse x) above)) rest
 
   pub order-rises : (ks : List Kept) → AllPairs Differ ks → AllPairs Rises (in_package_order q ks)

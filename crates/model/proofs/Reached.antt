@@ -13,7 +13,7 @@ use Rattle.model.specs.Axioms.{at, Root, Needed, Target, HasFeature, WantsFeatur
 use Rattle.model.specs.Axioms.IsInstance.{root_is, needed, has_target, has_its_feature, wants_by_list, wants_by_entry, feature_on, dependency_on, feature_asks, newest_listed, weakly}
 use Rattle.model.specs.Axioms.HasFeatVertex.{had, asked as vertex_of_asked, by_entry}
 use Rattle.model.specs.WellFormed.{IsCatalogue}
-use Rattle.model.specs.Search.{IsUnbroken, LeadsTo, IsTheRoot, IsReachedFact, IsPresent, IsOn, Says}
+use Rattle.model.specs.Search.{IsUnbroken, LeadsTo, IsTheRoot, IsReachedFact, IsPresent, IsOn, SaysOfFact}
 use Rattle.model.proofs.Same.{class-same, text-same, text-refl, vertex-same, vertex-refl, class-refl}
 use Rattle.model.proofs.Lists.{in_first, in_rest, in_cons, in_none, in_filter, to_filter, in_map, to_map, to_any}
 use Rattle.model.proofs.Spaces.{state_from, state_in}
@@ -172,7 +172,7 @@ module _ (q : Problem) (state : Vertex → State) (ok : IsUnbroken q state) wher
           (one (pkg name (class_of v)) (version v) h, (one (feat name (class_of v) f) present p, (one (dep (version_of name v) i) (in_class to.k) to.chosen, (one (feat d.real_name to.k g) absent off, tt))))
 
   -- each fact that the root reaches is what the assignment says
-  pub reached_says : (f : Fact Owner) → IsReachedFact q state f → Says q state f
+  pub reached_says : (f : Fact Owner) → IsReachedFact q state f → SaysOfFact q state f
   reached_says f (starts n e) = subst (λ o. IsPresent q state o) (sym e) tt
   reached_says f (arrives n t i d h b l) = arrive n i d t l
   reached_says f (root_needs n i d h e b) = need_root n i d e b

@@ -9,6 +9,7 @@ use Rattle.semver.specs.Parse.{Parts}
 use Rattle.model.specs.Summary.{Summary, same_text}
 use Rattle.model.specs.Content.{Content, Candidate, same_version, same_option}
 use Rattle.model.specs.Order.{precedence}
+use Rattle.model.specs.Sorting.{in_order}
 
 -- a Rust version: major, minor and patch
 abbrev pub RustVersion : Type 0
@@ -37,15 +38,13 @@ IsOlder a b = precedence a.version b.version ≡ Less
 abbrev pub IsApart : Record → Record → Type 0
 IsApart a b = precedence a.version b.version ≢ Equal
 
--- a record at its place among others that are oldest first
-abbrev pub place_by_age : Record → List Record → List Record
-place_by_age r [] = r ∷ []
-place_by_age r (e ∷ es) = if is_gt (precedence r.version e.version) then e ∷ place_by_age r es else r ∷ e ∷ es
+-- the order of their versions
+abbrev pub age_cmp : Record → Record → Ordering
+age_cmp a b = precedence a.version b.version
 
 -- records by precedence
 unfoldable pub oldest_first : List Record → List Record
-oldest_first [] = []
-oldest_first (r ∷ rs) = place_by_age r (oldest_first rs)
+oldest_first records = in_order age_cmp records
 
 -- whether a package of the old lock has this name and version, and the run's source
 abbrev pub is_locked : Content → List ℕ → List ℕ → Parts → Bool

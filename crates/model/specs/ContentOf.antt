@@ -2,7 +2,6 @@
 -- targets as its list (Cargo book, "Cargo.toml vs Cargo.lock").
 use Rattle.std.specs.Prelude.{◌≡◌, ◌≢◌, ◌↔◌, ℕ, suc, List, [], ◌∷◌, if◌then◌else◌, Some, None, option_map, map, Contains}
 use Rattle.std.specs.List.{list_any, All, AllPairs}
-use Rattle.std.specs.Ordering.{is_gt}
 use Rattle.std.specs.declared.cmp.Ordering.{Ordering}
 use Rattle.model.specs.Summary.{Dependency}
 use Rattle.model.specs.Facts.{here, enabled, Brings}
@@ -10,6 +9,7 @@ use Rattle.model.specs.Content.{Package, Content, Problem, candidates_of, candid
 use Rattle.model.specs.Order.{package_cmp}
 use Rattle.model.specs.Vertices.{Owner, the_root, version_of, same_owner, owner_brings}
 use Rattle.model.specs.Axioms.{IsOwner}
+use Rattle.model.specs.Sorting.{in_order}
 use Rattle.model.specs.Stands.{IsReachedFact}
 
 -- an owner that is kept, and the owners that its enabled dependencies lead to
@@ -32,15 +32,9 @@ package_of q (version_of name v) list = record {
 abbrev pub kept_cmp : Problem → Kept → Kept → Ordering
 kept_cmp q k m = package_cmp (package_of q k.owner []) (package_of q m.owner [])
 
--- an owner at its place among others that stand in package order
-abbrev pub place_in_order : Problem → Kept → List Kept → List Kept
-place_in_order q k [] = k ∷ []
-place_in_order q k (m ∷ ms) = if is_gt (kept_cmp q k m) then m ∷ place_in_order q k ms else k ∷ m ∷ ms
-
 -- the owners in package order
 unfoldable pub in_package_order : Problem → List Kept → List Kept
-in_package_order q [] = []
-in_package_order q (k ∷ ks) = place_in_order q k (in_package_order q ks)
+in_package_order q ks = in_order (kept_cmp q) ks
 
 -- the places of the owners that are among the targets, counted from n
 abbrev pub places_from : ℕ → List Kept → List Owner → List ℕ

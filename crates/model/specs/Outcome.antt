@@ -8,8 +8,8 @@ Faults false e meant = meant ≡ Err e
 
 -- what was returned, seen by view, is what is meant, unless memory is wanting
 abbrev pub Gives : {X Y E : Type 0} → (E → Bool) → (X → Y) → Result X E → Result Y E → Type 0
-Gives is_memory view (Ok x) meant = meant ≡ Ok (view x)
-Gives is_memory view (Err e) meant = Faults (is_memory e) e meant
+Gives wants_memory view (Ok x) meant = meant ≡ Ok (view x)
+Gives wants_memory view (Err e) meant = Faults (wants_memory e) e meant
 
 -- one step after another, up to the first fault
 infixl 10 ◌>>=◌

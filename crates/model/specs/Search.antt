@@ -41,10 +41,10 @@ module _ (q : Problem) (state : Vertex → State) where
   IsOn (version_of name v) f = (state (pkg name (class_of v)) ≡ version v) × (state (feat name (class_of v) f) ≡ present)
 
   -- what the assignment has to say where a fact holds
-  abbrev pub Says : Fact Owner → Type 0
-  Says (here n) = IsPresent n
-  Says (on n f) = IsOn n f
-  Says (enabled n i) = IsPresent n × (state (dep n i) ≢ absent)
+  abbrev pub SaysOfFact : Fact Owner → Type 0
+  SaysOfFact (here n) = IsPresent n
+  SaysOfFact (on n f) = IsOn n f
+  SaysOfFact (enabled n i) = IsPresent n × (state (dep n i) ≢ absent)
 
   -- what the root reaches, as vertices: its own one, and those of the facts that it reaches
   abbrev pub IsReachedVertex : Vertex → Type 0

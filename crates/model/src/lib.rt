@@ -39,7 +39,7 @@ ghost use Rattle.model.specs.Axioms.{AreApart, IsInstance, IsOwner, IsVertex, Ki
 ghost use Rattle.model.specs.Stands.{StandsFor};
 ghost use Rattle.model.specs.Walk.{IsWalk, Picks};
 ghost use Rattle.model.specs.ContentOf.{AreKept, Kept, content_of, in_package_order, kept_cmp};
-ghost use Rattle.model.specs.Search.{AssignsReached, IsPresent, IsReachedFact, IsUnbroken, LeadsTo, Says};
+ghost use Rattle.model.specs.Search.{AssignsReached, IsPresent, IsReachedFact, IsUnbroken, LeadsTo, SaysOfFact};
 ghost use Rattle.model.specs.Assignment.{Assigns, Breaks};
 ghost use Rattle.model.specs.Derivation.{IsAccepted, IsCombined, Step};
 
@@ -144,7 +144,7 @@ pub fn accepted_derivations_refute()
 /// An assignment that breaks no instance says so itself of each package, feature and dependency that the root reaches
 /// in it.
 pub fn reached_facts_hold()
-    ensures { (q : Problem) (state : Vertex → State) (f : Fact Owner) → IsUnbroken q state → IsReachedFact q state f → Says q state f }
+    ensures { (q : Problem) (state : Vertex → State) (f : Fact Owner) → IsUnbroken q state → IsReachedFact q state f → SaysOfFact q state f }
 {}
 
 /// In an assignment that breaks no instance, each enabled dependency that the root reaches leads to a version that it

@@ -29,7 +29,7 @@ use Rattle.catalogue.proofs.LawsNames.{asked-distinct, turn-more}
 use Rattle.catalogue.proofs.LawsPackages.{text_option}
 use Rattle.catalogue.proofs.LawsSelections.{holds_again}
 use Rattle.selection.proofs.Lookups.{of_source}
-use Rattle.resolver.specs.Faults.{is_memory, of_load}
+use Rattle.resolver.specs.Faults.{input_wants_memory, of_load}
 use Rattle.resolver.proofs.Unstopped.{no_fault}
 
 -- a loaded index is what a selection of its run is held against
@@ -160,7 +160,7 @@ module _ (folder : Files) (failed : Files → ℕ) (m : ManifestView) (source : 
         (subst (λ ns. Contains ns name) (rows-names content source rust' m folder index' later again) c))
 
   -- the second run ends without a fault, but for want of memory
-  pub no_other_fault : (rust' : Option RustVersion) (e : LoadFault) (later : Files) → Loads content source rust' m.brings.dependencies MemoryCalls failed folder (Err e) later → is_memory (of_load e) ≡ true
+  pub no_other_fault : (rust' : Option RustVersion) (e : LoadFault) (later : Files) → Loads content source rust' m.brings.dependencies MemoryCalls failed folder (Err e) later → input_wants_memory (of_load e) ≡ true
   no_other_fault rust' = no_fault folder failed content source rust' m.brings.dependencies first.asked first.so_far.few
       (λ asked mid name so_far next. (next-fewer rust' asked mid so_far name next, next-within rust' asked mid so_far name next))
       (λ index' later again. checksums-hold m index' content (still-valid rust' index' later again))

@@ -25,7 +25,7 @@ use Rattle.catalogue.proofs.LawsCandidates.{file_of}
 use Rattle.catalogue.proofs.LawsIndexes.{chain-answers}
 use Rattle.catalogue.proofs.LawsLists.{at_in}
 use Rattle.catalogue.proofs.LawsNames.{turn-more}
-use Rattle.resolver.specs.Faults.{is_memory, of_load}
+use Rattle.resolver.specs.Faults.{input_wants_memory, of_load}
 use Rattle.resolver.proofs.Again.{problem-is}
 use Rattle.resolver.proofs.Unstopped.{no_fault}
 
@@ -148,6 +148,6 @@ module _ (folder : Files) (m : ManifestView) (old : Content) (source : List ℕ)
 
   -- it ends without a fault but for want of memory
   pub no_other_fault : (failed : Files → ℕ) → first_changed index old ≡ None → (e : LoadFault) (later : Files)
-      → Loads old source rust' m.brings.dependencies MemoryCalls failed folder (Err e) later → is_memory (of_load e) ≡ true
+      → Loads old source rust' m.brings.dependencies MemoryCalls failed folder (Err e) later → input_wants_memory (of_load e) ≡ true
   no_other_fault failed none e later l =
       no_fault folder failed old source rust' root first.asked first.so_far.few fits (λ index' end second. same-changed index' end second ∙ none) e later l

@@ -10,7 +10,7 @@ use Rattle.lockfile.specs.declared.fault.LockFault.{LockFault}
 use Rattle.catalogue.specs.Runs.{Calls}
 use Rattle.catalogue.specs.Sources.{is_source}
 use Rattle.vertices.proofs.Bound.{same-Ok}
-use Rattle.resolver.specs.Faults.{is_memory}
+use Rattle.resolver.specs.Faults.{input_wants_memory}
 use Rattle.resolver.specs.Inputs.{RequestView, AreRead, EndsWith, UnlessMemory, names_of, old_of_bytes, problem_of}
 use Rattle.resolver.specs.Inputs.IsCutShort.{after_loading}
 use Rattle.resolver.specs.Answers.{AreSkips, CanKeep, HoldsOld, IsAnswer, IsKept, IsMisread, IsNew, IsReply, IsUnanswered, IsWritten, MeansSelection, RepliesWith, Resolves, with_skips}
@@ -118,6 +118,6 @@ misread calls failed request before after inputs (fault.ChecksumChanged name ver
 
 pub unanswered : {S : Type 0} (calls : Calls S) (failed : S → ℕ) (request : RequestView) (before after : S) (inputs : Inputs) (f : Fault) → is_source request.source ≡ true
     → AreRead calls failed request before inputs after → RepliesWith request.old inputs (Err f) → Resolves calls failed request before (Err f) after
-unanswered calls failed request before after inputs f address read h = ended calls failed request before after inputs (is_memory f) read
+unanswered calls failed request before after inputs f address read h = ended calls failed request before after inputs (input_wants_memory f) read
     (λ (w : (HoldsOld inputs → ⊥) × IsMisread inputs f). inr (misread calls failed request before after inputs f address read
     (λ can. w.0 (can-hold request.old inputs read.lock_says can)) w.1)) h

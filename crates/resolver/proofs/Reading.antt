@@ -1,7 +1,7 @@
 -- A fault of an input is the fault of the reading of all inputs.
 use Rattle.std.proofs.Common.{◌≡◌, ℕ, List, [], ◌∷◌, ◌++◌, Option, Some, None, Result, Ok, Err, option_map, inl, inr, refl, subst, ap, ◌∙◌}
 use Rattle.std.specs.Borrow.{Bor}
-use Rattle.catalogue.specs.Loads.{Loads, packages_of, rust_for}
+use Rattle.catalogue.specs.Loads.{Loads, packages_of_old, rust_for}
 use Rattle.catalogue.specs.Problems.{names_in}
 use Rattle.catalogue.specs.Stores.{CatalogueView}
 use Rattle.model.specs.Content.{Content}
@@ -17,17 +17,17 @@ use Rattle.catalogue.specs.declared.fault.LoadFault.{LoadFault}
 use Rattle.catalogue.specs.declared.fault.LoadFault.TheVariants as load
 use Rattle.model.specs.Outcome.{Faults}
 use Rattle.resolver.specs.Faults.{of_manifest, of_lock, of_load}
-use Rattle.resolver.specs.Inputs.{RequestView, IsCutShort, ReadsInputs, LoadsFor, old_of_bytes, packages_in}
+use Rattle.resolver.specs.Inputs.{RequestView, IsCutShort, ReadsInputs, LoadsFor, old_of_bytes, old_packages}
 use Rattle.resolver.specs.Inputs.IsInputFault.{by_manifest, by_lock, by_index}
 use Rattle.resolver.specs.Inputs.IsCutShort.{before_loading, while_loading, while_asking}
 
 -- the packages behind a reference to the old lock
-packages_behind : (old : Option (Bor Content)) → packages_of old ≡ packages_in (option_map (λ c. c.now) old)
+packages_behind : (old : Option (Bor Content)) → packages_of_old old ≡ old_packages (option_map (λ c. c.now) old)
 packages_behind None = refl
 packages_behind (Some c) = refl
 
 module _ {S : Type 0} (calls : Calls S) (failed : S → ℕ) (request : RequestView) (before : S) where
-  pub manifest_refused : (e : ManifestFault) → Faults (manifests.is_memory e) e (manifest_of_bytes request.manifest) → ReadsInputs calls failed request before (Err (of_manifest e)) before
+  pub manifest_refused : (e : ManifestFault) → Faults (manifests.wants_memory e) e (manifest_of_bytes request.manifest) → ReadsInputs calls failed request before (Err (of_manifest e)) before
   manifest_refused manifest.OutOfMemory f = ([], before_loading)
   manifest_refused manifest.TooLarge f = by_manifest manifest.TooLarge f
   manifest_refused manifest.NotToml f = by_manifest manifest.NotToml f
@@ -37,7 +37,7 @@ module _ {S : Type 0} (calls : Calls S) (failed : S → ℕ) (request : RequestV
   manifest_refused (manifest.RootFeature fault name) f = by_manifest (manifest.RootFeature fault name) f
 
   pub lock_refused : (m : ManifestView) (e : LockFault) → manifest_of_bytes request.manifest ≡ Ok m
-      → Faults (locks.is_memory e) e (old_of_bytes request.old) → ReadsInputs calls failed request before (Err (of_lock e)) before
+      → Faults (locks.wants_memory e) e (old_of_bytes request.old) → ReadsInputs calls failed request before (Err (of_lock e)) before
   lock_refused m lock.OutOfMemory h f = ([], before_loading)
   lock_refused m lock.TooLarge h f = by_lock m lock.TooLarge h f
   lock_refused m lock.NotToml h f = by_lock m lock.NotToml h f
@@ -60,6 +60,6 @@ module _ {S : Type 0} (calls : Calls S) (failed : S → ℕ) (request : RequestV
 
   -- loading with a reference to the old lock
   pub loads_with : (m : ManifestView) (o : Option (Bor Content)) (old : Option Content) (r : Result CatalogueView LoadFault) (after : S) → option_map (λ c. c.now) o ≡ old
-      → Loads (packages_of o) request.source (rust_for request.prefer m.rust_version) m.brings.dependencies calls failed before r after → LoadsFor calls failed request before m old r after
+      → Loads (packages_of_old o) request.source (rust_for request.prefer m.rust_version) m.brings.dependencies calls failed before r after → LoadsFor calls failed request before m old r after
   loads_with m o old r after same l = subst
-      (λ c. Loads c request.source (rust_for request.prefer m.rust_version) m.brings.dependencies calls failed before r after) (packages_behind o ∙ ap packages_in same) l
+      (λ c. Loads c request.source (rust_for request.prefer m.rust_version) m.brings.dependencies calls failed before r after) (packages_behind o ∙ ap old_packages same) l

@@ -16,8 +16,8 @@ use Rattle.catalogue.specs.declared.store.Prefer.TheVariants.{Newest}
 use Rattle.derivations.specs.Files.{derivation_of_bytes}
 use Rattle.checker.specs.declared.outcome.Check.{Check}
 use Rattle.vertices.proofs.Bound.{same-Ok}
-use Rattle.resolver.specs.Faults.{is_memory}
-use Rattle.resolver.specs.Inputs.{RequestView, AreRead, IsInputFault, LoadsFor, EndsWith, old_of_bytes, packages_in, problem_of}
+use Rattle.resolver.specs.Faults.{input_wants_memory}
+use Rattle.resolver.specs.Inputs.{RequestView, AreRead, IsInputFault, LoadsFor, EndsWith, old_of_bytes, old_packages, problem_of}
 use Rattle.resolver.specs.Inputs.IsInputFault.{by_manifest, by_lock, by_index}
 use Rattle.resolver.specs.Answers.{IsAnswer, Resolves}
 use Rattle.resolver.specs.Answers.IsAnswer.{kept_lock, new_lock, no_lock}
@@ -55,14 +55,14 @@ module _ (failed : Files → ℕ) (folder : Files) (request : RequestView) (inpu
       let held : other.old ≡ inputs.old = same-Ok other.old inputs.old (sym read.lock_says ∙ first.lock_says) in
       let loads = loads-same other.manifest other.old (Ok other.catalogue) later is held read.loads in
       ap (λ m. problem_in m other.catalogue) is
-      ∙ same-problem folder manifest (packages_in inputs.old) request.source (rust request.prefer) (rust prefer) inputs.catalogue after first.loads.0 other.catalogue later loads.0
+      ∙ same-problem folder manifest (old_packages inputs.old) request.source (rust request.prefer) (rust prefer) inputs.catalogue after first.loads.0 other.catalogue later loads.0
 
   -- and no fault of an input is left
-  pub unrefused : (f : Fault) (later : Files) → IsInputFault MemoryCalls failed again folder f later → is_memory f ≡ true
+  pub unrefused : (f : Fault) (later : Files) → IsInputFault MemoryCalls failed again folder f later → input_wants_memory f ≡ true
   unrefused f later (by_manifest e h) = absurd (ok-err (manifest_of_bytes request.manifest) manifest e first.manifest_says h)
   unrefused f later (by_lock m e h k) = absurd (ok-err (old_of_bytes request.old) inputs.old e first.lock_says k)
   unrefused f later (by_index m old e end h k l) =
-      no_other_fault folder manifest (packages_in inputs.old) request.source (rust request.prefer) (rust prefer) inputs.catalogue after first.loads.0 failed first.loads.1 e end
+      no_other_fault folder manifest (old_packages inputs.old) request.source (rust request.prefer) (rust prefer) inputs.catalogue after first.loads.0 failed first.loads.1 e end
       (loads-same m old (Err e) end (same-Ok m manifest (sym h ∙ first.manifest_says)) (same-Ok old inputs.old (sym k ∙ first.lock_says)) l)
 
 -- the derivation of an answer is accepted, if it has one
@@ -82,9 +82,9 @@ pub proved : (failed : Files → ℕ) (folder : Files) (request : RequestView) (
 proved failed folder request derivation text skips after bytes (Ok check) later first reads second =
     let same = problem-same failed folder request first.inputs after first.read Newest second.inputs later second.read in
     second.checked.proves.1 (derivation, reads, subst (λ q. IsAccepted q derivation) (sym same) (accepted-in request.old first.inputs (Unsolvable derivation text skips) first.is))
-proved failed folder request derivation text skips after bytes (Err (Input f)) later first reads second = by (is_memory f) refl second
+proved failed folder request derivation text skips after bytes (Err (Input f)) later first reads second = by (input_wants_memory f) refl second
   where
-    by : (b : Bool) → is_memory f ≡ b → EndsWith MemoryCalls failed (to_check request) folder b (IsInputFault MemoryCalls failed (to_check request) folder f later) later → is_memory f ≡ true
+    by : (b : Bool) → input_wants_memory f ≡ b → EndsWith MemoryCalls failed (to_check request) folder b (IsInputFault MemoryCalls failed (to_check request) folder f later) later → input_wants_memory f ≡ true
     by true e s = e
     by false e r = unrefused failed folder request first.inputs after first.read Newest f later r
 proved failed folder request derivation text skips after bytes (Err (Proof fault)) later first reads second = ok-err (derivation_of_bytes bytes) derivation fault reads (second.no_derivation).says

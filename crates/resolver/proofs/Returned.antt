@@ -19,8 +19,8 @@ use Rattle.catalogue.specs.declared.store.Prefer.{Prefer}
 use Rattle.catalogue.specs.declared.store.Prefer.TheVariants.{Newest}
 use Rattle.selection.specs.declared.verdict.Verdict.{Verdict}
 use Rattle.vertices.proofs.Bound.{same-Ok, same-Some}
-use Rattle.resolver.specs.Faults.{is_memory}
-use Rattle.resolver.specs.Inputs.{RequestView, AreRead, IsInputFault, IsCutShort, IsSoFarFor, LoadsFor, EndsWith, names_of, old_of_bytes, packages_in, problem_of}
+use Rattle.resolver.specs.Faults.{input_wants_memory}
+use Rattle.resolver.specs.Inputs.{RequestView, AreRead, IsInputFault, IsCutShort, IsSoFarFor, LoadsFor, EndsWith, names_of, old_of_bytes, old_packages, problem_of}
 use Rattle.resolver.specs.Inputs.IsInputFault.{by_manifest, by_lock, by_index}
 use Rattle.resolver.specs.Inputs.IsCutShort.{before_loading, while_loading, while_asking, after_loading}
 use Rattle.resolver.specs.Answers.{CanKeep, IsAnswer, IsAnswered, IsUnanswered, MeansSelection, Resolves, Verifies}
@@ -82,22 +82,22 @@ module _ (failed : Files → ℕ) (folder : Files) (request : RequestView) (byte
 
       valid-again : IsValidSelection (problem_of inputs) one.content
       valid-again = subst (λ n. IsValidSelection (problem_in n inputs.catalogue) one.content) (sym manifest-is)
-          (still-valid folder failed manifest request.source (rust_for request.prefer manifest.rust_version) (packages_in (first.inputs).old)
+          (still-valid folder failed manifest request.source (rust_for request.prefer manifest.rust_version) (old_packages (first.inputs).old)
           one.content (first.inputs).catalogue after first.read.loads.0 one.valid rust inputs.catalogue later loads-is.0)
 
       can-keep : CanKeep again.old inputs
       can-keep = (bytes.items, refl, record { content = one.content; reads = one.reads; valid = valid-again })
 
       no-more : (name : List ℕ) → Contains (names_of inputs) name → Contains (names_of first.inputs) name
-      no-more = unasked-more folder failed manifest request.source (rust_for request.prefer manifest.rust_version) (packages_in (first.inputs).old)
+      no-more = unasked-more folder failed manifest request.source (rust_for request.prefer manifest.rust_version) (old_packages (first.inputs).old)
           one.content (first.inputs).catalogue after first.read.loads.0 one.valid rust inputs.catalogue later loads-is.0
 
     -- no fault of an input is left
-    refused : (f : Fault) (later : Files) → IsInputFault MemoryCalls failed again folder f later → is_memory f ≡ true
+    refused : (f : Fault) (later : Files) → IsInputFault MemoryCalls failed again folder f later → input_wants_memory f ≡ true
     refused f later (by_manifest e h) = absurd (ok-err (manifest_of_bytes request.manifest) manifest e first.read.manifest_says h)
     refused f later (by_lock m e h k) = absurd (ok-err (old_of_bytes again.old) (Some one.content) e old-is k)
     refused f later (by_index m old e end h k l) =
-        no_other_fault folder failed manifest request.source (rust_for request.prefer manifest.rust_version) (packages_in (first.inputs).old)
+        no_other_fault folder failed manifest request.source (rust_for request.prefer manifest.rust_version) (old_packages (first.inputs).old)
         one.content (first.inputs).catalogue after first.read.loads.0 one.valid rust e end
         (loads-same m old (Err e) end (same-Ok m manifest (sym h ∙ first.read.manifest_says)) (same-Ok old (Some one.content) (sym k ∙ old-is)) l)
 
@@ -109,11 +109,11 @@ module _ (failed : Files → ℕ) (folder : Files) (request : RequestView) (byte
 
     module _ (asked : List Asked) (mid : Files) (so_far : IsSoFarFor MemoryCalls failed again folder manifest (Some one.content) asked mid) where
       so-far-no-more : (name : List ℕ) → Contains (names_in asked) name → Contains (names_of first.inputs) name
-      so-far-no-more name c = so-far-asked folder failed manifest request.source (rust_for request.prefer manifest.rust_version) (packages_in (first.inputs).old)
+      so-far-no-more name c = so-far-asked folder failed manifest request.source (rust_for request.prefer manifest.rust_version) (old_packages (first.inputs).old)
           one.content (first.inputs).catalogue after first.read.loads.0 one.valid rust asked mid so_far name c
 
       next-no-more : (name : List ℕ) → next_name one.content request.source manifest.brings.dependencies asked ≡ Some name → Contains (names_of first.inputs) name
-      next-no-more name next = next-asked folder failed manifest request.source (rust_for request.prefer manifest.rust_version) (packages_in (first.inputs).old)
+      next-no-more name next = next-asked folder failed manifest request.source (rust_for request.prefer manifest.rust_version) (old_packages (first.inputs).old)
           one.content (first.inputs).catalogue after first.read.loads.0 one.valid rust asked mid so_far name next
 
     cut-no-more : (names : List (List ℕ)) (later : Files) → IsCutShort MemoryCalls failed again folder names later → (name : List ℕ) → Contains names name
@@ -129,7 +129,7 @@ module _ (failed : Files → ℕ) (folder : Files) (request : RequestView) (byte
         elim (Contains-push_cases (names_in asked) next-one name c) [
           | inl i ↦ so-far-no-more asked mid before name i
           | inr s ↦ next-no-more asked mid before name
-              (ap₂ (λ (n : ManifestView) o. next_name (packages_in o) request.source n.brings.dependencies asked) (sym is) (sym held) ∙ next ∙ ap Some s)
+              (ap₂ (λ (n : ManifestView) o. next_name (old_packages o) request.source n.brings.dependencies asked) (sym is) (sym held) ∙ next ∙ ap Some s)
         ]
     cut-no-more names later (after_loading inputs end read) name c = no-more inputs end read name c
 
@@ -143,11 +143,11 @@ module _ (failed : Files → ℕ) (folder : Files) (request : RequestView) (byte
       by other (kept_lock more skips' own means skipped) = (sym (same-Some own), refl)
       by other (new_lock more skips' content not_kept reads spelled valid bare_root walk brought skipped) = absurd (not_kept can)
       by other (no_lock derivation text skips' accepted no_selection explained skipped) = absurd (no_selection can.2.content can.2.valid)
-  comes (Err f) later second = by (is_memory f) refl second
+  comes (Err f) later second = by (input_wants_memory f) refl second
     where
-      by : (b : Bool) → is_memory f ≡ b
+      by : (b : Bool) → input_wants_memory f ≡ b
           → EndsWith MemoryCalls failed (again request.prefer) folder b (IsInputFault MemoryCalls failed (again request.prefer) folder f later ⊎ IsUnanswered MemoryCalls failed (again request.prefer) folder f later) later
-          → is_memory f ≡ true
+          → input_wants_memory f ≡ true
       by true e s = e
       by false e (inl r) = refused request.prefer f later r
       by false e (inr u) = absurd (u.not_kept (can-keep request.prefer u.inputs later u.read))
@@ -156,9 +156,9 @@ module _ (failed : Files → ℕ) (folder : Files) (request : RequestView) (byte
   verifies (Ok verdict) later second =
       let same : one.content ≡ second.content = same-Some (sym (lock-is Newest second.inputs later second.read) ∙ second.old) in
       second.selects.1 (subst (IsValidSelection (problem_of second.inputs)) same (valid-again Newest second.inputs later second.read))
-  verifies (Err f) later second = by (is_memory f) refl second
+  verifies (Err f) later second = by (input_wants_memory f) refl second
     where
-      by : (b : Bool) → is_memory f ≡ b → EndsWith MemoryCalls failed (again Newest) folder b (IsInputFault MemoryCalls failed (again Newest) folder f later) later → is_memory f ≡ true
+      by : (b : Bool) → input_wants_memory f ≡ b → EndsWith MemoryCalls failed (again Newest) folder b (IsInputFault MemoryCalls failed (again Newest) folder f later) later → input_wants_memory f ≡ true
       by true e s = e
       by false e r = refused Newest f later r
 

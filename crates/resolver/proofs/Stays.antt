@@ -16,8 +16,8 @@ use Rattle.catalogue.specs.declared.fault.LoadFault.TheVariants as load
 use Rattle.catalogue.specs.declared.fault.Limit.TheVariants as limit
 use Rattle.selection.specs.declared.verdict.Verdict.{Verdict}
 use Rattle.checker.specs.declared.outcome.Check.{Check}
-use Rattle.resolver.specs.Faults.{is_memory}
-use Rattle.resolver.specs.Inputs.{RequestView, AreRead, IsInputFault, IsCutShort, EndsWith, LoadsFor, packages_in}
+use Rattle.resolver.specs.Faults.{input_wants_memory}
+use Rattle.resolver.specs.Inputs.{RequestView, AreRead, IsInputFault, IsCutShort, EndsWith, LoadsFor, old_packages}
 use Rattle.resolver.specs.Inputs.IsInputFault.{by_manifest, by_lock, by_index}
 use Rattle.resolver.specs.Inputs.IsCutShort.{before_loading, while_loading, while_asking, after_loading}
 use Rattle.resolver.specs.Answers.{IsUnanswered, Resolves, Verifies}
@@ -69,7 +69,7 @@ module _ (old : Content) (source : List ℕ) (rust : Option RustVersion) (root :
 
 module _ (failed : Files → ℕ) (request : RequestView) (before : Files) where
   loads-stays : (m : ManifestView) (old : Option Content) (r : Result CatalogueView LoadFault) (after : Files) → LoadsFor MemoryCalls failed request before m old r after → after ≡ before
-  loads-stays m old r after l = load-stays (packages_in old) request.source (rust_for request.prefer m.rust_version) m.brings.dependencies failed before after r l
+  loads-stays m old r after l = load-stays (old_packages old) request.source (rust_for request.prefer m.rust_version) m.brings.dependencies failed before after r l
 
   read-stays : (inputs : Inputs) (after : Files) → AreRead MemoryCalls failed request before inputs after → after ≡ before
   read-stays inputs after read = loads-stays inputs.manifest inputs.old (Ok inputs.catalogue) after read.loads
@@ -92,7 +92,7 @@ module _ (failed : Files → ℕ) (request : RequestView) (before : Files) where
   pub resolve-stays : (result : Result Answer Fault) (after : Files) → Resolves MemoryCalls failed request before result after → after ≡ before
   resolve-stays (Ok answer) after h = read-stays h.inputs after h.read
   resolve-stays (Err f) after h =
-      ended-stays (is_memory f) (IsInputFault MemoryCalls failed request before f after ⊎ IsUnanswered MemoryCalls failed request before f after) after by h
+      ended-stays (input_wants_memory f) (IsInputFault MemoryCalls failed request before f after ⊎ IsUnanswered MemoryCalls failed request before f after) after by h
     where
       by : IsInputFault MemoryCalls failed request before f after ⊎ IsUnanswered MemoryCalls failed request before f after → after ≡ before
       by (inl r) = refused-stays f after r
@@ -100,9 +100,9 @@ module _ (failed : Files → ℕ) (request : RequestView) (before : Files) where
 
   pub verify-stays : (result : Result Verdict Fault) (after : Files) → Verifies MemoryCalls failed request before result after → after ≡ before
   verify-stays (Ok verdict) after h = read-stays h.inputs after h.read
-  verify-stays (Err f) after h = ended-stays (is_memory f) (IsInputFault MemoryCalls failed request before f after) after (refused-stays f after) h
+  verify-stays (Err f) after h = ended-stays (input_wants_memory f) (IsInputFault MemoryCalls failed request before f after) after (refused-stays f after) h
 
   pub check-stays : (bytes : List ℕ) (result : Result Check CheckFault) (after : Files) → Checks MemoryCalls failed request bytes before result after → after ≡ before
   check-stays bytes (Ok check) after h = read-stays h.inputs after h.read
-  check-stays bytes (Err (Input f)) after h = ended-stays (is_memory f) (IsInputFault MemoryCalls failed request before f after) after (refused-stays f after) h
+  check-stays bytes (Err (Input f)) after h = ended-stays (input_wants_memory f) (IsInputFault MemoryCalls failed request before f after) after (refused-stays f after) h
   check-stays bytes (Err (Proof fault)) after h = read-stays h.inputs after h.read

@@ -12,8 +12,8 @@ use Rattle.catalogue.specs.Stores.{CatalogueView}
 use Rattle.catalogue.proofs.LawsIndexes.{chain-answers}
 use Rattle.catalogue.proofs.LawsLists.{all_in, at_in}
 use Rattle.vertices.proofs.Bound.{same-Ok}
-use Rattle.resolver.specs.Faults.{is_memory}
-use Rattle.resolver.specs.Inputs.{RequestView, AreRead, IsInputFault, names_of, packages_in}
+use Rattle.resolver.specs.Faults.{input_wants_memory}
+use Rattle.resolver.specs.Inputs.{RequestView, AreRead, IsInputFault, names_of, old_packages}
 use Rattle.resolver.specs.Answers.{IsAnswer, IsAnswered}
 use Rattle.resolver.specs.Returning.{AreAlike}
 use Rattle.resolver.specs.declared.inputs.Inputs.{Inputs}
@@ -34,12 +34,12 @@ module _ (failed : Files → ℕ) (folder other : Files) (request : RequestView)
   abbrev rust : Option RustVersion
   rust = rust_for request.prefer (inputs.manifest).rust_version
 
-  abbrev loaded : IsLoaded (packages_in inputs.old) request.source rust (inputs.manifest).brings.dependencies MemoryCalls folder inputs.catalogue after
+  abbrev loaded : IsLoaded (old_packages inputs.old) request.source rust (inputs.manifest).brings.dependencies MemoryCalls folder inputs.catalogue after
   loaded = read.loads.0
 
   -- what was asked for stands among the names
   named : (a : Asked) → Contains loaded.asked a → Contains (names_of inputs) a.0
-  named a c = subst (λ ns. Contains ns a.0) (sym (rows-names (packages_in inputs.old) request.source rust inputs.manifest folder inputs.catalogue after loaded))
+  named a c = subst (λ ns. Contains ns a.0) (sym (rows-names (old_packages inputs.old) request.source rust inputs.manifest folder inputs.catalogue after loaded))
       (to_map (λ (a : Asked). a.0) loaded.asked a c)
 
   answers : All (λ a. a.1 ≡ file_at other (path_of a.0)) loaded.asked
@@ -73,17 +73,17 @@ module _ (failed : Files → ℕ) (folder other : Files) (request : RequestView)
       old-is : again.old ≡ inputs.old
       old-is = same-Ok again.old inputs.old (sym second.lock_says ∙ read.lock_says)
 
-      there : IsLoaded (packages_in inputs.old) request.source rust (inputs.manifest).brings.dependencies MemoryCalls other again.catalogue later
+      there : IsLoaded (old_packages inputs.old) request.source rust (inputs.manifest).brings.dependencies MemoryCalls other again.catalogue later
       there = (loads-same failed other request inputs other read-there request.prefer again.manifest again.old (Ok again.catalogue) later manifest-is old-is second.loads).0
 
       catalogue-is : again.catalogue ≡ inputs.catalogue
       catalogue-is = there.is
-          ∙ ap (store_of (packages_in inputs.old) request.source rust (inputs.manifest).brings.dependencies)
-          (asked-same other inputs.manifest (packages_in inputs.old) request.source rust rust inputs.catalogue other read-there.loads.0 again.catalogue later there)
+          ∙ ap (store_of (old_packages inputs.old) request.source rust (inputs.manifest).brings.dependencies)
+          (asked-same other inputs.manifest (old_packages inputs.old) request.source rust rust inputs.catalogue other read-there.loads.0 again.catalogue later there)
           ∙ sym loaded.is
 
   -- nor does it end with a fault of an input
-  pub unrefused-there : (f : Fault) (later : Files) → IsInputFault MemoryCalls failed request other f later → is_memory f ≡ true
+  pub unrefused-there : (f : Fault) (later : Files) → IsInputFault MemoryCalls failed request other f later → input_wants_memory f ≡ true
   unrefused-there = unrefused failed other request inputs other read-there request.prefer
 
 pub answered-there : (failed : Files → ℕ) (folder other : Files) (request : RequestView) (answer again : Answer) (after later : Files)

@@ -12,7 +12,7 @@ use Rattle.catalogue.specs.Problems.{IsProblemOfRun}
 use Rattle.catalogue.specs.Runs.{Calls}
 use Rattle.catalogue.specs.Sources.{is_source}
 use Rattle.reaching.specs.Built.{HasBareRoot}
-use Rattle.resolver.specs.Inputs.{RequestView, AreRead, packages_in, problem_of}
+use Rattle.resolver.specs.Inputs.{RequestView, AreRead, old_packages, problem_of}
 use Rattle.resolver.specs.Answers.{IsChosen, IsUnreadable}
 use Rattle.resolver.specs.declared.inputs.Inputs.{Inputs}
 use Rattle.resolver.proofs.Loaded.{loaded-run}
@@ -21,12 +21,12 @@ use Rattle.resolver.proofs.Writable.{all-writable}
 
 module _ {S : Type 0} (calls : Calls S) (failed : S → ℕ) (request : RequestView) (before : S) (inputs : Inputs) (after : S) (address : is_source request.source ≡ true)
     (read : AreRead calls failed request before inputs after) where
-  run : IsProblemOfRun calls before inputs.manifest (packages_in inputs.old) request.source (problem_of inputs) after
+  run : IsProblemOfRun calls before inputs.manifest (old_packages inputs.old) request.source (problem_of inputs) after
   run = loaded-run calls failed request before inputs after read
 
   pub chosen-writable : (content : Content) → IsChosen inputs content → All IsWritable content
   chosen-writable content chosen =
-      all-writable inputs.manifest (packages_in inputs.old) request.source run.asked (manifest-texts request.manifest inputs.manifest read.manifest_says) address
+      all-writable inputs.manifest (old_packages inputs.old) request.source run.asked (manifest-texts request.manifest inputs.manifest read.manifest_says) address
       run.run.in_turn content (subst (λ (q : Problem). IsValidSelection q content) run.is chosen.valid) (subst (λ (q : Problem). HasBareRoot q content) run.is chosen.bare_root)
 
   pub unreadable : (content : Content) → IsChosen inputs content → content_of_bytes (spelling content) ≢ Ok content → IsUnreadable content

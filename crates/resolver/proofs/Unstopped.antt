@@ -12,7 +12,7 @@ use Rattle.catalogue.specs.Stores.{CatalogueView}
 use Rattle.catalogue.specs.declared.fault.LoadFault.{LoadFault}
 use Rattle.catalogue.specs.declared.fault.LoadFault.TheVariants as fault
 use Rattle.catalogue.specs.declared.fault.Limit.TheVariants as limit
-use Rattle.resolver.specs.Faults.{is_memory, of_load}
+use Rattle.resolver.specs.Faults.{input_wants_memory, of_load}
 use Rattle.resolver.proofs.Stays.{chain-stays}
 
 module _ (folder : Files) (failed : Files → ℕ) (old : Content) (source : List ℕ) (rust : Option RustVersion) (root : List Dependency) (whole : List Asked) (few : length whole ≤ most_names)
@@ -45,7 +45,7 @@ module _ (folder : Files) (failed : Files → ℕ) (old : Content) (source : Lis
       let many = f.too_many in
       omega (arith, fit, many)
 
-  pub no_fault : (e : LoadFault) (later : Files) → Loads old source rust root MemoryCalls failed folder (Err e) later → is_memory (of_load e) ≡ true
+  pub no_fault : (e : LoadFault) (later : Files) → Loads old source rust root MemoryCalls failed folder (Err e) later → input_wants_memory (of_load e) ≡ true
   no_fault fault.OutOfMemory later l = refl
   no_fault (fault.FolderFailed path) later l = absurd l.fails.1
   no_fault (fault.TooLarge limit.Names) later l = absurd (few-enough later l)

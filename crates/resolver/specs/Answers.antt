@@ -18,7 +18,7 @@ use Rattle.reaching.specs.Built.{HasBareRoot}
 use Rattle.reaching.specs.Followed.{IsBrought}
 use Rattle.solver.specs.Solving.{IsSelected, IsUnsolvable}
 use Rattle.walks.specs.Preferred.{IsPreferred, preferred_in}
-use Rattle.resolver.specs.Faults.{is_memory}
+use Rattle.resolver.specs.Faults.{input_wants_memory}
 use Rattle.resolver.specs.Inputs.{RequestView, AreRead, IsInputFault, EndsWith, UnlessMemory, problem_of}
 use Rattle.resolver.specs.declared.inputs.Inputs.{Inputs}
 use Rattle.resolver.specs.declared.fault.Fault.{Fault}
@@ -42,7 +42,7 @@ module _ {S : Type 0} (calls : Calls S) (failed : S → ℕ) (request : RequestV
 
   abbrev pub Verifies : Result Verdict Fault → S → Type 0
   Verifies (Ok verdict) after = IsVerdictFor verdict after
-  Verifies (Err f) after = EndsWith calls failed request before (is_memory f) (IsInputFault calls failed request before f after) after
+  Verifies (Err f) after = EndsWith calls failed request before (input_wants_memory f) (IsInputFault calls failed request before f after) after
 
 -- ---- the answer to a manifest
 
@@ -145,7 +145,7 @@ pub record IsWritten (content : Content) (bytes : List ℕ) : Type 0 where
 
 abbrev pub Writes : Content → Result (Vec ℕ Global) Fault → Type 0
 Writes content (Ok bytes) = IsWritten content bytes.items
-Writes content (Err f) = UnlessMemory (is_memory f) ((f ≡ fault.NotReadBack) × (content_of_bytes (spelling content) ≢ Ok content))
+Writes content (Err f) = UnlessMemory (input_wants_memory f) ((f ≡ fault.NotReadBack) × (content_of_bytes (spelling content) ≢ Ok content))
 
 -- an answer but for the skipped lines
 abbrev pub IsReply : Option (List ℕ) → Inputs → Reply → Type 0
@@ -159,7 +159,7 @@ with_skips (reply.Unsolvable derivation text) skips = Unsolvable derivation text
 -- the same, or that there is none
 abbrev pub RepliesWith : Option (List ℕ) → Inputs → Result Reply Fault → Type 0
 RepliesWith old inputs (Ok given) = IsReply old inputs given
-RepliesWith old inputs (Err f) = UnlessMemory (is_memory f) ((HoldsOld inputs → ⊥) × IsMisread inputs f)
+RepliesWith old inputs (Err f) = UnlessMemory (input_wants_memory f) ((HoldsOld inputs → ⊥) × IsMisread inputs f)
 
 -- ---- the call
 
@@ -183,4 +183,4 @@ module _ {S : Type 0} (calls : Calls S) (failed : S → ℕ) (request : RequestV
 
   abbrev pub Resolves : Result Answer Fault → S → Type 0
   Resolves (Ok answer) after = IsAnswered answer after
-  Resolves (Err f) after = EndsWith calls failed request before (is_memory f) (IsInputFault calls failed request before f after ⊎ IsUnanswered f after) after
+  Resolves (Err f) after = EndsWith calls failed request before (input_wants_memory f) (IsInputFault calls failed request before f after ⊎ IsUnanswered f after) after

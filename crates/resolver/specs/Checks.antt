@@ -10,7 +10,7 @@ use Rattle.checker.specs.RefusedSteps.{IsRefusedAt}
 use Rattle.checker.specs.declared.outcome.Check.{Check}
 use Rattle.checker.specs.declared.outcome.Check.TheVariants.{Proves, Refused}
 use Rattle.checker.specs.declared.outcome.Reason.{Reason}
-use Rattle.resolver.specs.Faults.{is_memory}
+use Rattle.resolver.specs.Faults.{input_wants_memory}
 use Rattle.resolver.specs.Inputs.{RequestView, AreRead, IsInputFault, EndsWith, problem_of}
 use Rattle.resolver.specs.declared.inputs.Inputs.{Inputs}
 use Rattle.resolver.specs.declared.fault.CheckFault.{CheckFault}
@@ -37,7 +37,7 @@ pub record IsNoDerivation (bytes : List ℕ) (fault : DerivationFault) : Type 0 
 -- the check of bytes, for what was loaded: of the inputs' faults only want of memory is left
 abbrev pub Decides : Inputs → List ℕ → Result Check CheckFault → Type 0
 Decides inputs bytes (Ok check) = IsChecked inputs bytes check
-Decides inputs bytes (Err (Input f)) = is_memory f ≡ true
+Decides inputs bytes (Err (Input f)) = input_wants_memory f ≡ true
 Decides inputs bytes (Err (Proof fault)) = IsNoDerivation bytes fault
 
 module _ {S : Type 0} (calls : Calls S) (failed : S → ℕ) (request : RequestView) (bytes : List ℕ) (before : S) where
@@ -54,5 +54,5 @@ module _ {S : Type 0} (calls : Calls S) (failed : S → ℕ) (request : RequestV
 
   abbrev pub Checks : Result Check CheckFault → S → Type 0
   Checks (Ok check) after = IsCheckFor check after
-  Checks (Err (Input f)) after = EndsWith calls failed request before (is_memory f) (IsInputFault calls failed request before f after) after
+  Checks (Err (Input f)) after = EndsWith calls failed request before (input_wants_memory f) (IsInputFault calls failed request before f after) after
   Checks (Err (Proof fault)) after = IsUnread fault after

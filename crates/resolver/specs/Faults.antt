@@ -14,20 +14,20 @@ use Rattle.resolver.specs.declared.fault.Fault.{Fault}
 use Rattle.resolver.specs.declared.fault.CheckFault.{CheckFault}
 use Rattle.resolver.specs.declared.fault.CheckFault.TheVariants.{Input, Proof}
 
-abbrev pub is_memory : Fault → Bool
-is_memory fault.OutOfMemory = true
-is_memory fault.ManifestNotToml = false
-is_memory (fault.ManifestShape part) = false
-is_memory (fault.UnsupportedSource kind) = false
-is_memory (fault.BadRequirement name) = false
-is_memory (fault.RootFeature f name) = false
-is_memory fault.LockNotToml = false
-is_memory fault.LockVersion = false
-is_memory fault.LockShape = false
-is_memory (fault.FolderFailed path) = false
-is_memory (fault.TooLarge which) = false
-is_memory (fault.ChecksumChanged name version) = false
-is_memory fault.NotReadBack = false
+abbrev pub input_wants_memory : Fault → Bool
+input_wants_memory fault.OutOfMemory = true
+input_wants_memory fault.ManifestNotToml = false
+input_wants_memory (fault.ManifestShape part) = false
+input_wants_memory (fault.UnsupportedSource kind) = false
+input_wants_memory (fault.BadRequirement name) = false
+input_wants_memory (fault.RootFeature f name) = false
+input_wants_memory fault.LockNotToml = false
+input_wants_memory fault.LockVersion = false
+input_wants_memory fault.LockShape = false
+input_wants_memory (fault.FolderFailed path) = false
+input_wants_memory (fault.TooLarge which) = false
+input_wants_memory (fault.ChecksumChanged name version) = false
+input_wants_memory fault.NotReadBack = false
 
 -- what is wrong with the manifest, as a fault of a run
 abbrev pub of_manifest : ManifestFault → Fault

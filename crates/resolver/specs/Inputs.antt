@@ -16,7 +16,7 @@ use Rattle.catalogue.specs.declared.store.Prefer.{Prefer}
 use Rattle.resolver.specs.declared.fault.Fault.{Fault}
 use Rattle.resolver.specs.declared.inputs.Inputs.{Inputs}
 use Rattle.resolver.specs.declared.inputs.Request.{Request}
-use Rattle.resolver.specs.Faults.{is_memory, of_manifest, of_lock, of_load}
+use Rattle.resolver.specs.Faults.{input_wants_memory, of_manifest, of_lock, of_load}
 
 -- what a call is given, but for the folder
 pub record RequestView : Type 0 where
@@ -34,9 +34,9 @@ old_of_bytes None = Ok None
 old_of_bytes (Some bytes) = content_of_bytes bytes >>= λ content. Ok (Some content)
 
 -- the packages of the old lock: none where there is no old lock
-abbrev pub packages_in : Option Content → Content
-packages_in None = []
-packages_in (Some content) = content
+abbrev pub old_packages : Option Content → Content
+old_packages None = []
+old_packages (Some content) = content
 
 -- what a selection is held against
 abbrev pub problem_of : Inputs → Problem
@@ -49,11 +49,11 @@ names_of inputs = map (λ row. row.0) (inputs.catalogue).rows
 module _ {S : Type 0} (calls : Calls S) (failed : S → ℕ) (request : RequestView) (before : S) where
   -- how loading ends for this manifest and this old lock
   abbrev pub LoadsFor : ManifestView → Option Content → Result CatalogueView LoadFault → S → Type 0
-  LoadsFor m old = Loads (packages_in old) request.source (rust_for request.prefer m.rust_version) m.brings.dependencies calls failed before
+  LoadsFor m old = Loads (old_packages old) request.source (rust_for request.prefer m.rust_version) m.brings.dependencies calls failed before
 
   -- the folder was asked for these names so far, in order
   abbrev pub IsSoFarFor : ManifestView → Option Content → List Asked → S → Type 0
-  IsSoFarFor m old = IsSoFar (packages_in old) request.source (rust_for request.prefer m.rust_version) m.brings.dependencies calls before
+  IsSoFarFor m old = IsSoFar (old_packages old) request.source (rust_for request.prefer m.rust_version) m.brings.dependencies calls before
 
   -- the manifest and the old lock say this, and the folder's answers give this index
   pub record AreRead (inputs : Inputs) (after : S) : Type 0 where
@@ -77,7 +77,7 @@ module _ {S : Type 0} (calls : Calls S) (failed : S → ℕ) (request : RequestV
         → old_of_bytes request.old ≡ Ok old → IsSoFarFor m old asked after → IsCutShort (names_in asked) after
     -- it was asked for the names so far, and perhaps for the next one, which stands last
     while_asking : (m : ManifestView) (old : Option Content) (asked : List Asked) (mid : S) (name : List ℕ) (after : S) → manifest_of_bytes request.manifest ≡ Ok m
-        → old_of_bytes request.old ≡ Ok old → IsSoFarFor m old asked mid → next_name (packages_in old) request.source m.brings.dependencies asked ≡ Some name
+        → old_of_bytes request.old ≡ Ok old → IsSoFarFor m old asked mid → next_name (old_packages old) request.source m.brings.dependencies asked ≡ Some name
         → length asked < most_names → IsAskedAtMost calls mid name after → IsCutShort (names_in asked ++ name ∷ []) after
     -- it was asked for all
     after_loading : (inputs : Inputs) (after : S) → AreRead inputs after → IsCutShort (names_of inputs) after
@@ -91,7 +91,7 @@ module _ {S : Type 0} (calls : Calls S) (failed : S → ℕ) (request : RequestV
   -- reading all inputs gives them, or the first fault
   abbrev pub ReadsInputs : Result Inputs Fault → S → Type 0
   ReadsInputs (Ok inputs) after = AreRead inputs after
-  ReadsInputs (Err f) after = EndsWith (is_memory f) (IsInputFault f after) after
+  ReadsInputs (Err f) after = EndsWith (input_wants_memory f) (IsInputFault f after) after
 
 -- where no folder is asked, want of memory says nothing
 abbrev pub UnlessMemory : Bool → Type 0 → Type 0

@@ -7,7 +7,7 @@ use Rattle.selection.specs.declared.verdict.Verdict.{Verdict}
 use Rattle.selection.specs.declared.verdict.Verdict.TheVariants.{Valid}
 use Rattle.checker.specs.declared.outcome.Check.{Check}
 use Rattle.checker.specs.declared.outcome.Check.TheVariants.{Proves}
-use Rattle.resolver.specs.Faults.{is_memory}
+use Rattle.resolver.specs.Faults.{input_wants_memory}
 use Rattle.resolver.specs.Inputs.{RequestView}
 use Rattle.resolver.specs.declared.fault.Fault.{Fault}
 use Rattle.resolver.specs.declared.fault.CheckFault.{CheckFault}
@@ -31,17 +31,17 @@ to_check request = record request { prefer = Newest }
 abbrev pub ComesBack : List ℕ → Result Answer Fault → Type 0
 ComesBack bytes (Ok (Lock again kept skips)) = (again.items ≡ bytes) × (kept ≡ true)
 ComesBack bytes (Ok (Unsolvable derivation text skips)) = ⊥
-ComesBack bytes (Err f) = is_memory f ≡ true
+ComesBack bytes (Err f) = input_wants_memory f ≡ true
 
 -- the lock is valid; want of memory alone may come between
 abbrev pub FindsValid : Result Verdict Fault → Type 0
 FindsValid (Ok verdict) = verdict ≡ Valid
-FindsValid (Err f) = is_memory f ≡ true
+FindsValid (Err f) = input_wants_memory f ≡ true
 
 -- the derivation proves that there is no selection; want of memory alone may come between
 abbrev pub FindsProof : Result Check CheckFault → Type 0
 FindsProof (Ok check) = check ≡ Proves
-FindsProof (Err (Input f)) = is_memory f ≡ true
+FindsProof (Err (Input f)) = input_wants_memory f ≡ true
 FindsProof (Err (Proof fault)) = ⊥
 
 -- the answer is a lock

@@ -56,7 +56,7 @@ pub(crate) fn read_inputs<F: Folder>(
 
 /// The content of the old lock, if there is one.
 fn read_old(alloc: Global, old: Option<&[u8]>) -> Result<Option<LockContent>, LockFault>
-    ensures { Gives locks.is_memory (λ o. o) result (old_of_bytes (option_copied old.entry)) }
+    ensures { Gives locks.wants_memory (λ o. o) result (old_of_bytes (option_copied old.entry)) }
 {
     match old {
         Some(bytes) => Ok(Some(lockfile::read(alloc, bytes)?)),

@@ -18,8 +18,8 @@ ghost use Rattle.selection.specs.declared.verdict.Verdict.{Verdict};
 ghost use Rattle.selection.specs.declared.verdict.Verdict.TheVariants.{Valid};
 ghost use Rattle.checker.specs.declared.outcome.Check.{Check};
 ghost use Rattle.resolver.specs.Checks.{Checks};
-ghost use Rattle.resolver.specs.Faults.{is_memory};
-ghost use Rattle.resolver.specs.Inputs.{RequestView, AreRead, IsCutShort, IsInputFault, names_of, old_of_bytes, packages_in, problem_of};
+ghost use Rattle.resolver.specs.Faults.{input_wants_memory};
+ghost use Rattle.resolver.specs.Inputs.{RequestView, AreRead, IsCutShort, IsInputFault, names_of, old_of_bytes, old_packages, problem_of};
 ghost use Rattle.resolver.specs.Answers.{Resolves, Verifies, IsAnswer, IsAnswered, IsChosen};
 ghost use Rattle.resolver.specs.Returning.{handed_in, to_verify, to_check, AreAlike, ComesBack, FindsValid, FindsProof, IsSomeLock, files_of};
 ghost use Rattle.resolver.specs.declared.fault.Fault.{Fault};
@@ -82,7 +82,7 @@ pub fn verified_locks_exclude_refusals()
     ensures { (failed : Files → ℕ) (folder : Files) (request : RequestView) (lock : List ℕ) (content : Content) (old : Option Content) (after : Files) (answer : Answer) (later : Files)
         → Verifies MemoryCalls failed (to_verify request lock) folder (Ok Valid) after → Resolves MemoryCalls failed request folder (Ok answer) later
         → content_of_bytes lock ≡ Ok content → old_of_bytes request.old ≡ Ok old
-        → KeepsYanked (files_of folder) request.source content (packages_in old) → IsSomeLock answer }
+        → KeepsYanked (files_of folder) request.source content (old_packages old) → IsSomeLock answer }
 {}
 
 /// Over one map of files, a derivation that `resolve` gave proves for `check_bytes`, with the same old lock and
@@ -101,7 +101,7 @@ pub fn loaded_inputs_make_a_catalogue<F: Folder>()
     ensures catalogue { (request : RequestView) (before : F) (inputs : Inputs) (after : F) → AreRead F.calls F.failed request before inputs after
         → IsCatalogue (problem_of inputs) }
     ensures run { (request : RequestView) (before : F) (inputs : Inputs) (after : F) → AreRead F.calls F.failed request before inputs after
-        → IsProblemOfRun F.calls before inputs.manifest (packages_in inputs.old) request.source (problem_of inputs) after }
+        → IsProblemOfRun F.calls before inputs.manifest (old_packages inputs.old) request.source (problem_of inputs) after }
 {}
 
 /// Names that weren't asked for can't matter. Where a run over one map of files has read its inputs, every other map
@@ -116,7 +116,7 @@ pub fn names_not_asked_for_cannot_matter()
         → (again : Inputs) (later : Files) → AreRead MemoryCalls failed request other again later → again ≡ inputs }
     ensures unrefused { (failed : Files → ℕ) (folder other : Files) (request : RequestView) (inputs : Inputs) (after : Files)
         → AreRead MemoryCalls failed request folder inputs after → AreAlike (names_of inputs) folder other
-        → (fault : Fault) (later : Files) → IsInputFault MemoryCalls failed request other fault later → is_memory fault ≡ true }
+        → (fault : Fault) (later : Files) → IsInputFault MemoryCalls failed request other fault later → input_wants_memory fault ≡ true }
     ensures answered { (failed : Files → ℕ) (folder other : Files) (request : RequestView) (answer again : Answer) (after later : Files)
         (first : IsAnswered MemoryCalls failed request folder answer after) → AreAlike (names_of first.inputs) folder other
         → IsAnswered MemoryCalls failed request other again later → IsAnswer request.old first.inputs again }

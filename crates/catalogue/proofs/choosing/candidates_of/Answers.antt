@@ -6,7 +6,7 @@ use Rattle.semver.specs.OrderLaws.{precedence_total}
 use Rattle.classes.specs.RustVersions.{rust_version_view}
 use Rattle.model.specs.Candidates.{is_locked, may_be_locked}
 use Rattle.index_reader.specs.Views.{record_view}
-use Rattle.catalogue.specs.Loads.{packages_of, with_ranks}
+use Rattle.catalogue.specs.Loads.{packages_of_old, with_ranks}
 use Rattle.catalogue.specs.Runs.{as_record}
 use Rattle.catalogue.specs.Stores.{candidates_view}
 use Rattle.catalogue.proofs.Chosen.{moved-known, sorted-rise, sorted-chosen, sorted-views}
@@ -23,7 +23,7 @@ kept-requires-clause-known c = moved-known _ _ (IsPermutation-map (λ r. as_reco
 
 pub returns : goal.returns
 returns c =
-    let locked = is_locked (packages_of c.args.run.now.old) c.args.run.now.source.now c.args.name.now in
+    let locked = is_locked (packages_of_old c.args.run.now.old) c.args.run.now.source.now c.args.name.now in
     let rust = option_map rust_version_view c.args.run.now.rust_version in
     let sorted = c.in_ok-sort_by.ensures.sorted (λ x y. is_lt (precedence_cmp x.version y.version)) (ranks_by precedence_total (λ r. r.version)) (answers_always _ _ _ (λ f a r g called. search rules)) in
     let moved = IsPermutation-map (λ r. as_record (record_view r)) _ _ c.sort_by.ensures.permutation in

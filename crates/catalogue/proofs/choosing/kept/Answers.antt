@@ -4,7 +4,7 @@ use Rattle.std.specs.Vec.Iter.{into_iter_items, into_iter_len}
 use Rattle.classes.specs.RustVersions.{rust_version_view}
 use Rattle.model.specs.Candidates.{is_locked}
 use Rattle.index_reader.specs.Views.{record_view}
-use Rattle.catalogue.specs.Loads.{packages_of}
+use Rattle.catalogue.specs.Loads.{packages_of_old}
 use Rattle.catalogue.specs.Runs.{as_record}
 use Rattle.catalogue.specs.Ranks.{rank_of}
 use Rattle.catalogue.specs.Views.{AreRising, AreKnown}
@@ -13,7 +13,7 @@ use Rattle.catalogue.proofs.choosing.kept.Goals as goal
 
 pub records-preserved-in-Continue-branch-4 : goal.records-preserved-in-Continue-branch-4
 records-preserved-in-Continue-branch-4 c =
-    let locked = is_locked (packages_of c.args.run.now.old) c.args.run.now.source.now c.args.name.now in
+    let locked = is_locked (packages_of_old c.args.run.now.old) c.args.run.now.source.now c.args.name.now in
     let rust = option_map rust_version_view c.args.run.now.rust_version in
     let r = as_record (record_view c.in-Some.record) in
     let here : into_iter_items c.records.record-iterator ≡ c.in-Some.record ∷ into_iter_items c.next.new.self = c.in-Some.ensures.steps.0 in
@@ -22,7 +22,7 @@ records-preserved-in-Continue-branch-4 c =
     let counted = c.records.invariant.counted in
     let few = c.records.invariant.few in
     let beside = c.records.invariant.beside in
-    let is : c.is_locked-locked.result ≡ locked r.version = c.is_locked-locked.ensures ∙ ap (λ s. is_locked (packages_of c.args.run.now.old) s c.args.name.now r.version) c.as_str.ensures.text in
+    let is : c.is_locked-locked.result ≡ locked r.version = c.is_locked-locked.ensures ∙ ap (λ s. is_locked (packages_of_old c.args.run.now.old) s c.args.name.now r.version) c.as_str.ensures.text in
     let may = ap (λ b. not r.yanked || b) (sym is) ∙ sym c.may_be_locked.ensures ∙ c.if-may_be_locked.true in
     let rank : c.rank_of-rank.result ≡ rank_of locked rust r = c.rank_of-rank.ensures ∙ rank-is rust r c.is_locked-locked.result (locked r.version) is in
     record {
@@ -38,7 +38,7 @@ records-preserved-in-Continue-branch-4 c =
 
 pub records-preserved : goal.records-preserved
 records-preserved c =
-    let locked = is_locked (packages_of c.args.run.now.old) c.args.run.now.source.now c.args.name.now in
+    let locked = is_locked (packages_of_old c.args.run.now.old) c.args.run.now.source.now c.args.name.now in
     let rust = option_map rust_version_view c.args.run.now.rust_version in
     let r = as_record (record_view c.in-Some.record) in
     let here : into_iter_items c.records.record-iterator ≡ c.in-Some.record ∷ into_iter_items c.next.new.self = c.in-Some.ensures.steps.0 in
@@ -46,7 +46,7 @@ records-preserved c =
     let count = ap length here in
     let counted = c.records.invariant.counted in
     let few = c.records.invariant.few in
-    let is : c.is_locked-locked.result ≡ locked r.version = c.is_locked-locked.ensures ∙ ap (λ s. is_locked (packages_of c.args.run.now.old) s c.args.name.now r.version) c.as_str.ensures.text in
+    let is : c.is_locked-locked.result ≡ locked r.version = c.is_locked-locked.ensures ∙ ap (λ s. is_locked (packages_of_old c.args.run.now.old) s c.args.name.now r.version) c.as_str.ensures.text in
     let may = ap (λ b. not r.yanked || b) (sym is) ∙ sym c.may_be_locked.ensures ∙ c.if-may_be_locked.false in
     record {
       can = tt;
@@ -60,7 +60,7 @@ records-preserved c =
 
 pub invariant_of-result : goal.invariant_of-result
 invariant_of-result c =
-    let locked = is_locked (packages_of c.args.run.now.old) c.args.run.now.source.now c.args.name.now in
+    let locked = is_locked (packages_of_old c.args.run.now.old) c.args.run.now.source.now c.args.name.now in
     let rust = option_map rust_version_view c.args.run.now.rust_version in
     let none : into_iter_items c.records.record-iterator ≡ [] = none-left (into_iter_len c.records.record-iterator) (into_iter_items c.records.record-iterator) c.records.invariant.counted c.in-None.ensures.steps.0 in
     let all = chosen-done locked rust _ c.args.records.items (rw none at c.records.invariant.told) in
@@ -76,7 +76,7 @@ invariant_of-result c =
 
 pub returns : goal.returns
 returns c =
-    let locked = is_locked (packages_of c.args.run.now.old) c.args.run.now.source.now c.args.name.now in
+    let locked = is_locked (packages_of_old c.args.run.now.old) c.args.run.now.source.now c.args.name.now in
     let rust = option_map rust_version_view c.args.run.now.rust_version in
     let none : into_iter_items c.records.record-iterator ≡ [] = none-left (into_iter_len c.records.record-iterator) (into_iter_items c.records.record-iterator) c.records.invariant.counted c.in-None.ensures.steps.0 in
     chosen-done locked rust _ c.args.records.items (rw none at c.records.invariant.told)

@@ -4,7 +4,7 @@ use Rattle.std.proofs.lemmas.List.{length-map, map-append}
 use Rattle.classes.specs.RustVersions.{rust_version_view}
 use Rattle.model.specs.Candidates.{IsApart, is_locked}
 use Rattle.index_reader.specs.Views.{skip_view, contents_view}
-use Rattle.catalogue.specs.Loads.{packages_of, ranked_among}
+use Rattle.catalogue.specs.Loads.{packages_of_old, ranked_among}
 use Rattle.catalogue.specs.Views.{KnowFeatures}
 use Rattle.catalogue.proofs.FileFacts.{file_few, views-same, records-are, skips-are}
 use Rattle.catalogue.proofs.LawsRecords.{records-sound}
@@ -36,7 +36,7 @@ returns g c =
       call = read.call;
       within = read.within;
       ranked = c.in_ok-candidates_of.ensures
-          ∙ ap (ranked_among (is_locked (packages_of c.args.run.now.old) c.args.run.now.source.now name) (option_map rust_version_view c.args.run.now.rust_version))
+          ∙ ap (ranked_among (is_locked (packages_of_old c.args.run.now.old) c.args.run.now.source.now name) (option_map rust_version_view c.args.run.now.rust_version))
           (sym (records-are name read.answer file read.says ∙ views-same c.in_ok-records.records.items));
       added = ap (map skip_view) c.in_ok-append.ensures.items ∙ map-append skip_view c.args.skips.now.items c.in_ok-records.skipped.items
           ∙ ap (λ zs. map skip_view c.args.skips.now.items ++ zs) (sym (skips-are name read.answer file read.says));
