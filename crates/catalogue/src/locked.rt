@@ -10,7 +10,7 @@ ghost use Rattle.catalogue.specs.Loads.{packages_of_old};
 
 use classes::version_order;
 use features::PackageName;
-use lockfile::{source_order, LockContent, Package};
+use lockfile::{LockContent, Package, source_order};
 use semver::Version;
 use std::cmp::Ordering;
 

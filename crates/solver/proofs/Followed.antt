@@ -1,6 +1,5 @@
 -- A content that is followed is the preferred walk, if there is one that is complete and valid.
-use Rattle.std.proofs.Common.{◌≡◌, ℕ, List, Option, Some, None, IfSome, refl, inl, inr}
-use Rattle.std.specs.Prelude.{unwrap_or}
+use Rattle.std.proofs.Common.{◌≡◌, ℕ, List, [], Option, Some, None, IfSome, is_some, true, false, ap, sym, subst, inl, inr}
 use Rattle.model.specs.Content.{Candidate, Content, Problem}
 use Rattle.model.specs.Selection.{IsValidSelection}
 use Rattle.model.specs.Walk.{IsWalk}
@@ -8,7 +7,7 @@ use Rattle.guiding.specs.Guides.{CanFollow}
 use Rattle.reaching.specs.Built.{HasBareRoot}
 use Rattle.reaching.specs.Followed.{IsBrought}
 use Rattle.walks.specs.Preferred.{Answers}
-use Rattle.solver.specs.Solving.{IsFound, IsSelected, IsSolved, derivation_of, with_followed}
+use Rattle.solver.specs.Solving.{IsAnswer, IsFound, IsSelected, IsSolved, derivation_of}
 use Rattle.solver.specs.declared.solving.Outcome.{Outcome}
 use Rattle.solver.specs.declared.solving.Outcome.TheVariants.{Selection, Unsolvable}
 
@@ -18,25 +17,32 @@ module _ (q : Problem) (preferred : List (List ℕ × List Candidate)) where
   can_follow (Some content) answers = answers.valid
 
   module _ (unique : (q : Problem) (preferred : List (List ℕ × List Candidate)) (a b : Content) → IsWalk q preferred a → IsWalk q preferred b → a ≡ b) where
-    selected : (walk : Option Content) → Answers q preferred walk → IfSome walk (λ content. HasBareRoot q content)
-        → (reached : Content) → IsValidSelection q reached → HasBareRoot q reached → IsBrought q reached → IsSelected q preferred (unwrap_or walk reached)
-    selected None answers bare reached valid reached_bare brought = record {
-      valid = valid;
-      bare_root = reached_bare;
+    pub solved : (walk : Option Content) (o : Outcome) → Answers q preferred walk → IfSome walk (λ content. HasBareRoot q content) → IsAnswer q walk o → IsSolved q preferred o
+    solved None (Selection reached) answers bare found = record {
+      valid = found.0;
+      bare_root = found.1;
       walk = λ w is. absurd (answers w is);
-      needed = inl brought;
+      needed = inl found.2;
     }
-    selected (Some content) answers bare reached valid reached_bare brought = record {
+    solved None (Unsolvable derivation) answers bare found = found
+    solved (Some content) o answers bare is = subst (IsSolved q preferred) (sym is) record {
       valid = answers.valid;
       bare_root = bare;
       walk = λ w is. unique q preferred w content is.walk answers.walk;
       needed = inr answers;
     }
 
-    pub solved : (walk : Option Content) (o : Outcome) → Answers q preferred walk → IfSome walk (λ content. HasBareRoot q content) → IsFound q o → IsSolved q preferred (with_followed walk o)
-    solved walk (Selection reached) answers bare found = selected walk answers bare reached found.0 found.1 found.2
-    solved walk (Unsolvable derivation) answers bare found = found
+-- what is found where nothing is followed is the answer
+pub found-answers : (q : Problem) (followed : Option Content) (o : Outcome) → is_some followed ≡ false → IsFound q o → IsAnswer q followed o
+found-answers q None o none found = found
+found-answers q (Some content) o none found = cc
 
-pub same_derivation : (walk : Option Content) (o : Outcome) → derivation_of (with_followed walk o) ≡ derivation_of o
-same_derivation walk (Selection reached) = refl
-same_derivation walk (Unsolvable derivation) = refl
+-- what is followed is the answer
+pub followed-answers : (q : Problem) (followed : Option Content) (o : Outcome) → is_some followed ≡ true → IfSome followed (λ content. o ≡ Selection content) → IsAnswer q followed o
+followed-answers q None o some is = cc
+followed-answers q (Some content) o some is = is
+
+-- and has no derivation
+pub followed-derives_nothing : (followed : Option Content) (o : Outcome) → is_some followed ≡ true → IfSome followed (λ content. o ≡ Selection content) → derivation_of o ≡ []
+followed-derives_nothing None o some is = cc
+followed-derives_nothing (Some content) o some is = ap derivation_of is

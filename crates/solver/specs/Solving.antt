@@ -1,5 +1,5 @@
 -- What a search over a manifest and a loaded index comes to.
-use Rattle.std.specs.Prelude.{◌≡◌, ◌⊎◌, ℕ, List, [], Option, unwrap_or}
+use Rattle.std.specs.Prelude.{◌≡◌, ◌⊎◌, ℕ, List, [], Option, Some, None}
 use Rattle.model.specs.Content.{Candidate, Content, Problem}
 use Rattle.model.specs.Derivation.{IsAccepted, Step}
 use Rattle.model.specs.Selection.{IsValidSelection}
@@ -40,7 +40,7 @@ abbrev pub IsFound : Problem → Outcome → Type 0
 IsFound q (Selection content) = IsValidSelection q content × HasBareRoot q content × IsBrought q content
 IsFound q (Unsolvable derivation) = IsUnsolvable q derivation
 
--- a selection is the content that was followed, if there is one
-abbrev pub with_followed : Option Content → Outcome → Outcome
-with_followed followed (Selection reached) = Selection (unwrap_or followed reached)
-with_followed followed (Unsolvable derivation) = Unsolvable derivation
+-- the content that was followed, if there is one, else what was found
+abbrev pub IsAnswer : Problem → Option Content → Outcome → Type 0
+IsAnswer q (Some followed) o = o ≡ Selection followed
+IsAnswer q None o = IsFound q o

@@ -1,6 +1,6 @@
 //! Solving a manifest over a loaded index (Dart pub's `solver.md`).
 
-ghost use Rattle.std.specs.Prelude.{◌≡◌, ◌≤◌, IfOk, codes};
+ghost use Rattle.std.specs.Prelude.{◌≡◌, ◌≤◌, IfOk, IfSome, codes, is_some, true};
 ghost use Rattle.incompatibilities.specs.Stores.{entries_view};
 ghost use Rattle.catalogue.specs.Problems.{problem_in};
 ghost use Rattle.encoding.specs.Inputs.{problem};
@@ -10,7 +10,7 @@ ghost use Rattle.propagation.specs.Trails.{trail_view};
 ghost use Rattle.refusing.specs.Refusing.{HasNoMore, axioms_of, combinations_of};
 ghost use Rattle.searching.specs.Searching.{AreTouching, IsRefutation};
 ghost use Rattle.searching.specs.Walking.{AreGiven};
-ghost use Rattle.solver.specs.Solving.{IsFound, IsSolved, IsUnsolvable, derivation_of, with_followed};
+ghost use Rattle.solver.specs.Solving.{IsAnswer, IsFound, IsSolved, IsUnsolvable, derivation_of};
 ghost use Rattle.walks.specs.Preferred.{preferred_in};
 
 use crate::counting::axioms_in;
@@ -19,7 +19,7 @@ use derivations::Derivation;
 use encoding::{Inputs, Table};
 use features::{FeatureName, NameFault};
 use gathering::content;
-use guiding::{Searched, search_over};
+use guiding::{Encoded, Searched, search_over};
 use incompatibilities::{Id, Store};
 use laws::accepted_derivations_refute;
 use lockfile::LockContent;
@@ -80,16 +80,46 @@ pub fn solve(
     let searched: Searched<'_, WordStates> = search_over(alloc, inputs, walk)?;
     let steps = searched.found.steps;
     let axioms = axioms_in(&searched.store);
-    let found = outcome_of(alloc, &inputs, &searched)?;
+    let outcome = outcome_of(alloc, &inputs, searched)?;
     Ok(Solved {
-        outcome: with_followed(found, searched.guide.into_followed()),
+        outcome,
         steps,
         axioms,
     })
 }
 
-/// What a search found, as a content or a derivation.
+/// What a search comes to: the content that it followed, if there is one, else what it found.
+///
+/// What the root reaches in the end may be less than that content, where packages hold one another in a circle.
 fn outcome_of<'a, S: States + Drop>(
+    alloc: Global,
+    inputs: &Inputs<'a>,
+    searched: Searched<'a, S>,
+) -> Result<Outcome, AllocError>
+    requires { HasSearched (problem inputs.now) searched.guide (trail_view S.tests searched.trail) (entries_view S.tests searched.store) searched.found.answer }
+    ensures answer { IfOk result (λ o. IsAnswer (problem inputs.now) searched.entry.guide.follows o) }
+    ensures once { IfOk result (λ o. HasNoMore (entries_view S.tests searched.entry.store) (derivation_of o)) }
+{
+    if searched.guide.is_following() {
+        Ok(followed(searched.guide))
+    } else {
+        found(alloc, inputs, &searched)
+    }
+}
+
+/// The content that was followed, as the selection.
+fn followed<'a, S: States + Drop>(guide: Encoded<'a, S>) -> Outcome
+    requires { is_some guide.follows ≡ true }
+    ensures { IfSome guide.entry.follows (λ content. result ≡ Outcome.Selection content) }
+{
+    match guide.into_followed() {
+        Some(content) => Outcome::Selection(content),
+        None => unreachable!(),
+    }
+}
+
+/// What a search found, as a content or a derivation.
+fn found<'a, S: States + Drop>(
     alloc: Global,
     inputs: &Inputs<'a>,
     searched: &Searched<'a, S>,
@@ -108,18 +138,6 @@ fn outcome_of<'a, S: States + Drop>(
             let derivation = why_unsolvable(alloc, inputs, table, &searched.store, last)?;
             Ok(Outcome::Unsolvable(derivation))
         }
-    }
-}
-
-/// An outcome with the content that was followed, if there is one.
-///
-/// What the root reaches in the end may be less than that content, where packages hold one another in a circle.
-fn with_followed(found: Outcome, followed: Option<LockContent>) -> Outcome
-    ensures { result ≡ with_followed followed found }
-{
-    match found {
-        Outcome::Selection(reached) => Outcome::Selection(followed.unwrap_or(reached)),
-        Outcome::Unsolvable(derivation) => Outcome::Unsolvable(derivation),
     }
 }
 
