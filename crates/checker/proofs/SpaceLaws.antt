@@ -18,7 +18,7 @@ use Rattle.looking_up.proofs.Brought.{candidates_are}
 use Rattle.looking_up.proofs.Classed.{all_classed}
 use Rattle.named_terms.proofs.SetLaws.{all_map, all_filter}
 use Rattle.instances.proofs.Spaces.{classes_all}
-use Rattle.checker.specs.Spaces.{has_if_matched}
+use Rattle.instances.specs.FullTerms.{has_if_matched}
 
 module _ (m : ManifestView) (c : CatalogueView) where
   pub classed : (ss : List State) (name : List ℕ) (k : Class) (vs : List Version) → map parts_of vs ≡ filter (is_of k) (map (λ (r : Record). r.version) (candidates_at c name)) → has_state ss absent ≡ true
@@ -31,6 +31,7 @@ module _ (m : ManifestView) (c : CatalogueView) where
   pub matched_all : (ss : List State) (o : Owner) (i : ℕ) (d : Dependency) (vs : List Version) → map parts_of vs ≡ map (λ (r : Record). r.version) (candidates_at c d.real_name)
       → Some d ≡ slice_get (owner_brings (problem_in m c) o).dependencies i → has_state ss absent ≡ true
       → list_all (λ v. has_if_matched ss d.requirement (parts_of v)) vs ≡ is_full (problem_in m c) (at (dep o i) ss)
+  unfolding has_if_matched
   matched_all ss o i d vs same is here =
       sym (all_map parts_of (has_if_matched ss d.requirement) vs)
       ∙ ap (list_all (has_if_matched ss d.requirement)) same

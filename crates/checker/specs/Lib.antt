@@ -4,7 +4,6 @@ pub mod Decoded
 pub mod Naming
 pub mod Prepared
 pub mod Ready
-pub mod Spaces
 pub mod Steps
 pub mod Answers
 pub mod RefusedSteps

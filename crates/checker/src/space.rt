@@ -1,25 +1,24 @@
 //! Whether a set has all states that its vertex may have.
 
-ghost use Rattle.std.specs.Prelude.{◌≡◌, ◌++◌, slice_get, option_map};
+ghost use Rattle.std.specs.Prelude.{◌≡◌, ◌++◌};
 ghost use Rattle.std.specs.List.{list_all};
 ghost use Rattle.semver.specs.Identifiers.{parts_of};
 ghost use Rattle.model.specs.Axioms.{at, is_full};
-ghost use Rattle.model.specs.Vertices.{has_state, owner_brings};
+ghost use Rattle.model.specs.Vertices.{has_state};
 ghost use Rattle.model.specs.Vertices as model;
-ghost use Rattle.features.specs.Views.{dependency_view, dependency_views, requirement_view};
+ghost use Rattle.features.specs.Views.{requirement_view};
 ghost use Rattle.catalogue.specs.Problems.{problem_in};
-ghost use Rattle.vertices.specs.Views.{owner_view, vertex_view};
+ghost use Rattle.vertices.specs.Views.{vertex_view};
 ghost use Rattle.vertices.specs.RefViews.{state_ref_view};
-ghost use Rattle.checker.specs.Spaces.{has_if_matched};
+ghost use Rattle.instances.specs.FullTerms.{has_if_matched};
 
 use catalogue::Catalogue;
 use classes::{Class, is_matched};
-use features::Dependency;
-use looking_up::class_versions;
+use looking_up::{Problem, class_versions, dependency_at};
 use manifest::Manifest;
 use named_terms::StateSet;
 use semver::{Version, VersionReq};
-use vertices::{Owner, StateRef, Vertex};
+use vertices::{StateRef, Vertex};
 
 /// Whether two sets together have all states of a vertex.
 pub(crate) fn is_full(
@@ -40,7 +39,11 @@ pub(crate) fn is_full(
         }
         Vertex::Package(name, class) => has_versions(class_versions(catalogue, name, *class), a, b),
         Vertex::Dependency(owner, number) => {
-            match dependency_at(manifest, catalogue, owner, *number) {
+            let problem = Problem {
+                manifest,
+                catalogue,
+            };
+            match dependency_at(&problem, &owner.borrowed(), *number as usize) {
                 Some(dependency) => has_matching(
                     catalogue.versions(&dependency.real_name),
                     &dependency.requirement,
@@ -50,35 +53,6 @@ pub(crate) fn is_full(
                 None => true,
             }
         }
-    }
-}
-
-/// The dependency of this number.
-fn dependency_at<'a>(
-    manifest: &'a Manifest,
-    catalogue: &'a Catalogue,
-    owner: &Owner,
-    number: u32,
-) -> Option<&'a Dependency>
-    ensures { option_map (λ d. dependency_view d.now) result ≡ slice_get (owner_brings (problem_in manifest.entry.now catalogue.entry.now) (owner_view owner.now)).dependencies number }
-{
-    dependencies_of(manifest, catalogue, owner).get(number as usize)
-}
-
-/// The dependencies of an owner: none, where it isn't there.
-fn dependencies_of<'a>(
-    manifest: &'a Manifest,
-    catalogue: &'a Catalogue,
-    owner: &Owner,
-) -> &'a [Dependency]
-    ensures { dependency_views result.now ≡ (owner_brings (problem_in manifest.entry.now catalogue.entry.now) (owner_view owner.now)).dependencies }
-{
-    match owner {
-        Owner::Root => manifest.dependencies(),
-        Owner::Version(name, version) => match catalogue.candidate(name, version) {
-            Some(candidate) => candidate.brings.dependencies.as_slice(),
-            None => &[],
-        },
     }
 }
 
@@ -109,6 +83,7 @@ fn has_matching(
         .all(|version| has_if_matched(version, requirement, a, b))
 }
 
+#[tactic(auto, unfolding(instances::specs::FullTerms::has_if_matched))]
 fn has_if_matched(
     version: &Version,
     requirement: &VersionReq,

@@ -19,6 +19,7 @@ mod fault;
 mod feature;
 mod package_table;
 mod reader;
+mod reading;
 mod section;
 mod shape;
 mod table;

@@ -2,24 +2,12 @@
 
 ghost use Rattle.semver.specs.Grammar.{IsValid};
 ghost use Rattle.semver.specs.Identifiers.{parts_of};
-ghost use Rattle.toml.specs.View.{table_view};
-ghost use Rattle.model.specs.Outcome.{Gives};
-ghost use Rattle.manifest.specs.Faults.{wants_memory};
-ghost use Rattle.manifest.specs.Shapes.{all_dependencies, shape_of};
-ghost use Rattle.manifest.specs.ShapeViews.{dependency_views, shape_view};
 
 use crate::dependency::DependencyShape;
-use crate::fault::{ManifestFault, Part};
-use crate::feature::written_features;
-use crate::package_table::{own_package, workspace};
-use crate::section::{Place, sections, target_dependencies};
-use crate::table::is_written;
 use classes::RustVersion;
 use features::{Entry, FeatureName, PackageName};
 use semver::Version;
-use std::alloc::Global;
 use std::collections::BTreeMap;
-use toml::Table;
 
 /// What `[package]` says.
 #[derive(Drop)]
@@ -45,36 +33,4 @@ pub(crate) struct Shape<'a> {
     pub patches: bool,
     /// Whether there are replacements.
     pub replaces: bool,
-}
-
-/// The shape of a manifest, or the first part that has another one.
-#[tactic(auto, unfolding(crate::specs::Shapes::shape_of))]
-pub(crate) fn read_shape(alloc: Global, top: &Table) -> Result<Shape<'_>, ManifestFault>
-    ensures { Gives wants_memory shape_view result (shape_of (table_view top.now)) }
-{
-    let own = own_package(alloc, top)?;
-    let dependencies = all_dependencies(alloc, top)?;
-    let features = written_features(alloc, top)?;
-    let has_members = workspace(top)?;
-    let patches = is_written(top, "patch", Part::Patch)?;
-    let replaces = is_written(top, "replace", Part::Replace)?;
-    Ok(Shape {
-        own,
-        dependencies,
-        features,
-        has_members,
-        patches,
-        replaces,
-    })
-}
-
-/// The dependencies by number: those at the top, then those of the targets.
-#[tactic(auto, unfolding(crate::specs::Shapes::all_dependencies))]
-fn all_dependencies(alloc: Global, top: &Table) -> Result<Vec<DependencyShape<'_>>, ManifestFault>
-    ensures { Gives wants_memory (λ v. dependency_views v.items) result (all_dependencies (table_view top.now)) }
-{
-    let mut found = sections(alloc, top, Place::Top)?;
-    let mut targets = target_dependencies(alloc, top)?;
-    found.append(&mut targets)?;
-    Ok(found)
 }
