@@ -1,0 +1,10 @@
+use Rattle.std.proofs.Common.{◌<◌, length, sym, ap, ◌∙◌, arith}
+use Rattle.std.proofs.lemmas.List.{get_or-map, length-map}
+use Rattle.propagation.specs.Trails.{StepView, no_step, step_view}
+use Rattle.propagation.proofs.trail.Trail.cause_at.Goals as goal
+
+pub returns : goal.returns
+returns g c =
+    let steps = c.args.self.now.steps.items in
+    let within : c.args.place < length steps = omega (arith, c.requires, length-map {B = StepView} steps) in
+    ap (λ (s : _). s.cause) c.index.ensures ∙ sym (ap (λ (s : StepView). s.cause) (get_or-map (step_view g.S.States.tests) steps c.args.place _ no_step within))
