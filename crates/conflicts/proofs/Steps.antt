@@ -1,5 +1,6 @@
 -- The steps of the resolution of a conflict: what each combination keeps, and what the last incompatibility promises.
 use Rattle.std.proofs.Common.{◌≡◌, ℕ, suc, ◌+◌, ◌<◌, ◌≤◌, Bool, true, false, List, [], ◌∷◌, ◌++◌, length, append_assoc, Option, Some, None, refl, sym, ap, ◌∙◌, subst, arith, inl, inr}
+use Rattle.std.specs.Bool.{OnTrue}
 use Rattle.std.specs.Option.{is_some}
 use Rattle.std.proofs.lemmas.Bool.{cases_eq, cases_lt}
 use Rattle.std.proofs.lemmas.List.{get_or_append_left, length-append}
@@ -18,19 +19,17 @@ use Rattle.propagation.specs.declared.satisfying.Satisfier.{Satisfier}
 use Rattle.propagation.proofs.Back.{sets_now}
 use Rattle.propagation.proofs.Combining.{combined_others}
 use Rattle.propagation.proofs.LevelLemmas.{place_low}
-use Rattle.propagation.proofs.Places.{cut_sets, holds_at_ends, sat_later}
+use Rattle.propagation.proofs.Places.{cut_sets, end_is_place, holds_at_ends, kept, past_end, sat_later}
 use Rattle.propagation.proofs.SetLemmas.{meets_of}
 use Rattle.propagation.proofs.Soundness.{trail_grown}
-use Rattle.conflicts.specs.Resolving.{IsAsked, IsCombined, IsFound, IsGained, IsLearned, IsSatisfierOf, Learns, Quiet}
+use Rattle.conflicts.specs.Covering.{Covers}
+use Rattle.conflicts.specs.Resolving.{IsAsked, IsCombined, IsFound, IsGained, IsLearned, IsLone, IsSatisfierOf, IsStart, Learns, Quiet}
+use Rattle.conflicts.proofs.Covered.{stands_before}
 
 -- how many places there are up to the satisfier
 abbrev pub places_left : Option Satisfier → ℕ
 places_left None = 0
 places_left (Some s) = suc s.place
-
--- an entry is not satisfied at the end of a level below the trail's
-abbrev pub IsLone : List EntryView → TrailView → ℕ → Type 0
-IsLone es t id = (l : ℕ) → l < t.level → Sat (end_sets t l) (terms_of es id) → ⊥
 
 -- what was combined so far
 pub record IsResolving (old : List EntryView) (t : TrailView) (es : List EntryView) (current : ℕ) (found : Option Satisfier) : Type 0 where
@@ -74,27 +73,33 @@ axiom_not_combined (Combined a b u x) i j v w e given = given
 pub combined_not_given : (es : List EntryView) (id : ℕ) → IsCombined es id → IsAxiom (entry es id).origin → ⊥
 combined_not_given es id c = axiom_not_combined (entry es id).origin c.first c.second c.vertex c.watches c.origin
 
--- one combination more
-pub record IsStep (old : List EntryView) (t : TrailView) (es : List EntryView) (current : ℕ) (s : Satisfier) (c : ℕ) (made : List TermView) (w : Bool) (new : List EntryView) (id : ℕ) : Type 0 where
+-- one combination more, with what stands in for the cause
+pub record IsStep (old : List EntryView) (t : TrailView) (es : List EntryView) (current : ℕ) (s : Satisfier) (c j : ℕ) (made : List TermView) (w : Bool) (new : List EntryView) (id : ℕ) : Type 0 where
   pub way : IsResolving old t es current (Some s)
   pub asked : IsAsked s (Some c)
   pub id_is : id ≡ length es
-  pub combination : IsCombination s.vertex (entry es current).terms (entry es c).terms made
+  pub stands : j < length es
+  pub covers : Covers (terms_of es c) (terms_of es j)
+  pub combination : IsCombination s.vertex (entry es current).terms (entry es j).terms made
   pub learns : Learns t made w
-  pub grown : new ≡ es ++ record { terms = made; origin = Combined current c s.vertex w } ∷ []
+  pub grown : new ≡ es ++ record { terms = made; origin = Combined current j s.vertex w } ∷ []
 
 -- the cause of the satisfier, of an entry that is being resolved
 pub cause_of : (old : List EntryView) (t : TrailView) (es : List EntryView) (current : ℕ) (s : Satisfier) (c : ℕ) → IsResolving old t es current (Some s) → IsAsked s (Some c) → CauseFits es t (entry es current).terms s (Some c)
 cause_of old t es current s c way asked = subst (CauseFits es t (entry es current).terms s) asked.1 way.here.satisfier.cause
 
--- what comes of the two is satisfied now, as it was before the satisfier
-pub made_sat : (old : List EntryView) (t : TrailView) (es : List EntryView) (current : ℕ) (s : Satisfier) (c : ℕ) → IsResolving old t es current (Some s) → IsAsked s (Some c) → (made : List TermView) → IsCombination s.vertex (entry es current).terms (entry es c).terms made → Sat t.sets (states_at made)
-made_sat old t es current s c way asked made is = subst (λ (ss : List Members). Sat ss (states_at made)) (sets_now t)
-    (sat_later t way.trail.sound (states_at made) s.place (length t.steps) (let w = way.here.satisfier.satisfied.within in omega (arith, w)) (omega arith) ((cause_of old t es current s c way asked).1 made is))
+-- what comes of the two is satisfied before the satisfier
+made_before : (old : List EntryView) (t : TrailView) (es : List EntryView) (current : ℕ) (s : Satisfier) (c j : ℕ) → IsResolving old t es current (Some s) → IsAsked s (Some c) → j < length es → Covers (terms_of es c) (terms_of es j) → (made : List TermView) → IsCombination s.vertex (entry es current).terms (entry es j).terms made → Sat (sets_at t s.place) (states_at made)
+made_before old t es current s c j way asked within covers made is = stands_before es t (entry es current).terms made s c j way.trail.lies within (way.trail.lies current way.within) way.here.satisfier.satisfied way.here.satisfier.opens (cause_of old t es current s c way asked).0 covers is
 
-module _ (old : List EntryView) (t : TrailView) (es : List EntryView) (current : ℕ) (s : Satisfier) (c : ℕ) (made : List TermView) (w : Bool) (new : List EntryView) (id : ℕ) (d : IsStep old t es current s c made w new id) where
+-- and so it is now
+pub made_sat : (old : List EntryView) (t : TrailView) (es : List EntryView) (current : ℕ) (s : Satisfier) (c j : ℕ) → IsResolving old t es current (Some s) → IsAsked s (Some c) → j < length es → Covers (terms_of es c) (terms_of es j) → (made : List TermView) → IsCombination s.vertex (entry es current).terms (entry es j).terms made → Sat t.sets (states_at made)
+made_sat old t es current s c j way asked within covers made is = subst (λ (ss : List Members). Sat ss (states_at made)) (sets_now t)
+    (sat_later t way.trail.sound (states_at made) s.place (length t.steps) (let w = way.here.satisfier.satisfied.within in omega (arith, w)) (omega arith) (made_before old t es current s c j way asked within covers made is))
+
+module _ (old : List EntryView) (t : TrailView) (es : List EntryView) (current : ℕ) (s : Satisfier) (c j : ℕ) (made : List TermView) (w : Bool) (new : List EntryView) (id : ℕ) (d : IsStep old t es current s c j made w new id) where
   abbrev last : EntryView
-  last = record { terms = made; origin = Combined current c s.vertex w }
+  last = record { terms = made; origin = Combined current j s.vertex w }
 
   at_new : entry new id ≡ last
   at_new = ap (λ (xs : List EntryView). entry xs id) d.grown ∙ ap (entry (es ++ last ∷ [])) d.id_is ∙ get_or-append_seam es last [] (record { terms = []; origin = Axiom 0 })
@@ -115,18 +120,15 @@ module _ (old : List EntryView) (t : TrailView) (es : List EntryView) (current :
   sound : IsSound t
   sound = d.way.trail.sound
 
-  cause : CauseFits es t (entry es current).terms s (Some c)
-  cause = cause_of old t es current s c d.way d.asked
-
   sat_before : Sat (sets_at t s.place) (terms_of new id)
-  sat_before = subst (λ (e : EntryView). Sat (sets_at t s.place) (states_at e.terms)) (sym at_new) (cause.1 made d.combination)
+  sat_before = subst (λ (e : EntryView). Sat (sets_at t s.place) (states_at e.terms)) (sym at_new) (made_before old t es current s c j d.way d.asked d.stands d.covers made d.combination)
 
   pub sat_now : Sat t.sets (terms_of new id)
   sat_now = subst (λ (ss : List Members). Sat ss (terms_of new id)) (sets_now t)
       (sat_later t sound (terms_of new id) s.place (length t.steps) (let w = d.way.here.satisfier.satisfied.within in omega (arith, w)) (omega arith) sat_before)
 
   lies_made : LiesIn (space_of t) (states_at made)
-  lies_made = lies_combined s.vertex (terms_of es current) (terms_of es c) (states_at made) d.combination.each (space_of t) (d.way.trail.lies current d.way.within) (d.way.trail.lies c cause.0.within)
+  lies_made = lies_combined s.vertex (terms_of es current) (terms_of es j) (states_at made) d.combination.each (space_of t) (d.way.trail.lies current d.way.within) (d.way.trail.lies j d.stands)
 
   lies_new : LieIn t new
   lies_new = by_id (λ i. LiesIn (space_of t) (terms_of new i))
@@ -140,7 +142,7 @@ module _ (old : List EntryView) (t : TrailView) (es : List EntryView) (current :
   -- there
   lone_new : IsLone new t id
   lone_new l lt sat = d.way.here.satisfier.satisfied.others_no l (let top = level_top es t current s sound d.way.lone d.way.here.satisfier d.asked.0 in omega (arith, lt, top))
-      (combined_others (space_of t) (end_sets t l) s.vertex (entry es current).terms (entry es c).terms made d.way.here.is (d.way.trail.lies current d.way.within) (d.way.trail.lies c cause.0.within) d.combination
+      (combined_others (space_of t) (end_sets t l) s.vertex (entry es current).terms (entry es j).terms made d.way.here.is (d.way.trail.lies current d.way.within) (d.way.trail.lies j d.stands) d.combination
       (subst (λ (e : EntryView). Sat (end_sets t l) (states_at e.terms)) at_new sat))
 
   quiet_new : Quiet new t t.level
@@ -169,16 +171,16 @@ module _ (old : List EntryView) (t : TrailView) (es : List EntryView) (current :
   combined_here : IsCombined new id
   combined_here = record {
     first = current;
-    second = c;
+    second = j;
     vertex = s.vertex;
     watches = w;
     origin = ap (λ (e : EntryView). e.origin) at_new;
     first_earlier = (let x = d.way.within in let k = d.id_is in omega (arith, x, k));
-    second_earlier = (let x = cause.0.within in let k = d.id_is in omega (arith, x, k));
+    second_earlier = (let x = d.stands in let k = d.id_is in omega (arith, x, k));
     term = ap (λ (e : EntryView). touches s.vertex e.terms) (at_old current d.way.within) ∙ vertex_touched es t current s sound d.way.here.satisfier;
-    is = subst (λ (e : EntryView). IsCombination s.vertex (entry new current).terms (entry new c).terms e.terms) (sym at_new)
-        (subst (λ (e : EntryView). IsCombination s.vertex e.terms (entry new c).terms made) (sym (at_old current d.way.within))
-        (subst (λ (e : EntryView). IsCombination s.vertex (entry es current).terms e.terms made) (sym (at_old c cause.0.within)) d.combination));
+    is = subst (λ (e : EntryView). IsCombination s.vertex (entry new current).terms (entry new j).terms e.terms) (sym at_new)
+        (subst (λ (e : EntryView). IsCombination s.vertex e.terms (entry new j).terms made) (sym (at_old current d.way.within))
+        (subst (λ (e : EntryView). IsCombination s.vertex (entry es current).terms e.terms made) (sym (at_old j d.stands)) d.combination));
   }
 
   combined_new : (i : ℕ) → length old ≤ i → i < length new → IsCombined new i
@@ -263,23 +265,25 @@ gained_is old t es current found way = (
   way.gained,
   record {
     grown = way.grown;
-    few = (let k = way.few in omega (arith, k));
     combined = way.combined;
     quiet = way.quiet;
   },
 )
 
-pub start_is : (es : List EntryView) (t : TrailView) (id : ℕ) (found : Option Satisfier) → IsTrail es t → id < length es → watched (entry es id).origin ≡ true → Quiet es t t.level → IsFound es t id found → IsResolving es t es id found
-start_is es t id found trail within on quiet f = record {
+pub few_is : (old : List EntryView) (t : TrailView) (es : List EntryView) (current : ℕ) (found : Option Satisfier) → IsResolving old t es current found → length es ≤ length old + length t.steps
+few_is old t es current found way = let k = way.few in omega (arith, k, ap length way.grown, length-append old way.gained)
+
+pub start_is : (es : List EntryView) (t : TrailView) (id : ℕ) (found : Option Satisfier) → IsTrail es t → Quiet es t t.level → IsStart es t id → IsFound es t id found → IsResolving es t es id found
+start_is es t id found trail quiet start f = record {
   gained = [];
   grown = sym (nothing es);
   few = within_all found f;
   combined = λ i from lt. absurd (omega (arith, from, lt));
   quiet = quiet;
-  lone = λ l lt. quiet l lt id within on;
-  learns = λ s is low. on;
+  lone = start.lone;
+  learns = start.learns;
   trail = trail;
-  within = within;
+  within = start.within;
   here = f;
 }
   where
@@ -329,3 +333,33 @@ none_learned t ts w none s is low = absurd (is.first 0 (omega arith) (λ u. subs
 pub no_items : {A : Type 0} (xs : List A) → length xs ≡ 0 → xs ≡ []
 no_items [] e = refl
 no_items (x ∷ xs) e = absurd (omega (arith, e))
+
+-- ---- where a resolution starts
+
+-- at a watched entry
+pub start_watched : (es : List EntryView) (t : TrailView) (id : ℕ) → id < length es → Sat t.sets (terms_of es id) → watched (entry es id).origin ≡ true → Quiet es t t.level → IsStart es t id
+start_watched es t id within sat on quiet = record {
+  within = within;
+  satisfied = sat;
+  lone = λ l lt. quiet l lt id within on;
+  learns = λ s is low. on;
+}
+
+-- or at one that the trail's own level satisfied, where its other terms were satisfied no earlier
+pub start_instead : (es : List EntryView) (t : TrailView) (id : ℕ) (s : Satisfier) → IsTrail es t → id < length es → Sat t.sets (terms_of es id) → IsFound es t id (Some s) → s.before ≡ s.level → s.level ≡ t.level → IsStart es t id
+start_instead es t id s trail within sat f held top = record {
+  within = within;
+  satisfied = sat;
+  lone = lone;
+  learns = λ r is low. absurd (let b = same_before t (terms_of es id) r s is f.satisfier.satisfied in let l = same_level t (terms_of es id) r s is f.satisfier.satisfied in omega (arith, low, b, l, held));
+}
+  where
+    lone : IsLone es t id
+    lone l lt now = elim (cases_lt s.place (kept l t.steps)) [
+      | inl less ↦ absurd (let low = past_end l s.place t.steps less in let is = f.satisfier.satisfied.level in omega (arith, lt, top, low, is))
+      | inr le ↦ f.satisfier.satisfied.first (kept l t.steps) le (subst (λ (ss : List Members). Sat ss (terms_of es id)) (end_is_place t l) now)
+    ]
+
+pub on_true : {P Q : Type 0} (b : Bool) → (P → Q) → OnTrue b P → OnTrue b Q
+on_true true h p = h p
+on_true false h p = tt

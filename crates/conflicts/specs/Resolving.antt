@@ -1,5 +1,5 @@
 -- What the resolution of a conflict finds, learns and leaves (Dart pub's `solver.md`, "Conflict Resolution").
-use Rattle.std.specs.Prelude.{◌≡◌, ℕ, ◌<◌, ◌≤◌, Bool, true, List, [], ◌++◌, length, Option, Some, None}
+use Rattle.std.specs.Prelude.{◌≡◌, ℕ, ◌<◌, ◌≤◌, Bool, true, false, List, [], ◌++◌, length, Option, Some, None}
 use Rattle.version_sets.specs.Sets.{Members}
 use Rattle.incompatibilities.specs.Incompatibilities.{IsCombination, IsIncompatibility, states_at}
 use Rattle.terms.specs.Terms.{TermView}
@@ -9,6 +9,7 @@ use Rattle.propagation.specs.Trails.{StepView, TrailView, end_sets}
 use Rattle.propagation.specs.Satisfaction.{IsOneOpen, Sat}
 use Rattle.propagation.specs.Promises.{CauseFits, IsCut, IsSatisfied, OpenFits}
 use Rattle.propagation.specs.declared.satisfying.Satisfier.{Satisfier}
+use Rattle.conflicts.specs.Covering.{AllLie}
 use Rattle.conflicts.specs.declared.resolving.Resolution.{Resolution}
 use Rattle.conflicts.specs.declared.resolving.Resolution.TheVariants.{Learned, Unsolvable}
 
@@ -35,6 +36,18 @@ pub record IsFound (es : List EntryView) (t : TrailView) (id : ℕ) (found : Opt
 abbrev pub Learns : TrailView → List TermView → Bool → Type 0
 Learns t ts watches = (s : Satisfier) → IsSatisfied t (states_at ts) s → s.before < s.level → watches ≡ true
 
+-- an entry is not satisfied at the end of a level below the trail's
+abbrev pub IsLone : List EntryView → TrailView → ℕ → Type 0
+IsLone es t id = (l : ℕ) → l < t.level → ¬ Sat (end_sets t l) (terms_of es id)
+
+-- where a resolution may start: at an entry that is satisfied, by no earlier level's end, and watched if it is learned
+-- at once
+pub record IsStart (es : List EntryView) (t : TrailView) (id : ℕ) : Type 0 where
+  pub within : id < length es
+  pub satisfied : Sat t.sets (terms_of es id)
+  pub lone : IsLone es t id
+  pub learns : Learns t (entry es id).terms (watched (entry es id).origin)
+
 -- the cause of a satisfier, where the other terms were satisfied at its own level
 abbrev pub IsAsked : Satisfier → Option ℕ → Type 0
 IsAsked s None = s.before < s.level
@@ -52,11 +65,9 @@ pub record IsCombined (es : List EntryView) (id : ℕ) : Type 0 where
   pub term : touches vertex (entry es first).terms ≡ true
   pub is : IsCombination vertex (entry es first).terms (entry es second).terms (entry es id).terms
 
--- a store gains combinations, at most one for each assignment of the trail, and no watched entry is satisfied at the
--- end of an earlier level of that trail
+-- a store gains combinations, and no watched entry is satisfied at the end of an earlier level of a trail
 pub record IsGained (old : List EntryView) (t : TrailView) (new gained : List EntryView) : Type 0 where
   pub grown : new ≡ old ++ gained
-  pub few : length gained ≤ length t.steps
   pub combined : (id : ℕ) → length old ≤ id → id < length new → IsCombined new id
   pub quiet : Quiet new t t.level
 
@@ -84,3 +95,16 @@ pub record IsRefuted (t : TrailView) (es : List EntryView) (new : TrailView) (id
 abbrev pub Resolved : TrailView → List EntryView → TrailView → Resolution → Type 0
 Resolved t es new (Learned id back_to) = IsLearned t es new id back_to
 Resolved t es new (Unsolvable id) = IsRefuted t es new id
+
+-- what a resolution teaches: where a trail is cut as it says, that incompatibility is learned
+abbrev pub Teaches : List EntryView → TrailView → Resolution → Type 0
+Teaches es t (Learned id back_to) = (back_to ≤ t.level) × ((new : TrailView) (gone : List StepView) → IsCut back_to t new gone → IsLearned t es new id back_to)
+Teaches es t (Unsolvable id) = IsRefuted t es t id
+
+-- a store gains combinations that are not watched, of terms that lie where those of the store do
+pub record IsStrengthened (old new : List EntryView) : Type 0 where
+  pub gained : List EntryView
+  pub grown : new ≡ old ++ gained
+  pub combined : (id : ℕ) → length old ≤ id → id < length new → IsCombined new id
+  pub unwatched : (id : ℕ) → length old ≤ id → id < length new → watched (entry new id).origin ≡ false
+  pub lies : (space : ℕ → ℕ) → AllLie space old → AllLie space new

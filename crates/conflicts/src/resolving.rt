@@ -1,15 +1,19 @@
 //! Learning from a satisfied incompatibility, and going back (Dart pub's `solver.md`, "Conflict Resolution").
 
-ghost use Rattle.conflicts.specs.Resolving.{IsAsked, IsFound, IsGained, Learns, Quiet, Resolved};
+ghost use Rattle.conflicts.specs.Covering.{Covers};
+ghost use Rattle.conflicts.specs.Resolving.{IsAsked, IsFound, IsGained, IsStart, Learns, Quiet, Resolved, Teaches};
 ghost use Rattle.incompatibilities.specs.Incompatibilities.{Fit, IsCombination, LiesIn, states_at};
 ghost use Rattle.incompatibilities.specs.Stores.{EntryView, entries_view, entry, terms_of, watched};
 ghost use Rattle.incompatibilities.specs.declared.origin.Origin.TheVariants.{Combined};
 ghost use Rattle.propagation.specs.Promises.{IsSound, IsTrail, SameSpaces};
 ghost use Rattle.propagation.specs.Satisfaction.{Sat};
 ghost use Rattle.propagation.specs.Trails.{space_of, trail_view};
-ghost use Rattle.std.specs.Prelude.{◌≡◌, ◌++◌, ◌∷◌, [], ◌<◌, ◌≤◌, Bool, true, IfOk, List, None, OnErr, length, ℕ};
+ghost use Rattle.std.specs.Bool.{OnTrue};
+ghost use Rattle.std.specs.Prelude.{◌≡◌, ◌++◌, ◌∷◌, [], ◌+◌, ◌<◌, ◌≤◌, Bool, true, IfOk, List, None, OnErr, length, ℕ};
 ghost use Rattle.terms.specs.Terms.{TermView, terms_view};
 
+use crate::standing_in::{StandIns, in_place_of};
+use crate::strengthening::strengthen_used;
 use incompatibilities::{Id, Incompatibility, Origin, Store, combine};
 use propagation::{Satisfier, Trail};
 use std::alloc::{AllocError, Global};
@@ -116,15 +120,124 @@ fn add_combination<S: States + Drop>(
     )
 }
 
-/// Learns from a satisfied incompatibility: combines it with what forced its satisfier, until all its terms but one
-/// were satisfied at an earlier level, and cuts the trail to that level. The store gains each combination, of which the
-/// last, which is learned, and the short ones are watched.
+/// The combination of an entry with a cause, or with what stands in for the cause.
+fn add_with_cause<S: States + Drop>(
+    alloc: Global,
+    trail: &Trail<S>,
+    store: &mut Store<S>,
+    table: &StandIns,
+    current: Id,
+    cause: Id,
+    vertex: usize,
+) -> Result<Id, AllocError>
+    requires current { current < length (entries_view S.tests store.old) }
+    requires cause { cause < length (entries_view S.tests store.old) }
+    requires trail { IsTrail (entries_view S.tests store.old) (trail_view S.tests trail.now) }
+    requires satisfied { (second : ℕ) → second < length (entries_view S.tests store.old) → Covers (terms_of (entries_view S.tests store.old) cause) (terms_of (entries_view S.tests store.old) second) → (made : List TermView) → IsCombination vertex (entry (entries_view S.tests store.old) current).terms (entry (entries_view S.tests store.old) second).terms made → Sat (trail_view S.tests trail.now).sets (states_at made) }
+    ensures added { IfOk result (λ id. (id ≡ length (entries_view S.tests store.old)) × (second : ℕ) × (second < length (entries_view S.tests store.old)) × Covers (terms_of (entries_view S.tests store.old) cause) (terms_of (entries_view S.tests store.old) second) × (made : List TermView) × IsCombination vertex (entry (entries_view S.tests store.old) current).terms (entry (entries_view S.tests store.old) second).terms made × (watches : Bool) × Learns (trail_view S.tests trail.now) made watches × (entries_view S.tests store.new ≡ entries_view S.tests store.old ++ record { terms = made; origin = Combined current second vertex watches } ∷ [])) }
+    ensures kept { OnErr result (entries_view S.tests store.new ≡ entries_view S.tests store.old) }
+{
+    let second = in_place_of(store, table, cause);
+    add_combination(alloc, trail, store, current, second, vertex)
+}
+
+/// Whether the other terms came to be satisfied at the level of the satisfier, and that is the trail's own.
+fn is_at_top(found: Satisfier, level: usize) -> bool
+    ensures { OnTrue result ((found.before ≡ found.level) × (found.level ≡ level)) }
+{
+    if found.before != found.level {
+        return false;
+    }
+    found.level == level
+}
+
+/// Whether a resolution may start at what stands in for a conflict: if no earlier level's end satisfies it, and it
+/// would not be learned at once.
+fn is_start<S: States + Drop>(trail: &Trail<S>, store: &Store<S>, id: Id) -> bool
+    requires trail { IsTrail (entries_view S.tests store.now) (trail_view S.tests trail.now) }
+    requires within { id < length (entries_view S.tests store.now) }
+    requires satisfied { Sat (trail_view S.tests trail.now).sets (terms_of (entries_view S.tests store.now) id) }
+    ensures { OnTrue result (IsStart (entries_view S.tests store.now) (trail_view S.tests trail.now) id) }
+{
+    match satisfier_of(trail, store, id) {
+        Some(found) => is_at_top(found, trail.level()),
+        None => false,
+    }
+}
+
+/// Where a resolution starts: at what stands in for the conflict, if it may, else at the conflict itself.
+fn start_of<S: States + Drop>(trail: &Trail<S>, store: &Store<S>, table: &StandIns, id: Id) -> Id
+    requires trail { IsTrail (entries_view S.tests store.now) (trail_view S.tests trail.now) }
+    requires within { id < length (entries_view S.tests store.now) }
+    requires satisfied { Sat (trail_view S.tests trail.now).sets (terms_of (entries_view S.tests store.now) id) }
+    requires watched { watched (entry (entries_view S.tests store.now) id).origin ≡ true }
+    requires quiet { Quiet (entries_view S.tests store.now) (trail_view S.tests trail.now) (trail_view S.tests trail.now).level }
+    ensures { IsStart (entries_view S.tests store.now) (trail_view S.tests trail.now) result }
+{
+    let instead = in_place_of(store, table, id);
+    if is_start(trail, store, instead) {
+        return instead;
+    }
+    id
+}
+
+/// Combines a satisfied incompatibility with what forced its satisfier, until all its terms but one were satisfied at
+/// an earlier level. The store gains each combination, of which the last, which is learned, and the short ones are
+/// watched. Where the table names what covers an entry, that is used in its place.
+fn resolve<S: States + Drop>(
+    alloc: Global,
+    trail: &Trail<S>,
+    store: &mut Store<S>,
+    table: &StandIns,
+    id: Id,
+) -> Result<Resolution, AllocError>
+    requires trail { IsTrail (entries_view S.tests store.old) (trail_view S.tests trail.now) }
+    requires within { id < length (entries_view S.tests store.old) }
+    requires satisfied { Sat (trail_view S.tests trail.now).sets (terms_of (entries_view S.tests store.old) id) }
+    requires watched { watched (entry (entries_view S.tests store.old) id).origin ≡ true }
+    requires quiet { Quiet (entries_view S.tests store.old) (trail_view S.tests trail.now) (trail_view S.tests trail.now).level }
+    ensures teaches { IfOk result (λ o. Teaches (entries_view S.tests store.new) (trail_view S.tests trail.now) o) }
+    ensures gained { (gained : List EntryView) × IsGained (entries_view S.tests store.old) (trail_view S.tests trail.now) (entries_view S.tests store.new) gained }
+    // At most one for each assignment of the trail.
+    ensures few { length (entries_view S.tests store.new) ≤ length (entries_view S.tests store.old) + length (trail_view S.tests trail.now).steps }
+    ensures trail { IsTrail (entries_view S.tests store.new) (trail_view S.tests trail.now) }
+{
+    // What follows from the axioms and is satisfied now, and the assignment that satisfied it.
+    let mut current = start_of(trail, store, table, id);
+    let mut found = satisfier_of(trail, store, current);
+    'steps: while let Some(satisfier) = found {
+        let (vertex, back_to) = (satisfier.vertex, satisfier.before);
+        let cause = match cause_at_level(satisfier) {
+            Some(cause) => cause,
+            // At the level where the other terms came to be satisfied, the satisfier's own term is open again, so
+            // `current` would have forced the opposite there. It is learned.
+            None => {
+                return Ok(Resolution::Learned {
+                    id: current,
+                    back_to,
+                });
+            }
+        };
+        // Going back would undo the satisfier and other terms alike, and leave nothing to force. But whatever breaks
+        // the combination breaks one of the two, and it was satisfied before the satisfier was put. The vertex has a
+        // term in `current`, which stands first: by that a derivation can name it.
+        current = add_with_cause(alloc, trail, store, table, current, cause, vertex)?;
+        found = satisfier_of(trail, store, current);
+    }
+    // Nothing satisfied it, since it has no term.
+    Ok(Resolution::Unsolvable(current))
+}
+
+/// Learns from a satisfied incompatibility: resolves the conflict, makes what stands in for the entries that this took,
+/// for the next time, and cuts the trail to the level at which all terms of what was learned but one were satisfied.
+/// The store gains combinations alone; those that stand in are not watched.
 ///
 /// Where memory is wanting, the trail is as it was before, and the store has gained some of the combinations.
 pub fn resolve_conflict<S: States + Drop>(
     alloc: Global,
     trail: &mut Trail<S>,
     store: &mut Store<S>,
+    table: &mut StandIns,
     id: Id,
 ) -> Result<Resolution, AllocError>
     requires trail { IsTrail (entries_view S.tests store.old) (trail_view S.tests trail.old) }
@@ -139,29 +252,18 @@ pub fn resolve_conflict<S: States + Drop>(
     ensures spaces { SameSpaces (trail_view S.tests trail.old) (trail_view S.tests trail.new) }
     ensures kept { OnErr result (trail_view S.tests trail.new ≡ trail_view S.tests trail.old) }
 {
-    // What follows from the axioms and is satisfied now, and the assignment that satisfied it.
-    let mut current = id;
-    let mut found = satisfier_of(trail, store, current);
-    'steps: while let Some(satisfier) = found {
-        let (vertex, back_to) = (satisfier.vertex, satisfier.before);
-        let cause = match cause_at_level(satisfier) {
-            Some(cause) => cause,
-            // At the level where the other terms came to be satisfied, the satisfier's own term is open again, so
-            // `current` would have forced the opposite there. It is learned.
-            None => {
-                trail.cut(back_to);
-                return Ok(Resolution::Learned {
-                    id: current,
-                    back_to,
-                });
-            }
-        };
-        // Going back would undo the satisfier and other terms alike, and leave nothing to force. But whatever breaks
-        // the combination breaks one of the two, and it was satisfied before the satisfier was put. The vertex has a
-        // term in `current`, which stands first: by that a derivation can name it.
-        current = add_combination(alloc, trail, store, current, cause, vertex)?;
-        found = satisfier_of(trail, store, current);
+    let first = store.len();
+    let outcome = resolve(alloc, trail, store, table, id)?;
+    match outcome {
+        Resolution::Learned {
+            id: learned,
+            back_to,
+        } => {
+            // What can want memory comes before the trail is cut.
+            strengthen_used(alloc, trail, store, table, id, learned, first)?;
+            trail.cut(back_to);
+            Ok(outcome)
+        }
+        Resolution::Unsolvable(_) => Ok(outcome),
     }
-    // Nothing satisfied it, since it has no term.
-    Ok(Resolution::Unsolvable(current))
 }

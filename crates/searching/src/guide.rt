@@ -81,7 +81,8 @@ pub trait Guide<S: States + Drop>: Sized {
         ensures walks { IfOk result (λ o. IfSome o (λ d. (x : Assignment) → walks self.now x → Agrees x (trail_view S.tests trail.now).sets → x d.0 ≡ d.1)) };
 
     /// Tells that a conflict was resolved, and the trail cut, before what was learned is propagated. `learned` is
-    /// `conflict` or the combination of an entry and a cause; that entry is again `conflict` or such a combination.
+    /// `conflict` or the combination of an entry with a cause, or with what holds at level 0; that entry is again
+    /// `conflict` or such a combination.
     ///
     /// What is kept of it may change what is chosen. The vertices stay, and so does how many pairs are left; fewer
     /// places may count as looked at.

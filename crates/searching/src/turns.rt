@@ -12,7 +12,7 @@ ghost use Rattle.searching.specs.Walking.{AreGiven, IsSelection, IsWalked, Keeps
 ghost use Rattle.std.specs.Prelude.{◌≡◌, ℕ, ◌+◌, ◌<◌, ◌≤◌, ◌⊎◌, [], IfOk};
 
 use crate::guide::Guide;
-use conflicts::{Resolution, resolve_conflict};
+use conflicts::{Resolution, StandIns, resolve_conflict};
 use incompatibilities::{Id, Store};
 use propagation::{Progress, Trail};
 use std::alloc::{AllocError, Global};
@@ -32,8 +32,8 @@ pub enum Answer {
 pub struct Found {
     /// How it ended.
     pub answer: Answer,
-    /// The assignments that the trail ever had, the conflicts that were resolved, and the combinations that these took;
-    /// 2^64 - 1 if there are more.
+    /// The assignments that the trail ever had, the conflicts that were resolved, and the combinations that these took,
+    /// and that were made to stand in for entries; 2^64 - 1 if there are more.
     pub steps: u64,
 }
 
@@ -69,6 +69,7 @@ fn turn_back<S: States + Drop, G: Guide<S>>(
     guide: &mut G,
     trail: &mut Trail<S>,
     store: &mut Store<S>,
+    table: &mut StandIns,
     steps: &mut u64,
     id: Id,
 ) -> Result<Turn, AllocError>
@@ -88,7 +89,7 @@ fn turn_back<S: States + Drop, G: Guide<S>>(
     ensures turns { IfOk result (λ r. TurnsOn (G.walks guide.new) (entries_view S.tests store.old) (trail_view S.tests trail.old) r) }
 {
     let before = store.len();
-    let outcome = resolve_conflict(alloc, trail, store, id)?;
+    let outcome = resolve_conflict(alloc, trail, store, table, id)?;
     *steps = with_conflict(*steps, before, store.len());
     match outcome {
         Resolution::Learned { id: learned, .. } => {
@@ -141,6 +142,7 @@ fn one_turn<S: States + Drop, G: Guide<S>>(
     guide: &mut G,
     trail: &mut Trail<S>,
     store: &mut Store<S>,
+    table: &mut StandIns,
     steps: &mut u64,
     progress: Progress,
 ) -> Result<Turn, AllocError>
@@ -160,7 +162,7 @@ fn one_turn<S: States + Drop, G: Guide<S>>(
     ensures turns { IfOk result (λ r. TurnsOn (G.walks guide.new) (entries_view S.tests store.old) (trail_view S.tests trail.old) r) }
 {
     match progress {
-        Progress::Conflict(id) => turn_back(alloc, guide, trail, store, steps, id),
+        Progress::Conflict(id) => turn_back(alloc, guide, trail, store, table, steps, id),
         Progress::Fixpoint => turn_on(guide, trail, store),
     }
 }
@@ -193,10 +195,11 @@ pub fn search<S: States + Drop, G: Guide<S>>(
     ensures selects { IfOk result (λ f. (x : Assignment) → G.walks guide.new x → IsWalked x (entries_view S.tests store.old) (trail_view S.tests trail.old) → IsSelection f.answer) }
 {
     let mut steps = 0;
+    let mut table = StandIns::new(alloc);
     // An entry that is there from the start may force something, or be satisfied.
     let mut progress = trail.propagate(store)?;
     'turns: loop {
-        match one_turn(alloc, guide, trail, store, &mut steps, progress)? {
+        match one_turn(alloc, guide, trail, store, &mut table, &mut steps, progress)? {
             Turn::Goes(next) => progress = next,
             Turn::Ends(answer) => {
                 return Ok(Found {

@@ -1,4 +1,4 @@
-use Rattle.std.proofs.Common.{◌<◌, [], ◌≡◌, ◌∙◌, ap, length, rules, sym, arith}
+use Rattle.std.proofs.Common.{[], ◌≡◌, ◌∙◌, ap, length, rules, sym, arith}
 use Rattle.std.proofs.lemmas.Bool.{lt-ltb}
 use Rattle.terms.specs.Terms.{terms_view}
 use Rattle.propagation.specs.Trails.{trail_view}
