@@ -11,3 +11,5 @@ pub mod CausesAt
 pub mod Higher
 pub mod Called
 pub mod Narrowed
+pub mod Matched
+pub mod MatchedViews

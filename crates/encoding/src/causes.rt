@@ -220,9 +220,9 @@ fn put_on<'a>(
     own: Own<'a>,
     entry: &'a Entry,
     number: usize,
-    dependency: &Dependency,
+    dependency: &'a Dependency,
 ) -> Result<(), AllocError>
-    ensures { OnOk result (cause_views causes.new.items ≡ cause_views causes.old.items ++ entry_if (problem inputs.now) own.entry.name.now (parts_of own.entry.version.now) own.entry.feature.now (entry_view entry.entry.now) number (dependency_view dependency.now)) }
+    ensures { OnOk result (cause_views causes.new.items ≡ cause_views causes.old.items ++ entry_if (problem inputs.now) own.entry.name.now (parts_of own.entry.version.now) own.entry.feature.now (entry_view entry.entry.now) number (dependency_view dependency.entry.now)) }
 {
     match entry {
         Entry::Feature(_) => Ok(()),
@@ -283,9 +283,9 @@ fn put_weak<'a>(
     called: &'a PackageName,
     asked: &'a FeatureName,
     number: usize,
-    dependency: &Dependency,
+    dependency: &'a Dependency,
 ) -> Result<(), AllocError>
-    ensures { OnOk result (cause_views causes.new.items ≡ cause_views causes.old.items ++ entry_if (problem inputs.now) own.entry.name.now (parts_of own.entry.version.now) own.entry.feature.now (model.weak_feature called.entry.now asked.entry.now) number (dependency_view dependency.now)) }
+    ensures { OnOk result (cause_views causes.new.items ≡ cause_views causes.old.items ++ entry_if (problem inputs.now) own.entry.name.now (parts_of own.entry.version.now) own.entry.feature.now (model.weak_feature called.entry.now asked.entry.now) number (dependency_view dependency.entry.now)) }
 {
     if dependency.name != *called {
         return Ok(());

@@ -210,10 +210,10 @@ fn put_newest<'a>(
     inputs: &Inputs<'a>,
     causes: &mut Vec<Cause<'a>>,
     lead: Lead<'a>,
-    dependency: &Dependency,
-    others: &[Dependency],
+    dependency: &'a Dependency,
+    others: &'a [Dependency],
 ) -> Result<(), AllocError>
-    ensures { OnOk result (cause_views causes.new.items ≡ cause_views causes.old.items ++ each_from (newest_if (problem inputs.now) (owner_ref_view lead.entry.owner) lead.entry.number (class_view lead.entry.class) (dependency_view dependency.now)) 0 (dependency_views others.now)) }
+    ensures { OnOk result (cause_views causes.new.items ≡ cause_views causes.old.items ++ each_from (newest_if (problem inputs.now) (owner_ref_view lead.entry.owner) lead.entry.number (class_view lead.entry.class) (dependency_view dependency.entry.now)) 0 (dependency_views others.entry.now)) }
 {
     let versions = within(
         &dependency.requirement,
@@ -257,11 +257,11 @@ fn is_other(number: usize, name: &PackageName, place: usize, other: &Dependency)
 }
 
 /// The higher classes to which a dependency may lead.
-fn higher_classes(
+fn higher_classes<'a>(
     alloc: Global,
-    inputs: &Inputs<'_>,
+    inputs: &Inputs<'a>,
     class: Class,
-    dependency: &Dependency,
+    dependency: &'a Dependency,
 ) -> Result<IndexSet<Class>, AllocError>
     ensures { IfOk result (λ s. AreHigher (problem inputs.now) (class_view class) (dependency_view dependency.now) (map class_view s.keys)) }
 {
@@ -301,9 +301,9 @@ fn put_others<'a>(
     lead: Lead<'a>,
     real_name: &PackageName,
     higher: &IndexSet<Class>,
-    others: &[Dependency],
+    others: &'a [Dependency],
 ) -> Result<(), AllocError>
-    ensures { OnOk result (cause_views causes.new.items ≡ cause_views causes.old.items ++ each_from (newest_among (problem inputs.now) (map class_view higher.now.keys) (owner_ref_view lead.entry.owner) lead.entry.number (class_view lead.entry.class) real_name.now) 0 (dependency_views others.now)) }
+    ensures { OnOk result (cause_views causes.new.items ≡ cause_views causes.old.items ++ each_from (newest_among (problem inputs.now) (map class_view higher.now.keys) (owner_ref_view lead.entry.owner) lead.entry.number (class_view lead.entry.class) real_name.now) 0 (dependency_views others.entry.now)) }
 {
     'others: for (number, other) in others.iter().enumerate() {
         put_other(
@@ -321,9 +321,9 @@ fn put_other<'a>(
     real_name: &PackageName,
     higher: &IndexSet<Class>,
     number: usize,
-    other: &Dependency,
+    other: &'a Dependency,
 ) -> Result<(), AllocError>
-    ensures { OnOk result (cause_views causes.new.items ≡ cause_views causes.old.items ++ newest_among (problem inputs.now) (map class_view higher.now.keys) (owner_ref_view lead.entry.owner) lead.entry.number (class_view lead.entry.class) real_name.now number (dependency_view other.now)) }
+    ensures { OnOk result (cause_views causes.new.items ≡ cause_views causes.old.items ++ newest_among (problem inputs.now) (map class_view higher.now.keys) (owner_ref_view lead.entry.owner) lead.entry.number (class_view lead.entry.class) real_name.now number (dependency_view other.entry.now)) }
 {
     if lead.number == number {
         return Ok(());
@@ -341,9 +341,9 @@ fn put_higher<'a>(
     real_name: &PackageName,
     higher: &IndexSet<Class>,
     number: usize,
-    other: &Dependency,
+    other: &'a Dependency,
 ) -> Result<(), AllocError>
-    ensures { OnOk result (cause_views causes.new.items ≡ cause_views causes.old.items ++ (if same_text real_name.now (dependency_view other.now).real_name then flat_map (newest_in (map class_view higher.now.keys) (owner_ref_view lead.entry.owner) lead.entry.number number (class_view lead.entry.class)) (dep_classes (problem inputs.now) (dependency_view other.now)) else [])) }
+    ensures { OnOk result (cause_views causes.new.items ≡ cause_views causes.old.items ++ (if same_text real_name.now (dependency_view other.entry.now).real_name then flat_map (newest_in (map class_view higher.now.keys) (owner_ref_view lead.entry.owner) lead.entry.number number (class_view lead.entry.class)) (dep_classes (problem inputs.now) (dependency_view other.entry.now)) else [])) }
 {
     if *real_name != other.real_name {
         return Ok(());

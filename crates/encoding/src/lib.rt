@@ -9,6 +9,8 @@
 //! (`first_pair`, `specs/Pairs`), and belongs to that pair of a vertex and a state: while the vertex doesn't have the
 //! state, the instance isn't broken. So `axioms_at` gives the instances of one pair, and only those of pairs that stand
 //! alone are ever needed. What it gives is found from what the pair's vertex names, with no pass over all owners.
+//! Where a dependency leads is kept by name and requirement (`matched.rt`), so that no requirement is matched twice
+//! against one name; nothing that is stated here rests on what is kept.
 //!
 //! A layer above may rely on the laws at the end of this file. An assignment that breaks none of the entries for the
 //! pairs that hold in it breaks no instance at all; a valid selection breaks no instance over numbers. At most one term
@@ -25,6 +27,7 @@ mod leading;
 mod listing;
 mod lookups;
 mod making;
+mod matched;
 mod narrowing;
 mod pairing;
 mod parts;
@@ -62,6 +65,7 @@ pub use inputs::Inputs;
 pub use instances::instance;
 pub use listing::states_of;
 pub use lookups::dependency_at;
+pub use matched::Matched;
 pub use pairing::causes_at;
 pub use spaces::classes_of;
 pub use states::{space_at, space_of, spaces_are_small, state_at};

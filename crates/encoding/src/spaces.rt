@@ -10,9 +10,8 @@ ghost use Rattle.vertices.specs.RefViews.{owner_ref_view};
 
 use crate::inputs::Inputs;
 use crate::lookups::dependency_at;
-use crate::narrowing::within;
-use catalogue::catalogues_are_well_formed;
-use classes::{Class, matching};
+use crate::matched::match_anew;
+use classes::Class;
 use features::Dependency;
 use std::alloc::{AllocError, Global};
 use vertices::OwnerRef;
@@ -32,29 +31,16 @@ pub(crate) fn classes_at(
     }
 }
 
-/// The classes in which some candidate is matched, lowest first.
-pub fn classes_of(
+/// The classes in which some candidate is matched, lowest first: those that are kept, else it is matched for them.
+pub fn classes_of<'a>(
     alloc: Global,
-    inputs: &Inputs<'_>,
-    dependency: &Dependency,
+    inputs: &Inputs<'a>,
+    dependency: &'a Dependency,
 ) -> Result<Vec<Class>, AllocError>
     ensures { IfOk result (λ ks. map class_view ks.items ≡ dep_classes (problem inputs.now) (dependency_view dependency.now)) }
 {
-    catalogues_are_well_formed(inputs.manifest, inputs.catalogue);
-    let versions = within(
-        &dependency.requirement,
-        inputs.catalogue.versions(&dependency.real_name),
-    );
-    let groups = matching(alloc, &dependency.requirement, versions)?;
-    firsts(alloc, groups.as_slice())
-}
-
-fn firsts(alloc: Global, groups: &[(Class, Vec<u32>)]) -> Result<Vec<Class>, AllocError>
-    ensures { IfOk result (λ ks. map class_view ks.items ≡ map (λ g. class_view g.0) groups.now) }
-{
-    let mut classes = Vec::new(alloc);
-    'groups: for group in groups.iter() {
-        classes.push(group.0)?;
+    match inputs.matched.classes(dependency) {
+        Some(classes) => Vec::from_slice(alloc, classes),
+        None => match_anew(alloc, &inputs.held(), dependency),
     }
-    Ok(classes)
 }

@@ -5,10 +5,12 @@
 mod lines;
 mod loading;
 
+ghost use Rattle.std.specs.Prelude.{◌≡◌};
 ghost use Rattle.encoding.specs.Inputs.{KnowsDefault};
 
 use catalogue::Catalogue;
-use encoding::Inputs;
+use encoding::{Inputs, Matched};
+use features::FeatureName;
 use full_encoding::Encoding;
 use lines::{all_lines, pair_lines, vertex_lines};
 use loading::{default_name, read_index, read_manifest};
@@ -35,20 +37,28 @@ fn tell(rt: &HostRuntime) -> io::Result<()> {
 
 fn tell_over(rt: &HostRuntime, manifest: &Manifest, catalogue: &Catalogue) -> io::Result<()> {
     let default = default_name(rt.alloc())?;
-    let inputs = Inputs {
-        manifest,
-        catalogue,
-        default: &default,
-    };
-    tell_both(rt, inputs)
+    let pairs = tell_whole(rt, inputs_of(rt.alloc(), manifest, catalogue, &default))?;
+    let others = on_demand(
+        rt.alloc(),
+        inputs_of(rt.alloc(), manifest, catalogue, &default),
+    )?;
+    println!(rt; "The same on demand: {}.", others == pairs)
 }
 
-fn tell_both(rt: &HostRuntime, inputs: Inputs<'_>) -> io::Result<()>
-    requires { KnowsDefault inputs }
+fn inputs_of<'a>(
+    alloc: Global,
+    manifest: &'a Manifest,
+    catalogue: &'a Catalogue,
+    default: &'a FeatureName,
+) -> Inputs<'a>
+    ensures { result.default ≡ default.entry }
 {
-    let pairs = tell_whole(rt, inputs)?;
-    let others = on_demand(rt.alloc(), inputs)?;
-    println!(rt; "The same on demand: {}.", others == pairs)
+    Inputs {
+        manifest,
+        catalogue,
+        default,
+        matched: Matched::new(alloc, manifest, catalogue),
+    }
 }
 
 /// Tells what there is where every vertex has a number first. The instances of all pairs.

@@ -47,12 +47,13 @@ impl<'a> Encoding<'a> {
     ///
     /// # Errors
     /// Memory is wanting.
-    pub fn new(alloc: Global, inputs: Inputs<'a>) -> Result<Encoding<'a>, AllocError>
+    pub fn new(alloc: Global, mut inputs: Inputs<'a>) -> Result<Encoding<'a>, AllocError>
         requires default { KnowsDefault inputs }
         ensures problem { IfOk result (λ e. e.problem ≡ problem inputs.entry) }
         ensures whole { IfOk result (λ e. IsWhole (problem inputs.entry) e.vertices) }
         ensures none_waits { IfOk result (λ e. e.waiting ≡ []) }
     {
+        inputs.matched.keep_all(alloc)?;
         let mut table = Table::new(alloc);
         number_all(alloc, &inputs, &mut table)?;
         Encoding::of(alloc, inputs, table)
@@ -162,6 +163,10 @@ impl<'a> Encoding<'a> {
         ensures only { AddsFor self.new.problem (pair_at self.old vertex state) (spoken self.old) (spoken self.new) }
         ensures given { IfOk result (λ xs. IsGivenIf self.new.problem self.new.vertices (pair_at self.old vertex state) (given_views S.tests xs.items)) }
     {
+        let inputs = &mut self.inputs;
+        inputs
+            .matched
+            .keep_at(self.alloc, &self.table, vertex, state)?;
         pair_axioms(
             self.alloc,
             &self.inputs,
@@ -184,6 +189,8 @@ impl<'a> Encoding<'a> {
         ensures whole { IfOk result (λ _. IsWhole self.new.problem self.new.vertices) }
         ensures given { IfOk result (λ xs. IsGivenAll self.new.problem self.new.vertices (given_views S.tests xs.items)) }
     {
+        let inputs = &mut self.inputs;
+        inputs.matched.keep_all(self.alloc)?;
         every_axiom(self.alloc, &self.inputs, &mut self.table, &mut self.spaces)
     }
 }

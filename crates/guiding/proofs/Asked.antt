@@ -10,15 +10,16 @@ use Rattle.propagation.specs.Trails.{TrailView, set_of}
 use Rattle.propagation.specs.Promises.{IsTrail}
 use Rattle.model.specs.Content.{Content}
 use Rattle.model.specs.Vertices.{Vertex, space}
+use Rattle.model.specs.WellFormed.{IsCatalogue}
 use Rattle.encoding.specs.Assignments.{state_at}
-use Rattle.encoding.specs.Inputs.{problem}
-use Rattle.encoding.specs.Numberings.{IsGrown, Numbering}
+use Rattle.encoding.specs.Inputs.{KnowsDefault, problem}
+use Rattle.encoding.specs.Numberings.{IsGrown, IsNumbering, Numbering}
 use Rattle.encoding.specs.Pairs.{Given, IsGivenAt}
 use Rattle.encoding.specs.declared.inputs.Inputs.{Inputs}
 use Rattle.searching.specs.Searching.{HasSpaces, IsOnly, IsSeen, Pairs}
 use Rattle.searching.specs.Searching as searching
 use Rattle.searching.proofs.Seen.{seen_all}
-use Rattle.guiding.specs.Guides.{EncodedView, IsAsking, IsCome, IsEncoding, encoded_view, marked, with_given}
+use Rattle.guiding.specs.Guides.{EncodedView, IsAsking, IsCome, IsEncoding, encoded_view, known, marked, with_given}
 use Rattle.guiding.specs.Remaining.{spaces_of}
 use Rattle.guiding.proofs.Marks.{mark_lengths}
 use Rattle.guiding.proofs.Numbers.{known_at}
@@ -33,6 +34,15 @@ encoding_same i vs asked more e was = record {
   catalogue = was.catalogue;
   numbering = was.numbering;
   spaces = e ∙ was.spaces ∙ ap (λ k. spaces_of (problem i) (take k vs)) (sym (length-map asked length) ∙ sym (ap length e) ∙ length-map more length);
+}
+
+-- where something else is kept of what requirements match
+pub encoding_of : {j : Inputs} (i : Inputs) (vs : Numbering) (asked : List Members) → IsEncoding j vs asked → KnowsDefault i → problem j ≡ problem i → IsEncoding i vs asked
+encoding_of i vs asked was default same = record {
+  default = default;
+  catalogue = subst IsCatalogue same was.catalogue;
+  numbering = subst (λ q. IsNumbering q vs) same was.numbering;
+  spaces = subst (λ q. map length asked ≡ spaces_of q (known vs asked)) same was.spaces;
 }
 
 pub encoding_marked : {A E : Type 0} (r : Result A E) (i : Inputs) (vs : Numbering) (asked more : List Members) (v s : ℕ) → OnOk r (more ≡ marked asked v s) → OnErr r (more ≡ asked) → IsEncoding i vs asked → IsEncoding i vs more

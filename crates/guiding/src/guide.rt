@@ -103,6 +103,13 @@ impl<'a, S: States + Drop> Encoded<'a, S> {
         })
     }
 
+    /// What vertices and axioms are looked up in, with what was matched for them.
+    pub fn inputs(&self) -> &Inputs<'a>
+        ensures { problem result.now ≡ self.now.problem }
+    {
+        &self.inputs
+    }
+
     /// The vertices by number.
     pub fn table(&self) -> &Table<'a>
         ensures { result.now ≡ self.now.vertices }
@@ -145,13 +152,12 @@ impl<'a, S: States + Drop> Encoded<'a, S> {
         requires state { state < length (set_of self.old.asked vertex) }
         ensures { OnOk result (IsAsking vertex state self.old self.new (trail_view S.tests trail.old) (trail_view S.tests trail.new) (entries_view S.tests store.old) (entries_view S.tests store.new)) }
     {
-        let given = axioms_at(
-            self.alloc,
-            &self.inputs,
-            &mut self.table,
-            vertex,
-            state as usize,
-        )?;
+        let number = state as usize;
+        let inputs = &mut self.inputs;
+        inputs
+            .matched
+            .keep_at(self.alloc, &self.table, vertex, number)?;
+        let given = axioms_at(self.alloc, &self.inputs, &mut self.table, vertex, number)?;
         // The vertices first: the store may speak only of those that the trail has.
         come(
             self.alloc,

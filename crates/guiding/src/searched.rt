@@ -39,6 +39,7 @@ pub fn search_over<'a, S: States + Drop>(
 ) -> Result<Searched<'a, S>, AllocError>
     requires default { KnowsDefault inputs }
     requires follows { CanFollow (problem inputs) follows }
+    ensures problem { IfOk result (λ r. r.guide.problem ≡ problem inputs.entry) }
     ensures follows { IfOk result (λ r. r.guide.follows ≡ follows) }
     ensures searched { IfOk result (λ r. HasSearched (problem inputs.entry) r.guide (trail_view S.tests r.trail) (entries_view S.tests r.store) r.found.answer) }
     // There are at least as many steps as combinations.

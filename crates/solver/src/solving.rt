@@ -16,7 +16,7 @@ ghost use Rattle.walks.specs.Preferred.{preferred_in};
 use crate::counting::axioms_in;
 use catalogue::Catalogue;
 use derivations::Derivation;
-use encoding::{Inputs, Table};
+use encoding::{Inputs, Matched, Table};
 use features::{FeatureName, NameFault};
 use gathering::content;
 use guiding::{Encoded, Searched, search_over};
@@ -73,6 +73,7 @@ pub fn solve(
         manifest,
         catalogue,
         default: &default,
+        matched: Matched::new(alloc, manifest, catalogue),
     };
     walks_are_unique();
     // Where there is one, the search decides as it says, and has nothing to go back from.
@@ -80,7 +81,7 @@ pub fn solve(
     let searched: Searched<'_, WordStates> = search_over(alloc, inputs, walk)?;
     let steps = searched.found.steps;
     let axioms = axioms_in(&searched.store);
-    let outcome = outcome_of(alloc, &inputs, searched)?;
+    let outcome = outcome_of(alloc, searched)?;
     Ok(Solved {
         outcome,
         steps,
@@ -93,17 +94,16 @@ pub fn solve(
 /// What the root reaches in the end may be less than that content, where packages hold one another in a circle.
 fn outcome_of<'a, S: States + Drop>(
     alloc: Global,
-    inputs: &Inputs<'a>,
     searched: Searched<'a, S>,
 ) -> Result<Outcome, AllocError>
-    requires { HasSearched (problem inputs.now) searched.guide (trail_view S.tests searched.trail) (entries_view S.tests searched.store) searched.found.answer }
-    ensures answer { IfOk result (λ o. IsAnswer (problem inputs.now) searched.entry.guide.follows o) }
+    requires { HasSearched searched.guide.problem searched.guide (trail_view S.tests searched.trail) (entries_view S.tests searched.store) searched.found.answer }
+    ensures answer { IfOk result (λ o. IsAnswer searched.entry.guide.problem searched.entry.guide.follows o) }
     ensures once { IfOk result (λ o. HasNoMore (entries_view S.tests searched.entry.store) (derivation_of o)) }
 {
     if searched.guide.is_following() {
         Ok(followed(searched.guide))
     } else {
-        found(alloc, inputs, &searched)
+        found(alloc, searched.guide.inputs(), &searched)
     }
 }
 

@@ -1,9 +1,19 @@
-use Rattle.std.proofs.Common.{◌∙◌, arith}
-use Rattle.incompatibilities.specs.Stores.{entries_view}
+use Rattle.std.proofs.Common.{◌<◌, ◌∙◌, List, sym, subst, arith}
+use Rattle.incompatibilities.specs.Stores.{EntryView, entries_view}
+use Rattle.propagation.specs.Promises.{LieIn}
 use Rattle.propagation.specs.Trails.{trail_view}
 use Rattle.encoding.specs.Inputs.{problem}
 use Rattle.guiding.proofs.Ended.{searched_of}
 use Rattle.guiding.proofs.searched.search_over.Goals as goal
+
+pub begin-requires-clause-trail : goal.begin-requires-clause-trail
+begin-requires-clause-trail g c =
+    let t = trail_view g.S.States.tests c.in_ok-trail.trail in
+    c.in_ok-trail.ensures.trail (entries_view g.S.States.tests c.new-store.result)
+    (subst (λ (es : List EntryView). LieIn t es) (sym c.new-store.ensures) (λ id below. let no : id < 0 = below in omega (arith, no)))
+
+pub returns-clause-problem : goal.returns-clause-problem
+returns-clause-problem g c = c.in_ok-found.ensures.keeps.problem ∙ c.in_ok-guide.ensures.problem
 
 pub returns-clause-follows : goal.returns-clause-follows
 returns-clause-follows g c = c.in_ok-found.ensures.keeps.follows_is ∙ c.in_ok-guide.ensures.follows_is

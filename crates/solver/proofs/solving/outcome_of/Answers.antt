@@ -1,7 +1,9 @@
 use Rattle.std.proofs.Common.{◌≡◌, arith, false, is_some, rules, subst, sym, true}
 use Rattle.std.proofs.lemmas.Result.{IfOk-weaker}
 use Rattle.encoding.specs.Inputs.{problem}
+use Rattle.guiding.specs.Guides.{HasSearched}
 use Rattle.incompatibilities.specs.Stores.{entries_view}
+use Rattle.propagation.specs.Trails.{trail_view}
 use Rattle.refusing.specs.Refusing.{HasNoMore}
 use Rattle.solver.specs.Solving.{IsAnswer, IsFound}
 use Rattle.solver.proofs.Followed.{followed-derives_nothing, found-answers}
@@ -14,9 +16,15 @@ returns-then-is_following-clause-once g c =
     subst (HasNoMore (entries_view g.S.States.tests c.args.searched.store)) (sym (followed-derives_nothing follows c.followed.result some c.followed.ensures))
     record { few_axioms = omega arith; few_combined = omega arith }
 
+pub found-requires : goal.found-requires
+found-requires g c =
+    let searched = c.args.searched in
+    subst (λ q. HasSearched q searched.guide (trail_view g.S.States.tests searched.trail) (entries_view g.S.States.tests searched.store) searched.found.answer) (sym c.inputs.ensures)
+    c.requires
+
 pub returns-else-is_following-clause-answer : goal.returns-else-is_following-clause-answer
 returns-else-is_following-clause-answer g c =
-    let q = problem c.args.inputs.now in
     let follows = c.args.searched.guide.follows in
     let none : is_some follows ≡ false = search rules in
-    IfOk-weaker c.found.result (IsFound q) (IsAnswer q follows) (λ o found. found-answers q follows o none found) c.found.ensures.found
+    IfOk-weaker c.found.result (IsFound (problem c.inputs.result.now)) (IsAnswer c.args.searched.guide.problem follows)
+    (λ o found. found-answers c.args.searched.guide.problem follows o none (subst (λ q. IsFound q o) c.inputs.ensures found)) c.found.ensures.found

@@ -15,7 +15,7 @@ returns-clause-solved c =
     let walk = c.in_ok-walk.walk in
     let outcome = c.in_ok-outcome.outcome in
     solved q (preferred_in c.args.catalogue.now) c.walks_are_unique.ensures walk outcome c.in_ok-walk.ensures.answer c.in_ok-walk.ensures.root
-    (subst (λ f. IsAnswer q f outcome) c.in_ok-searched.ensures.follows c.in_ok-outcome.ensures.answer)
+    (subst (λ f. IsAnswer q f outcome) c.in_ok-searched.ensures.follows (subst (λ p. IsAnswer p c.in_ok-searched.searched.guide.follows outcome) c.in_ok-searched.ensures.problem c.in_ok-outcome.ensures.answer))
 
 pub returns-clause-steps : goal.returns-clause-steps
 returns-clause-steps c = omega (arith, c.in_ok-outcome.ensures.once.few_combined, c.in_ok-searched.ensures.counted.combined)

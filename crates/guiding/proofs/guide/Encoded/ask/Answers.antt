@@ -1,9 +1,9 @@
-use Rattle.std.proofs.Common.{◌≤◌, length, map, sym, subst}
+use Rattle.std.proofs.Common.{◌≤◌, length, map, refl, sym, subst}
 use Rattle.std.proofs.lemmas.List.{length-map}
 use Rattle.incompatibilities.specs.Stores.{entries_view}
 use Rattle.encoding.specs.GivenViews.{given_views}
 use Rattle.propagation.specs.Trails.{trail_view}
-use Rattle.guiding.proofs.Asked.{asking_by, encoding_marked, ok_by, state_below}
+use Rattle.guiding.proofs.Asked.{asking_by, encoding_marked, encoding_of, ok_by, state_below}
 use Rattle.guiding.proofs.guide.Encoded.ask.Goals as goal
 
 pub axioms_at-requires-clause-state : goal.axioms_at-requires-clause-state
@@ -12,12 +12,13 @@ axioms_at-requires-clause-state g c = state_below c.self.inside.inputs c.self.in
 pub invariant_of-self-2 : goal.invariant_of-self-2
 invariant_of-self-2 g c =
     let tests = g.S.States.tests in
-    (encoding_marked c.mark.result c.self.inside.inputs c.axioms_at.new.table (map tests c.come.new.asked.items) (map tests c.mark.new.asked.items) c.args.vertex c.args.state c.mark.ensures.ok c.mark.ensures.err c.come.ensures.encoding, c.self.invariant.1)
+    (encoding_marked c.mark.result _ c.axioms_at.new.table (map tests c.come.new.asked.items) (map tests c.mark.new.asked.items) c.args.vertex c.args.state c.mark.ensures.ok c.mark.ensures.err c.come.ensures.encoding, c.self.invariant.1)
 
 pub returns : goal.returns
 returns g c =
     let tests = g.S.States.tests in
     ok_by c.mark.result (λ is. asking_by c.self.inside.inputs c.self.inside.table c.axioms_at.new.table (map tests c.self.inside.asked.items) (map tests c.come.new.asked.items) (map tests c.mark.new.asked.items) c.self.inside.seen c.self.inside.follows c.args.vertex c.args.state c.args.self.now
     (trail_view tests c.args.trail.now) (trail_view tests c.come.new.trail) (entries_view tests c.args.store.now) (entries_view tests c.put_given.new.store) (given_views tests c.in_ok-given.given.items)
-    c.self.view_is c.self.invariant.0 c.axioms_at.ensures.grown c.come.ensures.encoding c.in_ok-come.ensures.came (subst (λ n. length c.axioms_at.new.table ≤ n) (sym (length-map c.come.new.asked.items tests)) c.in_ok-come.ensures.whole) c.come.ensures.trail c.in_ok-given.ensures.given c.in_ok-put_given.ensures is)
+    c.self.view_is c.self.invariant.0 c.axioms_at.ensures.grown
+    (encoding_of c.self.inside.inputs c.axioms_at.new.table (map tests c.come.new.asked.items) c.come.ensures.encoding c.self.invariant.0.default refl) c.in_ok-come.ensures.came (subst (λ n. length c.axioms_at.new.table ≤ n) (sym (length-map c.come.new.asked.items tests)) c.in_ok-come.ensures.whole) c.come.ensures.trail c.in_ok-given.ensures.given c.in_ok-put_given.ensures is)
     c.mark.ensures.ok

@@ -1,6 +1,6 @@
 use Rattle.std.proofs.Common.{◌≡◌, ◌++◌, map, drop}
 use Rattle.classes.specs.Classes.{class_view}
-use Rattle.encoding.proofs.spaces.firsts.Given as goal
+use Rattle.encoding.proofs.matched.firsts.Given as goal
 
 -- the classes so far, with those of the groups that are left, are those of all
 abbrev pub invariant-groups : goal.invariant-groups
