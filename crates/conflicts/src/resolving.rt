@@ -20,7 +20,7 @@ use std::alloc::{AllocError, Global};
 use version_sets::States;
 
 /// An incompatibility of so many terms is short.
-const SHORT: usize = 3;
+const SHORT: usize = 4;
 
 /// How the resolution of a conflict ends.
 #[derive(Clone, Copy, PartialEq, Eq, Debug)]
