@@ -95,7 +95,7 @@ pub(crate) fn spoken_terms<'p, 'a, S: States + Drop>(
     requires sized { AreSized (problem inputs.now) table.now (terms_view S.tests terms.now) }
     ensures { IfOk result (λ v. spoken_views v.items ≡ terms_of (problem inputs.now) table.now (terms_view S.tests terms.now)) }
 {
-    let mut made = Vec::new(alloc);
+    let mut made = Vec::with_capacity(alloc, terms.len())?;
     'terms: for term in terms.iter() {
         push_spoken(alloc, inputs, table, spaces, &mut made, term)?;
     }
