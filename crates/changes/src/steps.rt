@@ -1,0 +1,95 @@
+//! The lines of a way through a lock.
+
+use catalogue::Catalogue;
+use features::Dependency;
+use lockfile::{LockContent, Package};
+use manifest::Manifest;
+use std::alloc::{AllocError, Global};
+use std::fmt;
+
+/// A line for each dependency on a way, which is given by the places of its packages, with the requirement that the one
+/// has for the next: those of the manifest at the first place, and of candidates at the others.
+pub fn tell_way(
+    alloc: Global,
+    manifest: &Manifest,
+    catalogue: &Catalogue,
+    content: &LockContent,
+    places: &[usize],
+) -> Result<String, AllocError> {
+    let mut text = String::new(alloc);
+    let packages = content.packages();
+    let mut dependencies = manifest.dependencies();
+    for pair in places.windows(2) {
+        if let [owner, target] = pair {
+            if let (Some(owner), Some(target)) = (packages.get(*owner), packages.get(*target)) {
+                push_step(&mut text, owner, dependencies, target)?;
+                dependencies = dependencies_of(catalogue, target);
+            }
+        }
+    }
+    Ok(text)
+}
+
+/// The dependencies of the candidate that a package is.
+fn dependencies_of<'a>(catalogue: &'a Catalogue, package: &Package) -> &'a [Dependency] {
+    match catalogue.candidate(&package.name, &package.version) {
+        Some(candidate) => candidate.brings.dependencies.as_slice(),
+        None => &[],
+    }
+}
+
+/// `a 1.0.0 needs b ^1 with feature f: b 1.2.0`.
+fn push_step(
+    text: &mut String,
+    owner: &Package,
+    dependencies: &[Dependency],
+    target: &Package,
+) -> Result<(), AllocError> {
+    let need = Need(dependencies.iter().find(|one| may_mean(one, target)));
+    let (from, to) = (Named(owner), Named(target));
+    writeln!(text, "{from} {need}: {to}")
+}
+
+/// `b 1.2.0`.
+#[derive(Clone, Copy)]
+struct Named<'a>(&'a Package);
+
+impl fmt::Display for Named<'_> {
+    fn fmt<W: fmt::Write>(&self, f: &mut fmt::Formatter<W>) -> fmt::Result {
+        let Package { name, version, .. } = self.0;
+        write!(f, "{name} {version}")
+    }
+}
+
+/// `needs b ^1 as c with feature f and feature g`; `lists it` of a package that needs no such one.
+#[derive(Clone, Copy)]
+struct Need<'a>(Option<&'a Dependency>);
+
+impl fmt::Display for Need<'_> {
+    fn fmt<W: fmt::Write>(&self, f: &mut fmt::Formatter<W>) -> fmt::Result {
+        let Some(dependency) = self.0 else {
+            return f.write_str("lists it");
+        };
+        let Dependency {
+            name,
+            real_name,
+            requirement,
+            ..
+        } = dependency;
+        write!(f, "needs {real_name} {requirement}")?;
+        if dependency.name != dependency.real_name {
+            write!(f, " as {name}")?;
+        }
+        let mut word = "with";
+        for feature in dependency.features.iter() {
+            write!(f, " {word} feature {feature}")?;
+            word = "and";
+        }
+        Ok(())
+    }
+}
+
+/// Whether a package has the name that a dependency means, and a version that it matches.
+fn may_mean(dependency: &Dependency, package: &Package) -> bool {
+    dependency.real_name == package.name && dependency.requirement.matches(&package.version)
+}

@@ -1,0 +1,157 @@
+//! Why a package is in a lock.
+
+ghost use Rattle.std.specs.Prelude.{◌≡◌, ◌&&◌, nat_eq, IfOk, Some, option_map, slice_get};
+ghost use Rattle.std.specs.List.{list_any};
+ghost use Rattle.semver.specs.Identifiers.{parts_of};
+ghost use Rattle.lockfile.specs.Views.{package_view, package_views};
+ghost use Rattle.changes.specs.Ways.{IsWhy, holds_at, is_meant, is_own, is_version, is_way, leads, lists};
+
+use crate::searching::shortest_way;
+use classes::version_order;
+use features::PackageName;
+use lockfile::{LockContent, Package};
+use manifest::Manifest;
+use semver::Version;
+use std::alloc::{AllocError, Global};
+
+/// Why a package is in a lock.
+#[derive(Drop)]
+pub enum Why {
+    /// A shortest way to it over the lists of the lock: the places of its packages, that of the root first.
+    Way(Vec<usize>),
+    /// There is none of this name, and of this version if one is asked for.
+    Absent,
+    /// No lists lead there from the root.
+    Unreached,
+}
+
+/// Why a package of a name, and of a version if there is one, is in the lock of a manifest; of several the nearest to
+/// the root is meant.
+///
+/// A way that was found is looked at once more, so that what is told is a way whatever the search does.
+pub fn reason_for(
+    alloc: Global,
+    manifest: &Manifest,
+    content: &LockContent,
+    name: &PackageName,
+    version: Option<&Version>,
+) -> Result<Why, AllocError>
+    ensures { IfOk result (IsWhy content.now (is_own manifest.now) (is_meant name.now (option_map (λ v. parts_of v.now) version.entry))) }
+{
+    let packages = content.packages();
+    if !has_meant(packages, name, version) {
+        return Ok(Why::Absent);
+    }
+    let places = shortest_way(alloc, manifest, packages, name, version)?;
+    if is_way(manifest, packages, name, version, &places) {
+        Ok(Why::Way(places))
+    } else {
+        Ok(Why::Unreached)
+    }
+}
+
+fn has_meant(packages: &[Package], name: &PackageName, version: Option<&Version>) -> bool
+    ensures { result ≡ list_any (is_meant name.now (option_map (λ v. parts_of v.now) version.entry)) (package_views packages.now) }
+{
+    some_meant(packages, name, version)
+}
+
+fn some_meant(packages: &[Package], name: &PackageName, version: Option<&Version>) -> bool
+    ensures { result ≡ list_any (λ p. is_meant name.now (option_map (λ v. parts_of v.now) version.entry) (package_view p)) packages.now }
+{
+    packages
+        .iter()
+        .any(|package| is_meant(package, name, version))
+}
+
+/// Whether a package has a name, and a version if there is one.
+pub(crate) fn is_meant(locked: &Package, name: &PackageName, version: Option<&Version>) -> bool
+    ensures { result ≡ is_meant name.now (option_map (λ v. parts_of v.now) version.entry) (package_view locked.now) }
+{
+    locked.name == *name && is_version(&locked.version, version)
+}
+
+fn is_version(version: &Version, wanted: Option<&Version>) -> bool
+    ensures { result ≡ is_version (option_map (λ v. parts_of v.now) wanted.entry) (parts_of version.now) }
+{
+    match wanted {
+        Some(wanted) => version_order(version, wanted).is_eq(),
+        None => true,
+    }
+}
+
+/// Whether a package is that of the manifest, the root.
+pub(crate) fn is_own(manifest: &Manifest, locked: &Package) -> bool
+    ensures { result ≡ is_own manifest.now (package_view locked.now) }
+{
+    locked.source().is_none() && is_meant(locked, manifest.name(), Some(manifest.version()))
+}
+
+/// Whether places lead from the root to a package that is meant, each listed by the one before.
+fn is_way(
+    manifest: &Manifest,
+    packages: &[Package],
+    name: &PackageName,
+    version: Option<&Version>,
+    places: &[usize],
+) -> bool
+    ensures { result ≡ is_way (package_views packages.now) (is_own manifest.now) (is_meant name.now (option_map (λ v. parts_of v.now) version.entry)) places.now }
+{
+    match places.split_first() {
+        Some((first, rest)) => {
+            begins(manifest, packages, *first) && leads(packages, name, version, *first, rest)
+        }
+        None => false,
+    }
+}
+
+/// Whether the root stands at a place.
+fn begins(manifest: &Manifest, packages: &[Package], place: usize) -> bool
+    ensures { result ≡ holds_at (is_own manifest.now) (slice_get (package_views packages.now) place) }
+{
+    match packages.get(place) {
+        Some(package) => is_own(manifest, package),
+        None => false,
+    }
+}
+
+/// Whether from a place on each package lists the next one, and the last one is meant.
+#[tactic(auto, unfolding(crate::specs::Ways::leads))]
+fn leads(
+    packages: &[Package],
+    name: &PackageName,
+    version: Option<&Version>,
+    first: usize,
+    rest: &[usize],
+) -> bool
+    ensures { result ≡ leads (package_views packages.now) (is_meant name.now (option_map (λ v. parts_of v.now) version.entry)) first rest.now }
+{
+    let mut place = first;
+    'rest: for next in rest.iter() {
+        if !lists(packages, place, *next) {
+            return false;
+        }
+        place = *next;
+    }
+    ends(packages, name, version, place)
+}
+
+/// Whether a package that is meant stands at a place.
+fn ends(packages: &[Package], name: &PackageName, version: Option<&Version>, place: usize) -> bool
+    ensures { result ≡ holds_at (is_meant name.now (option_map (λ v. parts_of v.now) version.entry)) (slice_get (package_views packages.now) place) }
+{
+    match packages.get(place) {
+        Some(package) => is_meant(package, name, version),
+        None => false,
+    }
+}
+
+/// Whether the package at a place lists that at another one.
+fn lists(packages: &[Package], from: usize, to: usize) -> bool
+    ensures { result ≡ lists (package_views packages.now) from to }
+{
+    match packages.get(from) {
+        Some(package) => package.list.contains(&to),
+        None => false,
+    }
+}
