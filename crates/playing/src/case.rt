@@ -3,11 +3,22 @@
 use crate::helping::{cat, cmp, repeat};
 use crate::sessions::{Step, steps_of};
 use crate::sink::Sink;
-use commands::run;
 use std::alloc::{AllocError, Global};
-use std::fs::OpenOptions;
-use std::io::ErrorKind;
-use std::{env, fs, io};
+use std::env::{self, Env};
+use std::fs::{self, OpenOptions};
+use std::io::{self, ErrorKind, Print, Write};
+use std::rt::Files;
+
+/// The programs that the commands of a session run.
+pub trait Programs {
+    /// Runs the program that the first word names and answers its status, if there is such a one.
+    fn run<O: Write, E: Write>(
+        &self,
+        words: &[String],
+        out: &mut O,
+        err: &mut E,
+    ) -> io::Result<Option<u8>>;
+}
 
 /// The folder, in that of a case, of the files that its commands write.
 const MADE: &str = "made";
@@ -16,7 +27,11 @@ const MADE: &str = "made";
 ///
 /// A case is a folder in the present one, with a file `session` and the files that its commands read. A session
 /// without a command ends otherwise than told.
-pub(crate) fn play(rt: &HostRuntime, name: &str) -> io::Result<bool> {
+pub(crate) fn play<R: Env + Files + AllocGlobal + Print + Clone + Drop, P: Programs>(
+    rt: &R,
+    programs: &P,
+    name: &str,
+) -> io::Result<bool> {
     env::set_current_dir(rt, name)?;
     clear(rt)?;
     fs::create_dir(rt, MADE)?;
@@ -24,7 +39,7 @@ pub(crate) fn play(rt: &HostRuntime, name: &str) -> io::Result<bool> {
     let steps = steps_of(rt.alloc(), session.as_str())?;
     let mut as_told = !steps.is_empty();
     for step in steps.iter() {
-        as_told &= is_as_told(rt, name, step)?;
+        as_told &= is_as_told(rt, programs, name, step)?;
     }
     clear(rt)?;
     env::set_current_dir(rt, "..")?;
@@ -32,7 +47,7 @@ pub(crate) fn play(rt: &HostRuntime, name: &str) -> io::Result<bool> {
 }
 
 /// Removes what the commands of an earlier run wrote.
-fn clear(rt: &HostRuntime) -> io::Result<()> {
+fn clear<R: Files + AllocGlobal>(rt: &R) -> io::Result<()> {
     match fs::remove_dir_all(rt, MADE) {
         Err(error) if error.kind() != ErrorKind::NotFound => Err(error),
         _ => Ok(()),
@@ -40,27 +55,35 @@ fn clear(rt: &HostRuntime) -> io::Result<()> {
 }
 
 /// Runs a command, and prints how it ended where that isn't as told.
-fn is_as_told(rt: &HostRuntime, name: &str, step: &Step<'_>) -> io::Result<bool> {
-    match run_command(rt, step.command) {
+fn is_as_told<R: Files + AllocGlobal + Print, P: Programs>(
+    rt: &R,
+    programs: &P,
+    name: &str,
+    step: &Step<'_>,
+) -> io::Result<bool> {
+    match run_command(rt, programs, step.command) {
         Ok(ended) if ended.is_told_by(step) => return Ok(true),
-        Ok(ended) => {
-            println!(rt; "{name}: $ {}\n? {}", step.command, ended.status)?;
-            print!(rt; "{}{}", ended.err.kept_text(), ended.out.kept_text())?;
-        }
+        Ok(ended) => print_ended(rt, name, step.command, &ended)?,
         Err(error) => println!(rt; "{name}: $ {}\n{error}", step.command)?,
     }
     Ok(false)
 }
 
-/// How a command ended.
-#[derive(Drop)]
-struct Ended {
-    status: String,
-    out: Sink,
-    err: Sink,
+fn print_ended<R: Print, F>(rt: &R, name: &str, command: &str, ended: &Ended<F>) -> io::Result<()> {
+    let status = ended.status.as_str();
+    let (err, out) = (ended.err.kept_text(), ended.out.kept_text());
+    print!(rt; "{name}: $ {command}\n? {status}\n{err}{out}")
 }
 
-impl Ended {
+/// How a command ended.
+#[derive(Drop)]
+struct Ended<F> {
+    status: String,
+    out: Sink<F>,
+    err: Sink<F>,
+}
+
+impl<F> Ended<F> {
     fn is_told_by(&self, step: &Step<'_>) -> bool {
         let is_status = self.status.as_str() == step.status;
         let is_out = is_like(self.out.kept_text(), step.out.as_str());
@@ -76,22 +99,37 @@ fn is_like(text: &str, told: &str) -> bool {
     }
 }
 
-/// Runs `relock` or a helper; `>> PATH` and, after it, `2>> PATH` name files for the two texts.
-fn run_command(rt: &HostRuntime, command: &str) -> io::Result<Ended> {
+/// Runs a program or a helper; `>> PATH` and, after it, `2>> PATH` name files for the two texts.
+fn run_command<R: Files + AllocGlobal, P: Programs>(
+    rt: &R,
+    programs: &P,
+    command: &str,
+) -> io::Result<Ended<R::File>> {
     let (command, err) = cut_at(command, " 2>> ");
     let (command, out) = cut_at(command, " >> ");
     let mut out = sink(rt, out)?;
     let mut err = sink(rt, err)?;
     let words = words_of(rt.alloc(), command)?;
     let status = match words.first().map(|word| word.as_str()) {
-        Some("relock") => run(&mut rt.clone()?, words.as_slice(), &mut out, &mut err),
         Some("repeat") => repeat(rt, words.as_slice(), &mut out)?,
         Some("cat") => cat(rt, words.as_slice(), &mut out)?,
         Some("cmp") => cmp(rt, words.as_slice())?,
-        _ => return Err(io::Error::from(ErrorKind::InvalidInput)),
+        _ => run_program(programs, words.as_slice(), &mut out, &mut err)?,
     };
     let status = format!(in rt.alloc(); "{status}")?;
     Ok(Ended { status, out, err })
+}
+
+fn run_program<F: Write, P: Programs>(
+    programs: &P,
+    words: &[String],
+    out: &mut Sink<F>,
+    err: &mut Sink<F>,
+) -> io::Result<u8> {
+    match programs.run(words, out, err)? {
+        Some(status) => Ok(status),
+        None => Err(io::Error::from(ErrorKind::InvalidInput)),
+    }
 }
 
 /// What stands before a mark and after it.
@@ -103,7 +141,7 @@ fn cut_at<'a>(text: &'a str, mark: &str) -> (&'a str, Option<&'a str>) {
 }
 
 /// A text is appended to a file that is named.
-fn sink(rt: &HostRuntime, path: Option<&str>) -> io::Result<Sink> {
+fn sink<R: Files + AllocGlobal>(rt: &R, path: Option<&str>) -> io::Result<Sink<R::File>> {
     let Some(path) = path else {
         return Ok(Sink::Kept(Vec::new(rt.alloc())));
     };

@@ -1,17 +1,16 @@
 //! Where the texts of a command go.
 
-use std::fs::File;
 use std::io::{self, Write};
 use std::str::from_utf8;
 
 /// A text that is kept to be compared, or a file.
 #[derive(Drop)]
-pub(crate) enum Sink {
+pub(crate) enum Sink<F> {
     Kept(Vec<u8>),
-    Written(File),
+    Written(F),
 }
 
-impl Sink {
+impl<F> Sink<F> {
     /// The text that was kept; of a file nothing, and of bytes that are no text nothing.
     pub(crate) fn kept_text(&self) -> &str {
         match self {
@@ -21,7 +20,7 @@ impl Sink {
     }
 }
 
-impl Write for Sink {
+impl<F: Write> Write for Sink<F> {
     fn write(&mut self, buf: &[u8]) -> io::Result<usize> {
         match self {
             Sink::Kept(bytes) => bytes.write(buf),
