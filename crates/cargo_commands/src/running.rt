@@ -1,0 +1,250 @@
+//! One run of the program: words in, a status and two texts out.
+
+use crate::asking::{answer_to, changes_in, lacks_in, skips_in, why_in};
+use crate::stop::Stop;
+use cargo_words::{CargoWords, Places, WordsFault, own_words, read_words};
+use project_files::{Bytes, Paths, lock_at, read_files, replace_lock};
+use reports::{Told, package_in};
+use resolver::{Answer, Fault};
+use std::alloc::{AllocError, Global};
+use std::io::{self, ErrorKind, Write};
+use std::rt::Files;
+
+/// The status of a no: a lock that would change, a manifest without a lock, a package that isn't in the lock.
+const NO: u8 = 1;
+
+/// The status of wrong use, of a fault, of a file that can't be read and of output that can't be written.
+const FAILED: u8 = 2;
+
+/// Does what the words ask, the program's name first, and answers the exit status. `index` is the index where the words
+/// name none.
+///
+/// What was asked for goes to `out`, help too; errors go to `err`. A write to `err` that fails is passed over.
+pub fn run<R: Files + AllocGlobal + Clone + Drop, O: Write, E: Write>(
+    rt: &R,
+    words: &[String],
+    index: Option<&str>,
+    out: &mut O,
+    err: &mut E,
+) -> u8 {
+    let Ok(words) = own_words(rt.alloc(), words) else {
+        return without_words(&WordsFault::OutOfMemory, out, err);
+    };
+    match read_words(rt.alloc(), words.as_slice()) {
+        Ok(words) => run_words(rt, &words, index, out, err),
+        Err(fault) => without_words(&fault, out, err),
+    }
+}
+
+fn run_words<R: Files + AllocGlobal + Clone + Drop, O: Write, E: Write>(
+    rt: &R,
+    words: &CargoWords<'_>,
+    index: Option<&str>,
+    out: &mut O,
+    err: &mut E,
+) -> u8 {
+    let paths = match paths_of(rt.alloc(), words.places(), index) {
+        Ok(paths) => paths,
+        Err(stop) => return finish(Err(stop), err),
+    };
+    let status = match words {
+        CargoWords::Resolve {
+            locked,
+            write,
+            all,
+            ..
+        } => {
+            let wish = Wish {
+                locked: *locked,
+                write: *write,
+                all: *all,
+            };
+            resolve_at(rt, &paths, wish, out, err)
+        }
+        CargoWords::Why { package, .. } => why_at(rt, &paths, package, out, err),
+        CargoWords::Skips { all, .. } => skips_at(rt, &paths, *all, out),
+    };
+    finish(status, err)
+}
+
+/// Where the words say, else `Cargo.toml` in the present folder, `Cargo.lock` beside the manifest, and the index that
+/// the environment names.
+fn paths_of<'a>(
+    alloc: Global,
+    places: Places<'a>,
+    named: Option<&'a str>,
+) -> Result<Paths<'a>, Stop<'a>> {
+    let Some(index) = places.index.or(named) else {
+        return Err(Stop::NoIndex);
+    };
+    let manifest = places.manifest.unwrap_or("Cargo.toml");
+    let lock = lock_at(alloc, places.lock, manifest)?;
+    Ok(Paths {
+        manifest,
+        lock,
+        index,
+    })
+}
+
+/// What `resolve` is to do beside telling.
+#[derive(Clone, Copy)]
+struct Wish {
+    locked: bool,
+    write: bool,
+    all: bool,
+}
+
+/// The status, and what is told where there is none.
+fn finish<E: Write>(status: Result<u8, Stop<'_>>, err: &mut E) -> u8 {
+    match status {
+        Ok(status) => status,
+        Err(stop) => {
+            let _ = writeln!(err, "error: {stop}");
+            FAILED
+        }
+    }
+}
+
+/// What changes in the lock, or why there is none.
+fn resolve_at<'a, R: Files + AllocGlobal + Clone + Drop, O: Write, E: Write>(
+    rt: &R,
+    paths: &'a Paths<'a>,
+    wish: Wish,
+    out: &mut O,
+    err: &mut E,
+) -> Result<u8, Stop<'a>> {
+    let bytes = read_files(rt, paths, false)?;
+    let answer = answer_to(rt, paths.index, &bytes)?;
+    match &answer {
+        Answer::Lock {
+            bytes: new,
+            kept,
+            ..
+        } => {
+            let text = changes_in(rt, paths.index, &bytes, new, wish.all)?;
+            print(text.as_str(), out)?;
+            if *kept {
+                return Ok(0);
+            }
+            with_new_lock(rt, paths, new, wish, err)
+        }
+        Answer::Unsolvable { text, .. } => tell_refusal(rt, paths, &bytes, text.as_str(), err),
+    }
+}
+
+/// What becomes of a lock that is another one than the old: `--locked` refuses it, `--write` puts it in place.
+fn with_new_lock<'a, R: Files + AllocGlobal, E: Write>(
+    rt: &R,
+    paths: &'a Paths<'a>,
+    new: &[u8],
+    wish: Wish,
+    err: &mut E,
+) -> Result<u8, Stop<'a>> {
+    let lock = paths.lock.as_str();
+    if wish.locked {
+        let _ = writeln!(err, "error: {lock} would change, and --locked was given");
+        return Ok(NO);
+    }
+    if wish.write {
+        replace_lock(rt, lock, new)?;
+    }
+    Ok(0)
+}
+
+/// Why there is no lock: the dependencies of the manifest for which nothing fits, or else the explanation.
+fn tell_refusal<'a, R: Files + AllocGlobal + Clone + Drop, E: Write>(
+    rt: &R,
+    paths: &'a Paths<'a>,
+    bytes: &Bytes,
+    explanation: &str,
+    err: &mut E,
+) -> Result<u8, Stop<'a>> {
+    let lacks = lacks_in(rt, paths.index, bytes)?;
+    let why = if lacks.is_empty() {
+        explanation
+    } else {
+        lacks.as_str()
+    };
+    let _ = write!(err, "error: there is no lock for {}\n{why}", paths.manifest);
+    Ok(NO)
+}
+
+/// Why a package is in the lock.
+fn why_at<'a, R: Files + AllocGlobal + Clone + Drop, O: Write, E: Write>(
+    rt: &R,
+    paths: &'a Paths<'a>,
+    package: &'a str,
+    out: &mut O,
+    err: &mut E,
+) -> Result<u8, Stop<'a>> {
+    let Some(wanted) = package_in(rt.alloc(), package)? else {
+        return Err(Stop::NoPackage(package));
+    };
+    let bytes = read_files(rt, paths, true)?;
+    let told = why_in(rt, paths.index, &bytes, &wanted)?;
+    tell_why(paths, package, &told, out, err)
+}
+
+fn tell_why<'a, O: Write, E: Write>(
+    paths: &Paths<'_>,
+    package: &str,
+    told: &Told,
+    out: &mut O,
+    err: &mut E,
+) -> Result<u8, Stop<'a>> {
+    let lock = paths.lock.as_str();
+    let _ = match told {
+        Told::Way(text) => {
+            let is_root = text.is_empty();
+            let text = if is_root { IS_ROOT } else { text.as_str() };
+            print(text, out)?;
+            return Ok(0);
+        }
+        Told::Absent => writeln!(err, "error: {package} isn't in {lock}"),
+        Told::Unreached => writeln!(err, "error: no list leads to {package} in {lock}"),
+    };
+    Ok(NO)
+}
+
+/// What is told of the root.
+const IS_ROOT: &str = "it is the package of the manifest\n";
+
+/// The lines of the index that were not used.
+fn skips_at<'a, R: Files + AllocGlobal + Clone + Drop, O: Write>(
+    rt: &R,
+    paths: &'a Paths<'a>,
+    all: bool,
+    out: &mut O,
+) -> Result<u8, Stop<'a>> {
+    let bytes = read_files(rt, paths, false)?;
+    let text = skips_in(rt, paths.index, &bytes, all)?;
+    print(text.as_str(), out)?;
+    Ok(0)
+}
+
+fn print<'a, O: Write>(text: &str, out: &mut O) -> Result<(), Stop<'a>> {
+    out.write_all(text.as_bytes())
+        .map_err(|_| Stop::CannotWrite)
+}
+
+/// Prints why the command line can't be read, to `err`, and answers the exit status.
+pub fn without_arguments<E: Write>(error: &io::Error, err: &mut E) -> u8 {
+    let _ = if error.kind() == ErrorKind::OutOfMemory {
+        writeln!(err, "error: {}", Fault::OutOfMemory)
+    } else {
+        writeln!(err, "error: {error}")
+    };
+    FAILED
+}
+
+/// Help goes to standard output, wrong use to standard error.
+fn without_words<O: Write, E: Write>(fault: &WordsFault, out: &mut O, err: &mut E) -> u8 {
+    match fault {
+        WordsFault::Help(text) => finish(print(text.as_str(), out).map(|_| 0), err),
+        WordsFault::Wrong(text) => {
+            let _ = err.write_all(text.as_bytes());
+            FAILED
+        }
+        WordsFault::OutOfMemory => finish(Err(Stop::from(AllocError)), err),
+    }
+}

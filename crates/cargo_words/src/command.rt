@@ -1,0 +1,91 @@
+//! The commands and options of `cargo relock`.
+
+use clap::{Arg, ArgAction, Command};
+use std::alloc::{AllocError, Global};
+
+/// The whole program: one command is required.
+pub(crate) fn cargo_relock<'a>(alloc: Global) -> Result<Command<'a>, AllocError> {
+    let program = Command::new(alloc, "cargo-relock")
+        .about("Tells what relock answers, as Cargo does")
+        .subcommand_required(true);
+    let program = program.subcommand(resolve(alloc)?)?;
+    let program = program.subcommand(why(alloc)?)?;
+    program.subcommand(skips(alloc)?)
+}
+
+fn resolve<'a>(alloc: Global) -> Result<Command<'a>, AllocError> {
+    let command = command(alloc, "resolve", "Tells what changes in the lock")?;
+    let command = with_option(command, locked(alloc))?;
+    let command = with_option(command, write(alloc))?;
+    with_option(command, all(alloc))
+}
+
+fn why<'a>(alloc: Global) -> Result<Command<'a>, AllocError> {
+    let command = command(alloc, "why", "Tells why a package is in the lock")?;
+    with_option(command, package(alloc))
+}
+
+fn skips<'a>(alloc: Global) -> Result<Command<'a>, AllocError> {
+    let command = command(alloc, "skips", "Tells which lines of the index aren't used")?;
+    with_option(command, all(alloc))
+}
+
+/// A command with the options that say where its files are.
+fn command<'a>(alloc: Global, name: &'a str, about: &'a str) -> Result<Command<'a>, AllocError> {
+    let command = Command::new(alloc, name).about(about);
+    let command = with_option(command, manifest(alloc))?;
+    let command = with_option(command, lock(alloc))?;
+    with_option(command, index(alloc))
+}
+
+/// A command with another option.
+fn with_option<'a>(command: Command<'a>, option: Arg<'a>) -> Result<Command<'a>, AllocError> {
+    command.arg(option)
+}
+
+fn manifest<'a>(alloc: Global) -> Arg<'a> {
+    option(alloc, "manifest-path")
+        .value_name("PATH")
+        .help("The Cargo.toml [default: Cargo.toml]")
+}
+
+fn lock<'a>(alloc: Global) -> Arg<'a> {
+    option(alloc, "lockfile-path")
+        .value_name("PATH")
+        .help("The Cargo.lock [default: the one beside the Cargo.toml]")
+}
+
+fn index<'a>(alloc: Global) -> Arg<'a> {
+    option(alloc, "index").value_name("DIR").help(
+        "A folder in the layout of Cargo's registry index [default: what RELOCK_INDEX says]",
+    )
+}
+
+fn package<'a>(alloc: Global) -> Arg<'a> {
+    Arg::new(alloc, "package")
+        .required(true)
+        .value_name("NAME[@VERSION]")
+        .help("The package")
+}
+
+fn locked<'a>(alloc: Global) -> Arg<'a> {
+    flag(alloc, "locked").help("Ends with status 1 if something would change")
+}
+
+fn write<'a>(alloc: Global) -> Arg<'a> {
+    flag(alloc, "write").help("Replaces the Cargo.lock by the new one")
+}
+
+fn all<'a>(alloc: Global) -> Arg<'a> {
+    flag(alloc, "all").help("Tells more: what stays behind, each line that is skipped")
+}
+
+/// An option that takes a value.
+fn option<'a>(alloc: Global, name: &'a str) -> Arg<'a> {
+    Arg::new(alloc, name).long(name).action(ArgAction::Set)
+}
+
+/// An option that takes none.
+fn flag<'a>(alloc: Global, name: &'a str) -> Arg<'a> {
+    Arg::new(alloc, name).long(name).action(ArgAction::SetTrue)
+}

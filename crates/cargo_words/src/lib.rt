@@ -1,0 +1,12 @@
+//! What the words of a command line ask of `cargo relock`, as `clap` reads them.
+//!
+//! It stands beside `words`, whose commands are held to `clap`'s own meaning: here no contract says what words ask for,
+//! since nothing that is promised rests on it, and what the program prints is held against texts.
+#![tactic(auto)]
+
+mod command;
+mod fault;
+mod reading;
+
+pub use fault::WordsFault;
+pub use reading::{CargoWords, Places, own_words, read_words};

@@ -1,0 +1,55 @@
+//! Why a file can't be read or written, with what the system says.
+
+use std::alloc::AllocError;
+use std::{fmt, io};
+
+/// Why a file or folder can't be read.
+#[derive(Drop)]
+pub enum ReadFault<'a> {
+    OutOfMemory,
+    /// The path, and what the system says.
+    CannotRead(&'a str, io::Error),
+    /// What is there is no folder.
+    NoFolder(&'a str),
+}
+
+/// Why a lock can't be replaced.
+#[derive(Drop)]
+pub enum WriteFault<'a> {
+    OutOfMemory,
+    /// The file that is to become the lock, and what the system says.
+    CannotMake(String, io::Error),
+    /// The lock, and what the system says.
+    CannotReplace(&'a str, io::Error),
+}
+
+impl fmt::Display for ReadFault<'_> {
+    fn fmt<W: fmt::Write>(&self, f: &mut fmt::Formatter<W>) -> fmt::Result {
+        match self {
+            ReadFault::OutOfMemory => f.write_str("out of memory"),
+            ReadFault::CannotRead(path, error) => write!(f, "cannot read {path}: {error}"),
+            ReadFault::NoFolder(path) => write!(f, "{path} is no folder"),
+        }
+    }
+}
+
+impl fmt::Display for WriteFault<'_> {
+    fn fmt<W: fmt::Write>(&self, f: &mut fmt::Formatter<W>) -> fmt::Result {
+        match self {
+            WriteFault::OutOfMemory => f.write_str("out of memory"),
+            WriteFault::CannotMake(path, error) => write!(f, "cannot make {path}: {error}"),
+            WriteFault::CannotReplace(path, error) => write!(f, "cannot replace {path}: {error}"),
+        }
+    }
+}
+
+impl From<AllocError> for WriteFault<'_> {
+    ghost use Rattle.std.specs.Prelude.{◌≡◌};
+    ghost use Rattle.project_files.specs.declared.fault.WriteFault.TheVariants.{OutOfMemory};
+
+    ghost from_gives = { λ _ e. e ≡ OutOfMemory };
+
+    fn from(_e: AllocError) -> Self {
+        WriteFault::OutOfMemory
+    }
+}

@@ -1,0 +1,15 @@
+//! The files of a project: where they are, what they hold, and how its lock is replaced.
+//!
+//! Nothing here knows what the bytes say. Of what the system's calls read and write nothing is promised; what is stated
+//! is which path a fault names.
+#![tactic(auto)]
+
+mod fault;
+mod paths;
+mod reading;
+mod writing;
+
+pub use fault::{ReadFault, WriteFault};
+pub use paths::{Paths, lock_at};
+pub use reading::{Bytes, read_files};
+pub use writing::replace_lock;

@@ -1,0 +1,24 @@
+-- What is told of why a package is in a lock.
+use Rattle.std.specs.Prelude.{◌≡◌, ℕ, List, [], Bool, true, false, Option, Some, None, option_map}
+use Rattle.std.specs.List.{list_any}
+use Rattle.semver.specs.Identifiers.{parts_of}
+use Rattle.model.specs.Content.{Content, Package}
+use Rattle.changes.specs.Ways.{is_meant, is_way}
+use Rattle.reports.specs.declared.reporting.Told.{Told}
+use Rattle.reports.specs.declared.reporting.Told.TheVariants.{Way, Absent, Unreached}
+use Rattle.reports.specs.declared.wanted.Wanted.{Wanted}
+
+-- the packages of a lock, if there is one
+abbrev pub packages_if : Option Content → Content
+packages_if None = []
+packages_if (Some content) = content
+
+-- whether a package is asked for
+abbrev pub asks_for : Wanted → Package → Bool
+asks_for wanted = is_meant wanted.name (option_map parts_of wanted.version)
+
+-- a way is told only where there is one, and that there is no such package only where there is none
+abbrev pub IsTold : Content → (Package → Bool) → (Package → Bool) → Told → Type 0
+IsTold content begins ends (Way text) = (places : List ℕ) × (is_way content begins ends places ≡ true)
+IsTold content begins ends Absent = list_any ends content ≡ false
+IsTold content begins ends Unreached = list_any ends content ≡ true

@@ -1,0 +1,99 @@
+//! The package that somebody asks for.
+
+ghost use Rattle.std.specs.Prelude.{◌≡◌, IfOk, option_map};
+ghost use Rattle.semver.specs.Identifiers.{parts_of};
+ghost use Rattle.semver.specs.Parse.{version_parts};
+ghost use Rattle.features.specs.Entries.{around};
+ghost use Rattle.reports.specs.Asked.{asked, asked_view, name_of, version_if, with_none, with_version};
+
+use features::{NameFault, PackageName};
+use semver::Version;
+use std::alloc::{AllocError, Global};
+
+/// A package that is asked for.
+#[derive(Drop)]
+pub struct Wanted {
+    pub name: PackageName,
+    pub version: Option<Version>,
+}
+
+impl Wanted {
+    /// The version that is asked for, if one is.
+    pub(crate) fn version(&self) -> Option<&Version>
+        ensures { option_map (λ v. parts_of v.now) result ≡ option_map parts_of self.now.version }
+    {
+        match &self.version {
+            Some(version) => Some(version),
+            None => None,
+        }
+    }
+}
+
+/// What `NAME` or `NAME@VERSION` asks for, if a text is such a one.
+pub fn package_in(alloc: Global, text: &str) -> Result<Option<Wanted>, AllocError>
+    ensures { IfOk result (λ o. option_map asked_view o ≡ asked text.now) }
+{
+    match first_at(text) {
+        Some((name, version)) => with_version(alloc, name, version),
+        None => with_none(alloc, text),
+    }
+}
+
+/// What stands before and after the first `@`.
+fn first_at(text: &str) -> Option<(&str, &str)>
+    ensures { option_map (λ p. (p.0.now, p.1.now)) result ≡ around 64 text.now }
+{
+    text.split_once('@')
+}
+
+fn with_none(alloc: Global, text: &str) -> Result<Option<Wanted>, AllocError>
+    ensures { IfOk result (λ o. option_map asked_view o ≡ with_none (name_of text.now)) }
+{
+    match name_in(alloc, text)? {
+        Some(name) => Ok(Some(Wanted {
+            name,
+            version: None,
+        })),
+        None => Ok(None),
+    }
+}
+
+fn with_version(alloc: Global, name: &str, text: &str) -> Result<Option<Wanted>, AllocError>
+    ensures { IfOk result (λ o. option_map asked_view o ≡ with_version (name_of name.now) (version_if (version_parts text.now))) }
+{
+    let Some(name) = name_in(alloc, name)? else {
+        return Ok(None);
+    };
+    match version_in(alloc, text)? {
+        Some(version) => Ok(Some(Wanted {
+            name,
+            version: Some(version),
+        })),
+        None => Ok(None),
+    }
+}
+
+fn name_in(alloc: Global, text: &str) -> Result<Option<PackageName>, AllocError>
+    ensures { IfOk result (λ o. o ≡ name_of text.now) }
+{
+    match PackageName::parse(alloc, text) {
+        Ok(name) => Ok(Some(name)),
+        Err(NameFault::NotAName) => Ok(None),
+        Err(NameFault::OutOfMemory) => Err(AllocError),
+    }
+}
+
+fn version_in(alloc: Global, text: &str) -> Result<Option<Version>, AllocError>
+    ensures { IfOk result (λ o. option_map parts_of o ≡ version_if (version_parts text.now)) }
+{
+    match Version::parse(alloc, text) {
+        Ok(version) => Ok(Some(version)),
+        Err(e) => {
+            if e == semver::Error::from(AllocError) {
+                Err(AllocError)
+            } else {
+                Ok(None)
+            }
+        }
+    }
+}
