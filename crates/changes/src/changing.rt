@@ -1,10 +1,9 @@
 //! What changed between two locks.
 
-ghost use Rattle.std.specs.Prelude.{◌≡◌, ◌++◌, ◌∷◌, [], IfOk, OnOk, Some, option_map};
+ghost use Rattle.std.specs.Prelude.{◌≡◌, ◌++◌, ◌∷◌, [], IfOk, OnOk, Some};
 ghost use Rattle.semver.specs.Grammar.{IsValid};
 ghost use Rattle.semver.specs.Identifiers.{parts_of};
 ghost use Rattle.model.specs.Candidates.{is_locked};
-ghost use Rattle.model.specs.Order.{source_cmp};
 ghost use Rattle.lockfile.specs.Search.{sourced_cmp};
 ghost use Rattle.lockfile.specs.Views.{package_view, package_views};
 ghost use Rattle.catalogue.specs.Loads.{packages_of_old};
@@ -13,7 +12,7 @@ ghost use Rattle.changes.specs.Views.{lent_views};
 
 use classes::version_order;
 use features::PackageName;
-use lockfile::{LockContent, Package};
+use lockfile::{LockContent, Package, source_order};
 use semver::Version;
 use std::alloc::{AllocError, Global};
 use std::cmp::Ordering;
@@ -126,15 +125,5 @@ fn order_to(other: &Package, name: &PackageName, version: &Version, source: &str
         .name
         .cmp(name)
         .then_with(|| version_order(&other.version, version))
-        .then_with(|| source_order(other.source(), source))
-}
-
-/// A package with a source comes before one without.
-fn source_order(a: Option<&str>, source: &str) -> Ordering
-    ensures { result ≡ source_cmp (option_map (λ s. s.now) a.entry) (Some source.now) }
-{
-    match a {
-        Some(text) => text.cmp(source),
-        None => Ordering::Greater,
-    }
+        .then_with(|| source_order(other.source(), Some(source)))
 }
