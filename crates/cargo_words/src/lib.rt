@@ -5,8 +5,7 @@
 #![tactic(auto)]
 
 mod command;
-mod fault;
 mod reading;
 
-pub use fault::WordsFault;
 pub use reading::{CargoWords, Places, own_words, read_words};
+pub use words::WordsFault;

@@ -1,9 +1,9 @@
 //! Reading the words of `cargo relock`; of what they ask no contract says anything.
 
 use crate::command::cargo_relock;
-use crate::fault::{WordsFault, fault_of};
 use clap::ArgMatches;
 use std::alloc::{AllocError, Global};
+use words::{WordsFault, fault_of};
 
 /// Where the files of a command are.
 #[derive(Clone, Copy, Debug)]

@@ -35,6 +35,7 @@ pub use laws::{
     selections_hold_with_other_locks, selections_hold_with_themselves, selections_run_again,
 };
 pub use loading::load;
+pub use locked::is_locked;
 pub use places::place_of;
 pub use source::{Source, SourceFault, is_source};
 pub use store::{Catalogue, Prefer};

@@ -1,4 +1,4 @@
-//! What an old lock holds.
+//! What a lock holds.
 
 ghost use Rattle.std.specs.Prelude.{◌≡◌, Some};
 ghost use Rattle.semver.specs.Grammar.{IsValid};
@@ -14,8 +14,8 @@ use lockfile::{LockContent, Package, source_order};
 use semver::Version;
 use std::cmp::Ordering;
 
-/// Whether the old lock has a package of this name, version and source.
-pub(crate) fn is_locked(
+/// Whether a lock, if there is one, has a package of this name, version and source.
+pub fn is_locked(
     old: Option<&LockContent>,
     name: &PackageName,
     version: &Version,

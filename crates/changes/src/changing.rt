@@ -1,21 +1,14 @@
 //! What changed between two locks.
 
-ghost use Rattle.std.specs.Prelude.{◌≡◌, ◌++◌, ◌∷◌, [], IfOk, OnOk, Some};
-ghost use Rattle.semver.specs.Grammar.{IsValid};
-ghost use Rattle.semver.specs.Identifiers.{parts_of};
-ghost use Rattle.model.specs.Candidates.{is_locked};
-ghost use Rattle.lockfile.specs.Search.{sourced_cmp};
+ghost use Rattle.std.specs.Prelude.{◌≡◌, ◌++◌, ◌∷◌, [], IfOk, OnOk};
 ghost use Rattle.lockfile.specs.Views.{package_view, package_views};
 ghost use Rattle.catalogue.specs.Loads.{packages_of_old};
 ghost use Rattle.changes.specs.Changed.{is_one, lacking, sharing, those};
 ghost use Rattle.changes.specs.Views.{lent_views};
 
-use classes::version_order;
-use features::PackageName;
-use lockfile::{LockContent, Package, source_order};
-use semver::Version;
+use catalogue::is_locked;
+use lockfile::{LockContent, Package};
 use std::alloc::{AllocError, Global};
-use std::cmp::Ordering;
 
 /// What became of the packages of an index between two locks, each in package order.
 #[derive(Drop)]
@@ -92,38 +85,6 @@ fn is_one(locked: &Package, others: Option<&LockContent>, had: bool) -> bool
     let Some(source) = locked.source() else {
         return false;
     };
-    let has = has(others, locked, source);
+    let has = is_locked(others, &locked.name, &locked.version, source);
     if had { has } else { !has }
-}
-
-/// Whether a lock has a package of the name and version of this one, and of this source.
-fn has(others: Option<&LockContent>, locked: &Package, source: &str) -> bool
-    ensures { result ≡ is_locked (packages_of_old others.entry) source.now locked.now.name (parts_of locked.now.version) }
-{
-    match others {
-        Some(others) => has_in(others, &locked.name, &locked.version, source),
-        None => false,
-    }
-}
-
-/// Whether a lock has a package of this name, version and source.
-fn has_in(content: &LockContent, name: &PackageName, version: &Version, source: &str) -> bool
-    requires { IsValid (parts_of version.now) }
-    ensures { result ≡ is_locked content.now source.now name.now (parts_of version.now) }
-{
-    let packages = content.packages();
-    packages
-        .binary_search_by(|locked| order_to(locked, name, version, source))
-        .is_ok()
-}
-
-/// The order of a package to one of this name, version and source.
-fn order_to(other: &Package, name: &PackageName, version: &Version, source: &str) -> Ordering
-    ensures { result ≡ sourced_cmp name.now (parts_of version.now) (Some source.now) (package_view other.now) }
-{
-    other
-        .name
-        .cmp(name)
-        .then_with(|| version_order(&other.version, version))
-        .then_with(|| source_order(other.source(), Some(source)))
 }

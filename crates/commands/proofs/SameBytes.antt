@@ -3,7 +3,7 @@ use Rattle.std.proofs.Common.{◌≡◌, ℕ, List, Option, Result, subst, sym}
 use Rattle.catalogue.specs.Runs.{Calls}
 use Rattle.catalogue.specs.declared.store.Prefer.TheVariants.{Newest}
 use Rattle.checker.specs.declared.outcome.Check.{Check}
-use Rattle.resolver.specs.Checks.{Checks}
+use Rattle.resolver.specs.CheckedProofs.{Checks}
 use Rattle.resolver.specs.declared.fault.CheckFault.{CheckFault}
 use Rattle.commands.specs.Sources.{IsSource}
 

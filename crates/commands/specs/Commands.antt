@@ -16,10 +16,10 @@ use Rattle.selection.specs.Texts.{verdict_text}
 use Rattle.selection.specs.declared.verdict.Verdict.{Verdict}
 use Rattle.words.specs.Asked.{WordsView, resolve, verify, check, explain, asked, faults, or_help}
 use Rattle.words.specs.WordsFaults.{IsWordsFault}
-use Rattle.words.specs.declared.reading.WordsFault.{WordsFault}
+use Rattle.words.specs.declared.fault.WordsFault.{WordsFault}
 use Rattle.commands.specs.WordsFaults.{IsToldOfWords, told_of_words}
 use Rattle.resolver.specs.Answers.{Resolves, Verifies}
-use Rattle.resolver.specs.Checks.{Checks}
+use Rattle.resolver.specs.CheckedProofs.{Checks}
 use Rattle.resolver.specs.Faults.{of_derivation}
 use Rattle.resolver.specs.declared.fault.CheckFault.{CheckFault}
 use Rattle.resolver.specs.declared.fault.CheckFault.TheVariants.{Input}

@@ -1,8 +1,8 @@
 -- What is printed of words that ask for nothing: the text that the command line's reader gives, as it is.
 use Rattle.std.specs.Prelude.{◌≡◌, ◌⊎◌, ℕ, zero, suc, List, [], ◌∷◌, Option, codes, string_bytes}
 use Rattle.std.specs.Io.KnownBytes.{Appends}
-use Rattle.words.specs.declared.reading.WordsFault.{WordsFault}
-use Rattle.words.specs.declared.reading.WordsFault.TheVariants.{OutOfMemory, Help, Wrong}
+use Rattle.words.specs.declared.fault.WordsFault.{WordsFault}
+use Rattle.words.specs.declared.fault.WordsFault.TheVariants.{OutOfMemory, Help, Wrong}
 use Rattle.resolver.specs.Texts.{fault_text}
 use Rattle.resolver.specs.declared.fault.Fault.TheVariants as fault
 use Rattle.commands.specs.Lines.{line_of}

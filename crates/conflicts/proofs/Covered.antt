@@ -3,10 +3,10 @@ use Rattle.std.proofs.Common.{◌≡◌, ℕ, suc, ◌+◌, ◌<◌, Bool, true,
 use Rattle.std.proofs.lemmas.Bool.{cases_eq, cases_lt, false≢true, ne_eqb}
 use Rattle.version_sets.specs.Sets.{Members, inside, is_full, join, meet, rest, size}
 use Rattle.terms.specs.Terms.{TermView}
-use Rattle.incompatibilities.specs.Incompatibilities.{Fit, IsCombination, LiesIn, Terms, combined_at, meet_at, states_at, union_at, unless_full}
+use Rattle.incompatibilities.specs.Incompatibilities.{Fit, IsCombination, LiesIn, Terms, combined_at, meet_at, states_at, union_at, unless_full, HoldsAt}
 use Rattle.incompatibilities.specs.Stores.{EntryView, entry, terms_of}
 use Rattle.propagation.specs.Promises.{IsCause, IsSatisfied, LieIn, OpenFits}
-use Rattle.propagation.specs.Satisfaction.{HoldsAt, IsForced, Sat}
+use Rattle.propagation.specs.Satisfaction.{IsForced, Sat}
 use Rattle.propagation.specs.Trails.{TrailView, set_of, sets_at, space_of}
 use Rattle.propagation.specs.Units.{term_at}
 use Rattle.propagation.specs.declared.satisfying.Satisfier.{Satisfier}

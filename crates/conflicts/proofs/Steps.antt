@@ -7,12 +7,12 @@ use Rattle.std.proofs.lemmas.List.{get_or_append_left, length-append}
 use Rattle.std.proofs.Math.Seq.{get_or-append_seam}
 use Rattle.version_sets.specs.Sets.{Members, inside, size}
 use Rattle.terms.specs.Terms.{TermView}
-use Rattle.incompatibilities.specs.Incompatibilities.{IsCombination, LiesIn, Terms, states_at}
+use Rattle.incompatibilities.specs.Incompatibilities.{IsCombination, LiesIn, Terms, states_at, HoldsAt}
 use Rattle.incompatibilities.specs.Stores.{EntryView, IsAxiom, entry, terms_of, touches, watched}
 use Rattle.incompatibilities.specs.declared.origin.Origin.{Origin}
 use Rattle.incompatibilities.specs.declared.origin.Origin.TheVariants.{Axiom, Combined}
 use Rattle.incompatibilities.proofs.Broken.{lies_combined}
-use Rattle.propagation.specs.Satisfaction.{HoldsAt, IsOneOpen, OthersHold, Sat}
+use Rattle.propagation.specs.Satisfaction.{IsOneOpen, OthersHold, Sat}
 use Rattle.propagation.specs.Trails.{StepView, TrailView, end_sets, level_after, set_of, sets_at, space_of, step_at}
 use Rattle.propagation.specs.Promises.{CauseFits, IsCut, IsSatisfied, IsSound, IsTrail, LieIn}
 use Rattle.propagation.specs.declared.satisfying.Satisfier.{Satisfier}

@@ -2,7 +2,7 @@
 
 ghost use Rattle.std.specs.Prelude.{◌≡◌, Some, slice_get};
 ghost use Rattle.model.specs.Vertices.{Owner, owner_brings};
-ghost use Rattle.facts.specs.Graphs.{brings_view};
+ghost use Rattle.features.specs.Views.{brings_view};
 ghost use Rattle.catalogue.specs.Problems.{problem_in};
 ghost use Rattle.contents.specs.Contents.{AreStops, owners_of};
 

@@ -1,5 +1,5 @@
 -- Entries of a store over numbers as steps of a derivation.
-use Rattle.std.specs.Prelude.{◌≡◌, ◌<◌, ◌≤◌, ℕ, Bool, length, List, [], ◌∷◌, ◌++◌, Option, Some, None, slice_get, slice_index_or, map, Contains}
+use Rattle.std.specs.Prelude.{◌≡◌, ◌<◌, ◌≤◌, ℕ, Bool, length, List, [], ◌∷◌, ◌++◌, Option, Some, None, slice_get, map, Contains}
 use Rattle.std.specs.List.{AllPairs}
 use Rattle.terms.specs.Terms.{TermView}
 use Rattle.incompatibilities.specs.Stores.{EntryView, OriginFits, entry}
@@ -7,15 +7,12 @@ use Rattle.incompatibilities.specs.declared.origin.Origin.{Origin}
 use Rattle.incompatibilities.specs.declared.origin.Origin.TheVariants.{Axiom, Combined}
 use Rattle.model.specs.Content.{Problem}
 use Rattle.model.specs.Vertices.{Vertex, root}
-use Rattle.model.specs.Axioms.{Term, Kind, Root, Needed, Target, HasFeature, WantsFeature, FeatureOnFeature, FeatureOnDependency, FeatureAsks, NewestListed, WeakFeature, IsInstance}
+use Rattle.model.specs.Axioms.{Term, IsInstance}
+use Rattle.vertices.specs.Kinds.{kind_at}
 use Rattle.model.specs.Derivation.{SameTerms, Step, given, combine}
 use Rattle.model.specs.Derivation as model
 use Rattle.encoding.specs.Numberings.{Numbering, Says}
 use Rattle.decoding.specs.Decoding.{terms_of}
-
--- the kinds by their numbers
-abbrev pub kind_at : ℕ → Kind
-kind_at n = slice_index_or (Root ∷ Needed ∷ Target ∷ HasFeature ∷ WantsFeature ∷ FeatureOnFeature ∷ FeatureOnDependency ∷ FeatureAsks ∷ NewestListed ∷ WeakFeature ∷ []) n Root
 
 -- an axiom is an instance of its kind, and a combination is at a vertex that has a number
 abbrev pub IsEncoded : Problem → Numbering → List TermView → Origin → Type 0

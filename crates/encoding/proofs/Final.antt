@@ -3,7 +3,8 @@ use Rattle.std.proofs.Common.{◌≡◌, ◌≢◌, ℕ, zero, suc, ◌<◌, [],
 use Rattle.version_sets.specs.Sets.{Members, has, inside, meets, size}
 use Rattle.incompatibilities.specs.Incompatibilities.{Assignment, Terms, HoldsOf, Breaks}
 use Rattle.encoding.specs.Absences.{HasZero, OneZero}
-use Rattle.encoding.specs.Finals.{IsFinal, Holds, IsAtRest}
+use Rattle.encoding.specs.Finals.{IsFinal, IsAtRest}
+use Rattle.incompatibilities.specs.Incompatibilities.{HoldsAt}
 
 size_some : (s : Members) (i : ℕ) → has s i ≡ true → 0 < size s
 size_some [] i h = let x : false ≡ true = h in cc
@@ -30,7 +31,7 @@ meets_at (a ∷ s) (b ∷ x) (suc i) h k = by (a && b) (meets_at s x i h k)
     by false e = e
 
 module _ (sets : ℕ → Members) (f : Terms) (x : Assignment) (final : (u : ℕ) (s : Members) → f u ≡ Some s → IsFinal (sets u) (x u)) where
-  one_left : (u : ℕ) (s : Members) → f u ≡ Some s → x u ≢ 0 → has s (x u) ≡ true → Holds (sets u) (Some s)
+  one_left : (u : ℕ) (s : Members) → f u ≡ Some s → x u ≢ 0 → has s (x u) ≡ true → HoldsAt (sets u) (Some s)
   one_left u s e n h =
       let r = final u s e in
       (size_some (sets u) (x u) r.left, inside_from (sets u) s (λ j k. subst (λ i. has s i ≡ true) (sym (r.alone n j k)) h))
@@ -44,11 +45,11 @@ module _ (sets : ℕ → Members) (f : Terms) (x : Assignment) (final : (u : ℕ
       zero_here : (u : ℕ) (s : Members) → f u ≡ Some s → x u ≡ 0 → HasZero (f u)
       zero_here u s e z = subst HasZero (sym e) (subst (λ i. has s i ≡ true) z (broken_has b u s e))
 
-      others : (v : ℕ) (s : Members) → f v ≡ Some s → x v ≡ 0 → (u : ℕ) → u ≢ v → (o : Option Members) → f u ≡ o → Holds (sets u) o
+      others : (v : ℕ) (s : Members) → f v ≡ Some s → x v ≡ 0 → (u : ℕ) → u ≢ v → (o : Option Members) → f u ≡ o → HoldsAt (sets u) o
       others v s e z u n None k = tt
       others v s e z u n (Some y) k = one_left u y k (λ w. n (one u v (zero_here u y k w) (zero_here v s e z))) (broken_has b u y k)
 
-      at_zero : (u : ℕ) (s : Members) → f u ≡ Some s → x u ≡ 0 → (c : Bool) → inside (sets u) s ≡ c → Holds (sets u) (Some s)
+      at_zero : (u : ℕ) (s : Members) → f u ≡ Some s → x u ≡ 0 → (c : Bool) → inside (sets u) s ≡ c → HoldsAt (sets u) (Some s)
       at_zero u s e z true i = (size_some (sets u) (x u) (final u s e).left, i)
       at_zero u s e z false i = absurd (rest.not_one u s (record {
         term = e;
@@ -57,10 +58,10 @@ module _ (sets : ℕ → Members) (f : Terms) (x : Assignment) (final : (u : ℕ
         others = λ w n. others u s e z w n (f w) refl;
       }))
 
-      some : (u : ℕ) (s : Members) → f u ≡ Some s → (i : ℕ) → x u ≡ i → Holds (sets u) (Some s)
+      some : (u : ℕ) (s : Members) → f u ≡ Some s → (i : ℕ) → x u ≡ i → HoldsAt (sets u) (Some s)
       some u s e zero z = at_zero u s e z (inside (sets u) s) refl
       some u s e (suc i) z = one_left u s e (λ w. let k : suc i ≡ 0 = sym z ∙ w in omega (arith, k)) (broken_has b u s e)
 
-      all : (u : ℕ) (o : Option Members) → f u ≡ o → Holds (sets u) o
+      all : (u : ℕ) (o : Option Members) → f u ≡ o → HoldsAt (sets u) o
       all u None e = tt
       all u (Some s) e = some u s e (x u) refl

@@ -21,7 +21,7 @@ use Rattle.classes.specs.declared.class.Class as code
 use Rattle.refutations.specs.Listed.{classes_at, classes_if}
 use Rattle.encoding.specs.Numberings.{members_at}
 use Rattle.encoding.specs.Parts.{is_chosen, is_class}
-use Rattle.looking_up.specs.Matching.{is_lacking, is_left, is_taken}
+use Rattle.looking_up.specs.Matching.{is_lacking, is_left}
 use Rattle.looking_up.specs.Ranges.{is_of, versions_with}
 use Rattle.encoding.proofs.ClassOrder.{IsOlder}
 use Rattle.looking_up.proofs.Classed.{classed_are, named, with_classed}
@@ -97,8 +97,7 @@ unfolding is_left
 left_is m c d k vs e = with_absent m c d.real_name k vs e (λ v. not (matches_views d.requirement v))
 
 pub taken_is : (m : ManifestView) (c : CatalogueView) (d : Dependency) (k : Class) (vs : List Version) → map parts_of vs ≡ filter (is_of k) (map (λ r. r.version) (candidates_at c d.real_name))
-    → false ∷ map (λ w. is_taken d.requirement (parts_of w)) vs ≡ members_at (problem_in m c) (pkg d.real_name k) (versions_that (problem_in m c) (matched d) d.real_name k)
-unfolding is_taken
+    → false ∷ map (λ w. matches_views d.requirement (parts_of w)) vs ≡ members_at (problem_in m c) (pkg d.real_name k) (versions_that (problem_in m c) (matched d) d.real_name k)
 taken_is m c d k vs e = alone m c d.real_name k vs e (matches_views d.requirement)
 
 -- a candidate is found by its version
@@ -159,7 +158,7 @@ module _ (m : ManifestView) (c : CatalogueView) where
   left_at d j k vs same e = left_is m c d k vs (subst (λ x. map parts_of vs ≡ filter (is_of x) (map (λ r. r.version) (candidates_at c d.real_name))) same e)
 
   pub taken_at : (d : Dependency) (j k : Class) (vs : List Version) → j ≡ k → map parts_of vs ≡ filter (is_of j) (map (λ r. r.version) (candidates_at c d.real_name))
-      → false ∷ map (λ w. is_taken d.requirement (parts_of w)) vs ≡ members_at (problem_in m c) (pkg d.real_name k) (versions_that (problem_in m c) (matched d) d.real_name k)
+      → false ∷ map (λ w. matches_views d.requirement (parts_of w)) vs ≡ members_at (problem_in m c) (pkg d.real_name k) (versions_that (problem_in m c) (matched d) d.real_name k)
   taken_at d j k vs same e = taken_is m c d k vs (subst (λ x. map parts_of vs ≡ filter (is_of x) (map (λ r. r.version) (candidates_at c d.real_name))) same e)
 
   pub lacking_at : (name : List ℕ) (j k : Class) (f : List ℕ) (vs : List Version) → IsCatalogue (problem_in m c) → j ≡ k → map parts_of vs ≡ filter (is_of j) (map (λ r. r.version) (candidates_at c name))

@@ -3,24 +3,20 @@
 -- it.
 use Rattle.std.specs.Prelude.{◌≡◌, ◌≢◌, ℕ, ◌<◌, true, false, Option, Some, None}
 use Rattle.version_sets.specs.Sets.{Members, has, inside, meets, size}
-use Rattle.incompatibilities.specs.Incompatibilities.{Terms}
+use Rattle.incompatibilities.specs.Incompatibilities.{HoldsAt, Terms}
 
 -- absent, or the one state that is left
 pub record IsFinal (set : Members) (i : ℕ) : Type 0 where
   pub left : has set i ≡ true
   pub alone : i ≢ 0 → (j : ℕ) → has set j ≡ true → j ≡ i
 
-abbrev pub Holds : Members → Option Members → Type 0
-Holds set None = Unit {0}
-Holds set (Some x) = (0 < size set) × (inside set x ≡ true)
-
 pub record IsOpen (sets : ℕ → Members) (f : Terms) (v : ℕ) (x : Members) : Type 0 where
   pub term : f v ≡ Some x
   pub common : meets (sets v) x ≡ true
   pub apart : inside (sets v) x ≡ false
-  pub others : (u : ℕ) → u ≢ v → Holds (sets u) (f u)
+  pub others : (u : ℕ) → u ≢ v → HoldsAt (sets u) (f u)
 
 -- propagation has nothing to do
 pub record IsAtRest (sets : ℕ → Members) (f : Terms) : Type 0 where
-  pub not_all : ¬ ((u : ℕ) → Holds (sets u) (f u))
+  pub not_all : ¬ ((u : ℕ) → HoldsAt (sets u) (f u))
   pub not_one : (v : ℕ) (x : Members) → ¬ IsOpen sets f v x

@@ -6,12 +6,13 @@ ghost use Rattle.classes.specs.Classes.{class_view};
 ghost use Rattle.features.specs.Views.{requirement_view};
 ghost use Rattle.encoding.specs.Inputs.{problem};
 ghost use Rattle.encoding.specs.Parts.{is_chosen, is_class};
-ghost use Rattle.looking_up.specs.Matching.{is_lacking, is_left, is_taken};
+ghost use Rattle.looking_up.specs.Matching.{is_lacking, is_left};
+ghost use Rattle.semver.specs.EvalViews.{matches_views};
 
 use crate::inputs::Inputs;
-use classes::Class;
+use classes::{Class, is_matched};
 use features::{FeatureName, PackageName};
-use looking_up::{is_left, is_taken};
+use looking_up::is_left;
 use semver::{Version, VersionReq};
 use std::alloc::{AllocError, Global};
 
@@ -62,12 +63,12 @@ pub(crate) fn taken_tests(
     requirement: &VersionReq,
     versions: &[Version],
 ) -> Result<Vec<bool>, AllocError>
-    ensures { IfOk result (λ v. v.items ≡ false ∷ map (λ w. is_taken (requirement_view requirement.now) (parts_of w)) versions.now) }
+    ensures { IfOk result (λ v. v.items ≡ false ∷ map (λ w. matches_views (requirement_view requirement.now) (parts_of w)) versions.now) }
 {
     let mut tests = Vec::new(alloc);
     tests.push(false)?;
     'versions: for version in versions.iter() {
-        tests.push(is_taken(requirement, version))?;
+        tests.push(is_matched(requirement, version))?;
     }
     Ok(tests)
 }

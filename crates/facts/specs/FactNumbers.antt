@@ -5,10 +5,10 @@ use Rattle.std.specs.Map.{lookup}
 use Rattle.std.specs.Borrow.{Bor}
 use Rattle.std.specs.declared.alloc.Global.{Global}
 use Rattle.model.specs.Summary.{Summary, Dependency, Table, same_text}
-use Rattle.features.specs.Views.{dependency_view}
+use Rattle.features.specs.Views.{dependency_view, brings_view}
 use Rattle.facts.specs.declared.fact_numbers.Link.{Link}
 use Rattle.facts.specs.declared.fact_numbers.FactNumbers.{FactNumbers}
-use Rattle.facts.specs.Graphs.{brings_view, NodeView}
+use Rattle.facts.specs.Graphs.{NodeView}
 
 -- a dependency with the number of the fact that it is enabled, and the place to which it leads
 pub record LinkView : Type 0 where

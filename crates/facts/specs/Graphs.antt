@@ -2,9 +2,7 @@
 -- "Features"). What they are, packages of a lock or versions that a walk meets, is said by those who make the list.
 use Rattle.std.specs.Prelude.{◌≡◌, ◌<◌, ℕ, Bool, true, false, List, [], map, Option, Some, None, slice_get, slice_index_or, option_and_then, unwrap_or, length}
 use Rattle.std.specs.List.{All}
-use Rattle.features.specs.Views.{summary_view}
-use Rattle.features.specs.declared.dependency.Summary as code
-use Rattle.std.specs.Borrow.{Bor}
+use Rattle.features.specs.Views.{brings_view}
 use Rattle.model.specs.Summary.{Summary, nothing, has_feature}
 use Rattle.model.specs.Facts.{Fact, Holds, on}
 use Rattle.manifest.specs.Manifests.{root_asks}
@@ -17,10 +15,6 @@ pub record NodeView : Type 0 where
   pub targets : List (Option ℕ)
   -- whether it is here from the start
   pub starts : Bool
-
-abbrev pub brings_view : Option (Bor code.Summary) → Summary
-brings_view None = nothing
-brings_view (Some o) = summary_view o.now
 
 abbrev pub node_view : Node → NodeView
 node_view n = record { brings = brings_view n.brings; targets = n.targets.items; starts = n.starts }

@@ -1,8 +1,8 @@
 //! Facts get their numbers: each package's one after another.
 
 ghost use Rattle.std.specs.Prelude.{◌≡◌, ◌++◌, ◌∷◌, [], ℕ, List, None, Some, length, map, OnOk, IfOk};
-ghost use Rattle.features.specs.Views.{dependency_views};
-ghost use Rattle.facts.specs.Graphs.{brings_view, node_view, node_views, target_if};
+ghost use Rattle.features.specs.Views.{dependency_views, brings_view};
+ghost use Rattle.facts.specs.Graphs.{node_view, node_views, target_if};
 ghost use Rattle.facts.specs.FactNumbers.{at_text, number_in, link_view, link_views, links_if, links_from, links_called, unmarked_for, flags_of, flags_of_all, numbers_view, numbers_views, IsNumberedFrom, AreNumberedFrom};
 
 use crate::fact_numbers::{FactNumbers, Link};

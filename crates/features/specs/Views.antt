@@ -1,5 +1,6 @@
 -- What the entries, dependencies and faults of this crate stand for.
-use Rattle.std.specs.Prelude.{Bool, true, false, List, map}
+use Rattle.std.specs.Prelude.{Bool, true, false, List, map, Option, Some, None}
+use Rattle.std.specs.Borrow.{Bor}
 use Rattle.semver.specs.Identifiers.{comparator_view}
 use Rattle.semver.specs.Parse.{Held}
 use Rattle.semver.specs.declared.VersionReq.{VersionReq}
@@ -38,3 +39,8 @@ dependency_views ds = map dependency_view ds
 
 abbrev pub summary_view : Summary → model.Summary
 summary_view o = record { dependencies = dependency_views o.dependencies.items; features = o.features }
+
+-- what a package brings, where it is there
+abbrev pub brings_view : Option (Bor Summary) → model.Summary
+brings_view None = model.nothing
+brings_view (Some o) = summary_view o.now

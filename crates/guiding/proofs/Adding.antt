@@ -28,7 +28,8 @@ use Rattle.searching.specs.Turning.{IsAdding}
 use Rattle.searching.specs.Walking as walking
 use Rattle.searching.proofs.Guides.{lone_one, spaces_wider}
 use Rattle.searching.proofs.Seen.{seen_wider}
-use Rattle.guiding.specs.Guides.{AreStored, EncodedView, GoesOn, IsAsking, IsOfInstance, IsPut, as_entry, asked_at, asked_of, known, late_with, left_with, number_of, with_given}
+use Rattle.guiding.specs.Guides.{AreStored, EncodedView, GoesOn, IsAsking, IsOfInstance, IsPut, as_entry, asked_at, asked_of, known, late_with, left_with, with_given}
+use Rattle.vertices.specs.Kinds.{kind_number}
 use Rattle.guiding.specs.Remaining.{spaces_of}
 use Rattle.guiding.proofs.FirstTerms.{first_only}
 use Rattle.guiding.specs.Going.{added_grown, added_on, says_on}
@@ -54,13 +55,13 @@ pub record IsOfCause (q : Problem) (vs : Numbering) (cs : List Cause) (e : Entry
   pub cause : Cause
   pub listed : Contains cs cause
   pub says : Says q vs e.terms (terms_of_cause q cause)
-  pub origin : e.origin ≡ Axiom (number_of (kind_of cause))
+  pub origin : e.origin ≡ Axiom (kind_number (kind_of cause))
 
 pub given_at : (q : Problem) (vs : Numbering) (cs : List Cause) (xs : List Given) (k : ℕ) → AreGiven q vs cs xs → k < length (map as_entry xs) → IsOfCause q vs cs (entry (map as_entry xs) k)
 given_at q vs [] [] k are lt = absurd (omega (arith, lt))
 given_at q vs [] (x ∷ xs) k are lt = absurd are
 given_at q vs (c ∷ cs) [] k are lt = absurd are
-given_at q vs (c ∷ cs) (x ∷ xs) zero are lt = record { cause = c; listed = in_first c cs; says = are.1; origin = ap (λ k. Axiom (number_of k)) are.0 }
+given_at q vs (c ∷ cs) (x ∷ xs) zero are lt = record { cause = c; listed = in_first c cs; says = are.1; origin = ap (λ k. Axiom (kind_number k)) are.0 }
 given_at q vs (c ∷ cs) (x ∷ xs) (suc k) are lt = let r = given_at q vs cs xs k are.2 (omega (arith, lt)) in record { cause = r.cause; listed = in_rest c r.cause cs r.listed; says = r.says; origin = r.origin }
 
 -- and each cause has its entry

@@ -10,7 +10,7 @@ use Rattle.incompatibilities.specs.Stores.{EntryView, IsAxiom, entry, terms_of, 
 use Rattle.incompatibilities.specs.declared.origin.Origin.{Origin}
 use Rattle.incompatibilities.specs.declared.origin.Origin.TheVariants.{Axiom, Combined}
 use Rattle.propagation.specs.Trails.{TrailView, set_of, space_of}
-use Rattle.propagation.specs.Promises.{IsTrail, Stops}
+use Rattle.propagation.specs.Promises.{IsTrail, IsProgress}
 use Rattle.propagation.specs.declared.propagating.Progress.TheVariants.{Fixpoint}
 use Rattle.propagation.specs.Satisfaction.{IsQuiet}
 use Rattle.propagation.proofs.Back.{sets_now}
@@ -80,7 +80,7 @@ axioms_at (e ∷ es) zero lt = refl
 axioms_at (e ∷ es) (suc id) lt = axioms_at es id (omega (arith, lt))
 
 module _ (q : Problem) (vs : Numbering) (asked : List Members) (es : List EntryView) (t : TrailView) (ok : IsNumbering q vs) (spaces : map length asked ≡ spaces_of q (known vs asked)) (whole : length asked ≡ length vs) (spaced : HasSpaces (map length asked) t)
-    (trail : IsTrail es t) (done : IsDone t) (all : AllAsked (asked_of asked) t.sets) (stops : Stops es t.sets Fixpoint) (stored : AreStored q vs asked es) (given : walking.AreGiven (IsOfInstance q vs) es) where
+    (trail : IsTrail es t) (done : IsDone t) (all : AllAsked (asked_of asked) t.sets) (stops : IsProgress es t.sets Fixpoint) (stored : AreStored q vs asked es) (given : walking.AreGiven (IsOfInstance q vs) es) where
   -- what each vertex takes
   abbrev chosen : Assignment
   chosen u = first_in (set_of t.sets u)
@@ -123,7 +123,7 @@ module _ (q : Problem) (vs : Numbering) (asked : List Members) (es : List EntryV
     not_one = λ v x one. quiet.not_one v x (record { term = one.term; common = one.common; apart = one.apart; others = λ u ne. holds u (terms_of es id u) (one.others u ne) });
   }
     where
-      holds : (u : ℕ) (o : Option Members) → Rattle.encoding.specs.Finals.Holds (set_of t.sets u) o → Rattle.propagation.specs.Satisfaction.HoldsAt (set_of t.sets u) o
+      holds : (u : ℕ) (o : Option Members) → HoldsAt (set_of t.sets u) o → HoldsAt (set_of t.sets u) o
       holds u None h = tt
       holds u (Some x) h = h
 

@@ -13,7 +13,8 @@ use Rattle.model.specs.Content.{Content, Problem}
 use Rattle.model.specs.Selection.{IsValidSelection}
 use Rattle.model.specs.Vertices.{Vertex, root, absent, space}
 use Rattle.model.specs.Assignment.{Assigns}
-use Rattle.model.specs.Axioms.{IsInstance, Kind, Root, Needed, Target, HasFeature, WantsFeature, FeatureOnFeature, FeatureOnDependency, FeatureAsks, NewestListed, WeakFeature, Term}
+use Rattle.model.specs.Axioms.{IsInstance, Kind, Term}
+use Rattle.vertices.specs.Kinds.{kind_number}
 use Rattle.model.specs.WellFormed.{IsCatalogue}
 use Rattle.refutations.specs.Causes.{Cause, is_cause, terms_of_cause}
 use Rattle.model.specs.Search.{IsUnbroken}
@@ -86,25 +87,13 @@ left_with g = open_of g.problem (asked_at g.vertices g.asked)
 abbrev pub IsDone : TrailView → Type 0
 IsDone t = (v : ℕ) → v < length t.sets → has (set_of t.sets v) 0 ≡ false → size (set_of t.sets v) ≤ 1
 
-abbrev pub number_of : Kind → ℕ
-number_of Root = 0
-number_of Needed = 1
-number_of Target = 2
-number_of HasFeature = 3
-number_of WantsFeature = 4
-number_of FeatureOnFeature = 5
-number_of FeatureOnDependency = 6
-number_of FeatureAsks = 7
-number_of NewestListed = 8
-number_of WeakFeature = 9
-
 -- an axiom is an instance of its kind
 pub record IsOfInstance (q : Problem) (vs : Numbering) (e : EntryView) : Type 0 where
   pub kind : Kind
   pub terms : List Term
   pub is : IsInstance q kind terms
   pub says : Says q vs e.terms terms
-  pub origin : e.origin ≡ Axiom (number_of kind)
+  pub origin : e.origin ≡ Axiom (kind_number kind)
 
 -- each instance of a pair is an axiom of the store
 abbrev pub IsPut : Problem → Numbering → List EntryView → Pair → Type 0

@@ -3,32 +3,14 @@
 ghost use Rattle.std.specs.Prelude.{◌≡◌, ◌<◌, OnErr, OnOk, length, map};
 ghost use Rattle.incompatibilities.specs.Stores.{entries_view};
 ghost use Rattle.propagation.specs.Trails.{set_of};
-ghost use Rattle.vertices.specs.Kinds.{kind_view};
+ghost use Rattle.vertices.specs.Kinds.{kind_view, kind_number};
 ghost use Rattle.encoding.specs.GivenViews.{given_views};
-ghost use Rattle.guiding.specs.Guides.{marked, number_of, with_given};
+ghost use Rattle.guiding.specs.Guides.{marked, with_given};
 
 use incompatibilities::{Incompatibility, Origin, Store};
 use std::alloc::{AllocError, Global};
 use version_sets::States;
 use vertices::Kind;
-
-/// The number of a kind.
-pub(crate) fn kind_number(kind: Kind) -> u8
-    ensures { result ≡ number_of (kind_view kind) }
-{
-    match kind {
-        Kind::Root => 0,
-        Kind::Needed => 1,
-        Kind::Target => 2,
-        Kind::HasFeature => 3,
-        Kind::WantsFeature => 4,
-        Kind::FeatureOnFeature => 5,
-        Kind::FeatureOnDependency => 6,
-        Kind::FeatureAsks => 7,
-        Kind::NewestListed => 8,
-        Kind::WeakFeature => 9,
-    }
-}
 
 /// Puts instances into the store.
 pub(crate) fn put_given<S: States + Drop>(
@@ -38,7 +20,7 @@ pub(crate) fn put_given<S: States + Drop>(
     ensures { OnOk result (entries_view S.tests store.new ≡ with_given (entries_view S.tests store.old) (given_views S.tests given.items)) }
 {
     'given: for (kind, made) in given {
-        store.add(made, Origin::Axiom(kind_number(kind)))?;
+        store.add(made, Origin::Axiom(kind.number()))?;
     }
     Ok(())
 }

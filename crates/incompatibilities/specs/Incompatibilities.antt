@@ -1,7 +1,7 @@
 -- Incompatibilities, their combination at a vertex, and what an assignment breaks (Dart pub's `solver.md`,
 -- "Incompatibility" and "Conflict Resolution", over sets of states).
 use Rattle.std.specs.Prelude.{◌≡◌, ℕ, ◌+◌, ◌<◌, ◌≤◌, ◌==◌, ◌⊎◌, true, false, List, [], ◌∷◌, length, Option, Some, None, if◌then◌else◌}
-use Rattle.version_sets.specs.Sets.{Members, has, is_full, join, meet}
+use Rattle.version_sets.specs.Sets.{Members, has, inside, is_full, join, meet, size}
 use Rattle.terms.specs.Terms.{TermView}
 
 -- for each vertex the states of its term; a vertex with none counts as one with all its states
@@ -87,6 +87,12 @@ IsWithin x f = (u : ℕ) (s : Members) → f u ≡ Some s → x u < length s
 abbrev pub HoldsOf : Option Members → ℕ → Type 0
 HoldsOf None i = Unit {0}
 HoldsOf (Some s) i = has s i ≡ true
+
+-- a term is satisfied where some state is left and each that is left makes it hold; where no term stands there is
+-- nothing to ask
+abbrev pub HoldsAt : Members → Option Members → Type 0
+HoldsAt set None = Unit {0}
+HoldsAt set (Some x) = (0 < size set) × (inside set x ≡ true)
 
 -- an assignment breaks an incompatibility where each of its terms holds
 abbrev pub Breaks : Assignment → Terms → Type 0

@@ -6,7 +6,7 @@ pub mod Records
 pub mod Reasons
 pub mod Files
 pub mod Views
-pub mod Kept
+pub mod BareVersions
 pub mod Paths
 pub mod Folders
 pub mod Opened

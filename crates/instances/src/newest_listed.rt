@@ -12,12 +12,12 @@ ghost use Rattle.vertices.specs.RefViews.{state_ref_views, owner_ref_view};
 ghost use Rattle.looking_up.specs.Ranges.{versions_with};
 ghost use Rattle.looking_up.specs.Views.{problem_view};
 ghost use Rattle.named_terms.specs.Views.{term_view, term_views};
-ghost use Rattle.looking_up.specs.Matching.{is_taken};
+ghost use Rattle.semver.specs.EvalViews.{matches_views};
 
 use crate::terms::term;
-use classes::Class;
+use classes::{Class, is_matched};
 use features::Dependency;
-use looking_up::{Problem, class_versions, dependency_at, is_taken};
+use looking_up::{Problem, class_versions, dependency_at};
 use named_terms::{StateSet, Term};
 use semver::{Version, VersionReq};
 use std::alloc::{AllocError, Global};
@@ -75,11 +75,11 @@ fn taken_states<'a>(
     requirement: &VersionReq,
     versions: &'a [Version],
 ) -> Result<Vec<StateRef<'a>>, AllocError>
-    ensures { IfOk result (λ v. state_ref_views v.items ≡ versions_with (is_taken (requirement_view requirement.now)) (map parts_of versions.entry.now)) }
+    ensures { IfOk result (λ v. state_ref_views v.items ≡ versions_with (matches_views (requirement_view requirement.now)) (map parts_of versions.entry.now)) }
 {
     let mut states = Vec::new(alloc);
     'versions: for version in versions.iter() {
-        if is_taken(requirement, version) {
+        if is_matched(requirement, version) {
             states.push(StateRef::Version(version))?;
         }
     }

@@ -8,7 +8,7 @@ pub mod Forms
 pub mod Meant
 pub mod Linking
 pub mod Contents
-pub mod Said
+pub mod ReadContents
 pub mod Alone
 pub mod Writing
 pub mod Stable

@@ -90,12 +90,12 @@ same-packages [] = refl
 same-packages (p ∷ ps) = ap (λ rest. locked_view p ∷ rest) (same-packages ps)
 
 -- where a package stands
-abbrev pub beside : Wanted → UnlinkedPackage → Ordering
-beside w p = wanted_cmp w (locked_view p)
+abbrev pub order_to : Wanted → UnlinkedPackage → Ordering
+order_to w p = wanted_cmp w (locked_view p)
 
 -- packages in order stand beside those that are wanted in rising order
-pub beside-rises : (w : Wanted) (ps : List UnlinkedPackage) → IsOrdered (locked_packages (unlinked_views ps)) → IsNonDecreasingBy (λ p. ordering_index (beside w p)) ps
-beside-rises w ps s i j d l k = elim (cases_lt i j) [
+pub order_to-rises : (w : Wanted) (ps : List UnlinkedPackage) → IsOrdered (locked_packages (unlinked_views ps)) → IsNonDecreasingBy (λ p. ordering_index (order_to w p)) ps
+order_to-rises w ps s i j d l k = elim (cases_lt i j) [
   | inl less ↦
       let sorted : IsOrdered (locked_views ps) = rw same-packages at s in
       let inside : j < length (locked_views ps) = rw length-map k in
@@ -113,8 +113,8 @@ below-less Equal Greater l h = cc
 below-less Greater Equal l h = cc
 below-less Greater Greater l h = cc
 
-pub less-partitioned : (w : Wanted) (ps : List UnlinkedPackage) → IsOrdered (locked_packages (unlinked_views ps)) → IsPartitionedBy (λ p. is_lt (beside w p)) ps
-less-partitioned w ps s i j d l k h = below-less (beside w (get_or ps i d)) (beside w (get_or ps j d)) (beside-rises w ps s i j d l k) h
+pub less-partitioned : (w : Wanted) (ps : List UnlinkedPackage) → IsOrdered (locked_packages (unlinked_views ps)) → IsPartitionedBy (λ p. is_lt (order_to w p)) ps
+less-partitioned w ps s i j d l k h = below-less (order_to w (get_or ps i d)) (order_to w (get_or ps j d)) (order_to-rises w ps s i j d l k) h
 
 -- ---- once a package is above those that are wanted, the later ones are
 
@@ -155,7 +155,7 @@ IsFirst w [] i = Unit {0}
 IsFirst w (p ∷ ps) zero = is_lt (wanted_cmp w p) ≡ false
 IsFirst w (p ∷ ps) (suc i) = (is_lt (wanted_cmp w p) ≡ true) × IsFirst w ps i
 
-first-found : (w : Wanted) (ps : List UnlinkedPackage) (i : ℕ) → IsPartitionPoint (λ p. is_lt (beside w p) ≡ true) (λ p. is_lt (beside w p) ≡ false) ps i → IsFirst w (locked_views ps) i
+first-found : (w : Wanted) (ps : List UnlinkedPackage) (i : ℕ) → IsPartitionPoint (λ p. is_lt (order_to w p) ≡ true) (λ p. is_lt (order_to w p) ≡ false) ps i → IsFirst w (locked_views ps) i
 first-found w [] i h = tt
 first-found w (p ∷ ps) zero h = h.1 0 p (omega arith) (omega arith)
 first-found w (p ∷ ps) (suc i) h =
@@ -211,7 +211,7 @@ abbrev pub Told : Wanted → List UnlinkedPackage → ℕ → Bool → Bool → 
 Told w ps first here next = (here ≡ passes (is_wanted w) (slice_get (locked_views ps) first)) × (next ≡ passes (is_wanted w) (slice_get (locked_views ps) (first + 1)))
 
 only-told : (w : Wanted) (ps : List UnlinkedPackage) (first : ℕ) (here next : Bool) → IsOrdered (locked_packages (unlinked_views ps))
-    → IsPartitionPoint (λ p. is_lt (beside w p) ≡ true) (λ p. is_lt (beside w p) ≡ false) ps first → Told w ps first here next
+    → IsPartitionPoint (λ p. is_lt (order_to w p) ≡ true) (λ p. is_lt (order_to w p) ≡ false) ps first → Told w ps first here next
     → only_there first here next ≡ only (places (is_wanted w) (locked_packages (unlinked_views ps)))
 only-told w ps first here next s h t =
     let sorted : IsOrdered (locked_views ps) = rw same-packages at s in
@@ -227,16 +227,16 @@ next-fails place true = refl
 next-fails place false = refl
 
 pub wanted-twice : (w : Wanted) (ps : List UnlinkedPackage) (first : ℕ) (here next : Bool) → IsOrdered (locked_packages (unlinked_views ps))
-    → IsPartitionPoint (λ p. is_lt (beside w p) ≡ true) (λ p. is_lt (beside w p) ≡ false) ps first → Told w ps first here next → next ≡ true
+    → IsPartitionPoint (λ p. is_lt (order_to w p) ≡ true) (λ p. is_lt (order_to w p) ≡ false) ps first → Told w ps first here next → next ≡ true
     → None ≡ only (places (is_wanted w) (locked_packages (unlinked_views ps)))
 wanted-twice w ps first here next s h t e = sym (ap (only_there first here) e ∙ next-fails first here) ∙ only-told w ps first here next s h t
 
 pub wanted-there : (w : Wanted) (ps : List UnlinkedPackage) (first : ℕ) (here next : Bool) → IsOrdered (locked_packages (unlinked_views ps))
-    → IsPartitionPoint (λ p. is_lt (beside w p) ≡ true) (λ p. is_lt (beside w p) ≡ false) ps first → Told w ps first here next → here ≡ true → next ≡ false
+    → IsPartitionPoint (λ p. is_lt (order_to w p) ≡ true) (λ p. is_lt (order_to w p) ≡ false) ps first → Told w ps first here next → here ≡ true → next ≡ false
     → Some first ≡ only (places (is_wanted w) (locked_packages (unlinked_views ps)))
 wanted-there w ps first here next s h t e f = sym (ap (λ b. only_there first b next) e ∙ ap (only_there first true) f) ∙ only-told w ps first here next s h t
 
 pub wanted-nowhere : (w : Wanted) (ps : List UnlinkedPackage) (first : ℕ) (here next : Bool) → IsOrdered (locked_packages (unlinked_views ps))
-    → IsPartitionPoint (λ p. is_lt (beside w p) ≡ true) (λ p. is_lt (beside w p) ≡ false) ps first → Told w ps first here next → here ≡ false
+    → IsPartitionPoint (λ p. is_lt (order_to w p) ≡ true) (λ p. is_lt (order_to w p) ≡ false) ps first → Told w ps first here next → here ≡ false
     → None ≡ only (places (is_wanted w) (locked_packages (unlinked_views ps)))
 wanted-nowhere w ps first here next s h t e = sym (ap (λ b. only_there first b next) e) ∙ only-told w ps first here next s h t

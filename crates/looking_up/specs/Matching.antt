@@ -10,10 +10,6 @@ use Rattle.model.specs.Vertices.{owner_brings, version_of}
 unfoldable pub is_left : List Held → Parts → Bool
 is_left req v = not (matches_views req v)
 
--- the requirement does
-unfoldable pub is_taken : List Held → Parts → Bool
-is_taken req v = matches_views req v
-
 -- this version of the name lacks the feature
 unfoldable pub is_lacking : Problem → List ℕ → List ℕ → Parts → Bool
 is_lacking q name f v = not (has_feature (owner_brings q (version_of name v)).features f)

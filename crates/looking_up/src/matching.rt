@@ -7,7 +7,7 @@ ghost use Rattle.semver.specs.Identifiers.{parts_of};
 ghost use Rattle.features.specs.Views.{dependency_view, requirement_view};
 ghost use Rattle.classes.specs.Classes.{class_view};
 ghost use Rattle.refutations.specs.Causes.{has_class, is_unmatched};
-ghost use Rattle.looking_up.specs.Matching.{is_lacking, is_left, is_taken};
+ghost use Rattle.looking_up.specs.Matching.{is_lacking, is_left};
 ghost use Rattle.looking_up.specs.Views.{problem_view};
 
 use crate::owners::brings;
@@ -52,14 +52,6 @@ pub fn is_left(requirement: &VersionReq, version: &Version) -> bool
     ensures { result ≡ is_left (requirement_view requirement.now) (parts_of version.now) }
 {
     !is_matched(requirement, version)
-}
-
-/// Whether the requirement matches the version.
-#[tactic(auto, unfolding(crate::specs::Matching::is_taken))]
-pub fn is_taken(requirement: &VersionReq, version: &Version) -> bool
-    ensures { result ≡ is_taken (requirement_view requirement.now) (parts_of version.now) }
-{
-    is_matched(requirement, version)
 }
 
 /// Whether a version of the name lacks the feature; one that is no candidate does.

@@ -5,7 +5,7 @@ use Rattle.std.proofs.lemmas.List.{get_or-take, length-take-le}
 use Rattle.version_sets.specs.Sets.{Members, every, inside, is_full}
 use Rattle.version_sets.proofs.Laws.{size-le}
 use Rattle.propagation.specs.Trails.{StepView, TrailView, no_step, set_of, sets_at, space_of, step_at}
-use Rattle.propagation.specs.Satisfaction.{HoldsAt}
+use Rattle.incompatibilities.specs.Incompatibilities.{HoldsAt}
 use Rattle.propagation.specs.Promises.{IsSound, LatestOf}
 use Rattle.propagation.specs.Counting.{IsCount}
 use Rattle.propagation.proofs.Back.{latest_now, sets_now}

@@ -3,8 +3,8 @@ use Rattle.std.proofs.Common.{◌≡◌, ◌≢◌, ℕ, zero, suc, ◌+◌, ◌
 use Rattle.std.proofs.lemmas.Bool.{cases_eq, cases_lt, le-leb, lt-leb}
 use Rattle.std.proofs.lemmas.List.{get_or-set_same}
 use Rattle.version_sets.specs.Sets.{Members, inside, size}
-use Rattle.incompatibilities.specs.Incompatibilities.{Terms}
-use Rattle.propagation.specs.Satisfaction.{HoldsAt, Sat}
+use Rattle.incompatibilities.specs.Incompatibilities.{Terms, HoldsAt}
+use Rattle.propagation.specs.Satisfaction.{Sat}
 use Rattle.propagation.specs.Trails.{StepView, TrailView, end_sets, latest_at, level_after, past, set_of, sets_at, space_of, step_at, undo, unlink}
 use Rattle.propagation.specs.Promises.{IsCut, IsSound, IsTaken, LatestOf, Levels, NextLevel}
 use Rattle.propagation.proofs.Back.{length-put_back}

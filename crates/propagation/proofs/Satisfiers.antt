@@ -3,10 +3,10 @@ use Rattle.std.proofs.Common.{◌≡◌, ℕ, zero, suc, ◌<◌, ◌≤◌, Lis
 use Rattle.std.proofs.lemmas.Bool.{cases_eq, cases_lt}
 use Rattle.version_sets.specs.Sets.{Members, inside, size}
 use Rattle.terms.specs.Terms.{TermView}
-use Rattle.incompatibilities.specs.Incompatibilities.{Terms, states_at}
+use Rattle.incompatibilities.specs.Incompatibilities.{Terms, states_at, HoldsAt}
 use Rattle.incompatibilities.specs.Stores.{EntryView, terms_of}
 use Rattle.propagation.specs.Trails.{TrailView, end_sets, level_after, set_of, sets_at, space_of, step_at}
-use Rattle.propagation.specs.Satisfaction.{HoldsAt, OthersHold, Sat}
+use Rattle.propagation.specs.Satisfaction.{OthersHold, Sat}
 use Rattle.propagation.specs.Units.{LiesOn, term_at}
 use Rattle.propagation.specs.Promises.{CauseFits, IsCause, IsSatisfied, IsSound, IsTrail, NextLevel, OpenFits}
 use Rattle.propagation.specs.Counting.{AreRanked}

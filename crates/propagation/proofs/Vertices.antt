@@ -7,10 +7,10 @@ use Rattle.version_sets.specs.Sets.{Members, inside, is_full, meets, size}
 use Rattle.terms.specs.Terms.{TermView, relation_of}
 use Rattle.terms.specs.declared.term.Relation.{Relation}
 use Rattle.terms.specs.declared.term.Relation.TheVariants.{Satisfied, Contradicted, Open}
-use Rattle.incompatibilities.specs.Incompatibilities.{AllPast, IsRising, NoneFull, states_at}
+use Rattle.incompatibilities.specs.Incompatibilities.{AllPast, IsRising, NoneFull, states_at, HoldsAt}
 use Rattle.incompatibilities.proofs.Lookups.{at_first, at_later}
 use Rattle.propagation.specs.Trails.{TrailView, set_of, space_of}
-use Rattle.propagation.specs.Satisfaction.{HoldsAt, IsOneOpen, IsQuiet, Sat}
+use Rattle.propagation.specs.Satisfaction.{IsOneOpen, IsQuiet, Sat}
 use Rattle.propagation.specs.Units.{AllHold, LiesOn, Neither, OneIsOpen, relation_at, term_at}
 use Rattle.propagation.proofs.SetLemmas.{meets_some, not_full_long}
 

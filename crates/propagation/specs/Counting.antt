@@ -4,7 +4,7 @@ use Rattle.std.specs.Prelude.{◌≡◌, ◌≢◌, ℕ, zero, suc, nat_lt, ◌<
 use Rattle.version_sets.specs.Sets.{Members}
 use Rattle.terms.specs.Terms.{TermView}
 use Rattle.propagation.specs.Trails.{TrailView, set_of, sets_at, step_at}
-use Rattle.propagation.specs.Satisfaction.{HoldsAt}
+use Rattle.incompatibilities.specs.Incompatibilities.{HoldsAt}
 use Rattle.propagation.specs.Units.{term_at}
 use Rattle.propagation.specs.declared.satisfying.Ranks.{Ranks}
 

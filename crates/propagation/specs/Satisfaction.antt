@@ -2,15 +2,9 @@
 -- Propagation").
 use Rattle.std.specs.Prelude.{◌≡◌, ◌≢◌, ℕ, ◌<◌, Bool, true, false, List, length, Option, Some, None}
 use Rattle.version_sets.specs.Sets.{Members, has, inside, meet, meets, rest, size}
-use Rattle.incompatibilities.specs.Incompatibilities.{Assignment, Breaks, Terms}
+use Rattle.incompatibilities.specs.Incompatibilities.{Assignment, Breaks, HoldsAt, Terms}
 use Rattle.incompatibilities.specs.Stores.{EntryView, terms_of}
 use Rattle.propagation.specs.Trails.{set_of}
-
--- a term is satisfied where some state is left and each that is left makes it hold; where no term stands there is
--- nothing to ask
-abbrev pub HoldsAt : Members → Option Members → Type 0
-HoldsAt set None = Unit {0}
-HoldsAt set (Some x) = (0 < size set) × (inside set x ≡ true)
 
 -- whether a term stands at a vertex, and every state that is left there makes it hold
 abbrev pub is_within : Members → Option Members → Bool

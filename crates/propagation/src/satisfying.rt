@@ -1,10 +1,10 @@
 //! The assignment that satisfied an incompatibility.
 
-ghost use Rattle.incompatibilities.specs.Incompatibilities.{LiesIn, states_at};
+ghost use Rattle.incompatibilities.specs.Incompatibilities.{LiesIn, states_at, HoldsAt};
 ghost use Rattle.incompatibilities.specs.Stores.{EntryView};
 ghost use Rattle.propagation.specs.Counting.{IsCount, Ranked, ranked};
 ghost use Rattle.propagation.specs.Promises.{CauseFits, IsSatisfied, IsSound, IsTrail, OpenFits};
-ghost use Rattle.propagation.specs.Satisfaction.{HoldsAt, Sat};
+ghost use Rattle.propagation.specs.Satisfaction.{Sat};
 ghost use Rattle.propagation.specs.Trails.{level_after, set_of, space_of, trail_view};
 ghost use Rattle.propagation.specs.Units.{LiesOn};
 ghost use Rattle.std.specs.Prelude.{◌≡◌, ◌<◌, ◌≤◌, List, Some, length};

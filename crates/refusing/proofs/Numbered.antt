@@ -4,11 +4,12 @@ use Rattle.incompatibilities.specs.Stores.{EntryView, IsAxiom, entry}
 use Rattle.model.specs.Content.{Problem}
 use Rattle.model.specs.Axioms.{IsInstance, Kind, Root, Needed, Target, HasFeature, WantsFeature, FeatureOnFeature, FeatureOnDependency, FeatureAsks, NewestListed, WeakFeature}
 use Rattle.encoding.specs.Numberings.{Numbering}
-use Rattle.decoding.specs.Steps.{IsEncoded, kind_at}
+use Rattle.decoding.specs.Steps.{IsEncoded}
+use Rattle.vertices.specs.Kinds.{kind_at, kind_number}
 use Rattle.refusing.specs.Refusing.{AreInstances}
-use Rattle.guiding.specs.Guides.{IsOfInstance, number_of}
+use Rattle.guiding.specs.Guides.{IsOfInstance}
 
-pub kind_back : (k : Kind) → kind_at (number_of k) ≡ k
+pub kind_back : (k : Kind) → kind_at (kind_number k) ≡ k
 kind_back Root = refl
 kind_back Needed = refl
 kind_back Target = refl

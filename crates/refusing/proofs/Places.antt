@@ -18,7 +18,8 @@ use Rattle.model.specs.Derivation.{IsAccepted, Step}
 use Rattle.encoding.specs.Numberings.{IsNumbering, Numbering, Says}
 use Rattle.encoding.proofs.Places.{got_in}
 use Rattle.decoding.specs.Decoding.{IsOver}
-use Rattle.decoding.specs.Steps.{AreStepsOf, IsEncoded, IsNeeded, IsStepOf, kind_at, steps_of}
+use Rattle.decoding.specs.Steps.{AreStepsOf, IsEncoded, IsNeeded, IsStepOf, steps_of}
+use Rattle.vertices.specs.Kinds.{kind_at}
 use Rattle.decoding.proofs.Accepting.{accepted, at_its_place, own_steps}
 use Rattle.decoding.proofs.Combining.{over_combined}
 use Rattle.decoding.proofs.Growth.{has_vertex}

@@ -12,7 +12,8 @@ use Rattle.vertices.specs.Valid.{HasValidParts}
 use Rattle.derivations.specs.Building.{AreNewTerms, ordered_terms}
 use Rattle.encoding.specs.Numberings.{IsNumbering, Numbering}
 use Rattle.decoding.specs.Decoding.{IsOver, terms_of}
-use Rattle.decoding.specs.Steps.{IsBy, IsStepOf, kind_at}
+use Rattle.decoding.specs.Steps.{IsBy, IsStepOf}
+use Rattle.vertices.specs.Kinds.{kind_at}
 use Rattle.decoding.proofs.Whole.{terms_apart}
 use Rattle.refusing.specs.Refusing.{IsStepWith}
 use Rattle.refusing.proofs.NewTerms.{terms_new}

@@ -3,14 +3,14 @@
 ghost use Rattle.std.specs.Prelude.{◌≡◌, ◌++◌, ◌∷◌, [], OnOk, length};
 ghost use Rattle.incompatibilities.specs.Stores.{entries_view, entry};
 ghost use Rattle.model.specs.Derivation.{Step};
-ghost use Rattle.vertices.specs.Kinds.{kind_view};
+ghost use Rattle.vertices.specs.Kinds.{kind_view, kind_at};
 ghost use Rattle.vertices.specs.Valid.{HasValidParts};
 ghost use Rattle.derivations.specs.Building.{AreNewTerms, ordered_terms};
 ghost use Rattle.derivations.specs.Named.{named_views};
 ghost use Rattle.encoding.specs.Inputs.{problem};
 ghost use Rattle.encoding.specs.Numberings.{IsNumbering};
 ghost use Rattle.decoding.specs.Needs.{place_in};
-ghost use Rattle.decoding.specs.Steps.{IsStepOf, kind_at};
+ghost use Rattle.decoding.specs.Steps.{IsStepOf};
 ghost use Rattle.refusing.specs.Refusing.{AreListed, AreReadVertices, AreSpelt, AreThere, IsNext, IsStepWith};
 
 use crate::spaces::Spaces;
@@ -22,24 +22,6 @@ use incompatibilities::{Id, Origin, Store};
 use std::alloc::{AllocError, Global};
 use version_sets::States;
 use vertices::Kind;
-
-/// The kind that has a number.
-fn kind_at(number: u8) -> Kind
-    ensures { kind_view result ≡ kind_at number }
-{
-    match number {
-        1 => Kind::Needed,
-        2 => Kind::Target,
-        3 => Kind::HasFeature,
-        4 => Kind::WantsFeature,
-        5 => Kind::FeatureOnFeature,
-        6 => Kind::FeatureOnDependency,
-        7 => Kind::FeatureAsks,
-        8 => Kind::NewestListed,
-        9 => Kind::WeakFeature,
-        _ => Kind::Root,
-    }
-}
 
 /// How many needed entries come before one.
 fn place_of(places: &[usize], id: Id) -> u64
@@ -68,7 +50,7 @@ fn push_by<'a>(
     ensures { OnOk result ((s : Step) × (steps.new ≡ steps.old ++ s ∷ []) × IsStepWith table.now (place_in places.now) origin (ordered_terms (named_views terms.now)) s) }
 {
     match origin {
-        Origin::Axiom(number) => steps.push_named_axiom(alloc, kind_at(number), terms),
+        Origin::Axiom(number) => steps.push_named_axiom(alloc, Kind::numbered(number), terms),
         Origin::Combined {
             first,
             second,

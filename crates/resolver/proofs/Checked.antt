@@ -10,7 +10,7 @@ use Rattle.checker.specs.RefusedSteps.{IsRefusedAt}
 use Rattle.checker.specs.declared.outcome.Check.{Check}
 use Rattle.checker.specs.declared.outcome.Check.TheVariants.{Proves, Refused}
 use Rattle.checker.specs.declared.outcome.Reason.{Reason}
-use Rattle.resolver.specs.Checks.{IsProof, IsChecked, Decides, Checks}
+use Rattle.resolver.specs.CheckedProofs.{IsProof, IsChecked, Decides, Checks}
 use Rattle.resolver.specs.Inputs.{RequestView, AreRead, IsInputFault, EndsWith, names_of, problem_of}
 use Rattle.resolver.specs.Inputs.IsCutShort.{after_loading}
 use Rattle.resolver.specs.declared.inputs.Inputs.{Inputs}

@@ -21,7 +21,7 @@ use Rattle.resolver.specs.Inputs.{RequestView, AreRead, IsInputFault, LoadsFor, 
 use Rattle.resolver.specs.Inputs.IsInputFault.{by_manifest, by_lock, by_index}
 use Rattle.resolver.specs.Answers.{IsAnswer, Resolves}
 use Rattle.resolver.specs.Answers.IsAnswer.{kept_lock, new_lock, no_lock}
-use Rattle.resolver.specs.Checks.{Checks}
+use Rattle.resolver.specs.CheckedProofs.{Checks}
 use Rattle.resolver.specs.Returning.{FindsProof, to_check}
 use Rattle.resolver.specs.declared.inputs.Inputs.{Inputs}
 use Rattle.resolver.specs.declared.fault.Fault.{Fault}

@@ -21,7 +21,7 @@ use Rattle.resolver.specs.Inputs.{RequestView, AreRead, IsInputFault, IsCutShort
 use Rattle.resolver.specs.Inputs.IsInputFault.{by_manifest, by_lock, by_index}
 use Rattle.resolver.specs.Inputs.IsCutShort.{before_loading, while_loading, while_asking, after_loading}
 use Rattle.resolver.specs.Answers.{IsUnanswered, Resolves, Verifies}
-use Rattle.resolver.specs.Checks.{Checks}
+use Rattle.resolver.specs.CheckedProofs.{Checks}
 use Rattle.resolver.specs.declared.inputs.Inputs.{Inputs}
 use Rattle.resolver.specs.declared.fault.Fault.{Fault}
 use Rattle.resolver.specs.declared.fault.CheckFault.{CheckFault}

@@ -4,4 +4,4 @@ pub mod Inputs
 pub mod Same
 pub mod Answers
 pub mod Returning
-pub mod Checks
+pub mod CheckedProofs

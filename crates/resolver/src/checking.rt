@@ -2,7 +2,7 @@
 
 ghost use Rattle.std.specs.Prelude.{option_copied};
 ghost use Rattle.catalogue.specs.declared.store.Prefer.TheVariants.{Newest};
-ghost use Rattle.resolver.specs.Checks.{Checks, Decides};
+ghost use Rattle.resolver.specs.CheckedProofs.{Checks, Decides};
 
 use crate::fault::CheckFault;
 use crate::inputs::{Inputs, Request, read_inputs};

@@ -17,7 +17,7 @@ ghost use Rattle.derivations.specs.Files.{derivation_of_bytes};
 ghost use Rattle.selection.specs.declared.verdict.Verdict.{Verdict};
 ghost use Rattle.selection.specs.declared.verdict.Verdict.TheVariants.{Valid};
 ghost use Rattle.checker.specs.declared.outcome.Check.{Check};
-ghost use Rattle.resolver.specs.Checks.{Checks};
+ghost use Rattle.resolver.specs.CheckedProofs.{Checks};
 ghost use Rattle.resolver.specs.Faults.{input_wants_memory};
 ghost use Rattle.resolver.specs.Inputs.{RequestView, AreRead, IsCutShort, IsInputFault, names_of, old_of_bytes, old_packages, problem_of};
 ghost use Rattle.resolver.specs.Answers.{Resolves, Verifies, IsAnswer, IsAnswered, IsChosen};

@@ -3,12 +3,12 @@ use Rattle.std.proofs.Common.{◌≡◌, ℕ, zero, suc, ◌+◌, ◌-◌, ◌<�
 use Rattle.std.proofs.lemmas.Bool.{cases_lt, false≢true}
 use Rattle.std.proofs.lemmas.List.{get_or_append_left, get_or-append_right, length-append}
 use Rattle.version_sets.specs.Sets.{Members, every, size}
-use Rattle.incompatibilities.specs.Incompatibilities.{LiesIn, states_at}
+use Rattle.incompatibilities.specs.Incompatibilities.{LiesIn, states_at, HoldsAt}
 use Rattle.incompatibilities.specs.Stores.{EntryView, entry, terms_of, watched}
 use Rattle.incompatibilities.specs.declared.origin.Origin.TheVariants.{Axiom}
-use Rattle.propagation.specs.Satisfaction.{HoldsAt, IsQuiet, Sat}
+use Rattle.propagation.specs.Satisfaction.{IsQuiet, Sat}
 use Rattle.propagation.specs.Trails.{StepView, TrailView, end_sets, past, set_of, sets_at, space_of, total, undo}
-use Rattle.propagation.specs.Promises.{IsDecided, IsTrail, Levels, LieIn, Propagated, Stops}
+use Rattle.propagation.specs.Promises.{IsDecided, IsTrail, Levels, LieIn, Propagated, IsProgress}
 use Rattle.propagation.specs.declared.propagating.Progress.{Progress}
 use Rattle.propagation.specs.declared.propagating.Progress.TheVariants.{Conflict, Fixpoint}
 use Rattle.propagation.proofs.Places.{cut_sets}
@@ -30,7 +30,7 @@ some_spent zero a b le not_none = absurd (not_none refl)
 some_spent (suc n) a b le not_none = omega (arith, le)
 
 -- a turn, from what it keeps and what it brings down
-gone : (asked : Pairs) (left fewer late : ℕ) (old new : TrailView) (es : List EntryView) (next : Progress) → IsTrail es new → Stops es new.sets next → sets_at new 0 ≡ sets_at old 0 → IsFalling (start_of late old) late new → Quiet es new new.level → IsCaught asked new → space_in (start_of late old) late new + fewer < space late old + left → HasFallen (space late old + left) asked fewer late es new next
+gone : (asked : Pairs) (left fewer late : ℕ) (old new : TrailView) (es : List EntryView) (next : Progress) → IsTrail es new → IsProgress es new.sets next → sets_at new 0 ≡ sets_at old 0 → IsFalling (start_of late old) late new → Quiet es new new.level → IsCaught asked new → space_in (start_of late old) late new + fewer < space late old + left → HasFallen (space late old + left) asked fewer late es new next
 gone asked left fewer late old new es next trail stops start falling quiet caught falls = record {
   searching = record {
     trail = trail;
@@ -57,7 +57,7 @@ module _ (asked : Pairs) (left late : ℕ) (es : List EntryView) (old mid new : 
   ends = cut_sets back_to old mid l.gone l.cut
 
   -- something was added, since the learned entry has an open term and no entry was satisfied there
-  adds : (q : Progress) → Stops es new.sets q → length added ≡ 0 → ⊥
+  adds : (q : Progress) → IsProgress es new.sets q → length added ≡ 0 → ⊥
   adds Fixpoint stops none = (stops id l.within l.watches).not_one l.vertex l.states (let same : new.sets ≡ mid.sets = subst (λ ss. undo ss new.sets ≡ mid.sets) (none_added added none) p.back in rw same l.one)
   adds (Conflict c) stops none = quiet back_to l.lower c stops.0 stops.1 (let same : new.sets ≡ mid.sets = subst (λ ss. undo ss new.sets ≡ mid.sets) (none_added added none) p.back in subst (λ (ss : List Members). Sat ss (terms_of es c)) (same ∙ sym ends) stops.2)
 
@@ -202,7 +202,7 @@ module _ (asked more : Pairs) (left fewer late later : ℕ) (old wide : TrailVie
     trail = adding_trail;
     falling = wide_falling was.falling;
     quiet = wide_quiet was.quiet;
-    stops = (let same : es ≡ old_es = (a.stays none).0 in subst (λ (xs : List EntryView). Stops xs wide.sets Fixpoint) (sym same) (λ id lt on. wide_quiet_at id lt (was.stops id lt on)));
+    stops = (let same : es ≡ old_es = (a.stays none).0 in subst (λ (xs : List EntryView). IsProgress xs wide.sets Fixpoint) (sym same) (λ id lt on. wide_quiet_at id lt (was.stops id lt on)));
   }
 
 added_space : (s late : ℕ) (old new : TrailView) (es : List EntryView) (next : Progress) (added : List StepView) → IsFalling s late old → Propagated es old new next added → IsFalling s late new × (space_in s late new ≤ space_in s late old)

@@ -3,8 +3,8 @@
 use Rattle.std.proofs.Common.{◌≡◌, ◌≢◌, ℕ, zero, suc, ◌<◌, Bool, true, false, List, [], ◌∷◌, length, Option, Some, None, refl, sym, subst, arith, inl, inr}
 use Rattle.std.proofs.lemmas.Bool.{cases_eq, false≢true}
 use Rattle.version_sets.specs.Sets.{Members, has, inside, meets}
-use Rattle.incompatibilities.specs.Incompatibilities.{Assignment, Breaks, HoldsOf, LiesIn, Terms}
-use Rattle.propagation.specs.Satisfaction.{Agrees, HoldsAt, IsQuiet, OthersHold}
+use Rattle.incompatibilities.specs.Incompatibilities.{Assignment, Breaks, HoldsOf, LiesIn, Terms, HoldsAt}
+use Rattle.propagation.specs.Satisfaction.{Agrees, IsQuiet, OthersHold}
 use Rattle.propagation.specs.Trails.{set_of}
 use Rattle.propagation.proofs.SetLemmas.{has_some, one_inside}
 use Rattle.propagation.proofs.Vertices.{in_range}

@@ -3,12 +3,12 @@ use Rattle.std.proofs.Common.{◌≡◌, ℕ, zero, suc, ◌<◌, true, List, []
 use Rattle.std.proofs.lemmas.Bool.{cases_eq, cases_lt}
 use Rattle.std.proofs.lemmas.List.{get_or-set_other, get_or-set_same, get_or_append_left, length-set}
 use Rattle.version_sets.specs.Sets.{Members, has, only, size}
-use Rattle.incompatibilities.specs.Incompatibilities.{Assignment, Breaks, HoldsOf, Terms}
+use Rattle.incompatibilities.specs.Incompatibilities.{Assignment, Breaks, HoldsOf, Terms, HoldsAt}
 use Rattle.incompatibilities.specs.Stores.{EntryView, IsAxiom, entry, terms_of}
 use Rattle.incompatibilities.specs.declared.origin.Origin.TheVariants.{Axiom}
-use Rattle.propagation.specs.Satisfaction.{Agrees, BreaksNone, HoldsAt, Sat}
+use Rattle.propagation.specs.Satisfaction.{Agrees, BreaksNone, Sat}
 use Rattle.propagation.specs.Trails.{StepView, TrailView, set_of, space_of}
-use Rattle.propagation.specs.Promises.{IsDecided, Propagated, SameSpaces, Stops}
+use Rattle.propagation.specs.Promises.{IsDecided, Propagated, SameSpaces, IsProgress}
 use Rattle.propagation.specs.declared.propagating.Progress.{Progress}
 use Rattle.propagation.specs.declared.propagating.Progress.TheVariants.{Conflict}
 use Rattle.propagation.proofs.SetLemmas.{inside_has, size_le}
@@ -26,7 +26,7 @@ holds_broken s (Some x) i h there = inside_has s x i h.1 (there h.0)
 pub sat_breaks : (x : Assignment) (sets : List Members) (f : Terms) → Agrees x sets → Sat sets f → Breaks x f
 sat_breaks x sets f agrees sat u = holds_broken (set_of sets u) (f u) (x u) (sat u) (λ some. agrees u (in_range sets u (omega (arith, some, size_le (set_of sets u)))))
 
-pub no_conflict : (x : Assignment) (es : List EntryView) (t : TrailView) (id : ℕ) → Stops es t.sets (Conflict id) → IsWalked x es t → ⊥
+pub no_conflict : (x : Assignment) (es : List EntryView) (t : TrailView) (id : ℕ) → IsProgress es t.sets (Conflict id) → IsWalked x es t → ⊥
 no_conflict x es t id stops walked = walked.0 id stops.0 (sat_breaks x t.sets (terms_of es id) walked.1 stops.2)
 
 has_only : (s : Members) (i : ℕ) → has s i ≡ true → has (only (length s) i) i ≡ true

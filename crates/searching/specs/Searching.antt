@@ -5,7 +5,7 @@ use Rattle.incompatibilities.specs.Incompatibilities.{states_at}
 use Rattle.incompatibilities.specs.Stores.{EntryView, Follows, IsAxiom, entry, terms_of, touches}
 use Rattle.incompatibilities.specs.declared.origin.Origin.TheVariants.{Combined}
 use Rattle.propagation.specs.Trails.{TrailView, end_sets, latest_at, level_after, past, set_of, sets_at, space_of, total}
-use Rattle.propagation.specs.Promises.{IsTrail, Stops}
+use Rattle.propagation.specs.Promises.{IsTrail, IsProgress}
 use Rattle.propagation.specs.declared.propagating.Progress.{Progress}
 use Rattle.conflicts.specs.Resolving.{Quiet}
 use Rattle.searching.specs.Measures.{measure_of}
@@ -40,7 +40,7 @@ pub record IsSearching (late : ℕ) (es : List EntryView) (t : TrailView) (progr
   pub trail : IsTrail es t
   pub falling : IsFalling (start_of late t) late t
   pub quiet : Quiet es t t.level
-  pub stops : Stops es t.sets progress
+  pub stops : IsProgress es t.sets progress
 
 -- which pairs of a vertex and a state had their axioms put into the store
 abbrev pub Pairs : Type 0

@@ -2,7 +2,7 @@
 use Rattle.std.specs.Prelude.{◌≡◌, ℕ, ◌+◌, ◌<◌, ◌≤◌, Bool, true, false, List, ◌++◌, length, Option, Some, None}
 use Rattle.incompatibilities.specs.Stores.{EntryView}
 use Rattle.propagation.specs.Trails.{TrailView}
-use Rattle.propagation.specs.Promises.{LieIn, Stops}
+use Rattle.propagation.specs.Promises.{LieIn, IsProgress}
 use Rattle.propagation.specs.Widening.{IsWider, sum_of}
 use Rattle.propagation.specs.declared.propagating.Progress.{Progress}
 use Rattle.propagation.specs.declared.propagating.Progress.TheVariants.{Fixpoint}
@@ -33,7 +33,7 @@ IsChosen done t (Some d) = CanDecide t d.0 d.1
 
 -- how a search ends
 abbrev pub HasEnded : Type 0 → Pairs → List EntryView → TrailView → Answer → Type 0
-HasEnded done asked es t Selection = done × AllAsked asked t.sets × Stops es t.sets Fixpoint
+HasEnded done asked es t Selection = done × AllAsked asked t.sets × IsProgress es t.sets Fixpoint
 HasEnded done asked es t (Unsolvable id) = IsRefutation es id
 
 -- the search goes on, and the number that falls with each turn is below what it was

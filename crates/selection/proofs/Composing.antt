@@ -17,8 +17,8 @@ use Rattle.selection.specs.Graphs.{graph_of, is_known, are_known, IsOnlyRoot, Ha
 use Rattle.selection.specs.Places.{content_in, AreFindings}
 use Rattle.selection.specs.Verdicts.{IsAt, IsInvalid, IsVerdictOn, IsFaultOf}
 use Rattle.selection.specs.declared.findings.Findings.{Findings}
-use Rattle.selection.specs.declared.verdict.Fault.{Fault}
-use Rattle.selection.specs.declared.verdict.Fault.TheVariants as fault
+use Rattle.selection.specs.declared.verdict.VerdictFault as said
+use Rattle.selection.specs.declared.verdict.VerdictFault.TheVariants as fault
 use Rattle.selection.specs.declared.verdict.Verdict.{Verdict}
 use Rattle.selection.specs.declared.verdict.Verdict.TheVariants.{Valid, Invalid}
 use Rattle.selection.proofs.Holding.{facts_same, lacks_same}
@@ -68,7 +68,7 @@ module _ (q : Problem) (content : Content) where
     never_at : (v : VerdictFault) (name : List ℕ) (version : Parts) → IsAt q content v name version → IsValidSelection q content → ⊥
     never_at v name version h s = let clean = (valid_iff q content formed).1 s in (h.verdict.1).has_fault (clean.1 h.place (h.verdict.1).place v)
 
-    never : (f : Fault) (name : List ℕ) (version : Parts) → IsInvalid q content f name version → IsValidSelection q content → ⊥
+    never : (f : said.VerdictFault) (name : List ℕ) (version : Parts) → IsInvalid q content f name version → IsValidSelection q content → ⊥
     never fault.Root name version h s = h.2 s.root
     never fault.NotCandidate name version h s = never_at _ name version h s
     never fault.TwoInClass name version h s = never_at _ name version h s

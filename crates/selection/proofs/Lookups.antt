@@ -7,14 +7,13 @@ use Rattle.semver.specs.Parse.{Parts}
 use Rattle.model.specs.Summary.{same_text}
 use Rattle.model.specs.Content.{Candidate, Package, Problem, same_version, same_option, candidates_of, candidate_at, candidate_of, if_checksum, brings_of, is_root, summary_of}
 use Rattle.model.specs.Candidates.{Record, as_candidate}
-use Rattle.features.specs.Views.{summary_view}
+use Rattle.features.specs.Views.{summary_view, brings_view}
 use Rattle.features.specs.declared.dependency.Summary.{Summary}
 use Rattle.manifest.specs.Manifests.{ManifestView}
 use Rattle.catalogue.specs.Problems.{problem_in}
 use Rattle.catalogue.specs.Ranks.{records}
 use Rattle.catalogue.specs.Stores.{CatalogueView, Row, row_at, candidates_at, record_at, rows_by_name}
 use Rattle.catalogue.specs.Views.{Said, said}
-use Rattle.facts.specs.Graphs.{brings_view}
 use Rattle.selection.specs.Graphs.{is_known}
 
 -- the candidates of a name

@@ -10,7 +10,7 @@ use Rattle.selection.specs.Places.{is_free, lowest_of, lowest, fault_of, IsCheck
 use Rattle.selection.specs.declared.findings.Findings.{Findings}
 use Rattle.selection.specs.Verdicts.{IsAt, IsInvalid, IsVerdictOn, IsFaultOf}
 use Rattle.selection.specs.declared.checked.Checked.{Checked}
-use Rattle.selection.specs.declared.verdict.Fault.{Fault}
+use Rattle.selection.specs.declared.verdict.VerdictFault as said
 use Rattle.selection.specs.declared.verdict.Verdict.{Verdict}
 use Rattle.selection.specs.declared.verdict.Verdict.TheVariants.{Valid, Invalid}
 
@@ -116,7 +116,7 @@ module _ (k : Checked) where
       }
 
 -- the fault that the program names
-pub named : (o : Option VerdictFault) (f : Fault) → option_map fault_of o ≡ Some f → (v : VerdictFault) × (o ≡ Some v) × (fault_of v ≡ f)
+pub named : (o : Option VerdictFault) (f : said.VerdictFault) → option_map fault_of o ≡ Some f → (v : VerdictFault) × (o ≡ Some v) × (fault_of v ≡ f)
 named None f e = absurd (none-some f e)
 named (Some v) f e = (v, refl, same_Some (fault_of v) f e)
 
@@ -133,7 +133,7 @@ module _ (q : Problem) (content : Content) where
   invalid_at wrong_list name version h = h
   invalid_at unreached name version h = h
 
-  said_first : (n : ℕ) (p : Package) (v : VerdictFault) (f : Fault) → fault_of v ≡ f → slice_get content n ≡ Some p → HasRoot q content → IsFirstFault q content n v
+  said_first : (n : ℕ) (p : Package) (v : VerdictFault) (f : said.VerdictFault) → fault_of v ≡ f → slice_get content n ≡ Some p → HasRoot q content → IsFirstFault q content n v
       → (w : Verdict) → IsFaultOf f p.name p.version w → IsVerdictOn q content w
   said_first n p v f e got root first Valid h = absurd h
   said_first n p v f e got root first (Invalid g name version) h =
@@ -141,7 +141,7 @@ module _ (q : Problem) (content : Content) where
       (invalid_at v name (parts_of version) (record { place = n; there = p; stands = got; name_is = sym h.1; version_is = sym h.2; verdict = (root, first) }))
 
 -- what is said of the first package with a fault
-pub first_said : {E : Type 0} (r : Result Verdict E) (f : Findings) (n : ℕ) (p : Package) (k : Checked) (x : Fault) → option_map fault_of (lowest k) ≡ Some x → slice_get (content_in f) n ≡ Some p
+pub first_said : {E : Type 0} (r : Result Verdict E) (f : Findings) (n : ℕ) (p : Package) (k : Checked) (x : said.VerdictFault) → option_map fault_of (lowest k) ≡ Some x → slice_get (content_in f) n ≡ Some p
     → ((q : Problem) → AreFindings q f → IsChecked q (content_in f) n k) → n < length (content_in f) → ((q : Problem) → AreFindings q f → (m : ℕ) → m < n → IsFaultless q (content_in f) m)
     → IfOk r (λ w. IsFaultOf x p.name p.version w) → IfOk r (λ w. (q : Problem) → AreFindings q f → IsVerdictOn q (content_in f) w)
 first_said (Err e) f n p k x named_as got h lt before said = tt

@@ -12,8 +12,8 @@ use Rattle.model.specs.Verdict.{VerdictFault, not_candidate, two_in_class, unmet
 use Rattle.selection.specs.Graphs.{graph_of, is_known, are_known, IsOnlyRoot}
 use Rattle.selection.specs.declared.checked.Checked.{Checked}
 use Rattle.selection.specs.declared.findings.Findings.{Findings}
-use Rattle.selection.specs.declared.verdict.Fault.{Fault}
-use Rattle.selection.specs.declared.verdict.Fault.TheVariants as fault
+use Rattle.selection.specs.declared.verdict.VerdictFault as said
+use Rattle.selection.specs.declared.verdict.VerdictFault.TheVariants as fault
 
 -- ---- lists
 
@@ -51,7 +51,7 @@ abbrev pub lowest : Checked → Option VerdictFault
 lowest k = lowest_of k.candidate k.alone k.met k.featured k.listed k.reached
 
 -- the fault of the program
-abbrev pub fault_of : VerdictFault → Fault
+abbrev pub fault_of : VerdictFault → said.VerdictFault
 fault_of not_candidate = fault.NotCandidate
 fault_of two_in_class = fault.TwoInClass
 fault_of unmet = fault.Unmet

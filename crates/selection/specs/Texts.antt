@@ -1,14 +1,14 @@
 -- How verdicts and faults are printed (all are this project's own).
 use Rattle.std.specs.Prelude.{ℕ, List, ◌++◌, codes}
 use Rattle.semver.specs.Identifiers.{version_text}
-use Rattle.selection.specs.declared.verdict.Fault.{Fault}
-use Rattle.selection.specs.declared.verdict.Fault.TheVariants as fault
+use Rattle.selection.specs.declared.verdict.VerdictFault as said
+use Rattle.selection.specs.declared.verdict.VerdictFault.TheVariants as fault
 use Rattle.selection.specs.declared.verdict.Verdict.{Verdict}
 use Rattle.selection.specs.declared.verdict.Verdict.TheVariants.{Valid, Invalid}
 
 -- the number and the name of each
 
-abbrev pub fault_text : Fault → List ℕ
+abbrev pub fault_text : said.VerdictFault → List ℕ
 fault_text fault.Root = codes "V1 Root"
 fault_text fault.NotCandidate = codes "V2 NotCandidate"
 fault_text fault.TwoInClass = codes "V3 TwoInClass"

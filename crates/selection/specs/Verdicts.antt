@@ -7,8 +7,8 @@ use Rattle.model.specs.Content.{Package, Content, Problem}
 use Rattle.model.specs.Verdict.{VerdictFault, not_candidate, two_in_class, unmet, no_feature, wrong_list, unreached, IsVerdict, valid, no_root, at_package}
 use Rattle.selection.specs.declared.verdict.Verdict.{Verdict}
 use Rattle.selection.specs.declared.verdict.Verdict.TheVariants.{Valid, Invalid}
-use Rattle.selection.specs.declared.verdict.Fault.{Fault}
-use Rattle.selection.specs.declared.verdict.Fault.TheVariants as fault
+use Rattle.selection.specs.declared.verdict.VerdictFault as said
+use Rattle.selection.specs.declared.verdict.VerdictFault.TheVariants as fault
 
 module _ (q : Problem) (content : Content) where
   -- the first package with a fault has this name and version, and this is its lowest fault
@@ -21,7 +21,7 @@ module _ (q : Problem) (content : Content) where
     pub verdict : IsVerdict q content (at_package place lowest)
 
   -- a fault with a name and a version
-  abbrev pub IsInvalid : Fault → List ℕ → Parts → Type 0
+  abbrev pub IsInvalid : said.VerdictFault → List ℕ → Parts → Type 0
   IsInvalid fault.Root name version = (name ≡ q.name) × (version ≡ q.version) × IsVerdict q content no_root
   IsInvalid fault.NotCandidate name version = IsAt not_candidate name version
   IsInvalid fault.TwoInClass name version = IsAt two_in_class name version
@@ -36,6 +36,6 @@ module _ (q : Problem) (content : Content) where
   IsVerdictOn (Invalid f name version) = IsInvalid f name (parts_of version)
 
 -- what is said is this fault, of a package with this name and version
-abbrev pub IsFaultOf : Fault → List ℕ → Parts → Verdict → Type 0
+abbrev pub IsFaultOf : said.VerdictFault → List ℕ → Parts → Verdict → Type 0
 IsFaultOf fault name version Valid = ⊥
 IsFaultOf fault name version (Invalid f n v) = (f ≡ fault) × (n ≡ name) × (parts_of v ≡ version)

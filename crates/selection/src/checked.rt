@@ -3,7 +3,7 @@
 ghost use Rattle.std.specs.Prelude.{◌≡◌, option_map};
 ghost use Rattle.selection.specs.Places.{lowest, fault_of};
 
-use crate::verdict::Fault;
+use crate::verdict::VerdictFault;
 
 /// Of each fault that a package may have, whether it is free of it.
 #[derive(Clone, Copy)]
@@ -23,21 +23,21 @@ pub(crate) struct Checked {
 }
 
 /// The lowest fault.
-pub(crate) fn lowest(checked: Checked) -> Option<Fault>
+pub(crate) fn lowest(checked: Checked) -> Option<VerdictFault>
     ensures { result ≡ option_map fault_of (lowest checked) }
 {
     if !checked.candidate {
-        Some(Fault::NotCandidate)
+        Some(VerdictFault::NotCandidate)
     } else if !checked.alone {
-        Some(Fault::TwoInClass)
+        Some(VerdictFault::TwoInClass)
     } else if !checked.met {
-        Some(Fault::Unmet)
+        Some(VerdictFault::Unmet)
     } else if !checked.featured {
-        Some(Fault::NoFeature)
+        Some(VerdictFault::NoFeature)
     } else if !checked.listed {
-        Some(Fault::List)
+        Some(VerdictFault::List)
     } else if !checked.reached {
-        Some(Fault::Unreached)
+        Some(VerdictFault::Unreached)
     } else {
         None
     }

@@ -11,7 +11,7 @@ use crate::checked::{Checked, lowest};
 use crate::classes_once::is_second;
 use crate::enabled::{are_led_to, are_met, flag, flags};
 use crate::findings::Findings;
-use crate::verdict::{Fault, Verdict};
+use crate::verdict::{Verdict, VerdictFault};
 use features::PackageName;
 use semver::Version;
 use std::alloc::{AllocError, Global};
@@ -59,7 +59,7 @@ fn checked_at(alloc: Global, findings: &Findings<'_>, at: usize) -> Result<Check
 
 /// A fault at a package.
 pub(crate) fn invalid(
-    fault: Fault,
+    fault: VerdictFault,
     name: &PackageName,
     version: &Version,
 ) -> Result<Verdict, AllocError>

@@ -26,5 +26,5 @@ mod verdict;
 mod verifying;
 
 pub use targets::target;
-pub use verdict::{Fault, Verdict};
+pub use verdict::{Verdict, VerdictFault};
 pub use verifying::verify;

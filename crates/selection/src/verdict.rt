@@ -6,7 +6,7 @@ use std::fmt;
 
 /// What is wrong with a package, in the order in which it is looked for.
 #[derive(Clone, Copy, Debug, PartialEq, Eq)]
-pub enum Fault {
+pub enum VerdictFault {
     /// There is no root package.
     Root,
     /// It is not the root, and no candidate of the run with the index's checksum.
@@ -23,7 +23,7 @@ pub enum Fault {
     Unreached,
 }
 
-impl fmt::Display for Fault {
+impl fmt::Display for VerdictFault {
     ghost use Rattle.std.specs.Prelude.{Some};
     ghost use Rattle.selection.specs.Texts.{fault_text};
 
@@ -31,13 +31,13 @@ impl fmt::Display for Fault {
 
     fn fmt<W: fmt::Write>(&self, f: &mut fmt::Formatter<W>) -> fmt::Result {
         f.write_str(match self {
-            Fault::Root => "V1 Root",
-            Fault::NotCandidate => "V2 NotCandidate",
-            Fault::TwoInClass => "V3 TwoInClass",
-            Fault::Unmet => "V4 Unmet",
-            Fault::NoFeature => "V5 NoFeature",
-            Fault::List => "V6 List",
-            Fault::Unreached => "V7 Unreached",
+            VerdictFault::Root => "V1 Root",
+            VerdictFault::NotCandidate => "V2 NotCandidate",
+            VerdictFault::TwoInClass => "V3 TwoInClass",
+            VerdictFault::Unmet => "V4 Unmet",
+            VerdictFault::NoFeature => "V5 NoFeature",
+            VerdictFault::List => "V6 List",
+            VerdictFault::Unreached => "V7 Unreached",
         })
     }
 }
@@ -48,7 +48,7 @@ pub enum Verdict {
     Valid,
     /// Where there is no root package, the manifest's name and version stand here.
     Invalid {
-        fault: Fault,
+        fault: VerdictFault,
         name: PackageName,
         version: Version,
     },

@@ -10,7 +10,7 @@ use crate::findings::Findings;
 use crate::nodes::nodes;
 use crate::reached::reached;
 use crate::roots::root_of;
-use crate::verdict::{Fault, Verdict};
+use crate::verdict::{Verdict, VerdictFault};
 use catalogue::Catalogue;
 use facts::facts_of;
 use lockfile::LockContent;
@@ -31,7 +31,7 @@ pub fn verify(
 {
     let content = content.packages();
     let Some(root) = root_of(manifest, content) else {
-        return invalid(Fault::Root, manifest.name(), manifest.version());
+        return invalid(VerdictFault::Root, manifest.name(), manifest.version());
     };
     let nodes = nodes(alloc, manifest, catalogue, content)?;
     let facts = facts_of(alloc, &nodes, root)?;

@@ -25,10 +25,10 @@ use laws::accepted_derivations_refute;
 use lockfile::LockContent;
 use manifest::Manifest;
 use model::walks_are_unique;
-use parts::are_valid;
 use refusing::{instances_have_their_kinds, refusal};
 use searching::Answer;
 use std::alloc::{AllocError, Global};
+use valid_parts::are_valid;
 use version_sets::{States, WordStates};
 use walks::preferred;
 

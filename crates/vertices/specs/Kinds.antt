@@ -1,5 +1,5 @@
 -- The kinds of axioms and their texts (the kinds are this project's).
-use Rattle.std.specs.Prelude.{ℕ, List, [], ◌∷◌, Option, codes}
+use Rattle.std.specs.Prelude.{ℕ, List, [], ◌∷◌, Option, codes, slice_index_or}
 use Rattle.std.specs.List.{find}
 use Rattle.model.specs.Axioms as model
 use Rattle.model.specs.Summary.{same_text}
@@ -39,3 +39,21 @@ kinds = model.Root ∷ model.Needed ∷ model.Target ∷ model.HasFeature ∷ mo
 -- the kind that a text is
 abbrev pub kind_of_text : List ℕ → Option model.Kind
 kind_of_text text = find (λ k. same_text text (kind_text k)) kinds
+
+-- ---- by number, as a search keeps them
+
+abbrev pub kind_number : model.Kind → ℕ
+kind_number model.Root = 0
+kind_number model.Needed = 1
+kind_number model.Target = 2
+kind_number model.HasFeature = 3
+kind_number model.WantsFeature = 4
+kind_number model.FeatureOnFeature = 5
+kind_number model.FeatureOnDependency = 6
+kind_number model.FeatureAsks = 7
+kind_number model.NewestListed = 8
+kind_number model.WeakFeature = 9
+
+-- the kind that a number is; the root's where none is
+abbrev pub kind_at : ℕ → model.Kind
+kind_at n = slice_index_or kinds n model.Root

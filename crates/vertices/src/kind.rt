@@ -1,7 +1,7 @@
 //! The kinds of axioms, and the codes that they are printed as.
 
 ghost use Rattle.std.specs.Prelude.{◌≡◌, option_map};
-ghost use Rattle.vertices.specs.Kinds.{kind_view, kind_text, kind_of_text};
+ghost use Rattle.vertices.specs.Kinds.{kind_at, kind_number, kind_of_text, kind_text, kind_view};
 
 use std::fmt;
 
@@ -70,6 +70,42 @@ impl Kind {
         ensures { option_map kind_view result ≡ kind_of_text text.now }
     {
         KINDS.iter().find(|kind| text == kind.code()).copied()
+    }
+
+    /// The number that a search keeps it by.
+    pub fn number(self) -> u8
+        ensures { result ≡ kind_number (kind_view self) }
+    {
+        match self {
+            Kind::Root => 0,
+            Kind::Needed => 1,
+            Kind::Target => 2,
+            Kind::HasFeature => 3,
+            Kind::WantsFeature => 4,
+            Kind::FeatureOnFeature => 5,
+            Kind::FeatureOnDependency => 6,
+            Kind::FeatureAsks => 7,
+            Kind::NewestListed => 8,
+            Kind::WeakFeature => 9,
+        }
+    }
+
+    /// The kind of this number; of one that no kind has, the root's.
+    pub fn numbered(number: u8) -> Kind
+        ensures { kind_view result ≡ kind_at number }
+    {
+        match number {
+            1 => Kind::Needed,
+            2 => Kind::Target,
+            3 => Kind::HasFeature,
+            4 => Kind::WantsFeature,
+            5 => Kind::FeatureOnFeature,
+            6 => Kind::FeatureOnDependency,
+            7 => Kind::FeatureAsks,
+            8 => Kind::NewestListed,
+            9 => Kind::WeakFeature,
+            _ => Kind::Root,
+        }
     }
 }
 

@@ -5,8 +5,8 @@ use Rattle.clap.specs.declared.error.kind.ErrorKind.{ErrorKind}
 use Rattle.clap.specs.declared.error.kind.ErrorKind.TheVariants as kind
 use Rattle.words.specs.Asked.{faults}
 use Rattle.words.specs.WordsFaults.{IsWordsFault, Tells}
-use Rattle.words.specs.declared.reading.WordsFault.{WordsFault}
-use Rattle.words.specs.declared.reading.WordsFault.TheVariants.{OutOfMemory, Help, Wrong}
+use Rattle.words.specs.declared.fault.WordsFault.{WordsFault}
+use Rattle.words.specs.declared.fault.WordsFault.TheVariants.{OutOfMemory, Help, Wrong}
 
 pub is_words_fault : (words : List Text) (k : ErrorKind) (fault : WordsFault) → (k ≡ kind.OutOfMemory) ⊎ IsAmong k (faults words) → Tells k fault → IsWordsFault words fault
 is_words_fault words k OutOfMemory met told = tt

@@ -4,8 +4,8 @@ use Rattle.clap.specs.Words.{IsAmong, Kinds, Text}
 use Rattle.clap.specs.declared.error.kind.ErrorKind.{ErrorKind}
 use Rattle.clap.specs.declared.error.kind.ErrorKind.TheVariants as kind
 use Rattle.words.specs.Asked.{faults, parsed}
-use Rattle.words.specs.declared.reading.WordsFault.{WordsFault}
-use Rattle.words.specs.declared.reading.WordsFault.TheVariants.{OutOfMemory, Help, Wrong}
+use Rattle.words.specs.declared.fault.WordsFault.{WordsFault}
+use Rattle.words.specs.declared.fault.WordsFault.TheVariants.{OutOfMemory, Help, Wrong}
 
 -- the error doesn't only show a text that was asked for
 abbrev pub IsWrongUse : ErrorKind → Type 0

@@ -10,6 +10,8 @@
 #![tactic(auto)]
 
 mod command;
+mod fault;
 mod reading;
 
-pub use reading::{Words, WordsFault, read_words};
+pub use fault::{WordsFault, fault_of};
+pub use reading::{Words, read_words};

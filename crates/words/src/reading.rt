@@ -1,18 +1,16 @@
 //! Reading the words of a command line.
 
-ghost use Rattle.std.specs.Prelude.{◌≡◌, IfErr, IfOk, IfSome, [], Some, map, option_map, option_and_then, string_bytes};
-ghost use Rattle.clap.specs.Words.{first_of, found_of, kind_of, rows_of, subcommand_rows_of};
+ghost use Rattle.std.specs.Prelude.{◌≡◌, IfErr, IfOk, [], Some, map, option_map, option_and_then, string_bytes};
+ghost use Rattle.clap.specs.Words.{first_of, found_of, rows_of, subcommand_rows_of};
 ghost use Rattle.words.specs.Asked.{asked, command_of, faults, is_set, or_help, parsed, resolve_of, verify_of, check_of, explain_of};
-ghost use Rattle.words.specs.WordsFaults.{HasText, IsToldAs, IsWordsFault, Tells};
+ghost use Rattle.words.specs.WordsFaults.{IsWordsFault};
 ghost use Rattle.words.specs.Views.{text_if, words_view};
 
 use crate::command::relock;
-use clap::error::ErrorKind;
-use clap::{ArgMatches, Error};
-use std::alloc::{AllocError, Global};
+use crate::fault::{WordsFault, fault_of};
+use clap::ArgMatches;
+use std::alloc::Global;
 use std::convert::AsStr;
-use std::fmt::Display;
-use thiserror::Error as Fault;
 
 /// A command, with the texts of its options.
 #[derive(Debug, Drop)]
@@ -41,30 +39,6 @@ pub enum Words<'a> {
     Explain {
         proof: &'a str,
     },
-}
-
-/// Why words ask for nothing; the texts are `clap`'s.
-#[derive(Debug, Drop, Fault)]
-pub enum WordsFault {
-    #[error("out of memory")]
-    OutOfMemory,
-    /// They ask for help.
-    #[error("{0}")]
-    Help(String),
-    /// They are wrong use.
-    #[error("{0}")]
-    Wrong(String),
-}
-
-impl From<AllocError> for WordsFault {
-    ghost use Rattle.std.specs.Prelude.{◌≡◌};
-    ghost use Rattle.words.specs.declared.reading.WordsFault.TheVariants.{OutOfMemory};
-
-    ghost from_gives = { λ _ e. e ≡ OutOfMemory };
-
-    fn from(_e: AllocError) -> WordsFault {
-        WordsFault::OutOfMemory
-    }
 }
 
 /// What stands for a bare `relock`.
@@ -167,33 +141,5 @@ fn is_set(value: Option<&str>) -> bool
     match value {
         Some(value) => value == "true",
         None => false,
-    }
-}
-
-/// What is said of `clap`'s error.
-fn fault_of(alloc: Global, error: &Error) -> WordsFault
-    ensures { Tells (kind_of error.now) result }
-{
-    if error.kind() == ErrorKind::OutOfMemory {
-        return WordsFault::OutOfMemory;
-    }
-    told_as(alloc, error, error.use_stderr())
-}
-
-/// Wrong use or help, in the words in which something shows itself. It may be anything, so that no other text can stand
-/// for them: `clap` states none of its errors.
-fn told_as<T: Display>(alloc: Global, shown: &T, is_wrong: bool) -> WordsFault
-    ensures kind { IsToldAs is_wrong result }
-    ensures text { IfSome (T.output shown.now) (λ text. HasText text result) }
-{
-    match shown.to_string(alloc) {
-        Ok(text) => {
-            if is_wrong {
-                WordsFault::Wrong(text)
-            } else {
-                WordsFault::Help(text)
-            }
-        }
-        Err(_) => WordsFault::OutOfMemory,
     }
 }

@@ -2,17 +2,13 @@
 //! than told.
 #![tactic(auto)]
 
+use cases::{Programs, play_cases};
 use commands::run;
-use playing::{Programs, play_cases};
 use std::io::{self, Write};
 use std::process::ExitCode;
 
-/// The status where a case ends otherwise than told, or where there is no case.
-const FAILED: u8 = 1;
-
 fn main(rt: HostRuntime) -> io::Result<ExitCode> {
-    let is_well = play_cases(&rt, &Relock { rt: &rt })?;
-    Ok(ExitCode::from(if is_well { 0 } else { FAILED }))
+    play_cases(&rt, &Relock { rt: &rt })
 }
 
 /// `relock` alone.

@@ -5,14 +5,14 @@ use Rattle.classes.specs.Classes.{class_view}
 use Rattle.vertices.specs.Orders.{state_cmp}
 use Rattle.model.specs.Axioms.{at}
 use Rattle.model.specs.Vertices.{pkg}
-use Rattle.looking_up.specs.Matching.{is_taken}
+use Rattle.semver.specs.EvalViews.{matches_views}
 use Rattle.instances.proofs.Rising.{those_rise}
 use Rattle.instances.proofs.Matched.{taken_is}
 use Rattle.instances.proofs.newest_listed.taken_term.Goals as goal
 
 pub rising-requires : goal.rising-requires
 rising-requires c =
-    subst (IsStrictlySortedBy state_cmp) (sym c.in_ok-states.ensures) (those_rise (is_taken (requirement_view c.args.dependency.now.requirement)) c.class_versions-versions.result.now c.class_versions-versions.ensures.rising)
+    subst (IsStrictlySortedBy state_cmp) (sym c.in_ok-states.ensures) (those_rise (matches_views (requirement_view c.args.dependency.now.requirement)) c.class_versions-versions.result.now c.class_versions-versions.ensures.rising)
 
 pub returns : goal.returns
 returns c =

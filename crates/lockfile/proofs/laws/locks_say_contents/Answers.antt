@@ -1,4 +1,4 @@
-use Rattle.lockfile.proofs.Said.{said-content}
+use Rattle.lockfile.proofs.ReadContents.{said-content}
 use Rattle.lockfile.proofs.laws.locks_say_contents.Goals as goal
 
 pub returns : goal.returns

@@ -2,7 +2,8 @@ use Rattle.std.proofs.Common.{◌∙◌, sym, ap}
 use Rattle.semver.specs.Identifiers.{parts_of}
 use Rattle.model.specs.Vertices.{owner_brings}
 use Rattle.catalogue.specs.Views.{said_by}
-use Rattle.looking_up.specs.Views.{brings_view, problem_view}
+use Rattle.looking_up.specs.Views.{problem_view}
+use Rattle.features.specs.Views.{brings_view}
 use Rattle.vertices.specs.RefViews.{owner_ref_view}
 use Rattle.looking_up.proofs.Brought.{not_there, is_there}
 use Rattle.looking_up.proofs.owners.brings.Goals as goal

@@ -15,7 +15,7 @@ pub returns-in-Axiom : goal.returns-in-Axiom
 returns-in-Axiom c =
     let ts = ordered_terms (named_views c.args.terms.now) in
     on_ok_weaker c.push_named_axiom.result
-    (λ e. (given (kind_view c.kind_at.result) ts, e, by_axiom c.args.table.now (place_in c.args.places.now) c.args.origin ts c.in-Axiom.number (kind_view c.kind_at.result) c.in-Axiom.is c.kind_at.ensures))
+    (λ e. (given (kind_view c.numbered.result) ts, e, by_axiom c.args.table.now (place_in c.args.places.now) c.args.origin ts c.in-Axiom.number (kind_view c.numbered.result) c.in-Axiom.is c.numbered.ensures))
     c.push_named_axiom.ensures.ok
 
 pub push_named_combination-requires-clause-first : goal.push_named_combination-requires-clause-first

@@ -2,7 +2,7 @@ use Rattle.std.proofs.Common.{◌≡◌, ◌<◌, ◌+◌, suc, Some, length, sy
 use Rattle.std.proofs.lemmas.List.{length-map}
 use Rattle.terms.specs.Terms.{TermView, term_view, terms_view}
 use Rattle.propagation.specs.Counting.{IsCount, Ranked}
-use Rattle.propagation.specs.Satisfaction.{HoldsAt}
+use Rattle.incompatibilities.specs.Incompatibilities.{HoldsAt}
 use Rattle.propagation.specs.Trails.{set_of, space_of, trail_view}
 use Rattle.propagation.specs.Units.{term_at}
 use Rattle.propagation.proofs.Counts.{count_some}
