@@ -136,27 +136,34 @@ def limits(stack, memory):
     return begin
 
 
-def run(words, at, longest=600, stack=STACK, memory=None, **env):
-    """Runs the program in a folder. A run that takes more seconds is ended, and has no status."""
+def run(words, at=None, longest=600, stack=STACK, memory=None, **env):
+    """Runs the program in a folder. A run that takes more seconds is ended, and has no status.
+
+    It is started by `time`, a small program: what this one has in memory would count as the other's, since a process
+    keeps the most memory that it had before it became another program.
+    """
     start = time.perf_counter()
-    with tempfile.TemporaryFile() as out, tempfile.TemporaryFile() as err:
-        child = subprocess.Popen(words, cwd=at, stdin=subprocess.DEVNULL, stdout=out, stderr=err,
-                                 env={**os.environ, **env}, preexec_fn=limits(stack, memory))
-        signal.signal(signal.SIGALRM, lambda *_: child.kill())
+    with tempfile.TemporaryFile() as out, tempfile.TemporaryFile() as err, tempfile.NamedTemporaryFile("r") as usage:
+        timed = ["/usr/bin/time", "-q", "-o", usage.name, "-f", "%U %S %M"]
+        timed += ["env", *[f"{name}={value}" for name, value in env.items()], *words] if env else words
+        child = subprocess.Popen(timed, cwd=at, stdin=subprocess.DEVNULL, stdout=out, stderr=err, start_new_session=True,
+                                 preexec_fn=limits(stack, memory))
+        signal.signal(signal.SIGALRM, lambda *_: os.killpg(child.pid, signal.SIGKILL))
         signal.alarm(longest)
-        _, status, usage = os.wait4(child.pid, 0)
+        status = child.wait()
         signal.alarm(0)
-        child.returncode = 0
         took = time.perf_counter() - start
         texts = []
         for it in (out, err):
             it.seek(0)
             texts.append(it.read())
-    status = os.waitstatus_to_exitcode(status)
+        user, system, most = usage.read().split() or (0, 0, 0)
+    # `time` tells a signal as a shell does
+    status = 128 - status if status > 128 else status
     if status == -signal.SIGKILL:
         status = "ended after" if took >= longest else "killed in"
         status = f"{status} {took:.0f} s"
-    return Ended(status, *texts, usage.ru_utime + usage.ru_stime, usage.ru_maxrss / 1024)
+    return Ended(status, *texts, float(user) + float(system), int(most) / 1024)
 
 
 def is_one_of(text, given):
