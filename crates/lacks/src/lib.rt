@@ -1,4 +1,13 @@
 //! Why nothing fits a dependency of a manifest, and the sentence that tells it.
+//!
+//! A loaded index has candidates alone, neither yanked lines nor those that can't be used. So the folder is asked once
+//! more for the file of a dependency that no candidate fits, and what that has is the reason (`lack`); where there is
+//! no file, it is asked for names that differ in `-` and `_` alone (`missing`). A dependency that some candidate fits
+//! may only lack a feature.
+//!
+//! A layer above may rely on this: where no candidate is matched, the reason is the one that `specs/Lacks` gives for
+//! the lines of the file, and where one is matched, no other is told than a feature that is lacking. Of what the folder
+//! is asked and of the sentences nothing is stated.
 #![tactic(auto)]
 
 mod lack;

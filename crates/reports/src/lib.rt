@@ -1,6 +1,10 @@
 //! What people are told of a manifest, a lock and an index, as text.
 //!
-//! Nothing here reads words, looks where files are or prints: a report is asked for by what was read, and by any folder.
+//! Nothing here reads words, looks where files are or prints: a report is asked for by what was read, and by any
+//! folder, of which each report loads what it needs. So a report is tested without a disk.
+//!
+//! A layer above may rely on this: what is told of why a package is there is what `changes` promises (`specs/Told`),
+//! and a text `NAME` or `NAME@VERSION` asks for just the package that `specs/Asked` says.
 #![tactic(auto)]
 
 mod reporting;
