@@ -146,8 +146,8 @@ def run(words, at=None, longest=600, stack=STACK, memory=None, **env):
     with tempfile.TemporaryFile() as out, tempfile.TemporaryFile() as err, tempfile.NamedTemporaryFile("r") as usage:
         timed = ["/usr/bin/time", "-q", "-o", usage.name, "-f", "%U %S %M"]
         timed += ["env", *[f"{name}={value}" for name, value in env.items()], *words] if env else words
-        child = subprocess.Popen(timed, cwd=at, stdin=subprocess.DEVNULL, stdout=out, stderr=err, start_new_session=True,
-                                 preexec_fn=limits(stack, memory))
+        child = subprocess.Popen(timed, cwd=at, stdin=subprocess.DEVNULL, stdout=out, stderr=err,
+                                 start_new_session=True, preexec_fn=limits(stack, memory))
         signal.signal(signal.SIGALRM, lambda *_: os.killpg(child.pid, signal.SIGKILL))
         signal.alarm(longest)
         status = child.wait()

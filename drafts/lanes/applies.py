@@ -1,5 +1,5 @@
 #!/usr/bin/env python3
-"""applies.py TOP: says which edits of a clone have an `old:` that isn't there once. Two of checksum order are known not to."""
+"""applies.py TOP: says which edits of a clone have an `old:` that isn't there once."""
 import glob, os, sys
 top = sys.argv[1]
 bad = 0

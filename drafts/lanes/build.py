@@ -28,7 +28,8 @@ def is_running(name):
     for it in os.listdir("/proc"):
         try:
             words = open(f"/proc/{it}/cmdline", encoding="utf-8").read().split("\0")
-            if "--crate-name" in words and words[words.index("--crate-name") + 1] == name and os.readlink(f"/proc/{it}/cwd") == os.path.realpath(CRATES[name].folder):
+            of_name = "--crate-name" in words and words[words.index("--crate-name") + 1] == name
+            if of_name and os.readlink(f"/proc/{it}/cwd") == os.path.realpath(CRATES[name].folder):
                 return True
         except (OSError, UnicodeDecodeError):
             continue

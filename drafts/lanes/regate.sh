@@ -1,5 +1,6 @@
 #!/usr/bin/env bash
-# regate.sh CLONE BRANCH LOG: begins the gate of WORK/gate/final anew, on that branch of another clone. What passed is kept.
+# regate.sh CLONE BRANCH LOG: begins the gate of WORK/gate/final anew, on that branch of another clone. What passed is
+# kept.
 work=$(dirname "$(dirname "$(realpath "$0")")")
 pkill -f "bin/rt ci"
 sleep 1

@@ -1,5 +1,6 @@
 #!/usr/bin/env python3
-"""tryedits.py LANE CRATE EDIT..: tries wrong bodies one by one in a lane, over its kept work; a whole check of the crate each.
+"""tryedits.py LANE CRATE EDIT..: tries wrong bodies one by one in a lane, over its kept work; a whole check of the
+crate each.
 
 An edit counts as refused only where the check names a function that isn't proved.
 """
@@ -28,12 +29,14 @@ for edit in edits:
                 assert text.count(old) == 1, (edit, text.count(old))
                 open(path, "w", encoding="utf-8").write(text.replace(old, new))
         start = time.time()
-        ran = subprocess.run(["nice", "-n", "8", f"{WORK}/kit/bin/rt", "check", "--jobs", "1"], cwd=folder, stdout=subprocess.PIPE, stderr=subprocess.STDOUT, text=True)
+        words = ["nice", "-n", "8", f"{WORK}/kit/bin/rt", "check", "--jobs", "1"]
+        ran = subprocess.run(words, cwd=folder, stdout=subprocess.PIPE, stderr=subprocess.STDOUT, text=True)
         open(f"{WORK}/lanes/{lane}.{crate}.{os.path.basename(edit)}.log", "w").write(ran.stdout)
         bad = re.findall(r"^(?:fn|impl) (\S+): not proved|^note: (\S+: it is not proved that)", ran.stdout, re.M)
         bad = [it[0] or it[1] for it in bad]
         how = "REFUSED" if bad else "NOT REFUSED" if "logic=proved" in ran.stdout else "ODD"
-        print(time.strftime("%H:%M:%S"), crate, os.path.basename(edit), how, *bad[:3], f"{time.time()-start:.0f}s", flush=True)
+        name = os.path.basename(edit)
+        print(time.strftime("%H:%M:%S"), crate, name, how, *bad[:3], f"{time.time()-start:.0f}s", flush=True)
         if how == "ODD":
             print(ran.stdout[:900], flush=True)
     except AssertionError as e:
