@@ -1,4 +1,5 @@
 pub mod TableLemmas
+pub mod RowLemmas
 pub mod TextLemmas
 pub mod BuildLemmas
 pub mod DraftLemmas

@@ -2,6 +2,9 @@
 -- "Features").
 use Rattle.std.specs.Prelude.{ℕ, Bool, true, false, List, map, Result, Ok, Err, Vec}
 use Rattle.std.specs.declared.alloc.Global.{Global}
+use Rattle.std.specs.List.Sorted.{IsStrictlySortedBy}
+use Rattle.std.specs.Map.{keys_of}
+use Rattle.model.specs.Order.{text_cmp}
 use Rattle.model.specs.Summary.{Table}
 use Rattle.model.specs.Tables as model
 use Rattle.features.specs.EntryViews.{entry_views}
@@ -13,6 +16,10 @@ use Rattle.features.specs.declared.table.FeatureFault.TheVariants.{OutOfMemory, 
 -- what a map of vectors is as a table
 abbrev pub rows_of : List (List ℕ × Vec Entry Global) → Table
 rows_of es = map (λ e. (e.0, entry_views e.1.items)) es
+
+-- the rows of a table rise by the names of their features
+abbrev pub AreRising : List (List ℕ × Vec Entry Global) → Type 0
+AreRising es = IsStrictlySortedBy text_cmp (keys_of es)
 
 abbrev pub dep_name_view : DepName → model.DepName
 dep_name_view d = record { name = d.name; optional = d.optional }

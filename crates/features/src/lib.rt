@@ -7,7 +7,8 @@
 //! What is hard is the table. A package writes some features; Cargo adds one for each optional dependency that no entry
 //! `dep:d` names and no feature is called by, and adds `default`; and an entry may name what isn't there.
 //! `FeatureTable::build` is just that function (`table_of`), with the lowest fault at the first feature that has it.
-//! What entries name is looked up among texts of which the first few lie in a row (`texts.rt`). A clone shares the map.
+//! What entries name is looked up among texts of which the first few lie in a row (`texts.rt`). A built table is a row
+//! that takes no more room than its features, and a clone shares it.
 //!
 //! A layer above may rely on this: `parse` takes exactly the texts that are names or entries. A table has exactly the
 //! features that are meant, in the order of their bytes, and each entry that names a feature names one of the same
@@ -27,4 +28,4 @@ pub use dependency::{Dependency, Summary};
 pub use entry::{Entry, EntryFault};
 pub use feature_name::FeatureName;
 pub use name::{NameFault, PackageName};
-pub use table::{DepName, FeatureFault, FeatureTable};
+pub use table::{DepName, FeatureFault, FeatureTable, Rows};

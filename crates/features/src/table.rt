@@ -1,11 +1,14 @@
 //! Tables of features.
 
-ghost use Rattle.std.specs.Prelude.{◌≡◌, [], IfOk, map, unwrap_or};
+ghost use Rattle.std.specs.Prelude.{◌≡◌, [], IfOk, map, option_map, unwrap_or};
+ghost use Rattle.std.specs.BTreeMap.{is_at};
+ghost use Rattle.std.specs.Map.{lookup};
+ghost use Rattle.model.specs.Order.{text_cmp};
 ghost use Rattle.model.specs.Outcome.{Gives};
 ghost use Rattle.model.specs.Summary.{entries_at, has_feature};
 ghost use Rattle.model.specs.Tables.{with_default};
 ghost use Rattle.features.specs.Drafts.{with_rows};
-ghost use Rattle.features.specs.Tables.{dep_names_view, rows_of, table_wants_memory, built};
+ghost use Rattle.features.specs.Tables.{AreRising, dep_names_view, rows_of, table_wants_memory, built};
 ghost use Rattle.features.specs.EntryViews.{entry_views};
 
 use crate::draft::implicit_rows;
@@ -14,7 +17,6 @@ use crate::feature_name::FeatureName;
 use crate::name::PackageName;
 use std::alloc::{AllocError, Global};
 use std::collections::BTreeMap;
-use std::collections::btree_map::Iter;
 use std::marker::Model;
 use std::rc::Rc;
 use thiserror::Error;
@@ -55,19 +57,22 @@ impl From<AllocError> for FeatureFault {
 }
 
 /// The features of a package, each with its entries, by the bytes of their names: implicit features and `default` are
-/// among them. A clone has the same map, for many versions of a package have the same features.
+/// among them. They lie in a row of just their number, which takes a third of a tree's room. A clone has the same row,
+/// for many versions of a package have the same features.
 #[derive(Drop)]
 pub struct FeatureTable {
-    features: Rc<BTreeMap<FeatureName, Vec<Entry>>>,
+    features: Rc<Vec<(FeatureName, Vec<Entry>)>>,
 }
 
 impl Model for FeatureTable {
     ghost use Rattle.model.specs.Summary.{Table};
-    ghost use Rattle.features.specs.Tables.{rows_of};
+    ghost use Rattle.features.specs.Tables.{AreRising, rows_of};
 
     ghost Value = { Table };
 
-    ghost view = { λ t. rows_of t.features.value.entries };
+    ghost view = { λ t. rows_of t.features.value.items };
+
+    ghost invariant = { λ t. AreRising t.features.value.items };
 }
 
 impl FeatureTable {
@@ -93,24 +98,60 @@ impl FeatureTable {
     pub fn entries(&self, name: &FeatureName) -> &[Entry]
         ensures { entry_views result.now ≡ unwrap_or (entries_at name.now self.now) [] }
     {
-        match self.features.get(name) {
+        match entries_in(self.features.as_slice(), name) {
             Some(entries) => entries.as_slice(),
             None => &[],
         }
     }
 
     /// The features with their entries, in the order of their names.
-    pub fn iter(&self) -> Iter<'_, FeatureName, Vec<Entry>>
+    pub fn iter(&self) -> Rows<'_>
         ensures { rows_of result ≡ self.now }
     {
-        self.features.iter()
+        Rows {
+            rest: self.features.as_slice(),
+        }
     }
 
     /// Whether the table has a feature.
     pub fn has(&self, name: &FeatureName) -> bool
         ensures { result ≡ has_feature self.now name.now }
     {
-        self.features.contains_key(name)
+        entries_in(self.features.as_slice(), name).is_some()
+    }
+}
+
+/// The features of a table with their entries, one after another.
+#[derive(Drop)]
+pub struct Rows<'a> {
+    rest: &'a [(FeatureName, Vec<Entry>)],
+}
+
+impl<'a> Model for Rows<'a> {
+    ghost use Rattle.std.specs.Prelude.{ℕ, List, Vec};
+    ghost use Rattle.std.specs.declared.alloc.Global.{Global};
+    ghost use Rattle.features.specs.declared.entry.Entry.{Entry};
+
+    ghost Value = { List (List ℕ × Vec Entry Global) };
+
+    ghost view = { λ r. r.rest.now };
+}
+
+impl<'a> Iterator for Rows<'a> {
+    type Item = (&'a FeatureName, &'a Vec<Entry>);
+
+    ghost use Rattle.std.specs.Prelude.{length};
+    ghost use Rattle.std.specs.Iterator.{at_most};
+    ghost use Rattle.std.specs.Map.Iter.{TakesFirst, deref_pair};
+
+    ghost next_gives = { TakesFirst deref_pair };
+
+    ghost remaining = { λ s. at_most (length s) };
+
+    fn next(&mut self) -> Option<(&'a FeatureName, &'a Vec<Entry>)> {
+        let (first, rest) = self.rest.split_first()?;
+        self.rest = rest;
+        Some((&first.0, &first.1))
     }
 }
 
@@ -124,6 +165,20 @@ impl Clone for FeatureTable {
     }
 }
 
+/// The entries of a feature, among rows that rise by their names.
+fn entries_in<'a>(
+    rows: &'a [(FeatureName, Vec<Entry>)],
+    name: &FeatureName,
+) -> Option<&'a Vec<Entry>>
+    requires { AreRising rows.now }
+    ensures { option_map (λ v. v.now) result ≡ lookup (is_at (text_cmp name.now)) rows.now }
+{
+    match rows.binary_search_by(|row| row.0.cmp(name)) {
+        Ok(place) => Some(&rows[place].1),
+        Err(_) => None,
+    }
+}
+
 /// The table with just these features.
 fn of_map(
     alloc: Global,
@@ -131,8 +186,12 @@ fn of_map(
 ) -> Result<FeatureTable, AllocError>
     ensures { IfOk result (λ t. t ≡ rows_of features.entries) }
 {
+    let mut rows = Vec::with_capacity(alloc, features.len())?;
+    'rows: for row in features {
+        rows.push(row)?;
+    }
     Ok(FeatureTable {
-        features: Rc::new(alloc, features)?,
+        features: Rc::new(alloc, rows)?,
     })
 }
 

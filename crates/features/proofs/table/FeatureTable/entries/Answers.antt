@@ -6,14 +6,14 @@ use Rattle.features.proofs.table.FeatureTable.entries.Goals as goal
 
 pub returns-in-Some : goal.returns-in-Some
 returns-in-Some c =
-    let same : c.deref.result.now ≡ c.self.inside.features.value = search rules in
-    let seen : rows_of c.deref.result.now.entries ≡ c.args.self.now = ap (λ m. rows_of m.entries) same ∙ c.self.view_is in
-    let at = entries_at-get c.args.self.now c.deref.result.now.entries c.args.name.now _ seen c.get.ensures.value in
-    rw (at, c.in-Some.is) (ap entry_views c.as_slice.ensures.value)
+    let same : c.as_slice.result.now ≡ c.self.inside.features.value.items = search rules in
+    let seen : rows_of c.as_slice.result.now ≡ c.args.self.now = ap rows_of same ∙ c.self.view_is in
+    let at = entries_at-get c.args.self.now c.as_slice.result.now c.args.name.now _ seen c.entries_in.ensures in
+    rw (at, c.in-Some.is) (ap entry_views c.as_slice-in-Some.ensures.value)
 
 pub returns-in-None : goal.returns-in-None
 returns-in-None c =
-    let same : c.deref.result.now ≡ c.self.inside.features.value = search rules in
-    let seen : rows_of c.deref.result.now.entries ≡ c.args.self.now = ap (λ m. rows_of m.entries) same ∙ c.self.view_is in
-    let at = entries_at-get c.args.self.now c.deref.result.now.entries c.args.name.now _ seen c.get.ensures.value in
+    let same : c.as_slice.result.now ≡ c.self.inside.features.value.items = search rules in
+    let seen : rows_of c.as_slice.result.now ≡ c.args.self.now = ap rows_of same ∙ c.self.view_is in
+    let at = entries_at-get c.args.self.now c.as_slice.result.now c.args.name.now _ seen c.entries_in.ensures in
     rw (at, c.in-None.is)
