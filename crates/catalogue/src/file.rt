@@ -5,7 +5,8 @@ ghost use Rattle.catalogue.specs.Loads.{Reads, SaysOfFile};
 
 use crate::fault::{Limit, LoadFault};
 use features::PackageName;
-use index_reader::{Folder, FolderFault, Record, Skip, index_path, lines, read_file};
+use index_reader::{Folder, FolderFault, Record, Skip, index_path, lines, read_file_in};
+use json::Scratch;
 use std::alloc::Global;
 
 /// How many bytes a file has at most.
@@ -19,12 +20,13 @@ pub(crate) fn read_name<F: Folder>(
     alloc: Global,
     folder: &mut F,
     name: &PackageName,
+    scratch: &mut Scratch,
 ) -> Result<(Vec<Record>, Vec<Skip>), LoadFault>
     ensures { Reads F.calls F.failed folder.old name.now result folder.new }
 {
     let path = index_path(alloc, name)?;
     match folder.file(path.as_str()) {
-        Ok(Some(bytes)) => read_bytes(alloc, name, bytes.as_slice()),
+        Ok(Some(bytes)) => read_bytes(alloc, name, bytes.as_slice(), scratch),
         Ok(None) => Ok((Vec::new(alloc), Vec::new(alloc))),
         Err(FolderFault::OutOfMemory) => Err(LoadFault::OutOfMemory),
         Err(FolderFault::Failed) => Err(LoadFault::FolderFailed(path)),
@@ -36,6 +38,7 @@ fn read_bytes(
     alloc: Global,
     name: &PackageName,
     bytes: &[u8],
+    scratch: &mut Scratch,
 ) -> Result<(Vec<Record>, Vec<Skip>), LoadFault>
     ensures { SaysOfFile name.now bytes.now result }
 {
@@ -45,5 +48,5 @@ fn read_bytes(
     if lines(bytes) > MAX_LINES {
         return Err(LoadFault::TooLarge(Limit::Lines(name.clone()?)));
     }
-    Ok(read_file(alloc, name, bytes)?)
+    Ok(read_file_in(alloc, name, bytes, scratch)?)
 }

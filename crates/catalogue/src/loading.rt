@@ -25,6 +25,7 @@ use classes::RustVersion;
 use features::{Dependency, PackageName};
 use index_reader::{Folder, Skip};
 use indexmap::IndexSet;
+use json::Scratch;
 use lockfile::{LockContent, Package};
 use manifest::Manifest;
 use std::alloc::{AllocError, Global};
@@ -81,6 +82,7 @@ fn ask_all<F: Folder>(
     let mut names = IndexSet::new(alloc);
     let mut candidates = Vec::new(alloc);
     let mut skips = Vec::new(alloc);
+    let mut scratch = Scratch::new(alloc);
     let source = String::from_str(alloc, run.source.as_str())?;
     add_names(&mut names, dependencies)?;
     'names: while candidates.len() < names.len() {
@@ -93,6 +95,7 @@ fn ask_all<F: Folder>(
             &names.as_slice()[candidates.len()],
             run,
             &mut skips,
+            &mut scratch,
         )?;
         add_needed(&mut names, found.records.as_slice())?;
         candidates.push(found)?;
@@ -113,10 +116,11 @@ fn ask<F: Folder>(
     name: &PackageName,
     run: &Run<'_>,
     skips: &mut Vec<Skip>,
+    scratch: &mut Scratch,
 ) -> Result<Candidates, LoadFault>
     ensures { Asks F.calls F.failed (packages_of_old run.now.old) run.now.source.now (option_map rust_version_view run.now.rust_version) folder.old name.now (map skip_view skips.old.items) result folder.new (map skip_view skips.new.items) }
 {
-    let (records, mut skipped) = read_name(alloc, folder, name)?;
+    let (records, mut skipped) = read_name(alloc, folder, name, scratch)?;
     skips.append(&mut skipped)?;
     Ok(candidates_of(alloc, name, records, run)?)
 }

@@ -39,8 +39,21 @@ pub fn read_file(
     requires { line_count bytes.now ≤ 65535 }
     ensures { IfOk result (λ c. contents_view c ≡ records_of_file name.now bytes.now) }
 {
+    read_file_in(alloc, name, bytes, &mut Scratch::new(alloc))
+}
+
+/// The same in room that is kept from file to file: to clear it for each would cost more than most files do.
+pub fn read_file_in(
+    alloc: Global,
+    name: &PackageName,
+    bytes: &[u8],
+    scratch: &mut Scratch,
+) -> Result<(Vec<Record>, Vec<Skip>), AllocError>
+    requires { line_count bytes.now ≤ 65535 }
+    ensures { IfOk result (λ c. contents_view c ≡ records_of_file name.now bytes.now) }
+{
     let texts = texts_in(alloc, bytes)?;
-    let file = read_texts(alloc, name, &texts)?;
+    let file = read_texts(alloc, name, &texts, scratch)?;
     Ok((file.records, file.skips))
 }
 
@@ -60,15 +73,19 @@ fn texts_in(alloc: Global, bytes: &[u8]) -> Result<Vec<&[u8]>, AllocError>
 
 /// What a file of these lines says.
 #[tactic(auto, unfolding(crate::specs::Files::with_lines))]
-fn read_texts(alloc: Global, name: &PackageName, texts: &[&[u8]]) -> Result<FileSoFar, AllocError>
+fn read_texts(
+    alloc: Global,
+    name: &PackageName,
+    texts: &[&[u8]],
+    scratch: &mut Scratch,
+) -> Result<FileSoFar, AllocError>
     ensures { IfOk result (λ f. file_view f.records.items f.skips.items ≡ with_lines name.now 1 (map (λ x. x.now) texts.now) no_lines) }
 {
     let mut file = FileSoFar::with_room(alloc, texts.len())?;
-    let mut scratch = Scratch::new(alloc);
     let mut before = LineBefore::none(texts.len());
     'texts: for (index, text) in texts.iter().enumerate() {
         let number = index as u64 + 1;
-        file = with_line(alloc, name, number, text, file, &mut scratch, &mut before)?;
+        file = with_line(alloc, name, number, text, file, scratch, &mut before)?;
     }
     Ok(file)
 }

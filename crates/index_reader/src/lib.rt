@@ -34,7 +34,7 @@ mod written;
 pub use disk::DiskFolder;
 pub use fail_at::FailAt;
 pub use fault::{LineFault, SkipReason};
-pub use file::{lines, read_file};
+pub use file::{lines, read_file, read_file_in};
 pub use folder::{Folder, FolderFault, MemoryFolder};
 pub use laws::{records_are_apart, records_know_their_features};
 pub use line::read_line;
