@@ -22,7 +22,8 @@ pub(crate) fn is_enabling(
     entry: &Entry,
     number: usize,
 ) -> bool
-    ensures { result ≡ is_cause (problem_view problem.now) (of_enabling name.now (parts_of version.now) on.now (entry_view entry.now) number) }
+    ensures { result ≡ is_cause (problem_view problem.now)
+        (of_enabling name.now (parts_of version.now) on.now (entry_view entry.now) number) }
 {
     has_same(entry, entries_of(problem, name, version, on))
         && enables_number(problem, name, version, entry, number)
@@ -35,7 +36,8 @@ fn enables_number(
     entry: &Entry,
     number: usize,
 ) -> bool
-    ensures { result ≡ passes (λ d. enables d.name (entry_view entry.now)) (dependency_at (problem_view problem.now) (version_of name.now (parts_of version.now)) number) }
+    ensures { result ≡ passes (λ d. enables d.name (entry_view entry.now))
+        (dependency_at (problem_view problem.now) (version_of name.now (parts_of version.now)) number) }
 {
     match dependency_at(problem, &OwnerRef::Version(name, version), number) {
         Some(dependency) => enables(&dependency.name, entry),

@@ -62,7 +62,8 @@ fn instance_of<'a>(
     cause: Cause<'a>,
 ) -> Result<Instance<'a>, AllocError>
     ensures cause { IfOk result (λ i. cause_view i.cause ≡ cause_view cause.entry) }
-    ensures terms { IfOk result (λ i. term_views i.terms.items ≡ without_full (problem_view problem.now) (terms_of_cause (problem_view problem.now) (cause_view cause.entry))) }
+    ensures terms { IfOk result (λ i. term_views i.terms.items ≡ without_full (problem_view problem.now)
+        (terms_of_cause (problem_view problem.now) (cause_view cause.entry))) }
 {
     let terms = instance_terms(alloc, problem, &cause)?;
     Ok(Instance { cause, terms })
@@ -74,7 +75,8 @@ pub fn is_instance<'a>(
     terms: &[Term<'a>],
     candidate: &Candidate<'a>,
 ) -> bool
-    ensures { (k : model.Kind) → IsFound (problem_of gathered.now) k (term_views terms.now) candidate.now → result ≡ is_instance (problem_of gathered.now) k (term_views terms.now) }
+    ensures { (k : model.Kind) → IsFound (problem_of gathered.now) k (term_views terms.now) candidate.now
+        → result ≡ is_instance (problem_of gathered.now) k (term_views terms.now) }
 {
     match &candidate.instance {
         Some(instance) => is_its(gathered, terms, instance),
@@ -84,7 +86,8 @@ pub fn is_instance<'a>(
 
 /// Whether the cause is there, and the terms are those of its instance.
 fn is_its<'a>(gathered: &Gathered<'a>, terms: &[Term<'a>], instance: &Instance<'a>) -> bool
-    ensures { result ≡ (is_cause (problem_of gathered.now) (cause_view instance.now.cause) && same_terms (term_views terms.now) (term_views instance.now.terms.items)) }
+    ensures { result ≡ (is_cause (problem_of gathered.now) (cause_view instance.now.cause)
+        && same_terms (term_views terms.now) (term_views instance.now.terms.items)) }
 {
     is_cause(gathered, &instance.cause) && same_terms(terms, &instance.terms)
 }

@@ -68,7 +68,8 @@ fn is_need(problem: &Problem<'_>, owner: &OwnerRef<'_>, number: usize) -> bool
 
 /// `Target`: the requirement matches a version of the class.
 fn is_target(problem: &Problem<'_>, owner: &OwnerRef<'_>, number: usize, class: Class) -> bool
-    ensures { result ≡ is_cause (problem_view problem.now) (of_target (owner_ref_view owner.now) number (class_view class)) }
+    ensures { result
+        ≡ is_cause (problem_view problem.now) (of_target (owner_ref_view owner.now) number (class_view class)) }
 {
     match dependency_at(problem, owner, number) {
         Some(dependency) => has_class(problem, class, dependency),
@@ -98,7 +99,8 @@ fn is_asking(
     asked: &FeatureName,
     number: usize,
 ) -> bool
-    ensures { result ≡ is_cause (problem_view problem.now) (of_asking name.now (parts_of version.now) on.now asked.now number) }
+    ensures { result
+        ≡ is_cause (problem_view problem.now) (of_asking name.now (parts_of version.now) on.now asked.now number) }
 {
     match dependency_at(problem, &OwnerRef::Version(name, version), number) {
         Some(dependency) => has_asking(

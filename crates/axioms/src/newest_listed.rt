@@ -20,7 +20,8 @@ pub(crate) fn is_newest(
     class: Class,
     higher: Class,
 ) -> bool
-    ensures { result ≡ is_cause (problem_view problem.now) (of_newest (owner_ref_view owner.now) number other (class_view class) (class_view higher)) }
+    ensures { result ≡ is_cause (problem_view problem.now)
+        (of_newest (owner_ref_view owner.now) number other (class_view class) (class_view higher)) }
 {
     number != other && are_newest(problem, owner, number, other, class, higher)
 }
@@ -33,7 +34,9 @@ fn are_newest(
     class: Class,
     higher: Class,
 ) -> bool
-    ensures { result ≡ passes (λ d. passes (is_overtaken (problem_view problem.now) (class_view class) (class_view higher) d) (dependency_at (problem_view problem.now) (owner_ref_view owner.now) other)) (dependency_at (problem_view problem.now) (owner_ref_view owner.now) number) }
+    ensures { result ≡ passes (λ d. passes (is_overtaken (problem_view problem.now) (class_view class)
+        (class_view higher) d) (dependency_at (problem_view problem.now) (owner_ref_view owner.now) other))
+        (dependency_at (problem_view problem.now) (owner_ref_view owner.now) number) }
 {
     match dependency_at(problem, owner, number) {
         Some(dependency) => overtakes(problem, owner, dependency, other, class, higher),
@@ -49,7 +52,9 @@ fn overtakes(
     class: Class,
     higher: Class,
 ) -> bool
-    ensures { result ≡ passes (is_overtaken (problem_view problem.now) (class_view class) (class_view higher) (dependency_view dependency.now)) (dependency_at (problem_view problem.now) (owner_ref_view owner.now) other) }
+    ensures { result ≡ passes (is_overtaken (problem_view problem.now) (class_view class) (class_view higher)
+        (dependency_view dependency.now))
+        (dependency_at (problem_view problem.now) (owner_ref_view owner.now) other) }
 {
     match dependency_at(problem, owner, other) {
         Some(other) => is_overtaken(problem, class, higher, dependency, other),
@@ -65,7 +70,8 @@ fn is_overtaken(
     dependency: &Dependency,
     other: &Dependency,
 ) -> bool
-    ensures { result ≡ is_overtaken (problem_view problem.now) (class_view class) (class_view higher) (dependency_view dependency.now) (dependency_view other.now) }
+    ensures { result ≡ is_overtaken (problem_view problem.now) (class_view class) (class_view higher)
+        (dependency_view dependency.now) (dependency_view other.now) }
 {
     dependency.real_name == other.real_name
         && has_class(problem, class, dependency)

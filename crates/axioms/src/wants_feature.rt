@@ -8,7 +8,8 @@ ghost use Rattle.features.specs.Views.{dependency_view};
 ghost use Rattle.features.specs.EntryViews.{entry_views};
 ghost use Rattle.model.specs.Summary.{asked_of_target, same_text, dependency_feature};
 ghost use Rattle.model.specs.Summary as model;
-ghost use Rattle.refutations.specs.Causes.{is_cause, lists_feature, of_ask, of_list, asks_for, root_asks_for, same_entry, same_pair, some_entry};
+ghost use Rattle.refutations.specs.Causes.{is_cause, lists_feature, of_ask, of_list, asks_for, root_asks_for};
+ghost use Rattle.refutations.specs.Causes.{same_entry, same_pair, some_entry};
 ghost use Rattle.vertices.specs.RefViews.{owner_ref_view};
 ghost use Rattle.looking_up.specs.Views.{problem_view};
 ghost use Rattle.known_pairs.specs.Asking.{row_names};
@@ -28,7 +29,8 @@ pub(crate) fn is_list(
     class: Class,
     feature: &FeatureName,
 ) -> bool
-    ensures { result ≡ is_cause (problem_view problem.now) (of_list (owner_ref_view owner.now) number (class_view class) feature.now) }
+    ensures { result ≡ is_cause (problem_view problem.now)
+        (of_list (owner_ref_view owner.now) number (class_view class) feature.now) }
 {
     match dependency_at(problem, owner, number) {
         Some(dependency) => {
@@ -46,7 +48,8 @@ fn lists_feature(
     dependency: &Dependency,
     feature: &FeatureName,
 ) -> bool
-    ensures { result ≡ lists_feature (problem_view problem.now) (owner_ref_view owner.now) (dependency_view dependency.now) feature.now }
+    ensures { result ≡ lists_feature (problem_view problem.now) (owner_ref_view owner.now)
+        (dependency_view dependency.now) feature.now }
 {
     is_listed(dependency, feature) || root_asks_for(problem, owner, dependency, feature)
 }
@@ -77,7 +80,8 @@ fn root_asks_for(
     dependency: &Dependency,
     feature: &FeatureName,
 ) -> bool
-    ensures { result ≡ root_asks_for (problem_view problem.now) (owner_ref_view owner.now) (dependency_view dependency.now) feature.now }
+    ensures { result ≡ root_asks_for (problem_view problem.now) (owner_ref_view owner.now)
+        (dependency_view dependency.now) feature.now }
 {
     match owner {
         OwnerRef::Root => root_asks(problem, &dependency.name, feature),
@@ -123,7 +127,8 @@ pub(crate) fn is_ask(
     feature: &FeatureName,
     class: Class,
 ) -> bool
-    ensures { result ≡ is_cause (problem_view problem.now) (of_ask name.now (parts_of version.now) number feature.now (class_view class)) }
+    ensures { result ≡ is_cause (problem_view problem.now)
+        (of_ask name.now (parts_of version.now) number feature.now (class_view class)) }
 {
     match dependency_at(problem, &OwnerRef::Version(name, version), number) {
         Some(dependency) => {
@@ -142,7 +147,8 @@ fn some_entry_asks(
     name: &PackageName,
     feature: &FeatureName,
 ) -> bool
-    ensures { result ≡ some_entry (problem_view problem.now) (same_entry (dependency_feature name.now feature.now)) owner.now (parts_of version.now) }
+    ensures { result ≡ some_entry (problem_view problem.now)
+        (same_entry (dependency_feature name.now feature.now)) owner.now (parts_of version.now) }
 {
     match brings(problem, &OwnerRef::Version(owner, version)) {
         Some(owner) => some_row_asks(&owner.features, name, feature),

@@ -24,7 +24,8 @@ pub(crate) fn is_weak(
     number: usize,
     class: Class,
 ) -> bool
-    ensures { result ≡ is_cause (problem_view problem.now) (of_weak name.now (parts_of version.now) on.now off.now number (class_view class)) }
+    ensures { result ≡ is_cause (problem_view problem.now)
+        (of_weak name.now (parts_of version.now) on.now off.now number (class_view class)) }
 {
     match dependency_at(problem, &OwnerRef::Version(name, version), number) {
         Some(dependency) => is_weak_on(problem, name, version, on, off, class, dependency),
@@ -42,7 +43,8 @@ fn is_weak_on(
     class: Class,
     dependency: &Dependency,
 ) -> bool
-    ensures { result ≡ is_weak_on (problem_view problem.now) name.now (parts_of version.now) on.now off.now (class_view class) (dependency_view dependency.now) }
+    ensures { result ≡ is_weak_on (problem_view problem.now) name.now (parts_of version.now) on.now off.now
+        (class_view class) (dependency_view dependency.now) }
 {
     has_class(problem, class, dependency)
         && has_weak(
@@ -69,7 +71,8 @@ fn is_same_feature(
     other_class: Class,
     other: &FeatureName,
 ) -> bool
-    ensures { result ≡ same_vertex (feat name.now (class_view class) feature.now) (feat other_name.now (class_view other_class) other.now) }
+    ensures { result ≡ same_vertex (feat name.now (class_view class) feature.now)
+        (feat other_name.now (class_view other_class) other.now) }
 {
     name == other_name && is_same(class, other_class) && feature == other
 }

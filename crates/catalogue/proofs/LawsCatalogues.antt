@@ -26,24 +26,31 @@ module _ (old : Content) (source : List ℕ) where
   abbrev row_of : Asked → List ℕ × List Candidate
   row_of a = (a.0, map as_candidate (candidates_in old source a))
 
-  rise : (a : Asked) → AllPairs (λ c e. precedence c.version e.version ≡ Less) (map as_candidate (candidates_in old source a))
+  rise : (a : Asked)
+      → AllPairs (λ c e. precedence c.version e.version ≡ Less) (map as_candidate (candidates_in old source a))
   rise a =
       let test = may_be_locked (is_locked old source a.0) in
       pairs_map as_candidate (λ c e. precedence c.version e.version ≡ Less) (candidates_in old source a)
-      (oldest_first-rises (filter test (records_of a)) (AllPairs-filter IsApart test (records_of a) (records-sound a).apart))
+      (oldest_first-rises (filter test (records_of a))
+      (AllPairs-filter IsApart test (records_of a) (records-sound a).apart))
 
   known : (a : Asked) → All (λ c. KnowsFeatures c.brings.features) (map as_candidate (candidates_in old source a))
   known a =
       let Knows = λ (r : Record). KnowsFeatures (r.brings).features in
       all_map as_candidate (λ c. KnowsFeatures c.brings.features) (candidates_in old source a)
-      (all_in Knows (candidates_in old source a) (λ r c. at_in Knows (records_of a) r (records-sound a).known (in_candidates old source a r c).0))
+      (all_in Knows (candidates_in old source a)
+      (λ r c. at_in Knows (records_of a) r (records-sound a).known (in_candidates old source a r c).0))
 
-  pub run-catalogue : (manifest : ManifestView) (asked : List Asked) → AreNext old source manifest.brings.dependencies [] asked → IsCatalogue (problem_of manifest old source asked)
+  pub run-catalogue : (manifest : ManifestView) (asked : List Asked)
+      → AreNext old source manifest.brings.dependencies [] asked → IsCatalogue (problem_of manifest old source asked)
   run-catalogue manifest asked in_turn = record {
     names_distinct = pairs_map row_of (λ a b. a.0 ≢ b.0) asked
-        (pairs_mapped (λ (a : Asked). a.0) (λ x y. x ≢ y) asked (asked-distinct old source manifest.brings.dependencies asked in_turn));
-    versions_rise = all_map row_of (λ row. AllPairs (λ c e. precedence c.version e.version ≡ Less) row.1) asked (all_in _ asked (λ a c. rise a));
-    features_known = all_map row_of (λ row. All (λ c. KnowsFeatures c.brings.features) row.1) asked (all_in _ asked (λ a c. known a));
+        (pairs_mapped (λ (a : Asked). a.0)
+        (λ x y. x ≢ y) asked (asked-distinct old source manifest.brings.dependencies asked in_turn));
+    versions_rise = all_map row_of
+        (λ row. AllPairs (λ c e. precedence c.version e.version ≡ Less) row.1) asked (all_in _ asked (λ a c. rise a));
+    features_known = all_map row_of
+        (λ row. All (λ c. KnowsFeatures c.brings.features) row.1) asked (all_in _ asked (λ a c. known a));
   }
 
 -- ---- a loaded index
@@ -55,18 +62,23 @@ pub store-catalogue : (manifest : ManifestView) (c : CatalogueView) → IsStore 
 store-catalogue manifest c s = record {
   names_distinct = pairs_map by_name (λ a b. a.0 ≢ b.0) c.rows s.names_distinct;
   versions_rise = all_map by_name (λ row. AllPairs (λ c e. precedence c.version e.version ≡ Less) row.1) c.rows
-      (all_in _ c.rows (λ row i. pairs_map as_candidate (λ c e. precedence c.version e.version ≡ Less) (records row.1) (at_in (λ (row : Row). AreRising row.1) c.rows row s.versions_rise i)));
+      (all_in _ c.rows (λ row i. pairs_map as_candidate (λ c e. precedence c.version e.version ≡ Less) (records row.1)
+      (at_in (λ (row : Row). AreRising row.1) c.rows row s.versions_rise i)));
   features_known = all_map by_name (λ row. All (λ c. KnowsFeatures c.brings.features) row.1) c.rows
-      (all_in _ c.rows (λ row i. all_map as_candidate (λ c. KnowsFeatures c.brings.features) (records row.1) (at_in (λ (row : Row). AreKnown row.1) c.rows row s.features_known i)));
+      (all_in _ c.rows (λ row i. all_map as_candidate (λ c. KnowsFeatures c.brings.features) (records row.1)
+      (at_in (λ (row : Row). AreKnown row.1) c.rows row s.features_known i)));
 }
 
 module _ (old : Content) (source : List ℕ) (rust : Option RustVersion) where
-  rows-asked : (asked : List Asked) → map by_name (map (λ (a : Asked). (a.0, ranked_in old source rust a)) asked) ≡ candidates_by_name old source asked
+  rows-asked : (asked : List Asked) → map by_name (map (λ (a : Asked). (a.0, ranked_in old source rust a)) asked)
+      ≡ candidates_by_name old source asked
   rows-asked [] = refl
-  rows-asked (a ∷ later) = ap₂ (λ rs rows. (a.0, map as_candidate rs) ∷ rows) (records-ranked (is_locked old source a.0) rust (candidates_in old source a)) (rows-asked later)
+  rows-asked (a ∷ later) = ap₂ (λ rs rows. (a.0, map as_candidate rs) ∷ rows)
+      (records-ranked (is_locked old source a.0) rust (candidates_in old source a)) (rows-asked later)
 
   -- its problem is the run's
-  pub problem-asked : (manifest : ManifestView) (asked : List Asked) → problem_in manifest (store_of old source rust manifest.brings.dependencies asked) ≡ problem_of manifest old source asked
+  pub problem-asked : (manifest : ManifestView) (asked : List Asked) → problem_in manifest
+      (store_of old source rust manifest.brings.dependencies asked) ≡ problem_of manifest old source asked
   problem-asked manifest asked = ap (λ cs. let q : Problem = record {
     name = manifest.name;
     version = manifest.version;
@@ -76,8 +88,10 @@ module _ (old : Content) (source : List ℕ) (rust : Option RustVersion) where
     candidates = cs;
   } in q) (rows-asked asked)
 
-  pub problem-loaded : {S : Type 0} (calls : Calls S) (before : S) (manifest : ManifestView) (index : CatalogueView) (after : S)
-      → IsLoaded old source rust manifest.brings.dependencies calls before index after → IsProblemOfRun calls before manifest old source (problem_in manifest index) after
+  pub problem-loaded : {S : Type 0} (calls : Calls S) (before : S) (manifest : ManifestView)
+      (index : CatalogueView) (after : S)
+      → IsLoaded old source rust manifest.brings.dependencies calls before index after
+      → IsProblemOfRun calls before manifest old source (problem_in manifest index) after
   problem-loaded calls before manifest index after loaded = record {
     asked = loaded.asked;
     run = record { chain = loaded.so_far.chain; in_turn = loaded.so_far.in_turn; ended = loaded.ended };

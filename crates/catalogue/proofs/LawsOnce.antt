@@ -1,5 +1,6 @@
 -- Texts of which each is there once.
-use Rattle.std.proofs.Common.{◌≡◌, ◌≢◌, ℕ, List, [], ◌∷◌, ◌++◌, filter, Bool, true, false, not, Contains, refl, sym, ap, ◌∙◌, subst, inl, inr, ◌⊎◌, true≢false}
+use Rattle.std.proofs.Common.{◌≡◌, ◌≢◌, ℕ, List, [], ◌∷◌, ◌++◌, filter, Bool, true, false, not, Contains, refl, sym, ap}
+use Rattle.std.proofs.Common.{◌∙◌, subst, inl, inr, ◌⊎◌, true≢false}
 use Rattle.std.specs.List.{AllPairs}
 use Rattle.std.proofs.lemmas.List.Elements.{filter-append}
 use Rattle.std.proofs.lemmas.List.Kept.{AllPairs-cons, AllPairs-filter}
@@ -18,7 +19,8 @@ to_once (y ∷ ys) x c = by (λ c. to_once ys x c) (same_text y x) refl (in_cons
     others : List (List ℕ)
     others = filter (λ z. not (same_text y z)) (once ys)
 
-    by : (Contains ys x → Contains (once ys) x) → (b : Bool) → same_text y x ≡ b → (y ≡ x) ⊎ Contains ys x → Contains (y ∷ others) x
+    by : (Contains ys x → Contains (once ys) x) → (b : Bool) → same_text y x ≡ b → (y ≡ x) ⊎ Contains ys x
+        → Contains (y ∷ others) x
     by rest true e i = subst (λ z. Contains (y ∷ others) z) (text-same y x e) (in_first y others)
     by rest false e (inl s) = absurd (true≢false (sym (text-refl y) ∙ ap (same_text y) s ∙ e))
     by rest false e (inr i) = in_rest y x others (to_filter (λ z. not (same_text y z)) (once ys) x (rest i) (ap not e))
@@ -48,7 +50,9 @@ once-distinct [] = pairs_none (λ x y. x ≢ y)
 once-distinct (x ∷ xs) =
     let other = λ (z : List ℕ). not (same_text x z) in
     AllPairs-cons (λ x y. x ≢ y) x (filter other (once xs))
-    (all_in (λ y. x ≢ y) (filter other (once xs)) differs) (AllPairs-filter (λ x y. x ≢ y) other (once xs) (once-distinct xs))
+    (all_in (λ y. x ≢ y) (filter other (once xs)) differs)
+    (AllPairs-filter (λ x y. x ≢ y) other (once xs) (once-distinct xs))
   where
     differs : (y : List ℕ) → Contains (filter (λ z. not (same_text x z)) (once xs)) y → x ≢ y
-    differs y c e = true≢false (sym (in_filter (λ z. not (same_text x z)) (once xs) y c).1 ∙ ap not (ap (same_text x) (sym e) ∙ text-refl x))
+    differs y c e = true≢false
+        (sym (in_filter (λ z. not (same_text x z)) (once xs) y c).1 ∙ ap not (ap (same_text x) (sym e) ∙ text-refl x))

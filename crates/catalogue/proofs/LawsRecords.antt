@@ -16,22 +16,31 @@ pub record AreSound (records : List Record) : Type 0 where
   pub known : All (λ r. KnowsFeatures (r.brings).features) records
 
 pub records-sound : (a : Asked) → AreSound (records_of a)
-records-sound (name, None) = record { apart = pairs_none IsApart; known = all_none (λ r. KnowsFeatures (r.brings).features) }
+records-sound (name, None) =
+    record { apart = pairs_none IsApart; known = all_none (λ r. KnowsFeatures (r.brings).features) }
 records-sound (name, Some bytes) = record {
   apart = pairs_map as_record IsApart (records_of_file name bytes).records (file-kept name bytes).apart;
-  known = all_map as_record (λ r. KnowsFeatures (r.brings).features) (records_of_file name bytes).records (file-kept name bytes).known;
+  known = all_map as_record
+      (λ r. KnowsFeatures (r.brings).features) (records_of_file name bytes).records (file-kept name bytes).known;
 }
 
-once-apart : (rs : List Record) (r e : Record) → AllPairs IsApart rs → Contains rs r → Contains rs e → r.version ≡ e.version → r ≡ e
+once-apart : (rs : List Record) (r e : Record) → AllPairs IsApart rs → Contains rs r → Contains rs e
+    → r.version ≡ e.version → r ≡ e
 once-apart [] r e h i j same = absurd (in_none r i)
 once-apart (x ∷ rs) r e h i j same = elim (in_cons x r rs i) [
   | inl a ↦ elim (in_cons x e rs j) [ inl b ↦ sym a ∙ b | inr j ↦ absurd (differs r e (sym a) j same) ]
-  | inr i ↦ elim (in_cons x e rs j) [ inl b ↦ absurd (differs e r (sym b) i (sym same)) | inr j ↦ once-apart rs r e (pairs_rest IsApart x rs h) i j same ]
+  | inr i ↦ elim (in_cons x e rs j) [
+    | inl b ↦ absurd (differs e r (sym b) i (sym same))
+    | inr j ↦ once-apart rs r e
+        (pairs_rest IsApart x rs h) i j same
+  ]
 ]
   where
     differs : (r e : Record) → r ≡ x → Contains rs e → r.version ≡ e.version → ⊥
-    differs r e a j same = pairs_first IsApart x e rs h j (precedence-equal x.version e.version (ap (λ (x : Record). x.version) (sym a) ∙ same))
+    differs r e a j same = pairs_first IsApart x e rs h j
+        (precedence-equal x.version e.version (ap (λ (x : Record). x.version) (sym a) ∙ same))
 
 -- of a name each version is there once
-pub each_record_once : (a : Asked) (r e : Record) → Contains (records_of a) r → Contains (records_of a) e → r.version ≡ e.version → r ≡ e
+pub each_record_once : (a : Asked) (r e : Record) → Contains (records_of a) r → Contains (records_of a) e
+    → r.version ≡ e.version → r ≡ e
 each_record_once a r e i j same = once-apart (records_of a) r e (records-sound a).apart i j same

@@ -1,11 +1,13 @@
 -- The packages of a valid selection, in a run over the same index whose old lock has those of them that are yanked:
 -- each has a name that is asked for.
-use Rattle.std.proofs.Common.{◌≡◌, ℕ, List, Bool, true, false, not, ◌||◌, cond, Contains, Option, Some, slice_get, refl, sym, ap, ◌∙◌, subst, true≢false}
+use Rattle.std.proofs.Common.{◌≡◌, ℕ, List, Bool, true, false, not, ◌||◌, cond, Contains, Option, Some, slice_get, refl}
+use Rattle.std.proofs.Common.{sym, ap, ◌∙◌, subst, true≢false}
 use Rattle.std.proofs.lemmas.Bool.{or_left, or_right}
 use Rattle.std.proofs.lemmas.Option.{same_Some}
 use Rattle.semver.specs.Parse.{Parts}
 use Rattle.model.specs.Summary.{Summary, Dependency}
-use Rattle.model.specs.Content.{Candidate, Content, Package, Problem, candidates_of, candidate_at, candidate_of, is_root, brings_of, summary_if, summary_at}
+use Rattle.model.specs.Content.{Candidate, Content, Package, Problem, candidates_of, candidate_at, candidate_of}
+use Rattle.model.specs.Content.{is_root, brings_of, summary_if, summary_at}
 use Rattle.model.specs.Candidates.{Record, as_candidate, is_locked}
 use Rattle.model.specs.Selection.{IsValidSelection, IsOther, IsReached}
 use Rattle.model.specs.Selection.IsReached.{root, listed}
@@ -19,9 +21,11 @@ use Rattle.catalogue.proofs.LawsLists.{got_in, to_flat}
 use Rattle.catalogue.proofs.LawsNames.{needed, needed-root, needed-asked, all_asked}
 use Rattle.catalogue.proofs.LawsPackages.{text_option, of_source, serving_is}
 
-module _ (files : List ℕ → Option (List ℕ)) (manifest : ManifestView) (old : Content) (source : List ℕ) (asked : List Asked) (content lock : Content) (again : List Asked)
+module _ (files : List ℕ → Option (List ℕ)) (manifest : ManifestView) (old : Content) (source : List ℕ)
+    (asked : List Asked) (content lock : Content) (again : List Asked)
     (run : IsRunOver files manifest old source asked) (rerun : IsRunOver files manifest lock source again)
-    (valid : IsValidSelection (problem_of manifest old source asked) content) (keeps : KeepsYanked files source content lock) where
+    (valid : IsValidSelection (problem_of manifest old source asked) content)
+    (keeps : KeepsYanked files source content lock) where
   abbrev before : Problem
   before = problem_of manifest old source asked
 
@@ -38,11 +42,13 @@ module _ (files : List ℕ → Option (List ℕ)) (manifest : ManifestView) (old
     pub found : candidate_at (candidates_of before.candidates p.name) p.version ≡ Some (as_candidate r)
 
   -- it may be locked, for it isn't yanked, or it is in the lock
-  still : (p : Package) (r : Record) → p.version ≡ r.version → (r.yanked ≡ true → is_locked lock source p.name p.version ≡ true) → (b : Bool) → r.yanked ≡ b
+  still : (p : Package) (r : Record) → p.version ≡ r.version
+      → (r.yanked ≡ true → is_locked lock source p.name p.version ≡ true) → (b : Bool) → r.yanked ≡ b
       → (not r.yanked || is_locked lock source p.name r.version) ≡ true
   still p r same locked false y = or_left (not r.yanked) (is_locked lock source p.name r.version) (ap not y)
   still p r same locked true y =
-      or_right (not r.yanked) (is_locked lock source p.name r.version) (subst (λ (v : Parts). is_locked lock source p.name v ≡ true) same (locked y))
+      or_right (not r.yanked) (is_locked lock source p.name r.version)
+      (subst (λ (v : Parts). is_locked lock source p.name v ≡ true) same (locked y))
 
   pub selected : (n : ℕ) (p : Package) → IsOther before content n p → Selected p
   selected n p other =
@@ -51,7 +57,8 @@ module _ (files : List ℕ → Option (List ℕ)) (manifest : ManifestView) (old
       let i = in_index old source files asked p.name k.0 run.answers f.0 in
       let same : p.version ≡ (i.0).version = f.1 ∙ ap (λ (c : Candidate). c.version) (sym i.2) in
       let there = (in_candidates old source (file_of files p.name) i.0 i.1).0 in
-      let locked = λ (y : (i.0).yanked ≡ true). keeps p i.0 (got_in content n p other.0) (text_option p.source source (of_source before p k.0 k.1)) there (sym same) y in
+      let locked = λ (y : (i.0).yanked ≡ true). keeps p i.0 (got_in content n p other.0)
+      (text_option p.source source (of_source before p k.0 k.1)) there (sym same) y in
       record {
         r = i.0;
         was = i.1;
@@ -62,7 +69,8 @@ module _ (files : List ℕ → Option (List ℕ)) (manifest : ManifestView) (old
       }
 
   -- what a package needs is asked for in the second run, if its own name is
-  needs_asked : (n i : ℕ) (d : Dependency) (p : Package) → slice_get content n ≡ Some p → (is_root before p ≡ false → Contains (names_in again) p.name)
+  needs_asked : (n i : ℕ) (d : Dependency) (p : Package) → slice_get content n ≡ Some p
+      → (is_root before p ≡ false → Contains (names_in again) p.name)
       → slice_get (summary_at before content n).dependencies i ≡ Some d → Contains (names_in again) d.real_name
   needs_asked n i d p got named has =
       all_asked lock source needs again rerun.in_turn rerun.ended d.real_name (by (is_root before p) refl)
@@ -71,21 +79,26 @@ module _ (files : List ℕ → Option (List ℕ)) (manifest : ManifestView) (old
       means ds = Contains (meant_by ds) d.real_name
 
       meant : (o : Summary) → summary_at before content n ≡ o → means o.dependencies
-      meant o e = to_map (λ (d : Dependency). d.real_name) o.dependencies d (got_in o.dependencies i d (ap (λ (o : Summary). slice_get o.dependencies i) (sym e) ∙ has))
+      meant o e = to_map (λ (d : Dependency). d.real_name) o.dependencies d
+          (got_in o.dependencies i d (ap (λ (o : Summary). slice_get o.dependencies i) (sym e) ∙ has))
 
-      brought : (b : Bool) → is_root before p ≡ b → summary_at before content n ≡ cond b manifest.brings (brings_of (candidate_of before p))
+      brought : (b : Bool) → is_root before p ≡ b
+          → summary_at before content n ≡ cond b manifest.brings (brings_of (candidate_of before p))
       brought b e = ap (summary_if before) got ∙ ap (λ b. cond b manifest.brings (brings_of (candidate_of before p))) e
 
       by : (b : Bool) → is_root before p ≡ b → Contains (needed lock source needs again) d.real_name
       by true e = needed-root lock source needs again d.real_name (meant manifest.brings (brought true e))
       by false e =
           let s = selected n p (got, e) in
-          needed-asked lock source needs again (file_of files p.name) d.real_name (with_file files again p.name rerun.answers (named e))
-          (to_flat (λ (r : Record). meant_by (r.brings).dependencies) (candidates_in lock source (file_of files p.name)) s.r d.real_name s.is
+          needed-asked lock source needs again (file_of files p.name) d.real_name
+          (with_file files again p.name rerun.answers (named e))
+          (to_flat (λ (r : Record). meant_by (r.brings).dependencies)
+          (candidates_in lock source (file_of files p.name)) s.r d.real_name s.is
           (meant (s.r).brings (brought false e ∙ ap brings_of s.candidate)))
 
   -- each package other than the root has a name that the second run asks for
-  pub named_again : (n : ℕ) → IsReached before content n → (p : Package) → slice_get content n ≡ Some p → is_root before p ≡ false → Contains (names_in again) p.name
+  pub named_again : (n : ℕ) → IsReached before content n → (p : Package) → slice_get content n ≡ Some p
+      → is_root before p ≡ false → Contains (names_in again) p.name
   named_again n (root m r) p got other =
       absurd (true≢false (sym r.2 ∙ ap (is_root before) (same_Some r.0 p (sym r.1 ∙ got)) ∙ other))
   named_again n (listed m t l reached had c) p got other =

@@ -1,5 +1,6 @@
 -- The parts of a file that aren't empty are no more than its lines.
-use Rattle.std.proofs.Common.{◌≡◌, ℕ, suc, ◌+◌, ◌-◌, ◌≤◌, ◌==◌, Bool, true, false, not, ◌&&◌, cond, List, [], ◌∷◌, length, slice_index, refl, sym, ap, ap₂, ◌∙◌, arith}
+use Rattle.std.proofs.Common.{◌≡◌, ℕ, suc, ◌+◌, ◌-◌, ◌≤◌, ◌==◌, Bool, true, false, not, ◌&&◌, cond, List, [], ◌∷◌}
+use Rattle.std.proofs.Common.{length, slice_index, refl, sym, ap, ap₂, ◌∙◌, arith}
 use Rattle.std.proofs.lemmas.Bool.{eqb-true}
 use Rattle.std.specs.List.{slice_split, onto_first, count_by}
 use Rattle.std.proofs.lemmas.List.Sums.{sum_by-cons}
@@ -26,7 +27,8 @@ later-onto b [] = refl
 later-onto b (part ∷ parts) = refl
 
 -- the lines with one more byte in front
-count-cons : (b : ℕ) (bytes : List ℕ) → count_by is_line_end (b ∷ bytes) ≡ cond (is_line_end b) 1 0 + count_by is_line_end bytes
+count-cons : (b : ℕ) (bytes : List ℕ)
+    → count_by is_line_end (b ∷ bytes) ≡ cond (is_line_end b) 1 0 + count_by is_line_end bytes
 count-cons b bytes = sum_by-cons (λ y. cond (is_line_end y) 1 0) b bytes
 
 longer : (n : ℕ) → (suc n == 0) ≡ false
@@ -40,7 +42,8 @@ open-cons : (b c : ℕ) (bytes : List ℕ) → ends_open (b ∷ c ∷ bytes) ≡
 open-cons b c bytes =
     let more : length (b ∷ c ∷ bytes) - 1 ≡ suc (length (c ∷ bytes) - 1) = omega arith in
     ap₂ (λ t n. not t && not (is_line_end (slice_index (b ∷ c ∷ bytes) n))) (longer (length (c ∷ bytes))) more
-    ∙ sym (ap (λ t. not t && not (is_line_end (slice_index (c ∷ bytes) (length (c ∷ bytes) - 1)))) (longer (length bytes)))
+    ∙ sym (ap (λ t. not t
+    && not (is_line_end (slice_index (c ∷ bytes) (length (c ∷ bytes) - 1)))) (longer (length bytes)))
 
 later-few : (b : ℕ) (bytes : List ℕ) → full_later (slice_split is_line_end (b ∷ bytes)) + 1 ≤ line_count (b ∷ bytes)
 later-few b [] = by (is_line_end b) refl
@@ -53,9 +56,12 @@ later-few b (c ∷ bytes) = by (is_line_end b) refl (later-few c bytes)
     parts : List (List ℕ)
     parts = slice_split is_line_end (c ∷ bytes)
 
-    by : (t : Bool) → is_line_end b ≡ t → full_later parts + 1 ≤ line_count (c ∷ bytes) → full_later (cond t ([] ∷ parts) (onto_first b parts)) + 1 ≤ line_count (b ∷ c ∷ bytes)
-    by true e few = let k = count-cons b (c ∷ bytes) in let f = full-later parts in rw (k, e, open-cons b c bytes) (omega (arith, few, f))
-    by false e few = let k = count-cons b (c ∷ bytes) in rw (k, e, open-cons b c bytes, later-onto b parts) (omega (arith, few))
+    by : (t : Bool) → is_line_end b ≡ t → full_later parts + 1 ≤ line_count (c ∷ bytes)
+        → full_later (cond t ([] ∷ parts) (onto_first b parts)) + 1 ≤ line_count (b ∷ c ∷ bytes)
+    by true e few = let k = count-cons b (c ∷ bytes) in let f =
+        full-later parts in rw (k, e, open-cons b c bytes) (omega (arith, few, f))
+    by false e few = let k =
+        count-cons b (c ∷ bytes) in rw (k, e, open-cons b c bytes, later-onto b parts) (omega (arith, few))
 
 -- no more than the lines
 pub full-few : (bytes : List ℕ) → full (slice_split is_line_end bytes) ≤ line_count bytes

@@ -1,6 +1,7 @@
 -- How loading ends, by the calls of the folder (Cargo book, "Registry Index"; the limits, and the checksums that are
 -- held against an old lock, are our own).
-use Rattle.std.specs.Prelude.{◌≡◌, ◌<◌, ◌≤◌, ◌⊎◌, ℕ, Bool, false, not, ◌&&◌, if◌then◌else◌, List, [], ◌∷◌, ◌++◌, length, map, flat_map, Option, Some, None, option_map, Result, Ok, Err, Vec, string_bytes}
+use Rattle.std.specs.Prelude.{◌≡◌, ◌<◌, ◌≤◌, ◌⊎◌, ℕ, Bool, false, not, ◌&&◌, if◌then◌else◌, List, [], ◌∷◌, ◌++◌, length}
+use Rattle.std.specs.Prelude.{map, flat_map, Option, Some, None, option_map, Result, Ok, Err, Vec, string_bytes}
 use Rattle.std.specs.Borrow.{Bor}
 use Rattle.std.specs.List.{All}
 use Rattle.std.specs.declared.alloc.Global.{Global}
@@ -55,7 +56,8 @@ file_of (name, None) = no_lines
 file_of (name, Some bytes) = records_of_file name bytes
 
 -- the folder answered for a name with a file within the limits, which says this
-pub record IsRead {S : Type 0} (calls : Calls S) (before : S) (name : List ℕ) (file : FileView) (after : S) : Type 0 where
+pub record IsRead {S : Type 0} (calls : Calls S) (before : S) (name : List ℕ) (file : FileView)
+    (after : S) : Type 0 where
   pub answer : Option (List ℕ)
   pub call : calls before (path_of name) (Ok answer) after
   pub within : IsWithin answer
@@ -76,20 +78,24 @@ pub record HasTooManyLines {S : Type 0} (calls : Calls S) (before : S) (name : L
 
 -- it wasn't asked, or asked once, for this name, whatever it answered
 abbrev pub IsAskedAtMost : {S : Type 0} → Calls S → S → List ℕ → S → Type 0
-IsAskedAtMost calls before name after = (after ≡ before) ⊎ ((answer : Answer) × calls before (path_of name) answer after)
+IsAskedAtMost calls before name after =
+    (after ≡ before) ⊎ ((answer : Answer) × calls before (path_of name) answer after)
 
 -- how reading the file of a name ends with a fault: where the folder failed, the count of its failures rose in this
 -- call
 abbrev pub Fails : {S : Type 0} → Calls S → (S → ℕ) → S → List ℕ → LoadFault → S → Type 0
 Fails calls failed before name fault.OutOfMemory after = IsAskedAtMost calls before name after
 Fails calls failed before name (fault.FolderFailed path) after =
-    (string_bytes path ≡ path_of name) × calls before (path_of name) (Err Failed) after × IsRisen (failed before) (failed after)
+    (string_bytes path ≡ path_of name) × calls before (path_of name) (Err Failed) after
+    × IsRisen (failed before) (failed after)
 Fails calls failed before name (fault.TooLarge limit.Names) after = ⊥
 Fails calls failed before name (fault.TooLarge (limit.File n)) after = (n ≡ name) × IsTooLong calls before name after
-Fails calls failed before name (fault.TooLarge (limit.Lines n)) after = (n ≡ name) × HasTooManyLines calls before name after
+Fails calls failed before name (fault.TooLarge (limit.Lines n)) after =
+    (n ≡ name) × HasTooManyLines calls before name after
 Fails calls failed before name (fault.ChecksumChanged n v) after = ⊥
 
-abbrev pub Reads : {S : Type 0} → Calls S → (S → ℕ) → S → List ℕ → Result (Vec Record Global × Vec Skip Global) LoadFault → S → Type 0
+abbrev pub Reads : {S : Type 0} → Calls S → (S → ℕ) → S → List ℕ
+    → Result (Vec Record Global × Vec Skip Global) LoadFault → S → Type 0
 Reads calls failed before name (Ok contents) after = IsRead calls before name (contents_view contents) after
 Reads calls failed before name (Err e) after = Fails calls failed before name e after
 
@@ -100,7 +106,8 @@ SaysOfFile name bytes (Err fault.OutOfMemory) = Unit {0}
 SaysOfFile name bytes (Err (fault.FolderFailed path)) = ⊥
 SaysOfFile name bytes (Err (fault.TooLarge limit.Names)) = ⊥
 SaysOfFile name bytes (Err (fault.TooLarge (limit.File n))) = (n ≡ name) × (most_bytes < length bytes)
-SaysOfFile name bytes (Err (fault.TooLarge (limit.Lines n))) = (n ≡ name) × (length bytes ≤ most_bytes) × (most_lines < line_count bytes)
+SaysOfFile name bytes (Err (fault.TooLarge (limit.Lines n))) =
+    (n ≡ name) × (length bytes ≤ most_bytes) × (most_lines < line_count bytes)
 SaysOfFile name bytes (Err (fault.ChecksumChanged n v)) = ⊥
 
 -- ---- the candidates of a name
@@ -139,7 +146,8 @@ module _ (old : Content) (source : List ℕ) (rust : Option RustVersion) where
 
   -- the folder answered for a name with a file within the limits; these are the candidates, and these the skips before
   -- and after
-  pub record IsAsked {S : Type 0} (calls : Calls S) (before : S) (name : List ℕ) (skipped : List SkipView) (found : List Ranked) (after : S) (skips : List SkipView) : Type 0 where
+  pub record IsAsked {S : Type 0} (calls : Calls S) (before : S) (name : List ℕ) (skipped : List SkipView)
+      (found : List Ranked) (after : S) (skips : List SkipView) : Type 0 where
     pub answer : Option (List ℕ)
     pub call : calls before (path_of name) (Ok answer) after
     pub within : IsWithin answer
@@ -147,8 +155,10 @@ module _ (old : Content) (source : List ℕ) (rust : Option RustVersion) where
     pub added : skips ≡ skipped ++ skips_of (name, answer)
 
 -- how asking for a name ends
-abbrev pub Asks : {S : Type 0} → Calls S → (S → ℕ) → Content → List ℕ → Option RustVersion → S → List ℕ → List SkipView → Result Candidates LoadFault → S → List SkipView → Type 0
-Asks calls failed old source rust before name skipped (Ok found) after skips = IsAsked old source rust calls before name skipped (candidates_view found) after skips
+abbrev pub Asks : {S : Type 0} → Calls S → (S → ℕ) → Content → List ℕ → Option RustVersion → S → List ℕ → List SkipView
+    → Result Candidates LoadFault → S → List SkipView → Type 0
+Asks calls failed old source rust before name skipped (Ok found) after skips =
+    IsAsked old source rust calls before name skipped (candidates_view found) after skips
 Asks calls failed old source rust before name skipped (Err e) after skips = Fails calls failed before name e after
 
 -- ---- the whole run
@@ -164,7 +174,12 @@ module _ (old : Content) (source : List ℕ) (rust : Option RustVersion) (root :
 
   -- the index that these answers give
   abbrev pub store_of : List Asked → CatalogueView
-  store_of asked = record { rows = map (λ a. (a.0, ranked_in old source rust a)) asked; skips = flat_map skips_of asked; source = source }
+  store_of asked = record {
+    rows = map (λ a. (a.0, ranked_in old source rust a)) asked;
+    skips =
+        flat_map skips_of asked;
+    source = source;
+  }
 
   -- a whole run, whose answers give this index
   pub record IsLoaded {S : Type 0} (calls : Calls S) (before : S) (index : CatalogueView) (after : S) : Type 0 where
@@ -182,7 +197,8 @@ module _ (old : Content) (source : List ℕ) (rust : Option RustVersion) (root :
     pub next : next_name old source root asked ≡ Some name
 
   -- the call for the next name ended with this fault
-  pub record HasFailed {S : Type 0} (calls : Calls S) (failed : S → ℕ) (before : S) (e : LoadFault) (after : S) : Type 0 where
+  pub record HasFailed {S : Type 0} (calls : Calls S) (failed : S → ℕ) (before : S) (e : LoadFault)
+      (after : S) : Type 0 where
     pub asked : List Asked
     pub mid : S
     pub name : List ℕ
@@ -198,15 +214,19 @@ module _ (old : Content) (source : List ℕ) (rust : Option RustVersion) (root :
 
   -- memory was wanting: the folder was asked for the names so far, and perhaps for the next one
   abbrev pub IsCutShort : {S : Type 0} → Calls S → (S → ℕ) → S → S → Type 0
-  IsCutShort calls failed before after = IsAskedSoFar calls before after ⊎ HasFailed calls failed before fault.OutOfMemory after
+  IsCutShort calls failed before after =
+      IsAskedSoFar calls before after ⊎ HasFailed calls failed before fault.OutOfMemory after
 
   -- how asking for all names ends with a fault
   abbrev pub AskingEnds : {S : Type 0} → Calls S → (S → ℕ) → S → LoadFault → S → Type 0
   AskingEnds calls failed before fault.OutOfMemory after = IsCutShort calls failed before after
-  AskingEnds calls failed before (fault.FolderFailed path) after = HasFailed calls failed before (fault.FolderFailed path) after
+  AskingEnds calls failed before (fault.FolderFailed path) after =
+      HasFailed calls failed before (fault.FolderFailed path) after
   AskingEnds calls failed before (fault.TooLarge limit.Names) after = HasTooMany calls before after
-  AskingEnds calls failed before (fault.TooLarge (limit.File n)) after = HasFailed calls failed before (fault.TooLarge (limit.File n)) after
-  AskingEnds calls failed before (fault.TooLarge (limit.Lines n)) after = HasFailed calls failed before (fault.TooLarge (limit.Lines n)) after
+  AskingEnds calls failed before (fault.TooLarge (limit.File n)) after =
+      HasFailed calls failed before (fault.TooLarge (limit.File n)) after
+  AskingEnds calls failed before (fault.TooLarge (limit.Lines n)) after =
+      HasFailed calls failed before (fault.TooLarge (limit.Lines n)) after
   AskingEnds calls failed before (fault.ChecksumChanged n v) after = ⊥
 
   abbrev pub AsksAll : {S : Type 0} → Calls S → (S → ℕ) → S → Result CatalogueView LoadFault → S → Type 0
@@ -223,7 +243,8 @@ differs (Some checksum) (Some found) = not (same_text found.checksum checksum)
 
 -- a locked package of the index's source has another checksum than the index
 abbrev pub has_changed : CatalogueView → Package → Bool
-has_changed index p = same_option p.source (Some index.source) && differs p.checksum (option_map said (record_at (candidates_at index p.name) p.version))
+has_changed index p = same_option p.source (Some index.source)
+    && differs p.checksum (option_map said (record_at (candidates_at index p.name) p.version))
 
 -- the first such package
 unfoldable pub first_changed : CatalogueView → Content → Option Package
@@ -254,15 +275,21 @@ rust_for prefer.RustFirst rust = preferred_rust rust_first rust
 -- in a run that has this old lock, this source and this Rust version to go by, for a root with these dependencies
 module _ (old : Content) (source : List ℕ) (rust : Option RustVersion) (root : List Dependency) where
   -- a whole run gave an index, and a locked package has another checksum
-  pub record HasChangedChecksum {S : Type 0} (calls : Calls S) (before : S) (name : List ℕ) (version : Parts) (after : S) : Type 0 where
+  pub record HasChangedChecksum {S : Type 0} (calls : Calls S) (before : S) (name : List ℕ) (version : Parts)
+      (after : S) : Type 0 where
     pub index : CatalogueView
     pub loaded : IsLoaded old source rust root calls before index after
     pub changed : IsChanged index old name version
 
   -- how loading ends
   abbrev pub Loads : {S : Type 0} → Calls S → (S → ℕ) → S → Result CatalogueView LoadFault → S → Type 0
-  Loads calls failed before (Ok index) after = IsLoaded old source rust root calls before index after × (first_changed index old ≡ None)
-  Loads calls failed before (Err fault.OutOfMemory) after = AskingEnds old source rust root calls failed before fault.OutOfMemory after
-  Loads calls failed before (Err (fault.FolderFailed path)) after = AskingEnds old source rust root calls failed before (fault.FolderFailed path) after
-  Loads calls failed before (Err (fault.TooLarge which)) after = AskingEnds old source rust root calls failed before (fault.TooLarge which) after
-  Loads calls failed before (Err (fault.ChecksumChanged n v)) after = HasChangedChecksum calls before n (parts_of v) after
+  Loads calls failed before (Ok index) after =
+      IsLoaded old source rust root calls before index after × (first_changed index old ≡ None)
+  Loads calls failed before (Err fault.OutOfMemory) after =
+      AskingEnds old source rust root calls failed before fault.OutOfMemory after
+  Loads calls failed before (Err (fault.FolderFailed path)) after =
+      AskingEnds old source rust root calls failed before (fault.FolderFailed path) after
+  Loads calls failed before (Err (fault.TooLarge which)) after =
+      AskingEnds old source rust root calls failed before (fault.TooLarge which) after
+  Loads calls failed before (Err (fault.ChecksumChanged n v)) after =
+      HasChangedChecksum calls before n (parts_of v) after

@@ -36,13 +36,15 @@ problem_in manifest index = problem_over manifest index.source (rows_by_name ind
 
 -- a whole run of the folder for this manifest, with this old lock and this source, gives what a selection is held
 -- against
-pub record IsProblemOfRun {S : Type 0} (calls : Calls S) (before : S) (manifest : ManifestView) (old : Content) (source : List ℕ) (q : Problem) (after : S) : Type 0 where
+pub record IsProblemOfRun {S : Type 0} (calls : Calls S) (before : S) (manifest : ManifestView) (old : Content)
+    (source : List ℕ) (q : Problem) (after : S) : Type 0 where
   pub asked : List Asked
   pub run : IsRun old source manifest.brings.dependencies calls before asked after
   pub is : q ≡ problem_of manifest old source asked
 
 -- a run over a fixed index, which has these files by the names of their packages
-pub record IsRunOver (files : List ℕ → Option (List ℕ)) (manifest : ManifestView) (old : Content) (source : List ℕ) (asked : List Asked) : Type 0 where
+pub record IsRunOver (files : List ℕ → Option (List ℕ)) (manifest : ManifestView) (old : Content) (source : List ℕ)
+    (asked : List Asked) : Type 0 where
   pub answers : All (λ a. a.1 ≡ files a.0) asked
   pub in_turn : AreNext old source manifest.brings.dependencies [] asked
   pub ended : next_name old source manifest.brings.dependencies asked ≡ None
@@ -50,4 +52,5 @@ pub record IsRunOver (files : List ℕ → Option (List ℕ)) (manifest : Manife
 -- over a fixed index, another lock has each package of the content that is yanked there
 abbrev pub KeepsYanked : (List ℕ → Option (List ℕ)) → List ℕ → Content → Content → Type 0
 KeepsYanked files source content lock = (p : Package) (r : Record) → Contains content p → p.source ≡ Some source
-    → Contains (records_of (p.name, files p.name)) r → r.version ≡ p.version → r.yanked ≡ true → is_locked lock source p.name p.version ≡ true
+    → Contains (records_of (p.name, files p.name)) r → r.version ≡ p.version → r.yanked ≡ true
+    → is_locked lock source p.name p.version ≡ true

@@ -1,6 +1,7 @@
 -- Where a candidate stands in the order of preference (Cargo book, "Dependency Resolution", yanked versions and "Rust
 -- version").
-use Rattle.std.specs.Prelude.{◌≡◌, ℕ, zero, suc, Bool, true, false, List, [], ◌∷◌, ◌++◌, Option, Some, None, map, filter, length, slice_get}
+use Rattle.std.specs.Prelude.{◌≡◌, ℕ, zero, suc, Bool, true, false, List, [], ◌∷◌, ◌++◌, Option, Some, None, map}
+use Rattle.std.specs.Prelude.{filter, length, slice_get}
 use Rattle.std.specs.List.{All}
 use Rattle.semver.specs.Parse.{Parts}
 use Rattle.model.specs.Candidates.{RustVersion, Record, fits, is_at_most}

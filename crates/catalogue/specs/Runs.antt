@@ -1,6 +1,7 @@
 -- The run of a folder: which names are asked for, in which order, and what the folder answers (Cargo book, "Registry
 -- Index"; the order is our own). The index of a run is the list of names with these answers.
-use Rattle.std.specs.Prelude.{◌≡◌, ℕ, List, [], ◌∷◌, ◌++◌, Option, Some, None, Ok, map, filter, not, length, slice_get, flat_map}
+use Rattle.std.specs.Prelude.{◌≡◌, ℕ, List, [], ◌∷◌, ◌++◌, Option, Some, None, Ok, map, filter, not, length, slice_get}
+use Rattle.std.specs.Prelude.{flat_map}
 use Rattle.model.specs.Summary.{Dependency, same_text}
 use Rattle.model.specs.Content.{Content}
 use Rattle.model.specs.Candidates.{Record, candidates_among, is_locked}
@@ -23,7 +24,14 @@ Chain calls old [] new = new ≡ old
 Chain {S} calls old (a ∷ later) new = (mid : S) × calls old (path_of a.0) (Ok a.1) mid × Chain calls mid later new
 
 abbrev pub as_record : RecordView → Record
-as_record r = record { version = r.version; checksum = r.checksum; yanked = r.yanked; rust_version = r.rust_version; brings = r.brings }
+as_record r = record {
+  version = r.version;
+  checksum = r.checksum;
+  yanked = r.yanked;
+  rust_version =
+      r.rust_version;
+  brings = r.brings;
+}
 
 -- the records of a name: none where it has no file
 abbrev pub records_of : Asked → List Record

@@ -40,7 +40,13 @@ abbrev pub said : Record → Said
 said r = record { checksum = r.checksum; yanked = r.yanked; rust_version = r.rust_version; brings = r.brings }
 
 abbrev pub said_by : Candidate → Said
-said_by c = record { checksum = string_bytes c.checksum; yanked = c.yanked; rust_version = option_map rust_version_view c.rust_version; brings = summary_view c.brings }
+said_by c = record {
+  checksum = string_bytes c.checksum;
+  yanked = c.yanked;
+  rust_version =
+      option_map rust_version_view c.rust_version;
+  brings = summary_view c.brings;
+}
 
 -- oldest first, no two of equal precedence
 abbrev pub AreRising : List Ranked → Type 0

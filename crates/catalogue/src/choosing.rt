@@ -39,7 +39,9 @@ pub(crate) fn candidates_of(
     requires apart { AllPairs IsApart (records_view records.items) }
     requires known { KnowFeatures (records_view records.items) }
     requires few { length records.items ≤ most_candidates }
-    ensures { IfOk result (λ c. candidates_view c ≡ ranked_among (is_locked (packages_of_old run.now.old) run.now.source.now name.now) (option_map rust_version_view run.now.rust_version) (records_view records.items)) }
+    ensures { IfOk result
+        (λ c. candidates_view c ≡ ranked_among (is_locked (packages_of_old run.now.old) run.now.source.now name.now)
+        (option_map rust_version_view run.now.rust_version) (records_view records.items)) }
 {
     records.sort_by(|a, b| a.version.cmp_precedence(&b.version))?;
     kept(alloc, name, records, run)
@@ -55,7 +57,9 @@ fn kept(
     requires rising { AllPairs IsOlder (records_view records.items) }
     requires known { KnowFeatures (records_view records.items) }
     requires few { length records.items ≤ most_candidates }
-    ensures { IfOk result (λ c. candidates_view c ≡ with_ranks (is_locked (packages_of_old run.now.old) run.now.source.now name.now) (option_map rust_version_view run.now.rust_version) (filter (may_be_locked (is_locked (packages_of_old run.now.old) run.now.source.now name.now)) (records_view records.items))) }
+    ensures { IfOk result (λ c. candidates_view c ≡ with_ranks (is_locked (packages_of_old run.now.old)
+        run.now.source.now name.now) (option_map rust_version_view run.now.rust_version) (filter (may_be_locked
+        (is_locked (packages_of_old run.now.old) run.now.source.now name.now)) (records_view records.items))) }
 {
     let mut versions = Vec::with_capacity(alloc, records.len())?;
     let mut kept = Vec::with_capacity(alloc, records.len())?;
@@ -95,7 +99,8 @@ fn may_be_locked(yanked: bool, locked: bool) -> bool
 
 /// The rank of a candidate.
 fn rank_of(locked: bool, needed: Option<RustVersion>, given: Option<RustVersion>) -> Rank
-    ensures { result ≡ rank_by locked (fits_given (option_map rust_version_view given) (option_map rust_version_view needed)) }
+    ensures { result
+        ≡ rank_by locked (fits_given (option_map rust_version_view given) (option_map rust_version_view needed)) }
 {
     if locked {
         Rank::Locked

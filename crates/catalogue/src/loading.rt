@@ -6,7 +6,8 @@ ghost use Rattle.index_reader.specs.Views.{skip_view};
 ghost use Rattle.indexmap.specs.IndexSet.{insert_key, insert_all};
 ghost use Rattle.model.specs.Summary.{same_text};
 ghost use Rattle.features.specs.Views.{dependency_views};
-ghost use Rattle.catalogue.specs.Loads.{packages_of_old, needs_of, Asks, AsksAll, differs, has_changed, Checks, rust_for, Loads};
+ghost use Rattle.catalogue.specs.Loads.{packages_of_old, needs_of, Asks, AsksAll, differs, has_changed, Checks};
+ghost use Rattle.catalogue.specs.Loads.{rust_for, Loads};
 ghost use Rattle.catalogue.specs.Problems.{IsProblemOfRun, problem_in};
 ghost use Rattle.catalogue.specs.Stores.{candidates_at, record_at};
 ghost use Rattle.catalogue.specs.Views.{said};
@@ -47,8 +48,10 @@ pub fn load<F: Folder>(
     source: &Source,
     prefer: Prefer,
 ) -> Result<Catalogue, LoadFault>
-    ensures loads { Loads (packages_of_old old.entry) source.now (rust_for prefer manifest.now.rust_version) manifest.now.brings.dependencies F.calls F.failed folder.old result folder.new }
-    ensures problem { IfOk result (λ c. IsProblemOfRun F.calls folder.old manifest.now (packages_of_old old.entry) source.now (problem_in manifest.now c) folder.new) }
+    ensures loads { Loads (packages_of_old old.entry) source.now (rust_for prefer manifest.now.rust_version)
+        manifest.now.brings.dependencies F.calls F.failed folder.old result folder.new }
+    ensures problem { IfOk result (λ c. IsProblemOfRun F.calls folder.old manifest.now
+        (packages_of_old old.entry) source.now (problem_in manifest.now c) folder.new) }
 {
     let run = Run {
         old,
@@ -77,7 +80,8 @@ fn ask_all<F: Folder>(
     folder: &mut F,
     run: &Run<'_>,
 ) -> Result<Catalogue, LoadFault>
-    ensures { AsksAll (packages_of_old run.now.old) run.now.source.now (option_map rust_version_view run.now.rust_version) (dependency_views dependencies.now) F.calls F.failed folder.old result folder.new }
+    ensures { AsksAll (packages_of_old run.now.old) run.now.source.now (option_map rust_version_view
+        run.now.rust_version) (dependency_views dependencies.now) F.calls F.failed folder.old result folder.new }
 {
     let mut names = IndexSet::new(alloc);
     let mut candidates = Vec::new(alloc);
@@ -118,7 +122,9 @@ fn ask<F: Folder>(
     skips: &mut Vec<Skip>,
     scratch: &mut Scratch,
 ) -> Result<Candidates, LoadFault>
-    ensures { Asks F.calls F.failed (packages_of_old run.now.old) run.now.source.now (option_map rust_version_view run.now.rust_version) folder.old name.now (map skip_view skips.old.items) result folder.new (map skip_view skips.new.items) }
+    ensures { Asks F.calls F.failed (packages_of_old run.now.old) run.now.source.now
+        (option_map rust_version_view run.now.rust_version) folder.old name.now
+        (map skip_view skips.old.items) result folder.new (map skip_view skips.new.items) }
 {
     let (records, mut skipped) = read_name(alloc, folder, name, scratch)?;
     skips.append(&mut skipped)?;
@@ -140,7 +146,8 @@ fn add_names(
     names: &mut IndexSet<PackageName>,
     dependencies: &[Dependency],
 ) -> Result<(), AllocError>
-    ensures { OnOk result (names.new.keys ≡ insert_all same_text names.old.keys (meant_by (dependency_views dependencies.now))) }
+    ensures { OnOk result
+        (names.new.keys ≡ insert_all same_text names.old.keys (meant_by (dependency_views dependencies.now))) }
 {
     'dependencies: for dependency in dependencies.iter() {
         add_name(names, &dependency.real_name)?;
@@ -188,7 +195,8 @@ fn has_changed(locked: &Package, catalogue: &Catalogue) -> bool
 }
 
 fn differs(locked: &Package, catalogue: &Catalogue) -> bool
-    ensures { result ≡ differs (package_view locked.now).checksum (option_map said (record_at (candidates_at catalogue.now locked.now.name) (package_view locked.now).version)) }
+    ensures { result ≡ differs (package_view locked.now).checksum
+        (option_map said (record_at (candidates_at catalogue.now locked.now.name) (package_view locked.now).version)) }
 {
     let Some(checksum) = &locked.checksum else {
         return false;

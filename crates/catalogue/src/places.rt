@@ -13,7 +13,8 @@ use semver::Version;
 /// The place of a version, by its whole text, among versions that rise by precedence.
 pub fn place_of(versions: &[Version], version: &Version) -> Option<usize>
     requires { AllPairs (λ v w. precedence_cmp v w ≡ Less) versions.now }
-    ensures { MatchOption result (All (λ v. same_version (parts_of version.now) (parts_of v) ≡ false) versions.now) (λ i. slice_get (map parts_of versions.now) i ≡ Some (parts_of version.now)) }
+    ensures { MatchOption result (All (λ v. same_version (parts_of version.now) (parts_of v) ≡ false) versions.now)
+        (λ i. slice_get (map parts_of versions.now) i ≡ Some (parts_of version.now)) }
 {
     match versions.binary_search_by(|v| v.cmp_precedence(version)) {
         Ok(place) => {

@@ -1,6 +1,7 @@
 //! The store behind a loaded index: for each name that was asked for, its candidates.
 
-ghost use Rattle.std.specs.Prelude.{◌≡◌, ◌≤◌, ◌++◌, [], map, length, option_map, slice_get, Bool, Option, Some, IfOk, OnOk};
+ghost use Rattle.std.specs.Prelude.{◌≡◌, ◌≤◌, ◌++◌, [], map, length, option_map, slice_get, Bool, Option, Some, IfOk};
+ghost use Rattle.std.specs.Prelude.{OnOk};
 ghost use Rattle.std.specs.List.{AllPairs};
 ghost use Rattle.std.specs.List.Sorted.{IsPermutation};
 ghost use Rattle.std.specs.declared.cmp.Ordering.TheVariants.{Less};
@@ -52,7 +53,12 @@ impl Model for Catalogue {
 
     ghost Value = { CatalogueView };
 
-    ghost view = { λ c. record { rows = rows_view c.names.keys c.candidates.items; skips = map skip_view c.skips.items; source = string_bytes c.source } };
+    ghost view = { λ c. record {
+      rows = rows_view c.names.keys c.candidates.items;
+      skips =
+          map skip_view c.skips.items;
+      source = string_bytes c.source;
+    } };
 
     ghost invariant = { λ c. (length c.names.keys ≡ length c.candidates.items) × IsUnique (pointwise nat_eq) c.names };
 }
@@ -81,14 +87,16 @@ impl Catalogue {
 
     /// The candidate of a name at a place of its `versions`.
     pub fn candidate_at(&self, name: &PackageName, place: usize) -> Option<&Candidate>
-        ensures { option_map (λ c. said_by c.now) result ≡ option_map said (slice_get (candidates_at self.now name.now) place) }
+        ensures { option_map (λ c. said_by c.now) result
+            ≡ option_map said (slice_get (candidates_at self.now name.now) place) }
     {
         self.of(name)?.records.get(place)
     }
 
     /// The candidate of a name that has this version, by the whole text.
     pub fn candidate(&self, name: &PackageName, version: &Version) -> Option<&Candidate>
-        ensures { option_map (λ c. said_by c.now) result ≡ option_map said (record_at (candidates_at self.now name.now) (parts_of version.now)) }
+        ensures { option_map (λ c. said_by c.now) result
+            ≡ option_map said (record_at (candidates_at self.now name.now) (parts_of version.now)) }
     {
         candidate_in(self.of(name)?, version)
     }
@@ -97,7 +105,9 @@ impl Catalogue {
     pub fn prefer(&self, name: &PackageName) -> Result<Vec<u32>, AllocError>
         ensures places { IfOk result (λ v. v.items ≡ places_by_rank (map (λ c. c.1) (ranked_at self.now name.now))) }
         ensures once { IfOk result (λ v. IsPermutation (places_down (length (ranked_at self.now name.now))) v.items) }
-        ensures preferred { IfOk result (λ v. (locked : Parts → Bool) (rust : Option Rust) → AreRanked locked rust (ranked_at self.now name.now) → map (slice_get (candidates_at self.now name.now)) v.items ≡ map Some (by_preference locked rust (candidates_at self.now name.now))) }
+        ensures preferred { IfOk result (λ v. (locked : Parts → Bool) (rust : Option Rust) → AreRanked locked rust
+            (ranked_at self.now name.now) → map (slice_get (candidates_at self.now name.now)) v.items
+            ≡ map Some (by_preference locked rust (candidates_at self.now name.now))) }
     {
         match self.of(name) {
             Some(candidates) => places_by_rank(self.alloc, candidates),
@@ -135,7 +145,8 @@ impl Catalogue {
 
 /// The candidate that has this version, by the whole text.
 fn candidate_in<'a>(candidates: &'a Candidates, version: &Version) -> Option<&'a Candidate>
-    ensures { option_map (λ c. said_by c.now) result ≡ option_map said (record_at (map (λ c. c.0) (candidates_view candidates.now)) (parts_of version.now)) }
+    ensures { option_map (λ c. said_by c.now) result
+        ≡ option_map said (record_at (map (λ c. c.0) (candidates_view candidates.now)) (parts_of version.now)) }
 {
     let place = place_of(candidates.versions.as_slice(), version)?;
     candidates.records.get(place)

@@ -21,4 +21,5 @@ place_from test n (x ∷ xs) = if test x then Some n else place_from test (n + 1
 
 -- the cause with the first entry that enables the dependency of this number
 abbrev pub enabling_by : Problem → List ℕ → Parts → List ℕ → ℕ → Option Cause
-enabling_by q name v f i = option_and_then (λ d. option_and_then (λ e. Some (of_enabling name v f e i)) (find (enables d.name) (entries_of q name v f))) (dependency_at q (version_of name v) i)
+enabling_by q name v f i = option_and_then (λ d. option_and_then (λ e. Some (of_enabling name v f e i))
+    (find (enables d.name) (entries_of q name v f))) (dependency_at q (version_of name v) i)

@@ -32,7 +32,8 @@ pub(crate) fn enabling_in<'a>(
     numbers: &mut Numbers<'a>,
     terms: &[Term<'a>],
 ) -> Result<Option<Cause<'a>>, AllocError>
-    ensures cause { IfOk result (λ c. option_map cause_view c ≡ enabling_in (problem_of numbers.old) (term_views terms.now)) }
+    ensures cause { IfOk result
+        (λ c. option_map cause_view c ≡ enabling_in (problem_of numbers.old) (term_views terms.now)) }
     ensures same { problem_of numbers.new ≡ problem_of numbers.old }
 {
     let Some((name, version)) = first_version(terms) else {
@@ -55,7 +56,8 @@ fn enabling<'a>(
     on: &'a FeatureName,
     number: usize,
 ) -> Option<Cause<'a>>
-    ensures { option_map cause_view result ≡ enabling_by (problem_view problem.now) name.entry.now (parts_of version.entry.now) on.entry.now number }
+    ensures { option_map cause_view result
+        ≡ enabling_by (problem_view problem.now) name.entry.now (parts_of version.entry.now) on.entry.now number }
 {
     let dependency = dependency_at(problem, &OwnerRef::Version(name, version), number)?;
     let entry = first_enabling(&dependency.name, entries_of(problem, name, version, on))?;
@@ -94,7 +96,8 @@ fn enabled_number<'a>(
     on: &'a FeatureName,
     terms: &[Term<'a>],
 ) -> Result<Option<usize>, AllocError>
-    ensures number { IfOk result (λ n. n ≡ option_or (number_read (term_views terms.now)) (enabled_unmatched (problem_of numbers.old) name.now (parts_of version.now) on.now)) }
+    ensures number { IfOk result (λ n. n ≡ option_or (number_read (term_views terms.now))
+        (enabled_unmatched (problem_of numbers.old) name.now (parts_of version.now) on.now)) }
     ensures same { problem_of numbers.new ≡ problem_of numbers.old }
 {
     match first_dependency(terms) {
@@ -111,7 +114,8 @@ fn enabled_unmatched<'a>(
     version: &'a Version,
     on: &'a FeatureName,
 ) -> Result<Option<usize>, AllocError>
-    ensures number { IfOk result (λ n. n ≡ enabled_unmatched (problem_of numbers.old) name.now (parts_of version.now) on.now) }
+    ensures number { IfOk result
+        (λ n. n ≡ enabled_unmatched (problem_of numbers.old) name.now (parts_of version.now) on.now) }
     ensures same { problem_of numbers.new ≡ problem_of numbers.old }
 {
     let owner = OwnerRef::Version(name, version);
@@ -141,7 +145,8 @@ fn enabled_names<'a>(alloc: Global, entries: &'a [Entry]) -> Result<BTreeSet<&'a
 
 /// Puts what an entry enables, if it enables something.
 fn put_enabled<'a>(names: &mut BTreeSet<&'a str>, entry: &'a Entry) -> Result<(), AllocError>
-    ensures { OnOk result ((d : List ℕ) → has_text names.new.keys d ≡ (has_text names.old.keys d || enables d (entry_view entry.now))) }
+    ensures { OnOk result
+        ((d : List ℕ) → has_text names.new.keys d ≡ (has_text names.old.keys d || enables d (entry_view entry.now))) }
 {
     match entry {
         Entry::Feature(_) | Entry::WeakFeature(_, _) => Ok(()),
@@ -150,7 +155,8 @@ fn put_enabled<'a>(names: &mut BTreeSet<&'a str>, entry: &'a Entry) -> Result<()
 }
 
 fn put<'a>(names: &mut BTreeSet<&'a str>, name: &'a str) -> Result<(), AllocError>
-    ensures { OnOk result ((d : List ℕ) → has_text names.new.keys d ≡ (has_text names.old.keys d || same_text d name.now)) }
+    ensures { OnOk result
+        ((d : List ℕ) → has_text names.new.keys d ≡ (has_text names.old.keys d || same_text d name.now)) }
 {
     names.insert(name)?;
     Ok(())
@@ -162,7 +168,8 @@ fn first_enabled(
     dependencies: &[Dependency],
     names: &BTreeSet<&str>,
 ) -> Option<usize>
-    ensures { result ≡ place_from (is_enabled_unmatched (problem_view problem.now) (has_text names.now.keys)) 0 (dependency_views dependencies.now) }
+    ensures { result ≡ place_from (is_enabled_unmatched (problem_view problem.now) (has_text names.now.keys)) 0
+        (dependency_views dependencies.now) }
 {
     'dependencies: for (number, dependency) in dependencies.iter().enumerate() {
         if is_enabled_unmatched(problem, dependency, names) {
@@ -178,7 +185,8 @@ fn is_enabled_unmatched(
     dependency: &Dependency,
     names: &BTreeSet<&str>,
 ) -> bool
-    ensures { result ≡ is_enabled_unmatched (problem_view problem.now) (has_text names.now.keys) (dependency_view dependency.now) }
+    ensures { result
+        ≡ is_enabled_unmatched (problem_view problem.now) (has_text names.now.keys) (dependency_view dependency.now) }
 {
     has(names, dependency.name.as_str()) && is_unmatched(problem, dependency)
 }

@@ -26,7 +26,8 @@ pub fn cause_in<'a>(
     kind: Kind,
     terms: &[Term<'a>],
 ) -> Result<Option<Cause<'a>>, AllocError>
-    ensures cause { IfOk result (λ c. option_map cause_view c ≡ cause_in (problem_of numbers.old) (kind_view kind) (term_views terms.now)) }
+    ensures cause { IfOk result
+        (λ c. option_map cause_view c ≡ cause_in (problem_of numbers.old) (kind_view kind) (term_views terms.now)) }
     ensures same { problem_of numbers.new ≡ problem_of numbers.old }
 {
     match kind {

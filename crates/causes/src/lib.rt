@@ -1,7 +1,8 @@
 //! The one cause of a kind that terms can have.
 //!
 //! A step says its kind and its terms, and by these just one instance can be meant. Of each kind it is known which of
-//! its terms names what: the owner, the dependency with its number, the class, the feature (`named_by_terms.rt`). So a cause
+//! its terms names what: the owner, the dependency with its number, the class, the feature (`named_by_terms.rt`). So a
+//! cause
 //! is read off the terms (`cause_in`), and need not be searched among all. `kinds.rt` goes through the kinds; one that
 //! takes more than a function has a file of its name.
 //!

@@ -1,10 +1,12 @@
 //! What terms name: the first of each sort among them.
 
 ghost use Rattle.std.specs.Prelude.{◌≡◌, option_map};
-ghost use Rattle.refutations.specs.Instances.{first_read, other_read, read_term, owner_read, version_read, dep_read, led_read, feature_read, on_read, off_read, ask_read};
+ghost use Rattle.refutations.specs.Instances.{first_read, other_read, read_term, owner_read, version_read, dep_read};
+ghost use Rattle.refutations.specs.Instances.{led_read, feature_read, on_read, off_read, ask_read};
 ghost use Rattle.named_terms.specs.Views.{term_view, term_views};
 ghost use Rattle.vertices.specs.RefViews.{owner_ref_view};
-ghost use Rattle.causes.specs.NamedByTerms.{version_seen, dep_seen, led_seen, other_seen, feature_seen, text_seen, ask_seen};
+ghost use Rattle.causes.specs.NamedByTerms.{version_seen, dep_seen, led_seen, other_seen, feature_seen, text_seen};
+ghost use Rattle.causes.specs.NamedByTerms.{ask_seen};
 
 use classes::Class;
 use features::{FeatureName, PackageName};

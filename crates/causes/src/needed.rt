@@ -24,7 +24,8 @@ pub(crate) fn need_in<'a>(
     numbers: &mut Numbers<'a>,
     terms: &[Term<'a>],
 ) -> Result<Option<Cause<'a>>, AllocError>
-    ensures cause { IfOk result (λ c. option_map cause_view c ≡ need_in (problem_of numbers.old) (term_views terms.now)) }
+    ensures cause { IfOk result
+        (λ c. option_map cause_view c ≡ need_in (problem_of numbers.old) (term_views terms.now)) }
     ensures same { problem_of numbers.new ≡ problem_of numbers.old }
 {
     let Some(owner) = first_owner(terms) else {
@@ -41,7 +42,8 @@ fn needed_number<'a>(
     owner: OwnerRef<'a>,
     terms: &[Term<'a>],
 ) -> Result<Option<usize>, AllocError>
-    ensures number { IfOk result (λ n. n ≡ option_or (number_read (term_views terms.now)) (needed_unmatched (problem_of numbers.old) (owner_ref_view owner.entry))) }
+    ensures number { IfOk result (λ n. n ≡ option_or (number_read (term_views terms.now))
+        (needed_unmatched (problem_of numbers.old) (owner_ref_view owner.entry))) }
     ensures same { problem_of numbers.new ≡ problem_of numbers.old }
 {
     match first_dependency(terms) {
@@ -75,7 +77,8 @@ fn first_needed(
     owner: &OwnerRef<'_>,
     dependencies: &[Dependency],
 ) -> Option<usize>
-    ensures { result ≡ place_from (is_needed_unmatched (problem_view problem.now) (owner_ref_view owner.now)) 0 (dependency_views dependencies.now) }
+    ensures { result ≡ place_from (is_needed_unmatched (problem_view problem.now) (owner_ref_view owner.now)) 0
+        (dependency_views dependencies.now) }
 {
     'dependencies: for (number, dependency) in dependencies.iter().enumerate() {
         if is_needed_unmatched(problem, owner, dependency) {
@@ -87,7 +90,8 @@ fn first_needed(
 
 #[tactic(auto, unfolding(crate::specs::Needs::is_needed_unmatched))]
 fn is_needed_unmatched(problem: &Problem<'_>, owner: &OwnerRef<'_>, dependency: &Dependency) -> bool
-    ensures { result ≡ is_needed_unmatched (problem_view problem.now) (owner_ref_view owner.now) (dependency_view dependency.now) }
+    ensures { result
+        ≡ is_needed_unmatched (problem_view problem.now) (owner_ref_view owner.now) (dependency_view dependency.now) }
 {
     is_needed(owner, dependency) && is_unmatched(problem, dependency)
 }

@@ -28,7 +28,8 @@ fn newest_of(
     other: usize,
     other_class: Class,
 ) -> Cause<'_>
-    ensures { cause_view result ≡ newest_of (owner_ref_view owner.entry) number (class_view class) other (class_view other_class) }
+    ensures { cause_view result
+        ≡ newest_of (owner_ref_view owner.entry) number (class_view class) other (class_view other_class) }
 {
     if class.is_lower(other_class) {
         Cause::Newest(owner, number, other, class, other_class)

@@ -10,7 +10,8 @@ use crate::named_by_terms::{first_ask, first_led, first_off};
 use named_terms::{Cause, Term};
 
 pub(crate) fn ask_or_list_in<'a>(terms: &[Term<'a>]) -> Option<Cause<'a>>
-    ensures { option_map cause_view result ≡ option_or (ask_in (term_views terms.now)) (list_in (term_views terms.now)) }
+    ensures { option_map cause_view result
+        ≡ option_or (ask_in (term_views terms.now)) (list_in (term_views terms.now)) }
 {
     match ask_in(terms) {
         Some(cause) => Some(cause),

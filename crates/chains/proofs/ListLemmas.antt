@@ -1,5 +1,6 @@
 -- The list of a fact has just the rules that need it.
-use Rattle.std.proofs.Common.{◌≡◌, ℕ, zero, suc, ◌<◌, List, [], ◌∷◌, ◌++◌, Vec, length, get_or, set, take, Contains, refl, sym, ap, ◌∙◌, subst, inl, inr, ◌⊎◌, arith}
+use Rattle.std.proofs.Common.{◌≡◌, ℕ, zero, suc, ◌<◌, List, [], ◌∷◌, ◌++◌, Vec, length, get_or, set, take, Contains}
+use Rattle.std.proofs.Common.{refl, sym, ap, ◌∙◌, subst, inl, inr, ◌⊎◌, arith}
 use Rattle.std.specs.declared.alloc.Global.{Global}
 use Rattle.std.proofs.lemmas.List.Elements.{Contains-append_left, Contains-push, Contains-push_cases}
 use Rattle.chains.specs.declared.rule.Rule.{Rule}
@@ -8,13 +9,15 @@ use Rattle.chains.specs.Worklists.{IsBelow}
 use Rattle.chains.specs.Lists.{rule_lists, rules_at, no_lists, put_at, put_both, put_all, index_of}
 
 -- a rule is put into the list at a place
-pub put-set : (ls : List (Vec Rule Global)) (i : ℕ) (r : Rule) (d v : Vec Rule Global) → i < length ls → v.items ≡ (get_or ls i d).items ++ r ∷ []
+pub put-set : (ls : List (Vec Rule Global)) (i : ℕ) (r : Rule) (d v : Vec Rule Global) → i < length ls
+    → v.items ≡ (get_or ls i d).items ++ r ∷ []
     → rule_lists (set ls i v) ≡ put_at (rule_lists ls) i r
 put-set [] i r d v lt e = absurd (omega arith)
 put-set (l ∷ ls) zero r d v lt e = ap (λ x. x ∷ rule_lists ls) e
 put-set (l ∷ ls) (suc i) r d v lt e = ap (λ x. l.items ∷ x) (put-set ls i r d v (omega arith) e)
 
-pub rules_at-get : (ls : List (Vec Rule Global)) (i : ℕ) (d : Vec Rule Global) → i < length ls → (get_or ls i d).items ≡ rules_at (rule_lists ls) i
+pub rules_at-get : (ls : List (Vec Rule Global)) (i : ℕ) (d : Vec Rule Global) → i < length ls
+    → (get_or ls i d).items ≡ rules_at (rule_lists ls) i
 rules_at-get [] i d lt = absurd (omega arith)
 rules_at-get (l ∷ ls) zero d lt = refl
 rules_at-get (l ∷ ls) (suc i) d lt = rules_at-get ls i d (omega arith)
@@ -54,7 +57,8 @@ pub length-no_lists : (n : ℕ) → length (no_lists n) ≡ n
 length-no_lists zero = refl
 length-no_lists (suc n) = ap suc (length-no_lists n)
 
-put_keeps : (ls : List (List Rule)) (i : ℕ) (r : Rule) (j : ℕ) (x : Rule) → Contains (rules_at ls j) x → Contains (rules_at (put_at ls i r) j) x
+put_keeps : (ls : List (List Rule)) (i : ℕ) (r : Rule) (j : ℕ) (x : Rule) → Contains (rules_at ls j) x
+    → Contains (rules_at (put_at ls i r) j) x
 put_keeps [] i r j x c = c
 put_keeps (l ∷ ls) zero r zero x c = Contains-append_left l (r ∷ []) x c
 put_keeps (l ∷ ls) zero r (suc j) x c = c
@@ -66,18 +70,22 @@ put_there [] i r lt = absurd (omega arith)
 put_there (l ∷ ls) zero r lt = Contains-push l r
 put_there (l ∷ ls) (suc i) r lt = put_there ls i r (omega arith)
 
-put_only : (ls : List (List Rule)) (i : ℕ) (r : Rule) (j : ℕ) (x : Rule) → Contains (rules_at (put_at ls i r) j) x → Contains (rules_at ls j) x ⊎ (r ≡ x)
+put_only : (ls : List (List Rule)) (i : ℕ) (r : Rule) (j : ℕ) (x : Rule) → Contains (rules_at (put_at ls i r) j) x
+    → Contains (rules_at ls j) x ⊎ (r ≡ x)
 put_only [] i r j x c = inl c
 put_only (l ∷ ls) zero r zero x c = Contains-push_cases l r x c
 put_only (l ∷ ls) zero r (suc j) x c = inl c
 put_only (l ∷ ls) (suc i) r zero x c = inl c
 put_only (l ∷ ls) (suc i) r (suc j) x c = put_only ls i r j x c
 
-all_keep : (ls : List (List Rule)) (rs : List Rule) (j : ℕ) (x : Rule) → Contains (rules_at ls j) x → Contains (rules_at (put_all ls rs) j) x
+all_keep : (ls : List (List Rule)) (rs : List Rule) (j : ℕ) (x : Rule) → Contains (rules_at ls j) x
+    → Contains (rules_at (put_all ls rs) j) x
 all_keep ls [] j x c = c
-all_keep ls (r ∷ rs) j x c = all_keep (put_both ls r) rs j x (put_keeps (put_at ls r.first r) r.second r j x (put_keeps ls r.first r j x c))
+all_keep ls (r ∷ rs) j x c =
+    all_keep (put_both ls r) rs j x (put_keeps (put_at ls r.first r) r.second r j x (put_keeps ls r.first r j x c))
 
-all_only : (ls : List (List Rule)) (rs : List Rule) (j : ℕ) (x : Rule) → Contains (rules_at (put_all ls rs) j) x → Contains (rules_at ls j) x ⊎ Contains rs x
+all_only : (ls : List (List Rule)) (rs : List Rule) (j : ℕ) (x : Rule) → Contains (rules_at (put_all ls rs) j) x
+    → Contains (rules_at ls j) x ⊎ Contains rs x
 all_only ls [] j x c = inl c
 all_only ls (r ∷ rs) j x c = elim (all_only (put_both ls r) rs j x c) [
   | inl c ↦ elim (put_only (put_at ls r.first r) r.second r j x c) [
@@ -96,12 +104,16 @@ all_there ls [] x below c = absurd (in_none x c)
 all_there ls (r ∷ rs) x below c = elim (in_cons r x rs c) [
   | inl e ↦
       let b : IsBelow (length ls) r = below zero r (omega arith) in
-      let second : r.second < length (put_at ls r.first r) = subst (λ n. r.second < n) (sym (length-put_at ls r.first r)) b.1 in
-      subst (λ x. Contains (rules_at (put_all (put_both ls r) rs) x.first) x × Contains (rules_at (put_all (put_both ls r) rs) x.second) x) e (
-        all_keep (put_both ls r) rs r.first r (put_keeps (put_at ls r.first r) r.second r r.first r (put_there ls r.first r b.0)),
+      let second : r.second < length (put_at ls r.first r) =
+      subst (λ n. r.second < n) (sym (length-put_at ls r.first r)) b.1 in
+      subst (λ x. Contains (rules_at (put_all (put_both ls r) rs) x.first) x
+      × Contains (rules_at (put_all (put_both ls r) rs) x.second) x) e (
+        all_keep (put_both ls r) rs r.first r
+            (put_keeps (put_at ls r.first r) r.second r r.first r (put_there ls r.first r b.0)),
         all_keep (put_both ls r) rs r.second r (put_there (put_at ls r.first r) r.second r second),
       )
-  | inr c ↦ all_there (put_both ls r) rs x (subst (λ n. AreBelow n rs) (sym (length-put_both ls r)) (rest_below (length ls) r rs below)) c
+  | inr c ↦ all_there (put_both ls r) rs x
+      (subst (λ n. AreBelow n rs) (sym (length-put_both ls r)) (rest_below (length ls) r rs below)) c
 ]
 
 none_there : (n j : ℕ) (x : Rule) → Contains (rules_at (no_lists n) j) x → ⊥
@@ -112,8 +124,11 @@ none_there (suc n) (suc j) x c = none_there n j x c
 -- the list of each fact of a rule has it
 pub index_has : (n : ℕ) (rules : List Rule) (r : Rule) → AreBelow n rules → Contains rules r
     → Contains (rules_at (index_of n rules) r.first) r × Contains (rules_at (index_of n rules) r.second) r
-index_has n rules r below c = all_there (no_lists n) rules r (subst (λ m. AreBelow m rules) (sym (length-no_lists n)) below) c
+index_has n rules r below c =
+    all_there (no_lists n) rules r (subst (λ m. AreBelow m rules) (sym (length-no_lists n)) below) c
 
 -- each list has rules alone
-pub index_within : (n : ℕ) (rules : List Rule) (j : ℕ) (r : Rule) → Contains (rules_at (index_of n rules) j) r → Contains rules r
-index_within n rules j r c = elim (all_only (no_lists n) rules j r c) [ inl c ↦ absurd (none_there n j r c) | inr c ↦ c ]
+pub index_within : (n : ℕ) (rules : List Rule) (j : ℕ) (r : Rule)
+    → Contains (rules_at (index_of n rules) j) r → Contains rules r
+index_within n rules j r c =
+    elim (all_only (no_lists n) rules j r c) [ inl c ↦ absurd (none_there n j r c) | inr c ↦ c ]

@@ -1,7 +1,9 @@
 -- What a worklist keeps, and what it has in the end.
-use Rattle.std.proofs.Common.{◌≡◌, ℕ, zero, suc, ◌<◌, ◌+◌, ◌↔◌, List, [], ◌∷◌, ◌++◌, length, get_or, set, Bool, true, false, not, ◌&&◌, cond, Contains, refl, sym, ap, subst, inl, inr, ◌⊎◌, arith, true≢false}
+use Rattle.std.proofs.Common.{◌≡◌, ℕ, zero, suc, ◌<◌, ◌+◌, ◌↔◌, List, [], ◌∷◌, ◌++◌, length, get_or, set, Bool, true}
+use Rattle.std.proofs.Common.{false, not, ◌&&◌, cond, Contains, refl, sym, ap, subst, inl, inr, ◌⊎◌, arith, true≢false}
 use Rattle.std.proofs.lemmas.List.{length-append}
-use Rattle.std.proofs.lemmas.List.Elements.{All-contains, Contains-get_or, Contains-append_left, Contains-push, Contains-push_cases}
+use Rattle.std.proofs.lemmas.List.Elements.{All-contains, Contains-get_or, Contains-append_left, Contains-push}
+use Rattle.std.proofs.lemmas.List.Elements.{Contains-push_cases}
 use Rattle.chains.specs.declared.rule.Rule.{Rule}
 use Rattle.chains.specs.Chains.{has, IsGiven, AreBelow}
 use Rattle.chains.specs.Chains.IsGiven.{begins, follows}
@@ -10,21 +12,27 @@ use Rattle.chains.specs.Worklists.{IsBelow, unmarked, is_ready, Marks, Grows, Is
 use Rattle.chains.proofs.ListLemmas.{in_none, index_has, index_within}
 
 -- what is given from what is given is given
-pub given_again : (rules : List Rule) (start set : List Bool) → IsSound rules start set → (i : ℕ) → IsGiven rules set i → IsGiven rules start i
+pub given_again : (rules : List Rule) (start set : List Bool) → IsSound rules start set → (i : ℕ)
+    → IsGiven rules set i → IsGiven rules start i
 given_again rules start set sound i (begins j h) = sound j h
-given_again rules start set sound i (follows r c f s) = follows r c (given_again rules start set sound r.first f) (given_again rules start set sound r.second s)
+given_again rules start set sound i (follows r c f s) =
+    follows r c (given_again rules start set sound r.first f) (given_again rules start set sound r.second s)
 
 -- more rules give more
-pub given_by_more : (few rules : List Rule) (start : List Bool) → ((r : Rule) → Contains few r → Contains rules r) → (i : ℕ) → IsGiven few start i → IsGiven rules start i
+pub given_by_more : (few rules : List Rule) (start : List Bool) → ((r : Rule) → Contains few r → Contains rules r)
+    → (i : ℕ) → IsGiven few start i → IsGiven rules start i
 given_by_more few rules start more i (begins j h) = begins j h
-given_by_more few rules start more i (follows r c f s) = follows r (more r c) (given_by_more few rules start more r.first f) (given_by_more few rules start more r.second s)
+given_by_more few rules start more i (follows r c f s) =
+    follows r (more r c) (given_by_more few rules start more r.first f) (given_by_more few rules start more r.second s)
 
 -- a closed set that holds the start holds all that is given
 given_within : (rules : List Rule) (start set : List Bool) → Grows start set
-    → ((r : Rule) → Contains rules r → has set r.first ≡ true → has set r.second ≡ true → has set r.gives ≡ true) → (i : ℕ) → IsGiven rules start i → has set i ≡ true
+    → ((r : Rule) → Contains rules r → has set r.first ≡ true → has set r.second ≡ true → has set r.gives ≡ true)
+    → (i : ℕ) → IsGiven rules start i → has set i ≡ true
 given_within rules start set grows closed i (begins j h) = grows j h
 given_within rules start set grows closed i (follows r c f s) =
-    closed r c (given_within rules start set grows closed r.first f) (given_within rules start set grows closed r.second s)
+    closed r c (given_within rules start set grows closed r.first f)
+    (given_within rules start set grows closed r.second s)
 
 pub has-below : (set : List Bool) (i : ℕ) → has set i ≡ true → i < length set
 has-below [] i h = absurd (true≢false (sym h))
@@ -84,7 +92,8 @@ none_followed old waiting = record {
   count = refl;
 }
 
-module _ (done : List Rule) (old : List Bool) (waiting : List ℕ) (mid : List Bool) (some : List ℕ) (r : Rule) (p : Follows done old waiting mid some) where
+module _ (done : List Rule) (old : List Bool) (waiting : List ℕ) (mid : List Bool) (some : List ℕ) (r : Rule)
+    (p : Follows done old waiting mid some) where
   more_rules : (q : Rule) → Contains done q → Contains (done ++ r ∷ []) q
   more_rules q c = Contains-append_left done (r ∷ []) q c
 
@@ -99,7 +108,8 @@ module _ (done : List Rule) (old : List Bool) (waiting : List ℕ) (mid : List B
       | inl c ↦ p.closed q c f s
       | inr is ↦ subst (λ (q : Rule). has mid q.gives ≡ true) is
           (not_ready (has mid r.first) (has mid r.second) (has mid r.gives) e
-          (p.grows r.first (subst (λ (q : Rule). has old q.first ≡ true) (sym is) f)) (p.grows r.second (subst (λ (q : Rule). has old q.second ≡ true) (sym is) s)))
+          (p.grows r.first (subst (λ (q : Rule). has old q.first ≡ true) (sym is) f))
+          (p.grows r.second (subst (λ (q : Rule). has old q.second ≡ true) (sym is) s)))
     ];
     count = p.count;
   }
@@ -108,9 +118,11 @@ module _ (done : List Rule) (old : List Bool) (waiting : List ℕ) (mid : List B
   given_new e =
       let parts = ready_parts (has mid r.first) (has mid r.second) (has mid r.gives) e in
       follows r (Contains-push done r)
-      (given_by_more done (done ++ r ∷ []) old more_rules r.first (p.sound r.first parts.0)) (given_by_more done (done ++ r ∷ []) old more_rules r.second (p.sound r.second parts.1))
+      (given_by_more done (done ++ r ∷ []) old more_rules r.first (p.sound r.first parts.0))
+      (given_by_more done (done ++ r ∷ []) old more_rules r.second (p.sound r.second parts.1))
 
-  marked_new : r.gives < length mid → is_ready mid r ≡ true → Follows (done ++ r ∷ []) old waiting (set mid r.gives true) (some ++ r.gives ∷ [])
+  marked_new : r.gives < length mid → is_ready mid r ≡ true
+      → Follows (done ++ r ∷ []) old waiting (set mid r.gives true) (some ++ r.gives ∷ [])
   marked_new lt e = record {
     grows = λ i h. stays mid r.gives i (p.grows i h);
     keeps = λ i c. Contains-append_left some (r.gives ∷ []) i (p.keeps i c);
@@ -138,25 +150,31 @@ module _ (done : List Rule) (old : List Bool) (waiting : List ℕ) (mid : List B
   }
 
 -- one more rule was followed
-pub one_followed : (done : List Rule) (old : List Bool) (waiting : List ℕ) (mid : List Bool) (some : List ℕ) (r : Rule) (new : List Bool) (more : List ℕ)
-    → Follows done old waiting mid some → IsBelow (length mid) r → Marks r mid some new more → Follows (done ++ r ∷ []) old waiting new more
+pub one_followed : (done : List Rule) (old : List Bool) (waiting : List ℕ) (mid : List Bool) (some : List ℕ) (r : Rule)
+    (new : List Bool) (more : List ℕ)
+    → Follows done old waiting mid some → IsBelow (length mid) r → Marks r mid some new more
+    → Follows (done ++ r ∷ []) old waiting new more
 one_followed done old waiting mid some r new more p below m = by (is_ready mid r) refl m
   where
-    by : (b : Bool) → is_ready mid r ≡ b → (new ≡ cond b (set mid r.gives true) mid) × (more ≡ cond b (some ++ r.gives ∷ []) some) → Follows (done ++ r ∷ []) old waiting new more
+    by : (b : Bool) → is_ready mid r ≡ b → (new ≡ cond b (set mid r.gives true) mid)
+        × (more ≡ cond b (some ++ r.gives ∷ []) some) → Follows (done ++ r ∷ []) old waiting new more
     by true e (n, w) = rw (n, w) (marked_new done old waiting mid some r p below.2 e)
     by false e (n, w) = rw (n, w) (skipped done old waiting mid some r p e)
 
 -- what some of the rules mark is given by all of them
-pub sound_by_more : (few rules : List Rule) (old new : List Bool) → ((r : Rule) → Contains few r → Contains rules r) → IsSound few old new → IsSound rules old new
+pub sound_by_more : (few rules : List Rule) (old new : List Bool) → ((r : Rule) → Contains few r → Contains rules r)
+    → IsSound few old new → IsSound rules old new
 sound_by_more few rules old new more sound i h = given_by_more few rules old more i (sound i h)
 
 -- what is marked from what is given is given
-pub sound_again : (rules : List Rule) (start set new : List Bool) → IsSound rules start set → IsSound rules set new → IsSound rules start new
+pub sound_again : (rules : List Rule) (start set new : List Bool) → IsSound rules start set → IsSound rules set new
+    → IsSound rules start new
 sound_again rules start set new first second i h = given_again rules start set first i (second i h)
 
 -- ---- the whole
 
-pub begun : (rules : List Rule) (start : List Bool) (waiting : List ℕ) → Waits start waiting → Worked rules start start waiting
+pub begun : (rules : List Rule) (start : List Bool) (waiting : List ℕ) → Waits start waiting
+    → Worked rules start start waiting
 begun rules start waiting w = record {
   grows = λ i h. h;
   sound = λ i h. begins i h;
@@ -165,15 +183,20 @@ begun rules start waiting w = record {
 }
 
 module _ (rules : List Rule) (start old : List Bool) (waiting : List ℕ) (fact : ℕ) (new : List Bool) (more : List ℕ)
-    (w : Worked rules start old (waiting ++ fact ∷ [])) (p : Follows (rules_at (index_of (length start) rules) fact) old waiting new more) (below : AreBelow (length start) rules) where
+    (w : Worked rules start old (waiting ++ fact ∷ []))
+    (p : Follows (rules_at (index_of (length start) rules) fact) old waiting new more)
+    (below : AreBelow (length start) rules) where
   within : (r : Rule) → Contains (rules_at (index_of (length start) rules) fact) r → Contains rules r
   within r c = index_within (length start) rules fact r c
 
   -- a rule whose fact has just come has been followed
-  came : (r : Rule) → Contains rules r → (fact ≡ r.first) ⊎ (fact ≡ r.second) → has old r.first ≡ true → has old r.second ≡ true → has new r.gives ≡ true
+  came : (r : Rule) → Contains rules r → (fact ≡ r.first) ⊎ (fact ≡ r.second) → has old r.first ≡ true
+      → has old r.second ≡ true → has new r.gives ≡ true
   came r c is f s = elim is [
-    | inl e ↦ p.closed r (subst (λ j. Contains (rules_at (index_of (length start) rules) j) r) (sym e) (index_has (length start) rules r below c).0) f s
-    | inr e ↦ p.closed r (subst (λ j. Contains (rules_at (index_of (length start) rules) j) r) (sym e) (index_has (length start) rules r below c).1) f s
+    | inl e ↦ p.closed r (subst (λ j. Contains (rules_at (index_of (length start) rules) j) r) (sym e)
+        (index_has (length start) rules r below c).0) f s
+    | inr e ↦ p.closed r (subst (λ j. Contains (rules_at (index_of (length start) rules) j) r) (sym e)
+        (index_has (length start) rules r below c).1) f s
   ]
 
   abbrev Ends : Rule → Type 0
@@ -184,8 +207,10 @@ module _ (rules : List Rule) (start old : List Bool) (waiting : List ℕ) (fact 
   settled r c f s = elim (w.closed r c f s) [
     | inl g ↦ inl (p.grows r.gives g)
     | inr o ↦ elim o [
-      | inl x ↦ elim (Contains-push_cases waiting fact r.first x) [ inl x ↦ inr (inl (p.keeps r.first x)) | inr e ↦ inl (came r c (inl e) f s) ]
-      | inr x ↦ elim (Contains-push_cases waiting fact r.second x) [ inl x ↦ inr (inr (p.keeps r.second x)) | inr e ↦ inl (came r c (inr e) f s) ]
+      | inl x ↦ elim (Contains-push_cases waiting fact r.first x)
+          [ inl x ↦ inr (inl (p.keeps r.first x)) | inr e ↦ inl (came r c (inl e) f s) ]
+      | inr x ↦ elim (Contains-push_cases waiting fact r.second x)
+          [ inl x ↦ inr (inr (p.keeps r.second x)) | inr e ↦ inl (came r c (inr e) f s) ]
     ]
   ]
 
@@ -193,7 +218,8 @@ module _ (rules : List Rule) (start old : List Bool) (waiting : List ℕ) (fact 
   pub worked_on : Worked rules start new more
   worked_on = record {
     grows = λ i h. p.grows i (w.grows i h);
-    sound = λ i h. given_again rules start old w.sound i (given_by_more (rules_at (index_of (length start) rules) fact) rules old within i (p.sound i h));
+    sound = λ i h. given_again rules start old w.sound i
+        (given_by_more (rules_at (index_of (length start) rules) fact) rules old within i (p.sound i h));
     marked = λ i c. elim (p.marked i c) [
       | inl c ↦ p.grows i (w.marked i (Contains-append_left waiting (fact ∷ []) i c))
       | inr m ↦ m
@@ -205,18 +231,23 @@ module _ (rules : List Rule) (start old : List Bool) (waiting : List ℕ) (fact 
   }
 
 -- what waits is a fact
-pub waits_below : (rules : List Rule) (start set : List Bool) (waiting : List ℕ) (fact : ℕ) → Worked rules start set (waiting ++ fact ∷ []) → fact < length set
+pub waits_below : (rules : List Rule) (start set : List Bool) (waiting : List ℕ) (fact : ℕ)
+    → Worked rules start set (waiting ++ fact ∷ []) → fact < length set
 waits_below rules start set waiting fact w = has-below set fact (w.marked fact (Contains-push waiting fact))
 
 -- the rules of a fact are below what all are below
-pub followers_below : (rules : List Rule) (n fact : ℕ) → AreBelow n rules → AreBelow n (rules_at (index_of n rules) fact)
+pub followers_below : (rules : List Rule) (n fact : ℕ) → AreBelow n rules
+    → AreBelow n (rules_at (index_of n rules) fact)
 followers_below rules n fact below k d lt =
     let few : List Rule = rules_at (index_of n rules) fact in
-    All-contains (IsBelow n) rules (get_or few k d) below (index_within n rules fact (get_or few k d) (Contains-get_or few k d lt))
+    All-contains (IsBelow n) rules (get_or few k d) below
+    (index_within n rules fact (get_or few k d) (Contains-get_or few k d lt))
 
 -- nobody waits: what is marked is what is given
-pub all_given : (rules : List Rule) (start set : List Bool) → Worked rules start set [] → (i : ℕ) → (has set i ≡ true) ↔ IsGiven rules start i
+pub all_given : (rules : List Rule) (start set : List Bool) → Worked rules start set [] → (i : ℕ)
+    → (has set i ≡ true) ↔ IsGiven rules start i
 all_given rules start set w i = (
   w.sound i,
-  given_within rules start set w.grows (λ r c f s. elim (w.closed r c f s) [ inl g ↦ g | inr o ↦ elim o [ inl x ↦ absurd (in_none r.first x) | inr x ↦ absurd (in_none r.second x) ] ]) i,
+  given_within rules start set w.grows (λ r c f s. elim (w.closed r c f s)
+      [ inl g ↦ g | inr o ↦ elim o [ inl x ↦ absurd (in_none r.first x) | inr x ↦ absurd (in_none r.second x) ] ]) i,
 )

@@ -1,5 +1,6 @@
 -- How a worklist marks what rules give: each fact waits once, and its rules are looked at when it comes.
-use Rattle.std.specs.Prelude.{◌≡◌, ◌<◌, ◌+◌, ◌⊎◌, ℕ, Bool, true, false, not, ◌&&◌, cond, List, [], ◌∷◌, ◌++◌, Contains, slice_set, length}
+use Rattle.std.specs.Prelude.{◌≡◌, ◌<◌, ◌+◌, ◌⊎◌, ℕ, Bool, true, false, not, ◌&&◌, cond, List, [], ◌∷◌, ◌++◌, Contains}
+use Rattle.std.specs.Prelude.{slice_set, length}
 use Rattle.chains.specs.declared.rule.Rule.{Rule}
 use Rattle.chains.specs.Chains.{has, IsGiven}
 
@@ -17,7 +18,8 @@ is_ready set r = has set r.first && has set r.second && not (has set r.gives)
 
 -- one rule was followed
 abbrev pub Marks : Rule → List Bool → List ℕ → List Bool → List ℕ → Type 0
-Marks r old waiting new more = (new ≡ cond (is_ready old r) (slice_set old r.gives true) old) × (more ≡ cond (is_ready old r) (waiting ++ r.gives ∷ []) waiting)
+Marks r old waiting new more = (new ≡ cond (is_ready old r) (slice_set old r.gives true) old)
+    × (more ≡ cond (is_ready old r) (waiting ++ r.gives ∷ []) waiting)
 
 abbrev pub Grows : List Bool → List Bool → Type 0
 Grows old new = (i : ℕ) → has old i ≡ true → has new i ≡ true
@@ -32,7 +34,8 @@ pub record Waits (set : List Bool) (waiting : List ℕ) : Type 0 where
   pub marked : (i : ℕ) → Contains waiting i → has set i ≡ true
 
 -- rules were followed, one after another
-pub record Follows (rules : List Rule) (old : List Bool) (waiting : List ℕ) (new : List Bool) (more : List ℕ) : Type 0 where
+pub record Follows (rules : List Rule) (old : List Bool) (waiting : List ℕ) (new : List Bool)
+    (more : List ℕ) : Type 0 where
   pub grows : Grows old new
   pub keeps : (i : ℕ) → Contains waiting i → Contains more i
   pub new_wait : (i : ℕ) → has new i ≡ true → (has old i ≡ true) ⊎ Contains more i

@@ -57,7 +57,8 @@ fn follow(marked: &mut [bool], waiting: &mut Vec<usize>, rules: &[Rule]) -> Resu
 fn mark(marked: &mut [bool], waiting: &mut Vec<usize>, rule: &Rule) -> Result<(), AllocError>
     requires below { IsBelow (length marked.old) rule.now }
     ensures length { length marked.new ≡ length marked.old }
-    ensures marked { marked.new ≡ cond (is_ready marked.old rule.now) (slice_set marked.old rule.now.gives true) marked.old }
+    ensures marked { marked.new
+        ≡ cond (is_ready marked.old rule.now) (slice_set marked.old rule.now.gives true) marked.old }
     ensures marks { OnOk result (Marks rule.now marked.old waiting.old.items marked.new waiting.new.items) }
 {
     if is_ready(marked, rule) {

@@ -55,7 +55,8 @@ fn those<'a>(
     others: Option<&LockContent>,
     had: bool,
 ) -> Result<Vec<&'a Package>, AllocError>
-    ensures { IfOk result (λ v. lent_views v.items ≡ those (packages_of_old others.entry) had (package_views packages.entry.now)) }
+    ensures { IfOk result
+        (λ v. lent_views v.items ≡ those (packages_of_old others.entry) had (package_views packages.entry.now)) }
 {
     let mut found = Vec::new(alloc);
     'packages: for locked in packages.iter() {
@@ -71,7 +72,8 @@ fn put<'a>(
     others: Option<&LockContent>,
     had: bool,
 ) -> Result<(), AllocError>
-    ensures { OnOk result (lent_views found.new.items ≡ lent_views found.old.items ++ those (packages_of_old others.entry) had (package_view locked.entry.now ∷ [])) }
+    ensures { OnOk result (lent_views found.new.items ≡ lent_views found.old.items
+        ++ those (packages_of_old others.entry) had (package_view locked.entry.now ∷ [])) }
 {
     if is_one(locked, others, had) {
         found.push(locked)?;

@@ -36,7 +36,8 @@ pub fn reason_for(
     name: &PackageName,
     version: Option<&Version>,
 ) -> Result<Why, AllocError>
-    ensures { IfOk result (IsWhy content.now (is_own manifest.now) (is_meant name.now (option_map (λ v. parts_of v.now) version.entry))) }
+    ensures { IfOk result
+        (IsWhy content.now (is_own manifest.now) (is_meant name.now (option_map (λ v. parts_of v.now) version.entry))) }
 {
     let packages = content.packages();
     if !has_meant(packages, name, version) {
@@ -51,13 +52,15 @@ pub fn reason_for(
 }
 
 fn has_meant(packages: &[Package], name: &PackageName, version: Option<&Version>) -> bool
-    ensures { result ≡ list_any (is_meant name.now (option_map (λ v. parts_of v.now) version.entry)) (package_views packages.now) }
+    ensures { result
+        ≡ list_any (is_meant name.now (option_map (λ v. parts_of v.now) version.entry)) (package_views packages.now) }
 {
     some_meant(packages, name, version)
 }
 
 fn some_meant(packages: &[Package], name: &PackageName, version: Option<&Version>) -> bool
-    ensures { result ≡ list_any (λ p. is_meant name.now (option_map (λ v. parts_of v.now) version.entry) (package_view p)) packages.now }
+    ensures { result ≡ list_any (λ p.
+        is_meant name.now (option_map (λ v. parts_of v.now) version.entry) (package_view p)) packages.now }
 {
     packages
         .iter()
@@ -95,7 +98,8 @@ fn is_way(
     version: Option<&Version>,
     places: &[usize],
 ) -> bool
-    ensures { result ≡ is_way (package_views packages.now) (is_own manifest.now) (is_meant name.now (option_map (λ v. parts_of v.now) version.entry)) places.now }
+    ensures { result ≡ is_way (package_views packages.now) (is_own manifest.now)
+        (is_meant name.now (option_map (λ v. parts_of v.now) version.entry)) places.now }
 {
     match places.split_first() {
         Some((first, rest)) => {
@@ -124,7 +128,8 @@ fn leads(
     first: usize,
     rest: &[usize],
 ) -> bool
-    ensures { result ≡ leads (package_views packages.now) (is_meant name.now (option_map (λ v. parts_of v.now) version.entry)) first rest.now }
+    ensures { result ≡ leads (package_views packages.now)
+        (is_meant name.now (option_map (λ v. parts_of v.now) version.entry)) first rest.now }
 {
     let mut place = first;
     'rest: for next in rest.iter() {
@@ -138,7 +143,8 @@ fn leads(
 
 /// Whether a package that is meant stands at a place.
 fn ends(packages: &[Package], name: &PackageName, version: Option<&Version>, place: usize) -> bool
-    ensures { result ≡ holds_at (is_meant name.now (option_map (λ v. parts_of v.now) version.entry)) (slice_get (package_views packages.now) place) }
+    ensures { result ≡ holds_at (is_meant name.now (option_map (λ v. parts_of v.now) version.entry))
+        (slice_get (package_views packages.now) place) }
 {
     match packages.get(place) {
         Some(package) => is_meant(package, name, version),

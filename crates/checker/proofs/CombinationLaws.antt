@@ -1,5 +1,6 @@
 -- Terms that fit at each vertex that is spoken of are the combination.
-use Rattle.std.proofs.Common.{◌≡◌, List, Bool, true, false, cond, ◌&&◌, ◌||◌, is_some, Option, Some, None, refl, sym, ap, ◌∙◌, subst}
+use Rattle.std.proofs.Common.{◌≡◌, List, Bool, true, false, cond, ◌&&◌, ◌||◌, is_some, Option, Some, None, refl, sym}
+use Rattle.std.proofs.Common.{ap, ◌∙◌, subst}
 use Rattle.std.specs.List.{list_all}
 use Rattle.std.proofs.lemmas.Bool.{and_from}
 use Rattle.model.specs.Content.{Problem}
@@ -19,17 +20,21 @@ second_passes false b h = h
 
 module _ (q : Problem) (v : Vertex) (a b ts : List Term) where
   -- at the vertex of the combination
-  pub fits_there : (t : Term) → same_vertex v t.vertex ≡ true → same_at (states_at ts t.vertex) (union_at q v (states_at a t.vertex) (states_at b t.vertex)) ≡ fits q v a b ts t
+  pub fits_there : (t : Term) → same_vertex v t.vertex ≡ true
+      → same_at (states_at ts t.vertex) (union_at q v (states_at a t.vertex) (states_at b t.vertex)) ≡ fits q v a b ts t
   fits_there t e =
       let one : v ≡ t.vertex = vertex-same v t.vertex e in
       ap (same_at (states_at ts t.vertex))
       (ap (λ w. union_at q w (states_at a t.vertex) (states_at b t.vertex)) one
-      ∙ ap (λ x. cond x (union_at q t.vertex (states_at a t.vertex) (states_at b t.vertex)) (meet_at (states_at a t.vertex) (states_at b t.vertex))) (sym e))
+      ∙ ap (λ x. cond x (union_at q t.vertex (states_at a t.vertex) (states_at b t.vertex))
+      (meet_at (states_at a t.vertex) (states_at b t.vertex))) (sym e))
 
   -- and elsewhere
-  pub fits_elsewhere : (t : Term) → same_vertex v t.vertex ≡ false → same_at (states_at ts t.vertex) (meet_at (states_at a t.vertex) (states_at b t.vertex)) ≡ fits q v a b ts t
+  pub fits_elsewhere : (t : Term) → same_vertex v t.vertex ≡ false
+      → same_at (states_at ts t.vertex) (meet_at (states_at a t.vertex) (states_at b t.vertex)) ≡ fits q v a b ts t
   fits_elsewhere t e =
-      ap (same_at (states_at ts t.vertex)) (ap (λ x. cond x (union_at q t.vertex (states_at a t.vertex) (states_at b t.vertex)) (meet_at (states_at a t.vertex) (states_at b t.vertex))) (sym e))
+      ap (same_at (states_at ts t.vertex)) (ap (λ x. cond x (union_at q t.vertex (states_at a t.vertex)
+      (states_at b t.vertex)) (meet_at (states_at a t.vertex) (states_at b t.vertex))) (sym e))
 
   abbrev Fit : Vertex → Type 0
   Fit w = SameAt (states_at ts w) (combined_at q a b v w)
@@ -40,7 +45,8 @@ module _ (q : Problem) (v : Vertex) (a b ts : List Term) where
   silent : (w : Vertex) → states_at a w ≡ None → states_at b w ≡ None → combined_at q a b v w ≡ None
   silent w e f = by (same_vertex v w)
     where
-      by : (t : Bool) → cond t (union_at q w (states_at a w) (states_at b w)) (meet_at (states_at a w) (states_at b w)) ≡ None
+      by : (t : Bool)
+          → cond t (union_at q w (states_at a w) (states_at b w)) (meet_at (states_at a w) (states_at b w)) ≡ None
       by true = ap (λ o. union_at q w o (states_at b w)) e
       by false = rw (e, f) refl
 
@@ -51,18 +57,24 @@ module _ (q : Problem) (v : Vertex) (a b ts : List Term) where
   PassOthers us = list_all (fits_or_said q v a b ts) us ≡ true
 
   -- a term at whose vertex nothing is said
-  unsaid : (t : Term) (w : Vertex) → w ≡ t.vertex → states_at ts w ≡ None → fits_or_said q v a b ts t ≡ true → fits q v a b ts t ≡ true
+  unsaid : (t : Term) (w : Vertex) → w ≡ t.vertex → states_at ts w ≡ None → fits_or_said q v a b ts t ≡ true
+      → fits q v a b ts t ≡ true
   unsaid t w e none h = ap (λ o. is_some o || fits q v a b ts t) (sym (ap (states_at ts) (sym e) ∙ none)) ∙ h
 
-  to_at : Passes ts → PassOthers a → PassOthers b → (w : Vertex) (x y z : Option (List State)) → states_at ts w ≡ x → states_at a w ≡ y → states_at b w ≡ z → Fit w
-  to_at h k l w (Some ss) y z d e f = let r = term_at ts w ss d in fit_says r.0 w r.2 (all_at (fits q v a b ts) ts r.0 h r.1)
-  to_at h k l w None (Some ss) z d e f = let r = term_at a w ss e in fit_says r.0 w r.2 (unsaid r.0 w r.2 d (all_at (fits_or_said q v a b ts) a r.0 k r.1))
-  to_at h k l w None None (Some ss) d e f = let r = term_at b w ss f in fit_says r.0 w r.2 (unsaid r.0 w r.2 d (all_at (fits_or_said q v a b ts) b r.0 l r.1))
+  to_at : Passes ts → PassOthers a → PassOthers b → (w : Vertex) (x y z : Option (List State)) → states_at ts w ≡ x
+      → states_at a w ≡ y → states_at b w ≡ z → Fit w
+  to_at h k l w (Some ss) y z d e f = let r =
+      term_at ts w ss d in fit_says r.0 w r.2 (all_at (fits q v a b ts) ts r.0 h r.1)
+  to_at h k l w None (Some ss) z d e f = let r =
+      term_at a w ss e in fit_says r.0 w r.2 (unsaid r.0 w r.2 d (all_at (fits_or_said q v a b ts) a r.0 k r.1))
+  to_at h k l w None None (Some ss) d e f = let r =
+      term_at b w ss f in fit_says r.0 w r.2 (unsaid r.0 w r.2 d (all_at (fits_or_said q v a b ts) b r.0 l r.1))
   to_at h k l w None None None d e f = rw (d, silent w e f) tt
 
   to : all_fit q v a b ts ≡ true → IsCombined q v a b ts
   to h w =
-      let first = both (list_all (fits q v a b ts) ts) (list_all (fits_or_said q v a b ts) a && list_all (fits_or_said q v a b ts) b) h in
+      let first = both (list_all (fits q v a b ts) ts)
+      (list_all (fits_or_said q v a b ts) a && list_all (fits_or_said q v a b ts) b) h in
       let rest = both (list_all (fits_or_said q v a b ts) a) (list_all (fits_or_said q v a b ts) b) first.1 in
       to_at first.0 rest.0 rest.1 w (states_at ts w) (states_at a w) (states_at b w) refl refl refl
 
@@ -70,8 +82,11 @@ module _ (q : Problem) (v : Vertex) (a b ts : List Term) where
   from h =
       let each = λ (t : Term). (same_at-is (states_at ts t.vertex) (combined_at q a b v t.vertex)).1 (h t.vertex) in
       let others = λ (t : Term). second_passes (speaks_of ts t.vertex) (fits q v a b ts t) (each t) in
-      and_from (list_all (fits q v a b ts) ts) (list_all (fits_or_said q v a b ts) a && list_all (fits_or_said q v a b ts) b) (all_pass (fits q v a b ts) ts (λ t c. each t))
-      (and_from (list_all (fits_or_said q v a b ts) a) (list_all (fits_or_said q v a b ts) b) (all_pass (fits_or_said q v a b ts) a (λ t c. others t)) (all_pass (fits_or_said q v a b ts) b (λ t c. others t)))
+      and_from (list_all (fits q v a b ts) ts) (list_all (fits_or_said q v a b ts) a
+      && list_all (fits_or_said q v a b ts) b) (all_pass (fits q v a b ts) ts (λ t c. each t))
+      (and_from (list_all (fits_or_said q v a b ts) a) (list_all (fits_or_said q v a b ts) b)
+      (all_pass (fits_or_said q v a b ts) a (λ t c. others t))
+      (all_pass (fits_or_said q v a b ts) b (λ t c. others t)))
 
   pub all_fit_is : all_fit q v a b ts ≡ is_combination q v a b ts
   all_fit_is = one_test (all_fit q v a b ts) (is_combination q v a b ts)

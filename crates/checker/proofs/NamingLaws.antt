@@ -1,5 +1,6 @@
 -- What was gathered of steps, and that it is all that they name.
-use Rattle.std.proofs.Common.{◌≡◌, ℕ, suc, ◌+◌, ◌<◌, List, [], ◌∷◌, length, take, get_or, Result, Ok, Err, IfOk, sym, subst, arith}
+use Rattle.std.proofs.Common.{◌≡◌, ℕ, suc, ◌+◌, ◌<◌, List, [], ◌∷◌, length, take, get_or, Result, Ok, Err, IfOk, sym}
+use Rattle.std.proofs.Common.{subst, arith}
 use Rattle.std.proofs.Math.Seq.{take-suc}
 use Rattle.std.specs.List.{AllByRecursion}
 use Rattle.model.proofs.Accepted.{all-push}
@@ -13,30 +14,37 @@ use Rattle.checker.specs.Steps.{AreOrderedSteps, IsOrderedStep}
 use Rattle.checker.specs.declared.decoded.Decoded.{Decoded}
 use Rattle.checker.specs.declared.decoding.Decoding.{Decoding}
 
-each_weaker : {X : Type 0} (P Q : X → Type 0) → ((x : X) → P x → Q x) → (xs : List X) → AllByRecursion P xs → AllByRecursion Q xs
+each_weaker : {X : Type 0} (P Q : X → Type 0) → ((x : X) → P x → Q x) → (xs : List X)
+    → AllByRecursion P xs → AllByRecursion Q xs
 each_weaker P Q f [] h = tt
 each_weaker P Q f (x ∷ xs) h = (f x h.0, each_weaker P Q f xs h.1)
 
 -- one more of a list, where what held before still holds
-each_more : {X : Type 0} (P Q : X → Type 0) → ((x : X) → P x → Q x) → (xs : List X) (i : ℕ) (d : X) → i < length xs → AllByRecursion P (take i xs) → Q (get_or xs i d) → AllByRecursion Q (take (i + 1) xs)
+each_more : {X : Type 0} (P Q : X → Type 0) → ((x : X) → P x → Q x) → (xs : List X) (i : ℕ) (d : X) → i < length xs
+    → AllByRecursion P (take i xs) → Q (get_or xs i d) → AllByRecursion Q (take (i + 1) xs)
 each_more P Q f xs i d lt so_far here =
     let next : suc i ≡ i + 1 = omega arith in
-    subst (λ n. AllByRecursion Q (take n xs)) next (subst (AllByRecursion Q) (sym (take-suc xs i d lt)) (all-push Q (take i xs) (get_or xs i d) (each_weaker P Q f (take i xs) so_far) here))
+    subst (λ n. AllByRecursion Q (take n xs)) next (subst (AllByRecursion Q) (sym (take-suc xs i d lt))
+    (all-push Q (take i xs) (get_or xs i d) (each_weaker P Q f (take i xs) so_far) here))
 
-grown_more : (t u : TablesView) (first old new : Decoding) → u ≡ t → IsGrown t first old → IsGrown u old new → IsGrown t first new
+grown_more : (t u : TablesView) (first old new : Decoding) → u ≡ t → IsGrown t first old
+    → IsGrown u old new → IsGrown t first new
 grown_more t u first old new e g h = record {
   sound = (subst (λ t. IsGrown t old new) e h).sound;
   stays = λ x named. (subst (λ t. IsGrown t old new) e h).stays x (g.stays x named);
 }
 
-pub named_more : (t u : TablesView) (first old new : Decoding) (terms : List Term) (i : ℕ) (d : Term) → u ≡ t → i < length terms → IsGrown t first old → AreNamed t old (take i terms)
+pub named_more : (t u : TablesView) (first old new : Decoding) (terms : List Term) (i : ℕ) (d : Term) → u ≡ t
+    → i < length terms → IsGrown t first old → AreNamed t old (take i terms)
     → IsGrown u old new → IsNamed u new (get_or terms i d) → IsGrown t first new × AreNamed t new (take (i + 1) terms)
 named_more t u first old new terms i d e lt g so_far h here = (
   grown_more t u first old new e g h,
-  each_more (IsNamed t old) (IsNamed t new) (subst (λ t. IsGrown t old new) e h).stays terms i d lt so_far (subst (λ t. IsNamed t new (get_or terms i d)) e here),
+  each_more (IsNamed t old) (IsNamed t new) (subst (λ t. IsGrown t old new) e h).stays terms i d lt so_far
+      (subst (λ t. IsNamed t new (get_or terms i d)) e here),
 )
 
-pub named_steps_more : (t u : TablesView) (old new : Decoding) (steps : List Step) (i : ℕ) (d : Step) → u ≡ t → i < length steps → AreNamedSteps t old (take i steps)
+pub named_steps_more : (t u : TablesView) (old new : Decoding) (steps : List Step) (i : ℕ) (d : Step) → u ≡ t
+    → i < length steps → AreNamedSteps t old (take i steps)
     → IsGrown u old new → AreNamed u new (get_or steps i d).terms.items → AreNamedSteps t new (take (i + 1) steps)
 named_steps_more t u old new steps i d e lt so_far h here =
     each_more (λ s. AreNamed t old s.terms.items) (λ s. AreNamed t new s.terms.items)
@@ -45,7 +53,8 @@ named_steps_more t u old new steps i d e lt so_far h here =
 
 -- ---- what is at hand in the end
 
-module _ (t : TablesView) (g : Decoding) (d : Decoded) (same : tables_of d ≡ t) (bound : length d.ranks.items ≡ length g.texts.items) (sets : d.sets.items ≡ g.sets.items) where
+module _ (t : TablesView) (g : Decoding) (d : Decoded) (same : tables_of d ≡ t)
+    (bound : length d.ranks.items ≡ length g.texts.items) (sets : d.sets.items ≡ g.sets.items) where
   term_ready : (x : Term) → IsNamed t g x → IsReady d x
   term_ready x h = (
     subst (λ n. x.vertex < n) (sym bound) h.0,
@@ -55,10 +64,14 @@ module _ (t : TablesView) (g : Decoding) (d : Decoded) (same : tables_of d ≡ t
   steps_ready : (steps : List Step) → AreOrderedSteps t steps → AreNamedSteps t g steps → AreReadySteps d steps
   steps_ready [] ordered named = tt
   steps_ready (s ∷ steps) ordered named =
-      let this : IsOrderedStep (tables_of d) s = subst (λ t. IsOrderedStep t s) (sym same) ordered.0 in
-      ((this.0, (each_weaker (IsNamed t g) (IsReady d) term_ready s.terms.items named.0, (this.1).1)), steps_ready steps ordered.1 named.1)
+      let this : IsOrderedStep (tables_of d) s = subst (λ t. IsOrderedStep t s) (sym same) ordered.0 in (
+        (this.0, (each_weaker (IsNamed t g) (IsReady d) term_ready s.terms.items named.0, (this.1).1)),
+        steps_ready steps ordered.1 named.1,
+      )
 
-pub all_ready : {E : Type 0} (t : TablesView) (g : Decoding) (r : Result Decoded E) (steps : List Step) → AreOrderedSteps t steps → AreNamedSteps t g steps
-    → IfOk r (λ d. tables_of d ≡ t) → IfOk r (λ d. length d.ranks.items ≡ length g.texts.items) → IfOk r (λ d. d.sets.items ≡ g.sets.items) → IfOk r (λ d. AreReadySteps d steps)
+pub all_ready : {E : Type 0} (t : TablesView) (g : Decoding) (r : Result Decoded E) (steps : List Step)
+    → AreOrderedSteps t steps → AreNamedSteps t g steps
+    → IfOk r (λ d. tables_of d ≡ t) → IfOk r (λ d. length d.ranks.items ≡ length g.texts.items)
+    → IfOk r (λ d. d.sets.items ≡ g.sets.items) → IfOk r (λ d. AreReadySteps d steps)
 all_ready t g (Ok d) steps ordered named same bound sets = steps_ready t g d same bound sets steps ordered named
 all_ready t g (Err e) steps ordered named same bound sets = tt

@@ -1,5 +1,6 @@
 -- What the function that gives the first refused step means: which step is the first that isn't accepted.
-use Rattle.std.proofs.Common.{◌≡◌, ◌↔◌, inl, inr, ℕ, suc, ◌+◌, ◌-◌, List, [], ◌∷◌, ◌++◌, Bool, true, false, cond, Option, Some, None, slice_get, length, refl, sym, ap, ap₂, ◌∙◌, subst, true≢false, arith}
+use Rattle.std.proofs.Common.{◌≡◌, ◌↔◌, inl, inr, ℕ, suc, ◌+◌, ◌-◌, List, [], ◌∷◌, ◌++◌, Bool, true, false, cond}
+use Rattle.std.proofs.Common.{Option, Some, None, slice_get, length, refl, sym, ap, ap₂, ◌∙◌, subst, true≢false, arith}
 use Rattle.std.specs.Option.{option_or}
 use Rattle.std.proofs.lemmas.List.{append-nil, append_assoc}
 use Rattle.std.proofs.lemmas.Option.{none-some, same_Some}
@@ -7,7 +8,8 @@ use Rattle.model.specs.Content.{Problem}
 use Rattle.model.specs.Axioms.{AreApart}
 use Rattle.model.specs.Derivation.{Step, given, combine, terms_of, IsStep, AreSteps, none_yet, one_more, IsAccepted}
 use Rattle.refutations.specs.Checks as model
-use Rattle.refutations.specs.Checks.{RefusedStep, ArePlain, combines, is_step, reason_of, first_refused, is_none_left, end_if, end_refused, refused_step, not_an_axiom, not_combined, not_final}
+use Rattle.refutations.specs.Checks.{RefusedStep, ArePlain, combines, is_step, reason_of, first_refused, is_none_left}
+use Rattle.refutations.specs.Checks.{end_if, end_refused, refused_step, not_an_axiom, not_combined, not_final}
 use Rattle.refutations.proofs.Accepting.{refused-is}
 use Rattle.refutations.proofs.Found.{instance-is}
 use Rattle.refutations.proofs.Sets.{is_combination-is}
@@ -44,7 +46,8 @@ module _ (q : Problem) where
   step_is earlier (given k ts) apart h = (instance-is q k ts apart).0 h
   step_is earlier (combine i j v ts) apart h = by (slice_get earlier i) (slice_get earlier j) refl refl h
     where
-      by : (a b : Option Step) → slice_get earlier i ≡ a → slice_get earlier j ≡ b → combines q v a b ts ≡ true → IsStep q earlier (combine i j v ts)
+      by : (a b : Option Step) → slice_get earlier i ≡ a → slice_get earlier j ≡ b → combines q v a b ts ≡ true
+          → IsStep q earlier (combine i j v ts)
       by (Some a) (Some b) e f h = (a, b, e, f, (is_combination-is q v (terms_of a) (terms_of b) ts).0 h)
       by (Some a) None e f h = absurd (true≢false (sym h))
       by None b e f h = absurd (true≢false (sym h))
@@ -60,9 +63,14 @@ module _ (q : Problem) where
   Each earlier [] = Unit {0}
   Each earlier (s ∷ steps) = IsStep q earlier s × Each (earlier ++ s ∷ []) steps
 
-  each_more : (earlier before : List Step) (s : Step) → Each earlier before → IsStep q (earlier ++ before) s → Each earlier (before ++ s ∷ [])
+  each_more : (earlier before : List Step) (s : Step) → Each earlier before → IsStep q (earlier ++ before) s
+      → Each earlier (before ++ s ∷ [])
   each_more earlier [] s h is = (subst (λ l. IsStep q l s) (append-nil earlier) is, tt)
-  each_more earlier (b ∷ before) s h is = (h.0, each_more (earlier ++ b ∷ []) before s h.1 (subst (λ l. IsStep q l s) (sym (append_assoc earlier (b ∷ []) before)) is))
+  each_more earlier (b ∷ before) s h is = (
+    h.0,
+    each_more (earlier ++ b ∷ []) before s h.1
+        (subst (λ l. IsStep q l s) (sym (append_assoc earlier (b ∷ []) before)) is),
+  )
 
   each_of : (steps : List Step) → AreSteps q steps → Each [] steps
   each_of steps none_yet = tt
@@ -71,51 +79,66 @@ module _ (q : Problem) where
   first_none : (earlier rest : List Step) → ArePlain rest → Each earlier rest → first_refused q earlier rest ≡ None
   first_none earlier [] plain h = refl
   first_none earlier (s ∷ rest) plain h =
-      ap (λ b. cond b (first_refused q (earlier ++ s ∷ []) rest) (Some (length earlier, reason_of s))) (passes earlier s plain.0 h.0)
+      ap (λ b. cond b (first_refused q (earlier ++ s ∷ []) rest) (Some (length earlier, reason_of s)))
+      (passes earlier s plain.0 h.0)
       ∙ first_none (earlier ++ s ∷ []) rest plain.1 h.1
 
-  first_at : (earlier before : List Step) (s : Step) (after : List Step) → ArePlain (before ++ s ∷ after) → Each earlier before → (IsStep q (earlier ++ before) s → ⊥)
+  first_at : (earlier before : List Step) (s : Step) (after : List Step) → ArePlain (before ++ s ∷ after)
+      → Each earlier before → (IsStep q (earlier ++ before) s → ⊥)
       → first_refused q earlier (before ++ s ∷ after) ≡ Some (length (earlier ++ before), reason_of s)
   first_at earlier [] s after plain h wrong = by (is_step q earlier s) refl
     where
-      by : (b : Bool) → is_step q earlier s ≡ b → cond b (first_refused q (earlier ++ s ∷ []) after) (Some (length earlier, reason_of s)) ≡ Some (length (earlier ++ []), reason_of s)
+      by : (b : Bool) → is_step q earlier s ≡ b → cond b (first_refused q (earlier ++ s ∷ []) after)
+          (Some (length earlier, reason_of s)) ≡ Some (length (earlier ++ []), reason_of s)
       by true t = absurd (wrong (subst (λ l. IsStep q l s) (sym (append-nil earlier)) (step_is earlier s plain.0 t)))
       by false t = ap (λ l. Some (length l, reason_of s)) (sym (append-nil earlier))
   first_at earlier (b ∷ before) s after plain h wrong =
       let same = append_assoc earlier (b ∷ []) before in
-      ap (λ t. cond t (first_refused q (earlier ++ b ∷ []) (before ++ s ∷ after)) (Some (length earlier, reason_of b))) (passes earlier b plain.0 h.0)
+      ap (λ t. cond t (first_refused q (earlier ++ b ∷ []) (before ++ s ∷ after)) (Some (length earlier, reason_of b)))
+      (passes earlier b plain.0 h.0)
       ∙ first_at (earlier ++ b ∷ []) before s after plain.1 h.1 (λ is. wrong (subst (λ l. IsStep q l s) same is))
       ∙ ap (λ l. Some (length l, reason_of s)) same
 
   -- all are accepted, or those before this one
   abbrev Told : List Step → Option RefusedStep → Type 0
   Told steps None = AreSteps q steps
-  Told steps (Some r) = (before after : List Step) × (s : Step) × (steps ≡ before ++ s ∷ after) × (r ≡ (length before, reason_of s)) × AreSteps q before × (IsStep q before s → ⊥)
+  Told steps (Some r) = (before after : List Step) × (s : Step) × (steps ≡ before ++ s ∷ after)
+      × (r ≡ (length before, reason_of s)) × AreSteps q before × (IsStep q before s → ⊥)
 
-  told : (earlier rest : List Step) → ArePlain rest → AreSteps q earlier → Told (earlier ++ rest) (first_refused q earlier rest)
+  told : (earlier rest : List Step) → ArePlain rest → AreSteps q earlier
+      → Told (earlier ++ rest) (first_refused q earlier rest)
   told earlier [] plain are = subst (AreSteps q) (sym (append-nil earlier)) are
   told earlier (s ∷ rest) plain are = by (told (earlier ++ s ∷ []) rest plain.1) (is_step q earlier s) refl
     where
-      by : (AreSteps q (earlier ++ s ∷ []) → Told ((earlier ++ s ∷ []) ++ rest) (first_refused q (earlier ++ s ∷ []) rest)) → (b : Bool) → is_step q earlier s ≡ b
-          → Told (earlier ++ s ∷ rest) (cond b (first_refused q (earlier ++ s ∷ []) rest) (Some (length earlier, reason_of s)))
-      by others true t = subst (λ l. Told l (first_refused q (earlier ++ s ∷ []) rest)) (append_assoc earlier (s ∷ []) rest) (others (one_more earlier s are (step_is earlier s plain.0 t)))
-      by others false t = (earlier, rest, s, refl, refl, are, (λ is. true≢false (sym (passes earlier s plain.0 is) ∙ t)))
+      by : (AreSteps q (earlier ++ s ∷ []) → Told ((earlier ++ s ∷ []) ++ rest)
+          (first_refused q (earlier ++ s ∷ []) rest)) → (b : Bool) → is_step q earlier s ≡ b
+          → Told (earlier ++ s ∷ rest)
+          (cond b (first_refused q (earlier ++ s ∷ []) rest) (Some (length earlier, reason_of s)))
+      by others true t = subst (λ l. Told l (first_refused q (earlier ++ s ∷ []) rest))
+          (append_assoc earlier (s ∷ []) rest) (others (one_more earlier s are (step_is earlier s plain.0 t)))
+      by others false t =
+          (earlier, rest, s, refl, refl, are, (λ is. true≢false (sym (passes earlier s plain.0 is) ∙ t)))
 
   -- ---- the end
 
-  ends : (n : ℕ) (steps : List Step) (r : RefusedStep) → end_refused n steps ≡ Some r → r ≡ (n + (length steps - 1), not_final)
-  ends n [] r e = let place : n ≡ n + (0 - 1) = omega arith in sym (same_Some (n, not_final) r e) ∙ ap (λ k. (k, not_final)) place
+  ends : (n : ℕ) (steps : List Step) (r : RefusedStep) → end_refused n steps ≡ Some r
+      → r ≡ (n + (length steps - 1), not_final)
+  ends n [] r e = let place : n ≡ n + (0 - 1) =
+      omega arith in sym (same_Some (n, not_final) r e) ∙ ap (λ k. (k, not_final)) place
   ends n (s ∷ []) r e = by (is_none_left (terms_of s)) e
     where
       by : (b : Bool) → end_if n b ≡ Some r → r ≡ (n + (1 - 1), not_final)
       by true h = absurd (none-some r h)
-      by false h = let place : n ≡ n + (1 - 1) = omega arith in sym (same_Some (n, not_final) r h) ∙ ap (λ k. (k, not_final)) place
+      by false h = let place : n ≡ n + (1 - 1) =
+          omega arith in sym (same_Some (n, not_final) r h) ∙ ap (λ k. (k, not_final)) place
   ends n (s ∷ t ∷ steps) r e =
       let place : suc n + (length (t ∷ steps) - 1) ≡ n + (length (s ∷ t ∷ steps) - 1) = omega arith in
       ends (suc n) (t ∷ steps) r e ∙ ap (λ k. (k, not_final)) place
 
-  ends_at_last : (steps : List Step) (r : RefusedStep) → end_refused 0 steps ≡ Some r → r ≡ (length steps - 1, not_final)
-  ends_at_last steps r e = let place : 0 + (length steps - 1) ≡ length steps - 1 = omega arith in ends 0 steps r e ∙ ap (λ k. (k, not_final)) place
+  ends_at_last : (steps : List Step) (r : RefusedStep) → end_refused 0 steps ≡ Some r
+      → r ≡ (length steps - 1, not_final)
+  ends_at_last steps r e = let place : 0 + (length steps - 1) ≡ length steps - 1 =
+      omega arith in ends 0 steps r e ∙ ap (λ k. (k, not_final)) place
 
   -- ---- the whole derivation
 
@@ -123,7 +146,8 @@ module _ (q : Problem) where
   as_refused n r = (n, r)
 
   module _ (steps : List Step) (plain : ArePlain steps) where
-    refused_told : (n : ℕ) (r : Reason) (x y : Option RefusedStep) → Told steps x → first_refused q [] steps ≡ x → end_refused 0 steps ≡ y → option_or x y ≡ Some (n, reason_view r) → IsRefusedAt q steps n r
+    refused_told : (n : ℕ) (r : Reason) (x y : Option RefusedStep) → Told steps x → first_refused q [] steps ≡ x
+        → end_refused 0 steps ≡ y → option_or x y ≡ Some (n, reason_view r) → IsRefusedAt q steps n r
     refused_told n r (Some p) y t e f h =
         let same : (n, reason_view r) ≡ (length t.0, reason_of t.2) = sym (same_Some p (n, reason_view r) h) ∙ t.4 in
         inl (record {
@@ -137,7 +161,8 @@ module _ (q : Problem) where
           why = same_reason r (reason_for t.2) (ap (λ (p : RefusedStep). p.1) same ∙ sym (reason_is t.2));
         })
     refused_told n r None (Some p) t e f h =
-        let same : (n, reason_view r) ≡ (length steps - 1, not_final) = sym (same_Some p (n, reason_view r) h) ∙ ends_at_last steps p f in
+        let same : (n, reason_view r) ≡ (length steps - 1, not_final) =
+        sym (same_Some p (n, reason_view r) h) ∙ ends_at_last steps p f in
         inr (record {
           accepted = t;
           unended = λ a. none-some p (sym ((refused-is q steps plain).1 a) ∙ ap₂ option_or e f);
@@ -148,8 +173,10 @@ module _ (q : Problem) where
 
     refused_where : (n : ℕ) (r : Reason) → IsRefusedAt q steps n r → refused_step q steps ≡ Some (n, reason_view r)
     refused_where n r (inl h) =
-        let found = ap (first_refused q []) h.whole ∙ first_at [] h.before h.step h.after (subst ArePlain h.whole plain) (each_of h.before h.accepted) h.refused in
-        ap (λ o. option_or o (end_refused 0 steps)) found ∙ sym (ap Some (ap₂ as_refused h.number (ap reason_view h.why ∙ reason_is h.step)))
+        let found = ap (first_refused q []) h.whole ∙ first_at [] h.before h.step h.after
+        (subst ArePlain h.whole plain) (each_of h.before h.accepted) h.refused in
+        ap (λ o. option_or o (end_refused 0 steps)) found
+        ∙ sym (ap Some (ap₂ as_refused h.number (ap reason_view h.why ∙ reason_is h.step)))
     refused_where n r (inr h) = none ∙ by (end_refused 0 steps) refl
       where
         none : refused_step q steps ≡ end_refused 0 steps
@@ -180,6 +207,7 @@ module _ (q : Problem) where
       -- and refuses exactly the first step that isn't
       pub refuses_where : (n : ℕ) (r : Reason) → c ≡ Refused n r ↔ IsRefusedAt q steps n r
       refuses_where n r = (
-        λ e. refused_told n r (first_refused q [] steps) (end_refused 0 steps) (told [] steps plain none_yet) refl refl (sym answer ∙ ap check_view e),
+        λ e. refused_told n r (first_refused q [] steps) (end_refused 0 steps)
+            (told [] steps plain none_yet) refl refl (sym answer ∙ ap check_view e),
         λ h. refused_as c n r (answer ∙ refused_where n r h),
       )

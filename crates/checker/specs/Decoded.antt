@@ -1,6 +1,7 @@
 -- When what the numbers of steps stand for is at hand: an order of the vertices, and the sets of states (the layout is
 -- this project's).
-use Rattle.std.specs.Prelude.{◌≡◌, ℕ, ◌<◌, ◌≤◌, List, [], filter, length, slice_index_or, Option, Some, None, option_map}
+use Rattle.std.specs.Prelude.{◌≡◌, ℕ, ◌<◌, ◌≤◌, List, [], filter, length, slice_index_or, Option, Some, None}
+use Rattle.std.specs.Prelude.{option_map}
 use Rattle.std.specs.Ordering.{is_lt, nat_cmp}
 use Rattle.model.specs.Order.{text_cmp}
 use Rattle.model.specs.Vertices as model
@@ -22,11 +23,13 @@ text_at texts n = slice_index_or texts n []
 -- two compare as the texts do
 pub record AreRanks (texts : List (List ℕ)) (ranks : List ℕ) : Type 0 where
   pub same : length ranks ≡ length texts
-  pub order : (n m : ℕ) → n < length ranks → m < length ranks → nat_cmp (rank_at ranks n) (rank_at ranks m) ≡ text_cmp (text_at texts n) (text_at texts m)
+  pub order : (n m : ℕ) → n < length ranks → m < length ranks
+      → nat_cmp (rank_at ranks n) (rank_at ranks m) ≡ text_cmp (text_at texts n) (text_at texts m)
 
 -- as the texts of the vertices of these numbers do
 abbrev pub AreVertexRanks : TablesView → List ℕ → Type 0
-AreVertexRanks t ranks = (n m : ℕ) → n < length ranks → m < length ranks → nat_cmp (rank_at ranks n) (rank_at ranks m) ≡ text_cmp (vertex_text (vertex_at t n)) (vertex_text (vertex_at t m))
+AreVertexRanks t ranks = (n m : ℕ) → n < length ranks → m < length ranks
+    → nat_cmp (rank_at ranks n) (rank_at ranks m) ≡ text_cmp (vertex_text (vertex_at t n)) (vertex_text (vertex_at t m))
 
 -- ---- sets of states
 
@@ -51,4 +54,5 @@ AreSets t sets = (n : ℕ) (ss : List model.State) → slice_index_or sets n Non
 -- ---- texts of vertices, from the first on
 
 abbrev pub AreTexts : TablesView → List (List ℕ) → Type 0
-AreTexts t texts = (length texts ≤ length t.vertices) × ((n : ℕ) → n < length texts → text_at texts n ≡ vertex_text (vertex_at t n))
+AreTexts t texts =
+    (length texts ≤ length t.vertices) × ((n : ℕ) → n < length texts → text_at texts n ≡ vertex_text (vertex_at t n))

@@ -14,7 +14,8 @@ use Rattle.checker.specs.declared.preparing.Prepared.TheVariants as prepared
 
 -- of an axiom: the terms as they are looked up, and the instance that they can be of
 abbrev pub IsPreparedBy : Problem → List Term → Origin → Prepared → Type 0
-IsPreparedBy q ts (Axiom k) (prepared.Axiom terms candidate) = (term_views terms.items ≡ ts) × IsFound q (kind_view k) ts candidate
+IsPreparedBy q ts (Axiom k) (prepared.Axiom terms candidate) =
+    (term_views terms.items ≡ ts) × IsFound q (kind_view k) ts candidate
 IsPreparedBy q ts (Axiom k) prepared.Combination = ⊥
 IsPreparedBy q ts (Combination a b v) p = ⊤
 

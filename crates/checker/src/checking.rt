@@ -40,9 +40,12 @@ pub fn check(
     catalogue: &Catalogue,
     derivation: &Derivation,
 ) -> Result<Check, AllocError>
-    ensures proves { IfOk result (λ c. c ≡ Check.Proves ↔ IsAccepted (problem_in manifest.now catalogue.now) derivation.now) }
-    ensures refused { IfOk result (λ c. (n : ℕ) (r : Reason) → c ≡ Check.Refused n r ↔ IsRefusedAt (problem_in manifest.now catalogue.now) derivation.now n r) }
-    ensures refutes { IfOk result (λ c. c ≡ Check.Proves → (content : Content) → IsValidSelection (problem_in manifest.now catalogue.now) content → ⊥) }
+    ensures proves { IfOk result
+        (λ c. c ≡ Check.Proves ↔ IsAccepted (problem_in manifest.now catalogue.now) derivation.now) }
+    ensures refused { IfOk result (λ c. (n : ℕ) (r : Reason)
+        → c ≡ Check.Refused n r ↔ IsRefusedAt (problem_in manifest.now catalogue.now) derivation.now n r) }
+    ensures refutes { IfOk result (λ c. c ≡ Check.Proves → (content : Content)
+        → IsValidSelection (problem_in manifest.now catalogue.now) content → ⊥) }
 {
     catalogues_are_well_formed(manifest, catalogue);
     unrefused_derivations_refute();
@@ -56,7 +59,8 @@ fn refused_step_of<'a>(
     catalogue: &'a Catalogue,
     derivation: &'a Derivation,
 ) -> Result<Check, AllocError>
-    ensures refused_step { IfOk result (λ c. check_view c ≡ refused_step (problem_in manifest.now catalogue.now) derivation.now) }
+    ensures refused_step { IfOk result
+        (λ c. check_view c ≡ refused_step (problem_in manifest.now catalogue.now) derivation.now) }
     ensures derivation { IsDerivation derivation.now }
 {
     let (tables, steps) = derivation.parts();
@@ -89,7 +93,8 @@ fn first_refused<'a>(
     steps: &[Step],
 ) -> Result<Check, AllocError>
     requires { AreReadySteps decoded.now steps.now }
-    ensures { IfOk result (λ c. check_view c ≡ first_refused (problem_of gathered.old) [] (steps_at (tables_of decoded.now) steps.now)) }
+    ensures { IfOk result
+        (λ c. check_view c ≡ first_refused (problem_of gathered.old) [] (steps_at (tables_of decoded.now) steps.now)) }
 {
     'steps: for (number, step) in steps.iter().enumerate() {
         let prepared = prepare(alloc, gathered, decoded, step)?;
@@ -114,7 +119,8 @@ fn is_step<'a>(
     requires earlier { AreReadySteps decoded.now earlier.now }
     requires step { IsReadyStep decoded.now step.now }
     requires prepared { IsPrepared (problem_of gathered.now) (tables_of decoded.now) step.now prepared.now }
-    ensures { result ≡ is_step (problem_of gathered.now) (steps_at (tables_of decoded.now) earlier.now) (step_at (tables_of decoded.now) step.now) }
+    ensures { result ≡ is_step (problem_of gathered.now) (steps_at (tables_of decoded.now) earlier.now)
+        (step_at (tables_of decoded.now) step.now) }
 {
     match &step.origin {
         Origin::Axiom(_) => is_instance(gathered, prepared),
@@ -138,7 +144,8 @@ fn is_step<'a>(
 }
 
 fn reason_of(origin: &Origin) -> Reason
-    ensures { (t : TablesView) (terms : List axioms.Term) → reason_view result ≡ reason_of (step_by_origin t origin.now terms) }
+    ensures { (t : TablesView) (terms : List axioms.Term)
+        → reason_view result ≡ reason_of (step_by_origin t origin.now terms) }
 {
     match origin {
         Origin::Axiom(_) => Reason::NotAnAxiom,

@@ -5,7 +5,8 @@ ghost use Rattle.std.specs.List.{AllByRecursion, list_all};
 ghost use Rattle.model.specs.Derivation.{both, meet_at, union_at};
 ghost use Rattle.refutations.specs.Terms.{same_at, same_states};
 ghost use Rattle.derivations.specs.Tables.{term_at, terms_at};
-ghost use Rattle.checker.specs.Claims.{IsSound, claim_first, claim_problem, claim_second, claim_tables, claim_vertex, fits_claim, fits_or_said_claim, is_right};
+ghost use Rattle.checker.specs.Claims.{IsSound, claim_first, claim_problem, claim_second, claim_tables, claim_vertex};
+ghost use Rattle.checker.specs.Claims.{fits_claim, fits_or_said_claim, is_right};
 ghost use Rattle.checker.specs.Decoded.{IsMade, named_set, set_if};
 ghost use Rattle.checker.specs.Ready.{IsReady, IsSetIf, tables_of};
 
@@ -39,7 +40,8 @@ impl<'s, 'a> Claim<'s, 'a> {
     /// Whether nothing is left out at the vertices of both.
     fn others_fit(&self) -> bool
         requires { IsSound self.now }
-        ensures { result ≡ (list_all (fits_or_said_claim self.now) (claim_first self.now) && list_all (fits_or_said_claim self.now) (claim_second self.now)) }
+        ensures { result ≡ (list_all (fits_or_said_claim self.now) (claim_first self.now)
+            && list_all (fits_or_said_claim self.now) (claim_second self.now)) }
     {
         self.all_fit_or_said(self.first) && self.all_fit_or_said(self.second)
     }
@@ -106,7 +108,8 @@ impl<'s, 'a> Claim<'s, 'a> {
         requires a { IsSetIf self.now.decoded.now a }
         requires b { IsSetIf self.now.decoded.now b }
         requires said { IsSetIf self.now.decoded.now said }
-        ensures { result ≡ same_at (set_if (claim_tables self.now) said) (union_at (claim_problem self.now) (claim_vertex self.now) (set_if (claim_tables self.now) a) (set_if (claim_tables self.now) b)) }
+        ensures { result ≡ same_at (set_if (claim_tables self.now) said) (union_at (claim_problem self.now)
+            (claim_vertex self.now) (set_if (claim_tables self.now) a) (set_if (claim_tables self.now) b)) }
     {
         match (a, b) {
             (Some(a), Some(b)) => self.is_union_of(a, b, said),
@@ -119,7 +122,9 @@ impl<'s, 'a> Claim<'s, 'a> {
         requires a { IsMade (claim_tables self.now) self.now.decoded.now.sets.items a }
         requires b { IsMade (claim_tables self.now) self.now.decoded.now.sets.items b }
         requires said { IsSetIf self.now.decoded.now said }
-        ensures { result ≡ same_at (set_if (claim_tables self.now) said) (union_at (claim_problem self.now) (claim_vertex self.now) (Some (named_set (claim_tables self.now) a)) (Some (named_set (claim_tables self.now) b))) }
+        ensures { result
+            ≡ same_at (set_if (claim_tables self.now) said) (union_at (claim_problem self.now) (claim_vertex self.now)
+            (Some (named_set (claim_tables self.now) a)) (Some (named_set (claim_tables self.now) b))) }
     {
         let (a, b) = (self.decoded.set(a), self.decoded.set(b));
         let vertex = self.decoded.vertex(self.vertex);
@@ -138,7 +143,8 @@ fn is_meet(decoded: &Decoded<'_>, a: Option<usize>, b: Option<usize>, said: Opti
     requires a { IsSetIf decoded.now a }
     requires b { IsSetIf decoded.now b }
     requires said { IsSetIf decoded.now said }
-    ensures { result ≡ same_at (set_if (tables_of decoded.now) said) (meet_at (set_if (tables_of decoded.now) a) (set_if (tables_of decoded.now) b)) }
+    ensures { result ≡ same_at (set_if (tables_of decoded.now) said)
+        (meet_at (set_if (tables_of decoded.now) a) (set_if (tables_of decoded.now) b)) }
 {
     match (said, a, b) {
         (Some(said), Some(a), Some(b)) => is_meet_of(decoded, a, b, said),
@@ -153,7 +159,8 @@ fn is_meet_of(decoded: &Decoded<'_>, a: usize, b: usize, said: usize) -> bool
     requires a { IsMade (tables_of decoded.now) decoded.now.sets.items a }
     requires b { IsMade (tables_of decoded.now) decoded.now.sets.items b }
     requires said { IsMade (tables_of decoded.now) decoded.now.sets.items said }
-    ensures { result ≡ same_states (named_set (tables_of decoded.now) said) (both (named_set (tables_of decoded.now) a) (named_set (tables_of decoded.now) b)) }
+    ensures { result ≡ same_states (named_set (tables_of decoded.now) said)
+        (both (named_set (tables_of decoded.now) a) (named_set (tables_of decoded.now) b)) }
 {
     decoded.set(said).is_meet(decoded.set(a), decoded.set(b))
 }

@@ -93,7 +93,8 @@ impl<'a> Decoded<'a> {
     pub(crate) fn find(&self, terms: &[Term], vertex: usize) -> Option<usize>
         requires terms { AreReady self.now terms.now }
         requires vertex { vertex < length self.now.ranks.items }
-        ensures said { option_map (named_set (tables_of self.now)) result ≡ states_at (terms_at (tables_of self.now) terms.now) (vertex_at (tables_of self.now) vertex) }
+        ensures said { option_map (named_set (tables_of self.now)) result
+            ≡ states_at (terms_at (tables_of self.now) terms.now) (vertex_at (tables_of self.now) vertex) }
         ensures made { IsSetIf self.now result }
     {
         match terms.binary_search_by(|term| self.order(term.vertex, vertex)) {
@@ -106,7 +107,8 @@ impl<'a> Decoded<'a> {
     fn set_if(&self, term: &Term, vertex: usize) -> Option<usize>
         requires term { IsReady self.now term.now }
         requires vertex { vertex < length (tables_of self.now).vertices }
-        ensures said { option_map (named_set (tables_of self.now)) result ≡ states_at (terms_at (tables_of self.now) (term.now ∷ [])) (vertex_at (tables_of self.now) vertex) }
+        ensures said { option_map (named_set (tables_of self.now)) result
+            ≡ states_at (terms_at (tables_of self.now) (term.now ∷ [])) (vertex_at (tables_of self.now) vertex) }
         ensures made { IsSetIf self.now result }
     {
         if self.is_same_vertex(vertex, term.vertex) {

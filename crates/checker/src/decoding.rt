@@ -128,7 +128,8 @@ fn add_set<'a>(
     requires ordered { IsStrictlySortedBy state_cmp (named_set tables.now number) }
     requires sets { AreSets tables.now sets.old.items }
     ensures sets { OnOk result (AreSets tables.entry.now sets.new.items) }
-    ensures stay { OnOk result ((n : ℕ) → IsMade tables.entry.now sets.old.items n → IsMade tables.entry.now sets.new.items n) }
+    ensures stay { OnOk result
+        ((n : ℕ) → IsMade tables.entry.now sets.old.items n → IsMade tables.entry.now sets.new.items n) }
     ensures made { OnOk result (IsMade tables.entry.now sets.new.items number) }
 {
     add_places(sets, number)?;

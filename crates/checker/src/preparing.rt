@@ -56,7 +56,8 @@ fn prepare_axiom<'a>(
     terms: &[Term],
 ) -> Result<Prepared<'a>, AllocError>
     requires { AllByRecursion (IsReady decoded.now) terms.now }
-    ensures prepared { IfOk result (λ p. IsPreparedBy (problem_of gathered.old) (terms_at (tables_of decoded.now) terms.now) (origin.Axiom kind) p) }
+    ensures prepared { IfOk result (λ p.
+        IsPreparedBy (problem_of gathered.old) (terms_at (tables_of decoded.now) terms.now) (origin.Axiom kind) p) }
     ensures same { problem_of gathered.new ≡ problem_of gathered.old }
 {
     let looked_up = terms_in(alloc, decoded, terms)?;
@@ -66,7 +67,8 @@ fn prepare_axiom<'a>(
 
 /// Whether the terms of an axiom for which this was made are those of an instance of its kind, without full ones.
 pub(crate) fn is_instance<'a>(gathered: &Gathered<'a>, prepared: &Prepared<'a>) -> bool
-    ensures { (k : kinds.Kind) (ts : List model.Term) → IsPreparedBy (problem_of gathered.now) ts (origin.Axiom k) prepared.now → result ≡ is_instance (problem_of gathered.now) (kind_view k) ts }
+    ensures { (k : kinds.Kind) (ts : List model.Term) → IsPreparedBy (problem_of gathered.now) ts
+        (origin.Axiom k) prepared.now → result ≡ is_instance (problem_of gathered.now) (kind_view k) ts }
 {
     match prepared {
         Prepared::Axiom(terms, candidate) => axioms::is_instance(gathered, terms, candidate),

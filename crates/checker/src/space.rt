@@ -76,7 +76,8 @@ fn has_matching(
     a: &StateSet<'_>,
     b: &StateSet<'_>,
 ) -> bool
-    ensures { result ≡ list_all (λ v. has_if_matched (a.now ++ b.now) (requirement_view requirement.now) (parts_of v)) versions.now }
+    ensures { result
+        ≡ list_all (λ v. has_if_matched (a.now ++ b.now) (requirement_view requirement.now) (parts_of v)) versions.now }
 {
     versions
         .iter()

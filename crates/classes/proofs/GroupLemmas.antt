@@ -1,5 +1,7 @@
 -- A pass over versions that are oldest first makes the groups of those that a requirement matches.
-use Rattle.std.proofs.Common.{◌≡◌, ℕ, ◌+◌, zero, suc, List, [], ◌∷◌, ◌++◌, length, get_or, map, filter, Bool, true, false, not, cond, ◌&&◌, ◌||◌, nat_eq, nat_lt, ◌<◌, ◌≤◌, refl, sym, ap, ap₂, ◌∙◌, subst, arith, true≢false, append_assoc}
+use Rattle.std.proofs.Common.{◌≡◌, ℕ, ◌+◌, zero, suc, List, [], ◌∷◌, ◌++◌, length, get_or, map, filter, Bool, true}
+use Rattle.std.proofs.Common.{false, not, cond, ◌&&◌, ◌||◌, nat_eq, nat_lt, ◌<◌, ◌≤◌, refl, sym, ap, ap₂, ◌∙◌, subst}
+use Rattle.std.proofs.Common.{arith, true≢false, append_assoc}
 use Rattle.std.specs.List.{All, AllPairs, list_any}
 use Rattle.std.specs.Ordering.{is_gt}
 use Rattle.std.proofs.lemmas.Bool.{ltb-false, lt-ltb, eq-eqb}
@@ -15,7 +17,8 @@ use Rattle.model.specs.Vertices.{same_class}
 use Rattle.model.proofs.Lists.{all_first, all_rest, all_cons, all_none, pairs_all, pairs_rest, pairs_none}
 use Rattle.model.proofs.Orders.{class_above}
 use Rattle.model.proofs.Same.{class-same, class-refl}
-use Rattle.classes.specs.Groups.{Group, IsOldestFirst, positions_from, each_once, classes_matched, positions_matched, groups_of, ends_in, with_last, with_position, with_versions}
+use Rattle.classes.specs.Groups.{Group, IsOldestFirst, positions_from, each_once, classes_matched, positions_matched}
+use Rattle.classes.specs.Groups.{groups_of, ends_in, with_last, with_position, with_versions}
 
 same_sym : (a b : Class) → same_class a b ≡ same_class b a
 same_sym a b = by (same_class a b) (same_class b a) refl refl
@@ -56,12 +59,15 @@ abbrev other_than : Class → Class → Bool
 other_than k c = not (same_class k c)
 
 -- without one class another is there as before
-any_other : (k c : Class) (ks : List Class) → same_class k c ≡ false → list_any (same_class k) (filter (other_than c) ks) ≡ list_any (same_class k) ks
+any_other : (k c : Class) (ks : List Class) → same_class k c ≡ false
+    → list_any (same_class k) (filter (other_than c) ks) ≡ list_any (same_class k) ks
 any_other k c [] apart = refl
 any_other k c (d ∷ ks) apart = by (same_class c d) refl (any_other k c ks apart)
   where
-    by : (b : Bool) → same_class c d ≡ b → list_any (same_class k) (filter (other_than c) ks) ≡ list_any (same_class k) ks
-        → list_any (same_class k) (cond (not b) (d ∷ filter (other_than c) ks) (filter (other_than c) ks)) ≡ (same_class k d || list_any (same_class k) ks)
+    by : (b : Bool) → same_class c d ≡ b
+        → list_any (same_class k) (filter (other_than c) ks) ≡ list_any (same_class k) ks
+        → list_any (same_class k) (cond (not b) (d ∷ filter (other_than c) ks) (filter (other_than c) ks))
+        ≡ (same_class k d || list_any (same_class k) ks)
     by true e rest = rest ∙ ap (λ b. b || list_any (same_class k) ks) (sym apart ∙ ap (same_class k) (class-same c d e))
     by false e rest = ap (λ b. same_class k d || b) rest
 
@@ -69,14 +75,17 @@ any_once : (k : Class) (ks : List Class) → list_any (same_class k) (each_once 
 any_once k [] = refl
 any_once k (c ∷ ks) = by (any_once k ks) (same_class k c) refl
   where
-    by : list_any (same_class k) (each_once ks) ≡ list_any (same_class k) ks → (b : Bool) → same_class k c ≡ b → (b || list_any (same_class k) (filter (other_than c) (each_once ks))) ≡ (b || list_any (same_class k) ks)
+    by : list_any (same_class k) (each_once ks) ≡ list_any (same_class k) ks → (b : Bool) → same_class k c ≡ b
+        → (b || list_any (same_class k) (filter (other_than c) (each_once ks))) ≡ (b || list_any (same_class k) ks)
     by rest true e = refl
     by rest false e = any_other k c (each_once ks) e ∙ rest
 
 -- one more class
-once-snoc : (k : Class) (ks : List Class) → each_once (ks ++ k ∷ []) ≡ cond (list_any (same_class k) (each_once ks)) (each_once ks) (each_once ks ++ k ∷ [])
+once-snoc : (k : Class) (ks : List Class)
+    → each_once (ks ++ k ∷ []) ≡ cond (list_any (same_class k) (each_once ks)) (each_once ks) (each_once ks ++ k ∷ [])
 once-snoc k [] = refl
-once-snoc k (c ∷ ks) = ap (λ l. c ∷ filter (other_than c) l) (once-snoc k ks) ∙ by (same_class k c) (list_any (same_class k) (each_once ks)) refl refl
+once-snoc k (c ∷ ks) = ap (λ l. c ∷ filter (other_than c) l) (once-snoc k ks)
+    ∙ by (same_class k c) (list_any (same_class k) (each_once ks)) refl refl
   where
     without : List Class
     without = filter (other_than c) (each_once ks)
@@ -89,10 +98,13 @@ once-snoc k (c ∷ ks) = ap (λ l. c ∷ filter (other_than c) l) (once-snoc k k
         turn false = refl
 
     by : (b a : Bool) → same_class k c ≡ b → list_any (same_class k) (each_once ks) ≡ a
-        → (c ∷ filter (other_than c) (cond a (each_once ks) (each_once ks ++ k ∷ []))) ≡ cond (b || list_any (same_class k) without) (c ∷ without) (c ∷ (without ++ k ∷ []))
+        → (c ∷ filter (other_than c) (cond a (each_once ks) (each_once ks ++ k ∷ [])))
+        ≡ cond (b || list_any (same_class k) without) (c ∷ without) (c ∷ (without ++ k ∷ []))
     by true true e f = refl
-    by true false e f = ap (λ l. c ∷ l) (filter-append (other_than c) (each_once ks) (k ∷ []) ∙ ap (λ l. without ++ l) (last true e) ∙ append-nil without)
-    by false true e f = ap (λ x. cond x (c ∷ without) (c ∷ (without ++ k ∷ []))) (sym (any_other k c (each_once ks) e ∙ f))
+    by true false e f = ap (λ l. c ∷ l) (filter-append (other_than c) (each_once ks) (k ∷ [])
+        ∙ ap (λ l. without ++ l) (last true e) ∙ append-nil without)
+    by false true e f =
+        ap (λ x. cond x (c ∷ without) (c ∷ (without ++ k ∷ []))) (sym (any_other k c (each_once ks) e ∙ f))
     by false false e f =
         ap (λ l. c ∷ l) (filter-append (other_than c) (each_once ks) (k ∷ []) ∙ ap (λ l. without ++ l) (last false e))
         ∙ ap (λ x. cond x (c ∷ without) (c ∷ (without ++ k ∷ []))) (sym (any_other k c (each_once ks) e ∙ f))
@@ -109,7 +121,8 @@ positions-snoc test (u ∷ vs) v n m e = by (test u) (positions-snoc test vs v (
     one_more : (n l : ℕ) → n + suc l ≡ suc n + l
     one_more n l = omega arith
 
-    by : (b : Bool) → positions_from (suc n) test (vs ++ v ∷ []) ≡ positions_from (suc n) test vs ++ cond (test v) (m ∷ []) []
+    by : (b : Bool)
+        → positions_from (suc n) test (vs ++ v ∷ []) ≡ positions_from (suc n) test vs ++ cond (test v) (m ∷ []) []
         → cond b (n ∷ positions_from (suc n) test (vs ++ v ∷ [])) (positions_from (suc n) test (vs ++ v ∷ []))
         ≡ cond b (n ∷ positions_from (suc n) test vs) (positions_from (suc n) test vs) ++ cond (test v) (m ∷ []) []
     by true rest = ap (λ l. n ∷ l) rest
@@ -149,14 +162,17 @@ module _ (k : Class) (n : ℕ) (at : Class → List ℕ) where
   position-put (c ∷ []) rising reach none = by (same_class k c) refl none
     where
       by : (b : Bool) → same_class k c ≡ b → ((b || false) ≡ false → at k ≡ [])
-          → cond b ((c, at c ++ n ∷ []) ∷ []) ((c, at c) ∷ (k, n ∷ []) ∷ []) ≡ map new (cond (b || false) (c ∷ []) (c ∷ k ∷ []))
+          → cond b ((c, at c ++ n ∷ []) ∷ []) ((c, at c) ∷ (k, n ∷ []) ∷ [])
+          ≡ map new (cond (b || false) (c ∷ []) (c ∷ k ∷ []))
       by true e none = ap (λ g. g ∷ []) (sym (new-first c e))
       by false e none = ap₂ (λ g h. g ∷ h ∷ []) (sym (new-other c e)) (sym (new-only (none refl)))
   position-put (c ∷ d ∷ ks) rising reach none =
       first (ends_in k (map old (d ∷ ks)))
-      ∙ ap (λ l. (c, at c) ∷ l) (position-put (d ∷ ks) (pairs_rest (λ c d. is_lower c d ≡ true) c (d ∷ ks) rising) (all_rest (λ c. is_lower k c ≡ false) c (d ∷ ks) reach)
+      ∙ ap (λ l. (c, at c) ∷ l) (position-put (d ∷ ks) (pairs_rest (λ c d. is_lower c d ≡ true) c (d ∷ ks) rising)
+      (all_rest (λ c. is_lower k c ≡ false) c (d ∷ ks) reach)
       (λ h. none (ap (λ b. b || list_any (same_class k) (d ∷ ks)) apart ∙ h)))
-      ∙ by (list_any (same_class k) (d ∷ ks)) ∙ ap (λ b. map new (cond (b || list_any (same_class k) (d ∷ ks)) (c ∷ d ∷ ks) (c ∷ d ∷ (ks ++ k ∷ [])))) (sym apart)
+      ∙ by (list_any (same_class k) (d ∷ ks)) ∙ ap (λ b.
+      map new (cond (b || list_any (same_class k) (d ∷ ks)) (c ∷ d ∷ ks) (c ∷ d ∷ (ks ++ k ∷ [])))) (sym apart)
     where
       above : is_lower c d ≡ true
       above = all_first (λ e. is_lower c e ≡ true) d ks (pairs_all (λ c d. is_lower c d ≡ true) c (d ∷ ks) rising)
@@ -171,12 +187,14 @@ module _ (k : Class) (n : ℕ) (at : Class → List ℕ) where
           which false e = refl
           which true e = sym above ∙ ap (λ x. is_lower x d) (sym (class-same k c e)) ∙ under
 
-      first : (b : Bool) → cond b ((c, at c) ∷ with_last n (map old (d ∷ ks))) ((c, at c) ∷ (map old (d ∷ ks) ++ (k, n ∷ []) ∷ []))
+      first : (b : Bool)
+          → cond b ((c, at c) ∷ with_last n (map old (d ∷ ks))) ((c, at c) ∷ (map old (d ∷ ks) ++ (k, n ∷ []) ∷ []))
           ≡ ((c, at c) ∷ cond b (with_last n (map old (d ∷ ks))) (map old (d ∷ ks) ++ (k, n ∷ []) ∷ []))
       first true = refl
       first false = refl
 
-      by : (b : Bool) → ((c, at c) ∷ map new (cond b (d ∷ ks) (d ∷ (ks ++ k ∷ [])))) ≡ map new (cond b (c ∷ d ∷ ks) (c ∷ d ∷ (ks ++ k ∷ [])))
+      by : (b : Bool) → ((c, at c) ∷ map new (cond b (d ∷ ks) (d ∷ (ks ++ k ∷ []))))
+          ≡ map new (cond b (c ∷ d ∷ ks) (c ∷ d ∷ (ks ++ k ∷ [])))
       by true = ap (λ g. g ∷ map new (d ∷ ks)) (sym (new-other c apart))
       by false = ap (λ g. g ∷ map new (d ∷ (ks ++ k ∷ []))) (sym (new-other c apart))
 
@@ -184,7 +202,8 @@ none_all : {X : Type 0} (p : X → Bool) (xs : List X) → list_any p xs ≡ fal
 none_all p [] h = all_none (λ x. p x ≡ false)
 none_all p (x ∷ xs) h = by (λ h. none_all p xs h) (p x) refl h
   where
-    by : (list_any p xs ≡ false → All (λ x. p x ≡ false) xs) → (b : Bool) → p x ≡ b → (b || list_any p xs) ≡ false → All (λ x. p x ≡ false) (x ∷ xs)
+    by : (list_any p xs ≡ false → All (λ x. p x ≡ false) xs) → (b : Bool) → p x ≡ b → (b || list_any p xs) ≡ false
+        → All (λ x. p x ≡ false) (x ∷ xs)
     by rest true e h = absurd (true≢false h)
     by rest false e h = all_cons (λ x. p x ≡ false) x xs e (rest h)
 
@@ -199,15 +218,18 @@ module _ (requirement : List Held) where
   abbrev with_class : Bool → Bool → Class → List Class → List Class
   with_class m a k ks = cond m (cond a ks (ks ++ k ∷ [])) ks
 
-  classes-snoc : (vs : List Parts) (v : Parts) → classes (vs ++ v ∷ []) ≡ with_class (matched v) (list_any (same_class (class_of v)) (classes vs)) (class_of v) (classes vs)
+  classes-snoc : (vs : List Parts) (v : Parts) → classes (vs ++ v ∷ [])
+      ≡ with_class (matched v) (list_any (same_class (class_of v)) (classes vs)) (class_of v) (classes vs)
   classes-snoc vs v = ap (λ l. each_once (map class_of l)) (filter-append matched vs (v ∷ [])) ∙ by (matched v)
     where
       by : (b : Bool) → each_once (map class_of (filter matched vs ++ cond b (v ∷ []) []))
           ≡ with_class b (list_any (same_class (class_of v)) (classes vs)) (class_of v) (classes vs)
-      by true = ap each_once (map-append class_of (filter matched vs) (v ∷ [])) ∙ once-snoc (class_of v) (map class_of (filter matched vs))
+      by true = ap each_once (map-append class_of (filter matched vs) (v ∷ []))
+          ∙ once-snoc (class_of v) (map class_of (filter matched vs))
       by false = ap (λ l. each_once (map class_of l)) (append-nil (filter matched vs))
 
-  positions_none : (k : Class) (vs : List Parts) (n : ℕ) → list_any (same_class k) (map class_of (filter matched vs)) ≡ false
+  positions_none : (k : Class) (vs : List Parts) (n : ℕ)
+      → list_any (same_class k) (map class_of (filter matched vs)) ≡ false
       → positions_from n (λ v. matched v && same_class k (class_of v)) vs ≡ []
   positions_none k [] n h = refl
   positions_none k (v ∷ vs) n h = by (matched v) (same_class k (class_of v)) refl h (λ h. positions_none k vs (suc n) h)
@@ -215,54 +237,74 @@ module _ (requirement : List Held) where
       rest : List ℕ
       rest = positions_from (suc n) (λ v. matched v && same_class k (class_of v)) vs
 
-      by : (m s : Bool) → same_class k (class_of v) ≡ s → list_any (same_class k) (map class_of (cond m (v ∷ filter matched vs) (filter matched vs))) ≡ false
-          → (list_any (same_class k) (map class_of (filter matched vs)) ≡ false → rest ≡ []) → cond (m && s) (n ∷ rest) rest ≡ []
-      by true true e h none = absurd (true≢false (ap (λ b. b || list_any (same_class k) (map class_of (filter matched vs))) (sym e) ∙ h))
-      by true false e h none = none (ap (λ b. b || list_any (same_class k) (map class_of (filter matched vs))) (sym e) ∙ h)
+      by : (m s : Bool) → same_class k (class_of v) ≡ s
+          → list_any (same_class k) (map class_of (cond m (v ∷ filter matched vs) (filter matched vs))) ≡ false
+          → (list_any (same_class k) (map class_of (filter matched vs)) ≡ false → rest ≡ [])
+          → cond (m && s) (n ∷ rest) rest ≡ []
+      by true true e h none =
+          absurd (true≢false (ap (λ b. b || list_any (same_class k) (map class_of (filter matched vs))) (sym e) ∙ h))
+      by true false e h none =
+          none (ap (λ b. b || list_any (same_class k) (map class_of (filter matched vs))) (sym e) ∙ h)
       by false s e h none = none h
 
   groups-snoc : (vs : List Parts) (v : Parts) → Rising (classes vs) → Reach (class_of v) (classes vs)
-      → groups_of requirement (vs ++ v ∷ []) ≡ cond (matched v) (with_position (class_of v) (length vs) (groups_of requirement vs)) (groups_of requirement vs)
+      → groups_of requirement (vs ++ v ∷ [])
+      ≡ cond (matched v) (with_position (class_of v) (length vs) (groups_of requirement vs)) (groups_of requirement vs)
   groups-snoc vs v rising reach =
       ap (λ ks. map (λ k. (k, positions_matched requirement (vs ++ v ∷ []) k)) ks) (classes-snoc vs v)
-      ∙ (λ i. map (λ k. (k, one_more k i)) (with_class (matched v) (list_any (same_class (class_of v)) (classes vs)) (class_of v) (classes vs)))
+      ∙ (λ i. map (λ k. (k, one_more k i))
+      (with_class (matched v) (list_any (same_class (class_of v)) (classes vs)) (class_of v) (classes vs)))
       ∙ by (matched v)
     where
-      one_more : (k : Class) → positions_matched requirement (vs ++ v ∷ []) k ≡ positions_matched requirement vs k ++ cond (matched v && same_class k (class_of v)) (length vs ∷ []) []
+      one_more : (k : Class) → positions_matched requirement (vs ++ v ∷ []) k
+          ≡ positions_matched requirement vs k ++ cond (matched v && same_class k (class_of v)) (length vs ∷ []) []
       one_more k = positions-snoc (λ v. matched v && same_class k (class_of v)) vs v zero (length vs) (omega arith)
 
-      by : (m : Bool) → map (λ k. (k, positions_matched requirement vs k ++ cond (m && same_class k (class_of v)) (length vs ∷ []) [])) (with_class m (list_any (same_class (class_of v)) (classes vs)) (class_of v) (classes vs))
+      by : (m : Bool) → map (λ k.
+          (k, positions_matched requirement vs k ++ cond (m && same_class k (class_of v)) (length vs ∷ []) []))
+          (with_class m (list_any (same_class (class_of v)) (classes vs)) (class_of v) (classes vs))
           ≡ cond m (with_position (class_of v) (length vs) (groups_of requirement vs)) (groups_of requirement vs)
       by true = sym (position-put (class_of v) (length vs) (positions_matched requirement vs) (classes vs) rising reach
-          (λ h. positions_none (class_of v) vs zero (sym (any_once (class_of v) (map class_of (filter matched vs))) ∙ h)))
+          (λ h. positions_none (class_of v) vs zero
+          (sym (any_once (class_of v) (map class_of (filter matched vs))) ∙ h)))
       by false = λ i. map (λ k. (k, append-nil (positions_matched requirement vs k) i)) (classes vs)
 
-  rising-snoc : (vs : List Parts) (v : Parts) → Rising (classes vs) → Reach (class_of v) (classes vs) → Rising (classes (vs ++ v ∷ []))
-  rising-snoc vs v rising reach = subst Rising (sym (classes-snoc vs v)) (by (matched v) (list_any (same_class (class_of v)) (classes vs)) refl)
+  rising-snoc : (vs : List Parts) (v : Parts) → Rising (classes vs) → Reach (class_of v) (classes vs)
+      → Rising (classes (vs ++ v ∷ []))
+  rising-snoc vs v rising reach =
+      subst Rising (sym (classes-snoc vs v)) (by (matched v) (list_any (same_class (class_of v)) (classes vs)) refl)
     where
-      by : (m a : Bool) → list_any (same_class (class_of v)) (classes vs) ≡ a → Rising (with_class m a (class_of v) (classes vs))
+      by : (m a : Bool) → list_any (same_class (class_of v)) (classes vs) ≡ a
+          → Rising (with_class m a (class_of v) (classes vs))
       by true true e = rising
       by true false e = all_pairs_push (λ c d. is_lower c d ≡ true) (classes vs) (class_of v) rising
-          (λ i d lt. lower_apart _ (class_of v) (same_sym _ (class_of v) ∙ none_all (same_class (class_of v)) (classes vs) e i d lt) (reach i d lt))
+          (λ i d lt. lower_apart _ (class_of v)
+          (same_sym _ (class_of v) ∙ none_all (same_class (class_of v)) (classes vs) e i d lt) (reach i d lt))
       by false a e = rising
 
-  reach-snoc : (vs : List Parts) (v w : Parts) → Reach (class_of w) (classes vs) → is_gt (precedence v w) ≡ false → Reach (class_of w) (classes (vs ++ v ∷ []))
-  reach-snoc vs v w reach older = subst (Reach (class_of w)) (sym (classes-snoc vs v)) (by (matched v) (list_any (same_class (class_of v)) (classes vs)))
+  reach-snoc : (vs : List Parts) (v w : Parts) → Reach (class_of w) (classes vs) → is_gt (precedence v w) ≡ false
+      → Reach (class_of w) (classes (vs ++ v ∷ []))
+  reach-snoc vs v w reach older = subst (Reach (class_of w)) (sym (classes-snoc vs v))
+      (by (matched v) (list_any (same_class (class_of v)) (classes vs)))
     where
       by : (m a : Bool) → Reach (class_of w) (with_class m a (class_of v) (classes vs))
       by true true = reach
-      by true false = All-push (λ c. is_lower (class_of w) c ≡ false) (classes vs) (class_of v) reach (not_below v w older)
+      by true false =
+          All-push (λ c. is_lower (class_of w) c ≡ false) (classes vs) (class_of v) reach (not_below v w older)
       by false a = reach
 
   -- from the groups of the versions so far on, a pass makes the groups of all
-  pass : (rest front : List Parts) → Rising (classes front) → All (λ w. Reach (class_of w) (classes front)) rest → IsOldestFirst rest
-      → with_versions requirement (length front) rest (groups_of requirement front) ≡ groups_of requirement (front ++ rest)
+  pass : (rest front : List Parts) → Rising (classes front)
+      → All (λ w. Reach (class_of w) (classes front)) rest → IsOldestFirst rest
+      → with_versions requirement (length front) rest (groups_of requirement front)
+      ≡ groups_of requirement (front ++ rest)
   pass [] front rising reach sorted = ap (groups_of requirement) (sym (append-nil front))
   pass (v ∷ rest) front rising reach sorted =
       ap (λ gs. with_versions requirement (suc (length front)) rest gs) (sym (groups-snoc front v rising here))
       ∙ ap (λ n. with_versions requirement n rest (groups_of requirement (front ++ v ∷ []))) longer
       ∙ pass rest (front ++ v ∷ []) (rising-snoc front v rising here)
-      (λ i d lt. reach-snoc front v (get_or rest i d) (all_rest (λ w. Reach (class_of w) (classes front)) v rest reach i d lt) (pairs_all (λ v w. is_gt (precedence v w) ≡ false) v rest sorted i d lt))
+      (λ i d lt. reach-snoc front v (get_or rest i d) (all_rest (λ w. Reach (class_of w) (classes front)) v rest
+      reach i d lt) (pairs_all (λ v w. is_gt (precedence v w) ≡ false) v rest sorted i d lt))
       (pairs_rest (λ v w. is_gt (precedence v w) ≡ false) v rest sorted)
       ∙ ap (groups_of requirement) (append_assoc front (v ∷ []) rest)
     where
@@ -272,5 +314,7 @@ module _ (requirement : List Held) where
       longer : suc (length front) ≡ length (front ++ v ∷ [])
       longer = let l : length (front ++ v ∷ []) ≡ length front + 1 = length-append front (v ∷ []) in omega arith
 
-  pub passed : (versions : List Parts) → IsOldestFirst versions → with_versions requirement zero versions [] ≡ groups_of requirement versions
-  passed versions sorted = pass versions [] (pairs_none (λ c d. is_lower c d ≡ true)) (λ i d lt. all_none (λ c. is_lower (class_of (get_or versions i d)) c ≡ false)) sorted
+  pub passed : (versions : List Parts) → IsOldestFirst versions
+      → with_versions requirement zero versions [] ≡ groups_of requirement versions
+  passed versions sorted = pass versions [] (pairs_none (λ c d. is_lower c d ≡ true))
+      (λ i d lt. all_none (λ c. is_lower (class_of (get_or versions i d)) c ≡ false)) sorted

@@ -30,7 +30,8 @@ no_plus : (text : List ℕ) → list_all is_ascii_digit text ≡ true → get_or
 no_plus [] e h = omega arith
 no_plus (c ∷ text) e h = let at = is_digit c (both _ _ e).0 in omega arith
 
-pub refused : (text : List ℕ) → is_plain_number text ≡ true → (IsNumeral 10 (without_leading_plus text) × (digits_value 10 (without_leading_plus text) < 2 ^ 64) → ⊥)
+pub refused : (text : List ℕ) → is_plain_number text ≡ true
+    → (IsNumeral 10 (without_leading_plus text) × (digits_value 10 (without_leading_plus text) < 2 ^ 64) → ⊥)
     → None ≡ number_of text
 refused text plain refusal =
     let rest = both _ _ plain in
@@ -39,6 +40,7 @@ refused text plain refusal =
     let numeral : IsNumeral 10 text = (leb-true _ _ rest.0, all_digits text digits) in
     by (λ lt. refusal (rw same (numeral, lt))) (nat_lt (digits_value 10 text) (2 ^ 64)) refl
   where
-    by : (digits_value 10 text < 2 ^ 64 → ⊥) → (b : Bool) → nat_lt (digits_value 10 text) (2 ^ 64) ≡ b → None ≡ number_of text
+    by : (digits_value 10 text < 2 ^ 64 → ⊥) → (b : Bool)
+        → nat_lt (digits_value 10 text) (2 ^ 64) ≡ b → None ≡ number_of text
     by over true lt = absurd (over (ltb-true _ _ lt))
     by over false lt = rw (plain, lt) refl

@@ -22,14 +22,16 @@ same_mark [] (b ∷ y) = refl
 same_mark (a ∷ x) [] = refl
 same_mark (a ∷ x) (b ∷ y) = same_first 43 (a ∷ x) (b ∷ y)
 
-texts : (a b c : ℕ) (pre x y : List ℕ) → text_cmp (parts_text (a, b, c, pre, x)) (parts_text (a, b, c, pre, y)) ≡ text_cmp x y
+texts : (a b c : ℕ) (pre x y : List ℕ)
+    → text_cmp (parts_text (a, b, c, pre, x)) (parts_text (a, b, c, pre, y)) ≡ text_cmp x y
 texts a b c pre x y =
     let after_patch : List ℕ → List ℕ = λ z. marked 45 pre ++ marked 43 z in
     let after_minor : List ℕ → List ℕ = λ z. decimal c ++ after_patch z in
     let after_major : List ℕ → List ℕ = λ z. decimal b ++ (46 ∷ after_minor z) in
     same_front (decimal a) (46 ∷ after_major x) (46 ∷ after_major y) ∙ same_first 46 (after_major x) (after_major y)
     ∙ same_front (decimal b) (46 ∷ after_minor x) (46 ∷ after_minor y) ∙ same_first 46 (after_minor x) (after_minor y)
-    ∙ same_front (decimal c) (after_patch x) (after_patch y) ∙ same_front (marked 45 pre) (marked 43 x) (marked 43 y) ∙ same_mark x y
+    ∙ same_front (decimal c) (after_patch x) (after_patch y)
+    ∙ same_front (marked 45 pre) (marked 43 x) (marked 43 y) ∙ same_mark x y
 
 first_equal : (r s : Ordering) → ordering_then r s ≡ Equal → r ≡ Equal
 first_equal Less s e = cc e
@@ -41,7 +43,8 @@ second_equal Less s e = cc e
 second_equal Equal s e = e
 second_equal Greater s e = cc e
 
-equal_precedence : (v w : Parts) → precedence v w ≡ Equal → text_cmp (parts_text v) (parts_text w) ≡ text_cmp (v.4) (w.4)
+equal_precedence : (v w : Parts) → precedence v w ≡ Equal
+    → text_cmp (parts_text v) (parts_text w) ≡ text_cmp (v.4) (w.4)
 equal_precedence v w e =
     let rest1 = second_equal _ _ e in
     let rest2 = second_equal _ _ rest1 in
@@ -54,7 +57,8 @@ equal_precedence v w e =
 pub version_cmp-build : (v w : Parts) → version_cmp v w ≡ ordering_then (precedence v w) (text_cmp (v.4) (w.4))
 version_cmp-build v w = by (precedence v w) refl
   where
-    by : (r : Ordering) → precedence v w ≡ r → ordering_then r (text_cmp (parts_text v) (parts_text w)) ≡ ordering_then r (text_cmp (v.4) (w.4))
+    by : (r : Ordering) → precedence v w ≡ r
+        → ordering_then r (text_cmp (parts_text v) (parts_text w)) ≡ ordering_then r (text_cmp (v.4) (w.4))
     by Less e = refl
     by Equal e = equal_precedence v w e
     by Greater e = refl

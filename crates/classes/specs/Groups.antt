@@ -37,11 +37,13 @@ classes_matched requirement versions = each_once (map class_of (filter (λ v. ma
 
 -- the positions of the versions of a class that the requirement matches
 abbrev pub positions_matched : List Held → List Parts → model.Class → List ℕ
-positions_matched requirement versions k = positions_from 0 (λ v. matches_views requirement v && same_class k (class_of v)) versions
+positions_matched requirement versions k =
+    positions_from 0 (λ v. matches_views requirement v && same_class k (class_of v)) versions
 
 -- the groups of the versions that the requirement matches
 abbrev pub groups_of : List Held → List Parts → List Group
-groups_of requirement versions = map (λ k. (k, positions_matched requirement versions k)) (classes_matched requirement versions)
+groups_of requirement versions =
+    map (λ k. (k, positions_matched requirement versions k)) (classes_matched requirement versions)
 
 abbrev pub group_views : List (Class × Vec ℕ Global) → List Group
 group_views gs = map (λ g. (class_view g.0, g.1.items)) gs
@@ -67,4 +69,5 @@ with_position k n gs = if ends_in k gs then with_last n gs else gs ++ (k, n ∷ 
 -- the groups with the versions from position n on too
 abbrev pub with_versions : List Held → ℕ → List Parts → List Group → List Group
 with_versions requirement n [] gs = gs
-with_versions requirement n (v ∷ vs) gs = with_versions requirement (suc n) vs (if matches_views requirement v then with_position (class_of v) n gs else gs)
+with_versions requirement n (v ∷ vs) gs =
+    with_versions requirement (suc n) vs (if matches_views requirement v then with_position (class_of v) n gs else gs)

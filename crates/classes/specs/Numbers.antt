@@ -7,8 +7,10 @@ use Rattle.std.specs.Str.Parse.{digits_value}
 
 -- digits without a leading zero
 abbrev pub is_plain_number : List ℕ → Bool
-is_plain_number text = nat_le 1 (length text) && (list_all is_ascii_digit text && (nat_le (length text) 1 || not (slice_index text 0 == 48)))
+is_plain_number text = nat_le 1 (length text)
+    && (list_all is_ascii_digit text && (nat_le (length text) 1 || not (slice_index text 0 == 48)))
 
 -- a whole number of 64 bits in decimal without leading zeros
 abbrev pub number_of : List ℕ → Option ℕ
-number_of text = if is_plain_number text && nat_lt (digits_value 10 text) (2 ^ 64) then Some (digits_value 10 text) else None
+number_of text =
+    if is_plain_number text && nat_lt (digits_value 10 text) (2 ^ 64) then Some (digits_value 10 text) else None

@@ -9,7 +9,8 @@ Numbers = ℕ × ℕ × ℕ
 
 abbrev pub patch_after : List ℕ → List ℕ → Option (List ℕ × List ℕ) → Option Numbers
 patch_after major rest None = option_and_then (λ a. option_map (λ b. (a, b, 0)) (number_of rest)) (number_of major)
-patch_after major rest (Some (minor, patch)) = option_and_then (λ a. option_and_then (λ b. option_map (λ c. (a, b, c)) (number_of patch)) (number_of minor)) (number_of major)
+patch_after major rest (Some (minor, patch)) = option_and_then
+    (λ a. option_and_then (λ b. option_map (λ c. (a, b, c)) (number_of patch)) (number_of minor)) (number_of major)
 
 abbrev pub minor_after : List ℕ → Option (List ℕ × List ℕ) → Option Numbers
 minor_after text None = option_map (λ a. (a, 0, 0)) (number_of text)

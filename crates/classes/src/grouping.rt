@@ -6,7 +6,8 @@ ghost use Rattle.semver.specs.EvalViews.{matches_views};
 ghost use Rattle.semver.specs.Identifiers.{parts_of};
 ghost use Rattle.model.specs.Vertices.{same_class};
 ghost use Rattle.classes.specs.Classes.{class_view};
-ghost use Rattle.classes.specs.Groups.{IsOldestFirst, group_views, ends_in, groups_of, with_last, with_position, with_versions};
+ghost use Rattle.classes.specs.Groups.{IsOldestFirst, group_views, ends_in, groups_of, with_last, with_position};
+ghost use Rattle.classes.specs.Groups.{with_versions};
 
 use crate::class::Class;
 use semver::{Version, VersionReq};
@@ -23,7 +24,8 @@ pub fn matching(
 ) -> Result<Vec<(Class, Vec<u32>)>, AllocError>
     requires few { length versions.now ≤ 65535 }
     requires oldest_first { IsOldestFirst (map parts_of versions.now) }
-    ensures { IfOk result (λ groups. group_views groups.items ≡ groups_of (requirement_view requirement.now) (map parts_of versions.now)) }
+    ensures { IfOk result (λ groups. group_views groups.items
+        ≡ groups_of (requirement_view requirement.now) (map parts_of versions.now)) }
 {
     grouped(alloc, requirement, versions)
 }
@@ -35,7 +37,8 @@ fn grouped(
     versions: &[Version],
 ) -> Result<Vec<(Class, Vec<u32>)>, AllocError>
     requires few { length versions.now ≤ 65535 }
-    ensures { IfOk result (λ groups. group_views groups.items ≡ with_versions (requirement_view requirement.now) 0 (map parts_of versions.now) []) }
+    ensures { IfOk result (λ groups. group_views groups.items
+        ≡ with_versions (requirement_view requirement.now) 0 (map parts_of versions.now) []) }
 {
     let mut groups = Vec::new(alloc);
     'versions: for (position, version) in versions.iter().enumerate() {
@@ -60,7 +63,8 @@ fn put(
     class: Class,
     position: u32,
 ) -> Result<(), AllocError>
-    ensures { OnOk result (group_views groups.new.items ≡ with_position (class_view class) position (group_views groups.old.items)) }
+    ensures { OnOk result
+        (group_views groups.new.items ≡ with_position (class_view class) position (group_views groups.old.items)) }
 {
     if ends_in(groups.as_slice(), class) {
         return put_last(groups, position);

@@ -2,12 +2,14 @@
 use Rattle.std.proofs.Common.{Result, Ok, Err, IfErr, IfOk}
 
 -- three facts of what a result gives, together
-pub three_if_ok : {T E : Type 0} {P Q R Z : T → Type 0} (r : Result T E) → ((x : T) → P x → Q x → R x → Z x) → IfOk r P → IfOk r Q → IfOk r R → IfOk r Z
+pub three_if_ok : {T E : Type 0} {P Q R Z : T → Type 0} (r : Result T E) → ((x : T) → P x → Q x → R x → Z x) → IfOk r P
+    → IfOk r Q → IfOk r R → IfOk r Z
 three_if_ok (Ok x) joined p q z = joined x p q z
 three_if_ok (Err e) joined p q z = p
 
 -- two facts of its error
-pub both_if_err : {T E : Type 0} {P Q R : E → Type 0} (r : Result T E) → ((e : E) → P e → Q e → R e) → IfErr r P → IfErr r Q → IfErr r R
+pub both_if_err : {T E : Type 0} {P Q R : E → Type 0} (r : Result T E) → ((e : E) → P e → Q e → R e)
+    → IfErr r P → IfErr r Q → IfErr r R
 both_if_err (Ok x) joined p q = p
 both_if_err (Err e) joined p q = joined e p q
 

@@ -1,5 +1,6 @@
 -- A file that is longer than may be has one meaning, whatever comes after its limit.
-use Rattle.std.proofs.Common.{◌≡◌, ℕ, ◌+◌, ◌<◌, ◌≤◌, List, length, take, Bool, true, false, nat_le, nat_lt, Err, inl, inr, refl, sym, ◌∙◌, arith}
+use Rattle.std.proofs.Common.{◌≡◌, ℕ, ◌+◌, ◌<◌, ◌≤◌, List, length, take, Bool, true, false, nat_le, nat_lt, Err, inl}
+use Rattle.std.proofs.Common.{inr, refl, sym, ◌∙◌, arith}
 use Rattle.std.proofs.lemmas.Bool.{cases_lt}
 use Rattle.std.proofs.lemmas.List.{length-take-le, take_all}
 use Rattle.model.specs.Outcome.{◌>>=◌}
@@ -9,7 +10,8 @@ use Rattle.lockfile.specs.Locks.{content_of_bytes, most_bytes}
 use Rattle.lockfile.specs.declared.fault.LockFault.TheVariants as lock
 use Rattle.commands.specs.Disks.{most_of_lock, most_of_manifest}
 
-cut-same : {A : Type 0} (f : List ℕ → A) (most : ℕ) (a : A) → ((bytes : List ℕ) → most < length bytes → f bytes ≡ a) → (bytes : List ℕ) → f (take (most + 1) bytes) ≡ f bytes
+cut-same : {A : Type 0} (f : List ℕ → A) (most : ℕ) (a : A) → ((bytes : List ℕ) → most < length bytes → f bytes ≡ a)
+    → (bytes : List ℕ) → f (take (most + 1) bytes) ≡ f bytes
 cut-same f most a long bytes = elim (cases_lt most (length bytes)) [
   | inl more ↦
       let within : most + 1 ≤ length bytes = grind (arith, more) in

@@ -1,5 +1,6 @@
 -- What the commands do: what they read where the words say, and what they ask of it.
-use Rattle.std.specs.Prelude.{◌≡◌, ◌⊎◌, ℕ, Bool, true, false, List, [], ◌++◌, Option, Some, None, Result, Ok, Err, IfErr, IfOk, Vec}
+use Rattle.std.specs.Prelude.{◌≡◌, ◌⊎◌, ℕ, Bool, true, false, List, [], ◌++◌, Option, Some, None, Result, Ok, Err}
+use Rattle.std.specs.Prelude.{IfErr, IfOk, Vec}
 use Rattle.std.specs.Io.KnownBytes.{Appends}
 use Rattle.std.specs.declared.alloc.Global.{Global}
 use Rattle.model.specs.Derivation.{Step}
@@ -26,7 +27,8 @@ use Rattle.resolver.specs.declared.fault.CheckFault.TheVariants.{Input}
 use Rattle.resolver.specs.declared.fault.Fault.{Fault}
 use Rattle.resolver.specs.declared.resolving.Answer.{Answer}
 use Rattle.resolver.specs.declared.resolving.Answer.TheVariants.{Lock, Unsolvable}
-use Rattle.commands.specs.Disks.{Reading, Writing, HasFile, HasOld, IsFile, IsKept, IsOld, bytes_if, most_of_manifest, most_of_lock, most_of_proof}
+use Rattle.commands.specs.Disks.{Reading, Writing, HasFile, HasOld, IsFile, IsKept, IsOld, bytes_if, most_of_manifest}
+use Rattle.commands.specs.Disks.{most_of_lock, most_of_proof}
 use Rattle.commands.specs.Lines.{line_of, verdict_status, check_status, ending_of, told_of, IsPrinted, status_of}
 use Rattle.commands.specs.Sources.{IsBadSource, IsSource}
 use Rattle.commands.specs.Endings.{WantsMemory, cannot_write, fault, has_ended_before, ending_view}
@@ -68,7 +70,8 @@ module _ (reads : Reading) where
 
 module _ {F : Type 0} (reads : Reading) (opens : List ℕ → F → Type 0) (calls : Calls F) (failed : F → ℕ) where
   -- the verdict on the lock that lies where the words say, or the fault of what was read
-  pub record IsVerdictOf (manifest index lock : List ℕ) (source : Option (List ℕ)) (said : Result Verdict Fault) : Type 0 where
+  pub record IsVerdictOf (manifest index lock : List ℕ) (source : Option (List ℕ))
+      (said : Result Verdict Fault) : Type 0 where
     pub bytes : Vec ℕ Global
     pub manifest_read : reads manifest most_of_manifest (Ok bytes)
     pub locked : Vec ℕ Global
@@ -78,11 +81,13 @@ module _ {F : Type 0} (reads : Reading) (opens : List ℕ → F → Type 0) (cal
     pub folder : F
     pub opened : opens index folder
     pub after : F
-    pub verifies : Verifies calls failed (record { manifest = bytes.items; old = Some locked.items; source = from; prefer = Newest }) folder said after
+    pub verifies : Verifies calls failed
+        (record { manifest = bytes.items; old = Some locked.items; source = from; prefer = Newest }) folder said after
 
   -- the answer to the manifest, and to the old lock if there is one, that lie where the words say, or the fault of what
   -- was read
-  pub record IsAnswerTo (manifest index : List ℕ) (lock source : Option (List ℕ)) (rust_first : Bool) (said : Result Answer Fault) : Type 0 where
+  pub record IsAnswerTo (manifest index : List ℕ) (lock source : Option (List ℕ)) (rust_first : Bool)
+      (said : Result Answer Fault) : Type 0 where
     pub bytes : Vec ℕ Global
     pub manifest_read : reads manifest most_of_manifest (Ok bytes)
     pub old : Option (Vec ℕ Global)
@@ -96,10 +101,12 @@ module _ {F : Type 0} (reads : Reading) (opens : List ℕ → F → Type 0) (cal
     pub folder : F
     pub opened : opens index folder
     pub after : F
-    pub resolves : Resolves calls failed (record { manifest = bytes.items; old = given; source = from; prefer = prefer }) folder said after
+    pub resolves : Resolves calls failed
+        (record { manifest = bytes.items; old = given; source = from; prefer = prefer }) folder said after
 
   -- what is said of the derivation that lies where the words say, or the fault of what was read
-  pub record IsCheckOf (manifest index : List ℕ) (lock source : Option (List ℕ)) (proof : List ℕ) (said : Result Check CheckFault) : Type 0 where
+  pub record IsCheckOf (manifest index : List ℕ) (lock source : Option (List ℕ)) (proof : List ℕ)
+      (said : Result Check CheckFault) : Type 0 where
     pub bytes : Vec ℕ Global
     pub manifest_read : reads manifest most_of_manifest (Ok bytes)
     pub old : Option (Vec ℕ Global)
@@ -113,7 +120,8 @@ module _ {F : Type 0} (reads : Reading) (opens : List ℕ → F → Type 0) (cal
     pub folder : F
     pub opened : opens index folder
     pub after : F
-    pub checks : Checks calls failed (record { manifest = bytes.items; old = given; source = from; prefer = Newest }) derivation.items folder said after
+    pub checks : Checks calls failed (record { manifest = bytes.items; old = given; source = from; prefer = Newest })
+        derivation.items folder said after
 
   -- Why there is no answer: the first of what is read that can't be had; then memory, which may be wanting for the
   -- source's own text or to open the folder; or the fault of what was read.
@@ -127,7 +135,8 @@ module _ {F : Type 0} (reads : Reading) (opens : List ℕ → F → Type 0) (cal
   LacksAnswer manifest index lock source rust_first ending = LacksFirst reads manifest source ending
       ⊎ (HasFirst reads manifest source × IsOld reads lock (Err ending))
       ⊎ (HasFirst reads manifest source × HasOld reads lock × WantsMemory ending)
-      ⊎ ((f : Fault) × IsAnswerTo manifest index lock source rust_first (Err f) × (ending_view ending ≡ fault (Input f)))
+      ⊎ ((f : Fault) × IsAnswerTo manifest index lock source rust_first (Err f)
+      × (ending_view ending ≡ fault (Input f)))
 
   abbrev pub LacksCheck : List ℕ → List ℕ → Option (List ℕ) → Option (List ℕ) → List ℕ → Ending → Type 0
   LacksCheck manifest index lock source proof ending = LacksFirst reads manifest source ending
@@ -144,38 +153,52 @@ IsFiled writes path (Unsolvable derivation text skips) = IsKept writes path deri
 -- an answer that there is can't be written: a write of the lock to standard output failed, or one of the derivation to
 -- its file
 abbrev pub IsUnwritten : Writing → (List ℕ → Type 0) → Option (List ℕ) → Answer → Ending → Type 0
-IsUnwritten writes fails path (Lock bytes kept skips) ending = (ending_view ending ≡ cannot_write) × fails bytes.items × writes None
+IsUnwritten writes fails path (Lock bytes kept skips) ending =
+    (ending_view ending ≡ cannot_write) × fails bytes.items × writes None
 IsUnwritten writes fails path (Unsolvable derivation text skips) ending = IsKept writes path derivation (Err ending)
 
-module _ {F : Type 0} (reads : Reading) (writes : Writing) (opens : List ℕ → F → Type 0) (calls : Calls F) (failed : F → ℕ) where
+module _ {F : Type 0} (reads : Reading) (writes : Writing) (opens : List ℕ → F → Type 0)
+    (calls : Calls F) (failed : F → ℕ) where
   -- a command that has an answer: standard output before and after, what is told on standard error, and the status
   abbrev pub Answers : WordsView → Option (List ℕ) → Option (List ℕ) → List (List ℕ) → ℕ → Type 0
-  Answers (resolve manifest index lock source proof rust_first) old new told status = (answer : Answer) × IsAnswerTo reads opens calls failed manifest index lock source rust_first (Ok answer)
+  Answers (resolve manifest index lock source proof rust_first) old new told status =
+      (answer : Answer) × IsAnswerTo reads opens calls failed manifest index lock source rust_first (Ok answer)
       × IsPrinted old new answer status × IsFiled writes proof answer × (told ≡ told_of answer (Ok status))
-  Answers (verify manifest index lock source) old new told status = ((verdict : Verdict) × IsVerdictOf reads opens calls failed manifest index lock source (Ok verdict)
-      × (status ≡ verdict_status verdict) × Appends old new (line_of (verdict_text verdict))) × (told ≡ []) × writes None
-  Answers (check manifest index lock source proof) old new told status = ((c : Check) × IsCheckOf reads opens calls failed manifest index lock source proof (Ok c)
+  Answers (verify manifest index lock source) old new told status =
+      ((verdict : Verdict) × IsVerdictOf reads opens calls failed manifest index lock source (Ok verdict)
+      × (status ≡ verdict_status verdict) × Appends old new (line_of (verdict_text verdict)))
+      × (told ≡ []) × writes None
+  Answers (check manifest index lock source proof) old new told status =
+      ((c : Check) × IsCheckOf reads opens calls failed manifest index lock source proof (Ok c)
       × (status ≡ check_status c) × Appends old new (line_of (check_text c))) × (told ≡ []) × writes None
-  Answers (explain proof) old new told status = ((text : List ℕ) × IsTextOf reads proof text × (status ≡ 0) × Appends old new text) × (told ≡ []) × writes None
+  Answers (explain proof) old new told status =
+      ((text : List ℕ) × IsTextOf reads proof text × (status ≡ 0) × Appends old new text) × (told ≡ []) × writes None
 
-module _ {F : Type 0} (reads : Reading) (writes : Writing) (opens : List ℕ → F → Type 0) (calls : Calls F) (failed : F → ℕ) (fails : List ℕ → Type 0) where
+module _ {F : Type 0} (reads : Reading) (writes : Writing) (opens : List ℕ → F → Type 0) (calls : Calls F)
+    (failed : F → ℕ) (fails : List ℕ → Type 0) where
   -- A command that ends with the status 2: there is no answer, or it can't be written, for a write of it failed. The
   -- skipped lines are told where there is one.
   abbrev pub Endings : WordsView → List (List ℕ) → Ending → Type 0
-  Endings (resolve manifest index lock source proof rust_first) told ending = (LacksAnswer reads opens calls failed manifest index lock source rust_first ending × (told ≡ []) × writes None)
+  Endings (resolve manifest index lock source proof rust_first) told ending =
+      (LacksAnswer reads opens calls failed manifest index lock source rust_first ending × (told ≡ []) × writes None)
       ⊎ ((answer : Answer) × IsAnswerTo reads opens calls failed manifest index lock source rust_first (Ok answer)
       × IsUnwritten writes fails proof answer ending × (told ≡ told_of answer (Err ending)))
-  Endings (verify manifest index lock source) told ending = (LacksVerdict reads opens calls failed manifest index lock source ending
+  Endings (verify manifest index lock source) told ending =
+      (LacksVerdict reads opens calls failed manifest index lock source ending
       ⊎ ((verdict : Verdict) × IsVerdictOf reads opens calls failed manifest index lock source (Ok verdict)
       × (ending_view ending ≡ cannot_write) × fails (line_of (verdict_text verdict)))) × (told ≡ []) × writes None
-  Endings (check manifest index lock source proof) told ending = (LacksCheck reads opens calls failed manifest index lock source proof ending
+  Endings (check manifest index lock source proof) told ending =
+      (LacksCheck reads opens calls failed manifest index lock source proof ending
       ⊎ ((c : Check) × IsCheckOf reads opens calls failed manifest index lock source proof (Ok c)
       × (ending_view ending ≡ cannot_write) × fails (line_of (check_text c)))) × (told ≡ []) × writes None
-  Endings (explain proof) told ending = (LacksText reads proof ending ⊎ ((text : List ℕ) × IsTextOf reads proof text × (ending_view ending ≡ cannot_write) × fails text)) × (told ≡ []) × writes None
+  Endings (explain proof) told ending = (LacksText reads proof ending
+      ⊎ ((text : List ℕ) × IsTextOf reads proof text × (ending_view ending ≡ cannot_write) × fails text))
+      × (told ≡ []) × writes None
 
   -- A run whose words are taken: what the command does and tells, and then, where it has no answer or can't write it,
   -- the line that says why. Standard output is unchanged unless an answer was to be written.
-  pub record IsRunOf (words : List (List ℕ)) (old new : Option (List ℕ)) (tells : List (List ℕ) → Type 0) (unchanged : Type 0) (status : ℕ) : Type 0 where
+  pub record IsRunOf (words : List (List ℕ)) (old new : Option (List ℕ)) (tells : List (List ℕ) → Type 0)
+      (unchanged : Type 0) (status : ℕ) : Type 0 where
     pub view : WordsView
     pub taken : faults (or_help words) ≡ []
     pub asks : asked words ≡ Some view
@@ -188,8 +211,10 @@ module _ {F : Type 0} (reads : Reading) (writes : Writing) (opens : List ℕ →
     pub ended_before : has_ended_before given ≡ true → unchanged
     pub ended : tells (told ++ ending_of given)
 
-  -- A run: as the words ask, or, where they ask for nothing, what is said of them; with standard output before and after,
+  -- A run: as the words ask, or, where they ask for nothing, what is said of them; with standard output before and
+  -- after,
   -- and with what it means that texts were told on standard error.
   abbrev pub Runs : List (List ℕ) → Option (List ℕ) → Option (List ℕ) → (List (List ℕ) → Type 0) → Type 0 → ℕ → Type 0
   Runs words old new tells unchanged status = IsRunOf words old new tells unchanged status
-      ⊎ ((fault : WordsFault) × IsWordsFault (or_help words) fault × IsToldOfWords fails old new fault status × tells (told_of_words fault status) × writes None)
+      ⊎ ((fault : WordsFault) × IsWordsFault (or_help words) fault × IsToldOfWords fails old new fault status
+      × tells (told_of_words fault status) × writes None)

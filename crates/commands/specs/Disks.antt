@@ -1,5 +1,6 @@
 -- What a run reads of a disk and writes to it: by which path, how much, and how it ends where that can't be done.
-use Rattle.std.specs.Prelude.{◌≡◌, ◌≢◌, ◌⊎◌, ◌+◌, ℕ, Bool, true, false, List, Option, Some, None, option_map, Result, Ok, Err, Vec}
+use Rattle.std.specs.Prelude.{◌≡◌, ◌≢◌, ◌⊎◌, ◌+◌, ℕ, Bool, true, false, List, Option, Some, None, option_map, Result}
+use Rattle.std.specs.Prelude.{Ok, Err, Vec}
 use Rattle.std.specs.declared.alloc.Global.{Global}
 use Rattle.manifest.specs.Manifests.{limit}
 use Rattle.lockfile.specs.Locks.{most_bytes}
@@ -35,14 +36,16 @@ module _ (reads : Reading) where
   -- a file that has to be there
   abbrev pub IsFile : List ℕ → ℕ → Result (Vec ℕ Global) Ending → Type 0
   IsFile path most (Ok bytes) = reads path most (Ok bytes)
-  IsFile path most (Err ending) = (fault : FileFault) × reads path most (Err fault) × (ending_view ending ≡ file_ending path fault)
+  IsFile path most (Err ending) =
+      (fault : FileFault) × reads path most (Err fault) × (ending_view ending ≡ file_ending path fault)
 
   -- an old lock: none where no path is given, and none where there is no file
   abbrev pub IsOld : Option (List ℕ) → Result (Option (Vec ℕ Global)) Ending → Type 0
   IsOld None given = given ≡ Ok None
   IsOld (Some path) (Ok (Some bytes)) = reads path most_of_lock (Ok bytes)
   IsOld (Some path) (Ok None) = reads path most_of_lock (Err NotFound)
-  IsOld (Some path) (Err ending) = (fault : FileFault) × reads path most_of_lock (Err fault) × (fault ≢ NotFound) × (ending_view ending ≡ file_ending path fault)
+  IsOld (Some path) (Err ending) = (fault : FileFault) × reads path most_of_lock (Err fault) × (fault ≢ NotFound)
+      × (ending_view ending ≡ file_ending path fault)
 
   -- such a file can be had, and such an old lock
   abbrev pub HasFile : List ℕ → ℕ → Type 0
@@ -76,4 +79,5 @@ module _ (writes : Writing) where
   IsKept None steps given = (given ≡ Ok tt) × writes None
   IsKept (Some path) steps (Ok given) = writes (Some (record { path = path; bytes = lines_of steps; is_made = true }))
   IsKept (Some path) steps (Err ending) = (WantsMemory ending × writes None)
-      ⊎ (writes (Some (record { path = path; bytes = lines_of steps; is_made = false })) × (ending_view ending ≡ cannot_write_file path))
+      ⊎ (writes (Some (record { path = path; bytes = lines_of steps; is_made = false }))
+      × (ending_view ending ≡ cannot_write_file path))

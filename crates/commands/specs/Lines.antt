@@ -1,6 +1,7 @@
 -- The lines that a run prints and the statuses that it ends with (docs/FORMATS.md retells them; all are this project's
 -- own).
-use Rattle.std.specs.Prelude.{◌≡◌, ℕ, Bool, true, false, ◌&&◌, List, [], ◌∷◌, ◌++◌, map, Option, Result, Ok, Err, codes, decimal, string_bytes}
+use Rattle.std.specs.Prelude.{◌≡◌, ℕ, Bool, true, false, ◌&&◌, List, [], ◌∷◌, ◌++◌, map, Option, Result, Ok, Err, codes}
+use Rattle.std.specs.Prelude.{decimal, string_bytes}
 use Rattle.std.specs.Io.KnownBytes.{Appends}
 use Rattle.checker.specs.declared.outcome.Check.{Check}
 use Rattle.checker.specs.declared.outcome.Check.TheVariants.{Proves, Refused}
@@ -30,7 +31,8 @@ check_status (Refused step reason) = 1
 
 -- `skip NAME line N S3 NewerFormat`
 abbrev pub skip_line : Skip → List ℕ
-skip_line s = line_of (codes "skip " ++ (s.name ++ (codes " line " ++ (decimal s.line ++ (codes " " ++ reason_text s.reason)))))
+skip_line s =
+    line_of (codes "skip " ++ (s.name ++ (codes " line " ++ (decimal s.line ++ (codes " " ++ reason_text s.reason)))))
 
 abbrev pub skips_of : Answer → List Skip
 skips_of (Lock bytes kept skips) = skips.items
@@ -78,4 +80,5 @@ module _ {E : Type 0} (contents : E → Option (List ℕ)) (fails : Fails E) whe
   -- were written.
   abbrev pub Tells : E → List (List ℕ) → Bool → E → Type 0
   Tells old [] told new = (told ≡ true) × (new ≡ old)
-  Tells old (text ∷ texts) told new = (mid : E) × (is_told others : Bool) × Puts old text is_told mid × Tells mid texts others new × (told ≡ (is_told && others))
+  Tells old (text ∷ texts) told new = (mid : E) × (is_told others : Bool) × Puts old text is_told mid
+      × Tells mid texts others new × (told ≡ (is_told && others))

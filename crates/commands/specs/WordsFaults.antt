@@ -9,7 +9,8 @@ use Rattle.commands.specs.Lines.{line_of}
 
 -- help goes to standard output, unless that write failed, and nothing else does
 abbrev pub IsToldOfWords : (List ℕ → Type 0) → Option (List ℕ) → Option (List ℕ) → WordsFault → ℕ → Type 0
-IsToldOfWords fails old new (Help text) status = ((status ≡ 0) × Appends old new (string_bytes text)) ⊎ ((status ≡ 2) × fails (string_bytes text))
+IsToldOfWords fails old new (Help text) status =
+    ((status ≡ 0) × Appends old new (string_bytes text)) ⊎ ((status ≡ 2) × fails (string_bytes text))
 IsToldOfWords fails old new (Wrong text) status = (status ≡ 2) × (new ≡ old)
 IsToldOfWords fails old new OutOfMemory status = (status ≡ 2) × (new ≡ old)
 

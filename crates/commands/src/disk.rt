@@ -52,7 +52,8 @@ pub trait Puts {
         ensures { puts self.old path.now bytes.now result self.new };
 }
 
-/// The system's call. That the bytes come to be the file there the toolchain's files don't promise, and so nothing above
+/// The system's call. That the bytes come to be the file there the toolchain's files don't promise, and so nothing
+/// above
 /// does.
 impl<R: Files> Puts for R {
     ghost puts = { λ _ _ _ _ _. Unit {0} };

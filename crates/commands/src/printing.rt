@@ -7,7 +7,8 @@ ghost use Rattle.selection.specs.Texts.{verdict_text};
 ghost use Rattle.words.specs.Views.{text_if};
 ghost use Rattle.commands.specs.Commands.{IsFiled, IsUnwritten};
 ghost use Rattle.commands.specs.Disks.{writes};
-ghost use Rattle.commands.specs.Lines.{IsPrinted, Puts, Tells, line_of, verdict_status, check_status, skip_line, skips_of, told_of};
+ghost use Rattle.commands.specs.Lines.{IsPrinted, Puts, Tells, line_of, verdict_status, check_status, skip_line};
+ghost use Rattle.commands.specs.Lines.{skips_of, told_of};
 ghost use Rattle.commands.specs.Endings.{cannot_write, has_ended_before, ending_view};
 
 use crate::disk::Disk;
@@ -29,7 +30,8 @@ const UNSOLVABLE: u8 = 1;
 /// The status of a derivation that proves nothing.
 const REFUSED: u8 = 1;
 
-/// How a command ended: its status or why it has none, and whether all that it had to tell on standard error was written.
+/// How a command ended: its status or why it has none, and whether all that it had to tell on standard error was
+/// written.
 #[derive(Drop)]
 pub(crate) struct Ended<'a> {
     pub(crate) status: Result<u8, Ending<'a>>,
@@ -37,9 +39,11 @@ pub(crate) struct Ended<'a> {
 }
 
 pub(crate) fn print_verdict<'a, O: Stream>(verdict: &Verdict, out: &mut O) -> Result<u8, Ending<'a>>
-    ensures printed { IfOk result (λ status. (status ≡ verdict_status verdict.now) × Appends (O.contents out.old) (O.contents out.new) (line_of (verdict_text verdict.now))) }
+    ensures printed { IfOk result (λ status. (status ≡ verdict_status verdict.now)
+        × Appends (O.contents out.old) (O.contents out.new) (line_of (verdict_text verdict.now))) }
     ensures written { has_ended_before result ≡ false }
-    ensures unwritten { IfErr result (λ ending. (ending_view ending ≡ cannot_write) × O.fails out.old (line_of (verdict_text verdict.now)) out.new) }
+    ensures unwritten { IfErr result
+        (λ ending. (ending_view ending ≡ cannot_write) × O.fails out.old (line_of (verdict_text verdict.now)) out.new) }
 {
     let status = match verdict {
         Verdict::Valid => 0,
@@ -49,9 +53,11 @@ pub(crate) fn print_verdict<'a, O: Stream>(verdict: &Verdict, out: &mut O) -> Re
 }
 
 pub(crate) fn print_check<'a, O: Stream>(checked: &Check, out: &mut O) -> Result<u8, Ending<'a>>
-    ensures printed { IfOk result (λ status. (status ≡ check_status checked.now) × Appends (O.contents out.old) (O.contents out.new) (line_of (check_text checked.now))) }
+    ensures printed { IfOk result (λ status. (status ≡ check_status checked.now)
+        × Appends (O.contents out.old) (O.contents out.new) (line_of (check_text checked.now))) }
     ensures written { has_ended_before result ≡ false }
-    ensures unwritten { IfErr result (λ ending. (ending_view ending ≡ cannot_write) × O.fails out.old (line_of (check_text checked.now)) out.new) }
+    ensures unwritten { IfErr result
+        (λ ending. (ending_view ending ≡ cannot_write) × O.fails out.old (line_of (check_text checked.now)) out.new) }
 {
     let status = match checked {
         Check::Proves => 0,
@@ -62,9 +68,11 @@ pub(crate) fn print_check<'a, O: Stream>(checked: &Check, out: &mut O) -> Result
 
 /// A whole text, with the status 0.
 pub(crate) fn print_bytes<'a, O: Stream>(bytes: &[u8], out: &mut O) -> Result<u8, Ending<'a>>
-    ensures printed { IfOk result (λ status. (status ≡ 0) × Appends (O.contents out.old) (O.contents out.new) bytes.now) }
+    ensures printed { IfOk result
+        (λ status. (status ≡ 0) × Appends (O.contents out.old) (O.contents out.new) bytes.now) }
     ensures written { has_ended_before result ≡ false }
-    ensures unwritten { IfErr result (λ ending. (ending_view ending ≡ cannot_write) × O.fails out.old bytes.now out.new) }
+    ensures unwritten { IfErr result
+        (λ ending. (ending_view ending ≡ cannot_write) × O.fails out.old bytes.now out.new) }
 {
     after(out.put(bytes), 0)
 }
@@ -92,8 +100,10 @@ pub(crate) fn print_answer<'a, D: Disk, O: Stream, E: Stream>(
     err: &mut E,
 ) -> Ended<'a>
     ensures printed { IfOk result.status (IsPrinted (O.contents out.old) (O.contents out.new) answer.now) }
-    ensures filed { IfOk result.status (λ _. IsFiled (writes D.writes disk.old disk.new) (text_if proof.entry) answer.now) }
-    ensures unwritten { IfErr result.status (IsUnwritten (writes D.writes disk.old disk.new) (λ bytes. O.fails out.old bytes out.new) (text_if proof.entry) answer.now) }
+    ensures filed { IfOk result.status
+        (λ _. IsFiled (writes D.writes disk.old disk.new) (text_if proof.entry) answer.now) }
+    ensures unwritten { IfErr result.status (IsUnwritten (writes D.writes disk.old disk.new)
+        (λ bytes. O.fails out.old bytes out.new) (text_if proof.entry) answer.now) }
     ensures ended_before { has_ended_before result.status ≡ true → out.new ≡ out.old }
     ensures told { Tells E.contents E.fails err.old (told_of answer.now result.status) result.told err.new }
 {

@@ -6,7 +6,8 @@ ghost use Rattle.index_reader.specs.Opened.{DiskCalls, IsRead};
 ghost use Rattle.checker.specs.Texts.{check_text};
 ghost use Rattle.selection.specs.Texts.{verdict_text};
 ghost use Rattle.words.specs.Views.{text_if, words_view};
-ghost use Rattle.commands.specs.Commands.{Answers, IsAnswerTo, IsCheckOf, IsDerivationOf, IsTextOf, IsVerdictOf, LacksAnswer, LacksCheck, LacksText, LacksVerdict, Runs, Endings, preference};
+ghost use Rattle.commands.specs.Commands.{Answers, IsAnswerTo, IsCheckOf, IsDerivationOf, IsTextOf, IsVerdictOf};
+ghost use Rattle.commands.specs.Commands.{LacksAnswer, LacksCheck, LacksText, LacksVerdict, Runs, Endings, preference};
 ghost use Rattle.commands.specs.Disks.{bytes_if, writes};
 ghost use Rattle.commands.specs.WordsFaults.{IsToldOfWords, told_of_words};
 ghost use Rattle.commands.specs.Lines.{Tells, check_status, ending_of, line_of, status_of, verdict_status};
@@ -43,7 +44,10 @@ pub fn run<R: Opens + Puts + AllocGlobal + Clone + Drop, O: Stream, E: Stream>(
     out: &mut O,
     err: &mut E,
 ) -> u8
-    ensures { (told : Bool) × Runs (IsRead (R.opens rt.old) R.File.left R.File.fails) (writes (IsWritten R.puts) rt.old rt.new) (IsOpened R.is_clone rt.old) (DiskCalls R.opens R.File.left R.File.fails) (λ folder. folder.failures) (λ bytes. O.fails out.old bytes out.new) (map string_bytes words.now) (O.contents out.old) (O.contents out.new) (λ texts. Tells E.contents E.fails err.old texts told err.new) (out.new ≡ out.old) result }
+    ensures { (told : Bool) × Runs (IsRead (R.opens rt.old) R.File.left R.File.fails) (writes (IsWritten R.puts) rt.old
+        rt.new) (IsOpened R.is_clone rt.old) (DiskCalls R.opens R.File.left R.File.fails) (λ folder. folder.failures)
+        (λ bytes. O.fails out.old bytes out.new) (map string_bytes words.now) (O.contents out.old) (O.contents out.new)
+        (λ texts. Tells E.contents E.fails err.old texts told err.new) (out.new ≡ out.old) result }
 {
     run_on(rt, words, out, err).0
 }
@@ -55,7 +59,10 @@ pub fn run_on<D: Disk, O: Stream, E: Stream>(
     out: &mut O,
     err: &mut E,
 ) -> (u8, bool)
-    ensures { Runs (D.reads disk.old) (writes D.writes disk.old disk.new) (D.opens disk.old) D.Index.calls D.Index.failed (λ bytes. O.fails out.old bytes out.new) (map string_bytes words.now) (O.contents out.old) (O.contents out.new) (λ texts. Tells E.contents E.fails err.old texts result.1 err.new) (out.new ≡ out.old) result.0 }
+    ensures { Runs (D.reads disk.old) (writes D.writes disk.old disk.new)
+        (D.opens disk.old) D.Index.calls D.Index.failed
+        (λ bytes. O.fails out.old bytes out.new) (map string_bytes words.now) (O.contents out.old) (O.contents out.new)
+        (λ texts. Tells E.contents E.fails err.old texts result.1 err.new) (out.new ≡ out.old) result.0 }
 {
     match read_words(disk.memory(), words) {
         Ok(words) => {
@@ -74,7 +81,12 @@ fn answered<'a, D: Disk, O: Stream, E: Stream>(
     out: &mut O,
     err: &mut E,
 ) -> Ended<'a>
-    ensures answers { (told : List (List ℕ)) × IfOk result.status (Answers (D.reads disk.old) (writes D.writes disk.old disk.new) (D.opens disk.old) D.Index.calls D.Index.failed (words_view words.entry.now) (O.contents out.old) (O.contents out.new) told) × IfErr result.status (Endings (D.reads disk.old) (writes D.writes disk.old disk.new) (D.opens disk.old) D.Index.calls D.Index.failed (λ bytes. O.fails out.old bytes out.new) (words_view words.entry.now) told) × Tells E.contents E.fails err.old told result.told err.new }
+    ensures answers { (told : List (List ℕ)) × IfOk result.status
+        (Answers (D.reads disk.old) (writes D.writes disk.old disk.new) (D.opens disk.old) D.Index.calls D.Index.failed
+        (words_view words.entry.now) (O.contents out.old) (O.contents out.new) told) × IfErr result.status
+        (Endings (D.reads disk.old) (writes D.writes disk.old disk.new) (D.opens disk.old) D.Index.calls D.Index.failed
+        (λ bytes. O.fails out.old bytes out.new) (words_view words.entry.now) told)
+        × Tells E.contents E.fails err.old told result.told err.new }
     ensures ended_before { has_ended_before result.status ≡ true → out.new ≡ out.old }
 {
     match words {
@@ -122,8 +134,15 @@ fn verify_at<'a, D: Disk, O: Stream>(
     source: Option<&str>,
     out: &mut O,
 ) -> Result<u8, Ending<'a>>
-    ensures answers { IfOk result (λ status. (said : Verdict) × IsVerdictOf (D.reads disk.now) (D.opens disk.now) D.Index.calls D.Index.failed manifest.entry.now index.now lock.entry.now (text_if source.entry) (Ok said) × (status ≡ verdict_status said) × Appends (O.contents out.old) (O.contents out.new) (line_of (verdict_text said))) }
-    ensures ends { IfErr result (λ ending. LacksVerdict (D.reads disk.now) (D.opens disk.now) D.Index.calls D.Index.failed manifest.entry.now index.now lock.entry.now (text_if source.entry) ending ⊎ ((said : Verdict) × IsVerdictOf (D.reads disk.now) (D.opens disk.now) D.Index.calls D.Index.failed manifest.entry.now index.now lock.entry.now (text_if source.entry) (Ok said) × (ending_view ending ≡ cannot_write) × O.fails out.old (line_of (verdict_text said)) out.new)) }
+    ensures answers { IfOk result
+        (λ status. (said : Verdict) × IsVerdictOf (D.reads disk.now) (D.opens disk.now) D.Index.calls D.Index.failed
+        manifest.entry.now index.now lock.entry.now (text_if source.entry) (Ok said) × (status ≡ verdict_status said)
+        × Appends (O.contents out.old) (O.contents out.new) (line_of (verdict_text said))) }
+    ensures ends { IfErr result (λ ending. LacksVerdict (D.reads disk.now) (D.opens disk.now) D.Index.calls
+        D.Index.failed manifest.entry.now index.now lock.entry.now (text_if source.entry) ending
+        ⊎ ((said : Verdict) × IsVerdictOf (D.reads disk.now) (D.opens disk.now) D.Index.calls D.Index.failed
+        manifest.entry.now index.now lock.entry.now (text_if source.entry) (Ok said)
+        × (ending_view ending ≡ cannot_write) × O.fails out.old (line_of (verdict_text said)) out.new)) }
     ensures ended_before { has_ended_before result ≡ true → out.new ≡ out.old }
 {
     let verdict = verdict_at(disk, manifest, index, lock, source)?;
@@ -139,8 +158,10 @@ fn verdict_at<'a, D: Disk>(
     lock: &'a str,
     source: Option<&str>,
 ) -> Result<Verdict, Ending<'a>>
-    ensures verdict { IfOk result (λ verdict. IsVerdictOf (D.reads disk.now) (D.opens disk.now) D.Index.calls D.Index.failed manifest.entry.now index.now lock.entry.now (text_if source.entry) (Ok verdict)) }
-    ensures lacks { IfErr result (LacksVerdict (D.reads disk.now) (D.opens disk.now) D.Index.calls D.Index.failed manifest.entry.now index.now lock.entry.now (text_if source.entry)) }
+    ensures verdict { IfOk result (λ verdict. IsVerdictOf (D.reads disk.now) (D.opens disk.now) D.Index.calls
+        D.Index.failed manifest.entry.now index.now lock.entry.now (text_if source.entry) (Ok verdict)) }
+    ensures lacks { IfErr result (LacksVerdict (D.reads disk.now) (D.opens disk.now) D.Index.calls D.Index.failed
+        manifest.entry.now index.now lock.entry.now (text_if source.entry)) }
 {
     let text = source_text(source)?;
     let bytes = read_manifest(disk, manifest)?;
@@ -166,8 +187,11 @@ fn answer_at<'a, D: Disk>(
     source: Option<&str>,
     rust_first: bool,
 ) -> Result<Answer, Ending<'a>>
-    ensures answer { IfOk result (λ answer. IsAnswerTo (D.reads disk.now) (D.opens disk.now) D.Index.calls D.Index.failed manifest.entry.now index.now (text_if lock.entry) (text_if source.entry) rust_first (Ok answer)) }
-    ensures lacks { IfErr result (LacksAnswer (D.reads disk.now) (D.opens disk.now) D.Index.calls D.Index.failed manifest.entry.now index.now (text_if lock.entry) (text_if source.entry) rust_first) }
+    ensures answer { IfOk result
+        (λ answer. IsAnswerTo (D.reads disk.now) (D.opens disk.now) D.Index.calls D.Index.failed manifest.entry.now
+        index.now (text_if lock.entry) (text_if source.entry) rust_first (Ok answer)) }
+    ensures lacks { IfErr result (LacksAnswer (D.reads disk.now) (D.opens disk.now) D.Index.calls D.Index.failed
+        manifest.entry.now index.now (text_if lock.entry) (text_if source.entry) rust_first) }
 {
     let text = source_text(source)?;
     let bytes = read_manifest(disk, manifest)?;
@@ -215,8 +239,15 @@ fn check_at<'a, D: Disk, O: Stream>(
     proof: &'a str,
     out: &mut O,
 ) -> Result<u8, Ending<'a>>
-    ensures answers { IfOk result (λ status. (said : Check) × IsCheckOf (D.reads disk.now) (D.opens disk.now) D.Index.calls D.Index.failed manifest.entry.now index.now (text_if lock.entry) (text_if source.entry) proof.entry.now (Ok said) × (status ≡ check_status said) × Appends (O.contents out.old) (O.contents out.new) (line_of (check_text said))) }
-    ensures ends { IfErr result (λ ending. LacksCheck (D.reads disk.now) (D.opens disk.now) D.Index.calls D.Index.failed manifest.entry.now index.now (text_if lock.entry) (text_if source.entry) proof.entry.now ending ⊎ ((said : Check) × IsCheckOf (D.reads disk.now) (D.opens disk.now) D.Index.calls D.Index.failed manifest.entry.now index.now (text_if lock.entry) (text_if source.entry) proof.entry.now (Ok said) × (ending_view ending ≡ cannot_write) × O.fails out.old (line_of (check_text said)) out.new)) }
+    ensures answers { IfOk result (λ status. (said : Check)
+        × IsCheckOf (D.reads disk.now) (D.opens disk.now) D.Index.calls D.Index.failed manifest.entry.now index.now
+        (text_if lock.entry) (text_if source.entry) proof.entry.now (Ok said) × (status ≡ check_status said)
+        × Appends (O.contents out.old) (O.contents out.new) (line_of (check_text said))) }
+    ensures ends { IfErr result (λ ending. LacksCheck (D.reads disk.now) (D.opens disk.now) D.Index.calls D.Index.failed
+        manifest.entry.now index.now (text_if lock.entry) (text_if source.entry) proof.entry.now ending
+        ⊎ ((said : Check) × IsCheckOf (D.reads disk.now) (D.opens disk.now) D.Index.calls D.Index.failed
+        manifest.entry.now index.now (text_if lock.entry) (text_if source.entry) proof.entry.now (Ok said)
+        × (ending_view ending ≡ cannot_write) × O.fails out.old (line_of (check_text said)) out.new)) }
     ensures ended_before { has_ended_before result ≡ true → out.new ≡ out.old }
 {
     let checked = checked_at(disk, manifest, index, lock, source, proof)?;
@@ -233,8 +264,10 @@ fn checked_at<'a, D: Disk>(
     source: Option<&str>,
     proof: &'a str,
 ) -> Result<Check, Ending<'a>>
-    ensures check { IfOk result (λ check. IsCheckOf (D.reads disk.now) (D.opens disk.now) D.Index.calls D.Index.failed manifest.entry.now index.now (text_if lock.entry) (text_if source.entry) proof.entry.now (Ok check)) }
-    ensures lacks { IfErr result (LacksCheck (D.reads disk.now) (D.opens disk.now) D.Index.calls D.Index.failed manifest.entry.now index.now (text_if lock.entry) (text_if source.entry) proof.entry.now) }
+    ensures check { IfOk result (λ check. IsCheckOf (D.reads disk.now) (D.opens disk.now) D.Index.calls D.Index.failed
+        manifest.entry.now index.now (text_if lock.entry) (text_if source.entry) proof.entry.now (Ok check)) }
+    ensures lacks { IfErr result (LacksCheck (D.reads disk.now) (D.opens disk.now) D.Index.calls D.Index.failed
+        manifest.entry.now index.now (text_if lock.entry) (text_if source.entry) proof.entry.now) }
 {
     let text = source_text(source)?;
     let bytes = read_manifest(disk, manifest)?;
@@ -259,8 +292,11 @@ fn explain_at<'a, D: Disk, O: Stream>(
     proof: &'a str,
     out: &mut O,
 ) -> Result<u8, Ending<'a>>
-    ensures answers { IfOk result (λ status. (text : List ℕ) × IsTextOf (D.reads disk.now) proof.entry.now text × (status ≡ 0) × Appends (O.contents out.old) (O.contents out.new) text) }
-    ensures ends { IfErr result (λ ending. LacksText (D.reads disk.now) proof.entry.now ending ⊎ ((text : List ℕ) × IsTextOf (D.reads disk.now) proof.entry.now text × (ending_view ending ≡ cannot_write) × O.fails out.old text out.new)) }
+    ensures answers { IfOk result (λ status. (text : List ℕ) × IsTextOf (D.reads disk.now) proof.entry.now text
+        × (status ≡ 0) × Appends (O.contents out.old) (O.contents out.new) text) }
+    ensures ends { IfErr result (λ ending. LacksText (D.reads disk.now) proof.entry.now ending
+        ⊎ ((text : List ℕ) × IsTextOf (D.reads disk.now) proof.entry.now text × (ending_view ending ≡ cannot_write)
+        × O.fails out.old text out.new)) }
     ensures ended_before { has_ended_before result ≡ true → out.new ≡ out.old }
 {
     let text = text_at(disk, proof)?;
@@ -315,7 +351,8 @@ pub fn without_arguments<E: Write>(error: &io::Error, err: &mut E) -> u8
 
 /// Help goes to standard output, wrong use to standard error; gives the status, and whether all was told.
 fn without_words<O: Stream, E: Stream>(fault: &WordsFault, out: &mut O, err: &mut E) -> (u8, bool)
-    ensures printed { IsToldOfWords (λ bytes. O.fails out.old bytes out.new) (O.contents out.old) (O.contents out.new) fault.now result.0 }
+    ensures printed { IsToldOfWords
+        (λ bytes. O.fails out.old bytes out.new) (O.contents out.old) (O.contents out.new) fault.now result.0 }
     ensures told { Tells E.contents E.fails err.old (told_of_words fault.now result.0) result.1 err.new }
 {
     match fault {

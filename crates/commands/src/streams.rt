@@ -22,8 +22,10 @@ pub trait Stream {
 
     /// Writes a line, and says whether all of it was written.
     fn put_line<T: Display + Drop>(&mut self, text: T) -> bool
-        ensures written { result ≡ true → IfSome (with_newline (T.output text)) (Appends (contents self.old) (contents self.new)) }
-        ensures failed { result ≡ false → IfSome (with_newline (T.output text)) (λ bytes. fails self.old bytes self.new) };
+        ensures written { result ≡ true
+            → IfSome (with_newline (T.output text)) (Appends (contents self.old) (contents self.new)) }
+        ensures failed { result ≡ false
+            → IfSome (with_newline (T.output text)) (λ bytes. fails self.old bytes self.new) };
 }
 
 /// Of a write that failed the toolchain's writers promise nothing.

@@ -1,5 +1,6 @@
 -- The steps of the resolution of a conflict: what each combination keeps, and what the last incompatibility promises.
-use Rattle.std.proofs.Common.{◌≡◌, ℕ, suc, ◌+◌, ◌<◌, ◌≤◌, Bool, true, false, List, [], ◌∷◌, ◌++◌, length, append_assoc, Option, Some, None, refl, sym, ap, ◌∙◌, subst, arith, inl, inr}
+use Rattle.std.proofs.Common.{◌≡◌, ℕ, suc, ◌+◌, ◌<◌, ◌≤◌, Bool, true, false, List, [], ◌∷◌, ◌++◌, length, append_assoc}
+use Rattle.std.proofs.Common.{Option, Some, None, refl, sym, ap, ◌∙◌, subst, arith, inl, inr}
 use Rattle.std.specs.Bool.{OnTrue}
 use Rattle.std.specs.Option.{is_some}
 use Rattle.std.proofs.lemmas.Bool.{cases_eq, cases_lt}
@@ -23,7 +24,8 @@ use Rattle.propagation.proofs.Places.{cut_sets, end_is_place, holds_at_ends, kep
 use Rattle.propagation.proofs.SetLemmas.{meets_of}
 use Rattle.propagation.proofs.Soundness.{trail_grown}
 use Rattle.conflicts.specs.Covering.{Covers}
-use Rattle.conflicts.specs.Resolving.{IsAsked, IsCombined, IsFound, IsGained, IsLearned, IsLone, IsSatisfierOf, IsStart, Learns, Quiet}
+use Rattle.conflicts.specs.Resolving.{IsAsked, IsCombined, IsFound, IsGained, IsLearned, IsLone, IsSatisfierOf, IsStart}
+use Rattle.conflicts.specs.Resolving.{Learns, Quiet}
 use Rattle.conflicts.proofs.Covered.{stands_before}
 
 -- how many places there are up to the satisfier
@@ -32,7 +34,8 @@ places_left None = 0
 places_left (Some s) = suc s.place
 
 -- what was combined so far
-pub record IsResolving (old : List EntryView) (t : TrailView) (es : List EntryView) (current : ℕ) (found : Option Satisfier) : Type 0 where
+pub record IsResolving (old : List EntryView) (t : TrailView) (es : List EntryView) (current : ℕ)
+    (found : Option Satisfier) : Type 0 where
   pub gained : List EntryView
   pub grown : es ≡ old ++ gained
   pub few : length gained + places_left found ≤ length t.steps
@@ -44,25 +47,33 @@ pub record IsResolving (old : List EntryView) (t : TrailView) (es : List EntryVi
   pub within : current < length es
   pub here : IsFound es t current found
 
-pub level_low : (es : List EntryView) (t : TrailView) (id : ℕ) (s : Satisfier) → IsSound t → IsSatisfierOf es t id s → s.level ≤ t.level
-level_low es t id s sound found = let e = found.satisfied.level in omega (arith, e, place_low 0 t.level s.place t.steps sound.levels found.satisfied.within)
+pub level_low : (es : List EntryView) (t : TrailView) (id : ℕ) (s : Satisfier) → IsSound t
+    → IsSatisfierOf es t id s → s.level ≤ t.level
+level_low es t id s sound found = let e =
+    found.satisfied.level in omega (arith, e, place_low 0 t.level s.place t.steps sound.levels found.satisfied.within)
 
 -- where nothing is satisfied at the end of a lower level, the satisfier stands at the trail's own
-pub level_top : (es : List EntryView) (t : TrailView) (id : ℕ) (s : Satisfier) → IsSound t → IsLone es t id → IsSatisfierOf es t id s → s.before ≡ s.level → s.before ≡ t.level
+pub level_top : (es : List EntryView) (t : TrailView) (id : ℕ) (s : Satisfier) → IsSound t → IsLone es t id
+    → IsSatisfierOf es t id s → s.before ≡ s.level → s.before ≡ t.level
 level_top es t id s sound lone found e = elim (cases_lt s.level t.level) [
   | inl lt ↦ absurd (lone s.level lt (found.opens.held e))
   | inr le ↦ omega (arith, e, le, level_low es t id s sound found)
 ]
 
 -- the satisfier's vertex has a term: its assignment changes no other vertex, and made the difference
-term_there : (es : List EntryView) (t : TrailView) (id : ℕ) (s : Satisfier) → IsSound t → IsSatisfierOf es t id s → (o : Option Members) → terms_of es id s.vertex ≡ o → is_some o ≡ true
+term_there : (es : List EntryView) (t : TrailView) (id : ℕ) (s : Satisfier) → IsSound t → IsSatisfierOf es t id s
+    → (o : Option Members) → terms_of es id s.vertex ≡ o → is_some o ≡ true
 term_there es t id s sound found (Some x) e = refl
-term_there es t id s sound found None e = absurd (found.satisfied.first s.place (omega arith) (λ u. elim (cases_eq u s.vertex) [
-  | inl same ↦ subst (λ w. HoldsAt (set_of (sets_at t s.place) w) (terms_of es id w)) (sym same) (subst (HoldsAt (set_of (sets_at t s.place) s.vertex)) (sym e) tt)
-  | inr ne ↦ subst (λ x. HoldsAt x (terms_of es id u)) ((sound.places s.place found.satisfied.within).there u (λ at. ne (at ∙ sym found.satisfied.vertex))) (found.satisfied.after u)
-]))
+term_there es t id s sound found None e =
+    absurd (found.satisfied.first s.place (omega arith) (λ u. elim (cases_eq u s.vertex) [
+      | inl same ↦ subst (λ w. HoldsAt (set_of (sets_at t s.place) w) (terms_of es id w)) (sym same)
+          (subst (HoldsAt (set_of (sets_at t s.place) s.vertex)) (sym e) tt)
+      | inr ne ↦ subst (λ x. HoldsAt x (terms_of es id u)) ((sound.places s.place found.satisfied.within).there u
+          (λ at. ne (at ∙ sym found.satisfied.vertex))) (found.satisfied.after u)
+    ]))
 
-pub vertex_touched : (es : List EntryView) (t : TrailView) (id : ℕ) (s : Satisfier) → IsSound t → IsSatisfierOf es t id s → touches s.vertex (entry es id).terms ≡ true
+pub vertex_touched : (es : List EntryView) (t : TrailView) (id : ℕ) (s : Satisfier) → IsSound t
+    → IsSatisfierOf es t id s → touches s.vertex (entry es id).terms ≡ true
 vertex_touched es t id s sound found = term_there es t id s sound found (terms_of es id s.vertex) refl
 
 -- a combination is no axiom
@@ -74,7 +85,8 @@ pub combined_not_given : (es : List EntryView) (id : ℕ) → IsCombined es id �
 combined_not_given es id c = axiom_not_combined (entry es id).origin c.first c.second c.vertex c.watches c.origin
 
 -- one combination more, with what stands in for the cause
-pub record IsStep (old : List EntryView) (t : TrailView) (es : List EntryView) (current : ℕ) (s : Satisfier) (c j : ℕ) (made : List TermView) (w : Bool) (new : List EntryView) (id : ℕ) : Type 0 where
+pub record IsStep (old : List EntryView) (t : TrailView) (es : List EntryView) (current : ℕ) (s : Satisfier) (c j : ℕ)
+    (made : List TermView) (w : Bool) (new : List EntryView) (id : ℕ) : Type 0 where
   pub way : IsResolving old t es current (Some s)
   pub asked : IsAsked s (Some c)
   pub id_is : id ≡ length es
@@ -85,27 +97,43 @@ pub record IsStep (old : List EntryView) (t : TrailView) (es : List EntryView) (
   pub grown : new ≡ es ++ record { terms = made; origin = Combined current j s.vertex w } ∷ []
 
 -- the cause of the satisfier, of an entry that is being resolved
-pub cause_of : (old : List EntryView) (t : TrailView) (es : List EntryView) (current : ℕ) (s : Satisfier) (c : ℕ) → IsResolving old t es current (Some s) → IsAsked s (Some c) → CauseFits es t (entry es current).terms s (Some c)
-cause_of old t es current s c way asked = subst (CauseFits es t (entry es current).terms s) asked.1 way.here.satisfier.cause
+pub cause_of : (old : List EntryView) (t : TrailView) (es : List EntryView) (current : ℕ) (s : Satisfier) (c : ℕ)
+    → IsResolving old t es current (Some s) → IsAsked s (Some c) → CauseFits es t (entry es current).terms s (Some c)
+cause_of old t es current s c way asked =
+    subst (CauseFits es t (entry es current).terms s) asked.1 way.here.satisfier.cause
 
 -- what comes of the two is satisfied before the satisfier
-made_before : (old : List EntryView) (t : TrailView) (es : List EntryView) (current : ℕ) (s : Satisfier) (c j : ℕ) → IsResolving old t es current (Some s) → IsAsked s (Some c) → j < length es → Covers (terms_of es c) (terms_of es j) → (made : List TermView) → IsCombination s.vertex (entry es current).terms (entry es j).terms made → Sat (sets_at t s.place) (states_at made)
-made_before old t es current s c j way asked within covers made is = stands_before es t (entry es current).terms made s c j way.trail.lies within (way.trail.lies current way.within) way.here.satisfier.satisfied way.here.satisfier.opens (cause_of old t es current s c way asked).0 covers is
+made_before : (old : List EntryView) (t : TrailView) (es : List EntryView) (current : ℕ) (s : Satisfier) (c j : ℕ)
+    → IsResolving old t es current (Some s) → IsAsked s (Some c) → j < length es
+    → Covers (terms_of es c) (terms_of es j) → (made : List TermView)
+    → IsCombination s.vertex (entry es current).terms (entry es j).terms made → Sat (sets_at t s.place) (states_at made)
+made_before old t es current s c j way asked within covers made is =
+    stands_before es t (entry es current).terms made s c j way.trail.lies within (way.trail.lies current way.within)
+    way.here.satisfier.satisfied way.here.satisfier.opens (cause_of old t es current s c way asked).0 covers is
 
 -- and so it is now
-pub made_sat : (old : List EntryView) (t : TrailView) (es : List EntryView) (current : ℕ) (s : Satisfier) (c j : ℕ) → IsResolving old t es current (Some s) → IsAsked s (Some c) → j < length es → Covers (terms_of es c) (terms_of es j) → (made : List TermView) → IsCombination s.vertex (entry es current).terms (entry es j).terms made → Sat t.sets (states_at made)
-made_sat old t es current s c j way asked within covers made is = subst (λ (ss : List Members). Sat ss (states_at made)) (sets_now t)
-    (sat_later t way.trail.sound (states_at made) s.place (length t.steps) (let w = way.here.satisfier.satisfied.within in omega (arith, w)) (omega arith) (made_before old t es current s c j way asked within covers made is))
+pub made_sat : (old : List EntryView) (t : TrailView) (es : List EntryView) (current : ℕ) (s : Satisfier) (c j : ℕ)
+    → IsResolving old t es current (Some s) → IsAsked s (Some c) → j < length es
+    → Covers (terms_of es c) (terms_of es j) → (made : List TermView)
+    → IsCombination s.vertex (entry es current).terms (entry es j).terms made → Sat t.sets (states_at made)
+made_sat old t es current s c j way asked within covers made is =
+    subst (λ (ss : List Members). Sat ss (states_at made)) (sets_now t)
+    (sat_later t way.trail.sound (states_at made) s.place (length t.steps) (let w = way.here.satisfier.satisfied.within
+    in omega (arith, w)) (omega arith) (made_before old t es current s c j way asked within covers made is))
 
-module _ (old : List EntryView) (t : TrailView) (es : List EntryView) (current : ℕ) (s : Satisfier) (c j : ℕ) (made : List TermView) (w : Bool) (new : List EntryView) (id : ℕ) (d : IsStep old t es current s c j made w new id) where
+module _ (old : List EntryView) (t : TrailView) (es : List EntryView) (current : ℕ) (s : Satisfier) (c j : ℕ)
+    (made : List TermView) (w : Bool) (new : List EntryView) (id : ℕ)
+    (d : IsStep old t es current s c j made w new id) where
   abbrev last : EntryView
   last = record { terms = made; origin = Combined current j s.vertex w }
 
   at_new : entry new id ≡ last
-  at_new = ap (λ (xs : List EntryView). entry xs id) d.grown ∙ ap (entry (es ++ last ∷ [])) d.id_is ∙ get_or-append_seam es last [] (record { terms = []; origin = Axiom 0 })
+  at_new = ap (λ (xs : List EntryView). entry xs id) d.grown ∙ ap (entry (es ++ last ∷ [])) d.id_is
+      ∙ get_or-append_seam es last [] (record { terms = []; origin = Axiom 0 })
 
   at_old : (i : ℕ) → i < length es → entry new i ≡ entry es i
-  at_old i lt = ap (λ (xs : List EntryView). entry xs i) d.grown ∙ get_or_append_left es (last ∷ []) (record { terms = []; origin = Axiom 0 }) i lt
+  at_old i lt = ap (λ (xs : List EntryView). entry xs i) d.grown
+      ∙ get_or_append_left es (last ∷ []) (record { terms = []; origin = Axiom 0 }) i lt
 
   long : length new ≡ suc (length es)
   long = ap length d.grown ∙ length-append es (last ∷ []) ∙ omega arith
@@ -121,33 +149,41 @@ module _ (old : List EntryView) (t : TrailView) (es : List EntryView) (current :
   sound = d.way.trail.sound
 
   sat_before : Sat (sets_at t s.place) (terms_of new id)
-  sat_before = subst (λ (e : EntryView). Sat (sets_at t s.place) (states_at e.terms)) (sym at_new) (made_before old t es current s c j d.way d.asked d.stands d.covers made d.combination)
+  sat_before = subst (λ (e : EntryView). Sat (sets_at t s.place) (states_at e.terms)) (sym at_new)
+      (made_before old t es current s c j d.way d.asked d.stands d.covers made d.combination)
 
   pub sat_now : Sat t.sets (terms_of new id)
   sat_now = subst (λ (ss : List Members). Sat ss (terms_of new id)) (sets_now t)
-      (sat_later t sound (terms_of new id) s.place (length t.steps) (let w = d.way.here.satisfier.satisfied.within in omega (arith, w)) (omega arith) sat_before)
+      (sat_later t sound (terms_of new id) s.place (length t.steps)
+      (let w = d.way.here.satisfier.satisfied.within in omega (arith, w)) (omega arith) sat_before)
 
   lies_made : LiesIn (space_of t) (states_at made)
-  lies_made = lies_combined s.vertex (terms_of es current) (terms_of es j) (states_at made) d.combination.each (space_of t) (d.way.trail.lies current d.way.within) (d.way.trail.lies j d.stands)
+  lies_made = lies_combined s.vertex (terms_of es current) (terms_of es j) (states_at made) d.combination.each
+      (space_of t) (d.way.trail.lies current d.way.within) (d.way.trail.lies j d.stands)
 
   lies_new : LieIn t new
   lies_new = by_id (λ i. LiesIn (space_of t) (terms_of new i))
-      (λ i less. subst (λ (e : EntryView). LiesIn (space_of t) (states_at e.terms)) (sym (at_old i less)) (d.way.trail.lies i less))
+      (λ i less. subst (λ (e : EntryView). LiesIn (space_of t) (states_at e.terms)) (sym (at_old i less))
+      (d.way.trail.lies i less))
       (subst (λ (e : EntryView). LiesIn (space_of t) (states_at e.terms)) (sym at_new) lies_made)
 
   pub trail_new : IsTrail new t
-  trail_new = subst (λ (xs : List EntryView). IsTrail xs t) (sym d.grown) (trail_grown es (last ∷ []) t d.way.trail (subst (λ (xs : List EntryView). LieIn t xs) d.grown lies_new))
+  trail_new = subst (λ (xs : List EntryView). IsTrail xs t) (sym d.grown)
+      (trail_grown es (last ∷ []) t d.way.trail (subst (λ (xs : List EntryView). LieIn t xs) d.grown lies_new))
 
   -- were the combination satisfied at the end of a lower level, the other terms of the current entry would be satisfied
   -- there
   lone_new : IsLone new t id
-  lone_new l lt sat = d.way.here.satisfier.satisfied.others_no l (let top = level_top es t current s sound d.way.lone d.way.here.satisfier d.asked.0 in omega (arith, lt, top))
-      (combined_others (space_of t) (end_sets t l) s.vertex (entry es current).terms (entry es j).terms made d.way.here.is (d.way.trail.lies current d.way.within) (d.way.trail.lies j d.stands) d.combination
+  lone_new l lt sat = d.way.here.satisfier.satisfied.others_no l
+      (let top = level_top es t current s sound d.way.lone d.way.here.satisfier d.asked.0 in omega (arith, lt, top))
+      (combined_others (space_of t) (end_sets t l) s.vertex (entry es current).terms (entry es j).terms made
+      d.way.here.is (d.way.trail.lies current d.way.within) (d.way.trail.lies j d.stands) d.combination
       (subst (λ (e : EntryView). Sat (end_sets t l) (states_at e.terms)) at_new sat))
 
   quiet_new : Quiet new t t.level
   quiet_new l lt = by_id (λ i. watched (entry new i).origin ≡ true → ¬ Sat (end_sets t l) (terms_of new i))
-      (λ i less on sat. d.way.quiet l lt i less (subst (λ (e : EntryView). watched e.origin ≡ true) (at_old i less) on) (subst (λ (e : EntryView). Sat (end_sets t l) (states_at e.terms)) (at_old i less) sat))
+      (λ i less on sat. d.way.quiet l lt i less (subst (λ (e : EntryView). watched e.origin ≡ true) (at_old i less)
+      on) (subst (λ (e : EntryView). Sat (end_sets t l) (states_at e.terms)) (at_old i less) sat))
       (λ on sat. lone_new l lt sat)
 
   learns_new : Learns t (entry new id).terms (watched (entry new id).origin)
@@ -162,10 +198,14 @@ module _ (old : List EntryView) (t : TrailView) (es : List EntryView) (current :
     origin = ap (λ (e : EntryView). e.origin) (at_old i lt) ∙ was.origin;
     first_earlier = was.first_earlier;
     second_earlier = was.second_earlier;
-    term = ap (λ (e : EntryView). touches was.vertex e.terms) (at_old was.first (let f = was.first_earlier in omega (arith, f, lt))) ∙ was.term;
-    is = subst (λ (e : EntryView). IsCombination was.vertex (entry new was.first).terms (entry new was.second).terms e.terms) (sym (at_old i lt))
-        (subst (λ (e : EntryView). IsCombination was.vertex e.terms (entry new was.second).terms (entry es i).terms) (sym (at_old was.first (let f = was.first_earlier in omega (arith, f, lt))))
-        (subst (λ (e : EntryView). IsCombination was.vertex (entry es was.first).terms e.terms (entry es i).terms) (sym (at_old was.second (let f = was.second_earlier in omega (arith, f, lt)))) was.is));
+    term = ap (λ (e : EntryView). touches was.vertex e.terms)
+        (at_old was.first (let f = was.first_earlier in omega (arith, f, lt))) ∙ was.term;
+    is = subst (λ (e : EntryView).
+        IsCombination was.vertex (entry new was.first).terms (entry new was.second).terms e.terms) (sym (at_old i lt))
+        (subst (λ (e : EntryView). IsCombination was.vertex e.terms (entry new was.second).terms (entry es i).terms)
+        (sym (at_old was.first (let f = was.first_earlier in omega (arith, f, lt))))
+        (subst (λ (e : EntryView). IsCombination was.vertex (entry es was.first).terms e.terms (entry es i).terms)
+        (sym (at_old was.second (let f = was.second_earlier in omega (arith, f, lt)))) was.is));
   }
 
   combined_here : IsCombined new id
@@ -177,14 +217,19 @@ module _ (old : List EntryView) (t : TrailView) (es : List EntryView) (current :
     origin = ap (λ (e : EntryView). e.origin) at_new;
     first_earlier = (let x = d.way.within in let k = d.id_is in omega (arith, x, k));
     second_earlier = (let x = d.stands in let k = d.id_is in omega (arith, x, k));
-    term = ap (λ (e : EntryView). touches s.vertex e.terms) (at_old current d.way.within) ∙ vertex_touched es t current s sound d.way.here.satisfier;
-    is = subst (λ (e : EntryView). IsCombination s.vertex (entry new current).terms (entry new j).terms e.terms) (sym at_new)
-        (subst (λ (e : EntryView). IsCombination s.vertex e.terms (entry new j).terms made) (sym (at_old current d.way.within))
-        (subst (λ (e : EntryView). IsCombination s.vertex (entry es current).terms e.terms made) (sym (at_old j d.stands)) d.combination));
+    term = ap (λ (e : EntryView). touches s.vertex e.terms) (at_old current d.way.within)
+        ∙ vertex_touched es t current s sound d.way.here.satisfier;
+    is = subst
+        (λ (e : EntryView). IsCombination s.vertex (entry new current).terms (entry new j).terms e.terms) (sym at_new)
+        (subst (λ (e : EntryView). IsCombination s.vertex e.terms (entry new j).terms made)
+        (sym (at_old current d.way.within))
+        (subst (λ (e : EntryView). IsCombination s.vertex (entry es current).terms e.terms made)
+        (sym (at_old j d.stands)) d.combination));
   }
 
   combined_new : (i : ℕ) → length old ≤ i → i < length new → IsCombined new i
-  combined_new i from lt = by_id (λ j. length old ≤ j → IsCombined new j) (λ j less ge. combined_was j less (d.way.combined j ge less)) (λ ge. combined_here) i lt from
+  combined_new i from lt = by_id (λ j. length old ≤ j → IsCombined new j)
+      (λ j less ge. combined_was j less (d.way.combined j ge less)) (λ ge. combined_here) i lt from
 
   -- the satisfier of the combination stands earlier on the trail
   pub nearer : (found : Option Satisfier) → IsFound new t id found → places_left found ≤ s.place
@@ -209,7 +254,9 @@ module _ (old : List EntryView) (t : TrailView) (es : List EntryView) (current :
   }
 
 -- at the level before, the term at the satisfier's vertex is open
-open_by : (sets : List Members) (f : Terms) (s : Satisfier) (after : Members) (o : Option Members) → f s.vertex ≡ o → HoldsAt after o → inside after (set_of sets s.vertex) ≡ true → 0 < size (set_of sets s.vertex) → OthersHold sets f s.vertex → (Sat sets f → ⊥) → (x : Members) × IsOneOpen sets f s.vertex x
+open_by : (sets : List Members) (f : Terms) (s : Satisfier) (after : Members) (o : Option Members) → f s.vertex ≡ o
+    → HoldsAt after o → inside after (set_of sets s.vertex) ≡ true → 0 < size (set_of sets s.vertex)
+    → OthersHold sets f s.vertex → (Sat sets f → ⊥) → (x : Members) × IsOneOpen sets f s.vertex x
 open_by sets f s after None is h shrinks some others not = absurd (not (λ u. elim (cases_eq u s.vertex) [
   | inl e ↦ subst (λ w. HoldsAt (set_of sets w) (f w)) (sym e) (subst (HoldsAt (set_of sets s.vertex)) (sym is) tt)
   | inr ne ↦ others u ne
@@ -226,27 +273,35 @@ open_by sets f s after (Some x) is h shrinks some others not = (
   where
     apart : (b : Bool) → inside (set_of sets s.vertex) x ≡ b → inside (set_of sets s.vertex) x ≡ false
     apart true e = absurd (not (λ u. elim (cases_eq u s.vertex) [
-      | inl at ↦ subst (λ w. HoldsAt (set_of sets w) (f w)) (sym at) (subst (HoldsAt (set_of sets s.vertex)) (sym is) (some, e))
+      | inl at ↦ subst (λ w. HoldsAt (set_of sets w) (f w)) (sym at)
+          (subst (HoldsAt (set_of sets s.vertex)) (sym is) (some, e))
       | inr ne ↦ others u ne
     ]))
     apart false e = e
 
 -- no lower level has one open term: at the satisfier's vertex, the others would be satisfied before the level where
 -- they came to be; elsewhere, all would be satisfied at that level, below the trail's own
-least_is : (es : List EntryView) (t : TrailView) (id : ℕ) (s : Satisfier) → IsSound t → IsLone es t id → IsSatisfierOf es t id s → s.before < t.level → (l : ℕ) → l < s.before → (v : ℕ) (x : Members) → IsOneOpen (end_sets t l) (terms_of es id) v x → ⊥
+least_is : (es : List EntryView) (t : TrailView) (id : ℕ) (s : Satisfier) → IsSound t → IsLone es t id
+    → IsSatisfierOf es t id s → s.before < t.level → (l : ℕ) → l < s.before → (v : ℕ) (x : Members)
+    → IsOneOpen (end_sets t l) (terms_of es id) v x → ⊥
 least_is es t id s sound lone found low l lt v x one = elim (cases_eq v s.vertex) [
   | inl e ↦ found.satisfied.others_no l lt (subst (OthersHold (end_sets t l) (terms_of es id)) e one.others)
   | inr ne ↦ lone s.before low (λ u. elim (cases_eq u s.vertex) [
-    | inl e ↦ subst (λ w. HoldsAt (set_of (end_sets t s.before) w) (terms_of es id w)) (sym e) (holds_at_ends t sound s.vertex l s.before (omega (arith, lt)) (terms_of es id s.vertex) (one.others s.vertex (λ at. ne (sym at))))
+    | inl e ↦ subst (λ w. HoldsAt (set_of (end_sets t s.before) w) (terms_of es id w)) (sym e) (holds_at_ends t sound
+        s.vertex l s.before (omega (arith, lt)) (terms_of es id s.vertex) (one.others s.vertex (λ at. ne (sym at))))
     | inr apart ↦ found.satisfied.others_at u apart
   ])
 ]
 
-pub learned_is : (old : List EntryView) (t : TrailView) (es : List EntryView) (current : ℕ) (s : Satisfier) (new : TrailView) (gone : List StepView) → IsResolving old t es current (Some s) → s.before < s.level → IsCut s.before t new gone → IsLearned t es new current s.before
+pub learned_is : (old : List EntryView) (t : TrailView) (es : List EntryView) (current : ℕ) (s : Satisfier)
+    (new : TrailView) (gone : List StepView) → IsResolving old t es current (Some s) → s.before < s.level
+    → IsCut s.before t new gone → IsLearned t es new current s.before
 learned_is old t es current s new gone way lt cut =
     let found = way.here.satisfier in
     let low : s.before < t.level = omega (arith, lt, level_low es t current s way.trail.sound found) in
-    let one = open_by (end_sets t s.before) (terms_of es current) s (set_of (sets_at t (suc s.place)) s.vertex) (terms_of es current s.vertex) refl (found.satisfied.after s.vertex) (found.opens.shrinks lt) found.opens.some found.satisfied.others_at (way.lone s.before low) in
+    let one = open_by (end_sets t s.before) (terms_of es current) s (set_of (sets_at t (suc s.place)) s.vertex)
+    (terms_of es current s.vertex) refl (found.satisfied.after s.vertex)
+    (found.opens.shrinks lt) found.opens.some found.satisfied.others_at (way.lone s.before low) in
     record {
       within = way.within;
       watches = way.learns s found.satisfied lt;
@@ -256,11 +311,13 @@ learned_is old t es current s new gone way lt cut =
       cut = cut;
       vertex = s.vertex;
       states = one.0;
-      one = subst (λ (ss : List Members). IsOneOpen ss (terms_of es current) s.vertex one.0) (cut_sets s.before t new gone cut) one.1;
+      one = subst (λ (ss : List Members). IsOneOpen ss (terms_of es current) s.vertex one.0)
+          (cut_sets s.before t new gone cut) one.1;
       least = least_is es t current s way.trail.sound way.lone found low;
     }
 
-pub gained_is : (old : List EntryView) (t : TrailView) (es : List EntryView) (current : ℕ) (found : Option Satisfier) → IsResolving old t es current found → (gained : List EntryView) × IsGained old t es gained
+pub gained_is : (old : List EntryView) (t : TrailView) (es : List EntryView) (current : ℕ) (found : Option Satisfier)
+    → IsResolving old t es current found → (gained : List EntryView) × IsGained old t es gained
 gained_is old t es current found way = (
   way.gained,
   record {
@@ -270,10 +327,13 @@ gained_is old t es current found way = (
   },
 )
 
-pub few_is : (old : List EntryView) (t : TrailView) (es : List EntryView) (current : ℕ) (found : Option Satisfier) → IsResolving old t es current found → length es ≤ length old + length t.steps
-few_is old t es current found way = let k = way.few in omega (arith, k, ap length way.grown, length-append old way.gained)
+pub few_is : (old : List EntryView) (t : TrailView) (es : List EntryView) (current : ℕ) (found : Option Satisfier)
+    → IsResolving old t es current found → length es ≤ length old + length t.steps
+few_is old t es current found way = let k =
+    way.few in omega (arith, k, ap length way.grown, length-append old way.gained)
 
-pub start_is : (es : List EntryView) (t : TrailView) (id : ℕ) (found : Option Satisfier) → IsTrail es t → Quiet es t t.level → IsStart es t id → IsFound es t id found → IsResolving es t es id found
+pub start_is : (es : List EntryView) (t : TrailView) (id : ℕ) (found : Option Satisfier) → IsTrail es t
+    → Quiet es t t.level → IsStart es t id → IsFound es t id found → IsResolving es t es id found
 start_is es t id found trail quiet start f = record {
   gained = [];
   grown = sym (nothing es);
@@ -313,9 +373,11 @@ module _ (t : TrailView) (f : Terms) (a b : Satisfier) (x : IsSatisfied t f a) (
   -- the number of places after which the other terms are satisfied
   same_others : x.before.0 ≡ y.before.0
   same_others = elim (cases_lt x.before.0 y.before.0) [
-    | inl lt ↦ absurd (y.before.2.first x.before.0 lt (subst (OthersHold (sets_at t x.before.0) f) same_vertex x.before.2.holds))
+    | inl lt ↦ absurd
+        (y.before.2.first x.before.0 lt (subst (OthersHold (sets_at t x.before.0) f) same_vertex x.before.2.holds))
     | inr ge ↦ elim (cases_lt y.before.0 x.before.0) [
-      | inl lt ↦ absurd (x.before.2.first y.before.0 lt (subst (OthersHold (sets_at t y.before.0) f) (sym same_vertex) y.before.2.holds))
+      | inl lt ↦ absurd (x.before.2.first y.before.0 lt
+          (subst (OthersHold (sets_at t y.before.0) f) (sym same_vertex) y.before.2.holds))
       | inr le ↦ omega (arith, ge, le)
     ]
   ]
@@ -328,7 +390,8 @@ module _ (t : TrailView) (f : Terms) (a b : Satisfier) (x : IsSatisfied t f a) (
 
 -- an incompatibility without terms has no satisfier
 pub none_learned : (t : TrailView) (ts : List TermView) (w : Bool) → ts ≡ [] → Learns t ts w
-none_learned t ts w none s is low = absurd (is.first 0 (omega arith) (λ u. subst (λ (us : List TermView). HoldsAt (set_of (sets_at t 0) u) (states_at us u)) (sym none) tt))
+none_learned t ts w none s is low = absurd (is.first 0 (omega arith)
+    (λ u. subst (λ (us : List TermView). HoldsAt (set_of (sets_at t 0) u) (states_at us u)) (sym none) tt))
 
 pub no_items : {A : Type 0} (xs : List A) → length xs ≡ 0 → xs ≡ []
 no_items [] e = refl
@@ -337,7 +400,8 @@ no_items (x ∷ xs) e = absurd (omega (arith, e))
 -- ---- where a resolution starts
 
 -- at a watched entry
-pub start_watched : (es : List EntryView) (t : TrailView) (id : ℕ) → id < length es → Sat t.sets (terms_of es id) → watched (entry es id).origin ≡ true → Quiet es t t.level → IsStart es t id
+pub start_watched : (es : List EntryView) (t : TrailView) (id : ℕ) → id < length es → Sat t.sets (terms_of es id)
+    → watched (entry es id).origin ≡ true → Quiet es t t.level → IsStart es t id
 start_watched es t id within sat on quiet = record {
   within = within;
   satisfied = sat;
@@ -346,18 +410,22 @@ start_watched es t id within sat on quiet = record {
 }
 
 -- or at one that the trail's own level satisfied, where its other terms were satisfied no earlier
-pub start_instead : (es : List EntryView) (t : TrailView) (id : ℕ) (s : Satisfier) → IsTrail es t → id < length es → Sat t.sets (terms_of es id) → IsFound es t id (Some s) → s.before ≡ s.level → s.level ≡ t.level → IsStart es t id
+pub start_instead : (es : List EntryView) (t : TrailView) (id : ℕ) (s : Satisfier) → IsTrail es t → id < length es
+    → Sat t.sets (terms_of es id) → IsFound es t id (Some s) → s.before ≡ s.level → s.level ≡ t.level → IsStart es t id
 start_instead es t id s trail within sat f held top = record {
   within = within;
   satisfied = sat;
   lone = lone;
-  learns = λ r is low. absurd (let b = same_before t (terms_of es id) r s is f.satisfier.satisfied in let l = same_level t (terms_of es id) r s is f.satisfier.satisfied in omega (arith, low, b, l, held));
+  learns = λ r is low. absurd (let b = same_before t (terms_of es id) r s is f.satisfier.satisfied in let l =
+      same_level t (terms_of es id) r s is f.satisfier.satisfied in omega (arith, low, b, l, held));
 }
   where
     lone : IsLone es t id
     lone l lt now = elim (cases_lt s.place (kept l t.steps)) [
-      | inl less ↦ absurd (let low = past_end l s.place t.steps less in let is = f.satisfier.satisfied.level in omega (arith, lt, top, low, is))
-      | inr le ↦ f.satisfier.satisfied.first (kept l t.steps) le (subst (λ (ss : List Members). Sat ss (terms_of es id)) (end_is_place t l) now)
+      | inl less ↦ absurd (let low = past_end l s.place t.steps less in let is =
+          f.satisfier.satisfied.level in omega (arith, lt, top, low, is))
+      | inr le ↦ f.satisfier.satisfied.first (kept l t.steps) le
+          (subst (λ (ss : List Members). Sat ss (terms_of es id)) (end_is_place t l) now)
     ]
 
 pub on_true : {P Q : Type 0} (b : Bool) → (P → Q) → OnTrue b P → OnTrue b Q

@@ -1,5 +1,6 @@
 -- What a store keeps as it gains combinations that are not watched.
-use Rattle.std.proofs.Common.{◌≡◌, ℕ, suc, ◌<◌, ◌≤◌, Bool, true, false, Result, Ok, Err, IfOk, OnErr, List, [], ◌∷◌, ◌++◌, length, append_assoc, refl, sym, ap, ◌∙◌, subst, arith, inl, inr}
+use Rattle.std.proofs.Common.{◌≡◌, ℕ, suc, ◌<◌, ◌≤◌, Bool, true, false, Result, Ok, Err, IfOk, OnErr, List, [], ◌∷◌}
+use Rattle.std.proofs.Common.{◌++◌, length, append_assoc, refl, sym, ap, ◌∙◌, subst, arith, inl, inr}
 use Rattle.std.specs.Bool.{OnTrue}
 use Rattle.std.proofs.lemmas.Bool.{cases_lt, false≢true}
 use Rattle.std.proofs.lemmas.List.{get_or_append_left, length-append}
@@ -26,7 +27,8 @@ nothing [] = refl
 nothing (x ∷ xs) = ap (λ ys. x ∷ ys) (nothing xs)
 
 -- what holds whether a call gives something or fails
-pub either_way : {X E : Type 0} (r : Result X E) (Q : X → Type 0) (R P : Type 0) → ((x : X) → Q x → P) → (R → P) → IfOk r Q → OnErr r R → P
+pub either_way : {X E : Type 0} (r : Result X E) (Q : X → Type 0) (R P : Type 0) → ((x : X) → Q x → P) → (R → P)
+    → IfOk r Q → OnErr r R → P
 either_way (Ok x) Q R P h k q failed = h x q
 either_way (Err e) Q R P h k q failed = k failed
 
@@ -52,17 +54,28 @@ module _ (es more new : List EntryView) (grown : new ≡ es ++ more) where
     origin = ap (λ (e : EntryView). e.origin) (at_old i lt) ∙ was.origin;
     first_earlier = was.first_earlier;
     second_earlier = was.second_earlier;
-    term = ap (λ (e : EntryView). touches was.vertex e.terms) (at_old was.first (let f = was.first_earlier in omega (arith, f, lt))) ∙ was.term;
-    is = subst (λ (e : EntryView). IsCombination was.vertex (entry new was.first).terms (entry new was.second).terms e.terms) (sym (at_old i lt))
-        (subst (λ (e : EntryView). IsCombination was.vertex e.terms (entry new was.second).terms (entry es i).terms) (sym (at_old was.first (let f = was.first_earlier in omega (arith, f, lt))))
-        (subst (λ (e : EntryView). IsCombination was.vertex (entry es was.first).terms e.terms (entry es i).terms) (sym (at_old was.second (let f = was.second_earlier in omega (arith, f, lt)))) was.is));
+    term = ap (λ (e : EntryView). touches was.vertex e.terms)
+        (at_old was.first (let f = was.first_earlier in omega (arith, f, lt))) ∙ was.term;
+    is = subst (λ (e : EntryView).
+        IsCombination was.vertex (entry new was.first).terms (entry new was.second).terms e.terms) (sym (at_old i lt))
+        (subst (λ (e : EntryView). IsCombination was.vertex e.terms (entry new was.second).terms (entry es i).terms)
+        (sym (at_old was.first (let f = was.first_earlier in omega (arith, f, lt))))
+        (subst (λ (e : EntryView). IsCombination was.vertex (entry es was.first).terms e.terms (entry es i).terms)
+        (sym (at_old was.second (let f = was.second_earlier in omega (arith, f, lt)))) was.is));
   }
 
   -- what followed from the axioms still does
   pub follows_on : (f : Terms) → Follows es f → Follows new f
   follows_on f was x within breaks =
-      let one = was x (λ id lt given. subst (λ (e : EntryView). IsWithin x (states_at e.terms)) (at_old id lt) (within id (omega (arith, lt, longer)) (subst (λ (e : EntryView). IsAxiom e.origin) (sym (at_old id lt)) given))) breaks in
-      (one.0, omega (arith, one.1, longer), subst (λ (e : EntryView). IsAxiom e.origin) (sym (at_old one.0 one.1)) one.2, subst (λ (e : EntryView). Breaks x (states_at e.terms)) (sym (at_old one.0 one.1)) one.3)
+      let one = was x (λ id lt given. subst
+      (λ (e : EntryView). IsWithin x (states_at e.terms)) (at_old id lt) (within id (omega (arith, lt, longer))
+      (subst (λ (e : EntryView). IsAxiom e.origin) (sym (at_old id lt)) given))) breaks in (
+        one.0,
+        omega (arith, one.1, longer),
+        subst (λ (e : EntryView). IsAxiom e.origin) (sym (at_old one.0 one.1))
+            one.2,
+        subst (λ (e : EntryView). Breaks x (states_at e.terms)) (sym (at_old one.0 one.1)) one.3,
+      )
 
 -- ---- none, one and more
 
@@ -87,7 +100,8 @@ strengthened_again a b c one two = record {
     | inr ge ↦ two.combined id ge lt
   ];
   unwatched = λ id from lt. elim (cases_lt id (length b)) [
-    | inl less ↦ ap (λ (e : EntryView). watched e.origin) (at_old b two.gained c two.grown id less) ∙ one.unwatched id from less
+    | inl less ↦ ap (λ (e : EntryView). watched e.origin) (at_old b two.gained c two.grown id less)
+        ∙ one.unwatched id from less
     | inr ge ↦ two.unwatched id ge lt
   ];
   lies = λ space all. two.lies space (one.lies space all);
@@ -98,7 +112,9 @@ pub somewhere_on : (old new : List EntryView) → IsStrengthened old new → Lie
 somewhere_on old new s lies = (lies.0, s.lies lies.0 lies.1)
 
 -- one combination more
-module _ (es new : List EntryView) (i j v : ℕ) (made : List TermView) (first : i < length es) (second : j < length es) (term : touches v (entry es i).terms ≡ true) (is : IsCombination v (entry es i).terms (entry es j).terms made) (grown : new ≡ es ++ record { terms = made; origin = Combined i j v false } ∷ []) where
+module _ (es new : List EntryView) (i j v : ℕ) (made : List TermView) (first : i < length es) (second : j < length es)
+    (term : touches v (entry es i).terms ≡ true) (is : IsCombination v (entry es i).terms (entry es j).terms made)
+    (grown : new ≡ es ++ record { terms = made; origin = Combined i j v false } ∷ []) where
   abbrev last : EntryView
   last = record { terms = made; origin = Combined i j v false }
 
@@ -122,15 +138,19 @@ module _ (es new : List EntryView) (i j v : ℕ) (made : List TermView) (first :
     second_earlier = second;
     term = ap (λ (e : EntryView). touches v e.terms) (at_old es (last ∷ []) new grown i first) ∙ term;
     is = subst (λ (e : EntryView). IsCombination v (entry new i).terms (entry new j).terms e.terms) (sym at_new)
-        (subst (λ (e : EntryView). IsCombination v e.terms (entry new j).terms made) (sym (at_old es (last ∷ []) new grown i first))
-        (subst (λ (e : EntryView). IsCombination v (entry es i).terms e.terms made) (sym (at_old es (last ∷ []) new grown j second)) is));
+        (subst (λ (e : EntryView). IsCombination v e.terms (entry new j).terms made)
+        (sym (at_old es (last ∷ []) new grown i first))
+        (subst (λ (e : EntryView). IsCombination v (entry es i).terms e.terms made)
+        (sym (at_old es (last ∷ []) new grown j second)) is));
   }
 
   lies_here : (space : ℕ → ℕ) → AllLie space es → AllLie space new
   lies_here space all id lt = elim (cases_lt id (length es)) [
-    | inl less ↦ subst (λ (e : EntryView). LiesIn space (states_at e.terms)) (sym (at_old es (last ∷ []) new grown id less)) (all id less)
+    | inl less ↦ subst (λ (e : EntryView). LiesIn space (states_at e.terms))
+        (sym (at_old es (last ∷ []) new grown id less)) (all id less)
     | inr ge ↦ subst (λ k. LiesIn space (terms_of new k)) (at_last id ge lt)
-        (subst (λ (e : EntryView). LiesIn space (states_at e.terms)) (sym at_new) (lies_combined v (terms_of es i) (terms_of es j) (states_at made) is.each space (all i first) (all j second)))
+        (subst (λ (e : EntryView). LiesIn space (states_at e.terms)) (sym at_new) (lies_combined v (terms_of es i)
+        (terms_of es j) (states_at made) is.each space (all i first) (all j second)))
   ]
 
   pub strengthened_one : IsStrengthened es new
@@ -138,7 +158,8 @@ module _ (es new : List EntryView) (i j v : ℕ) (made : List TermView) (first :
     gained = last ∷ [];
     grown = grown;
     combined = λ id from lt. subst (IsCombined new) (at_last id from lt) here;
-    unwatched = λ id from lt. subst (λ k. watched (entry new k).origin ≡ false) (at_last id from lt) (ap (λ (e : EntryView). watched e.origin) at_new);
+    unwatched = λ id from lt. subst (λ k. watched (entry new k).origin ≡ false) (at_last id from lt)
+        (ap (λ (e : EntryView). watched e.origin) at_new);
     lies = lies_here;
   }
 
@@ -160,29 +181,39 @@ module _ (old : List EntryView) (t u : TrailView) (es new : List EntryView) (s :
     where
       quiet : Quiet es t t.level → Quiet new t t.level
       quiet was l lt id within on sat = elim (cases_lt id (length es)) [
-        | inl less ↦ was l lt id less (subst (λ (e : EntryView). watched e.origin ≡ true) (at_old es s.gained new s.grown id less) on) (subst (λ (e : EntryView). Sat (end_sets t l) (states_at e.terms)) (at_old es s.gained new s.grown id less) sat)
+        | inl less ↦ was l lt id less
+            (subst (λ (e : EntryView). watched e.origin ≡ true) (at_old es s.gained new s.grown id less) on)
+            (subst (λ (e : EntryView). Sat (end_sets t l) (states_at e.terms))
+            (at_old es s.gained new s.grown id less) sat)
         | inr ge ↦ absurd (false≢true (sym (s.unwatched id ge within) ∙ on))
       ]
 
   pub trail_on : IsTrail es u → IsTrail new u
-  trail_on trail = subst (λ (xs : List EntryView). IsTrail xs u) (sym s.grown) (trail_grown es s.gained u trail (subst (λ (xs : List EntryView). AllLie (space_of u) xs) s.grown (s.lies (space_of u) trail.lies)))
+  trail_on trail = subst (λ (xs : List EntryView). IsTrail xs u) (sym s.grown) (trail_grown es s.gained u trail
+      (subst (λ (xs : List EntryView). AllLie (space_of u) xs) s.grown (s.lies (space_of u) trail.lies)))
 
   pub resolved_on : (o : Resolution) → Resolved t es u o → Resolved t new u o
   resolved_on (Learned id back_to) r = record {
     within = omega (arith, r.within, longer es s.gained new s.grown);
     watches = ap (λ (e : EntryView). watched e.origin) (at_old es s.gained new s.grown id r.within) ∙ r.watches;
-    follows = subst (λ (e : EntryView). Follows new (states_at e.terms)) (sym (at_old es s.gained new s.grown id r.within)) (follows_on es s.gained new s.grown (terms_of es id) r.follows);
+    follows =
+        subst (λ (e : EntryView). Follows new (states_at e.terms)) (sym (at_old es s.gained new s.grown id r.within))
+        (follows_on es s.gained new s.grown (terms_of es id) r.follows);
     lower = r.lower;
     gone = r.gone;
     cut = r.cut;
     vertex = r.vertex;
     states = r.states;
-    one = subst (λ (e : EntryView). IsOneOpen u.sets (states_at e.terms) r.vertex r.states) (sym (at_old es s.gained new s.grown id r.within)) r.one;
-    least = λ l lt v x one. r.least l lt v x (subst (λ (e : EntryView). IsOneOpen (end_sets t l) (states_at e.terms) v x) (at_old es s.gained new s.grown id r.within) one);
+    one = subst (λ (e : EntryView). IsOneOpen u.sets (states_at e.terms) r.vertex r.states)
+        (sym (at_old es s.gained new s.grown id r.within)) r.one;
+    least = λ l lt v x one. r.least l lt v x (subst (λ (e : EntryView).
+        IsOneOpen (end_sets t l) (states_at e.terms) v x) (at_old es s.gained new s.grown id r.within) one);
   }
   resolved_on (Unsolvable id) r = record {
     within = omega (arith, r.within, longer es s.gained new s.grown);
-    follows = subst (λ (e : EntryView). Follows new (states_at e.terms)) (sym (at_old es s.gained new s.grown id r.within)) (follows_on es s.gained new s.grown (terms_of es id) r.follows);
+    follows =
+        subst (λ (e : EntryView). Follows new (states_at e.terms)) (sym (at_old es s.gained new s.grown id r.within))
+        (follows_on es s.gained new s.grown (terms_of es id) r.follows);
     none = ap (λ (e : EntryView). e.terms) (at_old es s.gained new s.grown id r.within) ∙ r.none;
     stays = r.stays;
   }

@@ -15,7 +15,8 @@ use Rattle.conflicts.specs.declared.resolving.Resolution.TheVariants.{Learned, U
 
 -- no watched entry of a store is satisfied at the end of a level below one
 abbrev pub Quiet : List EntryView → TrailView → ℕ → Type 0
-Quiet es t level = (l : ℕ) → l < level → (id : ℕ) → id < length es → watched (entry es id).origin ≡ true → ¬ Sat (end_sets t l) (terms_of es id)
+Quiet es t level = (l : ℕ) → l < level → (id : ℕ) → id < length es → watched (entry es id).origin ≡ true
+    → ¬ Sat (end_sets t l) (terms_of es id)
 
 -- the satisfier of an entry that has a term
 pub record IsSatisfierOf (es : List EntryView) (t : TrailView) (id : ℕ) (s : Satisfier) : Type 0 where
@@ -98,7 +99,8 @@ Resolved t es new (Unsolvable id) = IsRefuted t es new id
 
 -- what a resolution teaches: where a trail is cut as it says, that incompatibility is learned
 abbrev pub Teaches : List EntryView → TrailView → Resolution → Type 0
-Teaches es t (Learned id back_to) = (back_to ≤ t.level) × ((new : TrailView) (gone : List StepView) → IsCut back_to t new gone → IsLearned t es new id back_to)
+Teaches es t (Learned id back_to) = (back_to ≤ t.level)
+    × ((new : TrailView) (gone : List StepView) → IsCut back_to t new gone → IsLearned t es new id back_to)
 Teaches es t (Unsolvable id) = IsRefuted t es t id
 
 -- a store gains combinations that are not watched, of terms that lie where those of the store do

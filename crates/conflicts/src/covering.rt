@@ -27,8 +27,10 @@ pub(crate) fn states_on<S: States + Drop>(
 
 /// Whether a term has all states of an incompatibility's own term at its vertex.
 fn covers_term<S: States + Drop>(old: &Incompatibility<S>, term: &Term<S>) -> bool
-    requires { (x : Members) → states_at (terms_view S.tests old.now) term.now.vertex ≡ Some x → length x ≡ length (S.tests term.now.states) }
-    ensures { OnTrue result (CoversAt (states_at (terms_view S.tests old.now) term.now.vertex) (Some (S.tests term.now.states))) }
+    requires { (x : Members) → states_at (terms_view S.tests old.now) term.now.vertex ≡ Some x
+        → length x ≡ length (S.tests term.now.states) }
+    ensures { OnTrue result
+        (CoversAt (states_at (terms_view S.tests old.now) term.now.vertex) (Some (S.tests term.now.states))) }
 {
     match states_on(old, term.vertex) {
         Some(states) => states.subset(&term.states),

@@ -68,7 +68,8 @@ fn cause_at_level(found: Satisfier) -> Option<Id>
 /// an earlier level.
 fn is_learned<S: States + Drop>(trail: &Trail<S>, incompatibility: &Incompatibility<S>) -> bool
     requires sound { IsSound (trail_view S.tests trail.now) }
-    requires lies { LiesIn (space_of (trail_view S.tests trail.now)) (states_at (terms_view S.tests incompatibility.now)) }
+    requires lies { LiesIn (space_of (trail_view S.tests trail.now))
+        (states_at (terms_view S.tests incompatibility.now)) }
     requires satisfied { Sat (trail_view S.tests trail.now).sets (states_at (terms_view S.tests incompatibility.now)) }
     ensures { Learns (trail_view S.tests trail.now) (terms_view S.tests incompatibility.now) result }
 {
@@ -83,7 +84,8 @@ fn is_learned<S: States + Drop>(trail: &Trail<S>, incompatibility: &Incompatibil
 /// what forces the next assignment, and refusals that use it are shorter.
 fn is_watched<S: States + Drop>(trail: &Trail<S>, incompatibility: &Incompatibility<S>) -> bool
     requires sound { IsSound (trail_view S.tests trail.now) }
-    requires lies { LiesIn (space_of (trail_view S.tests trail.now)) (states_at (terms_view S.tests incompatibility.now)) }
+    requires lies { LiesIn (space_of (trail_view S.tests trail.now))
+        (states_at (terms_view S.tests incompatibility.now)) }
     requires satisfied { Sat (trail_view S.tests trail.now).sets (states_at (terms_view S.tests incompatibility.now)) }
     ensures { Learns (trail_view S.tests trail.now) (terms_view S.tests incompatibility.now) result }
 {
@@ -103,8 +105,14 @@ fn add_combination<S: States + Drop>(
     requires first { first < length (entries_view S.tests store.old) }
     requires second { second < length (entries_view S.tests store.old) }
     requires trail { IsTrail (entries_view S.tests store.old) (trail_view S.tests trail.now) }
-    requires satisfied { (made : List TermView) → IsCombination vertex (entry (entries_view S.tests store.old) first).terms (entry (entries_view S.tests store.old) second).terms made → Sat (trail_view S.tests trail.now).sets (states_at made) }
-    ensures added { IfOk result (λ id. (id ≡ length (entries_view S.tests store.old)) × (made : List TermView) × IsCombination vertex (entry (entries_view S.tests store.old) first).terms (entry (entries_view S.tests store.old) second).terms made × (watches : Bool) × Learns (trail_view S.tests trail.now) made watches × (entries_view S.tests store.new ≡ entries_view S.tests store.old ++ record { terms = made; origin = Combined first second vertex watches } ∷ [])) }
+    requires satisfied { (made : List TermView) → IsCombination vertex
+        (entry (entries_view S.tests store.old) first).terms (entry (entries_view S.tests store.old) second).terms made
+        → Sat (trail_view S.tests trail.now).sets (states_at made) }
+    ensures added { IfOk result (λ id. (id ≡ length (entries_view S.tests store.old)) × (made : List TermView)
+        × IsCombination vertex (entry (entries_view S.tests store.old) first).terms
+        (entry (entries_view S.tests store.old) second).terms made × (watches : Bool)
+        × Learns (trail_view S.tests trail.now) made watches × (entries_view S.tests store.new ≡ entries_view S.tests
+        store.old ++ record { terms = made; origin = Combined first second vertex watches } ∷ [])) }
     ensures kept { OnErr result (entries_view S.tests store.new ≡ entries_view S.tests store.old) }
 {
     let made = combine(alloc, store.get(first), store.get(second), vertex)?;
@@ -133,8 +141,18 @@ fn add_with_cause<S: States + Drop>(
     requires current { current < length (entries_view S.tests store.old) }
     requires cause { cause < length (entries_view S.tests store.old) }
     requires trail { IsTrail (entries_view S.tests store.old) (trail_view S.tests trail.now) }
-    requires satisfied { (second : ℕ) → second < length (entries_view S.tests store.old) → Covers (terms_of (entries_view S.tests store.old) cause) (terms_of (entries_view S.tests store.old) second) → (made : List TermView) → IsCombination vertex (entry (entries_view S.tests store.old) current).terms (entry (entries_view S.tests store.old) second).terms made → Sat (trail_view S.tests trail.now).sets (states_at made) }
-    ensures added { IfOk result (λ id. (id ≡ length (entries_view S.tests store.old)) × (second : ℕ) × (second < length (entries_view S.tests store.old)) × Covers (terms_of (entries_view S.tests store.old) cause) (terms_of (entries_view S.tests store.old) second) × (made : List TermView) × IsCombination vertex (entry (entries_view S.tests store.old) current).terms (entry (entries_view S.tests store.old) second).terms made × (watches : Bool) × Learns (trail_view S.tests trail.now) made watches × (entries_view S.tests store.new ≡ entries_view S.tests store.old ++ record { terms = made; origin = Combined current second vertex watches } ∷ [])) }
+    requires satisfied { (second : ℕ) → second < length (entries_view S.tests store.old)
+        → Covers (terms_of (entries_view S.tests store.old) cause) (terms_of (entries_view S.tests store.old) second)
+        → (made : List TermView) → IsCombination vertex (entry (entries_view S.tests store.old) current).terms
+        (entry (entries_view S.tests store.old) second).terms made
+        → Sat (trail_view S.tests trail.now).sets (states_at made) }
+    ensures added { IfOk result (λ id. (id ≡ length (entries_view S.tests store.old)) × (second : ℕ)
+        × (second < length (entries_view S.tests store.old))
+        × Covers (terms_of (entries_view S.tests store.old) cause) (terms_of (entries_view S.tests store.old) second)
+        × (made : List TermView) × IsCombination vertex (entry (entries_view S.tests store.old) current).terms
+        (entry (entries_view S.tests store.old) second).terms made × (watches : Bool)
+        × Learns (trail_view S.tests trail.now) made watches × (entries_view S.tests store.new ≡ entries_view S.tests
+        store.old ++ record { terms = made; origin = Combined current second vertex watches } ∷ [])) }
     ensures kept { OnErr result (entries_view S.tests store.new ≡ entries_view S.tests store.old) }
 {
     let second = in_place_of(store, table, cause);
@@ -171,7 +189,8 @@ fn start_of<S: States + Drop>(trail: &Trail<S>, store: &Store<S>, table: &StandI
     requires within { id < length (entries_view S.tests store.now) }
     requires satisfied { Sat (trail_view S.tests trail.now).sets (terms_of (entries_view S.tests store.now) id) }
     requires watched { watched (entry (entries_view S.tests store.now) id).origin ≡ true }
-    requires quiet { Quiet (entries_view S.tests store.now) (trail_view S.tests trail.now) (trail_view S.tests trail.now).level }
+    requires quiet { Quiet (entries_view S.tests store.now) (trail_view S.tests trail.now)
+        (trail_view S.tests trail.now).level }
     ensures { IsStart (entries_view S.tests store.now) (trail_view S.tests trail.now) result }
 {
     let instead = in_place_of(store, table, id);
@@ -195,11 +214,14 @@ fn resolve<S: States + Drop>(
     requires within { id < length (entries_view S.tests store.old) }
     requires satisfied { Sat (trail_view S.tests trail.now).sets (terms_of (entries_view S.tests store.old) id) }
     requires watched { watched (entry (entries_view S.tests store.old) id).origin ≡ true }
-    requires quiet { Quiet (entries_view S.tests store.old) (trail_view S.tests trail.now) (trail_view S.tests trail.now).level }
+    requires quiet { Quiet (entries_view S.tests store.old) (trail_view S.tests trail.now)
+        (trail_view S.tests trail.now).level }
     ensures teaches { IfOk result (λ o. Teaches (entries_view S.tests store.new) (trail_view S.tests trail.now) o) }
-    ensures gained { (gained : List EntryView) × IsGained (entries_view S.tests store.old) (trail_view S.tests trail.now) (entries_view S.tests store.new) gained }
+    ensures gained { (gained : List EntryView) × IsGained (entries_view S.tests store.old)
+        (trail_view S.tests trail.now) (entries_view S.tests store.new) gained }
     // At most one for each assignment of the trail.
-    ensures few { length (entries_view S.tests store.new) ≤ length (entries_view S.tests store.old) + length (trail_view S.tests trail.now).steps }
+    ensures few { length (entries_view S.tests store.new) ≤ length (entries_view S.tests store.old)
+        + length (trail_view S.tests trail.now).steps }
     ensures trail { IsTrail (entries_view S.tests store.new) (trail_view S.tests trail.now) }
 {
     // What follows from the axioms and is satisfied now, and the assignment that satisfied it.
@@ -245,9 +267,12 @@ pub fn resolve_conflict<S: States + Drop>(
     requires satisfied { Sat (trail_view S.tests trail.old).sets (terms_of (entries_view S.tests store.old) id) }
     requires watched { watched (entry (entries_view S.tests store.old) id).origin ≡ true }
     // No watched entry of the store is satisfied at the end of an earlier level.
-    requires quiet { Quiet (entries_view S.tests store.old) (trail_view S.tests trail.old) (trail_view S.tests trail.old).level }
-    ensures resolved { IfOk result (λ o. Resolved (trail_view S.tests trail.old) (entries_view S.tests store.new) (trail_view S.tests trail.new) o) }
-    ensures gained { (gained : List EntryView) × IsGained (entries_view S.tests store.old) (trail_view S.tests trail.old) (entries_view S.tests store.new) gained }
+    requires quiet { Quiet (entries_view S.tests store.old) (trail_view S.tests trail.old)
+        (trail_view S.tests trail.old).level }
+    ensures resolved { IfOk result (λ o.
+        Resolved (trail_view S.tests trail.old) (entries_view S.tests store.new) (trail_view S.tests trail.new) o) }
+    ensures gained { (gained : List EntryView) × IsGained (entries_view S.tests store.old)
+        (trail_view S.tests trail.old) (entries_view S.tests store.new) gained }
     ensures trail { IsTrail (entries_view S.tests store.new) (trail_view S.tests trail.new) }
     ensures spaces { SameSpaces (trail_view S.tests trail.old) (trail_view S.tests trail.new) }
     ensures kept { OnErr result (trail_view S.tests trail.new ≡ trail_view S.tests trail.old) }

@@ -159,7 +159,8 @@ fn covering_or<S: States + Drop>(store: &Store<S>, id: Id, other: Id) -> Id
     requires within { id < length (entries_view S.tests store.now) }
     requires lies { LieSomewhere (entries_view S.tests store.now) }
     ensures within { result < length (entries_view S.tests store.now) }
-    ensures covers { Covers (terms_of (entries_view S.tests store.now) id) (terms_of (entries_view S.tests store.now) result) }
+    ensures covers { Covers (terms_of (entries_view S.tests store.now) id)
+        (terms_of (entries_view S.tests store.now) result) }
 {
     if other.index() >= store.len() {
         return id;
@@ -175,7 +176,8 @@ pub(crate) fn in_place_of<S: States + Drop>(store: &Store<S>, table: &StandIns, 
     requires within { id < length (entries_view S.tests store.now) }
     requires lies { LieSomewhere (entries_view S.tests store.now) }
     ensures within { result < length (entries_view S.tests store.now) }
-    ensures covers { Covers (terms_of (entries_view S.tests store.now) id) (terms_of (entries_view S.tests store.now) result) }
+    ensures covers { Covers (terms_of (entries_view S.tests store.now) id)
+        (terms_of (entries_view S.tests store.now) result) }
 {
     match table.named(id) {
         Some(other) => covering_or(store, id, other),

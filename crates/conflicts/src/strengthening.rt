@@ -46,7 +46,8 @@ fn add_unwatched<S: States + Drop>(
 
 /// Whether an incompatibility's term at a vertex has states that a set lacks.
 fn has_more<S: States + Drop>(states: &S, unit: &Incompatibility<S>, vertex: usize) -> bool
-    requires { (x : Members) → states_at (terms_view S.tests unit.now) vertex ≡ Some x → length x ≡ length (S.tests states.now) }
+    requires { (x : Members) → states_at (terms_view S.tests unit.now) vertex ≡ Some x
+        → length x ≡ length (S.tests states.now) }
 {
     match states_on(unit, vertex) {
         Some(gone) => !gone.subset(states),

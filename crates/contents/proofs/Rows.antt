@@ -8,19 +8,23 @@ use Rattle.catalogue.specs.Stores.{CatalogueView, Row, row_at, candidates_at, ro
 
 -- the candidates of a name where those of each row are put in an order
 pub row_of : (f : List Ranked → List Record) → f [] ≡ [] → (rows : List Row) (name : List ℕ)
-    → candidates_of (map (λ row. (row.0, map as_candidate (f row.1))) rows) name ≡ map as_candidate (f (unwrap_or (row_at rows name) []))
+    → candidates_of (map (λ row. (row.0, map as_candidate (f row.1))) rows) name
+    ≡ map as_candidate (f (unwrap_or (row_at rows name) []))
 row_of f none [] name = sym (ap (map as_candidate) none)
 row_of f none (row ∷ rows) name =
-    elim (same_text name row.0) as (λ b. cond b (map as_candidate (f row.1)) (candidates_of (map (λ row. (row.0, map as_candidate (f row.1))) rows) name)
+    elim (same_text name row.0) as (λ b. cond b (map as_candidate (f row.1))
+    (candidates_of (map (λ row. (row.0, map as_candidate (f row.1))) rows) name)
     ≡ map as_candidate (f (unwrap_or (cond b (Some row.1) (row_at rows name)) []))) [
       | true ↦ refl
       | false ↦ row_of f none rows name
     ]
 
 -- the candidates of a name
-pub candidates_are : (index : CatalogueView) (name : List ℕ) → candidates_of (rows_by_name index) name ≡ map as_candidate (candidates_at index name)
+pub candidates_are : (index : CatalogueView) (name : List ℕ)
+    → candidates_of (rows_by_name index) name ≡ map as_candidate (candidates_at index name)
 candidates_are index name = row_of records refl index.rows name
 
-pub versions_are : (rs : List Record) → map (λ (r : Record). r.version) rs ≡ map (λ (c : Candidate). c.version) (map as_candidate rs)
+pub versions_are : (rs : List Record)
+    → map (λ (r : Record). r.version) rs ≡ map (λ (c : Candidate). c.version) (map as_candidate rs)
 versions_are [] = refl
 versions_are (r ∷ rs) = ap (λ vs. r.version ∷ vs) (versions_are rs)

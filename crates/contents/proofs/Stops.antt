@@ -1,5 +1,8 @@
 -- Stops that grow, the owners that they are, and what is read of them in a catalogue.
-use Rattle.std.proofs.Common.{◌≡◌, ◌≢◌, ℕ, zero, suc, ◌+◌, ◌-◌, ◌<◌, Bool, true, false, cond, List, [], ◌∷◌, ◌++◌, map, length, Contains, Bor, Option, Some, None, IsSome, option_map, nat_eq, slice_get, get_or, is_some, unwrap_or, refl, sym, ap, ap₂, ◌∙◌, subst, subst₂, inl, inr, ◌⊎◌, arith, true≢false, Ordering}
+use Rattle.std.proofs.Common.{◌≡◌, ◌≢◌, ℕ, zero, suc, ◌+◌, ◌-◌, ◌<◌, Bool, true, false, cond, List, [], ◌∷◌, ◌++◌, map}
+use Rattle.std.proofs.Common.{length, Contains, Bor, Option, Some, None, IsSome, option_map, nat_eq, slice_get, get_or}
+use Rattle.std.proofs.Common.{is_some, unwrap_or, refl, sym, ap, ap₂, ◌∙◌, subst, subst₂, inl, inr, ◌⊎◌, arith}
+use Rattle.std.proofs.Common.{true≢false, Ordering}
 use Rattle.std.specs.List.{All, AllPairs, list_any}
 use Rattle.std.specs.Slice.{IsItemAt}
 use Rattle.std.specs.declared.cmp.Ordering.TheVariants.{Less, Equal}
@@ -16,7 +19,8 @@ use Rattle.model.specs.Candidates.{IsOlder, Record, as_candidate}
 use Rattle.model.specs.Order.{precedence}
 use Rattle.model.specs.Vertices.{Owner, the_root, version_of, owner_brings}
 use Rattle.model.proofs.Contents.{precedence-equal}
-use Rattle.model.proofs.Lists.{all_cons, all_get, all_none, all_first, all_rest, pairs_all, pairs_get, pairs_none, pairs_one, pairs_rest, to_any}
+use Rattle.model.proofs.Lists.{all_cons, all_get, all_none, all_first, all_rest, pairs_all, pairs_get, pairs_none}
+use Rattle.model.proofs.Lists.{pairs_one, pairs_rest, to_any}
 use Rattle.model.proofs.Owners.{candidate_at-is, candidate_at-there}
 use Rattle.model.proofs.Same.{both, text-refl, text-same}
 use Rattle.manifest.specs.Manifests.{ManifestView}
@@ -24,7 +28,8 @@ use Rattle.catalogue.specs.Problems.{problem_in}
 use Rattle.catalogue.specs.Stores.{CatalogueView, IsStore, Row, candidates_at, row_at, rows_by_name}
 use Rattle.catalogue.specs.Views.{AreRising, Said, said}
 use Rattle.catalogue.proofs.Rows.{item_at}
-use Rattle.contents.specs.Contents.{AreStops, Grows, IsCandidate, IsThere, candidate_owner, owner_if, owners_of, same_stop, stop_owner}
+use Rattle.contents.specs.Contents.{AreStops, Grows, IsCandidate, IsThere, candidate_owner, owner_if, owners_of}
+use Rattle.contents.specs.Contents.{same_stop, stop_owner}
 use Rattle.contents.specs.declared.stop.Stop.{Stop}
 use Rattle.contents.proofs.Lists.{place_of, there_at, still_at, all-map, pairs-map, map_at}
 use Rattle.contents.proofs.Rows.{candidates_are, versions_are}
@@ -35,9 +40,12 @@ pub all-snoc : {X : Type 0} (P : X → Type 0) (xs : List X) (x : X) → All P x
 all-snoc P [] x h p = all_cons P x [] p (all_none P)
 all-snoc P (y ∷ ys) x h p = all_cons P y (ys ++ x ∷ []) (all_first P y ys h) (all-snoc P ys x (all_rest P y ys h) p)
 
-pub pairs-snoc : {X : Type 0} (R : X → X → Type 0) (xs : List X) (x : X) → AllPairs R xs → All (λ y. R y x) xs → AllPairs R (xs ++ x ∷ [])
+pub pairs-snoc : {X : Type 0} (R : X → X → Type 0) (xs : List X) (x : X) → AllPairs R xs → All (λ y. R y x) xs
+    → AllPairs R (xs ++ x ∷ [])
 pairs-snoc R [] x h k = pairs_one R x
-pairs-snoc R (y ∷ ys) x h k = AllPairs-cons R y (ys ++ x ∷ []) (all-snoc (R y) ys x (pairs_all R y ys h) (all_first (λ y. R y x) y ys k)) (pairs-snoc R ys x (pairs_rest R y ys h) (all_rest (λ y. R y x) y ys k))
+pairs-snoc R (y ∷ ys) x h k =
+    AllPairs-cons R y (ys ++ x ∷ []) (all-snoc (R y) ys x (pairs_all R y ys h) (all_first (λ y. R y x) y ys k))
+    (pairs-snoc R ys x (pairs_rest R y ys h) (all_rest (λ y. R y x) y ys k))
 
 nil-right : {Z : Type 0} (zs : List Z) → zs ++ [] ≡ zs
 nil-right [] = refl
@@ -59,12 +67,14 @@ differ s ts none k d lt e =
     true≢false (sym (to_any (same_stop s) ts s c (same_itself s)) ∙ none)
   where
     get_or_any : (ts : List Stop) (k : ℕ) (d e : Stop) → k < length ts → get_or ts k e ≡ get_or ts k d
-    get_or_any ts k d e lt = same_Some (get_or ts k e) (get_or ts k d) (sym (slice_get-get_or ts k e lt) ∙ slice_get-get_or ts k d lt)
+    get_or_any ts k d e lt =
+        same_Some (get_or ts k e) (get_or ts k d) (sym (slice_get-get_or ts k e lt) ∙ slice_get-get_or ts k d lt)
 
 pub unchanged : (index : CatalogueView) (stops : List Stop) → Grows index stops stops
 unchanged index stops = record { more = []; is = sym (nil-right stops); still = λ h. h }
 
-pub grown : (index : CatalogueView) (stops new : List Stop) (s : Stop) → IsThere index s → new ≡ insert_key same_stop stops s → Grows index stops new
+pub grown : (index : CatalogueView) (stops new : List Stop) (s : Stop) → IsThere index s
+    → new ≡ insert_key same_stop stops s → Grows index stops new
 grown index stops new s there e = by (list_any (same_stop s) stops) refl
   where
     by : (b : Bool) → list_any (same_stop s) stops ≡ b → Grows index stops new
@@ -88,14 +98,17 @@ grows_on index a b c g h = record {
 }
 
 -- the owners of stops that grow: those at their places stay
-pub owner_on : (index : CatalogueView) (a b : List Stop) → Grows index a b → (n : ℕ) (o : Owner) → slice_get (owners_of index a) n ≡ Some o → slice_get (owners_of index b) n ≡ Some o
+pub owner_on : (index : CatalogueView) (a b : List Stop) → Grows index a b → (n : ℕ) (o : Owner)
+    → slice_get (owners_of index a) n ≡ Some o → slice_get (owners_of index b) n ≡ Some o
 owner_on index a b g n o at = subst (λ ks. slice_get (owners_of index ks) n ≡ Some o) (sym g.is) (longer n at)
   where
     longer : (n : ℕ) → slice_get (owners_of index a) n ≡ Some o → slice_get (owners_of index (a ++ g.more)) n ≡ Some o
     longer zero at = at
-    longer (suc n) at = ap (λ xs. slice_get xs n) (map-append (stop_owner index) a g.more) ∙ still_at (map (stop_owner index) a) (map (stop_owner index) g.more) n o at
+    longer (suc n) at = ap (λ xs. slice_get xs n) (map-append (stop_owner index) a g.more)
+        ∙ still_at (map (stop_owner index) a) (map (stop_owner index) g.more) n o at
 
-pub snoc_at : {X : Type 0} (xs : List X) (x : X) (n : ℕ) (y : X) → slice_get (xs ++ x ∷ []) n ≡ Some y → (slice_get xs n ≡ Some y) ⊎ ((n ≡ length xs) × (x ≡ y))
+pub snoc_at : {X : Type 0} (xs : List X) (x : X) (n : ℕ) (y : X) → slice_get (xs ++ x ∷ []) n ≡ Some y
+    → (slice_get xs n ≡ Some y) ⊎ ((n ≡ length xs) × (x ≡ y))
 snoc_at [] x zero y e = inr (refl, same_Some x y e)
 snoc_at [] x (suc n) y e = absurd (none-some y e)
 snoc_at (z ∷ zs) x zero y e = inl e
@@ -103,45 +116,59 @@ snoc_at (z ∷ zs) x (suc n) y e = elim (snoc_at zs x n y e) [ inl h ↦ inl h |
 
 -- ---- candidates in a store
 
-rising_at : (rows : List Row) (name : List ℕ) → All (λ row. AreRising row.1) rows → AreRising (unwrap_or (row_at rows name) [])
+rising_at : (rows : List Row) (name : List ℕ) → All (λ row. AreRising row.1) rows
+    → AreRising (unwrap_or (row_at rows name) [])
 rising_at [] name h = pairs_none IsOlder
-rising_at (row ∷ rows) name h = elim (same_text name row.0) as (λ b. AreRising (unwrap_or (cond b (Some row.1) (row_at rows name)) [])) [
-  | true ↦ all_first (λ (r : Row). AreRising r.1) row rows h
-  | false ↦ rising_at rows name (all_rest (λ (r : Row). AreRising r.1) row rows h)
-]
+rising_at (row ∷ rows) name h =
+    elim (same_text name row.0) as (λ b. AreRising (unwrap_or (cond b (Some row.1) (row_at rows name)) [])) [
+      | true ↦ all_first (λ (r : Row). AreRising r.1) row rows h
+      | false ↦ rising_at rows name (all_rest (λ (r : Row). AreRising r.1) row rows h)
+    ]
 
 abbrev Rising : List Candidate → Type 0
 Rising cs = AllPairs (λ c e. precedence c.version e.version ≡ Less) cs
 
-pub rising_of : (index : CatalogueView) (name : List ℕ) → IsStore index → Rising (candidates_of (rows_by_name index) name)
+pub rising_of : (index : CatalogueView) (name : List ℕ) → IsStore index
+    → Rising (candidates_of (rows_by_name index) name)
 rising_of index name s =
-    subst Rising (sym (candidates_are index name)) (pairs-map as_candidate (λ c e. precedence c.version e.version ≡ Less) (candidates_at index name) (rising_at index.rows name s.versions_rise))
+    subst Rising (sym (candidates_are index name)) (pairs-map as_candidate (λ c e. precedence c.version e.version
+    ≡ Less) (candidates_at index name) (rising_at index.rows name s.versions_rise))
 
 less-equal : (o : Ordering) → o ≡ Less → o ≡ Equal → ⊥
 less-equal o e f = let x : Less ≡ Equal = sym e ∙ f in cc
 
 -- the version of each is there once
-pub once_at : (cs : List Candidate) → Rising cs → (n m : ℕ) (c e : Candidate) → slice_get cs n ≡ Some c → slice_get cs m ≡ Some e → precedence c.version e.version ≡ Equal → precedence e.version c.version ≡ Equal → n ≡ m
+pub once_at : (cs : List Candidate) → Rising cs → (n m : ℕ) (c e : Candidate) → slice_get cs n ≡ Some c
+    → slice_get cs m ≡ Some e → precedence c.version e.version ≡ Equal → precedence e.version c.version ≡ Equal → n ≡ m
 once_at cs h n m c e got had same back = elim (cases_order n m) [
   | inl is ↦ is
   | inr o ↦ elim o [
-    | inl lt ↦ absurd (less-equal (precedence c.version e.version) (pairs_get (λ c e. precedence c.version e.version ≡ Less) cs n m c e h lt got had) same)
-    | inr gt ↦ absurd (less-equal (precedence e.version c.version) (pairs_get (λ c e. precedence c.version e.version ≡ Less) cs m n e c h gt had got) back)
+    | inl lt ↦ absurd (less-equal (precedence c.version e.version)
+        (pairs_get (λ c e. precedence c.version e.version ≡ Less) cs n m c e h lt got had) same)
+    | inr gt ↦ absurd (less-equal (precedence e.version c.version)
+        (pairs_get (λ c e. precedence c.version e.version ≡ Less) cs m n e c h gt had got) back)
   ]
 ]
 
-found_at : (cs : List Candidate) → Rising cs → (n : ℕ) (c : Candidate) → slice_get cs n ≡ Some c → candidate_at cs c.version ≡ Some c
+found_at : (cs : List Candidate) → Rising cs → (n : ℕ) (c : Candidate) → slice_get cs n ≡ Some c
+    → candidate_at cs c.version ≡ Some c
 found_at cs h n c got =
     let (e, is) = candidate_at-there cs c (there_at cs n c got) in
     let (k, same) = candidate_at-is cs c.version e is in
     let (m, had) = place_of cs e k in
-    let places = once_at cs h n m c e got had (precedence-equal c.version e.version same) (precedence-equal e.version c.version (sym same)) in
+    let places = once_at cs h n m c e got had (precedence-equal c.version e.version same)
+    (precedence-equal e.version c.version (sym same)) in
     is ∙ (sym had ∙ ap (slice_get cs) (sym places) ∙ got)
 
 -- the candidate that stands at a stop
-pub at_stop : (index : CatalogueView) → IsStore index → (s : Stop) (c : Candidate) → slice_get (candidates_of (rows_by_name index) s.name) s.place ≡ Some c
-    → (stop_owner index s ≡ version_of s.name c.version) × (candidate_at (candidates_of (rows_by_name index) s.name) c.version ≡ Some c)
-at_stop index h s c got = (ap (owner_if s.name) got, found_at (candidates_of (rows_by_name index) s.name) (rising_of index s.name h) s.place c got)
+pub at_stop : (index : CatalogueView) → IsStore index → (s : Stop) (c : Candidate)
+    → slice_get (candidates_of (rows_by_name index) s.name) s.place ≡ Some c
+    → (stop_owner index s ≡ version_of s.name c.version)
+    × (candidate_at (candidates_of (rows_by_name index) s.name) c.version ≡ Some c)
+at_stop index h s c got = (
+  ap (owner_if s.name) got,
+  found_at (candidates_of (rows_by_name index) s.name) (rising_of index s.name h) s.place c got,
+)
 
 -- ---- what is read from the catalogue
 
@@ -149,44 +176,56 @@ pub some_is : {X : Type 0} (o : Option X) → IsSome o → (x : X) × (o ≡ Som
 some_is (Some x) h = (x, refl)
 some_is None h = absurd (true≢false (sym h))
 
-pub got_item : {X : Type 0} (xs : List X) (i : ℕ) (r : Option (Bor X)) (b : Bor X) → IsItemAt xs i r → r ≡ Some b → slice_get xs i ≡ Some b.now
+pub got_item : {X : Type 0} (xs : List X) (i : ℕ) (r : Option (Bor X)) (b : Bor X) → IsItemAt xs i r → r ≡ Some b
+    → slice_get xs i ≡ Some b.now
 got_item xs i r b h e = by (slice_get xs i) (sym (ap (option_map (λ (b : Bor _). b.now)) e) ∙ item_at (λ x. x) xs i r h)
   where
     by : (o : Option _) → Some b.now ≡ option_map (λ x. x) o → o ≡ Some b.now
     by None h = absurd (none-some b.now (sym h))
     by (Some x) h = sym h
 
-candidate_get : (index : CatalogueView) (name : List ℕ) (n : ℕ) → slice_get (candidates_of (rows_by_name index) name) n ≡ option_map as_candidate (slice_get (candidates_at index name) n)
-candidate_get index name n = ap (λ cs. slice_get cs n) (candidates_are index name) ∙ slice_get-map as_candidate (candidates_at index name) n
+candidate_get : (index : CatalogueView) (name : List ℕ) (n : ℕ) → slice_get (candidates_of (rows_by_name index) name) n
+    ≡ option_map as_candidate (slice_get (candidates_at index name) n)
+candidate_get index name n =
+    ap (λ cs. slice_get cs n) (candidates_are index name) ∙ slice_get-map as_candidate (candidates_at index name) n
 
 -- what is said of a record at a place is said of the candidate there
-pub said_there : (index : CatalogueView) (name : List ℕ) (n : ℕ) (x : Said) → Some x ≡ option_map said (slice_get (candidates_at index name) n)
-    → (c : Candidate) × (slice_get (candidates_of (rows_by_name index) name) n ≡ Some c) × (c.brings ≡ x.brings) × (c.checksum ≡ x.checksum)
+pub said_there : (index : CatalogueView) (name : List ℕ) (n : ℕ) (x : Said)
+    → Some x ≡ option_map said (slice_get (candidates_at index name) n)
+    → (c : Candidate) × (slice_get (candidates_of (rows_by_name index) name) n ≡ Some c) × (c.brings ≡ x.brings)
+    × (c.checksum ≡ x.checksum)
 said_there index name n x h = by (slice_get (candidates_at index name) n) (candidate_get index name n) h
   where
-    by : (o : Option Record) → slice_get (candidates_of (rows_by_name index) name) n ≡ option_map as_candidate o → Some x ≡ option_map said o
-        → (c : Candidate) × (slice_get (candidates_of (rows_by_name index) name) n ≡ Some c) × (c.brings ≡ x.brings) × (c.checksum ≡ x.checksum)
+    by : (o : Option Record) → slice_get (candidates_of (rows_by_name index) name) n ≡ option_map as_candidate o
+        → Some x ≡ option_map said o
+        → (c : Candidate) × (slice_get (candidates_of (rows_by_name index) name) n ≡ Some c) × (c.brings ≡ x.brings)
+        × (c.checksum ≡ x.checksum)
     by None e h = absurd (none-some x (sym h))
     by (Some r) e h =
         let same : x ≡ said r = same_Some x (said r) h in
         (as_candidate r, e, sym (ap (λ (x : Said). x.brings) same), sym (ap (λ (x : Said). x.checksum) same))
 
-pub not_said : (index : CatalogueView) (s : Stop) → None ≡ option_map said (slice_get (candidates_at index s.name) s.place) → IsThere index s → ⊥
+pub not_said : (index : CatalogueView) (s : Stop)
+    → None ≡ option_map said (slice_get (candidates_at index s.name) s.place) → IsThere index s → ⊥
 not_said index s h there = by (slice_get (candidates_at index s.name) s.place) (candidate_get index s.name s.place) h
   where
-    by : (o : Option Record) → slice_get (candidates_of (rows_by_name index) s.name) s.place ≡ option_map as_candidate o → None ≡ option_map said o → ⊥
+    by : (o : Option Record) → slice_get (candidates_of (rows_by_name index) s.name) s.place
+        ≡ option_map as_candidate o → None ≡ option_map said o → ⊥
     by None e h = true≢false (sym (sym (ap is_some e) ∙ there))
     by (Some r) e h = none-some (said r) h
 
 -- ---- what an owner brings
 
-after_root : (index : CatalogueView) (stops : List Stop) (n : ℕ) (o : Owner) (s : Stop) → (n ≡ 0 → ⊥) → slice_get stops (n - 1) ≡ Some s → slice_get (owners_of index stops) n ≡ Some o → stop_owner index s ≡ o
+after_root : (index : CatalogueView) (stops : List Stop) (n : ℕ) (o : Owner) (s : Stop) → (n ≡ 0 → ⊥)
+    → slice_get stops (n - 1) ≡ Some s → slice_get (owners_of index stops) n ≡ Some o → stop_owner index s ≡ o
 after_root index stops zero o s other got at = absurd (other refl)
 after_root index stops (suc n) o s other got at =
     let is : suc n - 1 ≡ n = omega arith in
-    same_Some (stop_owner index s) o (sym (slice_get-map (stop_owner index) stops n ∙ ap (option_map (stop_owner index)) (ap (slice_get stops) (sym is) ∙ got)) ∙ at)
+    same_Some (stop_owner index s) o (sym (slice_get-map (stop_owner index) stops n
+    ∙ ap (option_map (stop_owner index)) (ap (slice_get stops) (sym is) ∙ got)) ∙ at)
 
-pub stop_brings : (manifest : ManifestView) (index : CatalogueView) (stops : List Stop) (n : ℕ) (s : Stop) (x : Said) → IsStore index → (n ≡ 0 → ⊥) → slice_get stops (n - 1) ≡ Some s
+pub stop_brings : (manifest : ManifestView) (index : CatalogueView) (stops : List Stop) (n : ℕ) (s : Stop) (x : Said)
+    → IsStore index → (n ≡ 0 → ⊥) → slice_get stops (n - 1) ≡ Some s
     → Some x ≡ option_map said (slice_get (candidates_at index s.name) s.place)
     → (o : Owner) → slice_get (owners_of index stops) n ≡ Some o → x.brings ≡ owner_brings (problem_in manifest index) o
 stop_brings manifest index stops n s x store other got h o at =
@@ -195,13 +234,15 @@ stop_brings manifest index stops n s x store other got h o at =
     let is : version_of s.name c.version ≡ o = sym owner ∙ after_root index stops n o s other got at in
     sym brings ∙ sym (ap brings_of found) ∙ ap (owner_brings (problem_in manifest index)) is
 
-pub owner_at_stop : (index : CatalogueView) (stops : List Stop) (n : ℕ) (s : Stop) → (n ≡ 0 → ⊥) → slice_get stops (n - 1) ≡ Some s → slice_get (owners_of index stops) n ≡ Some (stop_owner index s)
+pub owner_at_stop : (index : CatalogueView) (stops : List Stop) (n : ℕ) (s : Stop) → (n ≡ 0 → ⊥)
+    → slice_get stops (n - 1) ≡ Some s → slice_get (owners_of index stops) n ≡ Some (stop_owner index s)
 owner_at_stop index stops zero s other got = absurd (other refl)
 owner_at_stop index stops (suc n) s other got =
     let is : n ≡ suc n - 1 = omega arith in
     slice_get-map (stop_owner index) stops n ∙ ap (option_map (stop_owner index)) (ap (slice_get stops) is ∙ got)
 
-pub no_owner : (index : CatalogueView) (stops : List Stop) (n : ℕ) → (n ≡ 0 → ⊥) → slice_get stops (n - 1) ≡ None → slice_get (owners_of index stops) n ≡ None
+pub no_owner : (index : CatalogueView) (stops : List Stop) (n : ℕ) → (n ≡ 0 → ⊥) → slice_get stops (n - 1) ≡ None
+    → slice_get (owners_of index stops) n ≡ None
 no_owner index stops zero other got = absurd (other refl)
 no_owner index stops (suc n) other got =
     let is : n ≡ suc n - 1 = omega arith in
@@ -209,34 +250,46 @@ no_owner index stops (suc n) other got =
 
 -- ---- the package that stands at a stop
 
-pub no_version : (index : CatalogueView) (s : Stop) (vs : List Parts) → vs ≡ map (λ (r : Record). r.version) (candidates_at index s.name) → slice_get vs s.place ≡ None → IsThere index s → ⊥
+pub no_version : (index : CatalogueView) (s : Stop) (vs : List Parts) → vs
+    ≡ map (λ (r : Record). r.version) (candidates_at index s.name) → slice_get vs s.place ≡ None → IsThere index s → ⊥
 no_version index s vs e none there =
-    by (slice_get (candidates_at index s.name) s.place) (candidate_get index s.name s.place) (sym (slice_get-map (λ (r : Record). r.version) (candidates_at index s.name) s.place) ∙ ap (λ l. slice_get l s.place) (sym e) ∙ none)
+    by (slice_get (candidates_at index s.name) s.place) (candidate_get index s.name s.place)
+    (sym (slice_get-map (λ (r : Record). r.version) (candidates_at index s.name) s.place)
+    ∙ ap (λ l. slice_get l s.place) (sym e) ∙ none)
   where
-    by : (o : Option Record) → slice_get (candidates_of (rows_by_name index) s.name) s.place ≡ option_map as_candidate o → option_map (λ (r : Record). r.version) o ≡ None → ⊥
+    by : (o : Option Record) → slice_get (candidates_of (rows_by_name index) s.name) s.place
+        ≡ option_map as_candidate o → option_map (λ (r : Record). r.version) o ≡ None → ⊥
     by None e h = true≢false (sym (sym (ap is_some e) ∙ there))
     by (Some r) e h = none-some r.version (sym h)
 
 abbrev package_with : List ℕ → Parts → Option (List ℕ) → Option (List ℕ) → List ℕ → Package
-package_with name version source checksum list = record { name = name; version = version; source = source; checksum = checksum; list = list }
+package_with name version source checksum list =
+    record { name = name; version = version; source = source; checksum = checksum; list = list }
 
-pub stop_package_is : (manifest : ManifestView) (index : CatalogueView) (s : Stop) (x : Said) (vs : List Parts) (v : Parts) (name source sum list : List ℕ) → IsStore index
-    → Some x ≡ option_map said (slice_get (candidates_at index s.name) s.place) → vs ≡ map (λ (r : Record). r.version) (candidates_at index s.name) → slice_get vs s.place ≡ Some v
+pub stop_package_is : (manifest : ManifestView) (index : CatalogueView) (s : Stop) (x : Said) (vs : List Parts)
+    (v : Parts) (name source sum list : List ℕ) → IsStore index
+    → Some x ≡ option_map said (slice_get (candidates_at index s.name) s.place)
+    → vs ≡ map (λ (r : Record). r.version) (candidates_at index s.name) → slice_get vs s.place ≡ Some v
     → name ≡ s.name → source ≡ index.source → sum ≡ x.checksum → list ≡ []
     → package_with name v (Some source) (Some sum) list ≡ package_of (problem_in manifest index) (stop_owner index s) []
 stop_package_is manifest index s x vs v name source sum list store h e at en es ec el =
     let (c, there, brings, sums) = said_there index s.name s.place x h in
     let (owner, found) = at_stop index store s c there in
     let all : vs ≡ map (λ (c : Candidate). c.version) (candidates_of (rows_by_name index) s.name)
-    = e ∙ versions_are (candidates_at index s.name) ∙ ap (map (λ (c : Candidate). c.version)) (sym (candidates_are index s.name)) in
-    let same : v ≡ c.version = same_Some v c.version (sym at ∙ ap (λ l. slice_get l s.place) all ∙ slice_get-map (λ (c : Candidate). c.version) (candidates_of (rows_by_name index) s.name) s.place
+    = e ∙ versions_are (candidates_at index s.name)
+    ∙ ap (map (λ (c : Candidate). c.version)) (sym (candidates_are index s.name)) in
+    let same : v ≡ c.version = same_Some v c.version (sym at ∙ ap (λ l. slice_get l s.place) all
+    ∙ slice_get-map (λ (c : Candidate). c.version) (candidates_of (rows_by_name index) s.name) s.place
     ∙ ap (option_map (λ (c : Candidate). c.version)) there) in
     ap₂ (λ n w. package_with n w (Some source) (Some sum) list) en same
-    ∙ ap₂ (λ o k. package_with s.name c.version o k list) (ap Some es) (ap Some (ec ∙ sym sums) ∙ sym (ap (option_map (λ (c : Candidate). c.checksum)) found))
-    ∙ ap (λ l. package_with s.name c.version (Some index.source) (option_map (λ (c : Candidate). c.checksum) (candidate_at (candidates_of (rows_by_name index) s.name) c.version)) l) el
+    ∙ ap₂ (λ o k. package_with s.name c.version o k list) (ap Some es)
+    (ap Some (ec ∙ sym sums) ∙ sym (ap (option_map (λ (c : Candidate). c.checksum)) found))
+    ∙ ap (λ l. package_with s.name c.version (Some index.source) (option_map (λ (c : Candidate). c.checksum)
+    (candidate_at (candidates_of (rows_by_name index) s.name) c.version)) l) el
     ∙ ap (λ o. package_of (problem_in manifest index) o []) (sym owner)
 
-pub stop_there : (index : CatalogueView) (stops : List Stop) (n : ℕ) (s : Stop) → AreStops index stops → slice_get stops n ≡ Some s → IsThere index s
+pub stop_there : (index : CatalogueView) (stops : List Stop) (n : ℕ) (s : Stop) → AreStops index stops
+    → slice_get stops n ≡ Some s → IsThere index s
 stop_there index stops n s h got = all_get (IsThere index) stops n s h.there got
 
 -- ---- each owner once
@@ -252,11 +305,14 @@ module _ (index : CatalogueView) (store : IsStore index) where
   apart s t h k other e =
       let (c, got) = some_is (slice_get (candidates_of (rows_by_name index) s.name) s.place) h in
       let (d, had) = some_is (slice_get (candidates_of (rows_by_name index) t.name) t.place) k in
-      let same : version_of s.name c.version ≡ version_of t.name d.version = sym (ap (owner_if s.name) got) ∙ e ∙ ap (owner_if t.name) had in
+      let same : version_of s.name c.version ≡ version_of t.name d.version =
+      sym (ap (owner_if s.name) got) ∙ e ∙ ap (owner_if t.name) had in
       let names : s.name ≡ t.name = name_in s.name t.name c.version d.version same in
       let versions : c.version ≡ d.version = version_in s.name t.name c.version d.version same in
-      let beside : slice_get (candidates_of (rows_by_name index) s.name) t.place ≡ Some d = ap (λ n. slice_get (candidates_of (rows_by_name index) n) t.place) names ∙ had in
-      let places = once_at (candidates_of (rows_by_name index) s.name) (rising_of index s.name store) s.place t.place c d got beside
+      let beside : slice_get (candidates_of (rows_by_name index) s.name) t.place ≡ Some d =
+      ap (λ n. slice_get (candidates_of (rows_by_name index) n) t.place) names ∙ had in
+      let places = once_at (candidates_of (rows_by_name index) s.name)
+      (rising_of index s.name store) s.place t.place c d got beside
       (precedence-equal c.version d.version versions) (precedence-equal d.version c.version (sym versions)) in
       other (ap₂ (λ n p. stop_with n p) names places)
 
@@ -269,22 +325,28 @@ module _ (index : CatalogueView) (store : IsStore index) where
   pub owners_once : (stops : List Stop) → AreStops index stops → AllPairs (λ a b. a ≢ b) (owners_of index stops)
   owners_once stops h = AllPairs-cons (λ (a b : Owner). a ≢ b) the_root (map (stop_owner index) stops)
       (all-map (stop_owner index) (λ b. the_root ≢ b) stops (λ k d lt. not_root (get_or stops k d) (h.there k d lt)))
-      (pairs-map (stop_owner index) (λ a b. a ≢ b) stops (λ i j d lt within. apart (get_or stops i d) (get_or stops j d) (h.there i d (omega (arith, lt, within))) (h.there j d within) (h.distinct i j d lt within)))
+      (pairs-map (stop_owner index) (λ a b. a ≢ b) stops (λ i j d lt within. apart (get_or stops i d) (get_or stops j d)
+      (h.there i d (omega (arith, lt, within))) (h.there j d within) (h.distinct i j d lt within)))
 
 pub many_owners : (index : CatalogueView) (stops : List Stop) → length (owners_of index stops) ≡ suc (length stops)
 many_owners index stops = rw length-map refl
 
 -- ---- one stop put
 
-pub put_at : (index : CatalogueView) (name : List ℕ) (place : ℕ) (s : Stop) (keys : List Stop) (i : ℕ) → s.name ≡ name → s.place ≡ place
-    → (k : Stop) × (slice_get keys i ≡ Some k) × (same_stop s k ≡ true) → slice_get (owners_of index keys) (i + 1) ≡ Some (candidate_owner index name place)
+pub put_at : (index : CatalogueView) (name : List ℕ) (place : ℕ) (s : Stop) (keys : List Stop) (i : ℕ)
+    → s.name ≡ name → s.place ≡ place
+    → (k : Stop) × (slice_get keys i ≡ Some k) × (same_stop s k ≡ true)
+    → slice_get (owners_of index keys) (i + 1) ≡ Some (candidate_owner index name place)
 put_at index name place s keys i e f (k, got, same) =
-    let owner : stop_owner index k ≡ candidate_owner index name place = ap (stop_owner index) (sym (same_is s k same)) ∙ ap₂ (candidate_owner index) e f in
+    let owner : stop_owner index k ≡ candidate_owner index name place =
+    ap (stop_owner index) (sym (same_is s k same)) ∙ ap₂ (candidate_owner index) e f in
     next_at (owners_of index keys) i ∙ (map_at (stop_owner index) keys i k got ∙ ap Some owner)
   where
     next_at : (xs : List Owner) (i : ℕ) → slice_get xs (i + 1) ≡ slice_get xs (suc i)
     next_at xs i = ap (slice_get xs) (omega arith)
 
-pub put_grows : (index : CatalogueView) (name : List ℕ) (place : ℕ) (s : Stop) (old new : List Stop) → IsCandidate index name place → s.name ≡ name → s.place ≡ place
+pub put_grows : (index : CatalogueView) (name : List ℕ) (place : ℕ) (s : Stop) (old new : List Stop)
+    → IsCandidate index name place → s.name ≡ name → s.place ≡ place
     → new ≡ insert_key same_stop old s → Grows index old new
-put_grows index name place s old new there e f g = grown index old new s (subst₂ (IsCandidate index) (sym e) (sym f) there) g
+put_grows index name place s old new there e f g =
+    grown index old new s (subst₂ (IsCandidate index) (sym e) (sym f) there) g

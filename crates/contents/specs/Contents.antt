@@ -1,6 +1,8 @@
 -- The versions that a content may have, and the content of those that are here (own; where their dependencies lead is
 -- the caller's).
-use Rattle.std.specs.Prelude.{suc, ◌≡◌, ◌≢◌, ◌↔◌, ℕ, Bool, true, false, List, [], ◌∷◌, ◌++◌, ◌<◌, map, length, Option, Some, None, option_map, slice_get, nat_eq, ◌&&◌, Contains, IsSome, option_and_then, unwrap_or}
+use Rattle.std.specs.Prelude.{suc, ◌≡◌, ◌≢◌, ◌↔◌, ℕ, Bool, true, false, List, [], ◌∷◌, ◌++◌, ◌<◌, map, length, Option}
+use Rattle.std.specs.Prelude.{Some, None, option_map, slice_get, nat_eq, ◌&&◌, Contains, IsSome, option_and_then}
+use Rattle.std.specs.Prelude.{unwrap_or}
 use Rattle.std.specs.List.{All, AllPairs}
 use Rattle.model.specs.Summary.{same_text}
 use Rattle.model.specs.Content.{Candidate, Content, Package, Problem, candidates_of}
@@ -124,7 +126,8 @@ ranks_from i (t ∷ ts) enabled ranks = after (rank_if t (flag_at enabled i) ran
 
 -- the rank of the target of some enabled dependency
 abbrev pub IsListed : List (Option ℕ) → List Bool → List (Option ℕ) → ℕ → Type 0
-IsListed targets enabled ranks r = (i t : ℕ) × (flag_at enabled i ≡ true) × (slice_get targets i ≡ Some (Some t)) × (slice_get ranks t ≡ Some (Some r))
+IsListed targets enabled ranks r =
+    (i t : ℕ) × (flag_at enabled i ≡ true) × (slice_get targets i ≡ Some (Some t)) × (slice_get ranks t ≡ Some (Some r))
 
 -- lowest first, none twice
 abbrev pub IsRising : List ℕ → Type 0
@@ -154,7 +157,8 @@ pub record IsWithList (IsIn : ℕ → ℕ → Type 0) (k : Placed) (p : Package)
 module _ (nodes : List NodeView) (enabled : List (List Bool)) where
   -- the packages with the lists that the ranks give
   abbrev pub HaveLists : List (Option ℕ) → List Placed → Content → Type 0
-  HaveLists ranks ks ps = AreBeside (λ k p. IsWithList (λ n r. IsListed (targets_at nodes n) (flags_at enabled n) ranks r) k p) ks ps
+  HaveLists ranks ks ps =
+      AreBeside (λ k p. IsWithList (λ n r. IsListed (targets_at nodes n) (flags_at enabled n) ranks r) k p) ks ps
 
 module _ (nodes : List NodeView) (enabled : List (List Bool)) where
   -- place t is where some enabled dependency of place n leads
@@ -163,4 +167,5 @@ module _ (nodes : List NodeView) (enabled : List (List Bool)) where
 
   -- the packages, and in each list those to which enabled dependencies lead
   abbrev pub AreListed : List Placed → Content → Type 0
-  AreListed ks ps = AreBeside (λ k p. IsWithList (λ n r. (s : ℕ) × LeadsFrom n s × (slice_get (places_in ks) r ≡ Some s)) k p) ks ps
+  AreListed ks ps =
+      AreBeside (λ k p. IsWithList (λ n r. (s : ℕ) × LeadsFrom n s × (slice_get (places_in ks) r ≡ Some s)) k p) ks ps

@@ -19,7 +19,8 @@ pub fn brings_at<'a>(
     place: usize,
 ) -> Option<&'a Summary>
     requires { AreStops catalogue.now stops.now }
-    ensures { (o : Owner) → slice_get (owners_of catalogue.now stops.now) place ≡ Some o → brings_view result ≡ owner_brings (problem_in manifest.now catalogue.now) o }
+    ensures { (o : Owner) → slice_get (owners_of catalogue.now stops.now) place ≡ Some o
+        → brings_view result ≡ owner_brings (problem_in manifest.now catalogue.now) o }
 {
     store_holds(catalogue);
     if place == 0 {

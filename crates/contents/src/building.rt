@@ -11,7 +11,8 @@ ghost use Rattle.model.specs.Vertices.{the_root};
 ghost use Rattle.model.specs.Order.{package_cmp};
 ghost use Rattle.model.specs.ContentOf.{package_of};
 ghost use Rattle.reaching.specs.Built.{IsBuilt};
-ghost use Rattle.contents.specs.Contents.{AreInOrder, AreKept, AreStops, IsThere, placed_views, kept_with, owners_of, package_if, stop_owner};
+ghost use Rattle.contents.specs.Contents.{AreInOrder, AreKept, AreStops, IsThere, placed_views, kept_with, owners_of};
+ghost use Rattle.contents.specs.Contents.{package_if, stop_owner};
 
 use crate::listing::listed;
 use crate::placed::PlacedPackage;
@@ -33,7 +34,8 @@ pub fn content_of(
 ) -> Result<LockContent, AllocError>
     requires stops { AreStops catalogue.now stops.now }
     requires nodes { length nodes.now ≡ length (owners_of catalogue.now stops.now) }
-    ensures { IfOk result (λ content. IsBuilt (owners_of catalogue.now stops.now) (node_views nodes.now) (map (λ v. v.items) facts.now.enabled.items) (problem_in manifest.now catalogue.now) facts.now.here.items content) }
+    ensures { IfOk result (λ content. IsBuilt (owners_of catalogue.now stops.now) (node_views nodes.now) (map (λ v.
+        v.items) facts.now.enabled.items) (problem_in manifest.now catalogue.now) facts.now.here.items content) }
 {
     store_holds(catalogue);
     let kept = kept_of(alloc, manifest, catalogue, stops, facts.here.as_slice())?;
@@ -51,7 +53,8 @@ fn kept_of(
     here: &[bool],
 ) -> Result<Vec<PlacedPackage>, AllocError>
     requires stops { AreStops catalogue.now stops.now }
-    ensures { IfOk result (λ v. AreKept (problem_in manifest.now catalogue.now) (owners_of catalogue.now stops.now) here.now (length here.now) (placed_views v.items)) }
+    ensures { IfOk result (λ v. AreKept (problem_in manifest.now catalogue.now)
+        (owners_of catalogue.now stops.now) here.now (length here.now) (placed_views v.items)) }
 {
     let mut kept = Vec::new(alloc);
     'places: for (place, here) in here.iter().enumerate() {
@@ -71,7 +74,8 @@ fn package_if(
     here: bool,
 ) -> Result<Option<Package>, AllocError>
     requires { AreStops catalogue.now stops.now }
-    ensures { IfOk result (λ o. option_map package_view o ≡ package_if (problem_in manifest.now catalogue.now) here (slice_get (owners_of catalogue.now stops.now) place)) }
+    ensures { IfOk result (λ o. option_map package_view o ≡ package_if (problem_in manifest.now catalogue.now) here
+        (slice_get (owners_of catalogue.now stops.now) place)) }
 {
     if here {
         package_at(alloc, manifest, catalogue, stops, place)
@@ -86,7 +90,8 @@ fn keep(
     found: Option<Package>,
     place: usize,
 ) -> Result<(), AllocError>
-    ensures { OnOk result (placed_views kept.new.items ≡ kept_with (placed_views kept.old.items) (option_map package_view found) place) }
+    ensures { OnOk result
+        (placed_views kept.new.items ≡ kept_with (placed_views kept.old.items) (option_map package_view found) place) }
 {
     if let Some(locked) = found {
         kept.push(PlacedPackage { locked, place })?;
@@ -103,7 +108,8 @@ fn package_at(
     place: usize,
 ) -> Result<Option<Package>, AllocError>
     requires { AreStops catalogue.now stops.now }
-    ensures { IfOk result (λ o. option_map package_view o ≡ option_map (λ n. package_of (problem_in manifest.now catalogue.now) n []) (slice_get (owners_of catalogue.now stops.now) place)) }
+    ensures { IfOk result (λ o. option_map package_view o ≡ option_map (λ n. package_of
+        (problem_in manifest.now catalogue.now) n []) (slice_get (owners_of catalogue.now stops.now) place)) }
 {
     if place == 0 {
         return Ok(Some(root_package(alloc, manifest, catalogue)?));
@@ -140,7 +146,8 @@ fn stop_package(
     stop: &Stop,
 ) -> Result<Option<Package>, AllocError>
     requires { IsThere catalogue.now stop.now }
-    ensures { IfOk result (λ o. option_map package_view o ≡ Some (package_of (problem_in manifest.now catalogue.now) (stop_owner catalogue.now stop.now) [])) }
+    ensures { IfOk result (λ o. option_map package_view o
+        ≡ Some (package_of (problem_in manifest.now catalogue.now) (stop_owner catalogue.now stop.now) [])) }
 {
     store_holds(catalogue);
     // The contract speaks of the manifest too; that the name is one is what `as_str` promises.

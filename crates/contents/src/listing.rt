@@ -4,7 +4,8 @@ ghost use Rattle.std.specs.Prelude.{◌≡◌, ◌≢◌, ◌↔◌, ◌<◌, �
 ghost use Rattle.std.specs.List.{All, AllPairs};
 ghost use Rattle.facts.specs.Graphs.{flag_at, node_views};
 ghost use Rattle.lockfile.specs.Views.{package_views};
-ghost use Rattle.contents.specs.Contents.{AreListed, AreRanks, HaveLists, IsListed, IsRising, flags_at, placed_views, places_in, rank_if, ranks_from, targets_at, with_rank};
+ghost use Rattle.contents.specs.Contents.{AreListed, AreRanks, HaveLists, IsListed, IsRising, flags_at, placed_views};
+ghost use Rattle.contents.specs.Contents.{places_in, rank_if, ranks_from, targets_at, with_rank};
 
 use crate::placed::PlacedPackage;
 use facts::{Facts, Node};
@@ -20,7 +21,8 @@ pub(crate) fn listed(
 ) -> Result<Vec<Package>, AllocError>
     requires apart { AllPairs (λ m n. m ≢ n) (places_in (placed_views kept.items)) }
     requires within { All (λ n. n < length nodes.now) (places_in (placed_views kept.items)) }
-    ensures { IfOk result (λ v. AreListed (node_views nodes.now) (map (λ v. v.items) facts.now.enabled.items) (placed_views kept.items) (package_views v.items)) }
+    ensures { IfOk result (λ v. AreListed (node_views nodes.now) (map (λ v. v.items) facts.now.enabled.items)
+        (placed_views kept.items) (package_views v.items)) }
 {
     let ranks = ranks_of(alloc, nodes.len(), kept.as_slice())?;
     with_lists(
@@ -40,7 +42,8 @@ fn with_lists(
     enabled: &[Vec<bool>],
     ranks: &[Option<usize>],
 ) -> Result<Vec<Package>, AllocError>
-    ensures { IfOk result (λ v. HaveLists (node_views nodes.now) (map (λ v. v.items) enabled.now) ranks.now (placed_views kept.items) (package_views v.items)) }
+    ensures { IfOk result (λ v. HaveLists (node_views nodes.now) (map (λ v. v.items) enabled.now) ranks.now
+        (placed_views kept.items) (package_views v.items)) }
 {
     let mut packages = Vec::new(alloc);
     'kept: for kept in kept {
@@ -77,7 +80,8 @@ fn list_at(
     place: usize,
 ) -> Result<Vec<usize>, AllocError>
     ensures rising { IfOk result (λ v. IsRising v.items) }
-    ensures members { IfOk result (λ v. (r : ℕ) → Contains v.items r ↔ IsListed (targets_at (node_views nodes.now) place) (flags_at (map (λ v. v.items) enabled.now) place) ranks.now r) }
+    ensures members { IfOk result (λ v. (r : ℕ) → Contains v.items r ↔ IsListed (targets_at (node_views nodes.now)
+        place) (flags_at (map (λ v. v.items) enabled.now) place) ranks.now r) }
 {
     list_of(
         alloc,

@@ -18,7 +18,8 @@ pub fn put_stop(
 ) -> Result<usize, AllocError>
     requires { IsCandidate catalogue.now name.now place }
     ensures grows { OnOk result (Grows catalogue.now stops.old.keys stops.new.keys) }
-    ensures at { IfOk result (λ n. slice_get (owners_of catalogue.now stops.new.keys) n ≡ Some (candidate_owner catalogue.now name.now place)) }
+    ensures at { IfOk result (λ n. slice_get (owners_of catalogue.now stops.new.keys) n
+        ≡ Some (candidate_owner catalogue.now name.now place)) }
 {
     // The contract speaks of the catalogue.
     let _ = catalogue;

@@ -1,6 +1,7 @@
 -- The entries that one of a store needs: it and, of each combination among them, the two that it combines (marking, as
 -- of a garbage collector).
-use Rattle.std.specs.Prelude.{◌≡◌, ℕ, suc, ◌<◌, ◌≤◌, Bool, true, List, [], ◌∷◌, if◌then◌else◌, length, slice_index_or, slice_set}
+use Rattle.std.specs.Prelude.{◌≡◌, ℕ, suc, ◌<◌, ◌≤◌, Bool, true, List, [], ◌∷◌, if◌then◌else◌, length, slice_index_or}
+use Rattle.std.specs.Prelude.{slice_set}
 use Rattle.version_sets.specs.Sets.{has}
 use Rattle.incompatibilities.specs.Stores.{EntryView, OriginFits, entry}
 use Rattle.incompatibilities.specs.declared.origin.Origin.{Origin}
@@ -9,8 +10,10 @@ use Rattle.incompatibilities.specs.declared.origin.Origin.TheVariants.{Axiom, Co
 -- what an entry comes from
 pub data Reached (es : List EntryView) (last : ℕ) : ℕ → Type 0 where
   itself : Reached es last last
-  first_of : {id : ℕ} → (i j n : ℕ) (w : Bool) → Reached es last id → (entry es id).origin ≡ Combined i j n w → Reached es last i
-  second_of : {id : ℕ} → (i j n : ℕ) (w : Bool) → Reached es last id → (entry es id).origin ≡ Combined i j n w → Reached es last j
+  first_of : {id : ℕ} → (i j n : ℕ) (w : Bool) → Reached es last id
+      → (entry es id).origin ≡ Combined i j n w → Reached es last i
+  second_of : {id : ℕ} → (i j n : ℕ) (w : Bool) → Reached es last id
+      → (entry es id).origin ≡ Combined i j n w → Reached es last j
 
 -- the marks with those of the entries that an origin combines
 abbrev pub with_parts : Origin → List Bool → List Bool

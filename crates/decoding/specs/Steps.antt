@@ -1,5 +1,6 @@
 -- Entries of a store over numbers as steps of a derivation.
-use Rattle.std.specs.Prelude.{◌≡◌, ◌<◌, ◌≤◌, ℕ, Bool, length, List, [], ◌∷◌, ◌++◌, Option, Some, None, slice_get, map, Contains}
+use Rattle.std.specs.Prelude.{◌≡◌, ◌<◌, ◌≤◌, ℕ, Bool, length, List, [], ◌∷◌, ◌++◌, Option, Some, None, slice_get, map}
+use Rattle.std.specs.Prelude.{Contains}
 use Rattle.std.specs.List.{AllPairs}
 use Rattle.terms.specs.Terms.{TermView}
 use Rattle.incompatibilities.specs.Stores.{EntryView, OriginFits, entry}
@@ -27,7 +28,8 @@ pub record IsNeeded (es : List EntryView) (last : ℕ) (ids : List ℕ) (place :
   pub rising : AllPairs (λ a b. a < b) ids
   pub within : (id : ℕ) → Contains ids id → id ≤ last
   pub fits : (id : ℕ) → Contains ids id → OriginFits es id (entry es id).terms (entry es id).origin
-  pub closed : (id i j n : ℕ) (w : Bool) → Contains ids id → (entry es id).origin ≡ Combined i j n w → Contains ids i × Contains ids j
+  pub closed : (id i j n : ℕ) (w : Bool) → Contains ids id → (entry es id).origin ≡ Combined i j n w
+      → Contains ids i × Contains ids j
   pub placed : (k id : ℕ) → slice_get ids k ≡ Some id → place id ≡ k
   pub ends : (front : List ℕ) × (ids ≡ front ++ last ∷ [])
 
@@ -45,7 +47,8 @@ pub record IsStepOf (q : Problem) (vs : Numbering) (place : ℕ → ℕ) (e : En
 
 abbrev pub AreStepsOf : Problem → Numbering → List EntryView → (ℕ → ℕ) → List ℕ → List Step → Type 0
 AreStepsOf q vs es place [] [] = Unit {0}
-AreStepsOf q vs es place (id ∷ ids) (s ∷ steps) = IsStepOf q vs place (entry es id) s × AreStepsOf q vs es place ids steps
+AreStepsOf q vs es place (id ∷ ids) (s ∷ steps) =
+    IsStepOf q vs place (entry es id) s × AreStepsOf q vs es place ids steps
 AreStepsOf q vs es place [] (s ∷ steps) = ⊥
 AreStepsOf q vs es place (id ∷ ids) [] = ⊥
 

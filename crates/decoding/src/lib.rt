@@ -39,66 +39,80 @@ pub use values::chosen;
 
 /// An incompatibility over numbers says its own terms.
 pub fn terms_are_said()
-    ensures { (q : Problem) (vs : Numbering) (made : List TermView) → IsCatalogue q → IsNumbering q vs → IsOver q vs made → Says q vs made (terms_of q vs made) }
+    ensures { (q : Problem) (vs : Numbering) (made : List TermView) → IsCatalogue q → IsNumbering q vs
+        → IsOver q vs made → Says q vs made (terms_of q vs made) }
 {}
 
 /// The terms of an instance that it says, without full ones, are just its own.
 pub fn one_instance_is_said()
-    ensures { (q : Problem) (vs : Numbering) (k : Kind) (made : List TermView) (ts : List Term) → IsCatalogue q → IsNumbering q vs → IsInstance q k ts → Says q vs made ts
+    ensures { (q : Problem) (vs : Numbering) (k : Kind) (made : List TermView) (ts : List Term) → IsCatalogue q
+        → IsNumbering q vs → IsInstance q k ts → Says q vs made ts
         → SameTerms (terms_of q vs made) (without_full q ts) }
 {}
 
 /// A combination at a number is a combination at its vertex.
 pub fn combinations_are_decoded()
-    ensures { (q : Problem) (vs : Numbering) (n : ℕ) (v : Vertex) (a b c : List TermView) → IsCatalogue q → IsNumbering q vs → IsOver q vs a → IsOver q vs b → slice_get vs n ≡ Some v
+    ensures { (q : Problem) (vs : Numbering) (n : ℕ) (v : Vertex) (a b c : List TermView) → IsCatalogue q
+        → IsNumbering q vs → IsOver q vs a → IsOver q vs b → slice_get vs n ≡ Some v
         → IsCombination n a b c → IsCombined q v (terms_of q vs a) (terms_of q vs b) (terms_of q vs c) }
 {}
 
 /// Steps that say what the needed entries of a store say, by the same kinds and of the same entries at their places,
 /// are an accepted derivation, if the last entry has no terms.
 pub fn needed_entries_are_accepted()
-    ensures { (q : Problem) (vs : Numbering) (es : List EntryView) (last : ℕ) (ids : List ℕ) (place : ℕ → ℕ) (steps : List Step) → IsCatalogue q → IsNumbering q vs
-        → IsNeeded es last ids place → ((id : ℕ) → Contains ids id → IsEncoded q vs (entry es id).terms (entry es id).origin) → AreStepsOf q vs es place ids steps
+    ensures { (q : Problem) (vs : Numbering) (es : List EntryView) (last : ℕ) (ids : List ℕ) (place : ℕ → ℕ)
+        (steps : List Step) → IsCatalogue q → IsNumbering q vs
+        → IsNeeded es last ids place
+        → ((id : ℕ) → Contains ids id → IsEncoded q vs (entry es id).terms (entry es id).origin)
+        → AreStepsOf q vs es place ids steps
         → (entry es last).terms ≡ [] → IsAccepted q steps }
 {}
 
 /// The entries as they are decoded are such steps.
 pub fn entries_are_steps()
-    ensures { (q : Problem) (vs : Numbering) (es : List EntryView) (ids : List ℕ) (place : ℕ → ℕ) → ((id : ℕ) → Contains ids id → IsEncoded q vs (entry es id).terms (entry es id).origin)
+    ensures { (q : Problem) (vs : Numbering) (es : List EntryView) (ids : List ℕ) (place : ℕ → ℕ)
+        → ((id : ℕ) → Contains ids id → IsEncoded q vs (entry es id).terms (entry es id).origin)
         → AreStepsOf q vs es place ids (steps_of q vs es place ids) }
 {}
 
 /// The steps of a whole store, each as it is decoded, are steps of a derivation, which is accepted if the last entry
 /// has no terms.
 pub fn stores_are_steps()
-    ensures steps { (q : Problem) (vs : Numbering) (es : List EntryView) → IsCatalogue q → IsNumbering q vs → AreFounded es
+    ensures steps { (q : Problem) (vs : Numbering) (es : List EntryView) → IsCatalogue q
+        → IsNumbering q vs → AreFounded es
         → AreEncoded q vs es → AreSteps q (steps_of q vs es (λ i. i) (below (length es))) }
-    ensures accepted { (q : Problem) (vs : Numbering) (es : List EntryView) (last : ℕ) → IsCatalogue q → IsNumbering q vs → AreFounded es
+    ensures accepted { (q : Problem) (vs : Numbering) (es : List EntryView) (last : ℕ) → IsCatalogue q
+        → IsNumbering q vs → AreFounded es
         → AreEncoded q vs es → length es ≡ suc last → (entry es last).terms ≡ []
         → IsAccepted q (steps_of q vs es (λ i. i) (below (length es))) }
 {}
 
 /// Terms that are decoded speak of different vertices, so that they may be put in any order.
 pub fn terms_are_apart()
-    ensures { (q : Problem) (vs : Numbering) (made : List TermView) → IsNumbering q vs → IsIncompatibility made → AreApart (terms_of q vs made) }
+    ensures { (q : Problem) (vs : Numbering) (made : List TermView) → IsNumbering q vs → IsIncompatibility made
+        → AreApart (terms_of q vs made) }
 {}
 
 /// The states of each vertex rise.
 pub fn spaces_rise()
-    ensures { (cmp : State → State → Ordering) (q : Problem) (v : Vertex) → IsStateOrder cmp → IsCatalogue q → IsStrictlySortedBy cmp (space q v) }
+    ensures { (cmp : State → State → Ordering) (q : Problem) (v : Vertex) → IsStateOrder cmp → IsCatalogue q
+        → IsStrictlySortedBy cmp (space q v) }
 {}
 
 /// The states of a term stand in the order of their vertex's states.
 pub fn states_stay_in_order()
-    ensures { (cmp : State → State → Ordering) (ss : List State) (m : Members) → IsStrictlySortedBy cmp ss → IsStrictlySortedBy cmp (states_in ss m) }
+    ensures { (cmp : State → State → Ordering) (ss : List State) (m : Members) → IsStrictlySortedBy cmp ss
+        → IsStrictlySortedBy cmp (states_in ss m) }
 {}
 
 /// What an entry is stays as more vertices get numbers.
 pub fn entries_stay_encoded()
-    ensures { (q : Problem) (vs new : Numbering) (ts : List TermView) (o : Origin) → IsNumbering q new → IsGrown vs new → IsEncoded q vs ts o → IsEncoded q new ts o }
+    ensures { (q : Problem) (vs new : Numbering) (ts : List TermView) (o : Origin) → IsNumbering q new → IsGrown vs new
+        → IsEncoded q vs ts o → IsEncoded q new ts o }
 {}
 
 /// The number of each term is that of a vertex.
 pub fn terms_have_vertices()
-    ensures { (q : Problem) (vs : Numbering) (made : List TermView) (n : ℕ) (m : Members) → IsOver q vs made → states_at made n ≡ Some m → (v : Vertex) × (slice_get vs n ≡ Some v) }
+    ensures { (q : Problem) (vs : Numbering) (made : List TermView) (n : ℕ) (m : Members) → IsOver q vs made
+        → states_at made n ≡ Some m → (v : Vertex) × (slice_get vs n ≡ Some v) }
 {}

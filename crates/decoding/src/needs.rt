@@ -1,9 +1,11 @@
 //! The entries of a store that one of them needs.
 
-ghost use Rattle.std.specs.Prelude.{◌≡◌, ◌++◌, ◌∷◌, [], ◌<◌, ◌≤◌, suc, true, ℕ, IfOk, OnOk, Contains, if◌then◌else◌, length};
+ghost use Rattle.std.specs.Prelude.{◌≡◌, ◌++◌, ◌∷◌, [], ◌<◌, ◌≤◌, suc, true, ℕ, IfOk, OnOk, Contains, if◌then◌else◌};
+ghost use Rattle.std.specs.Prelude.{length};
 ghost use Rattle.version_sets.specs.Sets.{has};
 ghost use Rattle.incompatibilities.specs.Stores.{OriginFits, entries_view, entry};
-ghost use Rattle.decoding.specs.Needs.{IsMarking, PartsBelow, Reached, ids_from, place_in, places_from, visited, with_parts};
+ghost use Rattle.decoding.specs.Needs.{IsMarking, PartsBelow, Reached, ids_from, place_in, places_from, visited};
+ghost use Rattle.decoding.specs.Needs.{with_parts};
 ghost use Rattle.decoding.specs.Steps.{AreEncoded, IsNeeded, steps_of};
 ghost use Rattle.model.specs.Content.{Problem};
 ghost use Rattle.model.specs.WellFormed.{IsCatalogue};
@@ -40,7 +42,8 @@ fn visit<S: States + Drop>(marks: &mut Vec<bool>, store: &Store<S>, id: usize)
     requires marked { id < length marks.old.items }
     requires there { id < length (entries_view S.tests store.now) }
     ensures marks { marks.new.items ≡ visited (entries_view S.tests store.now) id marks.old.items }
-    ensures fits { has marks.old.items id ≡ true → OriginFits (entries_view S.tests store.now) id (entry (entries_view S.tests store.now) id).terms (entry (entries_view S.tests store.now) id).origin }
+    ensures fits { has marks.old.items id ≡ true → OriginFits (entries_view S.tests store.now) id
+        (entry (entries_view S.tests store.now) id).terms (entry (entries_view S.tests store.now) id).origin }
 {
     if marks[id] {
         mark_parts(marks, store.origin(Id::new(id)));
@@ -104,13 +107,17 @@ pub fn needed<S: States + Drop>(
     last: Id,
 ) -> Result<Kept, AllocError>
     requires { last < length (entries_view S.tests store.now) }
-    ensures needed { IfOk result (λ n. IsNeeded (entries_view S.tests store.now) last n.ids.items (place_in n.places.items)) }
+    ensures needed { IfOk result
+        (λ n. IsNeeded (entries_view S.tests store.now) last n.ids.items (place_in n.places.items)) }
     // No other entry is there.
-    ensures reached { IfOk result (λ n. (id : ℕ) → Contains n.ids.items id → Reached (entries_view S.tests store.now) last id) }
+    ensures reached { IfOk result
+        (λ n. (id : ℕ) → Contains n.ids.items id → Reached (entries_view S.tests store.now) last id) }
     // If it has no terms, those entries are an accepted derivation, with their places in the list as the steps'
     // numbers.
-    ensures accepted { IfOk result (λ n. (q : Problem) (vs : Numbering) → IsCatalogue q → IsNumbering q vs → AreEncoded q vs (entries_view S.tests store.now)
-        → (entry (entries_view S.tests store.now) last).terms ≡ [] → IsAccepted q (steps_of q vs (entries_view S.tests store.now) (place_in n.places.items) n.ids.items)) }
+    ensures accepted { IfOk result (λ n. (q : Problem) (vs : Numbering) → IsCatalogue q → IsNumbering q vs
+        → AreEncoded q vs (entries_view S.tests store.now)
+        → (entry (entries_view S.tests store.now) last).terms ≡ []
+        → IsAccepted q (steps_of q vs (entries_view S.tests store.now) (place_in n.places.items) n.ids.items)) }
 {
     let marks = marked(alloc, store, last.index())?;
     numbered(alloc, &marks)

@@ -1,5 +1,6 @@
 -- Terms in any order, put into the written one, are those of a step.
-use Rattle.std.proofs.Common.{◌≡◌, ℕ, ◌<◌, List, [], ◌∷◌, map, length, get_or, Bool, true, false, refl, sym, ap, ◌∙◌, subst, Ordering, Less, Equal, Greater}
+use Rattle.std.proofs.Common.{◌≡◌, ℕ, ◌<◌, List, [], ◌∷◌, map, length, get_or, Bool, true, false, refl, sym, ap, ◌∙◌}
+use Rattle.std.proofs.Common.{subst, Ordering, Less, Equal, Greater}
 use Rattle.std.specs.Cmp.{IsTotalOrder, unsigned_tied}
 use Rattle.std.specs.Cmp.Lexicographic.{texts_ties}
 use Rattle.std.specs.List.{All, AllByRecursion, IsDistinct}
@@ -57,7 +58,8 @@ state-tied present (version w) h = cc
 state-tied present (in_class d) h = cc
 state-tied (version v) absent h = cc
 state-tied (version v) present h = cc
-state-tied (version v) (version w) h = text-tied (state_text (version v)) (state_text (version w)) (second-tied (precedence v w) (text_cmp (state_text (version v)) (state_text (version w))) h)
+state-tied (version v) (version w) h = text-tied (state_text (version v)) (state_text (version w))
+    (second-tied (precedence v w) (text_cmp (state_text (version v)) (state_text (version w))) h)
 state-tied (version v) (in_class d) h = cc
 state-tied (in_class c) absent h = cc
 state-tied (in_class c) present h = cc
@@ -65,12 +67,14 @@ state-tied (in_class c) (version w) h = cc
 state-tied (in_class c) (in_class d) h = ap (λ e. state_text (in_class e)) (class-tied c d h)
 
 -- so those that read back are one
-state-one : (v : Vertex) (s t : State) → IsReadState v s → IsReadState v t → is_eq (state_cmp s t) ≡ true → same_state s t ≡ true
+state-one : (v : Vertex) (s t : State) → IsReadState v s → IsReadState v t
+    → is_eq (state_cmp s t) ≡ true → same_state s t ≡ true
 state-one v s t h k tie =
     let one : s ≡ t = same-Ok _ _ (sym h ∙ ap (state_of_text v) (state-tied s t tie) ∙ k) in
     subst (λ u. same_state s u ≡ true) one (state-refl s)
 
-vertex-one : (v w : Vertex) → IsReadVertex v → IsReadVertex w → is_eq (text_cmp (vertex_text v) (vertex_text w)) ≡ true → same_vertex v w ≡ true
+vertex-one : (v w : Vertex) → IsReadVertex v → IsReadVertex w
+    → is_eq (text_cmp (vertex_text v) (vertex_text w)) ≡ true → same_vertex v w ≡ true
 vertex-one v w h k tie =
     let one : v ≡ w = same-Ok _ _ (sym h ∙ ap vertex_of_text (text-tied (vertex_text v) (vertex_text w) tie) ∙ k) in
     subst (λ u. same_vertex v u ≡ true) one (vertex-refl v)
@@ -81,8 +85,10 @@ no-tie : (a b : Bool) → (b ≡ true → a ≡ true) → a ≡ false → b ≡ 
 no-tie a false f h = refl
 no-tie a true f h = let yes = f refl in cc
 
-module _ {X : Type 0} (P : X → Type 0) (d e : X → X → Bool) (tells : (x y : X) → P x → P y → e x y ≡ true → d x y ≡ true) where
-  apart-from : (x : X) (ys : List X) → P x → AllByRecursion P ys → AllByRecursion (λ y. d x y ≡ false) ys → AllByRecursion (λ y. e x y ≡ false) ys
+module _ {X : Type 0} (P : X → Type 0) (d e : X → X → Bool)
+    (tells : (x y : X) → P x → P y → e x y ≡ true → d x y ≡ true) where
+  apart-from : (x : X) (ys : List X) → P x → AllByRecursion P ys → AllByRecursion (λ y. d x y ≡ false) ys
+      → AllByRecursion (λ y. e x y ≡ false) ys
   apart-from x [] p each h = tt
   apart-from x (y ∷ ys) p each h = (no-tie (d x y) (e x y) (tells x y p each.0) h.0, apart-from x ys p each.1 h.1)
 
@@ -91,11 +97,13 @@ module _ {X : Type 0} (P : X → Type 0) (d e : X → X → Bool) (tells : (x y 
   all-apart [] each h = tt
   all-apart (x ∷ xs) each h = (apart-from x xs each.0 each.1 h.0, all-apart xs each.1 h.1)
 
-each-map : {X Y : Type 0} (P : Y → Type 0) (f : X → Y) (xs : List X) → AllByRecursion (λ x. P (f x)) xs → AllByRecursion P (map f xs)
+each-map : {X Y : Type 0} (P : Y → Type 0) (f : X → Y) (xs : List X) → AllByRecursion (λ x. P (f x)) xs
+    → AllByRecursion P (map f xs)
 each-map P f [] h = tt
 each-map P f (x ∷ xs) h = (h.0, each-map P f xs h.1)
 
-distinct-map : {X Y : Type 0} (e : Y → Y → Bool) (f : X → Y) (xs : List X) → IsDistinct (on f e) xs → IsDistinct e (map f xs)
+distinct-map : {X Y : Type 0} (e : Y → Y → Bool) (f : X → Y) (xs : List X) → IsDistinct (on f e) xs
+    → IsDistinct e (map f xs)
 unfolding IsDistinct
 distinct-map e f [] h = tt
 distinct-map e f (x ∷ xs) h = (each-map (λ y. e (f x) y ≡ false) f xs h.0, distinct-map e f xs h.1)
@@ -106,7 +114,8 @@ pub term_total : IsTotalOrder term_cmp
 term_total = on_total (λ (t : Term). vertex_text t.vertex) nat_list_cmp_total
 
 pub states-apart : (t : Term) → IsNewTerm t → IsDistinct (eq_by_cmp state_cmp) t.states
-states-apart t h = all-apart (λ s. IsReadState t.vertex s) same_state (eq_by_cmp state_cmp) (state-one t.vertex) t.states (recursion_from_All _ t.states h.states) h.apart
+states-apart t h = all-apart (λ s. IsReadState t.vertex s) same_state (eq_by_cmp state_cmp)
+    (state-one t.vertex) t.states (recursion_from_All _ t.states h.states) h.apart
 
 term-is : (t : Term) → IsNewTerm t → IsTerm (ordered_term t)
 term-is t h = record {
@@ -122,12 +131,18 @@ each-term (t ∷ ts) h = (term-is t h.0, each-term ts h.1)
 pub terms-apart : (ts : List Term) → AreNewTerms ts → IsDistinct (eq_by_cmp term_cmp) (map ordered_term ts)
 terms-apart ts h =
     distinct-map (eq_by_cmp term_cmp) ordered_term ts
-    (all-apart IsNewTerm (on (λ t. t.vertex) same_vertex) (on ordered_term (eq_by_cmp term_cmp)) (λ t u p q. vertex-one t.vertex u.vertex p.vertex q.vertex) ts (recursion_from_All _ ts h.each) h.apart)
+    (all-apart IsNewTerm (on (λ t. t.vertex) same_vertex) (on ordered_term (eq_by_cmp term_cmp))
+    (λ t u p q. vertex-one t.vertex u.vertex p.vertex q.vertex) ts (recursion_from_All _ ts h.each) h.apart)
 
 pub terms-are : (ts : List Term) → AreNewTerms ts → AreTerms (ordered_terms ts)
-terms-are ts h =
-    (each-in_order term_cmp IsTerm (map ordered_term ts) (each-map IsTerm ordered_term ts (each-term ts (recursion_from_All _ ts h.each))), sorted-in_order term_total (map ordered_term ts) (terms-apart ts h))
+terms-are ts h = (
+  each-in_order term_cmp IsTerm (map ordered_term ts) (each-map IsTerm ordered_term ts (each-term ts
+      (recursion_from_All _ ts h.each))),
+  sorted-in_order term_total (map ordered_term ts) (terms-apart ts h),
+)
 
 -- a term at its place among new ones
-pub new-at : {X : Type 0} (v : X → Term) (xs : List X) (k : ℕ) (x : X) → All IsNewTerm (map v xs) → k < length xs → x ≡ get_or xs k x → IsNewTerm (v x)
-new-at v xs k x h l is = subst IsNewTerm (get_or-map v xs k x (v x) l ∙ ap v (sym is)) (All-get_or IsNewTerm (map v xs) k (v x) (rw (length-map xs v) l) h)
+pub new-at : {X : Type 0} (v : X → Term) (xs : List X) (k : ℕ) (x : X) → All IsNewTerm (map v xs) → k < length xs
+    → x ≡ get_or xs k x → IsNewTerm (v x)
+new-at v xs k x h l is = subst IsNewTerm (get_or-map v xs k x (v x) l ∙ ap v (sym is))
+    (All-get_or IsNewTerm (map v xs) k (v x) (rw (length-map xs v) l) h)

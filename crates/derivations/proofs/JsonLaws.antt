@@ -1,12 +1,14 @@
 -- The compact text of JSON values without floats and inner objects reads as the value.
-use Rattle.std.proofs.Common.{◌≡◌, ℕ, suc, ◌<◌, ◌≤◌, ◌^◌, max, List, [], Option, Some, option_map, option_and_then, refl, sym, ap, ap₂, ◌∙◌, arith, append-nil}
+use Rattle.std.proofs.Common.{◌≡◌, ℕ, suc, ◌<◌, ◌≤◌, ◌^◌, max, List, [], Option, Some, option_map, option_and_then}
+use Rattle.std.proofs.Common.{refl, sym, ap, ap₂, ◌∙◌, arith, append-nil}
 use Rattle.json.specs.Lex.{tokens}
 use Rattle.json.specs.Json as json
 use Rattle.json.specs.Tree as tree
 use Rattle.json.proofs.Printed.Decimals.{IsNumber-decimal}
 use Rattle.json.proofs.Printed.Tokens.{tokens-print}
 use Rattle.json.proofs.Printed.Trees.{ArePrintable-json_tokens, value-json_tokens}
-use Rattle.serde_json.specs.Data.{unsigned, negative, float, Data, null, boolean, number, string, array, object, Items, no_items, item, no_members, member, put, depth, items_depth}
+use Rattle.serde_json.specs.Data.{unsigned, negative, float, Data, null, boolean, number, string, array, object, Items}
+use Rattle.serde_json.specs.Data.{no_items, item, no_members, member, put, depth, items_depth}
 use Rattle.serde_json.specs.Read.{read, max_depth, of_json, of_items, of_members}
 use Rattle.serde_json.specs.Written.{outline, items_outline, compact_text}
 use Rattle.serde_json.proofs.Numbers.{number_of-decimal}
@@ -28,7 +30,8 @@ abbrev mutual
   AreSimple no_items = Unit {0}
   AreSimple (item d ds) = IsSimple d × AreSimple ds
 
-both_some : (d : Data) (ds : Items) (o : Option Data) (p : Option Items) → o ≡ Some d → p ≡ Some ds → option_and_then (λ e. option_map (item e) p) o ≡ Some (item d ds)
+both_some : (d : Data) (ds : Items) (o : Option Data) (p : Option Items) → o ≡ Some d → p ≡ Some ds
+    → option_and_then (λ e. option_map (item e) p) o ≡ Some (item d ds)
 both_some d ds o p h k = rw (h, k) refl
 
 mutual
@@ -79,17 +82,25 @@ mutual
 -- an object of two members in order
 pub two-read : (k l : List ℕ) (d e : Data) → IsSimple d → IsSimple e → depth d ≤ 4 → depth e ≤ 4
     → put l e (member k d no_members) ≡ member k d (member l e no_members)
-    → read (compact_text (object (member k d (member l e no_members)))) ≡ Some (object (member k d (member l e no_members)))
+    → read (compact_text (object (member k d (member l e no_members))))
+    ≡ Some (object (member k d (member l e no_members)))
 two-read k l d e simple other low below order =
     let whole : Data = object (member k d (member l e no_members)) in
-    let tree_depth : tree.depth (outline whole) ≡ depth whole = ap₂ (λ m n. suc (max m (max n 0))) (same-depth d simple) (same-depth e other) in
-    let first : of_json (outline whole) ≡ option_map object (of_members (json.member l (outline e) json.no_members) (member k d no_members))
-    = ap (λ o. option_map object (option_and_then (λ x. of_members (json.member l (outline e) json.no_members) (put k x no_members)) o)) (reads d simple) in
-    let second : option_map object (of_members (json.member l (outline e) json.no_members) (member k d no_members)) ≡ Some (object (put l e (member k d no_members)))
-    = ap (λ o. option_map object (option_and_then (λ x. of_members json.no_members (put l x (member k d no_members))) o)) (reads e other) in
+    let tree_depth : tree.depth (outline whole) ≡ depth whole =
+    ap₂ (λ m n. suc (max m (max n 0))) (same-depth d simple) (same-depth e other) in
+    let first : of_json (outline whole)
+    ≡ option_map object (of_members (json.member l (outline e) json.no_members) (member k d no_members))
+    = ap (λ o. option_map object (option_and_then (λ x.
+    of_members (json.member l (outline e) json.no_members) (put k x no_members)) o)) (reads d simple) in
+    let second : option_map object (of_members (json.member l (outline e) json.no_members) (member k d no_members))
+    ≡ Some (object (put l e (member k d no_members)))
+    = ap (λ o. option_map object
+    (option_and_then (λ x. of_members json.no_members (put l x (member k d no_members))) o)) (reads e other) in
     let data_of : of_json (outline whole) ≡ Some whole = first ∙ second ∙ ap (λ ms. Some (object ms)) order in
     let printable = ArePrintable-json_tokens (outline whole) (numbers d simple, (numbers e other, tt)) in
-    let text : tokens (compact_text whole) ≡ tree.json_tokens (outline whole) = ap tokens (sym (print-outline whole)) ∙ tokens-print (tree.json_tokens (outline whole)) printable in
+    let text : tokens (compact_text whole) ≡ tree.json_tokens (outline whole) =
+    ap tokens (sym (print-outline whole)) ∙ tokens-print (tree.json_tokens (outline whole)) printable in
     let value : json.value max_depth (tokens (compact_text whole)) ≡ Some (outline whole, [])
-    = ap (json.value max_depth) (text ∙ sym (append-nil (tree.json_tokens (outline whole)))) ∙ value-json_tokens (outline whole) max_depth [] (omega (arith, tree_depth)) in
+    = ap (json.value max_depth) (text ∙ sym (append-nil (tree.json_tokens (outline whole))))
+    ∙ value-json_tokens (outline whole) max_depth [] (omega (arith, tree_depth)) in
     ap (λ o. option_and_then of_json (option_and_then (λ p. json.if_last p.0 p.1) o)) value ∙ data_of

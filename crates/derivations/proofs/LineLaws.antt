@@ -17,7 +17,8 @@ use Rattle.derivations.proofs.ReadLaws.{line-is, one-after}
 use Rattle.derivations.proofs.TableLaws.{more-steps}
 
 module _ (s : TablesView) (ss : List Step) (line : List ℕ) (n : ℕ) (text : is_blank line ≡ false) where
-  pub not-read : (e : LineFault) → Faults (line_wants_memory e) e (step_of_line (length ss) line) → Faults (wants_memory (fault_at n e)) (fault_at n e) (with_line n line (steps_at s ss))
+  pub not-read : (e : LineFault) → Faults (line_wants_memory e) e (step_of_line (length ss) line)
+      → Faults (wants_memory (fault_at n e)) (fault_at n e) (with_line n line (steps_at s ss))
   not-read OutOfMemory h = tt
   not-read NotALine h = rw (text, length-map ss (step_at s), h) refl
   not-read Forward h = rw (text, length-map ss (step_at s), h) refl
@@ -32,5 +33,6 @@ module _ (s : TablesView) (ss : List Step) (line : List ℕ) (n : ℕ) (text : i
         let long = length-map ss (step_at s) in
         let read : step_of_line (length (steps_at s ss)) line ≡ Ok (step_at t x) = rw long is in
         let more = more-steps s t ss x (step_at t x) g h.0 in_t refl in
-        let next = one-after (steps_at s ss) (step_at t x) h.1 (line-is (length (steps_at s ss)) line (step_at t x) read) in
+        let next =
+        one-after (steps_at s ss) (step_at t x) h.1 (line-is (length (steps_at s ss)) line (step_at t x) read) in
         ((more.0, subst IsDerivation (sym more.1) next), rw (text, read, long, room) (ap Ok (sym more.1)))

@@ -1,5 +1,7 @@
 -- What is read keeps what each derivation keeps.
-use Rattle.std.proofs.Common.{◌≡◌, ℕ, ◌+◌, List, [], ◌∷◌, ◌++◌, length, Bool, true, false, cond, ◌&&◌, Option, Some, None, Ok, Err, option_and_then, refl, sym, ap, ap₂, ◌∙◌, subst, arith, Ordering, Less, codes}
+use Rattle.std.proofs.Common.{◌≡◌, ℕ, ◌+◌, List, [], ◌∷◌, ◌++◌, length, Bool, true, false, cond, ◌&&◌, Option, Some}
+use Rattle.std.proofs.Common.{None, Ok, Err, option_and_then, refl, sym, ap, ap₂, ◌∙◌, subst, arith, Ordering, Less}
+use Rattle.std.proofs.Common.{codes}
 use Rattle.std.specs.Cmp.{IsTotalOrder}
 use Rattle.std.specs.List.{AllByRecursion}
 use Rattle.std.specs.List.Sorted.{IsStrictlySortedBy}
@@ -18,7 +20,10 @@ use Rattle.vertices.specs.Kinds.{kind_of_text}
 use Rattle.derivations.specs.Orders.{ordered}
 use Rattle.model.specs.Sorting.{in_order, has_alike}
 use Rattle.vertices.specs.Orders.{state_cmp}
-use Rattle.derivations.specs.Steps.{data_of_bytes, text_of, whole_of, item_at, none_at, two_of, states_in, states_of, Written, written_cmp, term_of, terms_in, terms_without_texts, terms_of, Origin, by_axiom, by_combination, axiom_of, combination_of, origin_from, origin_of, is_backward, step_by, step_of, step_of_line}
+use Rattle.derivations.specs.Steps.{data_of_bytes, text_of, whole_of, item_at, none_at, two_of, states_in, states_of}
+use Rattle.derivations.specs.Steps.{Written, written_cmp, term_of, terms_in, terms_without_texts, terms_of, Origin}
+use Rattle.derivations.specs.Steps.{by_axiom, by_combination, axiom_of, combination_of, origin_from, origin_of}
+use Rattle.derivations.specs.Steps.{is_backward, step_by, step_of, step_of_line}
 use Rattle.derivations.specs.Lines.{needed, in_line, vertex_in_line, state_in_line}
 use Rattle.vertices.specs.Texts.{Reading, vertex_text, vertex_of_text, state_of_text}
 use Rattle.derivations.specs.declared.fault.LineFault.TheVariants.{NotALine, Forward}
@@ -41,27 +46,35 @@ state-is v text s h = let r = read-off (state_of_text v text) s h in ap (state_o
 
 -- ---- lists in order
 
-ordered-is : {X : Type 0} {R : X → X → Ordering} (o : IsTotalOrder R) (P : X → Type 0) (xs ys : List X) → AllByRecursion P xs → ordered R xs ≡ Ok ys → AllByRecursion P ys × IsStrictlySortedBy R ys
+ordered-is : {X : Type 0} {R : X → X → Ordering} (o : IsTotalOrder R) (P : X → Type 0) (xs ys : List X)
+    → AllByRecursion P xs → ordered R xs ≡ Ok ys → AllByRecursion P ys × IsStrictlySortedBy R ys
 ordered-is {X} {R} o P xs ys each h = by (has_alike (eq_by_cmp R) xs) refl h
   where
-    by : (b : Bool) → has_alike (eq_by_cmp R) xs ≡ b → cond b (Err NotALine) (Ok (in_order R xs)) ≡ Ok ys → AllByRecursion P ys × IsStrictlySortedBy R ys
+    by : (b : Bool) → has_alike (eq_by_cmp R) xs ≡ b → cond b (Err NotALine) (Ok (in_order R xs)) ≡ Ok ys
+        → AllByRecursion P ys × IsStrictlySortedBy R ys
     by true is h = cc
     by false is h =
-        let same : in_order R xs ≡ ys = same-Ok _ _ h in
-        (subst (λ zs. AllByRecursion P zs) same (each-in_order R P xs each), subst (λ zs. IsStrictlySortedBy R zs) same (sorted-in_order o xs (distinct-from_none (eq_by_cmp R) xs is)))
+        let same : in_order R xs ≡ ys = same-Ok _ _ h in (
+          subst (λ zs. AllByRecursion P zs) same (each-in_order R P xs each),
+          subst
+              (λ zs. IsStrictlySortedBy R zs) same (sorted-in_order o xs (distinct-from_none (eq_by_cmp R) xs is)),
+        )
 
 -- ---- terms
 
-states-read : (v : Vertex) (ds : Items) (ss : List State) → states_in v ds ≡ Ok ss → AllByRecursion (λ s. IsReadState v s) ss
+states-read : (v : Vertex) (ds : Items) (ss : List State) → states_in v ds ≡ Ok ss
+    → AllByRecursion (λ s. IsReadState v s) ss
 unfolding states_in
 states-read v no_items ss h = subst (λ zs. AllByRecursion (λ s. IsReadState v s) zs) (same-Ok _ _ h) tt
 states-read v (item d ds) ss h =
     let t = steps (text_of d) _ ss h in
     let u = steps (state_in_line v t.at) _ ss t.then in
     let w = steps (states_in v ds) _ ss u.then in
-    subst (λ zs. AllByRecursion (λ s. IsReadState v s) zs) (same-Ok _ _ w.then) (state-is v t.at u.at u.first, states-read v ds w.at w.first)
+    subst (λ zs. AllByRecursion (λ s. IsReadState v s) zs) (same-Ok _ _ w.then)
+    (state-is v t.at u.at u.first, states-read v ds w.at w.first)
 
-states-are : (v : Vertex) (d : Data) (ss : List State) → states_of v d ≡ Ok ss → AllByRecursion (λ s. IsReadState v s) ss × IsStrictlySortedBy state_cmp ss
+states-are : (v : Vertex) (d : Data) (ss : List State) → states_of v d ≡ Ok ss
+    → AllByRecursion (λ s. IsReadState v s) ss × IsStrictlySortedBy state_cmp ss
 unfolding states_of
 states-are v d ss h =
     let t = steps (needed (json.as_array d)) _ ss h in
@@ -79,7 +92,10 @@ term-is d t h =
     let v = steps (vertex_in_line q.at) _ t q.then in
     let s = steps (states_of v.at p.at.1) _ t v.then in
     let both = states-are v.at p.at.1 s.at s.first in
-    subst IsWritten (same-Ok _ _ s.then) (sym (vertex-reads q.at v.at (read-off (vertex_of_text q.at) v.at v.first)), record { vertex = vertex-is q.at v.at v.first; states = both.0; order = both.1 })
+    subst IsWritten (same-Ok _ _ s.then) (
+      sym (vertex-reads q.at v.at (read-off (vertex_of_text q.at) v.at v.first)),
+      record { vertex = vertex-is q.at v.at v.first; states = both.0; order = both.1 },
+    )
 
 terms-read : (ds : Items) (ts : List Written) → terms_in ds ≡ Ok ts → AllByRecursion IsWritten ts
 unfolding terms_in
@@ -93,11 +109,14 @@ each-term : (ts : List Written) → AllByRecursion IsWritten ts → AllByRecursi
 each-term [] h = tt
 each-term (t ∷ ts) h = (h.0.1, each-term ts h.1)
 
-each-after : (t : Written) (ts : List Written) → IsWritten t → AllByRecursion IsWritten ts → AllByRecursion (λ u. written_cmp t u ≡ Less) ts → AllByRecursion (λ u. term_cmp t.1 u ≡ Less) (terms_without_texts ts)
+each-after : (t : Written) (ts : List Written) → IsWritten t → AllByRecursion IsWritten ts
+    → AllByRecursion (λ u. written_cmp t u ≡ Less) ts
+    → AllByRecursion (λ u. term_cmp t.1 u ≡ Less) (terms_without_texts ts)
 each-after t [] w ws h = tt
 each-after t (u ∷ us) w ws h = (sym (ap₂ text_cmp w.0 ws.0.0) ∙ h.0, each-after t us w ws.1 h.1)
 
-in-order : (ts : List Written) → AllByRecursion IsWritten ts → IsStrictlySortedBy written_cmp ts → IsStrictlySortedBy term_cmp (terms_without_texts ts)
+in-order : (ts : List Written) → AllByRecursion IsWritten ts → IsStrictlySortedBy written_cmp ts
+    → IsStrictlySortedBy term_cmp (terms_without_texts ts)
 unfolding IsStrictlySortedBy
 in-order [] w h = tt
 in-order (t ∷ ts) w h = (each-after t ts w.0 w.1 h.0, in-order ts w.1 h.1)
@@ -147,7 +166,8 @@ and-true : (a b : Bool) → (a && b) ≡ true → (a ≡ true) × (b ≡ true)
 and-true true b h = (refl, h)
 and-true false b h = cc
 
-back : (n : ℕ) (r : Origin) (ts : List Term) → IsOrigin r → AreTerms ts → is_backward n r ≡ true → IsStepAt n (step_by r ts)
+back : (n : ℕ) (r : Origin) (ts : List Term) → IsOrigin r → AreTerms ts → is_backward n r ≡ true
+    → IsStepAt n (step_by r ts)
 back n (by_axiom k) ts r t h = (tt, t)
 back n (by_combination a b v) ts r t h = let p = and-true _ _ h in ((ltb-true _ _ p.0, ltb-true _ _ p.1, r), t)
 
@@ -157,7 +177,8 @@ step-is n d s h =
     let r = steps (origin_of d) _ s h in
     let t = steps (terms_of d) _ s r.then in
     let b = steps (guard (is_backward n r.at) Forward) _ s t.then in
-    subst (IsStepAt n) (same-Ok _ _ b.then) (back n r.at t.at (origin-is _ _ r.at r.first) (terms-are d t.at t.first) (passed (is_backward n r.at) Forward b.at b.first))
+    subst (IsStepAt n) (same-Ok _ _ b.then) (back n r.at t.at (origin-is _ _ r.at r.first) (terms-are d t.at t.first)
+    (passed (is_backward n r.at) Forward b.at b.first))
 
 pub line-is : (n : ℕ) (text : List ℕ) (s : Step) → step_of_line n text ≡ Ok s → IsStepAt n s
 unfolding step_of_line
@@ -165,7 +186,8 @@ line-is n text s h = let d = steps (data_of_bytes text) _ s h in step-is n d.at 
 
 -- ---- the whole
 
-one-more : (n : ℕ) (ss : List Step) (s : Step) → AreStepsFrom n ss → IsStepAt (n + length ss) s → AreStepsFrom n (ss ++ s ∷ [])
+one-more : (n : ℕ) (ss : List Step) (s : Step) → AreStepsFrom n ss → IsStepAt (n + length ss) s
+    → AreStepsFrom n (ss ++ s ∷ [])
 one-more n [] s each h = (subst (λ m. IsStepAt m s) (omega arith) h, tt)
 one-more n (t ∷ ss) s each h = (each.0, one-more (n + 1) ss s each.1 (subst (λ m. IsStepAt m s) (omega arith) h))
 

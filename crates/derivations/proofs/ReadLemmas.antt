@@ -1,5 +1,6 @@
 -- What a tree has is what the line has, and lists that are read one by one.
-use Rattle.std.proofs.Common.{◌≡◌, ℕ, List, [], ◌∷◌, ◌++◌, Option, Some, None, Ok, Err, refl, ap, ◌∙◌, append_assoc, IsUtf8}
+use Rattle.std.proofs.Common.{◌≡◌, ℕ, List, [], ◌∷◌, ◌++◌, Option, Some, None, Ok, Err, refl, ap, ◌∙◌, append_assoc}
+use Rattle.std.proofs.Common.{IsUtf8}
 use Rattle.std.proofs.lemmas.Str.{is_utf8-from_IsUtf8}
 use Rattle.std.specs.Option.{ok_or}
 use Rattle.serde_json.specs.Data.{Data}
@@ -23,6 +24,7 @@ abbrev pub with_front : {A : Type 0} → List A → Line (List A) → Line (List
 with_front front found = found >>= λ rest. Ok (front ++ rest)
 
 -- one more is read behind that front
-pub with_front-next : {A : Type 0} (front : List A) (x : A) (rest all : Line (List A)) → with_front front (rest >>= λ others. Ok (x ∷ others)) ≡ all → with_front (front ++ x ∷ []) rest ≡ all
+pub with_front-next : {A : Type 0} (front : List A) (x : A) (rest all : Line (List A))
+    → with_front front (rest >>= λ others. Ok (x ∷ others)) ≡ all → with_front (front ++ x ∷ []) rest ≡ all
 with_front-next front x (Ok others) all told = ap Ok (append_assoc front (x ∷ []) others) ∙ told
 with_front-next front x (Err e) all told = told

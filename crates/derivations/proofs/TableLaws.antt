@@ -1,5 +1,6 @@
 -- Tables that grow keep what their numbers stand for.
-use Rattle.std.proofs.Common.{sym, ◌≡◌, ℕ, ◌<◌, ◌≤◌, Bool, true, false, cond, List, [], ◌∷◌, ◌++◌, map, length, get_or, slice_get, Bor, Option, Some, None, option_map, refl, ap, ap₂, ◌∙◌, subst, arith}
+use Rattle.std.proofs.Common.{sym, ◌≡◌, ℕ, ◌<◌, ◌≤◌, Bool, true, false, cond, List, [], ◌∷◌, ◌++◌, map, length, get_or}
+use Rattle.std.proofs.Common.{slice_get, Bor, Option, Some, None, option_map, refl, ap, ap₂, ◌∙◌, subst, arith}
 use Rattle.std.specs.List.{AllByRecursion, list_any}
 use Rattle.std.specs.Slice.{IsItemAt}
 use Rattle.std.specs.Prelude.{Result, Ok, Err}
@@ -12,7 +13,9 @@ use Rattle.model.specs.Axioms as axioms
 use Rattle.model.specs.Axioms.{at}
 use Rattle.model.specs.Derivation.{combine}
 use Rattle.model.specs.Derivation as steps
-use Rattle.derivations.specs.Tables.{vertex_at, set_at, TablesView, state_at, states_at, term_at, terms_at, step_by_origin, step_at, steps_at, AreStatesOf, IsTermOf, AreTermsOf, IsOriginOf, IsStepOf, AreStepsOf, IsGrown}
+use Rattle.derivations.specs.Tables.{vertex_at, set_at, TablesView, state_at, states_at, term_at, terms_at}
+use Rattle.derivations.specs.Tables.{step_by_origin, step_at, steps_at, AreStatesOf, IsTermOf, AreTermsOf, IsOriginOf}
+use Rattle.derivations.specs.Tables.{IsStepOf, AreStepsOf, IsGrown}
 use Rattle.derivations.specs.declared.step.Term.{Term}
 use Rattle.derivations.specs.declared.step.Origin.{Origin}
 use Rattle.derivations.specs.declared.step.Origin.TheVariants.{Axiom, Combination}
@@ -26,11 +29,14 @@ on-err (Err e) p = p
 -- ---- one more key
 
 -- each number of a list keeps its element after a key is put in
-pub kept-key : {K V : Type 0} (eq : K → K → Bool) (view : K → V) (ks : List K) (k : K) (d : V) (n : ℕ) → n < length (map view ks)
-    → (n < length (map view (insert_key eq ks k))) × (get_or (map view (insert_key eq ks k)) n d ≡ get_or (map view ks) n d)
+pub kept-key : {K V : Type 0} (eq : K → K → Bool) (view : K → V) (ks : List K) (k : K) (d : V) (n : ℕ)
+    → n < length (map view ks)
+    → (n < length (map view (insert_key eq ks k)))
+    × (get_or (map view (insert_key eq ks k)) n d ≡ get_or (map view ks) n d)
 kept-key eq view ks k d n lt = by (list_any (eq k) ks)
   where
-    by : (b : Bool) → (n < length (map view (cond b ks (ks ++ k ∷ [])))) × (get_or (map view (cond b ks (ks ++ k ∷ []))) n d ≡ get_or (map view ks) n d)
+    by : (b : Bool) → (n < length (map view (cond b ks (ks ++ k ∷ []))))
+        × (get_or (map view (cond b ks (ks ++ k ∷ []))) n d ≡ get_or (map view ks) n d)
     by true = (lt, refl)
     by false =
         let whole = map-append view ks (k ∷ []) in
@@ -47,19 +53,23 @@ kept-own eq ks k d n lt = by (list_any (eq k) ks)
     by false = let long = length-append ks (k ∷ []) in (omega (arith, long), get_or_append_left ks (k ∷ []) d n lt)
 
 -- the key that is found stands for what was put in
-pub found-key : {K V : Type 0} (view : K → V) (ks : List K) (n : ℕ) (k : K) (v d : V) → slice_get ks n ≡ Some k → view k ≡ v → (n < length (map view ks)) × (get_or (map view ks) n d ≡ v)
+pub found-key : {K V : Type 0} (view : K → V) (ks : List K) (n : ℕ) (k : K) (v d : V) → slice_get ks n ≡ Some k
+    → view k ≡ v → (n < length (map view ks)) × (get_or (map view ks) n d ≡ v)
 found-key view ks n k v d is same =
     let lt : n < length ks = slice_get_within ks n k is in
     let long = length-map ks view in
     (omega (arith, long), get_or-map view ks n k d lt ∙ ap view (get_or_from_slice_get ks n k k is) ∙ same)
 
 -- what is lent of a place is the element there
-pub lent : {X : Type 0} (xs : List X) (i : ℕ) (r : Option (Bor X)) (b : Bor X) → IsItemAt xs i r → r ≡ Some b → slice_get xs i ≡ Some b.now
+pub lent : {X : Type 0} (xs : List X) (i : ℕ) (r : Option (Bor X)) (b : Bor X) → IsItemAt xs i r → r ≡ Some b
+    → slice_get xs i ≡ Some b.now
 lent xs i None b h e = cc
-lent xs i (Some a) b h e = slice_get-get_or xs i a.now h.3.0 ∙ sym (ap Some (h.3.1 a.now)) ∙ ap (option_map (λ (x : Bor _). x.now)) e
+lent xs i (Some a) b h e =
+    slice_get-get_or xs i a.now h.3.0 ∙ sym (ap Some (h.3.1 a.now)) ∙ ap (option_map (λ (x : Bor _). x.now)) e
 
 -- an element at its number
-pub found-at : {V : Type 0} (xs : List V) (n : ℕ) (x d : V) → slice_get xs n ≡ Some x → (n < length xs) × (get_or xs n d ≡ x)
+pub found-at : {V : Type 0} (xs : List V) (n : ℕ) (x d : V) → slice_get xs n ≡ Some x
+    → (n < length xs) × (get_or xs n d ≡ x)
 found-at xs n x d is = (slice_get_within xs n x is, get_or_from_slice_get xs n x d is)
 
 -- ---- growing
@@ -67,26 +77,36 @@ found-at xs n x d is = (slice_get_within xs n x is, get_or_from_slice_get xs n x
 pub grown-refl : (t : TablesView) → IsGrown t t
 grown-refl t = record { vertices = λ n lt. (lt, refl); states = λ n lt. (lt, refl); sets = λ n lt. (lt, refl) }
 
-pub grown-vertices : (eq : Vertex → Vertex → Bool) (ks : List Vertex) (k : Vertex) (keys : List Vertex) (ss : List State) (ns : List (List ℕ)) (t : TablesView) → keys ≡ insert_key eq ks k
-    → (record { vertices = ks; states = ss; sets = ns }) ≡ t → IsGrown t (record { vertices = keys; states = ss; sets = ns })
+pub grown-vertices : (eq : Vertex → Vertex → Bool) (ks : List Vertex) (k : Vertex) (keys : List Vertex)
+    (ss : List State) (ns : List (List ℕ)) (t : TablesView) → keys ≡ insert_key eq ks k
+    → (record { vertices = ks; states = ss; sets = ns }) ≡ t
+    → IsGrown t (record { vertices = keys; states = ss; sets = ns })
 grown-vertices eq ks k keys ss ns t new is =
     let each : (n : ℕ) → n < length ks → (n < length keys) × (get_or keys n root ≡ get_or ks n root)
     = rw new (λ n lt. kept-own eq ks k root n lt) in
-    subst (λ (u : TablesView). IsGrown u (record { vertices = keys; states = ss; sets = ns })) is (record { vertices = each; states = λ n lt. (lt, refl); sets = λ n lt. (lt, refl) })
+    subst (λ (u : TablesView). IsGrown u (record { vertices = keys; states = ss; sets = ns })) is
+    (record { vertices = each; states = λ n lt. (lt, refl); sets = λ n lt. (lt, refl) })
 
-pub grown-states : (eq : State → State → Bool) (ks : List State) (k : State) (keys : List State) (vs : List Vertex) (ns : List (List ℕ)) (t : TablesView) → keys ≡ insert_key eq ks k
-    → (record { vertices = vs; states = ks; sets = ns }) ≡ t → IsGrown t (record { vertices = vs; states = keys; sets = ns })
+pub grown-states : (eq : State → State → Bool) (ks : List State) (k : State) (keys : List State) (vs : List Vertex)
+    (ns : List (List ℕ)) (t : TablesView) → keys ≡ insert_key eq ks k
+    → (record { vertices = vs; states = ks; sets = ns }) ≡ t
+    → IsGrown t (record { vertices = vs; states = keys; sets = ns })
 grown-states eq ks k keys vs ns t new is =
     let each : (n : ℕ) → n < length ks → (n < length keys) × (get_or keys n absent ≡ get_or ks n absent)
     = rw new (λ n lt. kept-own eq ks k absent n lt) in
-    subst (λ (u : TablesView). IsGrown u (record { vertices = vs; states = keys; sets = ns })) is (record { vertices = λ n lt. (lt, refl); states = each; sets = λ n lt. (lt, refl) })
+    subst (λ (u : TablesView). IsGrown u (record { vertices = vs; states = keys; sets = ns })) is
+    (record { vertices = λ n lt. (lt, refl); states = each; sets = λ n lt. (lt, refl) })
 
-pub grown-sets : {K : Type 0} (eq : K → K → Bool) (view : K → List ℕ) (ks : List K) (k : K) (keys : List K) (vs : List Vertex) (ss : List State) (t : TablesView) → keys ≡ insert_key eq ks k
-    → (record { vertices = vs; states = ss; sets = map view ks }) ≡ t → IsGrown t (record { vertices = vs; states = ss; sets = map view keys })
+pub grown-sets : {K : Type 0} (eq : K → K → Bool) (view : K → List ℕ) (ks : List K) (k : K) (keys : List K)
+    (vs : List Vertex) (ss : List State) (t : TablesView) → keys ≡ insert_key eq ks k
+    → (record { vertices = vs; states = ss; sets = map view ks }) ≡ t
+    → IsGrown t (record { vertices = vs; states = ss; sets = map view keys })
 grown-sets eq view ks k keys vs ss t new is =
-    let each : (n : ℕ) → n < length (map view ks) → (n < length (map view keys)) × (get_or (map view keys) n [] ≡ get_or (map view ks) n [])
+    let each : (n : ℕ) → n < length (map view ks)
+    → (n < length (map view keys)) × (get_or (map view keys) n [] ≡ get_or (map view ks) n [])
     = rw new (λ n lt. kept-key eq view ks k [] n lt) in
-    subst (λ (u : TablesView). IsGrown u (record { vertices = vs; states = ss; sets = map view keys })) is (record { vertices = λ n lt. (lt, refl); states = λ n lt. (lt, refl); sets = each })
+    subst (λ (u : TablesView). IsGrown u (record { vertices = vs; states = ss; sets = map view keys })) is
+    (record { vertices = λ n lt. (lt, refl); states = λ n lt. (lt, refl); sets = each })
 
 pub grown-trans : (s t u : TablesView) → IsGrown s t → IsGrown t u → IsGrown s u
 grown-trans s t u g h = record {
@@ -117,7 +137,8 @@ module _ (s t : TablesView) (g : IsGrown s t) where
       let rest = kept-terms xs h.1 in
       ((here.0, rest.0), ap₂ (λ y ys. y ∷ ys) here.1 rest.1)
 
-  pub kept-origin : (c : Origin) (ts : List axioms.Term) → IsOriginOf s c → IsOriginOf t c × (step_by_origin t c ts ≡ step_by_origin s c ts)
+  pub kept-origin : (c : Origin) (ts : List axioms.Term) → IsOriginOf s c
+      → IsOriginOf t c × (step_by_origin t c ts ≡ step_by_origin s c ts)
   kept-origin (Axiom k) ts h = (tt, refl)
   kept-origin (Combination a b v) ts h = let here = g.vertices v h in (here.0, ap (λ w. combine a b w ts) here.1)
 
@@ -134,14 +155,16 @@ module _ (s t : TablesView) (g : IsGrown s t) where
       let rest = kept-steps xs h.1 in
       ((here.0, rest.0), ap₂ (λ y ys. y ∷ ys) here.1 rest.1)
 
-pub with-last : {X : Type 0} (P : X → Type 0) (xs : List X) (x : X) → AllByRecursion P xs → P x → AllByRecursion P (xs ++ x ∷ [])
+pub with-last : {X : Type 0} (P : X → Type 0) (xs : List X) (x : X) → AllByRecursion P xs → P x
+    → AllByRecursion P (xs ++ x ∷ [])
 with-last P [] x h p = (p, tt)
 with-last P (y ∷ ys) x h p = (h.0, with-last P ys x h.1 p)
 
 -- ---- sets of numbers
 
 -- so many states, and then no fewer
-pub sets-kept : (m n : ℕ) (sets : List (List ℕ)) → m ≤ n → AllByRecursion (λ ns. AllByRecursion (λ k. k < m) ns) sets → AllByRecursion (λ ns. AllByRecursion (λ k. k < n) ns) sets
+pub sets-kept : (m n : ℕ) (sets : List (List ℕ)) → m ≤ n → AllByRecursion (λ ns. AllByRecursion (λ k. k < m) ns) sets
+    → AllByRecursion (λ ns. AllByRecursion (λ k. k < n) ns) sets
 sets-kept m n [] h each = tt
 sets-kept m n (ns ∷ sets) h each = (wider ns each.0, sets-kept m n sets h each.1)
   where
@@ -150,7 +173,8 @@ sets-kept m n (ns ∷ sets) h each = (wider ns each.0, sets-kept m n sets h each
     wider (x ∷ xs) k = (let here = k.0 in omega arith, wider xs k.1)
 
 -- a key that is put in passes as the others do
-pub each-key : {K V : Type 0} (eq : K → K → Bool) (view : K → V) (P : V → Type 0) (ks : List K) (k : K) → AllByRecursion P (map view ks) → P (view k) → AllByRecursion P (map view (insert_key eq ks k))
+pub each-key : {K V : Type 0} (eq : K → K → Bool) (view : K → V) (P : V → Type 0) (ks : List K) (k : K)
+    → AllByRecursion P (map view ks) → P (view k) → AllByRecursion P (map view (insert_key eq ks k))
 each-key eq view P ks k h p = by (list_any (eq k) ks)
   where
     by : (b : Bool) → AllByRecursion P (map view (cond b ks (ks ++ k ∷ [])))
@@ -158,7 +182,8 @@ each-key eq view P ks k h p = by (list_any (eq k) ks)
     by false = rw (map-append view ks (k ∷ [])) (with-last P (map view ks) (view k) h p)
 
 -- no fewer elements after a key is put in
-pub no-fewer : {K V : Type 0} (eq : K → K → Bool) (view : K → V) (ks : List K) (k : K) → length (map view ks) ≤ length (map view (insert_key eq ks k))
+pub no-fewer : {K V : Type 0} (eq : K → K → Bool) (view : K → V) (ks : List K) (k : K)
+    → length (map view ks) ≤ length (map view (insert_key eq ks k))
 no-fewer eq view ks k = by (list_any (eq k) ks)
   where
     by : (b : Bool) → length (map view ks) ≤ length (map view (cond b ks (ks ++ k ∷ [])))
@@ -170,35 +195,46 @@ no-fewer eq view ks k = by (list_any (eq k) ks)
 
 -- ---- lists of numbers, one more each time
 
-pub more-states : (s t : TablesView) (ns : List ℕ) (n : ℕ) (x : State) (rest all : List State) → IsGrown s t → AreStatesOf s ns → n < length t.states → state_at t n ≡ x → states_at s ns ++ (x ∷ rest) ≡ all
+pub more-states : (s t : TablesView) (ns : List ℕ) (n : ℕ) (x : State) (rest all : List State) → IsGrown s t
+    → AreStatesOf s ns → n < length t.states → state_at t n ≡ x → states_at s ns ++ (x ∷ rest) ≡ all
     → AreStatesOf t (ns ++ n ∷ []) × (states_at t (ns ++ n ∷ []) ++ rest ≡ all)
 more-states s t ns n x rest all g h lt is told =
     let before = kept-states s t g ns h in (
       with-last (λ n. n < length t.states) ns n before.0 lt,
-      ap (λ xs. xs ++ rest) (map-append (state_at t) ns (n ∷ []) ∙ ap₂ (λ xs y. xs ++ y ∷ []) before.1 is) ∙ append_assoc (states_at s ns) (x ∷ []) rest ∙ told,
+      ap (λ xs. xs ++ rest) (map-append (state_at t) ns (n ∷ []) ∙ ap₂ (λ xs y. xs ++ y ∷ []) before.1 is)
+          ∙ append_assoc (states_at s ns) (x ∷ []) rest ∙ told,
     )
 
-pub more-terms : (s t : TablesView) (ns : List Term) (n : Term) (x : axioms.Term) (rest all : List axioms.Term) → IsGrown s t → AreTermsOf s ns → IsTermOf t n → term_at t n ≡ x → terms_at s ns ++ (x ∷ rest) ≡ all
+pub more-terms : (s t : TablesView) (ns : List Term) (n : Term) (x : axioms.Term) (rest all : List axioms.Term)
+    → IsGrown s t → AreTermsOf s ns → IsTermOf t n → term_at t n ≡ x → terms_at s ns ++ (x ∷ rest) ≡ all
     → AreTermsOf t (ns ++ n ∷ []) × (terms_at t (ns ++ n ∷ []) ++ rest ≡ all)
 more-terms s t ns n x rest all g h in_t is told =
     let before = kept-terms s t g ns h in (
       with-last (IsTermOf t) ns n before.0 in_t,
-      ap (λ xs. xs ++ rest) (map-append (term_at t) ns (n ∷ []) ∙ ap₂ (λ xs y. xs ++ y ∷ []) before.1 is) ∙ append_assoc (terms_at s ns) (x ∷ []) rest ∙ told,
+      ap (λ xs. xs ++ rest) (map-append (term_at t) ns (n ∷ []) ∙ ap₂ (λ xs y. xs ++ y ∷ []) before.1 is)
+          ∙ append_assoc (terms_at s ns) (x ∷ []) rest ∙ told,
     )
 
 -- one more step, and the tables that it needs
-pub more-steps : (s t : TablesView) (ss : List Step) (x : Step) (step : steps.Step) → IsGrown s t → AreStepsOf s ss → IsStepOf t x → step_at t x ≡ step
+pub more-steps : (s t : TablesView) (ss : List Step) (x : Step) (step : steps.Step) → IsGrown s t → AreStepsOf s ss
+    → IsStepOf t x → step_at t x ≡ step
     → AreStepsOf t (ss ++ x ∷ []) × (steps_at t (ss ++ x ∷ []) ≡ steps_at s ss ++ step ∷ [])
 more-steps s t ss x step g h in_t is =
-    let before = kept-steps s t g ss h in
-    (with-last (IsStepOf t) ss x before.0 in_t, map-append (step_at t) ss (x ∷ []) ∙ ap₂ (λ xs y. xs ++ y ∷ []) before.1 is)
+    let before = kept-steps s t g ss h in (
+      with-last (IsStepOf t) ss x before.0 in_t,
+      map-append (step_at t) ss (x ∷ []) ∙ ap₂ (λ xs y. xs ++ y ∷ []) before.1 is,
+    )
 
 -- a vertex, then its states, and then their set are put in
-pub whole-term : (a b d : TablesView) (v n : ℕ) (ns : List ℕ) (x : Vertex) (ss : List State) → (v < length a.vertices) × (vertex_at a v ≡ x) → IsGrown a b → AreStatesOf b ns → states_at b ns ≡ ss
+pub whole-term : (a b d : TablesView) (v n : ℕ) (ns : List ℕ) (x : Vertex) (ss : List State)
+    → (v < length a.vertices) × (vertex_at a v ≡ x) → IsGrown a b → AreStatesOf b ns → states_at b ns ≡ ss
     → IsGrown b d → (n < length d.sets) × (set_at d n ≡ ns)
-    → ((v < length d.vertices) × (n < length d.sets) × AreStatesOf d (set_at d n)) × (at (vertex_at d v) (states_at d (set_at d n)) ≡ at x ss)
+    → ((v < length d.vertices) × (n < length d.sets) × AreStatesOf d (set_at d n))
+    × (at (vertex_at d v) (states_at d (set_at d n)) ≡ at x ss)
 whole-term a b d v n ns x ss vertex g within is h set =
     let first = g.vertices v vertex.0 in
     let then = h.vertices v first.0 in
-    let kept = kept-states b d h ns within in
-    ((then.0, set.0, subst (AreStatesOf d) (sym set.1) kept.0), ap₂ at (then.1 ∙ first.1 ∙ vertex.1) (ap (states_at d) set.1 ∙ kept.1 ∙ is))
+    let kept = kept-states b d h ns within in (
+      (then.0, set.0, subst (AreStatesOf d) (sym set.1) kept.0),
+      ap₂ at (then.1 ∙ first.1 ∙ vertex.1) (ap (states_at d) set.1 ∙ kept.1 ∙ is),
+    )

@@ -1,4 +1,5 @@
--- What each derivation keeps: the written order, references backwards, and texts that read (the format is this project's).
+-- What each derivation keeps: the written order, references backwards, and texts that read (the format is this
+-- project's).
 use Rattle.std.specs.Prelude.{ℕ, ◌<◌, ◌+◌, List, [], ◌∷◌, ⊤}
 use Rattle.std.specs.List.{AllByRecursion}
 use Rattle.std.specs.List.Sorted.{IsStrictlySortedBy}

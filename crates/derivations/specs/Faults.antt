@@ -1,4 +1,5 @@
--- How the reason for which bytes are no derivation is printed: its number and its name, and the line (the texts are this project's).
+-- How the reason for which bytes are no derivation is printed: its number and its name, and the line (the texts are
+-- this project's).
 use Rattle.std.specs.Prelude.{ℕ, List, ◌++◌, codes, decimal}
 use Rattle.derivations.specs.declared.fault.DerivationFault.{DerivationFault}
 use Rattle.derivations.specs.declared.fault.DerivationFault.TheVariants.{OutOfMemory, NotALine, Forward, TooMany}

@@ -1,4 +1,5 @@
--- Which lines are steps of a derivation, and which steps they are (JSON, RFC 8259, in the meaning of `serde_json`; the format is this project's).
+-- Which lines are steps of a derivation, and which steps they are (JSON, RFC 8259, in the meaning of `serde_json`; the
+-- format is this project's).
 use Rattle.std.specs.Prelude.{ℕ, Bool, true, if◌then◌else◌, nat_lt, ◌&&◌, List, [], ◌∷◌, map, Option, Some, None}
 use Rattle.std.specs.Prelude.{option_and_then, is_none, Ok, Err, codes}
 use Rattle.std.specs.declared.cmp.Ordering.{Ordering}

@@ -59,7 +59,8 @@ abbrev pub AreSetsOf : List model.State → List (List ℕ) → Type 0
 AreSetsOf ss sets = AllByRecursion (λ ns. AllByRecursion (λ n. n < length ss) ns) sets
 
 abbrev pub IsTermOf : TablesView → Term → Type 0
-IsTermOf t term = (term.vertex < length t.vertices) × (term.states < length t.sets) × AreStatesOf t (set_at t term.states)
+IsTermOf t term =
+    (term.vertex < length t.vertices) × (term.states < length t.sets) × AreStatesOf t (set_at t term.states)
 
 abbrev pub AreTermsOf : TablesView → List Term → Type 0
 AreTermsOf t terms = AllByRecursion (IsTermOf t) terms

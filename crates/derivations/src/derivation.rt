@@ -20,8 +20,10 @@ use std::alloc::{AllocError, Global};
 use std::marker::Model;
 use vertices::{Kind, VertexRef};
 
-/// Why there is no selection: steps, each by an axiom or from two earlier ones. Terms stand by the bytes of their vertices' texts, states
-/// `absent` first and then oldest or lowest first, none of them twice, and each vertex, state and version is what its own text reads as.
+/// Why there is no selection: steps, each by an axiom or from two earlier ones. Terms stand by the bytes of their
+/// vertices' texts, states
+/// `absent` first and then oldest or lowest first, none of them twice, and each vertex, state and version is what its
+/// own text reads as.
 ///
 /// It may have any number of steps. Each vertex, state and set of states is kept once, and steps name them by numbers.
 #[derive(Drop)]
@@ -102,7 +104,8 @@ impl Derivation {
         Spelling::new(alloc, vertex, number)
     }
 
-    /// Puts an axiom at the end. Its terms, and the states of each, may stand in any order: they are put into the written one.
+    /// Puts an axiom at the end. Its terms, and the states of each, may stand in any order: they are put into the
+    /// written one.
     ///
     /// # Errors
     /// Memory is wanting, and then nothing has changed.
@@ -113,7 +116,8 @@ impl Derivation {
         terms: &[NamedTerm<'_, '_, '_>],
     ) -> Result<(), AllocError>
         requires { AreNewTerms (named_views terms.now) }
-        ensures ok { OnOk result (self.new ≡ self.old ++ given (kind_view kind) (ordered_terms (named_views terms.now)) ∷ []) }
+        ensures ok { OnOk result
+            (self.new ≡ self.old ++ given (kind_view kind) (ordered_terms (named_views terms.now)) ∷ []) }
         ensures err { OnErr result (self.new ≡ self.old) }
     {
         let ordered = named_in_order(alloc, terms)?;
@@ -136,7 +140,8 @@ impl Derivation {
         requires second { second < length self.old }
         requires vertex { IsReadVertex vertex.now }
         requires terms { AreNewTerms (named_views terms.now) }
-        ensures ok { OnOk result (self.new ≡ self.old ++ combine first second vertex.now (ordered_terms (named_views terms.now)) ∷ []) }
+        ensures ok { OnOk result
+            (self.new ≡ self.old ++ combine first second vertex.now (ordered_terms (named_views terms.now)) ∷ []) }
         ensures err { OnErr result (self.new ≡ self.old) }
     {
         let ordered = named_in_order(alloc, terms)?;
@@ -155,7 +160,8 @@ impl Derivation {
         terms: Vec<SetInOrder<'_, '_, '_>>,
     ) -> Result<(), AllocError>
         requires { IsStepAt (length self.old) (named_step_from origin (set_in_order_views terms.items)) }
-        ensures ok { OnOk result (self.new ≡ self.old ++ named_step_from origin.entry (set_in_order_views terms.entry.items) ∷ []) }
+        ensures ok { OnOk result
+            (self.new ≡ self.old ++ named_step_from origin.entry (set_in_order_views terms.entry.items) ∷ []) }
         ensures err { OnErr result (self.new ≡ self.old) }
     {
         let kept = keep_named(alloc, &mut self.tables, &self.steps, origin, terms)?;

@@ -9,7 +9,8 @@ ghost use Rattle.vertices.specs.Texts.{state_text, vertex_text};
 ghost use Rattle.derivations.specs.Derivations.{IsTerm};
 ghost use Rattle.derivations.specs.Earlier.{AreEarlier, AreTermsBefore, AreWritten, HaveTexts, IsReading, term_from};
 ghost use Rattle.derivations.specs.Named.{set_in_order_view};
-ghost use Rattle.derivations.specs.Tables.{AreStatesOf, IsTermOf, TablesView, set_at, state_at, states_at, term_at, vertex_at};
+ghost use Rattle.derivations.specs.Tables.{AreStatesOf, IsTermOf, TablesView, set_at, state_at, states_at, term_at};
+ghost use Rattle.derivations.specs.Tables.{vertex_at};
 
 use crate::named::SetInOrder;
 use crate::step::{Step, Term};
@@ -105,7 +106,8 @@ impl<'s> Earlier<'s> {
     ) -> Option<Term>
         requires { AreEarlier tables.now self.now }
         ensures within { IfSome result (IsTermOf tables.now) }
-        ensures term { IfSome result (λ t. term_at tables.now t ≡ at (vertex_at tables.now vertex) (state_ref_views states.now)) }
+        ensures term { IfSome result
+            (λ t. term_at tables.now t ≡ at (vertex_at tables.now vertex) (state_ref_views states.now)) }
     {
         match find_states_among(tables, self.first, &mut places.first, vertex, states) {
             Some(term) => Some(term),
@@ -256,7 +258,8 @@ fn find_states_among(
 ) -> Option<Term>
     requires { AreTermsBefore tables.now terms.now }
     ensures within { IfSome result (IsTermOf tables.now) }
-    ensures term { IfSome result (λ t. term_at tables.now t ≡ at (vertex_at tables.now vertex) (state_ref_views states.now)) }
+    ensures term { IfSome result
+        (λ t. term_at tables.now t ≡ at (vertex_at tables.now vertex) (state_ref_views states.now)) }
 {
     let place = seek_number(terms, *from, vertex);
     *from = place;
@@ -275,7 +278,8 @@ fn known_states(
 ) -> Option<Term>
     requires { IsTermOf tables.now term.now }
     ensures within { IfSome result (IsTermOf tables.now) }
-    ensures term { IfSome result (λ t. term_at tables.now t ≡ at (vertex_at tables.now vertex) (state_ref_views states.now)) }
+    ensures term { IfSome result
+        (λ t. term_at tables.now t ≡ at (vertex_at tables.now vertex) (state_ref_views states.now)) }
 {
     if term.vertex != vertex {
         return None;

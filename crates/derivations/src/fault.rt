@@ -4,11 +4,13 @@ use std::alloc::{AllocError, AllocFailed};
 use std::error::Error;
 use std::fmt;
 
-/// Why bytes are no derivation: the first line with a fault, counted from 1 with the blank ones, and of its faults the first in this order.
+/// Why bytes are no derivation: the first line with a fault, counted from 1 with the blank ones, and of its faults the
+/// first in this order.
 #[derive(Clone, Copy, Debug, PartialEq, Eq)]
 pub enum DerivationFault {
     OutOfMemory,
-    /// It is no JSON, no object of the form of a step, or has a text that doesn't read, a vertex twice or a state twice.
+    /// It is no JSON, no object of the form of a step, or has a text that doesn't read, a vertex twice or a state
+    /// twice.
     NotALine(u64),
     /// It refers to its own step or to a later one.
     Forward(u64),

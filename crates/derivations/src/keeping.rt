@@ -1,7 +1,8 @@
 //! Putting what a line says into the tables.
 
 ghost use Rattle.std.specs.Prelude.{◌≡◌, [], IfOk};
-ghost use Rattle.derivations.specs.Tables.{IsGrown, AreStatesOf, IsTermOf, IsOriginOf, states_at, term_at, step_by_origin};
+ghost use Rattle.derivations.specs.Tables.{IsGrown, AreStatesOf, IsTermOf, IsOriginOf, states_at, term_at};
+ghost use Rattle.derivations.specs.Tables.{step_by_origin};
 ghost use Rattle.derivations.specs.Views.{step_from, term_view};
 ghost use Rattle.vertices.specs.Views.{state_views};
 

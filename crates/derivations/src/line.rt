@@ -8,10 +8,12 @@ ghost use Rattle.model.specs.Outcome.{Gives, guard};
 ghost use Rattle.vertices.specs.Orders.{state_cmp};
 ghost use Rattle.derivations.specs.Earlier.{AreEarlier, IsReading, term_from};
 ghost use Rattle.derivations.specs.Orders.{ordered};
-ghost use Rattle.derivations.specs.Steps.{states_in, states_of, written_cmp, term_of, terms_in, terms_of, axiom_of, combination_of, origin_from, origin_of, is_backward, step_of, step_of_line};
+ghost use Rattle.derivations.specs.Steps.{states_in, states_of, written_cmp, term_of, terms_in, terms_of, axiom_of};
+ghost use Rattle.derivations.specs.Steps.{combination_of, origin_from, origin_of, is_backward, step_of, step_of_line};
 ghost use Rattle.derivations.specs.StepViews.{written_term, written_view, written_views, origin_view};
 ghost use Rattle.derivations.specs.Lines.{line_wants_memory};
-ghost use Rattle.derivations.specs.Tables.{AreTermsOf, IsGrown, IsStepOf, IsTermOf, TablesView, step_at, term_at, terms_at};
+ghost use Rattle.derivations.specs.Tables.{AreTermsOf, IsGrown, IsStepOf, IsTermOf, TablesView, step_at, term_at};
+ghost use Rattle.derivations.specs.Tables.{terms_at};
 ghost use Rattle.vertices.specs.Views.{vertex_view, state_views};
 ghost use Rattle.derivations.specs.Views.{term_view};
 
@@ -64,7 +66,8 @@ fn step(
     requires { IsReading tables.old steps.now }
     ensures grown { OnOk result (IsGrown tables.old tables.new) }
     ensures within { IfOk result (IsStepOf tables.new) }
-    ensures step { Gives line_wants_memory (step_at tables.new) result (step_of (length steps.now) (tree_view value.now)) }
+    ensures step { Gives line_wants_memory (step_at tables.new) result
+        (step_of (length steps.now) (tree_view value.now)) }
 {
     let origin = origin(alloc, value)?;
     let terms = terms(alloc, tables, Earlier::of(steps, parents(&origin)), value)?;
@@ -163,7 +166,8 @@ fn terms_in<'a>(
     requires { AreEarlier tables.old earlier }
     ensures grown { OnOk result (IsGrown tables.old tables.new) }
     ensures within { IfOk result (λ v. AreTermsOf tables.new (map written_term v.items)) }
-    ensures terms { Gives line_wants_memory (λ v. written_views tables.new v.items) result (terms_in (trees_view values.now.items)) }
+    ensures terms { Gives line_wants_memory
+        (λ v. written_views tables.new v.items) result (terms_in (trees_view values.now.items)) }
 {
     let mut found = Vec::with_capacity(alloc, values.len())?;
     let mut places = Places::new();
@@ -226,7 +230,8 @@ fn whole_term(alloc: Global, text: &str, value: &Value<'_>) -> Result<WholeTerm,
 /// The terms in order, no vertex twice. Those of a line that was written here are.
 fn ordered_terms(terms: Vec<WrittenTerm<'_>>) -> Result<Vec<WrittenTerm<'_>>, LineFault>
     ensures same { IfOk result (λ v. IsPermutation terms.entry.items v.items) }
-    ensures terms { (t : TablesView) → Gives line_wants_memory (λ v. written_views t v.items) result (ordered written_cmp (written_views t terms.entry.items)) }
+    ensures terms { (t : TablesView) → Gives line_wants_memory
+        (λ v. written_views t v.items) result (ordered written_cmp (written_views t terms.entry.items)) }
 {
     if terms.is_sorted_by(|a, b| a.text.cmp(b.text) == Ordering::Less) {
         Ok(terms)
@@ -237,7 +242,8 @@ fn ordered_terms(terms: Vec<WrittenTerm<'_>>) -> Result<Vec<WrittenTerm<'_>>, Li
 
 fn sorted_terms(mut terms: Vec<WrittenTerm<'_>>) -> Result<Vec<WrittenTerm<'_>>, LineFault>
     ensures same { IfOk result (λ v. IsPermutation terms.entry.items v.items) }
-    ensures terms { (t : TablesView) → Gives line_wants_memory (λ v. written_views t v.items) result (ordered written_cmp (written_views t terms.entry.items)) }
+    ensures terms { (t : TablesView) → Gives line_wants_memory
+        (λ v. written_views t v.items) result (ordered written_cmp (written_views t terms.entry.items)) }
 {
     terms.sort_by(|a, b| a.text.cmp(b.text))?;
     if terms.is_sorted_by(|a, b| a.text.cmp(b.text) == Ordering::Less) {
@@ -260,7 +266,8 @@ fn without_texts(alloc: Global, written: &[WrittenTerm<'_>]) -> Result<Vec<Term>
 /// The states in order, none twice.
 #[tactic(auto, unfolding(crate::specs::Steps::states_of))]
 fn states(alloc: Global, vertex: &Vertex, value: &Value<'_>) -> Result<Vec<State>, LineFault>
-    ensures { Gives line_wants_memory (λ v. state_views v.items) result (states_of (vertex_view vertex.now) (tree_view value.now)) }
+    ensures { Gives line_wants_memory
+        (λ v. state_views v.items) result (states_of (vertex_view vertex.now) (tree_view value.now)) }
 {
     let written = states_in(alloc, vertex, array(value)?)?;
     ordered_states(written)
@@ -272,7 +279,8 @@ fn states_in(
     vertex: &Vertex,
     values: &Vec<Value<'_>>,
 ) -> Result<Vec<State>, LineFault>
-    ensures { Gives line_wants_memory (λ v. state_views v.items) result (states_in (vertex_view vertex.now) (trees_view values.now.items)) }
+    ensures { Gives line_wants_memory
+        (λ v. state_views v.items) result (states_in (vertex_view vertex.now) (trees_view values.now.items)) }
 {
     let mut found = Vec::with_capacity(alloc, values.len())?;
     'items: for value in values.iter() {

@@ -9,7 +9,8 @@ ghost use Rattle.vertices.specs.Texts.{vertex_text, IsReadVertex};
 ghost use Rattle.vertices.specs.Views.{vertex_view};
 ghost use Rattle.derivations.specs.Building.{IsNewTerm, AreNewTerms, ordered_term, ordered_terms};
 ghost use Rattle.model.specs.Sorting.{in_order};
-ghost use Rattle.derivations.specs.Named.{named_view, named_views, set_in_order_view, set_in_order_views, states_in_order};
+ghost use Rattle.derivations.specs.Named.{named_view, named_views, set_in_order_view, set_in_order_views};
+ghost use Rattle.derivations.specs.Named.{states_in_order};
 
 use crate::owning::owned_vertex;
 use std::alloc::{AllocError, Global};
@@ -38,7 +39,8 @@ impl Model for Spelling {
 
     ghost view = { λ s. vertex_view s.vertex };
 
-    ghost invariant = { λ s. (string_bytes s.text ≡ vertex_text (vertex_view s.vertex)) × IsReadVertex (vertex_view s.vertex) };
+    ghost invariant = { λ s. (string_bytes s.text ≡ vertex_text (vertex_view s.vertex))
+        × IsReadVertex (vertex_view s.vertex) };
 }
 
 impl Spelling {
@@ -164,7 +166,8 @@ fn ordered_states<'s, 'v>(
     states: &'s [StateRef<'v>],
 ) -> Result<StatesInOrder<'s, 'v>, AllocError>
     requires { IsDistinct (eq_by_cmp state_cmp) (state_ref_views states.now) }
-    ensures { IfOk result (λ o. state_ref_views (states_in_order o) ≡ in_order state_cmp (state_ref_views states.entry.now)) }
+    ensures { IfOk result
+        (λ o. state_ref_views (states_in_order o) ≡ in_order state_cmp (state_ref_views states.entry.now)) }
 {
     if states.is_sorted_by(|a, b| state_order(*a, *b) == Ordering::Less) {
         return Ok(StatesInOrder::Given(states));

@@ -58,7 +58,8 @@ fn push_lines(
 ) -> Result<(), DerivationFault>
     requires { IsReading tables.old steps.old.items }
     ensures sound { OnOk result (IsReading tables.new steps.new.items) }
-    ensures steps { Gives wants_memory (λ u. steps_at tables.new steps.new.items) result (with_lines 1 (map (λ x. x.now) lines.now) (steps_at tables.old steps.old.items)) }
+    ensures steps { Gives wants_memory (λ u. steps_at tables.new steps.new.items) result
+        (with_lines 1 (map (λ x. x.now) lines.now) (steps_at tables.old steps.old.items)) }
 {
     let mut scratch = Scratch::new(alloc);
     'lines: for (index, line) in lines.iter().enumerate() {
@@ -78,7 +79,8 @@ fn push_line(
 ) -> Result<(), DerivationFault>
     requires { IsReading tables.old steps.old.items }
     ensures sound { OnOk result (IsReading tables.new steps.new.items) }
-    ensures steps { Gives wants_memory (λ u. steps_at tables.new steps.new.items) result (with_line number line.now (steps_at tables.old steps.old.items)) }
+    ensures steps { Gives wants_memory (λ u. steps_at tables.new steps.new.items) result
+        (with_line number line.now (steps_at tables.old steps.old.items)) }
 {
     if is_blank(line) {
         return Ok(());

@@ -3,7 +3,8 @@
 ghost use Rattle.std.specs.Prelude.{◌≡◌, IfOk};
 ghost use Rattle.std.specs.Cmp.{partial_equiv_from_equiv};
 ghost use Rattle.model.specs.Vertices.{same_state, same_vertex};
-ghost use Rattle.vertices.specs.Same.{state_alike, state_equivalence, state_fed, vertex_alike, vertex_equivalence, vertex_fed};
+ghost use Rattle.vertices.specs.Same.{state_alike, state_equivalence, state_fed, vertex_alike, vertex_equivalence};
+ghost use Rattle.vertices.specs.Same.{vertex_fed};
 ghost use Rattle.vertices.specs.Texts.{state_text, vertex_text};
 ghost use Rattle.vertices.specs.Views.{state_view, vertex_view};
 

@@ -3,7 +3,8 @@
 ghost use Rattle.std.specs.Prelude.{◌≡◌, [], IfOk};
 ghost use Rattle.derivations.specs.Earlier.{AreEarlier, IsReading};
 ghost use Rattle.derivations.specs.Named.{named_step_from, set_in_order_view, set_in_order_views};
-ghost use Rattle.derivations.specs.Tables.{IsGrown, AreStatesOf, IsTermOf, AreTermsOf, IsOriginOf, IsStepOf, states_at, term_at, terms_at, step_by_origin, step_at};
+ghost use Rattle.derivations.specs.Tables.{IsGrown, AreStatesOf, IsTermOf, AreTermsOf, IsOriginOf, IsStepOf, states_at};
+ghost use Rattle.derivations.specs.Tables.{term_at, terms_at, step_by_origin, step_at};
 ghost use Rattle.vertices.specs.RefViews.{state_ref_views};
 
 use crate::earlier::{Earlier, Places};
@@ -32,7 +33,8 @@ pub(crate) fn keep_named(
     requires { IsReading tables.old steps.now }
     ensures grown { IsGrown tables.old tables.new }
     ensures within { IfOk result (λ s. IsStepOf tables.new s) }
-    ensures step { IfOk result (λ s. step_at tables.new s ≡ named_step_from origin.entry (set_in_order_views terms.entry.items)) }
+    ensures step { IfOk result
+        (λ s. step_at tables.new s ≡ named_step_from origin.entry (set_in_order_views terms.entry.items)) }
 {
     let earlier = Earlier::of(steps, parents(origin));
     let origin = keep_origin(alloc, tables, origin)?;

@@ -30,7 +30,8 @@ impl Model for Tables {
 
     ghost Value = { TablesView };
 
-    ghost view = { λ t. record { vertices = t.vertices.keys; states = t.states.keys; sets = map (λ v. v.items) t.sets.keys } };
+    ghost view = { λ t.
+        record { vertices = t.vertices.keys; states = t.states.keys; sets = map (λ v. v.items) t.sets.keys } };
 
     ghost invariant = { λ t. AreSetsOf t.states.keys (map (λ v. v.items) t.sets.keys) };
 }
@@ -111,7 +112,8 @@ impl Tables {
         Ok(number)
     }
 
-    /// The number of a spelt vertex, which is added unless it is there. The number that is guessed is looked at before the
+    /// The number of a spelt vertex, which is added unless it is there. The number that is guessed is looked at before
+    /// the
     /// vertex is parsed anew and hashed.
     pub(crate) fn add_spelt(
         &mut self,
@@ -165,7 +167,8 @@ impl Tables {
         guess: usize,
     ) -> Result<usize, AllocError>
         ensures grown { IsGrown self.old self.new }
-        ensures number { IfOk result (λ n. (n < length self.new.states) × (state_at self.new n ≡ state_ref_view state.entry)) }
+        ensures number { IfOk result
+            (λ n. (n < length self.new.states) × (state_at self.new n ≡ state_ref_view state.entry)) }
     {
         if self.has_at(guess, state) {
             return Ok(guess);

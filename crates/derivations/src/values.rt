@@ -48,7 +48,8 @@ pub(crate) fn whole(value: &Value<'_>) -> Result<u64, LineFault>
 }
 
 pub(crate) fn array<'v, 'a>(value: &'v Value<'a>) -> Result<&'v Vec<Value<'a>>, LineFault>
-    ensures { Gives line_wants_memory (λ v. trees_view v.now.items) result (needed (json.as_array (tree_view value.now))) }
+    ensures { Gives line_wants_memory
+        (λ v. trees_view v.now.items) result (needed (json.as_array (tree_view value.now))) }
 {
     match as_list(value) {
         Some(values) => Ok(values),

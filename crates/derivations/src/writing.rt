@@ -1,12 +1,16 @@
 //! Writing derivations.
 
-ghost use Rattle.std.specs.Prelude.{◌≡◌, ◌<◌, ◌≤◌, ◌++◌, List, Ok, length, IfOk, OnOk, codes, decimal, map, string_bytes};
+ghost use Rattle.std.specs.Prelude.{◌≡◌, ◌<◌, ◌≤◌, ◌++◌, List, Ok, length, IfOk, OnOk, codes, decimal, map};
+ghost use Rattle.std.specs.Prelude.{string_bytes};
 ghost use Rattle.model.specs.Axioms as axioms;
 ghost use Rattle.vertices.specs.Texts.{vertex_text};
 ghost use Rattle.vertices.specs.Kinds.{kind_text, kind_view};
 ghost use Rattle.derivations.specs.Files.{derivation_of_bytes, most_steps};
-ghost use Rattle.derivations.specs.Tables.{AreStatesOf, AreStepsOf, AreTermsOf, IsOriginOf, IsStepOf, IsTermOf, state_at, states_at, step_at, step_by_origin, steps_at, term_at, terms_at, vertex_at};
-ghost use Rattle.derivations.specs.Written.{quoted, comma_if, with_commas, state_json, term_json, combination_json, origin_json, step_json, lines_of};
+ghost use Rattle.derivations.specs.Tables.{AreStatesOf, AreStepsOf, AreTermsOf, IsOriginOf, IsStepOf, IsTermOf};
+ghost use Rattle.derivations.specs.Tables.{state_at, states_at, step_at, step_by_origin, steps_at, term_at, terms_at};
+ghost use Rattle.derivations.specs.Tables.{vertex_at};
+ghost use Rattle.derivations.specs.Written.{quoted, comma_if, with_commas, state_json, term_json, combination_json};
+ghost use Rattle.derivations.specs.Written.{origin_json, step_json, lines_of};
 
 use crate::derivation::Derivation;
 use crate::step::{Origin, Step, Term};
@@ -14,11 +18,13 @@ use crate::tables::Tables;
 use std::alloc::{AllocError, Global};
 use vertices::Kind;
 
-/// The bytes of a derivation of any length: a line of compact JSON for each step. `read` takes them back, unless there are more lines than it
+/// The bytes of a derivation of any length: a line of compact JSON for each step. `read` takes them back, unless there
+/// are more lines than it
 /// reads.
 pub fn write(alloc: Global, derivation: &Derivation) -> Result<Vec<u8>, AllocError>
     ensures text { IfOk result (λ v. v.items ≡ lines_of derivation.now) }
-    ensures reads { IfOk result (λ v. length derivation.now ≤ most_steps → derivation_of_bytes v.items ≡ Ok derivation.now) }
+    ensures reads { IfOk result
+        (λ v. length derivation.now ≤ most_steps → derivation_of_bytes v.items ≡ Ok derivation.now) }
 {
     let (tables, steps) = derivation.parts();
     let text = text_of(alloc, tables, steps)?;
@@ -39,7 +45,8 @@ fn text_of(alloc: Global, tables: &Tables, steps: &[Step]) -> Result<String, All
 /// The JSON object of a step, and the end of its line.
 fn push_line(text: &mut String, tables: &Tables, step: &Step) -> Result<(), AllocError>
     requires { IsStepOf tables.now step.now }
-    ensures { OnOk result (string_bytes text.new ≡ string_bytes text.old ++ (step_json (step_at tables.now step.now) ++ codes "\n")) }
+    ensures { OnOk result
+        (string_bytes text.new ≡ string_bytes text.old ++ (step_json (step_at tables.now step.now) ++ codes "\n")) }
 {
     push_step(text, tables, step)?;
     text.push_str("\n")
@@ -59,7 +66,8 @@ fn push_step(text: &mut String, tables: &Tables, step: &Step) -> Result<(), Allo
 
 fn push_origin(text: &mut String, tables: &Tables, origin: &Origin) -> Result<(), AllocError>
     requires { IsOriginOf tables.now origin.now }
-    ensures { OnOk result ((terms : List axioms.Term) → string_bytes text.new ≡ string_bytes text.old ++ origin_json (step_by_origin tables.now origin.now terms)) }
+    ensures { OnOk result ((terms : List axioms.Term)
+        → string_bytes text.new ≡ string_bytes text.old ++ origin_json (step_by_origin tables.now origin.now terms)) }
 {
     match origin {
         Origin::Axiom(kind) => push_kind(text, *kind),
@@ -70,7 +78,8 @@ fn push_origin(text: &mut String, tables: &Tables, origin: &Origin) -> Result<()
 }
 
 fn push_kind(text: &mut String, kind: Kind) -> Result<(), AllocError>
-    ensures { OnOk result (string_bytes text.new ≡ string_bytes text.old ++ (codes "\"axiom\":" ++ quoted (kind_text (kind_view kind)))) }
+    ensures { OnOk result
+        (string_bytes text.new ≡ string_bytes text.old ++ (codes "\"axiom\":" ++ quoted (kind_text (kind_view kind)))) }
 {
     write!(text, "\"axiom\":\"{kind}\"")
 }
@@ -83,7 +92,8 @@ fn push_combination(
     vertex: usize,
 ) -> Result<(), AllocError>
     requires { vertex < length tables.now.vertices }
-    ensures { OnOk result (string_bytes text.new ≡ string_bytes text.old ++ combination_json first second (vertex_at tables.now vertex)) }
+    ensures { OnOk result
+        (string_bytes text.new ≡ string_bytes text.old ++ combination_json first second (vertex_at tables.now vertex)) }
 {
     text.push_str("\"combine\":[")?;
     push_number(text, first)?;
@@ -93,7 +103,8 @@ fn push_combination(
 
 fn push_vertex(text: &mut String, tables: &Tables, vertex: usize) -> Result<(), AllocError>
     requires { vertex < length tables.now.vertices }
-    ensures { OnOk result (string_bytes text.new ≡ string_bytes text.old ++ (quoted (vertex_text (vertex_at tables.now vertex)) ++ codes "]")) }
+    ensures { OnOk result (string_bytes text.new
+        ≡ string_bytes text.old ++ (quoted (vertex_text (vertex_at tables.now vertex)) ++ codes "]")) }
 {
     push_quoted(text, tables.vertex_text(vertex))?;
     text.push_str("]")
@@ -116,7 +127,8 @@ fn push_number(text: &mut String, number: u64) -> Result<(), AllocError>
 
 fn push_terms(text: &mut String, tables: &Tables, terms: &[Term]) -> Result<(), AllocError>
     requires { AreTermsOf tables.now terms.now }
-    ensures { OnOk result (string_bytes text.new ≡ string_bytes text.old ++ with_commas (map term_json (terms_at tables.now terms.now))) }
+    ensures { OnOk result
+        (string_bytes text.new ≡ string_bytes text.old ++ with_commas (map term_json (terms_at tables.now terms.now))) }
 {
     let mut later = false;
     'terms: for term in terms {
@@ -129,7 +141,8 @@ fn push_terms(text: &mut String, tables: &Tables, terms: &[Term]) -> Result<(), 
 /// A term, after a comma if it is a later one.
 fn push_term(text: &mut String, later: bool, tables: &Tables, term: &Term) -> Result<(), AllocError>
     requires { IsTermOf tables.now term.now }
-    ensures { OnOk result (string_bytes text.new ≡ string_bytes text.old ++ (comma_if later ++ term_json (term_at tables.now term.now))) }
+    ensures { OnOk result
+        (string_bytes text.new ≡ string_bytes text.old ++ (comma_if later ++ term_json (term_at tables.now term.now))) }
 {
     push_comma(text, later)?;
     text.push_str("[")?;
@@ -147,7 +160,8 @@ fn push_comma(text: &mut String, later: bool) -> Result<(), AllocError>
 
 fn push_states(text: &mut String, tables: &Tables, states: &[usize]) -> Result<(), AllocError>
     requires { AreStatesOf tables.now states.now }
-    ensures { OnOk result (string_bytes text.new ≡ string_bytes text.old ++ with_commas (map state_json (states_at tables.now states.now))) }
+    ensures { OnOk result (string_bytes text.new
+        ≡ string_bytes text.old ++ with_commas (map state_json (states_at tables.now states.now))) }
 {
     let mut later = false;
     'states: for number in states {
@@ -165,7 +179,8 @@ fn push_state(
     number: usize,
 ) -> Result<(), AllocError>
     requires { number < length tables.now.states }
-    ensures { OnOk result (string_bytes text.new ≡ string_bytes text.old ++ (comma_if later ++ state_json (state_at tables.now number))) }
+    ensures { OnOk result
+        (string_bytes text.new ≡ string_bytes text.old ++ (comma_if later ++ state_json (state_at tables.now number))) }
 {
     push_comma(text, later)?;
     push_quoted(text, tables.state_text(number))

@@ -1,5 +1,6 @@
 -- Numberings that gain only certain vertices.
-use Rattle.std.proofs.Common.{◌≡◌, ◌⊎◌, ◌<◌, ℕ, get_or, List, [], ◌∷◌, ◌++◌, length, map, Bool, true, false, cond, Contains, refl, ap, ◌∙◌, subst, inl, inr}
+use Rattle.std.proofs.Common.{◌≡◌, ◌⊎◌, ◌<◌, ℕ, get_or, List, [], ◌∷◌, ◌++◌, length, map, Bool, true, false, cond}
+use Rattle.std.proofs.Common.{Contains, refl, ap, ◌∙◌, subst, inl, inr}
 use Rattle.std.specs.List.{list_any}
 use Rattle.std.proofs.lemmas.Option.{slice_get_read}
 use Rattle.model.specs.Content.{Problem}
@@ -23,7 +24,8 @@ adds_none Is vs = λ v c. inl c
 pub adds_on : (Is : Vertex → Type 0) (a b c : Numbering) → AddsOnly Is a b → AddsOnly Is b c → AddsOnly Is a c
 adds_on Is a b c first next = λ v i. elim (next v i) [ inl d ↦ first v d | inr p ↦ inr p ]
 
-pub adds_wider : (Is Are : Vertex → Type 0) (a b : Numbering) → ((v : Vertex) → Is v → Are v) → AddsOnly Is a b → AddsOnly Are a b
+pub adds_wider : (Is Are : Vertex → Type 0) (a b : Numbering) → ((v : Vertex) → Is v → Are v)
+    → AddsOnly Is a b → AddsOnly Are a b
 adds_wider Is Are a b wider adds = λ v i. elim (adds v i) [ inl d ↦ inl d | inr p ↦ inr (wider v p) ]
 
 pub adds_put : (vs new : Numbering) (w : Vertex) → new ≡ with_vertex vs w → AddsOnly (λ v. w ≡ v) vs new
@@ -35,21 +37,25 @@ adds_put vs new w e = λ v i. by (list_any (same_vertex w) vs) v (subst (λ l. C
 
 -- ---- of parts, and of a cause's instance
 
-item_in : {X Y : Type 0} (f : X → Y) (xs : List X) (i : ℕ) (x : X) → i < length xs → x ≡ get_or xs i x → Contains (map f xs) (f x)
+item_in : {X Y : Type 0} (f : X → Y) (xs : List X) (i : ℕ) (x : X) → i < length xs → x ≡ get_or xs i x
+    → Contains (map f xs) (f x)
 item_in f xs i x lt is = to_map f xs x (got_in xs i x (slice_get_read xs (length xs) i x refl lt is))
 
-pub part_adds : (all : List part.Part) (i : ℕ) (p : part.Part) (a b c : Numbering) → i < length all → p ≡ get_or all i p → AddsOnly (Contains (vertices_of (part_views all))) a b
+pub part_adds : (all : List part.Part) (i : ℕ) (p : part.Part) (a b c : Numbering) → i < length all → p ≡ get_or all i p
+    → AddsOnly (Contains (vertices_of (part_views all))) a b
     → AddsOnly (λ v. (part_view p).0 ≡ v) b c → AddsOnly (Contains (vertices_of (part_views all))) a c
 part_adds all i p a b c lt is first next =
     let here = to_map (λ (x : Part). x.0) (part_views all) (part_view p) (item_in part_view all i p lt is) in
     adds_on (Contains (vertices_of (part_views all))) a b c first
-    (adds_wider (λ v. (part_view p).0 ≡ v) (Contains (vertices_of (part_views all))) b c (λ v e. subst (Contains (vertices_of (part_views all))) e here) next)
+    (adds_wider (λ v. (part_view p).0 ≡ v) (Contains (vertices_of (part_views all))) b c
+    (λ v e. subst (Contains (vertices_of (part_views all))) e here) next)
 
 parts_vertices : (q : Problem) (ts : List Term) → vertices_of (parts_of_terms q ts) ≡ map (λ t. t.vertex) ts
 parts_vertices q [] = refl
 parts_vertices q (t ∷ ts) = ap (λ vs. t.vertex ∷ vs) (parts_vertices q ts)
 
-pub cause_adds : (q : Problem) (c : Cause) (ps : List Part) (old new : Numbering) → ps ≡ parts_of_terms q (terms_of_cause q c) → AddsOnly (Contains (vertices_of ps)) old new
+pub cause_adds : (q : Problem) (c : Cause) (ps : List Part) (old new : Numbering)
+    → ps ≡ parts_of_terms q (terms_of_cause q c) → AddsOnly (Contains (vertices_of ps)) old new
     → AddsOnly (Contains (spoken_by q c)) old new
 cause_adds q c ps old new is adds =
     let same : vertices_of ps ≡ spoken_by q c = ap vertices_of is ∙ parts_vertices q (terms_of_cause q c) in
@@ -57,12 +63,17 @@ cause_adds q c ps old new is adds =
 
 -- ---- of causes
 
-pub causes_add : (q : Problem) (all : List cause.Cause) (i : ℕ) (x : cause.Cause) (a b c : Numbering) → i < length all → x ≡ get_or all i x
-    → AddsOnly (IsSpokenOf q (Contains (cause_views all))) a b → AddsOnly (Contains (spoken_by q (cause_view x))) b c → AddsOnly (IsSpokenOf q (Contains (cause_views all))) a c
+pub causes_add : (q : Problem) (all : List cause.Cause) (i : ℕ) (x : cause.Cause) (a b c : Numbering)
+    → i < length all → x ≡ get_or all i x
+    → AddsOnly (IsSpokenOf q (Contains (cause_views all))) a b → AddsOnly (Contains (spoken_by q (cause_view x))) b c
+    → AddsOnly (IsSpokenOf q (Contains (cause_views all))) a c
 causes_add q all i x a b c lt is first next =
     let here = item_in cause_view all i x lt is in
     adds_on (IsSpokenOf q (Contains (cause_views all))) a b c first
-    (adds_wider (Contains (spoken_by q (cause_view x))) (IsSpokenOf q (Contains (cause_views all))) b c (λ v i. (cause_view x, here, i)) next)
+    (adds_wider (Contains (spoken_by q (cause_view x))) (IsSpokenOf q (Contains (cause_views all))) b c
+    (λ v i. (cause_view x, here, i)) next)
 
-pub pair_adds : (q : Problem) (p : Pair) (cs : List Cause) (old new : Numbering) → AreCausesAt q p cs → AddsOnly (IsSpokenOf q (Contains cs)) old new → AddsOnly (IsSpokenOf q (IsCauseAt q p)) old new
-pair_adds q p cs old new are adds = adds_wider (IsSpokenOf q (Contains cs)) (IsSpokenOf q (IsCauseAt q p)) old new (λ v s. (s.0, (are.listed s.0).0 s.1, s.2)) adds
+pub pair_adds : (q : Problem) (p : Pair) (cs : List Cause) (old new : Numbering) → AreCausesAt q p cs
+    → AddsOnly (IsSpokenOf q (Contains cs)) old new → AddsOnly (IsSpokenOf q (IsCauseAt q p)) old new
+pair_adds q p cs old new are adds = adds_wider (IsSpokenOf q (Contains cs)) (IsSpokenOf q (IsCauseAt q p)) old new
+    (λ v s. (s.0, (are.listed s.0).0 s.1, s.2)) adds

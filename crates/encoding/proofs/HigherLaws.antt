@@ -1,5 +1,6 @@
 -- The higher classes that a dependency may lead to are those of its own, and only with these another one can be newer.
-use Rattle.std.proofs.Common.{◌≡◌, ℕ, suc, ◌+◌, length, List, [], ◌∷◌, ◌++◌, map, Bool, true, false, cond, not, ◌&&◌, ◌||◌, nat_eq, refl, sym, ap, ap₂, ◌∙◌, subst}
+use Rattle.std.proofs.Common.{◌≡◌, ℕ, suc, ◌+◌, length, List, [], ◌∷◌, ◌++◌, map, Bool, true, false, cond, not, ◌&&◌}
+use Rattle.std.proofs.Common.{◌||◌, nat_eq, refl, sym, ap, ap₂, ◌∙◌, subst}
 use Rattle.std.specs.List.{flat_map, list_any}
 use Rattle.indexmap.specs.IndexSet.{insert_key}
 use Rattle.classes.specs.Classes.{class_view}
@@ -20,7 +21,8 @@ use Rattle.encoding.proofs.Same.{class_same}
 
 -- ---- classes that a set keeps
 
-pub any_class : (c : code.Class) (ks : List code.Class) → list_any ((class_eq.eq-value).it c) ks ≡ list_any (same_class (class_view c)) (map class_view ks)
+pub any_class : (c : code.Class) (ks : List code.Class)
+    → list_any ((class_eq.eq-value).it c) ks ≡ list_any (same_class (class_view c)) (map class_view ks)
 any_class c [] = refl
 any_class c (k ∷ ks) = ap₂ (λ a b. a || b) (class_same c k) (any_class c ks)
 
@@ -32,35 +34,43 @@ or_assoc : (a b c : Bool) → (a || (b || c)) ≡ ((a || b) || c)
 or_assoc true b c = refl
 or_assoc false b c = refl
 
-any_last : (m : Class) (ks : List code.Class) (c : code.Class) → list_any (same_class m) (map class_view (ks ++ c ∷ [])) ≡ (list_any (same_class m) (map class_view ks) || same_class m (class_view c))
+any_last : (m : Class) (ks : List code.Class) (c : code.Class) → list_any (same_class m) (map class_view (ks ++ c ∷ []))
+    ≡ (list_any (same_class m) (map class_view ks) || same_class m (class_view c))
 any_last m [] c = or_none (same_class m (class_view c))
-any_last m (k ∷ ks) c = ap (λ b. same_class m (class_view k) || b) (any_last m ks c) ∙ or_assoc (same_class m (class_view k)) (list_any (same_class m) (map class_view ks)) (same_class m (class_view c))
+any_last m (k ∷ ks) c = ap (λ b. same_class m (class_view k) || b) (any_last m ks c)
+    ∙ or_assoc (same_class m (class_view k)) (list_any (same_class m) (map class_view ks)) (same_class m (class_view c))
 
 -- a class that is there already is no other one
-there : (m : Class) (ks : List Class) (c : Class) → list_any (same_class c) ks ≡ true → list_any (same_class m) ks ≡ (list_any (same_class m) ks || same_class m c)
+there : (m : Class) (ks : List Class) (c : Class) → list_any (same_class c) ks ≡ true
+    → list_any (same_class m) ks ≡ (list_any (same_class m) ks || same_class m c)
 there m ks c h = by (same_class m c) refl
   where
     by : (b : Bool) → same_class m c ≡ b → list_any (same_class m) ks ≡ (list_any (same_class m) ks || b)
-    by true e = let all : list_any (same_class m) ks ≡ true = subst (λ n. list_any (same_class n) ks ≡ true) (sym (class-same m c e)) h in all ∙ sym (ap (λ b. b || true) all)
+    by true e = let all : list_any (same_class m) ks ≡ true =
+        subst (λ n. list_any (same_class n) ks ≡ true) (sym (class-same m c e)) h in all ∙ sym (ap (λ b. b || true) all)
     by false e = sym (or_none (list_any (same_class m) ks))
 
 class_put : (m : Class) (c : code.Class) (ks : List code.Class)
-    → list_any (same_class m) (map class_view (insert_key (class_eq.eq-value).it ks c)) ≡ (list_any (same_class m) (map class_view ks) || same_class m (class_view c))
+    → list_any (same_class m) (map class_view (insert_key (class_eq.eq-value).it ks c))
+    ≡ (list_any (same_class m) (map class_view ks) || same_class m (class_view c))
 class_put m c ks = by (list_any ((class_eq.eq-value).it c) ks) refl
   where
     by : (b : Bool) → list_any ((class_eq.eq-value).it c) ks ≡ b
-        → list_any (same_class m) (map class_view (cond b ks (ks ++ c ∷ []))) ≡ (list_any (same_class m) (map class_view ks) || same_class m (class_view c))
+        → list_any (same_class m) (map class_view (cond b ks (ks ++ c ∷ [])))
+        ≡ (list_any (same_class m) (map class_view ks) || same_class m (class_view c))
     by true e = there m (map class_view ks) (class_view c) (sym (any_class c ks) ∙ e)
     by false e = any_last m ks c
 
-pub higher_put : (k : Class) (c : code.Class) (ks new : List code.Class) → is_lower k (class_view c) ≡ true → new ≡ insert_key (class_eq.eq-value).it ks c
+pub higher_put : (k : Class) (c : code.Class) (ks new : List code.Class) → is_lower k (class_view c) ≡ true
+    → new ≡ insert_key (class_eq.eq-value).it ks c
     → Adds k (class_view c) (map class_view ks) (map class_view new)
 higher_put k c ks new low is m =
     ap (λ l. list_any (same_class m) (map class_view l)) is ∙ class_put m c ks
     ∙ ap (λ b. list_any (same_class m) (map class_view ks) || (b && same_class m (class_view c))) (sym low)
 
 pub lower_left : (k c : Class) (ks : List Class) → is_lower k c ≡ false → Adds k c ks ks
-lower_left k c ks low m = sym (or_none (list_any (same_class m) ks)) ∙ ap (λ b. list_any (same_class m) ks || (b && same_class m c)) (sym low)
+lower_left k c ks low m =
+    sym (or_none (list_any (same_class m) ks)) ∙ ap (λ b. list_any (same_class m) ks || (b && same_class m c)) (sym low)
 
 -- ---- those that are higher
 
@@ -72,7 +82,8 @@ same_bools false false f g = refl
 module _ (q : Problem) where
   own_classes : (d : Dependency) (m : Class) → list_any (same_class m) (dep_classes q d) ≡ has_class q m d
   own_classes d m = same_bools (list_any (same_class m) (dep_classes q d)) (has_class q m d)
-      (λ t. let r = any_of (same_class m) (dep_classes q d) t in subst (λ n. has_class q n d ≡ true) (sym (class-same m r.0 r.2)) (to_class q d r.0 r.1))
+      (λ t. let r = any_of (same_class m) (dep_classes q d) t in
+      subst (λ n. has_class q n d ≡ true) (sym (class-same m r.0 r.2)) (to_class q d r.0 r.1))
       (λ t. to_any (same_class m) (dep_classes q d) m (class-is q d m t) (class-refl m))
 
   pub are_higher : (k : Class) (d : Dependency) (hs : List Class) → AreAbove k (dep_classes q d) hs → AreHigher q k d hs
@@ -81,13 +92,16 @@ module _ (q : Problem) where
   -- ---- with these another dependency can be newer
 
   module _ (o : Owner) (i : ℕ) (k : Class) (d : Dependency) where
-    flat_same : (f g : Class → List Cause) → ((m : Class) → f m ≡ g m) → (ks : List Class) → flat_map f ks ≡ flat_map g ks
+    flat_same : (f g : Class → List Cause) → ((m : Class) → f m ≡ g m) → (ks : List Class)
+        → flat_map f ks ≡ flat_map g ks
     flat_same f g e [] = refl
     flat_same f g e (m ∷ ks) = ap₂ (λ a b. a ++ b) (e m) (flat_same f g e ks)
 
-    one_same : (hs : List Class) → AreHigher q k d hs → (j : ℕ) (e : Dependency) → newest_among q hs o i k d.real_name j e ≡ newest_if q o i k d j e
+    one_same : (hs : List Class) → AreHigher q k d hs → (j : ℕ) (e : Dependency)
+        → newest_among q hs o i k d.real_name j e ≡ newest_if q o i k d j e
     one_same hs are j e = ap (λ cs. cond (nat_eq i j) [] (cond (same_text d.real_name e.real_name) cs []))
-        (flat_same (newest_in hs o i j k) (newest_at q o i j k d) (λ m. ap (λ b. cond b (of_newest o i j k m ∷ []) []) (are m)) (dep_classes q e))
+        (flat_same (newest_in hs o i j k) (newest_at q o i j k d)
+        (λ m. ap (λ b. cond b (of_newest o i j k m ∷ []) []) (are m)) (dep_classes q e))
 
     pub each_same : (hs : List Class) → AreHigher q k d hs → (n : ℕ) (es : List Dependency)
         → each_from (newest_among q hs o i k d.real_name) n es ≡ each_from (newest_if q o i k d) n es
@@ -101,27 +115,34 @@ module _ (q : Problem) where
     one_none : (j : ℕ) (e : Dependency) → newest_among q [] o i k d.real_name j e ≡ []
     one_none j e = by (nat_eq i j) (same_text d.real_name e.real_name) (flat_none j (dep_classes q e))
       where
-        by : (a b : Bool) → flat_map (newest_in [] o i j k) (dep_classes q e) ≡ [] → cond a [] (cond b (flat_map (newest_in [] o i j k) (dep_classes q e)) []) ≡ []
+        by : (a b : Bool) → flat_map (newest_in [] o i j k) (dep_classes q e) ≡ []
+            → cond a [] (cond b (flat_map (newest_in [] o i j k) (dep_classes q e)) []) ≡ []
         by true b h = refl
         by false true h = h
         by false false h = refl
 
     each_none : (n : ℕ) (es : List Dependency) → each_from (newest_among q [] o i k d.real_name) n es ≡ []
     each_none n [] = refl
-    each_none n (e ∷ es) = ap (λ l. l ++ each_from (newest_among q [] o i k d.real_name) (n + 1) es) (one_none n e) ∙ each_none (n + 1) es
+    each_none n (e ∷ es) =
+        ap (λ l. l ++ each_from (newest_among q [] o i k d.real_name) (n + 1) es) (one_none n e) ∙ each_none (n + 1) es
 
     -- there is none where it leads to its highest class
-    pub none_newest : (hs : List Class) → AreHigher q k d hs → hs ≡ [] → (n : ℕ) (es : List Dependency) → each_from (newest_if q o i k d) n es ≡ []
-    none_newest hs are none n es = sym (each_same hs are n es) ∙ ap (λ l. each_from (newest_among q l o i k d.real_name) n es) none ∙ each_none n es
+    pub none_newest : (hs : List Class) → AreHigher q k d hs → hs ≡ [] → (n : ℕ) (es : List Dependency)
+        → each_from (newest_if q o i k d) n es ≡ []
+    none_newest hs are none n es = sym (each_same hs are n es)
+        ∙ ap (λ l. each_from (newest_among q l o i k d.real_name) n es) none ∙ each_none n es
 
     -- nor where no other one is on its package
-    pub none_alone : (j : ℕ) (es : List Dependency) → alone_from i d.real_name j es ≡ true → each_from (newest_if q o i k d) j es ≡ []
+    pub none_alone : (j : ℕ) (es : List Dependency) → alone_from i d.real_name j es ≡ true
+        → each_from (newest_if q o i k d) j es ≡ []
     none_alone j [] h = refl
     none_alone j (e ∷ es) h = by (nat_eq i j) (same_text d.real_name e.real_name) (none_alone (j + 1) es) h
       where
-        by : (a b : Bool) → (alone_from i d.real_name (j + 1) es ≡ true → each_from (newest_if q o i k d) (j + 1) es ≡ [])
+        by : (a b : Bool)
+            → (alone_from i d.real_name (j + 1) es ≡ true → each_from (newest_if q o i k d) (j + 1) es ≡ [])
             → cond (not a && b) false (alone_from i d.real_name (j + 1) es) ≡ true
-            → cond a [] (cond b (flat_map (newest_at q o i j k d) (dep_classes q e)) []) ++ each_from (newest_if q o i k d) (j + 1) es ≡ []
+            → cond a [] (cond b (flat_map (newest_at q o i j k d) (dep_classes q e)) [])
+            ++ each_from (newest_if q o i k d) (j + 1) es ≡ []
         by true b rest t = rest t
         by false false rest t = rest t
         by false true rest t = let no : false ≡ true = t in cc

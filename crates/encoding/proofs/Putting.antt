@@ -1,11 +1,14 @@
 -- Parts of an instance as terms over numbers.
-use Rattle.std.proofs.Common.{◌≡◌, ℕ, zero, suc, ◌<◌, ◌≤◌, ◌+◌, get_or, take, take_all, List, [], ◌∷◌, ◌++◌, map, filter, length, Bool, true, false, cond, Option, Some, None, slice_get, refl, sym, ap, ◌∙◌, subst, arith}
+use Rattle.std.proofs.Common.{◌≡◌, ℕ, zero, suc, ◌<◌, ◌≤◌, ◌+◌, get_or, take, take_all, List, [], ◌∷◌, ◌++◌, map}
+use Rattle.std.proofs.Common.{filter, length, Bool, true, false, cond, Option, Some, None, slice_get, refl, sym, ap}
+use Rattle.std.proofs.Common.{◌∙◌, subst, arith}
 use Rattle.std.specs.List.{AllByRecursion, All}
 use Rattle.terms.specs.Terms.{TermView, term_view, terms_view}
 use Rattle.model.specs.Summary.{Dependency, same_text}
 use Rattle.model.specs.Content.{Candidate, Problem, candidates_of}
 use Rattle.model.specs.Candidates.{as_candidate}
-use Rattle.model.specs.Vertices.{Vertex, root, pkg, dep, feat, ask, State, in_class, version, same_class, add_class, classes_of, matching, dep_classes, dep_space, class_candidates, owner_brings, space}
+use Rattle.model.specs.Vertices.{Vertex, root, pkg, dep, feat, ask, State, in_class, version, same_class, add_class}
+use Rattle.model.specs.Vertices.{classes_of, matching, dep_classes, dep_space, class_candidates, owner_brings, space}
 use Rattle.model.specs.Axioms.{Term, IsVertex}
 use Rattle.model.proofs.Lists.{all_first, all_rest}
 use Rattle.model.proofs.Vertices.{instance_vertices}
@@ -30,20 +33,25 @@ use Rattle.encoding.specs.Parts.{part_view, part_views}
 use Rattle.encoding.specs.declared.parts.Part as code
 
 -- terms of the parts of terms are those, numbered
-pub are_numbered : (q : Problem) (vs : Numbering) (ts : List TermView) (ms : List Term) → AreOfParts vs ts (parts_of_terms q ms) → AreNumbered q vs ts ms
+pub are_numbered : (q : Problem) (vs : Numbering) (ts : List TermView) (ms : List Term)
+    → AreOfParts vs ts (parts_of_terms q ms) → AreNumbered q vs ts ms
 are_numbered q vs [] [] are = tt
 are_numbered q vs [] (m ∷ ms) are = are
 are_numbered q vs (t ∷ ts) [] are = are
-are_numbered q vs (t ∷ ts) (m ∷ ms) are = (record { vertex = (are.0).0; states = (are.0).1 }, are_numbered q vs ts ms are.1)
+are_numbered q vs (t ∷ ts) (m ∷ ms) are =
+    (record { vertex = (are.0).0; states = (are.0).1 }, are_numbered q vs ts ms are.1)
 
 -- they stay so as more vertices get numbers
-pub parts_more : (vs new : Numbering) (ts : List TermView) (ps : List Part) → IsGrown vs new → AreOfParts vs ts ps → AreOfParts new ts ps
+pub parts_more : (vs new : Numbering) (ts : List TermView) (ps : List Part) → IsGrown vs new
+    → AreOfParts vs ts ps → AreOfParts new ts ps
 parts_more vs new [] [] grown are = tt
 parts_more vs new [] (p ∷ ps) grown are = are
 parts_more vs new (t ∷ ts) [] grown are = are
-parts_more vs new (t ∷ ts) (p ∷ ps) grown are = ((still_at vs new t.vertex p.0 grown (are.0).0, (are.0).1), parts_more vs new ts ps grown are.1)
+parts_more vs new (t ∷ ts) (p ∷ ps) grown are =
+    ((still_at vs new t.vertex p.0 grown (are.0).0, (are.0).1), parts_more vs new ts ps grown are.1)
 
-pub parts_last : (vs : Numbering) (ts : List TermView) (ps : List Part) (t : TermView) (p : Part) → AreOfParts vs ts ps → IsOfPart vs t p → AreOfParts vs (ts ++ t ∷ []) (ps ++ p ∷ [])
+pub parts_last : (vs : Numbering) (ts : List TermView) (ps : List Part) (t : TermView) (p : Part) → AreOfParts vs ts ps
+    → IsOfPart vs t p → AreOfParts vs (ts ++ t ∷ []) (ps ++ p ∷ [])
 parts_last vs [] [] t p are is = (is, tt)
 parts_last vs [] (r ∷ ps) t p are is = absurd are
 parts_last vs (u ∷ ts) [] t p are is = absurd are
@@ -56,7 +64,8 @@ module _ {X : Type 0} where
   filter_less t [] = omega arith
   filter_less t (x ∷ xs) = by (t x) (filter_less t xs)
     where
-      by : (b : Bool) → length (filter t xs) ≤ length xs → length (cond b (x ∷ filter t xs) (filter t xs)) ≤ suc (length xs)
+      by : (b : Bool) → length (filter t xs) ≤ length xs
+          → length (cond b (x ∷ filter t xs) (filter t xs)) ≤ suc (length xs)
       by true h = omega (arith, h)
       by false h = omega (arith, h)
 
@@ -66,22 +75,27 @@ module _ {X : Type 0} where
 
 classes_less : (cs : List Candidate) → length (classes_of cs) ≤ length cs
 classes_less [] = omega arith
-classes_less (c ∷ cs) = by (Rattle.std.specs.List.list_any (same_class (Rattle.model.specs.Selection.class_of c.version)) (classes_of cs)) (classes_less cs)
+classes_less (c ∷ cs) =
+    by (Rattle.std.specs.List.list_any (same_class (Rattle.model.specs.Selection.class_of c.version)) (classes_of cs))
+    (classes_less cs)
   where
-    by : (b : Bool) → length (classes_of cs) ≤ length cs → length (cond b (classes_of cs) (Rattle.model.specs.Selection.class_of c.version ∷ classes_of cs)) ≤ suc (length cs)
+    by : (b : Bool) → length (classes_of cs) ≤ length cs → length (cond b (classes_of cs)
+        (Rattle.model.specs.Selection.class_of c.version ∷ classes_of cs)) ≤ suc (length cs)
     by true h = omega (arith, h)
     by false h = omega (arith, h)
 
 rows_few : (rows : List Row) → All (λ row. length row.1 ≤ most_candidates) rows → (name : List ℕ)
     → length (candidates_of (map (λ row. (row.0, map as_candidate (records row.1))) rows) name) ≤ 65535
 rows_few [] h name = omega arith
-rows_few (row ∷ rows) h name = by (same_text name row.0) (rows_few rows (all_rest (λ row. length row.1 ≤ most_candidates) row rows h) name)
+rows_few (row ∷ rows) h name =
+    by (same_text name row.0) (rows_few rows (all_rest (λ row. length row.1 ≤ most_candidates) row rows h) name)
   where
     here : length row.1 ≤ 65535
     here = all_first (λ row. length row.1 ≤ most_candidates) row rows h
 
     by : (b : Bool) → length (candidates_of (map (λ row. (row.0, map as_candidate (records row.1))) rows) name) ≤ 65535
-        → length (cond b (map as_candidate (records row.1)) (candidates_of (map (λ row. (row.0, map as_candidate (records row.1))) rows) name)) ≤ 65535
+        → length (cond b (map as_candidate (records row.1))
+        (candidates_of (map (λ row. (row.0, map as_candidate (records row.1))) rows) name)) ≤ 65535
     by true rest = subst (λ n. n ≤ 65535) (sym (map_length as_candidate (records row.1) ∙ map_length _ row.1)) here
     by false rest = rest
 
@@ -93,7 +107,8 @@ module _ (m : ManifestView) (c : CatalogueView) (store : IsStore c) where
   spaces_few root = omega arith
   spaces_few (pkg name k) =
       let f = few_candidates name in
-      let g = filter_less (Rattle.model.specs.Vertices.in_that_class k) (candidates_of (problem_in m c).candidates name) in
+      let g =
+      filter_less (Rattle.model.specs.Vertices.in_that_class k) (candidates_of (problem_in m c).candidates name) in
       let h = map_length (λ (e : Candidate). version e.version) (class_candidates (problem_in m c) name k) in
       omega (arith, f, g, h)
   spaces_few (dep o i) = by (slice_get (owner_brings (problem_in m c) o).dependencies i)
@@ -102,7 +117,8 @@ module _ (m : ManifestView) (c : CatalogueView) (store : IsStore c) where
       by None = omega arith
       by (Some d) =
           let f = few_candidates d.real_name in
-          let g = filter_less (λ (e : Candidate). Rattle.semver.specs.EvalViews.matches_views d.requirement e.version) (candidates_of (problem_in m c).candidates d.real_name) in
+          let g = filter_less (λ (e : Candidate). Rattle.semver.specs.EvalViews.matches_views d.requirement e.version)
+          (candidates_of (problem_in m c).candidates d.real_name) in
           let h = classes_less (matching (problem_in m c) d) in
           let k = map_length in_class (dep_classes (problem_in m c) d) in
           omega (arith, f, g, h, k)
@@ -110,7 +126,8 @@ module _ (m : ManifestView) (c : CatalogueView) (store : IsStore c) where
   spaces_few (ask name v i g) = omega arith
 
   -- the parts of terms whose vertices are there can be made terms
-  pub fitting : (ms : List Term) → AllByRecursion (λ t. IsVertex (problem_in m c) t.vertex) ms → AllByRecursion (IsFitting (problem_in m c)) (parts_of_terms (problem_in m c) ms)
+  pub fitting : (ms : List Term) → AllByRecursion (λ t. IsVertex (problem_in m c) t.vertex) ms
+      → AllByRecursion (IsFitting (problem_in m c)) (parts_of_terms (problem_in m c) ms)
   fitting [] h = tt
   fitting (t ∷ ms) h = (
     record {
@@ -122,24 +139,33 @@ module _ (m : ManifestView) (c : CatalogueView) (store : IsStore c) where
 
 -- ---- one vertex after another
 
-pub vertex_put : (q : Problem) (vs : Numbering) (v : Vertex) (new : Numbering) → IsNumbering q vs → IsVertex q v → new ≡ with_vertex vs v → IsNumbering q new × IsGrown vs new
-vertex_put q vs v new ok is same = (subst (IsNumbering q) (sym same) (numbering_put q vs v ok is), subst (IsGrown vs) (sym same) (put_grows vs v))
+pub vertex_put : (q : Problem) (vs : Numbering) (v : Vertex) (new : Numbering) → IsNumbering q vs → IsVertex q v
+    → new ≡ with_vertex vs v → IsNumbering q new × IsGrown vs new
+vertex_put q vs v new ok is same =
+    (subst (IsNumbering q) (sym same) (numbering_put q vs v ok is), subst (IsGrown vs) (sym same) (put_grows vs v))
 
-pub part_put : {S : Type 0} (tests : S → Members) (vs new : Numbering) (old is : List (Numbered.Term S)) (t : Numbered.Term S) (p : Part) (ps : List Part) → IsGrown vs new → is ≡ old ++ t ∷ []
-    → IsOfPart new (term_view tests t) p → AreOfParts vs (terms_view tests old) ps → AreOfParts new (terms_view tests is) (ps ++ p ∷ [])
+pub part_put : {S : Type 0} (tests : S → Members) (vs new : Numbering) (old is : List (Numbered.Term S))
+    (t : Numbered.Term S) (p : Part) (ps : List Part) → IsGrown vs new → is ≡ old ++ t ∷ []
+    → IsOfPart new (term_view tests t) p → AreOfParts vs (terms_view tests old) ps
+    → AreOfParts new (terms_view tests is) (ps ++ p ∷ [])
 part_put tests vs new old is t p ps grown same of are =
-    subst (λ ts. AreOfParts new ts (ps ++ p ∷ [])) (sym (ap (terms_view tests) same ∙ map-append (term_view tests) old (t ∷ [])))
-    (parts_last new (terms_view tests old) ps (term_view tests t) p (parts_more vs new (terms_view tests old) ps grown are) of)
+    subst (λ ts. AreOfParts new ts (ps ++ p ∷ []))
+    (sym (ap (terms_view tests) same ∙ map-append (term_view tests) old (t ∷ [])))
+    (parts_last new (terms_view tests old) ps (term_view tests t) p
+    (parts_more vs new (terms_view tests old) ps grown are) of)
 
-pub parts_next : (all : List code.Part) (i : ℕ) (p : code.Part) → i < length all → p ≡ get_or all i p → part_views (take (i + 1) all) ≡ part_views (take i all) ++ part_view p ∷ []
+pub parts_next : (all : List code.Part) (i : ℕ) (p : code.Part) → i < length all → p ≡ get_or all i p
+    → part_views (take (i + 1) all) ≡ part_views (take i all) ++ part_view p ∷ []
 parts_next all i p lt is =
     let e : i + 1 ≡ suc i = omega arith in
-    ap (λ n. part_views (take n all)) e ∙ ap part_views (take-suc all i p lt ∙ ap (λ x. take i all ++ x ∷ []) (sym is)) ∙ map-append part_view (take i all) (p ∷ [])
+    ap (λ n. part_views (take n all)) e ∙ ap part_views (take-suc all i p lt ∙ ap (λ x. take i all ++ x ∷ []) (sym is))
+    ∙ map-append part_view (take i all) (p ∷ [])
 
 pub parts_whole : (all : List code.Part) (i : ℕ) → length all ≤ i → part_views (take i all) ≡ part_views all
 parts_whole all i h = ap part_views (take_all i all h)
 
-pub fit_at : (P : Part → Type 0) (all : List code.Part) (i : ℕ) (p : code.Part) → AllByRecursion P (part_views all) → i < length all → p ≡ get_or all i p → P (part_view p)
+pub fit_at : (P : Part → Type 0) (all : List code.Part) (i : ℕ) (p : code.Part) → AllByRecursion P (part_views all)
+    → i < length all → p ≡ get_or all i p → P (part_view p)
 fit_at P [] i p h lt is = absurd (omega (arith, lt))
 fit_at P (x ∷ all) zero p h lt is = subst (λ y. P (part_view y)) (sym is) h.0
 fit_at P (x ∷ all) (suc i) p h lt is = fit_at P all i p h.1 (omega (arith, lt)) is
@@ -149,9 +175,12 @@ by_recursion P [] h = tt
 by_recursion P (x ∷ xs) h = (all_first P x xs h, by_recursion P xs (all_rest P x xs h))
 
 -- the parts of an instance can be made terms, each on its own number
-pub cause_fits : (m : ManifestView) (c : CatalogueView) (cause : Cause) (ps : List Part) → IsStore c → IsCatalogue (problem_in m c) → is_cause (problem_in m c) cause ≡ true
-    → ps ≡ parts_of_terms (problem_in m c) (terms_of_cause (problem_in m c) cause) → AllByRecursion (IsFitting (problem_in m c)) ps
+pub cause_fits : (m : ManifestView) (c : CatalogueView) (cause : Cause) (ps : List Part) → IsStore c
+    → IsCatalogue (problem_in m c) → is_cause (problem_in m c) cause ≡ true
+    → ps ≡ parts_of_terms (problem_in m c) (terms_of_cause (problem_in m c) cause)
+    → AllByRecursion (IsFitting (problem_in m c)) ps
 cause_fits m c cause ps store known t is =
     let q = problem_in m c in
     subst (AllByRecursion (IsFitting q)) (sym is)
-    (fitting m c store (terms_of_cause q cause) (by_recursion (λ (t : Term). IsVertex q t.vertex) (terms_of_cause q cause) (instance_vertices q known (kind_of cause) (terms_of_cause q cause) (cause_instance q cause t))))
+    (fitting m c store (terms_of_cause q cause) (by_recursion (λ (t : Term). IsVertex q t.vertex) (terms_of_cause q
+    cause) (instance_vertices q known (kind_of cause) (terms_of_cause q cause) (cause_instance q cause t))))

@@ -1,5 +1,6 @@
 -- Requirements that are equal say the same.
-use Rattle.std.proofs.Common.{◌≡◌, ◌&&◌, ℕ, Bool, true, false, List, [], ◌∷◌, Option, Some, None, map, nat_eq, refl, sym, ap, ap₂, true≢false}
+use Rattle.std.proofs.Common.{◌≡◌, ◌&&◌, ℕ, Bool, true, false, List, [], ◌∷◌, Option, Some, None, map, nat_eq, refl}
+use Rattle.std.proofs.Common.{sym, ap, ap₂, true≢false}
 use Rattle.std.proofs.lemmas.Bool.{eqb-true}
 use Rattle.std.specs.Cmp.Lexicographic.{pointwise}
 use Rattle.std.specs.Option.{option_eq}
@@ -43,12 +44,14 @@ comparator-same c d e =
     let pre_is = text-same (pre_text c.pre) (pre_text d.pre) p.1 in
     λ i. (op_is i, major_is i, minor_is i, patch_is i, pre_is i)
 
-comparators-same : (cs ds : List Comparator) → pointwise (comparators.eq-value).it cs ds ≡ true → map comparator_view cs ≡ map comparator_view ds
+comparators-same : (cs ds : List Comparator) → pointwise (comparators.eq-value).it cs ds ≡ true
+    → map comparator_view cs ≡ map comparator_view ds
 comparators-same [] [] e = refl
 comparators-same (c ∷ cs) (d ∷ ds) e =
     let p = both ((comparators.eq-value).it c d) _ e in
     ap₂ (λ x l. x ∷ l) (comparator-same c d p.0) (comparators-same cs ds p.1)
 comparators-same cs ds e = absurd (true≢false (sym e))
 
-pub requirement-same : (r s : VersionReq) → (requirements.eq-value).it r s ≡ true → requirement_view r ≡ requirement_view s
+pub requirement-same : (r s : VersionReq) → (requirements.eq-value).it r s ≡ true
+    → requirement_view r ≡ requirement_view s
 requirement-same r s e = comparators-same r.comparators.items s.comparators.items e

@@ -1,5 +1,6 @@
 -- Two vertices are equal exactly where they stand for one.
-use Rattle.std.proofs.Common.{◌≡◌, ℕ, zero, suc, ◌+◌, not, length, List, [], ◌∷◌, ◌++◌, map, Bool, true, false, cond, ◌&&◌, ◌||◌, nat_eq, nat_lt, Some, None, slice_get, refl, sym, ap, ap₂, ◌∙◌, arith}
+use Rattle.std.proofs.Common.{◌≡◌, ℕ, zero, suc, ◌+◌, not, length, List, [], ◌∷◌, ◌++◌, map, Bool, true, false, cond}
+use Rattle.std.proofs.Common.{◌&&◌, ◌||◌, nat_eq, nat_lt, Some, None, slice_get, refl, sym, ap, ap₂, ◌∙◌, arith}
 use Rattle.std.specs.Prelude.{option_map, position}
 use Rattle.std.specs.List.{list_any, position_or_len}
 use Rattle.indexmap.specs.IndexSet.{insert_key}
@@ -28,8 +29,12 @@ five true false c d e = refl
 five false b c d e = refl
 
 pub version_same : (v w : Version) → (nat_eq v.major w.major && (nat_eq v.minor w.minor && (nat_eq v.patch w.patch
-    && (pointwise nat_eq (pre_text v.pre) (pre_text w.pre) && pointwise nat_eq (build_text v.build) (build_text w.build))))) ≡ same_version (parts_of v) (parts_of w)
-version_same v w = five (nat_eq v.major w.major) (nat_eq v.minor w.minor) (nat_eq v.patch w.patch) (pointwise nat_eq (pre_text v.pre) (pre_text w.pre)) (pointwise nat_eq (build_text v.build) (build_text w.build))
+    && (pointwise nat_eq (pre_text v.pre) (pre_text w.pre)
+    && pointwise nat_eq (build_text v.build) (build_text w.build)))))
+    ≡ same_version (parts_of v)
+    (parts_of w)
+version_same v w = five (nat_eq v.major w.major) (nat_eq v.minor w.minor) (nat_eq v.patch w.patch)
+    (pointwise nat_eq (pre_text v.pre) (pre_text w.pre)) (pointwise nat_eq (build_text v.build) (build_text w.build))
 
 pub class_same : (a b : Class) → (class_eq.eq-value).it a b ≡ same_class (class_view a) (class_view b)
 class_same (class.Patch n) (class.Patch m) = refl
@@ -60,41 +65,55 @@ some n = grind arith
 less : (a b : ℕ) → nat_lt (1 + a) (suc b) ≡ nat_lt a b
 less a b = grind arith
 
-position_cons : {X : Type 0} (p : X → Bool) (x : X) (xs : List X) → position p (x ∷ xs) ≡ cond (p x) (Some 0) (option_map suc (position p xs))
+position_cons : {X : Type 0} (p : X → Bool) (x : X) (xs : List X)
+    → position p (x ∷ xs) ≡ cond (p x) (Some 0) (option_map suc (position p xs))
 position_cons p x xs = by (p x) refl
   where
     by : (b : Bool) → p x ≡ b → position p (x ∷ xs) ≡ cond b (Some 0) (option_map suc (position p xs))
-    by true e = ap (λ t. cond (nat_lt (cond (not t) (1 + position_or_len p xs) 0) (suc (length xs))) (Some (cond (not t) (1 + position_or_len p xs) 0)) None) e
+    by true e = ap (λ t. cond (nat_lt (cond (not t) (1 + position_or_len p xs) 0) (suc (length xs)))
+        (Some (cond (not t) (1 + position_or_len p xs) 0)) None) e
         ∙ ap (λ t. cond t (Some 0) None) (some (length xs))
-    by false e = ap (λ t. cond (nat_lt (cond (not t) (1 + position_or_len p xs) 0) (suc (length xs))) (Some (cond (not t) (1 + position_or_len p xs) 0)) None) e
-        ∙ ap (λ t. cond t (Some (1 + position_or_len p xs)) None) (less (position_or_len p xs) (length xs)) ∙ moved (nat_lt (position_or_len p xs) (length xs)) (position_or_len p xs)
+    by false e = ap (λ t. cond (nat_lt (cond (not t) (1 + position_or_len p xs) 0) (suc (length xs)))
+        (Some (cond (not t) (1 + position_or_len p xs) 0)) None) e
+        ∙ ap (λ t. cond t (Some (1 + position_or_len p xs)) None) (less (position_or_len p xs) (length xs))
+        ∙ moved (nat_lt (position_or_len p xs) (length xs)) (position_or_len p xs)
 
 -- the place of a vertex is the number of what it stands for
-pub number_kept : (v : VertexRef) (ks : List VertexRef) → position ((vertex_eq.eq-value).it v) ks ≡ number_in (map vertex_ref_view ks) (vertex_ref_view v)
+pub number_kept : (v : VertexRef) (ks : List VertexRef)
+    → position ((vertex_eq.eq-value).it v) ks ≡ number_in (map vertex_ref_view ks) (vertex_ref_view v)
 number_kept v [] = refl
-number_kept v (k ∷ ks) = position_cons ((vertex_eq.eq-value).it v) k ks ∙ ap₂ (λ b o. cond b (Some 0) (option_map suc o)) (vertex_same v k) (number_kept v ks)
+number_kept v (k ∷ ks) = position_cons ((vertex_eq.eq-value).it v) k ks
+    ∙ ap₂ (λ b o. cond b (Some 0) (option_map suc o)) (vertex_same v k) (number_kept v ks)
 
-any_kept : (v : VertexRef) (ks : List VertexRef) → list_any ((vertex_eq.eq-value).it v) ks ≡ list_any (same_vertex (vertex_ref_view v)) (map vertex_ref_view ks)
+any_kept : (v : VertexRef) (ks : List VertexRef)
+    → list_any ((vertex_eq.eq-value).it v) ks ≡ list_any (same_vertex (vertex_ref_view v)) (map vertex_ref_view ks)
 any_kept v [] = refl
 any_kept v (k ∷ ks) = ap₂ (λ a b. a || b) (vertex_same v k) (any_kept v ks)
 
-view_last : (ks : List VertexRef) (v : VertexRef) → map vertex_ref_view (ks ++ v ∷ []) ≡ map vertex_ref_view ks ++ vertex_ref_view v ∷ []
+view_last : (ks : List VertexRef) (v : VertexRef)
+    → map vertex_ref_view (ks ++ v ∷ []) ≡ map vertex_ref_view ks ++ vertex_ref_view v ∷ []
 view_last [] v = refl
 view_last (k ∷ ks) v = ap (λ l. vertex_ref_view k ∷ l) (view_last ks v)
 
 -- what is kept once one more is put
-pub put_kept : (v : VertexRef) (ks : List VertexRef) → map vertex_ref_view (insert_key (vertex_eq.eq-value).it ks v) ≡ with_vertex (map vertex_ref_view ks) (vertex_ref_view v)
-put_kept v ks = step (list_any ((vertex_eq.eq-value).it v) ks) ∙ ap (λ b. cond b (map vertex_ref_view ks) (map vertex_ref_view ks ++ vertex_ref_view v ∷ [])) (any_kept v ks)
+pub put_kept : (v : VertexRef) (ks : List VertexRef) → map vertex_ref_view (insert_key (vertex_eq.eq-value).it ks v)
+    ≡ with_vertex (map vertex_ref_view ks) (vertex_ref_view v)
+put_kept v ks = step (list_any ((vertex_eq.eq-value).it v) ks)
+    ∙ ap (λ b. cond b (map vertex_ref_view ks) (map vertex_ref_view ks ++ vertex_ref_view v ∷ [])) (any_kept v ks)
   where
-    step : (b : Bool) → map vertex_ref_view (cond b ks (ks ++ v ∷ [])) ≡ cond b (map vertex_ref_view ks) (map vertex_ref_view ks ++ vertex_ref_view v ∷ [])
+    step : (b : Bool) → map vertex_ref_view (cond b ks (ks ++ v ∷ []))
+        ≡ cond b (map vertex_ref_view ks) (map vertex_ref_view ks ++ vertex_ref_view v ∷ [])
     step true = refl
     step false = view_last ks v
 
 -- the vertex at a place
-pub kept_at : (ks : List VertexRef) (n : ℕ) (k : VertexRef) → slice_get ks n ≡ Some k → slice_get (map vertex_ref_view ks) n ≡ Some (vertex_ref_view k)
+pub kept_at : (ks : List VertexRef) (n : ℕ) (k : VertexRef) → slice_get ks n ≡ Some k
+    → slice_get (map vertex_ref_view ks) n ≡ Some (vertex_ref_view k)
 kept_at [] n k e = absurd (none-some k e)
 kept_at (x ∷ ks) zero k e = ap Some (ap vertex_ref_view (same_Some x k e))
 kept_at (x ∷ ks) (suc n) k e = kept_at ks n k e
 
-pub kept_same : (v : VertexRef) (ks : List VertexRef) (n : ℕ) (k : VertexRef) → slice_get ks n ≡ Some k → (vertex_eq.eq-value).it v k ≡ true → slice_get (map vertex_ref_view ks) n ≡ Some (vertex_ref_view v)
-kept_same v ks n k e s = kept_at ks n k e ∙ ap Some (sym (vertex-same (vertex_ref_view v) (vertex_ref_view k) (sym (vertex_same v k) ∙ s)))
+pub kept_same : (v : VertexRef) (ks : List VertexRef) (n : ℕ) (k : VertexRef) → slice_get ks n ≡ Some k
+    → (vertex_eq.eq-value).it v k ≡ true → slice_get (map vertex_ref_view ks) n ≡ Some (vertex_ref_view v)
+kept_same v ks n k e s =
+    kept_at ks n k e ∙ ap Some (sym (vertex-same (vertex_ref_view v) (vertex_ref_view k) (sym (vertex_same v k) ∙ s)))

@@ -47,7 +47,8 @@ module _ {S : Type 0} where
   IsByName m ps = (x : Bor (List ℕ)) → called_in m x ≡ called_so x.now ps
 
   -- one more behind those that it has
-  abbrev pub Puts : HashMap (Bor (List ℕ)) (Vec Numbered Global) S → Numbered → HashMap (Bor (List ℕ)) (Vec Numbered Global) S → Type 0
+  abbrev pub Puts : HashMap (Bor (List ℕ)) (Vec Numbered Global) S → Numbered
+      → HashMap (Bor (List ℕ)) (Vec Numbered Global) S → Type 0
   Puts old n new = (x : Bor (List ℕ)) → called_in new x ≡ called_in old x ++ called_so x.now (numbered_view n ∷ [])
 
 -- these are those of a version

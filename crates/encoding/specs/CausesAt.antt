@@ -3,12 +3,16 @@
 use Rattle.std.specs.Prelude.{◌+◌, ℕ, List, [], ◌∷◌, ◌++◌, ◌&&◌, if◌then◌else◌, Option, None, Some, nat_eq, map}
 use Rattle.std.specs.List.{flat_map, list_any}
 use Rattle.semver.specs.Parse.{Parts}
-use Rattle.model.specs.Summary.{Dependency, Entry, feature, dependency, dependency_feature, weak_feature, asked_of_target, same_text}
+use Rattle.model.specs.Summary.{Dependency, Entry, feature, dependency, dependency_feature, weak_feature}
+use Rattle.model.specs.Summary.{asked_of_target, same_text}
 use Rattle.model.specs.Content.{Problem}
 use Rattle.model.specs.Selection.{Class, class_of}
-use Rattle.model.specs.Vertices.{Owner, the_root, version_of, Vertex, root, pkg, dep, feat, ask, State, absent, present, version, in_class, same_vertex, owner_brings, dep_classes}
+use Rattle.model.specs.Vertices.{Owner, the_root, version_of, Vertex, root, pkg, dep, feat, ask, State, absent, present}
+use Rattle.model.specs.Vertices.{version, in_class, same_vertex, owner_brings, dep_classes}
 use Rattle.model.specs.Axioms.{is_lower}
-use Rattle.refutations.specs.Causes.{Cause, of_root, of_need, of_target, of_feature, of_list, of_ask, of_entry, of_enabling, of_asking, of_newest, of_weak, is_needed, dependency_at, has_class, entries_of, table_of_owner}
+use Rattle.refutations.specs.Causes.{Cause, of_root, of_need, of_target, of_feature, of_list, of_ask, of_entry}
+use Rattle.refutations.specs.Causes.{of_enabling, of_asking, of_newest, of_weak, is_needed, dependency_at, has_class}
+use Rattle.refutations.specs.Causes.{entries_of, table_of_owner}
 use Rattle.refutations.specs.Listed.{classes_at, same_cause}
 
 -- what each of a list gives, with its number; the first has the number n
@@ -28,7 +32,8 @@ turned_if name v f (weak_feature d g) = []
 
 -- an entry `d?/g` of the feature f, and a class of the dependency called d
 abbrev pub weak_if : List ℕ → Parts → List ℕ → List ℕ → ℕ → Dependency → Class → List Cause
-weak_if name v f g i d k = if same_vertex (feat name (class_of v) f) (feat d.real_name k g) then [] else of_weak name v f g i k ∷ []
+weak_if name v f g i d k =
+    if same_vertex (feat name (class_of v) f) (feat d.real_name k g) then [] else of_weak name v f g i k ∷ []
 
 -- what an entry of the root asks the dependency d for, as causes of a class k that it leads to
 abbrev pub listed_by : Owner → ℕ → Class → Dependency → Entry → List Cause
@@ -46,17 +51,21 @@ module _ (q : Problem) where
   abbrev pub entry_if : List ℕ → Parts → List ℕ → Entry → ℕ → Dependency → List Cause
   entry_if name v f (feature g) i d = []
   entry_if name v f (dependency e) i d = if same_text d.name e then of_enabling name v f (dependency e) i ∷ [] else []
-  entry_if name v f (dependency_feature e g) i d = if same_text d.name e then of_enabling name v f (dependency_feature e g) i ∷ of_asking name v f g i ∷ [] else []
-  entry_if name v f (weak_feature e g) i d = if same_text d.name e then flat_map (weak_if name v f g i d) (dep_classes q d) else []
+  entry_if name v f (dependency_feature e g) i d =
+      if same_text d.name e then of_enabling name v f (dependency_feature e g) i ∷ of_asking name v f g i ∷ [] else []
+  entry_if name v f (weak_feature e g) i d =
+      if same_text d.name e then flat_map (weak_if name v f g i d) (dep_classes q d) else []
 
   abbrev pub entry_causes : List ℕ → Parts → List ℕ → Entry → List Cause
-  entry_causes name v f e = turned_if name v f e ++ each_from (entry_if name v f e) 0 (owner_brings q (version_of name v)).dependencies
+  entry_causes name v f e =
+      turned_if name v f e ++ each_from (entry_if name v f e) 0 (owner_brings q (version_of name v)).dependencies
 
   abbrev pub feature_causes : List ℕ → Parts → List ℕ → List Cause
   feature_causes name v f = flat_map (entry_causes name v f) (entries_of q name v f)
 
   abbrev pub version_causes : List ℕ → Parts → List Cause
-  version_causes name v = needs_of (version_of name v) ++ flat_map (λ row. feature_causes name v row.0) (table_of_owner q (version_of name v))
+  version_causes name v = needs_of (version_of name v)
+      ++ flat_map (λ row. feature_causes name v row.0) (table_of_owner q (version_of name v))
 
   -- ---- of a dependency that leads to a class
 
@@ -69,11 +78,13 @@ module _ (q : Problem) where
   newest_at o i j k d m = if is_lower k m && has_class q m d then of_newest o i j k m ∷ [] else []
 
   abbrev pub newest_if : Owner → ℕ → Class → Dependency → ℕ → Dependency → List Cause
-  newest_if o i k d j e = if nat_eq i j then [] else (if same_text d.real_name e.real_name then flat_map (newest_at o i j k d) (dep_classes q e) else [])
+  newest_if o i k d j e = if nat_eq i j then [] else
+      (if same_text d.real_name e.real_name then flat_map (newest_at o i j k d) (dep_classes q e) else [])
 
   abbrev pub lead_causes : Owner → ℕ → Class → Option Dependency → List Cause
   lead_causes o i k None = []
-  lead_causes o i k (Some d) = of_target o i k ∷ (map (of_list o i k) (asked_of_target d ++ root_asked o d) ++ each_from (newest_if o i k d) 0 (owner_brings q o).dependencies)
+  lead_causes o i k (Some d) = of_target o i k ∷ (map (of_list o i k) (asked_of_target d ++ root_asked o d)
+      ++ each_from (newest_if o i k d) 0 (owner_brings q o).dependencies)
 
   -- ---- of each vertex in each of its states
 

@@ -14,7 +14,8 @@ AreAbove k ks hs = (m : Class) → list_any (same_class m) hs ≡ (is_lower k m 
 
 -- a class more, if it is higher than k
 abbrev pub Adds : Class → Class → List Class → List Class → Type 0
-Adds k c hs new = (m : Class) → list_any (same_class m) new ≡ (list_any (same_class m) hs || (is_lower k c && same_class m c))
+Adds k c hs new =
+    (m : Class) → list_any (same_class m) new ≡ (list_any (same_class m) hs || (is_lower k c && same_class m c))
 
 -- these are the classes higher than k that the dependency may lead to
 abbrev pub AreHigher : Problem → Class → Dependency → List Class → Type 0
@@ -35,4 +36,5 @@ module _ (hs : List Class) where
 
 -- what the dependency i on a package gives with another one
 abbrev pub newest_among : Problem → List Class → Owner → ℕ → Class → List ℕ → ℕ → Dependency → List Cause
-newest_among q hs o i k name j e = if nat_eq i j then [] else (if same_text name e.real_name then flat_map (newest_in hs o i j k) (dep_classes q e) else [])
+newest_among q hs o i k name j e = if nat_eq i j then [] else
+    (if same_text name e.real_name then flat_map (newest_in hs o i j k) (dep_classes q e) else [])

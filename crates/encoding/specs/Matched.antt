@@ -24,8 +24,10 @@ same_ask x y = pointwise nat_eq x.0.now y.0.now && (requirements.eq-value).it x.
 
 -- the classes of the name in which the requirement matches some candidate
 abbrev pub classes_asked : Problem → List ℕ → List Held → List Class
-classes_asked q name requirement = classes_of (filter (λ c. matches_views requirement c.version) (candidates_of q.candidates name))
+classes_asked q name requirement =
+    classes_of (filter (λ c. matches_views requirement c.version) (candidates_of q.candidates name))
 
 -- those that are kept are these
 abbrev pub AreMatched : {S : Type 0} → Problem → HashMap Ask (Vec code.Class Global) S → Type 0
-AreMatched q m = (k : Ask) (ks : Vec code.Class Global) → get same_ask m k ≡ Some ks → map class_view ks.items ≡ classes_asked q k.0.now (requirement_view k.1.now)
+AreMatched q m = (k : Ask) (ks : Vec code.Class Global) → get same_ask m k ≡ Some ks
+    → map class_view ks.items ≡ classes_asked q k.0.now (requirement_view k.1.now)

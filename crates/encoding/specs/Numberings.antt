@@ -1,5 +1,6 @@
 -- Which vertices have numbers, and what an incompatibility over numbers says of them.
-use Rattle.std.specs.Prelude.{◌≡◌, ◌≢◌, ◌⊎◌, ℕ, suc, List, [], ◌∷◌, ◌++◌, if◌then◌else◌, Option, Some, None, option_map, slice_get, map, Contains}
+use Rattle.std.specs.Prelude.{◌≡◌, ◌≢◌, ◌⊎◌, ℕ, suc, List, [], ◌∷◌, ◌++◌, if◌then◌else◌, Option, Some, None, option_map}
+use Rattle.std.specs.Prelude.{slice_get, map, Contains}
 use Rattle.std.specs.List.{AllPairs, AllByRecursion, list_any}
 use Rattle.version_sets.specs.Sets.{Members}
 use Rattle.terms.specs.Terms.{TermView}
@@ -36,7 +37,8 @@ members_at q v ss = map (has_state ss) (space q v)
 -- terms has a number.
 pub record Says (q : Problem) (vs : Numbering) (made : List TermView) (ts : List Term) : Type 0 where
   pub is : IsIncompatibility made
-  pub each : (n : ℕ) (v : Vertex) → slice_get vs n ≡ Some v → numbered.states_at made n ≡ unless_full (option_map (members_at q v) (model.states_at ts v))
+  pub each : (n : ℕ) (v : Vertex) → slice_get vs n ≡ Some v
+      → numbered.states_at made n ≡ unless_full (option_map (members_at q v) (model.states_at ts v))
   pub none : (n : ℕ) → slice_get vs n ≡ None → numbered.states_at made n ≡ None
   pub numbers : AllByRecursion (λ t. Contains vs t.vertex) ts
 

@@ -37,11 +37,14 @@ pub fn axioms_at<'a, S: States + Drop>(
 ) -> Result<Vec<(Kind, Incompatibility<S>)>, AllocError>
     requires default { KnowsDefault inputs.now }
     requires numbering { IsNumbering (problem inputs.now) table.old }
-    requires state { (v : Vertex) → slice_get table.old number ≡ Some v → state < length (space (problem inputs.now) v) }
+    requires state { (v : Vertex) → slice_get table.old number ≡ Some v
+        → state < length (space (problem inputs.now) v) }
     ensures grown { IsGrown table.old table.new }
     ensures numbering { IsNumbering (problem inputs.now) table.new }
-    ensures only { (v : Vertex) → slice_get table.old number ≡ Some v → AddsOnly (IsSpokenOf (problem inputs.now) (IsCauseAt (problem inputs.now) (v, state_at (problem inputs.now) v state))) table.old table.new }
-    ensures given { IfOk result (λ xs. (v : Vertex) → slice_get table.old number ≡ Some v → IsGivenAt (problem inputs.now) table.new (v, state_at (problem inputs.now) v state) (given_views S.tests xs.items)) }
+    ensures only { (v : Vertex) → slice_get table.old number ≡ Some v → AddsOnly (IsSpokenOf (problem inputs.now)
+        (IsCauseAt (problem inputs.now) (v, state_at (problem inputs.now) v state))) table.old table.new }
+    ensures given { IfOk result (λ xs. (v : Vertex) → slice_get table.old number ≡ Some v → IsGivenAt
+        (problem inputs.now) table.new (v, state_at (problem inputs.now) v state) (given_views S.tests xs.items)) }
 {
     match table.vertex(number) {
         Some(vertex) => vertex_axioms(alloc, inputs, table, vertex, state),
@@ -63,8 +66,15 @@ fn vertex_axioms<'a, S: States + Drop>(
     requires state { number < length (space (problem inputs.now) (vertex_ref_view vertex)) }
     ensures grown { IsGrown table.old table.new }
     ensures numbering { IsNumbering (problem inputs.now) table.new }
-    ensures only { AddsOnly (IsSpokenOf (problem inputs.now) (IsCauseAt (problem inputs.now) (vertex_ref_view vertex.entry, state_at (problem inputs.now) (vertex_ref_view vertex.entry) number))) table.old table.new }
-    ensures given { IfOk result (λ xs. IsGivenAt (problem inputs.now) table.new (vertex_ref_view vertex.entry, state_at (problem inputs.now) (vertex_ref_view vertex.entry) number) (given_views S.tests xs.items)) }
+    ensures only { AddsOnly
+        (IsSpokenOf (problem inputs.now) (IsCauseAt (problem inputs.now) (
+          vertex_ref_view vertex.entry,
+          state_at (problem inputs.now) (vertex_ref_view vertex.entry) number,
+        ))) table.old table.new }
+    ensures given { IfOk result (λ xs. IsGivenAt (problem inputs.now) table.new (
+      vertex_ref_view vertex.entry,
+      state_at (problem inputs.now) (vertex_ref_view vertex.entry) number,
+    ) (given_views S.tests xs.items)) }
 {
     let state = state_at(alloc, inputs, &vertex, number)?;
     axioms_of(alloc, inputs, table, vertex, state)
@@ -86,8 +96,10 @@ pub fn axioms_of<'a, S: States + Drop>(
     requires state { Contains (space (problem inputs.now) (vertex_ref_view vertex)) (state_ref_view state) }
     ensures grown { IsGrown table.old table.new }
     ensures numbering { IsNumbering (problem inputs.now) table.new }
-    ensures only { AddsOnly (IsSpokenOf (problem inputs.now) (IsCauseAt (problem inputs.now) (vertex_ref_view vertex.entry, state_ref_view state.entry))) table.old table.new }
-    ensures given { IfOk result (λ xs. IsGivenAt (problem inputs.now) table.new (vertex_ref_view vertex.entry, state_ref_view state.entry) (given_views S.tests xs.items)) }
+    ensures only { AddsOnly (IsSpokenOf (problem inputs.now) (IsCauseAt (problem inputs.now)
+        (vertex_ref_view vertex.entry, state_ref_view state.entry))) table.old table.new }
+    ensures given { IfOk result (λ xs. IsGivenAt (problem inputs.now) table.new
+        (vertex_ref_view vertex.entry, state_ref_view state.entry) (given_views S.tests xs.items)) }
 {
     let causes = causes_at(alloc, inputs, vertex, state)?;
     instances(alloc, inputs, table, causes.as_slice())
@@ -105,7 +117,8 @@ fn instances<'a, S: States + Drop>(
     ensures grown { IsGrown table.old table.new }
     ensures numbering { IsNumbering (problem inputs.now) table.new }
     ensures only { AddsOnly (IsSpokenOf (problem inputs.now) (Contains (cause_views causes.now))) table.old table.new }
-    ensures given { IfOk result (λ xs. AreGiven (problem inputs.now) table.new (cause_views causes.now) (given_views S.tests xs.items)) }
+    ensures given { IfOk result
+        (λ xs. AreGiven (problem inputs.now) table.new (cause_views causes.now) (given_views S.tests xs.items)) }
 {
     let mut given = Vec::new(alloc);
     'causes: for cause in causes.iter() {
@@ -126,8 +139,10 @@ fn put_instance<'a, S: States + Drop>(
     ensures grown { IsGrown table.old table.new }
     ensures numbering { IsNumbering (problem inputs.now) table.new }
     ensures only { AddsOnly (Contains (spoken_by (problem inputs.now) (cause_view cause.now))) table.old table.new }
-    ensures given { OnOk result ((cs : List causes.Cause) → AreGiven (problem inputs.now) table.old cs (given_views S.tests given.old.items)
-        → AreGiven (problem inputs.now) table.new (cs ++ cause_view cause.now ∷ []) (given_views S.tests given.new.items)) }
+    ensures given { OnOk result
+        ((cs : List causes.Cause) → AreGiven (problem inputs.now) table.old cs (given_views S.tests given.old.items)
+        → AreGiven (problem inputs.now) table.new (cs ++ cause_view cause.now ∷ [])
+        (given_views S.tests given.new.items)) }
 {
     let made = instance(alloc, inputs, table, cause)?;
     given.push((kind_of(cause), made))?;

@@ -1,6 +1,7 @@
 //! What the needs of an owner and the entries of its features give rise to.
 
-ghost use Rattle.std.specs.Prelude.{◌≡◌, ◌++◌, ◌∷◌, [], ◌&&◌, List, Some, None, OnOk, IfOk, map, option_map, if◌then◌else◌};
+ghost use Rattle.std.specs.Prelude.{◌≡◌, ◌++◌, ◌∷◌, [], ◌&&◌, List, Some, None, OnOk, IfOk, map, option_map};
+ghost use Rattle.std.specs.Prelude.{if◌then◌else◌};
 ghost use Rattle.std.specs.List.{flat_map, list_any};
 ghost use Rattle.semver.specs.Identifiers.{parts_of};
 ghost use Rattle.classes.specs.Classes.{class_view};
@@ -14,7 +15,8 @@ ghost use Rattle.model.specs.Vertices.{feat, owner_brings, same_class, same_vert
 ghost use Rattle.refutations.specs.Causes.{is_needed, of_asking, of_enabling, table_of_owner};
 ghost use Rattle.encoding.specs.Called.{AreOfVersion, called_so, named_by, numbered_from, numbered_views};
 ghost use Rattle.encoding.specs.GivenViews.{cause_views};
-ghost use Rattle.encoding.specs.CausesAt.{each_from, entry_causes, entry_if, feature_causes, need_if, turned_if, version_causes, weak_if, with_causes};
+ghost use Rattle.encoding.specs.CausesAt.{each_from, entry_causes, entry_if, feature_causes, need_if, turned_if};
+ghost use Rattle.encoding.specs.CausesAt.{version_causes, weak_if, with_causes};
 ghost use Rattle.encoding.specs.Inputs.{problem};
 ghost use Rattle.vertices.specs.RefViews.{owner_ref_view};
 
@@ -54,7 +56,8 @@ pub(crate) fn put_needs<'a>(
     owner: OwnerRef<'a>,
     dependencies: &[Dependency],
 ) -> Result<(), AllocError>
-    ensures { OnOk result (cause_views causes.new.items ≡ cause_views causes.old.items ++ each_from (need_if (owner_ref_view owner.entry)) 0 (dependency_views dependencies.now)) }
+    ensures { OnOk result (cause_views causes.new.items ≡ cause_views causes.old.items
+        ++ each_from (need_if (owner_ref_view owner.entry)) 0 (dependency_views dependencies.now)) }
 {
     'dependencies: for (number, dependency) in dependencies.iter().enumerate() {
         put_need(causes, owner, number, dependency)?;
@@ -68,7 +71,8 @@ fn put_need<'a>(
     number: usize,
     dependency: &Dependency,
 ) -> Result<(), AllocError>
-    ensures { OnOk result (cause_views causes.new.items ≡ cause_views causes.old.items ++ need_if (owner_ref_view owner.entry) number (dependency_view dependency.now)) }
+    ensures { OnOk result (cause_views causes.new.items ≡ cause_views causes.old.items
+        ++ need_if (owner_ref_view owner.entry) number (dependency_view dependency.now)) }
 {
     if is_needed(&owner, dependency) {
         causes.push(Cause::Need(owner, number))?;
@@ -86,7 +90,9 @@ pub(crate) fn put_feature<'a>(
     entries: &'a [Entry],
 ) -> Result<(), AllocError>
     requires called { AreOfVersion (problem inputs.now) own.name.now (parts_of own.version.now) called.now }
-    ensures { OnOk result (cause_views causes.new.items ≡ cause_views causes.old.items ++ flat_map (entry_causes (problem inputs.now) own.entry.name.now (parts_of own.entry.version.now) own.entry.feature.now) (entry_views entries.entry.now)) }
+    ensures { OnOk result (cause_views causes.new.items
+        ≡ cause_views causes.old.items ++ flat_map (entry_causes (problem inputs.now) own.entry.name.now
+        (parts_of own.entry.version.now) own.entry.feature.now) (entry_views entries.entry.now)) }
 {
     'entries: for entry in entries.iter() {
         put_entry(alloc, inputs, causes, own, called, entry)?;
@@ -103,7 +109,9 @@ fn put_entry<'a>(
     entry: &'a Entry,
 ) -> Result<(), AllocError>
     requires called { AreOfVersion (problem inputs.now) own.name.now (parts_of own.version.now) called.now }
-    ensures { OnOk result (cause_views causes.new.items ≡ cause_views causes.old.items ++ entry_causes (problem inputs.now) own.entry.name.now (parts_of own.entry.version.now) own.entry.feature.now (entry_view entry.entry.now)) }
+    ensures { OnOk result (cause_views causes.new.items
+        ≡ cause_views causes.old.items ++ entry_causes (problem inputs.now) own.entry.name.now
+        (parts_of own.entry.version.now) own.entry.feature.now (entry_view entry.entry.now)) }
 {
     put_turned(causes, own, entry)?;
     put_each(alloc, inputs, causes, own, called, entry)
@@ -115,7 +123,8 @@ fn put_turned<'a>(
     own: Own<'a>,
     entry: &'a Entry,
 ) -> Result<(), AllocError>
-    ensures { OnOk result (cause_views causes.new.items ≡ cause_views causes.old.items ++ turned_if own.entry.name.now (parts_of own.entry.version.now) own.entry.feature.now (entry_view entry.entry.now)) }
+    ensures { OnOk result (cause_views causes.new.items ≡ cause_views causes.old.items ++ turned_if own.entry.name.now
+        (parts_of own.entry.version.now) own.entry.feature.now (entry_view entry.entry.now)) }
 {
     match entry {
         Entry::Feature(off) => put_off(causes, own, off),
@@ -131,7 +140,8 @@ fn put_off<'a>(
     own: Own<'a>,
     off: &'a FeatureName,
 ) -> Result<(), AllocError>
-    ensures { OnOk result (cause_views causes.new.items ≡ cause_views causes.old.items ++ turned_if own.entry.name.now (parts_of own.entry.version.now) own.entry.feature.now (model.feature off.entry.now)) }
+    ensures { OnOk result (cause_views causes.new.items ≡ cause_views causes.old.items ++ turned_if own.entry.name.now
+        (parts_of own.entry.version.now) own.entry.feature.now (model.feature off.entry.now)) }
 {
     if own.feature == off {
         return Ok(());
@@ -150,7 +160,10 @@ fn put_each<'a>(
     entry: &'a Entry,
 ) -> Result<(), AllocError>
     requires called { AreOfVersion (problem inputs.now) own.name.now (parts_of own.version.now) called.now }
-    ensures { OnOk result (cause_views causes.new.items ≡ cause_views causes.old.items ++ each_from (entry_if (problem inputs.now) own.entry.name.now (parts_of own.entry.version.now) own.entry.feature.now (entry_view entry.entry.now)) 0 (owner_brings (problem inputs.now) (model_vertices.version_of own.entry.name.now (parts_of own.entry.version.now))).dependencies) }
+    ensures { OnOk result (cause_views causes.new.items ≡ cause_views causes.old.items
+        ++ each_from (entry_if (problem inputs.now) own.entry.name.now (parts_of own.entry.version.now)
+        own.entry.feature.now (entry_view entry.entry.now)) 0 (owner_brings (problem inputs.now)
+        (model_vertices.version_of own.entry.name.now (parts_of own.entry.version.now))).dependencies) }
 {
     match name_of(entry) {
         Some(name) => put_called(alloc, inputs, causes, own, called, entry, name.as_str()),
@@ -180,7 +193,9 @@ fn put_called<'a>(
     entry: &'a Entry,
     name: &'a str,
 ) -> Result<(), AllocError>
-    ensures { OnOk result (cause_views causes.new.items ≡ cause_views causes.old.items ++ flat_map (λ p. entry_if (problem inputs.now) own.entry.name.now (parts_of own.entry.version.now) own.entry.feature.now (entry_view entry.entry.now) p.0 p.1) (called_so name.entry.now (numbered_from 0 called.now))) }
+    ensures { OnOk result (cause_views causes.new.items ≡ cause_views causes.old.items ++ flat_map (λ p.
+        entry_if (problem inputs.now) own.entry.name.now (parts_of own.entry.version.now) own.entry.feature.now
+        (entry_view entry.entry.now) p.0 p.1) (called_so name.entry.now (numbered_from 0 called.now))) }
 {
     match called.those(name) {
         Some(those) => put_those(alloc, inputs, causes, own, entry, those),
@@ -197,7 +212,9 @@ fn put_those<'a>(
     entry: &'a Entry,
     those: &[Numbered<'a>],
 ) -> Result<(), AllocError>
-    ensures { OnOk result (cause_views causes.new.items ≡ cause_views causes.old.items ++ flat_map (λ p. entry_if (problem inputs.now) own.entry.name.now (parts_of own.entry.version.now) own.entry.feature.now (entry_view entry.entry.now) p.0 p.1) (numbered_views those.now)) }
+    ensures { OnOk result (cause_views causes.new.items ≡ cause_views causes.old.items
+        ++ flat_map (λ p. entry_if (problem inputs.now) own.entry.name.now (parts_of own.entry.version.now)
+        own.entry.feature.now (entry_view entry.entry.now) p.0 p.1) (numbered_views those.now)) }
 {
     'those: for one in those.iter() {
         put_on(
@@ -222,7 +239,9 @@ fn put_on<'a>(
     number: usize,
     dependency: &'a Dependency,
 ) -> Result<(), AllocError>
-    ensures { OnOk result (cause_views causes.new.items ≡ cause_views causes.old.items ++ entry_if (problem inputs.now) own.entry.name.now (parts_of own.entry.version.now) own.entry.feature.now (entry_view entry.entry.now) number (dependency_view dependency.entry.now)) }
+    ensures { OnOk result (cause_views causes.new.items ≡ cause_views causes.old.items
+        ++ entry_if (problem inputs.now) own.entry.name.now (parts_of own.entry.version.now) own.entry.feature.now
+        (entry_view entry.entry.now) number (dependency_view dependency.entry.now)) }
 {
     match entry {
         Entry::Feature(_) => Ok(()),
@@ -247,7 +266,9 @@ fn put_enabled<'a>(
     number: usize,
     dependency: &Dependency,
 ) -> Result<(), AllocError>
-    ensures { OnOk result (cause_views causes.new.items ≡ cause_views causes.old.items ++ (if same_text (dependency_view dependency.now).name called.now then of_enabling own.entry.name.now (parts_of own.entry.version.now) own.entry.feature.now (entry_view entry.entry.now) number ∷ [] else [])) }
+    ensures { OnOk result (cause_views causes.new.items ≡ cause_views causes.old.items
+        ++ (if same_text (dependency_view dependency.now).name called.now then of_enabling own.entry.name.now
+        (parts_of own.entry.version.now) own.entry.feature.now (entry_view entry.entry.now) number ∷ [] else [])) }
 {
     if dependency.name == *called {
         causes.push(Cause::Enabling(own.name, own.version, own.feature, entry, number))?;
@@ -265,7 +286,11 @@ fn put_asked<'a>(
     number: usize,
     dependency: &Dependency,
 ) -> Result<(), AllocError>
-    ensures { OnOk result (cause_views causes.new.items ≡ cause_views causes.old.items ++ (if same_text (dependency_view dependency.now).name called.now then of_enabling own.entry.name.now (parts_of own.entry.version.now) own.entry.feature.now (entry_view entry.entry.now) number ∷ of_asking own.entry.name.now (parts_of own.entry.version.now) own.entry.feature.now asked.entry.now number ∷ [] else [])) }
+    ensures { OnOk result (cause_views causes.new.items
+        ≡ cause_views causes.old.items ++ (if same_text (dependency_view dependency.now).name called.now then
+        of_enabling own.entry.name.now (parts_of own.entry.version.now) own.entry.feature.now
+        (entry_view entry.entry.now) number ∷ of_asking own.entry.name.now
+        (parts_of own.entry.version.now) own.entry.feature.now asked.entry.now number ∷ [] else [])) }
 {
     if dependency.name == *called {
         causes.push(Cause::Enabling(own.name, own.version, own.feature, entry, number))?;
@@ -285,7 +310,9 @@ fn put_weak<'a>(
     number: usize,
     dependency: &'a Dependency,
 ) -> Result<(), AllocError>
-    ensures { OnOk result (cause_views causes.new.items ≡ cause_views causes.old.items ++ entry_if (problem inputs.now) own.entry.name.now (parts_of own.entry.version.now) own.entry.feature.now (model.weak_feature called.entry.now asked.entry.now) number (dependency_view dependency.entry.now)) }
+    ensures { OnOk result (cause_views causes.new.items ≡ cause_views causes.old.items
+        ++ entry_if (problem inputs.now) own.entry.name.now (parts_of own.entry.version.now) own.entry.feature.now
+        (model.weak_feature called.entry.now asked.entry.now) number (dependency_view dependency.entry.now)) }
 {
     if dependency.name != *called {
         return Ok(());
@@ -302,7 +329,9 @@ fn put_weak_in<'a>(
     dependency: &Dependency,
     classes: &[Class],
 ) -> Result<(), AllocError>
-    ensures { OnOk result (cause_views causes.new.items ≡ cause_views causes.old.items ++ flat_map (weak_if own.entry.name.now (parts_of own.entry.version.now) own.entry.feature.now asked.entry.now number (dependency_view dependency.now)) (map class_view classes.now)) }
+    ensures { OnOk result (cause_views causes.new.items ≡ cause_views causes.old.items
+        ++ flat_map (weak_if own.entry.name.now (parts_of own.entry.version.now) own.entry.feature.now asked.entry.now
+        number (dependency_view dependency.now)) (map class_view classes.now)) }
 {
     'classes: for class in classes.iter() {
         put_weak_at(causes, own, asked, number, dependency, *class)?;
@@ -319,7 +348,9 @@ fn put_weak_at<'a>(
     dependency: &Dependency,
     class: Class,
 ) -> Result<(), AllocError>
-    ensures { OnOk result (cause_views causes.new.items ≡ cause_views causes.old.items ++ weak_if own.entry.name.now (parts_of own.entry.version.now) own.entry.feature.now asked.entry.now number (dependency_view dependency.now) (class_view class)) }
+    ensures { OnOk result (cause_views causes.new.items ≡ cause_views causes.old.items
+        ++ weak_if own.entry.name.now (parts_of own.entry.version.now) own.entry.feature.now asked.entry.now number
+        (dependency_view dependency.now) (class_view class)) }
 {
     if is_itself(&own, asked, dependency, class) {
         return Ok(());
@@ -330,7 +361,8 @@ fn put_weak_at<'a>(
 
 /// Whether the feature of the dependency's package in the class is the feature itself.
 fn is_itself(own: &Own<'_>, asked: &FeatureName, dependency: &Dependency, class: Class) -> bool
-    ensures { result ≡ same_vertex (feat own.now.name.now (class_of (parts_of own.now.version.now)) own.now.feature.now) (feat (dependency_view dependency.now).real_name (class_view class) asked.now) }
+    ensures { result ≡ same_vertex (feat own.now.name.now (class_of (parts_of own.now.version.now)) own.now.feature.now)
+        (feat (dependency_view dependency.now).real_name (class_view class) asked.now) }
 {
     *own.name == dependency.real_name
         && is_same(Class::of(own.version), class)
@@ -366,7 +398,8 @@ pub(crate) fn put_version<'a>(
     name: &'a PackageName,
     version: &'a Version,
 ) -> Result<(), AllocError>
-    ensures { OnOk result (cause_views causes.new.items ≡ cause_views causes.old.items ++ version_causes (problem inputs.now) name.entry.now (parts_of version.entry.now)) }
+    ensures { OnOk result (cause_views causes.new.items ≡ cause_views causes.old.items
+        ++ version_causes (problem inputs.now) name.entry.now (parts_of version.entry.now)) }
 {
     let owner = OwnerRef::Version(name, version);
     put_needs(causes, owner, dependencies_of(inputs, &owner))?;
@@ -381,7 +414,9 @@ fn put_features<'a>(
     name: &'a PackageName,
     version: &'a Version,
 ) -> Result<(), AllocError>
-    ensures { OnOk result (cause_views causes.new.items ≡ cause_views causes.old.items ++ flat_map (λ row. feature_causes (problem inputs.now) name.entry.now (parts_of version.entry.now) row.0) (table_of_owner (problem inputs.now) (model_vertices.version_of name.entry.now (parts_of version.entry.now)))) }
+    ensures { OnOk result (cause_views causes.new.items ≡ cause_views causes.old.items
+        ++ flat_map (λ row. feature_causes (problem inputs.now) name.entry.now (parts_of version.entry.now) row.0)
+        (table_of_owner (problem inputs.now) (model_vertices.version_of name.entry.now (parts_of version.entry.now)))) }
 {
     match brings(inputs, &OwnerRef::Version(name, version)) {
         Some(summary) => {
@@ -411,7 +446,8 @@ fn put_rows<'a>(
     table: &'a FeatureTable,
 ) -> Result<(), AllocError>
     requires called { AreOfVersion (problem inputs.now) name.now (parts_of version.now) called.now }
-    ensures { OnOk result (cause_views causes.new.items ≡ cause_views causes.old.items ++ flat_map (λ row. feature_causes (problem inputs.now) name.entry.now (parts_of version.entry.now) row.0) table.entry.now) }
+    ensures { OnOk result (cause_views causes.new.items ≡ cause_views causes.old.items ++ flat_map (λ row.
+        feature_causes (problem inputs.now) name.entry.now (parts_of version.entry.now) row.0) table.entry.now) }
 {
     'rows: for (feature, _) in table.iter() {
         let own = Own {

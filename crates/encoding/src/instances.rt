@@ -33,7 +33,8 @@ pub fn instance<'a, S: States + Drop>(
     ensures grown { IsGrown table.old table.new }
     ensures numbering { IsNumbering (problem inputs.now) table.new }
     ensures only { AddsOnly (Contains (spoken_by (problem inputs.now) (cause_view cause.now))) table.old table.new }
-    ensures says { IfOk result (λ i. Says (problem inputs.now) table.new (terms_view S.tests i) (terms_of_cause (problem inputs.now) (cause_view cause.now))) }
+    ensures says { IfOk result (λ i. Says (problem inputs.now) table.new (terms_view S.tests i)
+        (terms_of_cause (problem inputs.now) (cause_view cause.now))) }
 {
     catalogues_are_well_formed(inputs.manifest, inputs.catalogue);
     let _ = inputs.catalogue.names();
@@ -76,7 +77,8 @@ fn put_part<'a, S: States + Drop>(
     ensures grown { IsGrown table.old table.new }
     ensures numbering { IsNumbering (problem inputs.now) table.new }
     ensures only { AddsOnly (λ v. (part_view part.now).0 ≡ v) table.old table.new }
-    ensures terms { OnOk result ((ps : List PartView) → AreOfParts table.old (terms_view S.tests terms.old.items) ps → AreOfParts table.new (terms_view S.tests terms.new.items) (ps ++ part_view part.now ∷ [])) }
+    ensures terms { OnOk result ((ps : List PartView) → AreOfParts table.old (terms_view S.tests terms.old.items) ps
+        → AreOfParts table.new (terms_view S.tests terms.new.items) (ps ++ part_view part.now ∷ [])) }
 {
     let vertex = table.put(part.vertex)?;
     let states = S::of_tests(alloc, part.tests.as_slice())?;

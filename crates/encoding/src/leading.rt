@@ -41,7 +41,9 @@ pub(crate) fn put_lead<'a>(
     lead: Lead<'a>,
 ) -> Result<(), AllocError>
     requires default { KnowsDefault inputs.now }
-    ensures { OnOk result (cause_views causes.new.items ≡ cause_views causes.old.items ++ lead_causes (problem inputs.now) (owner_ref_view lead.entry.owner) lead.entry.number (class_view lead.entry.class) (dependency_at (problem inputs.now) (owner_ref_view lead.entry.owner) lead.entry.number)) }
+    ensures { OnOk result (cause_views causes.new.items ≡ cause_views causes.old.items ++ lead_causes
+        (problem inputs.now) (owner_ref_view lead.entry.owner) lead.entry.number (class_view lead.entry.class)
+        (dependency_at (problem inputs.now) (owner_ref_view lead.entry.owner) lead.entry.number)) }
 {
     match dependency_at(inputs, &lead.owner, lead.number) {
         Some(dependency) => put_leading(alloc, inputs, causes, lead, dependency),
@@ -59,7 +61,9 @@ fn put_leading<'a>(
     dependency: &'a Dependency,
 ) -> Result<(), AllocError>
     requires default { KnowsDefault inputs.now }
-    ensures { OnOk result (cause_views causes.new.items ≡ cause_views causes.old.items ++ lead_causes (problem inputs.now) (owner_ref_view lead.entry.owner) lead.entry.number (class_view lead.entry.class) (Some (dependency_view dependency.entry.now))) }
+    ensures { OnOk result (cause_views causes.new.items ≡ cause_views causes.old.items
+        ++ lead_causes (problem inputs.now) (owner_ref_view lead.entry.owner) lead.entry.number
+        (class_view lead.entry.class) (Some (dependency_view dependency.entry.now))) }
 {
     causes.push(Cause::Target(lead.owner, lead.number, lead.class))?;
     put_lists(inputs, causes, lead, dependency)?;
@@ -75,7 +79,10 @@ fn put_lists<'a>(
     dependency: &'a Dependency,
 ) -> Result<(), AllocError>
     requires default { KnowsDefault inputs.now }
-    ensures { OnOk result (cause_views causes.new.items ≡ cause_views causes.old.items ++ map (of_list (owner_ref_view lead.entry.owner) lead.entry.number (class_view lead.entry.class)) (asked_of_target (dependency_view dependency.entry.now) ++ root_asked (problem inputs.now) (owner_ref_view lead.entry.owner) (dependency_view dependency.entry.now))) }
+    ensures { OnOk result (cause_views causes.new.items ≡ cause_views causes.old.items
+        ++ map (of_list (owner_ref_view lead.entry.owner) lead.entry.number (class_view lead.entry.class))
+        (asked_of_target (dependency_view dependency.entry.now) ++ root_asked (problem inputs.now)
+        (owner_ref_view lead.entry.owner) (dependency_view dependency.entry.now))) }
 {
     put_own_list(inputs, causes, lead, dependency)?;
     put_root_lists(inputs, causes, lead, dependency)
@@ -89,7 +96,9 @@ fn put_own_list<'a>(
     dependency: &'a Dependency,
 ) -> Result<(), AllocError>
     requires default { KnowsDefault inputs.now }
-    ensures { OnOk result (cause_views causes.new.items ≡ cause_views causes.old.items ++ map (of_list (owner_ref_view lead.entry.owner) lead.entry.number (class_view lead.entry.class)) (asked_of_target (dependency_view dependency.entry.now))) }
+    ensures { OnOk result (cause_views causes.new.items ≡ cause_views causes.old.items
+        ++ map (of_list (owner_ref_view lead.entry.owner) lead.entry.number (class_view lead.entry.class))
+        (asked_of_target (dependency_view dependency.entry.now))) }
 {
     put_listed(causes, lead, dependency.features.as_slice())?;
     put_default(inputs, causes, lead, dependency)
@@ -102,7 +111,9 @@ fn put_default<'a>(
     dependency: &Dependency,
 ) -> Result<(), AllocError>
     requires default { KnowsDefault inputs.now }
-    ensures { OnOk result (cause_views causes.new.items ≡ cause_views causes.old.items ++ (if (dependency_view dependency.now).default_features then of_list (owner_ref_view lead.entry.owner) lead.entry.number (class_view lead.entry.class) (codes "default") ∷ [] else [])) }
+    ensures { OnOk result (cause_views causes.new.items ≡ cause_views causes.old.items
+        ++ (if (dependency_view dependency.now).default_features then of_list (owner_ref_view lead.entry.owner)
+        lead.entry.number (class_view lead.entry.class) (codes "default") ∷ [] else [])) }
 {
     if dependency.default_features {
         causes.push(Cause::List(lead.owner, lead.number, lead.class, inputs.default))?;
@@ -115,7 +126,8 @@ fn put_listed<'a>(
     lead: Lead<'a>,
     features: &'a [FeatureName],
 ) -> Result<(), AllocError>
-    ensures { OnOk result (cause_views causes.new.items ≡ cause_views causes.old.items ++ map (of_list (owner_ref_view lead.entry.owner) lead.entry.number (class_view lead.entry.class)) features.entry.now) }
+    ensures { OnOk result (cause_views causes.new.items ≡ cause_views causes.old.items ++ map (of_list
+        (owner_ref_view lead.entry.owner) lead.entry.number (class_view lead.entry.class)) features.entry.now) }
 {
     'features: for feature in features.iter() {
         causes.push(Cause::List(lead.owner, lead.number, lead.class, feature))?;
@@ -130,7 +142,9 @@ fn put_root_lists<'a>(
     lead: Lead<'a>,
     dependency: &Dependency,
 ) -> Result<(), AllocError>
-    ensures { OnOk result (cause_views causes.new.items ≡ cause_views causes.old.items ++ map (of_list (owner_ref_view lead.entry.owner) lead.entry.number (class_view lead.entry.class)) (root_asked (problem inputs.now) (owner_ref_view lead.entry.owner) (dependency_view dependency.now))) }
+    ensures { OnOk result (cause_views causes.new.items ≡ cause_views causes.old.items
+        ++ map (of_list (owner_ref_view lead.entry.owner) lead.entry.number (class_view lead.entry.class))
+        (root_asked (problem inputs.now) (owner_ref_view lead.entry.owner) (dependency_view dependency.now))) }
 {
     match lead.owner {
         OwnerRef::Root => put_root_rows(causes, lead, dependency, inputs.manifest.features()),
@@ -144,7 +158,9 @@ fn put_root_rows<'a>(
     dependency: &Dependency,
     table: &'a FeatureTable,
 ) -> Result<(), AllocError>
-    ensures { OnOk result (cause_views causes.new.items ≡ cause_views causes.old.items ++ flat_map (λ row. flat_map (listed_by (owner_ref_view lead.entry.owner) lead.entry.number (class_view lead.entry.class) (dependency_view dependency.now)) row.1) table.entry.now) }
+    ensures { OnOk result (cause_views causes.new.items ≡ cause_views causes.old.items
+        ++ flat_map (λ row. flat_map (listed_by (owner_ref_view lead.entry.owner) lead.entry.number
+        (class_view lead.entry.class) (dependency_view dependency.now)) row.1) table.entry.now) }
 {
     'rows: for (_, entries) in table.iter() {
         put_root_row(causes, lead, dependency, entries.as_slice())?;
@@ -158,7 +174,9 @@ fn put_root_row<'a>(
     dependency: &Dependency,
     entries: &'a [Entry],
 ) -> Result<(), AllocError>
-    ensures { OnOk result (cause_views causes.new.items ≡ cause_views causes.old.items ++ flat_map (listed_by (owner_ref_view lead.entry.owner) lead.entry.number (class_view lead.entry.class) (dependency_view dependency.now)) (entry_views entries.entry.now)) }
+    ensures { OnOk result (cause_views causes.new.items
+        ≡ cause_views causes.old.items ++ flat_map (listed_by (owner_ref_view lead.entry.owner) lead.entry.number
+        (class_view lead.entry.class) (dependency_view dependency.now)) (entry_views entries.entry.now)) }
 {
     'entries: for entry in entries.iter() {
         put_root_entry(causes, lead, dependency, entry)?;
@@ -172,7 +190,9 @@ fn put_root_entry<'a>(
     dependency: &Dependency,
     entry: &'a Entry,
 ) -> Result<(), AllocError>
-    ensures { OnOk result (cause_views causes.new.items ≡ cause_views causes.old.items ++ listed_by (owner_ref_view lead.entry.owner) lead.entry.number (class_view lead.entry.class) (dependency_view dependency.now) (entry_view entry.entry.now)) }
+    ensures { OnOk result (cause_views causes.new.items
+        ≡ cause_views causes.old.items ++ listed_by (owner_ref_view lead.entry.owner) lead.entry.number
+        (class_view lead.entry.class) (dependency_view dependency.now) (entry_view entry.entry.now)) }
 {
     match entry {
         Entry::Feature(_) => Ok(()),
@@ -194,7 +214,9 @@ fn put_root_asked<'a>(
     called: &PackageName,
     asked: &'a FeatureName,
 ) -> Result<(), AllocError>
-    ensures { OnOk result (cause_views causes.new.items ≡ cause_views causes.old.items ++ (if same_text (dependency_view dependency.now).name called.now then of_list (owner_ref_view lead.entry.owner) lead.entry.number (class_view lead.entry.class) asked.entry.now ∷ [] else [])) }
+    ensures { OnOk result (cause_views causes.new.items ≡ cause_views causes.old.items ++ (if same_text
+        (dependency_view dependency.now).name called.now then of_list (owner_ref_view lead.entry.owner)
+        lead.entry.number (class_view lead.entry.class) asked.entry.now ∷ [] else [])) }
 {
     if dependency.name == *called {
         causes.push(Cause::List(lead.owner, lead.number, lead.class, asked))?;
@@ -213,7 +235,9 @@ fn put_newest<'a>(
     dependency: &'a Dependency,
     others: &'a [Dependency],
 ) -> Result<(), AllocError>
-    ensures { OnOk result (cause_views causes.new.items ≡ cause_views causes.old.items ++ each_from (newest_if (problem inputs.now) (owner_ref_view lead.entry.owner) lead.entry.number (class_view lead.entry.class) (dependency_view dependency.entry.now)) 0 (dependency_views others.entry.now)) }
+    ensures { OnOk result (cause_views causes.new.items ≡ cause_views causes.old.items ++ each_from (newest_if
+        (problem inputs.now) (owner_ref_view lead.entry.owner) lead.entry.number (class_view lead.entry.class)
+        (dependency_view dependency.entry.now)) 0 (dependency_views others.entry.now)) }
 {
     let versions = within(
         &dependency.requirement,
@@ -263,7 +287,8 @@ fn higher_classes<'a>(
     class: Class,
     dependency: &'a Dependency,
 ) -> Result<IndexSet<Class>, AllocError>
-    ensures { IfOk result (λ s. AreHigher (problem inputs.now) (class_view class) (dependency_view dependency.now) (map class_view s.keys)) }
+    ensures { IfOk result (λ s.
+        AreHigher (problem inputs.now) (class_view class) (dependency_view dependency.now) (map class_view s.keys)) }
 {
     let classes = classes_of(alloc, inputs, dependency)?;
     those_above(alloc, class, classes.as_slice())
@@ -286,7 +311,8 @@ fn those_above(
 
 #[tactic(auto, using(crate::proofs::HigherLaws::higher_put, crate::proofs::HigherLaws::lower_left))]
 fn put_above(higher: &mut IndexSet<Class>, class: Class, other: Class) -> Result<(), AllocError>
-    ensures { OnOk result (Adds (class_view class) (class_view other) (map class_view higher.old.keys) (map class_view higher.new.keys)) }
+    ensures { OnOk result
+        (Adds (class_view class) (class_view other) (map class_view higher.old.keys) (map class_view higher.new.keys)) }
 {
     if class.is_lower(other) {
         higher.insert(other)?;
@@ -303,7 +329,9 @@ fn put_others<'a>(
     higher: &IndexSet<Class>,
     others: &'a [Dependency],
 ) -> Result<(), AllocError>
-    ensures { OnOk result (cause_views causes.new.items ≡ cause_views causes.old.items ++ each_from (newest_among (problem inputs.now) (map class_view higher.now.keys) (owner_ref_view lead.entry.owner) lead.entry.number (class_view lead.entry.class) real_name.now) 0 (dependency_views others.entry.now)) }
+    ensures { OnOk result (cause_views causes.new.items ≡ cause_views causes.old.items ++ each_from
+        (newest_among (problem inputs.now) (map class_view higher.now.keys) (owner_ref_view lead.entry.owner)
+        lead.entry.number (class_view lead.entry.class) real_name.now) 0 (dependency_views others.entry.now)) }
 {
     'others: for (number, other) in others.iter().enumerate() {
         put_other(
@@ -323,7 +351,9 @@ fn put_other<'a>(
     number: usize,
     other: &'a Dependency,
 ) -> Result<(), AllocError>
-    ensures { OnOk result (cause_views causes.new.items ≡ cause_views causes.old.items ++ newest_among (problem inputs.now) (map class_view higher.now.keys) (owner_ref_view lead.entry.owner) lead.entry.number (class_view lead.entry.class) real_name.now number (dependency_view other.entry.now)) }
+    ensures { OnOk result (cause_views causes.new.items ≡ cause_views causes.old.items
+        ++ newest_among (problem inputs.now) (map class_view higher.now.keys) (owner_ref_view lead.entry.owner)
+        lead.entry.number (class_view lead.entry.class) real_name.now number (dependency_view other.entry.now)) }
 {
     if lead.number == number {
         return Ok(());
@@ -343,7 +373,10 @@ fn put_higher<'a>(
     number: usize,
     other: &'a Dependency,
 ) -> Result<(), AllocError>
-    ensures { OnOk result (cause_views causes.new.items ≡ cause_views causes.old.items ++ (if same_text real_name.now (dependency_view other.entry.now).real_name then flat_map (newest_in (map class_view higher.now.keys) (owner_ref_view lead.entry.owner) lead.entry.number number (class_view lead.entry.class)) (dep_classes (problem inputs.now) (dependency_view other.entry.now)) else [])) }
+    ensures { OnOk result (cause_views causes.new.items ≡ cause_views causes.old.items ++ (if same_text real_name.now
+        (dependency_view other.entry.now).real_name then flat_map (newest_in (map class_view higher.now.keys)
+        (owner_ref_view lead.entry.owner) lead.entry.number number (class_view lead.entry.class))
+        (dep_classes (problem inputs.now) (dependency_view other.entry.now)) else [])) }
 {
     if *real_name != other.real_name {
         return Ok(());
@@ -359,7 +392,9 @@ fn put_classes<'a>(
     number: usize,
     classes: &[Class],
 ) -> Result<(), AllocError>
-    ensures { OnOk result (cause_views causes.new.items ≡ cause_views causes.old.items ++ flat_map (newest_in (map class_view higher.now.keys) (owner_ref_view lead.entry.owner) lead.entry.number number (class_view lead.entry.class)) (map class_view classes.now)) }
+    ensures { OnOk result (cause_views causes.new.items ≡ cause_views causes.old.items
+        ++ flat_map (newest_in (map class_view higher.now.keys) (owner_ref_view lead.entry.owner) lead.entry.number
+        number (class_view lead.entry.class)) (map class_view classes.now)) }
 {
     'classes: for class in classes.iter() {
         put_class(causes, lead, higher, number, *class)?;
@@ -374,7 +409,9 @@ fn put_class<'a>(
     number: usize,
     class: Class,
 ) -> Result<(), AllocError>
-    ensures { OnOk result (cause_views causes.new.items ≡ cause_views causes.old.items ++ newest_in (map class_view higher.now.keys) (owner_ref_view lead.entry.owner) lead.entry.number number (class_view lead.entry.class) (class_view class)) }
+    ensures { OnOk result
+        (cause_views causes.new.items ≡ cause_views causes.old.items ++ newest_in (map class_view higher.now.keys)
+        (owner_ref_view lead.entry.owner) lead.entry.number number (class_view lead.entry.class) (class_view class)) }
 {
     if has(higher, class) {
         causes.push(Cause::Newest(lead.owner, lead.number, number, lead.class, class))?;

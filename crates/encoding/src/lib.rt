@@ -74,38 +74,46 @@ pub use table::Table;
 /// An assignment over numbers that breaks no entry of a store, where each pair that holds in it has been added, breaks
 /// no instance at all.
 pub fn settled_assignments_are_unbroken()
-    ensures { (q : Problem) (vs : Numbering) (es : List EntryView) (x : Assignment) → IsNumbering q vs → IsSettled q vs es x → IsUnbroken q (state_of q vs x) }
+    ensures { (q : Problem) (vs : Numbering) (es : List EntryView) (x : Assignment) → IsNumbering q vs
+        → IsSettled q vs es x → IsUnbroken q (state_of q vs x) }
 {}
 
 /// A valid selection breaks no instance over numbers.
 pub fn selections_break_none()
-    ensures { (q : Problem) (vs : Numbering) (content : Content) (x : Assignment) (k : Kind) (ts : List Term) (made : List TermView)
-        → IsCatalogue q → IsNumbering q vs → IsValidSelection q content → IsOf q vs content x → IsInstance q k ts → Says q vs made ts
+    ensures { (q : Problem) (vs : Numbering) (content : Content) (x : Assignment) (k : Kind)
+        (ts : List Term) (made : List TermView)
+        → IsCatalogue q → IsNumbering q vs → IsValidSelection q content → IsOf q vs content x
+        → IsInstance q k ts → Says q vs made ts
         → Breaks x (numbered.states_at made) → ⊥ }
 {}
 
 /// Nothing speaks against an assignment that gives each numbered vertex the state that it has in a valid selection.
 pub fn selections_have_assignments()
-    ensures { (q : Problem) (vs : Numbering) (content : Content) → IsValidSelection q content → ((x : Assignment) → IsOf q vs content x → ⊥) → ⊥ }
+    ensures { (q : Problem) (vs : Numbering) (content : Content) → IsValidSelection q content
+        → ((x : Assignment) → IsOf q vs content x → ⊥) → ⊥ }
 {}
 
 /// At most one vertex of an instance over numbers has the state 0 among its term's.
 pub fn instances_have_one_absent()
-    ensures { (q : Problem) (vs : Numbering) (k : Kind) (ts : List Term) (made : List TermView) → IsNumbering q vs → IsInstance q k ts → Says q vs made ts
+    ensures { (q : Problem) (vs : Numbering) (k : Kind) (ts : List Term) (made : List TermView) → IsNumbering q vs
+        → IsInstance q k ts → Says q vs made ts
         → OneZero (numbered.states_at made) }
 {}
 
 /// Where propagation has nothing to do with an instance, the assignment that is taken at the end doesn't break it.
 pub fn final_assignments_break_none()
-    ensures { (sets : ℕ → Members) (f : Terms) (x : Assignment) → ((u : ℕ) (s : Members) → f u ≡ Some s → IsFinal (sets u) (x u)) → OneZero f → IsAtRest sets f
+    ensures { (sets : ℕ → Members) (f : Terms) (x : Assignment)
+        → ((u : ℕ) (s : Members) → f u ≡ Some s → IsFinal (sets u) (x u)) → OneZero f → IsAtRest sets f
         → Breaks x f → ⊥ }
 {}
 
 /// The classes of the versions that a requirement matches, as `classes::matching` groups them, are the states of the
 /// dependency's vertex after absent, in their order.
 pub fn matched_classes_are_states()
-    ensures { (q : Problem) (d : Dependency) → AllPairs (λ c e. precedence c.version e.version ≡ Less) (candidates_of q.candidates d.real_name)
-        → classes_matched d.requirement (map (λ c. c.version) (candidates_of q.candidates d.real_name)) ≡ dep_classes q d }
+    ensures { (q : Problem) (d : Dependency)
+        → AllPairs (λ c e. precedence c.version e.version ≡ Less) (candidates_of q.candidates d.real_name)
+        → classes_matched d.requirement (map (λ c. c.version) (candidates_of q.candidates d.real_name))
+        ≡ dep_classes q d }
 {}
 
 /// No vertex has a state twice in its space.

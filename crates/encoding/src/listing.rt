@@ -52,7 +52,8 @@ fn version_states<'a>(
     name: &PackageName,
     class: Class,
 ) -> Result<Vec<StateRef<'a>>, AllocError>
-    ensures { IfOk result (λ v. state_ref_views v.items ≡ space (problem inputs.now) (pkg name.now (class_view class))) }
+    ensures { IfOk result
+        (λ v. state_ref_views v.items ≡ space (problem inputs.now) (pkg name.now (class_view class))) }
 {
     let states = with_versions(alloc, class_versions(inputs.catalogue, name, class))?;
     Ok(states)
@@ -79,7 +80,8 @@ fn class_states<'a>(
     owner: &OwnerRef<'_>,
     dependency: usize,
 ) -> Result<Vec<StateRef<'a>>, AllocError>
-    ensures { IfOk result (λ v. state_ref_views v.items ≡ space (problem inputs.now) (dep (owner_ref_view owner.now) dependency)) }
+    ensures { IfOk result
+        (λ v. state_ref_views v.items ≡ space (problem inputs.now) (dep (owner_ref_view owner.now) dependency)) }
 {
     let classes = classes_at(alloc, inputs, owner, dependency)?;
     let states = with_classes(alloc, classes.as_slice())?;

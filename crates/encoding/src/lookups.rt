@@ -24,7 +24,8 @@ pub(crate) fn brings<'a>(inputs: &Inputs<'a>, owner: &OwnerRef<'_>) -> Option<&'
 
 /// The dependencies of an owner.
 pub(crate) fn dependencies_of<'a>(inputs: &Inputs<'a>, owner: &OwnerRef<'_>) -> &'a [Dependency]
-    ensures { dependency_views result.now ≡ (owner_brings (problem inputs.now) (owner_ref_view owner.now)).dependencies }
+    ensures { dependency_views result.now
+        ≡ (owner_brings (problem inputs.now) (owner_ref_view owner.now)).dependencies }
 {
     let held = inputs.held();
     looking_up::dependencies_of(&held, owner)
@@ -36,7 +37,8 @@ pub fn dependency_at<'a>(
     owner: &OwnerRef<'_>,
     number: usize,
 ) -> Option<&'a Dependency>
-    ensures { option_map (λ d. dependency_view d.now) result ≡ dependency_at (problem inputs.now) (owner_ref_view owner.now) number }
+    ensures { option_map (λ d. dependency_view d.now) result
+        ≡ dependency_at (problem inputs.now) (owner_ref_view owner.now) number }
 {
     let held = inputs.held();
     looking_up::dependency_at(&held, owner, number)

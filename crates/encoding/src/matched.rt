@@ -48,7 +48,8 @@ impl<'a> Matched<'a> {
 
     /// The classes to which a dependency may lead, lowest first, if they are kept.
     pub(crate) fn classes(&self, dependency: &'a Dependency) -> Option<&[Class]>
-        ensures { IfSome result (λ ks. map class_view ks.now ≡ dep_classes (problem_of self.now) (dependency_view dependency.now)) }
+        ensures { IfSome result
+            (λ ks. map class_view ks.now ≡ dep_classes (problem_of self.now) (dependency_view dependency.now)) }
     {
         let ask = (&dependency.real_name, &dependency.requirement);
         match self.classes.get(&ask) {
@@ -153,7 +154,8 @@ pub(crate) fn match_anew(
     problem: &Problem<'_>,
     dependency: &Dependency,
 ) -> Result<Vec<Class>, AllocError>
-    ensures { IfOk result (λ ks. map class_view ks.items ≡ dep_classes (problem_view problem.now) (dependency_view dependency.now)) }
+    ensures { IfOk result
+        (λ ks. map class_view ks.items ≡ dep_classes (problem_view problem.now) (dependency_view dependency.now)) }
 {
     catalogues_are_well_formed(problem.manifest, problem.catalogue);
     let versions = within(

@@ -18,7 +18,8 @@ pub(crate) fn within<'a>(requirement: &VersionReq, versions: &'a [Version]) -> &
     requires rising { AreRising versions.now }
     ensures rising { AreRising result.now }
     ensures few { length result.now ≤ length versions.entry.now }
-    ensures matched { filter (matches_views (requirement_view requirement.now)) (map parts_of result.now) ≡ filter (matches_views (requirement_view requirement.now)) (map parts_of versions.entry.now) }
+    ensures matched { filter (matches_views (requirement_view requirement.now)) (map parts_of result.now)
+        ≡ filter (matches_views (requirement_view requirement.now)) (map parts_of versions.entry.now) }
 {
     match only_class(requirement.comparators.as_slice()) {
         Some(class) => of_class(class, versions),

@@ -37,7 +37,8 @@ pub fn causes_at<'a>(
     requires default { KnowsDefault inputs.now }
     requires vertex { IsVertex (problem inputs.now) (vertex_ref_view vertex) }
     requires state { Contains (model.space (problem inputs.now) (vertex_ref_view vertex)) (state_ref_view state) }
-    ensures { IfOk result (λ s. AreCausesAt (problem inputs.now) (vertex_ref_view vertex.entry, state_ref_view state.entry) (cause_views s.keys)) }
+    ensures { IfOk result (λ s. AreCausesAt (problem inputs.now)
+        (vertex_ref_view vertex.entry, state_ref_view state.entry) (cause_views s.keys)) }
 {
     let mut causes = Vec::new(alloc);
     put_causes(alloc, inputs, &mut causes, vertex, state)?;
@@ -52,7 +53,8 @@ fn put_causes<'a>(
     state: StateRef<'a>,
 ) -> Result<(), AllocError>
     requires default { KnowsDefault inputs.now }
-    ensures { OnOk result (cause_views causes.new.items ≡ cause_views causes.old.items ++ causes_at (problem inputs.now) (vertex_ref_view vertex.entry) (state_ref_view state.entry)) }
+    ensures { OnOk result (cause_views causes.new.items ≡ cause_views causes.old.items
+        ++ causes_at (problem inputs.now) (vertex_ref_view vertex.entry) (state_ref_view state.entry)) }
 {
     match state {
         StateRef::Absent => match vertex {
@@ -82,7 +84,8 @@ fn put_present<'a>(
     causes: &mut Vec<Cause<'a>>,
     vertex: VertexRef<'a>,
 ) -> Result<(), AllocError>
-    ensures { OnOk result (cause_views causes.new.items ≡ cause_views causes.old.items ++ causes_at (problem inputs.now) (vertex_ref_view vertex.entry) model.present) }
+    ensures { OnOk result (cause_views causes.new.items ≡ cause_views causes.old.items
+        ++ causes_at (problem inputs.now) (vertex_ref_view vertex.entry) model.present) }
 {
     match vertex {
         VertexRef::Root => {
@@ -110,7 +113,9 @@ fn put_asks<'a>(
     number: usize,
     feature: &'a FeatureName,
 ) -> Result<(), AllocError>
-    ensures { OnOk result (cause_views causes.new.items ≡ cause_views causes.old.items ++ map (of_ask name.entry.now (parts_of version.entry.now) number feature.entry.now) (classes_at (problem inputs.now) (model.version_of name.entry.now (parts_of version.entry.now)) number)) }
+    ensures { OnOk result (cause_views causes.new.items ≡ cause_views causes.old.items
+        ++ map (of_ask name.entry.now (parts_of version.entry.now) number feature.entry.now)
+        (classes_at (problem inputs.now) (model.version_of name.entry.now (parts_of version.entry.now)) number)) }
 {
     let classes = classes_at(alloc, inputs, &OwnerRef::Version(name, version), number)?;
     put_asks_in(causes, name, version, number, feature, classes.as_slice())
@@ -124,7 +129,8 @@ fn put_asks_in<'a>(
     feature: &'a FeatureName,
     classes: &[Class],
 ) -> Result<(), AllocError>
-    ensures { OnOk result (cause_views causes.new.items ≡ cause_views causes.old.items ++ map (of_ask name.entry.now (parts_of version.entry.now) number feature.entry.now) (map class_view classes.now)) }
+    ensures { OnOk result (cause_views causes.new.items ≡ cause_views causes.old.items ++ map (of_ask name.entry.now
+        (parts_of version.entry.now) number feature.entry.now) (map class_view classes.now)) }
 {
     'classes: for class in classes.iter() {
         put_one(causes, Cause::Ask(name, version, number, feature, *class))?;
@@ -140,7 +146,8 @@ fn put_chosen<'a>(
     vertex: VertexRef<'a>,
     version: &'a Version,
 ) -> Result<(), AllocError>
-    ensures { OnOk result (cause_views causes.new.items ≡ cause_views causes.old.items ++ causes_at (problem inputs.now) (vertex_ref_view vertex.entry) (model.version (parts_of version.entry.now))) }
+    ensures { OnOk result (cause_views causes.new.items ≡ cause_views causes.old.items ++ causes_at (problem inputs.now)
+        (vertex_ref_view vertex.entry) (model.version (parts_of version.entry.now))) }
 {
     match vertex {
         VertexRef::Root => Ok(()),
@@ -160,7 +167,8 @@ fn put_in_class<'a>(
     class: Class,
 ) -> Result<(), AllocError>
     requires default { KnowsDefault inputs.now }
-    ensures { OnOk result (cause_views causes.new.items ≡ cause_views causes.old.items ++ causes_at (problem inputs.now) (vertex_ref_view vertex.entry) (model.in_class (class_view class))) }
+    ensures { OnOk result (cause_views causes.new.items ≡ cause_views causes.old.items
+        ++ causes_at (problem inputs.now) (vertex_ref_view vertex.entry) (model.in_class (class_view class))) }
 {
     match vertex {
         VertexRef::Root => Ok(()),

@@ -44,7 +44,8 @@ pub(crate) fn parts_of_cause<'a>(
     inputs: &Inputs<'a>,
     cause: &Cause<'a>,
 ) -> Result<Vec<Part<'a>>, AllocError>
-    ensures { IfOk result (λ v. part_views v.items ≡ parts_of_terms (problem inputs.now) (terms_of_cause (problem inputs.now) (cause_view cause.now))) }
+    ensures { IfOk result (λ v. part_views v.items
+        ≡ parts_of_terms (problem inputs.now) (terms_of_cause (problem inputs.now) (cause_view cause.now))) }
 {
     match *cause {
         Cause::Root => Ok(vec![in alloc; two_states(alloc, VertexRef::Root, false)?]?),
@@ -104,7 +105,8 @@ fn chosen<'a>(
     name: &'a PackageName,
     version: &'a Version,
 ) -> Result<Part<'a>, AllocError>
-    ensures { IfOk result (λ p. part_view p ≡ part_of (problem inputs.now) (at (model.pkg name.entry.now (class_of (parts_of version.entry.now))) (model.version (parts_of version.entry.now) ∷ []))) }
+    ensures { IfOk result (λ p. part_view p ≡ part_of (problem inputs.now) (at (model.pkg name.entry.now
+        (class_of (parts_of version.entry.now))) (model.version (parts_of version.entry.now) ∷ []))) }
 {
     let class = Class::of(version);
     let versions = class_versions(inputs.catalogue, name, class);
@@ -123,7 +125,8 @@ fn own_feature<'a>(
     feature: &'a FeatureName,
     on: bool,
 ) -> Result<Part<'a>, AllocError>
-    ensures { IfOk result (λ p. part_view p ≡ (model.feat name.entry.now (class_of (parts_of version.entry.now)) feature.entry.now, not on ∷ on ∷ [])) }
+    ensures { IfOk result (λ p. part_view p
+        ≡ (model.feat name.entry.now (class_of (parts_of version.entry.now)) feature.entry.now, not on ∷ on ∷ [])) }
 {
     two_states(
         alloc,
@@ -139,7 +142,11 @@ fn off_there<'a>(
     class: Class,
     feature: &'a FeatureName,
 ) -> Result<Part<'a>, AllocError>
-    ensures { IfOk result (λ p. part_view p ≡ (model.feat (dependency_view dependency.entry.now).real_name (class_view class) feature.entry.now, true ∷ false ∷ [])) }
+    ensures { IfOk result (λ p. part_view p ≡ (
+      model.feat (dependency_view dependency.entry.now).real_name
+          (class_view class) feature.entry.now,
+      true ∷ false ∷ [],
+    )) }
 {
     two_states(
         alloc,
@@ -155,7 +162,8 @@ fn absent<'a>(
     owner: OwnerRef<'a>,
     number: usize,
 ) -> Result<Part<'a>, AllocError>
-    ensures { IfOk result (λ p. part_view p ≡ part_of (problem inputs.now) (at (model.dep (owner_ref_view owner.entry) number) (model.absent ∷ []))) }
+    ensures { IfOk result (λ p. part_view p
+        ≡ part_of (problem inputs.now) (at (model.dep (owner_ref_view owner.entry) number) (model.absent ∷ []))) }
 {
     let classes = classes_at(alloc, inputs, &owner, number)?;
     let tests = no_class(alloc, classes.as_slice())?;
@@ -173,7 +181,8 @@ fn leads<'a>(
     number: usize,
     class: Class,
 ) -> Result<Part<'a>, AllocError>
-    ensures { IfOk result (λ p. part_view p ≡ part_of (problem inputs.now) (at (model.dep (owner_ref_view owner.entry) number) (model.in_class (class_view class) ∷ []))) }
+    ensures { IfOk result (λ p. part_view p ≡ part_of (problem inputs.now)
+        (at (model.dep (owner_ref_view owner.entry) number) (model.in_class (class_view class) ∷ []))) }
 {
     let classes = classes_at(alloc, inputs, &owner, number)?;
     let tests = class_tests(alloc, class, classes.as_slice())?;
@@ -189,7 +198,8 @@ fn need_parts<'a>(
     owner: OwnerRef<'a>,
     number: usize,
 ) -> Result<Vec<Part<'a>>, AllocError>
-    ensures { IfOk result (λ v. part_views v.items ≡ parts_of_terms (problem inputs.now) (terms_of_cause (problem inputs.now) (causes.of_need (owner_ref_view owner.entry) number))) }
+    ensures { IfOk result (λ v. part_views v.items ≡ parts_of_terms (problem inputs.now)
+        (terms_of_cause (problem inputs.now) (causes.of_need (owner_ref_view owner.entry) number))) }
 {
     Ok(vec![in alloc;
         holds(alloc, inputs, owner)?,
@@ -205,7 +215,9 @@ fn entry_parts<'a>(
     on: &'a FeatureName,
     off: &'a FeatureName,
 ) -> Result<Vec<Part<'a>>, AllocError>
-    ensures { IfOk result (λ v. part_views v.items ≡ parts_of_terms (problem inputs.now) (feature_holds name.entry.now (parts_of version.entry.now) on.entry.now (at (model.feat name.entry.now (class_of (parts_of version.entry.now)) off.entry.now) (model.absent ∷ []) ∷ []))) }
+    ensures { IfOk result (λ v. part_views v.items ≡ parts_of_terms (problem inputs.now)
+        (feature_holds name.entry.now (parts_of version.entry.now) on.entry.now (at (model.feat name.entry.now
+        (class_of (parts_of version.entry.now)) off.entry.now) (model.absent ∷ []) ∷ []))) }
 {
     Ok(vec![in alloc;
         chosen(alloc, inputs, name, version)?,
@@ -222,7 +234,9 @@ fn enabling_parts<'a>(
     on: &'a FeatureName,
     number: usize,
 ) -> Result<Vec<Part<'a>>, AllocError>
-    ensures { IfOk result (λ v. part_views v.items ≡ parts_of_terms (problem inputs.now) (feature_holds name.entry.now (parts_of version.entry.now) on.entry.now (at (model.dep (model.version_of name.entry.now (parts_of version.entry.now)) number) (model.absent ∷ []) ∷ []))) }
+    ensures { IfOk result (λ v. part_views v.items ≡ parts_of_terms (problem inputs.now) (feature_holds name.entry.now
+        (parts_of version.entry.now) on.entry.now (at (model.dep (model.version_of name.entry.now
+        (parts_of version.entry.now)) number) (model.absent ∷ []) ∷ []))) }
 {
     Ok(vec![in alloc;
         chosen(alloc, inputs, name, version)?,
@@ -240,7 +254,9 @@ fn asking_parts<'a>(
     asked: &'a FeatureName,
     number: usize,
 ) -> Result<Vec<Part<'a>>, AllocError>
-    ensures { IfOk result (λ v. part_views v.items ≡ parts_of_terms (problem inputs.now) (feature_holds name.entry.now (parts_of version.entry.now) on.entry.now (at (model.ask name.entry.now (parts_of version.entry.now) number asked.entry.now) (model.absent ∷ []) ∷ []))) }
+    ensures { IfOk result (λ v. part_views v.items ≡ parts_of_terms (problem inputs.now)
+        (feature_holds name.entry.now (parts_of version.entry.now) on.entry.now (at (model.ask name.entry.now
+        (parts_of version.entry.now) number asked.entry.now) (model.absent ∷ []) ∷ []))) }
 {
     Ok(vec![in alloc;
         chosen(alloc, inputs, name, version)?,
@@ -256,7 +272,8 @@ fn target_parts<'a>(
     number: usize,
     class: Class,
 ) -> Result<Vec<Part<'a>>, AllocError>
-    ensures { IfOk result (λ v. part_views v.items ≡ parts_of_terms (problem inputs.now) (terms_of_cause (problem inputs.now) (causes.of_target (owner_ref_view owner.entry) number (class_view class)))) }
+    ensures { IfOk result (λ v. part_views v.items ≡ parts_of_terms (problem inputs.now) (terms_of_cause
+        (problem inputs.now) (causes.of_target (owner_ref_view owner.entry) number (class_view class)))) }
 {
     match dependency_at(inputs, &owner, number) {
         Some(dependency) => Ok(vec![in alloc;
@@ -274,7 +291,10 @@ fn left<'a>(
     dependency: &'a Dependency,
     class: Class,
 ) -> Result<Part<'a>, AllocError>
-    ensures { IfOk result (λ p. part_view p ≡ part_of (problem inputs.now) (at (model.pkg (dependency_view dependency.entry.now).real_name (class_view class)) (absent_or (problem inputs.now) (λ c. not (matched (dependency_view dependency.entry.now) c)) (dependency_view dependency.entry.now).real_name (class_view class)))) }
+    ensures { IfOk result (λ p. part_view p ≡ part_of (problem inputs.now)
+        (at (model.pkg (dependency_view dependency.entry.now).real_name (class_view class))
+        (absent_or (problem inputs.now) (λ c. not (matched (dependency_view dependency.entry.now) c))
+        (dependency_view dependency.entry.now).real_name (class_view class)))) }
 {
     let versions = class_versions(inputs.catalogue, &dependency.real_name, class);
     let tests = left_tests(alloc, &dependency.requirement, versions)?;
@@ -291,7 +311,10 @@ fn taken<'a>(
     dependency: &'a Dependency,
     class: Class,
 ) -> Result<Part<'a>, AllocError>
-    ensures { IfOk result (λ p. part_view p ≡ part_of (problem inputs.now) (at (model.pkg (dependency_view dependency.entry.now).real_name (class_view class)) (versions_that (problem inputs.now) (matched (dependency_view dependency.entry.now)) (dependency_view dependency.entry.now).real_name (class_view class)))) }
+    ensures { IfOk result
+        (λ p. part_view p ≡ part_of (problem inputs.now) (at (model.pkg (dependency_view dependency.entry.now).real_name
+        (class_view class)) (versions_that (problem inputs.now) (matched (dependency_view dependency.entry.now))
+        (dependency_view dependency.entry.now).real_name (class_view class)))) }
 {
     let versions = class_versions(inputs.catalogue, &dependency.real_name, class);
     let tests = taken_tests(alloc, &dependency.requirement, versions)?;
@@ -309,7 +332,9 @@ fn lacking<'a>(
     class: Class,
     feature: &FeatureName,
 ) -> Result<Part<'a>, AllocError>
-    ensures { IfOk result (λ p. part_view p ≡ part_of (problem inputs.now) (at (model.pkg name.entry.now (class_view class)) (absent_or (problem inputs.now) (λ c. not (has_feature c.brings.features feature.now)) name.entry.now (class_view class)))) }
+    ensures { IfOk result (λ p. part_view p ≡ part_of (problem inputs.now)
+        (at (model.pkg name.entry.now (class_view class)) (absent_or (problem inputs.now)
+        (λ c. not (has_feature c.brings.features feature.now)) name.entry.now (class_view class)))) }
 {
     catalogues_are_well_formed(inputs.manifest, inputs.catalogue);
     let versions = class_versions(inputs.catalogue, name, class);
@@ -327,7 +352,8 @@ fn feature_parts<'a>(
     class: Class,
     feature: &'a FeatureName,
 ) -> Result<Vec<Part<'a>>, AllocError>
-    ensures { IfOk result (λ v. part_views v.items ≡ parts_of_terms (problem inputs.now) (terms_of_cause (problem inputs.now) (causes.of_feature name.entry.now (class_view class) feature.entry.now))) }
+    ensures { IfOk result (λ v. part_views v.items ≡ parts_of_terms (problem inputs.now) (terms_of_cause
+        (problem inputs.now) (causes.of_feature name.entry.now (class_view class) feature.entry.now))) }
 {
     Ok(vec![in alloc;
         two_states(alloc, VertexRef::Feature(name, class, feature), true)?,
@@ -343,7 +369,9 @@ fn list_parts<'a>(
     class: Class,
     feature: &'a FeatureName,
 ) -> Result<Vec<Part<'a>>, AllocError>
-    ensures { IfOk result (λ v. part_views v.items ≡ parts_of_terms (problem inputs.now) (terms_of_cause (problem inputs.now) (causes.of_list (owner_ref_view owner.entry) number (class_view class) feature.entry.now))) }
+    ensures { IfOk result
+        (λ v. part_views v.items ≡ parts_of_terms (problem inputs.now) (terms_of_cause (problem inputs.now)
+        (causes.of_list (owner_ref_view owner.entry) number (class_view class) feature.entry.now))) }
 {
     match dependency_at(inputs, &owner, number) {
         Some(dependency) => Ok(vec![in alloc;
@@ -363,7 +391,9 @@ fn ask_parts<'a>(
     feature: &'a FeatureName,
     class: Class,
 ) -> Result<Vec<Part<'a>>, AllocError>
-    ensures { IfOk result (λ v. part_views v.items ≡ parts_of_terms (problem inputs.now) (terms_of_cause (problem inputs.now) (causes.of_ask name.entry.now (parts_of version.entry.now) number feature.entry.now (class_view class)))) }
+    ensures { IfOk result
+        (λ v. part_views v.items ≡ parts_of_terms (problem inputs.now) (terms_of_cause (problem inputs.now)
+        (causes.of_ask name.entry.now (parts_of version.entry.now) number feature.entry.now (class_view class)))) }
 {
     let owner = OwnerRef::Version(name, version);
     match dependency_at(inputs, &owner, number) {
@@ -385,7 +415,9 @@ fn newest_parts<'a>(
     class: Class,
     higher: Class,
 ) -> Result<Vec<Part<'a>>, AllocError>
-    ensures { IfOk result (λ v. part_views v.items ≡ parts_of_terms (problem inputs.now) (terms_of_cause (problem inputs.now) (causes.of_newest (owner_ref_view owner.entry) number other (class_view class) (class_view higher)))) }
+    ensures { IfOk result
+        (λ v. part_views v.items ≡ parts_of_terms (problem inputs.now) (terms_of_cause (problem inputs.now)
+        (causes.of_newest (owner_ref_view owner.entry) number other (class_view class) (class_view higher)))) }
 {
     match dependency_at(inputs, &owner, number) {
         Some(dependency) => Ok(vec![in alloc;
@@ -407,7 +439,9 @@ fn weak_parts<'a>(
     number: usize,
     class: Class,
 ) -> Result<Vec<Part<'a>>, AllocError>
-    ensures { IfOk result (λ v. part_views v.items ≡ parts_of_terms (problem inputs.now) (terms_of_cause (problem inputs.now) (causes.of_weak name.entry.now (parts_of version.entry.now) on.entry.now off.entry.now number (class_view class)))) }
+    ensures { IfOk result (λ v. part_views v.items
+        ≡ parts_of_terms (problem inputs.now) (terms_of_cause (problem inputs.now) (causes.of_weak name.entry.now
+        (parts_of version.entry.now) on.entry.now off.entry.now number (class_view class)))) }
 {
     let owner = OwnerRef::Version(name, version);
     match dependency_at(inputs, &owner, number) {
@@ -429,7 +463,8 @@ fn four<'a>(
     c: Part<'a>,
     d: Part<'a>,
 ) -> Result<Vec<Part<'a>>, AllocError>
-    ensures { IfOk result (λ v. part_views v.items ≡ part_view a.entry ∷ part_view b.entry ∷ part_view c.entry ∷ part_view d.entry ∷ []) }
+    ensures { IfOk result
+        (λ v. part_views v.items ≡ part_view a.entry ∷ part_view b.entry ∷ part_view c.entry ∷ part_view d.entry ∷ []) }
 {
     let mut parts = vec![in alloc; a, b, c]?;
     parts.push(d)?;

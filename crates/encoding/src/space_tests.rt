@@ -47,7 +47,8 @@ pub(crate) fn left_tests(
     requirement: &VersionReq,
     versions: &[Version],
 ) -> Result<Vec<bool>, AllocError>
-    ensures { IfOk result (λ v. v.items ≡ true ∷ map (λ w. is_left (requirement_view requirement.now) (parts_of w)) versions.now) }
+    ensures { IfOk result
+        (λ v. v.items ≡ true ∷ map (λ w. is_left (requirement_view requirement.now) (parts_of w)) versions.now) }
 {
     let mut tests = Vec::new(alloc);
     tests.push(true)?;
@@ -63,7 +64,8 @@ pub(crate) fn taken_tests(
     requirement: &VersionReq,
     versions: &[Version],
 ) -> Result<Vec<bool>, AllocError>
-    ensures { IfOk result (λ v. v.items ≡ false ∷ map (λ w. matches_views (requirement_view requirement.now) (parts_of w)) versions.now) }
+    ensures { IfOk result
+        (λ v. v.items ≡ false ∷ map (λ w. matches_views (requirement_view requirement.now) (parts_of w)) versions.now) }
 {
     let mut tests = Vec::new(alloc);
     tests.push(false)?;
@@ -79,7 +81,8 @@ pub(crate) fn chosen_tests(
     chosen: &Version,
     versions: &[Version],
 ) -> Result<Vec<bool>, AllocError>
-    ensures { IfOk result (λ v. v.items ≡ false ∷ map (λ w. is_chosen (parts_of chosen.now) (parts_of w)) versions.now) }
+    ensures { IfOk result
+        (λ v. v.items ≡ false ∷ map (λ w. is_chosen (parts_of chosen.now) (parts_of w)) versions.now) }
 {
     let mut tests = Vec::new(alloc);
     tests.push(false)?;
@@ -97,7 +100,8 @@ pub(crate) fn lacking_tests(
     feature: &FeatureName,
     versions: &[Version],
 ) -> Result<Vec<bool>, AllocError>
-    ensures { IfOk result (λ v. v.items ≡ true ∷ map (λ w. is_lacking (problem inputs.now) name.now feature.now (parts_of w)) versions.now) }
+    ensures { IfOk result (λ v. v.items
+        ≡ true ∷ map (λ w. is_lacking (problem inputs.now) name.now feature.now (parts_of w)) versions.now) }
 {
     let mut tests = Vec::new(alloc);
     tests.push(true)?;

@@ -23,7 +23,8 @@ pub(crate) fn classes_at(
     owner: &OwnerRef<'_>,
     number: usize,
 ) -> Result<Vec<Class>, AllocError>
-    ensures { IfOk result (λ ks. map class_view ks.items ≡ classes_at (problem inputs.now) (owner_ref_view owner.now) number) }
+    ensures { IfOk result
+        (λ ks. map class_view ks.items ≡ classes_at (problem inputs.now) (owner_ref_view owner.now) number) }
 {
     match dependency_at(inputs, owner, number) {
         Some(dependency) => classes_of(alloc, inputs, dependency),
@@ -37,7 +38,8 @@ pub fn classes_of<'a>(
     inputs: &Inputs<'a>,
     dependency: &'a Dependency,
 ) -> Result<Vec<Class>, AllocError>
-    ensures { IfOk result (λ ks. map class_view ks.items ≡ dep_classes (problem inputs.now) (dependency_view dependency.now)) }
+    ensures { IfOk result
+        (λ ks. map class_view ks.items ≡ dep_classes (problem inputs.now) (dependency_view dependency.now)) }
 {
     match inputs.matched.classes(dependency) {
         Some(classes) => Vec::from_slice(alloc, classes),

@@ -20,7 +20,8 @@ use vertices::{OwnerRef, StateRef, VertexRef};
 
 /// A vertex has at least one state, and no more than a set may have.
 pub fn spaces_are_small(inputs: &Inputs<'_>)
-    ensures { (v : Vertex) → (1 ≤ length (space (problem inputs.now) v)) × (length (space (problem inputs.now) v) ≤ 65536) }
+    ensures { (v : Vertex)
+        → (1 ≤ length (space (problem inputs.now) v)) × (length (space (problem inputs.now) v) ≤ 65536) }
 {
     let _ = inputs.catalogue.names();
 }
@@ -46,7 +47,8 @@ pub fn space_at(
     number: usize,
 ) -> Result<u32, AllocError>
     ensures small { IfOk result (λ n. n ≤ 65536) }
-    ensures space { IfOk result (λ n. (v : Vertex) → slice_get table.now number ≡ Some v → n ≡ length (space (problem inputs.now) v)) }
+    ensures space { IfOk result
+        (λ n. (v : Vertex) → slice_get table.now number ≡ Some v → n ≡ length (space (problem inputs.now) v)) }
 {
     match table.vertex(number) {
         Some(vertex) => Ok(space_of(alloc, inputs, &vertex)? as u32),
@@ -135,7 +137,8 @@ fn class_state<'a>(
     dependency: usize,
     number: usize,
 ) -> Result<StateRef<'a>, AllocError>
-    ensures { IfOk result (λ s. state_ref_view s ≡ state_at (problem inputs.now) (dep (owner_ref_view owner.now) dependency) number) }
+    ensures { IfOk result
+        (λ s. state_ref_view s ≡ state_at (problem inputs.now) (dep (owner_ref_view owner.now) dependency) number) }
 {
     let classes = classes_at(alloc, inputs, owner, dependency)?;
     Ok(class_at(classes.as_slice(), number))
@@ -151,7 +154,8 @@ fn present_at<'a>(number: usize) -> StateRef<'a>
 }
 
 fn version_at(versions: &[Version], number: usize) -> StateRef<'_>
-    ensures { state_ref_view result ≡ unwrap_or (slice_get (absent ∷ map (λ v. version (parts_of v)) versions.entry.now) number) absent }
+    ensures { state_ref_view result
+        ≡ unwrap_or (slice_get (absent ∷ map (λ v. version (parts_of v)) versions.entry.now) number) absent }
 {
     if number == 0 {
         return StateRef::Absent;
@@ -163,7 +167,8 @@ fn version_at(versions: &[Version], number: usize) -> StateRef<'_>
 }
 
 fn class_at<'a>(classes: &[Class], number: usize) -> StateRef<'a>
-    ensures { state_ref_view result ≡ unwrap_or (slice_get (absent ∷ map (λ k. in_class (class_view k)) classes.now) number) absent }
+    ensures { state_ref_view result
+        ≡ unwrap_or (slice_get (absent ∷ map (λ k. in_class (class_view k)) classes.now) number) absent }
 {
     if number == 0 {
         return StateRef::Absent;

@@ -1,19 +1,23 @@
 -- How many of a rising list are below a number, and the needed numbers rise.
-use Rattle.std.proofs.Common.{◌≡◌, ℕ, zero, suc, ◌+◌, ◌<◌, ◌≤◌, Bool, true, false, cond, List, [], ◌∷◌, length, filter, get_or, slice_get, ap, subst, arith}
+use Rattle.std.proofs.Common.{◌≡◌, ℕ, zero, suc, ◌+◌, ◌<◌, ◌≤◌, Bool, true, false, cond, List, [], ◌∷◌, length, filter}
+use Rattle.std.proofs.Common.{get_or, slice_get, ap, subst, arith}
 use Rattle.std.specs.List.{AllByRecursion, list_any}
 use Rattle.std.specs.List.Sorted.{IsNonDecreasing}
 use Rattle.model.specs.Derivation.{Step}
 use Rattle.explainer.specs.Explanations.{refers_at, with_later, needed_from, needed}
 
 -- a point with those that pass before it and the others after it is how many pass
-pub count : (p : ℕ → Bool) (xs : List ℕ) (i : ℕ) → i ≤ length xs → ((k d : ℕ) → k < i → p (get_or xs k d) ≡ true) → ((k d : ℕ) → i ≤ k → k < length xs → p (get_or xs k d) ≡ false) → length (filter p xs) ≡ i
+pub count : (p : ℕ → Bool) (xs : List ℕ) (i : ℕ) → i ≤ length xs → ((k d : ℕ) → k < i → p (get_or xs k d) ≡ true)
+    → ((k d : ℕ) → i ≤ k → k < length xs → p (get_or xs k d) ≡ false) → length (filter p xs) ≡ i
 count p [] i within pass fail = omega arith
 count p (x ∷ xs) zero within pass fail =
     let no : p x ≡ false = fail 0 0 (omega arith) (omega arith) in
-    rw no (count p xs zero (omega arith) (λ k d lt. absurd (omega arith)) (λ k d low lt. fail (suc k) d (omega arith) (omega arith)))
+    rw no (count p xs zero (omega arith) (λ k d lt. absurd (omega arith))
+    (λ k d low lt. fail (suc k) d (omega arith) (omega arith)))
 count p (x ∷ xs) (suc i) within pass fail =
     let yes : p x ≡ true = pass 0 0 (omega arith) in
-    rw yes (ap suc (count p xs i (omega arith) (λ k d lt. pass (suc k) d (omega arith)) (λ k d low lt. fail (suc k) d (omega arith) (omega arith))))
+    rw yes (ap suc (count p xs i (omega arith) (λ k d lt. pass (suc k) d (omega arith))
+    (λ k d low lt. fail (suc k) d (omega arith) (omega arith))))
 
 -- from this number on, and below that one
 abbrev IsWithin : ℕ → ℕ → List ℕ → Type 0
@@ -32,11 +36,15 @@ at-least n low high [] l h = tt
 at-least n low high (x ∷ xs) l h = (let here = h.0.0 in omega arith, at-least n low high xs l h.1)
 
 module _ (steps : List Step) where
-  within-later : (n high : ℕ) (later : List ℕ) → n < high → IsWithin (n + 1) high later → IsWithin n high (with_later steps n later) × (Rises later → Rises (with_later steps n later))
+  within-later : (n high : ℕ) (later : List ℕ) → n < high → IsWithin (n + 1) high later
+      → IsWithin n high (with_later steps n later) × (Rises later → Rises (with_later steps n later))
   within-later n high later lt h = by (list_any (λ m. refers_at (slice_get steps m) n) later)
     where
       by : (b : Bool) → IsWithin n high (cond b (n ∷ later) later) × (Rises later → Rises (cond b (n ∷ later) later))
-      by true = (((omega arith, lt), wider (n + 1) n high later (omega arith) h), λ r. (at-least n (n + 1) high later (omega arith) h, r))
+      by true = (
+        ((omega arith, lt), wider (n + 1) n high later (omega arith) h),
+        λ r. (at-least n (n + 1) high later (omega arith) h, r),
+      )
       by false = (wider (n + 1) n high later (omega arith) h, λ r. r)
 
   pub rising : (n k : ℕ) → IsWithin n (n + k) (needed_from steps n k) × Rises (needed_from steps n k)
@@ -46,7 +54,8 @@ module _ (steps : List Step) where
   rising n (suc (suc k)) =
       let rest = rising (n + 1) (suc k) in
       let same : n + 1 + suc k ≡ n + suc (suc k) = omega arith in
-      let later = within-later n (n + suc (suc k)) (needed_from steps (n + 1) (suc k)) (omega arith) (subst (λ high. IsWithin (n + 1) high (needed_from steps (n + 1) (suc k))) same rest.0) in
+      let later = within-later n (n + suc (suc k)) (needed_from steps (n + 1) (suc k)) (omega arith)
+      (subst (λ high. IsWithin (n + 1) high (needed_from steps (n + 1) (suc k))) same rest.0) in
       (later.0, later.1 rest.1)
 
 at-index : (x : ℕ) (xs : List ℕ) (j d : ℕ) → AllByRecursion (λ y. x ≤ y) xs → j < length xs → x ≤ get_or xs j d
@@ -69,4 +78,5 @@ pub needed-rises : (steps : List Step) → IsNonDecreasing (needed steps)
 needed-rises steps = non-decreasing (needed steps) (rising steps 0 (length steps)).1
 
 pub needed-below : (steps : List Step) → AllByRecursion (λ n. n < length steps) (needed steps)
-needed-below steps = let low : 0 + length steps ≡ length steps = omega arith in subst (λ high. AllByRecursion (λ n. n < high) (needed steps)) low (below (0 + length steps) 0 (needed steps) (rising steps 0 (length steps)).0)
+needed-below steps = let low : 0 + length steps ≡ length steps = omega arith in subst (λ high. AllByRecursion
+    (λ n. n < high) (needed steps)) low (below (0 + length steps) 0 (needed steps) (rising steps 0 (length steps)).0)

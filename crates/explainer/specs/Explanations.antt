@@ -1,7 +1,9 @@
 -- What a person reads of a derivation: the steps that its end stands on, each as a line (the format is this project's).
-use Rattle.std.specs.Prelude.{ℕ, zero, suc, ◌+◌, ◌==◌, ◌||◌, nat_lt, Bool, false, if◌then◌else◌, List, [], ◌∷◌, ◌++◌, length, map, filter, Option, Some, None, slice_get, codes, decimal}
+use Rattle.std.specs.Prelude.{ℕ, zero, suc, ◌+◌, ◌==◌, ◌||◌, nat_lt, Bool, false, if◌then◌else◌, List, [], ◌∷◌, ◌++◌}
+use Rattle.std.specs.Prelude.{length, map, filter, Option, Some, None, slice_get, codes, decimal}
 use Rattle.std.specs.List.{flat_map, list_any}
-use Rattle.model.specs.Axioms.{Kind, Root, Needed, Target, HasFeature, WantsFeature, FeatureOnFeature, FeatureOnDependency, FeatureAsks, NewestListed, WeakFeature, Term}
+use Rattle.model.specs.Axioms.{Kind, Root, Needed, Target, HasFeature, WantsFeature, FeatureOnFeature}
+use Rattle.model.specs.Axioms.{FeatureOnDependency, FeatureAsks, NewestListed, WeakFeature, Term}
 use Rattle.model.specs.Derivation.{Step, given, combine, terms_of}
 use Rattle.vertices.specs.Kinds.{kind_text}
 use Rattle.vertices.specs.Texts.{vertex_text, state_text}
@@ -50,7 +52,8 @@ text_if later text = if later then text else []
 
 -- `VERTEX in {STATE, STATE}`
 abbrev pub term_words : Term → List ℕ
-term_words t = vertex_text t.vertex ++ (codes " in {" ++ (with_between (codes ", ") (map state_text t.states) ++ codes "}"))
+term_words t =
+    vertex_text t.vertex ++ (codes " in {" ++ (with_between (codes ", ") (map state_text t.states) ++ codes "}"))
 
 -- what can't all hold
 abbrev pub claim : List Term → List ℕ
@@ -72,11 +75,13 @@ kind_name WeakFeature = codes "weak feature"
 -- `as X1 needed` or `from A and B`, with the new numbers
 abbrev pub origin_words : List ℕ → Step → List ℕ
 origin_words all (given k ts) = codes "as " ++ (kind_text k ++ (codes " " ++ kind_name k))
-origin_words all (combine a b v ts) = codes "from " ++ (decimal (new_number all a) ++ (codes " and " ++ decimal (new_number all b)))
+origin_words all (combine a b v ts) =
+    codes "from " ++ (decimal (new_number all a) ++ (codes " and " ++ decimal (new_number all b)))
 
 -- the line of the needed step of this number
 abbrev pub line : List ℕ → ℕ → Step → List ℕ
-line all n s = decimal (new_number all n) ++ (codes ": " ++ (claim (terms_of s) ++ (codes ", " ++ (origin_words all s ++ codes "\n"))))
+line all n s = decimal (new_number all n)
+    ++ (codes ": " ++ (claim (terms_of s) ++ (codes ", " ++ (origin_words all s ++ codes "\n"))))
 
 abbrev pub line_if : List ℕ → ℕ → Option Step → List ℕ
 line_if all n None = []

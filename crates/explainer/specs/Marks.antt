@@ -1,5 +1,6 @@
 -- Which steps are known to be needed while steps are looked at from the last one down.
-use Rattle.std.specs.Prelude.{ℕ, ◌+◌, ◌==◌, ◌||◌, Bool, true, false, List, length, Option, Some, None, slice_set, slice_index_or}
+use Rattle.std.specs.Prelude.{ℕ, ◌+◌, ◌==◌, ◌||◌, Bool, true, false, List, length, Option, Some, None, slice_set}
+use Rattle.std.specs.Prelude.{slice_index_or}
 
 -- the marks, with those of two steps
 abbrev pub with_two : Option (ℕ × ℕ) → List Bool → List Bool

@@ -5,8 +5,10 @@ ghost use Rattle.std.specs.List.{flat_map};
 ghost use Rattle.std.specs.List.Sorted.{IsNonDecreasing};
 ghost use Rattle.model.specs.Axioms as axioms;
 ghost use Rattle.vertices.specs.Kinds.{kind_view};
-ghost use Rattle.derivations.specs.Tables.{AreStepsOf, AreTermsOf, IsStepOf, IsTermOf, TablesView, step_at, step_by_origin, steps_at, term_at, terms_at};
-ghost use Rattle.explainer.specs.Explanations.{text_if, with_between, term_words, claim, kind_name, new_number, origin_words, line, line_at, explanation_of};
+ghost use Rattle.derivations.specs.Tables.{AreStepsOf, AreTermsOf, IsStepOf, IsTermOf, TablesView, step_at};
+ghost use Rattle.derivations.specs.Tables.{step_by_origin, steps_at, term_at, terms_at};
+ghost use Rattle.explainer.specs.Explanations.{text_if, with_between, term_words, claim, kind_name, new_number};
+ghost use Rattle.explainer.specs.Explanations.{origin_words, line, line_at, explanation_of};
 
 use crate::needed::needed;
 use crate::texts::{Texts, push_if};
@@ -34,7 +36,8 @@ fn lines(
 ) -> Result<String, AllocError>
     requires needed { IsNonDecreasing needed.now }
     requires steps { AreStepsOf texts.now steps.now }
-    ensures { IfOk result (λ t. string_bytes t ≡ flat_map (line_at needed.now (steps_at texts.now steps.now)) needed.now) }
+    ensures { IfOk result
+        (λ t. string_bytes t ≡ flat_map (line_at needed.now (steps_at texts.now steps.now)) needed.now) }
 {
     let mut text = String::new(alloc);
     'needed: for number in needed {
@@ -53,7 +56,8 @@ fn push_line_at(
 ) -> Result<(), AllocError>
     requires needed { IsNonDecreasing needed.now }
     requires steps { AreStepsOf texts.now steps.now }
-    ensures { OnOk result (string_bytes text.new ≡ string_bytes text.old ++ line_at needed.now (steps_at texts.now steps.now) number) }
+    ensures { OnOk result
+        (string_bytes text.new ≡ string_bytes text.old ++ line_at needed.now (steps_at texts.now steps.now) number) }
 {
     match steps.get(number) {
         Some(step) => push_line(text, texts, needed, number, step),
@@ -71,7 +75,8 @@ fn push_line(
 ) -> Result<(), AllocError>
     requires needed { IsNonDecreasing needed.now }
     requires step { IsStepOf texts.now step.now }
-    ensures { OnOk result (string_bytes text.new ≡ string_bytes text.old ++ line needed.now number (step_at texts.now step.now)) }
+    ensures { OnOk result
+        (string_bytes text.new ≡ string_bytes text.old ++ line needed.now number (step_at texts.now step.now)) }
 {
     let own = new_number(needed, number as u64);
     write!(text, "{own}: ")?;
@@ -96,7 +101,8 @@ fn push_claim(text: &mut String, texts: &Texts<'_>, terms: &[Term]) -> Result<()
 
 fn push_terms(text: &mut String, texts: &Texts<'_>, terms: &[Term]) -> Result<(), AllocError>
     requires { AreTermsOf texts.now terms.now }
-    ensures { OnOk result (string_bytes text.new ≡ string_bytes text.old ++ with_between (codes " and ") (map term_words (terms_at texts.now terms.now))) }
+    ensures { OnOk result (string_bytes text.new
+        ≡ string_bytes text.old ++ with_between (codes " and ") (map term_words (terms_at texts.now terms.now))) }
 {
     let mut later = false;
     'terms: for term in terms {
@@ -114,7 +120,8 @@ fn push_term(
     term: &Term,
 ) -> Result<(), AllocError>
     requires { IsTermOf texts.now term.now }
-    ensures { OnOk result (string_bytes text.new ≡ string_bytes text.old ++ (text_if later (codes " and ") ++ term_words (term_at texts.now term.now))) }
+    ensures { OnOk result (string_bytes text.new
+        ≡ string_bytes text.old ++ (text_if later (codes " and ") ++ term_words (term_at texts.now term.now))) }
 {
     push_if(text, later, " and ")?;
     text.push_str(texts.vertex(term.vertex))?;
@@ -125,7 +132,8 @@ fn push_term(
 
 fn push_origin(text: &mut String, needed: &[usize], origin: &Origin) -> Result<(), AllocError>
     requires { IsNonDecreasing needed.now }
-    ensures { OnOk result ((t : TablesView) (terms : List axioms.Term) → string_bytes text.new ≡ string_bytes text.old ++ origin_words needed.now (step_by_origin t origin.now terms)) }
+    ensures { OnOk result ((t : TablesView) (terms : List axioms.Term) → string_bytes text.new
+        ≡ string_bytes text.old ++ origin_words needed.now (step_by_origin t origin.now terms)) }
 {
     match origin {
         Origin::Axiom(kind) => {

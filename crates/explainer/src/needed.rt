@@ -30,8 +30,10 @@ fn look_at(
     references: Option<(u64, u64)>,
 ) -> Result<(), AllocError>
     requires { number < length marks.old.items }
-    ensures marks { OnOk result (marks.new.items ≡ (if is_needed marks.old.items number then with_two references marks.old.items else marks.old.items)) }
-    ensures found { OnOk result (found.new.items ≡ (if is_needed marks.old.items number then found.old.items ++ number ∷ [] else found.old.items)) }
+    ensures marks { OnOk result (marks.new.items
+        ≡ (if is_needed marks.old.items number then with_two references marks.old.items else marks.old.items)) }
+    ensures found { OnOk result (found.new.items
+        ≡ (if is_needed marks.old.items number then found.old.items ++ number ∷ [] else found.old.items)) }
 {
     if is_needed(marks, number) {
         mark(marks, references);

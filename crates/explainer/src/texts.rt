@@ -95,7 +95,8 @@ fn push_state(
     number: usize,
 ) -> Result<(), AllocError>
     requires { number < length tables.now.states }
-    ensures { OnOk result (string_bytes text.new ≡ string_bytes text.old ++ (text_if later (codes ", ") ++ state_text (state_at tables.now number))) }
+    ensures { OnOk result (string_bytes text.new
+        ≡ string_bytes text.old ++ (text_if later (codes ", ") ++ state_text (state_at tables.now number))) }
 {
     push_if(text, later, ", ")?;
     text.push_str(tables.state_text(number))

@@ -2,11 +2,14 @@
 use Rattle.std.proofs.Common.{◌≡◌, ℕ, List, Some, slice_get, Contains, subst}
 use Rattle.model.specs.Summary.{Summary, Dependency, Entry, entries_at}
 use Rattle.model.specs.Facts.{Fact, Holds, here, on, enabled, Brings, Lists}
-use Rattle.model.specs.Facts.Holds.{starts, arrives, root_needs, needs, asks, root_wants, turns_on, enables, enables_for, wants, wants_weakly}
+use Rattle.model.specs.Facts.Holds.{starts, arrives, root_needs, needs, asks, root_wants, turns_on, enables}
+use Rattle.model.specs.Facts.Holds.{enables_for, wants, wants_weakly}
 
 -- R n m: the package m of the others stands for n. What R has to keep for the facts of the ones to hold of the others.
-module _ {N M : Type 0} (owner : N → Summary) (IsRoot Starts : N → Type 0) (root_asks : List (List ℕ × List ℕ)) (LeadsTo : N → ℕ → Dependency → N → Type 0)
-    (far_owner : M → Summary) (IsFarRoot FarStarts : M → Type 0) (far_asks : List (List ℕ × List ℕ)) (LeadsFar : M → ℕ → Dependency → M → Type 0)
+module _ {N M : Type 0} (owner : N → Summary) (IsRoot Starts : N → Type 0) (root_asks : List (List ℕ × List ℕ))
+    (LeadsTo : N → ℕ → Dependency → N → Type 0)
+    (far_owner : M → Summary) (IsFarRoot FarStarts : M → Type 0) (far_asks : List (List ℕ × List ℕ))
+    (LeadsFar : M → ℕ → Dependency → M → Type 0)
     (R : N → M → Type 0) where
   pub record Keeps : Type 0 where
     -- one package at most stands for another
@@ -15,7 +18,8 @@ module _ {N M : Type 0} (owner : N → Summary) (IsRoot Starts : N → Type 0) (
     pub roots : (n : N) (m : M) → R n m → IsRoot n → IsFarRoot m
     pub asked : (n : N) → IsRoot n → (a : List ℕ × List ℕ) → Contains root_asks a → Contains far_asks a
     pub begun : (n : N) → Starts n → (m : M) × R n m × FarStarts m
-    pub leads : (n t : N) (i : ℕ) (d : Dependency) (m : M) → R n m → Brings owner n i d → LeadsTo n i d t → (u : M) × R t u × LeadsFar m i d u
+    pub leads : (n t : N) (i : ℕ) (d : Dependency) (m : M) → R n m → Brings owner n i d → LeadsTo n i d t
+        → (u : M) × R t u × LeadsFar m i d u
 
   abbrev pub Near : Fact N → Type 0
   Near = Holds owner IsRoot Starts root_asks LeadsTo
@@ -57,8 +61,11 @@ module _ {N M : Type 0} (owner : N → Summary) (IsRoot Starts : N → Type 0) (
         (u.0, u.1, asks m u.0 i d f p (brings_far n i d m r b) u.2 a)
     holds_far x (root_wants n t i d g h is b l a) =
         let (m, r, p) = holds_far (here n) h in
-        let u = k.leads n t i d m r b l in
-        (u.0, u.1, root_wants m u.0 i d g p (k.roots n m r is) (brings_far n i d m r b) u.2 (k.asked n is (d.name, g) a))
+        let u = k.leads n t i d m r b l in (
+          u.0,
+          u.1,
+          root_wants m u.0 i d g p (k.roots n m r is) (brings_far n i d m r b) u.2 (k.asked n is (d.name, g) a),
+        )
     holds_far x (turns_on n f g h l) =
         let (m, r, p) = holds_far (on n f) h in
         (m, r, turns_on m f g p (lists_far n f _ m r l))
@@ -74,5 +81,9 @@ module _ {N M : Type 0} (owner : N → Summary) (IsRoot Starts : N → Type 0) (
         (u.0, u.1, wants m u.0 i d f g p (brings_far n i d m r b) (lists_far n f _ m r l) u.2)
     holds_far x (wants_weakly n t i d f g h b l e to) =
         let (m, r, p) = holds_far (on n f) h in
-        let u = k.leads n t i d m r b to in
-        (u.0, u.1, wants_weakly m u.0 i d f g p (brings_far n i d m r b) (lists_far n f _ m r l) (enabled_at n i m r (holds_far (enabled n i) e)) u.2)
+        let u = k.leads n t i d m r b to in (
+          u.0,
+          u.1,
+          wants_weakly m u.0 i d f g p (brings_far n i d m r b) (lists_far n f _ m r l)
+              (enabled_at n i m r (holds_far (enabled n i) e)) u.2,
+        )

@@ -1,5 +1,7 @@
 -- Which fact each number stands for: facts and numbers are one to one.
-use Rattle.std.proofs.Common.{◌≡◌, ℕ, zero, suc, ◌+◌, List, [], ◌∷◌, ◌++◌, map, length, Bool, true, false, cond, Option, Some, None, slice_get, is_some, option_and_then, refl, sym, ap, ap₂, ◌∙◌, subst, inl, inr, ◌⊎◌, arith}
+use Rattle.std.proofs.Common.{◌≡◌, ℕ, zero, suc, ◌+◌, List, [], ◌∷◌, ◌++◌, map, length, Bool, true, false, cond, Option}
+use Rattle.std.proofs.Common.{Some, None, slice_get, is_some, option_and_then, refl, sym, ap, ap₂, ◌∙◌, subst, inl, inr}
+use Rattle.std.proofs.Common.{◌⊎◌, arith}
 use Rattle.std.proofs.lemmas.List.{length-append, append_assoc}
 use Rattle.model.specs.Summary.{Dependency, Table, same_text, has_feature, entries_at}
 use Rattle.model.proofs.Same.{text-same}
@@ -45,8 +47,10 @@ module _ {X : Type 0} where
   long xs y = length-append xs (y ∷ []) ∙ omega arith
 
 -- the number of a feature is that of the fact that it is on
-feature_there : (n : ℕ) (f : List ℕ) (front : List Mark) (o : Option ℕ) (rows : Table) (rest : List Mark) (k : ℕ) → number_in (length front) o f rows ≡ Some k
-    → (o ≡ Some k) ⊎ ((slice_get (front ++ (on_marks n rows ++ rest)) k ≡ Some (is_on n f)) × (has_feature rows f ≡ true))
+feature_there : (n : ℕ) (f : List ℕ) (front : List Mark) (o : Option ℕ) (rows : Table) (rest : List Mark) (k : ℕ)
+    → number_in (length front) o f rows ≡ Some k
+    → (o ≡ Some k)
+    ⊎ ((slice_get (front ++ (on_marks n rows ++ rest)) k ≡ Some (is_on n f)) × (has_feature rows f ≡ true))
 feature_there n f front o [] rest k e = inl e
 feature_there n f front o (row ∷ rows) rest k e = by (same_text f row.0) refl
     (feature_there n f (front ++ is_on n row.0 ∷ []) (cond (same_text f row.0) (Some (length front)) o) rows rest k
@@ -56,36 +60,50 @@ feature_there n f front o (row ∷ rows) rest k e = by (same_text f row.0) refl
     same = one_more front (is_on n row.0) (on_marks n rows ++ rest)
 
     by : (b : Bool) → same_text f row.0 ≡ b
-        → (cond b (Some (length front)) o ≡ Some k) ⊎ ((slice_get ((front ++ is_on n row.0 ∷ []) ++ (on_marks n rows ++ rest)) k ≡ Some (is_on n f)) × (has_feature rows f ≡ true))
-        → (o ≡ Some k) ⊎ ((slice_get (front ++ (on_marks n (row ∷ rows) ++ rest)) k ≡ Some (is_on n f)) × (has_feature (row ∷ rows) f ≡ true))
+        → (cond b (Some (length front)) o ≡ Some k)
+        ⊎ ((slice_get ((front ++ is_on n row.0 ∷ []) ++ (on_marks n rows ++ rest)) k ≡ Some (is_on n f))
+        × (has_feature rows f ≡ true))
+        → (o ≡ Some k) ⊎ ((slice_get (front ++ (on_marks n (row ∷ rows) ++ rest)) k ≡ Some (is_on n f))
+        × (has_feature (row ∷ rows) f ≡ true))
     by true x (inl is) =
         let at : length front ≡ k = cc in
         inr (
           subst (λ m. slice_get (front ++ (on_marks n (row ∷ rows) ++ rest)) m ≡ Some (is_on n f)) at
-              (get_next front (is_on n row.0) (on_marks n rows ++ rest) ∙ ap (λ g. Some (is_on n g)) (sym (text-same f row.0 x))),
+              (get_next front (is_on n row.0) (on_marks n rows ++ rest)
+              ∙ ap (λ g. Some (is_on n g)) (sym (text-same f row.0 x))),
           ap (λ b. is_some (cond b (Some row.1) (entries_at f rows))) x,
         )
-    by true x (inr r) = inr (ap (λ ms. slice_get ms k) (sym same) ∙ r.0, ap (λ b. is_some (cond b (Some row.1) (entries_at f rows))) x)
+    by true x (inr r) =
+        inr (ap (λ ms. slice_get ms k) (sym same) ∙ r.0, ap (λ b. is_some (cond b (Some row.1) (entries_at f rows))) x)
     by false x (inl is) = inl is
-    by false x (inr r) = inr (ap (λ ms. slice_get ms k) (sym same) ∙ r.0, ap (λ b. is_some (cond b (Some row.1) (entries_at f rows))) x ∙ r.1)
+    by false x (inr r) = inr (
+      ap (λ ms. slice_get ms k) (sym same) ∙ r.0,
+      ap (λ b. is_some (cond b (Some row.1) (entries_at f rows))) x ∙ r.1,
+    )
 
 -- a feature without a number doesn't exist
-feature_absent : (f : List ℕ) (k : ℕ) (o : Option ℕ) (rows : Table) → number_in k o f rows ≡ None → (o ≡ None) × (has_feature rows f ≡ false)
+feature_absent : (f : List ℕ) (k : ℕ) (o : Option ℕ) (rows : Table) → number_in k o f rows ≡ None
+    → (o ≡ None) × (has_feature rows f ≡ false)
 feature_absent f k o [] e = (e, refl)
-feature_absent f k o (row ∷ rows) e = by (same_text f row.0) refl (feature_absent f (suc k) (cond (same_text f row.0) (Some k) o) rows e)
+feature_absent f k o (row ∷ rows) e =
+    by (same_text f row.0) refl (feature_absent f (suc k) (cond (same_text f row.0) (Some k) o) rows e)
   where
-    by : (b : Bool) → same_text f row.0 ≡ b → (cond b (Some k) o ≡ None) × (has_feature rows f ≡ false) → (o ≡ None) × (has_feature (row ∷ rows) f ≡ false)
+    by : (b : Bool) → same_text f row.0 ≡ b → (cond b (Some k) o ≡ None) × (has_feature rows f ≡ false)
+        → (o ≡ None) × (has_feature (row ∷ rows) f ≡ false)
     by true x (a, h) = let z : Some k ≡ None = a in absurd (cc)
     by false x (a, h) = (a, ap (λ b. is_some (cond b (Some row.1) (entries_at f rows))) x ∙ h)
 
 -- what is known of the dependency with a number
-pub record IsLink (marks : List Mark) (n : ℕ) (targets : List (Option ℕ)) (i : ℕ) (d : Dependency) (l : LinkView) : Type 0 where
+pub record IsLink (marks : List Mark) (n : ℕ) (targets : List (Option ℕ)) (i : ℕ) (d : Dependency)
+    (l : LinkView) : Type 0 where
   pub dependency : l.dependency ≡ d
   pub target : l.target ≡ option_and_then (λ o. o) (slice_get targets i)
   pub enabled : slice_get marks l.enabled ≡ Some (is_enabled n i)
 
-link_there : (n : ℕ) (targets : List (Option ℕ)) (front : List Mark) (i : ℕ) (ds : List Dependency) (rest : List Mark) (j : ℕ) (d : Dependency) → slice_get ds j ≡ Some d
-    → (l : LinkView) × (slice_get (links_from (length front) targets i ds) j ≡ Some l) × IsLink (front ++ (enabled_marks n i ds ++ rest)) n targets (i + j) d l
+link_there : (n : ℕ) (targets : List (Option ℕ)) (front : List Mark) (i : ℕ) (ds : List Dependency) (rest : List Mark)
+    (j : ℕ) (d : Dependency) → slice_get ds j ≡ Some d
+    → (l : LinkView) × (slice_get (links_from (length front) targets i ds) j ≡ Some l)
+    × IsLink (front ++ (enabled_marks n i ds ++ rest)) n targets (i + j) d l
 link_there n targets front i [] rest j d e = let z : None ≡ Some d = e in absurd cc
 link_there n targets front i (x ∷ ds) rest zero d e = (
   _,
@@ -93,19 +111,24 @@ link_there n targets front i (x ∷ ds) rest zero d e = (
   record {
     dependency = let s : x ≡ d = cc in s;
     target = let s : i ≡ i + 0 = omega arith in ap (λ m. option_and_then (λ o. o) (slice_get targets m)) s;
-    enabled = let s : i ≡ i + 0 = omega arith in get_next front (is_enabled n i) (enabled_marks n (suc i) ds ++ rest) ∙ ap (λ m. Some (is_enabled n m)) s;
+    enabled = let s : i ≡ i + 0 = omega arith in
+        get_next front (is_enabled n i) (enabled_marks n (suc i) ds ++ rest) ∙ ap (λ m. Some (is_enabled n m)) s;
   },
 )
 link_there n targets front i (x ∷ ds) rest (suc j) d e =
     let r = link_there n targets (front ++ is_enabled n i ∷ []) (suc i) ds rest j d e in
-    let same : (front ++ is_enabled n i ∷ []) ++ (enabled_marks n (suc i) ds ++ rest) ≡ front ++ (enabled_marks n i (x ∷ ds) ++ rest) = one_more front (is_enabled n i) (enabled_marks n (suc i) ds ++ rest) in
+    let same : (front ++ is_enabled n i ∷ []) ++ (enabled_marks n (suc i) ds ++ rest)
+    ≡ front ++ (enabled_marks n i (x ∷ ds) ++ rest) =
+    one_more front (is_enabled n i) (enabled_marks n (suc i) ds ++ rest) in
     let at : suc i + j ≡ i + suc j = omega arith in (
       r.0,
       ap (λ m. slice_get (links_from m targets (suc i) ds) j) (sym (long front (is_enabled n i))) ∙ r.1,
-      subst (λ m. IsLink (front ++ (enabled_marks n i (x ∷ ds) ++ rest)) n targets m d r.0) at (subst (λ ms. IsLink ms n targets (suc i + j) d r.0) same r.2),
+      subst (λ m. IsLink (front ++ (enabled_marks n i (x ∷ ds) ++ rest)) n targets m d r.0) at
+          (subst (λ ms. IsLink ms n targets (suc i + j) d r.0) same r.2),
     )
 
-link_back : (n : ℕ) (targets : List (Option ℕ)) (k i : ℕ) (ds : List Dependency) (j : ℕ) (l : LinkView) → slice_get (links_from k targets i ds) j ≡ Some l
+link_back : (n : ℕ) (targets : List (Option ℕ)) (k i : ℕ) (ds : List Dependency) (j : ℕ) (l : LinkView)
+    → slice_get (links_from k targets i ds) j ≡ Some l
     → (d : Dependency) × (slice_get ds j ≡ Some d)
 link_back n targets k i [] j l e = let z : None ≡ Some l = e in absurd cc
 link_back n targets k i (x ∷ ds) zero l e = (x, refl)
@@ -116,33 +139,45 @@ pub record IsNumbered (marks : List Mark) (n : ℕ) (x : NodeView) (p : FactNumb
   pub brings : p.brings ≡ x.brings
   pub here : slice_get marks p.here ≡ Some (is_here n)
   pub lacks : slice_get marks p.lacks ≡ Some (lacking n)
-  pub on : (f : List ℕ) (k : ℕ) → p.numbers f ≡ Some k → (slice_get marks k ≡ Some (is_on n f)) × (has_feature x.brings.features f ≡ true)
+  pub on : (f : List ℕ) (k : ℕ) → p.numbers f ≡ Some k
+      → (slice_get marks k ≡ Some (is_on n f)) × (has_feature x.brings.features f ≡ true)
   pub absent : (f : List ℕ) → p.numbers f ≡ None → has_feature x.brings.features f ≡ false
-  pub link : (i : ℕ) (d : Dependency) → slice_get x.brings.dependencies i ≡ Some d → (l : LinkView) × (slice_get p.links i ≡ Some l) × IsLink marks n x.targets i d l
-  pub back : (i : ℕ) (l : LinkView) → slice_get p.links i ≡ Some l → (d : Dependency) × (slice_get x.brings.dependencies i ≡ Some d)
+  pub link : (i : ℕ) (d : Dependency) → slice_get x.brings.dependencies i ≡ Some d
+      → (l : LinkView) × (slice_get p.links i ≡ Some l) × IsLink marks n x.targets i d l
+  pub back : (i : ℕ) (l : LinkView) → slice_get p.links i ≡ Some l
+      → (d : Dependency) × (slice_get x.brings.dependencies i ≡ Some d)
   pub called : (d : List ℕ) → p.called d ≡ links_called d p.links
 
-pub numbered : (front : List Mark) (n : ℕ) (x : NodeView) (p : FactNumbersView) (rest : List Mark) → IsNumberedFrom (length front) x p → IsNumbered (front ++ (block n x ++ rest)) n x p
+pub numbered : (front : List Mark) (n : ℕ) (x : NodeView) (p : FactNumbersView) (rest : List Mark)
+    → IsNumberedFrom (length front) x p → IsNumbered (front ++ (block n x ++ rest)) n x p
 numbered front n x p rest h =
     let rows = x.brings.features in
     let ds = x.brings.dependencies in
     let two : List Mark = (front ++ is_here n ∷ []) ++ lacking n ∷ [] in
-    let long_two : length two ≡ suc (suc (length front)) = long (front ++ is_here n ∷ []) (lacking n) ∙ ap suc (long front (is_here n)) in
+    let long_two : length two ≡ suc (suc (length front)) =
+    long (front ++ is_here n ∷ []) (lacking n) ∙ ap suc (long front (is_here n)) in
     let tail : List Mark = on_marks n rows ++ enabled_marks n 0 ds in
     let split : two ++ (tail ++ rest) ≡ front ++ (block n x ++ rest)
-    = one_more (front ++ is_here n ∷ []) (lacking n) (tail ++ rest) ∙ one_more front (is_here n) (lacking n ∷ (tail ++ rest)) in
+    = one_more (front ++ is_here n ∷ []) (lacking n) (tail ++ rest)
+    ∙ one_more front (is_here n) (lacking n ∷ (tail ++ rest)) in
     let ons : two ++ (on_marks n rows ++ (enabled_marks n 0 ds ++ rest)) ≡ front ++ (block n x ++ rest)
     = ap (λ ms. two ++ ms) (sym (append_assoc (on_marks n rows) (enabled_marks n 0 ds) rest)) ∙ split in
     let three : List Mark = two ++ on_marks n rows in
-    let long_three : length three ≡ suc (suc (length front)) + length rows = length-append two (on_marks n rows) ∙ ap₂ (λ a b. a + b) long_two (length-on n rows) in
-    let deps : three ++ (enabled_marks n 0 ds ++ rest) ≡ front ++ (block n x ++ rest) = append_assoc two (on_marks n rows) (enabled_marks n 0 ds ++ rest) ∙ ons in
-    let links : p.links ≡ links_from (length three) x.targets 0 ds = h.links ∙ ap (λ k. links_from k x.targets 0 ds) (sym long_three) in
+    let long_three : length three ≡ suc (suc (length front)) + length rows =
+    length-append two (on_marks n rows) ∙ ap₂ (λ a b. a + b) long_two (length-on n rows) in
+    let deps : three ++ (enabled_marks n 0 ds ++ rest) ≡ front ++ (block n x ++ rest) =
+    append_assoc two (on_marks n rows) (enabled_marks n 0 ds ++ rest) ∙ ons in
+    let links : p.links ≡ links_from (length three) x.targets 0 ds =
+    h.links ∙ ap (λ k. links_from k x.targets 0 ds) (sym long_three) in
     record {
       brings = h.brings;
-      here = ap (slice_get (front ++ (block n x ++ rest))) h.here ∙ get_next front (is_here n) (lacking n ∷ (tail ++ rest));
-      lacks = ap (slice_get (front ++ (block n x ++ rest))) h.lacks ∙ get_later front (is_here n) (lacking n) (tail ++ rest);
+      here = ap (slice_get (front ++ (block n x ++ rest))) h.here
+          ∙ get_next front (is_here n) (lacking n ∷ (tail ++ rest));
+      lacks = ap (slice_get (front ++ (block n x ++ rest))) h.lacks
+          ∙ get_later front (is_here n) (lacking n) (tail ++ rest);
       on = λ f k e.
-          let e2 : number_in (length two) None f rows ≡ Some k = ap (λ m. number_in m None f rows) long_two ∙ sym (h.numbers f) ∙ e in
+          let e2 : number_in (length two) None f rows ≡ Some k =
+          ap (λ m. number_in m None f rows) long_two ∙ sym (h.numbers f) ∙ e in
           elim (feature_there n f two None rows (enabled_marks n 0 ds ++ rest) k e2) [
             | inl z ↦ (let w : None ≡ Some k = z in absurd cc)
             | inr r ↦ (ap (λ ms. slice_get ms k) (sym ons) ∙ r.0, r.1)
@@ -150,8 +185,12 @@ numbered front n x p rest h =
       absent = λ f e. (feature_absent f (suc (suc (length front))) None rows (sym (h.numbers f) ∙ e)).1;
       link = λ i d e.
           let r = link_there n x.targets three 0 ds rest i d e in
-          let at : 0 + i ≡ i = omega arith in
-          (r.0, ap (λ ls. slice_get ls i) links ∙ r.1, subst (λ m. IsLink (front ++ (block n x ++ rest)) n x.targets m d r.0) at (subst (λ ms. IsLink ms n x.targets (0 + i) d r.0) deps r.2));
+          let at : 0 + i ≡ i = omega arith in (
+            r.0,
+            ap (λ ls. slice_get ls i) links ∙ r.1,
+            subst (λ m. IsLink (front ++ (block n x ++ rest)) n x.targets m d
+                r.0) at (subst (λ ms. IsLink ms n x.targets (0 + i) d r.0) deps r.2),
+          );
       back = λ i l e. link_back n x.targets (length three) 0 ds i l (ap (λ ls. slice_get ls i) (sym links) ∙ e);
       called = h.called;
     }

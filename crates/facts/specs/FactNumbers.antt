@@ -1,5 +1,6 @@
 -- The numbers of facts: each package has its own, one after another.
-use Rattle.std.specs.Prelude.{◌≡◌, ◌+◌, ℕ, suc, Bool, false, if◌then◌else◌, List, [], ◌∷◌, ◌++◌, map, length, Vec, Option, None, Some, slice_get, option_and_then}
+use Rattle.std.specs.Prelude.{◌≡◌, ◌+◌, ℕ, suc, Bool, false, if◌then◌else◌, List, [], ◌∷◌, ◌++◌, map, length, Vec}
+use Rattle.std.specs.Prelude.{Option, None, Some, slice_get, option_and_then}
 use Rattle.std.specs.List.{filter, flat_map}
 use Rattle.std.specs.Map.{lookup}
 use Rattle.std.specs.Borrow.{Bor}
@@ -64,7 +65,8 @@ number_in k o f (row ∷ rows) = number_in (suc k) (if same_text f row.0 then So
 abbrev pub links_from : ℕ → List (Option ℕ) → ℕ → List Dependency → List LinkView
 links_from k targets i [] = []
 links_from k targets i (d ∷ ds) =
-    record { dependency = d; enabled = k; target = option_and_then (λ o. o) (slice_get targets i) } ∷ links_from (suc k) targets (suc i) ds
+    record { dependency = d; enabled = k; target = option_and_then (λ o. o) (slice_get targets i) }
+    ∷ links_from (suc k) targets (suc i) ds
 
 abbrev pub links_called : List ℕ → List LinkView → List LinkView
 links_called d ls = filter (λ l. same_text d l.dependency.name) ls

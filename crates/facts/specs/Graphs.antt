@@ -1,6 +1,7 @@
 -- Packages with where their dependencies lead, and the facts that finite chains of reasons give of them (Cargo book,
 -- "Features"). What they are, packages of a lock or versions that a walk meets, is said by those who make the list.
-use Rattle.std.specs.Prelude.{◌≡◌, ◌<◌, ℕ, Bool, true, false, List, [], map, Option, Some, None, slice_get, slice_index_or, option_and_then, unwrap_or, length}
+use Rattle.std.specs.Prelude.{◌≡◌, ◌<◌, ℕ, Bool, true, false, List, [], map, Option, Some, None, slice_get}
+use Rattle.std.specs.Prelude.{slice_index_or, option_and_then, unwrap_or, length}
 use Rattle.std.specs.List.{All}
 use Rattle.features.specs.Views.{brings_view}
 use Rattle.model.specs.Summary.{Summary, nothing, has_feature}
@@ -54,7 +55,8 @@ module _ (nodes : List NodeView) where
 
   -- the facts, where the package at this place is the root
   abbrev pub IsFactOf : ℕ → Fact ℕ → Type 0
-  IsFactOf root = Holds brings_at (λ n. n ≡ root) (λ n. starts_at n ≡ true) (root_asks (brings_at root).features) (λ n i d t. target_at n i ≡ Some t)
+  IsFactOf root = Holds brings_at (λ n. n ≡ root) (λ n. starts_at n ≡ true) (root_asks (brings_at root).features)
+      (λ n i d t. target_at n i ≡ Some t)
 
   -- a feature is on that doesn't exist there
   abbrev pub LacksFeature : ℕ → ℕ → Type 0

@@ -31,9 +31,12 @@ pub struct Facts {
 /// The only error is want of memory.
 pub fn facts_of(alloc: Global, nodes: &[Node<'_>], root: usize) -> Result<Facts, AllocError>
     requires graph { IsGraph (node_views nodes.now) }
-    ensures here { IfOk result (λ f. (n : ℕ) → (flag_at f.here.items n ≡ true) ↔ IsFactOf (node_views nodes.now) root (here n)) }
-    ensures enabled { IfOk result (λ f. (n i : ℕ) → (flag_in (map (λ v. v.items) f.enabled.items) n i ≡ true) ↔ IsFactOf (node_views nodes.now) root (enabled n i)) }
-    ensures lacks { IfOk result (λ f. (n : ℕ) → (flag_at f.lacks.items n ≡ true) ↔ LacksFeature (node_views nodes.now) root n) }
+    ensures here { IfOk result
+        (λ f. (n : ℕ) → (flag_at f.here.items n ≡ true) ↔ IsFactOf (node_views nodes.now) root (here n)) }
+    ensures enabled { IfOk result (λ f. (n i : ℕ) → (flag_in (map (λ v. v.items) f.enabled.items) n i ≡ true)
+        ↔ IsFactOf (node_views nodes.now) root (enabled n i)) }
+    ensures lacks { IfOk result
+        (λ f. (n : ℕ) → (flag_at f.lacks.items n ≡ true) ↔ LacksFeature (node_views nodes.now) root n) }
 {
     let mut marked = Vec::new(alloc);
     let packages = numbers_of_all(alloc, nodes, &mut marked)?;

@@ -3,7 +3,9 @@
 ghost use Rattle.std.specs.Prelude.{◌≡◌, ◌++◌, ◌∷◌, [], ℕ, List, None, Some, length, map, OnOk, IfOk};
 ghost use Rattle.features.specs.Views.{dependency_views, brings_view};
 ghost use Rattle.facts.specs.Graphs.{node_view, node_views, target_if};
-ghost use Rattle.facts.specs.FactNumbers.{at_text, number_in, link_view, link_views, links_if, links_from, links_called, unmarked_for, flags_of, flags_of_all, numbers_view, numbers_views, IsNumberedFrom, AreNumberedFrom};
+ghost use Rattle.facts.specs.FactNumbers.{at_text, number_in, link_view, link_views, links_if, links_from};
+ghost use Rattle.facts.specs.FactNumbers.{links_called, unmarked_for, flags_of, flags_of_all, numbers_view};
+ghost use Rattle.facts.specs.FactNumbers.{numbers_views, IsNumberedFrom, AreNumberedFrom};
 
 use crate::fact_numbers::{FactNumbers, Link};
 use crate::node::Node;
@@ -19,7 +21,8 @@ pub(crate) fn numbers_of_all<'a>(
     marked: &mut Vec<bool>,
 ) -> Result<Vec<FactNumbers<'a>>, AllocError>
     ensures marked { OnOk result (marked.new.items ≡ marked.old.items ++ flags_of_all (node_views nodes.now)) }
-    ensures packages { IfOk result (λ v. AreNumberedFrom (length marked.old.items) (node_views nodes.now) (numbers_views v.items)) }
+    ensures packages { IfOk result
+        (λ v. AreNumberedFrom (length marked.old.items) (node_views nodes.now) (numbers_views v.items)) }
 {
     let mut packages = Vec::new(alloc);
     'nodes: for node in nodes {
@@ -34,7 +37,8 @@ fn numbers_of<'a>(
     marked: &mut Vec<bool>,
 ) -> Result<FactNumbers<'a>, AllocError>
     ensures marked { OnOk result (marked.new.items ≡ marked.old.items ++ flags_of (node_view node.now)) }
-    ensures numbers { IfOk result (λ p. IsNumberedFrom (length marked.old.items) (node_view node.now) (numbers_view p)) }
+    ensures numbers { IfOk result
+        (λ p. IsNumberedFrom (length marked.old.items) (node_view node.now) (numbers_view p)) }
 {
     let here = marked.len();
     marked.push(node.starts)?;
@@ -59,8 +63,10 @@ fn features_of<'a>(
     brings: Option<&'a Summary>,
     marked: &mut Vec<bool>,
 ) -> Result<BTreeMap<&'a str, usize>, AllocError>
-    ensures marked { OnOk result (marked.new.items ≡ marked.old.items ++ unmarked_for (brings_view brings.entry).features) }
-    ensures numbers { IfOk result (λ m. (f : List ℕ) → at_text m.entries f ≡ number_in (length marked.old.items) None f (brings_view brings.entry).features) }
+    ensures marked { OnOk result
+        (marked.new.items ≡ marked.old.items ++ unmarked_for (brings_view brings.entry).features) }
+    ensures numbers { IfOk result (λ m. (f : List ℕ)
+        → at_text m.entries f ≡ number_in (length marked.old.items) None f (brings_view brings.entry).features) }
 {
     match brings {
         Some(summary) => table_numbers(alloc, &summary.features, marked),
@@ -74,7 +80,8 @@ fn table_numbers<'a>(
     marked: &mut Vec<bool>,
 ) -> Result<BTreeMap<&'a str, usize>, AllocError>
     ensures marked { OnOk result (marked.new.items ≡ marked.old.items ++ unmarked_for table.entry.now) }
-    ensures numbers { IfOk result (λ m. (f : List ℕ) → at_text m.entries f ≡ number_in (length marked.old.items) None f table.entry.now) }
+    ensures numbers { IfOk result
+        (λ m. (f : List ℕ) → at_text m.entries f ≡ number_in (length marked.old.items) None f table.entry.now) }
 {
     let mut numbers = BTreeMap::new(alloc);
     'rows: for (name, _) in table.iter() {
@@ -90,8 +97,10 @@ fn links_of<'a>(
     node: &Node<'a>,
     marked: &mut Vec<bool>,
 ) -> Result<Vec<Link<'a>>, AllocError>
-    ensures marked { OnOk result (marked.new.items ≡ marked.old.items ++ unmarked_for (node_view node.now).brings.dependencies) }
-    ensures links { IfOk result (λ v. link_views v.items ≡ links_from (length marked.old.items) node.now.targets.items 0 (node_view node.now).brings.dependencies) }
+    ensures marked { OnOk result
+        (marked.new.items ≡ marked.old.items ++ unmarked_for (node_view node.now).brings.dependencies) }
+    ensures links { IfOk result (λ v. link_views v.items
+        ≡ links_from (length marked.old.items) node.now.targets.items 0 (node_view node.now).brings.dependencies) }
 {
     let mut links = Vec::new(alloc);
     'dependencies: for (number, dependency) in dependencies_of(node.brings).iter().enumerate() {
@@ -144,7 +153,8 @@ fn put<'a>(
     called: &mut BTreeMap<&'a str, Vec<Link<'a>>>,
     link: Link<'a>,
 ) -> Result<(), AllocError>
-    ensures { OnOk result ((d : List ℕ) → links_if (at_text called.new.entries d) ≡ links_if (at_text called.old.entries d) ++ links_called d (link_views (link.entry ∷ []))) }
+    ensures { OnOk result ((d : List ℕ) → links_if (at_text called.new.entries d)
+        ≡ links_if (at_text called.old.entries d) ++ links_called d (link_views (link.entry ∷ []))) }
 {
     let name = link.dependency.name.as_str();
     if let Some(links) = called.get_mut(name) {

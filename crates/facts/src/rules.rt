@@ -5,7 +5,10 @@ ghost use Rattle.std.specs.List.{flat_map};
 ghost use Rattle.features.specs.Views.{dependency_view};
 ghost use Rattle.features.specs.EntryViews.{entry_view, entry_views};
 ghost use Rattle.facts.specs.FactNumbers.{link_view, link_views, numbers_view, numbers_views};
-ghost use Rattle.facts.specs.RuleLists.{one, both, number_on, package_at, ask, ask_features, arrive, need, is_needed, link_rules, enable_all, ask_all, ask_enabled, entry_rules, root_rules, root_entries, root_table, entries_rules, features_rules, table_rules, package_rules, all_rules};
+ghost use Rattle.facts.specs.RuleLists.{one, both, number_on, package_at, ask, ask_features, arrive, need, is_needed};
+ghost use Rattle.facts.specs.RuleLists.{link_rules, enable_all, ask_all, ask_enabled, entry_rules, root_rules};
+ghost use Rattle.facts.specs.RuleLists.{root_entries, root_table, entries_rules, features_rules, table_rules};
+ghost use Rattle.facts.specs.RuleLists.{package_rules, all_rules};
 
 use crate::fact_numbers::{FactNumbers, Link};
 use chains::Rule;
@@ -33,7 +36,8 @@ fn package_rules(
     node: &FactNumbers<'_>,
     is_root: bool,
 ) -> Result<(), AllocError>
-    ensures { OnOk result (rules.new.items ≡ rules.old.items ++ package_rules (numbers_views packages.now) is_root (numbers_view node.now)) }
+    ensures { OnOk result (rules.new.items
+        ≡ rules.old.items ++ package_rules (numbers_views packages.now) is_root (numbers_view node.now)) }
 {
     'links: for link in &node.links {
         link_rules(rules, packages, node.here, is_root, link)?;
@@ -52,7 +56,8 @@ fn link_rules(
     is_root: bool,
     link: &Link<'_>,
 ) -> Result<(), AllocError>
-    ensures { OnOk result (rules.new.items ≡ rules.old.items ++ link_rules (numbers_views packages.now) is_root here (link_view link.now)) }
+    ensures { OnOk result (rules.new.items
+        ≡ rules.old.items ++ link_rules (numbers_views packages.now) is_root here (link_view link.now)) }
 {
     need(rules, here, is_root, link)?;
     match package_at(packages, link.target) {
@@ -88,7 +93,8 @@ fn arrive(
     link: &Link<'_>,
     target: &FactNumbers<'_>,
 ) -> Result<(), AllocError>
-    ensures { OnOk result (rules.new.items ≡ rules.old.items ++ arrive (link_view link.now) (Some (numbers_view target.now))) }
+    ensures { OnOk result
+        (rules.new.items ≡ rules.old.items ++ arrive (link_view link.now) (Some (numbers_view target.now))) }
 {
     rules.push(one(link.enabled, target.here))?;
     ask_features(
@@ -109,7 +115,8 @@ fn ask_features(
     target: &FactNumbers<'_>,
     features: &[FeatureName],
 ) -> Result<(), AllocError>
-    ensures { OnOk result (rules.new.items ≡ rules.old.items ++ ask_features fact (numbers_view target.now) features.now) }
+    ensures { OnOk result
+        (rules.new.items ≡ rules.old.items ++ ask_features fact (numbers_view target.now) features.now) }
 {
     'features: for feature in features {
         rules.push(one(fact, number_on(target, feature.as_str())))?;
@@ -124,7 +131,8 @@ fn table_rules(
     is_root: bool,
     table: &FeatureTable,
 ) -> Result<(), AllocError>
-    ensures { OnOk result (rules.new.items ≡ rules.old.items ++ table_rules (numbers_views packages.now) is_root (numbers_view node.now) table.now) }
+    ensures { OnOk result (rules.new.items
+        ≡ rules.old.items ++ table_rules (numbers_views packages.now) is_root (numbers_view node.now) table.now) }
 {
     features_rules(rules, packages, node, table)?;
     if is_root {
@@ -140,7 +148,8 @@ fn features_rules(
     node: &FactNumbers<'_>,
     table: &FeatureTable,
 ) -> Result<(), AllocError>
-    ensures { OnOk result (rules.new.items ≡ rules.old.items ++ features_rules (numbers_views packages.now) (numbers_view node.now) table.now) }
+    ensures { OnOk result (rules.new.items
+        ≡ rules.old.items ++ features_rules (numbers_views packages.now) (numbers_view node.now) table.now) }
 {
     'rows: for (name, _) in table.iter() {
         let fact = number_on(node, name.as_str());
@@ -157,7 +166,8 @@ fn entries_rules(
     fact: usize,
     entries: &[Entry],
 ) -> Result<(), AllocError>
-    ensures { OnOk result (rules.new.items ≡ rules.old.items ++ entries_rules (numbers_views packages.now) (numbers_view node.now) fact (entry_views entries.now)) }
+    ensures { OnOk result (rules.new.items ≡ rules.old.items
+        ++ entries_rules (numbers_views packages.now) (numbers_view node.now) fact (entry_views entries.now)) }
 {
     'entries: for entry in entries {
         entry_rules(rules, packages, node, fact, entry)?;
@@ -172,7 +182,8 @@ fn root_table(
     node: &FactNumbers<'_>,
     table: &FeatureTable,
 ) -> Result<(), AllocError>
-    ensures { OnOk result (rules.new.items ≡ rules.old.items ++ root_table (numbers_views packages.now) (numbers_view node.now) table.now) }
+    ensures { OnOk result (rules.new.items
+        ≡ rules.old.items ++ root_table (numbers_views packages.now) (numbers_view node.now) table.now) }
 {
     'rows: for (_, entries) in table.iter() {
         root_entries(rules, packages, node, entries.as_slice())?;
@@ -186,7 +197,8 @@ fn root_entries(
     node: &FactNumbers<'_>,
     entries: &[Entry],
 ) -> Result<(), AllocError>
-    ensures { OnOk result (rules.new.items ≡ rules.old.items ++ root_entries (numbers_views packages.now) (numbers_view node.now) (entry_views entries.now)) }
+    ensures { OnOk result (rules.new.items ≡ rules.old.items
+        ++ root_entries (numbers_views packages.now) (numbers_view node.now) (entry_views entries.now)) }
 {
     'entries: for entry in entries {
         root_rules(rules, packages, node, entry)?;
@@ -201,7 +213,8 @@ fn entry_rules(
     fact: usize,
     entry: &Entry,
 ) -> Result<(), AllocError>
-    ensures { OnOk result (rules.new.items ≡ rules.old.items ++ entry_rules (numbers_views packages.now) (numbers_view node.now) fact (entry_view entry.now)) }
+    ensures { OnOk result (rules.new.items ≡ rules.old.items
+        ++ entry_rules (numbers_views packages.now) (numbers_view node.now) fact (entry_view entry.now)) }
 {
     match entry {
         Entry::Feature(feature) => {
@@ -225,7 +238,8 @@ fn root_rules(
     node: &FactNumbers<'_>,
     entry: &Entry,
 ) -> Result<(), AllocError>
-    ensures { OnOk result (rules.new.items ≡ rules.old.items ++ root_rules (numbers_views packages.now) (numbers_view node.now) (entry_view entry.now)) }
+    ensures { OnOk result (rules.new.items
+        ≡ rules.old.items ++ root_rules (numbers_views packages.now) (numbers_view node.now) (entry_view entry.now)) }
 {
     match entry {
         Entry::Feature(_) | Entry::Dependency(_) => Ok(()),
@@ -242,7 +256,8 @@ fn enable_called(
     fact: usize,
     name: &PackageName,
 ) -> Result<(), AllocError>
-    ensures { OnOk result (rules.new.items ≡ rules.old.items ++ enable_all fact ((numbers_view node.now).called name.now)) }
+    ensures { OnOk result
+        (rules.new.items ≡ rules.old.items ++ enable_all fact ((numbers_view node.now).called name.now)) }
 {
     match node.called.get(name.as_str()) {
         Some(links) => enable_all(rules, fact, links.as_slice()),
@@ -259,7 +274,8 @@ fn ask_called(
     name: &PackageName,
     feature: &FeatureName,
 ) -> Result<(), AllocError>
-    ensures { OnOk result (rules.new.items ≡ rules.old.items ++ ask_all (numbers_views packages.now) fact ((numbers_view node.now).called name.now) feature.now) }
+    ensures { OnOk result (rules.new.items ≡ rules.old.items
+        ++ ask_all (numbers_views packages.now) fact ((numbers_view node.now).called name.now) feature.now) }
 {
     match node.called.get(name.as_str()) {
         Some(links) => ask_all(rules, packages, fact, links.as_slice(), feature.as_str()),
@@ -276,7 +292,8 @@ fn ask_weakly(
     name: &PackageName,
     feature: &FeatureName,
 ) -> Result<(), AllocError>
-    ensures { OnOk result (rules.new.items ≡ rules.old.items ++ ask_enabled (numbers_views packages.now) fact ((numbers_view node.now).called name.now) feature.now) }
+    ensures { OnOk result (rules.new.items ≡ rules.old.items
+        ++ ask_enabled (numbers_views packages.now) fact ((numbers_view node.now).called name.now) feature.now) }
 {
     match node.called.get(name.as_str()) {
         Some(links) => ask_enabled(rules, packages, fact, links.as_slice(), feature.as_str()),
@@ -302,7 +319,8 @@ fn ask_all(
     links: &[Link<'_>],
     feature: &str,
 ) -> Result<(), AllocError>
-    ensures { OnOk result (rules.new.items ≡ rules.old.items ++ ask_all (numbers_views packages.now) fact (link_views links.now) feature.now) }
+    ensures { OnOk result (rules.new.items
+        ≡ rules.old.items ++ ask_all (numbers_views packages.now) fact (link_views links.now) feature.now) }
 {
     'links: for link in links {
         ask(
@@ -324,7 +342,8 @@ fn ask_enabled(
     links: &[Link<'_>],
     feature: &str,
 ) -> Result<(), AllocError>
-    ensures { OnOk result (rules.new.items ≡ rules.old.items ++ ask_enabled (numbers_views packages.now) fact (link_views links.now) feature.now) }
+    ensures { OnOk result (rules.new.items
+        ≡ rules.old.items ++ ask_enabled (numbers_views packages.now) fact (link_views links.now) feature.now) }
 {
     'links: for link in links {
         ask(
@@ -345,7 +364,8 @@ fn ask(
     target: Option<&FactNumbers<'_>>,
     feature: &str,
 ) -> Result<(), AllocError>
-    ensures { OnOk result (rules.new.items ≡ rules.old.items ++ ask first second (option_map (λ p. numbers_view p.now) target.entry) feature.now) }
+    ensures { OnOk result (rules.new.items
+        ≡ rules.old.items ++ ask first second (option_map (λ p. numbers_view p.now) target.entry) feature.now) }
 {
     let Some(target) = target else {
         return Ok(());

@@ -26,7 +26,8 @@ without ds written fault = or_fault (model.free_of ds written fault)
 
 -- no entry has a fault
 abbrev pub faultless : List model.DepName → Table → Result (Unit {0}) FeatureFault
-faultless ds written = without ds written model.no_such_feature >>= λ features. without ds written model.no_such_dependency >>= λ dependencies. without ds written model.not_optional
+faultless ds written = without ds written model.no_such_feature >>= λ features.
+    without ds written model.no_such_dependency >>= λ dependencies. without ds written model.not_optional
 
 -- the rows of the implicit features of these dependencies
 abbrev pub implicit_rows : (List ℕ → Bool) → List model.DepName → Table

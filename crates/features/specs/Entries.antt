@@ -1,5 +1,6 @@
 -- Which texts are entries of features, and which entries they are (Cargo book, "Features").
-use Rattle.std.specs.Prelude.{ℕ, ◌&&◌, ◌==◌, if◌then◌else◌, List, length, drop, take, ◌-◌, Option, Some, None, nat_eq, codes}
+use Rattle.std.specs.Prelude.{ℕ, ◌&&◌, ◌==◌, if◌then◌else◌, List, length, drop, take, ◌-◌, Option, Some, None, nat_eq}
+use Rattle.std.specs.Prelude.{codes}
 use Rattle.std.specs.List.{before_first, after_first, list_any, starts_with, ends_with}
 use Rattle.model.specs.Summary.{Entry, feature, dependency, dependency_feature, weak_feature}
 use Rattle.features.specs.Names.{is_package_name, is_feature_name}
@@ -14,7 +15,8 @@ before_text end text = if ends_with nat_eq text end then Some (take (length text
 
 -- what stands before and after the first such byte
 abbrev pub around : ℕ → List ℕ → Option (List ℕ × List ℕ)
-around byte text = if list_any (λ b. b == byte) text then Some (before_first (λ b. b == byte) text, after_first (λ b. b == byte) text) else None
+around byte text = if list_any (λ b. b == byte) text then
+    Some (before_first (λ b. b == byte) text, after_first (λ b. b == byte) text) else None
 
 -- the feature of that name
 abbrev pub feature_of : List ℕ → Option Entry

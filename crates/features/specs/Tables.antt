@@ -11,7 +11,8 @@ use Rattle.features.specs.EntryViews.{entry_views}
 use Rattle.features.specs.declared.entry.Entry.{Entry}
 use Rattle.features.specs.declared.table.DepName.{DepName}
 use Rattle.features.specs.declared.table.FeatureFault.{FeatureFault}
-use Rattle.features.specs.declared.table.FeatureFault.TheVariants.{OutOfMemory, NoSuchFeature, NoSuchDependency, NotOptional}
+use Rattle.features.specs.declared.table.FeatureFault.TheVariants.{OutOfMemory, NoSuchFeature, NoSuchDependency}
+use Rattle.features.specs.declared.table.FeatureFault.TheVariants.{NotOptional}
 
 -- what a map of vectors is as a table
 abbrev pub rows_of : List (List ℕ × Vec Entry Global) → Table

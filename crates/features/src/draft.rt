@@ -4,7 +4,8 @@ ghost use Rattle.std.specs.Prelude.{◌≡◌, ◌||◌, ℕ, List, IfOk, OnOk, 
 ghost use Rattle.std.specs.List.{list_any};
 ghost use Rattle.model.specs.Outcome.{Gives};
 ghost use Rattle.model.specs.Summary.{has_feature, same_text};
-ghost use Rattle.model.specs.Tables.{has_dep_entry, has_dependency, has_fault, first_with, is_dep, implicit_entries, is_feature, is_implicit, is_optional};
+ghost use Rattle.model.specs.Tables.{has_dep_entry, has_dependency, has_fault, first_with, is_dep, implicit_entries};
+ghost use Rattle.model.specs.Tables.{is_feature, is_implicit, is_optional};
 ghost use Rattle.features.specs.Drafts.{faultless, implicit_rows, lack_view, rows_or_fault, without};
 ghost use Rattle.features.specs.Texts.{has_text, HasThose, texts_in};
 ghost use Rattle.features.specs.EntryViews.{entry_view, entry_views};
@@ -50,7 +51,8 @@ struct Draft<'a> {
 
 /// What the dependencies are called.
 fn called<'a>(alloc: Global, dependencies: &'a [DepName]) -> Result<Texts<'a>, AllocError>
-    ensures { IfOk result (λ names. HasThose (texts_in names) (has_dependency (dep_names_view dependencies.entry.now))) }
+    ensures { IfOk result
+        (λ names. HasThose (texts_in names) (has_dependency (dep_names_view dependencies.entry.now))) }
 {
     let mut names = Texts::new(alloc);
     for dependency in dependencies {
@@ -87,7 +89,8 @@ fn entered<'a>(
 }
 
 fn put_entered<'a>(names: &mut Texts<'a>, entries: &'a [Entry]) -> Result<(), AllocError>
-    ensures { OnOk result ((d : List ℕ) → has_text (texts_in names.new) d ≡ (has_text (texts_in names.old) d || list_any (is_dep d) (entry_views entries.now))) }
+    ensures { OnOk result ((d : List ℕ) → has_text (texts_in names.new) d
+        ≡ (has_text (texts_in names.old) d || list_any (is_dep d) (entry_views entries.now))) }
 {
     for entry in entries {
         if let Entry::Dependency(name) = entry {
@@ -119,7 +122,8 @@ impl<'a> Draft<'a> {
         dependencies: &'a [DepName],
         written: &'a BTreeMap<FeatureName, Vec<Entry>>,
     ) -> Result<Draft<'a>, AllocError>
-        ensures { IfOk result (λ d. (names_in d ≡ dep_names_view dependencies.entry.now) × (written_in d ≡ rows_of written.entry.now.entries)) }
+        ensures { IfOk result (λ d. (names_in d ≡ dep_names_view dependencies.entry.now)
+            × (written_in d ≡ rows_of written.entry.now.entries)) }
     {
         Ok(Draft {
             dependencies,
@@ -168,14 +172,16 @@ impl<'a> Draft<'a> {
     }
 
     fn some_lacking(&self, lack: Lack, entries: &[Entry]) -> bool
-        ensures { result ≡ list_any (λ entry. has_fault (names_in self.now) (written_in self.now) (lack_view lack) (entry_view entry)) entries.now }
+        ensures { result ≡ list_any (λ entry.
+            has_fault (names_in self.now) (written_in self.now) (lack_view lack) (entry_view entry)) entries.now }
     {
         entries.iter().any(|entry| self.is_lacking(lack, entry))
     }
 
     /// The first feature with an entry that lacks this.
     fn first_lacking(&self, lack: Lack) -> Option<&'a FeatureName>
-        ensures { option_copied result ≡ first_with (has_fault (names_in self.now) (written_in self.now) (lack_view lack)) (written_in self.now) }
+        ensures { option_copied result
+            ≡ first_with (has_fault (names_in self.now) (written_in self.now) (lack_view lack)) (written_in self.now) }
     {
         'rows: for (feature, entries) in self.written.iter() {
             if self.some_lacking(lack, entries.as_slice()) {
@@ -186,7 +192,8 @@ impl<'a> Draft<'a> {
     }
 
     fn without(&self, lack: Lack) -> Result<(), FeatureFault>
-        ensures { Gives table_wants_memory (λ u. u) result (without (names_in self.now) (written_in self.now) (lack_view lack)) }
+        ensures { Gives table_wants_memory
+            (λ u. u) result (without (names_in self.now) (written_in self.now) (lack_view lack)) }
     {
         let Some(feature) = self.first_lacking(lack) else {
             return Ok(());
@@ -209,7 +216,8 @@ impl<'a> Draft<'a> {
 
     /// The rows of the implicit features, dependency after dependency.
     fn implicit_rows(&self, alloc: Global) -> Result<Vec<(FeatureName, Vec<Entry>)>, AllocError>
-        ensures { IfOk result (λ v. rows_of v.items ≡ implicit_rows (is_implicit (names_in self.now) (written_in self.now)) (names_in self.now)) }
+        ensures { IfOk result (λ v. rows_of v.items
+            ≡ implicit_rows (is_implicit (names_in self.now) (written_in self.now)) (names_in self.now)) }
     {
         let mut rows = Vec::new(alloc);
         for dependency in self.dependencies {
@@ -236,7 +244,8 @@ pub(crate) fn implicit_rows(
     dependencies: &[DepName],
     written: &BTreeMap<FeatureName, Vec<Entry>>,
 ) -> Result<Vec<(FeatureName, Vec<Entry>)>, FeatureFault>
-    ensures { Gives table_wants_memory (λ v. rows_of v.items) result (rows_or_fault (dep_names_view dependencies.now) (rows_of written.now.entries)) }
+    ensures { Gives table_wants_memory
+        (λ v. rows_of v.items) result (rows_or_fault (dep_names_view dependencies.now) (rows_of written.now.entries)) }
 {
     let draft = Draft::of(alloc, dependencies, written)?;
     draft.faultless()?;

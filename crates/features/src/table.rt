@@ -87,7 +87,8 @@ impl FeatureTable {
         dependencies: &[DepName],
         written: BTreeMap<FeatureName, Vec<Entry>>,
     ) -> Result<FeatureTable, FeatureFault>
-        ensures { Gives table_wants_memory (λ t. t) result (built (dep_names_view dependencies.now) (rows_of written.entries)) }
+        ensures { Gives table_wants_memory
+            (λ t. t) result (built (dep_names_view dependencies.now) (rows_of written.entries)) }
     {
         let implicit = implicit_rows(alloc, dependencies, &written)?;
         let features = with_rows(written, implicit)?;

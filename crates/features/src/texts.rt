@@ -29,7 +29,8 @@ impl<'a> Texts<'a> {
         }
     }
 
-    /// The texts of a list. Where there are more than a few, the tree is made at once: those of a map rise, so that none
+    /// The texts of a list. Where there are more than a few, the tree is made at once: those of a map rise, so that
+    /// none
     /// need be looked up.
     pub(crate) fn of(alloc: Global, texts: Vec<&'a str>) -> Result<Texts<'a>, AllocError>
         ensures { IfOk result (λ t. (d : List ℕ) → has_text (texts_in t) d ≡ has_text texts.entry.items d) }
@@ -53,7 +54,8 @@ impl<'a> Texts<'a> {
     }
 
     pub(crate) fn put(&mut self, text: &'a str) -> Result<(), AllocError>
-        ensures { OnOk result ((d : List ℕ) → has_text (texts_in self.new) d ≡ (has_text (texts_in self.old) d || same_text d text.now)) }
+        ensures { OnOk result
+            ((d : List ℕ) → has_text (texts_in self.new) d ≡ (has_text (texts_in self.old) d || same_text d text.now)) }
     {
         if self.few.len() < FEW {
             self.few.push(text)?;

@@ -1,5 +1,7 @@
 -- The place of a version after those of lower classes is its place in its class.
-use Rattle.std.proofs.Common.{◌≡◌, ℕ, zero, suc, ◌+◌, ◌-◌, ◌<◌, ◌≤◌, Bool, true, false, not, cond, List, [], ◌∷◌, map, filter, take, drop, length, get_or, Option, Some, None, Contains, option_map, slice_get, refl, sym, ap, ◌∙◌, subst, arith, inl, inr, true≢false}
+use Rattle.std.proofs.Common.{◌≡◌, ℕ, zero, suc, ◌+◌, ◌-◌, ◌<◌, ◌≤◌, Bool, true, false, not, cond, List, [], ◌∷◌, map}
+use Rattle.std.proofs.Common.{filter, take, drop, length, get_or, Option, Some, None, Contains, option_map, slice_get}
+use Rattle.std.proofs.Common.{refl, sym, ap, ◌∙◌, subst, arith, inl, inr, true≢false}
 use Rattle.std.specs.List.{All}
 use Rattle.std.specs.List.Sorted.{IsPartitionPoint}
 use Rattle.std.specs.Prelude.{unwrap_or}
@@ -68,28 +70,35 @@ not_true true e = sym e
 
 module _ {X : Type 0} (p : X → Bool) where
   -- what fails at the front may be left out
-  skipped : (xs : List X) (i : ℕ) → ((k : ℕ) (d : X) → k < i → k < length xs → p (get_or xs k d) ≡ false) → filter p xs ≡ filter p (drop i xs)
+  skipped : (xs : List X) (i : ℕ) → ((k : ℕ) (d : X) → k < i → k < length xs → p (get_or xs k d) ≡ false)
+      → filter p xs ≡ filter p (drop i xs)
   skipped [] zero h = refl
   skipped [] (suc i) h = refl
   skipped (x ∷ xs) zero h = refl
   skipped (x ∷ xs) (suc i) h =
-      ap (λ b. cond b (x ∷ filter p xs) (filter p xs)) (h 0 x (omega arith) (omega arith)) ∙ skipped xs i (λ k d low within. h (suc k) d (omega (arith, low)) (omega (arith, within)))
+      ap (λ b. cond b (x ∷ filter p xs) (filter p xs)) (h 0 x (omega arith) (omega arith))
+      ∙ skipped xs i (λ k d low within. h (suc k) d (omega (arith, low)) (omega (arith, within)))
 
   -- what passes at the front stays where it is
-  kept_at : (xs : List X) (i : ℕ) (x : X) → slice_get xs i ≡ Some x → ((k : ℕ) (d : X) → k ≤ i → p (get_or xs k d) ≡ true) → slice_get (filter p xs) i ≡ Some x
+  kept_at : (xs : List X) (i : ℕ) (x : X) → slice_get xs i ≡ Some x
+      → ((k : ℕ) (d : X) → k ≤ i → p (get_or xs k d) ≡ true) → slice_get (filter p xs) i ≡ Some x
   kept_at [] i x got h = absurd (none-some x got)
-  kept_at (y ∷ xs) zero x got h = ap (λ b. slice_get (cond b (y ∷ filter p xs) (filter p xs)) 0) (h 0 y (omega arith)) ∙ got
+  kept_at (y ∷ xs) zero x got h =
+      ap (λ b. slice_get (cond b (y ∷ filter p xs) (filter p xs)) 0) (h 0 y (omega arith)) ∙ got
   kept_at (y ∷ xs) (suc i) x got h =
-      ap (λ b. slice_get (cond b (y ∷ filter p xs) (filter p xs)) (suc i)) (h 0 y (omega arith)) ∙ kept_at xs i x got (λ k d le. h (suc k) d (omega (arith, le)))
+      ap (λ b. slice_get (cond b (y ∷ filter p xs) (filter p xs)) (suc i)) (h 0 y (omega arith))
+      ∙ kept_at xs i x got (λ k d le. h (suc k) d (omega (arith, le)))
 
 -- ---- versions
 
-module _ (k : Class) (vs : List Version) (i : ℕ) (rising : AreRising vs) (first : IsPartitionPoint (λ v. is_below k (parts_of v) ≡ true) (λ v. is_below k (parts_of v) ≡ false) vs i) where
+module _ (k : Class) (vs : List Version) (i : ℕ) (rising : AreRising vs)
+    (first : IsPartitionPoint (λ v. is_below k (parts_of v) ≡ true) (λ v. is_below k (parts_of v) ≡ false) vs i) where
   abbrev passes : Version → Bool
   passes v = is_of k (parts_of v)
 
   -- those after the first, up to one of the class, are of it
-  of_class : (j : ℕ) (x : Version) → slice_get (drop i vs) j ≡ Some x → is_of k (parts_of x) ≡ true → (n : ℕ) (d : Version) → n ≤ j → is_of k (parts_of (get_or (drop i vs) n d)) ≡ true
+  of_class : (j : ℕ) (x : Version) → slice_get (drop i vs) j ≡ Some x → is_of k (parts_of x) ≡ true
+      → (n : ℕ) (d : Version) → n ≤ j → is_of k (parts_of (get_or (drop i vs) n d)) ≡ true
   of_class j x got is n d le =
       let long = length-drop i vs in
       let within = slice_get_within (drop i vs) j x got in
@@ -97,20 +106,26 @@ module _ (k : Class) (vs : List Version) (i : ℕ) (rising : AreRising vs) (firs
       let last : not (is_above k (parts_of (get_or vs (i + j) d))) ≡ true =
       ap (λ v. not (is_above k (parts_of v))) here ∙ ap not (not_above k (class_of (parts_of x)) is) in
       let low = first.1 (i + n) d (omega arith) (omega (arith, le, within, long)) in
-      let high = not_true (is_above k (parts_of (get_or vs (i + n) d))) (above_parted k vs rising (i + n) (i + j) d (omega (arith, le)) (omega (arith, within, long)) last) in
-      ap (λ v. is_of k (parts_of v)) (get_or-drop i vs n d) ∙ neither k (class_of (parts_of (get_or vs (i + n) d))) low high
+      let high = not_true (is_above k (parts_of (get_or vs (i + n) d)))
+      (above_parted k vs rising (i + n) (i + j) d (omega (arith, le)) (omega (arith, within, long)) last) in
+      ap (λ v. is_of k (parts_of v)) (get_or-drop i vs n d)
+      ∙ neither k (class_of (parts_of (get_or vs (i + n) d))) low high
 
   -- one of the class has there the place that it has among those of the class
-  placed : (j : ℕ) (x : Version) → slice_get (drop i vs) j ≡ Some x → is_of k (parts_of x) ≡ true → slice_get (filter passes vs) j ≡ Some x
+  placed : (j : ℕ) (x : Version) → slice_get (drop i vs) j ≡ Some x → is_of k (parts_of x) ≡ true
+      → slice_get (filter passes vs) j ≡ Some x
   placed j x got is =
-      ap (λ ws. slice_get ws j) (skipped passes vs i (λ n d low within. apart_below k (class_of (parts_of (get_or vs n d))) (first.0 n d (omega arith) low)))
+      ap (λ ws. slice_get ws j) (skipped passes vs i
+      (λ n d low within. apart_below k (class_of (parts_of (get_or vs n d))) (first.0 n d (omega arith) low)))
       ∙ kept_at passes (drop i vs) j x got (λ n d le. of_class j x got is n d le)
 
-  under : (j : ℕ) (p : Parts) (o : Option Version) → option_map parts_of o ≡ Some p → (x : Version) × (o ≡ Some x) × (parts_of x ≡ p)
+  under : (j : ℕ) (p : Parts) (o : Option Version) → option_map parts_of o ≡ Some p
+      → (x : Version) × (o ≡ Some x) × (parts_of x ≡ p)
   under j p None e = absurd (none-some p e)
   under j p (Some x) e = (x, refl, same_Some (parts_of x) p e)
 
-  module _ (m : ManifestView) (c : CatalogueView) (name : List ℕ) (are : map parts_of vs ≡ map (λ r. r.version) (candidates_at c name)) (p : Parts)
+  module _ (m : ManifestView) (c : CatalogueView) (name : List ℕ)
+      (are : map parts_of vs ≡ map (λ r. r.version) (candidates_at c name)) (p : Parts)
       (state : has_state (space (problem_in m c) (pkg name k)) (version p) ≡ true) where
     those : map parts_of (filter passes vs) ≡ filter (is_of k) (map (λ r. r.version) (candidates_at c name))
     those = parts_filtered (is_of k) vs ∙ ap (filter (is_of k)) are
@@ -120,13 +135,15 @@ module _ (k : Class) (vs : List Version) (i : ℕ) (rising : AreRising vs) (firs
     is_there =
         let all = states_here m c name k (filter passes vs) those in
         let there : Contains (absent ∷ map version (map parts_of (filter passes vs))) (version p) =
-        subst (λ ss. Contains (absent ∷ ss) (version p)) all (state_from (space (problem_in m c) (pkg name k)) (version p) state) in
+        subst (λ ss. Contains (absent ∷ ss) (version p)) all
+        (state_from (space (problem_in m c) (pkg name k)) (version p) state) in
         elim (in_cons absent (version p) (map version (map parts_of (filter passes vs))) there) [
           | inl e ↦ absurd (never e)
           | inr h ↦
               let r = in_map version (map parts_of (filter passes vs)) (version p) h in
               let same : r.0 ≡ p = inner r.0 p r.2 in
-              in_filter (is_of k) (map parts_of vs) p (subst (λ ps. Contains ps p) (parts_filtered (is_of k) vs) (subst (λ x. Contains (map parts_of (filter passes vs)) x) same r.1))
+              in_filter (is_of k) (map parts_of vs) p (subst (λ ps. Contains ps p) (parts_filtered (is_of k) vs)
+              (subst (λ x. Contains (map parts_of (filter passes vs)) x) same r.1))
         ]
       where
         never : absent ≡ version p → ⊥
@@ -150,12 +167,15 @@ module _ (k : Class) (vs : List Version) (i : ℕ) (rising : AreRising vs) (firs
               let not_it = not_below k (class_of (parts_of v)) (ap (is_of k) r.2 ∙ is_there.1) in
               absurd (true≢false (sym below ∙ ap (λ w. is_below k (parts_of w)) got ∙ not_it))
           | inr le ↦
-              let at : get_or (drop i vs) (n - i) v ≡ v = get_or-drop i vs (n - i) v ∙ (let e : i + (n - i) ≡ n = omega (arith, le) in ap (λ x. get_or vs x v) e) ∙ got in
-              absurd (true≢false (sym (version-refl p) ∙ ap (same_version p) (sym r.2 ∙ ap parts_of (sym at)) ∙ none (n - i) v (omega (arith, le, within, long))))
+              let at : get_or (drop i vs) (n - i) v ≡ v = get_or-drop i vs (n - i) v
+              ∙ (let e : i + (n - i) ≡ n = omega (arith, le) in ap (λ x. get_or vs x v) e) ∙ got in
+              absurd (true≢false (sym (version-refl p) ∙ ap (same_version p) (sym r.2 ∙ ap parts_of (sym at))
+              ∙ none (n - i) v (omega (arith, le, within, long))))
         ]
 
     -- .. and its number is that of the state
-    numbered : (j : ℕ) → slice_get (map parts_of (drop i vs)) j ≡ Some p → IsNumberOf (problem_in m c) (pkg name k) (version p) (Some (j + 1))
+    numbered : (j : ℕ) → slice_get (map parts_of (drop i vs)) j ≡ Some p
+        → IsNumberOf (problem_in m c) (pkg name k) (version p) (Some (j + 1))
     numbered j got =
         let (x, here, same) = under j p (slice_get (drop i vs) j) (sym (slice_get-map parts_of (drop i vs) j) ∙ got) in
         let at = placed j x here (ap (is_of k) same ∙ is_there.1) in
@@ -163,24 +183,36 @@ module _ (k : Class) (vs : List Version) (i : ℕ) (rising : AreRising vs) (firs
         let counted = versions_counted m c name k (filter passes vs) those in
         let one : j + 1 ≡ suc j = omega arith in
         let read : slice_get (map (λ v. version (parts_of v)) (filter passes vs)) j ≡ Some (version p) =
-        slice_get-map (λ v. version (parts_of v)) (filter passes vs) j ∙ ap (option_map (λ v. version (parts_of v))) at ∙ ap (λ w. Some (version w)) same in
-        (suc j, ap Some one, omega (arith, within, counted), sym (versions_space m c name k (filter passes vs) (suc j) those) ∙ ap (λ o. unwrap_or o absent) read)
+        slice_get-map (λ v. version (parts_of v)) (filter passes vs) j ∙ ap (option_map (λ v. version (parts_of v))) at
+        ∙ ap (λ w. Some (version w)) same in (
+          suc j,
+          ap Some one,
+          omega (arith, within, counted),
+          sym (versions_space m c name k (filter passes vs) (suc j) those) ∙ ap (λ o. unwrap_or o absent) read,
+        )
 
 -- ---- with the versions after the first as a piece
 
-module _ (k : Class) (vs : List Version) (i : ℕ) (rising : AreRising vs) (first : IsPartitionPoint (λ v. is_below k (parts_of v) ≡ true) (λ v. is_below k (parts_of v) ≡ false) vs i)
-    (m : ManifestView) (c : CatalogueView) (name : List ℕ) (are : map parts_of vs ≡ map (λ r. r.version) (candidates_at c name)) (p : Parts)
+module _ (k : Class) (vs : List Version) (i : ℕ) (rising : AreRising vs)
+    (first : IsPartitionPoint (λ v. is_below k (parts_of v) ≡ true) (λ v. is_below k (parts_of v) ≡ false) vs i)
+    (m : ManifestView) (c : CatalogueView) (name : List ℕ)
+    (are : map parts_of vs ≡ map (λ r. r.version) (candidates_at c name)) (p : Parts)
     (state : has_state (space (problem_in m c) (pkg name k)) (version p) ≡ true) where
   pub not_missing : All (λ v. same_version p (parts_of v) ≡ false) (take (length vs - i) (drop i vs)) → ⊥
-  not_missing none = missing k vs i rising first m c name are p state (subst (λ ws. All (λ v. same_version p (parts_of v) ≡ false) ws) (take_rest vs i) none)
+  not_missing none = missing k vs i rising first m c name are p state
+      (subst (λ ws. All (λ v. same_version p (parts_of v) ≡ false) ws) (take_rest vs i) none)
 
-  pub is_number : (j : ℕ) → slice_get (map parts_of (take (length vs - i) (drop i vs))) j ≡ Some p → IsNumberOf (problem_in m c) (pkg name k) (version p) (Some (j + 1))
-  is_number j got = numbered k vs i rising first m c name are p state j (ap (λ ws. slice_get (map parts_of ws) j) (sym (take_rest vs i)) ∙ got)
+  pub is_number : (j : ℕ) → slice_get (map parts_of (take (length vs - i) (drop i vs))) j ≡ Some p
+      → IsNumberOf (problem_in m c) (pkg name k) (version p) (Some (j + 1))
+  is_number j got = numbered k vs i rising first m c name are p state j
+      (ap (λ ws. slice_get (map parts_of ws) j) (sym (take_rest vs i)) ∙ got)
 
 -- there are few
-pub few_places : (vs : List Version) (i j : ℕ) (p : Parts) → length vs ≤ 65535 → slice_get (map parts_of (take (length vs - i) (drop i vs))) j ≡ Some p → j < 65535
+pub few_places : (vs : List Version) (i j : ℕ) (p : Parts) → length vs ≤ 65535
+    → slice_get (map parts_of (take (length vs - i) (drop i vs))) j ≡ Some p → j < 65535
 few_places vs i j p few got =
-    let within = slice_get_within (map parts_of (drop i vs)) j p (ap (λ ws. slice_get (map parts_of ws) j) (sym (take_rest vs i)) ∙ got) in
+    let within = slice_get_within (map parts_of (drop i vs)) j p
+    (ap (λ ws. slice_get (map parts_of ws) j) (sym (take_rest vs i)) ∙ got) in
     let mapped = length-map (drop i vs) parts_of in
     let long = length-drop i vs in
     omega (arith, few, within, mapped, long)

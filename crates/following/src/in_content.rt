@@ -45,7 +45,8 @@ pub(crate) fn package_in<'a>(
     class: Class,
 ) -> Option<&'a Package>
     requires { IsContent (package_views content.now) }
-    ensures { option_map (λ p. p.now) result ≡ find (λ p. is_locked name.now (class_view class) (package_view p)) content.entry.now }
+    ensures { option_map (λ p. p.now) result
+        ≡ find (λ p. is_locked name.now (class_view class) (package_view p)) content.entry.now }
 {
     // Those of a name stand side by side.
     let rest = &content[lower(content, name)..];
@@ -58,7 +59,8 @@ fn first_locked<'a>(
     name: &PackageName,
     class: Class,
 ) -> Option<&'a Package>
-    ensures { option_map (λ p. p.now) result ≡ find (λ p. is_locked name.now (class_view class) (package_view p)) packages.entry.now }
+    ensures { option_map (λ p. p.now) result
+        ≡ find (λ p. is_locked name.now (class_view class) (package_view p)) packages.entry.now }
 {
     packages
         .iter()
@@ -69,7 +71,8 @@ fn first_locked<'a>(
 fn lower(content: &[Package], name: &PackageName) -> usize
     requires { IsContent (package_views content.now) }
     ensures few { result ≤ length content.now }
-    ensures place { IsPartitionPoint (λ p. is_lt (beside name.now (package_view p)) ≡ true) (λ p. is_lt (beside name.now (package_view p)) ≡ false) content.now result }
+    ensures place { IsPartitionPoint (λ p. is_lt (beside name.now (package_view p)) ≡ true)
+        (λ p. is_lt (beside name.now (package_view p)) ≡ false) content.now result }
 {
     content.partition_point(|locked| name_order(locked, name) == Ordering::Less)
 }
@@ -100,7 +103,8 @@ fn owner_in<'a>(
     owner: &OwnerRef<'_>,
 ) -> Option<&'a Package>
     requires { IsValidSelection (problem inputs.now) (package_views content.now) }
-    ensures { option_map (λ p. p.now) result ≡ find (λ p. is_owner (owner_ref_view owner.now) (package_view p)) content.entry.now }
+    ensures { option_map (λ p. p.now) result
+        ≡ find (λ p. is_owner (owner_ref_view owner.now) (package_view p)) content.entry.now }
 {
     match owner {
         OwnerRef::Root => root_in(inputs, content),
@@ -116,7 +120,8 @@ pub(crate) fn led_to<'a>(
     dependency: &Dependency,
 ) -> Option<&'a Package>
     requires { IsValidSelection (problem inputs.now) (package_views content.now) }
-    ensures { option_map (λ p. package_view p.now) result ≡ led_to (package_views content.entry.now) (owner_ref_view owner.now) (dependency_view dependency.now) }
+    ensures { option_map (λ p. package_view p.now) result
+        ≡ led_to (package_views content.entry.now) (owner_ref_view owner.now) (dependency_view dependency.now) }
 {
     let locked = owner_in(inputs, content, owner)?;
     let place = target(content, locked.list.as_slice(), dependency)?;

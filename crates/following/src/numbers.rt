@@ -22,7 +22,9 @@ pub(crate) fn version_number(
     class: Class,
     version: &Version,
 ) -> Option<u32>
-    ensures { has_state (space (problem inputs.now) (pkg name.now (class_view class))) (model.version (parts_of version.now)) ≡ true → IsNumberOf (problem inputs.now) (pkg name.now (class_view class)) (model.version (parts_of version.now)) result }
+    ensures { has_state (space (problem inputs.now) (pkg name.now (class_view class)))
+        (model.version (parts_of version.now)) ≡ true → IsNumberOf (problem inputs.now)
+        (pkg name.now (class_view class)) (model.version (parts_of version.now)) result }
 {
     let versions = inputs.catalogue.versions(name);
     // The versions of a class stand together, after those of lower classes.

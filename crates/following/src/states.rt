@@ -31,7 +31,9 @@ pub fn state_in(
     vertex: &VertexRef<'_>,
 ) -> Result<Option<u32>, AllocError>
     requires valid { IsValidSelection (problem inputs.now) content.now }
-    ensures { IfOk result (λ o. (s : State) → Has (problem inputs.now) content.now (vertex_ref_view vertex.now) s → (n : ℕ) × (o ≡ Some n) × (n < length (space (problem inputs.now) (vertex_ref_view vertex.now))) × (state_at (problem inputs.now) (vertex_ref_view vertex.now) n ≡ s)) }
+    ensures { IfOk result (λ o. (s : State) → Has (problem inputs.now) content.now (vertex_ref_view vertex.now) s
+        → (n : ℕ) × (o ≡ Some n) × (n < length (space (problem inputs.now) (vertex_ref_view vertex.now)))
+        × (state_at (problem inputs.now) (vertex_ref_view vertex.now) n ≡ s)) }
 {
     let packages = content.packages();
     match vertex {
@@ -66,7 +68,8 @@ fn class_in(
     number: usize,
 ) -> Result<Option<u32>, AllocError>
     requires valid { IsValidSelection (problem inputs.now) (package_views content.now) }
-    ensures { IfOk result (IsStateIn (problem inputs.now) (package_views content.now) (dep (owner_ref_view owner.now) number)) }
+    ensures { IfOk result
+        (IsStateIn (problem inputs.now) (package_views content.now) (dep (owner_ref_view owner.now) number)) }
 {
     spaces_are_small(inputs);
     let Some(dependency) = dependency_at(inputs, owner, number) else {

@@ -1,16 +1,21 @@
 -- Just the vertices of a problem are named, each feature at least in the first class of its name.
-use Rattle.std.proofs.Common.{◌≡◌, ◌+◌, ℕ, zero, suc, List, [], ◌∷◌, ◌++◌, map, Bool, true, false, cond, Contains, Option, Some, None, is_some, slice_get, refl, sym, ap, ◌∙◌, subst, inl, inr, ◌⊎◌, arith, true≢false}
+use Rattle.std.proofs.Common.{◌≡◌, ◌+◌, ℕ, zero, suc, List, [], ◌∷◌, ◌++◌, map, Bool, true, false, cond, Contains}
+use Rattle.std.proofs.Common.{Option, Some, None, is_some, slice_get, refl, sym, ap, ◌∙◌, subst, inl, inr, ◌⊎◌, arith}
+use Rattle.std.proofs.Common.{true≢false}
 use Rattle.std.specs.List.{flat_map, AllPairs}
 use Rattle.std.proofs.lemmas.Option.{none-some, same_Some}
 use Rattle.semver.specs.Parse.{Parts}
-use Rattle.model.specs.Summary.{Summary, Dependency, Entry, Table, feature, dependency, dependency_feature, weak_feature, asked_of_target, entries_at, has_feature, same_text}
+use Rattle.model.specs.Summary.{Summary, Dependency, Entry, Table, feature, dependency, dependency_feature}
+use Rattle.model.specs.Summary.{weak_feature, asked_of_target, entries_at, has_feature, same_text}
 use Rattle.model.specs.Content.{Problem, Candidate, candidates_of, candidate_at, brings_of, same_version}
 use Rattle.model.specs.Selection.{Class, class_of}
 use Rattle.model.specs.WellFormed.{IsCatalogue}
-use Rattle.model.specs.Vertices.{Owner, the_root, version_of, Vertex, root, pkg, dep, feat, ask, version, same_class, in_that_class, owner_brings, class_candidates}
+use Rattle.model.specs.Vertices.{Owner, the_root, version_of, Vertex, root, pkg, dep, feat, ask, version, same_class}
+use Rattle.model.specs.Vertices.{in_that_class, owner_brings, class_candidates}
 use Rattle.model.specs.Axioms.{IsOwner, HasDep, HasEntry, RootAsks, HasFeatVertex, IsVertex}
 use Rattle.model.specs.Axioms.HasFeatVertex.{had, asked, by_entry}
-use Rattle.model.proofs.Lists.{in_none, in_cons, in_first, in_rest, in_filter, to_filter, in_map, to_map, pairs_first, pairs_rest}
+use Rattle.model.proofs.Lists.{in_none, in_cons, in_first, in_rest, in_filter, to_filter, in_map, to_map, pairs_first}
+use Rattle.model.proofs.Lists.{pairs_rest}
 use Rattle.model.proofs.Spaces.{class_in}
 use Rattle.model.proofs.Vertices.{class_from}
 use Rattle.model.proofs.Owners.{candidate_at-is}
@@ -23,19 +28,23 @@ use Rattle.refutations.proofs.Named.{dep_owner, entry-is, to_entry, row_of}
 use Rattle.encoding.proofs.ClassOrder.{IsOlder}
 use Rattle.encoding.proofs.Distinct.{of_rows, older_differ}
 use Rattle.full_encoding.proofs.Runs.{candidates_classed}
-use Rattle.full_encoding.specs.Everything.{classes_in, each_from, versions, first_feature, each_feature, ask_if, versions_of, feature_of, asked_if, asked_of, of_dependency, of_dependencies, of_entry, of_feature, of_version, of_name, of_root, named, in_classes}
+use Rattle.full_encoding.specs.Everything.{classes_in, each_from, versions, first_feature, each_feature, ask_if}
+use Rattle.full_encoding.specs.Everything.{versions_of, feature_of, asked_if, asked_of, of_dependency, of_dependencies}
+use Rattle.full_encoding.specs.Everything.{of_entry, of_feature, of_version, of_name, of_root, named, in_classes}
 
 -- ---- lists
 
 module _ {X : Type 0} where
-  pub in_flat : {Y : Type 0} (f : X → List Y) (xs : List X) (y : Y) → Contains (flat_map f xs) y → (x : X) × Contains xs x × Contains (f x) y
+  pub in_flat : {Y : Type 0} (f : X → List Y) (xs : List X) (y : Y) → Contains (flat_map f xs) y
+      → (x : X) × Contains xs x × Contains (f x) y
   in_flat f [] y c = absurd (in_none y c)
   in_flat f (x ∷ xs) y c = elim (in_either (f x) (flat_map f xs) y c) [
     | inl d ↦ (x, in_first x xs, d)
     | inr d ↦ let r = in_flat f xs y d in (r.0, in_rest x r.0 xs r.1, r.2)
   ]
 
-  pub to_flat : {Y : Type 0} (f : X → List Y) (xs : List X) (x : X) (y : Y) → Contains xs x → Contains (f x) y → Contains (flat_map f xs) y
+  pub to_flat : {Y : Type 0} (f : X → List Y) (xs : List X) (x : X) (y : Y) → Contains xs x → Contains (f x) y
+      → Contains (flat_map f xs) y
   to_flat f [] x y c d = absurd (in_none x c)
   to_flat f (z ∷ xs) x y c d = elim (in_cons z x xs c) [
     | inl e ↦ in_append-left (f z) (flat_map f xs) y (subst (λ w. Contains (f w) y) (sym e) d)
@@ -47,17 +56,21 @@ module _ {X : Type 0} where
   in_each f n [] v h = absurd (in_none v h)
   in_each f n (x ∷ xs) v h = elim (in_either (f n x) (each_from f (n + 1) xs) v h) [
     | inl d ↦ let z : n ≡ n + 0 = omega arith in (zero, x, refl, subst (λ k. Contains (f k x) v) z d)
-    | inr d ↦ let r = in_each f (n + 1) xs v d in let z : (n + 1) + r.0 ≡ n + suc r.0 = omega arith in (suc r.0, r.1, r.2, subst (λ k. Contains (f k r.1) v) z r.3)
+    | inr d ↦ let r = in_each f (n + 1) xs v d in let z : (n + 1) + r.0 ≡ n + suc r.0 =
+        omega arith in (suc r.0, r.1, r.2, subst (λ k. Contains (f k r.1) v) z r.3)
   ]
 
-  to_each : (f : ℕ → X → List Vertex) (n : ℕ) (xs : List X) (i : ℕ) (x : X) (v : Vertex) → slice_get xs i ≡ Some x → Contains (f (n + i) x) v → Contains (each_from f n xs) v
+  to_each : (f : ℕ → X → List Vertex) (n : ℕ) (xs : List X) (i : ℕ) (x : X) (v : Vertex) → slice_get xs i ≡ Some x
+      → Contains (f (n + i) x) v → Contains (each_from f n xs) v
   to_each f n [] i x v e h = absurd (none-some x e)
   to_each f n (z ∷ xs) zero x v e h =
       let k : n + 0 ≡ n = omega arith in
-      in_append-left (f n z) (each_from f (n + 1) xs) v (subst (λ w. Contains (f n w) v) (sym (same_Some z x e)) (subst (λ m. Contains (f m x) v) k h))
+      in_append-left (f n z) (each_from f (n + 1) xs) v
+      (subst (λ w. Contains (f n w) v) (sym (same_Some z x e)) (subst (λ m. Contains (f m x) v) k h))
   to_each f n (z ∷ xs) (suc i) x v e h =
       let k : n + suc i ≡ (n + 1) + i = omega arith in
-      in_append-right (f n z) (each_from f (n + 1) xs) v (to_each f (n + 1) xs i x v e (subst (λ m. Contains (f m x) v) k h))
+      in_append-right (f n z) (each_from f (n + 1) xs) v
+      (to_each f (n + 1) xs i x v e (subst (λ m. Contains (f m x) v) k h))
 
   from_if : (b : Bool) (x : X) (xs : List X) → Contains (cond b xs []) x → (b ≡ true) × Contains xs x
   from_if true x xs h = (refl, h)
@@ -70,10 +83,13 @@ module _ {X : Type 0} where
   only_one a x h = elim (in_cons a x [] h) [ inl e ↦ sym e | inr d ↦ absurd (in_none x d) ]
 
 -- the same where the first has the number 0
-in_all : (f : ℕ → Dependency → List Vertex) (ds : List Dependency) (v : Vertex) → Contains (each_from f 0 ds) v → (i : ℕ) × (d : Dependency) × (slice_get ds i ≡ Some d) × Contains (f i d) v
-in_all f ds v h = let r = in_each f 0 ds v h in let z : 0 + r.0 ≡ r.0 = omega arith in (r.0, r.1, r.2, subst (λ k. Contains (f k r.1) v) z r.3)
+in_all : (f : ℕ → Dependency → List Vertex) (ds : List Dependency) (v : Vertex) → Contains (each_from f 0 ds) v
+    → (i : ℕ) × (d : Dependency) × (slice_get ds i ≡ Some d) × Contains (f i d) v
+in_all f ds v h = let r = in_each f 0 ds v h in let z : 0 + r.0 ≡ r.0 =
+    omega arith in (r.0, r.1, r.2, subst (λ k. Contains (f k r.1) v) z r.3)
 
-to_all : (f : ℕ → Dependency → List Vertex) (ds : List Dependency) (i : ℕ) (d : Dependency) (v : Vertex) → slice_get ds i ≡ Some d → Contains (f i d) v → Contains (each_from f 0 ds) v
+to_all : (f : ℕ → Dependency → List Vertex) (ds : List Dependency) (i : ℕ) (d : Dependency) (v : Vertex)
+    → slice_get ds i ≡ Some d → Contains (f i d) v → Contains (each_from f 0 ds) v
 to_all f ds i d v e h = let z : i ≡ 0 + i = omega arith in to_each f 0 ds i d v e (subst (λ k. Contains (f k d) v) z h)
 
 -- a row of a table is a feature of it
@@ -81,38 +97,50 @@ row_feature : (table : Table) (row : List ℕ × List Entry) → Contains table 
 row_feature [] row c = absurd (in_none row c)
 row_feature (r ∷ rows) row c = by (λ c. row_feature rows row c) (same_text row.0 r.0) refl (in_cons r row rows c)
   where
-    by : (Contains rows row → has_feature rows row.0 ≡ true) → (b : Bool) → same_text row.0 r.0 ≡ b → (r ≡ row) ⊎ Contains rows row → is_some (cond b (Some r.1) (entries_at row.0 rows)) ≡ true
+    by : (Contains rows row → has_feature rows row.0 ≡ true) → (b : Bool) → same_text row.0 r.0 ≡ b
+        → (r ≡ row) ⊎ Contains rows row → is_some (cond b (Some r.1) (entries_at row.0 rows)) ≡ true
     by rest true s c = refl
-    by rest false s (inl e) = absurd (true≢false (sym (subst (λ (x : List ℕ × List Entry). same_text row.0 x.0 ≡ true) (sym e) (text-refl row.0)) ∙ s))
+    by rest false s (inl e) = absurd (true≢false (sym (subst (λ (x : List ℕ × List Entry). same_text row.0 x.0 ≡ true)
+        (sym e) (text-refl row.0)) ∙ s))
     by rest false s (inr c) = rest c
 
-feature_row : (table : Table) (f : List ℕ) → has_feature table f ≡ true → (es : List Entry) × (entries_at f table ≡ Some es)
+feature_row : (table : Table) (f : List ℕ) → has_feature table f ≡ true
+    → (es : List Entry) × (entries_at f table ≡ Some es)
 feature_row table f h = by (entries_at f table) refl h
   where
-    by : (o : Option (List Entry)) → entries_at f table ≡ o → is_some o ≡ true → (es : List Entry) × (entries_at f table ≡ Some es)
+    by : (o : Option (List Entry)) → entries_at f table ≡ o → is_some o ≡ true
+        → (es : List Entry) × (entries_at f table ≡ Some es)
     by None e t = absurd (true≢false (sym t))
     by (Some es) e t = (es, e)
 
 -- a candidate among others that rise is found by its version
-found_itself : (cs : List Candidate) (c : Candidate) → AllPairs IsOlder cs → Contains cs c → candidate_at cs c.version ≡ Some c
+found_itself : (cs : List Candidate) (c : Candidate) → AllPairs IsOlder cs → Contains cs c
+    → candidate_at cs c.version ≡ Some c
 found_itself [] c rise i = absurd (in_none c i)
-found_itself (x ∷ cs) c rise i = by (λ i. found_itself cs c (pairs_rest IsOlder x cs rise) i) (same_version c.version x.version) refl (in_cons x c cs i)
+found_itself (x ∷ cs) c rise i = by
+    (λ i. found_itself cs c (pairs_rest IsOlder x cs rise) i) (same_version c.version x.version) refl (in_cons x c cs i)
   where
-    by : (Contains cs c → candidate_at cs c.version ≡ Some c) → (b : Bool) → same_version c.version x.version ≡ b → (x ≡ c) ⊎ Contains cs c
+    by : (Contains cs c → candidate_at cs c.version ≡ Some c) → (b : Bool) → same_version c.version x.version ≡ b
+        → (x ≡ c) ⊎ Contains cs c
         → cond b (Some x) (candidate_at cs c.version) ≡ Some c
     by rest true s (inl e) = ap Some e
-    by rest true s (inr d) = absurd (older_differ x c (pairs_first IsOlder x c cs rise d) (ap version (sym (version-same c.version x.version s))))
-    by rest false s (inl e) = absurd (true≢false (sym (subst (λ (y : Candidate). same_version c.version y.version ≡ true) (sym e) (version-refl c.version)) ∙ s))
+    by rest true s (inr d) = absurd
+        (older_differ x c (pairs_first IsOlder x c cs rise d) (ap version (sym (version-same c.version x.version s))))
+    by rest false s (inl e) = absurd (true≢false (sym (subst (λ (y : Candidate). same_version c.version y.version
+        ≡ true) (sym e) (version-refl c.version)) ∙ s))
     by rest false s (inr d) = rest d
 
 -- a candidate's name has a row
-name_there : (rows : List (List ℕ × List Candidate)) (name : List ℕ) (c : Candidate) → Contains (candidates_of rows name) c → Contains (map (λ row. row.0) rows) name
+name_there : (rows : List (List ℕ × List Candidate)) (name : List ℕ) (c : Candidate)
+    → Contains (candidates_of rows name) c → Contains (map (λ row. row.0) rows) name
 name_there [] name c i = absurd (in_none c i)
 name_there (row ∷ rows) name c i = by (λ i. name_there rows name c i) (same_text name row.0) refl i
   where
-    by : (Contains (candidates_of rows name) c → Contains (map (λ row. row.0) rows) name) → (b : Bool) → same_text name row.0 ≡ b
+    by : (Contains (candidates_of rows name) c → Contains (map (λ row. row.0) rows) name) → (b : Bool)
+        → same_text name row.0 ≡ b
         → Contains (cond b row.1 (candidates_of rows name)) c → Contains (row.0 ∷ map (λ row. row.0) rows) name
-    by rest true s i = subst (Contains (row.0 ∷ map (λ (r : List ℕ × List Candidate). r.0) rows)) (sym (text-same name row.0 s)) (in_first row.0 (map (λ (r : List ℕ × List Candidate). r.0) rows))
+    by rest true s i = subst (Contains (row.0 ∷ map (λ (r : List ℕ × List Candidate). r.0) rows))
+        (sym (text-same name row.0 s)) (in_first row.0 (map (λ (r : List ℕ × List Candidate). r.0) rows))
     by rest false s i = in_rest row.0 name (map (λ (r : List ℕ × List Candidate). r.0) rows) (rest i)
 
 module _ (q : Problem) where
@@ -120,31 +148,40 @@ module _ (q : Problem) where
 
   -- a version of a name is that of a candidate
   candidate_is : (name : List ℕ) (v : Parts) → Contains (versions_of q name) v → IsOwner q (version_of name v)
-  candidate_is name v c = let r = in_map (λ (c : Candidate). c.version) (candidates_of q.candidates name) v c in (r.0, r.1, r.2)
+  candidate_is name v c = let r =
+      in_map (λ (c : Candidate). c.version) (candidates_of q.candidates name) v c in (r.0, r.1, r.2)
 
-  in_class : (name : List ℕ) (c : Candidate) → Contains (candidates_of q.candidates name) c → Contains (class_candidates q name (class_of c.version)) c
-  in_class name c i = to_filter (in_that_class (class_of c.version)) (candidates_of q.candidates name) c i (class-refl (class_of c.version))
+  in_class : (name : List ℕ) (c : Candidate) → Contains (candidates_of q.candidates name) c
+      → Contains (class_candidates q name (class_of c.version)) c
+  in_class name c i = to_filter (in_that_class (class_of c.version)) (candidates_of q.candidates name) c i
+      (class-refl (class_of c.version))
 
   -- the feature of a name, of which there is a candidate
-  first_is : (name f : List ℕ) (v : Vertex) → Contains (feature_of q name f) v → (c : Candidate) × Contains (candidates_of q.candidates name) c × (v ≡ feat name (class_of c.version) f)
+  first_is : (name f : List ℕ) (v : Vertex) → Contains (feature_of q name f) v
+      → (c : Candidate) × Contains (candidates_of q.candidates name) c × (v ≡ feat name (class_of c.version) f)
   first_is name f v h = by (candidates_of q.candidates name) h
     where
-      by : (cs : List Candidate) → Contains (first_feature name f (versions cs)) v → (c : Candidate) × Contains cs c × (v ≡ feat name (class_of c.version) f)
+      by : (cs : List Candidate) → Contains (first_feature name f (versions cs)) v
+          → (c : Candidate) × Contains cs c × (v ≡ feat name (class_of c.version) f)
       by [] h = absurd (in_none v h)
       by (c ∷ cs) h = (c, in_first c cs, only_one (feat name (class_of c.version) f) v h)
 
   -- the class in which a feature is asked for has a candidate
-  asked_vertex : (o : Owner) (i : ℕ) (d : Dependency) (g : List ℕ) (v : Vertex) → HasDep q o i d → Contains (asked_of_target d) g ⊎ RootAsks q o d g → Contains (feature_of q d.real_name g) v
+  asked_vertex : (o : Owner) (i : ℕ) (d : Dependency) (g : List ℕ) (v : Vertex) → HasDep q o i d
+      → Contains (asked_of_target d) g ⊎ RootAsks q o d g → Contains (feature_of q d.real_name g) v
       → IsVertex q v
   asked_vertex o i d g v has a h =
       let r = first_is d.real_name g v h in
       subst (IsVertex q) (sym r.2) (asked o i d (class_of (r.0).version) g r.0 has (in_class d.real_name r.0 r.1) a)
 
-  entry_vertex : (name : List ℕ) (w : Parts) (i : ℕ) (d : Dependency) (f g : List ℕ) (v : Vertex) → HasDep q (version_of name w) i d
-      → HasEntry q name w f (dependency_feature d.name g) ⊎ HasEntry q name w f (weak_feature d.name g) → Contains (feature_of q d.real_name g) v → IsVertex q v
+  entry_vertex : (name : List ℕ) (w : Parts) (i : ℕ) (d : Dependency) (f g : List ℕ) (v : Vertex)
+      → HasDep q (version_of name w) i d
+      → HasEntry q name w f (dependency_feature d.name g) ⊎ HasEntry q name w f (weak_feature d.name g)
+      → Contains (feature_of q d.real_name g) v → IsVertex q v
   entry_vertex name w i d f g v has a h =
       let r = first_is d.real_name g v h in
-      subst (IsVertex q) (sym r.2) (by_entry name w i d (class_of (r.0).version) f g r.0 has (in_class d.real_name r.0 r.1) a)
+      subst (IsVertex q) (sym r.2)
+      (by_entry name w i d (class_of (r.0).version) f g r.0 has (in_class d.real_name r.0 r.1) a)
 
   dependencies_are : (o : Owner) (v : Vertex) → Contains (of_dependencies q o) v → IsVertex q v
   dependencies_are o v h =
@@ -152,21 +189,26 @@ module _ (q : Problem) where
       let has : HasDep q o r.0 r.1 = dep_owner q o r.0 r.1 r.2 in
       elim (in_cons (dep o r.0) v (flat_map (feature_of q (r.1).real_name) (asked_of_target r.1)) r.3) [
         | inl e ↦ subst (IsVertex q) e (r.1, has)
-        | inr c ↦ let s = in_flat (feature_of q (r.1).real_name) (asked_of_target r.1) v c in asked_vertex o r.0 r.1 s.0 v has (inl s.1) s.2
+        | inr c ↦ let s = in_flat (feature_of q (r.1).real_name) (asked_of_target r.1) v c in
+            asked_vertex o r.0 r.1 s.0 v has (inl s.1) s.2
       ]
 
   -- a feature that a version has
-  own_feature : (name : List ℕ) (w : Parts) (row : List ℕ × List Entry) (v : Vertex) → Contains (table_of_owner q (version_of name w)) row → Contains (feature_of q name row.0) v → IsVertex q v
+  own_feature : (name : List ℕ) (w : Parts) (row : List ℕ × List Entry) (v : Vertex)
+      → Contains (table_of_owner q (version_of name w)) row → Contains (feature_of q name row.0) v → IsVertex q v
   own_feature name w row v there h = by (candidate_at (candidates_of q.candidates name) w) refl there
     where
-      by : (o : Option Candidate) → candidate_at (candidates_of q.candidates name) w ≡ o → Contains (brings_of o).features row → IsVertex q v
+      by : (o : Option Candidate) → candidate_at (candidates_of q.candidates name) w ≡ o
+          → Contains (brings_of o).features row → IsVertex q v
       by None e c = absurd (in_none row c)
       by (Some x) e c =
           let r = first_is name row.0 v h in
           let is = candidate_at-is (candidates_of q.candidates name) w x e in
-          subst (IsVertex q) (sym r.2) (had name (class_of (r.0).version) row.0 x r.0 is.0 (in_class name r.0 r.1) (row_feature x.brings.features row c))
+          subst (IsVertex q) (sym r.2) (had name (class_of (r.0).version) row.0 x r.0 is.0 (in_class name r.0 r.1)
+          (row_feature x.brings.features row c))
 
-  ask_vertex : (name : List ℕ) (w : Parts) (f : List ℕ) (e : Entry) (i : ℕ) (d : Dependency) (v : Vertex) → HasEntry q name w f e → HasDep q (version_of name w) i d
+  ask_vertex : (name : List ℕ) (w : Parts) (f : List ℕ) (e : Entry) (i : ℕ) (d : Dependency) (v : Vertex)
+      → HasEntry q name w f e → HasDep q (version_of name w) i d
       → Contains (ask_if name w e i d) v → IsVertex q v
   ask_vertex name w f (feature g) i d v has at h = absurd (in_none v h)
   ask_vertex name w f (dependency x) i d v has at h = absurd (in_none v h)
@@ -177,46 +219,62 @@ module _ (q : Problem) where
   ask_vertex name w f (weak_feature x g) i d v has at h = absurd (in_none v h)
 
   -- what an entry asks for
-  pair_vertex : (name : List ℕ) (w : Parts) (f : List ℕ) (e : Entry) (i : ℕ) (d : Dependency) (p : List ℕ × List ℕ) (v : Vertex) → HasEntry q name w f e → HasDep q (version_of name w) i d
+  pair_vertex : (name : List ℕ) (w : Parts) (f : List ℕ) (e : Entry) (i : ℕ) (d : Dependency) (p : List ℕ × List ℕ)
+      (v : Vertex) → HasEntry q name w f e → HasDep q (version_of name w) i d
       → Contains (asked_by e) p → Contains (asked_if q p d) v → IsVertex q v
   pair_vertex name w f (feature g) i d p v has at c h = absurd (in_none p c)
   pair_vertex name w f (dependency x) i d p v has at c h = absurd (in_none p c)
   pair_vertex name w f (dependency_feature x g) i d p v has at c h =
       let same = only_one (x, g) p c in
-      let r = from_if (same_text d.name x) v (feature_of q d.real_name g) (subst (λ r. Contains (asked_if q r d) v) same h) in
-      entry_vertex name w i d f g v at (inl (subst (λ n. HasEntry q name w f (dependency_feature n g)) (sym (text-same d.name x r.0)) has)) r.1
+      let r = from_if (same_text d.name x) v (feature_of q d.real_name g)
+      (subst (λ r. Contains (asked_if q r d) v) same h) in
+      entry_vertex name w i d f g v at
+      (inl (subst (λ n. HasEntry q name w f (dependency_feature n g)) (sym (text-same d.name x r.0)) has)) r.1
   pair_vertex name w f (weak_feature x g) i d p v has at c h =
       let same = only_one (x, g) p c in
-      let r = from_if (same_text d.name x) v (feature_of q d.real_name g) (subst (λ r. Contains (asked_if q r d) v) same h) in
-      entry_vertex name w i d f g v at (inr (subst (λ n. HasEntry q name w f (weak_feature n g)) (sym (text-same d.name x r.0)) has)) r.1
+      let r = from_if (same_text d.name x) v (feature_of q d.real_name g)
+      (subst (λ r. Contains (asked_if q r d) v) same h) in
+      entry_vertex name w i d f g v at
+      (inr (subst (λ n. HasEntry q name w f (weak_feature n g)) (sym (text-same d.name x r.0)) has)) r.1
 
-  entry_are : (name : List ℕ) (w : Parts) (f : List ℕ) (e : Entry) (v : Vertex) → HasEntry q name w f e → Contains (of_entry q name w (owner_brings q (version_of name w)).dependencies e) v → IsVertex q v
+  entry_are : (name : List ℕ) (w : Parts) (f : List ℕ) (e : Entry) (v : Vertex) → HasEntry q name w f e
+      → Contains (of_entry q name w (owner_brings q (version_of name w)).dependencies e) v → IsVertex q v
   entry_are name w f e v has h =
       let ds = (owner_brings q (version_of name w)).dependencies in
       elim (in_either (each_from (ask_if name w e) 0 ds) (flat_map (asked_of q ds) (asked_by e)) v h) [
-        | inl a ↦ let r = in_all (ask_if name w e) ds v a in ask_vertex name w f e r.0 r.1 v has (dep_owner q (version_of name w) r.0 r.1 r.2) r.3
+        | inl a ↦ let r = in_all (ask_if name w e) ds v a in
+            ask_vertex name w f e r.0 r.1 v has (dep_owner q (version_of name w) r.0 r.1 r.2) r.3
         | inr b ↦ let r = in_flat (asked_of q ds) (asked_by e) v b in
             let s = in_flat (asked_if q r.0) ds v r.2 in
             let p = place_in ds s.0 s.1 in
             pair_vertex name w f e p.0 s.0 r.0 v has (dep_owner q (version_of name w) p.0 s.0 p.1) r.1 s.2
       ]
 
-  version_are : (name : List ℕ) (w : Parts) (v : Vertex) → Contains (versions_of q name) w → Contains (of_version q name w) v → IsVertex q v
+  version_are : (name : List ℕ) (w : Parts) (v : Vertex) → Contains (versions_of q name) w
+      → Contains (of_version q name w) v → IsVertex q v
   version_are name w v there h =
       let own = candidate_is name w there in
       let table = table_of_owner q (version_of name w) in
-      elim (in_cons (pkg name (class_of w)) v (of_dependencies q (version_of name w) ++ flat_map (λ row. of_feature q name w (owner_brings q (version_of name w)) row.0) table) h) [
-        | inl e ↦ subst (IsVertex q) e (own.0, subst (λ x. Contains (class_candidates q name (class_of x)) own.0) own.2 (in_class name own.0 own.1))
-        | inr c ↦ elim (in_either (of_dependencies q (version_of name w)) (flat_map (λ row. of_feature q name w (owner_brings q (version_of name w)) row.0) table) v c) [
-          | inl a ↦ dependencies_are (version_of name w) v a
-          | inr b ↦ let r = in_flat (λ (row : List ℕ × List Entry). of_feature q name w (owner_brings q (version_of name w)) row.0) table v b in
-              let f = (r.0).0 in
-              elim (in_either (feature_of q name f) (flat_map (of_entry q name w (owner_brings q (version_of name w)).dependencies) (entries_of q name w f)) v r.2) [
-                | inl x ↦ own_feature name w r.0 v r.1 x
-                | inr y ↦ let s = in_flat (of_entry q name w (owner_brings q (version_of name w)).dependencies) (entries_of q name w f) v y in
-                    entry_are name w f s.0 v (entry-is q name w f s.0 s.1) s.2
-              ]
-        ]
+      elim (in_cons (pkg name (class_of w)) v (of_dependencies q (version_of name w)
+      ++ flat_map (λ row. of_feature q name w (owner_brings q (version_of name w)) row.0) table) h) [
+        | inl e ↦ subst (IsVertex q) e (
+          own.0,
+          subst (λ x. Contains (class_candidates q name (class_of x)) own.0) own.2 (in_class name own.0 own.1),
+        )
+        | inr c ↦ elim (in_either (of_dependencies q (version_of name w))
+            (flat_map (λ row. of_feature q name w (owner_brings q (version_of name w)) row.0) table) v c) [
+              | inl a ↦ dependencies_are (version_of name w) v a
+              | inr b ↦ let r = in_flat (λ (row : List ℕ × List Entry).
+                  of_feature q name w (owner_brings q (version_of name w)) row.0) table v b in
+                  let f = (r.0).0 in
+                  elim (in_either (feature_of q name f) (flat_map (of_entry q name w
+                  (owner_brings q (version_of name w)).dependencies) (entries_of q name w f)) v r.2) [
+                    | inl x ↦ own_feature name w r.0 v r.1 x
+                    | inr y ↦ let s = in_flat (of_entry q name w (owner_brings q (version_of name w)).dependencies)
+                        (entries_of q name w f) v y in
+                        entry_are name w f s.0 v (entry-is q name w f s.0 s.1) s.2
+                  ]
+            ]
       ]
 
   root_are : (v : Vertex) → Contains (of_root q) v → IsVertex q v
@@ -232,7 +290,8 @@ module _ (q : Problem) where
               let t = from_if (same_text (s.0).name (r.0).0) v (feature_of q (s.0).real_name (r.0).1) s.2 in
               let e : (r.0).0 ≡ (s.0).name = sym (text-same (s.0).name (r.0).0 t.0) in
               let same : r.0 ≡ ((s.0).name, (r.0).1) = λ i. (e i, (r.0).1) in
-              asked_vertex the_root p.0 s.0 (r.0).1 v (dep_owner q the_root p.0 s.0 p.1) (inr (subst (Contains q.root_asks) same r.1)) t.1
+              asked_vertex the_root p.0 s.0 (r.0).1 v (dep_owner q the_root p.0 s.0 p.1)
+              (inr (subst (Contains q.root_asks) same r.1)) t.1
         ]
       ]
 
@@ -246,7 +305,8 @@ module _ (q : Problem) where
 
   -- ---- a feature in another class of its name
 
-  moved : (name : List ℕ) (k : Class) (f : List ℕ) (e : Candidate) (m : Class) → Contains (class_candidates q name m) e → HasFeatVertex q name k f → HasFeatVertex q name m f
+  moved : (name : List ℕ) (k : Class) (f : List ℕ) (e : Candidate) (m : Class) → Contains (class_candidates q name m) e
+      → HasFeatVertex q name k f → HasFeatVertex q name m f
   moved name k f e m there (had _ _ _ c x i j h) = had name m f c e i there h
   moved name k f e m there (asked o i d _ _ x has j a) = asked o i d m f e has there a
   moved name k f e m there (by_entry n w i d _ g _ x has j a) = by_entry n w i d m g f e has there a
@@ -258,53 +318,73 @@ module _ (q : Problem) where
   classes_are (ask name x i g) w is h = absurd (in_none w h)
   classes_are (feat name k f) w is h = by (candidates_of q.candidates name) (λ c i. in_class name c i) h
     where
-      by : (cs : List Candidate) → ((c : Candidate) → Contains cs c → Contains (class_candidates q name (class_of c.version)) c) → Contains (each_feature name k f (versions cs)) w → IsVertex q w
+      by : (cs : List Candidate)
+          → ((c : Candidate) → Contains cs c → Contains (class_candidates q name (class_of c.version)) c)
+          → Contains (each_feature name k f (versions cs)) w → IsVertex q w
       by [] there h = absurd (in_none w h)
       by (c ∷ cs) there h =
-          let r = from_if (same_class k (class_of c.version)) w (map (λ m. feat name m f) (classes_in (versions (c ∷ cs)))) h in
+          let r = from_if (same_class k (class_of c.version)) w
+          (map (λ m. feat name m f) (classes_in (versions (c ∷ cs)))) h in
           let s = in_map (λ m. feat name m f) (classes_in (versions (c ∷ cs))) w r.1 in
           let t = class_from (c ∷ cs) s.0 (subst (λ ks. Contains ks s.0) (candidates_classed (c ∷ cs)) s.1) in
-          subst (IsVertex q) (ap (λ m. feat name m f) t.2 ∙ s.2) (moved name k f t.0 (class_of (t.0).version) (there t.0 t.1) is)
+          subst (IsVertex q) (ap (λ m. feat name m f) t.2 ∙ s.2)
+          (moved name k f t.0 (class_of (t.0).version) (there t.0 t.1) is)
 
   -- ---- each vertex is named, ..
 
-  owner_named : (name : List ℕ) (w : Parts) (v : Vertex) → IsOwner q (version_of name w) → Contains (of_version q name w) v → Contains (named q) v
+  owner_named : (name : List ℕ) (w : Parts) (v : Vertex) → IsOwner q (version_of name w)
+      → Contains (of_version q name w) v → Contains (named q) v
   owner_named name w v (c, i, e) h =
       in_append-right (of_root q) (flat_map (of_name q) (map (λ row. row.0) q.candidates)) v
-      (to_flat (of_name q) (map (λ (row : List ℕ × List Candidate). row.0) q.candidates) name v (name_there q.candidates name c i)
-      (to_flat (of_version q name) (versions_of q name) w v (subst (Contains (versions_of q name)) e (to_map (λ (c : Candidate). c.version) (candidates_of q.candidates name) c i)) h))
+      (to_flat (of_name q) (map (λ (row : List ℕ × List Candidate). row.0) q.candidates) name v
+      (name_there q.candidates name c i)
+      (to_flat (of_version q name) (versions_of q name) w v (subst (Contains (versions_of q name)) e
+      (to_map (λ (c : Candidate). c.version) (candidates_of q.candidates name) c i)) h))
 
-  dependency_named : (o : Owner) (i : ℕ) (d : Dependency) (v : Vertex) → HasDep q o i d → Contains (of_dependency q o i d) v → Contains (named q) v
+  dependency_named : (o : Owner) (i : ℕ) (d : Dependency) (v : Vertex) → HasDep q o i d
+      → Contains (of_dependency q o i d) v → Contains (named q) v
   dependency_named the_root i d v has h =
       in_append-left (of_root q) (flat_map (of_name q) (map (λ row. row.0) q.candidates)) v
-      (in_rest root v (of_dependencies q the_root ++ flat_map (asked_of q (owner_brings q the_root).dependencies) q.root_asks)
-      (in_append-left (of_dependencies q the_root) (flat_map (asked_of q (owner_brings q the_root).dependencies) q.root_asks) v
+      (in_rest root v
+      (of_dependencies q the_root ++ flat_map (asked_of q (owner_brings q the_root).dependencies) q.root_asks)
+      (in_append-left (of_dependencies q the_root)
+      (flat_map (asked_of q (owner_brings q the_root).dependencies) q.root_asks) v
       (to_all (of_dependency q the_root) (owner_brings q the_root).dependencies i d v has.1 h)))
   dependency_named (version_of name w) i d v has h =
       owner_named name w v has.0
-      (in_rest (pkg name (class_of w)) v (of_dependencies q (version_of name w) ++ flat_map (λ row. of_feature q name w (owner_brings q (version_of name w)) row.0) (table_of_owner q (version_of name w)))
-      (in_append-left (of_dependencies q (version_of name w)) (flat_map (λ row. of_feature q name w (owner_brings q (version_of name w)) row.0) (table_of_owner q (version_of name w))) v
+      (in_rest (pkg name (class_of w)) v (of_dependencies q (version_of name w) ++ flat_map (λ row.
+      of_feature q name w (owner_brings q (version_of name w)) row.0) (table_of_owner q (version_of name w)))
+      (in_append-left (of_dependencies q (version_of name w)) (flat_map (λ row. of_feature q name w
+      (owner_brings q (version_of name w)) row.0) (table_of_owner q (version_of name w))) v
       (to_all (of_dependency q (version_of name w)) (owner_brings q (version_of name w)).dependencies i d v has.1 h)))
 
-  feature_named : (name : List ℕ) (w : Parts) (f : List ℕ) (es : List Entry) (v : Vertex) → IsOwner q (version_of name w) → entries_at f (table_of_owner q (version_of name w)) ≡ Some es
+  feature_named : (name : List ℕ) (w : Parts) (f : List ℕ) (es : List Entry) (v : Vertex)
+      → IsOwner q (version_of name w) → entries_at f (table_of_owner q (version_of name w)) ≡ Some es
       → Contains (of_feature q name w (owner_brings q (version_of name w)) f) v → Contains (named q) v
   feature_named name w f es v own at h =
       let table = table_of_owner q (version_of name w) in
       let row = row_of q table f es at in
       owner_named name w v own
-      (in_rest (pkg name (class_of w)) v (of_dependencies q (version_of name w) ++ flat_map (λ row. of_feature q name w (owner_brings q (version_of name w)) row.0) table)
-      (in_append-right (of_dependencies q (version_of name w)) (flat_map (λ row. of_feature q name w (owner_brings q (version_of name w)) row.0) table) v
-      (to_flat (λ (row : List ℕ × List Entry). of_feature q name w (owner_brings q (version_of name w)) row.0) table row.0 v row.1 (subst (λ g. Contains (of_feature q name w (owner_brings q (version_of name w)) g) v) row.2 h))))
+      (in_rest (pkg name (class_of w)) v (of_dependencies q (version_of name w)
+      ++ flat_map (λ row. of_feature q name w (owner_brings q (version_of name w)) row.0) table)
+      (in_append-right (of_dependencies q (version_of name w))
+      (flat_map (λ row. of_feature q name w (owner_brings q (version_of name w)) row.0) table) v
+      (to_flat (λ (row : List ℕ × List Entry).
+      of_feature q name w (owner_brings q (version_of name w)) row.0) table row.0 v row.1
+      (subst (λ g. Contains (of_feature q name w (owner_brings q (version_of name w)) g) v) row.2 h))))
 
   entry_named : (name : List ℕ) (w : Parts) (f : List ℕ) (e : Entry) (v : Vertex) → HasEntry q name w f e
       → Contains (of_entry q name w (owner_brings q (version_of name w)).dependencies e) v → Contains (named q) v
   entry_named name w f e v has h =
       feature_named name w f has.1 v has.0 has.2
-      (in_append-right (feature_of q name f) (flat_map (of_entry q name w (owner_brings q (version_of name w)).dependencies) (entries_of q name w f)) v
-      (to_flat (of_entry q name w (owner_brings q (version_of name w)).dependencies) (entries_of q name w f) e v (to_entry q name w f e has) h))
+      (in_append-right (feature_of q name f)
+      (flat_map (of_entry q name w (owner_brings q (version_of name w)).dependencies) (entries_of q name w f)) v
+      (to_flat (of_entry q name w (owner_brings q (version_of name w)).dependencies) (entries_of q name w f) e v
+      (to_entry q name w f e has) h))
 
   -- what an entry asks of a dependency
-  pair_named : (name : List ℕ) (w : Parts) (f g : List ℕ) (e : Entry) (i : ℕ) (d : Dependency) (v : Vertex) → HasEntry q name w f e → HasDep q (version_of name w) i d
+  pair_named : (name : List ℕ) (w : Parts) (f g : List ℕ) (e : Entry) (i : ℕ) (d : Dependency) (v : Vertex)
+      → HasEntry q name w f e → HasDep q (version_of name w) i d
       → Contains (asked_by e) (d.name, g) → Contains (feature_of q d.real_name g) v → Contains (named q) v
   pair_named name w f g e i d v has at c h =
       let ds = (owner_brings q (version_of name w)).dependencies in
@@ -314,10 +394,12 @@ module _ (q : Problem) where
       (to_flat (asked_if q (d.name, g)) ds d v (at_place ds i d at.1)
       (to_if (same_text d.name d.name) v (feature_of q d.real_name g) (text-refl d.name) h))))
 
-  asked_named : (o : Owner) (i : ℕ) (d : Dependency) (g : List ℕ) (v : Vertex) → HasDep q o i d → Contains (asked_of_target d) g ⊎ RootAsks q o d g → Contains (feature_of q d.real_name g) v
+  asked_named : (o : Owner) (i : ℕ) (d : Dependency) (g : List ℕ) (v : Vertex) → HasDep q o i d
+      → Contains (asked_of_target d) g ⊎ RootAsks q o d g → Contains (feature_of q d.real_name g) v
       → Contains (named q) v
   asked_named o i d g v has (inl c) h =
-      dependency_named o i d v has (in_rest (dep o i) v (flat_map (feature_of q d.real_name) (asked_of_target d)) (to_flat (feature_of q d.real_name) (asked_of_target d) g v c h))
+      dependency_named o i d v has (in_rest (dep o i) v (flat_map (feature_of q d.real_name) (asked_of_target d))
+      (to_flat (feature_of q d.real_name) (asked_of_target d) g v c h))
   asked_named the_root i d g v has (inr c) h =
       let ds = (owner_brings q the_root).dependencies in
       in_append-left (of_root q) (flat_map (of_name q) (map (λ row. row.0) q.candidates)) v
@@ -330,43 +412,63 @@ module _ (q : Problem) where
 
   -- .. a feature in the class of the first candidate
   at_first : (name f : List ℕ) (e : Candidate) → Contains (candidates_of q.candidates name) e
-      → (c : Candidate) × (cs : List Candidate) × (candidates_of q.candidates name ≡ c ∷ cs) × Contains (feature_of q name f) (feat name (class_of c.version) f)
+      → (c : Candidate) × (cs : List Candidate) × (candidates_of q.candidates name ≡ c ∷ cs)
+      × Contains (feature_of q name f) (feat name (class_of c.version) f)
   at_first name f e i = by (candidates_of q.candidates name) refl i
     where
       by : (cs : List Candidate) → candidates_of q.candidates name ≡ cs → Contains cs e
-          → (c : Candidate) × (rest : List Candidate) × (candidates_of q.candidates name ≡ c ∷ rest) × Contains (feature_of q name f) (feat name (class_of c.version) f)
+          → (c : Candidate) × (rest : List Candidate) × (candidates_of q.candidates name ≡ c ∷ rest)
+          × Contains (feature_of q name f) (feat name (class_of c.version) f)
       by [] is i = absurd (in_none e i)
-      by (c ∷ cs) is i = (c, cs, is, subst (λ l. Contains (first_feature name f (versions l)) (feat name (class_of c.version) f)) (sym is) (in_first (feat name (class_of c.version) f) []))
+      by (c ∷ cs) is i = (
+        c,
+        cs,
+        is,
+        subst (λ l. Contains (first_feature name f (versions l)) (feat name (class_of c.version) f))
+            (sym is) (in_first (feat name (class_of c.version) f) []),
+      )
 
-  in_class_of : (name : List ℕ) (k : Class) (e : Candidate) → Contains (class_candidates q name k) e → Contains (candidates_of q.candidates name) e × (k ≡ class_of e.version)
-  in_class_of name k e i = let r = in_filter (in_that_class k) (candidates_of q.candidates name) e i in (r.0, class-same k (class_of e.version) r.1)
+  in_class_of : (name : List ℕ) (k : Class) (e : Candidate) → Contains (class_candidates q name k) e
+      → Contains (candidates_of q.candidates name) e × (k ≡ class_of e.version)
+  in_class_of name k e i = let r =
+      in_filter (in_that_class k) (candidates_of q.candidates name) e i in (r.0, class-same k (class_of e.version) r.1)
 
   module _ (known : IsCatalogue q) where
-    itself : (name : List ℕ) (c : Candidate) → Contains (candidates_of q.candidates name) c → owner_brings q (version_of name c.version) ≡ c.brings
-    itself name c i = ap brings_of (found_itself (candidates_of q.candidates name) c (of_rows q.candidates known.versions_rise name) i)
+    itself : (name : List ℕ) (c : Candidate) → Contains (candidates_of q.candidates name) c
+        → owner_brings q (version_of name c.version) ≡ c.brings
+    itself name c i = ap brings_of
+        (found_itself (candidates_of q.candidates name) c (of_rows q.candidates known.versions_rise name) i)
 
-    feature_first : (name : List ℕ) (k : Class) (f : List ℕ) (v : Vertex) → HasFeatVertex q name k f → Contains (feature_of q name f) v → Contains (named q) v
+    feature_first : (name : List ℕ) (k : Class) (f : List ℕ) (v : Vertex) → HasFeatVertex q name k f
+        → Contains (feature_of q name f) v → Contains (named q) v
     feature_first name k f v (had _ _ _ c e i j h) there =
         let own : IsOwner q (version_of name c.version) = (c, i, refl) in
-        let r = feature_row (table_of_owner q (version_of name c.version)) f (ap (λ (s : Summary). has_feature s.features f) (itself name c i) ∙ h) in
+        let r = feature_row (table_of_owner q (version_of name c.version)) f
+        (ap (λ (s : Summary). has_feature s.features f) (itself name c i) ∙ h) in
         feature_named name c.version f r.0 v own r.1
-        (in_append-left (feature_of q name f) (flat_map (of_entry q name c.version (owner_brings q (version_of name c.version)).dependencies) (entries_of q name c.version f)) v there)
+        (in_append-left (feature_of q name f) (flat_map (of_entry q name c.version
+        (owner_brings q (version_of name c.version)).dependencies) (entries_of q name c.version f)) v there)
     feature_first name k f v (asked o i d _ _ e has j a) there = asked_named o i d f v has a there
-    feature_first name k f v (by_entry n w i d _ g _ e has j (inl a)) there = pair_named n w g f (dependency_feature d.name f) i d v a has (in_first (d.name, f) []) there
-    feature_first name k f v (by_entry n w i d _ g _ e has j (inr a)) there = pair_named n w g f (weak_feature d.name f) i d v a has (in_first (d.name, f) []) there
+    feature_first name k f v (by_entry n w i d _ g _ e has j (inl a)) there =
+        pair_named n w g f (dependency_feature d.name f) i d v a has (in_first (d.name, f) []) there
+    feature_first name k f v (by_entry n w i d _ g _ e has j (inr a)) there =
+        pair_named n w g f (weak_feature d.name f) i d v a has (in_first (d.name, f) []) there
 
-    class_there : (name : List ℕ) (k : Class) (f : List ℕ) → HasFeatVertex q name k f → (e : Candidate) × Contains (class_candidates q name k) e
+    class_there : (name : List ℕ) (k : Class) (f : List ℕ) → HasFeatVertex q name k f
+        → (e : Candidate) × Contains (class_candidates q name k) e
     class_there name k f (had _ _ _ c e i j h) = (e, j)
     class_there name k f (asked o i d _ _ e has j a) = (e, j)
     class_there name k f (by_entry n w i d _ g _ e has j a) = (e, j)
 
     -- a vertex is named, or is a feature in a class of its name
-    pub all_named : (v : Vertex) → IsVertex q v → Contains (named q) v ⊎ ((w : Vertex) × Contains (named q) w × Contains (in_classes q w) v)
+    pub all_named : (v : Vertex) → IsVertex q v
+        → Contains (named q) v ⊎ ((w : Vertex) × Contains (named q) w × Contains (in_classes q w) v)
     all_named root is = inl (in_first root _)
     all_named (pkg name k) (c, i) =
         let r = in_class_of name k c i in
         inl (owner_named name c.version (pkg name k) (c, r.0, refl)
-        (subst (λ m. Contains (of_version q name c.version) (pkg name m)) (sym r.1) (in_first (pkg name (class_of c.version)) _)))
+        (subst (λ m. Contains (of_version q name c.version) (pkg name m)) (sym r.1)
+        (in_first (pkg name (class_of c.version)) _)))
     all_named (dep o i) (d, has) = inl (dependency_named o i d (dep o i) has (in_first (dep o i) _))
     all_named (ask name w i g) (d, f, has, entry) =
         let ds = (owner_brings q (version_of name w)).dependencies in
@@ -374,7 +476,8 @@ module _ (q : Problem) where
         inl (entry_named name w f e (ask name w i g) entry
         (in_append-left (each_from (ask_if name w e) 0 ds) (flat_map (asked_of q ds) (asked_by e)) (ask name w i g)
         (to_all (ask_if name w e) ds i d (ask name w i g) has.1
-        (to_if (same_text d.name d.name) (ask name w i g) (ask name w i g ∷ []) (text-refl d.name) (in_first (ask name w i g) [])))))
+        (to_if (same_text d.name d.name) (ask name w i g) (ask name w i g ∷ []) (text-refl d.name)
+        (in_first (ask name w i g) [])))))
     all_named (feat name k f) is =
         let c = class_there name k f is in
         let e = in_class_of name k c.0 c.1 in
@@ -383,9 +486,11 @@ module _ (q : Problem) where
         let all : List Candidate = (r.0) ∷ r.1 in
         let ks = classes_in (versions all) in
         let in_all : Contains ks (class_of (c.0).version)
-        = subst (λ l. Contains l (class_of (c.0).version)) (sym (candidates_classed all)) (class_in all c.0 (subst (λ l. Contains l c.0) r.2 e.0)) in
+        = subst (λ l. Contains l (class_of (c.0).version)) (sym (candidates_classed all))
+        (class_in all c.0 (subst (λ l. Contains l c.0) r.2 e.0)) in
         let there : Contains (map (λ m. feat name m f) ks) (feat name k f)
-        = subst (λ m. Contains (map (λ m. feat name m f) ks) (feat name m f)) (sym e.1) (to_map (λ m. feat name m f) ks (class_of (c.0).version) in_all) in
+        = subst (λ m. Contains (map (λ m. feat name m f) ks) (feat name m f)) (sym e.1)
+        (to_map (λ m. feat name m f) ks (class_of (c.0).version) in_all) in
         inr (
           feat name x f,
           feature_first name k f (feat name x f) is r.3,

@@ -1,5 +1,6 @@
 -- The instances of pairs, put one pair after another.
-use Rattle.std.proofs.Common.{◌≡◌, ◌≢◌, ◌<◌, ℕ, zero, suc, get_or, List, [], ◌∷◌, ◌++◌, length, map, take, true, Contains, Some, slice_get, refl, sym, ap, ◌∙◌, subst, inl, inr, arith}
+use Rattle.std.proofs.Common.{◌≡◌, ◌≢◌, ◌<◌, ℕ, zero, suc, get_or, List, [], ◌∷◌, ◌++◌, length, map, take, true}
+use Rattle.std.proofs.Common.{Contains, Some, slice_get, refl, sym, ap, ◌∙◌, subst, inl, inr, arith}
 use Rattle.std.specs.List.{AllPairs, flat_map}
 use Rattle.std.proofs.lemmas.List.{append_assoc, map-append}
 use Rattle.std.proofs.lemmas.List.Kept.{AllPairs-cons}
@@ -7,7 +8,8 @@ use Rattle.std.proofs.lemmas.Option.{none-some, same_Some, slice_get_read, slice
 use Rattle.model.specs.Content.{Problem}
 use Rattle.model.specs.WellFormed.{IsCatalogue}
 use Rattle.model.specs.Vertices.{State, Vertex, absent, space}
-use Rattle.model.proofs.Lists.{in_none, in_cons, in_first, in_rest, in_map, to_map, pairs_first, pairs_get, pairs_none, pairs_rest}
+use Rattle.model.proofs.Lists.{in_none, in_cons, in_first, in_rest, in_map, to_map, pairs_first, pairs_get, pairs_none}
+use Rattle.model.proofs.Lists.{pairs_rest}
 use Rattle.refutations.specs.Causes.{Cause, is_cause}
 use Rattle.refutations.proofs.Bools.{in_append-left, in_append-right, in_either}
 use Rattle.encoding.specs.Assignments.{state_at}
@@ -26,22 +28,27 @@ use Rattle.full_encoding.proofs.Firsts.{first_there}
 
 -- ---- lists
 
-pairs_append : {X : Type 0} (xs ys : List X) → AllPairs (λ a b. a ≢ b) xs → AllPairs (λ a b. a ≢ b) ys → ((x y : X) → Contains xs x → Contains ys y → x ≢ y) → AllPairs (λ a b. a ≢ b) (xs ++ ys)
+pairs_append : {X : Type 0} (xs ys : List X) → AllPairs (λ a b. a ≢ b) xs → AllPairs (λ a b. a ≢ b) ys
+    → ((x y : X) → Contains xs x → Contains ys y → x ≢ y) → AllPairs (λ a b. a ≢ b) (xs ++ ys)
 pairs_append [] ys a b apart = b
-pairs_append {X} (x ∷ xs) ys a b apart = AllPairs-cons (λ a b. a ≢ b) x (xs ++ ys) (from_all (λ w. x ≢ w) (xs ++ ys) first)
+pairs_append {X} (x ∷ xs) ys a b apart =
+    AllPairs-cons (λ a b. a ≢ b) x (xs ++ ys) (from_all (λ w. x ≢ w) (xs ++ ys) first)
     (pairs_append xs ys (pairs_rest (λ a b. a ≢ b) x xs a) b (λ z y c d. apart z y (in_rest x z xs c) d))
   where
     first : (w : X) → Contains (xs ++ ys) w → x ≢ w
-    first w c = elim (in_either xs ys w c) [ inl d ↦ pairs_first (λ a b. a ≢ b) x w xs a d | inr d ↦ apart x w (in_first x xs) d ]
+    first w c = elim
+        (in_either xs ys w c) [ inl d ↦ pairs_first (λ a b. a ≢ b) x w xs a d | inr d ↦ apart x w (in_first x xs) d ]
 
-given_append : (q : Problem) (vs : Numbering) (cs ds : List Cause) (xs ys : List Given) → AreGiven q vs cs xs → AreGiven q vs ds ys → AreGiven q vs (cs ++ ds) (xs ++ ys)
+given_append : (q : Problem) (vs : Numbering) (cs ds : List Cause) (xs ys : List Given) → AreGiven q vs cs xs
+    → AreGiven q vs ds ys → AreGiven q vs (cs ++ ds) (xs ++ ys)
 given_append q vs [] ds [] ys a b = b
 given_append q vs [] ds (x ∷ xs) ys a b = absurd a
 given_append q vs (c ∷ cs) ds [] ys a b = absurd a
 given_append q vs (c ∷ cs) ds (x ∷ xs) ys a b = (a.0, a.1, given_append q vs cs ds xs ys a.2 b)
 
 -- an element of the first of a list stands before that place
-pub taken_at : {X : Type 0} (xs : List X) (n : ℕ) (x : X) → Contains (take n xs) x → (i : ℕ) × (i < n) × (slice_get xs i ≡ Some x)
+pub taken_at : {X : Type 0} (xs : List X) (n : ℕ) (x : X) → Contains (take n xs) x
+    → (i : ℕ) × (i < n) × (slice_get xs i ≡ Some x)
 taken_at [] zero x c = absurd (in_none x c)
 taken_at [] (suc n) x c = absurd (in_none x c)
 taken_at (y ∷ xs) zero x c = absurd (in_none x c)
@@ -59,10 +66,12 @@ append_none [] = refl
 append_none (x ∷ xs) = ap (λ l. x ∷ l) (append_none xs)
 
 -- in a list where each stands once, none of the first is that which comes next
-pub not_before : {X : Type 0} (xs : List X) (n : ℕ) (x : X) → AllPairs (λ a b. a ≢ b) xs → slice_get xs n ≡ Some x → Contains (take n xs) x → ⊥
+pub not_before : {X : Type 0} (xs : List X) (n : ℕ) (x : X) → AllPairs (λ a b. a ≢ b) xs → slice_get xs n ≡ Some x
+    → Contains (take n xs) x → ⊥
 not_before xs n x once at c = let r = taken_at xs n x c in pairs_get (λ a b. a ≢ b) xs r.0 n x x once r.1 r.2 at refl
 
-pub taken_next : {X : Type 0} (xs : List X) (n : ℕ) (x : X) → slice_get xs n ≡ Some x → take (suc n) xs ≡ take n xs ++ x ∷ []
+pub taken_next : {X : Type 0} (xs : List X) (n : ℕ) (x : X) → slice_get xs n ≡ Some x
+    → take (suc n) xs ≡ take n xs ++ x ∷ []
 taken_next [] n x e = absurd (none-some x e)
 taken_next (y ∷ xs) zero x e = ap (λ z. z ∷ []) (same_Some y x e)
 taken_next (y ∷ xs) (suc n) x e = ap (λ l. y ∷ l) (taken_next xs n x e)
@@ -71,7 +80,8 @@ flat_last : {X Y : Type 0} (f : X → List Y) (xs : List X) (x : X) → flat_map
 flat_last f [] x = append_none (f x)
 flat_last f (y ∷ xs) x = ap (λ l. f y ++ l) (flat_last f xs x) ∙ sym (append_assoc (f y) (flat_map f xs) (f x))
 
-mapped_at : {X Y : Type 0} (f : X → Y) (xs : List X) (n : ℕ) (x : X) → slice_get xs n ≡ Some x → slice_get (map f xs) n ≡ Some (f x)
+mapped_at : {X Y : Type 0} (f : X → Y) (xs : List X) (n : ℕ) (x : X) → slice_get xs n ≡ Some x
+    → slice_get (map f xs) n ≡ Some (f x)
 mapped_at f [] n x e = absurd (none-some x e)
 mapped_at f (y ∷ xs) zero x e = ap (λ z. Some (f z)) (same_Some y x e)
 mapped_at f (y ∷ xs) (suc n) x e = mapped_at f xs n x e
@@ -92,16 +102,19 @@ module _ (q : Problem) where
   no_pairs vs (v ∷ all) = given_none vs
 
   -- what was given stays as vertices come
-  pub given_stays : (vs new : Numbering) (ps : List Pair) (xs : List Given) → IsGrown vs new → IsNumbering q new → IsGivenFor q vs ps xs → IsGivenFor q new ps xs
+  pub given_stays : (vs new : Numbering) (ps : List Pair) (xs : List Given) → IsGrown vs new → IsNumbering q new
+      → IsGivenFor q vs ps xs → IsGivenFor q new ps xs
   given_stays vs new ps xs grown ok given = record {
     causes = given.causes;
     listed = given.listed;
     once = given.once;
-    given = subst (λ w. AreGiven q w given.causes xs) (sym grown.1) (given_more q vs grown.0 given.causes xs (subst (AllPairs (λ v w. v ≢ w)) grown.1 ok.once) given.given);
+    given = subst (λ w. AreGiven q w given.causes xs) (sym grown.1)
+        (given_more q vs grown.0 given.causes xs (subst (AllPairs (λ v w. v ≢ w)) grown.1 ok.once) given.given);
   }
 
   -- those of one more pair
-  pub given_pair : (vs : Numbering) (ps : List Pair) (p : Pair) (xs ys : List Given) → IsGivenFor q vs ps xs → IsGivenAt q vs p ys → (Contains ps p → ⊥) → IsGivenFor q vs (ps ++ p ∷ []) (xs ++ ys)
+  pub given_pair : (vs : Numbering) (ps : List Pair) (p : Pair) (xs ys : List Given) → IsGivenFor q vs ps xs
+      → IsGivenAt q vs p ys → (Contains ps p → ⊥) → IsGivenFor q vs (ps ++ p ∷ []) (xs ++ ys)
   given_pair vs ps p xs ys a b fresh = record {
     causes = a.causes ++ b.causes;
     listed = λ c. (there c, back c);
@@ -110,13 +123,16 @@ module _ (q : Problem) where
     given = given_append q vs a.causes b.causes xs ys a.given b.given;
   }
     where
-      there : (c : Cause) → Contains (a.causes ++ b.causes) c → (is_cause q c ≡ true) × Contains (ps ++ p ∷ []) (first_pair c)
+      there : (c : Cause) → Contains (a.causes ++ b.causes) c
+          → (is_cause q c ≡ true) × Contains (ps ++ p ∷ []) (first_pair c)
       there c h = elim (in_either a.causes b.causes c h) [
         | inl d ↦ let r = (a.listed c).0 d in (r.0, in_append-left ps (p ∷ []) (first_pair c) r.1)
-        | inr d ↦ let r = ((b.are).listed c).0 d in (r.0, in_append-right ps (p ∷ []) (first_pair c) (subst (Contains (p ∷ [])) (sym r.1) (in_first p [])))
+        | inr d ↦ let r = ((b.are).listed c).0 d in
+            (r.0, in_append-right ps (p ∷ []) (first_pair c) (subst (Contains (p ∷ [])) (sym r.1) (in_first p [])))
       ]
 
-      back : (c : Cause) → (is_cause q c ≡ true) × Contains (ps ++ p ∷ []) (first_pair c) → Contains (a.causes ++ b.causes) c
+      back : (c : Cause) → (is_cause q c ≡ true) × Contains (ps ++ p ∷ []) (first_pair c)
+          → Contains (a.causes ++ b.causes) c
       back c (t, h) = elim (in_last ps p (first_pair c) h) [
         | inl d ↦ in_append-left a.causes b.causes c ((a.listed c).1 (t, d))
         | inr e ↦ in_append-right a.causes b.causes c (((b.are).listed c).1 (t, sym e))
@@ -128,48 +144,60 @@ module _ (q : Problem) where
   states_none v ps = ap (λ l. ps ++ map (λ s. (v, s)) l) (take_none (space q v)) ∙ append_none ps
 
   pub state_next : (v : Vertex) (n : ℕ) → n < length (space q v) → slice_get (space q v) n ≡ Some (state_at q v n)
-  state_next v n lt = let r = get_below (space q v) n lt in r.1 ∙ ap (λ o. Some (Rattle.std.specs.Prelude.unwrap_or o absent)) (sym r.1)
+  state_next v n lt = let r =
+      get_below (space q v) n lt in r.1 ∙ ap (λ o. Some (Rattle.std.specs.Prelude.unwrap_or o absent)) (sym r.1)
 
   pub states_next : (v : Vertex) (ps : List Pair) (n : ℕ) → n < length (space q v)
-      → (ps ++ map (λ s. (v, s)) (take n (space q v))) ++ (v, state_at q v n) ∷ [] ≡ ps ++ map (λ s. (v, s)) (take (suc n) (space q v))
+      → (ps ++ map (λ s. (v, s)) (take n (space q v))) ++ (v, state_at q v n) ∷ []
+      ≡ ps ++ map (λ s. (v, s)) (take (suc n) (space q v))
   states_next v ps n lt =
       let ss = space q v in
       let at = state_next v n lt in
       append_assoc ps (map (λ s. (v, s)) (take n ss)) ((v, state_at q v n) ∷ [])
-      ∙ ap (λ l. ps ++ l) (sym (map-append (λ s. (v, s)) (take n ss) (state_at q v n ∷ [])) ∙ ap (map (λ s. (v, s))) (sym (taken_next ss n (state_at q v n) at)))
+      ∙ ap (λ l. ps ++ l) (sym (map-append (λ s. (v, s)) (take n ss) (state_at q v n ∷ []))
+      ∙ ap (map (λ s. (v, s))) (sym (taken_next ss n (state_at q v n) at)))
 
   -- the states as they are listed
-  pub state_listed : (v : Vertex) (xs : List StateRef) (n : ℕ) (x : StateRef) → state_ref_views xs ≡ space q v → n < length xs → x ≡ get_or xs n x
+  pub state_listed : (v : Vertex) (xs : List StateRef) (n : ℕ) (x : StateRef) → state_ref_views xs ≡ space q v
+      → n < length xs → x ≡ get_or xs n x
       → (n < length (space q v)) × (state_ref_view x ≡ state_at q v n)
   state_listed v xs n x same lt is =
       let at : slice_get (space q v) n ≡ Some (state_ref_view x)
-      = ap (λ l. slice_get l n) (sym same) ∙ mapped_at state_ref_view xs n x (slice_get_read xs (length xs) n x refl lt is) in
+      = ap (λ l. slice_get l n) (sym same)
+      ∙ mapped_at state_ref_view xs n x (slice_get_read xs (length xs) n x refl lt is) in
       let below : n < length (space q v) = slice_get_within (space q v) n (state_ref_view x) at in
       (below, same_Some (state_ref_view x) (state_at q v n) (sym at ∙ state_next v n below))
 
-  pub state_fresh : IsCatalogue q → (v : Vertex) (ps : List Pair) (n : ℕ) → n < length (space q v) → ((s : State) → Contains ps (v, s) → ⊥)
+  pub state_fresh : IsCatalogue q → (v : Vertex) (ps : List Pair) (n : ℕ) → n < length (space q v)
+      → ((s : State) → Contains ps (v, s) → ⊥)
       → Contains (ps ++ map (λ s. (v, s)) (take n (space q v))) (v, state_at q v n) → ⊥
-  state_fresh known v ps n lt fresh c = elim (in_either ps (map (λ s. (v, s)) (take n (space q v))) (v, state_at q v n) c) [
-    | inl d ↦ fresh (state_at q v n) d
-    | inr d ↦ let r = in_map (λ s. (v, s)) (take n (space q v)) (v, state_at q v n) d in
-        let same : r.0 ≡ state_at q v n = ap (λ (p : Pair). p.1) r.2 in
-        not_before (space q v) n (state_at q v n) (states_once q known v) (state_next v n lt) (subst (Contains (take n (space q v))) same r.1)
-  ]
+  state_fresh known v ps n lt fresh c =
+      elim (in_either ps (map (λ s. (v, s)) (take n (space q v))) (v, state_at q v n) c) [
+        | inl d ↦ fresh (state_at q v n) d
+        | inr d ↦ let r = in_map (λ s. (v, s)) (take n (space q v)) (v, state_at q v n) d in
+            let same : r.0 ≡ state_at q v n = ap (λ (p : Pair). p.1) r.2 in
+            not_before (space q v) n (state_at q v n) (states_once q known v) (state_next v n lt)
+            (subst (Contains (take n (space q v))) same r.1)
+      ]
 
   -- ---- the vertices, one after another
 
-  pub vertex_fresh : (vs : Numbering) (n : ℕ) (v : Vertex) → IsNumbering q vs → slice_get vs n ≡ Some v → (s : State) → Contains (all_pairs q (take n vs)) (v, s) → ⊥
+  pub vertex_fresh : (vs : Numbering) (n : ℕ) (v : Vertex) → IsNumbering q vs → slice_get vs n ≡ Some v → (s : State)
+      → Contains (all_pairs q (take n vs)) (v, s) → ⊥
   vertex_fresh vs n v ok at s c =
       let r = in_flat (pairs_of q) (take n vs) (v, s) c in
       let m = in_map (λ s. (r.0, s)) (space q r.0) (v, s) r.2 in
       let same : r.0 ≡ v = ap (λ (p : Pair). p.0) m.2 in
       not_before vs n v ok.once at (subst (Contains (take n vs)) same r.1)
 
-  pub vertices_next : (vs : Numbering) (n : ℕ) (v : Vertex) → slice_get vs n ≡ Some v → all_pairs q (take n vs) ++ pairs_of q v ≡ all_pairs q (take (suc n) vs)
-  vertices_next vs n v at = sym (flat_last (pairs_of q) (take n vs) v) ∙ ap (flat_map (pairs_of q)) (sym (taken_next vs n v at))
+  pub vertices_next : (vs : Numbering) (n : ℕ) (v : Vertex) → slice_get vs n ≡ Some v
+      → all_pairs q (take n vs) ++ pairs_of q v ≡ all_pairs q (take (suc n) vs)
+  vertices_next vs n v at =
+      sym (flat_last (pairs_of q) (take n vs) v) ∙ ap (flat_map (pairs_of q)) (sym (taken_next vs n v at))
 
   -- each cause has its first term at one of all pairs
-  pub given_all : (vs new : Numbering) (xs : List Given) → IsWhole q vs → IsGivenFor q new (all_pairs q vs) xs → IsGivenAll q new xs
+  pub given_all : (vs new : Numbering) (xs : List Given) → IsWhole q vs
+      → IsGivenFor q new (all_pairs q vs) xs → IsGivenAll q new xs
   given_all vs new xs whole given = record {
     causes = given.causes;
     are = record {

@@ -1,5 +1,6 @@
 -- Vertices that get numbers one after another, until every vertex has one.
-use Rattle.std.proofs.Common.{◌≡◌, ◌<◌, ◌≤◌, ◌+◌, ℕ, suc, get_or, take, take_all, List, [], ◌∷◌, ◌++◌, length, Contains, Some, slice_get, refl, sym, ap, ◌∙◌, subst, inl, inr, arith}
+use Rattle.std.proofs.Common.{◌≡◌, ◌<◌, ◌≤◌, ◌+◌, ℕ, suc, get_or, take, take_all, List, [], ◌∷◌, ◌++◌, length, Contains}
+use Rattle.std.proofs.Common.{Some, slice_get, refl, sym, ap, ◌∙◌, subst, inl, inr, arith}
 use Rattle.std.specs.List.{flat_map}
 use Rattle.std.proofs.lemmas.List.{map-append}
 use Rattle.std.proofs.lemmas.Option.{slice_get_read}
@@ -24,7 +25,8 @@ use Rattle.full_encoding.proofs.Steps.{append_none}
 pub put_none : (vs : Numbering) (ws : List Vertex) → IsPut vs vs ws
 put_none vs ws = record { grown = ([], sym (append_none vs)); numbering = λ q ok are. ok }
 
-pub put_more : (old vs new : Numbering) (ws : List Vertex) (v : Vertex) → IsPut old vs ws → Contains ws v → new ≡ with_vertex vs v → IsPut old new ws
+pub put_more : (old vs new : Numbering) (ws : List Vertex) (v : Vertex) → IsPut old vs ws → Contains ws v
+    → new ≡ with_vertex vs v → IsPut old new ws
 put_more old vs new ws v put there is = record {
   grown = grows_on old vs new put.grown (subst (IsGrown vs) (sym is) (put_grows vs v));
   numbering = λ q ok are. subst (IsNumbering q) (sym is) (numbering_put q vs v (put.numbering q ok are) (are v there));
@@ -35,15 +37,18 @@ still_in vs new v grown c = subst (λ w. Contains w v) (sym grown.1) (in_append-
 
 -- ---- of a list
 
-pub item_in : (xs : List VertexRef) (i : ℕ) (x : VertexRef) → i < length xs → x ≡ get_or xs i x → Contains (vertex_views xs) (vertex_ref_view x)
+pub item_in : (xs : List VertexRef) (i : ℕ) (x : VertexRef) → i < length xs → x ≡ get_or xs i x
+    → Contains (vertex_views xs) (vertex_ref_view x)
 item_in xs i x lt is = to_map vertex_ref_view xs x (got_in xs i x (slice_get_read xs (length xs) i x refl lt is))
 
-pub in_next : (vs new : Numbering) (xs : List VertexRef) (i n : ℕ) (x : VertexRef) → i < length xs → x ≡ get_or xs i x → new ≡ with_vertex vs (vertex_ref_view x) → slice_get new n ≡ Some (vertex_ref_view x)
+pub in_next : (vs new : Numbering) (xs : List VertexRef) (i n : ℕ) (x : VertexRef) → i < length xs → x ≡ get_or xs i x
+    → new ≡ with_vertex vs (vertex_ref_view x) → slice_get new n ≡ Some (vertex_ref_view x)
     → AreIn vs (vertex_views (take i xs)) → AreIn new (vertex_views (take (i + 1) xs))
 in_next vs new xs i n x lt is put at are =
     let e : i + 1 ≡ suc i = omega arith in
     let next : vertex_views (take (i + 1) xs) ≡ vertex_views (take i xs) ++ vertex_ref_view x ∷ []
-    = ap (λ k. vertex_views (take k xs)) e ∙ ap vertex_views (take-suc xs i x lt ∙ ap (λ y. take i xs ++ y ∷ []) (sym is)) ∙ map-append vertex_ref_view (take i xs) (x ∷ []) in
+    = ap (λ k. vertex_views (take k xs)) e ∙ ap vertex_views (take-suc xs i x lt
+    ∙ ap (λ y. take i xs ++ y ∷ []) (sym is)) ∙ map-append vertex_ref_view (take i xs) (x ∷ []) in
     λ v c. elim (in_last (vertex_views (take i xs)) (vertex_ref_view x) v (subst (λ l. Contains l v) next c)) [
       | inl d ↦ still_in vs new v (subst (IsGrown vs) (sym put) (put_grows vs (vertex_ref_view x))) (are v d)
       | inr f ↦ subst (Contains new) f (got_in new n (vertex_ref_view x) at)
@@ -53,7 +58,8 @@ pub in_none_yet : (vs : Numbering) (xs : List VertexRef) → AreIn vs (vertex_vi
 in_none_yet vs [] = λ v c. absurd (in_none v c)
 in_none_yet vs (x ∷ xs) = λ v c. absurd (in_none v c)
 
-pub in_whole : (vs : Numbering) (xs : List VertexRef) (i : ℕ) → length xs ≤ i → AreIn vs (vertex_views (take i xs)) → AreIn vs (vertex_views xs)
+pub in_whole : (vs : Numbering) (xs : List VertexRef) (i : ℕ) → length xs ≤ i → AreIn vs (vertex_views (take i xs))
+    → AreIn vs (vertex_views xs)
 in_whole vs xs i le are = subst (λ l. AreIn vs (vertex_views l)) (take_all i xs le) are
 
 -- ---- of every vertex
@@ -62,9 +68,11 @@ pub all_vertices : (q : Problem) (ws : List Vertex) → ws ≡ named q → AreVe
 all_vertices q ws e = λ v c. named_are q v (subst (λ l. Contains l v) e c)
 
 pub widened_are : (q : Problem) (vs : Numbering) → IsNumbering q vs → AreVertices q (flat_map (in_classes q) vs)
-widened_are q vs ok = λ v c. let r = in_flat (in_classes q) vs v c in classes_are q r.0 v (each_at (λ w. IsVertex q w) vs r.0 ok.there r.1) r.2
+widened_are q vs ok = λ v c. let r =
+    in_flat (in_classes q) vs v c in classes_are q r.0 v (each_at (λ w. IsVertex q w) vs r.0 ok.there r.1) r.2
 
-pub whole_after : (q : Problem) (vs new : Numbering) (ws : List Vertex) → IsCatalogue q → ws ≡ named q → AreIn vs ws → IsGrown vs new → AreIn new (flat_map (in_classes q) vs) → IsWhole q new
+pub whole_after : (q : Problem) (vs new : Numbering) (ws : List Vertex) → IsCatalogue q → ws ≡ named q → AreIn vs ws
+    → IsGrown vs new → AreIn new (flat_map (in_classes q) vs) → IsWhole q new
 whole_after q vs new ws known e are grown wide = λ v is. elim (all_named q known v is) [
   | inl c ↦ still_in vs new v grown (are v (subst (λ l. Contains l v) (sym e) c))
   | inr r ↦ wide v (to_flat (in_classes q) vs r.0 v (are r.0 (subst (λ l. Contains l r.0) (sym e) r.1)) r.2)

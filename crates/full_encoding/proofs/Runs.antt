@@ -1,5 +1,7 @@
 -- The classes of versions that are oldest first come in runs: behind those of the first class stand those of others.
-use Rattle.std.proofs.Common.{◌≡◌, ◌<◌, ◌≤◌, ℕ, zero, suc, List, [], ◌∷◌, map, filter, drop, length, Bool, true, false, cond, ◌||◌, Contains, nat_lt, Some, slice_get, refl, sym, ap, ◌∙◌, subst, inl, inr, arith, true≢false}
+use Rattle.std.proofs.Common.{◌≡◌, ◌<◌, ◌≤◌, ℕ, zero, suc, List, [], ◌∷◌, map, filter, drop, length, Bool, true, false}
+use Rattle.std.proofs.Common.{cond, ◌||◌, Contains, nat_lt, Some, slice_get, refl, sym, ap, ◌∙◌, subst, inl, inr, arith}
+use Rattle.std.proofs.Common.{true≢false}
 use Rattle.std.specs.List.{list_any, AllPairs}
 use Rattle.std.specs.Ordering.{is_gt}
 use Rattle.std.specs.declared.cmp.Ordering.TheVariants.{Less}
@@ -47,7 +49,8 @@ neither (major a) (major b) h k = ap major (same_number b a h k)
 next_same : (k m : Class) (ks : List Class) → AllPairs Comes (k ∷ m ∷ ks) → Contains (m ∷ ks) k → m ≡ k
 next_same k m ks h c = elim (in_cons m k ks c) [
   | inl e ↦ e
-  | inr d ↦ neither k m (pairs_first Comes k m (m ∷ ks) h (in_first m ks)) (pairs_first Comes m k ks (pairs_rest Comes k (m ∷ ks) h) d)
+  | inr d ↦ neither k m (pairs_first Comes k m (m ∷ ks) h (in_first m ks))
+      (pairs_first Comes m k ks (pairs_rest Comes k (m ∷ ks) h) d)
 ]
 
 abbrev folded : List Class → List Class
@@ -58,15 +61,21 @@ folded_in : (ks : List Class) (c : Class) → Contains (folded ks) c → Contain
 folded_in [] c h = h
 folded_in (k ∷ ks) c h = by (folded_in ks c) (list_any (same_class k) (folded ks)) h
   where
-    by : (Contains (folded ks) c → Contains ks c) → (b : Bool) → Contains (cond b (folded ks) (k ∷ folded ks)) c → Contains (k ∷ ks) c
+    by : (Contains (folded ks) c → Contains ks c) → (b : Bool)
+        → Contains (cond b (folded ks) (k ∷ folded ks)) c → Contains (k ∷ ks) c
     by rest true h = in_rest k c ks (rest h)
-    by rest false h = elim (in_cons k c (folded ks) h) [ inl e ↦ subst (λ x. Contains (k ∷ ks) x) e (in_first k ks) | inr d ↦ in_rest k c ks (rest d) ]
+    by rest false h = elim (in_cons k c (folded ks) h) [
+      | inl e ↦ subst
+          (λ x. Contains (k ∷ ks) x) e (in_first k ks)
+      | inr d ↦ in_rest k c ks (rest d)
+    ]
 
 filter_none : (k : Class) (ks : List Class) → (Contains ks k → ⊥) → filter (same_class k) ks ≡ []
 filter_none k [] none = refl
 filter_none k (m ∷ ks) none = by (same_class k m) refl (filter_none k ks (λ c. none (in_rest m k ks c)))
   where
-    by : (b : Bool) → same_class k m ≡ b → filter (same_class k) ks ≡ [] → cond b (m ∷ filter (same_class k) ks) (filter (same_class k) ks) ≡ []
+    by : (b : Bool) → same_class k m ≡ b → filter (same_class k) ks ≡ []
+        → cond b (m ∷ filter (same_class k) ks) (filter (same_class k) ks) ≡ []
     by true e rest = absurd (none (subst (Contains (m ∷ ks)) (sym (class-same k m e)) (in_first m ks)))
     by false e rest = rest
 
@@ -79,21 +88,25 @@ abbrev others : Class → List Class → List Class
 others k ks = drop (length (filter (same_class k) ks)) ks
 
 -- a class that is there once more
-once_more : (k : Class) (ks : List Class) → folded (k ∷ ks) ≡ k ∷ folded (others k ks) → folded (k ∷ k ∷ ks) ≡ k ∷ folded (others k (k ∷ ks))
+once_more : (k : Class) (ks : List Class) → folded (k ∷ ks) ≡ k ∷ folded (others k ks)
+    → folded (k ∷ k ∷ ks) ≡ k ∷ folded (others k (k ∷ ks))
 once_more k ks rest =
     let left = folded (others k ks) in
     ap (add_class k) rest ∙ ap (λ b. cond (b || list_any (same_class k) left) (k ∷ left) (k ∷ k ∷ left)) (class-refl k)
-    ∙ ap (λ l. k ∷ folded (drop (length l) (k ∷ ks))) (sym (ap (λ b. cond b (k ∷ filter (same_class k) ks) (filter (same_class k) ks)) (class-refl k)))
+    ∙ ap (λ l. k ∷ folded (drop (length l) (k ∷ ks)))
+    (sym (ap (λ b. cond b (k ∷ filter (same_class k) ks) (filter (same_class k) ks)) (class-refl k)))
 
 -- a class that isn't there again
 no_more : (k : Class) (ks : List Class) → (Contains ks k → ⊥) → folded (k ∷ ks) ≡ k ∷ folded (others k ks)
 no_more k ks none =
     ap (λ b. cond b (folded ks) (k ∷ folded ks)) (fresh (list_any (same_class k) (folded ks)) refl)
-    ∙ ap (λ l. k ∷ folded l) (sym (drop_none ks)) ∙ ap (λ l. k ∷ folded (drop (length l) ks)) (sym (filter_none k ks none))
+    ∙ ap (λ l. k ∷ folded l) (sym (drop_none ks))
+    ∙ ap (λ l. k ∷ folded (drop (length l) ks)) (sym (filter_none k ks none))
   where
     fresh : (b : Bool) → list_any (same_class k) (folded ks) ≡ b → b ≡ false
     fresh false e = refl
-    fresh true e = let r = any_of (same_class k) (folded ks) e in absurd (none (folded_in ks k (subst (Contains (folded ks)) (sym (class-same k r.0 r.2)) r.1)))
+    fresh true e = let r = any_of (same_class k) (folded ks) e in
+        absurd (none (folded_in ks k (subst (Contains (folded ks)) (sym (class-same k r.0 r.2)) r.1)))
 
 -- a class before classes of which none is lower than one before it
 pub run_first : (k : Class) (ks : List Class) → AllPairs Comes (k ∷ ks) → folded (k ∷ ks) ≡ k ∷ folded (others k ks)
@@ -103,11 +116,14 @@ run_first k (m ∷ ks) h = by (λ r. run_first k ks r) (same_class k m) refl
     rest : AllPairs Comes (m ∷ ks)
     rest = pairs_rest Comes k (m ∷ ks) h
 
-    by : (AllPairs Comes (k ∷ ks) → folded (k ∷ ks) ≡ k ∷ folded (others k ks)) → (b : Bool) → same_class k m ≡ b → folded (k ∷ m ∷ ks) ≡ k ∷ folded (others k (m ∷ ks))
+    by : (AllPairs Comes (k ∷ ks) → folded (k ∷ ks) ≡ k ∷ folded (others k ks)) → (b : Bool) → same_class k m ≡ b
+        → folded (k ∷ m ∷ ks) ≡ k ∷ folded (others k (m ∷ ks))
     by less true e =
         let same = class-same k m e in
-        subst (λ x. folded (k ∷ x ∷ ks) ≡ k ∷ folded (others k (x ∷ ks))) same (once_more k ks (less (subst (λ x. AllPairs Comes (x ∷ ks)) (sym same) rest)))
-    by less false e = no_more k (m ∷ ks) (λ c. true≢false (sym (ap (same_class k) (next_same k m ks h c) ∙ class-refl k) ∙ e))
+        subst (λ x. folded (k ∷ x ∷ ks) ≡ k ∷ folded (others k (x ∷ ks))) same
+        (once_more k ks (less (subst (λ x. AllPairs Comes (x ∷ ks)) (sym same) rest)))
+    by less false e =
+        no_more k (m ∷ ks) (λ c. true≢false (sym (ap (same_class k) (next_same k m ks h c) ∙ class-refl k) ∙ e))
 
 -- ---- versions
 
@@ -122,7 +138,8 @@ abbrev class_at : Version → Class
 class_at v = class_of (parts_of v)
 
 rising_comes : (vs : List Version) → AreRising vs → AllPairs Comes (map class_of (map parts_of vs))
-rising_comes vs h = pairs_map class_of (λ v w. is_gt (precedence v w) ≡ false) Comes comes (map parts_of vs) (oldest_first vs h)
+rising_comes vs h =
+    pairs_map class_of (λ v w. is_gt (precedence v w) ≡ false) Comes comes (map parts_of vs) (oldest_first vs h)
 
 classes_folded : (vs : List Parts) → classes_in vs ≡ folded (map class_of vs)
 classes_folded [] = refl
@@ -134,17 +151,21 @@ candidates_classed [] = refl
 candidates_classed (c ∷ cs) = ap (add_class (class_of c.version)) (candidates_classed cs)
 
 -- how many are of a class
-counted : (k : Class) (vs : List Version) → length (filter (same_class k) (map class_of (map parts_of vs))) ≡ length (filter (λ w. is_of k (parts_of w)) vs)
+counted : (k : Class) (vs : List Version)
+    → length (filter (same_class k) (map class_of (map parts_of vs))) ≡ length (filter (λ w. is_of k (parts_of w)) vs)
 counted k [] = refl
 counted k (v ∷ vs) = by (same_class k (class_at v)) (counted k vs)
   where
-    by : (b : Bool) → length (filter (same_class k) (map class_of (map parts_of vs))) ≡ length (filter (λ w. is_of k (parts_of w)) vs)
-        → length (cond b (class_at v ∷ filter (same_class k) (map class_of (map parts_of vs))) (filter (same_class k) (map class_of (map parts_of vs))))
+    by : (b : Bool) → length (filter (same_class k) (map class_of (map parts_of vs)))
+        ≡ length (filter (λ w. is_of k (parts_of w)) vs)
+        → length (cond b (class_at v ∷ filter (same_class k) (map class_of (map parts_of vs)))
+        (filter (same_class k) (map class_of (map parts_of vs))))
         ≡ length (cond b (v ∷ filter (λ w. is_of k (parts_of w)) vs) (filter (λ w. is_of k (parts_of w)) vs))
     by true e = ap suc e
     by false e = e
 
-dropped : (vs : List Version) (n : ℕ) → drop n (map class_of (map parts_of vs)) ≡ map class_of (map parts_of (drop n vs))
+dropped : (vs : List Version) (n : ℕ)
+    → drop n (map class_of (map parts_of vs)) ≡ map class_of (map parts_of (drop n vs))
 dropped [] zero = refl
 dropped [] (suc n) = refl
 dropped (v ∷ vs) zero = refl
@@ -163,7 +184,8 @@ first_of_class v vs =
 pub run_next : (vs : List Version) (v : Version) → AreRising vs → slice_get vs 0 ≡ Some v
     → classes_in (map parts_of vs) ≡ class_at v ∷ classes_in (map parts_of (behind (class_at v) vs))
 run_next [] v h at = absurd (none-some v at)
-run_next (x ∷ vs) v h at = subst (λ w. classes_in (map parts_of (x ∷ vs)) ≡ class_at w ∷ classes_in (map parts_of (behind (class_at w) (x ∷ vs)))) (same_Some x v at) here
+run_next (x ∷ vs) v h at = subst (λ w. classes_in (map parts_of (x ∷ vs))
+    ≡ class_at w ∷ classes_in (map parts_of (behind (class_at w) (x ∷ vs)))) (same_Some x v at) here
   where
     k : Class
     k = class_at x
@@ -183,7 +205,8 @@ pub few_of : {X : Type 0} (p : X → Bool) (xs : List X) → length (filter p xs
 few_of p [] = omega arith
 few_of p (x ∷ xs) = by (p x) (few_of p xs)
   where
-    by : (b : Bool) → length (filter p xs) ≤ length xs → length (cond b (x ∷ filter p xs) (filter p xs)) ≤ length (x ∷ xs)
+    by : (b : Bool) → length (filter p xs) ≤ length xs
+        → length (cond b (x ∷ filter p xs) (filter p xs)) ≤ length (x ∷ xs)
     by true h = omega (arith, h)
     by false h = omega (arith, h)
 
@@ -199,16 +222,23 @@ dropped_few [] (suc n) = omega arith
 dropped_few (x ∷ xs) zero = omega arith
 dropped_few (x ∷ xs) (suc n) = let h = dropped_few xs n in omega (arith, h)
 
-pub fewer_behind : (vs : List Version) (v : Version) → slice_get vs 0 ≡ Some v → length (behind (class_at v) vs) < length vs
+pub fewer_behind : (vs : List Version) (v : Version) → slice_get vs 0 ≡ Some v
+    → length (behind (class_at v) vs) < length vs
 fewer_behind [] v at = absurd (none-some v at)
 fewer_behind (x ∷ vs) v at = subst (λ w. length (behind (class_at w) (x ∷ vs)) < length (x ∷ vs)) (same_Some x v at)
     (subst (λ l. length l < length (x ∷ vs)) (sym (first_of_class x vs))
     (let few = dropped_few vs (length (filter (λ w. is_of (class_at x) (parts_of w)) vs)) in omega (arith, few)))
 
 -- what is found by search
-pub run_is : (vs : List Version) (v : Version) (k : Class) (those rest : List Version) → AreRising vs → slice_get vs 0 ≡ Some v → k ≡ class_at v
+pub run_is : (vs : List Version) (v : Version) (k : Class) (those rest : List Version) → AreRising vs
+    → slice_get vs 0 ≡ Some v → k ≡ class_at v
     → those ≡ filter (λ w. is_of k (parts_of w)) vs → rest ≡ drop (length those) vs → IsRun vs k rest
 run_is vs v k those rest h at same found left =
     let e : rest ≡ behind (class_at v) vs = left ∙ ap (λ l. drop (length l) vs) found ∙ ap (λ m. behind m vs) same in
     subst (λ m. IsRun vs m rest) (sym same) (subst (IsRun vs (class_at v)) (sym e)
-    (record { classes = run_next vs v h at; rising = drop_rising vs (length (filter (λ w. is_of (class_at v) (parts_of w)) vs)) h; fewer = fewer_behind vs v at }))
+    (record {
+      classes = run_next vs v h at;
+      rising = drop_rising vs
+          (length (filter (λ w. is_of (class_at v) (parts_of w)) vs)) h;
+      fewer = fewer_behind vs v at;
+    }))

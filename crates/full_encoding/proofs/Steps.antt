@@ -1,5 +1,6 @@
 -- Vertices as they are put one after another.
-use Rattle.std.proofs.Common.{◌≡◌, ◌≤◌, ◌+◌, zero, suc, drop, length, arith, List, [], ◌∷◌, ◌++◌, map, Bool, true, false, cond, Option, Some, None, slice_get, refl, sym, ap, ap₂, ◌∙◌, ℕ}
+use Rattle.std.proofs.Common.{◌≡◌, ◌≤◌, ◌+◌, zero, suc, drop, length, arith, List, [], ◌∷◌, ◌++◌, map, Bool, true}
+use Rattle.std.proofs.Common.{false, cond, Option, Some, None, slice_get, refl, sym, ap, ap₂, ◌∙◌, ℕ}
 use Rattle.std.specs.Prelude.{codes, unwrap_or}
 use Rattle.std.specs.List.{flat_map}
 use Rattle.std.proofs.lemmas.List.{append_assoc}
@@ -19,35 +20,45 @@ use Rattle.catalogue.specs.Stores.{CatalogueView, Row, candidates_at}
 use Rattle.refutations.specs.Causes.{entries_or_none}
 use Rattle.looking_up.proofs.Brought.{candidates_are}
 use Rattle.encoding.specs.Called.{called_so, numbered_from}
-use Rattle.full_encoding.specs.Everything.{ask_if, asked_of, classes_in, each_feature, each_from, feature_of, first_feature, versions, versions_of}
+use Rattle.full_encoding.specs.Everything.{ask_if, asked_of, classes_in, each_feature, each_from, feature_of}
+use Rattle.full_encoding.specs.Everything.{first_feature, versions, versions_of}
 
 -- one more of a list
-pub rest_more : {X : Type 0} (f : X → List Vertex) (vs new all : List Vertex) (x : X) (xs : List X) → vs ++ flat_map f (x ∷ xs) ≡ all → new ≡ vs ++ f x → new ++ flat_map f xs ≡ all
+pub rest_more : {X : Type 0} (f : X → List Vertex) (vs new all : List Vertex) (x : X) (xs : List X)
+    → vs ++ flat_map f (x ∷ xs) ≡ all → new ≡ vs ++ f x → new ++ flat_map f xs ≡ all
 rest_more f vs new all x xs told step = ap (λ l. l ++ flat_map f xs) step ∙ append_assoc vs (f x) (flat_map f xs) ∙ told
 
 pub append_none : {X : Type 0} (xs : List X) → xs ++ [] ≡ xs
 append_none [] = refl
 append_none (x ∷ xs) = ap (λ l. x ∷ l) (append_none xs)
 
-pub flat_append : {X Y : Type 0} (f : X → List Y) (xs ys : List X) → flat_map f (xs ++ ys) ≡ flat_map f xs ++ flat_map f ys
+pub flat_append : {X Y : Type 0} (f : X → List Y) (xs ys : List X)
+    → flat_map f (xs ++ ys) ≡ flat_map f xs ++ flat_map f ys
 flat_append f [] ys = refl
-flat_append f (x ∷ xs) ys = ap (λ l. f x ++ l) (flat_append f xs ys) ∙ sym (append_assoc (f x) (flat_map f xs) (flat_map f ys))
+flat_append f (x ∷ xs) ys =
+    ap (λ l. f x ++ l) (flat_append f xs ys) ∙ sym (append_assoc (f x) (flat_map f xs) (flat_map f ys))
 
-flat_flat : {X Y Z : Type 0} (f : Y → List Z) (g : X → List Y) (xs : List X) → flat_map f (flat_map g xs) ≡ flat_map (λ x. flat_map f (g x)) xs
+flat_flat : {X Y Z : Type 0} (f : Y → List Z) (g : X → List Y) (xs : List X)
+    → flat_map f (flat_map g xs) ≡ flat_map (λ x. flat_map f (g x)) xs
 flat_flat f g [] = refl
 flat_flat f g (x ∷ xs) = flat_append f (g x) (flat_map g xs) ∙ ap (λ l. flat_map f (g x) ++ l) (flat_flat f g xs)
 
 -- what the entries of the root ask for
-pub rows_ask : (f : List ℕ × List ℕ → List Vertex) (rows : Table) → flat_map (λ row. flat_map (λ e. flat_map f (asked_by e)) row.1) rows ≡ flat_map f (root_asks rows)
+pub rows_ask : (f : List ℕ × List ℕ → List Vertex) (rows : Table)
+    → flat_map (λ row. flat_map (λ e. flat_map f (asked_by e)) row.1) rows ≡ flat_map f (root_asks rows)
 rows_ask f [] = refl
-rows_ask f (row ∷ rows) = ap₂ (λ a b. a ++ b) (sym (flat_flat f asked_by row.1)) (rows_ask f rows) ∙ sym (flat_append f (flat_map asked_by row.1) (root_asks rows))
+rows_ask f (row ∷ rows) = ap₂ (λ a b. a ++ b) (sym (flat_flat f asked_by row.1)) (rows_ask f rows)
+    ∙ sym (flat_append f (flat_map asked_by row.1) (root_asks rows))
 
 -- the features of a dependency's own list, and `default`
-pub own_list : (f : List ℕ → List Vertex) (d : Dependency) → flat_map f d.features ++ cond d.default_features (f (codes "default")) [] ≡ flat_map f (asked_of_target d)
+pub own_list : (f : List ℕ → List Vertex) (d : Dependency)
+    → flat_map f d.features ++ cond d.default_features (f (codes "default")) [] ≡ flat_map f (asked_of_target d)
 own_list f d = by d.default_features
   where
-    by : (b : Bool) → flat_map f d.features ++ cond b (f (codes "default")) [] ≡ flat_map f (cond b (d.features ++ codes "default" ∷ []) d.features)
-    by true = ap (λ l. flat_map f d.features ++ l) (sym (append_none (f (codes "default")))) ∙ sym (flat_append f d.features (codes "default" ∷ []))
+    by : (b : Bool) → flat_map f d.features ++ cond b (f (codes "default")) []
+        ≡ flat_map f (cond b (d.features ++ codes "default" ∷ []) d.features)
+    by true = ap (λ l. flat_map f d.features ++ l) (sym (append_none (f (codes "default"))))
+        ∙ sym (flat_append f d.features (codes "default" ∷ []))
     by false = append_none (flat_map f d.features)
 
 -- ---- the versions of a name
@@ -56,34 +67,43 @@ record_versions : (rs : List Record) → map (λ r. r.version) rs ≡ versions (
 record_versions [] = refl
 record_versions (r ∷ rs) = ap (λ l. r.version ∷ l) (record_versions rs)
 
-pub versions_are : (m : ManifestView) (c : CatalogueView) (name : List ℕ) (vs : List Version) → map parts_of vs ≡ map (λ r. r.version) (candidates_at c name) → map parts_of vs ≡ versions_of (problem_in m c) name
+pub versions_are : (m : ManifestView) (c : CatalogueView) (name : List ℕ) (vs : List Version) → map parts_of vs
+    ≡ map (λ r. r.version) (candidates_at c name) → map parts_of vs ≡ versions_of (problem_in m c) name
 versions_are m c name vs e = e ∙ record_versions (candidates_at c name) ∙ ap versions (sym (candidates_are c name))
 
 -- the names that were asked for
-pub names_are : (rows : List Row) → map (λ (row : Row). row.0) rows ≡ map (λ (row : List ℕ × List Candidate). row.0) (map (λ (row : Row). (row.0, map as_candidate (records row.1))) rows)
+pub names_are : (rows : List Row) → map (λ (row : Row). row.0) rows ≡ map (λ (row : List ℕ × List Candidate). row.0)
+    (map (λ (row : Row). (row.0, map as_candidate (records row.1))) rows)
 names_are [] = refl
 names_are (row ∷ rows) = ap (λ l. row.0 ∷ l) (names_are rows)
 
 -- the feature of a name, in the class of the first of its versions
-pub first_some : (name f : List ℕ) (vs : List Version) (v : Version) → slice_get vs 0 ≡ Some v → first_feature name f (map parts_of vs) ≡ feat name (class_of (parts_of v)) f ∷ []
+pub first_some : (name f : List ℕ) (vs : List Version) (v : Version) → slice_get vs 0 ≡ Some v
+    → first_feature name f (map parts_of vs) ≡ feat name (class_of (parts_of v)) f ∷ []
 first_some name f [] v e = absurd (none-some v e)
 first_some name f (x ∷ vs) v e = ap (λ w. feat name (class_of (parts_of w)) f ∷ []) (same_Some x v e)
 
-pub first_none : (name f : List ℕ) (vs : List Version) → slice_get vs 0 ≡ None → first_feature name f (map parts_of vs) ≡ []
+pub first_none : (name f : List ℕ) (vs : List Version) → slice_get vs 0 ≡ None
+    → first_feature name f (map parts_of vs) ≡ []
 first_none name f [] e = refl
 first_none name f (x ∷ vs) e = absurd (none-some x (sym e))
 
 -- the same in each class
-pub each_same : (name f : List ℕ) (k : Class) (vs : List Version) (v : Version) → slice_get vs 0 ≡ Some v → same_class k (class_of (parts_of v)) ≡ true
+pub each_same : (name f : List ℕ) (k : Class) (vs : List Version) (v : Version) → slice_get vs 0 ≡ Some v
+    → same_class k (class_of (parts_of v)) ≡ true
     → each_feature name k f (map parts_of vs) ≡ map (λ m. feat name m f) (classes_in (map parts_of vs))
 each_same name f k [] v e t = refl
-each_same name f k (x ∷ vs) v e t = ap (λ b. cond b (map (λ m. feat name m f) (classes_in (map parts_of (x ∷ vs)))) []) (ap (λ w. same_class k (class_of (parts_of w))) (same_Some x v e) ∙ t)
+each_same name f k (x ∷ vs) v e t = ap (λ b. cond b (map (λ m. feat name m f) (classes_in (map parts_of (x ∷ vs)))) [])
+    (ap (λ w. same_class k (class_of (parts_of w))) (same_Some x v e) ∙ t)
 
-pub each_other : (name f : List ℕ) (k : Class) (vs : List Version) (v : Version) → slice_get vs 0 ≡ Some v → same_class k (class_of (parts_of v)) ≡ false → each_feature name k f (map parts_of vs) ≡ []
+pub each_other : (name f : List ℕ) (k : Class) (vs : List Version) (v : Version) → slice_get vs 0 ≡ Some v
+    → same_class k (class_of (parts_of v)) ≡ false → each_feature name k f (map parts_of vs) ≡ []
 each_other name f k [] v e t = refl
-each_other name f k (x ∷ vs) v e t = ap (λ b. cond b (map (λ m. feat name m f) (classes_in (map parts_of (x ∷ vs)))) []) (ap (λ w. same_class k (class_of (parts_of w))) (same_Some x v e) ∙ t)
+each_other name f k (x ∷ vs) v e t = ap (λ b. cond b (map (λ m. feat name m f) (classes_in (map parts_of (x ∷ vs)))) [])
+    (ap (λ w. same_class k (class_of (parts_of w))) (same_Some x v e) ∙ t)
 
-pub each_none : (name f : List ℕ) (k : Class) (vs : List Version) → slice_get vs 0 ≡ None → each_feature name k f (map parts_of vs) ≡ []
+pub each_none : (name f : List ℕ) (k : Class) (vs : List Version) → slice_get vs 0 ≡ None
+    → each_feature name k f (map parts_of vs) ≡ []
 each_none name f k [] e = refl
 each_none name f k (x ∷ vs) e = absurd (none-some x (sym e))
 
@@ -115,7 +135,8 @@ entries_are (Some es) = refl
 
 -- what it asks each for, it asks those for that are called so
 pub asks_called : (name : List ℕ) (v : Parts) (x g : List ℕ) (n : ℕ) (ds : List Dependency)
-    → map (λ p. ask name v p.0 g) (called_so x (numbered_from n ds)) ≡ each_from (ask_if name v (dependency_feature x g)) n ds
+    → map (λ p. ask name v p.0 g) (called_so x (numbered_from n ds))
+    ≡ each_from (ask_if name v (dependency_feature x g)) n ds
 asks_called name v x g n [] = refl
 asks_called name v x g n (d ∷ ds) = by (same_text d.name x) (asks_called name v x g (n + 1) ds)
   where
@@ -123,13 +144,16 @@ asks_called name v x g n (d ∷ ds) = by (same_text d.name x) (asks_called name 
     left = called_so x (numbered_from (n + 1) ds)
 
     by : (b : Bool) → map (λ p. ask name v p.0 g) left ≡ each_from (ask_if name v (dependency_feature x g)) (n + 1) ds
-        → map (λ p. ask name v p.0 g) (cond b ((n, d) ∷ left) left) ≡ cond b (ask name v n g ∷ []) [] ++ each_from (ask_if name v (dependency_feature x g)) (n + 1) ds
+        → map (λ p. ask name v p.0 g) (cond b ((n, d) ∷ left) left)
+        ≡ cond b (ask name v n g ∷ []) [] ++ each_from (ask_if name v (dependency_feature x g)) (n + 1) ds
     by true rest = ap (λ l. ask name v n g ∷ l) rest
     by false rest = rest
 
-pub asks_none : (vs : List Vertex) (f : ℕ → Dependency → List Vertex) → ((i : ℕ) (d : Dependency) → f i d ≡ []) → (n : ℕ) (ds : List Dependency) → vs ≡ vs ++ each_from f n ds
+pub asks_none : (vs : List Vertex) (f : ℕ → Dependency → List Vertex) → ((i : ℕ) (d : Dependency) → f i d ≡ [])
+    → (n : ℕ) (ds : List Dependency) → vs ≡ vs ++ each_from f n ds
 asks_none vs f none n [] = sym (append_none vs)
-asks_none vs f none n (d ∷ ds) = asks_none vs f none (n + 1) ds ∙ ap (λ l. vs ++ (l ++ each_from f (n + 1) ds)) (sym (none n d))
+asks_none vs f none n (d ∷ ds) =
+    asks_none vs f none (n + 1) ds ∙ ap (λ l. vs ++ (l ++ each_from f (n + 1) ds)) (sym (none n d))
 
 pub asked_called : (q : Problem) (x g : List ℕ) (n : ℕ) (ds : List Dependency)
     → flat_map (λ p. feature_of q p.1.real_name g) (called_so x (numbered_from n ds)) ≡ asked_of q ds (x, g)
@@ -140,6 +164,7 @@ asked_called q x g n (d ∷ ds) = by (same_text d.name x) (asked_called q x g (n
     left = called_so x (numbered_from (n + 1) ds)
 
     by : (b : Bool) → flat_map (λ p. feature_of q p.1.real_name g) left ≡ asked_of q ds (x, g)
-        → flat_map (λ p. feature_of q p.1.real_name g) (cond b ((n, d) ∷ left) left) ≡ cond b (feature_of q d.real_name g) [] ++ asked_of q ds (x, g)
+        → flat_map (λ p. feature_of q p.1.real_name g) (cond b ((n, d) ∷ left) left)
+        ≡ cond b (feature_of q d.real_name g) [] ++ asked_of q ds (x, g)
     by true rest = ap (λ l. feature_of q d.real_name g ++ l) rest
     by false rest = rest

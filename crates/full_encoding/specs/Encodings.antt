@@ -1,5 +1,6 @@
 -- The vertices of a problem that have numbers, each with how many states it has, and how more of them come.
-use Rattle.std.specs.Prelude.{◌≡◌, ◌++◌, [], ℕ, List, Option, None, Some, length, map, take, drop, option_map, option_and_then, slice_get, nat_lt, if◌then◌else◌}
+use Rattle.std.specs.Prelude.{◌≡◌, ◌++◌, [], ℕ, List, Option, None, Some, length, map, take, drop, option_map}
+use Rattle.std.specs.Prelude.{option_and_then, slice_get, nat_lt, if◌then◌else◌}
 use Rattle.model.specs.Content.{Problem}
 use Rattle.model.specs.Vertices.{State, Vertex, space}
 use Rattle.encoding.specs.Inputs.{KnowsDefault, problem}
@@ -15,7 +16,8 @@ pub record EncodingView : Type 0 where
 
 -- a vertex counts once the size of its space is known
 abbrev pub encoding_view : Inputs → Numbering → List ℕ → EncodingView
-encoding_view i vs spaces = record { problem = problem i; vertices = take (length spaces) vs; waiting = drop (length spaces) vs }
+encoding_view i vs spaces =
+    record { problem = problem i; vertices = take (length spaces) vs; waiting = drop (length spaces) vs }
 
 -- the vertices that have numbers or wait for them
 abbrev pub spoken : EncodingView → Numbering

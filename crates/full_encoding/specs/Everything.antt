@@ -3,10 +3,12 @@
 use Rattle.std.specs.Prelude.{◌+◌, ℕ, List, [], ◌∷◌, ◌++◌, if◌then◌else◌, map}
 use Rattle.std.specs.List.{flat_map}
 use Rattle.semver.specs.Parse.{Parts}
-use Rattle.model.specs.Summary.{Summary, Dependency, Entry, feature, dependency, dependency_feature, weak_feature, asked_of_target, entries_at, same_text}
+use Rattle.model.specs.Summary.{Summary, Dependency, Entry, feature, dependency, dependency_feature, weak_feature}
+use Rattle.model.specs.Summary.{asked_of_target, entries_at, same_text}
 use Rattle.model.specs.Content.{Candidate, Problem, candidates_of}
 use Rattle.model.specs.Selection.{Class, class_of}
-use Rattle.model.specs.Vertices.{Owner, the_root, version_of, Vertex, root, pkg, dep, feat, ask, add_class, owner_brings, same_class}
+use Rattle.model.specs.Vertices.{Owner, the_root, version_of, Vertex, root, pkg, dep, feat, ask, add_class}
+use Rattle.model.specs.Vertices.{owner_brings, same_class}
 use Rattle.manifest.specs.Manifests.{asked_by}
 use Rattle.refutations.specs.Causes.{entries_or_none}
 
@@ -31,7 +33,8 @@ classes_in (v ∷ vs) = add_class (class_of v) (classes_in vs)
 -- the same in each class of the versions, where the class is that of the first
 abbrev pub each_feature : List ℕ → Class → List ℕ → List Parts → List Vertex
 each_feature name k f [] = []
-each_feature name k f (v ∷ vs) = if same_class k (class_of v) then map (λ m. feat name m f) (classes_in (v ∷ vs)) else []
+each_feature name k f (v ∷ vs) =
+    if same_class k (class_of v) then map (λ m. feat name m f) (classes_in (v ∷ vs)) else []
 
 -- an entry `d/g` of a version asks a dependency called d
 abbrev pub ask_if : List ℕ → Parts → Entry → ℕ → Dependency → List Vertex
@@ -67,13 +70,15 @@ module _ (q : Problem) where
 
   -- a feature of a version that brings this, and what its entries ask for
   abbrev pub of_feature : List ℕ → Parts → Summary → List ℕ → List Vertex
-  of_feature name v s f = feature_of name f ++ flat_map (of_entry name v s.dependencies) (entries_or_none (entries_at f s.features))
+  of_feature name v s f =
+      feature_of name f ++ flat_map (of_entry name v s.dependencies) (entries_or_none (entries_at f s.features))
 
   abbrev pub of_table : List ℕ → Parts → Summary → List Vertex
   of_table name v s = flat_map (λ row. of_feature name v s row.0) s.features
 
   abbrev pub of_version : List ℕ → Parts → List Vertex
-  of_version name v = pkg name (class_of v) ∷ (of_dependencies (version_of name v) ++ of_table name v (owner_brings q (version_of name v)))
+  of_version name v = pkg name (class_of v)
+      ∷ (of_dependencies (version_of name v) ++ of_table name v (owner_brings q (version_of name v)))
 
   abbrev pub of_name : List ℕ → List Vertex
   of_name name = flat_map (of_version name) (versions_of name)

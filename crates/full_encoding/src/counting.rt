@@ -5,7 +5,8 @@ ghost use Rattle.encoding.specs.GivenViews.{given_views};
 ghost use Rattle.encoding.specs.Inputs.{problem};
 ghost use Rattle.encoding.specs.Numberings.{IsGrown, IsWhole, number_in};
 ghost use Rattle.vertices.specs.RefViews.{state_ref_view, vertex_ref_view};
-ghost use Rattle.full_encoding.specs.Encodings.{AddsFor, AreSpaces, IsEncoding, IsGivenIf, below, encoding_view, pair_at, spoken};
+ghost use Rattle.full_encoding.specs.Encodings.{AddsFor, AreSpaces, IsEncoding, IsGivenIf, below, encoding_view};
+ghost use Rattle.full_encoding.specs.Encodings.{pair_at, spoken};
 ghost use Rattle.full_encoding.specs.Everywhere.{IsGivenAll};
 
 use crate::everywhere::all_axioms;
@@ -75,7 +76,8 @@ pub(crate) fn value_of<'a>(
     state: usize,
 ) -> Result<Option<StateRef<'a>>, AllocError>
     requires { AreSpaces (problem inputs.now) table.now spaces.now }
-    ensures { IfOk result (λ s. option_map state_ref_view s ≡ option_map (λ p. p.1) (pair_at (encoding_view inputs.now table.now spaces.now) vertex state)) }
+    ensures { IfOk result (λ s. option_map state_ref_view s
+        ≡ option_map (λ p. p.1) (pair_at (encoding_view inputs.now table.now spaces.now) vertex state)) }
 {
     if !has(inputs, table, spaces, vertex, state) {
         return Ok(None);
@@ -98,8 +100,11 @@ pub(crate) fn pair_axioms<'a, S: States + Drop>(
     requires encoding { IsEncoding inputs.now table.old spaces.old.items }
     ensures encoding { IsEncoding inputs.now table.new spaces.new.items }
     ensures grown { IsGrown (take (length spaces.old.items) table.old) (take (length spaces.new.items) table.new) }
-    ensures only { AddsFor (problem inputs.now) (pair_at (encoding_view inputs.now table.old spaces.old.items) vertex state) (spoken (encoding_view inputs.now table.old spaces.old.items)) (spoken (encoding_view inputs.now table.new spaces.new.items)) }
-    ensures given { IfOk result (λ xs. IsGivenIf (problem inputs.now) (take (length spaces.new.items) table.new) (pair_at (encoding_view inputs.now table.old spaces.old.items) vertex state) (given_views S.tests xs.items)) }
+    ensures only { AddsFor (problem inputs.now) (pair_at (encoding_view inputs.now table.old spaces.old.items) vertex
+        state) (spoken (encoding_view inputs.now table.old spaces.old.items))
+        (spoken (encoding_view inputs.now table.new spaces.new.items)) }
+    ensures given { IfOk result (λ xs. IsGivenIf (problem inputs.now) (take (length spaces.new.items) table.new)
+        (pair_at (encoding_view inputs.now table.old spaces.old.items) vertex state) (given_views S.tests xs.items)) }
 {
     if !has(inputs, table, spaces.as_slice(), vertex, state) {
         return Ok(Vec::new(alloc));
@@ -120,7 +125,8 @@ pub(crate) fn every_axiom<'a, S: States + Drop>(
     ensures encoding { IsEncoding inputs.now table.new spaces.new.items }
     ensures grown { IsGrown (take (length spaces.old.items) table.old) (take (length spaces.new.items) table.new) }
     ensures whole { IfOk result (λ _. IsWhole (problem inputs.now) (take (length spaces.new.items) table.new)) }
-    ensures given { IfOk result (λ xs. IsGivenAll (problem inputs.now) (take (length spaces.new.items) table.new) (given_views S.tests xs.items)) }
+    ensures given { IfOk result (λ xs.
+        IsGivenAll (problem inputs.now) (take (length spaces.new.items) table.new) (given_views S.tests xs.items)) }
 {
     number_all(alloc, inputs, table)?;
     let given = all_axioms(alloc, inputs, table)?;

@@ -50,9 +50,11 @@ fn put_vertex<'a, S: States + Drop>(
     requires numbering { IsNumbering (problem inputs.now) table.old }
     ensures grown { IsGrown table.old table.new }
     ensures numbering { IsNumbering (problem inputs.now) table.new }
-    ensures given { OnOk result ((v : Vertex) (ps : List Pair) → slice_get table.old number ≡ Some v → ((s : State) → Contains ps (v, s) → ⊥)
+    ensures given { OnOk result
+        ((v : Vertex) (ps : List Pair) → slice_get table.old number ≡ Some v → ((s : State) → Contains ps (v, s) → ⊥)
         → IsGivenFor (problem inputs.now) table.old ps (given_views S.tests given.old.items)
-        → IsGivenFor (problem inputs.now) table.new (ps ++ pairs_of (problem inputs.now) v) (given_views S.tests given.new.items)) }
+        → IsGivenFor (problem inputs.now) table.new (ps ++ pairs_of (problem inputs.now) v)
+        (given_views S.tests given.new.items)) }
 {
     match table.vertex(number) {
         Some(vertex) => put_each(alloc, inputs, table, given, vertex),
@@ -76,7 +78,8 @@ fn put_each<'a, S: States + Drop>(
     ensures numbering { IsNumbering (problem inputs.now) table.new }
     ensures given { OnOk result ((ps : List Pair) → ((s : State) → Contains ps (vertex_ref_view vertex.entry, s) → ⊥)
         → IsGivenFor (problem inputs.now) table.old ps (given_views S.tests given.old.items)
-        → IsGivenFor (problem inputs.now) table.new (ps ++ pairs_of (problem inputs.now) (vertex_ref_view vertex.entry)) (given_views S.tests given.new.items)) }
+        → IsGivenFor (problem inputs.now) table.new (ps ++ pairs_of (problem inputs.now) (vertex_ref_view vertex.entry))
+        (given_views S.tests given.new.items)) }
 {
     let states = states_of(alloc, inputs, &vertex)?;
     put_states(alloc, inputs, table, given, vertex, states.as_slice())
@@ -98,7 +101,8 @@ fn put_states<'a, S: States + Drop>(
     ensures numbering { IsNumbering (problem inputs.now) table.new }
     ensures given { OnOk result ((ps : List Pair) → ((s : State) → Contains ps (vertex_ref_view vertex.entry, s) → ⊥)
         → IsGivenFor (problem inputs.now) table.old ps (given_views S.tests given.old.items)
-        → IsGivenFor (problem inputs.now) table.new (ps ++ pairs_of (problem inputs.now) (vertex_ref_view vertex.entry)) (given_views S.tests given.new.items)) }
+        → IsGivenFor (problem inputs.now) table.new (ps ++ pairs_of (problem inputs.now) (vertex_ref_view vertex.entry))
+        (given_views S.tests given.new.items)) }
 {
     catalogues_are_well_formed(inputs.manifest, inputs.catalogue);
     'states: for state in states.iter() {
@@ -122,9 +126,11 @@ fn put_state<'a, S: States + Drop>(
     requires state { Contains (space (problem inputs.now) (vertex_ref_view vertex)) (state_ref_view state) }
     ensures grown { IsGrown table.old table.new }
     ensures numbering { IsNumbering (problem inputs.now) table.new }
-    ensures given { OnOk result ((ps : List Pair) → (Contains ps (vertex_ref_view vertex.entry, state_ref_view state.entry) → ⊥)
+    ensures given { OnOk result
+        ((ps : List Pair) → (Contains ps (vertex_ref_view vertex.entry, state_ref_view state.entry) → ⊥)
         → IsGivenFor (problem inputs.now) table.old ps (given_views S.tests given.old.items)
-        → IsGivenFor (problem inputs.now) table.new (ps ++ (vertex_ref_view vertex.entry, state_ref_view state.entry) ∷ []) (given_views S.tests given.new.items)) }
+        → IsGivenFor (problem inputs.now) table.new (ps ++ (vertex_ref_view vertex.entry, state_ref_view state.entry)
+        ∷ []) (given_views S.tests given.new.items)) }
 {
     let mut more = axioms_of(alloc, inputs, table, vertex, state)?;
     given.append(&mut more)?;

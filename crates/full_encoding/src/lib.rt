@@ -30,7 +30,8 @@ pub use whole::Encoding;
 
 /// A vertex has a number exactly where the number is that vertex's.
 pub fn numbers_are_places()
-    ensures { (q : Problem) (vs : Numbering) (v : Vertex) (n : ℕ) → IsNumbering q vs → (number_in vs v ≡ Some n) ↔ (slice_get vs n ≡ Some v) }
+    ensures { (q : Problem) (vs : Numbering) (v : Vertex) (n : ℕ) → IsNumbering q vs
+        → (number_in vs v ≡ Some n) ↔ (slice_get vs n ≡ Some v) }
 {}
 
 /// Over all pairs of a vertex and a state, each instance comes for just one.

@@ -11,7 +11,9 @@ ghost use Rattle.model.specs.Vertices.{ask, version_of};
 ghost use Rattle.encoding.specs.Called.{called_so, numbered_from, numbered_views};
 ghost use Rattle.encoding.specs.Inputs.{KnowsDefault, problem};
 ghost use Rattle.vertices.specs.RefViews.{owner_ref_view, vertex_ref_view};
-ghost use Rattle.full_encoding.specs.Everything.{ask_if, asked_of, each_from, feature_of, first_feature, named, of_dependency, of_entry, of_feature, of_name, of_root, of_table, of_version};
+ghost use Rattle.full_encoding.specs.Everything.{ask_if, asked_of, each_from, feature_of, first_feature, named};
+ghost use Rattle.full_encoding.specs.Everything.{of_dependency, of_entry, of_feature, of_name, of_root, of_table};
+ghost use Rattle.full_encoding.specs.Everything.{of_version};
 ghost use Rattle.full_encoding.specs.Views.{vertex_views};
 
 use classes::Class;
@@ -49,7 +51,8 @@ fn put_root<'a>(
     vertices: &mut Vec<VertexRef<'a>>,
 ) -> Result<(), AllocError>
     requires default { KnowsDefault inputs.now }
-    ensures { OnOk result (vertex_views vertices.new.items ≡ vertex_views vertices.old.items ++ of_root (problem inputs.now)) }
+    ensures { OnOk result
+        (vertex_views vertices.new.items ≡ vertex_views vertices.old.items ++ of_root (problem inputs.now)) }
 {
     let dependencies = inputs.manifest.dependencies();
     vertices.push(VertexRef::Root)?;
@@ -64,7 +67,8 @@ fn put_rows<'a>(
     called: &ByName<'a>,
     table: &'a FeatureTable,
 ) -> Result<(), AllocError>
-    ensures { OnOk result (vertex_views vertices.new.items ≡ vertex_views vertices.old.items ++ flat_map (λ row. flat_map (λ e. flat_map (asked_of (problem inputs.now) called.now) (asked_by e)) row.1) table.entry.now) }
+    ensures { OnOk result (vertex_views vertices.new.items ≡ vertex_views vertices.old.items ++ flat_map (λ row.
+        flat_map (λ e. flat_map (asked_of (problem inputs.now) called.now) (asked_by e)) row.1) table.entry.now) }
 {
     'rows: for (_, entries) in table.iter() {
         put_row(inputs, vertices, called, entries.as_slice())?;
@@ -78,7 +82,8 @@ fn put_row<'a>(
     called: &ByName<'a>,
     entries: &'a [Entry],
 ) -> Result<(), AllocError>
-    ensures { OnOk result (vertex_views vertices.new.items ≡ vertex_views vertices.old.items ++ flat_map (λ e. flat_map (asked_of (problem inputs.now) called.now) (asked_by e)) (entry_views entries.entry.now)) }
+    ensures { OnOk result (vertex_views vertices.new.items ≡ vertex_views vertices.old.items ++ flat_map (λ e.
+        flat_map (asked_of (problem inputs.now) called.now) (asked_by e)) (entry_views entries.entry.now)) }
 {
     'entries: for entry in entries.iter() {
         put_asked(inputs, vertices, called, entry)?;
@@ -94,7 +99,8 @@ fn put_names<'a>(
     names: &'a [PackageName],
 ) -> Result<(), AllocError>
     requires default { KnowsDefault inputs.now }
-    ensures { OnOk result (vertex_views vertices.new.items ≡ vertex_views vertices.old.items ++ flat_map (of_name (problem inputs.now)) names.entry.now) }
+    ensures { OnOk result (vertex_views vertices.new.items
+        ≡ vertex_views vertices.old.items ++ flat_map (of_name (problem inputs.now)) names.entry.now) }
 {
     'names: for name in names.iter() {
         put_versions(
@@ -116,7 +122,8 @@ fn put_versions<'a>(
     versions: &'a [Version],
 ) -> Result<(), AllocError>
     requires default { KnowsDefault inputs.now }
-    ensures { OnOk result (vertex_views vertices.new.items ≡ vertex_views vertices.old.items ++ flat_map (of_version (problem inputs.now) name.entry.now) (map parts_of versions.entry.now)) }
+    ensures { OnOk result (vertex_views vertices.new.items ≡ vertex_views vertices.old.items
+        ++ flat_map (of_version (problem inputs.now) name.entry.now) (map parts_of versions.entry.now)) }
 {
     'versions: for version in versions.iter() {
         put_version(alloc, inputs, vertices, Release { name, version })?;
@@ -132,7 +139,8 @@ fn put_version<'a>(
     release: Release<'a>,
 ) -> Result<(), AllocError>
     requires default { KnowsDefault inputs.now }
-    ensures { OnOk result (vertex_views vertices.new.items ≡ vertex_views vertices.old.items ++ of_version (problem inputs.now) release.entry.name.now (parts_of release.entry.version.now)) }
+    ensures { OnOk result (vertex_views vertices.new.items ≡ vertex_views vertices.old.items
+        ++ of_version (problem inputs.now) release.entry.name.now (parts_of release.entry.version.now)) }
 {
     vertices.push(VertexRef::Package(release.name, Class::of(release.version)))?;
     match inputs.catalogue.candidate(release.name, release.version) {
@@ -150,7 +158,11 @@ fn put_brought<'a>(
     brings: &'a Summary,
 ) -> Result<(), AllocError>
     requires default { KnowsDefault inputs.now }
-    ensures { OnOk result (vertex_views vertices.new.items ≡ vertex_views vertices.old.items ++ (each_from (of_dependency (problem inputs.now) (version_of release.entry.name.now (parts_of release.entry.version.now))) 0 (summary_view brings.entry.now).dependencies ++ of_table (problem inputs.now) release.entry.name.now (parts_of release.entry.version.now) (summary_view brings.entry.now))) }
+    ensures { OnOk result (vertex_views vertices.new.items
+        ≡ vertex_views vertices.old.items ++ (each_from (of_dependency (problem inputs.now)
+        (version_of release.entry.name.now (parts_of release.entry.version.now))) 0
+        (summary_view brings.entry.now).dependencies ++ of_table (problem inputs.now) release.entry.name.now
+        (parts_of release.entry.version.now) (summary_view brings.entry.now))) }
 {
     let owner = OwnerRef::Version(release.name, release.version);
     put_dependencies(inputs, vertices, owner, brings.dependencies.as_slice())?;
@@ -166,7 +178,9 @@ fn put_table<'a>(
     brings: &'a Summary,
 ) -> Result<(), AllocError>
     requires called { called.now ≡ (summary_view brings.now).dependencies }
-    ensures { OnOk result (vertex_views vertices.new.items ≡ vertex_views vertices.old.items ++ of_table (problem inputs.now) release.entry.name.now (parts_of release.entry.version.now) (summary_view brings.entry.now)) }
+    ensures { OnOk result (vertex_views vertices.new.items
+        ≡ vertex_views vertices.old.items ++ of_table (problem inputs.now) release.entry.name.now
+        (parts_of release.entry.version.now) (summary_view brings.entry.now)) }
 {
     'rows: for (feature, _) in brings.features.iter() {
         put_feature(inputs, vertices, release, called, brings, feature)?;
@@ -184,7 +198,9 @@ fn put_feature<'a>(
     feature: &'a FeatureName,
 ) -> Result<(), AllocError>
     requires called { called.now ≡ (summary_view brings.now).dependencies }
-    ensures { OnOk result (vertex_views vertices.new.items ≡ vertex_views vertices.old.items ++ of_feature (problem inputs.now) release.entry.name.now (parts_of release.entry.version.now) (summary_view brings.entry.now) feature.entry.now) }
+    ensures { OnOk result (vertex_views vertices.new.items
+        ≡ vertex_views vertices.old.items ++ of_feature (problem inputs.now) release.entry.name.now
+        (parts_of release.entry.version.now) (summary_view brings.entry.now) feature.entry.now) }
 {
     put_first(inputs, vertices, release.name, feature)?;
     put_entries(
@@ -203,7 +219,9 @@ fn put_entries<'a>(
     called: &ByName<'a>,
     entries: &'a [Entry],
 ) -> Result<(), AllocError>
-    ensures { OnOk result (vertex_views vertices.new.items ≡ vertex_views vertices.old.items ++ flat_map (of_entry (problem inputs.now) release.entry.name.now (parts_of release.entry.version.now) called.now) (entry_views entries.entry.now)) }
+    ensures { OnOk result (vertex_views vertices.new.items
+        ≡ vertex_views vertices.old.items ++ flat_map (of_entry (problem inputs.now) release.entry.name.now
+        (parts_of release.entry.version.now) called.now) (entry_views entries.entry.now)) }
 {
     'entries: for entry in entries.iter() {
         put_entry(inputs, vertices, release, called, entry)?;
@@ -218,7 +236,9 @@ fn put_entry<'a>(
     called: &ByName<'a>,
     entry: &'a Entry,
 ) -> Result<(), AllocError>
-    ensures { OnOk result (vertex_views vertices.new.items ≡ vertex_views vertices.old.items ++ of_entry (problem inputs.now) release.entry.name.now (parts_of release.entry.version.now) called.now (entry_view entry.entry.now)) }
+    ensures { OnOk result (vertex_views vertices.new.items
+        ≡ vertex_views vertices.old.items ++ of_entry (problem inputs.now) release.entry.name.now
+        (parts_of release.entry.version.now) called.now (entry_view entry.entry.now)) }
 {
     put_asks(vertices, release, called, entry)?;
     put_asked(inputs, vertices, called, entry)
@@ -231,7 +251,9 @@ fn put_asks<'a>(
     called: &ByName<'a>,
     entry: &'a Entry,
 ) -> Result<(), AllocError>
-    ensures { OnOk result (vertex_views vertices.new.items ≡ vertex_views vertices.old.items ++ each_from (ask_if release.entry.name.now (parts_of release.entry.version.now) (entry_view entry.entry.now)) 0 called.now) }
+    ensures { OnOk result
+        (vertex_views vertices.new.items ≡ vertex_views vertices.old.items ++ each_from (ask_if release.entry.name.now
+        (parts_of release.entry.version.now) (entry_view entry.entry.now)) 0 called.now) }
 {
     match entry {
         Entry::Feature(_) => Ok(()),
@@ -250,7 +272,9 @@ fn put_asks_of<'a>(
     name: &'a PackageName,
     asked: &'a FeatureName,
 ) -> Result<(), AllocError>
-    ensures { OnOk result (vertex_views vertices.new.items ≡ vertex_views vertices.old.items ++ map (λ p. ask release.entry.name.now (parts_of release.entry.version.now) p.0 asked.entry.now) (called_so name.entry.now (numbered_from 0 called.now))) }
+    ensures { OnOk result (vertex_views vertices.new.items ≡ vertex_views vertices.old.items
+        ++ map (λ p. ask release.entry.name.now (parts_of release.entry.version.now) p.0 asked.entry.now)
+        (called_so name.entry.now (numbered_from 0 called.now))) }
 {
     match called.those(name.as_str()) {
         Some(those) => put_each_ask(vertices, release, those, asked),
@@ -264,7 +288,9 @@ fn put_each_ask<'a>(
     those: &[Numbered<'a>],
     asked: &'a FeatureName,
 ) -> Result<(), AllocError>
-    ensures { OnOk result (vertex_views vertices.new.items ≡ vertex_views vertices.old.items ++ map (λ p. ask release.entry.name.now (parts_of release.entry.version.now) p.0 asked.entry.now) (numbered_views those.now)) }
+    ensures { OnOk result (vertex_views vertices.new.items ≡ vertex_views vertices.old.items
+        ++ map (λ p. ask release.entry.name.now (parts_of release.entry.version.now) p.0 asked.entry.now)
+        (numbered_views those.now)) }
 {
     'those: for one in those.iter() {
         vertices.push(VertexRef::Ask(release.name, release.version, one.number, asked))?;
@@ -279,7 +305,8 @@ fn put_asked<'a>(
     called: &ByName<'a>,
     entry: &'a Entry,
 ) -> Result<(), AllocError>
-    ensures { OnOk result (vertex_views vertices.new.items ≡ vertex_views vertices.old.items ++ flat_map (asked_of (problem inputs.now) called.now) (asked_by (entry_view entry.entry.now))) }
+    ensures { OnOk result (vertex_views vertices.new.items ≡ vertex_views vertices.old.items
+        ++ flat_map (asked_of (problem inputs.now) called.now) (asked_by (entry_view entry.entry.now))) }
 {
     match entry {
         Entry::Feature(_) => Ok(()),
@@ -296,7 +323,8 @@ fn put_called<'a>(
     name: &'a PackageName,
     asked: &'a FeatureName,
 ) -> Result<(), AllocError>
-    ensures { OnOk result (vertex_views vertices.new.items ≡ vertex_views vertices.old.items ++ asked_of (problem inputs.now) called.now (name.entry.now, asked.entry.now)) }
+    ensures { OnOk result (vertex_views vertices.new.items ≡ vertex_views vertices.old.items
+        ++ asked_of (problem inputs.now) called.now (name.entry.now, asked.entry.now)) }
 {
     match called.those(name.as_str()) {
         Some(those) => put_each_asked(inputs, vertices, those, asked),
@@ -310,7 +338,8 @@ fn put_each_asked<'a>(
     those: &[Numbered<'a>],
     asked: &'a FeatureName,
 ) -> Result<(), AllocError>
-    ensures { OnOk result (vertex_views vertices.new.items ≡ vertex_views vertices.old.items ++ flat_map (λ p. feature_of (problem inputs.now) p.1.real_name asked.entry.now) (numbered_views those.now)) }
+    ensures { OnOk result (vertex_views vertices.new.items ≡ vertex_views vertices.old.items
+        ++ flat_map (λ p. feature_of (problem inputs.now) p.1.real_name asked.entry.now) (numbered_views those.now)) }
 {
     'those: for one in those.iter() {
         put_first(inputs, vertices, &one.dependency.real_name, asked)?;
@@ -326,7 +355,8 @@ fn put_dependencies<'a>(
     dependencies: &'a [Dependency],
 ) -> Result<(), AllocError>
     requires default { KnowsDefault inputs.now }
-    ensures { OnOk result (vertex_views vertices.new.items ≡ vertex_views vertices.old.items ++ each_from (of_dependency (problem inputs.now) (owner_ref_view owner.entry)) 0 (dependency_views dependencies.entry.now)) }
+    ensures { OnOk result (vertex_views vertices.new.items ≡ vertex_views vertices.old.items ++ each_from (of_dependency
+        (problem inputs.now) (owner_ref_view owner.entry)) 0 (dependency_views dependencies.entry.now)) }
 {
     'dependencies: for (number, dependency) in dependencies.iter().enumerate() {
         put_dependency(inputs, vertices, owner, number, dependency)?;
@@ -342,7 +372,8 @@ fn put_dependency<'a>(
     dependency: &'a Dependency,
 ) -> Result<(), AllocError>
     requires default { KnowsDefault inputs.now }
-    ensures { OnOk result (vertex_views vertices.new.items ≡ vertex_views vertices.old.items ++ of_dependency (problem inputs.now) (owner_ref_view owner.entry) number (dependency_view dependency.entry.now)) }
+    ensures { OnOk result (vertex_views vertices.new.items ≡ vertex_views vertices.old.items ++ of_dependency
+        (problem inputs.now) (owner_ref_view owner.entry) number (dependency_view dependency.entry.now)) }
 {
     vertices.push(VertexRef::Dependency(owner, number))?;
     put_wanted(inputs, vertices, dependency)
@@ -355,7 +386,9 @@ fn put_wanted<'a>(
     dependency: &'a Dependency,
 ) -> Result<(), AllocError>
     requires default { KnowsDefault inputs.now }
-    ensures { OnOk result (vertex_views vertices.new.items ≡ vertex_views vertices.old.items ++ flat_map (feature_of (problem inputs.now) (dependency_view dependency.entry.now).real_name) (asked_of_target (dependency_view dependency.entry.now))) }
+    ensures { OnOk result (vertex_views vertices.new.items ≡ vertex_views vertices.old.items
+        ++ flat_map (feature_of (problem inputs.now) (dependency_view dependency.entry.now).real_name)
+        (asked_of_target (dependency_view dependency.entry.now))) }
 {
     put_listed(
         inputs,
@@ -372,7 +405,8 @@ fn put_listed<'a>(
     name: &'a PackageName,
     features: &'a [FeatureName],
 ) -> Result<(), AllocError>
-    ensures { OnOk result (vertex_views vertices.new.items ≡ vertex_views vertices.old.items ++ flat_map (feature_of (problem inputs.now) name.entry.now) features.entry.now) }
+    ensures { OnOk result (vertex_views vertices.new.items ≡ vertex_views vertices.old.items
+        ++ flat_map (feature_of (problem inputs.now) name.entry.now) features.entry.now) }
 {
     'features: for feature in features.iter() {
         put_first(inputs, vertices, name, feature)?;
@@ -386,7 +420,9 @@ fn put_default<'a>(
     dependency: &'a Dependency,
 ) -> Result<(), AllocError>
     requires default { KnowsDefault inputs.now }
-    ensures { OnOk result (vertex_views vertices.new.items ≡ vertex_views vertices.old.items ++ (if (dependency_view dependency.entry.now).default_features then feature_of (problem inputs.now) (dependency_view dependency.entry.now).real_name (codes "default") else [])) }
+    ensures { OnOk result (vertex_views vertices.new.items ≡ vertex_views vertices.old.items
+        ++ (if (dependency_view dependency.entry.now).default_features then feature_of (problem inputs.now)
+        (dependency_view dependency.entry.now).real_name (codes "default") else [])) }
 {
     if dependency.default_features {
         put_first(inputs, vertices, &dependency.real_name, inputs.default)?;
@@ -401,7 +437,8 @@ fn put_first<'a>(
     name: &'a PackageName,
     feature: &'a FeatureName,
 ) -> Result<(), AllocError>
-    ensures { OnOk result (vertex_views vertices.new.items ≡ vertex_views vertices.old.items ++ feature_of (problem inputs.now) name.entry.now feature.entry.now) }
+    ensures { OnOk result (vertex_views vertices.new.items
+        ≡ vertex_views vertices.old.items ++ feature_of (problem inputs.now) name.entry.now feature.entry.now) }
 {
     put_first_of(vertices, name, feature, inputs.catalogue.versions(name))
 }
@@ -412,7 +449,8 @@ fn put_first_of<'a>(
     feature: &'a FeatureName,
     versions: &[Version],
 ) -> Result<(), AllocError>
-    ensures { OnOk result (vertex_views vertices.new.items ≡ vertex_views vertices.old.items ++ first_feature name.entry.now feature.entry.now (map parts_of versions.now)) }
+    ensures { OnOk result (vertex_views vertices.new.items ≡ vertex_views vertices.old.items
+        ++ first_feature name.entry.now feature.entry.now (map parts_of versions.now)) }
 {
     match versions.first() {
         Some(version) => {

@@ -134,7 +134,8 @@ impl<'a> Encoding<'a> {
     /// # Errors
     /// Memory is wanting.
     pub fn value(&self, vertex: usize, state: usize) -> Result<Option<StateRef<'a>>, AllocError>
-        ensures { IfOk result (λ s. option_map state_ref_view s ≡ option_map (λ p. p.1) (pair_at self.now vertex state)) }
+        ensures { IfOk result
+            (λ s. option_map state_ref_view s ≡ option_map (λ p. p.1) (pair_at self.now vertex state)) }
     {
         value_of(
             self.alloc,
@@ -161,7 +162,8 @@ impl<'a> Encoding<'a> {
         ensures problem { self.new.problem ≡ self.old.problem }
         ensures grown { IsGrown self.old.vertices self.new.vertices }
         ensures only { AddsFor self.new.problem (pair_at self.old vertex state) (spoken self.old) (spoken self.new) }
-        ensures given { IfOk result (λ xs. IsGivenIf self.new.problem self.new.vertices (pair_at self.old vertex state) (given_views S.tests xs.items)) }
+        ensures given { IfOk result (λ xs. IsGivenIf self.new.problem self.new.vertices (pair_at self.old vertex state)
+            (given_views S.tests xs.items)) }
     {
         let inputs = &mut self.inputs;
         inputs
@@ -187,7 +189,8 @@ impl<'a> Encoding<'a> {
         ensures problem { self.new.problem ≡ self.old.problem }
         ensures grown { IsGrown self.old.vertices self.new.vertices }
         ensures whole { IfOk result (λ _. IsWhole self.new.problem self.new.vertices) }
-        ensures given { IfOk result (λ xs. IsGivenAll self.new.problem self.new.vertices (given_views S.tests xs.items)) }
+        ensures given { IfOk result
+            (λ xs. IsGivenAll self.new.problem self.new.vertices (given_views S.tests xs.items)) }
     {
         let inputs = &mut self.inputs;
         inputs.matched.keep_all(self.alloc)?;

@@ -41,7 +41,8 @@ fn put_at<'a>(
     table: &Table<'a>,
     number: usize,
 ) -> Result<(), AllocError>
-    ensures { OnOk result ((v : Vertex) → slice_get table.now number ≡ Some v → vertex_views vertices.new.items ≡ vertex_views vertices.old.items ++ in_classes (problem inputs.now) v) }
+    ensures { OnOk result ((v : Vertex) → slice_get table.now number ≡ Some v
+        → vertex_views vertices.new.items ≡ vertex_views vertices.old.items ++ in_classes (problem inputs.now) v) }
 {
     match table.vertex(number) {
         Some(vertex) => put_in_classes(inputs, vertices, vertex),
@@ -54,7 +55,8 @@ fn put_in_classes<'a>(
     vertices: &mut Vec<VertexRef<'a>>,
     vertex: VertexRef<'a>,
 ) -> Result<(), AllocError>
-    ensures { OnOk result (vertex_views vertices.new.items ≡ vertex_views vertices.old.items ++ in_classes (problem inputs.now) (vertex_ref_view vertex.entry)) }
+    ensures { OnOk result (vertex_views vertices.new.items
+        ≡ vertex_views vertices.old.items ++ in_classes (problem inputs.now) (vertex_ref_view vertex.entry)) }
 {
     match vertex {
         VertexRef::Root => Ok(()),
@@ -82,7 +84,8 @@ fn put_each<'a>(
     versions: &[Version],
 ) -> Result<(), AllocError>
     requires rising { AreRising versions.now }
-    ensures { OnOk result (vertex_views vertices.new.items ≡ vertex_views vertices.old.items ++ each_feature name.entry.now (class_view class) feature.entry.now (map parts_of versions.now)) }
+    ensures { OnOk result (vertex_views vertices.new.items ≡ vertex_views vertices.old.items
+        ++ each_feature name.entry.now (class_view class) feature.entry.now (map parts_of versions.now)) }
 {
     match versions.first() {
         Some(version) => {
@@ -110,7 +113,8 @@ fn put_classes<'a>(
     versions: &[Version],
 ) -> Result<(), AllocError>
     requires rising { AreRising versions.now }
-    ensures { OnOk result (vertex_views vertices.new.items ≡ vertex_views vertices.old.items ++ map (λ k. feat name.entry.now k feature.entry.now) (classes_in (map parts_of versions.now))) }
+    ensures { OnOk result (vertex_views vertices.new.items ≡ vertex_views vertices.old.items
+        ++ map (λ k. feat name.entry.now k feature.entry.now) (classes_in (map parts_of versions.now))) }
 {
     let mut rest = versions;
     'classes: while let Some((class, others)) = first_run(rest) {

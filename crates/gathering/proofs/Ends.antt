@@ -1,5 +1,6 @@
 -- The least number of a set, and the vertices that have numbers.
-use Rattle.std.proofs.Common.{◌≡◌, ◌<◌, ◌≤◌, ℕ, zero, suc, [], ◌∷◌, length, true, false, Some, refl, sym, ap, arith, true≢false}
+use Rattle.std.proofs.Common.{◌≡◌, ◌<◌, ◌≤◌, ℕ, zero, suc, [], ◌∷◌, length, true, false, Some, refl, sym, ap, arith}
+use Rattle.std.proofs.Common.{true≢false}
 use Rattle.std.proofs.lemmas.Option.{slice_get_within}
 use Rattle.version_sets.specs.Sets.{Members, has, size}
 use Rattle.propagation.proofs.SetLemmas.{has_some}

@@ -52,12 +52,14 @@ module _ (q : Problem) (state : Vertex → State) (index : CatalogueView) (o : O
   -- dependency number i of the owner leads to the candidate at this place, or nowhere
   abbrev pub IsLed : ℕ → Dependency → Option ℕ → Type 0
   IsLed i d None = (t : Owner) → LeadsTo q state o i d t → ⊥
-  IsLed i d (Some p) = (c : Candidate) × (slice_get (candidates_of (rows_by_name index) d.real_name) p ≡ Some c) × LeadsTo q state o i d (version_of d.real_name c.version)
+  IsLed i d (Some p) = (c : Candidate) × (slice_get (candidates_of (rows_by_name index) d.real_name) p ≡ Some c)
+      × LeadsTo q state o i d (version_of d.real_name c.version)
 
   -- by number, where the dependencies of the owner lead
   pub record AreLed (ds : List Dependency) (places : List (Option ℕ)) : Type 0 where
     pub as_many : length places ≡ length ds
-    pub led : (i : ℕ) (d : Dependency) (p : Option ℕ) → slice_get ds i ≡ Some d → slice_get places i ≡ Some p → IsLed i d p
+    pub led : (i : ℕ) (d : Dependency) (p : Option ℕ) → slice_get ds i ≡ Some d
+        → slice_get places i ≡ Some p → IsLed i d p
 
 -- ---- where that is among those that were met
 
@@ -77,5 +79,6 @@ module _ (index : CatalogueView) where
 
     pub record ArePut (ds : List Dependency) (places targets : List (Option ℕ)) : Type 0 where
       pub as_many : length targets ≡ length ds
-      pub put : (i : ℕ) (d : Dependency) (p target : Option ℕ) → slice_get ds i ≡ Some d → slice_get places i ≡ Some p → slice_get targets i ≡ Some target
+      pub put : (i : ℕ) (d : Dependency) (p target : Option ℕ) → slice_get ds i ≡ Some d → slice_get places i ≡ Some p
+          → slice_get targets i ≡ Some target
           → IsPut d.real_name p target

@@ -33,7 +33,8 @@ fn class_at<'a, S: States + Drop>(
     number: usize,
 ) -> Result<Option<Class>, AllocError>
     requires whole { length table.now ≤ length (trail_view S.tests trail.now).sets }
-    ensures { IfOk result (λ o. option_map class_view o ≡ class_if (ends inputs.now table.now (trail_view S.tests trail.now) (dep (owner_ref_view owner.now) number))) }
+    ensures { IfOk result (λ o. option_map class_view o ≡ class_if (ends inputs.now table.now
+        (trail_view S.tests trail.now) (dep (owner_ref_view owner.now) number))) }
 {
     let vertex = VertexRef::Dependency(*owner, number);
     let state = state_of(alloc, inputs, table, trail, &vertex)?;
@@ -50,7 +51,8 @@ fn version_at<'a, S: States + Drop>(
     class: Class,
 ) -> Result<Option<&'a Version>, AllocError>
     requires whole { length table.now ≤ length (trail_view S.tests trail.now).sets }
-    ensures { IfOk result (λ o. option_map (λ v. parts_of v.now) o ≡ version_if (ends inputs.now table.now (trail_view S.tests trail.now) (pkg name.entry.now (class_view class)))) }
+    ensures { IfOk result (λ o. option_map (λ v. parts_of v.now) o ≡ version_if (ends inputs.now table.now
+        (trail_view S.tests trail.now) (pkg name.entry.now (class_view class)))) }
 {
     let vertex = VertexRef::Package(name, class);
     let state = state_of(alloc, inputs, table, trail, &vertex)?;
@@ -68,7 +70,8 @@ fn led_to<'a, S: States + Drop>(
     dependency: &'a Dependency,
 ) -> Result<Option<usize>, AllocError>
     requires { HasEnded inputs.now table.now (trail_view S.tests trail.now) }
-    ensures { IfOk result (λ o. IsLed (problem inputs.now) (ends inputs.now table.now (trail_view S.tests trail.now)) inputs.now.catalogue.now (owner_ref_view owner.now) number (dependency_view dependency.now) o) }
+    ensures { IfOk result (λ o. IsLed (problem inputs.now) (ends inputs.now table.now (trail_view S.tests trail.now))
+        inputs.now.catalogue.now (owner_ref_view owner.now) number (dependency_view dependency.now) o) }
 {
     let Some(class) = class_at(alloc, inputs, table, trail, owner, number)? else {
         return Ok(None);
@@ -90,7 +93,8 @@ fn led_by<'a, S: States + Drop>(
     dependencies: &'a [Dependency],
 ) -> Result<Vec<Option<usize>>, AllocError>
     requires { HasEnded inputs.now table.now (trail_view S.tests trail.now) }
-    ensures { IfOk result (λ v. AreLed (problem inputs.now) (ends inputs.now table.now (trail_view S.tests trail.now)) inputs.now.catalogue.now (owner_ref_view owner.now) (dependency_views dependencies.now) v.items) }
+    ensures { IfOk result (λ v. AreLed (problem inputs.now) (ends inputs.now table.now (trail_view S.tests trail.now))
+        inputs.now.catalogue.now (owner_ref_view owner.now) (dependency_views dependencies.now) v.items) }
 {
     let mut places = Vec::new(alloc);
     'dependencies: for (number, dependency) in dependencies.iter().enumerate() {
@@ -129,7 +133,9 @@ pub(crate) fn led_at<'a, S: States + Drop>(
 ) -> Result<Vec<Option<usize>>, AllocError>
     requires ended { HasEnded inputs.now table.now (trail_view S.tests trail.now) }
     requires stops { AreStops inputs.now.catalogue.now stops.now }
-    ensures { IfOk result (λ v. (o : Owner) → slice_get (owners_of inputs.now.catalogue.now stops.now) place ≡ Some o → AreLed (problem inputs.now) (ends inputs.now table.now (trail_view S.tests trail.now)) inputs.now.catalogue.now o (dependency_views dependencies.now) v.items) }
+    ensures { IfOk result (λ v. (o : Owner) → slice_get (owners_of inputs.now.catalogue.now stops.now) place ≡ Some o
+        → AreLed (problem inputs.now) (ends inputs.now table.now (trail_view S.tests trail.now))
+        inputs.now.catalogue.now o (dependency_views dependencies.now) v.items) }
 {
     let owner = owner_at(inputs.catalogue, stops, place);
     led_by(alloc, inputs, table, trail, &owner, dependencies)

@@ -36,7 +36,9 @@ pub(crate) fn meet<'a, S: States + Drop>(
     trail: &Trail<S>,
 ) -> Result<Met<'a>, AllocError>
     requires { HasEnded inputs.now table.now (trail_view S.tests trail.now) }
-    ensures met { IfOk result (λ m. AreMet (problem inputs.now) (LeadsTo (problem inputs.now) (ends inputs.now table.now (trail_view S.tests trail.now))) (owners_of inputs.now.catalogue.now m.stops.keys) (node_views m.nodes.items)) }
+    ensures met { IfOk result (λ m. AreMet (problem inputs.now)
+        (LeadsTo (problem inputs.now) (ends inputs.now table.now (trail_view S.tests trail.now)))
+        (owners_of inputs.now.catalogue.now m.stops.keys) (node_views m.nodes.items)) }
     ensures stops { IfOk result (λ m. AreStops inputs.now.catalogue.now m.stops.keys) }
 {
     store_holds(inputs.catalogue);

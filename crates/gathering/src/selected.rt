@@ -37,11 +37,14 @@ pub fn content<'a, S: States + Drop>(
     trail: &Trail<S>,
 ) -> Result<LockContent, AllocError>
     requires whole { length table.now ≤ length (trail_view S.tests trail.now).sets }
-    requires unbroken { IsUnbroken (problem inputs.now) (state_of (problem inputs.now) table.now (final_of (trail_view S.tests trail.now))) }
+    requires unbroken { IsUnbroken (problem inputs.now)
+        (state_of (problem inputs.now) table.now (final_of (trail_view S.tests trail.now))) }
     ensures selection { IfOk result (λ c. IsValidSelection (problem inputs.now) c) }
     ensures root { IfOk result (λ c. HasBareRoot (problem inputs.now) c) }
     ensures brought { IfOk result (λ c. IsBrought (problem inputs.now) c) }
-    ensures followed { IfOk result (λ c. (w : Content) → IsValidSelection (problem inputs.now) w → HasBareRoot (problem inputs.now) w → IsBrought (problem inputs.now) w → IsLeft (problem inputs.now) table.now w (trail_view S.tests trail.now) → c ≡ w) }
+    ensures followed { IfOk result (λ c. (w : Content) → IsValidSelection (problem inputs.now) w
+        → HasBareRoot (problem inputs.now) w → IsBrought (problem inputs.now) w
+        → IsLeft (problem inputs.now) table.now w (trail_view S.tests trail.now) → c ≡ w) }
 {
     catalogues_are_well_formed(inputs.manifest, inputs.catalogue);
     packages_are_a_graph();

@@ -37,7 +37,8 @@ pub(crate) fn state_of<'a, S: States + Drop>(
     vertex: &VertexRef<'a>,
 ) -> Result<StateRef<'a>, AllocError>
     requires whole { length table.now ≤ length (trail_view S.tests trail.now).sets }
-    ensures { IfOk result (λ s. state_ref_view s ≡ ends inputs.now table.now (trail_view S.tests trail.now) (vertex_ref_view vertex.now)) }
+    ensures { IfOk result (λ s. state_ref_view s
+        ≡ ends inputs.now table.now (trail_view S.tests trail.now) (vertex_ref_view vertex.now)) }
 {
     match table.number(vertex) {
         Some(number) => {

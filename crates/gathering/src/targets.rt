@@ -39,7 +39,8 @@ pub(crate) fn targets_of(
     requires many { length places.now ≡ length dependencies.now }
     requires there { AreThere catalogue.now (dependency_views dependencies.now) places.now }
     ensures grows { OnOk result (Grows catalogue.now stops.old.keys stops.new.keys) }
-    ensures put { IfOk result (λ v. ArePut catalogue.now stops.new.keys (dependency_views dependencies.now) places.now v.items) }
+    ensures put { IfOk result
+        (λ v. ArePut catalogue.now stops.new.keys (dependency_views dependencies.now) places.now v.items) }
 {
     let mut targets = Vec::new(alloc);
     'dependencies: for (number, dependency) in dependencies.iter().enumerate() {

@@ -1,5 +1,7 @@
 -- A guide that asks for a pair does what the search wants of it.
-use Rattle.std.proofs.Common.{◌≡◌, ℕ, zero, suc, ◌+◌, ◌-◌, ◌<◌, ◌≤◌, ◌==◌, ◌||◌, Bool, true, false, List, [], ◌∷◌, ◌++◌, length, map, get_or, append_assoc, Contains, Option, Some, None, slice_get, refl, sym, ap, ap₂, ◌∙◌, subst, inl, inr, arith}
+use Rattle.std.proofs.Common.{◌≡◌, ℕ, zero, suc, ◌+◌, ◌-◌, ◌<◌, ◌≤◌, ◌==◌, ◌||◌, Bool, true, false, List, [], ◌∷◌, ◌++◌}
+use Rattle.std.proofs.Common.{length, map, get_or, append_assoc, Contains, Option, Some, None, slice_get, refl, sym, ap}
+use Rattle.std.proofs.Common.{ap₂, ◌∙◌, subst, inl, inr, arith}
 use Rattle.std.specs.Prelude.{if◌then◌else◌, option_map}
 use Rattle.std.proofs.lemmas.Bool.{cases_lt, false≢true, ne_eqb}
 use Rattle.std.proofs.lemmas.List.{get_or_append_left, get_or-append_right, length-append, length-map}
@@ -28,7 +30,8 @@ use Rattle.searching.specs.Turning.{IsAdding}
 use Rattle.searching.specs.Walking as walking
 use Rattle.searching.proofs.Guides.{lone_one, spaces_wider}
 use Rattle.searching.proofs.Seen.{seen_wider}
-use Rattle.guiding.specs.Guides.{AreStored, EncodedView, GoesOn, IsAsking, IsOfInstance, IsPut, as_entry, asked_at, asked_of, known, late_with, left_with, with_given}
+use Rattle.guiding.specs.Guides.{AreStored, EncodedView, GoesOn, IsAsking, IsOfInstance, IsPut, as_entry, asked_at}
+use Rattle.guiding.specs.Guides.{asked_of, known, late_with, left_with, with_given}
 use Rattle.vertices.specs.Kinds.{kind_number}
 use Rattle.guiding.specs.Remaining.{spaces_of}
 use Rattle.guiding.proofs.FirstTerms.{first_only}
@@ -45,7 +48,8 @@ with_given_is es [] = same es
     same : (ys : List EntryView) → ys ≡ ys ++ []
     same [] = refl
     same (y ∷ ys) = ap (λ l. y ∷ l) (same ys)
-with_given_is es (x ∷ xs) = with_given_is (es ++ as_entry x ∷ []) xs ∙ append_assoc es (as_entry x ∷ []) (map as_entry xs)
+with_given_is es (x ∷ xs) =
+    with_given_is (es ++ as_entry x ∷ []) xs ∙ append_assoc es (as_entry x ∷ []) (map as_entry xs)
 
 abbrev no_entry : EntryView
 no_entry = record { terms = []; origin = Axiom 0 }
@@ -57,15 +61,20 @@ pub record IsOfCause (q : Problem) (vs : Numbering) (cs : List Cause) (e : Entry
   pub says : Says q vs e.terms (terms_of_cause q cause)
   pub origin : e.origin ≡ Axiom (kind_number (kind_of cause))
 
-pub given_at : (q : Problem) (vs : Numbering) (cs : List Cause) (xs : List Given) (k : ℕ) → AreGiven q vs cs xs → k < length (map as_entry xs) → IsOfCause q vs cs (entry (map as_entry xs) k)
+pub given_at : (q : Problem) (vs : Numbering) (cs : List Cause) (xs : List Given) (k : ℕ) → AreGiven q vs cs xs
+    → k < length (map as_entry xs) → IsOfCause q vs cs (entry (map as_entry xs) k)
 given_at q vs [] [] k are lt = absurd (omega (arith, lt))
 given_at q vs [] (x ∷ xs) k are lt = absurd are
 given_at q vs (c ∷ cs) [] k are lt = absurd are
-given_at q vs (c ∷ cs) (x ∷ xs) zero are lt = record { cause = c; listed = in_first c cs; says = are.1; origin = ap (λ k. Axiom (kind_number k)) are.0 }
-given_at q vs (c ∷ cs) (x ∷ xs) (suc k) are lt = let r = given_at q vs cs xs k are.2 (omega (arith, lt)) in record { cause = r.cause; listed = in_rest c r.cause cs r.listed; says = r.says; origin = r.origin }
+given_at q vs (c ∷ cs) (x ∷ xs) zero are lt =
+    record { cause = c; listed = in_first c cs; says = are.1; origin = ap (λ k. Axiom (kind_number k)) are.0 }
+given_at q vs (c ∷ cs) (x ∷ xs) (suc k) are lt = let r = given_at q vs cs xs k are.2 (omega (arith, lt)) in
+    record { cause = r.cause; listed = in_rest c r.cause cs r.listed; says = r.says; origin = r.origin }
 
 -- and each cause has its entry
-pub given_of : (q : Problem) (vs : Numbering) (cs : List Cause) (xs : List Given) (c : Cause) → AreGiven q vs cs xs → Contains cs c → (k : ℕ) × (k < length (map as_entry xs)) × IsAxiom (entry (map as_entry xs) k).origin × Says q vs (entry (map as_entry xs) k).terms (terms_of_cause q c)
+pub given_of : (q : Problem) (vs : Numbering) (cs : List Cause) (xs : List Given) (c : Cause) → AreGiven q vs cs xs
+    → Contains cs c → (k : ℕ) × (k < length (map as_entry xs)) × IsAxiom (entry (map as_entry xs) k).origin
+    × Says q vs (entry (map as_entry xs) k).terms (terms_of_cause q c)
 given_of q vs [] xs c are i = absurd (in_none c i)
 given_of q vs (d ∷ cs) [] c are i = absurd are
 given_of q vs (d ∷ cs) (x ∷ xs) c are i = elim (in_cons d c cs i) [
@@ -73,7 +82,8 @@ given_of q vs (d ∷ cs) (x ∷ xs) c are i = elim (in_cons d c cs i) [
   | inr there ↦ let r = given_of q vs cs xs c are.2 there in let lt = r.1 in (suc r.0, omega (arith, lt), r.2, r.3)
 ]
 
-kept_long : (o : Option Members) (z : Members) (n : ℕ) → unless_full o ≡ Some z → ((x : Members) → o ≡ Some x → length x ≡ n) → length z ≡ n
+kept_long : (o : Option Members) (z : Members) (n : ℕ) → unless_full o ≡ Some z
+    → ((x : Members) → o ≡ Some x → length x ≡ n) → length z ≡ n
 kept_long None z n e long = absurd (none-some z e)
 kept_long (Some x) z n e long = by (is_full x) refl e
   where
@@ -81,9 +91,11 @@ kept_long (Some x) z n e long = by (is_full x) refl e
     by true f e = absurd (none-some z e)
     by false f e = ap length (sym (same_Some x z e)) ∙ long x refl
 
-mapped_long : (q : Problem) (w : Vertex) (o : Option (List State)) (x : Members) → option_map (members_at q w) o ≡ Some x → length x ≡ length (space q w)
+mapped_long : (q : Problem) (w : Vertex) (o : Option (List State)) (x : Members)
+    → option_map (members_at q w) o ≡ Some x → length x ≡ length (space q w)
 mapped_long q w None x e = absurd (none-some x e)
-mapped_long q w (Some ss) x e = ap length (sym (same_Some (members_at q w ss) x e)) ∙ length-map (space q w) (Rattle.model.specs.Vertices.has_state ss)
+mapped_long q w (Some ss) x e = ap length (sym (same_Some (members_at q w ss) x e))
+    ∙ length-map (space q w) (Rattle.model.specs.Vertices.has_state ss)
 
 pub lengths_at : (l : List Members) (k : ℕ) → get_or (map length l) k 0 ≡ length (set_of l k)
 lengths_at [] zero = refl
@@ -92,8 +104,10 @@ lengths_at (s ∷ l) zero = refl
 lengths_at (s ∷ l) (suc k) = lengths_at l k
 
 -- an instance lies in the universes of the trail's vertices
-pub said_long : (q : Problem) (vs : Numbering) (asked : List Members) (wide : TrailView) → map length asked ≡ spaces_of q (known vs asked) → length vs ≤ length asked → HasSpaces (map length asked) wide
-    → (x : List TermView) (ts : List Term) → Says q vs x ts → (u : ℕ) (z : Members) → numbered.states_at x u ≡ Some z → length z ≡ space_of wide u
+pub said_long : (q : Problem) (vs : Numbering) (asked : List Members) (wide : TrailView)
+    → map length asked ≡ spaces_of q (known vs asked) → length vs ≤ length asked → HasSpaces (map length asked) wide
+    → (x : List TermView) (ts : List Term) → Says q vs x ts → (u : ℕ) (z : Members) → numbered.states_at x u ≡ Some z
+    → length z ≡ space_of wide u
 said_long q vs asked wide spaces whole spaced x ts says u z e = by (slice_get vs u) refl
   where
     by : (o : Option Vertex) → slice_get vs u ≡ o → length z ≡ space_of wide u
@@ -101,11 +115,14 @@ said_long q vs asked wide spaces whole spaced x ts says u z e = by (slice_get vs
     by (Some y) f =
         let r = known_at q vs asked u spaces (let l = slice_get_within vs u y f in omega (arith, l, whole)) in
         let same : r.0 ≡ y = same_Some r.0 y (sym r.1 ∙ f) in
-        let long : length z ≡ length (space q y) = kept_long (option_map (members_at q y) (states_at ts y)) z (length (space q y)) (sym (says.each u y f) ∙ e) (λ m h. mapped_long q y (states_at ts y) m h) in
+        let long : length z ≡ length (space q y) = kept_long (option_map (members_at q y) (states_at ts y)) z
+        (length (space q y)) (sym (says.each u y f) ∙ e) (λ m h. mapped_long q y (states_at ts y) m h) in
         long ∙ ap (λ w. length (space q w)) (sym same) ∙ sym r.2 ∙ sym (lengths_at asked u) ∙ sym (spaced.each u)
 
-module _ (v i : ℕ) (old new : EncodedView) (t wide : TrailView) (es more : List EntryView) (a : IsAsking v i old new t wide es more) (spaced : HasSpaces (map length old.asked) t) (trail : IsTrail es t)
-    (low : v < length t.sets) (some : 0 < i) (fresh : has (set_of old.asked v) i ≡ false) (lt : i < length (set_of old.asked v)) where
+module _ (v i : ℕ) (old new : EncodedView) (t wide : TrailView) (es more : List EntryView)
+    (a : IsAsking v i old new t wide es more) (spaced : HasSpaces (map length old.asked) t) (trail : IsTrail es t)
+    (low : v < length t.sets) (some : 0 < i) (fresh : has (set_of old.asked v) i ≡ false)
+    (lt : i < length (set_of old.asked v)) where
   q : Problem
   q = old.problem
 
@@ -115,7 +132,8 @@ module _ (v i : ℕ) (old new : EncodedView) (t wide : TrailView) (es more : Lis
   inside : v < length old.asked
   inside = omega (arith, low, spaced.vertices, length-map old.asked length)
 
-  at_v : (w : Vertex) × (slice_get old.vertices v ≡ Some w) × (length (set_of old.asked v) ≡ length (space old.problem w))
+  at_v : (w : Vertex) × (slice_get old.vertices v ≡ Some w)
+      × (length (set_of old.asked v) ≡ length (space old.problem w))
   at_v = known_at old.problem old.vertices old.asked v a.spaces inside
 
   is_given : IsGivenAt old.problem new.vertices (at_v.0, state_at old.problem at_v.0 i) a.given
@@ -131,10 +149,12 @@ module _ (v i : ℕ) (old new : EncodedView) (t wide : TrailView) (es more : Lis
   lengths = ap (map length) a.marks ∙ marked_lengths old.asked a.came v i inside lt
 
   stays : (u j : ℕ) → has (set_of old.asked u) j ≡ true → has (set_of new.asked u) j ≡ true
-  stays u j h = subst (λ (l : List Members). has (set_of l u) j ≡ true) (sym a.marks) (marked_more old.asked a.came v i inside lt u j h)
+  stays u j h = subst
+      (λ (l : List Members). has (set_of l u) j ≡ true) (sym a.marks) (marked_more old.asked a.came v i inside lt u j h)
 
   now : has (set_of new.asked v) i ≡ true
-  now = subst (λ (l : List Members). has (set_of l v) i ≡ true) (sym a.marks) (marked_now old.asked a.came v i inside lt)
+  now =
+      subst (λ (l : List Members). has (set_of l v) i ≡ true) (sym a.marks) (marked_now old.asked a.came v i inside lt)
 
   or_more : (b c d : Bool) → (c ≡ true → d ≡ true) → (b || c) ≡ true → (b || d) ≡ true
   or_more true c d f e = refl
@@ -144,7 +164,8 @@ module _ (v i : ℕ) (old new : EncodedView) (t wide : TrailView) (es more : Lis
   grows u j h = or_more (j == 0) (has (set_of old.asked u) j) (has (set_of new.asked u) j) (stays u j) h
 
   pub asked_spaces : HasSpaces (map length new.asked) wide
-  asked_spaces = subst (λ l. HasSpaces l wide) (sym lengths) (spaces_wider (map length old.asked) a.came t wide spaced a.wider)
+  asked_spaces =
+      subst (λ l. HasSpaces l wide) (sym lengths) (spaces_wider (map length old.asked) a.came t wide spaced a.wider)
 
   zero_asked : (j u : ℕ) → j ≡ 0 → asked_of new.asked u j ≡ true
   zero_asked j u e = subst (λ k. asked_of new.asked u k ≡ true) (sym e) refl
@@ -161,11 +182,13 @@ module _ (v i : ℕ) (old new : EncodedView) (t wide : TrailView) (es more : Lis
       let below = has_below (set_of wide.sets u) j only.1 in
       zero_asked j u (omega (arith, one, space_is, below))
 
-  new_one : (k : ℕ) → k < length (map as_entry a.given) → IsOfNew (length t.sets) (asked_of old.asked) (entry (map as_entry a.given) k)
+  new_one : (k : ℕ) → k < length (map as_entry a.given)
+      → IsOfNew (length t.sets) (asked_of old.asked) (entry (map as_entry a.given) k)
   new_one k within =
       let g = given_at old.problem new.vertices is_given.causes a.given k is_given.given within in
       let is = (is_given.are.listed g.cause).0 g.listed in
-      let first = first_only old.problem new.vertices (entry (map as_entry a.given) k).terms g.cause v i at_v.0 a.catalogue is.0 g.says now_at some fits is.1 in
+      let first = first_only old.problem new.vertices
+      (entry (map as_entry a.given) k).terms g.cause v i at_v.0 a.catalogue is.0 g.says now_at some fits is.1 in
       record {
         vertex = v;
         state = i;
@@ -182,15 +205,21 @@ module _ (v i : ℕ) (old new : EncodedView) (t wide : TrailView) (es more : Lis
 
   lies : LieIn wide more
   lies id within u z e = elim (cases_lt id (length es)) [
-    | inl less ↦ a.trail.lies id less u z (subst (λ (x : EntryView). numbered.states_at x.terms u ≡ Some z) (ap (λ (l : List EntryView). entry l id) entries ∙ get_or_append_left es (map as_entry a.given) no_entry id less) e)
+    | inl less ↦ a.trail.lies id less u z
+        (subst (λ (x : EntryView). numbered.states_at x.terms u ≡ Some z) (ap (λ (l : List EntryView).
+        entry l id) entries ∙ get_or_append_left es (map as_entry a.given) no_entry id less) e)
     | inr ge ↦
-        let g = given_at old.problem new.vertices is_given.causes a.given (id - length es) is_given.given (omega (arith, within, ge, ap length entries, length-append es (map as_entry a.given))) in
-        said_long old.problem new.vertices new.asked wide a.spaced a.whole asked_spaces (entry (map as_entry a.given) (id - length es)).terms (terms_of_cause old.problem g.cause) g.says u z
-        (subst (λ (x : EntryView). numbered.states_at x.terms u ≡ Some z) (ap (λ (l : List EntryView). entry l id) entries ∙ get_or-append_right es (map as_entry a.given) (length es) id no_entry refl ge) e)
+        let g = given_at old.problem new.vertices is_given.causes a.given (id - length es) is_given.given
+        (omega (arith, within, ge, ap length entries, length-append es (map as_entry a.given))) in
+        said_long old.problem new.vertices new.asked wide a.spaced a.whole asked_spaces
+        (entry (map as_entry a.given) (id - length es)).terms (terms_of_cause old.problem g.cause) g.says u z
+        (subst (λ (x : EntryView). numbered.states_at x.terms u ≡ Some z) (ap (λ (l : List EntryView). entry l id)
+        entries ∙ get_or-append_right es (map as_entry a.given) (length es) id no_entry refl ge) e)
   ]
 
   fewer : left_with new < left_with old
-  fewer = subst (λ p. Rattle.guiding.specs.Remaining.open_of p (asked_at new.vertices new.asked) < left_with old) (sym a.same)
+  fewer = subst
+      (λ p. Rattle.guiding.specs.Remaining.open_of p (asked_at new.vertices new.asked) < left_with old) (sym a.same)
       (open_lt old.problem (asked_at old.vertices old.asked) (asked_at new.vertices new.asked) at_v.0 i
       (asked_stays old.problem old.vertices new.vertices old.asked new.asked a.grown a.numbering stays)
       (there_at old.problem new.vertices v at_v.0 a.numbering now_at) fits
@@ -199,12 +228,15 @@ module _ (v i : ℕ) (old new : EncodedView) (t wide : TrailView) (es more : Lis
       was_at : asked_at old.vertices old.asked at_v.0 i ≡ has (set_of old.asked v) i
       was_at = asked_is old.problem old.vertices old.asked at_v.0 v i a.was_numbering at_v.1
 
-  pub asked_adding : IsAdding (asked_of old.asked) (asked_of new.asked) (left_with old) (left_with new) (late_with old) (late_with new) t wide es more true
+  pub asked_adding : IsAdding (asked_of old.asked) (asked_of new.asked) (left_with old) (left_with new) (late_with old)
+      (late_with new) t wide es more true
   asked_adding = record {
     spaces = a.came;
     wider = a.wider;
-    came = ap (λ p. Rattle.propagation.specs.Widening.sum_of a.came + Rattle.guiding.specs.Remaining.late_of p (known new.vertices new.asked)) a.same
-        ∙ late_comes old.problem old.vertices new.vertices old.asked new.asked a.came a.grown a.numbering a.spaces a.spaced a.whole lengths;
+    came = ap (λ p. Rattle.propagation.specs.Widening.sum_of a.came
+        + Rattle.guiding.specs.Remaining.late_of p (known new.vertices new.asked)) a.same
+        ∙ late_comes old.problem old.vertices new.vertices old.asked new.asked a.came a.grown a.numbering a.spaces
+        a.spaced a.whole lengths;
     lone = lone;
     gained = map as_entry a.given;
     grown = entries;
@@ -216,46 +248,92 @@ module _ (v i : ℕ) (old new : EncodedView) (t wide : TrailView) (es more : Lis
   }
 
   pub asked_seen : IsSeen old.seen (asked_of old.asked) t → IsSeen new.seen (asked_of new.asked) wide
-  asked_seen seen = subst (λ n. IsSeen n (asked_of new.asked) wide) (sym a.seen_is) (seen_wider old.seen (asked_of old.asked) (asked_of new.asked) a.came t wide trail.sound a.wider grows lone seen)
+  asked_seen seen = subst (λ n. IsSeen n (asked_of new.asked) wide) (sym a.seen_is)
+      (seen_wider old.seen (asked_of old.asked) (asked_of new.asked) a.came t wide trail.sound a.wider grows lone seen)
 
   pub asked_goes : GoesOn old new
-  asked_goes = record { problem = a.same; grown = a.grown; whole = λ h. (let w = a.whole in let e = known_most old.problem new.vertices new.asked a.spaced in omega (arith, w, e)); follows_is = a.follows_is }
+  asked_goes = record {
+    problem = a.same;
+    grown = a.grown;
+    whole = λ h. (let w = a.whole in let e =
+        known_most old.problem new.vertices new.asked a.spaced in omega (arith, w, e));
+    follows_is = a.follows_is;
+  }
 
-  pub asked_given : walking.AreGiven (IsOfInstance old.problem old.vertices) es → walking.AreGiven (IsOfInstance new.problem new.vertices) more
-  asked_given was id within ax = subst (λ p. IsOfInstance p new.vertices (entry more id)) (sym a.same) (elim (cases_lt id (length es)) [
-    | inl less ↦
-        let same : entry more id ≡ entry es id = ap (λ (l : List EntryView). entry l id) entries ∙ get_or_append_left es (map as_entry a.given) no_entry id less in
-        let r = was id less (subst (λ (e : EntryView). IsAxiom e.origin) same ax) in
-        subst (IsOfInstance old.problem new.vertices) (sym same) (record { kind = r.kind; terms = r.terms; is = r.is; says = says_on old.problem old.vertices new.vertices a.grown a.numbering (entry es id).terms r.terms r.says; origin = r.origin })
-    | inr ge ↦
-        let same : entry more id ≡ entry (map as_entry a.given) (id - length es) = ap (λ (l : List EntryView). entry l id) entries ∙ get_or-append_right es (map as_entry a.given) (length es) id no_entry refl ge in
-        let g = given_at old.problem new.vertices is_given.causes a.given (id - length es) is_given.given (omega (arith, within, ge, ap length entries, length-append es (map as_entry a.given))) in
-        let is = (is_given.are.listed g.cause).0 g.listed in
-        subst (IsOfInstance old.problem new.vertices) (sym same) (record { kind = kind_of g.cause; terms = terms_of_cause old.problem g.cause; is = cause_instance old.problem g.cause is.0; says = g.says; origin = g.origin })
-  ])
+  pub asked_given : walking.AreGiven (IsOfInstance old.problem old.vertices) es
+      → walking.AreGiven (IsOfInstance new.problem new.vertices) more
+  asked_given was id within ax =
+      subst (λ p. IsOfInstance p new.vertices (entry more id)) (sym a.same) (elim (cases_lt id (length es)) [
+        | inl less ↦
+            let same : entry more id ≡ entry es id = ap (λ (l : List EntryView). entry l id) entries
+            ∙ get_or_append_left es (map as_entry a.given) no_entry id less in
+            let r = was id less (subst (λ (e : EntryView). IsAxiom e.origin) same ax) in
+            subst (IsOfInstance old.problem new.vertices) (sym same)
+            (record {
+              kind = r.kind;
+              terms = r.terms;
+              is = r.is;
+              says = says_on old.problem old.vertices new.vertices
+                  a.grown a.numbering (entry es id).terms r.terms r.says;
+              origin = r.origin;
+            })
+        | inr ge ↦
+            let same : entry more id ≡ entry (map as_entry a.given) (id - length es) =
+            ap (λ (l : List EntryView). entry l id) entries
+            ∙ get_or-append_right es (map as_entry a.given) (length es) id no_entry refl ge in
+            let g = given_at old.problem new.vertices is_given.causes a.given (id - length es) is_given.given
+            (omega (arith, within, ge, ap length entries, length-append es (map as_entry a.given))) in
+            let is = (is_given.are.listed g.cause).0 g.listed in
+            subst (IsOfInstance old.problem new.vertices) (sym same)
+            (record {
+              kind = kind_of g.cause;
+              terms = terms_of_cause old.problem g.cause;
+              is =
+                  cause_instance old.problem g.cause is.0;
+              says = g.says;
+              origin = g.origin;
+            })
+      ])
 
   pub asked_stored : AreStored old.problem old.vertices old.asked es → AreStored new.problem new.vertices new.asked more
-  asked_stored was = subst (λ p. AreStored p new.vertices new.asked more) (sym a.same) (subst (AreStored old.problem new.vertices new.asked) (sym entries) (record {
-    root_is = added_on old.problem new.vertices es (map as_entry a.given) _ (added_grown old.problem old.vertices new.vertices es _ a.grown a.numbering was.root_is);
-    pairs = pairs;
-  }))
+  asked_stored was = subst (λ p. AreStored p new.vertices new.asked more) (sym a.same)
+      (subst (AreStored old.problem new.vertices new.asked) (sym entries) (record {
+        root_is = added_on old.problem new.vertices es (map as_entry a.given) _
+            (added_grown old.problem old.vertices new.vertices es _ a.grown a.numbering was.root_is);
+        pairs = pairs;
+      }))
     where
       here : IsPut old.problem new.vertices (es ++ map as_entry a.given) (at_v.0, state_at old.problem at_v.0 i)
       here c is first =
-          let r = given_of old.problem new.vertices is_given.causes a.given c is_given.given ((is_given.are.listed c).1 (is, first)) in
+          let r = given_of old.problem new.vertices is_given.causes a.given c is_given.given
+          ((is_given.are.listed c).1 (is, first)) in
           let k = r.1 in
-          let same : entry (es ++ map as_entry a.given) (length es + r.0) ≡ entry (map as_entry a.given) r.0 = get_or-append_right es (map as_entry a.given) (length es) (length es + r.0) no_entry refl (omega arith) ∙ ap (entry (map as_entry a.given)) (omega arith) in
-          (length es + r.0, omega (arith, k, length-append es (map as_entry a.given)), subst (λ (e : EntryView). IsAxiom e.origin) (sym same) r.2, subst (λ (e : EntryView). Says old.problem new.vertices e.terms (terms_of_cause old.problem c)) (sym same) r.3)
+          let same : entry (es ++ map as_entry a.given) (length es + r.0) ≡ entry (map as_entry a.given) r.0 =
+          get_or-append_right es (map as_entry a.given) (length es) (length es + r.0) no_entry refl (omega arith)
+          ∙ ap (entry (map as_entry a.given)) (omega arith) in (
+            length es + r.0,
+            omega (arith, k, length-append es (map as_entry a.given)),
+            subst (λ (e : EntryView). IsAxiom e.origin) (sym same) r.2,
+            subst (λ (e : EntryView).
+                Says old.problem new.vertices e.terms (terms_of_cause old.problem c)) (sym same) r.3,
+          )
 
-      pairs : (n j : ℕ) (w : Vertex) → has (set_of new.asked n) j ≡ true → slice_get new.vertices n ≡ Some w → IsPut old.problem new.vertices (es ++ map as_entry a.given) (w, state_at old.problem w j)
-      pairs n j w h at = elim (marked_either old.asked a.came v i inside lt n j (subst (λ (l : List Members). has (set_of l n) j ≡ true) a.marks h)) [
-        | inl e ↦
-            let same : at_v.0 ≡ w = same_Some at_v.0 w (sym now_at ∙ ap (slice_get new.vertices) (sym e.0) ∙ at) in
-            subst (λ k. IsPut old.problem new.vertices (es ++ map as_entry a.given) (w, state_at old.problem w k)) (sym e.1)
-            (subst (λ x. IsPut old.problem new.vertices (es ++ map as_entry a.given) (x, state_at old.problem x i)) same here)
-        | inr r ↦
-            let o = known_at old.problem old.vertices old.asked n a.spaces r.0 in
-            let same : o.0 ≡ w = same_Some o.0 w (sym (still_at old.vertices new.vertices n o.0 a.grown o.1) ∙ at) in
-            subst (λ x. IsPut old.problem new.vertices (es ++ map as_entry a.given) (x, state_at old.problem x j)) same
-            (added_on old.problem new.vertices es (map as_entry a.given) _ (added_grown old.problem old.vertices new.vertices es _ a.grown a.numbering (was.pairs n j o.0 r.1 o.1)))
-      ]
+      pairs : (n j : ℕ) (w : Vertex) → has (set_of new.asked n) j ≡ true → slice_get new.vertices n ≡ Some w
+          → IsPut old.problem new.vertices (es ++ map as_entry a.given) (w, state_at old.problem w j)
+      pairs n j w h at = elim (marked_either old.asked a.came v i inside lt n j
+          (subst (λ (l : List Members). has (set_of l n) j ≡ true) a.marks h)) [
+            | inl e ↦
+                let same : at_v.0 ≡ w = same_Some at_v.0 w (sym now_at ∙ ap (slice_get new.vertices) (sym e.0) ∙ at) in
+                subst (λ k.
+                IsPut old.problem new.vertices (es ++ map as_entry a.given) (w, state_at old.problem w k)) (sym e.1)
+                (subst (λ x. IsPut old.problem new.vertices (es ++ map as_entry a.given)
+                (x, state_at old.problem x i)) same here)
+            | inr r ↦
+                let o = known_at old.problem old.vertices old.asked n a.spaces r.0 in
+                let same : o.0 ≡ w =
+                same_Some o.0 w (sym (still_at old.vertices new.vertices n o.0 a.grown o.1) ∙ at) in
+                subst (λ x.
+                IsPut old.problem new.vertices (es ++ map as_entry a.given) (x, state_at old.problem x j)) same
+                (added_on old.problem new.vertices es (map as_entry a.given) _ (added_grown old.problem old.vertices
+                new.vertices es _ a.grown a.numbering (was.pairs n j o.0 r.1 o.1)))
+          ]

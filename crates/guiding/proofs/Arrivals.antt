@@ -1,5 +1,6 @@
 -- The vertices that a trail has, as one more of those with numbers comes onto it.
-use Rattle.std.proofs.Common.{◌≡◌, ℕ, zero, suc, ◌<◌, false, List, [], ◌∷◌, ◌++◌, length, map, take, Some, slice_get, refl, sym, ap, ap₂, ◌∙◌, subst, arith}
+use Rattle.std.proofs.Common.{◌≡◌, ℕ, zero, suc, ◌<◌, false, List, [], ◌∷◌, ◌++◌, length, map, take, Some, slice_get}
+use Rattle.std.proofs.Common.{refl, sym, ap, ap₂, ◌∙◌, subst, arith}
 use Rattle.std.proofs.lemmas.List.{length-append, length-replicate}
 use Rattle.std.proofs.lemmas.Option.{none-some, same_Some}
 use Rattle.version_sets.specs.Sets.{Members, none}
@@ -17,12 +18,15 @@ pub map_append : {A B : Type 0} (f : A → B) (xs ys : List A) → map f (xs ++ 
 map_append f [] ys = refl
 map_append f (x ∷ xs) ys = ap (λ l. f x ∷ l) (map_append f xs ys)
 
-pub take_next : {A : Type 0} (xs : List A) (k : ℕ) (x : A) → slice_get xs k ≡ Some x → take (suc k) xs ≡ take k xs ++ x ∷ []
+pub take_next : {A : Type 0} (xs : List A) (k : ℕ) (x : A) → slice_get xs k ≡ Some x
+    → take (suc k) xs ≡ take k xs ++ x ∷ []
 take_next [] k x e = absurd (none-some x e)
 take_next (y ∷ xs) zero x e = ap (λ z. z ∷ []) (same_Some y x e)
 take_next (y ∷ xs) (suc k) x e = ap (λ l. y ∷ l) (take_next xs k x e)
 
-pub encoding_next : (i : Inputs) (vs : Numbering) (asked more : List Members) (n : ℕ) → IsEncoding i vs asked → length asked < length vs → ((v : Vertex) → slice_get vs (length asked) ≡ Some v → n ≡ length (space (problem i) v))
+pub encoding_next : (i : Inputs) (vs : Numbering) (asked more : List Members) (n : ℕ) → IsEncoding i vs asked
+    → length asked < length vs
+    → ((v : Vertex) → slice_get vs (length asked) ≡ Some v → n ≡ length (space (problem i) v))
     → more ≡ asked ++ none n ∷ [] → IsEncoding i vs more
 encoding_next i vs asked more n was less is e = record {
   default = was.default;
@@ -54,7 +58,8 @@ come_none asked t = record { came = []; sets = same asked; wider = wider_none t 
 pub come_again : (a b c : List Members) (t m w : TrailView) → IsCome a b t m → IsCome b c m w → IsCome a c t w
 come_again a b c t m w first second = record {
   came = first.came ++ second.came;
-  sets = second.sets ∙ ap (λ l. l ++ map none second.came) first.sets ∙ assoc a (map none first.came) (map none second.came) ∙ ap (λ l. a ++ l) (sym (map_append none first.came second.came));
+  sets = second.sets ∙ ap (λ l. l ++ map none second.came) first.sets ∙ assoc a (map none first.came)
+      (map none second.came) ∙ ap (λ l. a ++ l) (sym (map_append none first.came second.came));
   wider = wider_again first.came second.came t m w first.wider second.wider;
 }
   where

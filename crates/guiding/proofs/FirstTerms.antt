@@ -1,5 +1,7 @@
 -- The first term of an instance is its pair, as a set of one of several states.
-use Rattle.std.proofs.Common.{◌≡◌, ◌≢◌, ℕ, zero, suc, ◌+◌, ◌<◌, Bool, true, false, ◌||◌, if◌then◌else◌, List, [], ◌∷◌, length, map, Option, Some, None, slice_get, refl, sym, ap, ◌∙◌, subst, arith, true≢false, ◌&&◌, not, nat_eq, Contains}
+use Rattle.std.proofs.Common.{◌≡◌, ◌≢◌, ℕ, zero, suc, ◌+◌, ◌<◌, Bool, true, false, ◌||◌, if◌then◌else◌, List, [], ◌∷◌}
+use Rattle.std.proofs.Common.{length, map, Option, Some, None, slice_get, refl, sym, ap, ◌∙◌, subst, arith, true≢false}
+use Rattle.std.proofs.Common.{◌&&◌, not, nat_eq, Contains}
 use Rattle.std.specs.List.{AllPairs}
 use Rattle.std.specs.Prelude.{option_map, unwrap_or}
 use Rattle.std.proofs.lemmas.Bool.{false_from_ne_true}
@@ -11,12 +13,16 @@ use Rattle.terms.specs.Terms.{TermView}
 use Rattle.model.specs.Summary.{Dependency, dependency_feature}
 use Rattle.model.specs.Content.{Problem}
 use Rattle.model.specs.WellFormed.{IsCatalogue}
-use Rattle.model.specs.Vertices.{Owner, the_root, version_of, Vertex, root, pkg, dep, feat, ask, State, absent, has_state, same_state, dep_space, space, owner_brings}
+use Rattle.model.specs.Vertices.{Owner, the_root, version_of, Vertex, root, pkg, dep, feat, ask, State, absent}
+use Rattle.model.specs.Vertices.{has_state, same_state, dep_space, space, owner_brings}
 use Rattle.model.specs.Axioms.{Term, at, owner_holds}
 use Rattle.model.specs.Derivation.{states_at}
 use Rattle.model.proofs.Same.{both, state-same, state-refl, vertex-refl}
 use Rattle.model.proofs.Lists.{in_first, in_rest, pairs_first, pairs_rest}
-use Rattle.refutations.specs.Causes.{Cause, of_root, of_need, of_target, of_feature, of_list, of_ask, of_entry, of_enabling, of_asking, of_newest, of_weak, same_entry, passes, dependency_at, has_class, some_entry, lists_feature, is_overtaken, is_weak_on, is_cause, terms_with, terms_of_cause}
+use Rattle.refutations.specs.Causes.{Cause, of_root, of_need, of_target, of_feature, of_list, of_ask, of_entry}
+use Rattle.refutations.specs.Causes.{of_enabling, of_asking, of_newest, of_weak, same_entry, passes, dependency_at}
+use Rattle.refutations.specs.Causes.{has_class, some_entry, lists_feature, is_overtaken, is_weak_on, is_cause}
+use Rattle.refutations.specs.Causes.{terms_with, terms_of_cause}
 use Rattle.refutations.proofs.Named.{passes-is}
 use Rattle.encoding.specs.Numberings.{Numbering, Says, members_at}
 use Rattle.encoding.specs.Pairs.{Pair, first_pair, owner_pair}
@@ -34,28 +40,38 @@ owner_begins : (o : Owner) (us : List Term) → Begins (owner_pair o) (owner_hol
 owner_begins the_root us = (us, refl)
 owner_begins (version_of name v) us = (us, refl)
 
-with_begins : (terms : Dependency → List Term) (p : Pair) (test : Dependency → Bool) (o : Option Dependency) → passes test o ≡ true → ((d : Dependency) → Begins p (terms d)) → Begins p (terms_with terms o)
-with_begins terms p test o t of = let r = passes-is test o t in subst (λ x. Begins p (terms_with terms x)) (sym r.1) (of r.0)
+with_begins : (terms : Dependency → List Term) (p : Pair) (test : Dependency → Bool) (o : Option Dependency)
+    → passes test o ≡ true → ((d : Dependency) → Begins p (terms d)) → Begins p (terms_with terms o)
+with_begins terms p test o t of = let r =
+    passes-is test o t in subst (λ x. Begins p (terms_with terms x)) (sym r.1) (of r.0)
 
 begins : (q : Problem) (c : Cause) → is_cause q c ≡ true → Begins (first_pair c) (terms_of_cause q c)
 begins q of_root t = (_, refl)
 begins q (of_need o i) t = owner_begins o _
 begins q (of_target o i k) t = with_begins _ _ (has_class q k) (dependency_at q o i) t (λ d. (_, refl))
 begins q (of_feature name k f) t = (_, refl)
-begins q (of_list o i k g) t = with_begins _ _ (λ d. has_class q k d && lists_feature q o d g) (dependency_at q o i) t (λ d. (_, refl))
-begins q (of_ask name v i g k) t = with_begins _ _ (λ d. has_class q k d && some_entry q (same_entry (dependency_feature d.name g)) name v) (dependency_at q (version_of name v) i) t (λ d. (_, refl))
+begins q (of_list o i k g) t =
+    with_begins _ _ (λ d. has_class q k d && lists_feature q o d g) (dependency_at q o i) t (λ d. (_, refl))
+begins q (of_ask name v i g k) t =
+    with_begins _ _ (λ d. has_class q k d && some_entry q (same_entry (dependency_feature d.name g)) name v)
+    (dependency_at q (version_of name v) i) t (λ d. (_, refl))
 begins q (of_entry name v f g) t = (_, refl)
 begins q (of_enabling name v f e i) t = (_, refl)
 begins q (of_asking name v f g i) t = (_, refl)
-begins q (of_newest o i j k m) t = with_begins _ _ (λ d. passes (is_overtaken q k m d) (dependency_at q o j)) (dependency_at q o i)
-    (both (not (nat_eq i j)) (passes (λ d. passes (is_overtaken q k m d) (dependency_at q o j)) (dependency_at q o i)) t).1 (λ d. (_, refl))
-begins q (of_weak name v f g i k) t = with_begins _ _ (is_weak_on q name v f g k) (dependency_at q (version_of name v) i) t (λ d. (_, refl))
+begins q (of_newest o i j k m) t =
+    with_begins _ _ (λ d. passes (is_overtaken q k m d) (dependency_at q o j)) (dependency_at q o i)
+    (both (not (nat_eq i j)) (passes (λ d. passes (is_overtaken q k m d) (dependency_at q o j))
+    (dependency_at q o i)) t).1 (λ d. (_, refl))
+begins q (of_weak name v f g i k) t =
+    with_begins _ _ (is_weak_on q name v f g k) (dependency_at q (version_of name v) i) t (λ d. (_, refl))
 
-first_states : (q : Problem) (c : Cause) → is_cause q c ≡ true → states_at (terms_of_cause q c) (first_pair c).0 ≡ Some ((first_pair c).1 ∷ [])
+first_states : (q : Problem) (c : Cause) → is_cause q c ≡ true
+    → states_at (terms_of_cause q c) (first_pair c).0 ≡ Some ((first_pair c).1 ∷ [])
 first_states q c t =
     let start = begins q c t in
     let p = first_pair c in
-    ap (λ ts. states_at ts p.0) start.1 ∙ ap (λ (b : Bool). if b then Some (p.1 ∷ []) else states_at start.0 p.0) (vertex-refl p.0)
+    ap (λ ts. states_at ts p.0) start.1
+    ∙ ap (λ (b : Bool). if b then Some (p.1 ∷ []) else states_at start.0 p.0) (vertex-refl p.0)
 
 -- ---- a set of one of several states
 
@@ -72,19 +88,26 @@ one_itself s = ap (λ b. b || false) (state-refl s)
 one_other : (s r : State) → r ≢ s → has_state (s ∷ []) r ≡ false
 one_other s r ne = false_from_ne_true (has_state (s ∷ []) r) (λ h. ne (one_state s r h))
 
-none_other : (s : State) (ss : List State) → ((r : State) → Contains ss r → r ≢ s) → size (map (has_state (s ∷ [])) ss) ≡ 0
+none_other : (s : State) (ss : List State) → ((r : State) → Contains ss r → r ≢ s)
+    → size (map (has_state (s ∷ [])) ss) ≡ 0
 none_other s [] h = refl
-none_other s (r ∷ ss) h = ap (λ b. size (b ∷ map (has_state (s ∷ [])) ss)) (one_other s r (h r (in_first r ss))) ∙ none_other s ss (λ x c. h x (in_rest r x ss c))
+none_other s (r ∷ ss) h = ap (λ b. size (b ∷ map (has_state (s ∷ [])) ss)) (one_other s r (h r (in_first r ss)))
+    ∙ none_other s ss (λ x c. h x (in_rest r x ss c))
 
-pub one_of : (ss : List State) (i : ℕ) (s : State) → AllPairs (λ s r. s ≢ r) ss → slice_get ss i ≡ Some s → IsOnly (map (has_state (s ∷ [])) ss) i
+pub one_of : (ss : List State) (i : ℕ) (s : State) → AllPairs (λ s r. s ≢ r) ss → slice_get ss i ≡ Some s
+    → IsOnly (map (has_state (s ∷ [])) ss) i
 one_of [] i s once e = absurd (none-some s e)
 one_of (r ∷ ss) zero s once e =
     let same : r ≡ s = same_Some r s e in
-    let here : has_state (s ∷ []) r ≡ true = subst (λ x. has_state (s ∷ []) x ≡ true) (sym same) (one_itself s) in
-    (ap (λ b. size (b ∷ map (has_state (s ∷ [])) ss)) here ∙ ap (λ n. 1 + n) (none_other s ss (λ x c d. pairs_first (λ s r. s ≢ r) r x ss once c (same ∙ sym d))), here)
+    let here : has_state (s ∷ []) r ≡ true = subst (λ x. has_state (s ∷ []) x ≡ true) (sym same) (one_itself s) in (
+      ap (λ b. size (b ∷ map (has_state (s ∷ [])) ss)) here
+          ∙ ap (λ n. 1 + n) (none_other s ss (λ x c d. pairs_first (λ s r. s ≢ r) r x ss once c (same ∙ sym d))),
+      here,
+    )
 one_of (r ∷ ss) (suc i) s once e =
     let rest = one_of ss i s (pairs_rest (λ s r. s ≢ r) r ss once) e in
-    let other : has_state (s ∷ []) r ≡ false = one_other s r (pairs_first (λ s r. s ≢ r) r s ss once (got_in ss i s e)) in
+    let other : has_state (s ∷ []) r ≡ false =
+    one_other s r (pairs_first (λ s r. s ≢ r) r s ss once (got_in ss i s e)) in
     (ap (λ b. size (b ∷ map (has_state (s ∷ [])) ss)) other ∙ rest.0, rest.1)
 
 not_full : (s : State) (ss : List State) → s ≢ absent → is_full (map (has_state (s ∷ [])) (absent ∷ ss)) ≡ false
@@ -105,27 +128,40 @@ space_starts q (dep o i) = dep_starts q (slice_get (owner_brings q o).dependenci
 space_starts q (feat n k f) = (_, refl)
 space_starts q (ask n v i g) = (_, refl)
 
-later_apart : (rest : List State) (i : ℕ) (s : State) → AllPairs (λ s r. s ≢ r) (absent ∷ rest) → 0 < i → slice_get (absent ∷ rest) i ≡ Some s → s ≢ absent
+later_apart : (rest : List State) (i : ℕ) (s : State) → AllPairs (λ s r. s ≢ r) (absent ∷ rest) → 0 < i
+    → slice_get (absent ∷ rest) i ≡ Some s → s ≢ absent
 later_apart rest zero s once some e same = omega (arith, some)
-later_apart rest (suc i) s once some e same = pairs_first (λ s r. s ≢ r) absent s rest once (got_in rest i s e) (sym same)
+later_apart rest (suc i) s once some e same =
+    pairs_first (λ s r. s ≢ r) absent s rest once (got_in rest i s e) (sym same)
 
-one_kept : (ss : List State) (i : ℕ) (s : State) → StartsAbsent ss → AllPairs (λ s r. s ≢ r) ss → 0 < i → slice_get ss i ≡ Some s → unless_full (Some (map (has_state (s ∷ [])) ss)) ≡ Some (map (has_state (s ∷ [])) ss)
+one_kept : (ss : List State) (i : ℕ) (s : State) → StartsAbsent ss → AllPairs (λ s r. s ≢ r) ss → 0 < i
+    → slice_get ss i ≡ Some s → unless_full (Some (map (has_state (s ∷ [])) ss)) ≡ Some (map (has_state (s ∷ [])) ss)
 one_kept ss i s starts once some e =
     let rest = starts.0 in
-    let ne = later_apart rest i s (subst (AllPairs (λ s r. s ≢ r)) starts.1 once) some (subst (λ (l : List State). slice_get l i ≡ Some s) starts.1 e) in
-    let left : is_full (map (has_state (s ∷ [])) ss) ≡ false = ap (λ (l : List State). is_full (map (has_state (s ∷ [])) l)) starts.1 ∙ not_full s rest ne in
+    let ne = later_apart rest i s (subst (AllPairs (λ s r. s ≢ r)) starts.1 once) some
+    (subst (λ (l : List State). slice_get l i ≡ Some s) starts.1 e) in
+    let left : is_full (map (has_state (s ∷ [])) ss) ≡ false =
+    ap (λ (l : List State). is_full (map (has_state (s ∷ [])) l)) starts.1 ∙ not_full s rest ne in
     ap (λ (b : Bool). if b then None else Some (map (has_state (s ∷ [])) ss)) left
 
 -- the state with a number
-pub state_is : (q : Problem) (v : Vertex) (i : ℕ) → i < length (space q v) → slice_get (space q v) i ≡ Some (state_at q v i)
+pub state_is : (q : Problem) (v : Vertex) (i : ℕ) → i < length (space q v)
+    → slice_get (space q v) i ≡ Some (state_at q v i)
 state_is q v i lt = let r = get_below (space q v) i lt in r.1 ∙ ap Some (sym (ap (λ o. unwrap_or o absent) r.1))
 
 -- an instance has at its first vertex the one state of its pair
-pub first_only : (q : Problem) (vs : Numbering) (made : List TermView) (c : Cause) (n i : ℕ) (v : Vertex) → IsCatalogue q → is_cause q c ≡ true → Says q vs made (terms_of_cause q c) → slice_get vs n ≡ Some v
-    → 0 < i → i < length (space q v) → first_pair c ≡ (v, state_at q v i) → (states : Members) × (numbered.states_at made n ≡ Some states) × IsOnly states i
+pub first_only : (q : Problem) (vs : Numbering) (made : List TermView) (c : Cause) (n i : ℕ) (v : Vertex)
+    → IsCatalogue q → is_cause q c ≡ true → Says q vs made (terms_of_cause q c) → slice_get vs n ≡ Some v
+    → 0 < i → i < length (space q v) → first_pair c ≡ (v, state_at q v i)
+    → (states : Members) × (numbered.states_at made n ≡ Some states) × IsOnly states i
 first_only q vs made c n i v catalogue t says at_n some lt first =
     let s = state_at q v i in
     let once = states_once q catalogue v in
     let here = state_is q v i lt in
-    let said : states_at (terms_of_cause q c) v ≡ Some (s ∷ []) = subst (λ (p : Pair). states_at (terms_of_cause q c) p.0 ≡ Some (p.1 ∷ [])) first (first_states q c t) in
-    (members_at q v (s ∷ []), says.each n v at_n ∙ ap (λ o. unless_full (option_map (members_at q v) o)) said ∙ one_kept (space q v) i s (space_starts q v) once some here, one_of (space q v) i s once here)
+    let said : states_at (terms_of_cause q c) v ≡ Some (s ∷ []) =
+    subst (λ (p : Pair). states_at (terms_of_cause q c) p.0 ≡ Some (p.1 ∷ [])) first (first_states q c t) in (
+      members_at q v (s ∷ []),
+      says.each n v at_n ∙ ap (λ o. unless_full (option_map (members_at q v) o)) said
+          ∙ one_kept (space q v) i s (space_starts q v) once some here,
+      one_of (space q v) i s once here,
+    )

@@ -1,6 +1,7 @@
 -- A content that is followed: its states break no instance that comes, are within the sets of vertices that come, and
 -- are what is decided.
-use Rattle.std.proofs.Common.{◌≡◌, ◌≢◌, ℕ, zero, suc, ◌-◌, ◌<◌, true, false, List, [], ◌∷◌, ◌++◌, length, map, Option, Some, None, slice_get, refl, sym, ap, ◌∙◌, subst, inl, inr, arith}
+use Rattle.std.proofs.Common.{◌≡◌, ◌≢◌, ℕ, zero, suc, ◌-◌, ◌<◌, true, false, List, [], ◌∷◌, ◌++◌, length, map, Option}
+use Rattle.std.proofs.Common.{Some, None, slice_get, refl, sym, ap, ◌∙◌, subst, inl, inr, arith}
 use Rattle.std.specs.List.{AllPairs}
 use Rattle.std.specs.Prelude.{IsSome, unwrap_or}
 use Rattle.std.proofs.lemmas.Bool.{cases_lt, false≢true}
@@ -33,7 +34,8 @@ use Rattle.searching.specs.Searching.{HasSpaces}
 use Rattle.searching.specs.Walking.{IsSelection, IsWalked, KeepsWalks}
 use Rattle.searching.specs.declared.turns.Answer.{Answer}
 use Rattle.searching.specs.declared.turns.Answer.TheVariants.{Selection, Unsolvable}
-use Rattle.guiding.specs.Guides.{CanFollow, EncodedView, Follows, GoesOn, HasBegun, HasFollowed, IsAsking, IsFollowed, as_entry, known}
+use Rattle.guiding.specs.Guides.{CanFollow, EncodedView, Follows, GoesOn, HasBegun, HasFollowed, IsAsking, IsFollowed}
+use Rattle.guiding.specs.Guides.{as_entry, known}
 use Rattle.guiding.specs.Remaining.{spaces_of}
 use Rattle.guiding.proofs.Adding.{asked_spaces, given_at, lengths_at, with_given_is}
 use Rattle.guiding.proofs.FirstTerms.{space_starts, state_is}
@@ -57,69 +59,101 @@ has_each (n ∷ came) (suc k) i lt = has_each came k i lt
 
 module _ (q : Problem) (vs : Numbering) (content : Content) (x : Assignment) (of : IsOf q vs content x) where
   -- a state of a vertex is below the size of its universe
-  of_below : (asked : List Members) (wide : TrailView) → map length asked ≡ spaces_of q (known vs asked) → HasSpaces (map length asked) wide → (u : ℕ) → u < length wide.sets → x u < space_of wide u
+  of_below : (asked : List Members) (wide : TrailView) → map length asked ≡ spaces_of q (known vs asked)
+      → HasSpaces (map length asked) wide → (u : ℕ) → u < length wide.sets → x u < space_of wide u
   of_below asked wide spaces spaced u lt =
       let r = known_at q vs asked u spaces (omega (arith, lt, spaced.vertices, length-map asked length)) in
       subst (λ n. x u < n) (sym (spaced.each u ∙ lengths_at asked u ∙ r.2)) (of u r.0 r.1).0
 
   -- vertices that come have their full sets
-  pub wider_agrees : (asked : List Members) (came : List ℕ) (t wide : TrailView) → map length asked ≡ spaces_of q (known vs asked) → HasSpaces (map length asked) wide → IsWider came t wide → Agrees x t.sets → Agrees x wide.sets
+  pub wider_agrees : (asked : List Members) (came : List ℕ) (t wide : TrailView) → map length asked ≡ spaces_of q
+      (known vs asked) → HasSpaces (map length asked) wide → IsWider came t wide → Agrees x t.sets → Agrees x wide.sets
   wider_agrees asked came t wide spaces spaced wider agrees u lt = elim (cases_lt u (length t.sets)) [
-    | inl less ↦ subst (λ s. has s (x u) ≡ true) (sym (ap (λ ss. set_of ss u) wider.sets ∙ get_or_append_left t.sets (map every came) [] u less)) (agrees u less)
+    | inl less ↦ subst (λ s. has s (x u) ≡ true)
+        (sym (ap (λ ss. set_of ss u) wider.sets ∙ get_or_append_left t.sets (map every came) [] u less)) (agrees u less)
     | inr ge ↦
-        let same : set_of wide.sets u ≡ set_of (map every came) (u - length t.sets) = ap (λ ss. set_of ss u) wider.sets ∙ get_or-append_right t.sets (map every came) (length t.sets) u [] refl ge in
-        subst (λ s. has s (x u) ≡ true) (sym same) (has_each came (u - length t.sets) (x u) (subst (λ s. x u < length s) same (of_below asked wide spaces spaced u lt)))
+        let same : set_of wide.sets u ≡ set_of (map every came) (u - length t.sets) = ap (λ ss. set_of ss u) wider.sets
+        ∙ get_or-append_right t.sets (map every came) (length t.sets) u [] refl ge in
+        subst (λ s. has s (x u) ≡ true) (sym same) (has_each came (u - length t.sets) (x u)
+        (subst (λ s. x u < length s) same (of_below asked wide spaces spaced u lt)))
   ]
 
   -- instances that come aren't broken
-  pub more_unbroken : (p : Pair) (es more : List EntryView) (given : List Given) → IsCatalogue q → IsValidSelection q content → IsGivenAt q vs p given → more ≡ es ++ map as_entry given → BreaksNone x es → BreaksNone x more
+  pub more_unbroken : (p : Pair) (es more : List EntryView) (given : List Given) → IsCatalogue q
+      → IsValidSelection q content → IsGivenAt q vs p given → more ≡ es ++ map as_entry given
+      → BreaksNone x es → BreaksNone x more
   more_unbroken p es more given known valid is entries none id within broken = elim (cases_lt id (length es)) [
     | inl less ↦
-        let same : entry more id ≡ entry es id = ap (λ (l : List EntryView). entry l id) entries ∙ get_or_append_left es (map as_entry given) no_entry id less in
+        let same : entry more id ≡ entry es id = ap (λ (l : List EntryView). entry l id) entries
+        ∙ get_or_append_left es (map as_entry given) no_entry id less in
         none id less (subst (λ (e : EntryView). Breaks x (states_at e.terms)) same broken)
     | inr ge ↦
-        let same : entry more id ≡ entry (map as_entry given) (id - length es) = ap (λ (l : List EntryView). entry l id) entries ∙ get_or-append_right es (map as_entry given) (length es) id no_entry refl ge in
-        let g = given_at q vs is.causes given (id - length es) is.given (omega (arith, within, ge, ap length entries, length-append es (map as_entry given))) in
+        let same : entry more id ≡ entry (map as_entry given) (id - length es) =
+        ap (λ (l : List EntryView). entry l id) entries
+        ∙ get_or-append_right es (map as_entry given) (length es) id no_entry refl ge in
+        let g = given_at q vs is.causes given (id - length es) is.given
+        (omega (arith, within, ge, ap length entries, length-append es (map as_entry given))) in
         let there = (is.are.listed g.cause).0 g.listed in
-        breaks_none q vs content x of (kind_of g.cause) (terms_of_cause q g.cause) (entry (map as_entry given) (id - length es)).terms known valid (cause_instance q g.cause there.0) g.says
+        breaks_none q vs content x of (kind_of g.cause) (terms_of_cause q g.cause)
+        (entry (map as_entry given) (id - length es)).terms known valid (cause_instance q g.cause there.0) g.says
         (subst (λ (e : EntryView). Breaks x (states_at e.terms)) same broken)
   ]
 
 -- ---- as a guide goes on
 
-of_before : (q : Problem) (old new : Numbering) (content : Content) (x : Assignment) → IsGrown old new → IsOf q new content x → IsOf q old content x
+of_before : (q : Problem) (old new : Numbering) (content : Content) (x : Assignment) → IsGrown old new
+    → IsOf q new content x → IsOf q old content x
 of_before q old new content x grown of n v at = of n v (still_at old new n v grown at)
 
-module _ (v i : ℕ) (old new : EncodedView) (t wide : TrailView) (es more : List EntryView) (a : IsAsking v i old new t wide es more) where
+module _ (v i : ℕ) (old new : EncodedView) (t wide : TrailView) (es more : List EntryView)
+    (a : IsAsking v i old new t wide es more) where
   follows_before : (x : Assignment) → Follows new x → Follows old x
-  follows_before x f = (f.0, sym a.follows_is ∙ f.1, subst (λ q. IsValidSelection q f.0) a.same f.2, of_before old.problem old.vertices new.vertices f.0 x a.grown (subst (λ q. IsOf q new.vertices f.0 x) a.same f.3))
+  follows_before x f = (
+    f.0,
+    sym a.follows_is ∙ f.1,
+    subst (λ q. IsValidSelection q f.0) a.same f.2,
+    of_before
+        old.problem old.vertices new.vertices f.0 x a.grown (subst (λ q. IsOf q new.vertices f.0 x) a.same f.3),
+  )
 
-  walked_on : (p : Pair) → IsGivenAt old.problem new.vertices p a.given → HasSpaces (map length new.asked) wide → (x : Assignment) → Follows new x → IsWalked x es t → IsWalked x more wide
+  walked_on : (p : Pair) → IsGivenAt old.problem new.vertices p a.given → HasSpaces (map length new.asked) wide
+      → (x : Assignment) → Follows new x → IsWalked x es t → IsWalked x more wide
   walked_on p is spaced x f walked =
       let of : IsOf old.problem new.vertices f.0 x = subst (λ q. IsOf q new.vertices f.0 x) a.same f.3 in
       let valid : IsValidSelection old.problem f.0 = subst (λ q. IsValidSelection q f.0) a.same f.2 in (
-        more_unbroken old.problem new.vertices f.0 x of p es more a.given a.catalogue valid is (a.stored ∙ with_given_is es a.given) walked.0,
+        more_unbroken old.problem new.vertices f.0 x of p es more a.given a.catalogue valid is
+            (a.stored ∙ with_given_is es a.given) walked.0,
         wider_agrees old.problem new.vertices f.0 x of new.asked a.came t wide a.spaced spaced a.wider walked.1,
       )
 
-  pub asked_walks : HasSpaces (map length old.asked) t → IsTrail es t → v < length t.sets → 0 < i → has (set_of old.asked v) i ≡ false → i < length (set_of old.asked v) → KeepsWalks (Follows old) es t (Follows new) more wide
+  pub asked_walks : HasSpaces (map length old.asked) t → IsTrail es t → v < length t.sets → 0 < i
+      → has (set_of old.asked v) i ≡ false → i < length (set_of old.asked v)
+      → KeepsWalks (Follows old) es t (Follows new) more wide
   asked_walks spaced trail low some fresh lt x f =
-      let at = known_at old.problem old.vertices old.asked v a.spaces (omega (arith, low, spaced.vertices, length-map old.asked length)) in
-      (follows_before x f, walked_on (at.0, state_at old.problem at.0 i) (a.is at.0 at.1) (asked_spaces v i old new t wide es more a spaced trail low some fresh lt) x f)
+      let at = known_at old.problem old.vertices old.asked v a.spaces
+      (omega (arith, low, spaced.vertices, length-map old.asked length)) in (
+        follows_before x f,
+        walked_on (at.0, state_at old.problem at.0 i) (a.is at.0 at.1)
+            (asked_spaces v i old new t wide es more a spaced trail low some fresh lt) x f,
+      )
 
 -- ---- what is decided
 
 -- a state has one place
-one_place : (ss : List State) (i j : ℕ) (s : State) → AllPairs (λ s r. s ≢ r) ss → slice_get ss i ≡ Some s → slice_get ss j ≡ Some s → i ≡ j
+one_place : (ss : List State) (i j : ℕ) (s : State) → AllPairs (λ s r. s ≢ r) ss → slice_get ss i ≡ Some s
+    → slice_get ss j ≡ Some s → i ≡ j
 one_place [] i j s once e f = absurd (none-some s e)
 one_place (r ∷ ss) zero zero s once e f = refl
-one_place (r ∷ ss) zero (suc j) s once e f = absurd (pairs_first (λ s r. s ≢ r) r s ss once (got_in ss j s f) (same_Some r s e))
-one_place (r ∷ ss) (suc i) zero s once e f = absurd (pairs_first (λ s r. s ≢ r) r s ss once (got_in ss i s e) (same_Some r s f))
+one_place (r ∷ ss) zero (suc j) s once e f =
+    absurd (pairs_first (λ s r. s ≢ r) r s ss once (got_in ss j s f) (same_Some r s e))
+one_place (r ∷ ss) (suc i) zero s once e f =
+    absurd (pairs_first (λ s r. s ≢ r) r s ss once (got_in ss i s e) (same_Some r s f))
 one_place (r ∷ ss) (suc i) (suc j) s once e f = ap suc (one_place ss i j s (pairs_rest (λ s r. s ≢ r) r ss once) e f)
 
 module _ (q : Problem) (v : Vertex) (known : IsCatalogue q) where
   same_place : (i j : ℕ) → i < length (space q v) → j < length (space q v) → state_at q v i ≡ state_at q v j → i ≡ j
-  same_place i j low below e = one_place (space q v) i j (state_at q v j) (states_once q known v) (state_is q v i low ∙ ap Some e) (state_is q v j below)
+  same_place i j low below e = one_place (space q v) i j (state_at q v j) (states_once q known v)
+      (state_is q v i low ∙ ap Some e) (state_is q v j below)
 
   spacious : 0 < length (space q v)
   spacious = let s = space_starts q v in subst (λ (l : List State). 0 < length l) (sym s.1) (omega arith)
@@ -129,10 +163,12 @@ module _ (q : Problem) (v : Vertex) (known : IsCatalogue q) where
 
   -- what `state_in` says of a content
   abbrev pub IsStateIn : Content → Option ℕ → Type 0
-  IsStateIn content o = (s : State) → Has q content v s → (n : ℕ) × (o ≡ Some n) × (n < length (space q v)) × (state_at q v n ≡ s)
+  IsStateIn content o =
+      (s : State) → Has q content v s → (n : ℕ) × (o ≡ Some n) × (n < length (space q v)) × (state_at q v n ≡ s)
 
   -- a state that is left, where absent isn't, has that number
-  pub place_in : (content : Content) (o : Option ℕ) (left : Members) (i : ℕ) → IsStateIn content o → i < length (space q v) → Assigns q content v (state_at q v i) → has left i ≡ true → has left 0 ≡ false → o ≡ Some i
+  pub place_in : (content : Content) (o : Option ℕ) (left : Members) (i : ℕ) → IsStateIn content o → i < length
+      (space q v) → Assigns q content v (state_at q v i) → has left i ≡ true → has left 0 ≡ false → o ≡ Some i
   place_in content o left i is low assigns here lost = elim assigns [
     | inl h ↦ let r = is (state_at q v i) h in r.1 ∙ ap Some (same_place r.0 i r.2 low r.3)
     | inr a ↦
@@ -141,23 +177,31 @@ module _ (q : Problem) (v : Vertex) (known : IsCatalogue q) where
   ]
 
   -- so it is the one that is decided, if it is left
-  pub followed_at : (follows : Option Content) (content : Content) (left : Members) (o r : Option ℕ) → follows ≡ Some content → IsStateIn content o → ((i : ℕ) → o ≡ Some i → has left i ≡ true → r ≡ Some i) → IsFollowed q follows v left r
+  pub followed_at : (follows : Option Content) (content : Content) (left : Members) (o r : Option ℕ)
+      → follows ≡ Some content → IsStateIn content o → ((i : ℕ) → o ≡ Some i → has left i ≡ true → r ≡ Some i)
+      → IsFollowed q follows v left r
   followed_at follows content left o r is state taken c i e low assigns here lost =
       let same : c ≡ content = same_Some c content (sym e ∙ is) in
-      taken i (place_in content o left i state low (subst (λ c. Assigns q c v (state_at q v i)) same assigns) here lost) here
+      taken i (place_in content o left i state low
+      (subst (λ c. Assigns q c v (state_at q v i)) same assigns) here lost) here
 
 -- a vertex with a number is decided as the content says
-pub decided_by : (g : EncodedView) (n : ℕ) (v : Vertex) (left : Members) (o : Option ℕ) → slice_get g.vertices n ≡ Some v → IsFollowed g.problem g.follows v left o → has left 0 ≡ false → (x : Assignment) → Follows g x → has left (x n) ≡ true → o ≡ Some (x n)
+pub decided_by : (g : EncodedView) (n : ℕ) (v : Vertex) (left : Members) (o : Option ℕ)
+    → slice_get g.vertices n ≡ Some v → IsFollowed g.problem g.follows v left o → has left 0 ≡ false → (x : Assignment)
+    → Follows g x → has left (x n) ≡ true → o ≡ Some (x n)
 decided_by g n v left o at followed lost x f here = let of = f.3 n v at in followed f.0 (x n) f.1 of.0 of.1 here lost
 
 -- ---- at the end
 
-pub selects_by : (q : Problem) (vs : Numbering) (content : Content) (a : Answer) → IsValidSelection q content → ((x : Assignment) → IsOf q vs content x → IsSelection a) → IsSelection a
+pub selects_by : (q : Problem) (vs : Numbering) (content : Content) (a : Answer) → IsValidSelection q content
+    → ((x : Assignment) → IsOf q vs content x → IsSelection a) → IsSelection a
 selects_by q vs content Selection valid each = tt
 selects_by q vs content (Unsolvable id) valid each = has_assignment q vs content valid each
 
-pub followed_by : (q : Problem) (follows : Option Content) (old g : EncodedView) (t0 t : TrailView) (es0 es : List EntryView) (a : Answer) → HasBegun q follows old t0 es0 → GoesOn old g
-    → ((x : Assignment) → Follows g x → Follows old x × (IsWalked x es0 t0 → IsWalked x es t)) → ((x : Assignment) → Follows g x → IsWalked x es0 t0 → IsSelection a) → HasFollowed g t a
+pub followed_by : (q : Problem) (follows : Option Content) (old g : EncodedView) (t0 t : TrailView)
+    (es0 es : List EntryView) (a : Answer) → HasBegun q follows old t0 es0 → GoesOn old g
+    → ((x : Assignment) → Follows g x → Follows old x × (IsWalked x es0 t0 → IsWalked x es t))
+    → ((x : Assignment) → Follows g x → IsWalked x es0 t0 → IsSelection a) → HasFollowed g t a
 followed_by q follows old g t0 t es0 es a begun goes keeps selects = record {
   selects = selected g.follows refl;
   agrees = λ x f. let k = keeps x f in (k.1 (begun.walked x k.0)).1;
@@ -166,5 +210,8 @@ followed_by q follows old g t0 t es0 es a begun goes keeps selects = record {
     selected : (o : Option Content) → g.follows ≡ o → IsSome o → IsSelection a
     selected None e some = absurd (false≢true some)
     selected (Some content) e some =
-        let valid : IsValidSelection g.problem content = subst (CanFollow g.problem) e (subst (λ p. CanFollow p g.follows) (sym goes.problem) (subst (CanFollow old.problem) (sym goes.follows_is) begun.can_follow)) in
-        selects_by g.problem g.vertices content a valid (λ x of. let f : Follows g x = (content, e, valid, of) in selects x f (begun.walked x (keeps x f).0))
+        let valid : IsValidSelection g.problem content =
+        subst (CanFollow g.problem) e (subst (λ p. CanFollow p g.follows) (sym goes.problem)
+        (subst (CanFollow old.problem) (sym goes.follows_is) begun.can_follow)) in
+        selects_by g.problem g.vertices content a valid
+        (λ x of. let f : Follows g x = (content, e, valid, of) in selects x f (begun.walked x (keeps x f).0))

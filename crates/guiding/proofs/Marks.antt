@@ -1,7 +1,9 @@
 -- Which pairs were asked for once one more is marked, and vertices have come that weren't.
-use Rattle.std.proofs.Common.{◌≡◌, ◌≢◌, ℕ, zero, suc, ◌<◌, ◌≤◌, ◌||◌, Bool, true, false, List, [], ◌∷◌, ◌++◌, length, map, set, refl, sym, ap, ap₂, ◌∙◌, subst, inl, inr, ◌⊎◌, arith}
+use Rattle.std.proofs.Common.{◌≡◌, ◌≢◌, ℕ, zero, suc, ◌<◌, ◌≤◌, ◌||◌, Bool, true, false, List, [], ◌∷◌, ◌++◌, length}
+use Rattle.std.proofs.Common.{map, set, refl, sym, ap, ap₂, ◌∙◌, subst, inl, inr, ◌⊎◌, arith}
 use Rattle.std.proofs.lemmas.Bool.{cases_eq, cases_lt, false≢true}
-use Rattle.std.proofs.lemmas.List.{get_or-append_right, get_or-set_other, get_or-set_same, get_or_append_left, length-append, length-replicate, length-set}
+use Rattle.std.proofs.lemmas.List.{get_or-append_right, get_or-set_other, get_or-set_same, get_or_append_left}
+use Rattle.std.proofs.lemmas.List.{length-append, length-replicate, length-set}
 use Rattle.version_sets.specs.Sets.{Members, has, join, none, only}
 use Rattle.propagation.specs.Trails.{set_of}
 use Rattle.guiding.specs.Guides.{marked}
@@ -69,15 +71,18 @@ pub lengths_none : (ns : List ℕ) → map length (map none ns) ≡ ns
 lengths_none [] = refl
 lengths_none (n ∷ ns) = ap₂ (λ m l. m ∷ l) (length-replicate n false) (lengths_none ns)
 
-lengths_set : (xs : List Members) (v : ℕ) (x : Members) → length x ≡ length (set_of xs v) → map length (set xs v x) ≡ map length xs
+lengths_set : (xs : List Members) (v : ℕ) (x : Members) → length x ≡ length (set_of xs v)
+    → map length (set xs v x) ≡ map length xs
 lengths_set [] v x e = refl
 lengths_set (y ∷ xs) zero x e = ap (λ n. n ∷ map length xs) e
 lengths_set (y ∷ xs) (suc v) x e = ap (λ l. length y ∷ l) (lengths_set xs v x e)
 
 pub mark_lengths : (asked : List Members) (v i : ℕ) → map length (marked asked v i) ≡ map length asked
-mark_lengths asked v i = lengths_set asked v _ (join_long (set_of asked v) (only (length (set_of asked v)) i) (sym (only_long (length (set_of asked v)) i)))
+mark_lengths asked v i = lengths_set asked v _
+    (join_long (set_of asked v) (only (length (set_of asked v)) i) (sym (only_long (length (set_of asked v)) i)))
 
-module _ (asked : List Members) (came : List ℕ) (v i : ℕ) (low : v < length asked) (lt : i < length (set_of asked v)) where
+module _ (asked : List Members) (came : List ℕ) (v i : ℕ) (low : v < length asked)
+    (lt : i < length (set_of asked v)) where
   wide : List Members
   wide = asked ++ map none came
 
@@ -119,31 +124,42 @@ module _ (asked : List Members) (came : List ℕ) (v i : ℕ) (low : v < length 
       past (x ∷ xs) zero le = absurd (omega (arith, le))
       past (x ∷ xs) (suc k) le = past xs k (omega (arith, le))
 
-  pub marked_more : (u j : ℕ) → has (set_of asked u) j ≡ true → has (set_of (marked (asked ++ map none came) v i) u) j ≡ true
+  pub marked_more : (u j : ℕ) → has (set_of asked u) j ≡ true
+      → has (set_of (marked (asked ++ map none came) v i) u) j ≡ true
   unfolding wide
   marked_more u j h = elim (cases_eq u v) [
     | inl e ↦ subst (λ w. has (set_of (marked (asked ++ map none came) v i) w) j ≡ true) (sym e)
-        (subst (λ s. has s j ≡ true) (sym at_it) (join_left (set_of wide v) (only (length (set_of wide v)) i) j fits (subst (λ w. has (set_of (asked ++ map none came) w) j ≡ true) e (wide_has u j h))))
+        (subst (λ s. has s j ≡ true) (sym at_it) (join_left (set_of wide v) (only (length (set_of wide v)) i) j fits
+        (subst (λ w. has (set_of (asked ++ map none came) w) j ≡ true) e (wide_has u j h))))
     | inr ne ↦ subst (λ s. has s j ≡ true) (sym (at_other u ne)) (wide_has u j h)
   ]
 
   pub marked_now : has (set_of (marked (asked ++ map none came) v i) v) i ≡ true
   unfolding wide
-  marked_now = subst (λ s. has s i ≡ true) (sym at_it) (join_right (set_of wide v) (only (length (set_of wide v)) i) i fits (only_has (length (set_of wide v)) i (subst (λ (s : Members). i < length s) (sym here) lt)))
+  marked_now =
+      subst (λ s. has s i ≡ true) (sym at_it) (join_right (set_of wide v) (only (length (set_of wide v)) i) i fits
+      (only_has (length (set_of wide v)) i (subst (λ (s : Members). i < length s) (sym here) lt)))
 
   -- what is asked for afterwards is the pair, or was so
-  pub marked_either : (u j : ℕ) → has (set_of (marked (asked ++ map none came) v i) u) j ≡ true → ((u ≡ v) × (j ≡ i)) ⊎ ((u < length asked) × (has (set_of asked u) j ≡ true))
+  pub marked_either : (u j : ℕ) → has (set_of (marked (asked ++ map none came) v i) u) j ≡ true
+      → ((u ≡ v) × (j ≡ i)) ⊎ ((u < length asked) × (has (set_of asked u) j ≡ true))
   unfolding wide
   marked_either u j h = elim (cases_eq u v) [
-    | inl e ↦ elim (join_either (set_of wide v) (only (length (set_of wide v)) i) j (subst (λ s. has s j ≡ true) at_it (subst (λ w. has (set_of (marked (asked ++ map none came) v i) w) j ≡ true) e h))) [
-      | inl was ↦ inr (subst (λ w. w < length asked) (sym e) low, subst (λ w. has (set_of asked w) j ≡ true) (sym e) (subst (λ s. has s j ≡ true) here was))
-      | inr now ↦ inl (e, only_is (length (set_of wide v)) i j now)
-    ]
+    | inl e ↦ elim (join_either (set_of wide v) (only (length (set_of wide v)) i) j (subst (λ s. has s j ≡ true) at_it
+        (subst (λ w. has (set_of (marked (asked ++ map none came) v i) w) j ≡ true) e h))) [
+          | inl was ↦ inr (
+            subst (λ w. w < length asked) (sym e) low,
+            subst (λ w. has (set_of asked w) j ≡ true) (sym e) (subst (λ s. has s j ≡ true) here was),
+          )
+          | inr now ↦ inl (e, only_is (length (set_of wide v)) i j now)
+        ]
     | inr ne ↦ before (subst (λ s. has s j ≡ true) (at_other u ne) h)
   ]
     where
-      before : has (set_of (asked ++ map none came) u) j ≡ true → ((u ≡ v) × (j ≡ i)) ⊎ ((u < length asked) × (has (set_of asked u) j ≡ true))
+      before : has (set_of (asked ++ map none came) u) j ≡ true
+          → ((u ≡ v) × (j ≡ i)) ⊎ ((u < length asked) × (has (set_of asked u) j ≡ true))
       before k = elim (cases_lt u (length asked)) [
         | inl less ↦ inr (less, subst (λ s. has s j ≡ true) (get_or_append_left asked (map none came) [] u less) k)
-        | inr ge ↦ absurd (false≢true (sym (ap (λ s. has s j) (get_or-append_right asked (map none came) (length asked) u [] refl ge) ∙ past_none came _ j) ∙ k))
+        | inr ge ↦ absurd (false≢true (sym (ap (λ s. has s j)
+            (get_or-append_right asked (map none came) (length asked) u [] refl ge) ∙ past_none came _ j) ∙ k))
       ]

@@ -1,5 +1,6 @@
 -- Vertices and states at numbers, as vertices get numbers and come onto the trail.
-use Rattle.std.proofs.Common.{◌≡◌, ◌≢◌, ℕ, zero, suc, ◌+◌, ◌<◌, ◌≤◌, true, List, [], ◌∷◌, ◌++◌, length, map, take, drop, get_or, append_assoc, Option, Some, None, slice_get, refl, sym, ap, ◌∙◌, subst, arith}
+use Rattle.std.proofs.Common.{◌≡◌, ◌≢◌, ℕ, zero, suc, ◌+◌, ◌<◌, ◌≤◌, true, List, [], ◌∷◌, ◌++◌, length, map, take, drop}
+use Rattle.std.proofs.Common.{get_or, append_assoc, Option, Some, None, slice_get, refl, sym, ap, ◌∙◌, subst, arith}
 use Rattle.std.specs.List.{AllPairs, AllByRecursion}
 use Rattle.std.proofs.lemmas.Bool.{false≢true}
 use Rattle.std.proofs.lemmas.List.{length-map}
@@ -29,7 +30,8 @@ take_most zero (x ∷ xs) le = absurd (omega (arith, le))
 take_most (suc k) [] le = refl
 take_most (suc k) (x ∷ xs) le = ap (λ l. x ∷ l) (take_most k xs (omega (arith, le)))
 
-taken_at : {A : Type 0} (k : ℕ) (xs : List A) (n : ℕ) (x : A) → slice_get (take k xs) n ≡ Some x → slice_get xs n ≡ Some x
+taken_at : {A : Type 0} (k : ℕ) (xs : List A) (n : ℕ) (x : A) → slice_get (take k xs) n ≡ Some x
+    → slice_get xs n ≡ Some x
 taken_at zero xs n x e = absurd (none-some x e)
 taken_at (suc k) [] n x e = e
 taken_at (suc k) (y ∷ xs) zero x e = e
@@ -53,44 +55,66 @@ short (suc k) (x ∷ xs) = let r = short k xs in omega (arith, r)
 
 module _ (q : Problem) where
   -- the trail has no more vertices than have numbers
-  pub known_most : (vs : Numbering) (asked : List Members) → map length asked ≡ spaces_of q (known vs asked) → length asked ≤ length vs
-  known_most vs asked e = omega (arith, ap length e, length-map asked length, length-map (known vs asked) (λ w. length (space q w)), short (length asked) vs)
+  pub known_most : (vs : Numbering) (asked : List Members) → map length asked ≡ spaces_of q (known vs asked)
+      → length asked ≤ length vs
+  known_most vs asked e = omega (
+    arith,
+    ap length e,
+    length-map asked length,
+    length-map (known vs asked) (λ w. length (space q w)),
+    short (length asked) vs,
+  )
 
-  space_at : (vs : Numbering) (asked : List Members) (n : ℕ) → map length asked ≡ spaces_of q vs → n < length asked → (w : Vertex) × (slice_get vs n ≡ Some w) × (length (set_of asked n) ≡ length (space q w))
+  space_at : (vs : Numbering) (asked : List Members) (n : ℕ) → map length asked ≡ spaces_of q vs → n < length asked
+      → (w : Vertex) × (slice_get vs n ≡ Some w) × (length (set_of asked n) ≡ length (space q w))
   space_at vs [] n e lt = absurd (omega (arith, lt))
-  space_at [] (s ∷ asked) n e lt = absurd (let k : suc (length (map length asked)) ≡ 0 = ap length e in omega (arith, k))
+  space_at [] (s ∷ asked) n e lt =
+      absurd (let k : suc (length (map length asked)) ≡ 0 = ap length e in omega (arith, k))
   space_at (w ∷ vs) (s ∷ asked) zero e lt = (w, refl, first_is _ _ _ _ e)
   space_at (w ∷ vs) (s ∷ asked) (suc n) e lt = space_at vs asked n (rest_is _ _ _ _ e) (omega (arith, lt))
 
   -- a vertex that the trail has, and how many states it has
-  pub known_at : (vs : Numbering) (asked : List Members) (n : ℕ) → map length asked ≡ spaces_of q (known vs asked) → n < length asked → (w : Vertex) × (slice_get vs n ≡ Some w) × (length (set_of asked n) ≡ length (space q w))
-  known_at vs asked n e lt = let r = space_at (known vs asked) asked n e lt in (r.0, taken_at (length asked) vs n r.0 r.1, r.2)
+  pub known_at : (vs : Numbering) (asked : List Members) (n : ℕ) → map length asked ≡ spaces_of q (known vs asked)
+      → n < length asked → (w : Vertex) × (slice_get vs n ≡ Some w) × (length (set_of asked n) ≡ length (space q w))
+  known_at vs asked n e lt = let r =
+      space_at (known vs asked) asked n e lt in (r.0, taken_at (length asked) vs n r.0 r.1, r.2)
 
   pub there_at : (vs : Numbering) (n : ℕ) (w : Vertex) → IsNumbering q vs → slice_get vs n ≡ Some w → IsVertex q w
   there_at vs n w ok e = each_at (λ v. IsVertex q v) vs w ok.there (got_in vs n w e)
 
-  all_last : (xs ys : List Vertex) → AllByRecursion (λ v. IsVertex q v) (xs ++ ys) → AllByRecursion (λ v. IsVertex q v) ys
+  all_last : (xs ys : List Vertex) → AllByRecursion (λ v. IsVertex q v) (xs ++ ys)
+      → AllByRecursion (λ v. IsVertex q v) ys
   all_last [] ys h = h
   all_last (x ∷ xs) ys h = all_last xs ys h.1
 
   -- where all that have numbers come onto the trail, what was late comes
-  pub late_comes : (old new : Numbering) (asked more : List Members) (came : List ℕ) → IsGrown old new → IsNumbering q new → map length asked ≡ spaces_of q (known old asked) → map length more ≡ spaces_of q (known new more) → length new ≤ length more
-      → map length more ≡ map length asked ++ came → sum_of came + late_of q (known new more) ≡ late_of q (known old asked)
+  pub late_comes : (old new : Numbering) (asked more : List Members) (came : List ℕ) → IsGrown old new
+      → IsNumbering q new → map length asked ≡ spaces_of q (known old asked)
+      → map length more ≡ spaces_of q (known new more) → length new ≤ length more
+      → map length more ≡ map length asked ++ came
+      → sum_of came + late_of q (known new more) ≡ late_of q (known old asked)
   late_comes old new asked more came grown ok was now whole lengths =
       let rest : List Vertex = drop (length asked) old ++ grown.0 in
       let all : known new more ≡ new = take_most (length more) new whole in
-      let parts : new ≡ known old asked ++ rest = grown.1 ∙ ap (λ l. l ++ grown.0) (sym (take_drop (length asked) old)) ∙ append_assoc (known old asked) (drop (length asked) old) grown.0 in
-      let spaced : map length asked ++ came ≡ spaces_of q (known old asked) ++ spaces_of q rest = sym lengths ∙ now ∙ ap (spaces_of q) (all ∙ parts) ∙ map_append (λ v. length (space q v)) (known old asked) rest in
-      let same : came ≡ spaces_of q rest = front_off (map length asked) came (spaces_of q (known old asked)) (spaces_of q rest) was spaced in
+      let parts : new ≡ known old asked ++ rest = grown.1 ∙ ap (λ l. l ++ grown.0) (sym (take_drop (length asked) old))
+      ∙ append_assoc (known old asked) (drop (length asked) old) grown.0 in
+      let spaced : map length asked ++ came ≡ spaces_of q (known old asked) ++ spaces_of q rest = sym lengths ∙ now
+      ∙ ap (spaces_of q) (all ∙ parts) ∙ map_append (λ v. length (space q v)) (known old asked) rest in
+      let same : came ≡ spaces_of q rest =
+      front_off (map length asked) came (spaces_of q (known old asked)) (spaces_of q rest) was spaced in
       let sum : sum_of (spaces_of q rest) + late_of q (known old asked ++ rest) ≡ late_of q (known old asked) =
-      late_grown q (known old asked) rest (subst (AllPairs (λ v w. v ≢ w)) parts ok.once) (all_last (known old asked) rest (subst (AllByRecursion (λ v. IsVertex q v)) parts ok.there)) in
-      ap (λ l. sum_of l + late_of q (known new more)) same ∙ ap (λ l. sum_of (spaces_of q rest) + late_of q l) (all ∙ parts) ∙ sum
+      late_grown q (known old asked) rest (subst (AllPairs (λ v w. v ≢ w)) parts ok.once)
+      (all_last (known old asked) rest (subst (AllByRecursion (λ v. IsVertex q v)) parts ok.there)) in
+      ap (λ l. sum_of l + late_of q (known new more)) same
+      ∙ ap (λ l. sum_of (spaces_of q rest) + late_of q l) (all ∙ parts) ∙ sum
 
   -- a number stays
-  number_stays : (old new : Numbering) (v : Vertex) (n : ℕ) → IsGrown old new → IsNumbering q new → number_in old v ≡ Some n → number_in new v ≡ Some n
+  number_stays : (old new : Numbering) (v : Vertex) (n : ℕ) → IsGrown old new → IsNumbering q new
+      → number_in old v ≡ Some n → number_in new v ≡ Some n
   number_stays old new v n grown ok e = number_of new v n ok.once (still_at old new n v grown (number_at old v n e))
 
-  pub asked_stays : (old new : Numbering) (asked more : List Members) → IsGrown old new → IsNumbering q new → ((n i : ℕ) → has (set_of asked n) i ≡ true → has (set_of more n) i ≡ true)
+  pub asked_stays : (old new : Numbering) (asked more : List Members) → IsGrown old new → IsNumbering q new
+      → ((n i : ℕ) → has (set_of asked n) i ≡ true → has (set_of more n) i ≡ true)
       → (v : Vertex) (i : ℕ) → asked_at old asked v i ≡ true → asked_at new more v i ≡ true
   asked_stays old new asked more grown ok stays v i h = by (number_in old v) refl h
     where
@@ -98,5 +122,6 @@ module _ (q : Problem) where
       by None e h = absurd (false≢true h)
       by (Some n) e h = ap (asked_if more i) (number_stays old new v n grown ok e) ∙ stays n i h
 
-  pub asked_is : (vs : Numbering) (asked : List Members) (v : Vertex) (n i : ℕ) → IsNumbering q vs → slice_get vs n ≡ Some v → asked_at vs asked v i ≡ has (set_of asked n) i
+  pub asked_is : (vs : Numbering) (asked : List Members) (v : Vertex) (n i : ℕ) → IsNumbering q vs
+      → slice_get vs n ≡ Some v → asked_at vs asked v i ≡ has (set_of asked n) i
   asked_is vs asked v n i ok e = ap (asked_if asked i) (number_of vs v n ok.once e)

@@ -1,5 +1,7 @@
 -- What is left of a problem's vertices, as some of them get numbers, and of their pairs, as some are asked for.
-use Rattle.std.proofs.Common.{◌≡◌, ◌≢◌, ℕ, zero, suc, ◌+◌, ◌<◌, ◌≤◌, List, [], ◌∷◌, ◌++◌, length, Bool, true, false, if◌then◌else◌, ◌||◌, Contains, refl, sym, ap, ap₂, ◌∙◌, subst, inl, inr, ◌⊎◌, arith, true≢false, append_assoc}
+use Rattle.std.proofs.Common.{◌≡◌, ◌≢◌, ℕ, zero, suc, ◌+◌, ◌<◌, ◌≤◌, List, [], ◌∷◌, ◌++◌, length, Bool, true, false}
+use Rattle.std.proofs.Common.{if◌then◌else◌, ◌||◌, Contains, refl, sym, ap, ap₂, ◌∙◌, subst, inl, inr, ◌⊎◌, arith}
+use Rattle.std.proofs.Common.{true≢false, append_assoc}
 use Rattle.std.specs.List.{list_any, AllPairs, AllByRecursion}
 use Rattle.std.proofs.lemmas.Bool.{cases_eq}
 use Rattle.model.specs.Content.{Problem}
@@ -14,7 +16,8 @@ use Rattle.guiding.proofs.Everything.{all_listed, listed_apart}
 
 -- ---- vertices get numbers
 
-any_last : (vs : List Vertex) (v w : Vertex) → list_any (same_vertex w) (vs ++ v ∷ []) ≡ (list_any (same_vertex w) vs || same_vertex w v)
+any_last : (vs : List Vertex) (v w : Vertex)
+    → list_any (same_vertex w) (vs ++ v ∷ []) ≡ (list_any (same_vertex w) vs || same_vertex w v)
 any_last [] v w = by (same_vertex w v)
   where
     by : (b : Bool) → (b || false) ≡ (false || b)
@@ -49,31 +52,44 @@ none_more (x ∷ xs) = ap (λ ys. x ∷ ys) (none_more xs)
 
 module _ (q : Problem) where
   -- one that isn't among the others changes nothing of them
-  late_other : (vs : List Vertex) (v : Vertex) (all : List Vertex) → (Contains all v → ⊥) → late_in q vs all ≡ late_in q (vs ++ v ∷ []) all
+  late_other : (vs : List Vertex) (v : Vertex) (all : List Vertex) → (Contains all v → ⊥)
+      → late_in q vs all ≡ late_in q (vs ++ v ∷ []) all
   late_other vs v [] gone = refl
   late_other vs v (w ∷ all) gone =
-      let other : same_vertex w v ≡ false = vertex-other w v (λ e. gone (subst (Contains (w ∷ all)) e (in_first w all))) in
-      ap₂ (λ (b : Bool) n. (if b then 0 else length (space q w)) + n) (sym (any_last vs v w ∙ unless (list_any (same_vertex w) vs) (same_vertex w v) other)) (late_other vs v all (λ c. gone (in_rest w v all c)))
+      let other : same_vertex w v ≡ false =
+      vertex-other w v (λ e. gone (subst (Contains (w ∷ all)) e (in_first w all))) in
+      ap₂ (λ (b : Bool) n. (if b then 0 else length (space q w)) + n)
+      (sym (any_last vs v w ∙ unless (list_any (same_vertex w) vs) (same_vertex w v) other))
+      (late_other vs v all (λ c. gone (in_rest w v all c)))
 
-  late_first : (vs : List Vertex) (v w : Vertex) (all : List Vertex) → AllPairs (λ v w. v ≢ w) (w ∷ all) → list_any (same_vertex v) vs ≡ false → w ≡ v
+  late_first : (vs : List Vertex) (v w : Vertex) (all : List Vertex) → AllPairs (λ v w. v ≢ w) (w ∷ all)
+      → list_any (same_vertex v) vs ≡ false → w ≡ v
       → late_in q vs (w ∷ all) ≡ length (space q v) + late_in q (vs ++ v ∷ []) (w ∷ all)
   late_first vs v w all apart new e =
       let was : list_any (same_vertex w) vs ≡ false = subst (λ x. list_any (same_vertex x) vs ≡ false) (sym e) new in
-      let now : list_any (same_vertex w) (vs ++ v ∷ []) ≡ true = any_last vs v w ∙ ap (λ b. b || same_vertex w v) was ∙ subst (λ x. same_vertex w x ≡ true) e (vertex-refl w) in
-      let before : (if list_any (same_vertex w) vs then 0 else length (space q w)) ≡ length (space q v) = ap (λ (b : Bool). if b then 0 else length (space q w)) was ∙ ap (λ x. length (space q x)) e in
-      let after : (if list_any (same_vertex w) (vs ++ v ∷ []) then 0 else length (space q w)) ≡ 0 = ap (λ (b : Bool). if b then 0 else length (space q w)) now in
+      let now : list_any (same_vertex w) (vs ++ v ∷ []) ≡ true = any_last vs v w ∙ ap (λ b. b || same_vertex w v) was
+      ∙ subst (λ x. same_vertex w x ≡ true) e (vertex-refl w) in
+      let before : (if list_any (same_vertex w) vs then 0 else length (space q w)) ≡ length (space q v) =
+      ap (λ (b : Bool). if b then 0 else length (space q w)) was ∙ ap (λ x. length (space q x)) e in
+      let after : (if list_any (same_vertex w) (vs ++ v ∷ []) then 0 else length (space q w)) ≡ 0 =
+      ap (λ (b : Bool). if b then 0 else length (space q w)) now in
       let rest = late_other vs v all (λ d. pairs_first (λ v w. v ≢ w) w v all apart d e) in
       omega (arith, before, after, rest)
 
-  late_rest : (vs : List Vertex) (v w : Vertex) (all : List Vertex) → w ≢ v → late_in q vs all ≡ length (space q v) + late_in q (vs ++ v ∷ []) all
+  late_rest : (vs : List Vertex) (v w : Vertex) (all : List Vertex) → w ≢ v
+      → late_in q vs all ≡ length (space q v) + late_in q (vs ++ v ∷ []) all
       → late_in q vs (w ∷ all) ≡ length (space q v) + late_in q (vs ++ v ∷ []) (w ∷ all)
   late_rest vs v w all ne rest =
-      let same : list_any (same_vertex w) (vs ++ v ∷ []) ≡ list_any (same_vertex w) vs = any_last vs v w ∙ unless (list_any (same_vertex w) vs) (same_vertex w v) (vertex-other w v ne) in
+      let same : list_any (same_vertex w) (vs ++ v ∷ []) ≡ list_any (same_vertex w) vs =
+      any_last vs v w ∙ unless (list_any (same_vertex w) vs) (same_vertex w v) (vertex-other w v ne) in
       let n : ℕ = if list_any (same_vertex w) vs then 0 else length (space q w) in
-      let moved : n + (length (space q v) + late_in q (vs ++ v ∷ []) all) ≡ length (space q v) + (n + late_in q (vs ++ v ∷ []) all) = omega arith in
-      ap (λ m. n + m) rest ∙ moved ∙ sym (ap (λ (b : Bool). length (space q v) + ((if b then 0 else length (space q w)) + late_in q (vs ++ v ∷ []) all)) same)
+      let moved : n + (length (space q v) + late_in q (vs ++ v ∷ []) all)
+      ≡ length (space q v) + (n + late_in q (vs ++ v ∷ []) all) = omega arith in
+      ap (λ m. n + m) rest ∙ moved ∙ sym (ap (λ (b : Bool). length (space q v)
+      + ((if b then 0 else length (space q w)) + late_in q (vs ++ v ∷ []) all)) same)
 
-  late_one : (vs : List Vertex) (v : Vertex) (all : List Vertex) → AllPairs (λ v w. v ≢ w) all → Contains all v → list_any (same_vertex v) vs ≡ false
+  late_one : (vs : List Vertex) (v : Vertex) (all : List Vertex) → AllPairs (λ v w. v ≢ w) all → Contains all v
+      → list_any (same_vertex v) vs ≡ false
       → late_in q vs all ≡ length (space q v) + late_in q (vs ++ v ∷ []) all
   late_one vs v [] apart c new = absurd (in_none v c)
   late_one vs v (w ∷ all) apart c new = elim (apart_or w v) [
@@ -84,19 +100,24 @@ module _ (q : Problem) where
     ]
   ]
 
-  not_before : (vs : List Vertex) (v : Vertex) (more : List Vertex) → AllPairs (λ v w. v ≢ w) (vs ++ v ∷ more) → list_any (same_vertex v) vs ≡ false
+  not_before : (vs : List Vertex) (v : Vertex) (more : List Vertex) → AllPairs (λ v w. v ≢ w) (vs ++ v ∷ more)
+      → list_any (same_vertex v) vs ≡ false
   not_before [] v more apart = refl
-  not_before (w ∷ vs) v more apart = ap (λ b. b || list_any (same_vertex v) vs) (vertex-other v w (λ e. pairs_first (λ v w. v ≢ w) w v (vs ++ v ∷ more) apart (in_append vs v more) (sym e)))
+  not_before (w ∷ vs) v more apart = ap (λ b. b || list_any (same_vertex v) vs)
+      (vertex-other v w (λ e. pairs_first (λ v w. v ≢ w) w v (vs ++ v ∷ more) apart (in_append vs v more) (sym e)))
       ∙ not_before vs v more (pairs_rest (λ v w. v ≢ w) w (vs ++ v ∷ more) apart)
 
   -- where vertices get numbers, their states are no longer late
-  pub late_grown : (vs more : List Vertex) → AllPairs (λ v w. v ≢ w) (vs ++ more) → AllByRecursion (λ v. IsVertex q v) more → sum_of (spaces_of q more) + late_of q (vs ++ more) ≡ late_of q vs
-  late_grown vs [] apart are = let e : late_of q (vs ++ []) ≡ late_of q vs = ap (late_of q) (none_more vs) in omega (arith, e)
+  pub late_grown : (vs more : List Vertex) → AllPairs (λ v w. v ≢ w) (vs ++ more)
+      → AllByRecursion (λ v. IsVertex q v) more → sum_of (spaces_of q more) + late_of q (vs ++ more) ≡ late_of q vs
+  late_grown vs [] apart are = let e : late_of q (vs ++ []) ≡ late_of q vs =
+      ap (late_of q) (none_more vs) in omega (arith, e)
   late_grown vs (v ∷ more) apart are =
       let one = late_one vs v (vertices q) (listed_apart q) (all_listed q v are.0) (not_before vs v more apart) in
       let same : (vs ++ v ∷ []) ++ more ≡ vs ++ v ∷ more = append_assoc vs (v ∷ []) more in
       let rest : sum_of (spaces_of q more) + late_of q (vs ++ v ∷ more) ≡ late_of q (vs ++ v ∷ []) =
-      subst (λ ws. sum_of (spaces_of q more) + late_of q ws ≡ late_of q (vs ++ v ∷ [])) same (late_grown (vs ++ v ∷ []) more (subst (AllPairs (λ v w. v ≢ w)) (sym same) apart) are.1) in
+      subst (λ ws. sum_of (spaces_of q more) + late_of q ws ≡ late_of q (vs ++ v ∷ [])) same
+      (late_grown (vs ++ v ∷ []) more (subst (AllPairs (λ v w. v ≢ w)) (sym same) apart) are.1) in
       omega (arith, one, rest)
 
   -- ---- pairs are asked for
@@ -112,11 +133,14 @@ module _ (q : Problem) where
   one_le false true h = omega arith
   one_le false false h = omega arith
 
-  below_le : (n : ℕ) (asked more : ℕ → Bool) → ((s : ℕ) → asked s ≡ true → more s ≡ true) → open_below n more ≤ open_below n asked
+  below_le : (n : ℕ) (asked more : ℕ → Bool) → ((s : ℕ) → asked s ≡ true → more s ≡ true)
+      → open_below n more ≤ open_below n asked
   below_le zero asked more h = omega arith
-  below_le (suc n) asked more h = let a = below_le n asked more h in let b = one_le (asked n) (more n) (h n) in omega (arith, a, b)
+  below_le (suc n) asked more h = let a = below_le n asked more h in let b =
+      one_le (asked n) (more n) (h n) in omega (arith, a, b)
 
-  below_lt : (n : ℕ) (asked more : ℕ → Bool) (s : ℕ) → ((s : ℕ) → asked s ≡ true → more s ≡ true) → s < n → asked s ≡ false → more s ≡ true → open_below n more < open_below n asked
+  below_lt : (n : ℕ) (asked more : ℕ → Bool) (s : ℕ) → ((s : ℕ) → asked s ≡ true → more s ≡ true) → s < n
+      → asked s ≡ false → more s ≡ true → open_below n more < open_below n asked
   below_lt zero asked more s h lt was is = absurd (omega (arith, lt))
   below_lt (suc n) asked more s h lt was is = elim (cases_eq s n) [
     | inl e ↦
@@ -124,26 +148,34 @@ module _ (q : Problem) where
         let x : one (asked n) ≡ 1 = ap one (subst (λ k. asked k ≡ false) e was) in
         let y : one (more n) ≡ 0 = ap one (subst (λ k. more k ≡ true) e is) in
         omega (arith, a, x, y)
-    | inr ne ↦ let a = below_lt n asked more s h (omega (arith, lt, ne)) was is in let b = one_le (asked n) (more n) (h n) in omega (arith, a, b)
+    | inr ne ↦ let a = below_lt n asked more s h (omega (arith, lt, ne)) was is in let b =
+        one_le (asked n) (more n) (h n) in omega (arith, a, b)
   ]
 
-  in_le : (asked more : Vertex → ℕ → Bool) (all : List Vertex) → AreMore asked more → open_in q more all ≤ open_in q asked all
+  in_le : (asked more : Vertex → ℕ → Bool) (all : List Vertex) → AreMore asked more
+      → open_in q more all ≤ open_in q asked all
   in_le asked more [] h = omega arith
-  in_le asked more (v ∷ all) h = let a = below_le (length (space q v)) (asked v) (more v) (h v) in let b = in_le asked more all h in omega (arith, a, b)
+  in_le asked more (v ∷ all) h = let a = below_le (length (space q v)) (asked v) (more v) (h v) in let b =
+      in_le asked more all h in omega (arith, a, b)
 
-  in_lt : (asked more : Vertex → ℕ → Bool) (all : List Vertex) (v : Vertex) (s : ℕ) → AreMore asked more → Contains all v → s < length (space q v) → asked v s ≡ false → more v s ≡ true
+  in_lt : (asked more : Vertex → ℕ → Bool) (all : List Vertex) (v : Vertex) (s : ℕ) → AreMore asked more
+      → Contains all v → s < length (space q v) → asked v s ≡ false → more v s ≡ true
       → open_in q more all < open_in q asked all
   in_lt asked more [] v s h c lt was is = absurd (in_none v c)
   in_lt asked more (w ∷ all) v s h c lt was is = elim (in_cons w v all c) [
     | inl e ↦
-        let a = below_lt (length (space q w)) (asked w) (more w) s (h w) (subst (λ x. s < length (space q x)) (sym e) lt) (subst (λ x. asked x s ≡ false) (sym e) was) (subst (λ x. more x s ≡ true) (sym e) is) in
+        let a =
+        below_lt (length (space q w)) (asked w) (more w) s (h w) (subst (λ x. s < length (space q x)) (sym e) lt)
+        (subst (λ x. asked x s ≡ false) (sym e) was) (subst (λ x. more x s ≡ true) (sym e) is) in
         let b = in_le asked more all h in omega (arith, a, b)
-    | inr d ↦ let a = below_le (length (space q w)) (asked w) (more w) (h w) in let b = in_lt asked more all v s h d lt was is in omega (arith, a, b)
+    | inr d ↦ let a = below_le (length (space q w)) (asked w) (more w) (h w) in let b =
+        in_lt asked more all v s h d lt was is in omega (arith, a, b)
   ]
 
   -- the more are asked for, the fewer are left
   pub open_le : (asked more : Vertex → ℕ → Bool) → AreMore asked more → open_of q more ≤ open_of q asked
   open_le asked more h = in_le asked more (vertices q) h
 
-  pub open_lt : (asked more : Vertex → ℕ → Bool) (v : Vertex) (s : ℕ) → AreMore asked more → IsVertex q v → s < length (space q v) → asked v s ≡ false → more v s ≡ true → open_of q more < open_of q asked
+  pub open_lt : (asked more : Vertex → ℕ → Bool) (v : Vertex) (s : ℕ) → AreMore asked more → IsVertex q v
+      → s < length (space q v) → asked v s ≡ false → more v s ≡ true → open_of q more < open_of q asked
   open_lt asked more v s h is lt was now = in_lt asked more (vertices q) v s h (all_listed q v is) lt was now

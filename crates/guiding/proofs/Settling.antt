@@ -1,6 +1,7 @@
 -- At the end of a search that found a selection: each vertex takes absent where it may, else its one state, and no
 -- instance is broken.
-use Rattle.std.proofs.Common.{◌≡◌, ◌≢◌, ℕ, zero, suc, ◌<◌, ◌||◌, true, false, List, [], ◌∷◌, length, map, get_or, Option, Some, None, slice_get, refl, sym, ap, ◌∙◌, subst, arith}
+use Rattle.std.proofs.Common.{◌≡◌, ◌≢◌, ℕ, zero, suc, ◌<◌, ◌||◌, true, false, List, [], ◌∷◌, length, map, get_or}
+use Rattle.std.proofs.Common.{Option, Some, None, slice_get, refl, sym, ap, ◌∙◌, subst, arith}
 use Rattle.std.proofs.lemmas.Bool.{false≢true, ne_eqb}
 use Rattle.std.proofs.lemmas.List.{length-map}
 use Rattle.std.proofs.lemmas.Option.{same_Some, slice_get_within}
@@ -74,19 +75,25 @@ axiom_kept : (o : Origin) (e : EntryView) → IsAxiom o → axiom_or o e ≡ e
 axiom_kept (Axiom k) e h = refl
 axiom_kept (Combined i j v w) e h = absurd h
 
-axioms_at : (es : List EntryView) (id : ℕ) → id < length es → entry (axioms_of es) id ≡ axiom_or (entry es id).origin (entry es id)
+axioms_at : (es : List EntryView) (id : ℕ) → id < length es
+    → entry (axioms_of es) id ≡ axiom_or (entry es id).origin (entry es id)
 axioms_at [] id lt = absurd (omega (arith, lt))
 axioms_at (e ∷ es) zero lt = refl
 axioms_at (e ∷ es) (suc id) lt = axioms_at es id (omega (arith, lt))
 
-module _ (q : Problem) (vs : Numbering) (asked : List Members) (es : List EntryView) (t : TrailView) (ok : IsNumbering q vs) (spaces : map length asked ≡ spaces_of q (known vs asked)) (whole : length asked ≡ length vs) (spaced : HasSpaces (map length asked) t)
-    (trail : IsTrail es t) (done : IsDone t) (all : AllAsked (asked_of asked) t.sets) (stops : IsProgress es t.sets Fixpoint) (stored : AreStored q vs asked es) (given : walking.AreGiven (IsOfInstance q vs) es) where
+module _ (q : Problem) (vs : Numbering) (asked : List Members) (es : List EntryView) (t : TrailView)
+    (ok : IsNumbering q vs) (spaces : map length asked ≡ spaces_of q (known vs asked))
+    (whole : length asked ≡ length vs) (spaced : HasSpaces (map length asked) t)
+    (trail : IsTrail es t) (done : IsDone t) (all : AllAsked (asked_of asked) t.sets)
+    (stops : IsProgress es t.sets Fixpoint) (stored : AreStored q vs asked es)
+    (given : walking.AreGiven (IsOfInstance q vs) es) where
   -- what each vertex takes
   abbrev chosen : Assignment
   chosen u = first_in (set_of t.sets u)
 
   some_left : (u : ℕ) → 0 < space_of t u → 0 < size (set_of t.sets u)
-  some_left u some = subst (λ ss. 0 < size (set_of ss u)) (sets_now t) (some_at t trail.sound u (length t.steps) (omega arith) some)
+  some_left u some =
+      subst (λ ss. 0 < size (set_of ss u)) (sets_now t) (some_at t trail.sound u (length t.steps) (omega arith) some)
 
   final : (u : ℕ) → 0 < space_of t u → IsFinal (set_of t.sets u) (chosen u)
   final u some = record {
@@ -96,7 +103,8 @@ module _ (q : Problem) (vs : Numbering) (asked : List Members) (es : List EntryV
         let lost = not_zero (set_of t.sets u) ne in
         let few = done u within lost in
         let many = some_left u some in
-        one_member (set_of t.sets u) j (first_in (set_of t.sets u)) (omega (arith, few, many)) h (first_has (set_of t.sets u) many);
+        one_member (set_of t.sets u) j (first_in (set_of t.sets u)) (omega (arith, few, many)) h
+        (first_has (set_of t.sets u) many);
   }
 
   lengths_at : (l : List Members) (k : ℕ) → get_or (map length l) k 0 ≡ length (set_of l k)
@@ -112,15 +120,23 @@ module _ (q : Problem) (vs : Numbering) (asked : List Members) (es : List EntryV
       spaced.each n ∙ lengths_at asked n ∙ r.2 ∙ ap (λ w. length (space q w)) (same_Some r.0 v (sym r.1 ∙ e))
 
   spacious : (v : Vertex) → 0 < length (space q v)
-  spacious v = let s = Rattle.guiding.proofs.FirstTerms.space_starts q v in subst (λ (l : List State). 0 < length l) (sym s.1) (omega arith)
+  spacious v = let s = Rattle.guiding.proofs.FirstTerms.space_starts q v in
+      subst (λ (l : List State). 0 < length l) (sym s.1) (omega arith)
 
   within : (n : ℕ) (v : Vertex) → slice_get vs n ≡ Some v → chosen n < length (space q v)
-  within n v e = subst (λ k. chosen n < k) (space_is n v e) (has_below (set_of t.sets n) (chosen n) (final n (subst (λ k. 0 < k) (sym (space_is n v e)) (spacious v))).left)
+  within n v e = subst (λ k. chosen n < k) (space_is n v e)
+      (has_below (set_of t.sets n) (chosen n) (final n (subst (λ k. 0 < k) (sym (space_is n v e)) (spacious v))).left)
 
   rests : (id : ℕ) → id < length es → watched (entry es id).origin ≡ true → IsAtRest (set_of t.sets) (terms_of es id)
   rests id lt on = let quiet = stops id lt on in record {
     not_all = λ h. quiet.not_all (λ u. holds u (terms_of es id u) (h u));
-    not_one = λ v x one. quiet.not_one v x (record { term = one.term; common = one.common; apart = one.apart; others = λ u ne. holds u (terms_of es id u) (one.others u ne) });
+    not_one = λ v x one. quiet.not_one v x (record {
+      term = one.term;
+      common = one.common;
+      apart = one.apart;
+      others =
+          λ u ne. holds u (terms_of es id u) (one.others u ne);
+    });
   }
     where
       holds : (u : ℕ) (o : Option Members) → HoldsAt (set_of t.sets u) o → HoldsAt (set_of t.sets u) o
@@ -130,18 +146,25 @@ module _ (q : Problem) (vs : Numbering) (asked : List Members) (es : List EntryV
   none_broken : (id : ℕ) → id < length es → IsAxiom (entry es id).origin → Breaks chosen (terms_of es id) → ⊥
   none_broken id lt ax breaks =
       let g = given id lt ax in
-      breaks_not (set_of t.sets) (terms_of es id) chosen (λ u s e. final u (positive u s e)) (instance_one_zero q vs g.kind g.terms (entry es id).terms ok.once g.is g.says) (rests id lt (axiom_watched (entry es id).origin ax)) breaks
+      breaks_not (set_of t.sets) (terms_of es id) chosen (λ u s e. final u (positive u s e))
+      (instance_one_zero q vs g.kind g.terms (entry es id).terms ok.once g.is g.says)
+      (rests id lt (axiom_watched (entry es id).origin ax)) breaks
     where
       positive : (u : ℕ) (s : Members) → terms_of es id u ≡ Some s → 0 < space_of t u
-      positive u s e = let h : has s (chosen u) ≡ true = subst (λ o. Rattle.incompatibilities.specs.Incompatibilities.HoldsOf o (chosen u)) e (breaks u) in
+      positive u s e = let h : has s (chosen u) ≡ true =
+          subst (λ o. Rattle.incompatibilities.specs.Incompatibilities.HoldsOf o (chosen u)) e (breaks u) in
           let b = has_below s (chosen u) h in
           let l = trail.lies id lt u s e in omega (arith, b, l)
 
   added : (p : Pair) → IsPut q vs es p → IsAdded q vs (axioms_of es) p
   added p put c is first =
       let r = put c is first in
-      let same : entry (axioms_of es) r.0 ≡ entry es r.0 = axioms_at es r.0 r.1 ∙ axiom_kept (entry es r.0).origin (entry es r.0) r.2 in
-      (r.0, subst (λ n. r.0 < n) (sym (length-map es (λ (e : EntryView). axiom_or e.origin e))) r.1, subst (λ (e : EntryView). Says q vs e.terms (terms_of_cause q c)) (sym same) r.3)
+      let same : entry (axioms_of es) r.0 ≡ entry es r.0 =
+      axioms_at es r.0 r.1 ∙ axiom_kept (entry es r.0).origin (entry es r.0) r.2 in (
+        r.0,
+        subst (λ n. r.0 < n) (sym (length-map es (λ (e : EntryView). axiom_or e.origin e))) r.1,
+        subst (λ (e : EntryView). Says q vs e.terms (terms_of_cause q c)) (sym same) r.3,
+      )
 
   aside : (id : ℕ) → id < length (axioms_of es) → Breaks chosen (terms_of (axioms_of es) id) → ⊥
   aside id low breaks = by (entry es id).origin refl
@@ -155,10 +178,14 @@ module _ (q : Problem) (vs : Numbering) (asked : List Members) (es : List EntryV
       by : (o : Origin) → (entry es id).origin ≡ o → ⊥
       by (Axiom k) e =
           let ax : IsAxiom (entry es id).origin = subst IsAxiom (sym e) tt in
-          none_broken id lt ax (subst (λ (x : EntryView). Breaks chosen (Rattle.incompatibilities.specs.Incompatibilities.states_at x.terms)) (at ∙ axiom_kept (entry es id).origin (entry es id) ax) breaks)
+          none_broken id lt ax (subst (λ (x : EntryView).
+          Breaks chosen (Rattle.incompatibilities.specs.Incompatibilities.states_at x.terms))
+          (at ∙ axiom_kept (entry es id).origin (entry es id) ax) breaks)
       by (Combined i j v w) e =
           let same : entry (axioms_of es) id ≡ nothing = at ∙ ap (λ o. axiom_or o (entry es id)) e in
-          let b : Breaks chosen (Rattle.incompatibilities.specs.Incompatibilities.states_at nothing.terms) = subst (λ (x : EntryView). Breaks chosen (Rattle.incompatibilities.specs.Incompatibilities.states_at x.terms)) same breaks in
+          let b : Breaks chosen (Rattle.incompatibilities.specs.Incompatibilities.states_at nothing.terms) =
+          subst (λ (x : EntryView).
+          Breaks chosen (Rattle.incompatibilities.specs.Incompatibilities.states_at x.terms)) same breaks in
           false≢true (b 0)
 
   -- ---- each pair that holds was asked for
@@ -167,8 +194,10 @@ module _ (q : Problem) (vs : Numbering) (asked : List Members) (es : List EntryV
   alone n i some is within =
       let left : 0 < space_of t n = positive (set_of t.sets n) (subst (λ k. 0 < k) (sym is) some) in
       let many = some_left n left in
-      let h : has (set_of t.sets n) i ≡ true = subst (λ k. has (set_of t.sets n) k ≡ true) is (first_has (set_of t.sets n) many) in
-      let few = done n within (not_zero (set_of t.sets n) (λ z. let w : i ≡ 0 = sym is ∙ z in omega (arith, some, w))) in
+      let h : has (set_of t.sets n) i ≡ true =
+      subst (λ k. has (set_of t.sets n) k ≡ true) is (first_has (set_of t.sets n) many) in
+      let few =
+      done n within (not_zero (set_of t.sets n) (λ z. let w : i ≡ 0 = sym is ∙ z in omega (arith, some, w))) in
       not_absent i some (all n i within (omega (arith, few, many), h))
     where
       positive : (s : Members) → 0 < first_in s → 0 < length s
@@ -193,19 +222,23 @@ module _ (q : Problem) (vs : Numbering) (asked : List Members) (es : List EntryV
       there = number_at vs v n e
 
       at : (i : ℕ) → chosen n ≡ i → IsPut q vs es (v, state_at q v (chosen n))
-      at zero is = subst (λ i. IsPut q vs es (v, state_at q v i)) (sym is) (subst (λ s. IsPut q vs es (v, s)) (sym zero_state) (absent_put v))
+      at zero is = subst (λ i. IsPut q vs es (v, state_at q v i)) (sym is)
+          (subst (λ s. IsPut q vs es (v, s)) (sym zero_state) (absent_put v))
         where
           zero_state : state_at q v 0 ≡ absent
-          zero_state = let s = Rattle.guiding.proofs.FirstTerms.space_starts q v in ap (λ (l : List State). Rattle.std.specs.Prelude.unwrap_or (slice_get l 0) absent) s.1
+          zero_state = let s = Rattle.guiding.proofs.FirstTerms.space_starts q v in
+              ap (λ (l : List State). Rattle.std.specs.Prelude.unwrap_or (slice_get l 0) absent) s.1
       at (suc i) is =
           let lt = slice_get_within vs n v there in
-          subst (λ k. IsPut q vs es (v, state_at q v k)) (sym is) (stored.pairs n (suc i) v (alone n (suc i) (omega arith) is (omega (arith, lt, whole, spaced.vertices, length-map asked length))) there)
+          subst (λ k. IsPut q vs es (v, state_at q v k)) (sym is) (stored.pairs n (suc i) v (alone n (suc i)
+          (omega arith) is (omega (arith, lt, whole, spaced.vertices, length-map asked length))) there)
 
   settled : IsSettled q vs (axioms_of es) chosen
   settled = record {
     within = within;
     none_broken = aside;
-    added = λ v s e. subst (λ r. IsAdded q vs (axioms_of es) (v, r)) e (added (v, state_of q vs chosen v) (put_at v (number_in vs v) refl));
+    added = λ v s e. subst (λ r. IsAdded q vs (axioms_of es) (v, r)) e
+        (added (v, state_of q vs chosen v) (put_at v (number_in vs v) refl));
   }
 
   -- so there is an assignment of all vertices that breaks no instance

@@ -1,5 +1,6 @@
 -- What a search begins with.
-use Rattle.std.proofs.Common.{◌≡◌, Option, ℕ, zero, suc, ◌<◌, ◌≤◌, true, List, [], ◌∷◌, length, map, get_or, Some, slice_get, refl, sym, ap, ◌∙◌, subst, arith}
+use Rattle.std.proofs.Common.{◌≡◌, Option, ℕ, zero, suc, ◌<◌, ◌≤◌, true, List, [], ◌∷◌, length, map, get_or, Some}
+use Rattle.std.proofs.Common.{slice_get, refl, sym, ap, ◌∙◌, subst, arith}
 use Rattle.std.proofs.lemmas.Bool.{false≢true}
 use Rattle.std.proofs.lemmas.List.{length-replicate}
 use Rattle.version_sets.specs.Sets.{Members, has, size}
@@ -25,7 +26,8 @@ use Rattle.searching.specs.Counting.{combinations}
 use Rattle.searching.proofs.Counts.{counts_axioms}
 use Rattle.searching.proofs.Guides.{spaces_wider}
 use Rattle.searching.proofs.Touching.{touching_axioms}
-use Rattle.guiding.specs.Guides.{CanFollow, Follows, HasBegun, IsCome, IsEncoding, IsOfInstance, IsPut, as_entry, asked_of, encoded_view, with_given}
+use Rattle.guiding.specs.Guides.{CanFollow, Follows, HasBegun, IsCome, IsEncoding, IsOfInstance, IsPut, as_entry}
+use Rattle.guiding.specs.Guides.{asked_of, encoded_view, with_given}
 use Rattle.guiding.proofs.Adding.{given_at, given_of, said_long, with_given_is}
 use Rattle.guiding.proofs.Following.{more_unbroken, wider_agrees}
 use Rattle.guiding.proofs.Marks.{lengths_none, past_none}
@@ -46,7 +48,8 @@ has_below (b ∷ s) (suc j) h = let r = has_below s j h in omega (arith, r)
 
 -- before any place only absent stands alone
 seen_first : (asked : List Members) (es : List EntryView) (t : TrailView) → IsTrail es t → IsSeen 0 (asked_of asked) t
-seen_first asked es t trail = record { within = omega arith; all = λ v i lt only. zero_asked v i (zero_is v i only.0 only.1) }
+seen_first asked es t trail =
+    record { within = omega arith; all = λ v i lt only. zero_asked v i (zero_is v i only.0 only.1) }
   where
     zero_asked : (v i : ℕ) → i ≡ 0 → asked_of asked v i ≡ true
     zero_asked v i e = subst (λ k. asked_of asked v k ≡ true) (sym e) refl
@@ -56,33 +59,44 @@ seen_first asked es t trail = record { within = omega arith; all = λ v i lt onl
         let full = trail.sound.starts v in
         let n : space_of t v ≡ 1 = sym (size_every (space_of t v)) ∙ ap size (sym full) ∙ one in
         let below = has_below (set_of (sets_at t 0) v) i h in
-        let long : length (set_of (sets_at t 0) v) ≡ space_of t v = ap length full ∙ length-replicate (space_of t v) true in
+        let long : length (set_of (sets_at t 0) v) ≡ space_of t v =
+        ap length full ∙ length-replicate (space_of t v) true in
         omega (arith, n, below, long)
 
-pub begun : (i : Inputs) (follows : Option Content) (put vs : Numbering) (n : ℕ) (asked : List Members) (t wide : TrailView) (more : List EntryView) (given : List Given) → IsEncoding i vs asked → CanFollow (problem i) follows → slice_get put n ≡ Some root → IsCome [] asked t wide → length vs ≤ length asked
-    → length t.sets ≡ 0 → t.steps ≡ [] → IsTrail [] wide → ((w : Vertex) → slice_get put n ≡ Some w → IsGivenAt (problem i) vs (w, state_at (problem i) w 0) given) → more ≡ with_given [] given
+pub begun : (i : Inputs) (follows : Option Content) (put vs : Numbering) (n : ℕ) (asked : List Members)
+    (t wide : TrailView) (more : List EntryView) (given : List Given) → IsEncoding i vs asked
+    → CanFollow (problem i) follows → slice_get put n ≡ Some root → IsCome [] asked t wide → length vs ≤ length asked
+    → length t.sets ≡ 0 → t.steps ≡ [] → IsTrail [] wide
+    → ((w : Vertex) → slice_get put n ≡ Some w → IsGivenAt (problem i) vs (w, state_at (problem i) w 0) given)
+    → more ≡ with_given [] given
     → HasBegun (problem i) follows (encoded_view (problem i) vs asked 0 follows) wide more
-begun i follows put vs n asked t wide more given encoding can at come whole bare steps trail is stored = subst (λ es. HasBegun (problem i) follows (encoded_view (problem i) vs asked 0 follows) wide es) (sym entries) (record {
-  problem = refl;
-  whole = (let most = known_most (problem i) vs asked encoding.spaces in omega (arith, most, whole));
-  spaces = spaced;
-  trail = now;
-  steps = come.wider.steps ∙ steps;
-  seen = seen_first asked (map as_entry given) wide now;
-  given = instances;
-  touching = touches_all;
-  uncombined = none_combined;
-  stored = record { root_is = root_put; pairs = λ u j v h e. absurd (false≢true (sym (ap (λ (l : List Members). has (set_of l u) j) come.sets ∙ past_none come.came u j) ∙ h)) };
-  follows_is = refl;
-  can_follow = can;
-  walked = walks;
-})
+begun i follows put vs n asked t wide more given encoding can at come whole bare steps trail is stored = subst
+    (λ es. HasBegun (problem i) follows (encoded_view (problem i) vs asked 0 follows) wide es) (sym entries) (record {
+      problem = refl;
+      whole = (let most = known_most (problem i) vs asked encoding.spaces in omega (arith, most, whole));
+      spaces = spaced;
+      trail = now;
+      steps = come.wider.steps ∙ steps;
+      seen = seen_first asked (map as_entry given) wide now;
+      given = instances;
+      touching = touches_all;
+      uncombined = none_combined;
+      stored = record {
+        root_is = root_put;
+        pairs = λ u j v h e. absurd
+            (false≢true (sym (ap (λ (l : List Members). has (set_of l u) j) come.sets ∙ past_none come.came u j) ∙ h));
+      };
+      follows_is = refl;
+      can_follow = can;
+      walked = walks;
+    })
   where
     entries : more ≡ map as_entry given
     entries = stored ∙ with_given_is [] given
 
     spaced : HasSpaces (map length asked) wide
-    spaced = subst (λ l. HasSpaces l wide) (sym (ap (map length) come.sets ∙ lengths_none come.came)) (spaces_wider [] come.came t wide (bare_spaces t bare) come.wider)
+    spaced = subst (λ l. HasSpaces l wide) (sym (ap (map length) come.sets ∙ lengths_none come.came))
+        (spaces_wider [] come.came t wide (bare_spaces t bare) come.wider)
 
     root_given : IsGivenAt (problem i) vs (root, absent) given
     root_given = is root at
@@ -90,7 +104,8 @@ begun i follows put vs n asked t wide more given encoding can at come whole bare
     lies : LieIn wide (map as_entry given)
     lies id lt u z e =
         let g = given_at (problem i) vs root_given.causes given id root_given.given lt in
-        said_long (problem i) vs asked wide encoding.spaces whole spaced (entry (map as_entry given) id).terms (terms_of_cause (problem i) g.cause) g.says u z e
+        said_long (problem i) vs asked wide encoding.spaces whole spaced (entry (map as_entry given) id).terms
+        (terms_of_cause (problem i) g.cause) g.says u z e
 
     now : IsTrail (map as_entry given) wide
     now = trail_grown [] (map as_entry given) wide trail lies
@@ -99,23 +114,36 @@ begun i follows put vs n asked t wide more given encoding can at come whole bare
     instances id lt ax =
         let g = given_at (problem i) vs root_given.causes given id root_given.given lt in
         let there = (root_given.are.listed g.cause).0 g.listed in
-        record { kind = kind_of g.cause; terms = terms_of_cause (problem i) g.cause; is = cause_instance (problem i) g.cause there.0; says = g.says; origin = g.origin }
+        record {
+          kind = kind_of g.cause;
+          terms = terms_of_cause (problem i) g.cause;
+          is =
+              cause_instance (problem i) g.cause there.0;
+          says = g.says;
+          origin = g.origin;
+        }
 
     root_put : IsPut (problem i) vs (map as_entry given) (root, absent)
-    root_put c there first = given_of (problem i) vs root_given.causes given c root_given.given ((root_given.are.listed c).1 (there, first))
+    root_put c there first =
+        given_of (problem i) vs root_given.causes given c root_given.given ((root_given.are.listed c).1 (there, first))
 
     are_axioms : (id : ℕ) → id < length (map as_entry given) → IsAxiom (entry (map as_entry given) id).origin
-    are_axioms id lt = subst IsAxiom (sym (given_at (problem i) vs root_given.causes given id root_given.given lt).origin) tt
+    are_axioms id lt =
+        subst IsAxiom (sym (given_at (problem i) vs root_given.causes given id root_given.given lt).origin) tt
 
     touches_all : AreTouching (map as_entry given)
     touches_all = touching_axioms [] (map as_entry given) (map as_entry given) refl are_axioms
         (λ id j k v lt e. absurd (omega (arith, lt)))
 
     none_combined : combinations (map as_entry given) ≡ 0
-    none_combined = let few = counts_axioms [] (map as_entry given) (map as_entry given) refl are_axioms 0 0 (omega arith) in omega (arith, few)
+    none_combined = let few = counts_axioms [] (map as_entry given) (map as_entry given) refl are_axioms 0 0
+        (omega arith) in omega (arith, few)
 
-    walks : (x : Assignment) → Follows (encoded_view (problem i) vs asked 0 follows) x → IsWalked x (map as_entry given) wide
+    walks : (x : Assignment) → Follows (encoded_view (problem i) vs asked 0 follows) x
+        → IsWalked x (map as_entry given) wide
     walks x f = (
-      more_unbroken (problem i) vs f.0 x f.3 (root, absent) [] (map as_entry given) given encoding.catalogue f.2 root_given refl (λ id lt broken. omega (arith, lt)),
-      wider_agrees (problem i) vs f.0 x f.3 asked come.came t wide encoding.spaces spaced come.wider (λ u lt. absurd (omega (arith, lt, bare))),
+      more_unbroken (problem i) vs f.0 x f.3 (root, absent) []
+          (map as_entry given) given encoding.catalogue f.2 root_given refl (λ id lt broken. omega (arith, lt)),
+      wider_agrees (problem i) vs f.0 x f.3 asked come.came t wide encoding.spaces spaced come.wider
+          (λ u lt. absurd (omega (arith, lt, bare))),
     )

@@ -20,7 +20,8 @@ module _ (q : Problem) where
   package_vertices row = map (pkg row.0) (classes_of (candidates_of q.candidates row.0))
 
   abbrev pub named : List Vertex
-  named = root ∷ (flat_map dependency_vertices (owners q) ++ (flat_map package_vertices q.candidates ++ flat_map spoken_by (causes q)))
+  named = root ∷ (flat_map dependency_vertices (owners q)
+      ++ (flat_map package_vertices q.candidates ++ flat_map spoken_by (causes q)))
 
   abbrev pub vertices : List Vertex
   vertices = once same_vertex named

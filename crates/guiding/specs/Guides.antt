@@ -1,6 +1,7 @@
 -- What the guide of a search over a problem keeps: which vertices have numbers, and which pairs of a vertex and a state
 -- were asked for.
-use Rattle.std.specs.Prelude.{◌≡◌, ◌<◌, ◌≤◌, ◌==◌, ℕ, suc, List, [], ◌∷◌, ◌++◌, Bool, true, false, ◌||◌, length, map, take, Option, Some, None, IfSome, IsSome, slice_get, slice_set}
+use Rattle.std.specs.Prelude.{◌≡◌, ◌<◌, ◌≤◌, ◌==◌, ℕ, suc, List, [], ◌∷◌, ◌++◌, Bool, true, false, ◌||◌, length, map}
+use Rattle.std.specs.Prelude.{take, Option, Some, None, IfSome, IsSome, slice_get, slice_set}
 use Rattle.version_sets.specs.Sets.{Members, has, join, none, only, size}
 use Rattle.incompatibilities.specs.Incompatibilities.{Assignment}
 use Rattle.incompatibilities.specs.Stores.{EntryView, IsAxiom, entry}
@@ -40,7 +41,8 @@ pub record EncodedView : Type 0 where
   pub follows : Option Content
 
 abbrev pub encoded_view : Problem → Numbering → List Members → ℕ → Option Content → EncodedView
-encoded_view q vs asked seen follows = record { problem = q; vertices = vs; asked = asked; seen = seen; follows = follows }
+encoded_view q vs asked seen follows =
+    record { problem = q; vertices = vs; asked = asked; seen = seen; follows = follows }
 
 -- the vertices that the trail has
 abbrev pub known : Numbering → List Members → Numbering
@@ -59,11 +61,13 @@ CanFollow q follows = IfSome follows (λ content. IsValidSelection q content)
 
 -- an assignment gives each numbered vertex the state that it has in the content that is followed
 abbrev pub Follows : EncodedView → Assignment → Type 0
-Follows g x = (content : Content) × (g.follows ≡ Some content) × IsValidSelection g.problem content × IsOf g.problem g.vertices content x
+Follows g x = (content : Content) × (g.follows ≡ Some content) × IsValidSelection g.problem content
+    × IsOf g.problem g.vertices content x
 
 -- the number of the state that a vertex has in the content, if it is left and absent isn't
 abbrev pub IsFollowed : Problem → Option Content → Vertex → Members → Option ℕ → Type 0
-IsFollowed q follows v left o = (content : Content) (i : ℕ) → follows ≡ Some content → i < length (space q v) → Assigns q content v (state_at q v i) → has left i ≡ true → has left 0 ≡ false → o ≡ Some i
+IsFollowed q follows v left o = (content : Content) (i : ℕ) → follows ≡ Some content → i < length (space q v)
+    → Assigns q content v (state_at q v i) → has left i ≡ true → has left 0 ≡ false → o ≡ Some i
 
 -- absent counts as asked for (the root's instance there is stored from the start); a vertex with one state has this one
 abbrev pub asked_of : List Members → Pairs
@@ -97,12 +101,14 @@ pub record IsOfInstance (q : Problem) (vs : Numbering) (e : EntryView) : Type 0 
 
 -- each instance of a pair is an axiom of the store
 abbrev pub IsPut : Problem → Numbering → List EntryView → Pair → Type 0
-IsPut q vs es p = (c : Cause) → is_cause q c ≡ true → first_pair c ≡ p → (id : ℕ) × (id < length es) × IsAxiom (entry es id).origin × Says q vs (entry es id).terms (terms_of_cause q c)
+IsPut q vs es p = (c : Cause) → is_cause q c ≡ true → first_pair c ≡ p
+    → (id : ℕ) × (id < length es) × IsAxiom (entry es id).origin × Says q vs (entry es id).terms (terms_of_cause q c)
 
 -- the instances of the root's absence and of each pair that was asked for are in the store
 pub record AreStored (q : Problem) (vs : Numbering) (asked : List Members) (es : List EntryView) : Type 0 where
   pub root_is : IsPut q vs es (root, absent)
-  pub pairs : (n i : ℕ) (v : Vertex) → has (set_of asked n) i ≡ true → slice_get vs n ≡ Some v → IsPut q vs es (v, state_at q v i)
+  pub pairs : (n i : ℕ) (v : Vertex) → has (set_of asked n) i ≡ true → slice_get vs n ≡ Some v
+      → IsPut q vs es (v, state_at q v i)
 
 -- a guide goes on from another one
 pub record GoesOn (old new : EncodedView) : Type 0 where
@@ -172,11 +178,13 @@ pub record IsAsking (v i : ℕ) (old new : EncodedView) (t wide : TrailView) (es
   pub wider : IsWider came t wide
   pub trail : IsTrail es wide
   pub given : List Given
-  pub is : (w : Vertex) → slice_get old.vertices v ≡ Some w → IsGivenAt old.problem new.vertices (w, state_at old.problem w i) given
+  pub is : (w : Vertex) → slice_get old.vertices v ≡ Some w
+      → IsGivenAt old.problem new.vertices (w, state_at old.problem w i) given
   pub stored : more ≡ with_given es given
 
 -- a search may begin: the root alone is on the trail with all that its absence speaks of, and its absence is stored
-pub record HasBegun (q : Problem) (follows : Option Content) (g : EncodedView) (t : TrailView) (es : List EntryView) : Type 0 where
+pub record HasBegun (q : Problem) (follows : Option Content) (g : EncodedView) (t : TrailView)
+    (es : List EntryView) : Type 0 where
   pub problem : g.problem ≡ q
   pub whole : length g.asked ≡ length g.vertices
   pub spaces : HasSpaces (map length g.asked) t

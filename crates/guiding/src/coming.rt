@@ -25,7 +25,8 @@ fn come_next<S: States + Drop>(
     requires less { length asked.old.items < length table.now }
     requires trail { IsTrail (entries_view S.tests store.now) (trail_view S.tests trail.old) }
     ensures encoding { IsEncoding inputs.now table.now (map S.tests asked.new.items) }
-    ensures came { OnOk result (IsCome (map S.tests asked.old.items) (map S.tests asked.new.items) (trail_view S.tests trail.old) (trail_view S.tests trail.new)) }
+    ensures came { OnOk result (IsCome (map S.tests asked.old.items) (map S.tests asked.new.items)
+        (trail_view S.tests trail.old) (trail_view S.tests trail.new)) }
     ensures longer { OnOk result (length asked.new.items ≡ length asked.old.items + 1) }
     ensures trail { IsTrail (entries_view S.tests store.now) (trail_view S.tests trail.new) }
 {
@@ -51,7 +52,8 @@ pub(crate) fn come<S: States + Drop>(
     requires encoding { IsEncoding inputs.now table.now (map S.tests asked.old.items) }
     requires trail { IsTrail (entries_view S.tests store.now) (trail_view S.tests trail.old) }
     ensures encoding { IsEncoding inputs.now table.now (map S.tests asked.new.items) }
-    ensures came { OnOk result (IsCome (map S.tests asked.old.items) (map S.tests asked.new.items) (trail_view S.tests trail.old) (trail_view S.tests trail.new)) }
+    ensures came { OnOk result (IsCome (map S.tests asked.old.items) (map S.tests asked.new.items)
+        (trail_view S.tests trail.old) (trail_view S.tests trail.new)) }
     ensures whole { OnOk result (length table.now ≤ length asked.new.items) }
     ensures trail { IsTrail (entries_view S.tests store.now) (trail_view S.tests trail.new) }
 {

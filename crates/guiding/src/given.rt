@@ -17,7 +17,8 @@ pub(crate) fn put_given<S: States + Drop>(
     store: &mut Store<S>,
     given: Vec<(Kind, Incompatibility<S>)>,
 ) -> Result<(), AllocError>
-    ensures { OnOk result (entries_view S.tests store.new ≡ with_given (entries_view S.tests store.old) (given_views S.tests given.items)) }
+    ensures { OnOk result (entries_view S.tests store.new
+        ≡ with_given (entries_view S.tests store.old) (given_views S.tests given.items)) }
 {
     'given: for (kind, made) in given {
         store.add(made, Origin::Axiom(kind.number()))?;

@@ -61,7 +61,8 @@ impl<'a, S: States> Model for Encoded<'a, S> {
 
     ghost view = { λ g. encoded_view (problem g.inputs) g.table (map S.tests g.asked.items) g.seen g.follows };
 
-    ghost invariant = { λ g. IsEncoding g.inputs g.table (map S.tests g.asked.items) × CanFollow (problem g.inputs) g.follows };
+    ghost invariant = { λ g. IsEncoding g.inputs g.table (map S.tests g.asked.items)
+        × CanFollow (problem g.inputs) g.follows };
 }
 
 impl<'a, S: States + Drop> Encoded<'a, S> {
@@ -80,7 +81,8 @@ impl<'a, S: States + Drop> Encoded<'a, S> {
         requires bare { length (trail_view S.tests trail.old).sets ≡ 0 }
         requires steps { (trail_view S.tests trail.old).steps ≡ [] }
         requires store { entries_view S.tests store.old ≡ [] }
-        ensures { IfOk result (λ g. HasBegun (problem inputs.entry) follows g (trail_view S.tests trail.new) (entries_view S.tests store.new)) }
+        ensures { IfOk result (λ g. HasBegun (problem inputs.entry) follows g (trail_view S.tests trail.new)
+            (entries_view S.tests store.new)) }
     {
         catalogues_are_well_formed(inputs.manifest, inputs.catalogue);
         let mut table = Table::new(alloc);
@@ -134,7 +136,8 @@ impl<'a, S: States + Drop> Encoded<'a, S> {
     /// A law, the call does nothing: the vertices have one number each, and those on the trail their own states.
     pub fn is_kept(&self)
         ensures numbering { IsNumbering self.now.problem self.now.vertices }
-        ensures spaces { map length self.now.asked ≡ spaces_of self.now.problem (known self.now.vertices self.now.asked) }
+        ensures spaces { map length self.now.asked
+            ≡ spaces_of self.now.problem (known self.now.vertices self.now.asked) }
     {
         let _ = self.asked.len();
     }
@@ -150,7 +153,8 @@ impl<'a, S: States + Drop> Encoded<'a, S> {
         requires trail { IsTrail (entries_view S.tests store.old) (trail_view S.tests trail.old) }
         requires vertex { vertex < length self.old.asked }
         requires state { state < length (set_of self.old.asked vertex) }
-        ensures { OnOk result (IsAsking vertex state self.old self.new (trail_view S.tests trail.old) (trail_view S.tests trail.new) (entries_view S.tests store.old) (entries_view S.tests store.new)) }
+        ensures { OnOk result (IsAsking vertex state self.old self.new (trail_view S.tests trail.old)
+            (trail_view S.tests trail.new) (entries_view S.tests store.old) (entries_view S.tests store.new)) }
     {
         let number = state as usize;
         let inputs = &mut self.inputs;
@@ -174,7 +178,8 @@ impl<'a, S: States + Drop> Encoded<'a, S> {
     /// The state that a vertex has in the content that is followed, if it is left.
     fn followed_state(&self, vertex: &VertexRef<'a>, left: &S) -> Result<Option<u32>, AllocError>
         ensures left { IfOk result (λ o. IfSome o (λ n. has (S.tests left.now) n ≡ true)) }
-        ensures followed { IfOk result (λ o. IsFollowed self.now.problem self.now.follows (vertex_ref_view vertex.now) (S.tests left.now) o) }
+        ensures followed { IfOk result
+            (λ o. IsFollowed self.now.problem self.now.follows (vertex_ref_view vertex.now) (S.tests left.now) o) }
     {
         let Some(content) = &self.follows else {
             return Ok(None);
@@ -192,7 +197,8 @@ impl<'a, S: States + Drop> Encoded<'a, S> {
         requires some { 0 < size (S.tests left.now) }
         requires lost { has (S.tests left.now) 0 ≡ false }
         ensures left { IfOk result (λ n. has (S.tests left.now) n ≡ true) }
-        ensures follows { IfOk result (λ n. (x : Assignment) → Follows self.now x → has (S.tests left.now) (x number) ≡ true → x number ≡ n) }
+        ensures follows { IfOk result
+            (λ n. (x : Assignment) → Follows self.now x → has (S.tests left.now) (x number) ≡ true → x number ≡ n) }
     {
         let Some(vertex) = self.table.vertex(number) else {
             return Ok(greatest(left));
@@ -210,7 +216,8 @@ impl<'a, S: States + Drop> Encoded<'a, S> {
     fn next_decision(&self, trail: &Trail<S>) -> Result<Option<(usize, u32)>, AllocError>
         requires { HasSpaces (map length self.now.asked) (trail_view S.tests trail.now) }
         ensures can { IfOk result (λ o. IfSome o (λ d. CanDecide (trail_view S.tests trail.now) d.0 d.1)) }
-        ensures follows { IfOk result (λ o. IfSome o (λ d. (x : Assignment) → Follows self.now x → Agrees x (trail_view S.tests trail.now).sets → x d.0 ≡ d.1)) }
+        ensures follows { IfOk result (λ o. IfSome o (λ d. (x : Assignment) → Follows self.now x
+            → Agrees x (trail_view S.tests trail.now).sets → x d.0 ≡ d.1)) }
     {
         let Some(vertex) = self.next else {
             return Ok(None);
@@ -251,7 +258,8 @@ impl<'a, S: States + Drop> Encoded<'a, S> {
 
 impl<'a, S: States + Drop> Guide<S> for Encoded<'a, S> {
     ghost use Rattle.std.specs.Prelude.{map, length};
-    ghost use Rattle.guiding.specs.Guides.{AreStored, Follows, GoesOn, IsDone, IsOfInstance, asked_of, late_with, left_with};
+    ghost use Rattle.guiding.specs.Guides.{AreStored, Follows, GoesOn, IsDone, IsOfInstance, asked_of, late_with};
+    ghost use Rattle.guiding.specs.Guides.{left_with};
     ghost use Rattle.guiding.specs.Going.{goes_on, goes_same, stored_on};
 
     ghost spaces = { λ g. map length g.asked };

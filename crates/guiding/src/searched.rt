@@ -41,9 +41,11 @@ pub fn search_over<'a, S: States + Drop>(
     requires follows { CanFollow (problem inputs) follows }
     ensures problem { IfOk result (λ r. r.guide.problem ≡ problem inputs.entry) }
     ensures follows { IfOk result (λ r. r.guide.follows ≡ follows) }
-    ensures searched { IfOk result (λ r. HasSearched (problem inputs.entry) r.guide (trail_view S.tests r.trail) (entries_view S.tests r.store) r.found.answer) }
+    ensures searched { IfOk result (λ r. HasSearched (problem inputs.entry) r.guide (trail_view S.tests r.trail)
+        (entries_view S.tests r.store) r.found.answer) }
     // There are at least as many steps as combinations.
-    ensures counted { IfOk result (λ r. IsCount [] (entries_view S.tests r.store) (trail_view S.tests r.trail) r.found.steps) }
+    ensures counted { IfOk result
+        (λ r. IsCount [] (entries_view S.tests r.store) (trail_view S.tests r.trail) r.found.steps) }
 {
     let mut store = Store::new(alloc);
     let mut trail = Trail::new(alloc, &[])?;

@@ -1,6 +1,7 @@
 -- Incompatibilities, their combination at a vertex, and what an assignment breaks (Dart pub's `solver.md`,
 -- "Incompatibility" and "Conflict Resolution", over sets of states).
-use Rattle.std.specs.Prelude.{◌≡◌, ℕ, ◌+◌, ◌<◌, ◌≤◌, ◌==◌, ◌⊎◌, true, false, List, [], ◌∷◌, length, Option, Some, None, if◌then◌else◌}
+use Rattle.std.specs.Prelude.{◌≡◌, ℕ, ◌+◌, ◌<◌, ◌≤◌, ◌==◌, ◌⊎◌, true, false, List, [], ◌∷◌, length, Option, Some, None}
+use Rattle.std.specs.Prelude.{if◌then◌else◌}
 use Rattle.version_sets.specs.Sets.{Members, has, inside, is_full, join, meet, size}
 use Rattle.terms.specs.Terms.{TermView}
 

@@ -13,13 +13,15 @@ lone v t = if t.vertex == v then [] else t ∷ []
 
 -- two terms of one vertex
 abbrev pub both : ℕ → TermView → TermView → List TermView
-both v t u = kept (record { vertex = t.vertex; states = if t.vertex == v then join t.states u.states else meet t.states u.states })
+both v t u = kept
+    (record { vertex = t.vertex; states = if t.vertex == v then join t.states u.states else meet t.states u.states })
 
 -- up to a term of the first list: what comes of it and of the second list's terms up to its vertex, and the second's
 -- terms past it
 abbrev pub up_to : ℕ → TermView → List TermView → List TermView
 up_to v t [] = lone v t
-up_to v t (u ∷ us) = if nat_lt u.vertex t.vertex then lone v u ++ up_to v t us else if u.vertex == t.vertex then both v t u else lone v t
+up_to v t (u ∷ us) =
+    if nat_lt u.vertex t.vertex then lone v u ++ up_to v t us else if u.vertex == t.vertex then both v t u else lone v t
 
 abbrev pub past : TermView → List TermView → List TermView
 past t [] = []

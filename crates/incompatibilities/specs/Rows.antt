@@ -1,5 +1,6 @@
 -- An index from vertices to what is listed there, as a row a vertex (an inverted index).
-use Rattle.std.specs.Prelude.{◌≡◌, ℕ, ◌<◌, ◌==◌, Bool, false, List, [], ◌∷◌, if◌then◌else◌, length, map, slice_index_or, Vec, vec_len, vec_capacity}
+use Rattle.std.specs.Prelude.{◌≡◌, ℕ, ◌<◌, ◌==◌, Bool, false, List, [], ◌∷◌, if◌then◌else◌, length, map, slice_index_or}
+use Rattle.std.specs.Prelude.{Vec, vec_len, vec_capacity}
 use Rattle.std.specs.List.{list_any}
 use Rattle.std.specs.declared.alloc.Global.{Global}
 use Rattle.terms.specs.declared.term.Term.{Term}
@@ -14,7 +15,8 @@ row_at rows v = slice_index_or (map (λ r. r.items) rows) v []
 
 -- a row has room for one more
 abbrev pub HasRoom : {E : Type 0} → Rows E → ℕ → Type 0
-HasRoom {E} rows v = (v < length rows) × ((d : Vec E Global) → vec_len (slice_index_or rows v d) < vec_capacity (slice_index_or rows v d))
+HasRoom {E} rows v = (v < length rows)
+    × ((d : Vec E Global) → vec_len (slice_index_or rows v d) < vec_capacity (slice_index_or rows v d))
 
 -- a vertex is one of a list, and no vertex stands twice
 abbrev pub stands_in : ℕ → List ℕ → Bool

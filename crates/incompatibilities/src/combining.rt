@@ -16,7 +16,8 @@ fn push_kept<S: States + Drop>(
     vertex: usize,
     states: S,
 ) -> Result<(), AllocError>
-    ensures { OnOk result (terms_view S.tests made.new.items ≡ terms_view S.tests made.old.items ++ kept (record { vertex = vertex; states = S.tests states })) }
+    ensures { OnOk result (terms_view S.tests made.new.items
+        ≡ terms_view S.tests made.old.items ++ kept (record { vertex = vertex; states = S.tests states })) }
 {
     if !is_full(&states) {
         made.push(Term { vertex, states })?;
@@ -32,7 +33,8 @@ fn push_lone<S: States + Drop>(
     at: usize,
     term: &Term<S>,
 ) -> Result<(), AllocError>
-    ensures { OnOk result (terms_view S.tests made.new.items ≡ terms_view S.tests made.old.items ++ lone at (term_view S.tests term.now)) }
+    ensures { OnOk result (terms_view S.tests made.new.items
+        ≡ terms_view S.tests made.old.items ++ lone at (term_view S.tests term.now)) }
 {
     if term.vertex != at {
         made.push(Term {
@@ -52,7 +54,8 @@ fn push_both<S: States + Drop>(
     other: &Term<S>,
 ) -> Result<(), AllocError>
     requires { length (S.tests term.now.states) ≡ length (S.tests other.now.states) }
-    ensures { OnOk result (terms_view S.tests made.new.items ≡ terms_view S.tests made.old.items ++ both at (term_view S.tests term.now) (term_view S.tests other.now)) }
+    ensures { OnOk result (terms_view S.tests made.new.items
+        ≡ terms_view S.tests made.old.items ++ both at (term_view S.tests term.now) (term_view S.tests other.now)) }
 {
     let states = if term.vertex == at {
         term.states.union(alloc, &other.states)?
@@ -71,8 +74,10 @@ fn push_up_to<'a, S: States + Drop>(
     others: &'a [Term<S>],
 ) -> Result<&'a [Term<S>], AllocError>
     requires { FitsIn (term_view S.tests term.now) (terms_view S.tests others.now) }
-    ensures made { OnOk result (terms_view S.tests made.new.items ≡ terms_view S.tests made.old.items ++ up_to at (term_view S.tests term.now) (terms_view S.tests others.entry.now)) }
-    ensures rest { IfOk result (λ r. terms_view S.tests r.now ≡ past (term_view S.tests term.now) (terms_view S.tests others.entry.now)) }
+    ensures made { OnOk result (terms_view S.tests made.new.items ≡ terms_view S.tests made.old.items
+        ++ up_to at (term_view S.tests term.now) (terms_view S.tests others.entry.now)) }
+    ensures rest { IfOk result
+        (λ r. terms_view S.tests r.now ≡ past (term_view S.tests term.now) (terms_view S.tests others.entry.now)) }
 {
     let mut rest = others;
     'earlier: while let [other, later @ ..] = rest {
@@ -101,7 +106,8 @@ fn push_rest<S: States + Drop>(
     at: usize,
     others: &[Term<S>],
 ) -> Result<(), AllocError>
-    ensures { OnOk result (terms_view S.tests made.new.items ≡ terms_view S.tests made.old.items ++ flat_map (lone at) (terms_view S.tests others.now)) }
+    ensures { OnOk result (terms_view S.tests made.new.items
+        ≡ terms_view S.tests made.old.items ++ flat_map (lone at) (terms_view S.tests others.now)) }
 {
     'others: for other in others {
         push_lone(alloc, made, at, other)?;
@@ -117,7 +123,8 @@ fn merge<S: States + Drop>(
     second: &[Term<S>],
 ) -> Result<Vec<Term<S>>, AllocError>
     requires { FitAll (terms_view S.tests first.now) (terms_view S.tests second.now) }
-    ensures { IfOk result (λ v. terms_view S.tests v.items ≡ merged at (terms_view S.tests first.now) (terms_view S.tests second.now)) }
+    ensures { IfOk result
+        (λ v. terms_view S.tests v.items ≡ merged at (terms_view S.tests first.now) (terms_view S.tests second.now)) }
 {
     let mut made = Vec::new(alloc);
     let mut rest = second;
@@ -138,13 +145,17 @@ pub fn combine<S: States + Drop>(
     vertex: usize,
 ) -> Result<Incompatibility<S>, AllocError>
     requires { Fit (states_at (terms_view S.tests a.now)) (states_at (terms_view S.tests b.now)) }
-    ensures combination { IfOk result (λ c. IsCombination vertex (terms_view S.tests a.now) (terms_view S.tests b.now) (terms_view S.tests c)) }
+    ensures combination { IfOk result
+        (λ c. IsCombination vertex (terms_view S.tests a.now) (terms_view S.tests b.now) (terms_view S.tests c)) }
     // It is the one list that is.
-    ensures exact { IfOk result (λ c. (ts : List TermView) → IsCombination vertex (terms_view S.tests a.now) (terms_view S.tests b.now) ts → ts ≡ terms_view S.tests c) }
+    ensures exact { IfOk result (λ c. (ts : List TermView)
+        → IsCombination vertex (terms_view S.tests a.now) (terms_view S.tests b.now) ts → ts ≡ terms_view S.tests c) }
     // Its sets are of their vertices' universes where those of the two are.
-    ensures spaces { IfOk result (λ c. (space : ℕ → ℕ) → LiesIn space (states_at (terms_view S.tests a.now)) → LiesIn space (states_at (terms_view S.tests b.now)) → LiesIn space (states_at (terms_view S.tests c))) }
+    ensures spaces { IfOk result (λ c. (space : ℕ → ℕ) → LiesIn space (states_at (terms_view S.tests a.now))
+        → LiesIn space (states_at (terms_view S.tests b.now)) → LiesIn space (states_at (terms_view S.tests c))) }
     // An assignment that breaks it breaks one of the two.
-    ensures broken { IfOk result (λ c. OneIsBroken (states_at (terms_view S.tests a.now)) (states_at (terms_view S.tests b.now)) (states_at (terms_view S.tests c))) }
+    ensures broken { IfOk result (λ c. OneIsBroken (states_at (terms_view S.tests a.now))
+        (states_at (terms_view S.tests b.now)) (states_at (terms_view S.tests c))) }
 {
     Ok(Incompatibility::of_rising(merge(alloc, vertex, a.terms(), b.terms())?))
 }

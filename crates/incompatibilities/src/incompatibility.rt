@@ -59,7 +59,8 @@ impl<S: States + Drop> Incompatibility<S> {
         requires { OneEach (terms_view S.tests terms.items) }
         ensures made { IsMadeOf (terms_view S.tests terms.items) (terms_view S.tests result) }
         // Its sets are of their vertices' universes where those of the terms are.
-        ensures spaces { (space : ℕ → ℕ) → LiesIn space (states_at (terms_view S.tests terms.items)) → LiesIn space (states_at (terms_view S.tests result)) }
+        ensures spaces { (space : ℕ → ℕ) → LiesIn space (states_at (terms_view S.tests terms.items))
+            → LiesIn space (states_at (terms_view S.tests result)) }
     {
         let mut terms = terms;
         drop_full(&mut terms);

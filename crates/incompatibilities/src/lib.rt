@@ -1,7 +1,8 @@
 //! PubGrub's incompatibilities over any set of states, and a store that remembers where each came from.
 //!
 //! An incompatibility is a list of terms that don't all hold: one term a vertex, by rising vertex, and none with all
-//! states of its vertex, since such a term says nothing. So two are combined by one merge, and of those that say the same
+//! states of its vertex, since such a term says nothing. So two are combined by one merge, and of those that say the
+//! same
 //! of each vertex there is one form.
 //!
 //! `combine` is the one rule by which anything follows: the union of the two at one vertex, the intersection at each

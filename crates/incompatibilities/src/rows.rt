@@ -80,7 +80,8 @@ pub(crate) fn reserve_rows<S: Drop>(
     terms: &[Term<S>],
 ) -> Result<(), AllocError>
     ensures grown { IsGrown rows.old.items rows.new.items }
-    ensures room { OnOk result ((v : ℕ) → stands_in v (map (λ t. t.vertex) terms.now) ≡ true → HasRoom rows.new.items v) }
+    ensures room { OnOk result
+        ((v : ℕ) → stands_in v (map (λ t. t.vertex) terms.now) ≡ true → HasRoom rows.new.items v) }
 {
     'terms: for term in terms {
         reserve_at(rows, alloc, term.vertex)?;

@@ -44,12 +44,14 @@ placed cmp p x xs k Less rest none = refl
 placed cmp p x xs k Equal rest none = cc
 placed cmp p x xs k Greater rest none = ap (λ b. p x || b) (rest none) ∙ swap_or (p x) (p k) (list_any p xs)
 
-pub any-insert_key : {K : Type 0} (cmp : K → K → Ordering) (p : K → Bool) (keys : List K) (k : K) → list_any (is_at (cmp k)) keys ≡ false → list_any p (insert_key cmp keys k) ≡ (p k || list_any p keys)
+pub any-insert_key : {K : Type 0} (cmp : K → K → Ordering) (p : K → Bool) (keys : List K) (k : K)
+    → list_any (is_at (cmp k)) keys ≡ false → list_any p (insert_key cmp keys k) ≡ (p k || list_any p keys)
 any-insert_key cmp p [] k absent = refl
 any-insert_key cmp p (x ∷ xs) k absent = placed cmp p x xs k (cmp k x) (any-insert_key cmp p xs k) absent
 
 -- versions without build metadata are ordered by precedence
-then_equal : (a b c d : Ordering) → ordering_then a (ordering_then b (ordering_then c (ordering_then d Equal))) ≡ ordering_then a (ordering_then b (ordering_then c d))
+then_equal : (a b c d : Ordering) → ordering_then a (ordering_then b (ordering_then c (ordering_then d Equal)))
+    ≡ ordering_then a (ordering_then b (ordering_then c d))
 then_equal Less b c d = refl
 then_equal Greater b c d = refl
 then_equal Equal Less c d = refl
@@ -60,23 +62,30 @@ then_equal Equal Equal Equal Less = refl
 then_equal Equal Equal Equal Equal = refl
 then_equal Equal Equal Equal Greater = refl
 
-pub cmp-bare : (v w : Version) → (parts_of v).4 ≡ [] → (parts_of w).4 ≡ [] → (cmp-value).it v w ≡ precedence (parts_of v) (parts_of w)
-cmp-bare v w none_v none_w = rw (none_v, none_w, build_parts-self []) (then_equal (nat_cmp v.major w.major) (nat_cmp v.minor w.minor) (nat_cmp v.patch w.patch) (pre_cmp (pre_text v.pre) (pre_text w.pre)))
+pub cmp-bare : (v w : Version) → (parts_of v).4 ≡ [] → (parts_of w).4 ≡ []
+    → (cmp-value).it v w ≡ precedence (parts_of v) (parts_of w)
+cmp-bare v w none_v none_w = rw (none_v, none_w, build_parts-self []) (then_equal (nat_cmp v.major w.major)
+    (nat_cmp v.minor w.minor) (nat_cmp v.patch w.patch) (pre_cmp (pre_text v.pre) (pre_text w.pre)))
 
 -- such a set finds just the versions of equal precedence
-pub found-bare : (v : Version) (keys : List Version) → (parts_of v).4 ≡ [] → WithoutBuild keys → list_any (is_at ((cmp-value).it v)) keys ≡ has_equal keys (parts_of v)
+pub found-bare : (v : Version) (keys : List Version) → (parts_of v).4 ≡ [] → WithoutBuild keys
+    → list_any (is_at ((cmp-value).it v)) keys ≡ has_equal keys (parts_of v)
 found-bare v [] none all = refl
 found-bare v (k ∷ ks) none all =
-    ap₂ (λ a b. a || b) (ap is_eq (cmp-bare v k none (All-head (λ x. (parts_of x).4 ≡ []) k ks all))) (found-bare v ks none (All-tail (λ x. (parts_of x).4 ≡ []) k ks all))
+    ap₂ (λ a b. a || b) (ap is_eq (cmp-bare v k none (All-head (λ x. (parts_of x).4 ≡ []) k ks all)))
+    (found-bare v ks none (All-tail (λ x. (parts_of x).4 ≡ []) k ks all))
 
 -- one more is kept of which none was found
-pub agrees-more : (keys : List Version) (records : List Record) (v : Version) (r : Record) → Agrees keys records → parts_of v ≡ bare (parts_of r.version)
+pub agrees-more : (keys : List Version) (records : List Record) (v : Version) (r : Record) → Agrees keys records
+    → parts_of v ≡ bare (parts_of r.version)
     → list_any (is_at ((cmp-value).it v)) keys ≡ false → Agrees (insert_key (cmp-value).it keys v) (records ++ r ∷ [])
 agrees-more keys records v r agrees same absent w =
     any-insert_key (cmp-value).it (λ k. same_precedence w (parts_of k)) keys v absent
     ∙ ap₂ (λ a b. a || b) (ap (same_precedence w) same) (agrees w)
     ∙ or_swap (same_precedence w (parts_of r.version)) (has_version (map record_view records) w)
-    ∙ sym (ap (λ rs. has_version rs w) (map-append record_view records (r ∷ [])) ∙ list_any-append (λ x. same_precedence w x.version) (map record_view records) (record_view r ∷ []) ∙ ap (λ b. has_version (map record_view records) w || b) (or_false (same_precedence w (parts_of r.version))))
+    ∙ sym (ap (λ rs. has_version rs w) (map-append record_view records (r ∷ []))
+    ∙ list_any-append (λ x. same_precedence w x.version) (map record_view records) (record_view r ∷ [])
+    ∙ ap (λ b. has_version (map record_view records) w || b) (or_false (same_precedence w (parts_of r.version))))
 
 pub from_not : (a b : Bool) → not a ≡ not b → a ≡ b
 from_not true true same = refl

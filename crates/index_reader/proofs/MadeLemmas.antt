@@ -1,5 +1,6 @@
 -- What is kept of a line is what a line says, where it tests as the same; then both lines have the same table.
-use Rattle.std.proofs.Common.{◌≡◌, suc, List, [], ◌∷◌, Bool, true, ◌&&◌, length, map, Ok, refl, sym, ap, ap₂, ◌∙◌, arith, true≢false}
+use Rattle.std.proofs.Common.{◌≡◌, suc, List, [], ◌∷◌, Bool, true, ◌&&◌, length, map, Ok, refl, sym, ap, ap₂, ◌∙◌}
+use Rattle.std.proofs.Common.{arith, true≢false}
 use Rattle.std.specs.Bool.{beq}
 use Rattle.std.specs.Cmp.{booleans_Decides}
 use Rattle.std.specs.Cmp.Lexicographic.{pointwise}
@@ -13,7 +14,8 @@ use Rattle.index_reader.specs.Made.{same_name, same_feature, Makes}
 use Rattle.index_reader.specs.Written.{dep_names_of, features_of, with_features, unless_faulty}
 
 -- lists of one length are the same where they are place by place
-pub by_place : {X Y V : Type 0} (f : X → V) (g : Y → V) (same : V → V → Bool) (xs : List X) (ys : List Y) → length xs ≡ length ys
+pub by_place : {X Y V : Type 0} (f : X → V) (g : Y → V) (same : V → V → Bool) (xs : List X) (ys : List Y)
+    → length xs ≡ length ys
     → list_all (λ (p : X × Y). same (f p.0) (g p.1)) (zip xs ys) ≡ pointwise same (map f xs) (map g ys)
 by_place f g same [] [] e = refl
 by_place f g same [] (y ∷ ys) e = absurd (let more : 0 ≡ suc (length ys) = e in omega (arith, more))
@@ -22,7 +24,8 @@ by_place f g same (x ∷ xs) (y ∷ ys) e =
     let more : suc (length xs) ≡ suc (length ys) = e in
     ap (λ r. same (f x) (g y) && r) (by_place f g same xs ys (omega (arith, more)))
 
-lists-same : {V : Type 0} (same : V → V → Bool) → ((v w : V) → same v w ≡ true → v ≡ w) → (vs ws : List V) → pointwise same vs ws ≡ true → vs ≡ ws
+lists-same : {V : Type 0} (same : V → V → Bool) → ((v w : V) → same v w ≡ true → v ≡ w) → (vs ws : List V)
+    → pointwise same vs ws ≡ true → vs ≡ ws
 lists-same same sound [] [] h = refl
 lists-same same sound [] (w ∷ ws) h = absurd (true≢false (sym h))
 lists-same same sound (v ∷ vs) [] h = absurd (true≢false (sym h))
@@ -53,6 +56,8 @@ pub names-same : (ds es : List DepName) → pointwise same_name ds es ≡ true �
 names-same = lists-same same_name name-same
 
 -- what makes the table of a line makes that of each line
-pub makes : (t : ShapeView) (table : Table) → features_of t ≡ Ok table → Makes (dep_names_of t.dependencies) t.features t.features2 table
+pub makes : (t : ShapeView) (table : Table) → features_of t ≡ Ok table
+    → Makes (dep_names_of t.dependencies) t.features t.features2 table
 unfolding features_of
-makes t table is s ds fs gs = (λ i. (with_features [] (fs i) >>= λ w. with_features w (gs i)) >>= λ w. unless_faulty (table_of (ds i) w)) ∙ is
+makes t table is s ds fs gs =
+    (λ i. (with_features [] (fs i) >>= λ w. with_features w (gs i)) >>= λ w. unless_faulty (table_of (ds i) w)) ∙ is

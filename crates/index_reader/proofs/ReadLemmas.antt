@@ -20,6 +20,7 @@ with_front front found = found >>= λ rest. Ok (front ++ rest)
 pub ruleset views = (list_all-map)
 
 -- one more is read behind that front
-pub with_front-next : {A : Type 0} (front : List A) (x : A) (rest all : Line (List A)) → with_front front (rest >>= λ others. Ok (x ∷ others)) ≡ all → with_front (front ++ x ∷ []) rest ≡ all
+pub with_front-next : {A : Type 0} (front : List A) (x : A) (rest all : Line (List A))
+    → with_front front (rest >>= λ others. Ok (x ∷ others)) ≡ all → with_front (front ++ x ∷ []) rest ≡ all
 with_front-next front x (Ok others) all told = ap Ok (append_assoc front (x ∷ []) others) ∙ told
 with_front-next front x (Err e) all told = told

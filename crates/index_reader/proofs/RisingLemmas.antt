@@ -1,5 +1,6 @@
 -- Features whose names rise are joined one behind another.
-use Rattle.std.proofs.Common.{◌≡◌, ℕ, List, [], ◌∷◌, ◌++◌, Bool, true, false, cond, ◌&&◌, T, Some, None, Ok, Err, Vec, Ordering, Less, Equal, Greater, refl, sym, ap, ◌∙◌, subst}
+use Rattle.std.proofs.Common.{◌≡◌, ℕ, List, [], ◌∷◌, ◌++◌, Bool, true, false, cond, ◌&&◌, T, Some, None, Ok, Err, Vec}
+use Rattle.std.proofs.Common.{Ordering, Less, Equal, Greater, refl, sym, ap, ◌∙◌, subst}
 use Rattle.std.proofs.lemmas.List.{append-nil}
 use Rattle.std.proofs.lemmas.Map.Keys.{IsDistinct-from_sorted}
 use Rattle.std.proofs.lemmas.Map.Lookups.{exact_bytes}
@@ -24,7 +25,8 @@ use Rattle.features.specs.declared.entry.Entry.{Entry}
 use Rattle.index_reader.specs.Lines.{Line, FeatureView}
 use Rattle.index_reader.specs.declared.fault.LineFault.TheVariants.{Skipped}
 use Rattle.index_reader.specs.declared.fault.SkipReason.TheVariants.{BadFeatures}
-use Rattle.index_reader.specs.Written.{entries_read, feature_read, features_read, joined, names_rise, with_features, with_more}
+use Rattle.index_reader.specs.Written.{entries_read, feature_read, features_read, joined, names_rise, with_features}
+use Rattle.index_reader.specs.Written.{with_more}
 use Rattle.index_reader.proofs.ReadLemmas.{with_front, with_front-next}
 
 -- ---- a row behind others
@@ -37,23 +39,30 @@ after : (name key : List ℕ) → text_cmp key name ≡ Less → text_cmp name k
 after name key less = nat_list_cmp_total.antisymm name key ∙ ap ordering_reverse less
 
 -- so do they and a row before it
-before-last : (name : List ℕ) (row : List ℕ × List model.Entry) (rows : Written) → text_cmp row.0 name ≡ Less → AllBefore row.0 rows → AllBefore name (rows ++ row ∷ [])
+before-last : (name : List ℕ) (row : List ℕ × List model.Entry) (rows : Written) → text_cmp row.0 name ≡ Less
+    → AllBefore row.0 rows → AllBefore name (rows ++ row ∷ [])
 before-last name row [] less before = (less, tt)
-before-last name row (r ∷ rows) less (first, rest) = (nat_list_cmp_total.trans r.0 row.0 name first less, before-last name row rows less rest)
+before-last name row (r ∷ rows) less (first, rest) =
+    (nat_list_cmp_total.trans r.0 row.0 name first less, before-last name row rows less rest)
 
 absent : (name : List ℕ) (rows : Written) → AllBefore name rows → entries_at name rows ≡ None
 absent name [] before = refl
 absent name (row ∷ rows) (first, rest) =
-    ap (λ b. cond b (Some row.1) (entries_at name rows)) (texts_ties name row.0 ∙ ap is_eq (after name row.0 first)) ∙ absent name rows rest
+    ap (λ b. cond b (Some row.1) (entries_at name rows))
+    (texts_ties name row.0 ∙ ap is_eq (after name row.0 first)) ∙ absent name rows rest
 
-put-last : (name : List ℕ) (es : List model.Entry) (rows : Written) → AllBefore name rows → with_row rows name es ≡ rows ++ (name, es) ∷ []
+put-last : (name : List ℕ) (es : List model.Entry) (rows : Written) → AllBefore name rows
+    → with_row rows name es ≡ rows ++ (name, es) ∷ []
 put-last name es [] before = refl
 put-last name es (row ∷ rows) (first, rest) =
-    ap (λ o. match_ordering o ((name, es) ∷ row ∷ rows) ((row.0, es) ∷ rows) (row ∷ with_row rows name es)) (after name row.0 first)
+    ap (λ o. match_ordering o ((name, es) ∷ row ∷ rows) ((row.0, es) ∷ rows) (row ∷ with_row rows name es))
+    (after name row.0 first)
     ∙ ap (λ others. row ∷ others) (put-last name es rows rest)
 
-joined-last : (row : List ℕ × List model.Entry) (rows : Written) → AllBefore row.0 rows → joined rows row ≡ rows ++ row ∷ []
-joined-last row rows before = ap (λ o. with_more o rows row.0 row.1) (absent row.0 rows before) ∙ put-last row.0 row.1 rows before
+joined-last : (row : List ℕ × List model.Entry) (rows : Written) → AllBefore row.0 rows
+    → joined rows row ≡ rows ++ row ∷ []
+joined-last row rows before =
+    ap (λ o. with_more o rows row.0 row.1) (absent row.0 rows before) ∙ put-last row.0 row.1 rows before
 
 -- ---- rows of rising names
 
@@ -74,7 +83,9 @@ named : (f : FeatureView) (row : List ℕ × List model.Entry) → feature_read 
 unfolding feature_read
 named f row read = by (is_feature_name f.name) (entries_read f.entries) read
   where
-    by : (b : Bool) (r : Line (List model.Entry)) → (cond b (Ok f.name) (Err (Skipped BadFeatures)) >>= λ name. r >>= λ entries. Ok (name, entries)) ≡ Ok row → f.name ≡ row.0
+    by : (b : Bool) (r : Line (List model.Entry))
+        → (cond b (Ok f.name) (Err (Skipped BadFeatures)) >>= λ name. r >>= λ entries. Ok (name, entries))
+        ≡ Ok row → f.name ≡ row.0
     by true (Ok es) h = cc
     by true (Err e) h = cc
     by false r h = cc
@@ -84,24 +95,30 @@ front-none (Ok xs) = refl
 front-none (Err e) = refl
 
 -- the row that is read first comes after that name, and the others after it
-rises-to : (name : List ℕ) (f : FeatureView) (row : List ℕ × List model.Entry) (fs : List FeatureView) → feature_read f ≡ Ok row → names_rise name (f ∷ fs) ≡ true
+rises-to : (name : List ℕ) (f : FeatureView) (row : List ℕ × List model.Entry) (fs : List FeatureView)
+    → feature_read f ≡ Ok row → names_rise name (f ∷ fs) ≡ true
     → (text_cmp name row.0 ≡ Less) × (names_rise row.0 fs ≡ true)
 rises-to name f row fs read rise =
     let same : f.name ≡ row.0 = named f row read in (
-      ap (text_cmp name) (sym same) ∙ is-less (text_cmp name f.name) (and-first (is_lt (text_cmp name f.name)) (names_rise f.name fs) rise),
+      ap (text_cmp name) (sym same)
+          ∙ is-less (text_cmp name f.name) (and-first (is_lt (text_cmp name f.name)) (names_rise f.name fs) rise),
       ap (λ n. names_rise n fs) (sym same) ∙ and-second (is_lt (text_cmp name f.name)) (names_rise f.name fs) rise,
     )
 
 -- features whose names rise after those of the rows are put behind them
-rising-behind : (rows : Written) (name : List ℕ) (fs : List FeatureView) → ((next : List ℕ) → text_cmp name next ≡ Less → AllBefore next rows) → names_rise name fs ≡ true
+rising-behind : (rows : Written) (name : List ℕ) (fs : List FeatureView)
+    → ((next : List ℕ) → text_cmp name next ≡ Less → AllBefore next rows) → names_rise name fs ≡ true
     → with_features rows fs ≡ with_front rows (features_read fs)
 unfolding with_features features_read
 rising-behind rows name [] before rise = ap Ok (sym (append-nil rows))
-rising-behind rows name (f ∷ fs) before rise = by (λ rows name before rise. rising-behind rows name fs before rise) (feature_read f) refl
+rising-behind rows name (f ∷ fs) before rise =
+    by (λ rows name before rise. rising-behind rows name fs before rise) (feature_read f) refl
   where
-    by : ((rows : Written) (name : List ℕ) → ((next : List ℕ) → text_cmp name next ≡ Less → AllBefore next rows) → names_rise name fs ≡ true → with_features rows fs ≡ with_front rows (features_read fs))
+    by : ((rows : Written) (name : List ℕ) → ((next : List ℕ) → text_cmp name next ≡ Less → AllBefore next rows)
+        → names_rise name fs ≡ true → with_features rows fs ≡ with_front rows (features_read fs))
         → (r : Line (List ℕ × List model.Entry)) → feature_read f ≡ r
-        → ((r >>= λ row. Ok (joined rows row)) >>= λ next. with_features next fs) ≡ with_front rows (r >>= λ first. features_read fs >>= λ others. Ok (first ∷ others))
+        → ((r >>= λ row. Ok (joined rows row)) >>= λ next. with_features next fs)
+        ≡ with_front rows (r >>= λ first. features_read fs >>= λ others. Ok (first ∷ others))
     by others (Err e) is = refl
     by others (Ok row) is =
         let rises = rises-to name f row fs is rise in
@@ -115,27 +132,35 @@ all-rising fs rise = rising-behind [] [] fs (λ next less. tt) rise ∙ front-no
 
 -- ---- the map of such rows
 
-all-after : (name next : List ℕ) (keys : List (List ℕ)) → text_cmp name next ≡ Less → AllByRecursion (λ key. text_cmp next key ≡ Less) keys → AllByRecursion (λ key. text_cmp name key ≡ Less) keys
+all-after : (name next : List ℕ) (keys : List (List ℕ)) → text_cmp name next ≡ Less
+    → AllByRecursion (λ key. text_cmp next key ≡ Less) keys → AllByRecursion (λ key. text_cmp name key ≡ Less) keys
 all-after name next [] less all = tt
-all-after name next (key ∷ keys) less (first, rest) = (nat_list_cmp_total.trans name next key less first, all-after name next keys less rest)
+all-after name next (key ∷ keys) less (first, rest) =
+    (nat_list_cmp_total.trans name next key less first, all-after name next keys less rest)
 
-sorted-read : (name : List ℕ) (fs : List FeatureView) (rows : Written) → names_rise name fs ≡ true → features_read fs ≡ Ok rows → IsStrictlySortedBy text_cmp (name ∷ keys_of rows)
+sorted-read : (name : List ℕ) (fs : List FeatureView) (rows : Written) → names_rise name fs ≡ true
+    → features_read fs ≡ Ok rows → IsStrictlySortedBy text_cmp (name ∷ keys_of rows)
 unfolding features_read IsStrictlySortedBy
 sorted-read name [] rows rise read =
     let whole : [] ≡ rows = cc in
     subst (λ rows. IsStrictlySortedBy text_cmp (name ∷ keys_of rows)) whole (tt, tt)
-sorted-read name (f ∷ fs) rows rise read = by (λ row others rise read. sorted-read row fs others rise read) (feature_read f) refl (features_read fs) refl rows read
+sorted-read name (f ∷ fs) rows rise read = by (λ row others rise read. sorted-read row fs others rise read)
+    (feature_read f) refl (features_read fs) refl rows read
   where
-    by : ((row : List ℕ) (others : Written) → names_rise row fs ≡ true → features_read fs ≡ Ok others → IsStrictlySortedBy text_cmp (row ∷ keys_of others))
-        → (r : Line (List ℕ × List model.Entry)) → feature_read f ≡ r → (s : Line Written) → features_read fs ≡ s → (rows : Written)
-        → (r >>= λ first. s >>= λ others. Ok (first ∷ others)) ≡ Ok rows → IsStrictlySortedBy text_cmp (name ∷ keys_of rows)
+    by : ((row : List ℕ) (others : Written) → names_rise row fs ≡ true → features_read fs ≡ Ok others
+        → IsStrictlySortedBy text_cmp (row ∷ keys_of others))
+        → (r : Line (List ℕ × List model.Entry)) → feature_read f ≡ r → (s : Line Written)
+        → features_read fs ≡ s → (rows : Written)
+        → (r >>= λ first. s >>= λ others. Ok (first ∷ others)) ≡ Ok rows
+        → IsStrictlySortedBy text_cmp (name ∷ keys_of rows)
     by later (Err e) is s next rows h = cc
     by later (Ok row) is (Err e) next rows h = cc
     by later (Ok row) is (Ok others) next rows h =
         let rises = rises-to name f row fs is rise in
         let sorted = later row.0 others rises.1 next in
         let whole : row ∷ others ≡ rows = cc in
-        subst (λ rows. IsStrictlySortedBy text_cmp (name ∷ keys_of rows)) whole ((rises.0, all-after name row.0 (keys_of others) rises.0 sorted.0), sorted)
+        subst (λ rows. IsStrictlySortedBy text_cmp (name ∷ keys_of rows)) whole
+        ((rises.0, all-after name row.0 (keys_of others) rises.0 sorted.0), sorted)
 
 keys-rows : (es : List (List ℕ × Vec Entry Global)) → keys_of (rows_of es) ≡ keys_of es
 keys-rows [] = refl
@@ -146,28 +171,38 @@ found-same : {X : Type 0} (q : List ℕ) (es : List (List ℕ × X)) → find te
 found-same q [] = refl
 found-same q (e ∷ es) = ap (λ o. cond (is_eq (text_cmp q e.0)) (Some e.1) o) (found-same q es)
 
-below-test : {X : Type 0} (key : List ℕ) (es : List (List ℕ × X)) → AllByRecursion (λ k. text_cmp key k ≡ Less) (keys_of es) → below_all text_cmp key es ≡ true
+below-test : {X : Type 0} (key : List ℕ) (es : List (List ℕ × X))
+    → AllByRecursion (λ k. text_cmp key k ≡ Less) (keys_of es) → below_all text_cmp key es ≡ true
 below-test key [] all = refl
 below-test key (e ∷ es) (first, rest) = ap (λ o. is_lt o && below_all text_cmp key es) first ∙ below-test key es rest
 
-sorted-test : {X : Type 0} (es : List (List ℕ × X)) → IsStrictlySortedBy text_cmp (keys_of es) → is_sorted text_cmp es ≡ true
+sorted-test : {X : Type 0} (es : List (List ℕ × X)) → IsStrictlySortedBy text_cmp (keys_of es)
+    → is_sorted text_cmp es ≡ true
 unfolding IsStrictlySortedBy
 sorted-test [] sorted = refl
-sorted-test (e ∷ es) (first, rest) = ap (λ b. b && is_sorted text_cmp es) (below-test e.0 es first) ∙ sorted-test es rest
+sorted-test (e ∷ es) (first, rest) =
+    ap (λ b. b && is_sorted text_cmp es) (below-test e.0 es first) ∙ sorted-test es rest
 
-in-place : (es : List (List ℕ × Vec Entry Global)) (m : BTreeMap (List ℕ) (Vec Entry Global)) → IsFromIterResult text_cmp es m → IsStrictlySortedBy text_cmp (keys_of es) → m.entries ≡ es
+in-place : (es : List (List ℕ × Vec Entry Global)) (m : BTreeMap (List ℕ) (Vec Entry Global))
+    → IsFromIterResult text_cmp es m → IsStrictlySortedBy text_cmp (keys_of es) → m.entries ≡ es
 in-place es m (found, ordered) sorted =
-    same_entries text_cmp nat_list_cmp_total exact_bytes m.entries es (subst T (sym (sorted-test m.entries ordered)) tt) (subst T (sym (sorted-test es sorted)) tt)
+    same_entries text_cmp nat_list_cmp_total exact_bytes m.entries es (subst T (sym (sorted-test m.entries ordered)) tt)
+    (subst T (sym (sorted-test es sorted)) tt)
     (λ q. found-same q m.entries ∙ found q
-    ∙ update_all_none (eq_by_cmp_equiv nat_list_cmp_total) (eq_by_cmp text_cmp) (λ x y. refl) es q (IsDistinct-from_sorted text_cmp (keys_of es) sorted) ∙ sym (found-same q es))
+    ∙ update_all_none (eq_by_cmp_equiv nat_list_cmp_total) (eq_by_cmp text_cmp)
+    (λ x y. refl) es q (IsDistinct-from_sorted text_cmp (keys_of es) sorted) ∙ sym (found-same q es))
 
-tail-sorted : (key : List ℕ) (keys : List (List ℕ)) → IsStrictlySortedBy text_cmp (key ∷ keys) → IsStrictlySortedBy text_cmp keys
+tail-sorted : (key : List ℕ) (keys : List (List ℕ)) → IsStrictlySortedBy text_cmp (key ∷ keys)
+    → IsStrictlySortedBy text_cmp keys
 unfolding IsStrictlySortedBy
 tail-sorted key keys s = s.1
 
 -- the map that is collected from the rows of rising features has them all
-pub map-rising : (fs : List FeatureView) (es : List (List ℕ × Vec Entry Global)) (m : BTreeMap (List ℕ) (Vec Entry Global)) → names_rise [] fs ≡ true
+pub map-rising : (fs : List FeatureView) (es : List (List ℕ × Vec Entry Global))
+    (m : BTreeMap (List ℕ) (Vec Entry Global)) → names_rise [] fs ≡ true
     → features_read fs ≡ Ok (rows_of es) → IsFromIterResult text_cmp es m → with_features [] fs ≡ Ok (rows_of m.entries)
 map-rising fs es m rise read made =
-    let sorted : IsStrictlySortedBy text_cmp (keys_of (rows_of es)) = tail-sorted [] (keys_of (rows_of es)) (sorted-read [] fs (rows_of es) rise read) in
-    all-rising fs rise ∙ read ∙ ap (λ x. Ok (rows_of x)) (sym (in-place es m made (subst (IsStrictlySortedBy text_cmp) (keys-rows es) sorted)))
+    let sorted : IsStrictlySortedBy text_cmp (keys_of (rows_of es)) =
+    tail-sorted [] (keys_of (rows_of es)) (sorted-read [] fs (rows_of es) rise read) in
+    all-rising fs rise ∙ read ∙ ap (λ x. Ok (rows_of x))
+    (sym (in-place es m made (subst (IsStrictlySortedBy text_cmp) (keys-rows es) sorted)))

@@ -1,6 +1,7 @@
 -- What a file of an index says: its lines, and of these the records and the skips (Cargo book, "Registry Index";
 -- skipping, and one version of equal precedence a file, are our own).
-use Rattle.std.specs.Prelude.{ℕ, ◌+◌, ◌-◌, ◌==◌, ◌&&◌, Bool, not, if◌then◌else◌, List, [], ◌∷◌, ◌++◌, length, count_by, slice_index, Ok, Err}
+use Rattle.std.specs.Prelude.{ℕ, ◌+◌, ◌-◌, ◌==◌, ◌&&◌, Bool, not, if◌then◌else◌, List, [], ◌∷◌, ◌++◌, length, count_by}
+use Rattle.std.specs.Prelude.{slice_index, Ok, Err}
 use Rattle.std.specs.List.{list_any, slice_split}
 use Rattle.std.specs.Ordering.{is_eq}
 use Rattle.semver.specs.Parse.{Parts}
@@ -41,11 +42,13 @@ abbrev pub has_version : List RecordView → Parts → Bool
 has_version records v = list_any (λ r. same_precedence v r.version) records
 
 abbrev pub with_skip : List ℕ → ℕ → SkipReason → FileView → FileView
-with_skip name n why file = record { records = file.records; skips = file.skips ++ record { name = name; line = n; reason = why } ∷ [] }
+with_skip name n why file =
+    record { records = file.records; skips = file.skips ++ record { name = name; line = n; reason = why } ∷ [] }
 
 -- a record is kept where no earlier one that is kept has a version of equal precedence
 abbrev pub with_record : List ℕ → ℕ → RecordView → FileView → FileView
-with_record name n r file = if has_version file.records r.version then with_skip name n Duplicate file else record { records = file.records ++ r ∷ []; skips = file.skips }
+with_record name n r file = if has_version file.records r.version then with_skip name n Duplicate file else
+    record { records = file.records ++ r ∷ []; skips = file.skips }
 
 -- a record whose checksum is none isn't kept; an earlier version of equal precedence is the first reason
 abbrev pub with_found : List ℕ → ℕ → RecordView → FileView → FileView

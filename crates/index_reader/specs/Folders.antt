@@ -1,6 +1,7 @@
 -- What a folder of files answers for a path, and when a call of it may fail (Cargo book, "Registry Index"; the counting
 -- of failures is our own).
-use Rattle.std.specs.Prelude.{◌≡◌, ℕ, ◌<◌, ◌⊎◌, ◌^◌, ◌-◌, ◌+◌, ◌==◌, nat_le, Bool, true, false, if◌then◌else◌, List, Option, option_map, Result, Ok, Err, String, Vec, string_bytes}
+use Rattle.std.specs.Prelude.{◌≡◌, ℕ, ◌<◌, ◌⊎◌, ◌^◌, ◌-◌, ◌+◌, ◌==◌, nat_le, Bool, true, false, if◌then◌else◌, List}
+use Rattle.std.specs.Prelude.{Option, option_map, Result, Ok, Err, String, Vec, string_bytes}
 use Rattle.std.specs.Ordering.{nat_cmp}
 use Rattle.std.specs.Cmp.Lexicographic.{slice_cmp}
 use Rattle.std.specs.Map.{lookup}
@@ -52,7 +53,8 @@ fails_next f = nat_le f.k (counted f.calls)
 
 -- what the next call answers, and what it leaves
 abbrev pub Answers : Bool → Failing → List ℕ → Answer → Failing → Type 0
-Answers true old path answer new = (answer ≡ Err Failed) × (new.files ≡ old.files) × (new.failures ≡ counted old.failures)
+Answers true old path answer new =
+    (answer ≡ Err Failed) × (new.files ≡ old.files) × (new.failures ≡ counted old.failures)
 Answers false old path answer new = MemoryCalls old.files path answer new.files × (new.failures ≡ old.failures)
 
 -- a call of such a folder: each is counted

@@ -1,8 +1,10 @@
 -- The shape of a line of an index file: what its JSON object holds, before the texts in it are read (Cargo book,
 -- "Registry Index", "JSON schema").
-use Rattle.std.specs.Prelude.{ℕ, Bool, true, false, if◌then◌else◌, List, [], ◌∷◌, Option, Some, None, option_map, option_and_then, Result, Ok, Err, codes}
+use Rattle.std.specs.Prelude.{ℕ, Bool, true, false, if◌then◌else◌, List, [], ◌∷◌, Option, Some, None, option_map}
+use Rattle.std.specs.Prelude.{option_and_then, Result, Ok, Err, codes}
 use Rattle.std.specs.Option.{ok_or}
-use Rattle.serde_json.specs.Data.{Data, null, boolean, number, string, array, object, Items, no_items, item, Members, no_members, member}
+use Rattle.serde_json.specs.Data.{Data, null, boolean, number, string, array, object, Items, no_items, item, Members}
+use Rattle.serde_json.specs.Data.{no_members, member}
 use Rattle.serde_json.specs.Find.{get, as_str, as_bool, as_array, as_object, as_number, as_u64}
 use Rattle.model.specs.Outcome.{◌>>=◌}
 use Rattle.model.specs.Summary.{same_text}
@@ -151,7 +153,16 @@ part_of name d = do
   default_flag ← flag_at (codes "default_features") true d
   features ← texts_or_none (value_at (codes "features") d)
   registry ← optional None text_of (value_at (codes "registry") d)
-  Ok (record { name = name; real_name = real_name; requirement = requirement; optional = optional_flag; default_features = default_flag; features = features; registry = registry })
+  Ok (record {
+    name = name;
+    real_name = real_name;
+    requirement = requirement;
+    optional =
+        optional_flag;
+    default_features = default_flag;
+    features = features;
+    registry = registry;
+  })
 
 abbrev pub by_kind : List ℕ → DependencyKind → Data → Line DependencyView
 by_kind name kind d = if is_dev kind then Ok (dev name) else (part_of name d >>= λ p. Ok (part p))
@@ -200,4 +211,15 @@ shape_of d = do
   features2 ← features_at (codes "features2") d
   yanked ← flag_at (codes "yanked") false d
   format ← whole_at (codes "v") 1 d
-  Ok (record { name = name; version = version; checksum = checksum; dependencies = dependencies; features = features; features2 = features2; yanked = yanked; format = format; rust_version = rust_version_at d })
+  Ok (record {
+    name = name;
+    version = version;
+    checksum = checksum;
+    dependencies = dependencies;
+    features =
+        features;
+    features2 = features2;
+    yanked = yanked;
+    format = format;
+    rust_version = rust_version_at d;
+  })

@@ -22,4 +22,5 @@ same_feature a b = same_text a.name b.name && pointwise same_text a.entries b.en
 
 -- each line with these names of dependencies and these features has this table
 abbrev pub Makes : List DepName → List FeatureView → List FeatureView → Table → Type 0
-Makes names features features2 table = (s : ShapeView) → dep_names_of s.dependencies ≡ names → s.features ≡ features → s.features2 ≡ features2 → features_of s ≡ Ok table
+Makes names features features2 table = (s : ShapeView) → dep_names_of s.dependencies ≡ names → s.features ≡ features
+    → s.features2 ≡ features2 → features_of s ≡ Ok table

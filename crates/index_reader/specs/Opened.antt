@@ -1,6 +1,7 @@
 -- What is read of a file by its path and up to how many bytes, what an error means for it, and what a folder on a disk
 -- answers (our own).
-use Rattle.std.specs.Prelude.{◌≡◌, ◌≢◌, ◌⊎◌, ℕ, ◌==◌, if◌then◌else◌, List, ◌++◌, length, Option, Some, None, Result, Ok, Err, IfSome, Vec, codes, take}
+use Rattle.std.specs.Prelude.{◌≡◌, ◌≢◌, ◌⊎◌, ℕ, ◌==◌, if◌then◌else◌, List, ◌++◌, length, Option, Some, None, Result, Ok}
+use Rattle.std.specs.Prelude.{Err, IfSome, Vec, codes, take}
 use Rattle.std.specs.IoError.{error_kind, raw_os_error}
 use Rattle.std.specs.declared.alloc.Global.{Global}
 use Rattle.std.specs.declared.io.Error.{Error}
@@ -30,10 +31,12 @@ IsFaultOf e Unreadable = (error_kind e ≢ kind.NotFound) × ¬ (IsOurWant e)
 
 -- Files are opened by their paths; of one that is open some bytes are left, where they are known, and reading them may
 -- end with an error.
-module _ {F : Type 0} (opens : List ℕ → Result F Error → Type 0) (left : F → Option (List ℕ)) (fails : F → Error → Type 0) where
+module _ {F : Type 0} (opens : List ℕ → Result F Error → Type 0) (left : F → Option (List ℕ))
+    (fails : F → Error → Type 0) where
   -- the first bytes of the file at a path, or the error of opening or of reading it
   abbrev pub IsFront : List ℕ → ℕ → Result (Vec ℕ Global) Error → Type 0
-  IsFront path most (Ok bytes) = (file : F) × opens path (Ok file) × IfSome (left file) (λ whole. bytes.items ≡ take most whole)
+  IsFront path most (Ok bytes) =
+      (file : F) × opens path (Ok file) × IfSome (left file) (λ whole. bytes.items ≡ take most whole)
   IsFront path most (Err e) = opens path (Err e) ⊎ ((file : F) × opens path (Ok file) × fails file e)
 
   -- the same, where the error is told by what it means
@@ -64,10 +67,12 @@ failures_after n (Ok o) = n
 failures_after n (Err folder.OutOfMemory) = n
 failures_after n (Err folder.Failed) = counted n
 
-module _ {O F : Type 0} (opens : O → List ℕ → Result F Error → Type 0) (left : F → Option (List ℕ)) (fails : F → Error → Type 0) where
+module _ {O F : Type 0} (opens : O → List ℕ → Result F Error → Type 0) (left : F → Option (List ℕ))
+    (fails : F → Error → Type 0) where
   -- A call of a folder on a disk: the file at the path below it is read, unless memory is wanting for that path.
   -- Nothing but the count of failures changes.
   pub record DiskCalls (old : OnDisk O) (path : List ℕ) (answer : Answer) (new : OnDisk O) : Type 0 where
     pub answers : (answer ≡ Err folder.OutOfMemory)
-        ⊎ ((given : Result (Vec ℕ Global) FileFault) × IsRead (opens old.opener) left fails (path_below old.path path) most_of_index given × (answer ≡ answer_of given))
+        ⊎ ((given : Result (Vec ℕ Global) FileFault) × IsRead (opens old.opener) left fails
+        (path_below old.path path) most_of_index given × (answer ≡ answer_of given))
     pub leaves : new ≡ record { opener = old.opener; path = old.path; failures = failures_after old.failures answer }

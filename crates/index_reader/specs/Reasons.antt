@@ -1,7 +1,9 @@
 -- How the reason to skip a line of an index file is printed: its number and its name (both our own).
 use Rattle.std.specs.Prelude.{ℕ, List, codes}
 use Rattle.index_reader.specs.declared.fault.SkipReason.{SkipReason}
-use Rattle.index_reader.specs.declared.fault.SkipReason.TheVariants.{NotJson, Shape, NewerFormat, OtherName, BadVersion, BadRequirement, BadFeatures, OtherRegistry, Duplicate, BadChecksum}
+use Rattle.index_reader.specs.declared.fault.SkipReason.TheVariants.{NotJson, Shape, NewerFormat, OtherName, BadVersion}
+use Rattle.index_reader.specs.declared.fault.SkipReason.TheVariants.{BadRequirement, BadFeatures, OtherRegistry}
+use Rattle.index_reader.specs.declared.fault.SkipReason.TheVariants.{Duplicate, BadChecksum}
 
 abbrev pub reason_text : SkipReason → List ℕ
 reason_text NotJson = codes "S1 NotJson"

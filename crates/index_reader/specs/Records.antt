@@ -1,5 +1,6 @@
 -- Which lines of an index file are records, and why the others are skipped (Cargo book, "Registry Index").
-use Rattle.std.specs.Prelude.{ℕ, Bool, true, ◌==◌, ◌&&◌, ◌||◌, if◌then◌else◌, List, [], ◌∷◌, Option, is_none, unwrap_or, length, Result, Ok, Err}
+use Rattle.std.specs.Prelude.{ℕ, Bool, true, ◌==◌, ◌&&◌, ◌||◌, if◌then◌else◌, List, [], ◌∷◌, Option, is_none, unwrap_or}
+use Rattle.std.specs.Prelude.{length, Result, Ok, Err}
 use Rattle.std.specs.List.{list_all}
 use Rattle.semver.specs.Parse.{Parts, Held, version_parts, req_of}
 use Rattle.semver.specs.declared.error.Error.{Error}
@@ -48,12 +49,21 @@ before first others = first >>= λ x. others >>= λ xs. Ok (x ∷ xs)
 -- empty texts are left out
 unfoldable pub feature_names : List (List ℕ) → Line (List (List ℕ))
 feature_names [] = Ok []
-feature_names (text ∷ texts) = if is_empty_text text then feature_names texts else before (feature_name_of text) (feature_names texts)
+feature_names (text ∷ texts) =
+    if is_empty_text text then feature_names texts else before (feature_name_of text) (feature_names texts)
 
 unfoldable pub dependency_read : PartView × List Held → Line model.Dependency
 dependency_read d = do
   features ← feature_names d.0.features
-  Ok (record { name = d.0.name; real_name = unwrap_or d.0.real_name d.0.name; requirement = d.1; optional = d.0.optional; default_features = d.0.default_features; features = features })
+  Ok (record {
+    name = d.0.name;
+    real_name = unwrap_or d.0.real_name d.0.name;
+    requirement = d.1;
+    optional =
+        d.0.optional;
+    default_features = d.0.default_features;
+    features = features;
+  })
 
 unfoldable pub dependencies_read : List (PartView × List Held) → Line (List model.Dependency)
 dependencies_read [] = Ok []
@@ -85,7 +95,14 @@ unchecked_of_shape asked s = do
   dependencies ← dependencies_read parts
   features ← features_of s
   registries ← unless (list_all is_of_index s.dependencies) reason.OtherRegistry
-  Ok (record { version = version; checksum = s.checksum; yanked = s.yanked; rust_version = s.rust_version; brings = record { dependencies = dependencies; features = features } })
+  Ok (record {
+    version = version;
+    checksum = s.checksum;
+    yanked = s.yanked;
+    rust_version = s.rust_version;
+    brings =
+        record { dependencies = dependencies; features = features };
+  })
 
 -- what a line says, whatever its checksum is
 unfoldable pub unchecked_of_line : List ℕ → List ℕ → Line RecordView

@@ -1,6 +1,7 @@
 -- The features that a line writes, and the table that they make (Cargo book, "Registry Index", "JSON schema", and
 -- "Features"; what stands in both `features` and `features2` is joined, which is our own).
-use Rattle.std.specs.Prelude.{ℕ, Bool, true, false, ◌&&◌, if◌then◌else◌, List, [], ◌∷◌, ◌++◌, map, Option, Some, None, Result, Ok, Err}
+use Rattle.std.specs.Prelude.{ℕ, Bool, true, false, ◌&&◌, if◌then◌else◌, List, [], ◌∷◌, ◌++◌, map, Option, Some, None}
+use Rattle.std.specs.Prelude.{Result, Ok, Err}
 use Rattle.std.specs.Map.{set_value}
 use Rattle.std.specs.Option.{ok_or}
 use Rattle.std.specs.Ordering.{is_lt}

@@ -46,7 +46,12 @@ impl<O: Opens + AllocGlobal + Clone + Drop> DiskFolder<O> {
     /// The answer where reading a file gave this; a failure is counted.
     fn answer(&mut self, given: Result<Vec<u8>, FileFault>) -> Result<Option<Vec<u8>>, FolderFault>
         ensures answer { answer_view result ≡ answer_of given }
-        ensures counted { self.new ≡ record { opener = self.old.opener; path = self.old.path; failures = failures_after self.old.failures (answer_view result) } }
+        ensures counted { self.new ≡ record {
+          opener = self.old.opener;
+          path = self.old.path;
+          failures =
+              failures_after self.old.failures (answer_view result);
+        } }
     {
         match given {
             Ok(bytes) => Ok(Some(bytes)),

@@ -79,7 +79,8 @@ fn read_texts(
     texts: &[&[u8]],
     scratch: &mut Scratch,
 ) -> Result<FileSoFar, AllocError>
-    ensures { IfOk result (λ f. file_view f.records.items f.skips.items ≡ with_lines name.now 1 (map (λ x. x.now) texts.now) no_lines) }
+    ensures { IfOk result
+        (λ f. file_view f.records.items f.skips.items ≡ with_lines name.now 1 (map (λ x. x.now) texts.now) no_lines) }
 {
     let mut file = FileSoFar::with_room(alloc, texts.len())?;
     let mut before = LineBefore::none(texts.len());
@@ -100,7 +101,8 @@ fn with_line(
     scratch: &mut Scratch,
     before: &mut LineBefore,
 ) -> Result<FileSoFar, AllocError>
-    ensures { IfOk result (λ f. file_view f.records.items f.skips.items ≡ with_line name.now number text.now (file_view file.records.items file.skips.items)) }
+    ensures { IfOk result (λ f. file_view f.records.items f.skips.items
+        ≡ with_line name.now number text.now (file_view file.records.items file.skips.items)) }
 {
     if is_blank(text) {
         return Ok(file);

@@ -45,7 +45,8 @@ impl FileSoFar {
         line: u64,
         reason: SkipReason,
     ) -> Result<FileSoFar, AllocError>
-        ensures { IfOk result (λ f. file_view f.records.items f.skips.items ≡ with_skip name.now line reason (file_view self.records.items self.skips.items)) }
+        ensures { IfOk result (λ f. file_view f.records.items f.skips.items
+            ≡ with_skip name.now line reason (file_view self.records.items self.skips.items)) }
     {
         let name = name.clone()?;
         self.skips.push(Skip { name, line, reason })?;
@@ -60,7 +61,8 @@ impl FileSoFar {
         line: u64,
         found: Record,
     ) -> Result<FileSoFar, AllocError>
-        ensures { IfOk result (λ f. file_view f.records.items f.skips.items ≡ with_found name.now line (record_view found) (file_view self.records.items self.skips.items)) }
+        ensures { IfOk result (λ f. file_view f.records.items f.skips.items
+            ≡ with_found name.now line (record_view found) (file_view self.records.items self.skips.items)) }
     {
         if is_checksum(found.checksum.as_str()) {
             return self.with_record(name, line, found);
@@ -86,7 +88,8 @@ impl FileSoFar {
         line: u64,
         found: Record,
     ) -> Result<FileSoFar, AllocError>
-        ensures { IfOk result (λ f. file_view f.records.items f.skips.items ≡ with_record name.now line (record_view found) (file_view self.records.items self.skips.items)) }
+        ensures { IfOk result (λ f. file_view f.records.items f.skips.items
+            ≡ with_record name.now line (record_view found) (file_view self.records.items self.skips.items)) }
     {
         let version = without_build(&found.version)?;
         if !self.kept.insert(version)? {

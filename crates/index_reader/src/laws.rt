@@ -9,7 +9,8 @@ ghost use Rattle.index_reader.specs.Files.{records_of_file};
 
 /// No two records of a file are of equal precedence.
 pub fn records_are_apart()
-    ensures { (name bytes : List ℕ) → AllPairs (λ a b. precedence a.version b.version ≢ Equal) (records_of_file name bytes).records }
+    ensures { (name bytes : List ℕ)
+        → AllPairs (λ a b. precedence a.version b.version ≢ Equal) (records_of_file name bytes).records }
 {}
 
 /// In the feature table that a record brings, an entry that names a feature names one of the same table.

@@ -8,8 +8,11 @@ ghost use Rattle.semver.specs.Parse.{memory_error, req_of, version_parts};
 ghost use Rattle.model.specs.Outcome.{Gives};
 ghost use Rattle.index_reader.specs.Lines.{wants_memory};
 ghost use Rattle.features.specs.Views.{requirement_view, dependency_view, dependency_views};
-ghost use Rattle.index_reader.specs.Records.{unless, semver_or, required, feature_names, dependency_read, dependencies_read, is_of_index, is_hexadecimal, is_checksum, checked, unchecked_of_shape, unchecked_of_line, record_of_line};
-ghost use Rattle.index_reader.specs.Shapes.{texts_view, line_dependency_view, line_dependency_views, shape_view, required_view, required_views};
+ghost use Rattle.index_reader.specs.Records.{unless, semver_or, required, feature_names, dependency_read};
+ghost use Rattle.index_reader.specs.Records.{dependencies_read, is_of_index, is_hexadecimal, is_checksum, checked};
+ghost use Rattle.index_reader.specs.Records.{unchecked_of_shape, unchecked_of_line, record_of_line};
+ghost use Rattle.index_reader.specs.Shapes.{texts_view, line_dependency_view, line_dependency_views, shape_view};
+ghost use Rattle.index_reader.specs.Shapes.{required_view, required_views};
 ghost use Rattle.index_reader.specs.Views.{record_view};
 
 use crate::fault::{LineFault, SkipReason};
@@ -132,7 +135,8 @@ fn fitted(alloc: Global, mut requirement: VersionReq) -> Result<VersionReq, Allo
 
 /// What an error of `semver` is as a reason to skip.
 fn fault_of(e: semver::Error, why: SkipReason) -> LineFault
-    ensures { ((result ≡ LineFault.OutOfMemory) × (e ≡ memory_error)) ⊎ ((result ≡ LineFault.Skipped why) × (e ≢ memory_error)) }
+    ensures { ((result ≡ LineFault.OutOfMemory) × (e ≡ memory_error))
+        ⊎ ((result ≡ LineFault.Skipped why) × (e ≢ memory_error)) }
 {
     if e == semver::Error::from(AllocError) {
         LineFault::OutOfMemory
@@ -164,7 +168,8 @@ fn requirements<'a>(
 
 #[tactic(auto, unfolding(crate::specs::Records::dependencies_read))]
 fn dependencies(alloc: Global, parts: Vec<Required<'_>>) -> Result<Vec<Dependency>, LineFault>
-    ensures { Gives wants_memory (λ v. dependency_views v.items) result (dependencies_read (required_views parts.entry.items)) }
+    ensures { Gives wants_memory
+        (λ v. dependency_views v.items) result (dependencies_read (required_views parts.entry.items)) }
 {
     let mut found = Vec::with_capacity(alloc, parts.len())?;
     'parts: for part in parts {
@@ -217,7 +222,8 @@ fn feature_names(alloc: Global, texts: &[&str]) -> Result<Vec<FeatureName>, Line
 /// A dependency of another registry is one of another index.
 #[tactic(auto, using(crate::proofs::ReadLemmas::views))]
 fn check_registries(dependencies: &[DependencyShape<'_>]) -> Result<(), LineFault>
-    ensures { Gives wants_memory (λ u. u) result (unless (list_all is_of_index (line_dependency_views dependencies.now)) SkipReason.OtherRegistry) }
+    ensures { Gives wants_memory (λ u. u) result
+        (unless (list_all is_of_index (line_dependency_views dependencies.now)) SkipReason.OtherRegistry) }
 {
     check(are_of_index(dependencies), SkipReason::OtherRegistry)
 }

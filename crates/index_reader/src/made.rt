@@ -32,7 +32,8 @@ struct MadeTable {
     features: Vec<FeatureText>,
     features2: Vec<FeatureText>,
     table: FeatureTable,
-    ghost made: { Makes (dep_names_view names.items) (feature_text_views features.items) (feature_text_views features2.items) table },
+    ghost made: { Makes (dep_names_view names.items) (feature_text_views features.items)
+        (feature_text_views features2.items) table },
 }
 
 /// The line before, as far as the next one goes by it.
@@ -183,7 +184,8 @@ fn are_features(known: &[FeatureText], features: &[FeatureShape<'_>]) -> bool
 }
 
 fn all_features(known: &[FeatureText], features: &[FeatureShape<'_>]) -> bool
-    ensures { result ≡ list_all (λ p. same_feature (feature_text_view p.0) (feature_view p.1)) (zip known.now features.now) }
+    ensures { result
+        ≡ list_all (λ p. same_feature (feature_text_view p.0) (feature_view p.1)) (zip known.now features.now) }
 {
     known
         .iter()

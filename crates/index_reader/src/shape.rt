@@ -2,9 +2,13 @@
 
 ghost use Rattle.std.specs.Prelude.{◌≡◌, Some, None, option_map};
 ghost use Rattle.model.specs.Outcome.{Gives};
-ghost use Rattle.index_reader.specs.Lines.{wants_memory, value_at, package_name_of, package_name_at, package_name_or_none, kind_of_text, kind_at, part_of, by_kind, dependency_of, dependencies_in, dependencies_at, features_in, features_or_none, rust_version_at, shape_of};
+ghost use Rattle.index_reader.specs.Lines.{wants_memory, value_at, package_name_of, package_name_at};
+ghost use Rattle.index_reader.specs.Lines.{package_name_or_none, kind_of_text, kind_at, part_of, by_kind};
+ghost use Rattle.index_reader.specs.Lines.{dependency_of, dependencies_in, dependencies_at, features_in};
+ghost use Rattle.index_reader.specs.Lines.{features_or_none, rust_version_at, shape_of};
 ghost use Rattle.classes.specs.RustVersions.{rust_version_view};
-ghost use Rattle.index_reader.specs.Shapes.{feature_views, part_view, line_dependency_view, line_dependency_views, shape_view};
+ghost use Rattle.index_reader.specs.Shapes.{feature_views, part_view, line_dependency_view, line_dependency_views};
+ghost use Rattle.index_reader.specs.Shapes.{shape_view};
 ghost use Rattle.trees.specs.Trees.{tree_view, trees_view, entries_view, listed_view};
 
 use crate::fault::{LineFault, SkipReason};
@@ -237,7 +241,8 @@ fn dependencies_in<'a>(
     alloc: Global,
     values: &Vec<Value<'a>>,
 ) -> Result<Vec<DependencyShape<'a>>, LineFault>
-    ensures { Gives wants_memory (λ v. line_dependency_views v.items) result (dependencies_in (trees_view values.now.items)) }
+    ensures { Gives wants_memory
+        (λ v. line_dependency_views v.items) result (dependencies_in (trees_view values.now.items)) }
 {
     let mut found = Vec::with_capacity(alloc, values.len())?;
     'items: for value in values.iter() {
@@ -308,7 +313,8 @@ fn features_at<'a>(
     line: &Value<'a>,
     key: &str,
 ) -> Result<Vec<FeatureShape<'a>>, LineFault>
-    ensures { Gives wants_memory (λ v. feature_views v.items) result (features_or_none (value_at key.now (tree_view line.now))) }
+    ensures { Gives wants_memory
+        (λ v. feature_views v.items) result (features_or_none (value_at key.now (tree_view line.now))) }
 {
     match value(line, key) {
         Some(found) => match as_members(found) {

@@ -2,7 +2,8 @@
 
 ghost use Rattle.std.specs.Prelude.{◌≡◌, None, Some, option_map};
 ghost use Rattle.model.specs.Outcome.{Gives};
-ghost use Rattle.index_reader.specs.Lines.{wants_memory, data_of_bytes, value_at, text_at, text_of, flag_at, whole_at, optional, texts_in, texts_of, texts_or_none};
+ghost use Rattle.index_reader.specs.Lines.{wants_memory, data_of_bytes, value_at, text_at, text_of, flag_at, whole_at};
+ghost use Rattle.index_reader.specs.Lines.{optional, texts_in, texts_of, texts_or_none};
 ghost use Rattle.index_reader.specs.Shapes.{texts_view, text_view};
 ghost use Rattle.trees.specs.Trees.{tree_view, trees_view};
 
@@ -120,7 +121,8 @@ pub(crate) fn texts_at<'a>(
     object: &Value<'a>,
     key: &str,
 ) -> Result<Vec<&'a str>, LineFault>
-    ensures { Gives wants_memory (λ v. texts_view v.items) result (texts_or_none (value_at key.now (tree_view object.now))) }
+    ensures { Gives wants_memory
+        (λ v. texts_view v.items) result (texts_or_none (value_at key.now (tree_view object.now))) }
 {
     match value(object, key) {
         Some(found) => texts(alloc, found),

@@ -11,8 +11,11 @@ ghost use Rattle.features.specs.Entries.{entry_of};
 ghost use Rattle.features.specs.EntryViews.{entry_view, entry_views};
 ghost use Rattle.features.specs.Tables.{built, dep_name_view, dep_names_view, rows_of, table_wants_memory};
 ghost use Rattle.index_reader.specs.Lines.{wants_memory};
-ghost use Rattle.index_reader.specs.Shapes.{texts_view, feature_view, feature_views, line_dependency_view, line_dependency_views, shape_view};
-ghost use Rattle.index_reader.specs.Written.{feature_name_of, entry_read, entries_read, feature_read, features_read, joined, names_rise, with_feature, with_features, written_of, dep_name_of, dep_names_of, unless_faulty, features_of, skip_of};
+ghost use Rattle.index_reader.specs.Shapes.{texts_view, feature_view, feature_views, line_dependency_view};
+ghost use Rattle.index_reader.specs.Shapes.{line_dependency_views, shape_view};
+ghost use Rattle.index_reader.specs.Written.{feature_name_of, entry_read, entries_read, feature_read, features_read};
+ghost use Rattle.index_reader.specs.Written.{joined, names_rise, with_feature, with_features, written_of, dep_name_of};
+ghost use Rattle.index_reader.specs.Written.{dep_names_of, unless_faulty, features_of, skip_of};
 
 use crate::fault::{LineFault, SkipReason};
 use crate::shape::{DependencyShape, FeatureShape, LineShape};
@@ -107,7 +110,8 @@ fn rows(
 
 #[tactic(auto, unfolding(crate::specs::Written::feature_read))]
 fn row(alloc: Global, feature: &FeatureShape<'_>) -> Result<(FeatureName, Vec<Entry>), LineFault>
-    ensures { Gives wants_memory (λ row. (row.0, entry_views row.1.items)) result (feature_read (feature_view feature.now)) }
+    ensures { Gives wants_memory
+        (λ row. (row.0, entry_views row.1.items)) result (feature_read (feature_view feature.now)) }
 {
     let name = feature_name(alloc, feature.name)?;
     let entries = entries(alloc, &feature.entries)?;
@@ -129,7 +133,8 @@ fn with_features(
     mut written: BTreeMap<FeatureName, Vec<Entry>>,
     features: &[FeatureShape<'_>],
 ) -> Result<BTreeMap<FeatureName, Vec<Entry>>, LineFault>
-    ensures { Gives wants_memory (λ m. rows_of m.entries) result (with_features (rows_of written.entries) (feature_views features.now)) }
+    ensures { Gives wants_memory
+        (λ m. rows_of m.entries) result (with_features (rows_of written.entries) (feature_views features.now)) }
 {
     'features: for feature in features {
         written = with_feature(alloc, written, feature)?;
@@ -143,7 +148,8 @@ fn with_feature(
     written: BTreeMap<FeatureName, Vec<Entry>>,
     feature: &FeatureShape<'_>,
 ) -> Result<BTreeMap<FeatureName, Vec<Entry>>, LineFault>
-    ensures { Gives wants_memory (λ m. rows_of m.entries) result (with_feature (rows_of written.entries) (feature_view feature.now)) }
+    ensures { Gives wants_memory
+        (λ m. rows_of m.entries) result (with_feature (rows_of written.entries) (feature_view feature.now)) }
 {
     let name = feature_name(alloc, feature.name)?;
     let entries = entries(alloc, &feature.entries)?;
@@ -156,7 +162,8 @@ fn with_entries(
     name: FeatureName,
     mut entries: Vec<Entry>,
 ) -> Result<BTreeMap<FeatureName, Vec<Entry>>, AllocError>
-    ensures { IfOk result (λ m. rows_of m.entries ≡ joined (rows_of written.entries) (name, entry_views entries.items)) }
+    ensures { IfOk result
+        (λ m. rows_of m.entries ≡ joined (rows_of written.entries) (name, entry_views entries.items)) }
 {
     if let Some(before) = written.get_mut(&name) {
         before.append(&mut entries)?;
@@ -231,7 +238,8 @@ fn table(
     names: &[DepName],
     written: BTreeMap<FeatureName, Vec<Entry>>,
 ) -> Result<FeatureTable, LineFault>
-    ensures { Gives wants_memory (λ t. t) result (unless_faulty (table_of (dep_names_view names.now) (rows_of written.entries))) }
+    ensures { Gives wants_memory
+        (λ t. t) result (unless_faulty (table_of (dep_names_view names.now) (rows_of written.entries))) }
 {
     match FeatureTable::build(alloc, names, written) {
         Ok(table) => Ok(table),

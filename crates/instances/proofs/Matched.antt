@@ -13,11 +13,15 @@ use Rattle.looking_up.specs.Ranges.{is_of, versions_with}
 use Rattle.looking_up.proofs.Classed.{with_classed}
 use Rattle.looking_up.specs.Matching.{is_left}
 
-pub left_is : (m : ManifestView) (c : CatalogueView) (d : Dependency) (k : Class) (vs : List Version) → map parts_of vs ≡ filter (is_of k) (map (λ r. r.version) (candidates_at c d.real_name))
-    → versions_with (is_left d.requirement) (map parts_of vs) ≡ versions_that (problem_in m c) (λ e. not (matched d e)) d.real_name k
+pub left_is : (m : ManifestView) (c : CatalogueView) (d : Dependency) (k : Class) (vs : List Version)
+    → map parts_of vs ≡ filter (is_of k) (map (λ r. r.version) (candidates_at c d.real_name))
+    → versions_with (is_left d.requirement) (map parts_of vs)
+    ≡ versions_that (problem_in m c) (λ e. not (matched d e)) d.real_name k
 unfolding is_left
 left_is m c d k vs e = with_classed m c d.real_name k vs e (λ v. not (matches_views d.requirement v))
 
-pub taken_is : (m : ManifestView) (c : CatalogueView) (d : Dependency) (k : Class) (vs : List Version) → map parts_of vs ≡ filter (is_of k) (map (λ r. r.version) (candidates_at c d.real_name))
-    → versions_with (matches_views d.requirement) (map parts_of vs) ≡ versions_that (problem_in m c) (matched d) d.real_name k
+pub taken_is : (m : ManifestView) (c : CatalogueView) (d : Dependency) (k : Class) (vs : List Version)
+    → map parts_of vs ≡ filter (is_of k) (map (λ r. r.version) (candidates_at c d.real_name))
+    → versions_with (matches_views d.requirement) (map parts_of vs)
+    ≡ versions_that (problem_in m c) (matched d) d.real_name k
 taken_is m c d k vs e = with_classed m c d.real_name k vs e (matches_views d.requirement)

@@ -28,7 +28,8 @@ pub(crate) fn without_full<'a>(
     problem: &Problem<'a>,
     terms: Vec<Term<'a>>,
 ) -> Result<Vec<Term<'a>>, AllocError>
-    ensures { IfOk result (λ v. term_views v.items ≡ without_full (problem_view problem.now) (term_views terms.entry.items)) }
+    ensures { IfOk result
+        (λ v. term_views v.items ≡ without_full (problem_view problem.now) (term_views terms.entry.items)) }
 {
     let mut kept = Vec::new(alloc);
     'terms: for term in terms {
@@ -60,7 +61,8 @@ fn has_present(states: &StateSet<'_>) -> bool
 
 /// Whether the states have all of the vertex but `absent`.
 fn has_others<'a>(problem: &Problem<'a>, vertex: &VertexRef<'a>, states: &StateSet<'a>) -> bool
-    ensures { result ≡ list_all (has_state states.now) (others (problem_view problem.now) (vertex_ref_view vertex.now)) }
+    ensures { result
+        ≡ list_all (has_state states.now) (others (problem_view problem.now) (vertex_ref_view vertex.now)) }
 {
     match vertex {
         VertexRef::Root => has_present(states),
@@ -77,7 +79,8 @@ fn has_versions(
     class: Class,
     states: &StateSet<'_>,
 ) -> bool
-    ensures { result ≡ list_all (has_state states.now) (others (problem_view problem.now) (model.pkg name.now (class_view class))) }
+    ensures { result
+        ≡ list_all (has_state states.now) (others (problem_view problem.now) (model.pkg name.now (class_view class))) }
 {
     all_in(class_versions(problem.catalogue, name, class), states)
 }
@@ -100,7 +103,8 @@ fn has_classes(
     number: usize,
     states: &StateSet<'_>,
 ) -> bool
-    ensures { result ≡ list_all (has_state states.now) (others (problem_view problem.now) (model.dep (owner_ref_view owner.now) number)) }
+    ensures { result ≡ list_all (has_state states.now)
+        (others (problem_view problem.now) (model.dep (owner_ref_view owner.now) number)) }
 {
     match dependency_at(problem, owner, number) {
         Some(dependency) => has_classes_of(problem, dependency, states),
@@ -109,7 +113,8 @@ fn has_classes(
 }
 
 fn has_classes_of(problem: &Problem<'_>, dependency: &Dependency, states: &StateSet<'_>) -> bool
-    ensures { result ≡ list_all (has_state states.now) (map model.in_class (dep_classes (problem_view problem.now) (dependency_view dependency.now))) }
+    ensures { result ≡ list_all (has_state states.now)
+        (map model.in_class (dep_classes (problem_view problem.now) (dependency_view dependency.now))) }
 {
     all_matched(
         problem.catalogue.versions(&dependency.real_name),
@@ -119,7 +124,8 @@ fn has_classes_of(problem: &Problem<'_>, dependency: &Dependency, states: &State
 }
 
 fn all_matched(versions: &[Version], requirement: &VersionReq, states: &StateSet<'_>) -> bool
-    ensures { result ≡ list_all (λ v. has_if_matched states.now (requirement_view requirement.now) (parts_of v)) versions.now }
+    ensures { result
+        ≡ list_all (λ v. has_if_matched states.now (requirement_view requirement.now) (parts_of v)) versions.now }
 {
     versions
         .iter()

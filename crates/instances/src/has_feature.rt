@@ -30,7 +30,8 @@ pub(crate) fn feature_terms<'a>(
     class: Class,
     feature: &'a FeatureName,
 ) -> Result<Vec<Term<'a>>, AllocError>
-    ensures { IfOk result (λ v. term_views v.items ≡ terms_of_cause (problem_view problem.now) (causes.of_feature name.entry.now (class_view class) feature.entry.now)) }
+    ensures { IfOk result (λ v. term_views v.items ≡ terms_of_cause (problem_view problem.now)
+        (causes.of_feature name.entry.now (class_view class) feature.entry.now)) }
 {
     let lacking = lacking_term(alloc, problem, name, class, feature)?;
     Ok(vec![in alloc;
@@ -51,7 +52,9 @@ fn lacking_term<'a>(
     class: Class,
     feature: &FeatureName,
 ) -> Result<Term<'a>, AllocError>
-    ensures { IfOk result (λ t. term_view t ≡ at (model.pkg name.entry.now (class_view class)) (absent_or (problem_view problem.now) (λ c. not (has_feature c.brings.features feature.now)) name.entry.now (class_view class))) }
+    ensures { IfOk result
+        (λ t. term_view t ≡ at (model.pkg name.entry.now (class_view class)) (absent_or (problem_view problem.now)
+        (λ c. not (has_feature c.brings.features feature.now)) name.entry.now (class_view class))) }
 {
     let versions = problem.catalogue.versions(name);
     let states = lacking_states(alloc, problem, name, feature, of_class(class, versions))?;
@@ -69,7 +72,8 @@ fn lacking_states<'a>(
     feature: &FeatureName,
     versions: &'a [Version],
 ) -> Result<Vec<StateRef<'a>>, AllocError>
-    ensures { IfOk result (λ v. state_ref_views v.items ≡ model.absent ∷ versions_with (is_lacking (problem_view problem.now) name.now feature.now) (map parts_of versions.entry.now)) }
+    ensures { IfOk result (λ v. state_ref_views v.items ≡ model.absent ∷ versions_with
+        (is_lacking (problem_view problem.now) name.now feature.now) (map parts_of versions.entry.now)) }
 {
     let mut states = Vec::new(alloc);
     states.push(StateRef::Absent)?;

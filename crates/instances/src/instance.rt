@@ -22,7 +22,8 @@ pub fn instance_terms<'a>(
     problem: &Problem<'a>,
     cause: &Cause<'a>,
 ) -> Result<Vec<Term<'a>>, AllocError>
-    ensures { IfOk result (λ v. term_views v.items ≡ without_full (problem_view problem.now) (terms_of_cause (problem_view problem.now) (cause_view cause.now))) }
+    ensures { IfOk result (λ v. term_views v.items ≡ without_full (problem_view problem.now)
+        (terms_of_cause (problem_view problem.now) (cause_view cause.now))) }
 {
     let terms = terms_of_cause(alloc, problem, cause)?;
     without_full(alloc, problem, terms)

@@ -69,7 +69,8 @@ fn need_terms(
     owner: OwnerRef<'_>,
     number: usize,
 ) -> Result<Vec<Term<'_>>, AllocError>
-    ensures { IfOk result (λ v. term_views v.items ≡ owner_holds (owner_ref_view owner.entry) ∷ at (model.dep (owner_ref_view owner.entry) number) (model.absent ∷ []) ∷ []) }
+    ensures { IfOk result (λ v. term_views v.items ≡ owner_holds (owner_ref_view owner.entry)
+        ∷ at (model.dep (owner_ref_view owner.entry) number) (model.absent ∷ []) ∷ []) }
 {
     Ok(vec![in alloc;
         holds(alloc, owner)?,
@@ -89,7 +90,9 @@ fn entry_terms<'a>(
     on: &'a FeatureName,
     off: &'a FeatureName,
 ) -> Result<Vec<Term<'a>>, AllocError>
-    ensures { IfOk result (λ v. term_views v.items ≡ feature_holds name.entry.now (parts_of version.entry.now) on.entry.now (at (model.feat name.entry.now (class_of (parts_of version.entry.now)) off.entry.now) (model.absent ∷ []) ∷ [])) }
+    ensures { IfOk result (λ v. term_views v.items
+        ≡ feature_holds name.entry.now (parts_of version.entry.now) on.entry.now (at (model.feat name.entry.now
+        (class_of (parts_of version.entry.now)) off.entry.now) (model.absent ∷ []) ∷ [])) }
 {
     Ok(vec![in alloc;
         chosen(alloc, name, version)?,
@@ -110,7 +113,9 @@ fn enabling_terms<'a>(
     on: &'a FeatureName,
     number: usize,
 ) -> Result<Vec<Term<'a>>, AllocError>
-    ensures { IfOk result (λ v. term_views v.items ≡ feature_holds name.entry.now (parts_of version.entry.now) on.entry.now (at (model.dep (model.version_of name.entry.now (parts_of version.entry.now)) number) (model.absent ∷ []) ∷ [])) }
+    ensures { IfOk result (λ v. term_views v.items ≡ feature_holds name.entry.now (parts_of version.entry.now)
+        on.entry.now (at (model.dep (model.version_of name.entry.now (parts_of version.entry.now)) number)
+        (model.absent ∷ []) ∷ [])) }
 {
     Ok(vec![in alloc;
         chosen(alloc, name, version)?,
@@ -132,7 +137,9 @@ fn asking_terms<'a>(
     asked: &'a FeatureName,
     number: usize,
 ) -> Result<Vec<Term<'a>>, AllocError>
-    ensures { IfOk result (λ v. term_views v.items ≡ feature_holds name.entry.now (parts_of version.entry.now) on.entry.now (at (model.ask name.entry.now (parts_of version.entry.now) number asked.entry.now) (model.absent ∷ []) ∷ [])) }
+    ensures { IfOk result (λ v. term_views v.items
+        ≡ feature_holds name.entry.now (parts_of version.entry.now) on.entry.now (at (model.ask name.entry.now
+        (parts_of version.entry.now) number asked.entry.now) (model.absent ∷ []) ∷ [])) }
 {
     Ok(vec![in alloc;
         chosen(alloc, name, version)?,
@@ -156,7 +163,9 @@ fn weak_terms<'a>(
     number: usize,
     class: Class,
 ) -> Result<Vec<Term<'a>>, AllocError>
-    ensures { IfOk result (λ v. term_views v.items ≡ terms_of_cause (problem_view problem.now) (causes.of_weak name.entry.now (parts_of version.entry.now) on.entry.now off.entry.now number (class_view class))) }
+    ensures { IfOk result
+        (λ v. term_views v.items ≡ terms_of_cause (problem_view problem.now) (causes.of_weak name.entry.now
+        (parts_of version.entry.now) on.entry.now off.entry.now number (class_view class))) }
 {
     let owner = OwnerRef::Version(name, version);
     match dependency_at(problem, &owner, number) {

@@ -32,7 +32,8 @@ pub(crate) fn newest_terms<'a>(
     class: Class,
     higher: Class,
 ) -> Result<Vec<Term<'a>>, AllocError>
-    ensures { IfOk result (λ v. term_views v.items ≡ terms_of_cause (problem_view problem.now) (causes.of_newest (owner_ref_view owner.entry) number other (class_view class) (class_view higher))) }
+    ensures { IfOk result (λ v. term_views v.items ≡ terms_of_cause (problem_view problem.now)
+        (causes.of_newest (owner_ref_view owner.entry) number other (class_view class) (class_view higher))) }
 {
     match dependency_at(problem, &owner, number) {
         Some(dependency) => Ok(vec![in alloc;
@@ -59,7 +60,10 @@ fn taken_term<'a>(
     dependency: &'a Dependency,
     class: Class,
 ) -> Result<Term<'a>, AllocError>
-    ensures { IfOk result (λ t. term_view t ≡ at (model.pkg (dependency_view dependency.entry.now).real_name (class_view class)) (versions_that (problem_view problem.now) (matched (dependency_view dependency.entry.now)) (dependency_view dependency.entry.now).real_name (class_view class))) }
+    ensures { IfOk result
+        (λ t. term_view t ≡ at (model.pkg (dependency_view dependency.entry.now).real_name (class_view class))
+        (versions_that (problem_view problem.now) (matched (dependency_view dependency.entry.now))
+        (dependency_view dependency.entry.now).real_name (class_view class))) }
 {
     let versions = class_versions(problem.catalogue, &dependency.real_name, class);
     let states = taken_states(alloc, &dependency.requirement, versions)?;
@@ -75,7 +79,8 @@ fn taken_states<'a>(
     requirement: &VersionReq,
     versions: &'a [Version],
 ) -> Result<Vec<StateRef<'a>>, AllocError>
-    ensures { IfOk result (λ v. state_ref_views v.items ≡ versions_with (matches_views (requirement_view requirement.now)) (map parts_of versions.entry.now)) }
+    ensures { IfOk result (λ v. state_ref_views v.items
+        ≡ versions_with (matches_views (requirement_view requirement.now)) (map parts_of versions.entry.now)) }
 {
     let mut states = Vec::new(alloc);
     'versions: for version in versions.iter() {

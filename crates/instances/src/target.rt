@@ -30,7 +30,8 @@ pub(crate) fn target_terms<'a>(
     number: usize,
     class: Class,
 ) -> Result<Vec<Term<'a>>, AllocError>
-    ensures { IfOk result (λ v. term_views v.items ≡ terms_of_cause (problem_view problem.now) (causes.of_target (owner_ref_view owner.entry) number (class_view class))) }
+    ensures { IfOk result (λ v. term_views v.items ≡ terms_of_cause (problem_view problem.now)
+        (causes.of_target (owner_ref_view owner.entry) number (class_view class))) }
 {
     match dependency_at(problem, &owner, number) {
         Some(dependency) => Ok(vec![in alloc;
@@ -52,7 +53,10 @@ fn left_term<'a>(
     dependency: &'a Dependency,
     class: Class,
 ) -> Result<Term<'a>, AllocError>
-    ensures { IfOk result (λ t. term_view t ≡ at (model.pkg (dependency_view dependency.entry.now).real_name (class_view class)) (absent_or (problem_view problem.now) (λ c. not (matched (dependency_view dependency.entry.now) c)) (dependency_view dependency.entry.now).real_name (class_view class))) }
+    ensures { IfOk result
+        (λ t. term_view t ≡ at (model.pkg (dependency_view dependency.entry.now).real_name (class_view class))
+        (absent_or (problem_view problem.now) (λ c. not (matched (dependency_view dependency.entry.now) c))
+        (dependency_view dependency.entry.now).real_name (class_view class))) }
 {
     let versions = class_versions(problem.catalogue, &dependency.real_name, class);
     let states = left_states(alloc, &dependency.requirement, versions)?;
@@ -68,7 +72,8 @@ fn left_states<'a>(
     requirement: &VersionReq,
     versions: &'a [Version],
 ) -> Result<Vec<StateRef<'a>>, AllocError>
-    ensures { IfOk result (λ v. state_ref_views v.items ≡ model.absent ∷ versions_with (is_left (requirement_view requirement.now)) (map parts_of versions.entry.now)) }
+    ensures { IfOk result (λ v. state_ref_views v.items ≡ model.absent
+        ∷ versions_with (is_left (requirement_view requirement.now)) (map parts_of versions.entry.now)) }
 {
     let mut states = Vec::new(alloc);
     states.push(StateRef::Absent)?;

@@ -45,7 +45,8 @@ pub(crate) fn chosen<'a>(
     name: &'a PackageName,
     version: &'a Version,
 ) -> Result<Term<'a>, AllocError>
-    ensures { IfOk result (λ t. term_view t ≡ at (model.pkg name.entry.now (class_of (parts_of version.entry.now))) (model.version (parts_of version.entry.now) ∷ [])) }
+    ensures { IfOk result (λ t. term_view t ≡ at (model.pkg name.entry.now (class_of (parts_of version.entry.now)))
+        (model.version (parts_of version.entry.now) ∷ [])) }
 {
     term(
         alloc,
@@ -61,7 +62,8 @@ pub(crate) fn on_term<'a>(
     version: &'a Version,
     feature: &'a FeatureName,
 ) -> Result<Term<'a>, AllocError>
-    ensures { IfOk result (λ t. term_view t ≡ at (model.feat name.entry.now (class_of (parts_of version.entry.now)) feature.entry.now) (model.present ∷ [])) }
+    ensures { IfOk result (λ t. term_view t ≡ at (model.feat name.entry.now
+        (class_of (parts_of version.entry.now)) feature.entry.now) (model.present ∷ [])) }
 {
     term(
         alloc,
@@ -77,7 +79,8 @@ pub(crate) fn off_term<'a>(
     class: Class,
     feature: &'a FeatureName,
 ) -> Result<Term<'a>, AllocError>
-    ensures { IfOk result (λ t. term_view t ≡ at (model.feat (dependency_view dependency.entry.now).real_name (class_view class) feature.entry.now) (model.absent ∷ [])) }
+    ensures { IfOk result (λ t. term_view t ≡ at (model.feat (dependency_view dependency.entry.now).real_name
+        (class_view class) feature.entry.now) (model.absent ∷ [])) }
 {
     term(
         alloc,

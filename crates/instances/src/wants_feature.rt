@@ -26,7 +26,8 @@ pub(crate) fn list_terms<'a>(
     class: Class,
     feature: &'a FeatureName,
 ) -> Result<Vec<Term<'a>>, AllocError>
-    ensures { IfOk result (λ v. term_views v.items ≡ terms_of_cause (problem_view problem.now) (causes.of_list (owner_ref_view owner.entry) number (class_view class) feature.entry.now)) }
+    ensures { IfOk result (λ v. term_views v.items ≡ terms_of_cause (problem_view problem.now)
+        (causes.of_list (owner_ref_view owner.entry) number (class_view class) feature.entry.now)) }
 {
     match dependency_at(problem, &owner, number) {
         Some(dependency) => Ok(vec![in alloc;
@@ -50,7 +51,8 @@ pub(crate) fn ask_terms<'a>(
     feature: &'a FeatureName,
     class: Class,
 ) -> Result<Vec<Term<'a>>, AllocError>
-    ensures { IfOk result (λ v. term_views v.items ≡ terms_of_cause (problem_view problem.now) (causes.of_ask name.entry.now (parts_of version.entry.now) number feature.entry.now (class_view class))) }
+    ensures { IfOk result (λ v. term_views v.items ≡ terms_of_cause (problem_view problem.now)
+        (causes.of_ask name.entry.now (parts_of version.entry.now) number feature.entry.now (class_view class))) }
 {
     let owner = OwnerRef::Version(name, version);
     match dependency_at(problem, &owner, number) {

@@ -1,5 +1,6 @@
 -- What a set of pairs has after one is put there.
-use Rattle.std.proofs.Common.{◌≡◌, ℕ, List, [], ◌∷◌, Bool, true, false, ◌||◌, ◌&&◌, cond, Option, Some, Ordering, refl, sym, ap, ap₂, ◌∙◌}
+use Rattle.std.proofs.Common.{◌≡◌, ℕ, List, [], ◌∷◌, Bool, true, false, ◌||◌, ◌&&◌, cond, Option, Some, Ordering, refl}
+use Rattle.std.proofs.Common.{sym, ap, ap₂, ◌∙◌}
 use Rattle.std.specs.Borrow.{Bor}
 use Rattle.std.specs.BTreeMap.{BTreeMap, Updates, is_at}
 use Rattle.std.specs.BTreeSet.{BTreeSet, insert_key}
@@ -17,7 +18,8 @@ abbrev pub str_cmp : Bor (List ℕ) → Bor (List ℕ) → Ordering
 str_cmp x y = slice_cmp nat_cmp x.now y.now
 
 -- a map's look-up is by text
-pub text_at-get : {X : Type 0} (n : List ℕ) (es : List (Bor (List ℕ) × X)) → lookup (is_at (λ k. slice_cmp nat_cmp n k.now)) es ≡ text_at es n
+pub text_at-get : {X : Type 0} (n : List ℕ) (es : List (Bor (List ℕ) × X))
+    → lookup (is_at (λ k. slice_cmp nat_cmp n k.now)) es ≡ text_at es n
 text_at-get n [] = refl
 text_at-get n (e ∷ es) = ap₂ (λ b o. cond b (Some e.1) o) (sym (texts_ties n e.0.now)) (text_at-get n es)
 
@@ -28,23 +30,31 @@ or-none false = refl
 pub text-flip : (m n : List ℕ) → same_text m n ≡ same_text n m
 text-flip m n = nat_list_eq_equiv.symm m n
 
-text_at-updates : {X : Type 0} (m after : BTreeMap (Bor (List ℕ)) X) (k : Bor (List ℕ)) (w : Option X) → Updates str_cmp m after k w
+text_at-updates : {X : Type 0} (m after : BTreeMap (Bor (List ℕ)) X) (k : Bor (List ℕ)) (w : Option X)
+    → Updates str_cmp m after k w
     → (n : List ℕ) → text_at after.entries n ≡ cond (same_text n k.now) w (text_at m.entries n)
 text_at-updates m after k w u n =
     let q : Bor (List ℕ) = record k { now = n } in
-    sym (text_at-get n after.entries) ∙ u.0 q ∙ ap₂ (λ b o. cond b w o) (sym (texts_ties k.now n) ∙ text-flip k.now n) (text_at-get n m.entries)
+    sym (text_at-get n after.entries) ∙ u.0 q
+    ∙ ap₂ (λ b o. cond b w o) (sym (texts_ties k.now n) ∙ text-flip k.now n) (text_at-get n m.entries)
 
 abbrev Features : Type 0
 Features = BTreeSet (Bor (List ℕ))
 
 -- what a map had at the name, if anything, now has the feature too
-pub put_pair : (m after : BTreeMap (Bor (List ℕ)) Features) (name feature : Bor (List ℕ)) (o : Option Features) (w : Features)
-    → lookup (is_at (λ k. slice_cmp nat_cmp name.now k.now)) m.entries ≡ o → Updates str_cmp m after name (Some w) → w.keys ≡ insert_key str_cmp (keys_if o) feature
-    → (n f : List ℕ) → has_text (keys_if (text_at after.entries n)) f ≡ (has_text (keys_if (text_at m.entries n)) f || same_pair (n, f) (name.now, feature.now))
-put_pair m after name feature o w was u keys n f = ap (λ s. has_text (keys_if s) f) (text_at-updates m after name (Some w) u n) ∙ by (same_text n name.now) refl
+pub put_pair : (m after : BTreeMap (Bor (List ℕ)) Features) (name feature : Bor (List ℕ))
+    (o : Option Features) (w : Features)
+    → lookup (is_at (λ k. slice_cmp nat_cmp name.now k.now)) m.entries ≡ o → Updates str_cmp m after name (Some w)
+    → w.keys ≡ insert_key str_cmp (keys_if o) feature
+    → (n f : List ℕ) → has_text (keys_if (text_at after.entries n)) f
+    ≡ (has_text (keys_if (text_at m.entries n)) f || same_pair (n, f) (name.now, feature.now))
+put_pair m after name feature o w was u keys n f =
+    ap (λ s. has_text (keys_if s) f) (text_at-updates m after name (Some w) u n) ∙ by (same_text n name.now) refl
   where
     by : (b : Bool) → same_text n name.now ≡ b
-        → has_text (keys_if (cond b (Some w) (text_at m.entries n))) f ≡ (has_text (keys_if (text_at m.entries n)) f || (b && same_text f feature.now))
+        → has_text (keys_if (cond b (Some w) (text_at m.entries n))) f
+        ≡ (has_text (keys_if (text_at m.entries n)) f || (b && same_text f feature.now))
     by true e = ap (λ ks. has_text ks f) keys ∙ has_text-insert_key f feature (keys_if o)
-        ∙ ap (λ s. has_text (keys_if s) f || same_text f feature.now) (sym (ap (text_at m.entries) (text-same n name.now e) ∙ sym (text_at-get name.now m.entries) ∙ was))
+        ∙ ap (λ s. has_text (keys_if s) f || same_text f feature.now)
+        (sym (ap (text_at m.entries) (text-same n name.now e) ∙ sym (text_at-get name.now m.entries) ∙ was))
     by false e = or-none (has_text (keys_if (text_at m.entries n)) f)

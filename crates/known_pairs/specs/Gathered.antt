@@ -10,7 +10,8 @@ use Rattle.catalogue.specs.Stores.{CatalogueView, rows_by_name}
 use Rattle.known_pairs.specs.Asking.{row_may_ask, row_names}
 
 abbrev pub is_known_feature : Problem → List ℕ → List ℕ → Bool
-is_known_feature q n f = list_any (λ c. has_feature c.brings.features f) (candidates_of q.candidates n) || list_any (owner_asks q n f) (owners q)
+is_known_feature q n f = list_any (λ c. has_feature c.brings.features f) (candidates_of q.candidates n)
+    || list_any (owner_asks q n f) (owners q)
 
 -- the dependency asks for the feature by its list, or is asked for it by the name that it is called by
 abbrev pub asks_by : (List ℕ → List ℕ → Bool) → Dependency → List ℕ → List ℕ → Bool
@@ -39,11 +40,13 @@ brings_in c name v = brings_of (candidate_at (candidates_of (rows_by_name c) nam
 
 -- some candidate of this name has the feature, where this is the name
 abbrev pub is_had : CatalogueView → List ℕ → List ℕ → List ℕ → Bool
-is_had c name n f = same_text n name && list_any (λ e. has_feature e.brings.features f) (candidates_of (rows_by_name c) name)
+is_had c name n f =
+    same_text n name && list_any (λ e. has_feature e.brings.features f) (candidates_of (rows_by_name c) name)
 
 -- some candidate of this name asks the package for the feature
 abbrev pub is_asked_by_some : CatalogueView → List ℕ → List ℕ → List ℕ → Bool
-is_asked_by_some c name n f = list_any (λ e. is_asked_by_version (brings_in c name e.version) n f) (candidates_of (rows_by_name c) name)
+is_asked_by_some c name n f =
+    list_any (λ e. is_asked_by_version (brings_in c name e.version) n f) (candidates_of (rows_by_name c) name)
 
 unfoldable pub is_known_by : CatalogueView → List ℕ → List ℕ → List ℕ → Bool
 is_known_by c name n f = is_had c name n f || is_asked_by_some c name n f

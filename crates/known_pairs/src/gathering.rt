@@ -11,7 +11,8 @@ ghost use Rattle.refutations.specs.Causes.{asks_for, passes, same_pair};
 ghost use Rattle.catalogue.specs.Problems.{problem_in};
 ghost use Rattle.catalogue.specs.Stores.{rows_by_name};
 ghost use Rattle.known_pairs.specs.Asking.{row_may_ask, row_names};
-ghost use Rattle.known_pairs.specs.Gathered.{asks_by, brings_in, is_asked_by_root, is_asked_by_some, is_asked_by_version, is_had, is_known_by, is_known_feature, some_asks_by};
+ghost use Rattle.known_pairs.specs.Gathered.{asks_by, brings_in, is_asked_by_root, is_asked_by_some};
+ghost use Rattle.known_pairs.specs.Gathered.{is_asked_by_version, is_had, is_known_by, is_known_feature, some_asks_by};
 ghost use Rattle.known_pairs.specs.Pairs.{Adds, HasThose, has_pair};
 
 use crate::pairs::Pairs;
@@ -50,7 +51,8 @@ fn put_names<'a>(
     catalogue: &'a Catalogue,
     names: &'a [PackageName],
 ) -> Result<(), AllocError>
-    ensures { OnOk result (Adds known.old known.new (λ n f. list_any (λ name. is_known_by catalogue.now name n f) names.now)) }
+    ensures { OnOk result
+        (Adds known.old known.new (λ n f. list_any (λ name. is_known_by catalogue.now name n f) names.now)) }
 {
     'names: for name in names.iter() {
         put_name(alloc, known, catalogue, name)?;
@@ -93,7 +95,8 @@ fn put_had_at<'a>(
     name: &'a PackageName,
     place: usize,
 ) -> Result<(), AllocError>
-    ensures { OnOk result (Adds known.old known.new (λ n f. same_text n name.now && passes (λ c. has_feature c.brings.features f) (slice_get (candidates_of (rows_by_name catalogue.now) name.now) place))) }
+    ensures { OnOk result (Adds known.old known.new (λ n f. same_text n name.now && passes (λ c. has_feature
+        c.brings.features f) (slice_get (candidates_of (rows_by_name catalogue.now) name.now) place))) }
 {
     match catalogue.candidate_at(name, place) {
         Some(candidate) => put_table(known, name.as_str(), &candidate.brings.features),
@@ -106,7 +109,8 @@ fn put_table<'a>(
     name: &'a str,
     table: &'a FeatureTable,
 ) -> Result<(), AllocError>
-    ensures { OnOk result (Adds known.old known.new (λ n f. list_any (λ row. same_pair (n, f) (name.now, row.0)) table.now)) }
+    ensures { OnOk result
+        (Adds known.old known.new (λ n f. list_any (λ row. same_pair (n, f) (name.now, row.0)) table.now)) }
 {
     'rows: for (feature, _) in table.iter() {
         known.put(name, feature.as_str())?;
@@ -133,7 +137,8 @@ fn put_versions<'a>(
     name: &'a PackageName,
     versions: &'a [Version],
 ) -> Result<(), AllocError>
-    ensures { OnOk result (Adds known.old known.new (λ n f. list_any (λ v. is_asked_by_version (brings_in catalogue.now name.now (parts_of v)) n f) versions.now)) }
+    ensures { OnOk result (Adds known.old known.new (λ n f.
+        list_any (λ v. is_asked_by_version (brings_in catalogue.now name.now (parts_of v)) n f) versions.now)) }
 {
     'versions: for version in versions.iter() {
         put_version(alloc, known, catalogue, name, version)?;
@@ -148,7 +153,8 @@ fn put_version<'a>(
     name: &'a PackageName,
     version: &'a Version,
 ) -> Result<(), AllocError>
-    ensures { OnOk result (Adds known.old known.new (is_asked_by_version (brings_in catalogue.now name.now (parts_of version.now)))) }
+    ensures { OnOk result
+        (Adds known.old known.new (is_asked_by_version (brings_in catalogue.now name.now (parts_of version.now)))) }
 {
     match catalogue.candidate(name, version) {
         Some(candidate) => put_owner(alloc, known, &candidate.brings),
@@ -170,7 +176,8 @@ fn put_dependencies<'a>(
     asked: &Pairs<'a>,
     dependencies: &'a [Dependency],
 ) -> Result<(), AllocError>
-    ensures { OnOk result (Adds known.old known.new (some_asks_by (has_pair asked.now) (dependency_views dependencies.now))) }
+    ensures { OnOk result
+        (Adds known.old known.new (some_asks_by (has_pair asked.now) (dependency_views dependencies.now))) }
 {
     'dependencies: for dependency in dependencies.iter() {
         put_dependency(known, asked, dependency)?;
@@ -196,7 +203,8 @@ fn put_list<'a>(
     name: &'a str,
     dependency: &'a Dependency,
 ) -> Result<(), AllocError>
-    ensures { OnOk result (Adds known.old known.new (λ n f. same_text n name.now && list_any (same_text f) (asked_of_target (dependency_view dependency.now)))) }
+    ensures { OnOk result (Adds known.old known.new
+        (λ n f. same_text n name.now && list_any (same_text f) (asked_of_target (dependency_view dependency.now)))) }
 {
     put_features(known, name, dependency.features.as_slice())?;
     if dependency.default_features {
@@ -210,7 +218,8 @@ fn put_features<'a>(
     name: &'a str,
     features: &'a [FeatureName],
 ) -> Result<(), AllocError>
-    ensures { OnOk result (Adds known.old known.new (λ n f. list_any (λ g. same_pair (n, f) (name.now, g)) features.now)) }
+    ensures { OnOk result
+        (Adds known.old known.new (λ n f. list_any (λ g. same_pair (n, f) (name.now, g)) features.now)) }
 {
     'features: for feature in features.iter() {
         known.put(name, feature.as_str())?;

@@ -56,7 +56,8 @@ impl<'a> Pairs<'a> {
         others: &Pairs<'a>,
         called: &str,
     ) -> Result<(), AllocError>
-        ensures { OnOk result (Adds self.old self.new (λ n f. same_text n name.now && has_pair others.now called.now f)) }
+        ensures { OnOk result
+            (Adds self.old self.new (λ n f. same_text n name.now && has_pair others.now called.now f)) }
     {
         match others.features.get(called) {
             Some(features) => self.put_each(name, features),
@@ -65,7 +66,8 @@ impl<'a> Pairs<'a> {
     }
 
     fn put_each(&mut self, name: &'a str, features: &BTreeSet<&'a str>) -> Result<(), AllocError>
-        ensures { OnOk result (Adds self.old self.new (λ n f. list_any (λ k. same_pair (n, f) (name.now, k.now)) features.now.keys)) }
+        ensures { OnOk result
+            (Adds self.old self.new (λ n f. list_any (λ k. same_pair (n, f) (name.now, k.now)) features.now.keys)) }
     {
         'features: for feature in features.iter() {
             self.put(name, *feature)?;

@@ -37,7 +37,8 @@ lack_among r lines =
     else if would_match r lines then PreReleases
     else NoVersion
 
--- why a requirement that no candidate meets has none, by the lines of the package's file that can be used, if there is a file
+-- why a requirement that no candidate meets has none, by the lines of the package's file that can be used, if there is
+-- a file
 abbrev pub lack_in : List Held → Option (List RecordView) → Lack
 lack_in r None = NoPackage
 lack_in r (Some lines) = lack_among r lines

@@ -6,7 +6,8 @@ ghost use Rattle.semver.specs.EvalViews.{matches_views};
 ghost use Rattle.semver.specs.Identifiers.{parts_of};
 ghost use Rattle.features.specs.Views.{requirement_view};
 ghost use Rattle.catalogue.specs.Stores.{candidates_at};
-ghost use Rattle.lacks.specs.Lacks.{has_none, is_held_back, is_met, lack_in, lack_among, matches_yanked, release, would_match};
+ghost use Rattle.lacks.specs.Lacks.{has_none, is_held_back, is_met, lack_in, lack_among, matches_yanked, release};
+ghost use Rattle.lacks.specs.Lacks.{would_match};
 ghost use Rattle.lacks.specs.Views.{record_views};
 
 use catalogue::Catalogue;
@@ -37,8 +38,11 @@ pub fn lack_of(
     catalogue: &Catalogue,
     file: Option<&[Record]>,
 ) -> Option<Lack>
-    ensures unmet { is_met (requirement_view dependency.now.requirement) (candidates_at catalogue.now dependency.now.real_name) ≡ false → result ≡ Some (lack_in (requirement_view dependency.now.requirement) (option_map record_views (option_copied file.entry))) }
-    ensures met { is_met (requirement_view dependency.now.requirement) (candidates_at catalogue.now dependency.now.real_name) ≡ true → (result ≡ None) ⊎ (result ≡ Some Lack.NoFeature) }
+    ensures unmet { is_met (requirement_view dependency.now.requirement)
+        (candidates_at catalogue.now dependency.now.real_name) ≡ false → result ≡ Some
+        (lack_in (requirement_view dependency.now.requirement) (option_map record_views (option_copied file.entry))) }
+    ensures met { is_met (requirement_view dependency.now.requirement) (candidates_at catalogue.now
+        dependency.now.real_name) ≡ true → (result ≡ None) ⊎ (result ≡ Some Lack.NoFeature) }
 {
     if is_met(dependency, catalogue) {
         lack_of_features(dependency, catalogue)
@@ -59,7 +63,8 @@ fn lack_of_features(dependency: &Dependency, catalogue: &Catalogue) -> Option<La
 
 /// Whether a requirement matches some candidate.
 pub(crate) fn is_met(dependency: &Dependency, catalogue: &Catalogue) -> bool
-    ensures { result ≡ is_met (requirement_view dependency.now.requirement) (candidates_at catalogue.now dependency.now.real_name) }
+    ensures { result
+        ≡ is_met (requirement_view dependency.now.requirement) (candidates_at catalogue.now dependency.now.real_name) }
 {
     some_matched(
         &dependency.requirement,
@@ -152,14 +157,16 @@ fn matches_yanked(requirement: &VersionReq, records: &[Record]) -> bool
 }
 
 fn some_yanked(requirement: &VersionReq, records: &[Record]) -> bool
-    ensures { result ≡ list_any (λ r. r.yanked && matches_views (requirement_view requirement.now) (parts_of r.version)) records.now }
+    ensures { result ≡ list_any (λ r. r.yanked
+        && matches_views (requirement_view requirement.now) (parts_of r.version)) records.now }
 {
     records.iter().any(|record| is_yanked(requirement, record))
 }
 
 /// Whether a line is yanked and a requirement matches it.
 pub(crate) fn is_yanked(requirement: &VersionReq, line: &Record) -> bool
-    ensures { result ≡ (line.now.yanked && matches_views (requirement_view requirement.now) (parts_of line.now.version)) }
+    ensures { result
+        ≡ (line.now.yanked && matches_views (requirement_view requirement.now) (parts_of line.now.version)) }
 {
     line.yanked && is_matched(requirement, &line.version)
 }
@@ -172,7 +179,8 @@ fn would_match(requirement: &VersionReq, records: &[Record]) -> bool
 }
 
 fn some_held_back(requirement: &VersionReq, records: &[Record]) -> bool
-    ensures { result ≡ list_any (λ r. is_held_back (requirement_view requirement.now) (parts_of r.version)) records.now }
+    ensures { result
+        ≡ list_any (λ r. is_held_back (requirement_view requirement.now) (parts_of r.version)) records.now }
 {
     records
         .iter()

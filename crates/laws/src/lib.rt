@@ -24,8 +24,10 @@ use manifest::Manifest;
 
 /// A valid selection breaks no instance of an axiom.
 pub fn axioms_are_sound(manifest: &Manifest, catalogue: &Catalogue)
-    ensures { (content : Content) (kind : Kind) (terms : List Term) → IsInstance (problem_in manifest.now catalogue.now) kind terms
-        → IsValidSelection (problem_in manifest.now catalogue.now) content → Breaks (problem_in manifest.now catalogue.now) content terms → ⊥ }
+    ensures { (content : Content) (kind : Kind) (terms : List Term)
+        → IsInstance (problem_in manifest.now catalogue.now) kind terms
+        → IsValidSelection (problem_in manifest.now catalogue.now) content
+        → Breaks (problem_in manifest.now catalogue.now) content terms → ⊥ }
 {
     catalogues_are_well_formed(manifest, catalogue);
     model::axioms_are_sound();
@@ -44,7 +46,8 @@ pub fn accepted_derivations_refute(manifest: &Manifest, catalogue: &Catalogue)
 pub fn unbroken_assignments_select(manifest: &Manifest, catalogue: &Catalogue)
     ensures { (state : Vertex → State) (kept : List Kept) → IsUnbroken (problem_in manifest.now catalogue.now) state
         → AreKept (problem_in manifest.now catalogue.now) (LeadsTo (problem_in manifest.now catalogue.now) state) kept
-        → IsValidSelection (problem_in manifest.now catalogue.now) (content_of (problem_in manifest.now catalogue.now) kept) }
+        → IsValidSelection (problem_in manifest.now catalogue.now)
+        (content_of (problem_in manifest.now catalogue.now) kept) }
 {
     catalogues_are_well_formed(manifest, catalogue);
     model::gathered_contents_select();
@@ -55,7 +58,8 @@ pub fn unbroken_assignments_select(manifest: &Manifest, catalogue: &Catalogue)
 pub fn unbroken_assignments_have_selections(manifest: &Manifest, catalogue: &Catalogue)
     ensures { (state : Vertex → State) → IsUnbroken (problem_in manifest.now catalogue.now) state
         → (content : Content) × IsValidSelection (problem_in manifest.now catalogue.now) content
-        × ((v : Vertex) (s : State) → Assigns (problem_in manifest.now catalogue.now) content v s ↔ AssignsReached (problem_in manifest.now catalogue.now) state v s) }
+        × ((v : Vertex) (s : State) → Assigns (problem_in manifest.now catalogue.now) content v s
+        ↔ AssignsReached (problem_in manifest.now catalogue.now) state v s) }
 {
     catalogues_are_well_formed(manifest, catalogue);
     model::unbroken_assignments_have_selections();

@@ -13,7 +13,8 @@ source-flips None (Some b) = refl
 source-flips (Some a) None = refl
 source-flips (Some a) (Some b) = nat_list_cmp_total.antisymm a b
 
-source-trans : (a b c : Option (List ℕ)) → listed_source_cmp a b ≡ Less → listed_source_cmp b c ≡ Less → listed_source_cmp a c ≡ Less
+source-trans : (a b c : Option (List ℕ)) → listed_source_cmp a b ≡ Less → listed_source_cmp b c ≡ Less
+    → listed_source_cmp a c ≡ Less
 source-trans None None c h k = cc
 source-trans None (Some b) None h k = cc
 source-trans None (Some b) (Some c) h k = refl
@@ -32,4 +33,6 @@ listed_source_total : IsTotalOrder listed_source_cmp
 listed_source_total = record { antisymm = source-flips; trans = source-trans; congr = source-congr }
 
 pub written_total : IsTotalOrder written_cmp
-written_total = then_total (on_total (λ (w : Written). w.locked.name) nat_list_cmp_total) (then_total (on_total (λ (w : Written). w.version) nat_list_cmp_total) (on_total (λ (w : Written). w.locked.source) listed_source_total))
+written_total = then_total (on_total (λ (w : Written). w.locked.name) nat_list_cmp_total)
+    (then_total (on_total (λ (w : Written). w.version) nat_list_cmp_total)
+    (on_total (λ (w : Written). w.locked.source) listed_source_total))

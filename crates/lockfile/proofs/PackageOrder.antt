@@ -1,5 +1,6 @@
 -- Package order: a total order, in which two packages that are read tie just where they are alike.
-use Rattle.std.proofs.Common.{◌≡◌, ℕ, Bool, true, false, ◌&&◌, nat_eq, List, [], ◌∷◌, Option, Some, None, Ok, Err, refl, sym, ◌∙◌, ap, arith, Ordering}
+use Rattle.std.proofs.Common.{◌≡◌, ℕ, Bool, true, false, ◌&&◌, nat_eq, List, [], ◌∷◌, Option, Some, None, Ok, Err, refl}
+use Rattle.std.proofs.Common.{sym, ◌∙◌, ap, arith, Ordering}
 use Rattle.std.specs.Cmp.{IsTotalOrder}
 use Rattle.std.specs.Cmp.Lexicographic.{slice_cmp, pointwise}
 use Rattle.std.specs.List.{AllByRecursion, IsAllAdjacentAnswer}
@@ -8,7 +9,8 @@ use Rattle.std.specs.Ordering.{nat_cmp, is_lt, is_eq, eq_by_cmp, ordering_then, 
 use Rattle.std.specs.declared.cmp.Ordering.TheVariants.{Less, Equal, Greater}
 use Rattle.std.proofs.lemmas.Bool.{eqb-true, eq-eqb}
 use Rattle.std.proofs.lemmas.Bool.Decides.{nat_tests}
-use Rattle.std.proofs.lemmas.Cmp.{nat_cmp_total, nat_list_cmp_total, nat_list_eq_equiv, on_total, then_total, tied_itself}
+use Rattle.std.proofs.lemmas.Cmp.{nat_cmp_total, nat_list_cmp_total, nat_list_eq_equiv, on_total, then_total}
+use Rattle.std.proofs.lemmas.Cmp.{tied_itself}
 use Rattle.semver.specs.Grammar.{IsValid}
 use Rattle.semver.specs.Identifiers.{parts_text}
 use Rattle.semver.specs.OrderLaws.{pre_total, same_text}
@@ -52,13 +54,17 @@ pub source_total : IsTotalOrder source_cmp
 source_total = record { antisymm = source_flips; trans = source_trans; congr = source_congr }
 
 pub precedence_total : IsTotalOrder precedence
-precedence_total = then_total (on_total (λ (v : Parts). v.0) nat_cmp_total) (then_total (on_total (λ (v : Parts). v.1) nat_cmp_total) (then_total (on_total (λ (v : Parts). v.2) nat_cmp_total) (on_total (λ (v : Parts). v.3) pre_total)))
+precedence_total =
+    then_total (on_total (λ (v : Parts). v.0) nat_cmp_total) (then_total (on_total (λ (v : Parts). v.1) nat_cmp_total)
+    (then_total (on_total (λ (v : Parts). v.2) nat_cmp_total) (on_total (λ (v : Parts). v.3) pre_total)))
 
 pub version_total : IsTotalOrder version_cmp
 version_total = then_total precedence_total (on_total parts_text nat_list_cmp_total)
 
 pub package_total : IsTotalOrder package_cmp
-package_total = then_total (on_total (λ (p : Package). p.name) nat_list_cmp_total) (then_total (on_total (λ (p : Package). p.version) version_total) (on_total (λ (p : Package). p.source) source_total))
+package_total = then_total (on_total (λ (p : Package). p.name) nat_list_cmp_total)
+    (then_total (on_total (λ (p : Package). p.version) version_total)
+    (on_total (λ (p : Package). p.source) source_total))
 
 -- ---- where they tie
 
@@ -80,7 +86,8 @@ pub text-eq : (a b : List ℕ) → is_eq (text_cmp a b) ≡ pointwise nat_eq a b
 text-eq [] [] = refl
 text-eq [] (y ∷ ys) = refl
 text-eq (x ∷ xs) [] = refl
-text-eq (x ∷ xs) (y ∷ ys) = then-eq (nat_cmp x y) (slice_cmp nat_cmp xs ys) ∙ and-same _ _ _ _ (grind (arith, nat_tests)) (text-eq xs ys)
+text-eq (x ∷ xs) (y ∷ ys) =
+    then-eq (nat_cmp x y) (slice_cmp nat_cmp xs ys) ∙ and-same _ _ _ _ (grind (arith, nat_tests)) (text-eq xs ys)
 
 pub source-eq : (a b : Option (List ℕ)) → is_eq (source_cmp a b) ≡ same_option a b
 source-eq None None = refl
@@ -95,7 +102,8 @@ and-true false b h = cc
 pub true-and : (a b : Bool) → a ≡ true → b ≡ true → (a && b) ≡ true
 true-and a b h k = rw (h, k) refl
 
-same-parts : (a b c a' b' c' : ℕ) (d e d' e' : List ℕ) → a ≡ a' → b ≡ b' → c ≡ c' → d ≡ d' → e ≡ e' → let v : Parts = (a, b, c, d, e) in let w : Parts = (a', b', c', d', e') in v ≡ w
+same-parts : (a b c a' b' c' : ℕ) (d e d' e' : List ℕ) → a ≡ a' → b ≡ b' → c ≡ c' → d ≡ d' → e ≡ e' → let v : Parts =
+    (a, b, c, d, e) in let w : Parts = (a', b', c', d', e') in v ≡ w
 same-parts a b c a' b' c' d e d' e' p q r s t = cc
 
 same-version : (v w : Parts) → same_version v w ≡ true → v ≡ w
@@ -113,7 +121,8 @@ same-version v w h =
 
 version-itself : (v : Parts) → same_version v v ≡ true
 version-itself v =
-    true-and _ _ (true-and _ _ (true-and _ _ (true-and _ _ (eq-eqb v.0 v.0 refl) (eq-eqb v.1 v.1 refl)) (eq-eqb v.2 v.2 refl)) (nat_list_eq_equiv.refl v.3)) (nat_list_eq_equiv.refl v.4)
+    true-and _ _ (true-and _ _ (true-and _ _ (true-and _ _ (eq-eqb v.0 v.0 refl) (eq-eqb v.1 v.1 refl))
+    (eq-eqb v.2 v.2 refl)) (nat_list_eq_equiv.refl v.3)) (nat_list_eq_equiv.refl v.4)
 
 -- versions with one text are one
 pub text-version : (v w : Parts) → IsValid v → IsValid w → parts_text v ≡ parts_text w → v ≡ w
@@ -125,7 +134,8 @@ text-version v w p q e =
 
 pub version-tie : (v w : Parts) → IsValid v → IsValid w → is_eq (version_cmp v w) ≡ true → v ≡ w
 version-tie v w p q h =
-    let tie = and-true (is_eq (precedence v w)) _ (sym (then-eq (precedence v w) (text_cmp (parts_text v) (parts_text w))) ∙ h) in
+    let tie = and-true (is_eq (precedence v w)) _
+    (sym (then-eq (precedence v w) (text_cmp (parts_text v) (parts_text w))) ∙ h) in
     text-version v w p q (same_text (parts_text v) (parts_text w) (sym (text-eq (parts_text v) (parts_text w)) ∙ tie.1))
 
 pub version-eq : (v w : Parts) → IsValid v → IsValid w → is_eq (version_cmp v w) ≡ same_version v w
@@ -136,7 +146,8 @@ version-eq v w p q =
 pub package-eq : (p r : Package) → IsRead p → IsRead r → is_alike p r ≡ is_eq (package_cmp p r)
 package-eq p r h k =
     sym (then-eq (text_cmp p.name r.name) _ ∙ and-same _ _ _ _ (text-eq p.name r.name)
-    (then-eq (version_cmp p.version r.version) _ ∙ and-same _ _ _ _ (version-eq p.version r.version h.1 k.1) (source-eq p.source r.source)))
+    (then-eq (version_cmp p.version r.version) _
+    ∙ and-same _ _ _ _ (version-eq p.version r.version h.1 k.1) (source-eq p.source r.source)))
 
 -- ---- a sort of packages, and a test of the neighbours
 
@@ -151,21 +162,28 @@ each-unlinked (p ∷ ps) = ((p.locked.named, p.locked.version_reads), each-unlin
 pub unlinked_total : IsTotalOrder unlinked_cmp
 unlinked_total = on_total (λ (p : Unlinked). p.locked) package_total
 
-alike-tests : (ps : List UnlinkedPackage) → has_alike unlinked_alike (unlinked_views ps) ≡ has_alike (eq_by_cmp unlinked_cmp) (unlinked_views ps)
-alike-tests ps = has_alike-agrees (λ (p : Unlinked). IsRead p.locked) unlinked_alike (eq_by_cmp unlinked_cmp) (λ p r h k. package-eq p.locked r.locked h k) (unlinked_views ps) (each-unlinked ps)
+alike-tests : (ps : List UnlinkedPackage)
+    → has_alike unlinked_alike (unlinked_views ps) ≡ has_alike (eq_by_cmp unlinked_cmp) (unlinked_views ps)
+alike-tests ps = has_alike-agrees (λ (p : Unlinked). IsRead p.locked) unlinked_alike (eq_by_cmp unlinked_cmp)
+    (λ p r h k. package-eq p.locked r.locked h k) (unlinked_views ps) (each-unlinked ps)
 
 abbrev Neighbours : List UnlinkedPackage → Bool → Type 0
 Neighbours ps r = IsAllAdjacentAnswer (λ x y b. b ≡ is_lt (unlinked_cmp (unlinked_view x) (unlinked_view y))) ps r
 
-pub packages-ordered : (ps rs : List UnlinkedPackage) → IsPermutation ps rs → (r : Bool) → r ≡ true → Neighbours rs r → ordered_packages (unlinked_views ps) ≡ Ok (unlinked_views rs)
+pub packages-ordered : (ps rs : List UnlinkedPackage) → IsPermutation ps rs → (r : Bool) → r ≡ true → Neighbours rs r
+    → ordered_packages (unlinked_views ps) ≡ Ok (unlinked_views rs)
 packages-ordered ps rs moved r e h =
     let both = ordered-run unlinked_total unlinked_view ps rs moved r e h in
     rw (alike-tests ps, both.0, both.1) refl
 
-pub packages-alike : (ps rs : List UnlinkedPackage) → IsPermutation ps rs → IsSortedBy (λ x y. is_lt (unlinked_cmp (unlinked_view x) (unlinked_view y))) rs → (r : Bool) → r ≡ false → Neighbours rs r → ordered_packages (unlinked_views ps) ≡ Err LockShape
-packages-alike ps rs moved s r e h = rw (alike-tests ps, alike-run unlinked_total unlinked_view ps rs moved s r e h) refl
+pub packages-alike : (ps rs : List UnlinkedPackage) → IsPermutation ps rs
+    → IsSortedBy (λ x y. is_lt (unlinked_cmp (unlinked_view x) (unlinked_view y))) rs → (r : Bool) → r ≡ false
+    → Neighbours rs r → ordered_packages (unlinked_views ps) ≡ Err LockShape
+packages-alike ps rs moved s r e h =
+    rw (alike-tests ps, alike-run unlinked_total unlinked_view ps rs moved s r e h) refl
 
-each-locked : (p : Unlinked) (ps : List Unlinked) → AllByRecursion (λ r. unlinked_cmp p r ≡ Less) ps → AllByRecursion (λ r. package_cmp p.locked r ≡ Less) (locked_packages ps)
+each-locked : (p : Unlinked) (ps : List Unlinked) → AllByRecursion (λ r. unlinked_cmp p r ≡ Less) ps
+    → AllByRecursion (λ r. package_cmp p.locked r ≡ Less) (locked_packages ps)
 each-locked p [] h = tt
 each-locked p (r ∷ rs) h = (h.0, each-locked p rs h.1)
 
@@ -174,5 +192,7 @@ unfolding IsStrictlySortedBy
 locked-sorted [] h = tt
 locked-sorted (p ∷ ps) h = (each-locked p ps h.0, locked-sorted ps h.1)
 
-pub packages-sorted : (ps rs : List UnlinkedPackage) → IsPermutation ps rs → (r : Bool) → r ≡ true → Neighbours rs r → IsOrdered (locked_packages (unlinked_views rs))
-packages-sorted ps rs moved r e h = locked-sorted (unlinked_views rs) (ordered-run unlinked_total unlinked_view ps rs moved r e h).2
+pub packages-sorted : (ps rs : List UnlinkedPackage) → IsPermutation ps rs → (r : Bool) → r ≡ true → Neighbours rs r
+    → IsOrdered (locked_packages (unlinked_views rs))
+packages-sorted ps rs moved r e h =
+    locked-sorted (unlinked_views rs) (ordered-run unlinked_total unlinked_view ps rs moved r e h).2

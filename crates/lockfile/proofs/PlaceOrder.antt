@@ -27,14 +27,16 @@ less-test m n = grind (arith, nat_tests)
 pub repeats : (ns : List ℕ) → has_alike nat_eq ns ≡ has_alike (eq_by_cmp nat_cmp) ns
 repeats ns = has_alike-agrees (λ n. Unit {0}) nat_eq (eq_by_cmp nat_cmp) (λ m n p q. same-test m n) ns (always ns)
 
-pub places-ordered : (ms ns : List ℕ) → IsPermutation ms ns → (r : Bool) → r ≡ true → IsAllAdjacentAnswer (λ m n b. b ≡ is_lt (nat_cmp m n)) ns r → ordered_places ms ≡ Ok ns
+pub places-ordered : (ms ns : List ℕ) → IsPermutation ms ns → (r : Bool) → r ≡ true
+    → IsAllAdjacentAnswer (λ m n b. b ≡ is_lt (nat_cmp m n)) ns r → ordered_places ms ≡ Ok ns
 places-ordered ms ns p r e h =
     let both = ordered-run nat_cmp_total (λ n. n) ms ns p r e h in
     let none = rw same-list at both.0 in
     let all = rw (same-list ms, same-list ns) at both.1 in
     rw (repeats ms, none, all) refl
 
-pub places-repeat : (ms ns : List ℕ) → IsPermutation ms ns → IsSortedBy (λ m n. is_lt (nat_cmp m n)) ns → (r : Bool) → r ≡ false → IsAllAdjacentAnswer (λ m n b. b ≡ is_lt (nat_cmp m n)) ns r → ordered_places ms ≡ Err LockShape
+pub places-repeat : (ms ns : List ℕ) → IsPermutation ms ns → IsSortedBy (λ m n. is_lt (nat_cmp m n)) ns → (r : Bool)
+    → r ≡ false → IsAllAdjacentAnswer (λ m n b. b ≡ is_lt (nat_cmp m n)) ns r → ordered_places ms ≡ Err LockShape
 places-repeat ms ns p s r e h =
     let twice = rw same-list at (alike-run nat_cmp_total (λ n. n) ms ns p s r e h) in
     rw (repeats ms, twice) refl

@@ -1,5 +1,6 @@
 -- What a lock says is a content.
-use Rattle.std.proofs.Common.{◌≡◌, ℕ, Bool, true, false, nat_lt, cond, List, [], ◌∷◌, length, Option, Some, None, Result, Ok, Err, codes, refl, sym, ◌∙◌, subst}
+use Rattle.std.proofs.Common.{◌≡◌, ℕ, Bool, true, false, nat_lt, cond, List, [], ◌∷◌, length, Option, Some, None}
+use Rattle.std.proofs.Common.{Result, Ok, Err, codes, refl, sym, ◌∙◌, subst}
 use Rattle.std.specs.List.{AllByRecursion}
 use Rattle.std.specs.List.Sorted.{IsStrictlySortedBy}
 use Rattle.std.specs.Option.{ok_or}
@@ -13,7 +14,10 @@ use Rattle.features.specs.Names.{is_package_name}
 use Rattle.model.specs.Content.{Content}
 use Rattle.model.specs.Outcome.{◌>>=◌}
 use Rattle.model.specs.WellFormed.{IsContent}
-use Rattle.lockfile.specs.Locks.{Unlinked, version_known, text_at, checked_name, checked_version, version_read, plain_at, dependencies_at, unlinked_of, unlinked_in, packages_in, packages_at, unlinked_alike, unlinked_cmp, ordered_packages, locked_packages, lists_of, content_of, content_of_table, content_of_bytes, table_of_bytes, most_bytes}
+use Rattle.lockfile.specs.Locks.{Unlinked, version_known, text_at, checked_name, checked_version, version_read}
+use Rattle.lockfile.specs.Locks.{plain_at, dependencies_at, unlinked_of, unlinked_in, packages_in, packages_at}
+use Rattle.lockfile.specs.Locks.{unlinked_alike, unlinked_cmp, ordered_packages, locked_packages, lists_of, content_of}
+use Rattle.lockfile.specs.Locks.{content_of_table, content_of_bytes, table_of_bytes, most_bytes}
 use Rattle.model.specs.Sorting.{has_alike, in_order}
 use Rattle.lockfile.specs.Search.{IsOrdered, IsRead}
 use Rattle.lockfile.specs.declared.fault.LockFault.TheVariants.{LockShape, TooLarge}
@@ -23,14 +27,16 @@ use Rattle.lockfile.proofs.Sorting.{has_alike-agrees, distinct-from_none, sorted
 
 -- ---- names and versions are what their texts read as
 
-named : (text name : List ℕ) → (b : Bool) → is_package_name text ≡ b → checked_name text ≡ Ok name → is_package_name name ≡ true
+named : (text name : List ℕ) → (b : Bool) → is_package_name text ≡ b → checked_name text ≡ Ok name
+    → is_package_name name ≡ true
 named text name true h e =
     let is : checked_name text ≡ Ok text = rw h refl in
     let same : text ≡ name = ok-same text name (sym is ∙ e) in
     subst (λ t. is_package_name t ≡ true) same h
 named text name false h e = let is : checked_name text ≡ Err LockShape = rw h refl in cc
 
-valid : (text : List ℕ) (v : Parts) → (r : Result Parts Error) → version_parts text ≡ r → version_read r ≡ Ok v → IsValid v
+valid : (text : List ℕ) (v : Parts) → (r : Result Parts Error) → version_parts text ≡ r
+    → version_read r ≡ Ok v → IsValid v
 valid text v (Ok w) h e =
     let same : w ≡ v = ok-same w v e in
     subst IsValid same (version_parts-sound text w h).1
@@ -49,12 +55,24 @@ package-read section u e =
     let named_so : is_package_name name.0 ≡ true = named name_text.0 name.0 _ refl name.1 in
     let valid_so : IsValid version.0 = valid version_text.0 version.0 _ refl version.1 in
     subst (λ (w : Unlinked). IsRead w.locked)
-    (ok-same (record { locked = record { name = name.0; version = version.0; source = source.0; checksum = checksum.0; list = [] }; texts = texts.0 }) u texts.2)
+    (ok-same (record {
+      locked = record {
+        name = name.0;
+        version = version.0;
+        source = source.0;
+        checksum =
+            checksum.0;
+        list = [];
+      };
+      texts = texts.0;
+    }) u texts.2)
     (named_so, valid_so)
 
-packages-read : (items : Items) (us : List Unlinked) → unlinked_in items ≡ Ok us → AllByRecursion (λ (u : Unlinked). IsRead u.locked) us
+packages-read : (items : Items) (us : List Unlinked) → unlinked_in items ≡ Ok us
+    → AllByRecursion (λ (u : Unlinked). IsRead u.locked) us
 unfolding unlinked_in
-packages-read no_items us e = let none : [] ≡ us = ok-same [] us e in subst (AllByRecursion (λ (u : Unlinked). IsRead u.locked)) none tt
+packages-read no_items us e = let none : [] ≡ us =
+    ok-same [] us e in subst (AllByRecursion (λ (u : Unlinked). IsRead u.locked)) none tt
 packages-read (item d rest) us e =
     let section = bind-ok (ok_or (as_table d) LockShape) _ us e in
     let first = bind-ok (unlinked_of section.0) _ us section.2 in
@@ -62,26 +80,32 @@ packages-read (item d rest) us e =
     subst (AllByRecursion (λ (u : Unlinked). IsRead u.locked)) (ok-same (first.0 ∷ others.0) us others.2)
     (package-read section.0 first.0 first.1, packages-read rest others.0 others.1)
 
-array-read : (o : Option Data) (us : List Unlinked) → packages_in o ≡ Ok us → AllByRecursion (λ (u : Unlinked). IsRead u.locked) us
-array-read None us e = let none : [] ≡ us = ok-same [] us e in subst (AllByRecursion (λ (u : Unlinked). IsRead u.locked)) none tt
-array-read (Some d) us e = let items = bind-ok (ok_or (as_array d) LockShape) unlinked_in us e in packages-read items.0 us items.2
+array-read : (o : Option Data) (us : List Unlinked) → packages_in o ≡ Ok us
+    → AllByRecursion (λ (u : Unlinked). IsRead u.locked) us
+array-read None us e = let none : [] ≡ us =
+    ok-same [] us e in subst (AllByRecursion (λ (u : Unlinked). IsRead u.locked)) none tt
+array-read (Some d) us e = let items =
+    bind-ok (ok_or (as_array d) LockShape) unlinked_in us e in packages-read items.0 us items.2
 
 -- ---- the packages stand in order
 
-in-order : (us os : List Unlinked) → AllByRecursion (λ (u : Unlinked). IsRead u.locked) us → (b : Bool) → has_alike unlinked_alike us ≡ b
+in-order : (us os : List Unlinked) → AllByRecursion (λ (u : Unlinked). IsRead u.locked) us → (b : Bool)
+    → has_alike unlinked_alike us ≡ b
     → ordered_packages us ≡ Ok os → IsOrdered (locked_packages os)
 in-order us os r true h e = let is : ordered_packages us ≡ Err LockShape = rw h refl in cc
 in-order us os r false h e =
     let is : ordered_packages us ≡ Ok (in_order unlinked_cmp us) = rw h refl in
     let same : in_order unlinked_cmp us ≡ os = ok-same (in_order unlinked_cmp us) os (sym is ∙ e) in
-    let agrees = has_alike-agrees (λ (u : Unlinked). IsRead u.locked) unlinked_alike (eq_by_cmp unlinked_cmp) (λ u v k l. package-eq u.locked v.locked k l) us r in
+    let agrees = has_alike-agrees (λ (u : Unlinked). IsRead u.locked) unlinked_alike (eq_by_cmp unlinked_cmp)
+    (λ u v k l. package-eq u.locked v.locked k l) us r in
     let sorted : IsStrictlySortedBy unlinked_cmp (in_order unlinked_cmp us)
     = sorted-in_order unlinked_total us (distinct-from_none (eq_by_cmp unlinked_cmp) us (sym agrees ∙ h)) in
     subst (λ ws. IsOrdered (locked_packages ws)) same (locked-sorted (in_order unlinked_cmp us) sorted)
 
 -- ---- the whole lock
 
-linked-said : (os : List Unlinked) (content : Content) → IsOrdered (locked_packages os) → content_of os ≡ Ok content → IsContent content
+linked-said : (os : List Unlinked) (content : Content) → IsOrdered (locked_packages os)
+    → content_of os ≡ Ok content → IsContent content
 unfolding content_of
 linked-said os content o e =
     let lists = bind-ok (lists_of (locked_packages os) os) _ content e in
@@ -94,7 +118,8 @@ table-said top content e =
     let written = bind-ok (packages_at top) _ content known.2 in
     let ordered = bind-ok (ordered_packages written.0) _ content written.2 in
     linked-said ordered.0 content
-    (in-order written.0 ordered.0 (array-read (get_member (codes "package") top) written.0 written.1) _ refl ordered.1) ordered.2
+    (in-order written.0 ordered.0
+    (array-read (get_member (codes "package") top) written.0 written.1) _ refl ordered.1) ordered.2
 
 pub said-content : (bytes : List ℕ) (content : Content) → content_of_bytes bytes ≡ Ok content → IsContent content
 unfolding content_of_bytes
@@ -102,4 +127,5 @@ said-content bytes content = by (nat_lt most_bytes (length bytes))
   where
     by : (b : Bool) → cond b (Err TooLarge) (table_of_bytes bytes >>= content_of_table) ≡ Ok content → IsContent content
     by true e = cc
-    by false e = let table = bind-ok (table_of_bytes bytes) content_of_table content e in table-said table.0 content table.2
+    by false e = let table =
+        bind-ok (table_of_bytes bytes) content_of_table content e in table-said table.0 content table.2

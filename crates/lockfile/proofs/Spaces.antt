@@ -1,9 +1,11 @@
 -- Names and versions have no space, so that a dependency text falls apart at its spaces in one way.
-use Rattle.std.proofs.Common.{◌≡◌, ℕ, suc, ◌+◌, ◌%◌, ◌^◌, ◌<◌, Bool, true, false, ◌&&◌, List, [], ◌∷◌, ◌++◌, refl, subst, arith}
+use Rattle.std.proofs.Common.{◌≡◌, ℕ, suc, ◌+◌, ◌%◌, ◌^◌, ◌<◌, Bool, true, false, ◌&&◌, List, [], ◌∷◌, ◌++◌, refl}
+use Rattle.std.proofs.Common.{subst, arith}
 use Rattle.std.specs.Fmt.{decimal}
 use Rattle.std.specs.List.{list_all}
 use Rattle.std.proofs.lemmas.Fmt.{decimal_by_steps}
-use Rattle.semver.specs.Grammar.{IsValid, is_identifier_byte, is_build_identifier, is_pre_identifier, is_pre_release, is_build}
+use Rattle.semver.specs.Grammar.{IsValid, is_identifier_byte, is_build_identifier, is_pre_identifier, is_pre_release}
+use Rattle.semver.specs.Grammar.{is_build}
 use Rattle.semver.specs.Identifiers.{parts_text, marked}
 use Rattle.semver.specs.Order.{parts}
 use Rattle.semver.specs.OrderLaws.{join_dots, join-parts}
@@ -35,7 +37,8 @@ package-byte b h e = let no : is_package_byte 32 ≡ true = rw e at h in cc
 
 package-bytes : (text : List ℕ) → list_all is_package_byte text ≡ true → Free text
 package-bytes [] h = tt
-package-bytes (b ∷ bs) h = let both = and-both (is_package_byte b) _ h in (package-byte b both.0, package-bytes bs both.1)
+package-bytes (b ∷ bs) h = let both =
+    and-both (is_package_byte b) _ h in (package-byte b both.0, package-bytes bs both.1)
 
 pub free-name : (name : List ℕ) → is_package_name name ≡ true → Free name
 free-name name h = package-bytes name (and-both _ (list_all is_package_byte name) (and-both _ _ h).1).1
@@ -43,14 +46,16 @@ free-name name h = package-bytes name (and-both _ (list_all is_package_byte name
 -- ---- versions
 
 free-decimal : (n : ℕ) → n < 2 ^ 64 → Free (decimal n)
-free-decimal n l = decimal_by_steps (λ m ds. Free ds) (λ m k. (λ e. omega arith, tt)) (λ m ds k h. free-append ds ((48 + m % 10) ∷ []) h (λ e. omega arith, tt)) n l
+free-decimal n l = decimal_by_steps (λ m ds. Free ds) (λ m k. (λ e. omega arith, tt))
+    (λ m ds k h. free-append ds ((48 + m % 10) ∷ []) h (λ e. omega arith, tt)) n l
 
 identifier-byte : (b : ℕ) → is_identifier_byte b ≡ true → b ≡ 32 → ⊥
 identifier-byte b h e = let no : is_identifier_byte 32 ≡ true = rw e at h in cc
 
 identifier-bytes : (text : List ℕ) → list_all is_identifier_byte text ≡ true → Free text
 identifier-bytes [] h = tt
-identifier-bytes (b ∷ bs) h = let both = and-both (is_identifier_byte b) _ h in (identifier-byte b both.0, identifier-bytes bs both.1)
+identifier-bytes (b ∷ bs) h = let both =
+    and-both (is_identifier_byte b) _ h in (identifier-byte b both.0, identifier-bytes bs both.1)
 
 build-part : (part : List ℕ) → is_build_identifier part ≡ true → Free part
 build-part part h = identifier-bytes part (and-both _ _ h).1
@@ -58,7 +63,8 @@ build-part part h = identifier-bytes part (and-both _ _ h).1
 pre-part : (part : List ℕ) → is_pre_identifier part ≡ true → Free part
 pre-part part h = build-part part (and-both _ _ h).0
 
-free-dots : (test : List ℕ → Bool) → ((part : List ℕ) → test part ≡ true → Free part) → (ps : List (List ℕ)) → list_all test ps ≡ true → Free (join_dots ps)
+free-dots : (test : List ℕ → Bool) → ((part : List ℕ) → test part ≡ true → Free part) → (ps : List (List ℕ))
+    → list_all test ps ≡ true → Free (join_dots ps)
 unfolding join_dots
 free-dots test free [] h = tt
 free-dots test free (p ∷ []) h = free p (and-both (test p) _ h).0
@@ -66,7 +72,8 @@ free-dots test free (p ∷ (q ∷ ps)) h =
     let both = and-both (test p) _ h in
     free-append p (46 ∷ join_dots (q ∷ ps)) (free p both.0) (λ e. omega arith, free-dots test free (q ∷ ps) both.1)
 
-free-parts : (test : List ℕ → Bool) → ((part : List ℕ) → test part ≡ true → Free part) → (text : List ℕ) → list_all test (parts text) ≡ true → Free text
+free-parts : (test : List ℕ → Bool) → ((part : List ℕ) → test part ≡ true → Free part) → (text : List ℕ)
+    → list_all test (parts text) ≡ true → Free text
 free-parts test free text h = subst Free (join-parts text) (free-dots test free (parts text) h)
 
 free-pre : (text : List ℕ) → is_pre_release text ≡ true → Free text
@@ -88,7 +95,8 @@ free-version v h =
       free-append (decimal v.1) _ (free-decimal v.1 h.1) (
         λ e. omega arith,
         free-append (decimal v.2) _ (free-decimal v.2 h.2)
-            (free-append (marked 45 (v.3)) _ (free-marked 45 (λ e. omega arith) (v.3) (free-pre (v.3) h.3)) (free-marked 43 (λ e. omega arith) (v.4) (free-build (v.4) h.4))),
+            (free-append (marked 45 (v.3)) _ (free-marked 45 (λ e. omega arith) (v.3) (free-pre (v.3) h.3))
+            (free-marked 43 (λ e. omega arith) (v.4) (free-build (v.4) h.4))),
       ),
     )
 

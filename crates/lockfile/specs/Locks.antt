@@ -1,6 +1,8 @@
 -- What a lock says: a function of the bytes of a Cargo.lock (Cargo book, "Cargo.toml vs Cargo.lock"; TOML; SemVer
 -- 2.0.0).
-use Rattle.std.specs.Prelude.{ℕ, ◌+◌, ℤ, pos, negsuc, Bool, true, false, not, ◌&&◌, ◌||◌, ◌==◌, nat_le, nat_lt, nat_eq, if◌then◌else◌, List, [], ◌∷◌, ◌++◌, length, map, Option, Some, None, is_some, Result, Ok, Err, codes, option_and_then}
+use Rattle.std.specs.Prelude.{ℕ, ◌+◌, ℤ, pos, negsuc, Bool, true, false, not, ◌&&◌, ◌||◌, ◌==◌, nat_le, nat_lt, nat_eq}
+use Rattle.std.specs.Prelude.{if◌then◌else◌, List, [], ◌∷◌, ◌++◌, length, map, Option, Some, None, is_some, Result, Ok}
+use Rattle.std.specs.Prelude.{Err, codes, option_and_then}
 use Rattle.std.specs.List.{list_all, zip}
 use Rattle.std.specs.Option.{ok_or}
 use Rattle.std.specs.Ordering.{nat_cmp}
@@ -109,7 +111,11 @@ unlinked_of section = do
   source ← plain_at (codes "source") section
   checksum ← plain_at (codes "checksum") section
   texts ← dependencies_at section
-  Ok (record { locked = record { name = name; version = version; source = source; checksum = checksum; list = [] }; texts = texts })
+  Ok (record {
+    locked =
+        record { name = name; version = version; source = source; checksum = checksum; list = [] };
+    texts = texts;
+  })
 
 -- the tables of an array, as they stand there
 unfoldable pub unlinked_in : Items → Result (List Unlinked) LockFault
@@ -187,7 +193,8 @@ or_else (Some i) other = Some i
 -- The place that a text means: of the one package of which it is a form. A `name version` that fits several packages
 -- means the one without a source.
 abbrev pub place_meant : Content → List ℕ → Option ℕ
-place_meant content text = or_else (only (places (is_form text) content)) (only (places (is_form_without_source text) content))
+place_meant content text =
+    or_else (only (places (is_form text) content)) (only (places (is_form_without_source text) content))
 
 unfoldable pub places_meant : Content → List (List ℕ) → Result (List ℕ) LockFault
 places_meant content [] = Ok []
@@ -239,4 +246,5 @@ most_bytes = 67108864
 
 -- the content that the bytes of a lock say, or their fault
 unfoldable pub content_of_bytes : List ℕ → Result Content LockFault
-content_of_bytes bytes = if nat_lt most_bytes (length bytes) then Err TooLarge else (table_of_bytes bytes >>= content_of_table)
+content_of_bytes bytes =
+    if nat_lt most_bytes (length bytes) then Err TooLarge else (table_of_bytes bytes >>= content_of_table)

@@ -1,5 +1,6 @@
 -- How a dependency text is looked up among packages in order: what its parts ask for, and which packages that fits.
-use Rattle.std.specs.Prelude.{◌≡◌, ◌≢◌, ℕ, ◌<◌, Bool, true, false, List, length, slice_index, Option, Some, None, option_map}
+use Rattle.std.specs.Prelude.{◌≡◌, ◌≢◌, ℕ, ◌<◌, Bool, true, false, List, length, slice_index, Option, Some, None}
+use Rattle.std.specs.Prelude.{option_map}
 use Rattle.std.specs.List.Sorted.{IsStrictlySortedBy}
 use Rattle.std.specs.Ordering.{ordering_then, is_eq}
 use Rattle.std.specs.declared.cmp.Ordering.{Ordering}
@@ -32,7 +33,8 @@ abbrev pub versioned_cmp : List ℕ → Parts → Package → Ordering
 versioned_cmp name version p = ordering_then (text_cmp p.name name) (version_cmp p.version version)
 
 abbrev pub sourced_cmp : List ℕ → Parts → Option (List ℕ) → Package → Ordering
-sourced_cmp name version source p = ordering_then (text_cmp p.name name) (ordering_then (version_cmp p.version version) (source_cmp p.source source))
+sourced_cmp name version source p =
+    ordering_then (text_cmp p.name name) (ordering_then (version_cmp p.version version) (source_cmp p.source source))
 
 abbrev pub is_named : List ℕ → Package → Bool
 is_named name p = is_eq (named_cmp name p)
@@ -47,7 +49,8 @@ is_sourced name version source p = is_eq (sourced_cmp name version source p)
 abbrev pub wanted_cmp : Wanted → Package → Ordering
 wanted_cmp (Name name) p = named_cmp name.now p
 wanted_cmp (Version name version) p = versioned_cmp name.now (parts_of version.now) p
-wanted_cmp (Source name version source) p = sourced_cmp name.now (parts_of version.now) (option_map (λ s. s.now) source) p
+wanted_cmp (Source name version source) p =
+    sourced_cmp name.now (parts_of version.now) (option_map (λ s. s.now) source) p
 
 abbrev pub is_wanted : Wanted → Package → Bool
 is_wanted w p = is_eq (wanted_cmp w p)

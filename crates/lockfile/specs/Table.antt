@@ -24,7 +24,8 @@ list_member (text ∷ texts) rest = member (codes "dependencies") (array (text_i
 
 -- the table of a package, whose list has these texts
 abbrev pub section_of : Package → List (List ℕ) → Members
-section_of p texts = optional_member (codes "checksum") p.checksum (list_member texts (member (codes "name") (string p.name)
+section_of p texts =
+    optional_member (codes "checksum") p.checksum (list_member texts (member (codes "name") (string p.name)
     (optional_member (codes "source") p.source (member (codes "version") (string (parts_text p.version)) no_members))))
 
 abbrev pub sections_of : Content → Content → Items

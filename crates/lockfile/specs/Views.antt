@@ -9,7 +9,14 @@ use Rattle.lockfile.specs.declared.locked.Package.{Package}
 use Rattle.lockfile.specs.declared.packages.UnlinkedPackage.{UnlinkedPackage}
 
 abbrev pub package_view : Package → model.Package
-package_view p = record { name = p.name; version = parts_of p.version; source = option_map string_bytes p.source; checksum = option_map string_bytes p.checksum; list = p.list.items }
+package_view p = record {
+  name = p.name;
+  version = parts_of p.version;
+  source =
+      option_map string_bytes p.source;
+  checksum = option_map string_bytes p.checksum;
+  list = p.list.items;
+}
 
 abbrev pub package_views : List Package → model.Content
 package_views ps = map package_view ps

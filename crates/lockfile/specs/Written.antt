@@ -24,7 +24,8 @@ written_of content p = record { locked = p; version = parts_text p.version; text
 
 -- the order of a list, by the texts that are kept
 abbrev pub written_cmp : Written → Written → Ordering
-written_cmp w x = ordering_then (text_cmp w.locked.name x.locked.name) (ordering_then (text_cmp w.version x.version) (listed_source_cmp w.locked.source x.locked.source))
+written_cmp w x = ordering_then (text_cmp w.locked.name x.locked.name)
+    (ordering_then (text_cmp w.version x.version) (listed_source_cmp w.locked.source x.locked.source))
 
 -- the list of a package, in the order in which it is written
 abbrev pub written_list : List Written → Written → List Written
@@ -39,7 +40,8 @@ abbrev pub AreRead : Content → Type 0
 AreRead = AllByRecursion IsRead
 
 abbrev pub entry_view : WrittenPackage → Written
-entry_view e = record { locked = package_view e.locked.now; version = string_bytes e.version; text = string_bytes e.text }
+entry_view e =
+    record { locked = package_view e.locked.now; version = string_bytes e.version; text = string_bytes e.text }
 
 abbrev pub entry_views : List WrittenPackage → List Written
 entry_views es = map entry_view es

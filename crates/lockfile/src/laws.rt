@@ -17,7 +17,8 @@ pub fn locks_say_contents()
 /// The table that a content is spelled as says that content: each dependency text means the one package that it was
 /// written for.
 pub fn tables_say_their_contents()
-    ensures { (content : Content) → IsContent content → All IsWritable content → content_of_table (table_of content) ≡ Ok content }
+    ensures { (content : Content) → IsContent content → All IsWritable content
+        → content_of_table (table_of content) ≡ Ok content }
 {}
 
 /// What is written reads as the same content, where the text is within a lock's limit and TOML reads it as the table

@@ -64,7 +64,8 @@ pub(crate) fn listed<'e>(
     entries: &'e [WrittenPackage<'_>],
     places: &[usize],
 ) -> Result<Vec<Listed<'e>>, AllocError>
-    ensures { IfOk result (λ v. listed_views v.items ≡ in_order written_cmp (at_places (entry_views entries.now) places.now)) }
+    ensures { IfOk result
+        (λ v. listed_views v.items ≡ in_order written_cmp (at_places (entry_views entries.now) places.now)) }
 {
     let mut found = entries_at(alloc, entries, places)?;
     found.sort_by(|a, b| listed_order(a, b))?;

@@ -37,7 +37,8 @@ pub fn package_order(a: &Package, b: &Package) -> Ordering
 
 /// The packages in package order, no two alike.
 pub(crate) fn ordered(mut packages: Vec<UnlinkedPackage>) -> Result<Vec<UnlinkedPackage>, LockFault>
-    ensures value { Gives wants_memory (λ v. unlinked_views v.items) result (ordered_packages (unlinked_views packages.entry.items)) }
+    ensures value { Gives wants_memory
+        (λ v. unlinked_views v.items) result (ordered_packages (unlinked_views packages.entry.items)) }
     ensures ordered { IfOk result (λ v. IsOrdered (locked_packages (unlinked_views v.items))) }
 {
     packages.sort_by(|a, b| package_order(&a.locked, &b.locked))?;

@@ -4,7 +4,8 @@ ghost use Rattle.std.specs.Prelude.{◌≡◌, IfOk, map};
 ghost use Rattle.std.specs.List.{zip};
 ghost use Rattle.toml.specs.View.{table_view};
 ghost use Rattle.model.specs.Outcome.{Gives};
-ghost use Rattle.lockfile.specs.Locks.{wants_memory, linked, locked_packages, content_of, content_of_table, content_of_bytes};
+ghost use Rattle.lockfile.specs.Locks.{wants_memory, linked, locked_packages, content_of, content_of_table};
+ghost use Rattle.lockfile.specs.Locks.{content_of_bytes};
 ghost use Rattle.lockfile.specs.Search.{IsOrdered};
 ghost use Rattle.lockfile.specs.Views.{package_view, package_views, unlinked_view, unlinked_views, list_views};
 
@@ -58,7 +59,8 @@ fn all_linked(
     packages: Vec<UnlinkedPackage>,
     lists: Vec<Vec<usize>>,
 ) -> Result<Vec<Package>, AllocError>
-    ensures { IfOk result (λ v. package_views v.items ≡ map linked (zip (unlinked_views packages.entry.items) (list_views lists.items))) }
+    ensures { IfOk result
+        (λ v. package_views v.items ≡ map linked (zip (unlinked_views packages.entry.items) (list_views lists.items))) }
 {
     packages
         .into_iter()

@@ -7,7 +7,8 @@ ghost use Rattle.semver.specs.Identifiers.{parts_of};
 ghost use Rattle.model.specs.Order.{text_cmp, version_cmp};
 ghost use Rattle.model.specs.Content as model;
 ghost use Rattle.model.specs.Outcome.{Gives};
-ghost use Rattle.lockfile.specs.Locks.{wants_memory, place_meant, places_meant, list_of, lists_of, only, places, locked_packages};
+ghost use Rattle.lockfile.specs.Locks.{wants_memory, place_meant, places_meant, list_of, lists_of, only, places};
+ghost use Rattle.lockfile.specs.Locks.{locked_packages};
 ghost use Rattle.lockfile.specs.Search.{named_cmp, versioned_cmp, wanted_cmp, is_wanted, passes, IsOrdered, HasNoSpace};
 ghost use Rattle.lockfile.specs.Views.{package_view, unlinked_views, locked_views, list_views, text_views};
 
@@ -42,7 +43,8 @@ impl<'p> Wanted<'p, 'p> {
 
     /// Those of the name and the version of a package.
     pub(crate) fn version_of(locked: &'p Package) -> Wanted<'p, 'p>
-        ensures { (r : model.Package) → wanted_cmp result r ≡ versioned_cmp (package_view locked.now).name (package_view locked.now).version r }
+        ensures { (r : model.Package)
+            → wanted_cmp result r ≡ versioned_cmp (package_view locked.now).name (package_view locked.now).version r }
     {
         Wanted::Version(locked.name.as_str(), &locked.version)
     }
@@ -65,7 +67,8 @@ impl Wanted<'_, '_> {
 
 /// Where a package stands beside those of a name and a version.
 fn compare_versions(locked: &Package, name: &str, version: &Version) -> Ordering
-    ensures { result ≡ ordering_then (text_cmp locked.now.name name.now) (version_cmp (parts_of locked.now.version) (parts_of version.now)) }
+    ensures { result ≡ ordering_then (text_cmp locked.now.name name.now)
+        (version_cmp (parts_of locked.now.version) (parts_of version.now)) }
 {
     locked
         .name
@@ -108,7 +111,8 @@ fn place_with_version(
     requires ordered { IsOrdered (locked_packages (unlinked_views packages.now)) }
     requires name { HasNoSpace name.now }
     requires version_text { HasNoSpace version_text.now }
-    ensures { Gives wants_memory (λ i. i) result (ok_or (place_meant (locked_packages (unlinked_views packages.now)) (name.now ++ (32 ∷ version_text.now))) LockFault.LockShape) }
+    ensures { Gives wants_memory (λ i. i) result (ok_or (place_meant (locked_packages (unlinked_views packages.now))
+        (name.now ++ (32 ∷ version_text.now))) LockFault.LockShape) }
 {
     let version = version(alloc, version_text)?;
     match only_place(packages, Wanted::Version(name, &version)) {
@@ -130,7 +134,8 @@ fn place_with_source<'t>(
     requires ordered { IsOrdered (locked_packages (unlinked_views packages.now)) }
     requires name { HasNoSpace name.now }
     requires version_text { HasNoSpace version_text.now }
-    ensures { Gives wants_memory (λ i. i) result (ok_or (place_meant (locked_packages (unlinked_views packages.now)) (name.now ++ (32 ∷ (version_text.now ++ (32 ∷ end.now))))) LockFault.LockShape) }
+    ensures { Gives wants_memory (λ i. i) result (ok_or (place_meant (locked_packages (unlinked_views packages.now))
+        (name.now ++ (32 ∷ (version_text.now ++ (32 ∷ end.now))))) LockFault.LockShape) }
 {
     let Some(source) = in_parentheses(end) else {
         return Err(LockFault::LockShape);
@@ -141,7 +146,8 @@ fn place_with_source<'t>(
 
 /// What stands between parentheses.
 fn in_parentheses(text: &str) -> Option<&str>
-    ensures { MatchOption result ((inner : List ℕ) → text.now ≢ 40 ∷ (inner ++ (41 ∷ []))) (λ inner. text.now ≡ 40 ∷ (inner.now ++ (41 ∷ []))) }
+    ensures { MatchOption result ((inner : List ℕ) → text.now ≢ 40 ∷ (inner ++ (41 ∷ [])))
+        (λ inner. text.now ≡ 40 ∷ (inner.now ++ (41 ∷ []))) }
 {
     let Some(inner) = text.strip_prefix('(') else {
         return None;
@@ -152,7 +158,8 @@ fn in_parentheses(text: &str) -> Option<&str>
 /// The place of the package that a text means.
 fn place(alloc: Global, packages: &[UnlinkedPackage], text: &str) -> Result<usize, LockFault>
     requires { IsOrdered (locked_packages (unlinked_views packages.now)) }
-    ensures { Gives wants_memory (λ i. i) result (ok_or (place_meant (locked_packages (unlinked_views packages.now)) text.now) LockFault.LockShape) }
+    ensures { Gives wants_memory (λ i. i) result
+        (ok_or (place_meant (locked_packages (unlinked_views packages.now)) text.now) LockFault.LockShape) }
 {
     let Some((name, rest)) = text.split_once(' ') else {
         return only_place(packages, Wanted::Name(text)).ok_or(LockFault::LockShape);
@@ -170,7 +177,8 @@ fn places_in(
     texts: &[&str],
 ) -> Result<Vec<usize>, LockFault>
     requires { IsOrdered (locked_packages (unlinked_views packages.now)) }
-    ensures { Gives wants_memory (λ v. v.items) result (places_meant (locked_packages (unlinked_views packages.now)) (text_views texts.now)) }
+    ensures { Gives wants_memory
+        (λ v. v.items) result (places_meant (locked_packages (unlinked_views packages.now)) (text_views texts.now)) }
 {
     let mut found = Vec::new(alloc);
     'texts: for text in texts.iter() {
@@ -186,7 +194,8 @@ fn list(
     texts: &[&str],
 ) -> Result<Vec<usize>, LockFault>
     requires { IsOrdered (locked_packages (unlinked_views packages.now)) }
-    ensures { Gives wants_memory (λ v. v.items) result (list_of (locked_packages (unlinked_views packages.now)) (text_views texts.now)) }
+    ensures { Gives wants_memory
+        (λ v. v.items) result (list_of (locked_packages (unlinked_views packages.now)) (text_views texts.now)) }
 {
     ordered_list(places_in(alloc, packages, texts)?)
 }
@@ -198,7 +207,8 @@ pub(crate) fn lists(
     packages: &[UnlinkedPackage],
 ) -> Result<Vec<Vec<usize>>, LockFault>
     requires { IsOrdered (locked_packages (unlinked_views packages.now)) }
-    ensures { Gives wants_memory (λ v. list_views v.items) result (lists_of (locked_packages (unlinked_views packages.now)) (unlinked_views packages.now)) }
+    ensures { Gives wants_memory (λ v. list_views v.items) result
+        (lists_of (locked_packages (unlinked_views packages.now)) (unlinked_views packages.now)) }
 {
     let mut found = Vec::new(alloc);
     'packages: for package in packages.iter() {

@@ -9,7 +9,9 @@ ghost use Rattle.semver.specs.Parse.{memory_error};
 ghost use Rattle.toml.specs.Data.{get_member};
 ghost use Rattle.toml.specs.View.{view, table_view, items_view};
 ghost use Rattle.model.specs.Outcome.{Gives, guard};
-ghost use Rattle.lockfile.specs.Locks.{wants_memory, table_of_bytes, is_known_version, version_known, text_at, checked_name, checked_version, is_plain_byte, checked_plain, plain_at, texts_in, dependencies_at};
+ghost use Rattle.lockfile.specs.Locks.{wants_memory, table_of_bytes, is_known_version, version_known, text_at};
+ghost use Rattle.lockfile.specs.Locks.{checked_name, checked_version, is_plain_byte, checked_plain, plain_at, texts_in};
+ghost use Rattle.lockfile.specs.Locks.{dependencies_at};
 ghost use Rattle.lockfile.specs.Views.{text_views};
 
 use crate::fault::LockFault;
@@ -105,7 +107,8 @@ pub(crate) fn version(alloc: Global, text: &str) -> Result<Version, LockFault>
 
 /// What an error of `semver` is as a fault.
 fn fault_of(e: semver::Error) -> LockFault
-    ensures { ((result ≡ LockFault.OutOfMemory) × (e ≡ memory_error)) ⊎ ((result ≡ LockFault.LockShape) × (e ≢ memory_error)) }
+    ensures { ((result ≡ LockFault.OutOfMemory) × (e ≡ memory_error))
+        ⊎ ((result ≡ LockFault.LockShape) × (e ≢ memory_error)) }
 {
     if e == semver::Error::from(AllocError) {
         LockFault::OutOfMemory

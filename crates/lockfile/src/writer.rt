@@ -26,7 +26,8 @@ fn put_key(out: &mut Vec<u8>, key: &str, value: &str) -> Result<(), AllocError>
 }
 
 fn put_optional(out: &mut Vec<u8>, key: &str, value: Option<&str>) -> Result<(), AllocError>
-    ensures { OnOk result (out.new.items ≡ out.old.items ++ optional_line key.now (option_map (λ s. s.now) value.entry)) }
+    ensures { OnOk result
+        (out.new.items ≡ out.old.items ++ optional_line key.now (option_map (λ s. s.now) value.entry)) }
 {
     match value {
         Some(value) => put_key(out, key, value),
@@ -44,7 +45,8 @@ fn put_dependency(out: &mut Vec<u8>, text: &str) -> Result<(), AllocError>
 }
 
 fn put_dependencies(out: &mut Vec<u8>, listed: &[Listed]) -> Result<(), AllocError>
-    ensures { OnOk result (out.new.items ≡ out.old.items ++ flat_map dependency_line (map (λ w. w.text) (listed_views listed.now))) }
+    ensures { OnOk result
+        (out.new.items ≡ out.old.items ++ flat_map dependency_line (map (λ w. w.text) (listed_views listed.now))) }
 {
     'listed: for other in listed.iter() {
         put_dependency(out, other.text)?;
@@ -54,7 +56,8 @@ fn put_dependencies(out: &mut Vec<u8>, listed: &[Listed]) -> Result<(), AllocErr
 
 /// Puts the list of a package, nothing where it is empty.
 fn put_list(out: &mut Vec<u8>, listed: &[Listed]) -> Result<(), AllocError>
-    ensures { OnOk result (out.new.items ≡ out.old.items ++ dependency_lines (map (λ w. w.text) (listed_views listed.now))) }
+    ensures { OnOk result
+        (out.new.items ≡ out.old.items ++ dependency_lines (map (λ w. w.text) (listed_views listed.now))) }
 {
     if listed.is_empty() {
         return Ok(());
@@ -71,7 +74,8 @@ fn put_package(
     entry: &WrittenPackage,
     listed: &[Listed],
 ) -> Result<(), AllocError>
-    ensures { OnOk result (out.new.items ≡ out.old.items ++ written_block (entry_view entry.now) (listed_views listed.now)) }
+    ensures { OnOk result
+        (out.new.items ≡ out.old.items ++ written_block (entry_view entry.now) (listed_views listed.now)) }
 {
     let locked = entry.locked;
     out.extend_from_slice(b"\n[[package]]\n")?;
@@ -89,7 +93,8 @@ fn put_packages(
     out: &mut Vec<u8>,
     entries: &[WrittenPackage],
 ) -> Result<(), AllocError>
-    ensures { OnOk result (out.new.items ≡ out.old.items ++ flat_map (λ w. written_block w (written_list (entry_views entries.now) w)) (entry_views entries.now)) }
+    ensures { OnOk result (out.new.items ≡ out.old.items
+        ++ flat_map (λ w. written_block w (written_list (entry_views entries.now) w)) (entry_views entries.now)) }
 {
     'entries: for entry in entries.iter() {
         let listed = listed(alloc, entries, &entry.locked.list)?;

@@ -1,6 +1,7 @@
 //! The text by which the lists of a lock name a package.
 
-ghost use Rattle.std.specs.Prelude.{◌≡◌, ◌==◌, ◌<◌, ◌++◌, ◌∷◌, [], true, length, map, IfOk, Some, slice_get, string_bytes};
+ghost use Rattle.std.specs.Prelude.{◌≡◌, ◌==◌, ◌<◌, ◌++◌, ◌∷◌, [], true, length, map, IfOk, Some, slice_get};
+ghost use Rattle.std.specs.Prelude.{string_bytes};
 ghost use Rattle.std.specs.List.{filter};
 ghost use Rattle.semver.specs.Identifiers.{parts_of, parts_text};
 ghost use Rattle.lockfile.specs.Search.{IsOrdered, is_wanted, passes};
@@ -95,7 +96,8 @@ fn version_form(alloc: Global, name: &str, version: &str) -> Result<String, Allo
 
 /// The text `name version (source)`.
 fn source_form(alloc: Global, name: &str, version: &str, source: &str) -> Result<String, AllocError>
-    ensures { IfOk result (λ t. string_bytes t ≡ name.now ++ (32 ∷ (version.now ++ (32 ∷ (40 ∷ (source.now ++ (41 ∷ []))))))) }
+    ensures { IfOk result
+        (λ t. string_bytes t ≡ name.now ++ (32 ∷ (version.now ++ (32 ∷ (40 ∷ (source.now ++ (41 ∷ []))))))) }
 {
     format!(in alloc; "{name} {version} ({source})")
 }
@@ -103,7 +105,8 @@ fn source_form(alloc: Global, name: &str, version: &str, source: &str) -> Result
 /// The longest text by which lists name a package whose version has this text.
 fn longest_form(alloc: Global, locked: &Package, version: &str) -> Result<String, AllocError>
     requires { version.now ≡ parts_text (parts_of locked.now.version) }
-    ensures { IfOk result (λ t. string_bytes t ≡ longest_form (package_view locked.now) (package_view locked.now).source) }
+    ensures { IfOk result
+        (λ t. string_bytes t ≡ longest_form (package_view locked.now) (package_view locked.now).source) }
 {
     let name = locked.name.as_str();
     match locked.source() {
@@ -123,7 +126,8 @@ fn dependency_text(
     requires ordered { IsOrdered (package_views packages.now) }
     requires place { slice_get packages.now place ≡ Some locked.now }
     requires version { version.now ≡ parts_text (parts_of locked.now.version) }
-    ensures { IfOk result (λ t. string_bytes t ≡ dependency_text (package_views packages.now) (package_view locked.now)) }
+    ensures { IfOk result
+        (λ t. string_bytes t ≡ dependency_text (package_views packages.now) (package_view locked.now)) }
 {
     let name = locked.name.as_str();
     if has_own_name(packages, place, locked) {
@@ -160,7 +164,8 @@ pub(crate) fn entries(
     packages: &[Package],
 ) -> Result<Vec<WrittenPackage<'_>>, AllocError>
     requires { IsOrdered (package_views packages.now) }
-    ensures { IfOk result (λ v. entry_views v.items ≡ map (written_of (package_views packages.now)) (package_views packages.now)) }
+    ensures { IfOk result
+        (λ v. entry_views v.items ≡ map (written_of (package_views packages.now)) (package_views packages.now)) }
 {
     let mut found = Vec::new(alloc);
     'packages: for (place, locked) in packages.iter().enumerate() {

@@ -1,5 +1,7 @@
 -- Versions that are oldest first have those of a class in one piece.
-use Rattle.std.proofs.Common.{◌≡◌, ℕ, zero, suc, ◌+◌, ◌-◌, ◌<◌, ◌≤◌, Bool, true, false, not, cond, List, [], ◌∷◌, map, filter, take, drop, length, get_or, refl, sym, ap, ◌∙◌, subst, arith, true≢false, inl, inr}
+use Rattle.std.proofs.Common.{◌≡◌, ℕ, zero, suc, ◌+◌, ◌-◌, ◌<◌, ◌≤◌, Bool, true, false, not, cond, List, [], ◌∷◌, map}
+use Rattle.std.proofs.Common.{filter, take, drop, length, get_or, refl, sym, ap, ◌∙◌, subst, arith, true≢false, inl}
+use Rattle.std.proofs.Common.{inr}
 use Rattle.std.specs.List.Sorted.{IsPartitionedBy, IsPartitionPoint}
 use Rattle.std.specs.Ordering.{is_gt}
 use Rattle.std.specs.declared.cmp.Ordering.TheVariants.{Less}
@@ -20,14 +22,16 @@ use Rattle.looking_up.specs.Ranges.{AreRising, is_above, is_below, is_of}
 
 -- a class that isn't above another is below what that one is below, ..
 lower_first : (c d k : Class) → is_lower d c ≡ false → is_lower d k ≡ true → is_lower c k ≡ true
-lower_first (patch a) (patch b) (patch n) h l = let x = ltb-false b a h in let y = ltb-true b n l in lt-ltb a n (omega arith)
+lower_first (patch a) (patch b) (patch n) h l = let x = ltb-false b a h in let y =
+    ltb-true b n l in lt-ltb a n (omega arith)
 lower_first (patch a) (minor b) (patch n) h l = absurd (true≢false (sym l))
 lower_first (patch a) (major b) (patch n) h l = absurd (true≢false (sym l))
 lower_first (patch a) d (minor n) h l = refl
 lower_first (patch a) d (major n) h l = refl
 lower_first (minor a) (patch b) k h l = absurd (true≢false h)
 lower_first (minor a) (minor b) (patch n) h l = absurd (true≢false (sym l))
-lower_first (minor a) (minor b) (minor n) h l = let x = ltb-false b a h in let y = ltb-true b n l in lt-ltb a n (omega arith)
+lower_first (minor a) (minor b) (minor n) h l = let x = ltb-false b a h in let y =
+    ltb-true b n l in lt-ltb a n (omega arith)
 lower_first (minor a) (minor b) (major n) h l = refl
 lower_first (minor a) (major b) (patch n) h l = absurd (true≢false (sym l))
 lower_first (minor a) (major b) (minor n) h l = absurd (true≢false (sym l))
@@ -36,7 +40,8 @@ lower_first (major a) (patch b) k h l = absurd (true≢false h)
 lower_first (major a) (minor b) k h l = absurd (true≢false h)
 lower_first (major a) (major b) (patch n) h l = absurd (true≢false (sym l))
 lower_first (major a) (major b) (minor n) h l = absurd (true≢false (sym l))
-lower_first (major a) (major b) (major n) h l = let x = ltb-false b a h in let y = ltb-true b n l in lt-ltb a n (omega arith)
+lower_first (major a) (major b) (major n) h l = let x = ltb-false b a h in let y =
+    ltb-true b n l in lt-ltb a n (omega arith)
 
 -- .. and the other is above what it is above
 lower_last : (k c d : Class) → is_lower d c ≡ false → is_lower k c ≡ true → is_lower k d ≡ true
@@ -92,22 +97,27 @@ module _ (t : Parts → Bool) (older : (v w : Parts) → precedence v w ≡ Less
 pub below_parted : (k : Class) (vs : List Version) → AreRising vs → IsPartitionedBy (λ v. is_below k (parts_of v)) vs
 below_parted k = parted (is_below k) (λ v w less h. lower_first (class_of v) (class_of w) k (classes_rise v w less) h)
 
-pub above_parted : (k : Class) (vs : List Version) → AreRising vs → IsPartitionedBy (λ v. not (is_above k (parts_of v))) vs
-above_parted k = parted (λ v. not (is_above k v)) (λ v w less h. by v w (lower_last k (class_of v) (class_of w) (classes_rise v w less)) h (is_above k v) refl)
+pub above_parted : (k : Class) (vs : List Version) → AreRising vs
+    → IsPartitionedBy (λ v. not (is_above k (parts_of v))) vs
+above_parted k = parted (λ v. not (is_above k v))
+    (λ v w less h. by v w (lower_last k (class_of v) (class_of w) (classes_rise v w less)) h (is_above k v) refl)
   where
-    by : (v w : Parts) → (is_above k v ≡ true → is_above k w ≡ true) → not (is_above k w) ≡ true → (b : Bool) → is_above k v ≡ b → not b ≡ true
+    by : (v w : Parts) → (is_above k v ≡ true → is_above k w ≡ true) → not (is_above k w) ≡ true → (b : Bool)
+        → is_above k v ≡ b → not b ≡ true
     by v w f h false e = refl
     by v w f h true e = absurd (true≢false (sym h ∙ ap not (f e)))
 
 -- ---- what lies between
 
 module _ {X : Type 0} (p : X → Bool) where
-  skipped : (xs : List X) (i : ℕ) → ((k : ℕ) (d : X) → k < i → k < length xs → p (get_or xs k d) ≡ false) → filter p xs ≡ filter p (drop i xs)
+  skipped : (xs : List X) (i : ℕ) → ((k : ℕ) (d : X) → k < i → k < length xs → p (get_or xs k d) ≡ false)
+      → filter p xs ≡ filter p (drop i xs)
   skipped [] zero h = refl
   skipped [] (suc i) h = refl
   skipped (x ∷ xs) zero h = refl
   skipped (x ∷ xs) (suc i) h =
-      ap (λ b. cond b (x ∷ filter p xs) (filter p xs)) (h 0 x (omega arith) (omega arith)) ∙ skipped xs i (λ k d low within. h (suc k) d (omega (arith, low)) (omega (arith, within)))
+      ap (λ b. cond b (x ∷ filter p xs) (filter p xs)) (h 0 x (omega arith) (omega arith))
+      ∙ skipped xs i (λ k d low within. h (suc k) d (omega (arith, low)) (omega (arith, within)))
 
   kept : (xs : List X) (j : ℕ) → j ≤ length xs → ((k : ℕ) (d : X) → k < j → p (get_or xs k d) ≡ true)
       → ((k : ℕ) (d : X) → j ≤ k → k < length xs → p (get_or xs k d) ≡ false) → filter p xs ≡ take j xs
@@ -115,10 +125,12 @@ module _ {X : Type 0} (p : X → Bool) where
   kept [] (suc j) few low high = absurd (omega (arith, few))
   kept (x ∷ xs) zero few low high =
       ap (λ b. cond b (x ∷ filter p xs) (filter p xs)) (high 0 x (omega arith) (omega arith))
-      ∙ kept xs zero (omega arith) (λ k d less. absurd (omega (arith, less))) (λ k d more within. high (suc k) d (omega arith) (omega (arith, within)))
+      ∙ kept xs zero (omega arith) (λ k d less. absurd (omega (arith, less)))
+      (λ k d more within. high (suc k) d (omega arith) (omega (arith, within)))
   kept (x ∷ xs) (suc j) few low high =
       ap (λ b. cond b (x ∷ filter p xs) (filter p xs)) (low 0 x (omega arith))
-      ∙ ap (λ ys. x ∷ ys) (kept xs j (omega (arith, few)) (λ k d less. low (suc k) d (omega (arith, less))) (λ k d more within. high (suc k) d (omega (arith, more)) (omega (arith, within))))
+      ∙ ap (λ ys. x ∷ ys) (kept xs j (omega (arith, few)) (λ k d less. low (suc k) d (omega (arith, less)))
+      (λ k d more within. high (suc k) d (omega (arith, more)) (omega (arith, within))))
 
 not_true : (b : Bool) → not b ≡ true → b ≡ false
 not_true false e = refl
@@ -131,32 +143,39 @@ not_false false e = sym e
 between : (k : Class) (vs : List Version) (i j : ℕ)
     → IsPartitionPoint (λ v. is_below k (parts_of v) ≡ true) (λ v. is_below k (parts_of v) ≡ false) vs i
     → j ≤ length (drop i vs)
-    → IsPartitionPoint (λ v. not (is_above k (parts_of v)) ≡ true) (λ v. not (is_above k (parts_of v)) ≡ false) (drop i vs) j
+    → IsPartitionPoint (λ v. not (is_above k (parts_of v)) ≡ true)
+    (λ v. not (is_above k (parts_of v)) ≡ false) (drop i vs) j
     → take j (drop i vs) ≡ filter (λ v. is_of k (parts_of v)) vs
 between k vs i j first less last =
     let long = length-drop i vs in
-    sym (skipped (λ v. is_of k (parts_of v)) vs i (λ n d low within. apart_below k (class_of (parts_of (get_or vs n d))) (first.0 n d (omega arith) low))
+    sym (skipped (λ v. is_of k (parts_of v)) vs i
+    (λ n d low within. apart_below k (class_of (parts_of (get_or vs n d))) (first.0 n d (omega arith) low))
     ∙ kept (λ v. is_of k (parts_of v)) (drop i vs) j less
     (λ n d low. neither k (class_of (parts_of (get_or (drop i vs) n d)))
-    (subst (λ v. is_below k (parts_of v) ≡ false) (sym (get_or-drop i vs n d)) (first.1 (i + n) d (omega arith) (omega arith)))
+    (subst (λ v. is_below k (parts_of v) ≡ false) (sym (get_or-drop i vs n d))
+    (first.1 (i + n) d (omega arith) (omega arith)))
     (not_true (is_above k (parts_of (get_or (drop i vs) n d))) (last.0 n d (omega arith) low)))
-    (λ n d high within. apart_above k (class_of (parts_of (get_or (drop i vs) n d))) (not_false (is_above k (parts_of (get_or (drop i vs) n d))) (last.1 n d high within))))
+    (λ n d high within. apart_above k (class_of (parts_of (get_or (drop i vs) n d)))
+    (not_false (is_above k (parts_of (get_or (drop i vs) n d))) (last.1 n d high within))))
 
 -- the versions of a class lie between those below it and those above it
 pub piece_is : (k : Class) (vs : List Version) (i j : ℕ)
     → IsPartitionPoint (λ v. is_below k (parts_of v) ≡ true) (λ v. is_below k (parts_of v) ≡ false) vs i
     → j ≤ length (take (length vs - i) (drop i vs))
-    → IsPartitionPoint (λ v. not (is_above k (parts_of v)) ≡ true) (λ v. not (is_above k (parts_of v)) ≡ false) (take (length vs - i) (drop i vs)) j
+    → IsPartitionPoint (λ v. not (is_above k (parts_of v)) ≡ true)
+    (λ v. not (is_above k (parts_of v)) ≡ false) (take (length vs - i) (drop i vs)) j
     → take j (take (length vs - i) (drop i vs)) ≡ filter (λ v. is_of k (parts_of v)) vs
 piece_is k vs i j first = rw (take_rest vs i) (λ less last. between k vs i j first less last)
 
 -- ---- as parts
 
-pub parts_filtered : (t : Parts → Bool) (vs : List Version) → map parts_of (filter (λ v. t (parts_of v)) vs) ≡ filter t (map parts_of vs)
+pub parts_filtered : (t : Parts → Bool) (vs : List Version)
+    → map parts_of (filter (λ v. t (parts_of v)) vs) ≡ filter t (map parts_of vs)
 parts_filtered t [] = refl
 parts_filtered t (v ∷ vs) = by (t (parts_of v)) (parts_filtered t vs)
   where
     by : (b : Bool) → map parts_of (filter (λ v. t (parts_of v)) vs) ≡ filter t (map parts_of vs)
-        → map parts_of (cond b (v ∷ filter (λ v. t (parts_of v)) vs) (filter (λ v. t (parts_of v)) vs)) ≡ cond b (parts_of v ∷ filter t (map parts_of vs)) (filter t (map parts_of vs))
+        → map parts_of (cond b (v ∷ filter (λ v. t (parts_of v)) vs) (filter (λ v. t (parts_of v)) vs))
+        ≡ cond b (parts_of v ∷ filter t (map parts_of vs)) (filter t (map parts_of vs))
     by true e = ap (λ ps. parts_of v ∷ ps) e
     by false e = e

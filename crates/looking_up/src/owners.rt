@@ -29,7 +29,8 @@ pub fn brings<'a>(problem: &Problem<'a>, owner: &OwnerRef<'_>) -> Option<&'a Sum
 
 /// The dependencies of an owner.
 pub fn dependencies_of<'a>(problem: &Problem<'a>, owner: &OwnerRef<'_>) -> &'a [Dependency]
-    ensures { dependency_views result.now ≡ (owner_brings (problem_view problem.now) (owner_ref_view owner.now)).dependencies }
+    ensures { dependency_views result.now
+        ≡ (owner_brings (problem_view problem.now) (owner_ref_view owner.now)).dependencies }
 {
     match brings(problem, owner) {
         Some(owner) => owner.dependencies.as_slice(),
@@ -43,7 +44,8 @@ pub fn dependency_at<'a>(
     owner: &OwnerRef<'_>,
     number: usize,
 ) -> Option<&'a Dependency>
-    ensures { option_map (λ d. dependency_view d.now) result ≡ dependency_at (problem_view problem.now) (owner_ref_view owner.now) number }
+    ensures { option_map (λ d. dependency_view d.now) result
+        ≡ dependency_at (problem_view problem.now) (owner_ref_view owner.now) number }
 {
     dependencies_of(problem, owner).get(number)
 }
@@ -55,7 +57,8 @@ pub fn entries_of<'a>(
     version: &Version,
     feature: &FeatureName,
 ) -> &'a [Entry]
-    ensures { entry_views result.now ≡ entries_of (problem_view problem.now) name.now (parts_of version.now) feature.now }
+    ensures { entry_views result.now
+        ≡ entries_of (problem_view problem.now) name.now (parts_of version.now) feature.now }
 {
     match brings(problem, &OwnerRef::Version(name, version)) {
         Some(owner) => owner.features.entries(feature),

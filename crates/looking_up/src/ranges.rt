@@ -18,7 +18,8 @@ pub fn class_versions<'a>(
     name: &PackageName,
     class: Class,
 ) -> &'a [Version]
-    ensures versions { map parts_of result.now ≡ filter (is_of (class_view class)) (map (λ r. r.version) (candidates_at catalogue.entry.now name.now)) }
+    ensures versions { map parts_of result.now
+        ≡ filter (is_of (class_view class)) (map (λ r. r.version) (candidates_at catalogue.entry.now name.now)) }
     ensures rising { AreRising result.now }
 {
     of_class(class, catalogue.versions(name))
@@ -37,7 +38,8 @@ pub fn of_class<'a>(class: Class, versions: &'a [Version]) -> &'a [Version]
 pub fn below(class: Class, versions: &[Version]) -> usize
     requires { AreRising versions.now }
     ensures few { result ≤ length versions.now }
-    ensures place { IsPartitionPoint (λ v. is_below (class_view class) (parts_of v) ≡ true) (λ v. is_below (class_view class) (parts_of v) ≡ false) versions.now result }
+    ensures place { IsPartitionPoint (λ v. is_below (class_view class) (parts_of v) ≡ true)
+        (λ v. is_below (class_view class) (parts_of v) ≡ false) versions.now result }
 {
     versions.partition_point(|version| is_below(class, version))
 }
@@ -46,7 +48,8 @@ pub fn below(class: Class, versions: &[Version]) -> usize
 fn up_to(class: Class, versions: &[Version]) -> usize
     requires { AreRising versions.now }
     ensures few { result ≤ length versions.now }
-    ensures place { IsPartitionPoint (λ v. not (is_above (class_view class) (parts_of v)) ≡ true) (λ v. not (is_above (class_view class) (parts_of v)) ≡ false) versions.now result }
+    ensures place { IsPartitionPoint (λ v. not (is_above (class_view class) (parts_of v)) ≡ true)
+        (λ v. not (is_above (class_view class) (parts_of v)) ≡ false) versions.now result }
 {
     versions.partition_point(|version| !is_above(class, version))
 }

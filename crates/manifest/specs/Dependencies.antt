@@ -1,8 +1,11 @@
 -- The dependencies that a manifest writes, before their requirements are read (Cargo book, "Specifying Dependencies").
-use Rattle.std.specs.Prelude.{ℕ, Bool, true, false, not, ◌||◌, if◌then◌else◌, List, [], ◌∷◌, ◌++◌, Option, Some, None, Ok, Err, codes}
-use Rattle.toml.specs.Data.{Data, string, integer, float, boolean, datetime, array, table, as_array, get_member, Items, no_items, item, Members, no_members, member}
+use Rattle.std.specs.Prelude.{ℕ, Bool, true, false, not, ◌||◌, if◌then◌else◌, List, [], ◌∷◌, ◌++◌, Option, Some, None}
+use Rattle.std.specs.Prelude.{Ok, Err, codes}
+use Rattle.toml.specs.Data.{Data, string, integer, float, boolean, datetime, array, table, as_array, get_member, Items}
+use Rattle.toml.specs.Data.{no_items, item, Members, no_members, member}
 use Rattle.model.specs.Outcome.{◌>>=◌, guard}
-use Rattle.manifest.specs.Values.{Shaped, wanted, if_there, or_absent, text_of, flag_of, table_of, has_key, either_at, package_name_of, feature_name_of}
+use Rattle.manifest.specs.Values.{Shaped, wanted, if_there, or_absent, text_of, flag_of, table_of, has_key, either_at}
+use Rattle.manifest.specs.Values.{package_name_of, feature_name_of}
 use Rattle.manifest.specs.declared.fault.ManifestFault.TheVariants.{Shape}
 use Rattle.manifest.specs.declared.fault.Part.{Part}
 use Rattle.manifest.specs.declared.fault.Part.TheVariants as part
@@ -29,7 +32,8 @@ pub record DependencyShapeView : Type 0 where
 
 -- a dependency of which no more is said than where it is from
 abbrev pub bare : List ℕ → SourceView → DependencyShapeView
-bare name from = record { name = name; real_name = name; source = from; optional = false; default_features = true; features = [] }
+bare name from =
+    record { name = name; real_name = name; source = from; optional = false; default_features = true; features = [] }
 
 -- the first source that is unsupported and that a key of the dependency asks for
 abbrev pub unsupported_in : Members → Option Unsupported
@@ -69,7 +73,8 @@ feature_list p d = wanted p (as_array d) >>= feature_names p
 
 -- whether a dependency asks for `default`: it does where it says nothing
 abbrev pub default_features_in : Part → Members → Shaped Bool
-default_features_in p t = either_at p (codes "default-features") (codes "default_features") t >>= or_absent true (flag_of p)
+default_features_in p t =
+    either_at p (codes "default-features") (codes "default_features") t >>= or_absent true (flag_of p)
 
 -- a dev dependency may not be optional
 abbrev pub may_be_optional : DependencyKind → Bool
@@ -104,7 +109,8 @@ inherited = unsupported source.Workspace
 -- a dependency: a requirement or a table
 abbrev pub described : Part → DependencyKind → List ℕ → Data → Shaped DependencyShapeView
 described p kind name (string text) = Ok (bare name (registry text))
-described p kind name (table t) = if has_key (codes "workspace") t then Ok (bare name inherited) else dependency_in p kind name t
+described p kind name (table t) =
+    if has_key (codes "workspace") t then Ok (bare name inherited) else dependency_in p kind name t
 described p kind name (integer z) = Err (Shape p)
 described p kind name (float x) = Err (Shape p)
 described p kind name (boolean b) = Err (Shape p)

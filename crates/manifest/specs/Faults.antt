@@ -4,7 +4,8 @@ use Rattle.std.specs.Prelude.{ℕ, List, Bool, true, false, codes}
 use Rattle.features.specs.declared.table.FeatureFault.{FeatureFault}
 use Rattle.features.specs.declared.table.FeatureFault.TheVariants as feature
 use Rattle.manifest.specs.declared.fault.ManifestFault.{ManifestFault}
-use Rattle.manifest.specs.declared.fault.ManifestFault.TheVariants.{OutOfMemory, TooLarge, NotToml, Shape, UnsupportedSource, BadRequirement, RootFeature}
+use Rattle.manifest.specs.declared.fault.ManifestFault.TheVariants.{OutOfMemory, TooLarge, NotToml, Shape}
+use Rattle.manifest.specs.declared.fault.ManifestFault.TheVariants.{UnsupportedSource, BadRequirement, RootFeature}
 use Rattle.manifest.specs.declared.fault.Part.{Part}
 use Rattle.manifest.specs.declared.fault.Part.TheVariants as part
 use Rattle.manifest.specs.declared.fault.TableFault.{TableFault}

@@ -1,6 +1,7 @@
 -- What a manifest says: a function of its bytes, or the first fault (Cargo book, "The Manifest Format", "Specifying
 -- Dependencies" and "Features").
-use Rattle.std.specs.Prelude.{ℕ, Bool, true, false, not, ◌||◌, if◌then◌else◌, List, [], ◌∷◌, map, Option, None, Result, Ok, Err, length, nat_le, is_none}
+use Rattle.std.specs.Prelude.{ℕ, Bool, true, false, not, ◌||◌, if◌then◌else◌, List, [], ◌∷◌, map, Option, None, Result}
+use Rattle.std.specs.Prelude.{Ok, Err, length, nat_le, is_none}
 use Rattle.std.specs.List.{list_any, flat_map}
 use Rattle.std.specs.Option.{ok_or}
 use Rattle.std.specs.Str.{is_utf8}
@@ -9,12 +10,14 @@ use Rattle.toml.specs.Parse.{parse_document}
 use Rattle.semver.specs.Parse.{Parts, Held, req_of}
 use Rattle.semver.specs.declared.error.Error.{Error}
 use Rattle.model.specs.Outcome.{◌>>=◌, guard}
-use Rattle.model.specs.Summary.{Dependency, Summary, Entry, feature, dependency, dependency_feature, weak_feature, Table}
+use Rattle.model.specs.Summary.{Dependency, Summary, Entry, feature, dependency, dependency_feature, weak_feature}
+use Rattle.model.specs.Summary.{Table}
 use Rattle.model.specs.Tables.{DepName, TableFault, no_such_feature, no_such_dependency, not_optional, table_of}
 use Rattle.manifest.specs.Dependencies.{SourceView, registry, unsupported, DependencyShapeView}
 use Rattle.manifest.specs.Shapes.{ShapeView, shape_of}
 use Rattle.manifest.specs.declared.fault.ManifestFault.{ManifestFault}
-use Rattle.manifest.specs.declared.fault.ManifestFault.TheVariants.{TooLarge, NotToml, UnsupportedSource, BadRequirement, RootFeature}
+use Rattle.manifest.specs.declared.fault.ManifestFault.TheVariants.{TooLarge, NotToml, UnsupportedSource}
+use Rattle.manifest.specs.declared.fault.ManifestFault.TheVariants.{BadRequirement, RootFeature}
 use Rattle.manifest.specs.declared.fault.TableFault.TheVariants.{NoSuchFeature, NoSuchDependency, NotOptional}
 use Rattle.manifest.specs.declared.fault.Unsupported.{Unsupported}
 use Rattle.manifest.specs.declared.fault.Unsupported.TheVariants.{Patch, Replace, Workspace, Git, Path, Registry}

@@ -1,6 +1,7 @@
 -- What a manifest says of its package, and of the workspace that it may belong to (Cargo book, "The Manifest Format"
 -- and "Workspaces").
-use Rattle.std.specs.Prelude.{ℕ, Bool, true, false, if◌then◌else◌, List, [], Option, Some, None, Result, Ok, Err, codes, option_and_then}
+use Rattle.std.specs.Prelude.{ℕ, Bool, true, false, if◌then◌else◌, List, [], Option, Some, None, Result, Ok, Err, codes}
+use Rattle.std.specs.Prelude.{option_and_then}
 use Rattle.toml.specs.Text.{has_items}
 use Rattle.toml.specs.Data.{Data, as_str, as_array, as_table, get_member, Members}
 use Rattle.semver.specs.Parse.{Parts, version_parts}
@@ -42,15 +43,18 @@ version_in d = text_of part.Package d >>= λ text. version_of_text (version_part
 
 -- `package.version`, 0.0.0 where it is absent
 unfoldable pub version_of : Members → Shaped (Option Parts)
-version_of section = or_absent (Some (0, 0, 0, [], [])) (own_or_inherited version_in) (get_member (codes "version") section)
+version_of section =
+    or_absent (Some (0, 0, 0, [], [])) (own_or_inherited version_in) (get_member (codes "version") section)
 
 -- `package.rust-version`: what is no Rust version counts as absent
 abbrev pub rust_version_in : Members → Option (ℕ × ℕ × ℕ)
-rust_version_in section = option_and_then rust_version_of (option_and_then as_str (get_member (codes "rust-version") section))
+rust_version_in section =
+    option_and_then rust_version_of (option_and_then as_str (get_member (codes "rust-version") section))
 
 -- a package with its own name and version
 abbrev pub package_with : Option (List ℕ) → Option Parts → Option (ℕ × ℕ × ℕ) → Option PackageView
-package_with (Some name) (Some version) rust_version = Some (record { name = name; version = version; rust_version = rust_version })
+package_with (Some name) (Some version) rust_version =
+    Some (record { name = name; version = version; rust_version = rust_version })
 package_with (Some name) None rust_version = None
 package_with None version rust_version = None
 

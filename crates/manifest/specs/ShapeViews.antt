@@ -30,7 +30,8 @@ abbrev pub dependency_views : List DependencyShape → List DependencyShapeView
 dependency_views ds = map dependency_view ds
 
 abbrev pub package_view : Package → PackageView
-package_view p = record { name = p.name; version = parts_of p.version; rust_version = option_map rust_version_view p.rust_version }
+package_view p =
+    record { name = p.name; version = parts_of p.version; rust_version = option_map rust_version_view p.rust_version }
 
 abbrev pub shape_view : Shape → ShapeView
 shape_view s = record {

@@ -7,7 +7,9 @@ ghost use Rattle.model.specs.Outcome.{Gives};
 ghost use Rattle.manifest.specs.Faults.{wants_memory};
 ghost use Rattle.manifest.specs.Manifests.{is_from};
 ghost use Rattle.manifest.specs.Values.{or_absent};
-ghost use Rattle.manifest.specs.Dependencies.{bare, registry, unsupported_in, source_of, real_name_of, named_feature, feature_names, feature_list, default_features_in, dependency_in, described, dependency_of, dependencies_in};
+ghost use Rattle.manifest.specs.Dependencies.{bare, registry, unsupported_in, source_of, real_name_of, named_feature};
+ghost use Rattle.manifest.specs.Dependencies.{feature_names, feature_list, default_features_in, dependency_in};
+ghost use Rattle.manifest.specs.Dependencies.{described, dependency_of, dependencies_in};
 ghost use Rattle.manifest.specs.ShapeViews.{source_view, dependency_view, dependency_views};
 
 use crate::check::check;
@@ -61,7 +63,8 @@ pub(crate) fn dependencies_in(
     part: Part,
     kind: DependencyKind,
 ) -> Result<Vec<DependencyShape<'_>>, ManifestFault>
-    ensures { Gives wants_memory (λ v. dependency_views v.items) result (dependencies_in part kind (table_view table.now)) }
+    ensures { Gives wants_memory
+        (λ v. dependency_views v.items) result (dependencies_in part kind (table_view table.now)) }
 {
     let mut found = Vec::new(alloc);
     'members: for (key, value) in table.iter() {
@@ -193,7 +196,8 @@ fn dependency_source(
     version: Option<&str>,
     part: Part,
 ) -> Result<DependencySource<'_>, ManifestFault>
-    ensures { Gives wants_memory source_view result (source_of part unsupported (option_map (λ s. s.now) version.entry)) }
+    ensures { Gives wants_memory source_view result
+        (source_of part unsupported (option_map (λ s. s.now) version.entry)) }
 {
     match unsupported {
         Some(unsupported) => Ok(DependencySource::Unsupported(unsupported)),
@@ -221,7 +225,8 @@ fn real_name(
 
 /// The features that the key `features` asks for.
 fn feature_list(alloc: Global, table: &Table, part: Part) -> Result<Vec<FeatureName>, ManifestFault>
-    ensures { Gives wants_memory (λ v. v.items) result (or_absent [] (feature_list part) (get_member (codes "features") (table_view table.now))) }
+    ensures { Gives wants_memory (λ v. v.items) result
+        (or_absent [] (feature_list part) (get_member (codes "features") (table_view table.now))) }
 {
     match member(table, "features") {
         Some(value) => feature_names(alloc, list(value, part)?, part),

@@ -24,7 +24,8 @@ pub(crate) fn root_features(
     dependencies: &[Dependency],
     written: BTreeMap<FeatureName, Vec<Entry>>,
 ) -> Result<FeatureTable, ManifestFault>
-    ensures { Gives wants_memory (λ t. t) result (features_with (dependency_views dependencies.now) (rows_of written.entries)) }
+    ensures { Gives wants_memory
+        (λ t. t) result (features_with (dependency_views dependencies.now) (rows_of written.entries)) }
 {
     let names = dep_names(alloc, dependencies)?;
     Ok(FeatureTable::build(alloc, names.as_slice(), written)?)

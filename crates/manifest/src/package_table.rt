@@ -9,7 +9,8 @@ ghost use Rattle.semver.specs.Parse.{version_parts};
 ghost use Rattle.classes.specs.RustVersions.{rust_version_view};
 ghost use Rattle.model.specs.Outcome.{Gives};
 ghost use Rattle.manifest.specs.Faults.{wants_memory};
-ghost use Rattle.manifest.specs.Packages.{is_inherited, name_of, version_of_text, version_of, rust_version_in, members_at, package_in, package_of, workspace_of};
+ghost use Rattle.manifest.specs.Packages.{is_inherited, name_of, version_of_text, version_of, rust_version_in};
+ghost use Rattle.manifest.specs.Packages.{members_at, package_in, package_of, workspace_of};
 ghost use Rattle.manifest.specs.ShapeViews.{package_view};
 
 use crate::fault::{ManifestFault, Part};

@@ -9,7 +9,8 @@ ghost use Rattle.model.specs.Outcome.{Gives, guard};
 ghost use Rattle.classes.specs.RustVersions.{rust_version_view};
 ghost use Rattle.features.specs.Views.{dependency_view, dependency_views, summary_view};
 ghost use Rattle.manifest.specs.Faults.{wants_memory};
-ghost use Rattle.manifest.specs.Manifests.{uses, needs_workspace, sources_allowed, dependency_with, dependencies_of, manifest_of, manifest_of_bytes};
+ghost use Rattle.manifest.specs.Manifests.{uses, needs_workspace, sources_allowed, dependency_with, dependencies_of};
+ghost use Rattle.manifest.specs.Manifests.{manifest_of, manifest_of_bytes};
 ghost use Rattle.manifest.specs.ShapeViews as shaped;
 
 use crate::check::check;
@@ -49,7 +50,13 @@ impl Model for Manifest {
 
     ghost Value = { ManifestView };
 
-    ghost view = { λ m. record { name = m.name; version = parts_of m.version; rust_version = option_map rust_version_view m.rust_version; brings = summary_view m.brings } };
+    ghost view = { λ m. record {
+      name = m.name;
+      version = parts_of m.version;
+      rust_version =
+          option_map rust_version_view m.rust_version;
+      brings = summary_view m.brings;
+    } };
 
     ghost invariant = { λ m. IsValid (parts_of m.version) };
 }
@@ -183,7 +190,8 @@ fn requirements(
     alloc: Global,
     shapes: Vec<DependencyShape<'_>>,
 ) -> Result<Vec<Dependency>, ManifestFault>
-    ensures { Gives wants_memory (λ v. dependency_views v.items) result (dependencies_of (shaped.dependency_views shapes.entry.items)) }
+    ensures { Gives wants_memory
+        (λ v. dependency_views v.items) result (dependencies_of (shaped.dependency_views shapes.entry.items)) }
 {
     let mut found = Vec::new(alloc);
     'shapes: for shape in shapes {
@@ -218,7 +226,8 @@ fn with_requirement(alloc: Global, shape: DependencyShape<'_>) -> Result<Depende
 
 /// What an error of `semver` is as a fault of the dependency of this name.
 fn requirement_fault(e: semver::Error, name: PackageName) -> ManifestFault
-    ensures { ((result ≡ ManifestFault.OutOfMemory) × (e ≡ memory_error)) ⊎ ((result ≡ ManifestFault.BadRequirement name) × (e ≢ memory_error)) }
+    ensures { ((result ≡ ManifestFault.OutOfMemory) × (e ≡ memory_error))
+        ⊎ ((result ≡ ManifestFault.BadRequirement name) × (e ≢ memory_error)) }
 {
     if e == semver::Error::from(AllocError) {
         ManifestFault::OutOfMemory

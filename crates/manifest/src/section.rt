@@ -3,7 +3,8 @@
 ghost use Rattle.std.specs.Prelude.{◌≡◌, option_map};
 ghost use Rattle.toml.specs.View.{table_view, view};
 ghost use Rattle.model.specs.Outcome.{Gives};
-ghost use Rattle.manifest.specs.Dependencies.{may_be_optional, part_of, section_at, section_of, sections_of, targets_in, targets_of};
+ghost use Rattle.manifest.specs.Dependencies.{may_be_optional, part_of, section_at, section_of, sections_of};
+ghost use Rattle.manifest.specs.Dependencies.{targets_in, targets_of};
 ghost use Rattle.manifest.specs.Faults.{wants_memory};
 ghost use Rattle.manifest.specs.ShapeViews.{dependency_views};
 
@@ -121,7 +122,8 @@ fn section(
     part: Part,
     kind: DependencyKind,
 ) -> Result<Vec<DependencyShape<'_>>, ManifestFault>
-    ensures { Gives wants_memory (λ v. dependency_views v.items) result (section_of part kind (table_view table_in.now)) }
+    ensures { Gives wants_memory
+        (λ v. dependency_views v.items) result (section_of part kind (table_view table_in.now)) }
 {
     let Some(value) = section_value(table_in, part, kind)? else {
         return Ok(Vec::new(alloc));

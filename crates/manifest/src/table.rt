@@ -7,7 +7,8 @@ ghost use Rattle.toml.specs.View.{view, table_view, array_view};
 ghost use Rattle.model.specs.Outcome.{Gives};
 ghost use Rattle.manifest.specs.Faults.{wants_memory};
 ghost use Rattle.manifest.specs.Manifests.{table_of_bytes};
-ghost use Rattle.manifest.specs.Values.{wanted, if_there, or_absent, text_of, flag_of, table_of, either_at, package_name_of, feature_name_of, has_key, has_rows};
+ghost use Rattle.manifest.specs.Values.{wanted, if_there, or_absent, text_of, flag_of, table_of, either_at};
+ghost use Rattle.manifest.specs.Values.{package_name_of, feature_name_of, has_key, has_rows};
 ghost use Rattle.manifest.specs.Packages.{is_written};
 
 use crate::fault::{ManifestFault, Part};
@@ -51,7 +52,8 @@ pub(crate) fn either<'a>(
     underscored: &str,
     part: Part,
 ) -> Result<Option<&'a Value>, ManifestFault>
-    ensures { Gives wants_memory (option_map (λ v. view v.now)) result (either_at part dashed.now underscored.now (table_view table.now)) }
+    ensures { Gives wants_memory (option_map (λ v. view v.now)) result
+        (either_at part dashed.now underscored.now (table_view table.now)) }
 {
     match member(table, dashed) {
         Some(value) => match member(table, underscored) {
@@ -98,7 +100,8 @@ pub(crate) fn text_at<'a>(
     key: &str,
     part: Part,
 ) -> Result<Option<&'a str>, ManifestFault>
-    ensures { Gives wants_memory (option_map (λ s. s.now)) result (if_there (text_of part) (get_member key.now (table_view table.now))) }
+    ensures { Gives wants_memory (option_map (λ s. s.now)) result
+        (if_there (text_of part) (get_member key.now (table_view table.now))) }
 {
     match member(table, key) {
         Some(value) => Ok(Some(text(value, part)?)),
@@ -108,7 +111,8 @@ pub(crate) fn text_at<'a>(
 
 /// A flag that may be absent.
 pub(crate) fn flag(value: Option<&Value>, absent: bool, part: Part) -> Result<bool, ManifestFault>
-    ensures { Gives wants_memory (λ b. b) result (or_absent absent (flag_of part) (option_map (λ v. view v.now) value.entry)) }
+    ensures { Gives wants_memory
+        (λ b. b) result (or_absent absent (flag_of part) (option_map (λ v. view v.now) value.entry)) }
 {
     match value {
         Some(value) => match value.as_bool() {

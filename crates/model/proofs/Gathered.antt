@@ -1,5 +1,7 @@
 -- The content of the owners that are kept has a package for each of them, and their targets as its lists.
-use Rattle.std.proofs.Common.{◌≡◌, ◌↔◌, ℕ, zero, suc, ◌+◌, ◌<◌, ◌≤◌, List, [], ◌∷◌, map, length, Bool, true, false, cond, Contains, Option, Some, None, option_map, slice_get, Less, refl, sym, ap, ◌∙◌, subst, subst₂, inl, inr, true≢false, arith}
+use Rattle.std.proofs.Common.{◌≡◌, ◌↔◌, ℕ, zero, suc, ◌+◌, ◌<◌, ◌≤◌, List, [], ◌∷◌, map, length, Bool, true, false}
+use Rattle.std.proofs.Common.{cond, Contains, Option, Some, None, option_map, slice_get, Less, refl, sym, ap, ◌∙◌}
+use Rattle.std.proofs.Common.{subst, subst₂, inl, inr, true≢false, arith}
 use Rattle.std.specs.List.{list_any, All, AllPairs}
 use Rattle.std.specs.List.Sorted.{IsPermutation}
 use Rattle.std.proofs.lemmas.Bool.{and_from}
@@ -15,7 +17,8 @@ use Rattle.model.specs.WellFormed.{IsContent, IsCatalogue}
 use Rattle.model.specs.Vertices.{Owner, the_root, version_of, same_owner, owner_brings}
 use Rattle.model.specs.Stands.{name_of, IsReachedFact, IsLink, StandsFor}
 use Rattle.model.specs.ContentOf.{Kept, package_of, in_package_order, places_from, content_of, IsTargetOf, AreKept}
-use Rattle.model.proofs.Lists.{in_none, in_cons, in_first, in_rest, to_any, any_of, all_get, all_none, all_cons, all_first, all_rest, pairs_none, pairs_all, pairs_rest}
+use Rattle.model.proofs.Lists.{in_none, in_cons, in_first, in_rest, to_any, any_of, all_get, all_none, all_cons}
+use Rattle.model.proofs.Lists.{all_first, all_rest, pairs_none, pairs_all, pairs_rest}
 use Rattle.model.proofs.Same.{owner-same, owner-refl, text-refl, version-refl}
 use Rattle.model.proofs.Ordered.{Rises, order-permutes, order-rises, kept-differ}
 
@@ -38,14 +41,18 @@ module _ {X Y : Type 0} (f : X → Y) where
   all_map P h [] = all_none P
   all_map P h (x ∷ xs) = all_cons P (f x) (map f xs) (h x) (all_map P h xs)
 
-  all_map_if : (P : X → Type 0) (Q : Y → Type 0) → ((x : X) → P x → Q (f x)) → (xs : List X) → All P xs → All Q (map f xs)
+  all_map_if : (P : X → Type 0) (Q : Y → Type 0) → ((x : X) → P x → Q (f x)) → (xs : List X)
+      → All P xs → All Q (map f xs)
   all_map_if P Q h [] k = all_none Q
-  all_map_if P Q h (x ∷ xs) k = all_cons Q (f x) (map f xs) (h x (all_first P x xs k)) (all_map_if P Q h xs (all_rest P x xs k))
+  all_map_if P Q h (x ∷ xs) k =
+      all_cons Q (f x) (map f xs) (h x (all_first P x xs k)) (all_map_if P Q h xs (all_rest P x xs k))
 
-  pub pairs_map : (R : X → X → Type 0) (S : Y → Y → Type 0) → ((x y : X) → R x y → S (f x) (f y)) → (xs : List X) → AllPairs R xs → AllPairs S (map f xs)
+  pub pairs_map : (R : X → X → Type 0) (S : Y → Y → Type 0) → ((x y : X) → R x y → S (f x) (f y)) → (xs : List X)
+      → AllPairs R xs → AllPairs S (map f xs)
   pairs_map R S h [] k = pairs_none S
   pairs_map R S h (x ∷ xs) k =
-      AllPairs-cons S (f x) (map f xs) (all_map_if (R x) (S (f x)) (h x) xs (pairs_all R x xs k)) (pairs_map R S h xs (pairs_rest R x xs k))
+      AllPairs-cons S (f x) (map f xs) (all_map_if (R x) (S (f x)) (h x) xs (pairs_all R x xs k))
+      (pairs_map R S h xs (pairs_rest R x xs k))
 
 -- ---- the places of targets
 
@@ -67,7 +74,8 @@ placed_from n t (k ∷ ks) ts c = by (λ c. placed_from (suc n) t ks ts c) (list
     later : Placed ks ts (suc n) t → Placed (k ∷ ks) ts n t
     later p = record { j = suc p.j; k = p.k; is = omega (arith, p.is); got = p.got; among = p.among }
 
-    by : (Contains (places_from (suc n) ks ts) t → Placed ks ts (suc n) t) → (b : Bool) → list_any (same_owner k.owner) ts ≡ b
+    by : (Contains (places_from (suc n) ks ts) t → Placed ks ts (suc n) t) → (b : Bool)
+        → list_any (same_owner k.owner) ts ≡ b
         → Contains (cond b (n ∷ places_from (suc n) ks ts) (places_from (suc n) ks ts)) t → Placed (k ∷ ks) ts n t
     by rest false e c = later (rest c)
     by rest true e c = elim (in_cons n t (places_from (suc n) ks ts) c) [
@@ -75,51 +83,61 @@ placed_from n t (k ∷ ks) ts c = by (λ c. placed_from (suc n) t ks ts c) (list
       | inr c ↦ later (rest c)
     ]
 
-to_placed : (n : ℕ) (ks : List Kept) (ts : List Owner) (j : ℕ) (k : Kept) → slice_get ks j ≡ Some k → IsAmong ts k → Contains (places_from n ks ts) (n + j)
+to_placed : (n : ℕ) (ks : List Kept) (ts : List Owner) (j : ℕ) (k : Kept) → slice_get ks j ≡ Some k → IsAmong ts k
+    → Contains (places_from n ks ts) (n + j)
 to_placed n [] ts j k e a = absurd (none-some k e)
 to_placed n (m ∷ ks) ts zero k e a =
     let h : list_any (same_owner m.owner) ts ≡ true = subst (IsAmong ts) (sym (same_Some m k e)) a in
     let z : n ≡ n + 0 = omega arith in
-    subst₂ (λ (b : Bool) (t : ℕ). Contains (cond b (n ∷ places_from (suc n) ks ts) (places_from (suc n) ks ts)) t) (sym h) z (in_first n (places_from (suc n) ks ts))
+    subst₂ (λ (b : Bool) (t : ℕ). Contains (cond b (n ∷ places_from (suc n) ks ts) (places_from (suc n) ks ts)) t)
+    (sym h) z (in_first n (places_from (suc n) ks ts))
 to_placed n (m ∷ ks) ts (suc j) k e a =
     let rest = to_placed (suc n) ks ts j k e a in
     let z : suc n + j ≡ n + suc j = omega arith in
     let c : Contains (places_from (suc n) ks ts) (n + suc j) = subst (Contains (places_from (suc n) ks ts)) z rest in
-    elim (list_any (same_owner m.owner) ts) as (λ b. Contains (cond b (n ∷ places_from (suc n) ks ts) (places_from (suc n) ks ts)) (n + suc j)) [
+    elim (list_any (same_owner m.owner) ts) as
+    (λ b. Contains (cond b (n ∷ places_from (suc n) ks ts) (places_from (suc n) ks ts)) (n + suc j)) [
       | true ↦ in_rest n (n + suc j) (places_from (suc n) ks ts) c
       | false ↦ c
     ]
 
 -- they lie between n and n + length ks, and rise
-places_within : (n : ℕ) (ks : List Kept) (ts : List Owner) → All (λ t. (n ≤ t) × (t < n + length ks)) (places_from n ks ts)
+places_within : (n : ℕ) (ks : List Kept) (ts : List Owner)
+    → All (λ t. (n ≤ t) × (t < n + length ks)) (places_from n ks ts)
 places_within n [] ts = all_none (λ t. (n ≤ t) × (t < n + 0))
 places_within n (k ∷ ks) ts =
     let later : All (λ t. (n ≤ t) × (t < n + suc (length ks))) (places_from (suc n) ks ts) =
     λ i d lt. let h = places_within (suc n) ks ts i d lt in (omega (arith, h.0), omega (arith, h.1)) in
-    elim (list_any (same_owner k.owner) ts) as (λ b. All (λ t. (n ≤ t) × (t < n + suc (length ks))) (cond b (n ∷ places_from (suc n) ks ts) (places_from (suc n) ks ts))) [
-      | true ↦ all_cons (λ t. (n ≤ t) × (t < n + suc (length ks))) n (places_from (suc n) ks ts) (omega arith, omega arith) later
+    elim (list_any (same_owner k.owner) ts) as (λ b. All (λ t. (n ≤ t) × (t < n + suc (length ks)))
+    (cond b (n ∷ places_from (suc n) ks ts) (places_from (suc n) ks ts))) [
+      | true ↦ all_cons
+          (λ t. (n ≤ t) × (t < n + suc (length ks))) n (places_from (suc n) ks ts) (omega arith, omega arith) later
       | false ↦ later
     ]
 
 places_rise : (n : ℕ) (ks : List Kept) (ts : List Owner) → AllPairs (λ i j. i < j) (places_from n ks ts)
 places_rise n [] ts = pairs_none (λ i j. i < j)
 places_rise n (k ∷ ks) ts =
-    elim (list_any (same_owner k.owner) ts) as (λ b. AllPairs (λ i j. i < j) (cond b (n ∷ places_from (suc n) ks ts) (places_from (suc n) ks ts))) [
-      | true ↦ AllPairs-cons (λ i j. i < j) n (places_from (suc n) ks ts) (λ i d lt. (places_within (suc n) ks ts i d lt).0) (places_rise (suc n) ks ts)
+    elim (list_any (same_owner k.owner) ts) as
+    (λ b. AllPairs (λ i j. i < j) (cond b (n ∷ places_from (suc n) ks ts) (places_from (suc n) ks ts))) [
+      | true ↦ AllPairs-cons (λ i j. i < j) n (places_from (suc n) ks ts)
+          (λ i d lt. (places_within (suc n) ks ts i d lt).0) (places_rise (suc n) ks ts)
       | false ↦ places_rise (suc n) ks ts
     ]
 
 -- ---- packages
 
 module _ (q : Problem) where
-  cmp_lists : (o p : Owner) (l m : List ℕ) → package_cmp (package_of q o l) (package_of q p m) ≡ package_cmp (package_of q o []) (package_of q p [])
+  cmp_lists : (o p : Owner) (l m : List ℕ)
+      → package_cmp (package_of q o l) (package_of q p m) ≡ package_cmp (package_of q o []) (package_of q p [])
   cmp_lists the_root the_root l m = refl
   cmp_lists the_root (version_of n v) l m = refl
   cmp_lists (version_of n v) the_root l m = refl
   cmp_lists (version_of n v) (version_of u w) l m = refl
 
   root_is : (l : List ℕ) → is_root q (package_of q the_root l) ≡ true
-  root_is l = and_from (same_text q.name q.name) (same_version q.version q.version) (text-refl q.name) (version-refl q.version)
+  root_is l =
+      and_from (same_text q.name q.name) (same_version q.version q.version) (text-refl q.name) (version-refl q.version)
 
   -- the package of an owner has its name
   pub name_back : (o : Owner) (l : List ℕ) → name_of q (package_of q o l) ≡ o
@@ -134,16 +152,19 @@ module _ (q : Problem) where
   root_sum the_root l h = refl
   root_sum (version_of n v) l h = absurd (true≢false (sym h))
 
-  source_is : (o : Owner) (l : List ℕ) → is_root q (package_of q o l) ≡ false → (package_of q o l).source ≡ Some q.source
+  source_is : (o : Owner) (l : List ℕ) → is_root q (package_of q o l) ≡ false
+      → (package_of q o l).source ≡ Some q.source
   source_is the_root l h = absurd (true≢false (sym (root_is l) ∙ h))
   source_is (version_of n v) l h = refl
 
   sum_is : (o : Owner) (l : List ℕ) → is_root q (package_of q o l) ≡ false
-      → (package_of q o l).checksum ≡ option_map (λ c. c.checksum) (candidate_at (candidates_of q.candidates (package_of q o l).name) (package_of q o l).version)
+      → (package_of q o l).checksum ≡ option_map (λ c. c.checksum)
+      (candidate_at (candidates_of q.candidates (package_of q o l).name) (package_of q o l).version)
   sum_is the_root l h = absurd (true≢false (sym (root_is l) ∙ h))
   sum_is (version_of n v) l h = refl
 
-  module _ (LeadsTo : Owner → ℕ → Dependency → Owner → Type 0) (catalogue : IsCatalogue q) (kept : List Kept) (are : AreKept q LeadsTo kept) where
+  module _ (LeadsTo : Owner → ℕ → Dependency → Owner → Type 0) (catalogue : IsCatalogue q) (kept : List Kept)
+      (are : AreKept q LeadsTo kept) where
     pub ks : List Kept
     ks = in_package_order q kept
 
@@ -194,7 +215,8 @@ module _ (q : Problem) where
         all_get (λ k. (t : Owner) → Contains k.targets t ↔ IsTargetOf q LeadsTo k.owner t) kept r.0 k are.targets r.1
 
     among_target : (k m : Kept) → IsAmong k.targets m → Contains k.targets m.owner
-    among_target k m a = let r = any_of (same_owner m.owner) k.targets a in subst (Contains k.targets) (sym (owner-same m.owner r.0 r.2)) r.1
+    among_target k m a = let r =
+        any_of (same_owner m.owner) k.targets a in subst (Contains k.targets) (sym (owner-same m.owner r.0 r.2)) r.1
 
     to_among : (k m : Kept) → Contains k.targets m.owner → IsAmong k.targets m
     to_among k m c = to_any (same_owner m.owner) k.targets m.owner c (owner-refl m.owner)
@@ -215,10 +237,12 @@ module _ (q : Problem) where
     }
 
     link_there : (n t : ℕ) (p : Package) (x : At n p) → Contains p.list t
-        → (r : Package) × (i : ℕ) × (d : Dependency) × (slice_get (map as_package ks) t ≡ Some r) × IsLink q LeadsTo p r i d
+        → (r : Package) × (i : ℕ) × (d : Dependency) × (slice_get (map as_package ks) t ≡ Some r)
+        × IsLink q LeadsTo p r i d
     unfolding as_package places
     link_there n t p x c =
-        let listed : Contains (places x.k) t = subst (λ l. Contains l t) (ap (λ (p : Package). p.list) x.is ∙ list_back (x.k).owner (places x.k)) c in
+        let listed : Contains (places x.k) t =
+        subst (λ l. Contains l t) (ap (λ (p : Package). p.list) x.is ∙ list_back (x.k).owner (places x.k)) c in
         let y = placed_from 0 t ks (x.k).targets listed in
         let place : y.j ≡ t = omega (arith, y.is) in
         let z = (targets_at x.k (at_place ks n x.k x.got) (y.k).owner).0 (among_target x.k y.k y.among) in
@@ -235,7 +259,8 @@ module _ (q : Problem) where
           },
         )
 
-    link_back : (n t : ℕ) (p : Package) (x : At n p) (r : Package) (i : ℕ) (d : Dependency) (y : At t r) → IsLink q LeadsTo p r i d → Contains p.list t
+    link_back : (n t : ℕ) (p : Package) (x : At n p) (r : Package) (i : ℕ) (d : Dependency) (y : At t r)
+        → IsLink q LeadsTo p r i d → Contains p.list t
     unfolding as_package places
     link_back n t p x r i d y l =
         let name_p : name_of q p ≡ (x.k).owner = named n p x in
@@ -250,7 +275,8 @@ module _ (q : Problem) where
         let c = (targets_at x.k (at_place ks n x.k x.got) (y.k).owner).1 target in
         let placed = to_placed 0 ks (x.k).targets t y.k y.got (to_among x.k y.k c) in
         let z : 0 + t ≡ t = omega arith in
-        subst (λ l. Contains l t) (sym (ap (λ (p : Package). p.list) x.is ∙ list_back (x.k).owner (places x.k))) (subst (Contains (places_from 0 ks (x.k).targets)) z placed)
+        subst (λ l. Contains l t) (sym (ap (λ (p : Package). p.list) x.is ∙ list_back (x.k).owner (places x.k)))
+        (subst (Contains (places_from 0 ks (x.k).targets)) z placed)
 
     stands : StandsFor q LeadsTo (map as_package ks)
     unfolding as_package
@@ -264,11 +290,14 @@ module _ (q : Problem) where
             (are.reached t).1 (x.k, from_order x.k (at_place ks n x.k x.got), sym (named n p x) ∙ is),
       );
       root_checksum = λ n p got h. let x = at n p got in
-          subst (λ (r : Package). r.checksum ≡ None) (sym x.is) (root_sum (x.k).owner (places x.k) (subst (λ r. is_root q r ≡ true) x.is h));
+          subst (λ (r : Package). r.checksum ≡ None) (sym x.is)
+          (root_sum (x.k).owner (places x.k) (subst (λ r. is_root q r ≡ true) x.is h));
       sources = λ n p got h. let x = at n p got in
-          subst (λ (r : Package). r.source ≡ Some q.source) (sym x.is) (source_is (x.k).owner (places x.k) (subst (λ r. is_root q r ≡ false) x.is h));
+          subst (λ (r : Package). r.source ≡ Some q.source) (sym x.is)
+          (source_is (x.k).owner (places x.k) (subst (λ r. is_root q r ≡ false) x.is h));
       checksums = λ n p got h. let x = at n p got in
-          subst (λ (r : Package). r.checksum ≡ option_map (λ c. c.checksum) (candidate_at (candidates_of q.candidates r.name) r.version)) (sym x.is)
+          subst (λ (r : Package). r.checksum
+          ≡ option_map (λ c. c.checksum) (candidate_at (candidates_of q.candidates r.name) r.version)) (sym x.is)
           (sum_is (x.k).owner (places x.k) (subst (λ r. is_root q r ≡ false) x.is h));
       lists = λ n t p got. let x = at n p got in (
         λ c. link_there n t p x c,

@@ -1,18 +1,22 @@
 -- A valid selection stays one where other candidates come or go, if its own packages are the same candidates.
-use Rattle.std.proofs.Common.{◌≡◌, ℕ, List, Bool, true, false, cond, Option, Some, None, slice_get, Contains, ◌↔◌, IsSome, refl, ap, subst}
+use Rattle.std.proofs.Common.{◌≡◌, ℕ, List, Bool, true, false, cond, Option, Some, None, slice_get, Contains, ◌↔◌}
+use Rattle.std.proofs.Common.{IsSome, refl, ap, subst}
 use Rattle.model.specs.Summary.{Summary, Dependency, has_feature}
 use Rattle.model.specs.Facts.{Fact, Holds, on, enabled}
-use Rattle.model.specs.Content.{Problem, with_candidates, Content, Package, Candidate, candidate_of, is_root, brings_of, summary_if, summary_at}
+use Rattle.model.specs.Content.{Problem, with_candidates, Content, Package, Candidate, candidate_of, is_root, brings_of}
+use Rattle.model.specs.Content.{summary_if, summary_at}
 use Rattle.model.specs.Selection.{IsValidSelection, IsOther, IsPlace, IsReached, IsRootAt, HasTarget}
 use Rattle.model.specs.Selection.IsReached.{root, listed}
 
 module _ (q : Problem) (cs : List (List ℕ × List Candidate)) (content : Content)
-    (same : (n : ℕ) (p : Package) → IsOther q content n p → candidate_of q p ≡ candidate_of (with_candidates q cs) p) where
+    (same : (n : ℕ) (p : Package) → IsOther q content n p
+    → candidate_of q p ≡ candidate_of (with_candidates q cs) p) where
   owners : (n : ℕ) → summary_at q content n ≡ summary_at (with_candidates q cs) content n
   owners n = by (slice_get content n) refl
     where
       of_package : (p : Package) → slice_get content n ≡ Some p → (b : Bool) → is_root q p ≡ b
-          → cond b q.brings (brings_of (candidate_of q p)) ≡ cond b q.brings (brings_of (candidate_of (with_candidates q cs) p))
+          → cond b q.brings (brings_of (candidate_of q p))
+          ≡ cond b q.brings (brings_of (candidate_of (with_candidates q cs) p))
       of_package p got true e = refl
       of_package p got false e = ap brings_of (same n p (got, e))
 
@@ -41,7 +45,8 @@ module _ (q : Problem) (cs : List (List ℕ × List Candidate)) (content : Conte
   Exist o = (n : ℕ) (f : List ℕ) → Facts o (on n f) → has_feature (o n).features f ≡ true
 
   abbrev Listed : (ℕ → Summary) → Type 0
-  Listed o = (n t : ℕ) (p : Package) → slice_get content n ≡ Some p → Contains p.list t ↔ ((i : ℕ) × (d : Dependency) × Enabled o n i d × HasTarget q content n d t)
+  Listed o = (n t : ℕ) (p : Package) → slice_get content n ≡ Some p
+      → Contains p.list t ↔ ((i : ℕ) × (d : Dependency) × Enabled o n i d × HasTarget q content n d t)
 
   pub kept : IsValidSelection q content → IsValidSelection (with_candidates q cs) content
   kept v = record {

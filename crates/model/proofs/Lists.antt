@@ -1,5 +1,7 @@
 -- What is in a list, in a filtered one and in a mapped one, and what holds of each two elements.
-use Rattle.std.proofs.Common.{◌≡◌, ℕ, ◌<◌, zero, suc, List, [], ◌∷◌, map, filter, Bool, true, false, cond, ◌||◌, Contains, Some, slice_get, refl, sym, ap, ◌∙◌, subst, subst₂, inl, inr, ◌⊎◌, arith, true≢false}
+use Rattle.std.proofs.Common.{◌≡◌, ℕ, ◌<◌, zero, suc, List, [], ◌∷◌, map, filter, Bool, true, false, cond, ◌||◌}
+use Rattle.std.proofs.Common.{Contains, Some, slice_get, refl, sym, ap, ◌∙◌, subst, subst₂, inl, inr, ◌⊎◌, arith}
+use Rattle.std.proofs.Common.{true≢false}
 use Rattle.std.specs.List.{list_any, list_all, All, AllPairs}
 use Rattle.std.proofs.lemmas.List.Kept.{AllPairs-cons}
 use Rattle.std.proofs.lemmas.Option.{slice_get_within, get_or_from_slice_get}
@@ -27,14 +29,19 @@ module _ {X : Type 0} where
     where
       by : (Contains (filter p xs) x → Contains (y ∷ xs) x × (p x ≡ true)) → (b : Bool) → p y ≡ b
           → Contains (cond b (y ∷ filter p xs) (filter p xs)) x → Contains (y ∷ xs) x × (p x ≡ true)
-      by rest true e c = elim (in_cons y x (filter p xs) c) [ inl s ↦ (subst (λ z. Contains (y ∷ xs) z) s (in_first y xs), subst (λ z. p z ≡ true) s e) | inr c ↦ rest c ]
+      by rest true e c = elim (in_cons y x (filter p xs) c) [
+        | inl s ↦
+            (subst (λ z. Contains (y ∷ xs) z) s (in_first y xs), subst (λ z. p z ≡ true) s e)
+        | inr c ↦ rest c
+      ]
       by rest false e c = rest c
 
   pub to_filter : (p : X → Bool) (xs : List X) (x : X) → Contains xs x → p x ≡ true → Contains (filter p xs) x
   to_filter p [] x c e = absurd (in_none x c)
   to_filter p (y ∷ xs) x c e = by (λ c. to_filter p xs x c e) (p y) refl (in_cons y x xs c)
     where
-      by : (Contains xs x → Contains (filter p xs) x) → (b : Bool) → p y ≡ b → (y ≡ x) ⊎ Contains xs x → Contains (cond b (y ∷ filter p xs) (filter p xs)) x
+      by : (Contains xs x → Contains (filter p xs) x) → (b : Bool) → p y ≡ b → (y ≡ x) ⊎ Contains xs x
+          → Contains (cond b (y ∷ filter p xs) (filter p xs)) x
       by rest true f (inl s) = subst (λ z. Contains (y ∷ filter p xs) z) s (in_first y (filter p xs))
       by rest true f (inr c) = in_rest y x (filter p xs) (rest c)
       by rest false f (inl s) = absurd (true≢false (sym e ∙ ap p (sym s) ∙ f))
@@ -45,7 +52,8 @@ module _ {X : Type 0} where
   any_of p [] h = absurd (true≢false (sym h))
   any_of p (y ∷ xs) h = by (λ h. any_of p xs h) (p y) refl h
     where
-      by : (list_any p xs ≡ true → (x : X) × Contains xs x × (p x ≡ true)) → (b : Bool) → p y ≡ b → (b || list_any p xs) ≡ true → (x : X) × Contains (y ∷ xs) x × (p x ≡ true)
+      by : (list_any p xs ≡ true → (x : X) × Contains xs x × (p x ≡ true)) → (b : Bool) → p y ≡ b
+          → (b || list_any p xs) ≡ true → (x : X) × Contains (y ∷ xs) x × (p x ≡ true)
       by rest true e h = (y, in_first y xs, e)
       by rest false e h = let r = rest h in (r.0, in_rest y r.0 xs r.1, r.2)
 
@@ -58,7 +66,8 @@ module _ {X : Type 0} where
 
   pub all_at : (p : X → Bool) (xs : List X) (x : X) → list_all p xs ≡ true → Contains xs x → p x ≡ true
   all_at p [] x h c = absurd (in_none x c)
-  all_at p (y ∷ xs) x h c = let e = both (p y) (list_all p xs) h in elim (in_cons y x xs c) [ inl s ↦ ap p (sym s) ∙ e.0 | inr c ↦ all_at p xs x e.1 c ]
+  all_at p (y ∷ xs) x h c = let e = both (p y) (list_all p xs) h in
+      elim (in_cons y x xs c) [ inl s ↦ ap p (sym s) ∙ e.0 | inr c ↦ all_at p xs x e.1 c ]
 
   -- what holds of each element holds of the one at a place
   pub all_get : (P : X → Type 0) (xs : List X) (n : ℕ) (x : X) → All P xs → slice_get xs n ≡ Some x → P x
@@ -78,8 +87,10 @@ module _ {X : Type 0} where
   all_cons P x xs h hs (suc k) d lt = hs k d (omega arith)
 
   -- what holds of each two holds of those at two places
-  pub pairs_get : (R : X → X → Type 0) (xs : List X) (n m : ℕ) (x y : X) → AllPairs R xs → n < m → slice_get xs n ≡ Some x → slice_get xs m ≡ Some y → R x y
-  pairs_get R xs n m x y h lt got had = subst₂ R (get_or_from_slice_get xs n x x got) (get_or_from_slice_get xs m y x had) (h n m x lt (slice_get_within xs m y had))
+  pub pairs_get : (R : X → X → Type 0) (xs : List X) (n m : ℕ) (x y : X) → AllPairs R xs → n < m
+      → slice_get xs n ≡ Some x → slice_get xs m ≡ Some y → R x y
+  pairs_get R xs n m x y h lt got had = subst₂ R (get_or_from_slice_get xs n x x got)
+      (get_or_from_slice_get xs m y x had) (h n m x lt (slice_get_within xs m y had))
 
   pub pairs_none : (R : X → X → Type 0) → AllPairs R []
   pairs_none R i j d lt within = absurd (omega arith)

@@ -10,10 +10,12 @@ use Rattle.model.proofs.Owners.{same_package, same_owner_place}
 module _ (q : Problem) (content : Content) (valid : IsValidSelection q content) where
   has_one : (v : Vertex) (s r : State) → Has q content v s → Has q content v r → s ≡ r
   has_one root s r a b = a ∙ sym b
-  has_one (pkg name k) s r (n, p, l, e) (m, o, j, f) = e ∙ ap (λ (x : Package). version x.version) (same_package q content valid name k n m p o l j) ∙ sym f
+  has_one (pkg name k) s r (n, p, l, e) (m, o, j, f) =
+      e ∙ ap (λ (x : Package). version x.version) (same_package q content valid name k n m p o l j) ∙ sym f
   has_one (dep o i) s r (n, t, d, p, l, e) (m, u, g, w, j, f) =
       let places : n ≡ m = same_owner_place q content valid o n m l.owner j.owner in
-      let deps : d ≡ g = same_Some d g (sym (l.enabled).0 ∙ ap (λ x. slice_get (summary_at q content x).dependencies i) places ∙ (j.enabled).0) in
+      let deps : d ≡ g = same_Some d g
+      (sym (l.enabled).0 ∙ ap (λ x. slice_get (summary_at q content x).dependencies i) places ∙ (j.enabled).0) in
       let targets : t ≡ u = same_Some t u (sym l.target ∙ (λ x. target_of content (places x) (deps x)) ∙ j.target) in
       let packages : p ≡ w = same_Some p w (sym l.served ∙ ap (slice_get content) targets ∙ j.served) in
       e ∙ ap (λ (x : Package). in_class (class_of x.version)) packages ∙ sym f

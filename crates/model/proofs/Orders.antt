@@ -1,5 +1,7 @@
 -- The target of a dependency is the last package of the list that serves it, and classes are ordered as versions are.
-use Rattle.std.proofs.Common.{◌≡◌, ℕ, ◌<◌, ◌≤◌, List, [], ◌∷◌, Bool, true, false, cond, Contains, Option, Some, None, slice_get, refl, sym, ap, ◌∙◌, subst, inl, inr, ◌⊎◌, arith, true≢false, nat_lt, nat_cmp, is_gt, Equal, Greater}
+use Rattle.std.proofs.Common.{◌≡◌, ℕ, ◌<◌, ◌≤◌, List, [], ◌∷◌, Bool, true, false, cond, Contains, Option, Some, None}
+use Rattle.std.proofs.Common.{slice_get, refl, sym, ap, ◌∙◌, subst, inl, inr, ◌⊎◌, arith, true≢false, nat_lt, nat_cmp}
+use Rattle.std.proofs.Common.{is_gt, Equal, Greater}
 use Rattle.std.specs.List.{AllPairs}
 use Rattle.std.specs.Ordering.{ordering_then}
 use Rattle.std.specs.Cmp.{nat_cmp_is}
@@ -20,9 +22,11 @@ module _ (content : Content) (d : Dependency) where
 
   pub none_serves : (is : List ℕ) (u : ℕ) → last_serving content d is ≡ None → Contains is u → Serves u → ⊥
   none_serves [] u e c h = in_none u c
-  none_serves (i ∷ is) u e c h = by (λ e c. none_serves is u e c h) (serves_if d (slice_get content i)) (last_serving content d is) refl refl e (in_cons i u is c)
+  none_serves (i ∷ is) u e c h = by (λ e c. none_serves is u e c h) (serves_if d (slice_get content i))
+      (last_serving content d is) refl refl e (in_cons i u is c)
     where
-      by : (last_serving content d is ≡ None → Contains is u → ⊥) → (s : Bool) (o : Option ℕ) → serves_if d (slice_get content i) ≡ s → last_serving content d is ≡ o
+      by : (last_serving content d is ≡ None → Contains is u → ⊥) → (s : Bool) (o : Option ℕ)
+          → serves_if d (slice_get content i) ≡ s → last_serving content d is ≡ o
           → or_this s i o ≡ None → (i ≡ u) ⊎ Contains is u → ⊥
       by rest true None se oe e c = none-some i (sym e)
       by rest true (Some j) se oe e c = none-some j (sym e)
@@ -37,7 +41,8 @@ module _ (content : Content) (d : Dependency) where
 
   pub last_is : (is : List ℕ) (t : ℕ) → last_serving content d is ≡ Some t → IsLast is t
   last_is [] t e = absurd (none-some t e)
-  last_is (i ∷ is) t e = by (λ e. last_is is t e) (serves_if d (slice_get content i)) (last_serving content d is) refl refl e
+  last_is (i ∷ is) t e =
+      by (λ e. last_is is t e) (serves_if d (slice_get content i)) (last_serving content d is) refl refl e
     where
       later : IsLast is t → IsLast (i ∷ is) t
       later l = record {
@@ -56,7 +61,8 @@ module _ (content : Content) (d : Dependency) where
         last = λ up u c h. elim (in_cons i u is c) [ inl s ↦ omega arith | inr c ↦ absurd (none_serves is u oe c h) ];
       }
 
-      by : (last_serving content d is ≡ Some t → IsLast is t) → (s : Bool) (o : Option ℕ) → serves_if d (slice_get content i) ≡ s → last_serving content d is ≡ o
+      by : (last_serving content d is ≡ Some t → IsLast is t) → (s : Bool) (o : Option ℕ)
+          → serves_if d (slice_get content i) ≡ s → last_serving content d is ≡ o
           → or_this s i o ≡ Some t → IsLast (i ∷ is) t
       by rest true None se oe e = only se oe (same_Some i t e)
       by rest false None se oe e = absurd (none-some t e)
@@ -71,16 +77,28 @@ below : (v w : Parts) → is_lower (class_of v) (class_of w) ≡ true → IsBelo
 below v w h = by (nat_lt 0 v.0) (nat_lt 0 v.1) (nat_lt 0 w.0) (nat_lt 0 w.1) refl refl refl refl h
   where
     by : (a b c e : Bool) → nat_lt 0 v.0 ≡ a → nat_lt 0 v.1 ≡ b → nat_lt 0 w.0 ≡ c → nat_lt 0 w.1 ≡ e
-        → is_lower (cond a (major v.0) (cond b (minor v.1) (patch v.2))) (cond c (major w.0) (cond e (minor w.1) (patch w.2))) ≡ true → IsBelow v w
+        → is_lower (cond a (major v.0) (cond b (minor v.1) (patch v.2)))
+        (cond c (major w.0) (cond e (minor w.1) (patch w.2))) ≡ true → IsBelow v w
     by true b true e p q r s h = inl (ltb-true v.0 w.0 h)
     by true b false true p q r s h = absurd (true≢false (sym h))
     by true b false false p q r s h = absurd (true≢false (sym h))
     by false true true e p q r s h = inl (let x = ltb-false 0 v.0 p in let y = ltb-true 0 w.0 r in omega arith)
-    by false true false true p q r s h = inr (inl ((let x = ltb-false 0 v.0 p in let y = ltb-false 0 w.0 r in omega arith), ltb-true v.1 w.1 h))
+    by false true false true p q r s h =
+        inr (inl ((let x = ltb-false 0 v.0 p in let y = ltb-false 0 w.0 r in omega arith), ltb-true v.1 w.1 h))
     by false true false false p q r s h = absurd (true≢false (sym h))
     by false false true e p q r s h = inl (let x = ltb-false 0 v.0 p in let y = ltb-true 0 w.0 r in omega arith)
-    by false false false true p q r s h = inr (inl ((let x = ltb-false 0 v.0 p in let y = ltb-false 0 w.0 r in omega arith), let x = ltb-false 0 v.1 q in let y = ltb-true 0 w.1 s in omega arith))
-    by false false false false p q r s h = inr (inr ((let x = ltb-false 0 v.0 p in let y = ltb-false 0 w.0 r in omega arith), (let x = ltb-false 0 v.1 q in let y = ltb-false 0 w.1 s in omega arith), ltb-true v.2 w.2 h))
+    by false false false true p q r s h =
+        inr (inl (
+          (let x = ltb-false 0 v.0 p in let y = ltb-false 0 w.0 r in omega arith),
+          let x =
+              ltb-false 0 v.1 q in let y = ltb-true 0 w.1 s in omega arith,
+        ))
+    by false false false false p q r s h =
+        inr (inr (
+          (let x = ltb-false 0 v.0 p in let y = ltb-false 0 w.0 r in omega arith),
+          (let x = ltb-false 0 v.1 q in let y = ltb-false 0 w.1 s in omega arith),
+          ltb-true v.2 w.2 h,
+        ))
 
 greater : (x y : ℕ) → y < x → nat_cmp x y ≡ Greater
 greater x y lt = sym (nat_cmp_is x y Greater lt)
@@ -89,13 +107,19 @@ equal : (x y : ℕ) → x ≡ y → nat_cmp x y ≡ Equal
 equal x y e = sym (nat_cmp_is x y Equal e)
 
 above : (v w : Parts) → IsBelow v w → is_gt (precedence w v) ≡ true
-above v w (inl lt) = ap (λ r. is_gt (ordering_then r (ordering_then (nat_cmp w.1 v.1) (ordering_then (nat_cmp w.2 v.2) (pre_cmp (w.3) (v.3)))))) (greater w.0 v.0 lt)
+above v w (inl lt) = ap (λ r. is_gt (ordering_then r
+    (ordering_then (nat_cmp w.1 v.1) (ordering_then (nat_cmp w.2 v.2) (pre_cmp (w.3) (v.3)))))) (greater w.0 v.0 lt)
 above v w (inr (inl h)) =
-    ap (λ r. is_gt (ordering_then r (ordering_then (nat_cmp w.1 v.1) (ordering_then (nat_cmp w.2 v.2) (pre_cmp (w.3) (v.3)))))) (equal w.0 v.0 (sym h.0))
+    ap (λ r. is_gt
+    (ordering_then r (ordering_then (nat_cmp w.1 v.1) (ordering_then (nat_cmp w.2 v.2) (pre_cmp (w.3) (v.3))))))
+    (equal w.0 v.0 (sym h.0))
     ∙ ap (λ r. is_gt (ordering_then r (ordering_then (nat_cmp w.2 v.2) (pre_cmp (w.3) (v.3))))) (greater w.1 v.1 h.1)
 above v w (inr (inr h)) =
-    ap (λ r. is_gt (ordering_then r (ordering_then (nat_cmp w.1 v.1) (ordering_then (nat_cmp w.2 v.2) (pre_cmp (w.3) (v.3)))))) (equal w.0 v.0 (sym h.0))
-    ∙ ap (λ r. is_gt (ordering_then r (ordering_then (nat_cmp w.2 v.2) (pre_cmp (w.3) (v.3))))) (equal w.1 v.1 (sym h.1))
+    ap (λ r. is_gt
+    (ordering_then r (ordering_then (nat_cmp w.1 v.1) (ordering_then (nat_cmp w.2 v.2) (pre_cmp (w.3) (v.3))))))
+    (equal w.0 v.0 (sym h.0))
+    ∙ ap (λ r. is_gt (ordering_then r (ordering_then (nat_cmp w.2 v.2) (pre_cmp (w.3) (v.3)))))
+    (equal w.1 v.1 (sym h.1))
     ∙ ap (λ r. is_gt (ordering_then r (pre_cmp (w.3) (v.3)))) (greater w.2 v.2 h.2)
 
 -- a version of a higher class comes after one of a lower class

@@ -38,4 +38,6 @@ pub version_total : IsTotalOrder version_cmp
 version_total = then_total precedence_total (on_total parts_text nat_list_cmp_total)
 
 pub package_total : IsTotalOrder package_cmp
-package_total = then_total (on_total (λ (p : Package). p.name) nat_list_cmp_total) (then_total (on_total (λ (p : Package). p.version) version_total) (on_total (λ (p : Package). p.source) source_total))
+package_total = then_total (on_total (λ (p : Package). p.name) nat_list_cmp_total)
+    (then_total (on_total (λ (p : Package). p.version) version_total)
+    (on_total (λ (p : Package). p.source) source_total))

@@ -1,19 +1,25 @@
 -- A content is a valid selection exactly where that is its verdict, and it has at most one verdict.
-use Rattle.std.proofs.Common.{◌≡◌, ℕ, ◌<◌, ◌↔◌, List, length, true, cond, nat_eq, Option, Some, None, slice_get, is_some, false, refl, sym, ap, ap₂, ◌∙◌, subst, inl, inr, arith, true≢false}
+use Rattle.std.proofs.Common.{◌≡◌, ℕ, ◌<◌, ◌↔◌, List, length, true, cond, nat_eq, Option, Some, None, slice_get}
+use Rattle.std.proofs.Common.{is_some, false, refl, sym, ap, ap₂, ◌∙◌, subst, inl, inr, arith, true≢false}
 use Rattle.std.proofs.lemmas.Bool.{cases_order}
 use Rattle.std.proofs.lemmas.Option.{none-some, slice_get_within}
 use Rattle.model.specs.Summary.{Dependency, has_feature}
 use Rattle.model.specs.Facts.{Fact, here, on, enabled, Brings}
-use Rattle.model.specs.Facts.Holds.{starts, arrives, root_needs, needs, asks, root_wants, turns_on, enables, enables_for, wants, wants_weakly}
-use Rattle.model.specs.Content.{Problem, Content, Package, candidate_of, summary_if, summary_at, serves_if, list_if, target_of}
+use Rattle.model.specs.Facts.Holds.{starts, arrives, root_needs, needs, asks, root_wants, turns_on, enables}
+use Rattle.model.specs.Facts.Holds.{enables_for, wants, wants_weakly}
+use Rattle.model.specs.Content.{Problem, Content, Package, candidate_of, summary_if, summary_at, serves_if, list_if}
+use Rattle.model.specs.Content.{target_of}
 use Rattle.model.specs.Selection.{class_of, IsValidSelection, IsFact, IsPlace, IsOther, IsEnabled, HasTarget}
 use Rattle.model.specs.WellFormed.{IsContent}
-use Rattle.model.specs.Verdict.{VerdictFault, not_candidate, two_in_class, unmet, no_feature, wrong_list, unreached, number_of, Verdict, valid, no_root, at_package, HasFault, IsFaultless, IsFirstFault, IsVerdict}
+use Rattle.model.specs.Verdict.{VerdictFault, not_candidate, two_in_class, unmet, no_feature, wrong_list, unreached}
+use Rattle.model.specs.Verdict.{number_of, Verdict, valid, no_root, at_package, HasFault, IsFaultless, IsFirstFault}
+use Rattle.model.specs.Verdict.{IsVerdict}
 use Rattle.model.proofs.Orders.{last_is}
 
 -- the fault with this number
 with_number : ℕ → VerdictFault
-with_number n = cond (nat_eq n 2) not_candidate (cond (nat_eq n 3) two_in_class (cond (nat_eq n 4) unmet (cond (nat_eq n 5) no_feature (cond (nat_eq n 6) wrong_list unreached))))
+with_number n = cond (nat_eq n 2) not_candidate (cond (nat_eq n 3) two_in_class
+    (cond (nat_eq n 4) unmet (cond (nat_eq n 5) no_feature (cond (nat_eq n 6) wrong_list unreached))))
 
 its_number : (f : VerdictFault) → with_number (number_of f) ≡ f
 unfolding with_number
@@ -37,7 +43,8 @@ module _ (q : Problem) (content : Content) where
   owner_within : (n i : ℕ) (d : Dependency) → Brings (summary_at q content) n i d → n < length content
   owner_within n i d b = by (slice_get content n) refl b
     where
-      by : (o : Option Package) → slice_get content n ≡ o → slice_get (summary_if q o).dependencies i ≡ Some d → n < length content
+      by : (o : Option Package) → slice_get content n ≡ o
+          → slice_get (summary_if q o).dependencies i ≡ Some d → n < length content
       by None e b = absurd (none-some d b)
       by (Some p) e b = slice_get_within content n p e
 
@@ -61,25 +68,30 @@ module _ (q : Problem) (content : Content) where
   within f (wants_weakly n t i d g k h b l e to) = target_within n t d to
 
   -- what shows a fault
-  pub no_candidate : (n : ℕ) (p : Package) → IsOther q content n p → candidate_of q p ≡ None → HasFault q content not_candidate n
+  pub no_candidate : (n : ℕ) (p : Package) → IsOther q content n p → candidate_of q p ≡ None
+      → HasFault q content not_candidate n
   no_candidate n p o e free = true≢false (sym (free p o) ∙ ap is_some e)
 
-  pub no_target : (n i : ℕ) (d : Dependency) → IsEnabled q content n i d → target_of content n d ≡ None → HasFault q content unmet n
+  pub no_target : (n i : ℕ) (d : Dependency) → IsEnabled q content n i d → target_of content n d ≡ None
+      → HasFault q content unmet n
   no_target n i d h e free = let t = free i d h in none-some t.0 (sym e ∙ t.1)
 
-  pub lacks_feature : (n : ℕ) (f : List ℕ) → IsFact q content (on n f) → has_feature (summary_at q content n).features f ≡ false → HasFault q content no_feature n
+  pub lacks_feature : (n : ℕ) (f : List ℕ) → IsFact q content (on n f)
+      → has_feature (summary_at q content n).features f ≡ false → HasFault q content no_feature n
   lacks_feature n f h e free = true≢false (sym (free f h) ∙ e)
 
   -- a valid selection has no fault
   faultless : IsValidSelection q content → (n : ℕ) → IsPlace q content n → IsFaultless q content n
   faultless v n lt not_candidate = λ p o. v.candidates n p o
-  faultless v n lt two_in_class = λ m p r before o u name class. (let same : m ≡ n = v.one_in_class m n r p u o name class in omega arith)
+  faultless v n lt two_in_class =
+      λ m p r before o u name class. (let same : m ≡ n = v.one_in_class m n r p u o name class in omega arith)
   faultless v n lt unmet = λ i d e. v.met n i d e
   faultless v n lt no_feature = λ f h. v.features_exist n f h
   faultless v n lt wrong_list = λ t p got. v.lists n t p got
   faultless v n lt unreached = v.reached n lt
 
-  one_place : ((n : ℕ) → IsPlace q content n → IsFaultless q content n) → (n m : ℕ) (p r : Package) → IsOther q content n p → IsOther q content m r
+  one_place : ((n : ℕ) → IsPlace q content n → IsFaultless q content n) → (n m : ℕ) (p r : Package)
+      → IsOther q content n p → IsOther q content m r
       → p.name ≡ r.name → class_of p.version ≡ class_of r.version → n ≡ m
   one_place free n m p r o u name class = elim (cases_order n m) [
     | inl same ↦ same

@@ -6,7 +6,8 @@ use Rattle.model.specs.Summary.{Dependency, dependency_feature}
 use Rattle.model.specs.Facts.{on}
 use Rattle.model.specs.Content.{Package, Content, Problem, summary_at}
 use Rattle.model.specs.Selection.{Class, class_of, IsFact, IsEnabled, HasTarget, IsRootAt, IsOther}
-use Rattle.model.specs.Vertices.{Owner, the_root, version_of, Vertex, root, pkg, dep, feat, ask, State, absent, present, version, in_class}
+use Rattle.model.specs.Vertices.{Owner, the_root, version_of, Vertex, root, pkg, dep, feat, ask, State, absent, present}
+use Rattle.model.specs.Vertices.{version, in_class}
 use Rattle.model.specs.Axioms.{Term, HasOneOf, IsBroken, HasEntry}
 
 module _ (q : Problem) (content : Content) where
@@ -39,7 +40,8 @@ module _ (q : Problem) (content : Content) where
   abbrev pub Has : Vertex → State → Type 0
   Has root s = s ≡ present
   Has (pkg name k) s = (n : ℕ) × (p : Package) × Locks name k n p × (s ≡ version p.version)
-  Has (dep o i) s = (n : ℕ) × (t : ℕ) × (d : Dependency) × (p : Package) × Leads o i n t d p × (s ≡ in_class (class_of p.version))
+  Has (dep o i) s =
+      (n : ℕ) × (t : ℕ) × (d : Dependency) × (p : Package) × Leads o i n t d p × (s ≡ in_class (class_of p.version))
   Has (feat name k f) s = (n : ℕ) × (p : Package) × Locks name k n p × IsFact q content (on n f) × (s ≡ present)
   Has (ask name v i g) s = (n : ℕ) × (d : Dependency) × (f : List ℕ) × Asks name v i g n d f × (s ≡ present)
 

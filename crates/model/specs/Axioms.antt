@@ -1,13 +1,17 @@
 -- The axioms: what an assignment of the vertices must not be, if it is to stand for a valid selection
 -- (incompatibilities in Dart pub's `solver.md`; these kinds are this project's).
-use Rattle.std.specs.Prelude.{◌≡◌, ◌≢◌, ◌⊎◌, ℕ, List, [], ◌∷◌, Bool, true, false, not, Some, slice_get, map, filter, Contains, nat_lt, ⊤}
+use Rattle.std.specs.Prelude.{◌≡◌, ◌≢◌, ◌⊎◌, ℕ, List, [], ◌∷◌, Bool, true, false, not, Some, slice_get, map, filter}
+use Rattle.std.specs.Prelude.{Contains, nat_lt, ⊤}
 use Rattle.std.specs.List.{list_any, list_all, AllByRecursion}
 use Rattle.semver.specs.Parse.{Parts}
 use Rattle.semver.specs.EvalViews.{matches_views}
-use Rattle.model.specs.Summary.{Dependency, Entry, feature, dependency, dependency_feature, weak_feature, entries_at, has_feature, asked_of_target}
+use Rattle.model.specs.Summary.{Dependency, Entry, feature, dependency, dependency_feature, weak_feature, entries_at}
+use Rattle.model.specs.Summary.{has_feature, asked_of_target}
 use Rattle.model.specs.Content.{Candidate, Problem, candidates_of}
 use Rattle.model.specs.Selection.{Class, patch, minor, major, class_of}
-use Rattle.model.specs.Vertices.{Owner, the_root, version_of, Vertex, root, pkg, dep, feat, ask, State, absent, present, version, in_class, has_state, same_vertex, owner_brings, dep_classes, class_candidates, space}
+use Rattle.model.specs.Vertices.{Owner, the_root, version_of, Vertex, root, pkg, dep, feat, ask, State, absent, present}
+use Rattle.model.specs.Vertices.{version, in_class, has_state, same_vertex, owner_brings, dep_classes, class_candidates}
+use Rattle.model.specs.Vertices.{space}
 
 -- a vertex and a set of its states
 pub record Term : Type 0 where
@@ -100,10 +104,13 @@ module _ (q : Problem) where
     had : (name : List ℕ) (k : Class) (f : List ℕ) (c e : Candidate) → Contains (candidates_of q.candidates name) c
         → Contains (class_candidates q name k) e → has_feature c.brings.features f ≡ true → HasFeatVertex name k f
     asked : (o : Owner) (i : ℕ) (d : Dependency) (k : Class) (f : List ℕ) (e : Candidate) → HasDep o i d
-        → Contains (class_candidates q d.real_name k) e → Contains (asked_of_target d) f ⊎ RootAsks o d f → HasFeatVertex d.real_name k f
-    by_entry : (name : List ℕ) (v : Parts) (i : ℕ) (d : Dependency) (k : Class) (f g : List ℕ) (e : Candidate) → HasDep (version_of name v) i d
+        → Contains (class_candidates q d.real_name k) e → Contains (asked_of_target d) f ⊎ RootAsks o d f
+        → HasFeatVertex d.real_name k f
+    by_entry : (name : List ℕ) (v : Parts) (i : ℕ) (d : Dependency) (k : Class) (f g : List ℕ) (e : Candidate)
+        → HasDep (version_of name v) i d
         → Contains (class_candidates q d.real_name k) e
-        → HasEntry name v f (dependency_feature d.name g) ⊎ HasEntry name v f (weak_feature d.name g) → HasFeatVertex d.real_name k g
+        → HasEntry name v f (dependency_feature d.name g) ⊎ HasEntry name v f (weak_feature d.name g)
+        → HasFeatVertex d.real_name k g
 
   -- the vertices of the search
   abbrev pub IsVertex : Vertex → Type 0
@@ -111,7 +118,8 @@ module _ (q : Problem) where
   IsVertex (pkg name k) = (c : Candidate) × Contains (class_candidates q name k) c
   IsVertex (dep o i) = (d : Dependency) × HasDep o i d
   IsVertex (feat name k f) = HasFeatVertex name k f
-  IsVertex (ask name v i g) = (d : Dependency) × (f : List ℕ) × HasDep (version_of name v) i d × HasEntry name v f (dependency_feature d.name g)
+  IsVertex (ask name v i g) =
+      (d : Dependency) × (f : List ℕ) × HasDep (version_of name v) i d × HasEntry name v f (dependency_feature d.name g)
 
   -- The terms of an instance, before full ones are dropped.
   pub data IsInstance : Kind → List Term → Type 0 where
@@ -119,29 +127,41 @@ module _ (q : Problem) where
     needed : (o : Owner) (i : ℕ) (d : Dependency) → HasDep o i d → IsNeeded o d
         → IsInstance Needed (owner_holds o ∷ at (dep o i) (absent ∷ []) ∷ [])
     has_target : (o : Owner) (i : ℕ) (d : Dependency) (k : Class) → HasDep o i d → HasClass d k
-        → IsInstance Target (at (dep o i) (in_class k ∷ []) ∷ at (pkg d.real_name k) (absent_or (λ c. not (matched d c)) d.real_name k) ∷ [])
+        → IsInstance Target (at (dep o i) (in_class k ∷ [])
+        ∷ at (pkg d.real_name k) (absent_or (λ c. not (matched d c)) d.real_name k) ∷ [])
     has_its_feature : (name : List ℕ) (k : Class) (f : List ℕ) → HasFeatVertex name k f
-        → IsInstance HasFeature (at (feat name k f) (present ∷ []) ∷ at (pkg name k) (absent_or (λ c. not (has_feature c.brings.features f)) name k) ∷ [])
+        → IsInstance HasFeature (at (feat name k f) (present ∷ [])
+        ∷ at (pkg name k) (absent_or (λ c. not (has_feature c.brings.features f)) name k) ∷ [])
     wants_by_list : (o : Owner) (i : ℕ) (d : Dependency) (k : Class) (g : List ℕ) → HasDep o i d → HasClass d k
         → Contains (asked_of_target d) g ⊎ RootAsks o d g
         → IsInstance WantsFeature (at (dep o i) (in_class k ∷ []) ∷ at (feat d.real_name k g) (absent ∷ []) ∷ [])
-    wants_by_entry : (name : List ℕ) (v : Parts) (i : ℕ) (d : Dependency) (k : Class) (f g : List ℕ) → HasDep (version_of name v) i d → HasClass d k
+    wants_by_entry : (name : List ℕ) (v : Parts) (i : ℕ) (d : Dependency) (k : Class) (f g : List ℕ)
+        → HasDep (version_of name v) i d → HasClass d k
         → HasEntry name v f (dependency_feature d.name g)
-        → IsInstance WantsFeature (at (ask name v i g) (present ∷ []) ∷ at (dep (version_of name v) i) (in_class k ∷ []) ∷ at (feat d.real_name k g) (absent ∷ []) ∷ [])
+        → IsInstance WantsFeature (at (ask name v i g) (present ∷ []) ∷ at (dep (version_of name v) i) (in_class k ∷ [])
+        ∷ at (feat d.real_name k g) (absent ∷ []) ∷ [])
     feature_on : (name : List ℕ) (v : Parts) (f g : List ℕ) → HasEntry name v f (feature g) → f ≢ g
-        → IsInstance FeatureOnFeature (at (pkg name (class_of v)) (version v ∷ []) ∷ at (feat name (class_of v) f) (present ∷ []) ∷ at (feat name (class_of v) g) (absent ∷ []) ∷ [])
+        → IsInstance FeatureOnFeature (at (pkg name (class_of v)) (version v ∷ [])
+        ∷ at (feat name (class_of v) f) (present ∷ []) ∷ at (feat name (class_of v) g) (absent ∷ []) ∷ [])
     dependency_on : (name : List ℕ) (v : Parts) (i : ℕ) (d : Dependency) (f : List ℕ) → HasDep (version_of name v) i d
         → HasEntry name v f (dependency d.name) ⊎ ((g : List ℕ) × HasEntry name v f (dependency_feature d.name g))
-        → IsInstance FeatureOnDependency (at (pkg name (class_of v)) (version v ∷ []) ∷ at (feat name (class_of v) f) (present ∷ []) ∷ at (dep (version_of name v) i) (absent ∷ []) ∷ [])
+        → IsInstance FeatureOnDependency (at (pkg name (class_of v)) (version v ∷ [])
+        ∷ at (feat name (class_of v) f) (present ∷ []) ∷ at (dep (version_of name v) i) (absent ∷ []) ∷ [])
     feature_asks : (name : List ℕ) (v : Parts) (i : ℕ) (d : Dependency) (f g : List ℕ) → HasDep (version_of name v) i d
         → HasEntry name v f (dependency_feature d.name g)
-        → IsInstance FeatureAsks (at (pkg name (class_of v)) (version v ∷ []) ∷ at (feat name (class_of v) f) (present ∷ []) ∷ at (ask name v i g) (absent ∷ []) ∷ [])
-    newest_listed : (o : Owner) (i j : ℕ) (d e : Dependency) (k m : Class) → i ≢ j → HasDep o i d → HasDep o j e → d.real_name ≡ e.real_name
-        → HasClass d k → HasClass e m → is_lower k m ≡ true → list_any (matched d) (class_candidates q d.real_name m) ≡ true
-        → IsInstance NewestListed (at (dep o i) (in_class k ∷ []) ∷ at (dep o j) (in_class m ∷ []) ∷ at (pkg d.real_name m) (versions_that (matched d) d.real_name m) ∷ [])
-    weakly : (name : List ℕ) (v : Parts) (i : ℕ) (d : Dependency) (k : Class) (f g : List ℕ) → HasDep (version_of name v) i d → HasClass d k
+        → IsInstance FeatureAsks (at (pkg name (class_of v)) (version v ∷ [])
+        ∷ at (feat name (class_of v) f) (present ∷ []) ∷ at (ask name v i g) (absent ∷ []) ∷ [])
+    newest_listed : (o : Owner) (i j : ℕ) (d e : Dependency) (k m : Class) → i ≢ j → HasDep o i d → HasDep o j e
+        → d.real_name ≡ e.real_name
+        → HasClass d k → HasClass e m → is_lower k m ≡ true
+        → list_any (matched d) (class_candidates q d.real_name m) ≡ true
+        → IsInstance NewestListed (at (dep o i) (in_class k ∷ []) ∷ at (dep o j) (in_class m ∷ [])
+        ∷ at (pkg d.real_name m) (versions_that (matched d) d.real_name m) ∷ [])
+    weakly : (name : List ℕ) (v : Parts) (i : ℕ) (d : Dependency) (k : Class) (f g : List ℕ)
+        → HasDep (version_of name v) i d → HasClass d k
         → HasEntry name v f (weak_feature d.name g) → feat name (class_of v) f ≢ feat d.real_name k g
-        → IsInstance WeakFeature (at (pkg name (class_of v)) (version v ∷ []) ∷ at (feat name (class_of v) f) (present ∷ [])
+        → IsInstance WeakFeature
+        (at (pkg name (class_of v)) (version v ∷ []) ∷ at (feat name (class_of v) f) (present ∷ [])
         ∷ at (dep (version_of name v) i) (in_class k ∷ []) ∷ at (feat d.real_name k g) (absent ∷ []) ∷ [])
 
   -- all states of the vertex are among these

@@ -1,6 +1,7 @@
 -- Which records of the index may be locked, and in which order they are preferred (Cargo book, "Dependency Resolution",
 -- yanked versions and "Rust version"; "Registry Index").
-use Rattle.std.specs.Prelude.{◌≡◌, ◌≢◌, ℕ, List, [], ◌∷◌, ◌++◌, Bool, true, not, ◌&&◌, ◌||◌, if◌then◌else◌, Option, Some, None, filter, reverse}
+use Rattle.std.specs.Prelude.{◌≡◌, ◌≢◌, ℕ, List, [], ◌∷◌, ◌++◌, Bool, true, not, ◌&&◌, ◌||◌, if◌then◌else◌, Option}
+use Rattle.std.specs.Prelude.{Some, None, filter, reverse}
 use Rattle.std.specs.List.{list_any}
 use Rattle.std.specs.Ordering.{nat_cmp, ordering_then, is_gt}
 use Rattle.std.specs.declared.cmp.Ordering.{Ordering}
@@ -48,7 +49,8 @@ oldest_first records = in_order age_cmp records
 
 -- whether a package of the old lock has this name and version, and the run's source
 abbrev pub is_locked : Content → List ℕ → List ℕ → Parts → Bool
-is_locked old source name version = list_any (λ p. same_text name p.name && (same_version version p.version && same_option p.source (Some source))) old
+is_locked old source name version =
+    list_any (λ p. same_text name p.name && (same_version version p.version && same_option p.source (Some source))) old
 
 -- which candidates a run prefers, after the locked ones
 pub data Prefer : Type 0 where

@@ -1,6 +1,7 @@
 -- What a lock says, and what it is held against (Cargo book, "Cargo.toml vs Cargo.lock" and "Registry Index"). That a
 -- dependency means the last listed package that serves it is this project's reading: a lock doesn't say.
-use Rattle.std.specs.Prelude.{ℕ, List, [], ◌∷◌, Bool, true, false, not, ◌&&◌, if◌then◌else◌, Option, Some, None, nat_eq, is_some, slice_get, option_and_then}
+use Rattle.std.specs.Prelude.{ℕ, List, [], ◌∷◌, Bool, true, false, not, ◌&&◌, if◌then◌else◌, Option, Some, None, nat_eq}
+use Rattle.std.specs.Prelude.{is_some, slice_get, option_and_then}
 use Rattle.semver.specs.Parse.{Parts}
 use Rattle.semver.specs.EvalViews.{matches_views}
 use Rattle.model.specs.Summary.{Summary, Dependency, same_text, nothing}

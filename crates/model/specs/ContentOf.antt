@@ -1,6 +1,7 @@
 -- The content of what was chosen: a package for each owner that is kept, in package order, each with the places of its
 -- targets as its list (Cargo book, "Cargo.toml vs Cargo.lock").
-use Rattle.std.specs.Prelude.{◌≡◌, ◌≢◌, ◌↔◌, ℕ, suc, List, [], ◌∷◌, if◌then◌else◌, Some, None, option_map, map, Contains}
+use Rattle.std.specs.Prelude.{◌≡◌, ◌≢◌, ◌↔◌, ℕ, suc, List, [], ◌∷◌, if◌then◌else◌, Some, None, option_map, map}
+use Rattle.std.specs.Prelude.{Contains}
 use Rattle.std.specs.List.{list_any, All, AllPairs}
 use Rattle.std.specs.declared.cmp.Ordering.{Ordering}
 use Rattle.model.specs.Summary.{Dependency}
@@ -39,7 +40,8 @@ in_package_order q ks = in_order (kept_cmp q) ks
 -- the places of the owners that are among the targets, counted from n
 abbrev pub places_from : ℕ → List Kept → List Owner → List ℕ
 places_from n [] targets = []
-places_from n (k ∷ ks) targets = if list_any (same_owner k.owner) targets then n ∷ places_from (suc n) ks targets else places_from (suc n) ks targets
+places_from n (k ∷ ks) targets =
+    if list_any (same_owner k.owner) targets then n ∷ places_from (suc n) ks targets else places_from (suc n) ks targets
 
 -- the packages of owners that stand in package order
 abbrev pub packages_of : Problem → List Kept → Content
@@ -52,7 +54,8 @@ content_of q ks = packages_of q (in_package_order q ks)
 module _ (q : Problem) (LeadsTo : Owner → ℕ → Dependency → Owner → Type 0) where
   -- some enabled dependency of the owner leads there
   abbrev pub IsTargetOf : Owner → Owner → Type 0
-  IsTargetOf n t = (i : ℕ) × (d : Dependency) × Brings (owner_brings q) n i d × IsReachedFact q LeadsTo (enabled n i) × LeadsTo n i d t
+  IsTargetOf n t = (i : ℕ) × (d : Dependency) × Brings (owner_brings q) n i d
+      × IsReachedFact q LeadsTo (enabled n i) × LeadsTo n i d t
 
   -- the owners that are reached, each once, with their targets
   pub record AreKept (ks : List Kept) : Type 0 where

@@ -16,7 +16,8 @@ text_cmp = slice_cmp nat_cmp
 
 -- precedence: the numbers, then the pre-releases; build metadata doesn't count (SemVer 2.0.0, section 11)
 abbrev pub precedence : Parts → Parts → Ordering
-precedence v w = ordering_then (nat_cmp v.0 w.0) (ordering_then (nat_cmp v.1 w.1) (ordering_then (nat_cmp v.2 w.2) (pre_cmp (v.3) (w.3))))
+precedence v w = ordering_then (nat_cmp v.0 w.0)
+    (ordering_then (nat_cmp v.1 w.1) (ordering_then (nat_cmp v.2 w.2) (pre_cmp (v.3) (w.3))))
 
 -- versions by precedence, and those of equal precedence by the bytes of their texts
 abbrev pub version_cmp : Parts → Parts → Ordering
@@ -31,4 +32,5 @@ source_cmp None None = Equal
 
 -- packages by name, then version, then source
 abbrev pub package_cmp : Package → Package → Ordering
-package_cmp p r = ordering_then (text_cmp p.name r.name) (ordering_then (version_cmp p.version r.version) (source_cmp p.source r.source))
+package_cmp p r = ordering_then (text_cmp p.name r.name)
+    (ordering_then (version_cmp p.version r.version) (source_cmp p.source r.source))

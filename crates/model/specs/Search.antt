@@ -6,7 +6,8 @@ use Rattle.model.specs.Summary.{Dependency, dependency_feature}
 use Rattle.model.specs.Facts.{Fact, here, on, enabled, Brings, Lists}
 use Rattle.model.specs.Content.{Problem}
 use Rattle.model.specs.Selection.{Class, class_of}
-use Rattle.model.specs.Vertices.{Owner, the_root, version_of, Vertex, root, pkg, dep, feat, ask, State, absent, present, version, in_class, has_state, owner_brings, space}
+use Rattle.model.specs.Vertices.{Owner, the_root, version_of, Vertex, root, pkg, dep, feat, ask, State, absent, present}
+use Rattle.model.specs.Vertices.{version, in_class, has_state, owner_brings, space}
 use Rattle.model.specs.Stands as reached
 use Rattle.model.specs.Axioms.{Kind, Term, IsBroken, IsInstance}
 
@@ -38,7 +39,8 @@ module _ (q : Problem) (state : Vertex → State) where
   -- nothing asks the root for a feature
   abbrev pub IsOn : Owner → List ℕ → Type 0
   IsOn the_root f = ⊥
-  IsOn (version_of name v) f = (state (pkg name (class_of v)) ≡ version v) × (state (feat name (class_of v) f) ≡ present)
+  IsOn (version_of name v) f =
+      (state (pkg name (class_of v)) ≡ version v) × (state (feat name (class_of v) f) ≡ present)
 
   -- what the assignment has to say where a fact holds
   abbrev pub SaysOfFact : Fact Owner → Type 0
@@ -53,7 +55,8 @@ module _ (q : Problem) (state : Vertex → State) where
   IsReachedVertex (dep o i) = IsReachedFact (enabled o i)
   IsReachedVertex (feat name k f) = (v : Parts) × IsReachedFact (on (version_of name v) f) × (class_of v ≡ k)
   IsReachedVertex (ask name v i g) = (d : Dependency) × (f : List ℕ) × IsReachedFact (on (version_of name v) f)
-      × Brings (owner_brings q) (version_of name v) i d × Lists (owner_brings q) (version_of name v) f (dependency_feature d.name g)
+      × Brings (owner_brings q) (version_of name v) i d
+      × Lists (owner_brings q) (version_of name v) f (dependency_feature d.name g)
 
   -- the assignment cut down to what the root reaches: there a vertex keeps its state, and each other one is absent
   abbrev pub AssignsReached : Vertex → State → Type 0

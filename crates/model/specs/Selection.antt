@@ -1,5 +1,6 @@
 -- When a content is a valid selection (Cargo book, "Dependency Resolution").
-use Rattle.std.specs.Prelude.{◌≡◌, ◌<◌, ◌↔◌, ℕ, List, true, false, Some, slice_get, Contains, length, IsSome, nat_lt, if◌then◌else◌}
+use Rattle.std.specs.Prelude.{◌≡◌, ◌<◌, ◌↔◌, ℕ, List, true, false, Some, slice_get, Contains, length, IsSome, nat_lt}
+use Rattle.std.specs.Prelude.{if◌then◌else◌}
 use Rattle.semver.specs.Parse.{Parts}
 use Rattle.model.specs.Summary.{Dependency, has_feature}
 use Rattle.model.specs.Facts.{Fact, Holds, on, enabled}

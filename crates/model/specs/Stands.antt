@@ -25,10 +25,12 @@ module _ (q : Problem) (LeadsTo : Owner → ℕ → Dependency → Owner → Typ
   -- the content has a package for each owner that is reached, and in each list the targets
   pub record StandsFor (content : Content) : Type 0 where
     pub is_content : IsContent content
-    pub packages : (t : Owner) → IsReachedFact (here t) ↔ ((n : ℕ) × (p : Package) × (slice_get content n ≡ Some p) × (name_of q p ≡ t))
+    pub packages : (t : Owner)
+        → IsReachedFact (here t) ↔ ((n : ℕ) × (p : Package) × (slice_get content n ≡ Some p) × (name_of q p ≡ t))
     pub root_checksum : (n : ℕ) (p : Package) → slice_get content n ≡ Some p → is_root q p ≡ true → p.checksum ≡ None
     pub sources : (n : ℕ) (p : Package) → slice_get content n ≡ Some p → is_root q p ≡ false → p.source ≡ Some q.source
     pub checksums : (n : ℕ) (p : Package) → slice_get content n ≡ Some p → is_root q p ≡ false
         → p.checksum ≡ option_map (λ c. c.checksum) (candidate_at (candidates_of q.candidates p.name) p.version)
     pub lists : (n t : ℕ) (p : Package) → slice_get content n ≡ Some p
-        → Contains p.list t ↔ ((r : Package) × (i : ℕ) × (d : Dependency) × (slice_get content t ≡ Some r) × IsLink p r i d)
+        → Contains p.list t
+        ↔ ((r : Package) × (i : ℕ) × (d : Dependency) × (slice_get content t ≡ Some r) × IsLink p r i d)

@@ -1,5 +1,6 @@
 -- What a package brings: its dependencies and its feature table (Cargo book, "Specifying Dependencies" and "Features").
-use Rattle.std.specs.Prelude.{◌≡◌, ℕ, List, [], ◌∷◌, ◌++◌, Bool, true, if◌then◌else◌, Option, Some, None, nat_eq, is_some, Contains, codes}
+use Rattle.std.specs.Prelude.{◌≡◌, ℕ, List, [], ◌∷◌, ◌++◌, Bool, true, if◌then◌else◌, Option, Some, None, nat_eq}
+use Rattle.std.specs.Prelude.{is_some, Contains, codes}
 use Rattle.std.specs.Cmp.Lexicographic.{pointwise}
 use Rattle.semver.specs.Parse.{Held}
 
@@ -37,7 +38,8 @@ has_feature table f = is_some (entries_at f table)
 
 -- an entry `g` of a feature names a feature of the same table
 abbrev pub KnowsFeatures : Table → Type 0
-KnowsFeatures table = (f g : List ℕ) (es : List Entry) → entries_at f table ≡ Some es → Contains es (feature g) → has_feature table g ≡ true
+KnowsFeatures table = (f g : List ℕ) (es : List Entry) → entries_at f table ≡ Some es → Contains es (feature g)
+    → has_feature table g ≡ true
 
 -- the root or a candidate: what it brings, without the dependencies that take no part
 pub record Summary : Type 0 where

@@ -1,11 +1,13 @@
 -- Feature tables: which features a package has, and what is wrong with a table that is written (Cargo book, "Features"
 -- and "Optional dependencies").
-use Rattle.std.specs.Prelude.{◌≡◌, ℕ, List, [], ◌∷◌, Bool, false, not, ◌&&◌, ◌||◌, if◌then◌else◌, Option, Some, None, Result, Ok, Err, codes}
+use Rattle.std.specs.Prelude.{◌≡◌, ℕ, List, [], ◌∷◌, Bool, false, not, ◌&&◌, ◌||◌, if◌then◌else◌, Option, Some, None}
+use Rattle.std.specs.Prelude.{Result, Ok, Err, codes}
 use Rattle.std.specs.BTreeMap.{insert_entry}
 use Rattle.std.specs.List.{list_any, AllPairs}
 use Rattle.std.specs.Option.{option_or}
 use Rattle.std.specs.declared.cmp.Ordering.TheVariants.{Less}
-use Rattle.model.specs.Summary.{Entry, feature, dependency, dependency_feature, weak_feature, Table, entries_at, has_feature, same_text}
+use Rattle.model.specs.Summary.{Entry, feature, dependency, dependency_feature, weak_feature, Table, entries_at}
+use Rattle.model.specs.Summary.{has_feature, same_text}
 use Rattle.model.specs.Order.{text_cmp}
 use Rattle.model.specs.Outcome.{◌>>=◌}
 
@@ -63,7 +65,8 @@ is_feature ds written g = has_feature written g || (is_implicit ds written g || 
 -- `default`.
 abbrev pub entries_meant : List DepName → Written → List ℕ → Option (List Entry)
 entries_meant ds written f = option_or (entries_at f written)
-    (if is_implicit ds written f then Some (implicit_entries f) else if same_text f default_feature then Some [] else None)
+    (if is_implicit ds written f then Some (implicit_entries f) else
+    if same_text f default_feature then Some [] else None)
 
 -- a table with these entries of a feature too
 abbrev pub with_row : Table → List ℕ → List Entry → Table
@@ -72,7 +75,8 @@ with_row table f es = insert_entry text_cmp table f es
 -- a table with the implicit features of these dependencies too
 unfoldable pub with_implicit : (List ℕ → Bool) → List DepName → Table → Table
 with_implicit implicit [] table = table
-with_implicit implicit (d ∷ ds) table = with_implicit implicit ds (if implicit d.name then with_row table d.name (implicit_entries d.name) else table)
+with_implicit implicit (d ∷ ds) table =
+    with_implicit implicit ds (if implicit d.name then with_row table d.name (implicit_entries d.name) else table)
 
 -- a table with the feature `default` too, empty where it isn't there yet
 abbrev pub with_default : Table → Table

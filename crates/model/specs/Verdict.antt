@@ -4,7 +4,8 @@ use Rattle.std.specs.Prelude.{◌≡◌, ◌<◌, ◌↔◌, ℕ, List, true, So
 use Rattle.model.specs.Summary.{Dependency, has_feature}
 use Rattle.model.specs.Facts.{on}
 use Rattle.model.specs.Content.{Package, Content, Problem, candidate_of, summary_at}
-use Rattle.model.specs.Selection.{class_of, IsRootAt, IsPlace, IsOther, IsFact, IsEnabled, HasTarget, IsTarget, IsReached}
+use Rattle.model.specs.Selection.{class_of, IsRootAt, IsPlace, IsOther, IsFact, IsEnabled, HasTarget, IsTarget}
+use Rattle.model.specs.Selection.{IsReached}
 
 -- what may be wrong at a package
 pub data VerdictFault : Type 0 where
@@ -47,8 +48,10 @@ module _ (q : Problem) (content : Content) where
   IsFreeOf two_in_class n = (m : ℕ) (p r : Package) → m < n → IsOther q content n p → IsOther q content m r
       → r.name ≡ p.name → class_of r.version ≡ class_of p.version → ⊥
   IsFreeOf unmet n = (i : ℕ) (d : Dependency) → IsEnabled q content n i d → (t : ℕ) × HasTarget q content n d t
-  IsFreeOf no_feature n = (f : List ℕ) → IsFact q content (on n f) → has_feature (summary_at q content n).features f ≡ true
-  IsFreeOf wrong_list n = (t : ℕ) (p : Package) → slice_get content n ≡ Some p → Contains p.list t ↔ IsTarget q content n t
+  IsFreeOf no_feature n =
+      (f : List ℕ) → IsFact q content (on n f) → has_feature (summary_at q content n).features f ≡ true
+  IsFreeOf wrong_list n =
+      (t : ℕ) (p : Package) → slice_get content n ≡ Some p → Contains p.list t ↔ IsTarget q content n t
   IsFreeOf unreached n = IsReached q content n
 
   abbrev pub HasFault : VerdictFault → ℕ → Type 0

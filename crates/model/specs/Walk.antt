@@ -23,7 +23,8 @@ module _ (q : Problem) (preferred : List (List ℕ × List Candidate)) where
 
   -- each enabled dependency has a pick
   pub record IsComplete : Type 0 where
-    pub picks : (n : Owner) (i : ℕ) (d : Dependency) → IsReachedFact q Picks (enabled n i) → Brings (owner_brings q) n i d → (t : Owner) × Picks n i d t
+    pub picks : (n : Owner) (i : ℕ) (d : Dependency) → IsReachedFact q Picks (enabled n i)
+        → Brings (owner_brings q) n i d → (t : Owner) × Picks n i d t
 
   abbrev pub IsWalk : Content → Type 0
   IsWalk content = StandsFor q Picks content

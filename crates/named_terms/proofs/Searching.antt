@@ -1,5 +1,7 @@
 -- What a search by an order says of lists that rise by it.
-use Rattle.std.proofs.Common.{◌≡◌, ◌≢◌, ℕ, zero, suc, ◌<◌, Bool, true, false, ◌||◌, if◌then◌else◌, cond, List, [], ◌∷◌, map, length, get_or, Option, Some, None, Ok, Err, is_some, refl, sym, ap, ◌∙◌, arith, Ordering, inl, inr}
+use Rattle.std.proofs.Common.{◌≡◌, ◌≢◌, ℕ, zero, suc, ◌<◌, Bool, true, false, ◌||◌, if◌then◌else◌, cond, List, [], ◌∷◌}
+use Rattle.std.proofs.Common.{map, length, get_or, Option, Some, None, Ok, Err, is_some, refl, sym, ap, ◌∙◌, arith}
+use Rattle.std.proofs.Common.{Ordering, inl, inr}
 use Rattle.std.specs.Cmp.{IsTotalOrder}
 use Rattle.std.specs.List.{All, AllPairs, AllByRecursion, list_any, find}
 use Rattle.std.specs.List.Sorted.{IsBinarySearchResult, IsNonDecreasingBy, IsStrictlySortedBy}
@@ -19,10 +21,12 @@ use Rattle.vertices.specs.RefViews.{state_ref_view, state_ref_views}
 use Rattle.vertices.specs.declared.state.StateRef as declared
 
 -- what is sorted has each two in order
-pub sorted_pairs : {X : Type 0} (cmp : X → X → Ordering) (xs : List X) → IsStrictlySortedBy cmp xs → AllPairs (λ x y. cmp x y ≡ Less) xs
+pub sorted_pairs : {X : Type 0} (cmp : X → X → Ordering) (xs : List X) → IsStrictlySortedBy cmp xs
+    → AllPairs (λ x y. cmp x y ≡ Less) xs
 unfolding IsStrictlySortedBy
 sorted_pairs cmp [] h = pairs_none (λ x y. cmp x y ≡ Less)
-sorted_pairs cmp (x ∷ xs) h = AllPairs-cons (λ x y. cmp x y ≡ Less) x xs (All-from_recursion (λ y. cmp x y ≡ Less) xs h.0) (sorted_pairs cmp xs h.1)
+sorted_pairs cmp (x ∷ xs) h = AllPairs-cons
+    (λ x y. cmp x y ≡ Less) x xs (All-from_recursion (λ y. cmp x y ≡ Less) xs h.0) (sorted_pairs cmp xs h.1)
 
 -- what a search found, if it passes the test
 abbrev pub kept : {X : Type 0} → (X → Bool) → X → Option X
@@ -30,20 +34,25 @@ kept test x = if test x then Some x else None
 
 none_found : {X : Type 0} (test : X → Bool) (xs : List X) → All (λ x. test x ≡ false) xs → find test xs ≡ None
 none_found test [] h = refl
-none_found test (x ∷ xs) h = ap (λ b. cond b (Some x) (find test xs)) (h zero x (omega arith)) ∙ none_found test xs (λ k d inside. h (suc k) d (omega (arith, inside)))
+none_found test (x ∷ xs) h = ap (λ b. cond b (Some x) (find test xs)) (h zero x (omega arith))
+    ∙ none_found test xs (λ k d inside. h (suc k) d (omega (arith, inside)))
 
 -- the one that may pass
 one_found : {X : Type 0} (test : X → Bool) (xs : List X) (i : ℕ) (y : X) → i < length xs → get_or xs i y ≡ y
     → ((k : ℕ) (d : X) → k < length xs → k ≢ i → test (get_or xs k d) ≡ false) → find test xs ≡ kept test y
 one_found test [] i y inside is h = absurd (omega (arith, inside))
 one_found test (x ∷ xs) zero y inside is h =
-    ap (λ o. cond (test x) (Some x) o) (none_found test xs (λ k d within. h (suc k) d (omega (arith, within)) (λ e. omega (arith, e)))) ∙ ap (kept test) is
+    ap (λ o. cond (test x) (Some x) o) (none_found test xs
+    (λ k d within. h (suc k) d (omega (arith, within)) (λ e. omega (arith, e)))) ∙ ap (kept test) is
 one_found test (x ∷ xs) (suc i) y inside is h =
     ap (λ b. cond b (Some x) (find test xs)) (h zero y (omega arith) (λ e. omega (arith, e)))
-    ∙ one_found test xs i y (omega (arith, inside)) is (λ k d within other. h (suc k) d (omega (arith, within)) (λ e. other (omega (arith, e))))
+    ∙ one_found test xs i y (omega (arith, inside)) is
+    (λ k d within other. h (suc k) d (omega (arith, within)) (λ e. other (omega (arith, e))))
 
-module _ {X K : Type 0} (key : X → K) {cmp : K → K → Ordering} (o : IsTotalOrder cmp) (xs : List X) (w : K) (test : X → Bool)
-    (passing : (x : X) → test x ≡ true → cmp (key x) w ≡ Equal) (rising : AllPairs (λ x y. cmp (key x) (key y) ≡ Less) xs) where
+module _ {X K : Type 0} (key : X → K) {cmp : K → K → Ordering} (o : IsTotalOrder cmp) (xs : List X)
+    (w : K) (test : X → Bool)
+    (passing : (x : X) → test x ≡ true → cmp (key x) w ≡ Equal)
+    (rising : AllPairs (λ x y. cmp (key x) (key y) ≡ Less) xs) where
   rises : IsNonDecreasingBy (λ x. ordering_index (cmp (key x) w)) xs
   rises i j d le within = elim (cases_lt i j) [
     | inl less ↦ beside o (key (get_or xs i d)) (key (get_or xs j d)) w (rising i j d less within)
@@ -67,12 +76,16 @@ module _ {X K : Type 0} (key : X → K) {cmp : K → K → Ordering} (o : IsTota
       ])
 
   -- one that finds an element found the only one that may pass
-  pub search_finds : (i : ℕ) → IsBinarySearchResult (λ x. cmp (key x) w) xs (Ok i) → i < length xs → (y : X) → get_or xs i y ≡ y → find test xs ≡ kept test y
+  pub search_finds : (i : ℕ) → IsBinarySearchResult (λ x. cmp (key x) w) xs (Ok i) → i < length xs → (y : X)
+      → get_or xs i y ≡ y → find test xs ≡ kept test y
   search_finds i found inside y is = one_found test xs i y inside is (λ k d within other. elim (cases_lt k i) [
-    | inl less ↦ fails (get_or xs k d) (less-other (cmp (key (get_or xs k d)) w) (sym (alike_right o (key (get_or xs i d)) w (key (get_or xs k d)) (found d)) ∙ rising k i d less inside))
+    | inl less ↦ fails (get_or xs k d) (less-other (cmp (key (get_or xs k d)) w)
+        (sym (alike_right o (key (get_or xs i d)) w (key (get_or xs k d)) (found d)) ∙ rising k i d less inside))
     | inr back ↦ elim (cases_lt i k) [
       | inl more ↦ fails (get_or xs k d) (greater-other (cmp (key (get_or xs k d)) w)
-          (sym (alike_right o (key (get_or xs i d)) w (key (get_or xs k d)) (found d)) ∙ o.antisymm (key (get_or xs k d)) (key (get_or xs i d)) ∙ ap ordering_reverse (rising i k d more within)))
+          (sym (alike_right o (key (get_or xs i d)) w (key (get_or xs k d)) (found d))
+          ∙ o.antisymm (key (get_or xs k d)) (key (get_or xs i d))
+          ∙ ap ordering_reverse (rising i k d more within)))
       | inr even ↦ absurd (other (omega (arith, back, even)))
     ]
   ])
@@ -82,11 +95,13 @@ pub any_found : {X : Type 0} (test : X → Bool) (xs : List X) → list_any test
 any_found test [] = refl
 any_found test (x ∷ xs) = by (any_found test xs) (test x)
   where
-    by : list_any test xs ≡ is_some (find test xs) → (b : Bool) → (b || list_any test xs) ≡ is_some (cond b (Some x) (find test xs))
+    by : list_any test xs ≡ is_some (find test xs) → (b : Bool)
+        → (b || list_any test xs) ≡ is_some (cond b (Some x) (find test xs))
     by rest true = refl
     by rest false = rest
 
-pub any_map : {X Y : Type 0} (f : X → Y) (test : Y → Bool) (xs : List X) → list_any test (map f xs) ≡ list_any (λ x. test (f x)) xs
+pub any_map : {X Y : Type 0} (f : X → Y) (test : Y → Bool) (xs : List X)
+    → list_any test (map f xs) ≡ list_any (λ x. test (f x)) xs
 any_map f test [] = refl
 any_map f test (x ∷ xs) = ap (λ b. test (f x) || b) (any_map f test xs)
 
@@ -97,16 +112,19 @@ kept-some test x = by (test x)
     by true = refl
     by false = refl
 
-each_map : {X Y : Type 0} (f : X → Y) (P : Y → Type 0) (ys : List X) → AllByRecursion P (map f ys) → AllByRecursion (λ y. P (f y)) ys
+each_map : {X Y : Type 0} (f : X → Y) (P : Y → Type 0) (ys : List X) → AllByRecursion P (map f ys)
+    → AllByRecursion (λ y. P (f y)) ys
 each_map f P [] h = tt
 each_map f P (y ∷ ys) h = (h.0, each_map f P ys h.1)
 
-sorted_by : {X Y : Type 0} (f : X → Y) (cmp : Y → Y → Ordering) (xs : List X) → IsStrictlySortedBy cmp (map f xs) → IsStrictlySortedBy (λ x y. cmp (f x) (f y)) xs
+sorted_by : {X Y : Type 0} (f : X → Y) (cmp : Y → Y → Ordering) (xs : List X) → IsStrictlySortedBy cmp (map f xs)
+    → IsStrictlySortedBy (λ x y. cmp (f x) (f y)) xs
 unfolding IsStrictlySortedBy
 sorted_by f cmp [] h = tt
 sorted_by f cmp (x ∷ xs) h = (each_map f (λ y. cmp (f x) y ≡ Less) xs h.0, sorted_by f cmp xs h.1)
 
-pub sorted_map : {X Y : Type 0} (f : X → Y) (cmp : Y → Y → Ordering) (xs : List X) → IsStrictlySortedBy cmp (map f xs) → AllPairs (λ x y. cmp (f x) (f y) ≡ Less) xs
+pub sorted_map : {X Y : Type 0} (f : X → Y) (cmp : Y → Y → Ordering) (xs : List X) → IsStrictlySortedBy cmp (map f xs)
+    → AllPairs (λ x y. cmp (f x) (f y) ≡ Less) xs
 sorted_map f cmp xs h = sorted_pairs (λ x y. cmp (f x) (f y)) xs (sorted_by f cmp xs h)
 
 -- ---- states in the written order
@@ -121,10 +139,14 @@ module _ (ss : List declared.StateRef) (w : State) (sorted : IsStrictlySortedBy 
   in_terms : has_state (state_ref_views ss) w ≡ is_some (find sought ss)
   in_terms = any_map state_ref_view (same_state w) ss ∙ any_found sought ss
 
-  pub state_finds : (i : ℕ) → IsBinarySearchResult (λ s. state_cmp (state_ref_view s) w) ss (Ok i) → i < length ss → (y : declared.StateRef) → get_or ss i y ≡ y
+  pub state_finds : (i : ℕ) → IsBinarySearchResult (λ s. state_cmp (state_ref_view s) w) ss (Ok i) → i < length ss
+      → (y : declared.StateRef) → get_or ss i y ≡ y
       → same_state w (state_ref_view y) ≡ has_state (state_ref_views ss) w
   state_finds i found inside y is =
-      sym (in_terms ∙ ap is_some (search_finds state_ref_view state_total ss w sought tied (sorted_map state_ref_view state_cmp ss sorted) i found inside y is) ∙ kept-some sought y)
+      sym (in_terms ∙ ap is_some (search_finds state_ref_view state_total ss w sought tied
+      (sorted_map state_ref_view state_cmp ss sorted) i found inside y is) ∙ kept-some sought y)
 
-  pub state_ends : (i : ℕ) → IsBinarySearchResult (λ s. state_cmp (state_ref_view s) w) ss (Err i) → false ≡ has_state (state_ref_views ss) w
-  state_ends i found = sym (in_terms ∙ ap is_some (search_ends state_ref_view state_total ss w sought tied (sorted_map state_ref_view state_cmp ss sorted) i found))
+  pub state_ends : (i : ℕ) → IsBinarySearchResult (λ s. state_cmp (state_ref_view s) w) ss (Err i)
+      → false ≡ has_state (state_ref_views ss) w
+  state_ends i found = sym (in_terms ∙ ap is_some (search_ends state_ref_view state_total ss w sought tied
+      (sorted_map state_ref_view state_cmp ss sorted) i found))

@@ -25,7 +25,8 @@ fn all_agree<'a>(a: &[Term<'a>], b: &[Term<'a>], terms: &[Term<'a>]) -> bool
 }
 
 fn agree<'a>(a: &[Term<'a>], b: &[Term<'a>], vertex: &VertexRef<'a>) -> bool
-    ensures { result ≡ same_at (states_at (term_views a.now) (vertex_ref_view vertex.now)) (states_at (term_views b.now) (vertex_ref_view vertex.now)) }
+    ensures { result ≡ same_at (states_at (term_views a.now) (vertex_ref_view vertex.now))
+        (states_at (term_views b.now) (vertex_ref_view vertex.now)) }
 {
     match (states_at(a, vertex), states_at(b, vertex)) {
         (None, None) => true,

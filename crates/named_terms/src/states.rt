@@ -145,7 +145,8 @@ fn both_have(a: &StateSet<'_>, b: &StateSet<'_>, state: &StateRef<'_>) -> bool
 }
 
 fn has_if_other_has(states: &StateSet<'_>, other: &StateSet<'_>, state: &StateRef<'_>) -> bool
-    ensures { result ≡ (not (has_state other.now (state_ref_view state.now)) || has_state states.now (state_ref_view state.now)) }
+    ensures { result
+        ≡ (not (has_state other.now (state_ref_view state.now)) || has_state states.now (state_ref_view state.now)) }
 {
     !other.has(state) || states.has(state)
 }
@@ -157,19 +158,22 @@ fn all_in(states: &[StateRef<'_>], set: &StateSet<'_>) -> bool
 }
 
 fn all_in_either(states: &[StateRef<'_>], a: &StateSet<'_>, b: &StateSet<'_>) -> bool
-    ensures { result ≡ list_all (λ s. has_state a.now (state_ref_view s) || has_state b.now (state_ref_view s)) states.now }
+    ensures { result
+        ≡ list_all (λ s. has_state a.now (state_ref_view s) || has_state b.now (state_ref_view s)) states.now }
 {
     states.iter().all(|state| either_has(a, b, state))
 }
 
 fn all_in_both(states: &[StateRef<'_>], a: &StateSet<'_>, b: &StateSet<'_>) -> bool
-    ensures { result ≡ list_all (λ s. has_state a.now (state_ref_view s) && has_state b.now (state_ref_view s)) states.now }
+    ensures { result
+        ≡ list_all (λ s. has_state a.now (state_ref_view s) && has_state b.now (state_ref_view s)) states.now }
 {
     states.iter().all(|state| both_have(a, b, state))
 }
 
 fn all_shared_in(states: &[StateRef<'_>], second: &StateSet<'_>, third: &StateSet<'_>) -> bool
-    ensures { result ≡ list_all (λ s. not (has_state second.now (state_ref_view s)) || has_state third.now (state_ref_view s)) states.now }
+    ensures { result ≡ list_all (λ s. not (has_state second.now (state_ref_view s))
+        || has_state third.now (state_ref_view s)) states.now }
 {
     states
         .iter()

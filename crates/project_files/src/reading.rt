@@ -28,7 +28,8 @@ pub fn read_files<'a, R: Files + AllocGlobal>(
     paths: &'a Paths<'a>,
     needs_lock: bool,
 ) -> Result<Bytes, ReadFault<'a>>
-    ensures { IfErr result (λ fault. IsAbout paths.entry.now.index.now fault ⊎ IsAbout paths.entry.now.manifest.now fault ⊎ IsAbout (string_bytes paths.entry.now.lock) fault) }
+    ensures { IfErr result (λ fault. IsAbout paths.entry.now.index.now fault
+        ⊎ IsAbout paths.entry.now.manifest.now fault ⊎ IsAbout (string_bytes paths.entry.now.lock) fault) }
 {
     check_index(rt, paths.index)?;
     let manifest = read_file(rt, paths.manifest, MANIFEST_BYTES)?;

@@ -51,7 +51,8 @@ module _ (v state : ℕ) (old new : TrailView) (d : IsDeciding v state old new) 
       step_level = refl;
       sets = d.put.sets;
       back = (put_longer old new v one None (suc old.level) d.put).sets;
-      spent = subst (λ ss. total ss < total old.sets) (sym d.put.sets) (total_set old.sets v one (omega (arith, size_only (set_of old.sets v) state d.has_it, d.several)));
+      spent = subst (λ ss. total ss < total old.sets) (sym d.put.sets)
+          (total_set old.sets v one (omega (arith, size_only (set_of old.sets v) state d.has_it, d.several)));
       assigned = d.put.assigned;
     },
   )
@@ -63,10 +64,14 @@ module _ (v state : ℕ) (old new : TrailView) (d : IsDeciding v state old new) 
   decided_trail es trail = put_trail es old new v one None (suc old.level) trail d.put taken refl (λ c is. cc)
 
   pub decided_spaces : SameSpaces old new
-  decided_spaces = longer_spaces old new (put_step old v None (suc old.level) ∷ []) (put_longer old new v one None (suc old.level) d.put) decided_sound
+  decided_spaces = longer_spaces old new (put_step old v None (suc old.level) ∷ [])
+      (put_longer old new v one None (suc old.level) d.put) decided_sound
 
 -- by the pieces that a call gives
-pub deciding : (v state universe level : ℕ) (old mid new : TrailView) (states : Members) → mid ≡ old → states ≡ only universe state → universe ≡ space_of old v → level ≡ suc old.level → IsPut mid new v states None level → IsSound old → v < length old.sets → has (set_of old.sets v) state ≡ true → 1 < size (set_of old.sets v) → IsDeciding v state old new
+pub deciding : (v state universe level : ℕ) (old mid new : TrailView) (states : Members) → mid ≡ old
+    → states ≡ only universe state → universe ≡ space_of old v → level ≡ suc old.level
+    → IsPut mid new v states None level → IsSound old → v < length old.sets → has (set_of old.sets v) state ≡ true
+    → 1 < size (set_of old.sets v) → IsDeciding v state old new
 deciding v state universe level old mid new states same is whole next put sound within has_it several = record {
   sound = sound;
   within = within;

@@ -1,5 +1,6 @@
 -- Levels, along a trail's places.
-use Rattle.std.proofs.Common.{◌≡◌, ℕ, zero, suc, ◌+◌, ◌-◌, ◌<◌, ◌≤◌, List, [], ◌∷◌, ◌++◌, length, Option, Some, None, refl, sym, ap, ◌∙◌, subst, arith, inl, inr}
+use Rattle.std.proofs.Common.{◌≡◌, ℕ, zero, suc, ◌+◌, ◌-◌, ◌<◌, ◌≤◌, List, [], ◌∷◌, ◌++◌, length, Option, Some, None}
+use Rattle.std.proofs.Common.{refl, sym, ap, ◌∙◌, subst, arith, inl, inr}
 use Rattle.std.proofs.lemmas.Bool.{cases_lt, le-leb, lt-leb}
 use Rattle.propagation.specs.Trails.{Above, StepView, past, step_at}
 use Rattle.propagation.specs.Promises.{Levels, NextLevel}
@@ -21,21 +22,26 @@ pub levels_few : (low high : ℕ) (ss : List StepView) → Levels low ss high �
 levels_few low high [] l = omega (arith, l)
 levels_few low high (s ∷ ss) l = omega (arith, levels_few s.level high ss l.1, next_high low s.level s.cause l.0)
 
-pub levels_push : (low high : ℕ) (ss : List StepView) (s : StepView) → Levels low ss high → NextLevel high s.level s.cause → Levels low (ss ++ s ∷ []) s.level
+pub levels_push : (low high : ℕ) (ss : List StepView) (s : StepView) → Levels low ss high
+    → NextLevel high s.level s.cause → Levels low (ss ++ s ∷ []) s.level
 levels_push low high [] s l n = (subst (λ m. NextLevel m s.level s.cause) (sym l) n, refl)
 levels_push low high (x ∷ ss) s l n = (l.0, levels_push x.level high ss s l.1 n)
 
-pub levels_parts : (low high : ℕ) (xs ys : List StepView) → Levels low (xs ++ ys) high → (mid : ℕ) × Levels low xs mid × Levels mid ys high
+pub levels_parts : (low high : ℕ) (xs ys : List StepView) → Levels low (xs ++ ys) high
+    → (mid : ℕ) × Levels low xs mid × Levels mid ys high
 levels_parts low high [] ys l = (low, refl, l)
 levels_parts low high (x ∷ xs) ys l = let r = levels_parts x.level high xs ys l.1 in (r.0, (l.0, r.1), r.2)
 
-last_more : (x z : StepView) (xs : List StepView) → step_at (x ∷ z ∷ xs) (length (x ∷ z ∷ xs) - 1) ≡ step_at (z ∷ xs) (length (z ∷ xs) - 1)
+last_more : (x z : StepView) (xs : List StepView)
+    → step_at (x ∷ z ∷ xs) (length (x ∷ z ∷ xs) - 1) ≡ step_at (z ∷ xs) (length (z ∷ xs) - 1)
 last_more x z xs = let e : length (x ∷ z ∷ xs) - 1 ≡ suc (length (z ∷ xs) - 1) = omega arith in rw e refl
 
-pub levels_last : (low high : ℕ) (ss : List StepView) → Levels low ss high → 0 < length ss → (step_at ss (length ss - 1)).level ≡ high
+pub levels_last : (low high : ℕ) (ss : List StepView) → Levels low ss high → 0 < length ss
+    → (step_at ss (length ss - 1)).level ≡ high
 levels_last low high [] l some = absurd (omega (arith, some))
 levels_last low high (x ∷ []) l some = l.1
-levels_last low high (x ∷ z ∷ ss) l some = ap (λ (s : StepView). s.level) (last_more x z ss) ∙ levels_last x.level high (z ∷ ss) l.1 (omega arith)
+levels_last low high (x ∷ z ∷ ss) l some =
+    ap (λ (s : StepView). s.level) (last_more x z ss) ∙ levels_last x.level high (z ∷ ss) l.1 (omega arith)
 
 past_in : (l : ℕ) (s : StepView) (ss : List StepView) → s.level ≤ l → past l (s ∷ ss) ≡ past l ss
 past_in l s ss le = rw (le-leb s.level l le) refl
@@ -46,19 +52,24 @@ past_out l s ss lt = rw (lt-leb s.level l lt) refl
 -- nothing is past the last level
 pub past_top : (l low high : ℕ) (ss : List StepView) → Levels low ss high → high ≤ l → past l ss ≡ []
 past_top l low high [] v le = refl
-past_top l low high (s ∷ ss) v le = past_in l s ss (omega (arith, levels_le s.level high ss v.1, le)) ∙ past_top l s.level high ss v.1 le
+past_top l low high (s ∷ ss) v le =
+    past_in l s ss (omega (arith, levels_le s.level high ss v.1, le)) ∙ past_top l s.level high ss v.1 le
 
-pub past_last : (l low high : ℕ) (ss : List StepView) → Levels low ss high → (0 < length ss → (step_at ss (length ss - 1)).level ≤ l) → past l ss ≡ []
+pub past_last : (l low high : ℕ) (ss : List StepView) → Levels low ss high
+    → (0 < length ss → (step_at ss (length ss - 1)).level ≤ l) → past l ss ≡ []
 past_last l low high [] v le = refl
-past_last l low high (s ∷ ss) v le = past_top l low high (s ∷ ss) v (omega (arith, levels_last low high (s ∷ ss) v (omega arith), le (omega arith)))
+past_last l low high (s ∷ ss) v le =
+    past_top l low high (s ∷ ss) v (omega (arith, levels_last low high (s ∷ ss) v (omega arith), le (omega arith)))
 
 not_none : (s : StepView) (ss : List StepView) (P : Type 0) → (s ∷ ss) ≡ [] → P
 not_none s ss P e = absurd cc
 
 -- after a cut the last level is the one that was asked for
-pub levels_cut : (l low high : ℕ) (ss gone : List StepView) → Levels low (ss ++ gone) high → Above l gone → past l ss ≡ [] → low ≤ l → l ≤ high → Levels low ss l
+pub levels_cut : (l low high : ℕ) (ss gone : List StepView) → Levels low (ss ++ gone) high → Above l gone
+    → past l ss ≡ [] → low ≤ l → l ≤ high → Levels low ss l
 levels_cut l low high [] [] v above top first last = omega (arith, v, first, last)
-levels_cut l low high [] (g ∷ gone) v above top first last = omega (arith, next_high low g.level g.cause v.0, above.0, first)
+levels_cut l low high [] (g ∷ gone) v above top first last =
+    omega (arith, next_high low g.level g.cause v.0, above.0, first)
 levels_cut l low high (s ∷ ss) gone v above top first last = elim (cases_lt l s.level) [
   | inl lt ↦ not_none s ss _ (sym (past_out l s ss lt) ∙ top)
   | inr le ↦ (v.0, levels_cut l s.level high ss gone v.1 above (sym (past_in l s ss le) ∙ top) le last)

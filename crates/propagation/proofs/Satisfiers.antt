@@ -1,5 +1,6 @@
 -- From the two greatest numbers of places to the satisfier.
-use Rattle.std.proofs.Common.{◌≡◌, ℕ, zero, suc, ◌<◌, ◌≤◌, List, length, Option, Some, None, true, refl, sym, ap, ◌∙◌, subst, arith, inl, inr}
+use Rattle.std.proofs.Common.{◌≡◌, ℕ, zero, suc, ◌<◌, ◌≤◌, List, length, Option, Some, None, true, refl, sym, ap, ◌∙◌}
+use Rattle.std.proofs.Common.{subst, arith, inl, inr}
 use Rattle.std.proofs.lemmas.Bool.{cases_eq, cases_lt}
 use Rattle.version_sets.specs.Sets.{Members, inside, size}
 use Rattle.terms.specs.Terms.{TermView}
@@ -13,12 +14,14 @@ use Rattle.propagation.specs.Counting.{AreRanked}
 use Rattle.propagation.specs.declared.satisfying.Ranks.{Ranks}
 use Rattle.propagation.specs.declared.satisfying.Satisfier.{Satisfier}
 use Rattle.propagation.proofs.Combining.{combined_before}
-use Rattle.propagation.proofs.Places.{before_end, end_is_place, kept, kept_le, levels_rise, next_level, past_end, shrinks, some_at}
+use Rattle.propagation.proofs.Places.{before_end, end_is_place, kept, kept_le, levels_rise, next_level, past_end}
+use Rattle.propagation.proofs.Places.{shrinks, some_at}
 use Rattle.propagation.proofs.Soundness.{same_space}
 use Rattle.propagation.proofs.Vertices.{one_place, place_of, states_of, term_some}
 
 -- where all terms of a list hold at vertices but one
-holds_where : (set : Members) (ts : List TermView) (u : ℕ) (o : Option Members) → states_at ts u ≡ o → ((i : ℕ) → i < length ts → (term_at ts i).vertex ≡ u → HoldsAt set (Some (term_at ts i).states)) → HoldsAt set o
+holds_where : (set : Members) (ts : List TermView) (u : ℕ) (o : Option Members) → states_at ts u ≡ o
+    → ((i : ℕ) → i < length ts → (term_at ts i).vertex ≡ u → HoldsAt set (Some (term_at ts i).states)) → HoldsAt set o
 holds_where set ts u None e h = tt
 holds_where set ts u (Some x) e h = let p = place_of ts u x e in subst (λ y. HoldsAt set (Some y)) p.3 (h p.0 p.1 p.2)
 
@@ -49,28 +52,33 @@ module _ (t : TrailView) (ts : List TermView) (r : Ranks) (s : Satisfier) (d : I
   -- the terms at the other vertices
   others_after : (k : ℕ) → r.others ≤ k → k ≤ length t.steps → OthersHold (sets_at t k) f s.vertex
   others_after k low high u ne = holds_where (set_of (sets_at t k) u) ts u (states_at ts u) refl (λ i il at.
-      subst (λ w. HoldsAt (set_of (sets_at t k) w) (Some (term_at ts i).states)) at (d.ranks.others_hold k low high i il (λ e. ne (sym at ∙ ap (λ j. (term_at ts j).vertex) e ∙ vertex_is))))
+      subst (λ w. HoldsAt (set_of (sets_at t k) w) (Some (term_at ts i).states)) at
+      (d.ranks.others_hold k low high i il (λ e. ne (sym at ∙ ap (λ j. (term_at ts j).vertex) e ∙ vertex_is))))
 
   others_before : (k : ℕ) → k < r.others → OthersHold (sets_at t k) f s.vertex → ⊥
   others_before k lt h = d.ranks.others_first k lt (λ i il ne.
       subst (HoldsAt (set_of (sets_at t k) (term_at ts i).vertex)) (states_of ts i d.lies.is.rising il)
-      (h (term_at ts i).vertex (λ e. ne (one_place ts i d.ranks.last d.lies.is.rising il d.ranks.within (e ∙ sym vertex_is)))))
+      (h (term_at ts i).vertex
+      (λ e. ne (one_place ts i d.ranks.last d.lies.is.rising il d.ranks.within (e ∙ sym vertex_is)))))
 
   all_after : (k : ℕ) → r.all ≤ k → k ≤ length t.steps → Sat (sets_at t k) f
   all_after k low high u = elim (cases_eq u s.vertex) [
     | inl e ↦ subst (λ w. HoldsAt (set_of (sets_at t k) w) (f w)) (vertex_is ∙ sym e)
-        (subst (HoldsAt (set_of (sets_at t k) (term_at ts d.ranks.last).vertex)) (sym (states_of ts d.ranks.last d.lies.is.rising d.ranks.within)) (d.ranks.count.holds k low high))
+        (subst (HoldsAt (set_of (sets_at t k) (term_at ts d.ranks.last).vertex))
+        (sym (states_of ts d.ranks.last d.lies.is.rising d.ranks.within)) (d.ranks.count.holds k low high))
     | inr ne ↦ (let l = d.ranks.less in others_after k (omega (arith, l, low)) high u ne)
   ]
 
   all_before : (k : ℕ) → k ≤ s.place → Sat (sets_at t k) f → ⊥
   all_before k le sat = d.ranks.count.first k (let p = d.place in omega (arith, le, p))
-      (subst (HoldsAt (set_of (sets_at t k) (term_at ts d.ranks.last).vertex)) (states_of ts d.ranks.last d.lies.is.rising d.ranks.within) (sat (term_at ts d.ranks.last).vertex))
+      (subst (HoldsAt (set_of (sets_at t k) (term_at ts d.ranks.last).vertex))
+      (states_of ts d.ranks.last d.lies.is.rising d.ranks.within) (sat (term_at ts d.ranks.last).vertex))
 
   -- the level before, as a place
   kept_after : (n : ℕ) → r.others ≡ n → n ≤ kept (level_after t.steps n) t.steps
   kept_after zero e = omega arith
-  kept_after (suc q) e = (let o = others_le in let w = within in before_end (step_at t.steps q).level 0 t.level q t.steps d.sound.levels (omega (arith, e, o, w)) (omega arith))
+  kept_after (suc q) e = (let o = others_le in let w = within in
+      before_end (step_at t.steps q).level 0 t.level q t.steps d.sound.levels (omega (arith, e, o, w)) (omega arith))
 
   others_kept : r.others ≤ kept s.before t.steps
   others_kept = subst (λ l. r.others ≤ kept l t.steps) (sym d.before) (kept_after r.others refl)
@@ -83,10 +91,13 @@ module _ (t : TrailView) (ts : List TermView) (r : Ranks) (s : Satisfier) (d : I
   ]
 
   others_at : OthersHold (end_sets t s.before) f s.vertex
-  others_at = subst (λ (ss : List Members). OthersHold ss f s.vertex) (sym (end_is_place t s.before)) (others_after (kept s.before t.steps) others_kept (kept_le s.before t.steps))
+  others_at = subst (λ (ss : List Members). OthersHold ss f s.vertex) (sym (end_is_place t s.before))
+      (others_after (kept s.before t.steps) others_kept (kept_le s.before t.steps))
 
   others_no : (l : ℕ) → l < s.before → OthersHold (end_sets t l) f s.vertex → ⊥
-  others_no l lt h = others_before (kept l t.steps) (kept_before l r.others refl (let b = d.before in omega (arith, lt, b))) (subst (λ (ss : List Members). OthersHold ss f s.vertex) (end_is_place t l) h)
+  others_no l lt h =
+      others_before (kept l t.steps) (kept_before l r.others refl (let b = d.before in omega (arith, lt, b)))
+      (subst (λ (ss : List Members). OthersHold ss f s.vertex) (end_is_place t l) h)
 
   pub satisfied_is : IsSatisfied t (states_at ts) s
   satisfied_is = record {
@@ -96,17 +107,29 @@ module _ (t : TrailView) (ts : List TermView) (r : Ranks) (s : Satisfier) (d : I
     vertex = d.vertex;
     level = d.level;
     cause = d.cause;
-    before = (r.others, others_le, record { holds = others_after r.others (omega arith) (let o = others_le in let w = within in omega (arith, o, w)); first = others_before }, d.before);
+    before = (
+      r.others,
+      others_le,
+      record {
+        holds = others_after r.others (omega arith)
+            (let o = others_le in let w = within in omega (arith, o, w));
+        first = others_before;
+      },
+      d.before,
+    );
     others_at = others_at;
     others_no = others_no;
   }
 
   -- levels
   next : NextLevel (level_after t.steps s.place) s.level s.cause
-  next = subst (λ c. NextLevel (level_after t.steps s.place) s.level c) (sym d.cause) (subst (λ n. NextLevel (level_after t.steps s.place) n (step_at t.steps s.place).cause) (sym d.level) (next_level t.level s.place t.steps d.sound.levels within))
+  next = subst (λ c. NextLevel (level_after t.steps s.place) s.level c) (sym d.cause)
+      (subst (λ n. NextLevel (level_after t.steps s.place) n (step_at t.steps s.place).cause) (sym d.level)
+      (next_level t.level s.place t.steps d.sound.levels within))
 
   before_low : s.before ≤ level_after t.steps s.place
-  before_low = let b = d.before in let w = within in omega (arith, b, levels_rise t.level r.others s.place t.steps d.sound.levels others_le (omega (arith, w)))
+  before_low = let b = d.before in let w = within in
+      omega (arith, b, levels_rise t.level r.others s.place t.steps d.sound.levels others_le (omega (arith, w)))
 
   not_later_by : (o : Option ℕ) → NextLevel (level_after t.steps s.place) s.level o → s.before ≤ s.level
   not_later_by None n = let b = before_low in omega (arith, b, n)
@@ -125,21 +148,32 @@ module _ (t : TrailView) (ts : List TermView) (r : Ranks) (s : Satisfier) (d : I
   opens_is = record {
     not_later = not_later_by s.cause next;
     held = λ e. subst (λ (ss : List Members). Sat ss f) (sym (end_is_place t s.level)) (all_after (kept s.level t.steps)
-        (let p = d.place in let l = d.level in omega (arith, p, before_end s.level 0 t.level s.place t.steps d.sound.levels within (omega (arith, l)))) (kept_le s.level t.steps));
-    shrinks = λ lt. subst (λ (ss : List Members). inside (set_of (sets_at t (suc s.place)) s.vertex) (set_of ss s.vertex) ≡ true) (sym (end_is_place t s.before))
+        (let p = d.place in let l = d.level in
+        omega (arith, p, before_end s.level 0 t.level s.place t.steps d.sound.levels within (omega (arith, l))))
+        (kept_le s.level t.steps));
+    shrinks = λ lt. subst (λ (ss : List Members). inside (set_of (sets_at t (suc s.place)) s.vertex)
+        (set_of ss s.vertex) ≡ true) (sym (end_is_place t s.before))
         (shrinks t d.sound s.vertex (kept s.before t.steps) (suc s.place) (omega (arith, kept_place lt)) within);
-    some = subst (λ (ss : List Members). 0 < size (set_of ss s.vertex)) (sym (end_is_place t s.before)) (some_at t d.sound s.vertex (kept s.before t.steps) (kept_le s.before t.steps) space_some);
-    ends = ap (λ ss. length (set_of ss s.vertex)) (end_is_place t s.before) ∙ same_space t d.sound (kept s.before t.steps) (kept_le s.before t.steps) s.vertex;
+    some = subst (λ (ss : List Members). 0 < size (set_of ss s.vertex)) (sym (end_is_place t s.before))
+        (some_at t d.sound s.vertex (kept s.before t.steps) (kept_le s.before t.steps) space_some);
+    ends = ap (λ ss. length (set_of ss s.vertex)) (end_is_place t s.before)
+        ∙ same_space t d.sound (kept s.before t.steps) (kept_le s.before t.steps) s.vertex;
     here = same_space t d.sound s.place (let w = within in omega (arith, w)) s.vertex;
   }
 
-  cause_by : (es : List EntryView) → IsTrail es t → (o : Option ℕ) → (step_at t.steps s.place).cause ≡ o → NextLevel (level_after t.steps s.place) s.level o → CauseFits es t ts s o
+  cause_by : (es : List EntryView) → IsTrail es t → (o : Option ℕ) → (step_at t.steps s.place).cause ≡ o
+      → NextLevel (level_after t.steps s.place) s.level o → CauseFits es t ts s o
   cause_by es trail None e n = let b = before_low in omega (arith, b, n)
   cause_by es trail (Some c) e n =
-      let cause : IsCause es (sets_at t s.place) (sets_at t (suc s.place)) s.vertex c = subst (λ v. IsCause es (sets_at t s.place) (sets_at t (suc s.place)) v c) (sym d.vertex) (trail.caused s.place c within e) in (
+      let cause : IsCause es (sets_at t s.place) (sets_at t (suc s.place)) s.vertex c =
+      subst (λ v. IsCause es (sets_at t s.place) (sets_at t (suc s.place)) v c) (sym d.vertex)
+      (trail.caused s.place c within e) in (
         cause,
-        λ made comb. combined_before (sets_at t s.place) (sets_at t (suc s.place)) s.vertex f (terms_of es c) (states_at made) cause.states cause.forced (all_after (suc s.place) (let p = d.place in omega (arith, p)) within)
-            (λ z is. d.lies.lies s.vertex z is ∙ sym (same_space t d.sound s.place (let w = within in omega (arith, w)) s.vertex)) comb.each,
+        λ made comb. combined_before (sets_at t s.place) (sets_at t (suc s.place)) s.vertex f (terms_of es c)
+            (states_at made) cause.states cause.forced
+            (all_after (suc s.place) (let p = d.place in omega (arith, p)) within)
+            (λ z is. d.lies.lies s.vertex z is
+            ∙ sym (same_space t d.sound s.place (let w = within in omega (arith, w)) s.vertex)) comb.each,
       )
 
   pub cause_is : (es : List EntryView) → IsTrail es t → CauseFits es t ts s s.cause

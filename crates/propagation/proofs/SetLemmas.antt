@@ -1,5 +1,6 @@
 -- Laws of sets that a trail needs: what is left after some states are taken away.
-use Rattle.std.proofs.Common.{◌≡◌, ℕ, zero, suc, ◌<◌, ◌≤◌, true, false, [], ◌∷◌, List, length, set, refl, sym, ◌∙◌, arith, inl, inr}
+use Rattle.std.proofs.Common.{◌≡◌, ℕ, zero, suc, ◌<◌, ◌≤◌, true, false, [], ◌∷◌, List, length, set, refl, sym, ◌∙◌}
+use Rattle.std.proofs.Common.{arith, inl, inr}
 use Rattle.std.proofs.lemmas.Bool.{cases_Bool, false≢true, true≢false}
 use Rattle.version_sets.specs.Sets.{Members, every, has, inside, is_full, meet, meets, none, only, rest, size}
 use Rattle.propagation.specs.Trails.{set_of, total}
@@ -163,7 +164,8 @@ has_some (false ∷ s) zero h = absurd (false≢true h)
 has_some (false ∷ s) (suc i) h = has_some s i h
 
 -- a set that is not empty, inside a set of one number, has that number
-pub only_inside : (s x : Members) (i : ℕ) → inside s x ≡ true → size x ≡ 1 → has x i ≡ true → 0 < size s → has s i ≡ true
+pub only_inside : (s x : Members) (i : ℕ) → inside s x ≡ true → size x ≡ 1 → has x i ≡ true
+    → 0 < size s → has s i ≡ true
 only_inside [] x i h one there some = absurd (omega (arith, some))
 only_inside (b ∷ s) [] i h one there some = absurd (false≢true there)
 only_inside (true ∷ s) (true ∷ x) zero h one there some = refl
@@ -204,7 +206,8 @@ meets_of (false ∷ s) (true ∷ b) (false ∷ x) some hb hx = meets_of s b x so
 meets_of (false ∷ s) (false ∷ b) (x ∷ xs) some hb hx = meets_of s b xs some hb hx
 
 -- the sum of all sets, with one of them smaller
-pub total_set : (sets : List Members) (v : ℕ) (x : Members) → size x < size (set_of sets v) → total (set sets v x) < total sets
+pub total_set : (sets : List Members) (v : ℕ) (x : Members) → size x < size (set_of sets v)
+    → total (set sets v x) < total sets
 total_set [] v x lt = absurd (omega (arith, lt))
 total_set (s ∷ sets) zero x lt = omega (arith, lt)
 total_set (s ∷ sets) (suc v) x lt = omega (arith, total_set sets v x lt)

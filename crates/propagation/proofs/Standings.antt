@@ -51,12 +51,14 @@ StandsFrom m n f (OneOpen k) = OneFrom m n f k
 StandsFrom m n f Quiet = Neither n f
 
 -- with the term before them
-pub after_next : (f : ℕ → Relation) (m n : ℕ) (seen : Standing) (x : Relation) → m < n → f m ≡ x → StandsFrom (suc m) n f seen → StandsFrom m n f (after seen m x)
+pub after_next : (f : ℕ → Relation) (m n : ℕ) (seen : Standing) (x : Relation) → m < n → f m ≡ x
+    → StandsFrom (suc m) n f seen → StandsFrom m n f (after seen m x)
 after_next f m n Holds Satisfied lt e h = λ j low jl. elim (cases_lt m j) [
   | inl less ↦ h j less jl
   | inr le ↦ let same : m ≡ j = omega (arith, low, le) in subst (λ i. f i ≡ Satisfied) same e
 ]
-after_next f m n Holds Open lt e h = record { low = omega arith; within = lt; here = e; others = λ j low jl ne. h j (omega (arith, low, ne)) jl }
+after_next f m n Holds Open lt e h =
+    record { low = omega arith; within = lt; here = e; others = λ j low jl ne. h j (omega (arith, low, ne)) jl }
 after_next f m n Holds Contradicted lt e h = apart_at m n f lt e
 after_next f m n (OneOpen k) Satisfied lt e h = let past = h.low in record {
   low = omega (arith, past);
@@ -73,5 +75,6 @@ after_next f m n Quiet x lt e h = h
 
 pub stands_all : (n : ℕ) (f : ℕ → Relation) (seen : Standing) → StandsFrom 0 n f seen → Stands n f seen
 stands_all n f Holds h = λ i lt. h i (omega arith) lt
-stands_all n f (OneOpen k) h = record { within = h.within; here = h.here; others = λ i lt ne. h.others i (omega arith) lt ne }
+stands_all n f (OneOpen k) h =
+    record { within = h.within; here = h.here; others = λ i lt ne. h.others i (omega arith) lt ne }
 stands_all n f Quiet h = h

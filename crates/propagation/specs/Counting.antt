@@ -17,7 +17,8 @@ pub record IsCount (t : TrailView) (v : ℕ) (x : Members) (n : ℕ) : Type 0 wh
 
 -- the two greatest numbers with one more
 abbrev pub ranked : Ranks → ℕ → Ranks
-ranked r n = if nat_lt r.all n then record { all = n; others = r.all } else if nat_lt r.others n then record { all = r.all; others = n } else r
+ranked r n = if nat_lt r.all n then record { all = n; others = r.all } else if nat_lt r.others n then
+    record { all = r.all; others = n } else r
 
 -- a term of a list is satisfied after k places
 abbrev pub HoldsAfter : TrailView → List TermView → ℕ → ℕ → Type 0

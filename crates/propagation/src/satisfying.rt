@@ -64,12 +64,17 @@ impl<S: States + Drop> Trail<S> {
     /// Only assignments on the incompatibility's own vertices are looked at.
     pub fn satisfier(&self, incompatibility: &Incompatibility<S>) -> Satisfier
         requires sound { IsSound (trail_view S.tests self.now) }
-        requires lies { LiesIn (space_of (trail_view S.tests self.now)) (states_at (terms_view S.tests incompatibility.now)) }
-        requires satisfied { Sat (trail_view S.tests self.now).sets (states_at (terms_view S.tests incompatibility.now)) }
+        requires lies { LiesIn (space_of (trail_view S.tests self.now))
+            (states_at (terms_view S.tests incompatibility.now)) }
+        requires satisfied { Sat (trail_view S.tests self.now).sets
+            (states_at (terms_view S.tests incompatibility.now)) }
         requires some { 0 < length (terms_view S.tests incompatibility.now) }
-        ensures satisfied { IsSatisfied (trail_view S.tests self.now) (states_at (terms_view S.tests incompatibility.now)) result }
-        ensures cause { (es : List EntryView) → IsTrail es (trail_view S.tests self.now) → CauseFits es (trail_view S.tests self.now) (terms_view S.tests incompatibility.now) result result.cause }
-        ensures opens { OpenFits (trail_view S.tests self.now) (states_at (terms_view S.tests incompatibility.now)) result }
+        ensures satisfied { IsSatisfied (trail_view S.tests self.now)
+            (states_at (terms_view S.tests incompatibility.now)) result }
+        ensures cause { (es : List EntryView) → IsTrail es (trail_view S.tests self.now)
+            → CauseFits es (trail_view S.tests self.now) (terms_view S.tests incompatibility.now) result result.cause }
+        ensures opens { OpenFits (trail_view S.tests self.now)
+            (states_at (terms_view S.tests incompatibility.now)) result }
     {
         let ranks = self.ranks(incompatibility.terms());
         let place = ranks.all - 1;
@@ -88,7 +93,8 @@ impl<S: States + Drop> Trail<S> {
         requires sound { IsSound (trail_view S.tests self.now) }
         requires lies { LiesOn (trail_view S.tests self.now) (terms_view S.tests terms.now) }
         requires satisfied { Sat (trail_view S.tests self.now).sets (states_at (terms_view S.tests terms.now)) }
-        ensures { Ranked (trail_view S.tests self.now) (terms_view S.tests terms.now) (length (terms_view S.tests terms.now)) result }
+        ensures { Ranked (trail_view S.tests self.now) (terms_view S.tests terms.now)
+            (length (terms_view S.tests terms.now)) result }
     {
         let mut ranks = Ranks { all: 0, others: 0 };
         'terms: for place in 0..terms.len() {
@@ -103,7 +109,8 @@ impl<S: States + Drop> Trail<S> {
         requires sound { IsSound (trail_view S.tests self.now) }
         requires vertex { term.now.vertex < length (trail_view S.tests self.now).sets }
         requires fits { length (S.tests term.now.states) ≡ space_of (trail_view S.tests self.now) term.now.vertex }
-        requires holds { HoldsAt (set_of (trail_view S.tests self.now).sets term.now.vertex) (Some (S.tests term.now.states)) }
+        requires holds { HoldsAt (set_of (trail_view S.tests self.now).sets term.now.vertex)
+            (Some (S.tests term.now.states)) }
         ensures { IsCount (trail_view S.tests self.now) term.now.vertex (S.tests term.now.states) result }
     {
         // Sets only shrink from place to place, so the last one before which a state outside the term was left is it.

@@ -20,7 +20,8 @@ module _ (owners : List Owner) (nodes : List NodeView) (are_enabled : List (List
   -- the owners that are found, each once, with where their enabled dependencies lead
   pub record AreFound (is_here : List Bool) (ks : List Kept) : Type 0 where
     pub distinct : AllPairs (λ a b. a.owner ≢ b.owner) ks
-    pub members : (o : Owner) → ((k : Kept) × Contains ks k × (k.owner ≡ o)) ↔ ((n : ℕ) × (slice_get owners n ≡ Some o) × (flag_at is_here n ≡ true))
+    pub members : (o : Owner) → ((k : Kept) × Contains ks k × (k.owner ≡ o))
+        ↔ ((n : ℕ) × (slice_get owners n ≡ Some o) × (flag_at is_here n ≡ true))
     pub targets : (k : Kept) → Contains ks k → (n : ℕ) → slice_get owners n ≡ Some k.owner → (t : Owner)
         → Contains k.targets t ↔ ((s : ℕ) × LeadsFrom n s × (slice_get owners s ≡ Some t))
 
@@ -31,7 +32,8 @@ module _ (owners : List Owner) (nodes : List NodeView) (are_enabled : List (List
     pub places : List ℕ
     pub as_many : length places ≡ length content
     -- they are those that are here
-    pub members : (n : ℕ) → Contains places n ↔ ((flag_at is_here n ≡ true) × (o : Owner) × (slice_get owners n ≡ Some o))
+    pub members : (n : ℕ)
+        → Contains places n ↔ ((flag_at is_here n ≡ true) × (o : Owner) × (slice_get owners n ≡ Some o))
     pub packages : (k n : ℕ) (p : Package) → slice_get content k ≡ Some p → slice_get places k ≡ Some n
         → (o : Owner) × (slice_get owners n ≡ Some o) × (p ≡ package_of q o p.list)
     pub lists : (k n t : ℕ) (p : Package) → slice_get content k ≡ Some p → slice_get places k ≡ Some n

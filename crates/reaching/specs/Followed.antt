@@ -9,7 +9,8 @@ use Rattle.model.specs.Assignment.{Assigns}
 
 -- the root alone brings each package: none is here only since packages that hold one another count from the start
 abbrev pub IsBrought : Problem → Content → Type 0
-IsBrought q content = (n : ℕ) → n < length content → Holds (summary_at q content) (IsRootAt q content) (IsRootAt q content) q.root_asks (λ n i d t. HasTarget q content n d t) (here n)
+IsBrought q content = (n : ℕ) → n < length content → Holds (summary_at q content) (IsRootAt q content)
+    (IsRootAt q content) q.root_asks (λ n i d t. HasTarget q content n d t) (here n)
 
 -- a vertex that isn't absent has its state in the content; that is a relation, so nothing speaks against it
 abbrev pub AgreesWith : Problem → (Vertex → State) → Content → Type 0

@@ -28,43 +28,54 @@ ghost use Rattle.reaching.specs.Nodes.{AreFlags, AreMet};
 
 /// Packages with where their dependencies lead in an assignment are a graph: the facts can be found over them.
 pub fn packages_are_a_graph()
-    ensures { (q : Problem) (state : Vertex → State) (owners : List Owner) (nodes : List NodeView) → q.root_asks ≡ root_asks q.brings.features
+    ensures { (q : Problem) (state : Vertex → State) (owners : List Owner) (nodes : List NodeView)
+        → q.root_asks ≡ root_asks q.brings.features
         → AreMet q (LeadsTo q state) owners nodes → IsGraph nodes }
 {}
 
 /// The owners that are found to be here, each with where its enabled dependencies lead, are those that the root
 /// reaches, with their targets.
 pub fn found_owners_are_kept()
-    ensures { (q : Problem) (state : Vertex → State) (owners : List Owner) (nodes : List NodeView) (is_here : List Bool) (are_enabled : List (List Bool)) (kept : List Kept)
-        → q.root_asks ≡ root_asks q.brings.features → IsUnbroken q state → AreMet q (LeadsTo q state) owners nodes → AreFlags nodes is_here are_enabled
+    ensures { (q : Problem) (state : Vertex → State) (owners : List Owner) (nodes : List NodeView) (is_here : List Bool)
+        (are_enabled : List (List Bool)) (kept : List Kept)
+        → q.root_asks ≡ root_asks q.brings.features → IsUnbroken q state → AreMet q (LeadsTo q state) owners nodes
+        → AreFlags nodes is_here are_enabled
         → AreFound owners nodes are_enabled is_here kept → AreKept q (LeadsTo q state) kept }
 {}
 
 /// The content that is built of the packages that are found to be here is a valid selection, if the assignment breaks
 /// no instance.
 pub fn built_contents_select()
-    ensures { (q : Problem) (state : Vertex → State) (owners : List Owner) (nodes : List NodeView) (is_here : List Bool) (are_enabled : List (List Bool)) (content : Content)
-        → IsCatalogue q → q.root_asks ≡ root_asks q.brings.features → IsUnbroken q state → AreMet q (LeadsTo q state) owners nodes → AreFlags nodes is_here are_enabled
+    ensures { (q : Problem) (state : Vertex → State) (owners : List Owner) (nodes : List NodeView) (is_here : List Bool)
+        (are_enabled : List (List Bool)) (content : Content)
+        → IsCatalogue q → q.root_asks ≡ root_asks q.brings.features → IsUnbroken q state
+        → AreMet q (LeadsTo q state) owners nodes → AreFlags nodes is_here are_enabled
         → IsBuilt owners nodes are_enabled q is_here content → IsValidSelection q content }
 {}
 
 /// The root of a content that is built has no checksum.
 pub fn built_roots_have_no_checksum()
-    ensures { (q : Problem) (owners : List Owner) (nodes : List NodeView) (is_here : List Bool) (are_enabled : List (List Bool)) (content : Content)
+    ensures { (q : Problem) (owners : List Owner) (nodes : List NodeView) (is_here : List Bool)
+        (are_enabled : List (List Bool)) (content : Content)
         → IsBuilt owners nodes are_enabled q is_here content → HasBareRoot q content }
 {}
 
 /// The content that is built is a valid selection that was given, if the root alone brings that one and the assignment,
 /// which breaks no instance, has no states but its own and absent.
 pub fn built_contents_follow()
-    ensures { (q : Problem) (state : Vertex → State) (owners : List Owner) (nodes : List NodeView) (is_here : List Bool) (are_enabled : List (List Bool)) (content given : Content)
-        → q.root_asks ≡ root_asks q.brings.features → IsUnbroken q state → AreMet q (LeadsTo q state) owners nodes → AreFlags nodes is_here are_enabled
-        → IsBuilt owners nodes are_enabled q is_here content → IsValidSelection q given → HasBareRoot q given → IsBrought q given → AgreesWith q state given → content ≡ given }
+    ensures { (q : Problem) (state : Vertex → State) (owners : List Owner) (nodes : List NodeView) (is_here : List Bool)
+        (are_enabled : List (List Bool)) (content given : Content)
+        → q.root_asks ≡ root_asks q.brings.features → IsUnbroken q state → AreMet q (LeadsTo q state) owners nodes
+        → AreFlags nodes is_here are_enabled
+        → IsBuilt owners nodes are_enabled q is_here content → IsValidSelection q given → HasBareRoot q given
+        → IsBrought q given → AgreesWith q state given → content ≡ given }
 {}
 
 /// The content that is built where dependencies lead to their picks is the preferred walk.
 pub fn built_contents_walk()
-    ensures { (q : Problem) (preferred : List (List ℕ × List Candidate)) (owners : List Owner) (nodes : List NodeView) (is_here : List Bool) (are_enabled : List (List Bool))
-        (content : Content) → q.root_asks ≡ root_asks q.brings.features → AreMet q (Picks q preferred) owners nodes → AreFlags nodes is_here are_enabled
+    ensures { (q : Problem) (preferred : List (List ℕ × List Candidate)) (owners : List Owner) (nodes : List NodeView)
+        (is_here : List Bool) (are_enabled : List (List Bool))
+        (content : Content) → q.root_asks ≡ root_asks q.brings.features → AreMet q (Picks q preferred) owners nodes
+        → AreFlags nodes is_here are_enabled
         → IsBuilt owners nodes are_enabled q is_here content → IsWalk q preferred content }
 {}

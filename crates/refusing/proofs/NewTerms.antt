@@ -27,7 +27,8 @@ use Rattle.decoding.proofs.Whole.{terms_apart}
 
 -- ---- states that are chosen
 
-each_chosen : (P : State → Type 0) (ss : List State) (m : Members) → ((s : State) → Contains ss s → P s) → AllByRecursion P (states_in ss m)
+each_chosen : (P : State → Type 0) (ss : List State) (m : Members) → ((s : State) → Contains ss s → P s)
+    → AllByRecursion P (states_in ss m)
 each_chosen P [] m h = tt
 each_chosen P (s ∷ ss) [] h = tt
 each_chosen P (s ∷ ss) (true ∷ m) h = (h s (in_first s ss), each_chosen P ss m (λ r c. h r (in_rest s r ss c)))
@@ -38,7 +39,8 @@ unfolding IsDistinct
 chosen_apart [] m once = tt
 chosen_apart (s ∷ ss) [] once = tt
 chosen_apart (s ∷ ss) (true ∷ m) once = (
-  each_chosen (λ r. same_state s r ≡ false) ss m (λ r c. false_from_ne_true (same_state s r) (λ h. pairs_first (λ s r. s ≢ r) s r ss once c (state-same s r h))),
+  each_chosen (λ r. same_state s r ≡ false) ss m
+      (λ r c. false_from_ne_true (same_state s r) (λ h. pairs_first (λ s r. s ≢ r) s r ss once c (state-same s r h))),
   chosen_apart ss m (pairs_rest (λ s r. s ≢ r) s ss once),
 )
 chosen_apart (s ∷ ss) (false ∷ m) once = chosen_apart ss m (pairs_rest (λ s r. s ≢ r) s ss once)
@@ -50,15 +52,18 @@ unfolding IsDistinct
 apart_distinct [] apart = tt
 apart_distinct (t ∷ ts) apart = (apart.0, apart_distinct ts apart.1)
 
-pub vertices_read : (q : Problem) → HasValidParts q → (vs : Numbering) → AllByRecursion (λ v. IsVertex q v) vs → AllByRecursion IsReadVertex vs
+pub vertices_read : (q : Problem) → HasValidParts q → (vs : Numbering) → AllByRecursion (λ v. IsVertex q v) vs
+    → AllByRecursion IsReadVertex vs
 vertices_read q valid [] there = tt
-vertices_read q valid (v ∷ vs) there = (vertex-is-read v (in-problem q valid v there.0), vertices_read q valid vs there.1)
+vertices_read q valid (v ∷ vs) there =
+    (vertex-is-read v (in-problem q valid v there.0), vertices_read q valid vs there.1)
 
 module _ (q : Problem) (vs : Numbering) (valid : HasValidParts q) (known : IsCatalogue q) (ok : IsNumbering q vs) where
   term_new : (v : Vertex) (m : Members) → Contains vs v → IsNewTerm (at v (states_in (space q v) m))
   term_new v m c = record {
     vertex = vertex-is-read v (in-problem q valid v (each_at (λ v. IsVertex q v) vs v ok.there c));
-    states = All-from_recursion _ (states_in (space q v) m) (each_chosen (λ s. IsReadState v s) (space q v) m (λ s i. state-is-read v s (in-space q valid v s i)));
+    states = All-from_recursion _ (states_in (space q v) m)
+        (each_chosen (λ s. IsReadState v s) (space q v) m (λ s i. state-is-read v s (in-space q valid v s i)));
     apart = chosen_apart (space q v) m (states_once q known v);
   }
 
@@ -66,7 +71,8 @@ module _ (q : Problem) (vs : Numbering) (valid : HasValidParts q) (known : IsCat
   each_new [] = tt
   each_new (t ∷ ts) = by (slice_get vs t.vertex) refl (each_new ts)
     where
-      by : (o : Option Vertex) → slice_get vs t.vertex ≡ o → AllByRecursion IsNewTerm (terms_of q vs ts) → AllByRecursion IsNewTerm (with_term q o t.states (terms_of q vs ts))
+      by : (o : Option Vertex) → slice_get vs t.vertex ≡ o → AllByRecursion IsNewTerm (terms_of q vs ts)
+          → AllByRecursion IsNewTerm (with_term q o t.states (terms_of q vs ts))
       by None e rest = rest
       by (Some v) e rest = (term_new v t.states (got_in vs t.vertex v e), rest)
 

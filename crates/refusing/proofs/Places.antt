@@ -1,5 +1,6 @@
 -- The entries that are needed can be put into a derivation one after another.
-use Rattle.std.proofs.Common.{◌≡◌, ℕ, zero, suc, ◌+◌, ◌<◌, ◌≤◌, List, [], ◌∷◌, ◌++◌, length, take, get_or, Contains, Option, Some, None, slice_get, refl, sym, ap, ◌∙◌, subst, true, true≢false, arith}
+use Rattle.std.proofs.Common.{◌≡◌, ℕ, zero, suc, ◌+◌, ◌<◌, ◌≤◌, List, [], ◌∷◌, ◌++◌, length, take, get_or, Contains}
+use Rattle.std.proofs.Common.{Option, Some, None, slice_get, refl, sym, ap, ◌∙◌, subst, true, true≢false, arith}
 use Rattle.std.proofs.Math.Seq.{take-suc}
 use Rattle.std.proofs.lemmas.List.{take_all}
 use Rattle.std.proofs.lemmas.Option.{slice_get_read, slice_get_within}
@@ -43,7 +44,8 @@ IsRead ids k id = (k < length ids) × (id ≡ get_or ids k id)
 
 module _ (q : Problem) (vs : Numbering) (es : List EntryView) (place : ℕ → ℕ) where
   -- the steps so far, one more
-  pub steps_more : (ids : List ℕ) (steps : List Step) (id : ℕ) (s : Step) → AreStepsOf q vs es place ids steps → IsStepOf q vs place (entry es id) s
+  pub steps_more : (ids : List ℕ) (steps : List Step) (id : ℕ) (s : Step) → AreStepsOf q vs es place ids steps
+      → IsStepOf q vs place (entry es id) s
       → AreStepsOf q vs es place (ids ++ id ∷ []) (steps ++ s ∷ [])
   steps_more [] [] id s are is = (is, tt)
   steps_more [] (r ∷ steps) id s are is = absurd are
@@ -57,41 +59,54 @@ module _ (q : Problem) (vs : Numbering) (es : List EntryView) (place : ℕ → �
   steps_long (i ∷ ids) (r ∷ steps) are = ap suc (steps_long ids steps are.1)
 
   -- the steps of the entries so far, one more, and all of them
-  pub more_at : (ids : List ℕ) (k id : ℕ) (steps new : List Step) → IsRead ids k id → AreStepsOf q vs es place (take k ids) steps
-      → ((s : Step) × (new ≡ steps ++ s ∷ []) × IsStepOf q vs place (entry es id) s) → AreStepsOf q vs es place (take (k + 1) ids) new
+  pub more_at : (ids : List ℕ) (k id : ℕ) (steps new : List Step) → IsRead ids k id
+      → AreStepsOf q vs es place (take k ids) steps
+      → ((s : Step) × (new ≡ steps ++ s ∷ []) × IsStepOf q vs place (entry es id) s)
+      → AreStepsOf q vs es place (take (k + 1) ids) new
   more_at ids k id steps new read are s =
       let after : k + 1 ≡ suc k = omega arith in
-      let next : take (k + 1) ids ≡ take k ids ++ id ∷ [] = ap (λ n. take n ids) after ∙ take-suc ids k id read.0 ∙ ap (λ x. take k ids ++ x ∷ []) (sym read.1) in
-      subst (λ l. AreStepsOf q vs es place l new) (sym next) (subst (AreStepsOf q vs es place (take k ids ++ id ∷ [])) (sym s.1) (steps_more (take k ids) steps id s.0 are s.2))
+      let next : take (k + 1) ids ≡ take k ids ++ id ∷ [] =
+      ap (λ n. take n ids) after ∙ take-suc ids k id read.0 ∙ ap (λ x. take k ids ++ x ∷ []) (sym read.1) in
+      subst (λ l. AreStepsOf q vs es place l new) (sym next) (subst (AreStepsOf q vs es place (take k ids ++ id ∷ []))
+      (sym s.1) (steps_more (take k ids) steps id s.0 are s.2))
 
-  pub all_at : (ids : List ℕ) (k : ℕ) (steps : List Step) → length ids ≤ k → AreStepsOf q vs es place (take k ids) steps → AreStepsOf q vs es place ids steps
+  pub all_at : (ids : List ℕ) (k : ℕ) (steps : List Step) → length ids ≤ k → AreStepsOf q vs es place (take k ids) steps
+      → AreStepsOf q vs es place ids steps
   all_at ids k steps past are = subst (λ l. AreStepsOf q vs es place l steps) (take_all k ids past) are
 
-  module _ (known : IsCatalogue q) (ok : IsNumbering q vs) (axioms : AreInstances q vs es) (touching : AreTouching es) (last : ℕ) (below : last < length es) (ids : List ℕ) (needed : IsNeeded es last ids place) where
+  module _ (known : IsCatalogue q) (ok : IsNumbering q vs) (axioms : AreInstances q vs es) (touching : AreTouching es)
+      (last : ℕ) (below : last < length es) (ids : List ℕ) (needed : IsNeeded es last ids place) where
     pub within : (id : ℕ) → Contains ids id → id < length es
     within id c = let le = needed.within id c in omega (arith, le, below)
 
-    axiom_is : (id : ℕ) → Contains ids id → (k : ℕ) → (entry es id).origin ≡ Axiom k → IsEncoded q vs (entry es id).terms (Axiom k)
-    axiom_is id c k e = subst (IsEncoded q vs (entry es id).terms) e (axioms id (within id c) (subst IsAxiom (sym e) tt))
+    axiom_is : (id : ℕ) → Contains ids id → (k : ℕ) → (entry es id).origin ≡ Axiom k
+        → IsEncoded q vs (entry es id).terms (Axiom k)
+    axiom_is id c k e =
+        subst (IsEncoded q vs (entry es id).terms) e (axioms id (within id c) (subst IsAxiom (sym e) tt))
 
     over_below : (n id : ℕ) → id < n → Contains ids id → IsOver q vs (entry es id).terms
     over_below zero id lt c = absurd (omega (arith, lt))
     over_below (suc n) id lt c = by (entry es id).origin refl (λ i lt c. over_below n i lt c)
       where
-        by : (o : Origin) → (entry es id).origin ≡ o → ((i : ℕ) → i < n → Contains ids i → IsOver q vs (entry es i).terms) → IsOver q vs (entry es id).terms
+        by : (o : Origin) → (entry es id).origin ≡ o
+            → ((i : ℕ) → i < n → Contains ids i → IsOver q vs (entry es i).terms) → IsOver q vs (entry es id).terms
         by (Axiom k) e rest =
-            let r : (us : List Term) × IsInstance q (kind_at k) us × Says q vs (entry es id).terms us = axiom_is id c k e in
+            let r : (us : List Term) × IsInstance q (kind_at k) us
+            × Says q vs (entry es id).terms us = axiom_is id c k e in
             says_over q vs known ok (entry es id).terms r.0 r.2
         by (Combined i j m w) e rest =
-            let f : OriginFits es id (entry es id).terms (Combined i j m w) = subst (OriginFits es id (entry es id).terms) e (needed.fits id c) in
+            let f : OriginFits es id (entry es id).terms (Combined i j m w) =
+            subst (OriginFits es id (entry es id).terms) e (needed.fits id c) in
             let parts = needed.closed id i j m w c e in
-            over_combined q vs known ok m (entry es i).terms (entry es j).terms (entry es id).terms (rest i (omega (arith, f.0, lt)) parts.0) (rest j (omega (arith, f.1, lt)) parts.1) f.2
+            over_combined q vs known ok m (entry es i).terms (entry es j).terms (entry es id).terms
+            (rest i (omega (arith, f.0, lt)) parts.0) (rest j (omega (arith, f.1, lt)) parts.1) f.2
 
     over : (id : ℕ) → Contains ids id → IsOver q vs (entry es id).terms
     over id c = over_below (suc id) id (omega arith) c
 
     -- the vertex of a combination has a number, since one of the two speaks of it
-    vertex_of : (ts : List TermView) (n : ℕ) → IsOver q vs ts → touches n ts ≡ true → (v : Vertex) × (slice_get vs n ≡ Some v)
+    vertex_of : (ts : List TermView) (n : ℕ) → IsOver q vs ts → touches n ts ≡ true
+        → (v : Vertex) × (slice_get vs n ≡ Some v)
     vertex_of ts n is h = by (states_at ts n) refl
       where
         by : (o : Option Members) → states_at ts n ≡ o → (v : Vertex) × (slice_get vs n ≡ Some v)
@@ -105,14 +120,16 @@ module _ (q : Problem) (vs : Numbering) (es : List EntryView) (place : ℕ → �
         by (Axiom k) e = axioms id (within id c) (subst IsAxiom (sym e) tt)
         by (Combined i j m w) e =
             let parts = needed.closed id i j m w c e in
-            let v : (v : Vertex) × (slice_get vs m ≡ Some v) = vertex_of (entry es i).terms m (over i parts.0) (touching id i j m w (within id c) e) in
+            let v : (v : Vertex) × (slice_get vs m ≡ Some v) =
+            vertex_of (entry es i).terms m (over i parts.0) (touching id i j m w (within id c) e) in
             subst (IsEncoded q vs (entry es id).terms) (sym e) v
 
     -- a part of the entry at a place has an earlier one
     earlier : (i k id : ℕ) → Contains ids i → slice_get ids k ≡ Some id → i < id → place i < k
     earlier i k id c e lt =
         let steps = steps_of q vs es place ids in
-        let s = at_its_place q vs es place known ok last ids needed encoded steps (own_steps q vs es place ids encoded) i k id c e lt in
+        let s = at_its_place q vs es place known ok last ids needed encoded steps
+        (own_steps q vs es place ids encoded) i k id c e lt in
         let inside : place i < length (take k steps) = slice_get_within (take k steps) (place i) s.0 s.1 in
         let short = length_take k steps in
         omega (arith, inside, short)
@@ -130,15 +147,20 @@ module _ (q : Problem) (vs : Numbering) (es : List EntryView) (place : ℕ → �
         by : (o : Origin) → (entry es id).origin ≡ o → AreThere vs place k o
         by (Axiom m) f = tt
         by (Combined i j m w) f =
-            let fits : OriginFits es id (entry es id).terms (Combined i j m w) = subst (OriginFits es id (entry es id).terms) f (needed.fits id here) in
+            let fits : OriginFits es id (entry es id).terms (Combined i j m w) =
+            subst (OriginFits es id (entry es id).terms) f (needed.fits id here) in
             let parts = needed.closed id i j m w here f in
-            let v : (v : Vertex) × (slice_get vs m ≡ Some v) = subst (IsEncoded q vs (entry es id).terms) f (encoded id here) in
+            let v : (v : Vertex) × (slice_get vs m ≡ Some v) =
+            subst (IsEncoded q vs (entry es id).terms) f (encoded id here) in
             (earlier i k id parts.0 e fits.0, earlier j k id parts.1 e fits.1, v.0, v.1)
 
-    pub next_at : (k id : ℕ) (steps : List Step) → IsRead ids k id → AreStepsOf q vs es place (take k ids) steps → IsNext q vs es place (length steps) id
+    pub next_at : (k id : ℕ) (steps : List Step) → IsRead ids k id → AreStepsOf q vs es place (take k ids) steps
+        → IsNext q vs es place (length steps) id
     next_at k id steps read are =
         let lt = read.0 in
-        is_next k id (length steps) (slice_get_read ids (length ids) k id refl lt read.1) (steps_long (take k ids) steps are ∙ take_long k ids (omega (arith, lt)))
+        is_next k id (length steps) (slice_get_read ids (length ids) k id refl lt read.1)
+        (steps_long (take k ids) steps are ∙ take_long k ids (omega (arith, lt)))
 
-    pub refuted : (steps : List Step) → AreStepsOf q vs es place ids steps → (entry es last).terms ≡ [] → IsAccepted q steps
+    pub refuted : (steps : List Step) → AreStepsOf q vs es place ids steps
+        → (entry es last).terms ≡ [] → IsAccepted q steps
     refuted steps are none = accepted q vs es place known ok last ids needed encoded steps are none

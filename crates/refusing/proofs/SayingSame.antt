@@ -1,5 +1,6 @@
 -- Terms in the written order say what they said before.
-use Rattle.std.proofs.Common.{◌≡◌, List, [], ◌∷◌, map, Bool, true, false, cond, ◌||◌, Option, Some, refl, sym, ap, ◌∙◌, subst, true≢false}
+use Rattle.std.proofs.Common.{◌≡◌, List, [], ◌∷◌, map, Bool, true, false, cond, ◌||◌, Option, Some, refl, sym, ap, ◌∙◌}
+use Rattle.std.proofs.Common.{subst, true≢false}
 use Rattle.std.specs.List.{AllByRecursion, list_any}
 use Rattle.std.specs.Ordering.{is_gt}
 use Rattle.std.specs.declared.cmp.Ordering.{Ordering}
@@ -26,7 +27,8 @@ module _ {X : Type 0} (cmp : X → X → Ordering) (p : X → Bool) where
   any_put x [] = refl
   any_put x (y ∷ ys) = by (is_gt (cmp x y)) (any_put x ys)
     where
-      by : (b : Bool) → list_any p (put_in cmp x ys) ≡ (p x || list_any p ys) → list_any p (cond b (y ∷ put_in cmp x ys) (x ∷ (y ∷ ys))) ≡ (p x || (p y || list_any p ys))
+      by : (b : Bool) → list_any p (put_in cmp x ys) ≡ (p x || list_any p ys)
+          → list_any p (cond b (y ∷ put_in cmp x ys) (x ∷ (y ∷ ys))) ≡ (p x || (p y || list_any p ys))
       by true rest = ap (λ b. p y || b) rest ∙ swap_or (p y) (p x) (list_any p ys)
       by false rest = refl
 
@@ -42,10 +44,12 @@ AreOther t ts = AllByRecursion (λ u. same_vertex t.vertex u.vertex ≡ false) t
 module _ (cmp : Term → Term → Ordering) (v : Vertex) where
   -- of two vertices that differ at most one is this one
   swap_at : (t u : Term) (o : Option (List State)) → same_vertex t.vertex u.vertex ≡ false
-      → cond (same_vertex v u.vertex) (Some u.states) (cond (same_vertex v t.vertex) (Some t.states) o) ≡ cond (same_vertex v t.vertex) (Some t.states) (cond (same_vertex v u.vertex) (Some u.states) o)
+      → cond (same_vertex v u.vertex) (Some u.states) (cond (same_vertex v t.vertex) (Some t.states) o)
+      ≡ cond (same_vertex v t.vertex) (Some t.states) (cond (same_vertex v u.vertex) (Some u.states) o)
   swap_at t u o apart = by (same_vertex v u.vertex) refl (same_vertex v t.vertex) refl
     where
-      by : (a : Bool) → same_vertex v u.vertex ≡ a → (b : Bool) → same_vertex v t.vertex ≡ b → cond a (Some u.states) (cond b (Some t.states) o) ≡ cond b (Some t.states) (cond a (Some u.states) o)
+      by : (a : Bool) → same_vertex v u.vertex ≡ a → (b : Bool) → same_vertex v t.vertex ≡ b
+          → cond a (Some u.states) (cond b (Some t.states) o) ≡ cond b (Some t.states) (cond a (Some u.states) o)
       by true e true f =
           let same : t.vertex ≡ u.vertex = sym (vertex-same v t.vertex f) ∙ vertex-same v u.vertex e in
           absurd (true≢false (sym (vertex-refl t.vertex) ∙ ap (same_vertex t.vertex) same ∙ apart))
@@ -53,13 +57,16 @@ module _ (cmp : Term → Term → Ordering) (v : Vertex) where
       by false e true f = refl
       by false e false f = refl
 
-  put_at : (t : Term) (ts : List Term) → AreOther t ts → states_at (put_in cmp t ts) v ≡ cond (same_vertex v t.vertex) (Some t.states) (states_at ts v)
+  put_at : (t : Term) (ts : List Term) → AreOther t ts
+      → states_at (put_in cmp t ts) v ≡ cond (same_vertex v t.vertex) (Some t.states) (states_at ts v)
   put_at t [] apart = refl
   put_at t (u ∷ ts) apart = by (is_gt (cmp t u)) (put_at t ts apart.1)
     where
       by : (b : Bool) → states_at (put_in cmp t ts) v ≡ cond (same_vertex v t.vertex) (Some t.states) (states_at ts v)
-          → states_at (cond b (u ∷ put_in cmp t ts) (t ∷ (u ∷ ts))) v ≡ cond (same_vertex v t.vertex) (Some t.states) (cond (same_vertex v u.vertex) (Some u.states) (states_at ts v))
-      by true rest = ap (λ o. cond (same_vertex v u.vertex) (Some u.states) o) rest ∙ swap_at t u (states_at ts v) apart.0
+          → states_at (cond b (u ∷ put_in cmp t ts) (t ∷ (u ∷ ts))) v ≡ cond (same_vertex v t.vertex) (Some t.states)
+          (cond (same_vertex v u.vertex) (Some u.states) (states_at ts v))
+      by true rest =
+          ap (λ o. cond (same_vertex v u.vertex) (Some u.states) o) rest ∙ swap_at t u (states_at ts v) apart.0
       by false rest = refl
 
   order_at : (ts : List Term) → AreApart ts → states_at (in_order cmp ts) v ≡ states_at ts v
@@ -81,9 +88,11 @@ same_states v [] = tt
 same_states v (t ∷ ts) = by (same_vertex v t.vertex) (same_states v ts)
   where
     by : (b : Bool) → SameAt (states_at (map ordered_term ts) v) (states_at ts v)
-        → SameAt (cond b (Some (in_order state_cmp t.states)) (states_at (map ordered_term ts) v)) (cond b (Some t.states) (states_at ts v))
+        → SameAt (cond b (Some (in_order state_cmp t.states)) (states_at (map ordered_term ts) v))
+        (cond b (Some t.states) (states_at ts v))
     by true rest = λ s. any_order state_cmp (same_state s) t.states
     by false rest = rest
 
 pub ordered_same : (ts : List Term) → AreApart ts → SameTerms (ordered_terms ts) ts
-ordered_same ts apart v = subst (λ o. SameAt o (states_at ts v)) (sym (order_at term_cmp v (map ordered_term ts) (apart_ordered ts apart))) (same_states v ts)
+ordered_same ts apart v = subst (λ o. SameAt o (states_at ts v))
+    (sym (order_at term_cmp v (map ordered_term ts) (apart_ordered ts apart))) (same_states v ts)

@@ -19,12 +19,14 @@ use Rattle.refusing.specs.Refusing.{IsStepWith}
 use Rattle.refusing.proofs.NewTerms.{terms_new}
 use Rattle.refusing.proofs.SayingSame.{ordered_same}
 
-module _ (q : Problem) (vs : Numbering) (ok : IsNumbering q vs) (e : EntryView) (over : IsOver q vs e.terms) (ts : List Term) (is : ts ≡ terms_of q vs e.terms) where
+module _ (q : Problem) (vs : Numbering) (ok : IsNumbering q vs) (e : EntryView) (over : IsOver q vs e.terms)
+    (ts : List Term) (is : ts ≡ terms_of q vs e.terms) where
   pub stepped : (place : ℕ → ℕ) (s : Step) → IsStepWith vs place e.origin (ordered_terms ts) s → IsStepOf q vs place e s
   stepped place s with_terms = record {
     by = with_terms.by;
     terms = subst (λ l. SameTerms l (terms_of q vs e.terms)) (sym with_terms.terms)
-        (subst (λ l. SameTerms (ordered_terms ts) l) is (ordered_same ts (subst AreApart (sym is) (terms_apart q vs ok e.terms over.is.rising))));
+        (subst (λ l. SameTerms (ordered_terms ts) l) is
+        (ordered_same ts (subst AreApart (sym is) (terms_apart q vs ok e.terms over.is.rising))));
   }
 
   pub entry_new : HasValidParts q → IsCatalogue q → AreNewTerms ts
@@ -34,5 +36,7 @@ module _ (vs : Numbering) (place : ℕ → ℕ) (o : Origin) (ts : List Term) wh
   pub by_axiom : (n : ℕ) (k : Kind) → o ≡ Axiom n → k ≡ kind_at n → IsStepWith vs place o ts (given k ts)
   by_axiom n k is same = record { by = subst (λ x. IsBy vs place x (given k ts)) (sym is) same; terms = refl }
 
-  pub by_parts : (i j m a b : ℕ) (w : Bool) (v : Vertex) → o ≡ Combined i j m w → a ≡ place i → b ≡ place j → slice_get vs m ≡ Some v → IsStepWith vs place o ts (combine a b v ts)
-  by_parts i j m a b w v is first second there = record { by = subst (λ x. IsBy vs place x (combine a b v ts)) (sym is) (first, second, there); terms = refl }
+  pub by_parts : (i j m a b : ℕ) (w : Bool) (v : Vertex) → o ≡ Combined i j m w → a ≡ place i → b ≡ place j
+      → slice_get vs m ≡ Some v → IsStepWith vs place o ts (combine a b v ts)
+  by_parts i j m a b w v is first second there =
+      record { by = subst (λ x. IsBy vs place x (combine a b v ts)) (sym is) (first, second, there); terms = refl }

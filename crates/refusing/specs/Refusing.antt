@@ -1,5 +1,6 @@
 -- What is asked of a store's entry, so that its step can be put at the end of a derivation, and its terms on the way.
-use Rattle.std.specs.Prelude.{◌≡◌, ℕ, suc, ◌<◌, ◌≤◌, Bool, true, false, List, [], ◌∷◌, if◌then◌else◌, length, map, None, Some, slice_get, slice_index_or}
+use Rattle.std.specs.Prelude.{◌≡◌, ℕ, suc, ◌<◌, ◌≤◌, Bool, true, false, List, [], ◌∷◌, if◌then◌else◌, length, map, None}
+use Rattle.std.specs.Prelude.{Some, slice_get, slice_index_or}
 use Rattle.std.specs.List.{AllByRecursion}
 use Rattle.terms.specs.Terms.{TermView}
 use Rattle.incompatibilities.specs.Stores.{EntryView, IsAxiom, entry}
@@ -22,7 +23,8 @@ use Rattle.refusing.specs.declared.speaking.Spoken.{Spoken}
 
 -- each axiom of a store is an instance of its kind
 abbrev pub AreInstances : Problem → Numbering → List EntryView → Type 0
-AreInstances q vs es = (id : ℕ) → id < length es → IsAxiom (entry es id).origin → IsEncoded q vs (entry es id).terms (entry es id).origin
+AreInstances q vs es =
+    (id : ℕ) → id < length es → IsAxiom (entry es id).origin → IsEncoded q vs (entry es id).terms (entry es id).origin
 
 -- the terms that vertices and sets of their states stand for
 abbrev pub spoken_view : Spoken → Term
@@ -37,11 +39,13 @@ AreSized q vs ts = AllByRecursion (λ t. length t.states ≡ sizes q vs t.vertex
 
 -- the states that are listed for a number are those of the vertex that has it
 abbrev pub AreListed : Problem → Numbering → Spaces → Type 0
-AreListed q vs spaces = (n : ℕ) (s : Space) → slice_index_or spaces.listed.items n None ≡ Some s → (v : Vertex) → slice_get vs n ≡ Some v → state_ref_views s.states.items ≡ space q v
+AreListed q vs spaces = (n : ℕ) (s : Space) → slice_index_or spaces.listed.items n None ≡ Some s → (v : Vertex)
+    → slice_get vs n ≡ Some v → state_ref_views s.states.items ≡ space q v
 
 -- what is spelt for a number is the vertex that has it
 abbrev pub AreSpelt : Numbering → Spaces → Type 0
-AreSpelt vs spaces = (n : ℕ) (s : Space) → slice_index_or spaces.listed.items n None ≡ Some s → (v : Vertex) → slice_get vs n ≡ Some v → s.spelling ≡ v
+AreSpelt vs spaces = (n : ℕ) (s : Space) → slice_index_or spaces.listed.items n None ≡ Some s → (v : Vertex)
+    → slice_get vs n ≡ Some v → s.spelling ≡ v
 
 -- each vertex is what its own text reads as
 abbrev pub AreReadVertices : Numbering → Type 0

@@ -12,5 +12,6 @@ ghost use Rattle.guiding.specs.Guides.{IsOfInstance};
 /// Axioms that are instances of their kinds are so by the numbers of the kinds.
 pub fn instances_have_their_kinds()
     ensures { (q : Problem) (vs : Numbering) (es : List EntryView)
-        → ((id : ℕ) → id < length es → IsAxiom (entry es id).origin → IsOfInstance q vs (entry es id)) → AreInstances q vs es }
+        → ((id : ℕ) → id < length es → IsAxiom (entry es id).origin → IsOfInstance q vs (entry es id))
+        → AreInstances q vs es }
 {}

@@ -6,7 +6,8 @@
 //! puts them into the written order.
 //!
 //! What is hard is what the builder asks for: that each vertex and state is what its own text reads as. Names are so by
-//! their types, versions because they were read; that the numbers of dependencies are so is what `valid_parts` finds out by
+//! their types, versions because they were read; that the numbers of dependencies are so is what `valid_parts` finds
+//! out by
 //! counting them, and `refusal` is asked only after that. Each vertex that is spoken of is spelt once for all steps
 //! (`spaces.rt`), in the order of their texts (`listing.rt`), in which terms stand.
 //!

@@ -34,8 +34,10 @@ fn steps_of<'a, S: States + Drop>(
     requires numbering { IsNumbering (problem inputs.now) table.now }
     requires axioms { AreInstances (problem inputs.now) table.now (entries_view S.tests store.now) }
     requires touching { AreTouching (entries_view S.tests store.now) }
-    requires needed { (last : ℕ) × (last < length (entries_view S.tests store.now)) × IsNeeded (entries_view S.tests store.now) last kept.now.ids.items (place_in kept.now.places.items) }
-    ensures { IfOk result (λ d. AreStepsOf (problem inputs.now) table.now (entries_view S.tests store.now) (place_in kept.now.places.items) kept.now.ids.items d) }
+    requires needed { (last : ℕ) × (last < length (entries_view S.tests store.now))
+        × IsNeeded (entries_view S.tests store.now) last kept.now.ids.items (place_in kept.now.places.items) }
+    ensures { IfOk result (λ d. AreStepsOf (problem inputs.now) table.now (entries_view S.tests store.now)
+        (place_in kept.now.places.items) kept.now.ids.items d) }
 {
     catalogues_are_well_formed(inputs.manifest, inputs.catalogue);
     let mut spaces = Spaces::new(alloc);

@@ -40,7 +40,8 @@ fn speak<'p, 'a, S: States + Drop>(
     requires spelt { AreSpelt table.now spaces.now }
     requires there { slice_get table.now number ≡ Some (vertex_ref_view vertex) }
     requires sized { length (S.tests set.now) ≡ length (space (problem inputs.now) (vertex_ref_view vertex)) }
-    ensures { IfOk result (λ t. spoken_view t ≡ at (vertex_ref_view vertex.entry) (states_in (space (problem inputs.now) (vertex_ref_view vertex.entry)) (S.tests set.now))) }
+    ensures { IfOk result (λ t. spoken_view t ≡ at (vertex_ref_view vertex.entry)
+        (states_in (space (problem inputs.now) (vertex_ref_view vertex.entry)) (S.tests set.now))) }
 {
     let space = spaces.space(number)?;
     let states = chosen(alloc, &space.states, set)?;
@@ -62,7 +63,8 @@ fn push_spoken<'p, 'a, S: States + Drop>(
     requires listed { AreListed (problem inputs.now) table.now spaces.now }
     requires spelt { AreSpelt table.now spaces.now }
     requires sized { length (S.tests term.now.states) ≡ sizes (problem inputs.now) table.now term.now.vertex }
-    ensures { OnOk result (spoken_views made.new.items ≡ spoken_views made.old.items ++ with_term (problem inputs.now) (slice_get table.now term.now.vertex) (S.tests term.now.states) []) }
+    ensures { OnOk result (spoken_views made.new.items ≡ spoken_views made.old.items
+        ++ with_term (problem inputs.now) (slice_get table.now term.now.vertex) (S.tests term.now.states) []) }
 {
     match table.vertex(term.vertex) {
         Some(vertex) => {
@@ -93,7 +95,8 @@ pub(crate) fn spoken_terms<'p, 'a, S: States + Drop>(
     requires listed { AreListed (problem inputs.now) table.now spaces.now }
     requires spelt { AreSpelt table.now spaces.now }
     requires sized { AreSized (problem inputs.now) table.now (terms_view S.tests terms.now) }
-    ensures { IfOk result (λ v. spoken_views v.items ≡ terms_of (problem inputs.now) table.now (terms_view S.tests terms.now)) }
+    ensures { IfOk result
+        (λ v. spoken_views v.items ≡ terms_of (problem inputs.now) table.now (terms_view S.tests terms.now)) }
 {
     let mut made = Vec::with_capacity(alloc, terms.len())?;
     'terms: for term in terms.iter() {

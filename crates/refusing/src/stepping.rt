@@ -47,7 +47,8 @@ fn push_by<'a>(
     requires spelt { AreSpelt table.now spaces.now }
     requires there { AreThere table.now (place_in places.now) (length steps.old) origin }
     requires terms { AreNewTerms (named_views terms.now) }
-    ensures { OnOk result ((s : Step) × (steps.new ≡ steps.old ++ s ∷ []) × IsStepWith table.now (place_in places.now) origin (ordered_terms (named_views terms.now)) s) }
+    ensures { OnOk result ((s : Step) × (steps.new ≡ steps.old ++ s ∷ [])
+        × IsStepWith table.now (place_in places.now) origin (ordered_terms (named_views terms.now)) s) }
 {
     match origin {
         Origin::Axiom(number) => steps.push_named_axiom(alloc, Kind::numbered(number), terms),
@@ -80,10 +81,12 @@ pub(crate) fn push_step<'a, S: States + Drop>(
     requires spelt { AreSpelt table.now spaces.old }
     requires parts { HasValidParts (problem inputs.now) }
     requires numbering { IsNumbering (problem inputs.now) table.now }
-    requires next { IsNext (problem inputs.now) table.now (entries_view S.tests store.now) (place_in places.now) (length steps.old) id }
+    requires next { IsNext (problem inputs.now) table.now (entries_view S.tests store.now)
+        (place_in places.now) (length steps.old) id }
     ensures listed { AreListed (problem inputs.now) table.now spaces.new }
     ensures spelt { AreSpelt table.now spaces.new }
-    ensures step { OnOk result ((s : Step) × (steps.new ≡ steps.old ++ s ∷ []) × IsStepOf (problem inputs.now) table.now (place_in places.now) (entry (entries_view S.tests store.now) id) s) }
+    ensures step { OnOk result ((s : Step) × (steps.new ≡ steps.old ++ s ∷ []) × IsStepOf (problem inputs.now) table.now
+        (place_in places.now) (entry (entries_view S.tests store.now) id) s) }
 {
     catalogues_are_well_formed(inputs.manifest, inputs.catalogue);
     let said = store.get(id).terms();

@@ -1,6 +1,7 @@
 -- Terms of which no two speak of one vertex say the same in any order, and a combination of such terms is such.
 use Rattle.std.specs.Prelude.{⊤}
-use Rattle.std.proofs.Common.{◌≡◌, List, [], ◌∷◌, ◌++◌, map, filter, Bool, true, false, not, cond, Contains, Option, Some, None, refl, sym, ap, ◌∙◌, subst, inl, inr, true≢false}
+use Rattle.std.proofs.Common.{◌≡◌, List, [], ◌∷◌, ◌++◌, map, filter, Bool, true, false, not, cond, Contains, Option}
+use Rattle.std.proofs.Common.{Some, None, refl, sym, ap, ◌∙◌, subst, inl, inr, true≢false}
 use Rattle.std.specs.List.{All, AllPairs, AllByRecursion}
 use Rattle.std.specs.List.Sorted.{IsPermutation}
 use Rattle.std.proofs.lemmas.List.Elements.{All-from_recursion}
@@ -10,7 +11,8 @@ use Rattle.model.specs.Content.{Problem}
 use Rattle.model.specs.Vertices.{Vertex, State, same_vertex}
 use Rattle.model.specs.Axioms.{Term, at, AreApart}
 use Rattle.model.specs.Derivation.{states_at, SameAt, SameTerms, combined_at}
-use Rattle.model.proofs.Lists.{in_none, in_cons, in_first, in_rest, in_map, in_filter, all_first, all_rest, pairs_all, pairs_none, pairs_rest}
+use Rattle.model.proofs.Lists.{in_none, in_cons, in_first, in_rest, in_map, in_filter, all_first, all_rest, pairs_all}
+use Rattle.model.proofs.Lists.{pairs_none, pairs_rest}
 use Rattle.model.proofs.Permuted.{pairs-permutation}
 use Rattle.model.proofs.Same.{vertex-refl, vertex-other}
 use Rattle.refutations.specs.Terms.{speaks_of, vertices_of, with_term, terms_at, combination}
@@ -37,7 +39,8 @@ pairs-apart (t ∷ ts) h = (each ts (pairs_all Differ t ts h), pairs-apart ts (p
     each (u ∷ us) k = (all_first (Differ t) u us k, each us (all_rest (Differ t) u us k))
 
 pub apart-permuted : (a b : List Term) → IsPermutation a b → AreApart a → AreApart b
-apart-permuted a b p h = pairs-apart b (pairs-permutation Differ (λ t u k. turned t.vertex u.vertex k) a b p (apart-pairs a h))
+apart-permuted a b p h =
+    pairs-apart b (pairs-permutation Differ (λ t u k. turned t.vertex u.vertex k) a b p (apart-pairs a h))
 
 -- the same is said at each vertex
 pub sorted-says : (a b : List Term) → IsPermutation a b → AreApart a → (v : Vertex) → states_at a v ≡ states_at b v
@@ -46,7 +49,8 @@ sorted-says a b p h v = by (states_at a v) (states_at b v) refl refl
     k : AreApart b
     k = apart-permuted a b p h
 
-    there : (xs ys : List Term) → AreApart ys → ((t : Term) → Contains xs t → Contains ys t) → (ss : List State) → states_at xs v ≡ Some ss → states_at ys v ≡ Some ss
+    there : (xs ys : List Term) → AreApart ys → ((t : Term) → Contains xs t → Contains ys t) → (ss : List State)
+        → states_at xs v ≡ Some ss → states_at ys v ≡ Some ss
     there xs ys apart to ss e =
         let r = term_at xs v ss e in
         subst (λ w. states_at ys w ≡ Some ss) (sym r.2) (states_own ys r.0 apart (to r.0 r.1) ∙ ap Some r.3)
@@ -74,11 +78,13 @@ all_each : {X : Type 0} (P : X → Type 0) (xs : List X) → ((x : X) → Contai
 all_each P [] h = tt
 all_each P (x ∷ xs) h = (h x (in_first x xs), all_each P xs (λ y c. h y (in_rest x y xs c)))
 
-vertex-in : (said : Vertex → Option (List State)) (vs : List Vertex) (t : Term) → Contains (terms_at said vs) t → Contains vs t.vertex
+vertex-in : (said : Vertex → Option (List State)) (vs : List Vertex) (t : Term)
+    → Contains (terms_at said vs) t → Contains vs t.vertex
 vertex-in said [] t c = absurd (in_none t c)
 vertex-in said (v ∷ vs) t c = by (said v) c (λ c. vertex-in said vs t c)
   where
-    by : (o : Option (List State)) → Contains (with_term v o (terms_at said vs)) t → (Contains (terms_at said vs) t → Contains vs t.vertex) → Contains (v ∷ vs) t.vertex
+    by : (o : Option (List State)) → Contains (with_term v o (terms_at said vs)) t
+        → (Contains (terms_at said vs) t → Contains vs t.vertex) → Contains (v ∷ vs) t.vertex
     by None c rest = in_rest v t.vertex vs (rest c)
     by (Some ss) c rest = elim (in_cons (at v ss) t (terms_at said vs) c) [
       | inl e ↦ subst (λ (x : Term). Contains (v ∷ vs) x.vertex) e (in_first v vs)
@@ -101,18 +107,24 @@ once-map : (ts : List Term) → AreApart ts → AreOnce (map (λ t. t.vertex) ts
 once-map [] h = tt
 once-map (t ∷ ts) h = (
   all_each (λ w. same_vertex t.vertex w ≡ false) (map (λ (u : Term). u.vertex) ts)
-      (λ w c. let r = in_map (λ (u : Term). u.vertex) ts w c in subst (λ x. same_vertex t.vertex x ≡ false) r.2 (all_in (λ (u : Term). same_vertex t.vertex u.vertex ≡ false) ts r.0 h.0 r.1)),
+      (λ w c. let r = in_map (λ (u : Term). u.vertex) ts w c in subst (λ x. same_vertex t.vertex x ≡ false) r.2
+      (all_in (λ (u : Term). same_vertex t.vertex u.vertex ≡ false) ts r.0 h.0 r.1)),
   once-map ts h.1,
 )
 
 once-filter : (p : Vertex → Bool) (vs : List Vertex) → AreOnce vs → AreOnce (filter p vs)
 once-filter p [] h = tt
 once-filter p (v ∷ vs) h = elim (p v) as (λ b. AreOnce (cond b (v ∷ filter p vs) (filter p vs))) [
-  | true ↦ (all_each (λ w. same_vertex v w ≡ false) (filter p vs) (λ w c. all_in (λ w. same_vertex v w ≡ false) vs w h.0 (in_filter p vs w c).0), once-filter p vs h.1)
+  | true ↦ (
+    all_each (λ w. same_vertex v w ≡ false) (filter p vs)
+        (λ w c. all_in (λ w. same_vertex v w ≡ false) vs w h.0 (in_filter p vs w c).0),
+    once-filter p vs h.1,
+  )
   | false ↦ once-filter p vs h.1
 ]
 
-once-append : (vs ws : List Vertex) → AreOnce vs → AreOnce ws → ((v w : Vertex) → Contains vs v → Contains ws w → same_vertex v w ≡ false) → AreOnce (vs ++ ws)
+once-append : (vs ws : List Vertex) → AreOnce vs → AreOnce ws
+    → ((v w : Vertex) → Contains vs v → Contains ws w → same_vertex v w ≡ false) → AreOnce (vs ++ ws)
 once-append [] ws h k apart = k
 once-append (v ∷ vs) ws h k apart = (
   all_each (λ w. same_vertex v w ≡ false) (vs ++ ws) (λ w c. elim (in_either vs ws w c) [
@@ -123,7 +135,8 @@ once-append (v ∷ vs) ws h k apart = (
 )
 
 -- Of a combination of terms each of which has a vertex of its own, so has each.
-pub combination-apart : (q : Problem) (v : Vertex) (a b : List Term) → AreApart a → AreApart b → AreApart (combination q v a b)
+pub combination-apart : (q : Problem) (v : Vertex) (a b : List Term) → AreApart a → AreApart b
+    → AreApart (combination q v a b)
 combination-apart q v a b h k = apart-terms (combined_at q a b v) (vertices_of a b)
     (once-append (map (λ t. t.vertex) a) (filter (λ w. not (speaks_of a w)) (map (λ t. t.vertex) b)) (once-map a h)
     (once-filter (λ w. not (speaks_of a w)) (map (λ t. t.vertex) b) (once-map b k)) others)
@@ -132,7 +145,8 @@ combination-apart q v a b h k = apart-terms (combined_at q a b v) (vertices_of a
     unspoken true h e = true≢false (sym h)
     unspoken false h e = true≢false (sym e)
 
-    others : (x w : Vertex) → Contains (map (λ t. t.vertex) a) x → Contains (filter (λ w. not (speaks_of a w)) (map (λ t. t.vertex) b)) w → same_vertex x w ≡ false
+    others : (x w : Vertex) → Contains (map (λ t. t.vertex) a) x
+        → Contains (filter (λ w. not (speaks_of a w)) (map (λ t. t.vertex) b)) w → same_vertex x w ≡ false
     others x w c d =
         let r = in_map (λ (t : Term). t.vertex) a x c in
         let silent = (in_filter (λ w. not (speaks_of a w)) (map (λ (t : Term). t.vertex) b) w d).1 in

@@ -1,13 +1,18 @@
 -- What gives rise to an instance of an axiom. A cause says it by names and numbers, so that it can be looked up (these
 -- kinds are this project's; incompatibilities in Dart pub's `solver.md`).
-use Rattle.std.specs.Prelude.{ℕ, List, [], ◌∷◌, Bool, true, false, not, ◌&&◌, ◌||◌, Option, Some, None, nat_eq, slice_get, map}
+use Rattle.std.specs.Prelude.{ℕ, List, [], ◌∷◌, Bool, true, false, not, ◌&&◌, ◌||◌, Option, Some, None, nat_eq}
+use Rattle.std.specs.Prelude.{slice_get, map}
 use Rattle.std.specs.List.{list_any, flat_map}
 use Rattle.semver.specs.Parse.{Parts}
-use Rattle.model.specs.Summary.{Dependency, Entry, feature, dependency, dependency_feature, weak_feature, Table, entries_at, has_feature, asked_of_target, same_text}
+use Rattle.model.specs.Summary.{Dependency, Entry, feature, dependency, dependency_feature, weak_feature, Table}
+use Rattle.model.specs.Summary.{entries_at, has_feature, asked_of_target, same_text}
 use Rattle.model.specs.Content.{Candidate, Problem, candidates_of}
 use Rattle.model.specs.Selection.{Class, class_of}
-use Rattle.model.specs.Vertices.{Owner, the_root, version_of, root, pkg, dep, feat, ask, absent, present, version, in_class, same_vertex, owner_brings, class_candidates}
-use Rattle.model.specs.Axioms.{Term, at, Kind, Root, Needed, Target, HasFeature, WantsFeature, FeatureOnFeature, FeatureOnDependency, FeatureAsks, NewestListed, WeakFeature, is_lower, owner_holds, matched, absent_or, versions_that}
+use Rattle.model.specs.Vertices.{Owner, the_root, version_of, root, pkg, dep, feat, ask, absent, present, version}
+use Rattle.model.specs.Vertices.{in_class, same_vertex, owner_brings, class_candidates}
+use Rattle.model.specs.Axioms.{Term, at, Kind, Root, Needed, Target, HasFeature, WantsFeature, FeatureOnFeature}
+use Rattle.model.specs.Axioms.{FeatureOnDependency, FeatureAsks, NewestListed, WeakFeature, is_lower, owner_holds}
+use Rattle.model.specs.Axioms.{matched, absent_or, versions_that}
 
 pub data Cause : Type 0 where
   of_root : Cause
@@ -92,7 +97,8 @@ terms_with terms (Some d) = terms d
 
 -- the version is chosen, and the feature is on there
 abbrev pub feature_holds : List ℕ → Parts → List ℕ → List Term → List Term
-feature_holds name v f ts = at (pkg name (class_of v)) (version v ∷ []) ∷ at (feat name (class_of v) f) (present ∷ []) ∷ ts
+feature_holds name v f ts =
+    at (pkg name (class_of v)) (version v ∷ []) ∷ at (feat name (class_of v) f) (present ∷ []) ∷ ts
 
 -- the candidates by their names and versions
 abbrev pub owners_in : List (List ℕ × List Candidate) → List Owner
@@ -122,7 +128,8 @@ module _ (q : Problem) where
 
   -- some feature of the version has an entry that passes
   abbrev pub some_entry : (Entry → Bool) → List ℕ → Parts → Bool
-  some_entry test name v = list_any (λ row. list_any test (entries_of name v row.0)) (table_of_owner (version_of name v))
+  some_entry test name v =
+      list_any (λ row. list_any test (entries_of name v row.0)) (table_of_owner (version_of name v))
 
   -- what the root's dependency is asked for by entries
   abbrev pub root_asks_for : Owner → Dependency → List ℕ → Bool
@@ -144,21 +151,25 @@ module _ (q : Problem) where
 
   -- some dependency of the owner on this package asks for the feature
   abbrev pub owner_asks : List ℕ → List ℕ → Owner → Bool
-  owner_asks name f o = list_any (λ d. same_text d.real_name name && (lists_feature o d f || entry_asks o d f)) (owner_brings q o).dependencies
+  owner_asks name f o = list_any
+      (λ d. same_text d.real_name name && (lists_feature o d f || entry_asks o d f)) (owner_brings q o).dependencies
 
   -- whether the vertex of the feature is there: a candidate is of the class, and some candidate has the feature or some
   -- dependency asks for it
   abbrev pub has_feature_vertex : List ℕ → Class → List ℕ → Bool
   has_feature_vertex name k f = list_any (λ c. true) (class_candidates q name k)
-      && (list_any (λ c. has_feature c.brings.features f) (candidates_of q.candidates name) || list_any (owner_asks name f) owners)
+      && (list_any (λ c. has_feature c.brings.features f) (candidates_of q.candidates name)
+      || list_any (owner_asks name f) owners)
 
   -- two dependencies on one package, of which the first matches a version of the higher class of the second
   abbrev pub is_overtaken : Class → Class → Dependency → Dependency → Bool
-  is_overtaken k m d e = same_text d.real_name e.real_name && (has_class k d && (has_class m e && (is_lower k m && has_class m d)))
+  is_overtaken k m d e =
+      same_text d.real_name e.real_name && (has_class k d && (has_class m e && (is_lower k m && has_class m d)))
 
   -- an entry `d?/g` of the feature f of a version, whose two terms on features differ
   abbrev pub is_weak_on : List ℕ → Parts → List ℕ → List ℕ → Class → Dependency → Bool
-  is_weak_on name v f g k d = has_class k d && (has_entry name v f (weak_feature d.name g) && not (same_vertex (feat name (class_of v) f) (feat d.real_name k g)))
+  is_weak_on name v f g k d = has_class k d && (has_entry name v f (weak_feature d.name g)
+      && not (same_vertex (feat name (class_of v) f) (feat d.real_name k g)))
 
   -- whether all that a cause names is there
   abbrev pub is_cause : Cause → Bool
@@ -167,11 +178,15 @@ module _ (q : Problem) where
   is_cause (of_target o i k) = passes (has_class k) (dependency_at o i)
   is_cause (of_feature name k f) = has_feature_vertex name k f
   is_cause (of_list o i k g) = passes (λ d. has_class k d && lists_feature o d g) (dependency_at o i)
-  is_cause (of_ask name v i g k) = passes (λ d. has_class k d && some_entry (same_entry (dependency_feature d.name g)) name v) (dependency_at (version_of name v) i)
+  is_cause (of_ask name v i g k) = passes (λ d. has_class k d
+      && some_entry (same_entry (dependency_feature d.name g)) name v) (dependency_at (version_of name v) i)
   is_cause (of_entry name v f g) = has_entry name v f (feature g) && not (same_text f g)
-  is_cause (of_enabling name v f e i) = has_entry name v f e && passes (λ d. enables d.name e) (dependency_at (version_of name v) i)
-  is_cause (of_asking name v f g i) = passes (λ d. has_entry name v f (dependency_feature d.name g)) (dependency_at (version_of name v) i)
-  is_cause (of_newest o i j k m) = not (nat_eq i j) && passes (λ d. passes (is_overtaken k m d) (dependency_at o j)) (dependency_at o i)
+  is_cause (of_enabling name v f e i) =
+      has_entry name v f e && passes (λ d. enables d.name e) (dependency_at (version_of name v) i)
+  is_cause (of_asking name v f g i) =
+      passes (λ d. has_entry name v f (dependency_feature d.name g)) (dependency_at (version_of name v) i)
+  is_cause (of_newest o i j k m) =
+      not (nat_eq i j) && passes (λ d. passes (is_overtaken k m d) (dependency_at o j)) (dependency_at o i)
   is_cause (of_weak name v f g i k) = passes (is_weak_on name v f g k) (dependency_at (version_of name v) i)
 
   -- ---- the terms of the instance that a cause gives rise to
@@ -180,17 +195,23 @@ module _ (q : Problem) where
   terms_of_cause of_root = at root (absent ∷ []) ∷ []
   terms_of_cause (of_need o i) = owner_holds o ∷ at (dep o i) (absent ∷ []) ∷ []
   terms_of_cause (of_target o i k) = terms_with (λ d.
-      at (dep o i) (in_class k ∷ []) ∷ at (pkg d.real_name k) (absent_or q (λ c. not (matched d c)) d.real_name k) ∷ []) (dependency_at o i)
+      at (dep o i) (in_class k ∷ []) ∷ at (pkg d.real_name k) (absent_or q (λ c. not (matched d c)) d.real_name k)
+      ∷ []) (dependency_at o i)
   terms_of_cause (of_feature name k f) =
-      at (feat name k f) (present ∷ []) ∷ at (pkg name k) (absent_or q (λ c. not (has_feature c.brings.features f)) name k) ∷ []
-  terms_of_cause (of_list o i k g) = terms_with (λ d. at (dep o i) (in_class k ∷ []) ∷ at (feat d.real_name k g) (absent ∷ []) ∷ []) (dependency_at o i)
+      at (feat name k f) (present ∷ [])
+      ∷ at (pkg name k) (absent_or q (λ c. not (has_feature c.brings.features f)) name k) ∷ []
+  terms_of_cause (of_list o i k g) = terms_with
+      (λ d. at (dep o i) (in_class k ∷ []) ∷ at (feat d.real_name k g) (absent ∷ []) ∷ []) (dependency_at o i)
   terms_of_cause (of_ask name v i g k) = terms_with (λ d.
-      at (ask name v i g) (present ∷ []) ∷ at (dep (version_of name v) i) (in_class k ∷ []) ∷ at (feat d.real_name k g) (absent ∷ []) ∷ [])
+      at (ask name v i g) (present ∷ []) ∷ at (dep (version_of name v) i) (in_class k ∷ [])
+      ∷ at (feat d.real_name k g) (absent ∷ []) ∷ [])
       (dependency_at (version_of name v) i)
   terms_of_cause (of_entry name v f g) = feature_holds name v f (at (feat name (class_of v) g) (absent ∷ []) ∷ [])
   terms_of_cause (of_enabling name v f e i) = feature_holds name v f (at (dep (version_of name v) i) (absent ∷ []) ∷ [])
   terms_of_cause (of_asking name v f g i) = feature_holds name v f (at (ask name v i g) (absent ∷ []) ∷ [])
   terms_of_cause (of_newest o i j k m) = terms_with (λ d.
-      at (dep o i) (in_class k ∷ []) ∷ at (dep o j) (in_class m ∷ []) ∷ at (pkg d.real_name m) (versions_that q (matched d) d.real_name m) ∷ []) (dependency_at o i)
+      at (dep o i) (in_class k ∷ []) ∷ at (dep o j) (in_class m ∷ [])
+      ∷ at (pkg d.real_name m) (versions_that q (matched d) d.real_name m) ∷ []) (dependency_at o i)
   terms_of_cause (of_weak name v f g i k) = terms_with (λ d.
-      feature_holds name v f (at (dep (version_of name v) i) (in_class k ∷ []) ∷ at (feat d.real_name k g) (absent ∷ []) ∷ [])) (dependency_at (version_of name v) i)
+      feature_holds name v f (at (dep (version_of name v) i) (in_class k ∷ []) ∷ at (feat d.real_name k g) (absent ∷ [])
+      ∷ [])) (dependency_at (version_of name v) i)

@@ -1,6 +1,7 @@
 -- Which step of a derivation is refused first, and why (the rule of resolution of Dart pub's `solver.md`; the reasons
 -- are this project's).
-use Rattle.std.specs.Prelude.{◌≡◌, ℕ, suc, List, [], ◌∷◌, ◌++◌, Bool, true, false, if◌then◌else◌, Option, Some, None, slice_get, length}
+use Rattle.std.specs.Prelude.{◌≡◌, ℕ, suc, List, [], ◌∷◌, ◌++◌, Bool, true, false, if◌then◌else◌, Option, Some, None}
+use Rattle.std.specs.Prelude.{slice_get, length}
 use Rattle.std.specs.List.{AllByRecursion}
 use Rattle.std.specs.Option.{option_or}
 use Rattle.model.specs.Content.{Problem}
@@ -47,7 +48,8 @@ reason_of (combine i j v ts) = not_combined
 -- the first step that isn't, of those that follow the earlier ones
 abbrev pub first_refused : Problem → List Step → List Step → Option RefusedStep
 first_refused q earlier [] = None
-first_refused q earlier (s ∷ steps) = if is_step q earlier s then first_refused q (earlier ++ s ∷ []) steps else Some (length earlier, reason_of s)
+first_refused q earlier (s ∷ steps) =
+    if is_step q earlier s then first_refused q (earlier ++ s ∷ []) steps else Some (length earlier, reason_of s)
 
 abbrev pub is_none_left : List Term → Bool
 is_none_left [] = true

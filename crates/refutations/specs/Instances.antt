@@ -1,14 +1,19 @@
 -- Which instance of an axiom terms can be, found from what they name (the kinds are this project's).
-use Rattle.std.specs.Prelude.{ℕ, suc, List, [], ◌∷◌, Bool, false, ◌&&◌, if◌then◌else◌, nat_eq, Option, Some, None, option_map, option_and_then}
+use Rattle.std.specs.Prelude.{ℕ, suc, List, [], ◌∷◌, Bool, false, ◌&&◌, if◌then◌else◌, nat_eq, Option, Some, None}
+use Rattle.std.specs.Prelude.{option_map, option_and_then}
 use Rattle.std.specs.List.{list_any, find}
 use Rattle.std.specs.Option.{option_or}
 use Rattle.semver.specs.Parse.{Parts}
 use Rattle.model.specs.Content.{Problem}
 use Rattle.model.specs.Selection.{Class}
-use Rattle.model.specs.Vertices.{Owner, the_root, version_of, Vertex, root, pkg, dep, feat, ask, State, absent, present, version, in_class, owner_brings}
-use Rattle.model.specs.Axioms.{Term, Kind, Root, Needed, Target, HasFeature, WantsFeature, FeatureOnFeature, FeatureOnDependency, FeatureAsks, NewestListed, WeakFeature, is_lower, without_full}
+use Rattle.model.specs.Vertices.{Owner, the_root, version_of, Vertex, root, pkg, dep, feat, ask, State, absent, present}
+use Rattle.model.specs.Vertices.{version, in_class, owner_brings}
+use Rattle.model.specs.Axioms.{Term, Kind, Root, Needed, Target, HasFeature, WantsFeature, FeatureOnFeature}
+use Rattle.model.specs.Axioms.{FeatureOnDependency, FeatureAsks, NewestListed, WeakFeature, is_lower, without_full}
 use Rattle.refutations.specs.Terms.{same_terms}
-use Rattle.refutations.specs.Causes.{Cause, of_root, of_need, of_target, of_feature, of_list, of_ask, of_entry, of_enabling, of_asking, of_newest, of_weak, enables, is_needed, dependency_at, is_unmatched, entries_of, is_cause, terms_of_cause}
+use Rattle.refutations.specs.Causes.{Cause, of_root, of_need, of_target, of_feature, of_list, of_ask, of_entry}
+use Rattle.refutations.specs.Causes.{of_enabling, of_asking, of_newest, of_weak, enables, is_needed, dependency_at}
+use Rattle.refutations.specs.Causes.{is_unmatched, entries_of, is_cause, terms_of_cause}
 
 -- one reading after another, up to the first that fails
 infixl 10 ◌>>=◌
@@ -148,7 +153,8 @@ module _ (q : Problem) where
   needed_unmatched o = first_place (λ d. is_needed o d && is_unmatched q d) (owner_brings q o).dependencies
 
   abbrev pub enabled_unmatched : List ℕ → Parts → List ℕ → Option ℕ
-  enabled_unmatched name v f = first_place (λ d. list_any (enables d.name) (entries_of q name v f) && is_unmatched q d) (owner_brings q (version_of name v)).dependencies
+  enabled_unmatched name v f = first_place (λ d. list_any (enables d.name) (entries_of q name v f) && is_unmatched q d)
+      (owner_brings q (version_of name v)).dependencies
 
   -- ---- the same where the number may not be written
 

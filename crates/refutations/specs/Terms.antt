@@ -1,6 +1,7 @@
 -- Lists of terms that are compared and combined by going over them (the rule of resolution of Dart pub's `solver.md`,
 -- over sets of states).
-use Rattle.std.specs.Prelude.{List, [], ◌∷◌, ◌++◌, Bool, true, false, not, ◌&&◌, Option, Some, None, is_some, map, filter}
+use Rattle.std.specs.Prelude.{List, [], ◌∷◌, ◌++◌, Bool, true, false, not, ◌&&◌, Option, Some, None, is_some, map}
+use Rattle.std.specs.Prelude.{filter}
 use Rattle.std.specs.List.{list_all, AllByRecursion}
 use Rattle.std.specs.List.Sorted.{IsStrictlySortedBy}
 use Rattle.std.specs.declared.cmp.Ordering.{Ordering}
@@ -32,7 +33,8 @@ abbrev pub same_terms : List Term → List Term → Bool
 same_terms a b = list_all (agree a b) a && list_all (agree a b) b
 
 -- terms in an order of vertices, each with its states in an order of states, none twice
-pub record IsInOrder (by_vertex : Vertex → Vertex → Ordering) (by_state : State → State → Ordering) (ts : List Term) : Type 0 where
+pub record IsInOrder (by_vertex : Vertex → Vertex → Ordering) (by_state : State → State → Ordering)
+    (ts : List Term) : Type 0 where
   pub vertices : IsStrictlySortedBy (λ t u. by_vertex t.vertex u.vertex) ts
   pub states : AllByRecursion (λ t. IsStrictlySortedBy by_state t.states) ts
 

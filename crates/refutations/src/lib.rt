@@ -26,7 +26,8 @@ ghost use Rattle.model.specs.Selection.{IsValidSelection};
 ghost use Rattle.model.specs.WellFormed.{IsCatalogue};
 ghost use Rattle.model.specs.Vertices.{State, Vertex};
 ghost use Rattle.model.specs.Axioms.{AreApart, IsInstance, Kind, Term, without_full};
-ghost use Rattle.model.specs.Derivation.{AreSteps, IsAccepted, IsCombined, SameTerms, Step, combined_at, states_at, terms_of};
+ghost use Rattle.model.specs.Derivation.{AreSteps, IsAccepted, IsCombined, SameTerms, Step, combined_at, states_at};
+ghost use Rattle.model.specs.Derivation.{terms_of};
 ghost use Rattle.refutations.specs.Terms.{IsInOrder, combination, is_combination, same_terms};
 ghost use Rattle.refutations.specs.Causes.{Cause, is_cause, kind_of, terms_of_cause};
 ghost use Rattle.refutations.specs.Instances.{is_instance};
@@ -41,7 +42,8 @@ pub fn comparisons_decide()
 /// Terms in an order, each with its states in an order, are one list where they say the same.
 pub fn ordered_terms_are_one()
     ensures { (by_vertex : Vertex → Vertex → Ordering) (by_state : State → State → Ordering)
-        → ((v w : Vertex) → by_vertex v w ≡ ordering_reverse (by_vertex w v)) → ((s r : State) → by_state s r ≡ ordering_reverse (by_state r s))
+        → ((v w : Vertex) → by_vertex v w ≡ ordering_reverse (by_vertex w v))
+        → ((s r : State) → by_state s r ≡ ordering_reverse (by_state r s))
         → (a b : List Term) → IsInOrder by_vertex by_state a → IsInOrder by_vertex by_state b → SameTerms a b → a ≡ b }
 {}
 
@@ -58,12 +60,14 @@ pub fn combinations_are_plain()
 /// Of every vertex the combination of two lists says what is defined: the union at the one vertex, the intersection at
 /// each other.
 pub fn combinations_say()
-    ensures { (q : Problem) (v w : Vertex) (a b : List Term) → states_at (combination q v a b) w ≡ combined_at q a b v w }
+    ensures { (q : Problem) (v w : Vertex) (a b : List Term)
+        → states_at (combination q v a b) w ≡ combined_at q a b v w }
 {}
 
 /// Terms are the combination of two lists exactly where they pass the comparison with it.
 pub fn combinations_decide()
-    ensures { (q : Problem) (v : Vertex) (a b ts : List Term) → is_combination q v a b ts ≡ true ↔ IsCombined q v a b ts }
+    ensures { (q : Problem) (v : Vertex) (a b ts : List Term)
+        → is_combination q v a b ts ≡ true ↔ IsCombined q v a b ts }
 {}
 
 /// A cause that is there gives rise to an instance of its kind.
@@ -73,7 +77,8 @@ pub fn causes_give_instances()
 
 /// Each instance has a cause.
 pub fn instances_have_causes()
-    ensures { (q : Problem) (k : Kind) (ts : List Term) → IsInstance q k ts → (c : Cause) × (is_cause q c ≡ true) × (kind_of c ≡ k) × (terms_of_cause q c ≡ ts) }
+    ensures { (q : Problem) (k : Kind) (ts : List Term) → IsInstance q k ts
+        → (c : Cause) × (is_cause q c ≡ true) × (kind_of c ≡ k) × (terms_of_cause q c ≡ ts) }
 {}
 
 /// A cause is listed exactly where it is there, and none is listed twice.
@@ -96,10 +101,12 @@ pub fn refusals_decide()
 
 /// No step that is accepted has a term with all states of its vertex, so that none is ever left to be dropped.
 pub fn accepted_steps_have_no_full_term()
-    ensures { (q : Problem) (steps : List Step) → AreSteps q steps → AllByRecursion (λ s. HasNoFull q (terms_of s)) steps }
+    ensures { (q : Problem) (steps : List Step) → AreSteps q steps
+        → AllByRecursion (λ s. HasNoFull q (terms_of s)) steps }
 {}
 
 /// Where nothing is refused of a derivation no content at all is a valid selection.
 pub fn unrefused_derivations_refute()
-    ensures { (q : Problem) (c : Content) (steps : List Step) → IsCatalogue q → ArePlain steps → refused_step q steps ≡ None → IsValidSelection q c → ⊥ }
+    ensures { (q : Problem) (c : Content) (steps : List Step) → IsCatalogue q → ArePlain steps
+        → refused_step q steps ≡ None → IsValidSelection q c → ⊥ }
 {}

@@ -59,7 +59,8 @@ fn with_none(alloc: Global, text: &str) -> Result<Option<Wanted>, AllocError>
 }
 
 fn with_version(alloc: Global, name: &str, text: &str) -> Result<Option<Wanted>, AllocError>
-    ensures { IfOk result (λ o. option_map asked_view o ≡ with_version (name_of name.now) (version_if (version_parts text.now))) }
+    ensures { IfOk result
+        (λ o. option_map asked_view o ≡ with_version (name_of name.now) (version_if (version_parts text.now))) }
 {
     let Some(name) = name_in(alloc, name)? else {
         return Ok(None);

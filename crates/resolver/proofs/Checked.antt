@@ -19,7 +19,8 @@ use Rattle.resolver.specs.declared.fault.CheckFault.TheVariants.{Input, Proof}
 
 module _ (inputs : Inputs) (bytes : List ℕ) where
   -- what is answered of the steps that were read
-  pub checked : (steps : List Step) (c : Check) → derivation_of_bytes bytes ≡ Ok steps → (c ≡ Proves ↔ IsAccepted (problem_of inputs) steps)
+  pub checked : (steps : List Step) (c : Check) → derivation_of_bytes bytes ≡ Ok steps
+      → (c ≡ Proves ↔ IsAccepted (problem_of inputs) steps)
       → ((n : ℕ) (r : Reason) → c ≡ Refused n r ↔ IsRefusedAt (problem_of inputs) steps n r)
       → (c ≡ Proves → (content : Content) → IsValidSelection (problem_of inputs) content → ⊥) → IsChecked inputs bytes c
   checked steps c says proves refused refutes =
@@ -34,9 +35,14 @@ module _ (inputs : Inputs) (bytes : List ℕ) where
           proves.1 (subst (IsAccepted (problem_of inputs)) same p.2)
 
 -- the answer for what was loaded is that of the run
-pub answered : {S : Type 0} (calls : Calls S) (failed : S → ℕ) (request : RequestView) (bytes : List ℕ) (before after : S) (inputs : Inputs) (r : Result Check CheckFault)
-    → AreRead calls failed request before inputs after → Decides inputs bytes r → Checks calls failed request bytes before r after
-answered calls failed request bytes before after inputs (Ok check) read h = record { inputs = inputs; read = read; checked = h }
+pub answered : {S : Type 0} (calls : Calls S) (failed : S → ℕ) (request : RequestView) (bytes : List ℕ)
+    (before after : S) (inputs : Inputs) (r : Result Check CheckFault)
+    → AreRead calls failed request before inputs after → Decides inputs bytes r
+    → Checks calls failed request bytes before r after
+answered calls failed request bytes before after inputs (Ok check) read h =
+    record { inputs = inputs; read = read; checked = h }
 answered calls failed request bytes before after inputs (Err (Input f)) read h =
-    subst (λ b. EndsWith calls failed request before b (IsInputFault calls failed request before f after) after) (sym h) (names_of inputs, after_loading inputs after read)
-answered calls failed request bytes before after inputs (Err (Proof fault)) read h = record { inputs = inputs; read = read; no_derivation = h }
+    subst (λ b. EndsWith calls failed request before b (IsInputFault calls failed request before f after) after) (sym h)
+    (names_of inputs, after_loading inputs after read)
+answered calls failed request bytes before after inputs (Err (Proof fault)) read h =
+    record { inputs = inputs; read = read; no_derivation = h }

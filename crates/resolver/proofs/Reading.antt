@@ -1,5 +1,6 @@
 -- A fault of an input is the fault of the reading of all inputs.
-use Rattle.std.proofs.Common.{◌≡◌, ℕ, List, [], ◌∷◌, ◌++◌, Option, Some, None, Result, Ok, Err, option_map, inl, inr, refl, subst, ap, ◌∙◌}
+use Rattle.std.proofs.Common.{◌≡◌, ℕ, List, [], ◌∷◌, ◌++◌, Option, Some, None, Result, Ok, Err, option_map, inl, inr}
+use Rattle.std.proofs.Common.{refl, subst, ap, ◌∙◌}
 use Rattle.std.specs.Borrow.{Bor}
 use Rattle.catalogue.specs.Loads.{Loads, packages_of_old, rust_for}
 use Rattle.catalogue.specs.Problems.{names_in}
@@ -27,7 +28,8 @@ packages_behind None = refl
 packages_behind (Some c) = refl
 
 module _ {S : Type 0} (calls : Calls S) (failed : S → ℕ) (request : RequestView) (before : S) where
-  pub manifest_refused : (e : ManifestFault) → Faults (manifests.wants_memory e) e (manifest_of_bytes request.manifest) → ReadsInputs calls failed request before (Err (of_manifest e)) before
+  pub manifest_refused : (e : ManifestFault) → Faults (manifests.wants_memory e) e (manifest_of_bytes request.manifest)
+      → ReadsInputs calls failed request before (Err (of_manifest e)) before
   manifest_refused manifest.OutOfMemory f = ([], before_loading)
   manifest_refused manifest.TooLarge f = by_manifest manifest.TooLarge f
   manifest_refused manifest.NotToml f = by_manifest manifest.NotToml f
@@ -37,7 +39,8 @@ module _ {S : Type 0} (calls : Calls S) (failed : S → ℕ) (request : RequestV
   manifest_refused (manifest.RootFeature fault name) f = by_manifest (manifest.RootFeature fault name) f
 
   pub lock_refused : (m : ManifestView) (e : LockFault) → manifest_of_bytes request.manifest ≡ Ok m
-      → Faults (locks.wants_memory e) e (old_of_bytes request.old) → ReadsInputs calls failed request before (Err (of_lock e)) before
+      → Faults (locks.wants_memory e) e (old_of_bytes request.old)
+      → ReadsInputs calls failed request before (Err (of_lock e)) before
   lock_refused m lock.OutOfMemory h f = ([], before_loading)
   lock_refused m lock.TooLarge h f = by_lock m lock.TooLarge h f
   lock_refused m lock.NotToml h f = by_lock m lock.NotToml h f
@@ -45,21 +48,31 @@ module _ {S : Type 0} (calls : Calls S) (failed : S → ℕ) (request : RequestV
   lock_refused m lock.LockShape h f = by_lock m lock.LockShape h f
 
   -- loading for which memory was wanting
-  cut : (m : ManifestView) (old : Option Content) (after : S) → manifest_of_bytes request.manifest ≡ Ok m → old_of_bytes request.old ≡ Ok old
-      → LoadsFor calls failed request before m old (Err load.OutOfMemory) after → (names : List (List ℕ)) × IsCutShort calls failed request before names after
+  cut : (m : ManifestView) (old : Option Content) (after : S) → manifest_of_bytes request.manifest ≡ Ok m
+      → old_of_bytes request.old ≡ Ok old
+      → LoadsFor calls failed request before m old (Err load.OutOfMemory) after
+      → (names : List (List ℕ)) × IsCutShort calls failed request before names after
   cut m old after h l (inl so_far) = (names_in so_far.asked, while_loading m old so_far.asked after h l so_far.so_far)
-  cut m old after h l (inr stop) =
-      (names_in stop.asked ++ stop.name ∷ [], while_asking m old stop.asked stop.mid stop.name after h l stop.so_far stop.next stop.fewer stop.fails)
+  cut m old after h l (inr stop) = (
+    names_in stop.asked ++ stop.name ∷ [],
+    while_asking m old stop.asked stop.mid stop.name after h l stop.so_far stop.next stop.fewer stop.fails,
+  )
 
-  pub index_refused : (m : ManifestView) (old : Option Content) (e : LoadFault) (after : S) → manifest_of_bytes request.manifest ≡ Ok m
-      → old_of_bytes request.old ≡ Ok old → LoadsFor calls failed request before m old (Err e) after → ReadsInputs calls failed request before (Err (of_load e)) after
+  pub index_refused : (m : ManifestView) (old : Option Content) (e : LoadFault) (after : S)
+      → manifest_of_bytes request.manifest ≡ Ok m
+      → old_of_bytes request.old ≡ Ok old → LoadsFor calls failed request before m old (Err e) after
+      → ReadsInputs calls failed request before (Err (of_load e)) after
   index_refused m old load.OutOfMemory after h l f = cut m old after h l f
   index_refused m old (load.FolderFailed path) after h l f = by_index m old (load.FolderFailed path) after h l f
   index_refused m old (load.TooLarge limit) after h l f = by_index m old (load.TooLarge limit) after h l f
-  index_refused m old (load.ChecksumChanged name version) after h l f = by_index m old (load.ChecksumChanged name version) after h l f
+  index_refused m old (load.ChecksumChanged name version) after h l f =
+      by_index m old (load.ChecksumChanged name version) after h l f
 
   -- loading with a reference to the old lock
-  pub loads_with : (m : ManifestView) (o : Option (Bor Content)) (old : Option Content) (r : Result CatalogueView LoadFault) (after : S) → option_map (λ c. c.now) o ≡ old
-      → Loads (packages_of_old o) request.source (rust_for request.prefer m.rust_version) m.brings.dependencies calls failed before r after → LoadsFor calls failed request before m old r after
+  pub loads_with : (m : ManifestView) (o : Option (Bor Content)) (old : Option Content)
+      (r : Result CatalogueView LoadFault) (after : S) → option_map (λ c. c.now) o ≡ old
+      → Loads (packages_of_old o) request.source (rust_for request.prefer m.rust_version) m.brings.dependencies calls
+      failed before r after → LoadsFor calls failed request before m old r after
   loads_with m o old r after same l = subst
-      (λ c. Loads c request.source (rust_for request.prefer m.rust_version) m.brings.dependencies calls failed before r after) (packages_behind o ∙ ap old_packages same) l
+      (λ c. Loads c request.source (rust_for request.prefer m.rust_version) m.brings.dependencies calls failed before
+      r after) (packages_behind o ∙ ap old_packages same) l

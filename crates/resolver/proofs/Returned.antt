@@ -1,5 +1,6 @@
 -- A lock that was given comes back where it is handed in as the old one, and is valid.
-use Rattle.std.proofs.Common.{◌≡◌, ◌⊎◌, ◌↔◌, ℕ, Bool, true, false, List, Vec, Contains, Option, Some, Result, Ok, Err, inl, inr, refl, sym, ap, ap₂, ◌∙◌, subst}
+use Rattle.std.proofs.Common.{◌≡◌, ◌⊎◌, ◌↔◌, ℕ, Bool, true, false, List, Vec, Contains, Option, Some, Result, Ok, Err}
+use Rattle.std.proofs.Common.{inl, inr, refl, sym, ap, ap₂, ◌∙◌, subst}
 use Rattle.std.specs.declared.alloc.Global.{Global}
 use Rattle.std.proofs.lemmas.List.Elements.{Contains-push_cases}
 use Rattle.model.specs.Outcome.{◌>>=◌}
@@ -20,7 +21,8 @@ use Rattle.catalogue.specs.declared.store.Prefer.TheVariants.{Newest}
 use Rattle.selection.specs.declared.verdict.Verdict.{Verdict}
 use Rattle.vertices.proofs.Bound.{same-Ok, same-Some}
 use Rattle.resolver.specs.Faults.{input_wants_memory}
-use Rattle.resolver.specs.Inputs.{RequestView, AreRead, IsInputFault, IsCutShort, IsSoFarFor, LoadsFor, EndsWith, names_of, old_of_bytes, old_packages, problem_of}
+use Rattle.resolver.specs.Inputs.{RequestView, AreRead, IsInputFault, IsCutShort, IsSoFarFor, LoadsFor, EndsWith}
+use Rattle.resolver.specs.Inputs.{names_of, old_of_bytes, old_packages, problem_of}
 use Rattle.resolver.specs.Inputs.IsInputFault.{by_manifest, by_lock, by_index}
 use Rattle.resolver.specs.Inputs.IsCutShort.{before_loading, while_loading, while_asking, after_loading}
 use Rattle.resolver.specs.Answers.{CanKeep, IsAnswer, IsAnswered, IsUnanswered, MeansSelection, Resolves, Verifies}
@@ -42,10 +44,13 @@ IsGiven inputs (Unsolvable derivation text skips) = Unit {0}
 
 given : (old : Option (List ℕ)) (inputs : Inputs) (answer : Answer) → IsAnswer old inputs answer → IsGiven inputs answer
 given old inputs answer (kept_lock bytes skips own means skipped) = means
-given old inputs answer (new_lock bytes skips content not_kept reads spelled valid bare_root walk brought skipped) = record { content = content; reads = reads; valid = valid }
+given old inputs answer (new_lock bytes skips content not_kept reads spelled valid bare_root walk brought skipped) =
+    record { content = content; reads = reads; valid = valid }
 given old inputs answer (no_lock derivation text skips accepted no_selection explained skipped) = tt
 
-module _ (failed : Files → ℕ) (folder : Files) (request : RequestView) (bytes : Vec ℕ Global) (kept : Bool) (skips : Vec Skip Global) (after : Files) (first : IsAnswered MemoryCalls failed request folder (Lock bytes kept skips) after) where
+module _ (failed : Files → ℕ) (folder : Files) (request : RequestView) (bytes : Vec ℕ Global) (kept : Bool)
+    (skips : Vec Skip Global) (after : Files)
+    (first : IsAnswered MemoryCalls failed request folder (Lock bytes kept skips) after) where
   abbrev manifest : ManifestView
   manifest = (first.inputs).manifest
 
@@ -64,9 +69,12 @@ module _ (failed : Files → ℕ) (folder : Files) (request : RequestView) (byte
     old-is = ap (λ r. r >>= λ content. Ok (Some content)) one.reads
 
     -- how it loads
-    loads-same : (m : ManifestView) (old : Option Content) (r : Result CatalogueView LoadFault) (later : Files) → m ≡ manifest → old ≡ Some one.content
-        → LoadsFor MemoryCalls failed again folder m old r later → LoadsFor MemoryCalls failed again folder manifest (Some one.content) r later
-    loads-same m old r later is held loads = subst (λ o. LoadsFor MemoryCalls failed again folder manifest o r later) held
+    loads-same : (m : ManifestView) (old : Option Content) (r : Result CatalogueView LoadFault) (later : Files)
+        → m ≡ manifest → old ≡ Some one.content
+        → LoadsFor MemoryCalls failed again folder m old r later
+        → LoadsFor MemoryCalls failed again folder manifest (Some one.content) r later
+    loads-same m old r later is held loads =
+        subst (λ o. LoadsFor MemoryCalls failed again folder manifest o r later) held
         (subst (λ n. LoadsFor MemoryCalls failed again folder n old r later) is loads)
 
     -- what it has read
@@ -82,46 +90,62 @@ module _ (failed : Files → ℕ) (folder : Files) (request : RequestView) (byte
 
       valid-again : IsValidSelection (problem_of inputs) one.content
       valid-again = subst (λ n. IsValidSelection (problem_in n inputs.catalogue) one.content) (sym manifest-is)
-          (still-valid folder failed manifest request.source (rust_for request.prefer manifest.rust_version) (old_packages (first.inputs).old)
-          one.content (first.inputs).catalogue after first.read.loads.0 one.valid rust inputs.catalogue later loads-is.0)
+          (still-valid folder failed manifest request.source (rust_for request.prefer manifest.rust_version)
+          (old_packages (first.inputs).old)
+          one.content
+          (first.inputs).catalogue after first.read.loads.0 one.valid rust inputs.catalogue later loads-is.0)
 
       can-keep : CanKeep again.old inputs
       can-keep = (bytes.items, refl, record { content = one.content; reads = one.reads; valid = valid-again })
 
       no-more : (name : List ℕ) → Contains (names_of inputs) name → Contains (names_of first.inputs) name
-      no-more = unasked-more folder failed manifest request.source (rust_for request.prefer manifest.rust_version) (old_packages (first.inputs).old)
+      no-more = unasked-more folder failed manifest request.source (rust_for request.prefer manifest.rust_version)
+          (old_packages (first.inputs).old)
           one.content (first.inputs).catalogue after first.read.loads.0 one.valid rust inputs.catalogue later loads-is.0
 
     -- no fault of an input is left
-    refused : (f : Fault) (later : Files) → IsInputFault MemoryCalls failed again folder f later → input_wants_memory f ≡ true
-    refused f later (by_manifest e h) = absurd (ok-err (manifest_of_bytes request.manifest) manifest e first.read.manifest_says h)
+    refused : (f : Fault) (later : Files) → IsInputFault MemoryCalls failed again folder f later
+        → input_wants_memory f ≡ true
+    refused f later (by_manifest e h) =
+        absurd (ok-err (manifest_of_bytes request.manifest) manifest e first.read.manifest_says h)
     refused f later (by_lock m e h k) = absurd (ok-err (old_of_bytes again.old) (Some one.content) e old-is k)
     refused f later (by_index m old e end h k l) =
-        no_other_fault folder failed manifest request.source (rust_for request.prefer manifest.rust_version) (old_packages (first.inputs).old)
+        no_other_fault folder failed manifest request.source (rust_for request.prefer manifest.rust_version)
+        (old_packages (first.inputs).old)
         one.content (first.inputs).catalogue after first.read.loads.0 one.valid rust e end
-        (loads-same m old (Err e) end (same-Ok m manifest (sym h ∙ first.read.manifest_says)) (same-Ok old (Some one.content) (sym k ∙ old-is)) l)
+        (loads-same m old (Err e) end (same-Ok m manifest (sym h ∙ first.read.manifest_says))
+        (same-Ok old (Some one.content) (sym k ∙ old-is)) l)
 
     -- no other name is asked for, where memory is wanting either
-    so-far-same : (m : ManifestView) (old : Option Content) (asked : List Asked) (later : Files) → m ≡ manifest → old ≡ Some one.content
-        → IsSoFarFor MemoryCalls failed again folder m old asked later → IsSoFarFor MemoryCalls failed again folder manifest (Some one.content) asked later
-    so-far-same m old asked later is held so_far = subst (λ o. IsSoFarFor MemoryCalls failed again folder manifest o asked later) held
+    so-far-same : (m : ManifestView) (old : Option Content) (asked : List Asked) (later : Files)
+        → m ≡ manifest → old ≡ Some one.content
+        → IsSoFarFor MemoryCalls failed again folder m old asked later
+        → IsSoFarFor MemoryCalls failed again folder manifest (Some one.content) asked later
+    so-far-same m old asked later is held so_far =
+        subst (λ o. IsSoFarFor MemoryCalls failed again folder manifest o asked later) held
         (subst (λ n. IsSoFarFor MemoryCalls failed again folder n old asked later) is so_far)
 
-    module _ (asked : List Asked) (mid : Files) (so_far : IsSoFarFor MemoryCalls failed again folder manifest (Some one.content) asked mid) where
+    module _ (asked : List Asked) (mid : Files)
+        (so_far : IsSoFarFor MemoryCalls failed again folder manifest (Some one.content) asked mid) where
       so-far-no-more : (name : List ℕ) → Contains (names_in asked) name → Contains (names_of first.inputs) name
-      so-far-no-more name c = so-far-asked folder failed manifest request.source (rust_for request.prefer manifest.rust_version) (old_packages (first.inputs).old)
+      so-far-no-more name c = so-far-asked folder failed manifest request.source
+          (rust_for request.prefer manifest.rust_version) (old_packages (first.inputs).old)
           one.content (first.inputs).catalogue after first.read.loads.0 one.valid rust asked mid so_far name c
 
-      next-no-more : (name : List ℕ) → next_name one.content request.source manifest.brings.dependencies asked ≡ Some name → Contains (names_of first.inputs) name
-      next-no-more name next = next-asked folder failed manifest request.source (rust_for request.prefer manifest.rust_version) (old_packages (first.inputs).old)
+      next-no-more : (name : List ℕ) → next_name one.content request.source manifest.brings.dependencies asked
+          ≡ Some name → Contains (names_of first.inputs) name
+      next-no-more name next = next-asked folder failed manifest request.source
+          (rust_for request.prefer manifest.rust_version) (old_packages (first.inputs).old)
           one.content (first.inputs).catalogue after first.read.loads.0 one.valid rust asked mid so_far name next
 
-    cut-no-more : (names : List (List ℕ)) (later : Files) → IsCutShort MemoryCalls failed again folder names later → (name : List ℕ) → Contains names name
+    cut-no-more : (names : List (List ℕ)) (later : Files) → IsCutShort MemoryCalls failed again folder names later
+        → (name : List ℕ) → Contains names name
         → Contains (names_of first.inputs) name
     cut-no-more names later before_loading name c = absurd (in_none name c)
     cut-no-more names later (while_loading m old asked end h k so_far) name c =
         so-far-no-more asked end
-        (so-far-same m old asked end (same-Ok m manifest (sym h ∙ first.read.manifest_says)) (same-Ok old (Some one.content) (sym k ∙ old-is)) so_far) name c
+        (so-far-same m old asked end (same-Ok m manifest (sym h ∙ first.read.manifest_says))
+        (same-Ok old (Some one.content) (sym k ∙ old-is)) so_far) name c
     cut-no-more names later (while_asking m old asked mid next-one end h k so_far next fewer asks) name c =
         let is : m ≡ manifest = same-Ok m manifest (sym h ∙ first.read.manifest_says) in
         let held : old ≡ Some one.content = same-Ok old (Some one.content) (sym k ∙ old-is) in
@@ -129,11 +153,13 @@ module _ (failed : Files → ℕ) (folder : Files) (request : RequestView) (byte
         elim (Contains-push_cases (names_in asked) next-one name c) [
           | inl i ↦ so-far-no-more asked mid before name i
           | inr s ↦ next-no-more asked mid before name
-              (ap₂ (λ (n : ManifestView) o. next_name (old_packages o) request.source n.brings.dependencies asked) (sym is) (sym held) ∙ next ∙ ap Some s)
+              (ap₂ (λ (n : ManifestView) o. next_name (old_packages o) request.source n.brings.dependencies asked)
+              (sym is) (sym held) ∙ next ∙ ap Some s)
         ]
     cut-no-more names later (after_loading inputs end read) name c = no-more inputs end read name c
 
-  comes : (result : Result Answer Fault) (later : Files) → Resolves MemoryCalls failed (again request.prefer) folder result later → ComesBack bytes.items result
+  comes : (result : Result Answer Fault) (later : Files)
+      → Resolves MemoryCalls failed (again request.prefer) folder result later → ComesBack bytes.items result
   comes (Ok other) later second = by other second.is
     where
       can : CanKeep (Some bytes.items) second.inputs
@@ -141,53 +167,74 @@ module _ (failed : Files → ℕ) (folder : Files) (request : RequestView) (byte
 
       by : (other : Answer) → IsAnswer (Some bytes.items) second.inputs other → ComesBack bytes.items (Ok other)
       by other (kept_lock more skips' own means skipped) = (sym (same-Some own), refl)
-      by other (new_lock more skips' content not_kept reads spelled valid bare_root walk brought skipped) = absurd (not_kept can)
-      by other (no_lock derivation text skips' accepted no_selection explained skipped) = absurd (no_selection can.2.content can.2.valid)
+      by other (new_lock more skips' content not_kept reads spelled valid bare_root walk brought skipped) =
+          absurd (not_kept can)
+      by other (no_lock derivation text skips' accepted no_selection explained skipped) =
+          absurd (no_selection can.2.content can.2.valid)
   comes (Err f) later second = by (input_wants_memory f) refl second
     where
       by : (b : Bool) → input_wants_memory f ≡ b
-          → EndsWith MemoryCalls failed (again request.prefer) folder b (IsInputFault MemoryCalls failed (again request.prefer) folder f later ⊎ IsUnanswered MemoryCalls failed (again request.prefer) folder f later) later
+          → EndsWith MemoryCalls failed (again request.prefer) folder b
+          (IsInputFault MemoryCalls failed (again request.prefer) folder f later
+          ⊎ IsUnanswered MemoryCalls failed (again request.prefer) folder f later) later
           → input_wants_memory f ≡ true
       by true e s = e
       by false e (inl r) = refused request.prefer f later r
       by false e (inr u) = absurd (u.not_kept (can-keep request.prefer u.inputs later u.read))
 
-  verifies : (result : Result Verdict Fault) (later : Files) → Verifies MemoryCalls failed (again Newest) folder result later → FindsValid result
+  verifies : (result : Result Verdict Fault) (later : Files)
+      → Verifies MemoryCalls failed (again Newest) folder result later → FindsValid result
   verifies (Ok verdict) later second =
-      let same : one.content ≡ second.content = same-Some (sym (lock-is Newest second.inputs later second.read) ∙ second.old) in
-      second.selects.1 (subst (IsValidSelection (problem_of second.inputs)) same (valid-again Newest second.inputs later second.read))
+      let same : one.content ≡ second.content =
+      same-Some (sym (lock-is Newest second.inputs later second.read) ∙ second.old) in
+      second.selects.1 (subst (IsValidSelection (problem_of second.inputs)) same
+      (valid-again Newest second.inputs later second.read))
   verifies (Err f) later second = by (input_wants_memory f) refl second
     where
-      by : (b : Bool) → input_wants_memory f ≡ b → EndsWith MemoryCalls failed (again Newest) folder b (IsInputFault MemoryCalls failed (again Newest) folder f later) later → input_wants_memory f ≡ true
+      by : (b : Bool) → input_wants_memory f ≡ b → EndsWith MemoryCalls failed (again Newest) folder b
+          (IsInputFault MemoryCalls failed (again Newest) folder f later) later → input_wants_memory f ≡ true
       by true e s = e
       by false e r = refused Newest f later r
 
-pub comes_back : (failed : Files → ℕ) (folder : Files) (request : RequestView) (bytes : Vec ℕ Global) (kept : Bool) (skips : Vec Skip Global) (after : Files) (result : Result Answer Fault) (later : Files)
+pub comes_back : (failed : Files → ℕ) (folder : Files) (request : RequestView) (bytes : Vec ℕ Global) (kept : Bool)
+    (skips : Vec Skip Global) (after : Files) (result : Result Answer Fault) (later : Files)
     → Resolves MemoryCalls failed request folder (Ok (Lock bytes kept skips)) after
     → Resolves MemoryCalls failed (handed_in request bytes.items) folder result later → ComesBack bytes.items result
-comes_back failed folder request bytes kept skips after result later first second = comes failed folder request bytes kept skips after first result later second
+comes_back failed folder request bytes kept skips after result later first second =
+    comes failed folder request bytes kept skips after first result later second
 
-pub no_more_asked : (failed : Files → ℕ) (folder : Files) (request : RequestView) (bytes : Vec ℕ Global) (kept : Bool) (skips : Vec Skip Global) (after : Files) (again : Answer) (later : Files)
+pub no_more_asked : (failed : Files → ℕ) (folder : Files) (request : RequestView) (bytes : Vec ℕ Global) (kept : Bool)
+    (skips : Vec Skip Global) (after : Files) (again : Answer) (later : Files)
     (first : IsAnswered MemoryCalls failed request folder (Lock bytes kept skips) after)
     (second : IsAnswered MemoryCalls failed (handed_in request bytes.items) folder again later)
     (name : List ℕ) → Contains (names_of second.inputs) name → Contains (names_of first.inputs) name
-no_more_asked failed folder request bytes kept skips after other later first second = no-more failed folder request bytes kept skips after first request.prefer second.inputs later second.read
+no_more_asked failed folder request bytes kept skips after other later first second =
+    no-more failed folder request bytes kept skips after first request.prefer second.inputs later second.read
 
 -- nor where memory is wanting
-pub no_more_cut : (failed : Files → ℕ) (folder : Files) (request : RequestView) (bytes : Vec ℕ Global) (kept : Bool) (skips : Vec Skip Global) (after : Files) (names : List (List ℕ)) (later : Files)
+pub no_more_cut : (failed : Files → ℕ) (folder : Files) (request : RequestView) (bytes : Vec ℕ Global) (kept : Bool)
+    (skips : Vec Skip Global) (after : Files) (names : List (List ℕ)) (later : Files)
     (first : IsAnswered MemoryCalls failed request folder (Lock bytes kept skips) after)
     (second : IsCutShort MemoryCalls failed (handed_in request bytes.items) folder names later)
     (name : List ℕ) → Contains names name → Contains (names_of first.inputs) name
-no_more_cut failed folder request bytes kept skips after names later first second = cut-no-more failed folder request bytes kept skips after first request.prefer names later second
+no_more_cut failed folder request bytes kept skips after names later first second =
+    cut-no-more failed folder request bytes kept skips after first request.prefer names later second
 
 -- and it is valid
-pub found_valid : (failed : Files → ℕ) (folder : Files) (request : RequestView) (bytes : Vec ℕ Global) (kept : Bool) (skips : Vec Skip Global) (after : Files) (result : Result Verdict Fault) (later : Files)
+pub found_valid : (failed : Files → ℕ) (folder : Files) (request : RequestView) (bytes : Vec ℕ Global) (kept : Bool)
+    (skips : Vec Skip Global) (after : Files) (result : Result Verdict Fault) (later : Files)
     → Resolves MemoryCalls failed request folder (Ok (Lock bytes kept skips)) after
     → Verifies MemoryCalls failed (to_verify request bytes.items) folder result later → FindsValid result
-found_valid failed folder request bytes kept skips after result later first second = verifies failed folder request bytes kept skips after first result later second
+found_valid failed folder request bytes kept skips after result later first second =
+    verifies failed folder request bytes kept skips after first result later second
 
 -- an answer is a lock where there is a selection, and a refusal where there is none
-pub locks_selected : (old : Option (List ℕ)) (inputs : Inputs) (answer : Answer) → IsAnswer old inputs answer → IsSomeLock answer ↔ ((content : Content) × IsValidSelection (problem_of inputs) content)
-locks_selected old inputs answer (kept_lock bytes skips own means skipped) = (λ _. (means.content, means.valid), λ _. tt)
-locks_selected old inputs answer (new_lock bytes skips content not_kept reads spelled valid bare_root walk brought skipped) = (λ _. (content, valid), λ _. tt)
-locks_selected old inputs answer (no_lock derivation text skips accepted no_selection explained skipped) = (λ no. absurd no, λ some. no_selection some.0 some.1)
+pub locks_selected : (old : Option (List ℕ)) (inputs : Inputs) (answer : Answer) → IsAnswer old inputs answer
+    → IsSomeLock answer ↔ ((content : Content) × IsValidSelection (problem_of inputs) content)
+locks_selected old inputs answer (kept_lock bytes skips own means skipped) =
+    (λ _. (means.content, means.valid), λ _. tt)
+locks_selected old inputs answer
+    (new_lock bytes skips content not_kept reads spelled valid bare_root walk brought skipped) =
+    (λ _. (content, valid), λ _. tt)
+locks_selected old inputs answer (no_lock derivation text skips accepted no_selection explained skipped) =
+    (λ no. absurd no, λ some. no_selection some.0 some.1)

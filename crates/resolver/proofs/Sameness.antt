@@ -1,5 +1,6 @@
 -- What tests as the same is the same.
-use Rattle.std.proofs.Common.{◌≡◌, ℕ, suc, List, [], ◌∷◌, Bool, true, ◌&&◌, length, map, Option, Some, None, refl, sym, ap, ap₂, arith, true≢false}
+use Rattle.std.proofs.Common.{◌≡◌, ℕ, suc, List, [], ◌∷◌, Bool, true, ◌&&◌, length, map, Option, Some, None, refl, sym}
+use Rattle.std.proofs.Common.{ap, ap₂, arith, true≢false}
 use Rattle.std.specs.Cmp.Lexicographic.{pointwise}
 use Rattle.std.specs.List.{list_all, zip}
 use Rattle.model.specs.Content.{Package, Content, same_version, same_option}
@@ -29,10 +30,12 @@ package-same p r h =
     let version = both (same_version p.version r.version) _ name.1 in
     let source = both (same_option p.source r.source) _ version.1 in
     let checksum = both (same_option p.checksum r.checksum) _ source.1 in
-    built (text-same p.name r.name name.0) (version-same p.version r.version version.0) (option-same p.source r.source source.0)
+    built (text-same p.name r.name name.0) (version-same p.version r.version version.0)
+    (option-same p.source r.source source.0)
     (option-same p.checksum r.checksum checksum.0) (text-same p.list r.list checksum.1)
   where
-    built : p.name ≡ r.name → p.version ≡ r.version → p.source ≡ r.source → p.checksum ≡ r.checksum → p.list ≡ r.list → p ≡ r
+    built : p.name ≡ r.name → p.version ≡ r.version → p.source ≡ r.source → p.checksum ≡ r.checksum
+        → p.list ≡ r.list → p ≡ r
     built a b c d e = λ i. record { name = a i; version = b i; source = c i; checksum = d i; list = e i }
 
 -- contents that test as the same are
@@ -40,14 +43,16 @@ pub content-same : (a b : Content) → same_content a b ≡ true → a ≡ b
 content-same [] [] h = refl
 content-same [] (r ∷ b) h = absurd (true≢false (sym h))
 content-same (p ∷ a) [] h = absurd (true≢false (sym h))
-content-same (p ∷ a) (r ∷ b) h = let t = both (same_package p r) _ h in ap₂ (λ x xs. x ∷ xs) (package-same p r t.0) (content-same a b t.1)
+content-same (p ∷ a) (r ∷ b) h = let t =
+    both (same_package p r) _ h in ap₂ (λ x xs. x ∷ xs) (package-same p r t.0) (content-same a b t.1)
 
 option-refl : (a : Option (List ℕ)) → same_option a a ≡ true
 option-refl None = refl
 option-refl (Some a) = text-refl a
 
 package-refl : (p : Package) → same_package p p ≡ true
-package-refl p = rw (text-refl p.name, version-refl p.version, option-refl p.source, option-refl p.checksum, text-refl p.list) refl
+package-refl p =
+    rw (text-refl p.name, version-refl p.version, option-refl p.source, option-refl p.checksum, text-refl p.list) refl
 
 pub content-refl : (a : Content) → same_content a a ≡ true
 content-refl [] = refl

@@ -1,6 +1,7 @@
 -- A run over a map of files ends without a fault but for want of memory, where each name that comes next was asked for
 -- in a whole run.
-use Rattle.std.proofs.Common.{◌≡◌, ℕ, ◌<◌, ◌≤◌, true, List, length, Option, Some, None, Ok, Err, refl, sym, ap, ◌∙◌, subst, arith}
+use Rattle.std.proofs.Common.{◌≡◌, ℕ, ◌<◌, ◌≤◌, true, List, length, Option, Some, None, Ok, Err, refl, sym, ap, ◌∙◌}
+use Rattle.std.proofs.Common.{subst, arith}
 use Rattle.model.specs.Content.{Content}
 use Rattle.model.specs.Candidates.{RustVersion}
 use Rattle.model.specs.Summary.{Dependency}
@@ -15,15 +16,20 @@ use Rattle.catalogue.specs.declared.fault.Limit.TheVariants as limit
 use Rattle.resolver.specs.Faults.{input_wants_memory, of_load}
 use Rattle.resolver.proofs.Stays.{chain-stays}
 
-module _ (folder : Files) (failed : Files → ℕ) (old : Content) (source : List ℕ) (rust : Option RustVersion) (root : List Dependency) (whole : List Asked) (few : length whole ≤ most_names)
-    (fits : (asked : List Asked) (mid : Files) (name : List ℕ) → IsSoFar old source rust root MemoryCalls folder asked mid → next_name old source root asked ≡ Some name
+module _ (folder : Files) (failed : Files → ℕ) (old : Content) (source : List ℕ) (rust : Option RustVersion)
+    (root : List Dependency) (whole : List Asked) (few : length whole ≤ most_names)
+    (fits : (asked : List Asked) (mid : Files) (name : List ℕ)
+    → IsSoFar old source rust root MemoryCalls folder asked mid → next_name old source root asked ≡ Some name
     → (length asked < length whole) × IsWithin (file_at folder (path_of name)))
-    (checked : (index : CatalogueView) (after : Files) → IsLoaded old source rust root MemoryCalls folder index after → first_changed index old ≡ None) where
+    (checked : (index : CatalogueView) (after : Files) → IsLoaded old source rust root MemoryCalls folder index after
+    → first_changed index old ≡ None) where
   -- what the folder answers for a name is within the limits
-  within : (asked : List Asked) (mid : Files) (name : List ℕ) (o : Option (List ℕ)) (later : Files) → IsSoFar old source rust root MemoryCalls folder asked mid
+  within : (asked : List Asked) (mid : Files) (name : List ℕ) (o : Option (List ℕ)) (later : Files)
+      → IsSoFar old source rust root MemoryCalls folder asked mid
       → next_name old source root asked ≡ Some name → MemoryCalls mid (path_of name) (Ok o) later → IsWithin o
   within asked mid name o later so_far next call =
-      subst IsWithin (sym (call.0 ∙ ap (λ f. file_at f (path_of name)) (chain-stays asked folder mid so_far.chain))) (fits asked mid name so_far next).1
+      subst IsWithin (sym (call.0 ∙ ap (λ f. file_at f (path_of name)) (chain-stays asked folder mid so_far.chain)))
+      (fits asked mid name so_far next).1
 
   few-enough : (later : Files) → HasTooMany old source rust root MemoryCalls folder later → ⊥
   few-enough later h =
@@ -31,21 +37,24 @@ module _ (folder : Files) (failed : Files → ℕ) (old : Content) (source : Lis
       let most = h.most in
       omega (arith, fewer, few, most)
 
-  short-enough : (n : List ℕ) (later : Files) → HasFailed old source rust root MemoryCalls failed folder (fault.TooLarge (limit.File n)) later → ⊥
+  short-enough : (n : List ℕ) (later : Files)
+      → HasFailed old source rust root MemoryCalls failed folder (fault.TooLarge (limit.File n)) later → ⊥
   short-enough n later h =
       let f = h.fails.1 in
       let fit = (within h.asked h.mid h.name (Some f.bytes) later h.so_far h.next f.call).0 in
       let many = f.too_many in
       omega (arith, fit, many)
 
-  lines-enough : (n : List ℕ) (later : Files) → HasFailed old source rust root MemoryCalls failed folder (fault.TooLarge (limit.Lines n)) later → ⊥
+  lines-enough : (n : List ℕ) (later : Files)
+      → HasFailed old source rust root MemoryCalls failed folder (fault.TooLarge (limit.Lines n)) later → ⊥
   lines-enough n later h =
       let f = h.fails.1 in
       let fit = (within h.asked h.mid h.name (Some f.bytes) later h.so_far h.next f.call).1 in
       let many = f.too_many in
       omega (arith, fit, many)
 
-  pub no_fault : (e : LoadFault) (later : Files) → Loads old source rust root MemoryCalls failed folder (Err e) later → input_wants_memory (of_load e) ≡ true
+  pub no_fault : (e : LoadFault) (later : Files) → Loads old source rust root MemoryCalls failed folder (Err e) later
+      → input_wants_memory (of_load e) ≡ true
   no_fault fault.OutOfMemory later l = refl
   no_fault (fault.FolderFailed path) later l = absurd l.fails.1
   no_fault (fault.TooLarge limit.Names) later l = absurd (few-enough later l)

@@ -1,5 +1,6 @@
 -- What the calls of this crate answer.
-use Rattle.std.specs.Prelude.{◌≡◌, ◌≢◌, ◌<◌, ◌⊎◌, ◌↔◌, ℕ, Bool, true, false, List, length, map, Option, Some, None, Result, Ok, Err, String, Vec, string_bytes}
+use Rattle.std.specs.Prelude.{◌≡◌, ◌≢◌, ◌<◌, ◌⊎◌, ◌↔◌, ℕ, Bool, true, false, List, length, map, Option, Some, None}
+use Rattle.std.specs.Prelude.{Result, Ok, Err, String, Vec, string_bytes}
 use Rattle.std.specs.declared.alloc.Global.{Global}
 use Rattle.model.specs.Content.{Content, Problem}
 use Rattle.model.specs.Derivation.{IsAccepted, Step}
@@ -42,7 +43,8 @@ module _ {S : Type 0} (calls : Calls S) (failed : S → ℕ) (request : RequestV
 
   abbrev pub Verifies : Result Verdict Fault → S → Type 0
   Verifies (Ok verdict) after = IsVerdictFor verdict after
-  Verifies (Err f) after = EndsWith calls failed request before (input_wants_memory f) (IsInputFault calls failed request before f after) after
+  Verifies (Err f) after = EndsWith calls failed request before (input_wants_memory f)
+      (IsInputFault calls failed request before f after) after
 
 -- ---- the answer to a manifest
 
@@ -102,7 +104,8 @@ IsChosen inputs = IsSelected (problem_of inputs) (preferred_in inputs.catalogue)
 
 -- why the spelling of a content doesn't read as it: it is larger than a lock may be, or TOML reads it as another table
 abbrev pub IsUnreadable : Content → Type 0
-IsUnreadable content = (most_bytes < length (spelling content)) ⊎ (table_of_bytes (spelling content) ≢ Ok (table_of content))
+IsUnreadable content =
+    (most_bytes < length (spelling content)) ⊎ (table_of_bytes (spelling content) ≢ Ok (table_of content))
 
 -- ---- on the way
 
@@ -135,7 +138,8 @@ pub record IsExplained (inputs : Inputs) (derivation : List Step) (text : List �
 
 -- what was chosen has a spelling that doesn't read as it
 abbrev pub IsMisread : Inputs → Fault → Type 0
-IsMisread inputs fault.NotReadBack = (content : Content) × IsChosen inputs content × (content_of_bytes (spelling content) ≢ Ok content)
+IsMisread inputs fault.NotReadBack =
+    (content : Content) × IsChosen inputs content × (content_of_bytes (spelling content) ≢ Ok content)
 IsMisread inputs _ = ⊥
 
 -- what is written is the content's spelling, which reads as the content
@@ -145,7 +149,8 @@ pub record IsWritten (content : Content) (bytes : List ℕ) : Type 0 where
 
 abbrev pub Writes : Content → Result (Vec ℕ Global) Fault → Type 0
 Writes content (Ok bytes) = IsWritten content bytes.items
-Writes content (Err f) = UnlessMemory (input_wants_memory f) ((f ≡ fault.NotReadBack) × (content_of_bytes (spelling content) ≢ Ok content))
+Writes content (Err f) =
+    UnlessMemory (input_wants_memory f) ((f ≡ fault.NotReadBack) × (content_of_bytes (spelling content) ≢ Ok content))
 
 -- an answer but for the skipped lines
 abbrev pub IsReply : Option (List ℕ) → Inputs → Reply → Type 0
@@ -183,4 +188,5 @@ module _ {S : Type 0} (calls : Calls S) (failed : S → ℕ) (request : RequestV
 
   abbrev pub Resolves : Result Answer Fault → S → Type 0
   Resolves (Ok answer) after = IsAnswered answer after
-  Resolves (Err f) after = EndsWith calls failed request before (input_wants_memory f) (IsInputFault calls failed request before f after ⊎ IsUnanswered f after) after
+  Resolves (Err f) after = EndsWith calls failed request before (input_wants_memory f)
+      (IsInputFault calls failed request before f after ⊎ IsUnanswered f after) after

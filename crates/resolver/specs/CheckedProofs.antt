@@ -18,7 +18,8 @@ use Rattle.resolver.specs.declared.fault.CheckFault.TheVariants.{Input, Proof}
 
 -- the bytes are a derivation that is accepted for what was loaded
 abbrev pub IsProof : Inputs → List ℕ → Type 0
-IsProof inputs bytes = (steps : List Step) × (derivation_of_bytes bytes ≡ Ok steps) × IsAccepted (problem_of inputs) steps
+IsProof inputs bytes =
+    (steps : List Step) × (derivation_of_bytes bytes ≡ Ok steps) × IsAccepted (problem_of inputs) steps
 
 -- the bytes are a derivation, and this is its first refused step, exactly where there is one; if there is none, there
 -- is no selection at all
@@ -54,5 +55,6 @@ module _ {S : Type 0} (calls : Calls S) (failed : S → ℕ) (request : RequestV
 
   abbrev pub Checks : Result Check CheckFault → S → Type 0
   Checks (Ok check) after = IsCheckFor check after
-  Checks (Err (Input f)) after = EndsWith calls failed request before (input_wants_memory f) (IsInputFault calls failed request before f after) after
+  Checks (Err (Input f)) after = EndsWith calls failed request before (input_wants_memory f)
+      (IsInputFault calls failed request before f after) after
   Checks (Err (Proof fault)) after = IsUnread fault after

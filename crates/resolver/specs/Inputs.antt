@@ -1,6 +1,7 @@
 -- What a call has read before it answers: the manifest, the old lock if there is one, and the index; or the first fault
 -- on the way.
-use Rattle.std.specs.Prelude.{◌≡◌, ◌<◌, Bool, true, false, List, [], ◌∷◌, ◌++◌, length, map, ℕ, Option, Some, None, option_copied, Result, Ok, Err}
+use Rattle.std.specs.Prelude.{◌≡◌, ◌<◌, Bool, true, false, List, [], ◌∷◌, ◌++◌, length, map, ℕ, Option, Some, None}
+use Rattle.std.specs.Prelude.{option_copied, Result, Ok, Err}
 use Rattle.model.specs.Outcome.{◌>>=◌}
 use Rattle.model.specs.Content.{Content, Problem}
 use Rattle.manifest.specs.Manifests.{ManifestView, manifest_of_bytes}
@@ -26,7 +27,8 @@ pub record RequestView : Type 0 where
   pub prefer : Prefer
 
 abbrev pub request_view : Request → RequestView
-request_view r = record { manifest = r.manifest.now; old = option_copied r.old; source = r.source.now; prefer = r.prefer }
+request_view r =
+    record { manifest = r.manifest.now; old = option_copied r.old; source = r.source.now; prefer = r.prefer }
 
 -- what the old lock says, if there is one
 abbrev pub old_of_bytes : Option (List ℕ) → Result (Option Content) LockFault
@@ -49,11 +51,13 @@ names_of inputs = map (λ row. row.0) (inputs.catalogue).rows
 module _ {S : Type 0} (calls : Calls S) (failed : S → ℕ) (request : RequestView) (before : S) where
   -- how loading ends for this manifest and this old lock
   abbrev pub LoadsFor : ManifestView → Option Content → Result CatalogueView LoadFault → S → Type 0
-  LoadsFor m old = Loads (old_packages old) request.source (rust_for request.prefer m.rust_version) m.brings.dependencies calls failed before
+  LoadsFor m old = Loads (old_packages old) request.source
+      (rust_for request.prefer m.rust_version) m.brings.dependencies calls failed before
 
   -- the folder was asked for these names so far, in order
   abbrev pub IsSoFarFor : ManifestView → Option Content → List Asked → S → Type 0
-  IsSoFarFor m old = IsSoFar (old_packages old) request.source (rust_for request.prefer m.rust_version) m.brings.dependencies calls before
+  IsSoFarFor m old = IsSoFar (old_packages old) request.source
+      (rust_for request.prefer m.rust_version) m.brings.dependencies calls before
 
   -- the manifest and the old lock say this, and the folder's answers give this index
   pub record AreRead (inputs : Inputs) (after : S) : Type 0 where
@@ -64,8 +68,10 @@ module _ {S : Type 0} (calls : Calls S) (failed : S → ℕ) (request : RequestV
   -- the manifest has a fault; the old lock has one, after it; loading ends with a fault, after both
   pub data IsInputFault : Fault → S → Type 0 where
     by_manifest : (e : ManifestFault) → manifest_of_bytes request.manifest ≡ Err e → IsInputFault (of_manifest e) before
-    by_lock : (m : ManifestView) (e : LockFault) → manifest_of_bytes request.manifest ≡ Ok m → old_of_bytes request.old ≡ Err e → IsInputFault (of_lock e) before
-    by_index : (m : ManifestView) (old : Option Content) (e : LoadFault) (after : S) → manifest_of_bytes request.manifest ≡ Ok m
+    by_lock : (m : ManifestView) (e : LockFault) → manifest_of_bytes request.manifest ≡ Ok m
+        → old_of_bytes request.old ≡ Err e → IsInputFault (of_lock e) before
+    by_index : (m : ManifestView) (old : Option Content) (e : LoadFault) (after : S)
+        → manifest_of_bytes request.manifest ≡ Ok m
         → old_of_bytes request.old ≡ Ok old → LoadsFor m old (Err e) after → IsInputFault (of_load e) after
 
   -- what is left of the folder where memory was wanting, and the names that it was asked for until then, in order
@@ -73,12 +79,16 @@ module _ {S : Type 0} (calls : Calls S) (failed : S → ℕ) (request : RequestV
     -- it wasn't asked
     before_loading : IsCutShort [] before
     -- it was asked for the names so far
-    while_loading : (m : ManifestView) (old : Option Content) (asked : List Asked) (after : S) → manifest_of_bytes request.manifest ≡ Ok m
+    while_loading : (m : ManifestView) (old : Option Content) (asked : List Asked) (after : S)
+        → manifest_of_bytes request.manifest ≡ Ok m
         → old_of_bytes request.old ≡ Ok old → IsSoFarFor m old asked after → IsCutShort (names_in asked) after
     -- it was asked for the names so far, and perhaps for the next one, which stands last
-    while_asking : (m : ManifestView) (old : Option Content) (asked : List Asked) (mid : S) (name : List ℕ) (after : S) → manifest_of_bytes request.manifest ≡ Ok m
-        → old_of_bytes request.old ≡ Ok old → IsSoFarFor m old asked mid → next_name (old_packages old) request.source m.brings.dependencies asked ≡ Some name
-        → length asked < most_names → IsAskedAtMost calls mid name after → IsCutShort (names_in asked ++ name ∷ []) after
+    while_asking : (m : ManifestView) (old : Option Content) (asked : List Asked) (mid : S) (name : List ℕ) (after : S)
+        → manifest_of_bytes request.manifest ≡ Ok m
+        → old_of_bytes request.old ≡ Ok old → IsSoFarFor m old asked mid
+        → next_name (old_packages old) request.source m.brings.dependencies asked ≡ Some name
+        → length asked < most_names → IsAskedAtMost calls mid name after
+        → IsCutShort (names_in asked ++ name ∷ []) after
     -- it was asked for all
     after_loading : (inputs : Inputs) (after : S) → AreRead inputs after → IsCutShort (names_of inputs) after
 

@@ -51,7 +51,8 @@ IsSomeLock (Unsolvable derivation text skips) = ⊥
 
 -- two folders have the same files for these names
 abbrev pub AreAlike : List (List ℕ) → Files → Files → Type 0
-AreAlike names folder other = (name : List ℕ) → Contains names name → file_at other (path_of name) ≡ file_at folder (path_of name)
+AreAlike names folder other =
+    (name : List ℕ) → Contains names name → file_at other (path_of name) ≡ file_at folder (path_of name)
 
 -- the file of a name, in a map of files
 abbrev pub files_of : Files → List ℕ → Option (List ℕ)

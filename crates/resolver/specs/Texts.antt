@@ -22,13 +22,15 @@ fault_text fault.ManifestNotToml = codes "fault 2 ManifestNotToml"
 fault_text (fault.ManifestShape part) = codes "fault 3 ManifestShape " ++ part_name part
 fault_text (fault.UnsupportedSource kind) = codes "fault 4 UnsupportedSource " ++ source_name kind
 fault_text (fault.BadRequirement name) = codes "fault 5 BadRequirement at " ++ name
-fault_text (fault.RootFeature f feature) = codes "fault 6 RootFeature " ++ (table_fault_code f ++ (codes " at " ++ feature))
+fault_text (fault.RootFeature f feature) =
+    codes "fault 6 RootFeature " ++ (table_fault_code f ++ (codes " at " ++ feature))
 fault_text fault.LockNotToml = codes "fault 7 LockNotToml"
 fault_text fault.LockVersion = codes "fault 8 LockVersion"
 fault_text fault.LockShape = codes "fault 9 LockShape"
 fault_text (fault.FolderFailed path) = codes "fault 10 FolderFailed at " ++ string_bytes path
 fault_text (fault.TooLarge which) = codes "fault 11 TooLarge " ++ large_text which
-fault_text (fault.ChecksumChanged name version) = codes "fault 12 ChecksumChanged at " ++ (name ++ (codes " " ++ version_text version))
+fault_text (fault.ChecksumChanged name version) =
+    codes "fault 12 ChecksumChanged at " ++ (name ++ (codes " " ++ version_text version))
 fault_text fault.NotReadBack = codes "fault 14 NotReadBack"
 
 abbrev pub check_fault_text : CheckFault → List ℕ

@@ -25,7 +25,13 @@ pub fn check_bytes<F: Folder>(
     derivation: &[u8],
     source: &Source,
 ) -> Result<Check, CheckFault>
-    ensures { Checks F.calls F.failed (record { manifest = manifest.now; old = option_copied old.entry; source = source.now; prefer = Newest }) derivation.now folder.old result folder.new }
+    ensures { Checks F.calls F.failed (record {
+      manifest = manifest.now;
+      old = option_copied old.entry;
+      source =
+          source.now;
+      prefer = Newest;
+    }) derivation.now folder.old result folder.new }
 {
     let request = Request {
         manifest,

@@ -59,7 +59,13 @@ pub fn resolve<F: Folder>(
     source: &Source,
     prefer: Prefer,
 ) -> Result<Answer, Fault>
-    ensures { Resolves F.calls F.failed (record { manifest = manifest.now; old = option_copied old.entry; source = source.now; prefer = prefer }) folder.old result folder.new }
+    ensures { Resolves F.calls F.failed (record {
+      manifest = manifest.now;
+      old = option_copied old.entry;
+      source =
+          source.now;
+      prefer = prefer;
+    }) folder.old result folder.new }
 {
     let request = Request {
         manifest,

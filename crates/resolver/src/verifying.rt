@@ -22,7 +22,13 @@ pub fn verify_bytes<F: Folder>(
     lock: &[u8],
     source: &Source,
 ) -> Result<Verdict, Fault>
-    ensures { Verifies F.calls F.failed (record { manifest = manifest.now; old = Some lock.now; source = source.now; prefer = Newest }) folder.old result folder.new }
+    ensures { Verifies F.calls F.failed (record {
+      manifest = manifest.now;
+      old = Some lock.now;
+      source =
+          source.now;
+      prefer = Newest;
+    }) folder.old result folder.new }
 {
     let request = Request {
         manifest,

@@ -6,7 +6,8 @@ use Rattle.incompatibilities.specs.Stores.{EntryView, OriginFits}
 use Rattle.incompatibilities.specs.declared.origin.Origin.TheVariants.{Combined}
 
 pub two_added : (none one two : List EntryView) (a b : EntryView) (made : List TermView) (i j : ℕ) (w : Bool)
-    → none ≡ [] → i ≡ length none → one ≡ none ++ a ∷ [] → j ≡ length one → two ≡ one ++ b ∷ [] → IsCombination 1 a.terms b.terms made
+    → none ≡ [] → i ≡ length none → one ≡ none ++ a ∷ [] → j ≡ length one → two ≡ one ++ b ∷ []
+    → IsCombination 1 a.terms b.terms made
     → OriginFits two (length two) made (Combined i j 1 w)
 two_added none one two a b made i j w empty i_is first j_is second combined =
     let one_is : one ≡ a ∷ [] = first ∙ ap (λ l. l ++ a ∷ []) empty in

@@ -1,5 +1,7 @@
 -- Axioms that come once their pairs stand alone.
-use Rattle.std.proofs.Common.{◌≡◌, ◌≢◌, ℕ, zero, suc, ◌+◌, ◌-◌, ◌<◌, ◌≤◌, Bool, true, false, not, ◌&&◌, ◌||◌, eqb, eq-eqb, List, [], ◌∷◌, ◌++◌, length, map, get_or, append_assoc, Some, None, refl, sym, ap, ◌∙◌, subst, arith, inl, inr}
+use Rattle.std.proofs.Common.{◌≡◌, ◌≢◌, ℕ, zero, suc, ◌+◌, ◌-◌, ◌<◌, ◌≤◌, Bool, true, false, not, ◌&&◌, ◌||◌, eqb}
+use Rattle.std.proofs.Common.{eq-eqb, List, [], ◌∷◌, ◌++◌, length, map, get_or, append_assoc, Some, None, refl, sym, ap}
+use Rattle.std.proofs.Common.{◌∙◌, subst, arith, inl, inr}
 use Rattle.std.specs.List.{remove}
 use Rattle.std.proofs.lemmas.Bool.{cases_eq, cases_lt, false≢true, ne_eqb}
 use Rattle.std.proofs.lemmas.List.{get_or_append_left, get_or-append_right, length-append}
@@ -28,10 +30,12 @@ one_more P n below here k lt = elim (cases_lt k n) [
 ]
 
 lies_all : (spaces : List ℕ) (ts : List TermView) → AllFit spaces ts → LiesIn (universe_at spaces) (states_at ts)
-lies_all spaces ts fit u s e = let p = place_of ts u s e in subst (λ x. length x ≡ universe_at spaces u) p.3 (subst (λ v. length (term_at ts p.0).states ≡ universe_at spaces v) p.2 (fit p.0 p.1))
+lies_all spaces ts fit u s e = let p = place_of ts u s e in subst (λ x. length x ≡ universe_at spaces u) p.3
+    (subst (λ v. length (term_at ts p.0).states ≡ universe_at spaces v) p.2 (fit p.0 p.1))
 
 -- a vertex of one state has no axiom of its own
-pub ones_asked : (spaces : List ℕ) (ps : List (ℕ × ℕ)) (v i : ℕ) → universe_at spaces v ≡ 1 → asked_of spaces ps v i ≡ true
+pub ones_asked : (spaces : List ℕ) (ps : List (ℕ × ℕ)) (v i : ℕ) → universe_at spaces v ≡ 1
+    → asked_of spaces ps v i ≡ true
 ones_asked spaces ps v i e = rw e refl
 
 nothing_put : (es : List EntryView) → es ≡ es ++ []
@@ -41,7 +45,9 @@ nothing_put (e ∷ es) = ap (λ xs. e ∷ xs) (nothing_put es)
 pub put_none : (spaces : List ℕ) (v i : ℕ) (es : List EntryView) → IsPutOf spaces v i es es
 put_none spaces v i es = record { gained = []; grown = nothing_put es; each = λ k lt. absurd (omega (arith, lt)) }
 
-pub put_one : (spaces : List ℕ) (v i : ℕ) (es new : List EntryView) (ts : List TermView) → IsIncompatibility ts → universe_at spaces v ≢ 1 → AllFit spaces ts → HasOnly ts v i → new ≡ es ++ record { terms = ts; origin = Axiom 0 } ∷ [] → IsPutOf spaces v i es new
+pub put_one : (spaces : List ℕ) (v i : ℕ) (es new : List EntryView) (ts : List TermView) → IsIncompatibility ts
+    → universe_at spaces v ≢ 1 → AllFit spaces ts → HasOnly ts v i
+    → new ≡ es ++ record { terms = ts; origin = Axiom 0 } ∷ [] → IsPutOf spaces v i es new
 put_one spaces v i es new ts is several fit only grown = record { gained = one ∷ []; grown = grown; each = each }
   where
     one : EntryView
@@ -52,7 +58,8 @@ put_one spaces v i es new ts is several fit only grown = record { gained = one �
       lies = lies_all spaces ts fit;
       several = several;
       states = (term_at ts only.0).states;
-      term = subst (λ w. states_at ts w ≡ Some (term_at ts only.0).states) only.2 (states_of ts only.0 is.rising only.1);
+      term =
+          subst (λ w. states_at ts w ≡ Some (term_at ts only.0).states) only.2 (states_of ts only.0 is.rising only.1);
       only = only.3;
       given = tt;
     }
@@ -65,7 +72,8 @@ put_one spaces v i es new ts is several fit only grown = record { gained = one �
 waits_at : (ps : List (ℕ × ℕ)) (k : ℕ) → k < length ps → waits ps (pair_at ps k).0 (pair_at ps k).1 ≡ true
 waits_at [] k lt = absurd (omega (arith, lt))
 waits_at (p ∷ ps) zero lt = rw (eq-eqb p.0 p.0 refl, eq-eqb p.1 p.1 refl) refl
-waits_at (p ∷ ps) (suc k) lt = or_right (eqb p.0 (pair_at ps k).0 && eqb p.1 (pair_at ps k).1) (waits_at ps k (omega (arith, lt)))
+waits_at (p ∷ ps) (suc k) lt =
+    or_right (eqb p.0 (pair_at ps k).0 && eqb p.1 (pair_at ps k).1) (waits_at ps k (omega (arith, lt)))
   where
     or_right : (a : Bool) {b : Bool} → b ≡ true → (a || b) ≡ true
     or_right true e = refl
@@ -75,10 +83,12 @@ or_cases : (P : Type 0) (a b : Bool) → (a || b) ≡ true → (a ≡ true → P
 or_cases P true b e f g = f refl
 or_cases P false b e f g = g e
 
-waits_where : (ps : List (ℕ × ℕ)) (v i : ℕ) → waits ps v i ≡ true → (k : ℕ) × (k < length ps) × ((pair_at ps k).0 ≡ v) × ((pair_at ps k).1 ≡ i)
+waits_where : (ps : List (ℕ × ℕ)) (v i : ℕ) → waits ps v i ≡ true
+    → (k : ℕ) × (k < length ps) × ((pair_at ps k).0 ≡ v) × ((pair_at ps k).1 ≡ i)
 waits_where [] v i e = absurd (false≢true e)
 waits_where (p ∷ ps) v i e = or_cases _ (eqb p.0 v && eqb p.1 i) (waits ps v i) e
-    (λ here. let both = and_both (eqb p.0 v) (eqb p.1 i) here in (0, omega arith, equal p.0 v both.0, equal p.1 i both.1))
+    (λ here. let both =
+    and_both (eqb p.0 v) (eqb p.1 i) here in (0, omega arith, equal p.0 v both.0, equal p.1 i both.1))
     (λ there. let at = waits_where ps v i there in (suc at.0, let lt = at.1 in omega (arith, lt), at.2, at.3))
   where
     and_both : (a b : Bool) → (a && b) ≡ true → (a ≡ true) × (b ≡ true)
@@ -99,7 +109,8 @@ waits_fewer (p ∷ ps) zero v i e = or_either (eqb p.0 v && eqb p.1 i) e
     or_either : (a : Bool) {b : Bool} → b ≡ true → (a || b) ≡ true
     or_either true h = refl
     or_either false h = h
-waits_fewer (p ∷ ps) (suc k) v i e = or_cases (waits (p ∷ ps) v i ≡ true) (eqb p.0 v && eqb p.1 i) (waits (remove ps k) v i) e
+waits_fewer (p ∷ ps) (suc k) v i e =
+    or_cases (waits (p ∷ ps) v i ≡ true) (eqb p.0 v && eqb p.1 i) (waits (remove ps k) v i) e
     (λ here. rw here refl)
     (λ there. or_then (eqb p.0 v && eqb p.1 i) (waits_fewer ps k v i there))
   where
@@ -133,34 +144,49 @@ is_one n e = elim (cases_eq n 1) [
   | inr ne ↦ absurd (false≢true (sym (ne_eqb n 1 ne) ∙ e))
 ]
 
-pub adding_one : (spaces coming more later : List ℕ) (t wide : TrailView) (ps : List (ℕ × ℕ)) (k v i : ℕ) (old new : List EntryView) → HasSpaces spaces t → HasCome old spaces coming t more later wide → k < length ps → v < length t.sets → pair_at ps k ≡ (v, i) → IsPutOf more v i old new
-    → IsAdding (asked_of spaces ps) (asked_of more (remove ps k)) (length ps) (length (remove ps k)) (sum_of coming) (sum_of later) t wide old new true
+pub adding_one : (spaces coming more later : List ℕ) (t wide : TrailView) (ps : List (ℕ × ℕ)) (k v i : ℕ)
+    (old new : List EntryView) → HasSpaces spaces t → HasCome old spaces coming t more later wide → k < length ps
+    → v < length t.sets → pair_at ps k ≡ (v, i) → IsPutOf more v i old new
+    → IsAdding (asked_of spaces ps) (asked_of more (remove ps k)) (length ps) (length (remove ps k)) (sum_of coming)
+    (sum_of later) t wide old new true
 adding_one spaces coming more later t wide ps k v i old new has h lt low is put = record {
   spaces = h.came;
   wider = h.wider;
   came = h.rest_is;
-  lone = λ w j ge within only. or_left (eqb (universe_at more w) 1) (not (waits (remove ps k) w j)) (eq-eqb (universe_at more w) 1 (ap (λ xs. get_or xs w 0) h.spaces_are ∙ lone_one spaces h.came t wide has h.wider w j ge only));
+  lone = λ w j ge within only.
+      or_left (eqb (universe_at more w) 1) (not (waits (remove ps k) w j)) (eq-eqb (universe_at more w) 1
+      (ap (λ xs. get_or xs w 0) h.spaces_are ∙ lone_one spaces h.came t wide has h.wider w j ge only));
   gained = put.gained;
   grown = put.grown;
   of_new = λ j within. (let e = put.each j within in record {
     vertex = v;
     state = i;
     below = low;
-    is_new = neither (eqb (universe_at spaces v) 1) (waits ps v i) (ne_eqb (universe_at spaces v) 1 (λ one. e.several (stays v (omega (arith, low, has.vertices)) ∙ one))) (subst (λ (p : ℕ × ℕ). waits ps p.0 p.1 ≡ true) is (waits_at ps k lt));
+    is_new = neither (eqb (universe_at spaces v) 1) (waits ps v i)
+        (ne_eqb (universe_at spaces v) 1 (λ one. e.several (stays v (omega (arith, low, has.vertices)) ∙ one)))
+        (subst (λ (p : ℕ × ℕ). waits ps p.0 p.1 ≡ true) is (waits_at ps k lt));
     states = e.states;
     term = e.term;
     only = e.only;
     given = e.given;
   });
   lies = λ id within u s e. elim (cases_lt id (length old)) [
-    | inl less ↦ h.trail.lies id less u s (subst (λ (x : EntryView). states_at x.terms u ≡ Some s) (ap (λ (xs : List EntryView). entry xs id) put.grown ∙ get_or_append_left old put.gained (record { terms = []; origin = Axiom 0 }) id less) e)
-    | inr ge ↦ (put.each (id - length old) (omega (arith, within, ge, ap length put.grown, length-append old put.gained))).lies u s
-        (subst (λ (x : EntryView). states_at x.terms u ≡ Some s) (ap (λ (xs : List EntryView). entry xs id) put.grown ∙ get_or-append_right old put.gained (length old) id (record { terms = []; origin = Axiom 0 }) refl ge) e)
+    | inl less ↦ h.trail.lies id less u s
+        (subst (λ (x : EntryView). states_at x.terms u ≡ Some s) (ap (λ (xs : List EntryView). entry xs id) put.grown
+        ∙ get_or_append_left old put.gained (record { terms = []; origin = Axiom 0 }) id less) e)
+    | inr ge ↦ (put.each (id - length old)
+        (omega (arith, within, ge, ap length put.grown, length-append old put.gained))).lies u s
+        (subst (λ (x : EntryView). states_at x.terms u ≡ Some s)
+        (ap (λ (xs : List EntryView). entry xs id) put.grown ∙ get_or-append_right old put.gained (length old) id
+        (record { terms = []; origin = Axiom 0 }) refl ge) e)
         ∙ ap (λ xs. get_or xs u 0) h.spaces_are ∙ sym ((spaces_wider spaces h.came t wide has h.wider).each u)
   ];
-  grows = λ w j e. or_cases ((eqb (universe_at more w) 1 || not (waits (remove ps k) w j)) ≡ true) (eqb (universe_at spaces w) 1) (not (waits ps w j)) e
-      (λ one. let is_lone = is_one (universe_at spaces w) one in or_left (eqb (universe_at more w) 1) (not (waits (remove ps k) w j)) (eq-eqb (universe_at more w) 1 (stays w (there w is_lone) ∙ is_lone)))
-      (λ none. or_then (eqb (universe_at more w) 1) (not (waits (remove ps k) w j)) (more_by (waits ps w j) (waits (remove ps k) w j) (waits_fewer ps k w j) none));
+  grows = λ w j e. or_cases ((eqb (universe_at more w) 1 || not (waits (remove ps k) w j)) ≡ true)
+      (eqb (universe_at spaces w) 1) (not (waits ps w j)) e
+      (λ one. let is_lone = is_one (universe_at spaces w) one in or_left (eqb (universe_at more w) 1)
+      (not (waits (remove ps k) w j)) (eq-eqb (universe_at more w) 1 (stays w (there w is_lone) ∙ is_lone)))
+      (λ none. or_then (eqb (universe_at more w) 1) (not (waits (remove ps k) w j))
+      (more_by (waits ps w j) (waits (remove ps k) w j) (waits_fewer ps k w j) none));
   goes = λ e. omega (arith, length-remove ps k lt);
   stays = λ e. absurd (false≢true (sym e));
 }
@@ -174,13 +200,19 @@ adding_one spaces coming more later t wide ps k v i old new has h lt low is put 
       | inr ge ↦ absurd (omega (arith, one, past_zero spaces w ge))
     ]
 
-pub adding_none : (spaces : List ℕ) (left late : ℕ) (t : TrailView) (ps : List (ℕ × ℕ)) (es : List EntryView) → LieIn t es → IsAlone ps t.sets None → IsAdding (asked_of spaces ps) (asked_of spaces ps) left left late late t t es es false
-adding_none spaces left late t ps es lies alone = adding_nothing (asked_of spaces ps) left late t es lies (λ v i within only. or_then (eqb (universe_at spaces v) 1) (not (waits ps v i)) (asked v i within only (waits ps v i) refl))
+pub adding_none : (spaces : List ℕ) (left late : ℕ) (t : TrailView) (ps : List (ℕ × ℕ)) (es : List EntryView)
+    → LieIn t es → IsAlone ps t.sets None
+    → IsAdding (asked_of spaces ps) (asked_of spaces ps) left left late late t t es es false
+adding_none spaces left late t ps es lies alone =
+    adding_nothing (asked_of spaces ps) left late t es lies (λ v i within only.
+    or_then (eqb (universe_at spaces v) 1) (not (waits ps v i)) (asked v i within only (waits ps v i) refl))
   where
-    asked : (v i : ℕ) → v < length t.sets → IsOnly (set_of t.sets v) i → (b : Bool) → waits ps v i ≡ b → not (waits ps v i) ≡ true
+    asked : (v i : ℕ) → v < length t.sets → IsOnly (set_of t.sets v) i → (b : Bool) → waits ps v i ≡ b
+        → not (waits ps v i) ≡ true
     asked v i within only true e =
         let at = waits_where ps v i e in
-        absurd (alone at.0 at.1 (subst (λ w. w < length t.sets) (sym at.2) within) (subst (λ w. IsOnly (set_of t.sets w) (pair_at ps at.0).1) (sym at.2) (subst (IsOnly (set_of t.sets v)) (sym at.3) only)))
+        absurd (alone at.0 at.1 (subst (λ w. w < length t.sets) (sym at.2) within) (subst (λ w. IsOnly (set_of t.sets w)
+        (pair_at ps at.0).1) (sym at.2) (subst (IsOnly (set_of t.sets v)) (sym at.3) only)))
     asked v i within only false e = ap not e
 
 -- vertices come
@@ -188,17 +220,22 @@ nothing_more : {A : Type 0} (xs : List A) → xs ≡ xs ++ []
 nothing_more [] = refl
 nothing_more (x ∷ xs) = ap (λ ys. x ∷ ys) (nothing_more xs)
 
-pub come_none : (es : List EntryView) (spaces coming : List ℕ) (t : TrailView) → IsTrail es t → HasCome es spaces coming t spaces coming t
-come_none es spaces coming t trail = record { came = []; spaces_are = nothing_more spaces; rest_is = omega arith; wider = wider_none t; trail = trail }
+pub come_none : (es : List EntryView) (spaces coming : List ℕ) (t : TrailView) → IsTrail es t
+    → HasCome es spaces coming t spaces coming t
+come_none es spaces coming t trail =
+    record { came = []; spaces_are = nothing_more spaces; rest_is = omega arith; wider = wider_none t; trail = trail }
 
 sum_last : (xs : List ℕ) (n : ℕ) → sum_of (xs ++ n ∷ []) ≡ sum_of xs + n
 sum_last xs n = sum_append xs (n ∷ []) ∙ (let e : sum_of xs + (n + 0) ≡ sum_of xs + n = omega arith in e)
 
-pub come_one : (es : List EntryView) (spaces coming : List ℕ) (t : TrailView) (mid left : List ℕ) (m : TrailView) (more later : List ℕ) (wide : TrailView) (n : ℕ) → HasCome es spaces coming t mid left m → more ≡ mid ++ n ∷ [] → left ≡ later ++ n ∷ [] → IsWider (n ∷ []) m wide → IsTrail es wide → HasCome es spaces coming t more later wide
+pub come_one : (es : List EntryView) (spaces coming : List ℕ) (t : TrailView) (mid left : List ℕ) (m : TrailView)
+    (more later : List ℕ) (wide : TrailView) (n : ℕ) → HasCome es spaces coming t mid left m → more ≡ mid ++ n ∷ []
+    → left ≡ later ++ n ∷ [] → IsWider (n ∷ []) m wide → IsTrail es wide → HasCome es spaces coming t more later wide
 come_one es spaces coming t mid left m more later wide n h pushed popped wider trail = record {
   came = h.came ++ n ∷ [];
   spaces_are = pushed ∙ ap (λ xs. xs ++ n ∷ []) h.spaces_are ∙ append_assoc spaces h.came (n ∷ []);
-  rest_is = (let r = h.rest_is in let a : sum_of left ≡ sum_of later + n = ap sum_of popped ∙ sum_last later n in let b = sum_last h.came n in omega (arith, r, a, b));
+  rest_is = (let r = h.rest_is in let a : sum_of left ≡ sum_of later + n =
+      ap sum_of popped ∙ sum_last later n in let b = sum_last h.came n in omega (arith, r, a, b));
   wider = wider_again h.came (n ∷ []) t m wide h.wider wider;
   trail = trail;
 }

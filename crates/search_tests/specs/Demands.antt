@@ -1,5 +1,6 @@
 -- Pairs of a vertex and a state whose axiom isn't in the store yet (this repository's tests).
-use Rattle.std.specs.Prelude.{◌≡◌, ◌≢◌, ℕ, ◌+◌, ◌<◌, ◌==◌, Bool, false, not, ◌&&◌, ◌||◌, List, [], ◌∷◌, ◌++◌, length, slice_index_or, Option, Some, None}
+use Rattle.std.specs.Prelude.{◌≡◌, ◌≢◌, ℕ, ◌+◌, ◌<◌, ◌==◌, Bool, false, not, ◌&&◌, ◌||◌, List, [], ◌∷◌, ◌++◌, length}
+use Rattle.std.specs.Prelude.{slice_index_or, Option, Some, None}
 use Rattle.version_sets.specs.Sets.{Members}
 use Rattle.terms.specs.Terms.{TermView}
 use Rattle.incompatibilities.specs.Incompatibilities.{LiesIn, states_at}
@@ -25,7 +26,8 @@ pair_at ps k = slice_index_or ps k (0, 0)
 -- a place, or no pair stands alone
 abbrev pub IsAlone : List (ℕ × ℕ) → List Members → Option ℕ → Type 0
 IsAlone ps sets (Some k) = (k < length ps) × ((pair_at ps k).0 < length sets)
-IsAlone ps sets None = (k : ℕ) → k < length ps → (pair_at ps k).0 < length sets → ¬ IsOnly (set_of sets (pair_at ps k).0) (pair_at ps k).1
+IsAlone ps sets None =
+    (k : ℕ) → k < length ps → (pair_at ps k).0 < length sets → ¬ IsOnly (set_of sets (pair_at ps k).0) (pair_at ps k).1
 
 abbrev pub AllFit : List ℕ → List TermView → Type 0
 AllFit spaces ts = (i : ℕ) → i < length ts → length (term_at ts i).states ≡ universe_at spaces (term_at ts i).vertex
@@ -48,7 +50,8 @@ pub record IsPutOf (spaces : List ℕ) (v i : ℕ) (old new : List EntryView) : 
   pub each : (k : ℕ) → k < length gained → IsOfPair spaces v i (entry gained k)
 
 -- vertices came
-pub record HasCome (es : List EntryView) (spaces coming : List ℕ) (t : TrailView) (more left : List ℕ) (wide : TrailView) : Type 0 where
+pub record HasCome (es : List EntryView) (spaces coming : List ℕ) (t : TrailView) (more left : List ℕ)
+    (wide : TrailView) : Type 0 where
   pub came : List ℕ
   pub spaces_are : more ≡ spaces ++ came
   pub rest_is : sum_of came + sum_of left ≡ sum_of coming

@@ -40,5 +40,6 @@ Refutes es (Unsolvable id) = IsRefutation es id
 
 -- after a selection each assignment out of what is left breaks no watched entry, and so no axiom
 abbrev pub Selects : List EntryView → TrailView → Answer → Type 0
-Selects es t Selection = (x : Assignment) → Agrees x t.sets → (id : ℕ) → id < length es → watched (entry es id).origin ≡ true → ¬ Breaks x (terms_of es id)
+Selects es t Selection = (x : Assignment) → Agrees x t.sets → (id : ℕ) → id < length es
+    → watched (entry es id).origin ≡ true → ¬ Breaks x (terms_of es id)
 Selects es t (Unsolvable id) = Unit {0}

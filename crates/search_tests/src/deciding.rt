@@ -10,7 +10,8 @@ use version_sets::States;
 /// The first vertex that has more than one state left; there are `vertices` of them.
 pub(crate) fn first_open<S: States + Drop>(trail: &Trail<S>, vertices: usize) -> Option<usize>
     requires { length (trail_view S.tests trail.now).sets ≡ vertices }
-    ensures { MatchOption result (AllDecided (trail_view S.tests trail.now)) (λ v. IsOpen (trail_view S.tests trail.now) v) }
+    ensures { MatchOption result (AllDecided (trail_view S.tests trail.now))
+        (λ v. IsOpen (trail_view S.tests trail.now) v) }
 {
     'vertices: for vertex in 0..vertices {
         if trail.states(vertex).count() > 1 {

@@ -63,7 +63,8 @@ fn stands_alone<S: States + Drop>(
 ) -> bool
     requires { length (trail_view S.tests trail.now).sets ≡ vertices }
     ensures yes { OnTrue result (vertex < length (trail_view S.tests trail.now).sets) }
-    ensures no { OnFalse result (vertex < length (trail_view S.tests trail.now).sets → ¬ IsOnly (set_of (trail_view S.tests trail.now).sets vertex) state) }
+    ensures no { OnFalse result (vertex < length (trail_view S.tests trail.now).sets
+        → ¬ IsOnly (set_of (trail_view S.tests trail.now).sets vertex) state) }
 {
     if vertex >= vertices {
         return false;
@@ -170,7 +171,8 @@ fn come_up_to<S: States + Drop>(
     vertex: usize,
 ) -> Result<(), AllocError>
     requires trail { IsTrail (entries_view S.tests store.now) (trail_view S.tests trail.old) }
-    ensures came { IfOk result (λ r. HasCome (entries_view S.tests store.now) spaces.old.items coming.old.items (trail_view S.tests trail.old) spaces.new.items coming.new.items (trail_view S.tests trail.new)) }
+    ensures came { IfOk result (λ r. HasCome (entries_view S.tests store.now) spaces.old.items coming.old.items
+        (trail_view S.tests trail.old) spaces.new.items coming.new.items (trail_view S.tests trail.new)) }
 {
     'vertices: while spaces.len() <= vertex {
         match coming.pop() {
@@ -187,7 +189,8 @@ fn put_fitting<S: States + Drop>(
     spaces: &[u32],
     pending: Pending<S>,
 ) -> Result<(), AllocError>
-    ensures { OnOk result (IsPutOf spaces.now pending.vertex pending.state (entries_view S.tests store.old) (entries_view S.tests store.new)) }
+    ensures { OnOk result (IsPutOf spaces.now pending.vertex pending.state (entries_view S.tests store.old)
+        (entries_view S.tests store.new)) }
 {
     if is_lone(spaces, pending.vertex) {
         return Ok(());
@@ -206,7 +209,8 @@ impl<S: States + Drop> Demanding<S> {
     /// The place of an axiom whose vertex has its one state left.
     fn first_alone(&self, trail: &Trail<S>) -> Option<usize>
         requires { length (trail_view S.tests trail.now).sets ≡ length self.now.spaces.items }
-        ensures { IsAlone (map (λ p. (p.vertex, p.state)) self.now.pending.items) (trail_view S.tests trail.now).sets result }
+        ensures { IsAlone (map (λ p. (p.vertex, p.state)) self.now.pending.items)
+            (trail_view S.tests trail.now).sets result }
     {
         'pairs: for place in 0..self.pending.len() {
             let pair = &self.pending[place];

@@ -45,7 +45,9 @@ impl Preferring {
     fn state_of<S: States>(&self, vertex: usize, left: &S) -> u32
         requires { 0 < size (S.tests left.now) }
         ensures left { has (S.tests left.now) result ≡ true }
-        ensures preferred { vertex < length self.now.states.items → has (S.tests left.now) (slice_index_or self.now.states.items vertex 0) ≡ true → result ≡ slice_index_or self.now.states.items vertex 0 }
+        ensures preferred { vertex < length self.now.states.items
+            → has (S.tests left.now) (slice_index_or self.now.states.items vertex 0) ≡ true
+            → result ≡ slice_index_or self.now.states.items vertex 0 }
     {
         match self.states.get(vertex) {
             Some(state) if left.member(*state) => *state,
@@ -121,8 +123,11 @@ pub fn search_from_full<S: States + Drop>(
     requires lies { AllLie guide.old.spaces.items (entries_view S.tests store.old) }
     ensures refuted { IfOk result (λ r. Refutes (entries_view S.tests store.new) r.0.answer) }
     ensures selected { IfOk result (λ r. Selects (entries_view S.tests store.new) (trail_view S.tests r.1) r.0.answer) }
-    ensures counted { IfOk result (λ r. combinations (entries_view S.tests store.new) ≤ combinations (entries_view S.tests store.old) + r.0.steps) }
-    ensures preferred { IfOk result (λ r. (x : Assignment) → Prefers guide.old.spaces.items guide.old.states.items x → IsWithinAll guide.old.spaces.items x → BreaksNone x (entries_view S.tests store.old) → IsSelection r.0.answer) }
+    ensures counted { IfOk result (λ r.
+        combinations (entries_view S.tests store.new) ≤ combinations (entries_view S.tests store.old) + r.0.steps) }
+    ensures preferred { IfOk result (λ r. (x : Assignment) → Prefers guide.old.spaces.items guide.old.states.items x
+        → IsWithinAll guide.old.spaces.items x → BreaksNone x (entries_view S.tests store.old)
+        → IsSelection r.0.answer) }
 {
     let mut trail = Trail::new(alloc, &guide.spaces)?;
     let found = search(alloc, guide, &mut trail, store)?;

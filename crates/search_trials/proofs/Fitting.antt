@@ -1,5 +1,6 @@
 -- Terms that come one by one at rising vertices, and a store with one entry more.
-use Rattle.std.proofs.Common.{◌≡◌, ◌≢◌, ℕ, ◌+◌, ◌≤◌, ◌⊎◌, Bool, true, false, cond, eqb, List, [], ◌∷◌, ◌++◌, length, Option, Some, None, refl, sym, ap, ◌∙◌, subst, arith, inl, inr}
+use Rattle.std.proofs.Common.{◌≡◌, ◌≢◌, ℕ, ◌+◌, ◌≤◌, ◌⊎◌, Bool, true, false, cond, eqb, List, [], ◌∷◌, ◌++◌, length}
+use Rattle.std.proofs.Common.{Option, Some, None, refl, sym, ap, ◌∙◌, subst, arith, inl, inr}
 use Rattle.std.proofs.lemmas.Bool.{cases_eq, cases_lt, ne_eqb}
 use Rattle.std.proofs.lemmas.List.{get_or_append_left, length-append}
 use Rattle.std.proofs.lemmas.Option.{same_Some}
@@ -22,7 +23,8 @@ pub record AreSoFar (space : ℕ → ℕ) (low : ℕ) (ts : List TermView) : Typ
   pub lies : LiesIn space (states_at ts)
 
 pub none_so_far : (space : ℕ → ℕ) → AreSoFar space 0 []
-none_so_far space = record { one = λ v. omega arith; past = λ v le. refl; lies = λ u s e. (let clash : None ≡ Some s = e in cc) }
+none_so_far space =
+    record { one = λ v. omega arith; past = λ v le. refl; lies = λ u s e. (let clash : None ≡ Some s = e in cc) }
 
 abbrev here : ℕ → TermView → ℕ
 here v t = cond (eqb t.vertex v) 1 0
@@ -48,13 +50,19 @@ alone t u s e = elim (cases_eq t.vertex u) [
   | inr o ↦ (let clash : None ≡ Some s = sym (at_later t [] u o) ∙ e in cc)
 ]
 
-pub one_more : (space : ℕ → ℕ) (low next : ℕ) (ts : List TermView) (t : TermView) → AreSoFar space low ts → low ≤ t.vertex → next ≡ t.vertex + 1 → length t.states ≡ space t.vertex → AreSoFar space next (ts ++ t ∷ [])
+pub one_more : (space : ℕ → ℕ) (low next : ℕ) (ts : List TermView) (t : TermView) → AreSoFar space low ts
+    → low ≤ t.vertex → next ≡ t.vertex + 1 → length t.states ≡ space t.vertex → AreSoFar space next (ts ++ t ∷ [])
 one_more space low next ts t far le is fits = record {
   one = λ v. elim (cases_eq t.vertex v) [
     | inl h ↦ omega (arith, on_append v ts t, far.past v (omega (arith, le, h)), at_most (eqb t.vertex v))
     | inr o ↦ (let one = far.one v in omega (arith, on_append v ts t, elsewhere v t o, one))
   ];
-  past = λ v past. omega (arith, on_append v ts t, elsewhere v t (λ e. omega (arith, e, past, is)), far.past v (omega (arith, le, past, is)));
+  past = λ v past. omega (
+    arith,
+    on_append v ts t,
+    elsewhere v t (λ e. omega (arith, e, past, is)),
+    far.past v (omega (arith, le, past, is)),
+  );
   lies = λ u s e. elim (either (states_at ts u) (states_at (t ∷ []) u) s (sym (states_at-append ts (t ∷ []) u) ∙ e)) [
     | inl was ↦ far.lies u s was
     | inr new ↦ (let a = alone t u s new in ap length (sym a.1) ∙ fits ∙ ap space a.0)
@@ -65,7 +73,8 @@ pub all_fit : (space : ℕ → ℕ) (low : ℕ) (ts : List TermView) → AreSoFa
 all_fit space low ts far = record { one = far.one; lies = far.lies }
 
 -- a store with one entry more
-pub meets_more : (n : ℕ) (es : List EntryView) (e : EntryView) (t : TrailView) → IsMeeting n es t → LiesIn (space_of t) (states_at e.terms) → IsMeeting n (es ++ e ∷ []) t
+pub meets_more : (n : ℕ) (es : List EntryView) (e : EntryView) (t : TrailView) → IsMeeting n es t
+    → LiesIn (space_of t) (states_at e.terms) → IsMeeting n (es ++ e ∷ []) t
 meets_more n es e t m lies = record { trail = trail_grown es (e ∷ []) t m.trail all; vertices = m.vertices }
   where
     last : (es : List EntryView) (d : EntryView) → entry (es ++ d ∷ []) (length es) ≡ d
@@ -74,12 +83,16 @@ meets_more n es e t m lies = record { trail = trail_grown es (e ∷ []) t m.trai
 
     all : LieIn t (es ++ e ∷ [])
     all id lt = elim (cases_lt id (length es)) [
-      | inl low ↦ subst (λ (x : EntryView). LiesIn (space_of t) (states_at x.terms)) (sym (get_or_append_left es (e ∷ []) (record { terms = []; origin = Axiom 0 }) id low)) (m.trail.lies id low)
+      | inl low ↦ subst (λ (x : EntryView). LiesIn (space_of t) (states_at x.terms))
+          (sym (get_or_append_left es (e ∷ []) (record { terms = []; origin = Axiom 0 }) id low)) (m.trail.lies id low)
       | inr high ↦
           let this : id ≡ length es = omega (arith, high, lt, length-append es (e ∷ [])) in
-          subst (λ (x : EntryView). LiesIn (space_of t) (states_at x.terms)) (sym (ap (entry (es ++ e ∷ [])) this ∙ last es e)) lies
+          subst (λ (x : EntryView). LiesIn (space_of t) (states_at x.terms))
+          (sym (ap (entry (es ++ e ∷ [])) this ∙ last es e)) lies
     ]
 
 -- one vertex more
-pub one_wider : (n universe : ℕ) (old new : TrailView) → length old.sets ≡ n → IsWider (universe ∷ []) old new → length new.sets ≡ n + 1
-one_wider n universe old new is wider = ap length wider.sets ∙ omega (arith, length-append old.sets (every universe ∷ []), is)
+pub one_wider : (n universe : ℕ) (old new : TrailView) → length old.sets ≡ n → IsWider (universe ∷ []) old new
+    → length new.sets ≡ n + 1
+one_wider n universe old new is wider =
+    ap length wider.sets ∙ omega (arith, length-append old.sets (every universe ∷ []), is)

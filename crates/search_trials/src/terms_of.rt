@@ -53,7 +53,8 @@ pub(crate) fn terms_of<S: States + Drop>(
     said: &[(usize, u64)],
 ) -> Result<Option<Vec<Term<S>>>, AllocError>
     requires { length (trail_view S.tests trail.now).sets ≡ vertices }
-    ensures { IfOk result (λ o. IfSome o (λ v. AreFit (space_of (trail_view S.tests trail.now)) (terms_view S.tests v.items))) }
+    ensures { IfOk result
+        (λ o. IfSome o (λ v. AreFit (space_of (trail_view S.tests trail.now)) (terms_view S.tests v.items))) }
 {
     let mut terms = Vec::new(alloc);
     let mut low = 0;

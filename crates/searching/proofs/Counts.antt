@@ -1,5 +1,6 @@
 -- How many combinations a store has, as it gains entries.
-use Rattle.std.proofs.Common.{◌≡◌, ℕ, zero, suc, ◌+◌, ◌<◌, ◌≤◌, ◌⊎◌, Bool, true, false, List, [], ◌∷◌, ◌++◌, length, if◌then◌else◌, refl, ap, arith, inl, inr}
+use Rattle.std.proofs.Common.{◌≡◌, ℕ, zero, suc, ◌+◌, ◌<◌, ◌≤◌, ◌⊎◌, Bool, true, false, List, [], ◌∷◌, ◌++◌, length}
+use Rattle.std.proofs.Common.{if◌then◌else◌, refl, ap, arith, inl, inr}
 use Rattle.std.proofs.lemmas.List.{length-append}
 use Rattle.incompatibilities.specs.Stores.{EntryView, IsAxiom, entry}
 use Rattle.incompatibilities.specs.declared.origin.Origin.{Origin}
@@ -20,7 +21,8 @@ one_of false n i j e = e
 
 pub combinations_append : (xs ys : List EntryView) → combinations (xs ++ ys) ≡ combinations xs + combinations ys
 combinations_append [] ys = omega arith
-combinations_append (x ∷ xs) ys = one_of (is_combination x.origin) (combinations (xs ++ ys)) (combinations xs) (combinations ys) (combinations_append xs ys)
+combinations_append (x ∷ xs) ys = one_of (is_combination x.origin) (combinations (xs ++ ys)) (combinations xs)
+    (combinations ys) (combinations_append xs ys)
 
 axiom_is : (o : Origin) → IsAxiom o → is_combination o ≡ false
 axiom_is (Axiom kind) given = refl
@@ -28,13 +30,27 @@ axiom_is (Combined i j v w) given = absurd given
 
 no_combinations : (xs : List EntryView) → ((i : ℕ) → i < length xs → IsAxiom (entry xs i).origin) → combinations xs ≡ 0
 no_combinations [] given = refl
-no_combinations (x ∷ xs) given = rw (axiom_is x.origin (given zero (omega arith))) (no_combinations xs (λ i lt. given (suc i) (omega (arith, lt))))
+no_combinations (x ∷ xs) given =
+    rw (axiom_is x.origin (given zero (omega arith))) (no_combinations xs (λ i lt. given (suc i) (omega (arith, lt))))
 
 -- axioms are gained
-pub counts_axioms : (old new gained : List EntryView) → new ≡ old ++ gained → ((i : ℕ) → i < length gained → IsAxiom (entry gained i).origin) → (steps : ℕ) → CountsOn old steps new steps
-counts_axioms old new gained grown given steps n le = omega (arith, le, ap combinations grown, combinations_append old gained, no_combinations gained given)
+pub counts_axioms : (old new gained : List EntryView) → new ≡ old ++ gained
+    → ((i : ℕ) → i < length gained → IsAxiom (entry gained i).origin) → (steps : ℕ) → CountsOn old steps new steps
+counts_axioms old new gained grown given steps n le =
+    omega (arith, le, ap combinations grown, combinations_append old gained, no_combinations gained given)
 
 -- any entries are gained, and the steps count each of them, or are at least as many as all entries
-pub counts_gained : (old new gained : List EntryView) (steps after before : ℕ) → new ≡ old ++ gained → before ≡ length old → (steps + length new < after + before) ⊎ (length new ≤ after) → CountsOn old steps new after
-counts_gained old new gained steps after before grown is (inl lt) n le = omega (arith, le, lt, is, ap length grown, length-append old gained, ap combinations grown, combinations_append old gained, combinations_le gained)
+pub counts_gained : (old new gained : List EntryView) (steps after before : ℕ) → new ≡ old ++ gained
+    → before ≡ length old → (steps + length new < after + before) ⊎ (length new ≤ after) → CountsOn old steps new after
+counts_gained old new gained steps after before grown is (inl lt) n le = omega (
+  arith,
+  le,
+  lt,
+  is,
+  ap length grown,
+  length-append old gained,
+  ap combinations grown,
+  combinations_append old gained,
+  combinations_le gained,
+)
 counts_gained old new gained steps after before grown is (inr all) n le = omega (arith, all, combinations_le new)

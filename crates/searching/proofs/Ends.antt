@@ -1,5 +1,6 @@
 -- What the end of a level keeps when places are put or taken off, and how the sums of the levels fall.
-use Rattle.std.proofs.Common.{◌≡◌, ℕ, zero, suc, ◌+◌, ◌-◌, ◌<◌, ◌≤◌, List, [], ◌∷◌, ◌++◌, drop, append_assoc, refl, sym, ap, ◌∙◌, subst, arith, inl, inr}
+use Rattle.std.proofs.Common.{◌≡◌, ℕ, zero, suc, ◌+◌, ◌-◌, ◌<◌, ◌≤◌, List, [], ◌∷◌, ◌++◌, drop, append_assoc, refl, sym}
+use Rattle.std.proofs.Common.{ap, ◌∙◌, subst, arith, inl, inr}
 use Rattle.std.proofs.lemmas.Bool.{cases_lt}
 use Rattle.propagation.specs.Trails.{Above, StepView, TrailView, end_sets, past, sets_at, undo}
 use Rattle.propagation.proofs.Back.{back_same, put_back-append}
@@ -13,11 +14,16 @@ above_less l level [] le a = tt
 above_less l level (s ∷ ss) le a = (omega (arith, le, a.0), above_less l level ss le a.1)
 
 -- what is put or taken off after a level's end leaves its sets
-pub ends_same : (l : ℕ) (long short : TrailView) (more : List StepView) → long.steps ≡ short.steps ++ more → undo more long.sets ≡ short.sets → Above l more → end_sets long l ≡ end_sets short l
-ends_same l long short more steps back above = ap (λ ss. undo (past l ss) long.sets) steps ∙ ap (λ ss. undo ss long.sets) (past_append l short.steps more above) ∙ put_back-append (λ s. s.before) (past l short.steps) more long.sets ∙ ap (undo (past l short.steps)) back
+pub ends_same : (l : ℕ) (long short : TrailView) (more : List StepView) → long.steps ≡ short.steps ++ more
+    → undo more long.sets ≡ short.sets → Above l more → end_sets long l ≡ end_sets short l
+ends_same l long short more steps back above =
+    ap (λ ss. undo (past l ss) long.sets) steps ∙ ap (λ ss. undo ss long.sets) (past_append l short.steps more above)
+    ∙ put_back-append (λ s. s.before) (past l short.steps) more long.sets ∙ ap (undo (past l short.steps)) back
 
-pub start_same : (long short : TrailView) (more : List StepView) → long.steps ≡ short.steps ++ more → undo more long.sets ≡ short.sets → sets_at long 0 ≡ sets_at short 0
-start_same long short more steps back = ap (λ ss. undo (drop 0 ss) long.sets) steps ∙ back_same (λ s. s.before) short.steps more long.sets short.sets 0 back (omega arith)
+pub start_same : (long short : TrailView) (more : List StepView) → long.steps ≡ short.steps ++ more
+    → undo more long.sets ≡ short.sets → sets_at long 0 ≡ sets_at short 0
+start_same long short more steps back = ap (λ ss. undo (drop 0 ss) long.sets) steps
+    ∙ back_same (λ s. s.before) short.steps more long.sets short.sets 0 back (omega arith)
 
 pub end_top : (t : TrailView) → past t.level t.steps ≡ [] → end_sets t t.level ≡ t.sets
 end_top t top = ap (λ ss. undo ss t.sets) top
@@ -38,39 +44,53 @@ falling_snoc : (b : ℕ) (xs : List ℕ) (x y : ℕ) → Falling b (xs ++ x ∷ 
 falling_snoc b [] x y f lt = (f.0, (lt, tt))
 falling_snoc b (z ∷ xs) x y f lt = (f.0, falling_snoc z xs x y f.1 lt)
 
-falling_firsts : (s n : ℕ) (f : ℕ → ℕ) → f 0 ≤ s → ((l : ℕ) → l < n → f (suc l) < f l) → Falling (s + 1) (firsts (suc n) f)
+falling_firsts : (s n : ℕ) (f : ℕ → ℕ) → f 0 ≤ s → ((l : ℕ) → l < n → f (suc l) < f l)
+    → Falling (s + 1) (firsts (suc n) f)
 falling_firsts s zero f first falls = (omega (arith, first), tt)
-falling_firsts s (suc n) f first falls = falling_snoc (s + 1) (firsts n f) (f n) (f (suc n)) (falling_firsts s n f first (λ l lt. falls l (omega (arith, lt)))) (falls n (omega arith))
+falling_firsts s (suc n) f first falls = falling_snoc (s + 1) (firsts n f) (f n) (f (suc n))
+    (falling_firsts s n f first (λ l lt. falls l (omega (arith, lt)))) (falls n (omega arith))
 
 -- less at the level where the new trail stands, and the same before it
-pub lower_falls : (s late : ℕ) (old new : TrailView) → IsFalling s late new → new.level ≤ old.level → ((l : ℕ) → l < new.level → sum_at late new l ≡ sum_at late old l) → sum_at late new new.level < sum_at late old new.level → space_in s late new < space_in s late old
+pub lower_falls : (s late : ℕ) (old new : TrailView) → IsFalling s late new → new.level ≤ old.level
+    → ((l : ℕ) → l < new.level → sum_at late new l ≡ sum_at late old l)
+    → sum_at late new new.level < sum_at late old new.level → space_in s late new < space_in s late old
 lower_falls s late old new fall level same lt =
     let k = old.level - new.level in
     let is : new.level + k ≡ old.level = omega (arith, level) in
     let more = firsts_more new.level k (sum_at late old) in
     let e = firsts_same new.level (sum_at late new) (sum_at late old) same in
-    let less = measure_lower s (firsts new.level (sum_at late new)) (sum_at late old new.level) (sum_at late new new.level) more.0 [] lt (falling_firsts s new.level (sum_at late new) fall.first fall.falls) in
+    let less = measure_lower s (firsts new.level (sum_at late new)) (sum_at late old new.level)
+    (sum_at late new new.level) more.0 [] lt (falling_firsts s new.level (sum_at late new) fall.first fall.falls) in
     rw (← is, more.1, ← e) less
 
-pub deeper_falls : (s late : ℕ) (old new : TrailView) → IsFalling s late new → new.level ≡ suc old.level → ((l : ℕ) → l < new.level → sum_at late new l ≡ sum_at late old l) → space_in s late new < space_in s late old
+pub deeper_falls : (s late : ℕ) (old new : TrailView) → IsFalling s late new → new.level ≡ suc old.level
+    → ((l : ℕ) → l < new.level → sum_at late new l ≡ sum_at late old l) → space_in s late new < space_in s late old
 deeper_falls s late old new fall level same =
-    let f : Falling (s + 1) (firsts (suc (suc old.level)) (sum_at late new)) = subst (λ m. Falling (s + 1) (firsts (suc m) (sum_at late new))) level (falling_firsts s new.level (sum_at late new) fall.first fall.falls) in
+    let f : Falling (s + 1) (firsts (suc (suc old.level)) (sum_at late new)) =
+    subst (λ m. Falling (s + 1) (firsts (suc m) (sum_at late new))) level
+    (falling_firsts s new.level (sum_at late new) fall.first fall.falls) in
     let e = firsts_same (suc old.level) (sum_at late new) (sum_at late old) (λ l lt. same l (rw level lt)) in
-    let less : measure_of s (firsts (suc (suc old.level)) (sum_at late new)) < space_in s late old = rw (← e) (measure_longer s (firsts (suc old.level) (sum_at late new)) (sum_at late new (suc old.level)) [] f) in
+    let less : measure_of s (firsts (suc (suc old.level)) (sum_at late new)) < space_in s late old =
+    rw (← e) (measure_longer s (firsts (suc old.level) (sum_at late new)) (sum_at late new (suc old.level)) [] f) in
     subst (λ m. measure_of s (firsts (suc m) (sum_at late new)) < space_in s late old) (sym level) less
 
 -- vertices that come leave the sums as they were
-pub space_stays : (s la lb : ℕ) (old new : TrailView) → new.level ≡ old.level → ((l : ℕ) → sum_at lb new l ≡ sum_at la old l) → space_in s lb new ≡ space_in s la old
-space_stays s la lb old new level sums = ap (λ n. measure_of s (firsts (suc n) (sum_at lb new))) level ∙ ap (measure_of s) (firsts_same (suc old.level) (sum_at lb new) (sum_at la old) (λ l lt. sums l))
+pub space_stays : (s la lb : ℕ) (old new : TrailView) → new.level ≡ old.level
+    → ((l : ℕ) → sum_at lb new l ≡ sum_at la old l) → space_in s lb new ≡ space_in s la old
+space_stays s la lb old new level sums = ap (λ n. measure_of s (firsts (suc n) (sum_at lb new))) level
+    ∙ ap (measure_of s) (firsts_same (suc old.level) (sum_at lb new) (sum_at la old) (λ l lt. sums l))
 
-pub falling_stays : (s la lb : ℕ) (old new : TrailView) → IsFalling s la old → new.level ≡ old.level → ((l : ℕ) → sum_at lb new l ≡ sum_at la old l) → past new.level new.steps ≡ [] → IsFalling s lb new
+pub falling_stays : (s la lb : ℕ) (old new : TrailView) → IsFalling s la old → new.level ≡ old.level
+    → ((l : ℕ) → sum_at lb new l ≡ sum_at la old l) → past new.level new.steps ≡ [] → IsFalling s lb new
 falling_stays s la lb old new fall level sums top = record {
   first = rw (sums 0) fall.first;
   falls = λ l lt. rw (sums (suc l), sums l) (fall.falls l (omega (arith, level, lt)));
   top = top;
 }
 
-pub falling_lower : (s late : ℕ) (old new : TrailView) → IsFalling s late old → new.level ≤ old.level → ((l : ℕ) → l < new.level → sum_at late new l ≡ sum_at late old l) → sum_at late new new.level < sum_at late old new.level → past new.level new.steps ≡ [] → IsFalling s late new
+pub falling_lower : (s late : ℕ) (old new : TrailView) → IsFalling s late old → new.level ≤ old.level
+    → ((l : ℕ) → l < new.level → sum_at late new l ≡ sum_at late old l)
+    → sum_at late new new.level < sum_at late old new.level → past new.level new.steps ≡ [] → IsFalling s late new
 falling_lower s late old new fall level same less top = record {
   first = elim (cases_lt 0 new.level) [
     | inl lt ↦ rw (same 0 lt) fall.first
@@ -84,7 +104,8 @@ falling_lower s late old new fall level same less top = record {
     | inl lt' ↦ rw (same (suc l) lt', same l lt) (fall.falls l (omega (arith, lt, level)))
     | inr le ↦
         let e : new.level ≡ suc l = omega (arith, le, lt) in
-        let h : sum_at late new (suc l) < sum_at late old (suc l) = subst (λ m. sum_at late new m < sum_at late old m) e less in
+        let h : sum_at late new (suc l) < sum_at late old (suc l) =
+        subst (λ m. sum_at late new m < sum_at late old m) e less in
         let k : sum_at late old (suc l) < sum_at late old l = fall.falls l (omega (arith, lt, level)) in
         let j : sum_at late new l ≡ sum_at late old l = same l lt in
         omega (arith, h, k, j)
@@ -92,14 +113,17 @@ falling_lower s late old new fall level same less top = record {
   top = top;
 }
 
-pub falling_deeper : (s late : ℕ) (old new : TrailView) → IsFalling s late old → new.level ≡ suc old.level → ((l : ℕ) → l < new.level → sum_at late new l ≡ sum_at late old l) → sum_at late new new.level < sum_at late old old.level → past new.level new.steps ≡ [] → IsFalling s late new
+pub falling_deeper : (s late : ℕ) (old new : TrailView) → IsFalling s late old → new.level ≡ suc old.level
+    → ((l : ℕ) → l < new.level → sum_at late new l ≡ sum_at late old l)
+    → sum_at late new new.level < sum_at late old old.level → past new.level new.steps ≡ [] → IsFalling s late new
 falling_deeper s late old new fall level same less top = record {
   first = rw (same 0 (omega (arith, level))) fall.first;
   falls = λ l lt. elim (cases_lt l old.level) [
     | inl lt' ↦ rw (same (suc l) (omega (arith, lt', level)), same l lt) (fall.falls l lt')
     | inr le ↦
         let e : l ≡ old.level = omega (arith, le, lt, level) in
-        let h : sum_at late new (suc old.level) < sum_at late old old.level = subst (λ m. sum_at late new m < sum_at late old old.level) level less in
+        let h : sum_at late new (suc old.level) < sum_at late old old.level =
+        subst (λ m. sum_at late new m < sum_at late old old.level) level less in
         let j : sum_at late new old.level ≡ sum_at late old old.level = same old.level (omega (arith, level)) in
         rw e (let g : sum_at late new (suc old.level) < sum_at late new old.level = omega (arith, h, j) in g)
   ];

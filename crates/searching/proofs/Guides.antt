@@ -1,5 +1,6 @@
 -- What a guide has to show, where nothing comes and where vertices come, and that a set without a number is empty.
-use Rattle.std.proofs.Common.{◌≡◌, ℕ, zero, suc, ◌+◌, ◌-◌, ◌<◌, ◌≤◌, true, false, List, [], ◌∷◌, ◌++◌, length, map, get_or, refl, sym, ap, ap₂, ◌∙◌, subst, arith, inl, inr}
+use Rattle.std.proofs.Common.{◌≡◌, ℕ, zero, suc, ◌+◌, ◌-◌, ◌<◌, ◌≤◌, true, false, List, [], ◌∷◌, ◌++◌, length, map}
+use Rattle.std.proofs.Common.{get_or, refl, sym, ap, ap₂, ◌∙◌, subst, arith, inl, inr}
 use Rattle.std.proofs.lemmas.Bool.{cases_lt, false≢true}
 use Rattle.std.proofs.lemmas.List.{get_or_append_left, get_or-append_right, length-append, length-map, length-replicate}
 use Rattle.version_sets.specs.Sets.{Members, every, has, size}
@@ -22,7 +23,8 @@ nothing_put [] = refl
 nothing_put (e ∷ es) = ap (λ xs. e ∷ xs) (nothing_put es)
 
 -- no vertex and no axiom
-pub adding_nothing : (asked : Pairs) (left late : ℕ) (t : TrailView) (es : List EntryView) → LieIn t es → AllAsked asked t.sets → IsAdding asked asked left left late late t t es es false
+pub adding_nothing : (asked : Pairs) (left late : ℕ) (t : TrailView) (es : List EntryView) → LieIn t es
+    → AllAsked asked t.sets → IsAdding asked asked left left late late t t es es false
 adding_nothing asked left late t es lies all = record {
   spaces = [];
   wider = wider_none t;
@@ -46,7 +48,8 @@ set_each (n ∷ more) (suc i) = set_each more i
 module _ (spaces more : List ℕ) (t wide : TrailView) (has : HasSpaces spaces t) (wider : IsWider more t wide) where
   set_new : (u : ℕ) → length t.sets ≤ u → set_of wide.sets u ≡ every (get_or (spaces ++ more) u 0)
   set_new u ge =
-      ap (λ ss. set_of ss u) wider.sets ∙ get_or-append_right t.sets (map every more) (length t.sets) u [] refl ge ∙ set_each more (u - length t.sets)
+      ap (λ ss. set_of ss u) wider.sets ∙ get_or-append_right t.sets (map every more) (length t.sets) u [] refl ge
+      ∙ set_each more (u - length t.sets)
       ∙ ap every (sym (get_or-append_right spaces more (length t.sets) u 0 (sym has.vertices) ge))
 
   each_by : (u : ℕ) → space_of wide u ≡ get_or (spaces ++ more) u 0
@@ -59,7 +62,8 @@ module _ (spaces more : List ℕ) (t wide : TrailView) (has : HasSpaces spaces t
 
   pub spaces_wider : HasSpaces (spaces ++ more) wide
   spaces_wider = record {
-    vertices = ap length wider.sets ∙ length-append t.sets (map every more) ∙ ap₂ (λ m n. m + n) has.vertices (length-map more every) ∙ sym (length-append spaces more);
+    vertices = ap length wider.sets ∙ length-append t.sets (map every more)
+        ∙ ap₂ (λ m n. m + n) has.vertices (length-map more every) ∙ sym (length-append spaces more);
     each = each_by;
   }
 

@@ -1,6 +1,7 @@
 -- Where nothing is left to propagate, an assignment out of what is left breaks no entry in which at most one vertex is
 -- undecided.
-use Rattle.std.proofs.Common.{◌≡◌, ◌≢◌, ℕ, zero, suc, ◌<◌, Bool, true, false, List, [], ◌∷◌, length, Option, Some, None, refl, sym, subst, arith, inl, inr}
+use Rattle.std.proofs.Common.{◌≡◌, ◌≢◌, ℕ, zero, suc, ◌<◌, Bool, true, false, List, [], ◌∷◌, length, Option, Some, None}
+use Rattle.std.proofs.Common.{refl, sym, subst, arith, inl, inr}
 use Rattle.std.proofs.lemmas.Bool.{cases_eq, false≢true}
 use Rattle.version_sets.specs.Sets.{Members, has, inside, meets}
 use Rattle.incompatibilities.specs.Incompatibilities.{Assignment, Breaks, HoldsOf, LiesIn, Terms, HoldsAt}
@@ -24,14 +25,18 @@ both_meet (true ∷ s) (true ∷ x) (suc i) h k = refl
 both_meet (true ∷ s) (false ∷ x) (suc i) h k = both_meet s x i h k
 both_meet (false ∷ s) (y ∷ x) (suc i) h k = both_meet s x i h k
 
-module _ (x : Assignment) (sets : List Members) (f : Terms) (w : ℕ) (lies : LiesIn (λ u. length (set_of sets u)) f) (agrees : Agrees x sets) (quiet : IsQuiet sets f) (decided : IsDecidedBut w x sets f) (breaks : Breaks x f) where
+module _ (x : Assignment) (sets : List Members) (f : Terms) (w : ℕ) (lies : LiesIn (λ u. length (set_of sets u)) f)
+    (agrees : Agrees x sets) (quiet : IsQuiet sets f) (decided : IsDecidedBut w x sets f) (breaks : Breaks x f) where
   -- where a term holds, the state is left
   left : (u : ℕ) (s : Members) → f u ≡ Some s → HoldsOf (Some s) (x u) → has (set_of sets u) (x u) ≡ true
   left u s e h = agrees u (in_range sets u (omega (arith, lies u s e, has_long s (x u) h)))
 
   others_by : (u : ℕ) → u ≢ w → (o : Option Members) → f u ≡ o → HoldsOf o (x u) → HoldsAt (set_of sets u) o
   others_by u ne None e h = tt
-  others_by u ne (Some s) e h = (has_some (set_of sets u) (x u) (left u s e h), one_inside (set_of sets u) s (x u) (decided u ne s e h) (left u s e h) h)
+  others_by u ne (Some s) e h = (
+    has_some (set_of sets u) (x u) (left u s e h),
+    one_inside (set_of sets u) s (x u) (decided u ne s e h) (left u s e h) h,
+  )
 
   others : OthersHold sets f w
   others u ne = others_by u ne (f u) refl (breaks u)
@@ -43,8 +48,10 @@ module _ (x : Assignment) (sets : List Members) (f : Terms) (w : ℕ) (lies : Li
   ])
 
   open_by : (s : Members) → f w ≡ Some s → HoldsOf (Some s) (x w) → (b : Bool) → inside (set_of sets w) s ≡ b → ⊥
-  open_by s e h true is = all (subst (HoldsAt (set_of sets w)) (sym e) (has_some (set_of sets w) (x w) (left w s e h), is))
-  open_by s e h false is = quiet.not_one w s (record { term = e; common = both_meet (set_of sets w) s (x w) (left w s e h) h; apart = is; others = others })
+  open_by s e h true is =
+      all (subst (HoldsAt (set_of sets w)) (sym e) (has_some (set_of sets w) (x w) (left w s e h), is))
+  open_by s e h false is = quiet.not_one w s
+      (record { term = e; common = both_meet (set_of sets w) s (x w) (left w s e h) h; apart = is; others = others })
 
   here_by : (o : Option Members) → f w ≡ o → HoldsOf o (x w) → ⊥
   here_by None e h = all (subst (HoldsAt (set_of sets w)) (sym e) tt)

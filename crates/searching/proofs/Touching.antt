@@ -1,5 +1,6 @@
 -- Combinations are at vertices at which their first has a term, as a store gains entries.
-use Rattle.std.proofs.Common.{◌≡◌, ℕ, Bool, ◌<◌, ◌≤◌, ◌-◌, List, [], ◌++◌, length, true, true≢false, refl, sym, ap, ◌∙◌, subst, arith, inl, inr}
+use Rattle.std.proofs.Common.{◌≡◌, ℕ, Bool, ◌<◌, ◌≤◌, ◌-◌, List, [], ◌++◌, length, true, true≢false, refl, sym, ap, ◌∙◌}
+use Rattle.std.proofs.Common.{subst, arith, inl, inr}
 use Rattle.std.proofs.lemmas.Bool.{cases_lt}
 use Rattle.std.proofs.lemmas.List.{get_or-append_right, get_or_append_left, get_or_past, length-append}
 use Rattle.incompatibilities.specs.Stores.{EntryView, IsAxiom, entry, touches}
@@ -29,7 +30,8 @@ module _ (old new gained : List EntryView) (grown : new ≡ old ++ gained) where
   at_old id lt = ap (λ (xs : List EntryView). entry xs id) grown ∙ get_or_append_left old gained empty id lt
 
   at_gained : (id : ℕ) → length old ≤ id → entry new id ≡ entry gained (id - length old)
-  at_gained id ge = ap (λ (xs : List EntryView). entry xs id) grown ∙ get_or-append_right old gained (length old) id empty refl ge
+  at_gained id ge =
+      ap (λ (xs : List EntryView). entry xs id) grown ∙ get_or-append_right old gained (length old) id empty refl ge
 
   -- an entry that has a term is there
   is_there : (i v : ℕ) → touches v (entry old i).terms ≡ true → i < length old
@@ -38,7 +40,8 @@ module _ (old new gained : List EntryView) (grown : new ≡ old ++ gained) where
     | inr ge ↦ absurd (true≢false (sym is ∙ ap (λ (e : EntryView). touches v e.terms) (get_or_past old i empty ge)))
   ]
 
-  touching_more : ((id i j v : ℕ) (w : Bool) → length old ≤ id → id < length new → (entry new id).origin ≡ Combined i j v w → touches v (entry new i).terms ≡ true) → AreTouching old → AreTouching new
+  touching_more : ((id i j v : ℕ) (w : Bool) → length old ≤ id → id < length new → (entry new id).origin
+      ≡ Combined i j v w → touches v (entry new i).terms ≡ true) → AreTouching old → AreTouching new
   touching_more later was id i j v w within origin = elim (cases_lt id (length old)) [
     | inl lt ↦
         let is = was id i j v w lt (sym (ap (λ (e : EntryView). e.origin) (at_old id lt)) ∙ origin) in
@@ -47,20 +50,28 @@ module _ (old new gained : List EntryView) (grown : new ≡ old ++ gained) where
   ]
 
   -- axioms
-  pub touching_axioms : ((i : ℕ) → i < length gained → IsAxiom (entry gained i).origin) → AreTouching old → AreTouching new
+  pub touching_axioms : ((i : ℕ) → i < length gained → IsAxiom (entry gained i).origin)
+      → AreTouching old → AreTouching new
   touching_axioms given = touching_more (λ id i j v w ge within origin.
-      let some : id - length old < length gained = omega (arith, ge, within, ap length grown, length-append old gained) in
-      let none : IsAxiom (Combined i j v w) = subst IsAxiom (sym (ap (λ (e : EntryView). e.origin) (at_gained id ge)) ∙ origin) (given (id - length old) some) in
+      let some : id - length old < length gained =
+      omega (arith, ge, within, ap length grown, length-append old gained) in
+      let none : IsAxiom (Combined i j v w) = subst IsAxiom
+      (sym (ap (λ (e : EntryView). e.origin) (at_gained id ge)) ∙ origin) (given (id - length old) some) in
       absurd none)
 
   -- what is learned
-  pub touching_learned : ((id : ℕ) → length old ≤ id → id < length new → IsCombined new id) → AreTouching old → AreTouching new
-  touching_learned combined = touching_more (λ id i j v w ge within origin. is id i j v w (combined id ge within) origin)
+  pub touching_learned : ((id : ℕ) → length old ≤ id → id < length new → IsCombined new id)
+      → AreTouching old → AreTouching new
+  touching_learned combined =
+      touching_more (λ id i j v w ge within origin. is id i j v w (combined id ge within) origin)
     where
-      is : (id i j v : ℕ) (w : Bool) → IsCombined new id → (entry new id).origin ≡ Combined i j v w → touches v (entry new i).terms ≡ true
+      is : (id i j v : ℕ) (w : Bool) → IsCombined new id → (entry new id).origin ≡ Combined i j v w
+          → touches v (entry new i).terms ≡ true
       is id i j v w c origin =
           let same : Combined c.first c.second c.vertex c.watches ≡ Combined i j v w = sym c.origin ∙ origin in
-          subst (λ k. touches v (entry new k).terms ≡ true) (ap first_of same) (subst (λ u. touches u (entry new c.first).terms ≡ true) (ap vertex_of same) c.term)
+          subst (λ k. touches v (entry new k).terms ≡ true) (ap first_of same)
+          (subst (λ u. touches u (entry new c.first).terms ≡ true) (ap vertex_of same) c.term)
 
-pub touching_gained : (es : List EntryView) (t : TrailView) (more gained : List EntryView) → IsGained es t more gained → AreTouching es → AreTouching more
+pub touching_gained : (es : List EntryView) (t : TrailView) (more gained : List EntryView) → IsGained es t more gained
+    → AreTouching es → AreTouching more
 touching_gained es t more gained g = touching_learned es more gained g.grown g.combined

@@ -1,10 +1,12 @@
 -- What a search keeps between two turns, and the number that falls (Dart pub's `solver.md`, "The Algorithm").
-use Rattle.std.specs.Prelude.{◌≡◌, ℕ, zero, suc, ◌+◌, ◌<◌, ◌≤◌, Bool, true, false, List, [], ◌∷◌, ◌++◌, length, slice_index_or, take, Some}
+use Rattle.std.specs.Prelude.{◌≡◌, ℕ, zero, suc, ◌+◌, ◌<◌, ◌≤◌, Bool, true, false, List, [], ◌∷◌, ◌++◌, length}
+use Rattle.std.specs.Prelude.{slice_index_or, take, Some}
 use Rattle.version_sets.specs.Sets.{Members, has, size}
 use Rattle.incompatibilities.specs.Incompatibilities.{states_at}
 use Rattle.incompatibilities.specs.Stores.{EntryView, Follows, IsAxiom, entry, terms_of, touches}
 use Rattle.incompatibilities.specs.declared.origin.Origin.TheVariants.{Combined}
-use Rattle.propagation.specs.Trails.{TrailView, end_sets, latest_at, level_after, past, set_of, sets_at, space_of, total}
+use Rattle.propagation.specs.Trails.{TrailView, end_sets, latest_at, level_after, past, set_of, sets_at, space_of}
+use Rattle.propagation.specs.Trails.{total}
 use Rattle.propagation.specs.Promises.{IsTrail, IsProgress}
 use Rattle.propagation.specs.declared.propagating.Progress.{Progress}
 use Rattle.conflicts.specs.Resolving.{Quiet}
@@ -91,7 +93,8 @@ pub record IsRefutation (es : List EntryView) (id : ℕ) : Type 0 where
 
 -- each combination is at a vertex at which the first of the two has a term
 abbrev pub AreTouching : List EntryView → Type 0
-AreTouching es = (id i j v : ℕ) (w : Bool) → id < length es → (entry es id).origin ≡ Combined i j v w → touches v (entry es i).terms ≡ true
+AreTouching es = (id i j v : ℕ) (w : Bool) → id < length es → (entry es id).origin ≡ Combined i j v w
+    → touches v (entry es i).terms ≡ true
 
 -- a vertex with several states left, and one of them
 pub record CanDecide (t : TrailView) (v i : ℕ) : Type 0 where
@@ -106,7 +109,16 @@ pub record HasSpaces (spaces : List ℕ) (t : TrailView) : Type 0 where
 
 -- a trail after its first places, and that each place brings the number down
 abbrev pub up_to : TrailView → ℕ → TrailView
-up_to t k = record { sets = sets_at t k; steps = take k t.steps; latest = latest_at t k; level = level_after t.steps k; assigned = t.assigned; settled = t.settled; walked = t.walked }
+up_to t k = record {
+  sets = sets_at t k;
+  steps = take k t.steps;
+  latest = latest_at t k;
+  level =
+      level_after t.steps k;
+  assigned = t.assigned;
+  settled = t.settled;
+  walked = t.walked;
+}
 
 abbrev pub EachFalls : ℕ → TrailView → Type 0
 EachFalls late t = (k : ℕ) → k < length t.steps → space late (up_to t (suc k)) < space late (up_to t k)

@@ -6,7 +6,8 @@ use Rattle.propagation.specs.Promises.{LieIn, IsProgress}
 use Rattle.propagation.specs.Widening.{IsWider, sum_of}
 use Rattle.propagation.specs.declared.propagating.Progress.{Progress}
 use Rattle.propagation.specs.declared.propagating.Progress.TheVariants.{Fixpoint}
-use Rattle.searching.specs.Searching.{AllAsked, AreMore, AreOfNew, CanDecide, IsCaught, IsRefutation, IsSearching, IsSeen, LoneAsked, Pairs, space}
+use Rattle.searching.specs.Searching.{AllAsked, AreMore, AreOfNew, CanDecide, IsCaught, IsRefutation, IsSearching}
+use Rattle.searching.specs.Searching.{IsSeen, LoneAsked, Pairs, space}
 use Rattle.searching.specs.declared.turns.Answer.{Answer}
 use Rattle.searching.specs.declared.turns.Answer.TheVariants.{Selection, Unsolvable}
 use Rattle.searching.specs.declared.turns.Turn.{Turn}
@@ -14,7 +15,8 @@ use Rattle.searching.specs.declared.turns.Turn.TheVariants.{Goes, Ends}
 
 -- vertices come, and axioms of new pairs: some pair is taken off those that are left, or no axiom is added and no pair
 -- is left that stands alone
-pub record IsAdding (asked more : Pairs) (left fewer late later : ℕ) (t wide : TrailView) (old new : List EntryView) (added : Bool) : Type 0 where
+pub record IsAdding (asked more : Pairs) (left fewer late later : ℕ) (t wide : TrailView) (old new : List EntryView)
+    (added : Bool) : Type 0 where
   pub spaces : List ℕ
   pub wider : IsWider spaces t wide
   pub came : sum_of spaces + later ≡ late
@@ -37,13 +39,15 @@ HasEnded done asked es t Selection = done × AllAsked asked t.sets × IsProgress
 HasEnded done asked es t (Unsolvable id) = IsRefutation es id
 
 -- the search goes on, and the number that falls with each turn is below what it was
-pub record HasFallen (before : ℕ) (asked : Pairs) (left late : ℕ) (es : List EntryView) (new : TrailView) (next : Progress) : Type 0 where
+pub record HasFallen (before : ℕ) (asked : Pairs) (left late : ℕ) (es : List EntryView) (new : TrailView)
+    (next : Progress) : Type 0 where
   pub searching : IsSearching late es new next
   pub caught : IsCaught asked new
   pub falls : space late new + left < before
 
 -- the same, and how many places were looked at
-pub record HasGone (before : ℕ) (asked : Pairs) (left late seen : ℕ) (es : List EntryView) (new : TrailView) (next : Progress) : Type 0 where
+pub record HasGone (before : ℕ) (asked : Pairs) (left late seen : ℕ) (es : List EntryView) (new : TrailView)
+    (next : Progress) : Type 0 where
   pub fallen : HasFallen before asked left late es new next
   pub seen_is : IsSeen seen asked new
 

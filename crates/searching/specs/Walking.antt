@@ -24,7 +24,8 @@ RefutesNothing (Ends answer) = IsSelection answer
 
 -- each such assignment of the vertices that there are afterwards was one before, and if it broke no entry and its
 -- states were left, that is so afterwards too
-abbrev pub KeepsWalks : (Assignment → Type 0) → List EntryView → TrailView → (Assignment → Type 0) → List EntryView → TrailView → Type 0
+abbrev pub KeepsWalks : (Assignment → Type 0) → List EntryView → TrailView → (Assignment → Type 0)
+    → List EntryView → TrailView → Type 0
 KeepsWalks was es t is more new = (x : Assignment) → is x → was x × (IsWalked x es t → IsWalked x more new)
 
 abbrev pub TurnsOn : (Assignment → Type 0) → List EntryView → TrailView → Turn → Type 0

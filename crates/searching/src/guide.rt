@@ -66,19 +66,27 @@ pub trait Guide<S: States + Drop>: Sized {
         requires caught { IsCaught (asked self.old) (trail_view S.tests trail.old) }
         // So only the vertices of later places have to be looked at.
         requires seen { IsSeen (seen self.old) (asked self.old) (trail_view S.tests trail.old) }
-        ensures adding { IfOk result (λ added. IsAdding (asked self.old) (asked self.new) (left self.old) (left self.new) (late self.old) (late self.new) (trail_view S.tests trail.old) (trail_view S.tests trail.new) (entries_view S.tests store.old) (entries_view S.tests store.new) added) }
+        ensures adding { IfOk result (λ added. IsAdding (asked self.old) (asked self.new) (left self.old)
+            (left self.new) (late self.old) (late self.new) (trail_view S.tests trail.old)
+            (trail_view S.tests trail.new) (entries_view S.tests store.old) (entries_view S.tests store.new) added) }
         ensures spaces { IfOk result (λ added. HasSpaces (spaces self.new) (trail_view S.tests trail.new)) }
         ensures seen { IfOk result (λ added. IsSeen (seen self.new) (asked self.new) (trail_view S.tests trail.new)) }
         ensures keeps { IfOk result (λ added. keeps self.old self.new) }
-        ensures given { IfOk result (λ added. AreGiven (given self.old) (entries_view S.tests store.old) → AreGiven (given self.new) (entries_view S.tests store.new)) }
-        ensures stored { IfOk result (λ added. stored self.old (entries_view S.tests store.old) → stored self.new (entries_view S.tests store.new)) }
-        ensures walks { IfOk result (λ added. KeepsWalks (walks self.old) (entries_view S.tests store.old) (trail_view S.tests trail.old) (walks self.new) (entries_view S.tests store.new) (trail_view S.tests trail.new)) };
+        ensures given { IfOk result (λ added. AreGiven (given self.old) (entries_view S.tests store.old)
+            → AreGiven (given self.new) (entries_view S.tests store.new)) }
+        ensures stored { IfOk result (λ added. stored self.old (entries_view S.tests store.old)
+            → stored self.new (entries_view S.tests store.new)) }
+        ensures walks { IfOk result
+            (λ added. KeepsWalks (walks self.old) (entries_view S.tests store.old) (trail_view S.tests trail.old)
+            (walks self.new) (entries_view S.tests store.new) (trail_view S.tests trail.new)) };
 
     /// A vertex to decide and its state, if there is one to be decided.
     fn choose(&self, trail: &Trail<S>) -> Result<Option<(usize, u32)>, AllocError>
         requires { HasSpaces (spaces self.now) (trail_view S.tests trail.now) }
-        ensures chosen { IfOk result (λ o. IsChosen (done self.now (trail_view S.tests trail.now)) (trail_view S.tests trail.now) o) }
-        ensures walks { IfOk result (λ o. IfSome o (λ d. (x : Assignment) → walks self.now x → Agrees x (trail_view S.tests trail.now).sets → x d.0 ≡ d.1)) };
+        ensures chosen { IfOk result
+            (λ o. IsChosen (done self.now (trail_view S.tests trail.now)) (trail_view S.tests trail.now) o) }
+        ensures walks { IfOk result (λ o. IfSome o (λ d. (x : Assignment) → walks self.now x
+            → Agrees x (trail_view S.tests trail.now).sets → x d.0 ≡ d.1)) };
 
     /// Tells that a conflict was resolved, and the trail cut, before what was learned is propagated. `learned` is
     /// `conflict` or the combination of an entry with a cause, or with what holds at level 0; that entry is again

@@ -74,19 +74,29 @@ fn turn_back<S: States + Drop, G: Guide<S>>(
     id: Id,
 ) -> Result<Turn, AllocError>
     requires spaces { HasSpaces (G.spaces guide.old) (trail_view S.tests trail.old) }
-    requires searching { IsSearching (G.late guide.old) (entries_view S.tests store.old) (trail_view S.tests trail.old) (Conflict id) }
+    requires searching { IsSearching (G.late guide.old) (entries_view S.tests store.old)
+        (trail_view S.tests trail.old) (Conflict id) }
     requires caught { IsCaught (G.asked guide.old) (trail_view S.tests trail.old) }
     requires seen { IsSeen (G.seen guide.old) (G.asked guide.old) (trail_view S.tests trail.old) }
-    ensures turned { IfOk result (λ r. HasTurned (G.done guide.new (trail_view S.tests trail.new)) (space (G.late guide.old) (trail_view S.tests trail.old) + G.left guide.old) (G.asked guide.new) (G.left guide.new) (G.late guide.new) (G.seen guide.new) (entries_view S.tests store.new) (trail_view S.tests trail.new) r) }
-    ensures counted { IfOk result (λ r. CountsOn (entries_view S.tests store.old) steps.old (entries_view S.tests store.new) steps.new) }
+    ensures turned { IfOk result (λ r. HasTurned (G.done guide.new (trail_view S.tests trail.new)) (space
+        (G.late guide.old) (trail_view S.tests trail.old) + G.left guide.old) (G.asked guide.new) (G.left guide.new)
+        (G.late guide.new) (G.seen guide.new) (entries_view S.tests store.new) (trail_view S.tests trail.new) r) }
+    ensures counted { IfOk result
+        (λ r. CountsOn (entries_view S.tests store.old) steps.old (entries_view S.tests store.new) steps.new) }
     ensures trail { IfOk result (λ r. IsTrail (entries_view S.tests store.new) (trail_view S.tests trail.new)) }
     ensures spaces { IfOk result (λ r. HasSpaces (G.spaces guide.new) (trail_view S.tests trail.new)) }
     ensures keeps { IfOk result (λ r. G.keeps guide.old guide.new) }
-    ensures given { IfOk result (λ r. AreGiven (G.given guide.old) (entries_view S.tests store.old) → AreGiven (G.given guide.new) (entries_view S.tests store.new)) }
-    ensures stored { IfOk result (λ r. G.stored guide.old (entries_view S.tests store.old) → G.stored guide.new (entries_view S.tests store.new)) }
-    ensures touching { IfOk result (λ r. AreTouching (entries_view S.tests store.old) → AreTouching (entries_view S.tests store.new)) }
-    ensures walks { IfOk result (λ r. KeepsWalks (G.walks guide.old) (entries_view S.tests store.old) (trail_view S.tests trail.old) (G.walks guide.new) (entries_view S.tests store.new) (trail_view S.tests trail.new)) }
-    ensures turns { IfOk result (λ r. TurnsOn (G.walks guide.new) (entries_view S.tests store.old) (trail_view S.tests trail.old) r) }
+    ensures given { IfOk result (λ r. AreGiven (G.given guide.old) (entries_view S.tests store.old)
+        → AreGiven (G.given guide.new) (entries_view S.tests store.new)) }
+    ensures stored { IfOk result (λ r. G.stored guide.old (entries_view S.tests store.old)
+        → G.stored guide.new (entries_view S.tests store.new)) }
+    ensures touching { IfOk result
+        (λ r. AreTouching (entries_view S.tests store.old) → AreTouching (entries_view S.tests store.new)) }
+    ensures walks { IfOk result
+        (λ r. KeepsWalks (G.walks guide.old) (entries_view S.tests store.old) (trail_view S.tests trail.old)
+        (G.walks guide.new) (entries_view S.tests store.new) (trail_view S.tests trail.new)) }
+    ensures turns { IfOk result
+        (λ r. TurnsOn (G.walks guide.new) (entries_view S.tests store.old) (trail_view S.tests trail.old) r) }
 {
     let before = store.len();
     let outcome = resolve_conflict(alloc, trail, store, table, id)?;
@@ -108,20 +118,30 @@ fn turn_on<S: States + Drop, G: Guide<S>>(
     store: &mut Store<S>,
 ) -> Result<Turn, AllocError>
     requires spaces { HasSpaces (G.spaces guide.old) (trail_view S.tests trail.old) }
-    requires searching { IsSearching (G.late guide.old) (entries_view S.tests store.old) (trail_view S.tests trail.old) Fixpoint }
+    requires searching { IsSearching (G.late guide.old) (entries_view S.tests store.old)
+        (trail_view S.tests trail.old) Fixpoint }
     requires caught { IsCaught (G.asked guide.old) (trail_view S.tests trail.old) }
     requires seen { IsSeen (G.seen guide.old) (G.asked guide.old) (trail_view S.tests trail.old) }
-    ensures turned { IfOk result (λ r. HasTurned (G.done guide.new (trail_view S.tests trail.new)) (space (G.late guide.old) (trail_view S.tests trail.old) + G.left guide.old) (G.asked guide.new) (G.left guide.new) (G.late guide.new) (G.seen guide.new) (entries_view S.tests store.new) (trail_view S.tests trail.new) r) }
+    ensures turned { IfOk result (λ r. HasTurned (G.done guide.new (trail_view S.tests trail.new)) (space
+        (G.late guide.old) (trail_view S.tests trail.old) + G.left guide.old) (G.asked guide.new) (G.left guide.new)
+        (G.late guide.new) (G.seen guide.new) (entries_view S.tests store.new) (trail_view S.tests trail.new) r) }
     // The combinations stay.
-    ensures counted { IfOk result (λ r. (steps : ℕ) → CountsOn (entries_view S.tests store.old) steps (entries_view S.tests store.new) steps) }
+    ensures counted { IfOk result
+        (λ r. (steps : ℕ) → CountsOn (entries_view S.tests store.old) steps (entries_view S.tests store.new) steps) }
     ensures trail { IfOk result (λ r. IsTrail (entries_view S.tests store.new) (trail_view S.tests trail.new)) }
     ensures spaces { IfOk result (λ r. HasSpaces (G.spaces guide.new) (trail_view S.tests trail.new)) }
     ensures keeps { IfOk result (λ r. G.keeps guide.old guide.new) }
-    ensures given { IfOk result (λ r. AreGiven (G.given guide.old) (entries_view S.tests store.old) → AreGiven (G.given guide.new) (entries_view S.tests store.new)) }
-    ensures stored { IfOk result (λ r. G.stored guide.old (entries_view S.tests store.old) → G.stored guide.new (entries_view S.tests store.new)) }
-    ensures touching { IfOk result (λ r. AreTouching (entries_view S.tests store.old) → AreTouching (entries_view S.tests store.new)) }
-    ensures walks { IfOk result (λ r. KeepsWalks (G.walks guide.old) (entries_view S.tests store.old) (trail_view S.tests trail.old) (G.walks guide.new) (entries_view S.tests store.new) (trail_view S.tests trail.new)) }
-    ensures turns { IfOk result (λ r. TurnsOn (G.walks guide.new) (entries_view S.tests store.old) (trail_view S.tests trail.old) r) }
+    ensures given { IfOk result (λ r. AreGiven (G.given guide.old) (entries_view S.tests store.old)
+        → AreGiven (G.given guide.new) (entries_view S.tests store.new)) }
+    ensures stored { IfOk result (λ r. G.stored guide.old (entries_view S.tests store.old)
+        → G.stored guide.new (entries_view S.tests store.new)) }
+    ensures touching { IfOk result
+        (λ r. AreTouching (entries_view S.tests store.old) → AreTouching (entries_view S.tests store.new)) }
+    ensures walks { IfOk result
+        (λ r. KeepsWalks (G.walks guide.old) (entries_view S.tests store.old) (trail_view S.tests trail.old)
+        (G.walks guide.new) (entries_view S.tests store.new) (trail_view S.tests trail.new)) }
+    ensures turns { IfOk result
+        (λ r. TurnsOn (G.walks guide.new) (entries_view S.tests store.old) (trail_view S.tests trail.old) r) }
 {
     // Axioms first: where none is left to ask for and nothing to decide, that is a selection.
     if guide.axioms(trail, store)? {
@@ -147,19 +167,29 @@ fn one_turn<S: States + Drop, G: Guide<S>>(
     progress: Progress,
 ) -> Result<Turn, AllocError>
     requires spaces { HasSpaces (G.spaces guide.old) (trail_view S.tests trail.old) }
-    requires searching { IsSearching (G.late guide.old) (entries_view S.tests store.old) (trail_view S.tests trail.old) progress }
+    requires searching { IsSearching (G.late guide.old) (entries_view S.tests store.old)
+        (trail_view S.tests trail.old) progress }
     requires caught { IsCaught (G.asked guide.old) (trail_view S.tests trail.old) }
     requires seen { IsSeen (G.seen guide.old) (G.asked guide.old) (trail_view S.tests trail.old) }
-    ensures turned { IfOk result (λ r. HasTurned (G.done guide.new (trail_view S.tests trail.new)) (space (G.late guide.old) (trail_view S.tests trail.old) + G.left guide.old) (G.asked guide.new) (G.left guide.new) (G.late guide.new) (G.seen guide.new) (entries_view S.tests store.new) (trail_view S.tests trail.new) r) }
-    ensures counted { IfOk result (λ r. CountsOn (entries_view S.tests store.old) steps.old (entries_view S.tests store.new) steps.new) }
+    ensures turned { IfOk result (λ r. HasTurned (G.done guide.new (trail_view S.tests trail.new)) (space
+        (G.late guide.old) (trail_view S.tests trail.old) + G.left guide.old) (G.asked guide.new) (G.left guide.new)
+        (G.late guide.new) (G.seen guide.new) (entries_view S.tests store.new) (trail_view S.tests trail.new) r) }
+    ensures counted { IfOk result
+        (λ r. CountsOn (entries_view S.tests store.old) steps.old (entries_view S.tests store.new) steps.new) }
     ensures trail { IfOk result (λ r. IsTrail (entries_view S.tests store.new) (trail_view S.tests trail.new)) }
     ensures spaces { IfOk result (λ r. HasSpaces (G.spaces guide.new) (trail_view S.tests trail.new)) }
     ensures keeps { IfOk result (λ r. G.keeps guide.old guide.new) }
-    ensures given { IfOk result (λ r. AreGiven (G.given guide.old) (entries_view S.tests store.old) → AreGiven (G.given guide.new) (entries_view S.tests store.new)) }
-    ensures stored { IfOk result (λ r. G.stored guide.old (entries_view S.tests store.old) → G.stored guide.new (entries_view S.tests store.new)) }
-    ensures touching { IfOk result (λ r. AreTouching (entries_view S.tests store.old) → AreTouching (entries_view S.tests store.new)) }
-    ensures walks { IfOk result (λ r. KeepsWalks (G.walks guide.old) (entries_view S.tests store.old) (trail_view S.tests trail.old) (G.walks guide.new) (entries_view S.tests store.new) (trail_view S.tests trail.new)) }
-    ensures turns { IfOk result (λ r. TurnsOn (G.walks guide.new) (entries_view S.tests store.old) (trail_view S.tests trail.old) r) }
+    ensures given { IfOk result (λ r. AreGiven (G.given guide.old) (entries_view S.tests store.old)
+        → AreGiven (G.given guide.new) (entries_view S.tests store.new)) }
+    ensures stored { IfOk result (λ r. G.stored guide.old (entries_view S.tests store.old)
+        → G.stored guide.new (entries_view S.tests store.new)) }
+    ensures touching { IfOk result
+        (λ r. AreTouching (entries_view S.tests store.old) → AreTouching (entries_view S.tests store.new)) }
+    ensures walks { IfOk result
+        (λ r. KeepsWalks (G.walks guide.old) (entries_view S.tests store.old) (trail_view S.tests trail.old)
+        (G.walks guide.new) (entries_view S.tests store.new) (trail_view S.tests trail.new)) }
+    ensures turns { IfOk result
+        (λ r. TurnsOn (G.walks guide.new) (entries_view S.tests store.old) (trail_view S.tests trail.old) r) }
 {
     match progress {
         Progress::Conflict(id) => turn_back(alloc, guide, trail, store, table, steps, id),
@@ -181,18 +211,26 @@ pub fn search<S: States + Drop, G: Guide<S>>(
     requires trail { IsTrail (entries_view S.tests store.old) (trail_view S.tests trail.old) }
     requires steps { (trail_view S.tests trail.old).steps ≡ [] }
     requires seen { IsSeen (G.seen guide.old) (G.asked guide.old) (trail_view S.tests trail.old) }
-    ensures ended { IfOk result (λ f. HasEnded (G.done guide.new (trail_view S.tests trail.new)) (G.asked guide.new) (entries_view S.tests store.new) (trail_view S.tests trail.new) f.answer) }
-    ensures counted { IfOk result (λ f. IsCount (entries_view S.tests store.old) (entries_view S.tests store.new) (trail_view S.tests trail.new) f.steps) }
+    ensures ended { IfOk result (λ f. HasEnded (G.done guide.new (trail_view S.tests trail.new)) (G.asked guide.new)
+        (entries_view S.tests store.new) (trail_view S.tests trail.new) f.answer) }
+    ensures counted { IfOk result (λ f. IsCount (entries_view S.tests store.old) (entries_view S.tests store.new)
+        (trail_view S.tests trail.new) f.steps) }
     ensures trail { IfOk result (λ r. IsTrail (entries_view S.tests store.new) (trail_view S.tests trail.new)) }
     // Each assignment and each decision that stands brought the number down.
     ensures each { IfOk result (λ r. EachFalls (G.late guide.new) (trail_view S.tests trail.new)) }
     ensures spaces { IfOk result (λ r. HasSpaces (G.spaces guide.new) (trail_view S.tests trail.new)) }
     ensures keeps { IfOk result (λ r. G.keeps guide.old guide.new) }
-    ensures given { IfOk result (λ r. AreGiven (G.given guide.old) (entries_view S.tests store.old) → AreGiven (G.given guide.new) (entries_view S.tests store.new)) }
-    ensures stored { IfOk result (λ r. G.stored guide.old (entries_view S.tests store.old) → G.stored guide.new (entries_view S.tests store.new)) }
-    ensures touching { IfOk result (λ r. AreTouching (entries_view S.tests store.old) → AreTouching (entries_view S.tests store.new)) }
-    ensures walks { IfOk result (λ r. KeepsWalks (G.walks guide.old) (entries_view S.tests store.old) (trail_view S.tests trail.old) (G.walks guide.new) (entries_view S.tests store.new) (trail_view S.tests trail.new)) }
-    ensures selects { IfOk result (λ f. (x : Assignment) → G.walks guide.new x → IsWalked x (entries_view S.tests store.old) (trail_view S.tests trail.old) → IsSelection f.answer) }
+    ensures given { IfOk result (λ r. AreGiven (G.given guide.old) (entries_view S.tests store.old)
+        → AreGiven (G.given guide.new) (entries_view S.tests store.new)) }
+    ensures stored { IfOk result (λ r. G.stored guide.old (entries_view S.tests store.old)
+        → G.stored guide.new (entries_view S.tests store.new)) }
+    ensures touching { IfOk result
+        (λ r. AreTouching (entries_view S.tests store.old) → AreTouching (entries_view S.tests store.new)) }
+    ensures walks { IfOk result
+        (λ r. KeepsWalks (G.walks guide.old) (entries_view S.tests store.old) (trail_view S.tests trail.old)
+        (G.walks guide.new) (entries_view S.tests store.new) (trail_view S.tests trail.new)) }
+    ensures selects { IfOk result (λ f. (x : Assignment) → G.walks guide.new x
+        → IsWalked x (entries_view S.tests store.old) (trail_view S.tests trail.old) → IsSelection f.answer) }
 {
     let mut steps = 0;
     let mut table = StandIns::new(alloc);

@@ -30,9 +30,12 @@ if_ok : {X E : Type 0} (P Q : X → Type 0) (r : Result X E) → ((x : X) → P 
 if_ok P Q (Ok x) f h = f x h
 if_ok P Q (Err e) f h = tt
 
-pub findings_are : (m : ManifestView) (index : CatalogueView) (f : Findings) (nodes : List Node) → nodes ≡ f.nodes.items → IsOnlyRoot (problem_in m index) (content_in f) f.root
-    → node_views f.nodes.items ≡ graph_of (problem_in m index) (content_in f) → are_known f.nodes.items ≡ map (is_known (problem_in m index)) (content_in f)
-    → ((n i : ℕ) → (flag_in (map (λ v. v.items) f.facts.enabled.items) n i ≡ true) ↔ IsFactOf (node_views nodes) f.root (enabled n i))
+pub findings_are : (m : ManifestView) (index : CatalogueView) (f : Findings) (nodes : List Node) → nodes ≡ f.nodes.items
+    → IsOnlyRoot (problem_in m index) (content_in f) f.root
+    → node_views f.nodes.items ≡ graph_of (problem_in m index) (content_in f)
+    → are_known f.nodes.items ≡ map (is_known (problem_in m index)) (content_in f)
+    → ((n i : ℕ) → (flag_in (map (λ v. v.items) f.facts.enabled.items) n i ≡ true)
+    ↔ IsFactOf (node_views nodes) f.root (enabled n i))
     → ((n : ℕ) → (flag_at f.facts.lacks.items n ≡ true) ↔ LacksFeature (node_views nodes) f.root n)
     → ((n : ℕ) → (flag_at f.reached.items n ≡ true) ↔ IsReached (problem_in m index) (content_in f) n)
     → AreFindings (problem_in m index) f
@@ -43,32 +46,45 @@ findings_are m index f nodes same only graph known facts lacks reached =
       only_root = only;
       graph_is = graph;
       known_is = known;
-      enabled_is = λ n i. both_ways (subst (λ g. (flag_in (map (λ v. v.items) f.facts.enabled.items) n i ≡ true) ↔ IsFactOf g f.root (enabled n i)) seen (facts n i)) (facts_same q (content_in f) f.root only refl (enabled n i));
-      lacks_is = λ n. both_ways (subst (λ g. (flag_at f.facts.lacks.items n ≡ true) ↔ LacksFeature g f.root n) seen (lacks n)) (lacks_same q (content_in f) f.root only refl n);
+      enabled_is = λ n i. both_ways (subst (λ g. (flag_in (map (λ v. v.items) f.facts.enabled.items) n i ≡ true)
+          ↔ IsFactOf g f.root (enabled n i)) seen (facts n i))
+          (facts_same q (content_in f) f.root only refl (enabled n i));
+      lacks_is =
+          λ n. both_ways (subst (λ g. (flag_at f.facts.lacks.items n ≡ true) ↔ LacksFeature g f.root n) seen (lacks n))
+          (lacks_same q (content_in f) f.root only refl n);
       reached_is = reached;
     }
 
-pub said_of : {E : Type 0} (r : Result Verdict E) (q : Problem) (f : Findings) (content : Content) → content_in f ≡ content → AreFindings q f
-    → IfOk r (λ v. (p : Problem) → AreFindings p f → IsVerdictOn p (content_in f) v) → IfOk r (λ v. IsVerdictOn q content v)
+pub said_of : {E : Type 0} (r : Result Verdict E) (q : Problem) (f : Findings) (content : Content)
+    → content_in f ≡ content → AreFindings q f
+    → IfOk r (λ v. (p : Problem) → AreFindings p f → IsVerdictOn p (content_in f) v)
+    → IfOk r (λ v. IsVerdictOn q content v)
 said_of r q f content same found h =
-    if_ok (λ v. (p : Problem) → AreFindings p f → IsVerdictOn p (content_in f) v) (λ v. IsVerdictOn q content v) r (λ v says. subst (λ c. IsVerdictOn q c v) same (says q found)) h
+    if_ok (λ v. (p : Problem) → AreFindings p f → IsVerdictOn p (content_in f) v) (λ v. IsVerdictOn q content v) r
+    (λ v says. subst (λ c. IsVerdictOn q c v) same (says q found)) h
 
 module _ (q : Problem) (content : Content) where
-  rootless : (name : List ℕ) (version : Parts) → name ≡ q.name → version ≡ q.version → HasNoRoot q content → (v : Verdict) → IsFaultOf fault.Root name version v → IsVerdictOn q content v
+  rootless : (name : List ℕ) (version : Parts) → name ≡ q.name → version ≡ q.version → HasNoRoot q content
+      → (v : Verdict) → IsFaultOf fault.Root name version v → IsVerdictOn q content v
   rootless name version n w none Valid h = absurd h
   rootless name version n w none (Invalid f m u) h =
       subst (λ x. IsInvalid q content x m (parts_of u)) (sym h.0) (h.1 ∙ n, h.2 ∙ w, λ has. none has.0 has.1)
 
   -- no package is the root
-  pub rootless_said : {E : Type 0} (r : Result Verdict E) (name : List ℕ) (version : Parts) → name ≡ q.name → version ≡ q.version → HasNoRoot q content
+  pub rootless_said : {E : Type 0} (r : Result Verdict E) (name : List ℕ) (version : Parts) → name ≡ q.name
+      → version ≡ q.version → HasNoRoot q content
       → IfOk r (λ v. IsFaultOf fault.Root name version v) → IfOk r (λ v. IsVerdictOn q content v)
-  rootless_said r name version n w none h = if_ok (λ v. IsFaultOf fault.Root name version v) (λ v. IsVerdictOn q content v) r (rootless name version n w none) h
+  rootless_said r name version n w none h = if_ok (λ v. IsFaultOf fault.Root name version v)
+      (λ v. IsVerdictOn q content v) r (rootless name version n w none) h
 
   module _ (formed : IsContent content) where
-    never_at : (v : VerdictFault) (name : List ℕ) (version : Parts) → IsAt q content v name version → IsValidSelection q content → ⊥
-    never_at v name version h s = let clean = (valid_iff q content formed).1 s in (h.verdict.1).has_fault (clean.1 h.place (h.verdict.1).place v)
+    never_at : (v : VerdictFault) (name : List ℕ) (version : Parts) → IsAt q content v name version
+        → IsValidSelection q content → ⊥
+    never_at v name version h s = let clean =
+        (valid_iff q content formed).1 s in (h.verdict.1).has_fault (clean.1 h.place (h.verdict.1).place v)
 
-    never : (f : said.VerdictFault) (name : List ℕ) (version : Parts) → IsInvalid q content f name version → IsValidSelection q content → ⊥
+    never : (f : said.VerdictFault) (name : List ℕ) (version : Parts) → IsInvalid q content f name version
+        → IsValidSelection q content → ⊥
     never fault.Root name version h s = h.2 s.root
     never fault.NotCandidate name version h s = never_at _ name version h s
     never fault.TwoInClass name version h s = never_at _ name version h s
@@ -79,7 +95,9 @@ module _ (q : Problem) (content : Content) where
 
     selects : (v : Verdict) → IsVerdictOn q content v → (v ≡ Valid) ↔ IsValidSelection q content
     selects Valid h = (λ e. (valid_iff q content formed).0 h, λ s. refl)
-    selects (Invalid f n w) h = (λ e. absurd (let x : Invalid f n w ≡ Valid = e in cc), λ s. absurd (never f n (parts_of w) h s))
+    selects (Invalid f n w) h =
+        (λ e. absurd (let x : Invalid f n w ≡ Valid = e in cc), λ s. absurd (never f n (parts_of w) h s))
 
-    pub selected : {E : Type 0} (r : Result Verdict E) → IfOk r (λ v. IsVerdictOn q content v) → IfOk r (λ v. (v ≡ Valid) ↔ IsValidSelection q content)
+    pub selected : {E : Type 0} (r : Result Verdict E) → IfOk r (λ v. IsVerdictOn q content v)
+        → IfOk r (λ v. (v ≡ Valid) ↔ IsValidSelection q content)
     selected r h = if_ok (λ v. IsVerdictOn q content v) (λ v. (v ≡ Valid) ↔ IsValidSelection q content) r selects h

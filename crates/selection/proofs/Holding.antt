@@ -1,15 +1,19 @@
 -- The facts of the packages of a lock, by the list of what they bring, are the facts of its content.
-use Rattle.std.proofs.Common.{◌≡◌, ℕ, zero, suc, ◌<◌, ◌↔◌, true, cond, List, [], ◌∷◌, length, get_or, Contains, Option, Some, None, option_map, option_and_then, slice_get, refl, sym, ap, ◌∙◌, subst, arith, true≢false}
+use Rattle.std.proofs.Common.{◌≡◌, ℕ, zero, suc, ◌<◌, ◌↔◌, true, cond, List, [], ◌∷◌, length, get_or, Contains, Option}
+use Rattle.std.proofs.Common.{Some, None, option_map, option_and_then, slice_get, refl, sym, ap, ◌∙◌, subst, arith}
+use Rattle.std.proofs.Common.{true≢false}
 use Rattle.std.proofs.lemmas.List.{length-map}
 use Rattle.std.proofs.lemmas.List.Elements.{All-map}
 use Rattle.std.proofs.lemmas.Option.{none-some, slice_get-map, slice_get_within}
 use Rattle.model.specs.Summary.{Summary, Dependency, has_feature}
 use Rattle.model.specs.Facts.{Fact, here, on, enabled, Brings}
-use Rattle.model.specs.Content.{Package, Content, Problem, brings_of, candidate_of, summary_of, summary_if, summary_at, serves_if, last_serving, list_if, target_of}
+use Rattle.model.specs.Content.{Package, Content, Problem, brings_of, candidate_of, summary_of, summary_if, summary_at}
+use Rattle.model.specs.Content.{serves_if, last_serving, list_if, target_of}
 use Rattle.model.specs.Selection.{IsRootAt, IsPlace, HasTarget, IsFact}
 use Rattle.model.proofs.Orders.{last_is}
 use Rattle.manifest.specs.Manifests.{root_asks}
-use Rattle.facts.specs.Graphs.{NodeView, brings_if, starts_if, target_if, brings_at, starts_at, target_at, IsFactOf, LacksFeature, IsGraph, AreWithin}
+use Rattle.facts.specs.Graphs.{NodeView, brings_if, starts_if, target_if, brings_at, starts_at, target_at, IsFactOf}
+use Rattle.facts.specs.Graphs.{LacksFeature, IsGraph, AreWithin}
 use Rattle.facts.proofs.Mapped.{HoldsFar, holds_far}
 use Rattle.selection.specs.Graphs.{node_of, graph_of, IsOnlyRoot}
 use Rattle.selection.specs.Places.{Lacks}
@@ -21,7 +25,8 @@ there (x ∷ xs) zero lt = (x, refl)
 there (x ∷ xs) (suc n) lt = there xs n (omega arith)
 
 -- a target is a place of the content
-target_within : (content : Content) (d : Dependency) (list : List ℕ) (t : ℕ) → last_serving content d list ≡ Some t → t < length content
+target_within : (content : Content) (d : Dependency) (list : List ℕ) (t : ℕ)
+    → last_serving content d list ≡ Some t → t < length content
 target_within content d list t e = by (slice_get content t) refl (last_is content d list t e).serving
   where
     by : (o : Option Package) → slice_get content t ≡ o → serves_if d o ≡ true → t < length content
@@ -32,10 +37,13 @@ target_within content d list t e = by (slice_get content t) refl (last_is conten
 pub graph_within : (q : Problem) (content : Content) → IsGraph (graph_of q content)
 graph_within q content =
     All-map (λ (n : NodeView). AreWithin (length (graph_of q content)) n.targets) (node_of q content) content
-    (λ k p lt. All-map (λ o. (t : ℕ) → o ≡ Some t → t < length (graph_of q content)) (λ d. last_serving content d (get_or content k p).list) (summary_of q (get_or content k p)).dependencies
-    (λ j d within t e. subst (λ n. t < n) (sym (length-map content (node_of q content))) (target_within content (get_or (summary_of q (get_or content k p)).dependencies j d) (get_or content k p).list t e)))
+    (λ k p lt. All-map (λ o. (t : ℕ) → o ≡ Some t → t < length (graph_of q content))
+    (λ d. last_serving content d (get_or content k p).list) (summary_of q (get_or content k p)).dependencies
+    (λ j d within t e. subst (λ n. t < n) (sym (length-map content (node_of q content))) (target_within content
+    (get_or (summary_of q (get_or content k p)).dependencies j d) (get_or content k p).list t e)))
 
-module _ (q : Problem) (content : Content) (root : ℕ) (only : IsOnlyRoot q content root) (asks_are : q.root_asks ≡ root_asks q.brings.features) where
+module _ (q : Problem) (content : Content) (root : ℕ) (only : IsOnlyRoot q content root)
+    (asks_are : q.root_asks ≡ root_asks q.brings.features) where
   abbrev nodes : List NodeView
   nodes = graph_of q content
 
@@ -52,24 +60,30 @@ module _ (q : Problem) (content : Content) (root : ℕ) (only : IsOnlyRoot q con
   begun_within : (n : ℕ) → starts_at nodes n ≡ true → n < length content
   begun_within n h = by (slice_get content n) refl (sym (ap starts_if (node_at n)) ∙ h)
     where
-      by : (o : Option Package) → slice_get content n ≡ o → starts_if (option_map (node_of q content) o) ≡ true → n < length content
+      by : (o : Option Package) → slice_get content n ≡ o
+          → starts_if (option_map (node_of q content) o) ≡ true → n < length content
       by None e s = absurd (true≢false (sym s))
       by (Some p) e s = slice_get_within content n p e
 
   within_begun : (n : ℕ) → n < length content → starts_at nodes n ≡ true
-  within_begun n lt = let p = there content n lt in ap starts_if (node_at n) ∙ ap (λ o. starts_if (option_map (node_of q content) o)) p.1
+  within_begun n lt = let p =
+      there content n lt in ap starts_if (node_at n) ∙ ap (λ o. starts_if (option_map (node_of q content) o)) p.1
 
-  target_is : (n i : ℕ) (d : Dependency) → Brings (summary_at q content) n i d → target_at nodes n i ≡ target_of content n d
+  target_is : (n i : ℕ) (d : Dependency) → Brings (summary_at q content) n i d
+      → target_at nodes n i ≡ target_of content n d
   target_is n i d b = ap (target_if i) (node_at n) ∙ by (slice_get content n) b
     where
-      by : (o : Option Package) → slice_get (summary_if q o).dependencies i ≡ Some d → target_if i (option_map (node_of q content) o) ≡ last_serving content d (list_if o)
+      by : (o : Option Package) → slice_get (summary_if q o).dependencies i ≡ Some d
+          → target_if i (option_map (node_of q content) o) ≡ last_serving content d (list_if o)
       by None b = absurd (none-some d b)
       by (Some p) b =
-          ap (option_and_then (λ o. o)) (slice_get-map (λ e. last_serving content e p.list) (summary_of q p).dependencies i)
+          ap (option_and_then (λ o. o))
+          (slice_get-map (λ e. last_serving content e p.list) (summary_of q p).dependencies i)
           ∙ ap (λ o. option_and_then (λ r. r) (option_map (λ e. last_serving content e p.list) o)) b
 
   root_is : summary_at q content root ≡ q.brings
-  root_is = let r = (only root).1 refl in ap (summary_if q) r.1 ∙ ap (λ b. cond b q.brings (brings_of (candidate_of q r.0))) r.2
+  root_is = let r =
+      (only root).1 refl in ap (summary_if q) r.1 ∙ ap (λ b. cond b q.brings (brings_of (candidate_of q r.0))) r.2
 
   asks_same : root_asks (brings_at nodes root).features ≡ q.root_asks
   asks_same = ap (λ (o : Summary). root_asks o.features) (brings_are root ∙ root_is) ∙ sym asks_are
@@ -78,18 +92,25 @@ module _ (q : Problem) (content : Content) (root : ℕ) (only : IsOnlyRoot q con
   brings_here : (n i : ℕ) (d : Dependency) → Brings (brings_at nodes) n i d → Brings (summary_at q content) n i d
   brings_here n i d b = subst (λ (o : Summary). slice_get o.dependencies i ≡ Some d) (brings_are n) b
 
-  leads_here : (n t i : ℕ) (d : Dependency) (m : ℕ) → n ≡ m → Brings (brings_at nodes) n i d → target_at nodes n i ≡ Some t → HasTarget q content m d t
-  leads_here n t i d m r b l = subst (λ k. HasTarget q content k d t) r (sym (target_is n i d (brings_here n i d b)) ∙ l)
+  leads_here : (n t i : ℕ) (d : Dependency) (m : ℕ) → n ≡ m → Brings (brings_at nodes) n i d
+      → target_at nodes n i ≡ Some t → HasTarget q content m d t
+  leads_here n t i d m r b l =
+      subst (λ k. HasTarget q content k d t) r (sym (target_is n i d (brings_here n i d b)) ∙ l)
 
-  leads_there : (n t i : ℕ) (d : Dependency) (m : ℕ) → n ≡ m → Brings (summary_at q content) n i d → HasTarget q content n d t → target_at nodes m i ≡ Some t
+  leads_there : (n t i : ℕ) (d : Dependency) (m : ℕ) → n ≡ m → Brings (summary_at q content) n i d
+      → HasTarget q content n d t → target_at nodes m i ≡ Some t
   leads_there n t i d m r b l = subst (λ k. target_at nodes k i ≡ Some t) r (target_is n i d b ∙ l)
 
   far : (x : Fact ℕ) → IsFactOf nodes root x
-      → HoldsFar (brings_at nodes) (λ n. n ≡ root) (λ n. starts_at nodes n ≡ true) (root_asks (brings_at nodes root).features) (λ n i d t. target_at nodes n i ≡ Some t)
-      (summary_at q content) (IsRootAt q content) (IsPlace q content) q.root_asks (λ n i d t. HasTarget q content n d t) (λ n m. n ≡ m) x
+      → HoldsFar (brings_at nodes) (λ n. n ≡ root) (λ n. starts_at nodes n ≡ true)
+      (root_asks (brings_at nodes root).features) (λ n i d t. target_at nodes n i ≡ Some t)
+      (summary_at q content) (IsRootAt q content) (IsPlace q content) q.root_asks
+      (λ n i d t. HasTarget q content n d t) (λ n m. n ≡ m) x
   far x h =
-      holds_far (brings_at nodes) (λ n. n ≡ root) (λ n. starts_at nodes n ≡ true) (root_asks (brings_at nodes root).features) (λ n i d t. target_at nodes n i ≡ Some t)
-      (summary_at q content) (IsRootAt q content) (IsPlace q content) q.root_asks (λ n i d t. HasTarget q content n d t) (λ n m. n ≡ m)
+      holds_far (brings_at nodes) (λ n. n ≡ root) (λ n. starts_at nodes n ≡ true)
+      (root_asks (brings_at nodes root).features) (λ n i d t. target_at nodes n i ≡ Some t)
+      (summary_at q content) (IsRootAt q content) (IsPlace q content) q.root_asks
+      (λ n i d t. HasTarget q content n d t) (λ n m. n ≡ m)
       (record {
         one = λ n m l r s. sym r ∙ s;
         owners = λ n m r. brings_are n ∙ ap (summary_at q content) r;
@@ -100,11 +121,15 @@ module _ (q : Problem) (content : Content) (root : ℕ) (only : IsOnlyRoot q con
       }) x h
 
   near : (x : Fact ℕ) → IsFact q content x
-      → HoldsFar (summary_at q content) (IsRootAt q content) (IsPlace q content) q.root_asks (λ n i d t. HasTarget q content n d t)
-      (brings_at nodes) (λ n. n ≡ root) (λ n. starts_at nodes n ≡ true) (root_asks (brings_at nodes root).features) (λ n i d t. target_at nodes n i ≡ Some t) (λ n m. n ≡ m) x
+      → HoldsFar (summary_at q content) (IsRootAt q content) (IsPlace q content) q.root_asks
+      (λ n i d t. HasTarget q content n d t)
+      (brings_at nodes) (λ n. n ≡ root) (λ n. starts_at nodes n ≡ true) (root_asks (brings_at nodes root).features)
+      (λ n i d t. target_at nodes n i ≡ Some t) (λ n m. n ≡ m) x
   near x h =
-      holds_far (summary_at q content) (IsRootAt q content) (IsPlace q content) q.root_asks (λ n i d t. HasTarget q content n d t)
-      (brings_at nodes) (λ n. n ≡ root) (λ n. starts_at nodes n ≡ true) (root_asks (brings_at nodes root).features) (λ n i d t. target_at nodes n i ≡ Some t) (λ n m. n ≡ m)
+      holds_far (summary_at q content) (IsRootAt q content) (IsPlace q content) q.root_asks
+      (λ n i d t. HasTarget q content n d t)
+      (brings_at nodes) (λ n. n ≡ root) (λ n. starts_at nodes n ≡ true) (root_asks (brings_at nodes root).features)
+      (λ n i d t. target_at nodes n i ≡ Some t) (λ n m. n ≡ m)
       (record {
         one = λ n m l r s. sym r ∙ s;
         owners = λ n m r. sym (brings_are n) ∙ ap (brings_at nodes) r;
@@ -117,12 +142,14 @@ module _ (q : Problem) (content : Content) (root : ℕ) (only : IsOnlyRoot q con
   to_content : (x : Fact ℕ) → IsFactOf nodes root x → IsFact q content x
   to_content (here n) h = let (m, r, p) = far (here n) h in subst (λ k. IsFact q content (here k)) (sym r) p
   to_content (on n f) h = let (m, r, p) = far (on n f) h in subst (λ k. IsFact q content (on k f)) (sym r) p
-  to_content (enabled n i) h = let (m, r, p) = far (enabled n i) h in subst (λ k. IsFact q content (enabled k i)) (sym r) p
+  to_content (enabled n i) h = let (m, r, p) =
+      far (enabled n i) h in subst (λ k. IsFact q content (enabled k i)) (sym r) p
 
   from_content : (x : Fact ℕ) → IsFact q content x → IsFactOf nodes root x
   from_content (here n) h = let (m, r, p) = near (here n) h in subst (λ k. IsFactOf nodes root (here k)) (sym r) p
   from_content (on n f) h = let (m, r, p) = near (on n f) h in subst (λ k. IsFactOf nodes root (on k f)) (sym r) p
-  from_content (enabled n i) h = let (m, r, p) = near (enabled n i) h in subst (λ k. IsFactOf nodes root (enabled k i)) (sym r) p
+  from_content (enabled n i) h = let (m, r, p) =
+      near (enabled n i) h in subst (λ k. IsFactOf nodes root (enabled k i)) (sym r) p
 
   -- the facts are the same
   pub facts_same : (x : Fact ℕ) → IsFactOf nodes root x ↔ IsFact q content x

@@ -1,11 +1,13 @@
 -- The lowest fault of a package, and what is said of the first package that has one.
-use Rattle.std.proofs.Common.{◌≡◌, ℕ, ◌<◌, Bool, true, false, List, Option, Some, None, option_map, Result, Ok, Err, slice_get, length, refl, sym, ◌∙◌, subst, arith, true≢false, IfOk}
+use Rattle.std.proofs.Common.{◌≡◌, ℕ, ◌<◌, Bool, true, false, List, Option, Some, None, option_map, Result, Ok, Err}
+use Rattle.std.proofs.Common.{slice_get, length, refl, sym, ◌∙◌, subst, arith, true≢false, IfOk}
 use Rattle.std.proofs.lemmas.Option.{none-some, same_Some}
 use Rattle.semver.specs.Identifiers.{parts_of}
 use Rattle.semver.specs.Parse.{Parts}
 use Rattle.model.specs.Content.{Package, Content, Problem}
 use Rattle.model.specs.Selection.{IsPlace}
-use Rattle.model.specs.Verdict.{VerdictFault, not_candidate, two_in_class, unmet, no_feature, wrong_list, unreached, number_of, HasRoot, IsFaultless, IsFirstFault}
+use Rattle.model.specs.Verdict.{VerdictFault, not_candidate, two_in_class, unmet, no_feature, wrong_list, unreached}
+use Rattle.model.specs.Verdict.{number_of, HasRoot, IsFaultless, IsFirstFault}
 use Rattle.selection.specs.Places.{is_free, lowest_of, lowest, fault_of, IsChecked, content_in, AreFindings}
 use Rattle.selection.specs.declared.findings.Findings.{Findings}
 use Rattle.selection.specs.Verdicts.{IsAt, IsInvalid, IsVerdictOn, IsFaultOf}
@@ -25,15 +27,21 @@ FailsFirst a b c d e f unreached = (a ≡ true) × (b ≡ true) × (c ≡ true) 
 
 fails_first : (a b c d e f : Bool) (v : VerdictFault) → lowest_of a b c d e f ≡ Some v → FailsFirst a b c d e f v
 fails_first false b c d e f v h = subst (λ w. FailsFirst false b c d e f w) (same_Some not_candidate v h) refl
-fails_first true false c d e f v h = subst (λ w. FailsFirst true false c d e f w) (same_Some two_in_class v h) (refl, refl)
-fails_first true true false d e f v h = subst (λ w. FailsFirst true true false d e f w) (same_Some unmet v h) (refl, refl, refl)
-fails_first true true true false e f v h = subst (λ w. FailsFirst true true true false e f w) (same_Some no_feature v h) (refl, refl, refl, refl)
-fails_first true true true true false f v h = subst (λ w. FailsFirst true true true true false f w) (same_Some wrong_list v h) (refl, refl, refl, refl, refl)
-fails_first true true true true true false v h = subst (λ w. FailsFirst true true true true true false w) (same_Some unreached v h) (refl, refl, refl, refl, refl, refl)
+fails_first true false c d e f v h =
+    subst (λ w. FailsFirst true false c d e f w) (same_Some two_in_class v h) (refl, refl)
+fails_first true true false d e f v h =
+    subst (λ w. FailsFirst true true false d e f w) (same_Some unmet v h) (refl, refl, refl)
+fails_first true true true false e f v h =
+    subst (λ w. FailsFirst true true true false e f w) (same_Some no_feature v h) (refl, refl, refl, refl)
+fails_first true true true true false f v h =
+    subst (λ w. FailsFirst true true true true false f w) (same_Some wrong_list v h) (refl, refl, refl, refl, refl)
+fails_first true true true true true false v h = subst
+    (λ w. FailsFirst true true true true true false w) (same_Some unreached v h) (refl, refl, refl, refl, refl, refl)
 fails_first true true true true true true v h = absurd (none-some v h)
 
 -- nothing failed
-all_pass : (a b c d e f : Bool) → lowest_of a b c d e f ≡ None → (a ≡ true) × (b ≡ true) × (c ≡ true) × (d ≡ true) × (e ≡ true) × (f ≡ true)
+all_pass : (a b c d e f : Bool) → lowest_of a b c d e f ≡ None
+    → (a ≡ true) × (b ≡ true) × (c ≡ true) × (d ≡ true) × (e ≡ true) × (f ≡ true)
 all_pass false b c d e f h = absurd (none-some not_candidate (sym h))
 all_pass true false c d e f h = absurd (none-some two_in_class (sym h))
 all_pass true true false d e f h = absurd (none-some unmet (sym h))
@@ -101,11 +109,13 @@ module _ (k : Checked) where
   free_before unreached h unreached lt = absurd (omega arith)
 
   -- where nothing failed the package is faultless
-  pub faultless : (q : Problem) (content : Content) (n : ℕ) → IsChecked q content n k → lowest k ≡ None → IsFaultless q content n
+  pub faultless : (q : Problem) (content : Content) (n : ℕ) → IsChecked q content n k → lowest k ≡ None
+      → IsFaultless q content n
   faultless q content n h e = λ v. (h v).0 (all_free e v)
 
   -- the first package with a fault
-  pub first_fault : (q : Problem) (content : Content) (n : ℕ) (v : VerdictFault) → IsChecked q content n k → lowest k ≡ Some v → IsPlace q content n → ((m : ℕ) → m < n → IsFaultless q content m) → IsFirstFault q content n v
+  pub first_fault : (q : Problem) (content : Content) (n : ℕ) (v : VerdictFault) → IsChecked q content n k → lowest k
+      ≡ Some v → IsPlace q content n → ((m : ℕ) → m < n → IsFaultless q content m) → IsFirstFault q content n v
   first_fault q content n v h e lt before =
       let first = fails_first k.candidate k.alone k.met k.featured k.listed k.reached v e in
       record {
@@ -116,7 +126,8 @@ module _ (k : Checked) where
       }
 
 -- the fault that the program names
-pub named : (o : Option VerdictFault) (f : said.VerdictFault) → option_map fault_of o ≡ Some f → (v : VerdictFault) × (o ≡ Some v) × (fault_of v ≡ f)
+pub named : (o : Option VerdictFault) (f : said.VerdictFault) → option_map fault_of o ≡ Some f
+    → (v : VerdictFault) × (o ≡ Some v) × (fault_of v ≡ f)
 named None f e = absurd (none-some f e)
 named (Some v) f e = (v, refl, same_Some (fault_of v) f e)
 
@@ -125,7 +136,8 @@ none_named None e = refl
 none_named (Some v) e = absurd (none-some (fault_of v) (sym e))
 
 module _ (q : Problem) (content : Content) where
-  invalid_at : (v : VerdictFault) (name : List ℕ) (version : Parts) → IsAt q content v name version → IsInvalid q content (fault_of v) name version
+  invalid_at : (v : VerdictFault) (name : List ℕ) (version : Parts) → IsAt q content v name version
+      → IsInvalid q content (fault_of v) name version
   invalid_at not_candidate name version h = h
   invalid_at two_in_class name version h = h
   invalid_at unmet name version h = h
@@ -133,18 +145,31 @@ module _ (q : Problem) (content : Content) where
   invalid_at wrong_list name version h = h
   invalid_at unreached name version h = h
 
-  said_first : (n : ℕ) (p : Package) (v : VerdictFault) (f : said.VerdictFault) → fault_of v ≡ f → slice_get content n ≡ Some p → HasRoot q content → IsFirstFault q content n v
+  said_first : (n : ℕ) (p : Package) (v : VerdictFault) (f : said.VerdictFault) → fault_of v ≡ f
+      → slice_get content n ≡ Some p → HasRoot q content → IsFirstFault q content n v
       → (w : Verdict) → IsFaultOf f p.name p.version w → IsVerdictOn q content w
   said_first n p v f e got root first Valid h = absurd h
   said_first n p v f e got root first (Invalid g name version) h =
       subst (λ x. IsInvalid q content x name (parts_of version)) (e ∙ sym h.0)
-      (invalid_at v name (parts_of version) (record { place = n; there = p; stands = got; name_is = sym h.1; version_is = sym h.2; verdict = (root, first) }))
+      (invalid_at v name (parts_of version) (record {
+        place = n;
+        there = p;
+        stands = got;
+        name_is =
+            sym h.1;
+        version_is = sym h.2;
+        verdict = (root, first);
+      }))
 
 -- what is said of the first package with a fault
-pub first_said : {E : Type 0} (r : Result Verdict E) (f : Findings) (n : ℕ) (p : Package) (k : Checked) (x : said.VerdictFault) → option_map fault_of (lowest k) ≡ Some x → slice_get (content_in f) n ≡ Some p
-    → ((q : Problem) → AreFindings q f → IsChecked q (content_in f) n k) → n < length (content_in f) → ((q : Problem) → AreFindings q f → (m : ℕ) → m < n → IsFaultless q (content_in f) m)
-    → IfOk r (λ w. IsFaultOf x p.name p.version w) → IfOk r (λ w. (q : Problem) → AreFindings q f → IsVerdictOn q (content_in f) w)
+pub first_said : {E : Type 0} (r : Result Verdict E) (f : Findings) (n : ℕ) (p : Package) (k : Checked)
+    (x : said.VerdictFault) → option_map fault_of (lowest k) ≡ Some x → slice_get (content_in f) n ≡ Some p
+    → ((q : Problem) → AreFindings q f → IsChecked q (content_in f) n k) → n < length (content_in f)
+    → ((q : Problem) → AreFindings q f → (m : ℕ) → m < n → IsFaultless q (content_in f) m)
+    → IfOk r (λ w. IsFaultOf x p.name p.version w)
+    → IfOk r (λ w. (q : Problem) → AreFindings q f → IsVerdictOn q (content_in f) w)
 first_said (Err e) f n p k x named_as got h lt before said = tt
 first_said (Ok w) f n p k x named_as got h lt before said =
     let v = named (lowest k) x named_as in
-    λ q found. said_first q (content_in f) n p v.0 x v.2 got (f.root, (found.only_root f.root).1 refl) (first_fault k q (content_in f) n v.0 (h q found) v.1 lt (before q found)) w said
+    λ q found. said_first q (content_in f) n p v.0 x v.2 got (f.root, (found.only_root f.root).1 refl)
+    (first_fault k q (content_in f) n v.0 (h q found) v.1 lt (before q found)) w said

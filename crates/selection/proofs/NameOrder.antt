@@ -13,9 +13,11 @@ then_equal Equal = refl
 then_equal Greater = refl
 
 -- packages in order have rising names
-pub names_rise : (name : List ℕ) (p r : Package) → package_cmp p r ≡ Less → ordering_index (text_cmp p.name name) ≤ ordering_index (text_cmp r.name name)
+pub names_rise : (name : List ℕ) (p r : Package) → package_cmp p r ≡ Less
+    → ordering_index (text_cmp p.name name) ≤ ordering_index (text_cmp r.name name)
 names_rise name p r e =
-    let rises = rises-then nat_list_cmp_total p.name r.name name (ordering_then (version_cmp p.version r.version) (source_cmp p.source r.source)) Equal Equal (λ h. omega arith) e in
+    let rises = rises-then nat_list_cmp_total p.name r.name name (ordering_then (version_cmp p.version r.version)
+    (source_cmp p.source r.source)) Equal Equal (λ h. omega arith) e in
     rw (then_equal (text_cmp p.name name), then_equal (text_cmp r.name name)) at rises
 
 pub below_less : (r s : Ordering) → ordering_index r ≤ ordering_index s → is_lt s ≡ true → is_lt r ≡ true

@@ -1,5 +1,7 @@
 -- In package order the packages of one name and class stand side by side, but for the root.
-use Rattle.std.proofs.Common.{◌≡◌, ◌↔◌, ℕ, ◌<◌, ◌≤◌, Bool, true, false, List, length, Some, slice_get, get_or, option_map, refl, sym, ap, ◌∙◌, subst, arith, inl, inr, Ordering, Less, Equal, Greater, true≢false, is_gt, nat_lt}
+use Rattle.std.proofs.Common.{◌≡◌, ◌↔◌, ℕ, ◌<◌, ◌≤◌, Bool, true, false, List, length, Some, slice_get, get_or}
+use Rattle.std.proofs.Common.{option_map, refl, sym, ap, ◌∙◌, subst, arith, inl, inr, Ordering, Less, Equal, Greater}
+use Rattle.std.proofs.Common.{true≢false, is_gt, nat_lt}
 use Rattle.std.specs.Ordering.{ordering_then, ordering_reverse}
 use Rattle.std.proofs.lemmas.Bool.{cases_lt, and_from, ltb-false}
 use Rattle.std.proofs.lemmas.Cmp.{nat_list_cmp_total}
@@ -23,8 +25,10 @@ use Rattle.selection.specs.Graphs.{IsOnlyRoot}
 use Rattle.selection.specs.Names.{is_like}
 
 -- a package of the program at its place
-pub view_at : (ps : List code.Package) (n : ℕ) (p : code.Package) → n < length ps → get_or ps n p ≡ p → slice_get (package_views ps) n ≡ Some (package_view p)
-view_at ps n p lt e = slice_get-map package_view ps n ∙ ap (option_map package_view) (slice_get-get_or ps n p lt ∙ ap Some e)
+pub view_at : (ps : List code.Package) (n : ℕ) (p : code.Package) → n < length ps → get_or ps n p ≡ p
+    → slice_get (package_views ps) n ≡ Some (package_view p)
+view_at ps n p lt e =
+    slice_get-map package_view ps n ∙ ap (option_map package_view) (slice_get-get_or ps n p lt ∙ ap Some e)
 
 tie : (a b : ℕ) → (nat_lt a b ≡ true → ⊥) → (nat_lt b a ≡ true → ⊥) → a ≡ b
 tie a b f g = by (nat_lt a b) refl (nat_lt b a) refl
@@ -50,7 +54,8 @@ between (major a) (major b) f g = ap major (tie a b f g)
 sandwiched : (a b : List ℕ) → is_gt (text_cmp a b) ≡ false → is_gt (text_cmp b a) ≡ false → a ≡ b
 sandwiched a b f g = by (text_cmp a b) refl (text_cmp b a) refl (nat_list_cmp_total.antisymm a b)
   where
-    by : (o : Ordering) → text_cmp a b ≡ o → (r : Ordering) → text_cmp b a ≡ r → text_cmp a b ≡ ordering_reverse (text_cmp b a) → a ≡ b
+    by : (o : Ordering) → text_cmp a b ≡ o → (r : Ordering) → text_cmp b a ≡ r
+        → text_cmp a b ≡ ordering_reverse (text_cmp b a) → a ≡ b
     by Equal e r h s = exact_bytes a b e
     by Greater e r h s = absurd (true≢false (sym (ap is_gt e) ∙ f))
     by Less e Greater h s = absurd (true≢false (sym (ap is_gt h) ∙ g))
@@ -60,29 +65,38 @@ sandwiched a b f g = by (text_cmp a b) refl (text_cmp b a) refl (nat_list_cmp_to
 name_first : (p r : Package) → package_cmp p r ≡ Less → is_gt (text_cmp p.name r.name) ≡ false
 name_first p r e = by (text_cmp p.name r.name) e
   where
-    by : (o : Ordering) → ordering_then o (ordering_then (version_cmp p.version r.version) (source_cmp p.source r.source)) ≡ Less → is_gt o ≡ false
+    by : (o : Ordering) → ordering_then o
+        (ordering_then (version_cmp p.version r.version) (source_cmp p.source r.source)) ≡ Less → is_gt o ≡ false
     by Less e = refl
     by Equal e = refl
     by Greater e = (let x : Greater ≡ Less = e in cc)
 
 module _ (content : Content) (formed : IsContent content) where
   -- what stands between two packages of one name and class is of that name and class
-  within : (n b m : ℕ) (p s r : Package) → slice_get content n ≡ Some p → slice_get content b ≡ Some s → slice_get content m ≡ Some r → m < b → b < n
-      → r.name ≡ p.name → class_of r.version ≡ class_of p.version → (s.name ≡ p.name) × (class_of s.version ≡ class_of p.version)
+  within : (n b m : ℕ) (p s r : Package) → slice_get content n ≡ Some p → slice_get content b ≡ Some s
+      → slice_get content m ≡ Some r → m < b → b < n
+      → r.name ≡ p.name → class_of r.version ≡ class_of p.version
+      → (s.name ≡ p.name) × (class_of s.version ≡ class_of p.version)
   within n b m p s r gn gb gm lt le name class =
-      let before : package_cmp r s ≡ Less = pairs_get (λ p r. package_cmp p r ≡ Less) content m b r s formed.in_order lt gm gb in
-      let after : package_cmp s p ≡ Less = pairs_get (λ p r. package_cmp p r ≡ Less) content b n s p formed.in_order le gb gn in
-      let same : s.name ≡ p.name = sandwiched s.name p.name (name_first s p after) (subst (λ x. is_gt (text_cmp x s.name) ≡ false) name (name_first r s before)) in
+      let before : package_cmp r s ≡ Less =
+      pairs_get (λ p r. package_cmp p r ≡ Less) content m b r s formed.in_order lt gm gb in
+      let after : package_cmp s p ≡ Less =
+      pairs_get (λ p r. package_cmp p r ≡ Less) content b n s p formed.in_order le gb gn in
+      let same : s.name ≡ p.name = sandwiched s.name p.name (name_first s p after)
+      (subst (λ x. is_gt (text_cmp x s.name) ≡ false) name (name_first r s before)) in
       let older = older_first content formed m b r s gm gb lt (name ∙ sym same) in
       let newer = older_first content formed b n s p gb gn le same in (
         same,
         between (class_of s.version) (class_of p.version)
-            (λ h. true≢false (sym (class_above s.version r.version (subst (λ k. is_lower (class_of s.version) k ≡ true) (sym class) h)) ∙ older))
+            (λ h. true≢false (sym (class_above s.version r.version
+            (subst (λ k. is_lower (class_of s.version) k ≡ true) (sym class) h)) ∙ older))
             (λ h. true≢false (sym (class_above p.version s.version h) ∙ newer)),
       )
 
-  stands_between : (n b m : ℕ) (p s r : Package) → slice_get content n ≡ Some p → slice_get content b ≡ Some s → slice_get content m ≡ Some r → m ≤ b → b < n
-      → r.name ≡ p.name → class_of r.version ≡ class_of p.version → (s.name ≡ p.name) × (class_of s.version ≡ class_of p.version)
+  stands_between : (n b m : ℕ) (p s r : Package) → slice_get content n ≡ Some p → slice_get content b ≡ Some s
+      → slice_get content m ≡ Some r → m ≤ b → b < n
+      → r.name ≡ p.name → class_of r.version ≡ class_of p.version
+      → (s.name ≡ p.name) × (class_of s.version ≡ class_of p.version)
   stands_between n b m p s r gn gb gm le lt name class = elim (cases_lt m b) [
     | inl less ↦ within n b m p s r gn gb gm less lt name class
     | inr back ↦
@@ -116,21 +130,25 @@ module _ (content : Content) (formed : IsContent content) where
     like_of : (s p : Package) → s.name ≡ p.name → class_of s.version ≡ class_of p.version → is_like s p ≡ true
     like_of s p name class =
         and_from (same_text s.name p.name) (same_class (class_of s.version) (class_of p.version))
-        (subst (λ x. same_text s.name x ≡ true) name (text-refl s.name)) (subst (λ x. same_class (class_of s.version) x ≡ true) class (class-refl (class_of s.version)))
+        (subst (λ x. same_text s.name x ≡ true) name (text-refl s.name))
+        (subst (λ x. same_class (class_of s.version) x ≡ true) class (class-refl (class_of s.version)))
 
     -- the last one before decides
-    pub second_by : (n b : ℕ) (p s : Package) → slice_get content n ≡ Some p → slice_get content b ≡ Some s → (n ≡ root → ⊥) → b < n → (b ≡ root → ⊥)
+    pub second_by : (n b : ℕ) (p s : Package) → slice_get content n ≡ Some p → slice_get content b ≡ Some s
+        → (n ≡ root → ⊥) → b < n → (b ≡ root → ⊥)
         → ((m : ℕ) → m < n → (m ≡ root → ⊥) → m ≤ b) → (is_like s p ≡ false) ↔ IsFreeOf q content two_in_class n
     second_by n b p s gn gb here lt there last = (free, alone (is_like s p) refl)
       where
         free : is_like s p ≡ false → IsFreeOf q content two_in_class n
         free e m t r before o u name class =
             let one : t ≡ p = same_Some t p (sym o.0 ∙ gn) in
-            let near = stands_between n b m p s r gn gb u.0 (last m before (other_place m r u)) lt (name ∙ ap (λ (x : Package). x.name) one) (class ∙ ap (λ (x : Package). class_of x.version) one) in
+            let near = stands_between n b m p s r gn gb u.0 (last m before (other_place m r u)) lt
+            (name ∙ ap (λ (x : Package). x.name) one) (class ∙ ap (λ (x : Package). class_of x.version) one) in
             true≢false (sym (like_of s p near.0 near.1) ∙ e)
 
         alone : (x : Bool) → is_like s p ≡ x → IsFreeOf q content two_in_class n → x ≡ false
         alone false e h = refl
         alone true e h =
             let same = both (same_text s.name p.name) (same_class (class_of s.version) (class_of p.version)) e in
-            absurd (h b p s lt (gn, is_other n p gn here) (gb, is_other b s gb there) (text-same s.name p.name same.0) (class-same (class_of s.version) (class_of p.version) same.1))
+            absurd (h b p s lt (gn, is_other n p gn here) (gb, is_other b s gb there) (text-same s.name p.name same.0)
+            (class-same (class_of s.version) (class_of p.version) same.1))

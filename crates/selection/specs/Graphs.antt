@@ -11,7 +11,8 @@ abbrev pub targets_in : Content → List ℕ → List Dependency → List (Optio
 targets_in content list ds = map (λ d. last_serving content d list) ds
 
 abbrev pub node_of : Problem → Content → Package → NodeView
-node_of q content p = record { brings = summary_of q p; targets = targets_in content p.list (summary_of q p).dependencies; starts = true }
+node_of q content p =
+    record { brings = summary_of q p; targets = targets_in content p.list (summary_of q p).dependencies; starts = true }
 
 abbrev pub graph_of : Problem → Content → List NodeView
 graph_of q content = map (node_of q content) content

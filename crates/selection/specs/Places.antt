@@ -1,5 +1,6 @@
 -- What is found of a lock and of each of its packages, and which fault of a package is the lowest.
-use Rattle.std.specs.Prelude.{◌≡◌, ◌↔◌, ℕ, suc, Bool, true, false, not, is_some, if◌then◌else◌, List, [], ◌∷◌, ◌++◌, Option, Some, None, slice_get, map}
+use Rattle.std.specs.Prelude.{◌≡◌, ◌↔◌, ℕ, suc, Bool, true, false, not, is_some, if◌then◌else◌, List, [], ◌∷◌, ◌++◌}
+use Rattle.std.specs.Prelude.{Option, Some, None, slice_get, map}
 use Rattle.std.specs.Ordering.{is_eq, nat_cmp}
 use Rattle.chains.specs.declared.rule.Rule.{Rule}
 use Rattle.facts.specs.Graphs.{node_views, flag_at, flag_in}
@@ -8,7 +9,8 @@ use Rattle.model.specs.Facts.{enabled, on}
 use Rattle.model.specs.Content.{Content, Problem, summary_at}
 use Rattle.model.specs.Summary.{has_feature}
 use Rattle.model.specs.Selection.{IsFact, IsReached}
-use Rattle.model.specs.Verdict.{VerdictFault, not_candidate, two_in_class, unmet, no_feature, wrong_list, unreached, IsFreeOf}
+use Rattle.model.specs.Verdict.{VerdictFault, not_candidate, two_in_class, unmet, no_feature, wrong_list, unreached}
+use Rattle.model.specs.Verdict.{IsFreeOf}
 use Rattle.selection.specs.Graphs.{graph_of, is_known, are_known, IsOnlyRoot}
 use Rattle.selection.specs.declared.checked.Checked.{Checked}
 use Rattle.selection.specs.declared.findings.Findings.{Findings}
@@ -104,6 +106,7 @@ pub record AreFindings (q : Problem) (f : Findings) : Type 0 where
   pub only_root : IsOnlyRoot q (content_in f) f.root
   pub graph_is : node_views f.nodes.items ≡ graph_of q (content_in f)
   pub known_is : are_known f.nodes.items ≡ map (is_known q) (content_in f)
-  pub enabled_is : (n i : ℕ) → (flag_in (map (λ v. v.items) f.facts.enabled.items) n i ≡ true) ↔ IsFact q (content_in f) (enabled n i)
+  pub enabled_is : (n i : ℕ)
+      → (flag_in (map (λ v. v.items) f.facts.enabled.items) n i ≡ true) ↔ IsFact q (content_in f) (enabled n i)
   pub lacks_is : (n : ℕ) → (flag_at f.facts.lacks.items n ≡ true) ↔ Lacks q (content_in f) n
   pub reached_is : (n : ℕ) → (flag_at f.reached.items n ≡ true) ↔ IsReached q (content_in f) n

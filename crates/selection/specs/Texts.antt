@@ -20,4 +20,5 @@ fault_text fault.Unreached = codes "V7 Unreached"
 -- `valid`, or `invalid V6 List at NAME VERSION`
 abbrev pub verdict_text : Verdict → List ℕ
 verdict_text Valid = codes "valid"
-verdict_text (Invalid fault name version) = codes "invalid " ++ (fault_text fault ++ (codes " at " ++ (name ++ (codes " " ++ version_text version))))
+verdict_text (Invalid fault name version) =
+    codes "invalid " ++ (fault_text fault ++ (codes " at " ++ (name ++ (codes " " ++ version_text version))))

@@ -18,7 +18,8 @@ use lockfile::Package;
 pub(crate) fn is_second(content: &[Package], root: usize, at: usize) -> bool
     requires content { IsContent (package_views content.now) }
     requires at { at < length content.now }
-    ensures { (q : Problem) → IsOnlyRoot q (package_views content.now) root → (result ≡ false) ↔ IsFreeOf q (package_views content.now) two_in_class at }
+    ensures { (q : Problem) → IsOnlyRoot q (package_views content.now) root
+        → (result ≡ false) ↔ IsFreeOf q (package_views content.now) two_in_class at }
 {
     if at == root {
         return false;
@@ -31,7 +32,8 @@ pub(crate) fn is_second(content: &[Package], root: usize, at: usize) -> bool
 
 /// The last place before this one that isn't the root's.
 fn place_before(root: usize, at: usize) -> Option<usize>
-    ensures { MatchOption result ((m : ℕ) → m < at → m ≡ root) (λ b. (b < at) × (b ≢ root) × ((m : ℕ) → m < at → m ≢ root → m ≤ b)) }
+    ensures { MatchOption result ((m : ℕ) → m < at → m ≡ root)
+        (λ b. (b < at) × (b ≢ root) × ((m : ℕ) → m < at → m ≢ root → m ≤ b)) }
 {
     if at == 0 {
         None

@@ -79,7 +79,8 @@ fn places_led_to(
 }
 
 fn add_target(places: &mut BTreeSet<usize>, target: Option<usize>) -> Result<(), AllocError>
-    ensures { OnOk result ((t : ℕ) → contains nat_cmp places.new t ≡ with_target target t (contains nat_cmp places.old t)) }
+    ensures { OnOk result
+        ((t : ℕ) → contains nat_cmp places.new t ≡ with_target target t (contains nat_cmp places.old t)) }
 {
     let Some(target) = target else {
         return Ok(());

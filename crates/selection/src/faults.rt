@@ -20,7 +20,8 @@ use std::alloc::{AllocError, Global};
 pub(crate) fn verdict_by(alloc: Global, findings: &Findings<'_>) -> Result<Verdict, AllocError>
     requires content { IsContent (content_in findings.now) }
     requires beside { length findings.now.nodes.items ≡ length findings.now.content.now }
-    ensures { IfOk result (λ v. (q : Problem) → AreFindings q findings.now → IsVerdictOn q (content_in findings.now) v) }
+    ensures { IfOk result
+        (λ v. (q : Problem) → AreFindings q findings.now → IsVerdictOn q (content_in findings.now) v) }
 {
     'places: for at in 0..findings.content.len() {
         let checked = checked_at(alloc, findings, at)?;
@@ -37,7 +38,8 @@ fn checked_at(alloc: Global, findings: &Findings<'_>, at: usize) -> Result<Check
     requires content { IsContent (content_in findings.now) }
     requires beside { length findings.now.nodes.items ≡ length findings.now.content.now }
     requires at { at < length findings.now.content.now }
-    ensures { IfOk result (λ k. (q : Problem) → AreFindings q findings.now → IsChecked q (content_in findings.now) at k) }
+    ensures { IfOk result
+        (λ k. (q : Problem) → AreFindings q findings.now → IsChecked q (content_in findings.now) at k) }
 {
     let nodes = findings.nodes.as_slice();
     let node = &nodes[at];

@@ -26,8 +26,10 @@ pub(crate) fn nodes<'a>(
     content: &[Package],
 ) -> Result<Vec<Node<'a>>, AllocError>
     requires { IsContent (package_views content.now) }
-    ensures graph { IfOk result (λ v. node_views v.items ≡ graph_of (problem_in manifest.entry.now catalogue.entry.now) (package_views content.now)) }
-    ensures known { IfOk result (λ v. are_known v.items ≡ map (is_known (problem_in manifest.entry.now catalogue.entry.now)) (package_views content.now)) }
+    ensures graph { IfOk result (λ v. node_views v.items
+        ≡ graph_of (problem_in manifest.entry.now catalogue.entry.now) (package_views content.now)) }
+    ensures known { IfOk result (λ v. are_known v.items
+        ≡ map (is_known (problem_in manifest.entry.now catalogue.entry.now)) (package_views content.now)) }
 {
     let mut found = Vec::new(alloc);
     'packages: for locked in content {
@@ -47,8 +49,10 @@ fn node<'a>(
     requires content { IsContent (package_views content.now) }
     requires within { All (λ t. t < length content.now) locked.now.list.items }
     requires rising { AllPairs (λ i j. i < j) locked.now.list.items }
-    ensures node { IfOk result (λ n. node_view n ≡ node_of (problem_in manifest.entry.now catalogue.entry.now) (package_views content.now) (package_view locked.now)) }
-    ensures known { IfOk result (λ n. is_some n.brings ≡ is_known (problem_in manifest.entry.now catalogue.entry.now) (package_view locked.now)) }
+    ensures node { IfOk result (λ n. node_view n ≡ node_of (problem_in manifest.entry.now catalogue.entry.now)
+        (package_views content.now) (package_view locked.now)) }
+    ensures known { IfOk result (λ n. is_some n.brings
+        ≡ is_known (problem_in manifest.entry.now catalogue.entry.now) (package_view locked.now)) }
 {
     let brings = summary_of(manifest, catalogue, locked);
     let list = locked.list.as_slice();

@@ -21,7 +21,8 @@ pub(crate) fn reached(
 ) -> Result<Vec<bool>, AllocError>
     requires content { IsContent (package_views content.now) }
     requires root { root < length content.now }
-    ensures { IfOk result (λ v. (q : Problem) → IsOnlyRoot q (package_views content.now) root → (n : ℕ) → (flag_at v.items n ≡ true) ↔ IsReached q (package_views content.now) n) }
+    ensures { IfOk result (λ v. (q : Problem) → IsOnlyRoot q (package_views content.now) root → (n : ℕ)
+        → (flag_at v.items n ≡ true) ↔ IsReached q (package_views content.now) n) }
 {
     let rules = rules(alloc, content)?;
     let mut marked = marked_at(alloc, content.len(), root)?;

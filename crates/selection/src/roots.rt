@@ -16,7 +16,9 @@ use manifest::Manifest;
 /// The place of the root, if there is one.
 pub(crate) fn root_of(manifest: &Manifest, content: &[Package]) -> Option<usize>
     requires { IsContent (package_views content.now) }
-    ensures { MatchOption result ((index : CatalogueView) → HasNoRoot (problem_in manifest.now index) (package_views content.now)) (λ n. (n < length content.now) × ((index : CatalogueView) → IsOnlyRoot (problem_in manifest.now index) (package_views content.now) n)) }
+    ensures { MatchOption result ((index : CatalogueView)
+        → HasNoRoot (problem_in manifest.now index) (package_views content.now)) (λ n. (n < length content.now)
+        × ((index : CatalogueView) → IsOnlyRoot (problem_in manifest.now index) (package_views content.now) n)) }
 {
     'places: for at in 0..content.len() {
         if is_root(manifest, &content[at]) {

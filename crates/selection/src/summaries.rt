@@ -38,8 +38,10 @@ pub(crate) fn summary_of<'a>(
     catalogue: &'a Catalogue,
     locked: &Package,
 ) -> Option<&'a Summary>
-    ensures brings { brings_view result ≡ summary_of (problem_in manifest.entry.now catalogue.entry.now) (package_view locked.now) }
-    ensures known { is_some result ≡ is_known (problem_in manifest.entry.now catalogue.entry.now) (package_view locked.now) }
+    ensures brings { brings_view result
+        ≡ summary_of (problem_in manifest.entry.now catalogue.entry.now) (package_view locked.now) }
+    ensures known { is_some result
+        ≡ is_known (problem_in manifest.entry.now catalogue.entry.now) (package_view locked.now) }
 {
     if is_root(manifest, locked) {
         Some(manifest.brings())
@@ -50,7 +52,8 @@ pub(crate) fn summary_of<'a>(
 
 /// What a package brings that is a candidate: of the run's source, with the index's checksum.
 fn candidate_of<'a>(catalogue: &'a Catalogue, locked: &Package) -> Option<&'a Summary>
-    ensures { (m : ManifestView) → option_map (λ o. summary_view o.now) result ≡ option_map (λ c. c.brings) (candidate_of (problem_in m catalogue.entry.now) (package_view locked.now)) }
+    ensures { (m : ManifestView) → option_map (λ o. summary_view o.now) result
+        ≡ option_map (λ c. c.brings) (candidate_of (problem_in m catalogue.entry.now) (package_view locked.now)) }
 {
     if !is_text(locked.source(), catalogue.source()) {
         return None;

@@ -26,7 +26,8 @@ pub(crate) fn targets(
     requires content { IsContent (package_views content.now) }
     requires within { All (λ t. t < length content.now) list.now }
     requires rising { AllPairs (λ i j. i < j) list.now }
-    ensures { IfOk result (λ v. v.items ≡ targets_in (package_views content.now) list.now (dependency_views dependencies.now)) }
+    ensures { IfOk result
+        (λ v. v.items ≡ targets_in (package_views content.now) list.now (dependency_views dependencies.now)) }
 {
     let mut found = Vec::new(alloc);
     'dependencies: for dependency in dependencies {
@@ -69,8 +70,10 @@ fn search(
     after: usize,
     dependency: &Dependency,
 ) -> Option<usize>
-    requires before { AllWithin (λ i. serves_if (dependency_view dependency.now) (slice_get (package_views content.now) i) ≡ false) list.now 0 first }
-    requires behind { AllWithin (λ i. serves_if (dependency_view dependency.now) (slice_get (package_views content.now) i) ≡ false) list.now after (length list.now) }
+    requires before { AllWithin (λ i. serves_if (dependency_view dependency.now)
+        (slice_get (package_views content.now) i) ≡ false) list.now 0 first }
+    requires behind { AllWithin (λ i. serves_if (dependency_view dependency.now)
+        (slice_get (package_views content.now) i) ≡ false) list.now after (length list.now) }
     requires first { first ≤ length list.now }
     requires after { after ≤ length list.now }
     ensures { result ≡ last_serving (package_views content.now) (dependency_view dependency.now) list.now }

@@ -27,7 +27,8 @@ pub fn verify(
     content: &LockContent,
 ) -> Result<Verdict, AllocError>
     ensures says { IfOk result (λ v. IsVerdictOn (problem_in manifest.now catalogue.now) content.now v) }
-    ensures selects { IfOk result (λ v. (v ≡ Verdict.Valid) ↔ IsValidSelection (problem_in manifest.now catalogue.now) content.now) }
+    ensures selects { IfOk result
+        (λ v. (v ≡ Verdict.Valid) ↔ IsValidSelection (problem_in manifest.now catalogue.now) content.now) }
 {
     let content = content.packages();
     let Some(root) = root_of(manifest, content) else {

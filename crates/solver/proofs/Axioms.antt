@@ -1,5 +1,6 @@
 -- How many entries are axioms, one entry more.
-use Rattle.std.proofs.Common.{◌≡◌, ℕ, zero, suc, ◌+◌, ◌<◌, ◌≤◌, List, [], ◌∷◌, Bool, true, false, if◌then◌else◌, length, take, refl, sym, ap, ◌∙◌, arith}
+use Rattle.std.proofs.Common.{◌≡◌, ℕ, zero, suc, ◌+◌, ◌<◌, ◌≤◌, List, [], ◌∷◌, Bool, true, false, if◌then◌else◌, length}
+use Rattle.std.proofs.Common.{take, refl, sym, ap, ◌∙◌, arith}
 use Rattle.incompatibilities.specs.Stores.{EntryView, entry}
 use Rattle.incompatibilities.specs.declared.origin.Origin.{Origin}
 use Rattle.refusing.specs.Refusing.{axioms, is_given}
@@ -8,14 +9,16 @@ abbrev one_if : Bool → ℕ
 one_if true = 1
 one_if false = 0
 
-pub axioms_more : (es : List EntryView) (n : ℕ) → n < length es → axioms (take (suc n) es) ≡ axioms (take n es) + one_if (is_given (entry es n).origin)
+pub axioms_more : (es : List EntryView) (n : ℕ) → n < length es
+    → axioms (take (suc n) es) ≡ axioms (take n es) + one_if (is_given (entry es n).origin)
 axioms_more [] n lt = absurd (omega (arith, lt))
 axioms_more (e ∷ es) zero lt = first (is_given e.origin)
   where
     first : (b : Bool) → (if b then suc (axioms []) else axioms []) ≡ 0 + one_if b
     first true = refl
     first false = refl
-axioms_more (e ∷ es) (suc n) lt = next (is_given e.origin) (axioms (take (suc n) es)) (axioms (take n es)) (one_if (is_given (entry es n).origin)) (axioms_more es n (omega (arith, lt)))
+axioms_more (e ∷ es) (suc n) lt = next (is_given e.origin) (axioms (take (suc n) es)) (axioms (take n es))
+    (one_if (is_given (entry es n).origin)) (axioms_more es n (omega (arith, lt)))
   where
     next : (b : Bool) (x y k : ℕ) → x ≡ y + k → (if b then suc x else x) ≡ (if b then suc y else y) + k
     next true x y k e = omega (arith, e)
@@ -38,7 +41,8 @@ take_le (suc n) (e ∷ es) = let rest = take_le n es in omega (arith, rest)
 pub counted_le : (es : List EntryView) (n count : ℕ) → count ≡ axioms (take n es) → count ≤ n
 counted_le es n count is = let few = axioms_le (take n es) in let short = take_le n es in omega (arith, is, few, short)
 
-module _ (es : List EntryView) (n count : ℕ) (o : Origin) (lt : n < length es) (is : count ≡ axioms (take n es)) (at : o ≡ (entry es n).origin) where
+module _ (es : List EntryView) (n count : ℕ) (o : Origin) (lt : n < length es) (is : count ≡ axioms (take n es))
+    (at : o ≡ (entry es n).origin) where
   pub counted_axiom : is_given o ≡ true → count + 1 ≡ axioms (take (n + 1) es)
   counted_axiom given =
       let one : one_if (is_given (entry es n).origin) ≡ 1 = ap one_if (ap is_given (sym at) ∙ given) in

@@ -7,7 +7,8 @@
 //!
 //! What is hard is that both answers are to be right with no condition on the inputs. The laws ask that versions rise
 //! and feature tables know their features, which every `Catalogue` has by its type (`laws`); and a derivation can name
-//! only so many dependencies of one owner, which `valid_parts` counts, so a refusal past that is given up as want of memory.
+//! only so many dependencies of one owner, which `valid_parts` counts, so a refusal past that is given up as want of
+//! memory.
 //!
 //! A layer above may rely on this: of any manifest and any loaded index the outcome is a valid selection whose root has
 //! no checksum, the preferred walk wherever that is complete and valid, else one of which the root alone brings all; or

@@ -64,7 +64,8 @@ pub fn solve(
     manifest: &Manifest,
     catalogue: &Catalogue,
 ) -> Result<Solved, AllocError>
-    ensures solved { IfOk result (λ s. IsSolved (problem_in manifest.now catalogue.now) (preferred_in catalogue.now) s.outcome) }
+    ensures solved { IfOk result
+        (λ s. IsSolved (problem_in manifest.now catalogue.now) (preferred_in catalogue.now) s.outcome) }
     ensures steps { IfOk result (λ s. combinations_of (derivation_of s.outcome) ≤ s.steps) }
     ensures axioms { IfOk result (λ s. axioms_of (derivation_of s.outcome) ≤ s.axioms) }
 {
@@ -96,7 +97,8 @@ fn outcome_of<'a, S: States + Drop>(
     alloc: Global,
     searched: Searched<'a, S>,
 ) -> Result<Outcome, AllocError>
-    requires { HasSearched searched.guide.problem searched.guide (trail_view S.tests searched.trail) (entries_view S.tests searched.store) searched.found.answer }
+    requires { HasSearched searched.guide.problem searched.guide (trail_view S.tests searched.trail)
+        (entries_view S.tests searched.store) searched.found.answer }
     ensures answer { IfOk result (λ o. IsAnswer searched.entry.guide.problem searched.entry.guide.follows o) }
     ensures once { IfOk result (λ o. HasNoMore (entries_view S.tests searched.entry.store) (derivation_of o)) }
 {
@@ -124,7 +126,8 @@ fn found<'a, S: States + Drop>(
     inputs: &Inputs<'a>,
     searched: &Searched<'a, S>,
 ) -> Result<Outcome, AllocError>
-    requires { HasSearched (problem inputs.now) searched.now.guide (trail_view S.tests searched.now.trail) (entries_view S.tests searched.now.store) searched.now.found.answer }
+    requires { HasSearched (problem inputs.now) searched.now.guide (trail_view S.tests searched.now.trail)
+        (entries_view S.tests searched.now.store) searched.now.found.answer }
     ensures found { IfOk result (λ o. IsFound (problem inputs.now) o) }
     ensures once { IfOk result (λ o. HasNoMore (entries_view S.tests searched.now.store) (derivation_of o)) }
 {

@@ -1,6 +1,7 @@
 -- How a set stands to a term, from inclusion and disjointness.
 use Rattle.std.proofs.Common.{◌≡◌, ◌<◌, true, false, not, ◌&&◌, [], ◌∷◌, refl, sym, ◌∙◌, arith, ltb, inl, inr}
-use Rattle.std.proofs.lemmas.Bool.{and_left, and_right, cases_Bool, cases_lt, false≢true, le-ltb, lt-ltb, not-false, not-true, true≢false}
+use Rattle.std.proofs.lemmas.Bool.{and_left, and_right, cases_Bool, cases_lt, false≢true, le-ltb, lt-ltb, not-false}
+use Rattle.std.proofs.lemmas.Bool.{not-true, true≢false}
 use Rattle.version_sets.specs.Sets.{Members, inside, meets, size}
 use Rattle.terms.specs.Terms.{relation_of}
 use Rattle.terms.specs.declared.term.Relation.TheVariants.{Satisfied, Contradicted, Open}

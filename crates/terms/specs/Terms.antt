@@ -19,7 +19,8 @@ terms_view tests ts = map (term_view tests) ts
 
 -- satisfied by a set that isn't empty and lies inside, contradicted by one with nothing in common, else open
 abbrev pub relation_of : Members → Members → Relation
-relation_of set states = if nat_lt 0 (size set) && inside set states then Satisfied else if meets set states then Open else Contradicted
+relation_of set states =
+    if nat_lt 0 (size set) && inside set states then Satisfied else if meets set states then Open else Contradicted
 
 -- the term that holds where another doesn't
 abbrev pub negated : TermView → TermView

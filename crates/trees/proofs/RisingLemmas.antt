@@ -1,5 +1,6 @@
 -- Members whose keys rise stay as they are listed when they are put one after another.
-use Rattle.std.proofs.Common.{◌≡◌, ℕ, List, [], ◌∷◌, Bool, true, false, ◌&&◌, Global, Ordering, Less, Equal, Greater, Bor, refl, sym, ap, ◌∙◌}
+use Rattle.std.proofs.Common.{◌≡◌, ℕ, List, [], ◌∷◌, Bool, true, false, ◌&&◌, Global, Ordering, Less, Equal, Greater}
+use Rattle.std.proofs.Common.{Bor, refl, sym, ap, ◌∙◌}
 use Rattle.std.specs.Ordering.{nat_cmp, ordering_reverse, is_lt}
 use Rattle.std.specs.Cmp.Lexicographic.{slice_cmp, nat_list_cmp_total}
 use Rattle.json.specs.Value.{members_view}
@@ -20,13 +21,16 @@ behind-none : (ms : Members) → behind ms no_members ≡ ms
 behind-none no_members = refl
 behind-none (member l d ms) = ap (member l d) (behind-none ms)
 
-behind-one : (ms : Members) (k : List ℕ) (d : Data) (rest : Members) → behind (behind ms (member k d no_members)) rest ≡ behind ms (member k d rest)
+behind-one : (ms : Members) (k : List ℕ) (d : Data) (rest : Members)
+    → behind (behind ms (member k d no_members)) rest ≡ behind ms (member k d rest)
 behind-one no_members k d rest = refl
 behind-one (member l e ms) k d rest = ap (member l e) (behind-one ms k d rest)
 
-below-next : (ms : Members) (k l : List ℕ) (d : Data) → Below ms k → slice_cmp nat_cmp k l ≡ Less → Below (behind ms (member k d no_members)) l
+below-next : (ms : Members) (k l : List ℕ) (d : Data) → Below ms k → slice_cmp nat_cmp k l ≡ Less
+    → Below (behind ms (member k d no_members)) l
 below-next no_members k l d below less = (less, tt)
-below-next (member m e ms) k l d below less = (nat_list_cmp_total.trans m k l below.0 less, below-next ms k l d below.1 less)
+below-next (member m e ms) k l d below less =
+    (nat_list_cmp_total.trans m k l below.0 less, below-next ms k l d below.1 less)
 
 put-last : (ms : Members) (k : List ℕ) (d : Data) → Below ms k → put k d ms ≡ behind ms (member k d no_members)
 put-last no_members k d below = refl
@@ -46,14 +50,16 @@ both false b e = cc
 abbrev Member : Type 0
 Member = Bor (List ℕ) × Value Global
 
-put-listed : (found : Members) (k : List ℕ) (ms : List Member) → ((l : List ℕ) → slice_cmp nat_cmp k l ≡ Less → Below found l) → rise_after k ms ≡ true
+put-listed : (found : Members) (k : List ℕ) (ms : List Member)
+    → ((l : List ℕ) → slice_cmp nat_cmp k l ≡ Less → Below found l) → rise_after k ms ≡ true
     → members_of (members_view ms) found ≡ behind found (listed_view ms)
 put-listed found k [] below rise = sym (behind-none found)
 put-listed found k (m ∷ ms) below rise =
     let rises = both (is_lt (slice_cmp nat_cmp k m.0.now)) (rise_after m.0.now ms) rise in
     let here = below m.0.now (is_less (slice_cmp nat_cmp k m.0.now) rises.0) in
     ap (members_of (members_view ms)) (put-last found m.0.now (tree_view m.1) here)
-    ∙ put-listed (behind found (member m.0.now (tree_view m.1) no_members)) m.0.now ms (λ l less. below-next found m.0.now l (tree_view m.1) here less) rises.1
+    ∙ put-listed (behind found (member m.0.now (tree_view m.1) no_members)) m.0.now ms
+    (λ l less. below-next found m.0.now l (tree_view m.1) here less) rises.1
     ∙ behind-one found m.0.now (tree_view m.1) (listed_view ms)
 
 pub entries-listed : (ms : List Member) → rise_after [] ms ≡ true → entries_view ms ≡ listed_view ms

@@ -1,5 +1,7 @@
 -- What is looked up in a tree is what the value that it stands for has there.
-use Rattle.std.proofs.Common.{◌≡◌, ℕ, zero, suc, List, [], ◌∷◌, Bool, true, false, cond, ◌&&◌, Option, Some, None, is_some, unwrap_or, Ok, option_map, option_and_then, Global, Ordering, Less, Equal, Greater, bytes_eq, Bor, refl, sym, ap, ◌∙◌, true≢false, subst}
+use Rattle.std.proofs.Common.{◌≡◌, ℕ, zero, suc, List, [], ◌∷◌, Bool, true, false, cond, ◌&&◌, Option, Some, None}
+use Rattle.std.proofs.Common.{is_some, unwrap_or, Ok, option_map, option_and_then, Global, Ordering, Less, Equal}
+use Rattle.std.proofs.Common.{Greater, bytes_eq, Bor, refl, sym, ap, ◌∙◌, true≢false, subst}
 use Rattle.std.proofs.lemmas.Slice.Eq.{bytes_eq-Decides}
 use Rattle.std.specs.Option.{ok_or}
 use Rattle.std.specs.BTreeMap.{insert_entry}
@@ -14,7 +16,8 @@ use Rattle.serde_json.specs.Find.{get, get_member, get_item, at, as_str, as_bool
 use Rattle.serde_json.specs.Read.{number_of, of_json, of_items, of_members, read}
 use Rattle.serde_json.proofs.Views.{get_member-put, get_member-put_other}
 use Rattle.trees.specs.declared.fault.TreeFault.{TreeFault}
-use Rattle.trees.specs.Trees.{json_of_text, numbers_fit, items_fit, members_fit, num_of, data_of, items_of, members_of, tree_view, sorted_view}
+use Rattle.trees.specs.Trees.{json_of_text, numbers_fit, items_fit, members_fit, num_of, data_of, items_of, members_of}
+use Rattle.trees.specs.Trees.{tree_view, sorted_view}
 
 -- ---- reading
 
@@ -29,12 +32,14 @@ one_level : {A B : Type 0} (f : A → B) (b : Bool) (a : A) → option_map f (if
 one_level f true a = refl
 one_level f false a = refl
 
-an_item : (a b : Bool) (d : Data) (ds : Items) → option_and_then (λ d. option_map (item d) (if_fits b ds)) (if_fits a d) ≡ if_fits (a && b) (item d ds)
+an_item : (a b : Bool) (d : Data) (ds : Items)
+    → option_and_then (λ d. option_map (item d) (if_fits b ds)) (if_fits a d) ≡ if_fits (a && b) (item d ds)
 an_item true true d ds = refl
 an_item true false d ds = refl
 an_item false b d ds = refl
 
-a_member : (a b : Bool) (d : Data) (more : Data → Option Members) (ms : Members) → more d ≡ if_fits b ms → option_and_then more (if_fits a d) ≡ if_fits (a && b) ms
+a_member : (a b : Bool) (d : Data) (more : Data → Option Members) (ms : Members) → more d ≡ if_fits b ms
+    → option_and_then more (if_fits a d) ≡ if_fits (a && b) ms
 a_member true b d more ms is = is
 a_member false b d more ms is = refl
 
@@ -45,23 +50,28 @@ mutual
   of_json-fits (json.number s) = a_number (number_of s) _
   of_json-fits (json.string s) = refl
   of_json-fits (json.array js) = ap (option_map array) (of_items-fits js) ∙ one_level array (items_fit js) (items_of js)
-  of_json-fits (json.object ms) = ap (option_map object) (of_members-fits ms no_members) ∙ one_level object (members_fit ms) (members_of ms no_members)
+  of_json-fits (json.object ms) = ap (option_map object) (of_members-fits ms no_members)
+      ∙ one_level object (members_fit ms) (members_of ms no_members)
 
   of_items-fits : (js : json.Items) → of_items js ≡ if_fits (items_fit js) (items_of js)
   of_items-fits json.no_items = refl
-  of_items-fits (json.item j js) = rw (of_json-fits j, of_items-fits js) (an_item (numbers_fit j) (items_fit js) (data_of j) (items_of js))
+  of_items-fits (json.item j js) =
+      rw (of_json-fits j, of_items-fits js) (an_item (numbers_fit j) (items_fit js) (data_of j) (items_of js))
 
-  of_members-fits : (ms : json.Members) (found : Members) → of_members ms found ≡ if_fits (members_fit ms) (members_of ms found)
+  of_members-fits : (ms : json.Members) (found : Members)
+      → of_members ms found ≡ if_fits (members_fit ms) (members_of ms found)
   of_members-fits json.no_members found = refl
   of_members-fits (json.member k j ms) found =
       ap (λ o. option_and_then (λ d. of_members ms (put k d found)) o) (of_json-fits j)
-      ∙ a_member (numbers_fit j) (members_fit ms) (data_of j) (λ d. of_members ms (put k d found)) (members_of ms (put k (data_of j) found)) (of_members-fits ms (put k (data_of j) found))
+      ∙ a_member (numbers_fit j) (members_fit ms) (data_of j) (λ d. of_members ms (put k d found))
+      (members_of ms (put k (data_of j) found)) (of_members-fits ms (put k (data_of j) found))
 
 is_read : (o : Option json.Json) (j : json.Json) (e : TreeFault) → ok_or o e ≡ Ok j → o ≡ Some j
 is_read None j e is = cc
 is_read (Some k) j e is = cc
 
-pub read-of : (text : List ℕ) (j : json.Json) (e : TreeFault) → ok_or (json_of_text text) e ≡ Ok j → read text ≡ if_fits (numbers_fit j) (data_of j)
+pub read-of : (text : List ℕ) (j : json.Json) (e : TreeFault) → ok_or (json_of_text text) e ≡ Ok j
+    → read text ≡ if_fits (numbers_fit j) (data_of j)
 read-of text j e is = ap (option_and_then of_json) (is_read (json_of_text text) j e is) ∙ of_json-fits j
 
 -- ---- looking up
@@ -71,18 +81,24 @@ or_before None before = before
 or_before (Some d) before = Some d
 
 last_put : (b : Bool) (key k : List ℕ) (j : json.Json) (found : Members) → bytes_eq k key ≡ b
-    → get_member key (put k (data_of j) found) ≡ or_before (option_map data_of (cond b (Some j) None)) (get_member key found)
-last_put true key k j found same = subst (λ q. get_member q (put k (data_of j) found) ≡ Some (data_of j)) ((bytes_eq-Decides k key).0 same) (get_member-put k (data_of j) found)
-last_put false key k j found other = get_member-put_other key k (data_of j) found (λ same. true≢false (sym ((bytes_eq-Decides k key).1 (sym same)) ∙ other))
+    → get_member key (put k (data_of j) found)
+    ≡ or_before (option_map data_of (cond b (Some j) None)) (get_member key found)
+last_put true key k j found same = subst (λ q. get_member q (put k (data_of j) found) ≡ Some (data_of j))
+    ((bytes_eq-Decides k key).0 same) (get_member-put k (data_of j) found)
+last_put false key k j found other = get_member-put_other key k (data_of j) found
+    (λ same. true≢false (sym ((bytes_eq-Decides k key).1 (sym same)) ∙ other))
 
 later : (o : Option json.Json) (key k : List ℕ) (j : json.Json) (found : Members)
-    → or_before (option_map data_of o) (get_member key (put k (data_of j) found)) ≡ or_before (option_map data_of (find.later_or o (cond (bytes_eq k key) (Some j) None))) (get_member key found)
+    → or_before (option_map data_of o) (get_member key (put k (data_of j) found))
+    ≡ or_before (option_map data_of (find.later_or o (cond (bytes_eq k key) (Some j) None))) (get_member key found)
 later None key k j found = last_put (bytes_eq k key) key k j found refl
 later (Some x) key k j found = refl
 
-get_member-of : (key : List ℕ) (ms : json.Members) (found : Members) → get_member key (members_of ms found) ≡ or_before (option_map data_of (find.get_member key ms)) (get_member key found)
+get_member-of : (key : List ℕ) (ms : json.Members) (found : Members) → get_member key (members_of ms found)
+    ≡ or_before (option_map data_of (find.get_member key ms)) (get_member key found)
 get_member-of key json.no_members found = refl
-get_member-of key (json.member k j ms) found = get_member-of key ms (put k (data_of j) found) ∙ later (find.get_member key ms) key k j found
+get_member-of key (json.member k j ms) found =
+    get_member-of key ms (put k (data_of j) found) ∙ later (find.get_member key ms) key k j found
 
 or_none : (o : Option Data) → or_before o None ≡ o
 or_none None = refl
@@ -134,7 +150,8 @@ as_number-data_of (json.array js) = refl
 as_number-data_of (json.object ms) = refl
 
 -- a value that is found is seen as what it stands for
-pub through : (r : Option (Bor (Value Global))) → option_map (λ v. tree_view v.now) r ≡ option_map data_of (option_map (λ v. value_view v.now) r)
+pub through : (r : Option (Bor (Value Global)))
+    → option_map (λ v. tree_view v.now) r ≡ option_map data_of (option_map (λ v. value_view v.now) r)
 through None = refl
 through (Some v) = refl
 
@@ -146,11 +163,13 @@ Member = Bor (List ℕ) × Bor (Value Global)
 abbrev str_cmp : Bor (List ℕ) → Bor (List ℕ) → Ordering
 str_cmp x y = slice_cmp nat_cmp x.now y.now
 
-by_order : (o : Ordering) (a b c : List Member) → sorted_view (match_ordering o a b c) ≡ match_ordering o (sorted_view a) (sorted_view b) (sorted_view c)
+by_order : (o : Ordering) (a b c : List Member)
+    → sorted_view (match_ordering o a b c) ≡ match_ordering o (sorted_view a) (sorted_view b) (sorted_view c)
 by_order Less a b c = refl
 by_order Equal a b c = refl
 by_order Greater a b c = refl
 
-pub sorted_view-insert_entry : (es : List Member) (k : Bor (List ℕ)) (v : Bor (Value Global)) → sorted_view (insert_entry str_cmp es k v) ≡ put k.now (tree_view v.now) (sorted_view es)
+pub sorted_view-insert_entry : (es : List Member) (k : Bor (List ℕ)) (v : Bor (Value Global))
+    → sorted_view (insert_entry str_cmp es k v) ≡ put k.now (tree_view v.now) (sorted_view es)
 sorted_view-insert_entry [] k v = refl
 sorted_view-insert_entry (e ∷ es) k v = by_order (str_cmp k e.0) _ _ _ ∙ rw (sorted_view-insert_entry es k v) refl

@@ -1,6 +1,7 @@
 //! The number that a text of JSON is.
 
-ghost use Rattle.std.specs.Prelude.{◌≡◌, ◌==◌, ◌<◌, length, slice_index, false, true, option_map, option_and_then, is_some, IsTrue};
+ghost use Rattle.std.specs.Prelude.{◌≡◌, ◌==◌, ◌<◌, length, slice_index, false, true, option_map, option_and_then};
+ghost use Rattle.std.specs.Prelude.{is_some, IsTrue};
 ghost use Rattle.serde_json.specs.Find.{as_u64};
 ghost use Rattle.serde_json.specs.Read.{number_of, number_from, float_of};
 ghost use Rattle.serde_json.specs.View.{number_view};

@@ -8,7 +8,8 @@ ghost use Rattle.json.specs.Value.{value_view, items_view, members_view};
 ghost use Rattle.serde_json.specs.Find.{get, at, as_str, as_bool, as_array, as_object, as_number, as_u64};
 ghost use Rattle.serde_json.specs.Read.{number_of};
 ghost use Rattle.model.specs.Outcome.{Gives};
-ghost use Rattle.trees.specs.Trees.{wants_memory, data_of_bytes, json_of_text, numbers_fit, items_fit, members_fit, tree_view, trees_view, entries_view, rise_after, sorted_view};
+ghost use Rattle.trees.specs.Trees.{wants_memory, data_of_bytes, json_of_text, numbers_fit, items_fit, members_fit};
+ghost use Rattle.trees.specs.Trees.{tree_view, trees_view, entries_view, rise_after, sorted_view};
 
 use crate::fault::TreeFault;
 use crate::number::number_of;

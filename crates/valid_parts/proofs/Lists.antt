@@ -1,16 +1,19 @@
 -- What holds of each element that a walk has passed, and what the answer of a test says.
-use Rattle.std.proofs.Common.{◌≡◌, ℕ, zero, suc, ◌+◌, ◌<◌, ◌≤◌, Bool, true, false, List, [], ◌∷◌, map, take, length, get_or, All, Some, slice_get, MatchBool, refl, sym, subst, arith, take_all}
+use Rattle.std.proofs.Common.{◌≡◌, ℕ, zero, suc, ◌+◌, ◌<◌, ◌≤◌, Bool, true, false, List, [], ◌∷◌, map, take, length}
+use Rattle.std.proofs.Common.{get_or, All, Some, slice_get, MatchBool, refl, sym, subst, arith, take_all}
 use Rattle.std.specs.Bool.{OnFalse, OnTrue}
 use Rattle.std.proofs.lemmas.List.Elements.{All-cons, All-head, All-map, All-more, All-nil, All-tail}
 use Rattle.std.proofs.lemmas.Option.{get_or_from_slice_get}
 
 module _ {X : Type 0} where
   -- an item of a slice is the next one
-  pub item_more : (P : X → Type 0) (xs : List X) (i : ℕ) (x : X) → i < length xs → x ≡ get_or xs i x → All P (take i xs) → P x → All P (take (i + 1) xs)
+  pub item_more : (P : X → Type 0) (xs : List X) (i : ℕ) (x : X) → i < length xs → x ≡ get_or xs i x → All P (take i xs)
+      → P x → All P (take (i + 1) xs)
   item_more P xs i x lt is h p = All-more P xs i x lt h (subst P is p)
 
   -- and so is what stands at a place
-  pub place_more : (P : X → Type 0) (xs : List X) (i : ℕ) (x : X) → i < length xs → slice_get xs i ≡ Some x → All P (take i xs) → P x → All P (take (i + 1) xs)
+  pub place_more : (P : X → Type 0) (xs : List X) (i : ℕ) (x : X) → i < length xs → slice_get xs i ≡ Some x
+      → All P (take i xs) → P x → All P (take (i + 1) xs)
   place_more P xs i x lt is h p = All-more P xs i x lt h (subst P (sym (get_or_from_slice_get xs i x x is)) p)
 
   pub all_passed : (P : X → Type 0) (xs : List X) (i : ℕ) → length xs ≤ i → All P (take i xs) → All P xs
@@ -28,7 +31,8 @@ module _ {X Y : Type 0} (f : X → Y) (P : Y → Type 0) where
 
   pub all_mapped : (xs : List X) → All P (map f xs) → All (λ x. P (f x)) xs
   all_mapped [] h = All-nil (λ x. P (f x))
-  all_mapped (x ∷ xs) h = All-cons (λ x. P (f x)) x xs (All-head P (f x) (map f xs) h) (all_mapped xs (All-tail P (f x) (map f xs) h))
+  all_mapped (x ∷ xs) h =
+      All-cons (λ x. P (f x)) x xs (All-head P (f x) (map f xs) h) (all_mapped xs (All-tail P (f x) (map f xs) h))
 
 -- ---- answers
 

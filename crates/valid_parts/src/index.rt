@@ -35,7 +35,8 @@ fn is_valid_name(catalogue: &Catalogue, name: &PackageName) -> bool
 
 /// The same without the name. The versions are valid, so it lies with what the candidates bring.
 fn are_valid_records(catalogue: &Catalogue, name: &PackageName) -> bool
-    ensures { MatchBool result (AreValidRecords (candidates_at catalogue.now name.now)) (BringFew (candidates_at catalogue.now name.now) → ⊥) }
+    ensures { MatchBool result (AreValidRecords (candidates_at catalogue.now name.now))
+        (BringFew (candidates_at catalogue.now name.now) → ⊥) }
 {
     let count = catalogue.versions(name).len();
     'places: for place in 0..count {
@@ -48,7 +49,8 @@ fn are_valid_records(catalogue: &Catalogue, name: &PackageName) -> bool
 
 /// Whether the candidate at a place brings valid parts, if there is one.
 fn brings_valid(catalogue: &Catalogue, name: &PackageName, place: usize) -> bool
-    ensures { (r : Record) → slice_get (candidates_at catalogue.now name.now) place ≡ Some r → MatchBool result (BringsValid r.brings) (IsFew r.brings → ⊥) }
+    ensures { (r : Record) → slice_get (candidates_at catalogue.now name.now) place ≡ Some r
+        → MatchBool result (BringsValid r.brings) (IsFew r.brings → ⊥) }
 {
     match catalogue.candidate_at(name, place) {
         Some(candidate) => owners::is_valid(&candidate.brings),

@@ -1,5 +1,6 @@
 -- Laws of the operations on sets, number by number.
-use Rattle.std.proofs.Common.{◌≡◌, ℕ, zero, suc, ◌+◌, ◌<◌, ◌≤◌, true, false, not, ◌&&◌, ◌||◌, eqb, [], ◌∷◌, length, refl, sym, ◌∙◌, arith, eq-eqb, inl, inr}
+use Rattle.std.proofs.Common.{◌≡◌, ℕ, zero, suc, ◌+◌, ◌<◌, ◌≤◌, true, false, not, ◌&&◌, ◌||◌, eqb, [], ◌∷◌, length}
+use Rattle.std.proofs.Common.{refl, sym, ◌∙◌, arith, eq-eqb, inl, inr}
 use Rattle.std.proofs.lemmas.Bool.{false≢true, ne_eqb, cases_eq}
 use Rattle.version_sets.specs.Sets.{Members, has, is_full, join, meet, none, only, rest, size}
 use Rattle.std.proofs.lemmas.List.{length-replicate, length-set}
@@ -53,7 +54,8 @@ eqb_next m n = elim (cases_eq m n) [
 pub full_by_size : (xs : Members) → eqb (size xs) (length xs) ≡ is_full xs
 full_by_size [] = refl
 full_by_size (true ∷ xs) = eqb_next (size xs) (length xs) ∙ full_by_size xs
-full_by_size (false ∷ xs) = ne_eqb (size xs) (suc (length xs)) (λ (e : size xs ≡ suc (length xs)). omega (arith, size-le xs))
+full_by_size (false ∷ xs) =
+    ne_eqb (size xs) (suc (length xs)) (λ (e : size xs ≡ suc (length xs)). omega (arith, size-le xs))
 
 pub full_has : (xs : Members) (i : ℕ) → is_full xs ≡ true → i < length xs → has xs i ≡ true
 full_has [] i full low = absurd (omega arith)

@@ -1,5 +1,6 @@
 -- What holds of a set by its words, and of two sets of one universe.
-use Rattle.std.proofs.Common.{◌≡◌, ℕ, ◌+◌, ◌^◌, ◌<◌, ◌≤◌, ◌↔◌, Bool, true, false, not, ◌&&◌, List, [], ◌∷◌, length, map, bit_and, bit_or, eqb, refl, ap, ap₂, sym, ◌∙◌, subst, arith, eq-eqb, Result}
+use Rattle.std.proofs.Common.{◌≡◌, ℕ, ◌+◌, ◌^◌, ◌<◌, ◌≤◌, ◌↔◌, Bool, true, false, not, ◌&&◌, List, [], ◌∷◌, length, map}
+use Rattle.std.proofs.Common.{bit_and, bit_or, eqb, refl, ap, ap₂, sym, ◌∙◌, subst, arith, eq-eqb, Result}
 use Rattle.std.proofs.lemmas.Bool.{eqb-true}
 use Rattle.std.proofs.lemmas.Result.{IfOk-weaker}
 use Rattle.std.specs.Int.{bit_not, w64}
@@ -11,12 +12,14 @@ use Rattle.version_sets.specs.Listed.{set_where}
 use Rattle.version_sets.specs.Sets.{Members, has, inside, join, meet, meets, rest, size}
 use Rattle.version_sets.specs.Words.{AreWords, IsWords, all_zero, and_not, has_bit, ones_in}
 use Rattle.version_sets.specs.declared.words.Form.{Form}
-use Rattle.version_sets.proofs.Bits.{and_is, apart_is, has_is, or_is, same_words, turned_is, within_is, words_and, words_or}
+use Rattle.version_sets.proofs.Bits.{and_is, apart_is, has_is, or_is, same_words, turned_is, within_is, words_and}
+use Rattle.version_sets.proofs.Bits.{words_or}
 use Rattle.version_sets.proofs.Filled.{ones_are_size, ones_bound}
 use Rattle.version_sets.proofs.Listing.{length-set_where}
 
 -- a set as it lies in memory, by its words
-module _ (f : Form) (s : Members) (is : IsWords (universe_in f) (words_in f)) (view : set_where (universe_in f) (has_bit (words_in f)) ≡ s) where
+module _ (f : Form) (s : Members) (is : IsWords (universe_in f) (words_in f))
+    (view : set_where (universe_in f) (has_bit (words_in f)) ≡ s) where
   pub form_universe : universe_in f ≡ length s
   form_universe = sym (length-set_where (universe_in f) (has_bit (words_in f))) ∙ ap length view
 
@@ -49,7 +52,8 @@ count_fits s ws p = (let bound : ones_in ws ≤ 65536 = ones_bound (length s) ws
 pub lone_count : (s : Members) (w : ℕ) → AreWords s (w ∷ []) → count_ones w ≡ size s
 lone_count s w p = (let counted : count_ones w + 0 ≡ size s = count_is s (w ∷ []) p in omega arith)
 
-pub turned_set : (s : Members) (ws : List ℕ) → AreWords s ws → (n : ℕ) → n ≡ length s → set_where n (has_bit (map (bit_not w64) ws)) ≡ rest s
+pub turned_set : (s : Members) (ws : List ℕ) → AreWords s ws → (n : ℕ) → n ≡ length s
+    → set_where n (has_bit (map (bit_not w64) ws)) ≡ rest s
 turned_set s ws p n n_is = turned_is n ws (its_words s ws p n n_is) ∙ ap rest (its_set s ws p n n_is)
 
 -- a set that was made is another, if that is the same
@@ -81,10 +85,12 @@ module _ (xs ys : Members) (a b : List ℕ) (p : AreWords xs a) (q : AreWords ys
 
   module _ (n : ℕ) (n_is : n ≡ length xs) where
     pub pair_or : set_where n (has_bit (zip2 bit_or a b)) ≡ join xs ys
-    pair_or = ap (λ k. set_where k (has_bit (zip2 bit_or a b))) n_is ∙ or_is (length xs) a b p.is second ∙ ap₂ join p.same second_is
+    pair_or = ap (λ k. set_where k (has_bit (zip2 bit_or a b))) n_is ∙ or_is (length xs) a b p.is second
+        ∙ ap₂ join p.same second_is
 
     pub pair_and : set_where n (has_bit (zip2 bit_and a b)) ≡ meet xs ys
-    pair_and = ap (λ k. set_where k (has_bit (zip2 bit_and a b))) n_is ∙ and_is (length xs) a b p.is second ∙ ap₂ meet p.same second_is
+    pair_and = ap (λ k. set_where k (has_bit (zip2 bit_and a b))) n_is ∙ and_is (length xs) a b p.is second
+        ∙ ap₂ meet p.same second_is
 
     pub pair_or_words : IsWords n (zip2 bit_or a b)
     pair_or_words = subst (λ k. IsWords k (zip2 bit_or a b)) (sym n_is) (words_or (length xs) a b p.is second)
@@ -97,13 +103,16 @@ and_true : (b : Bool) → b ≡ (b && true)
 and_true true = refl
 and_true false = refl
 
-pub lone_within : (xs ys : Members) (x y : ℕ) → AreWords xs (x ∷ []) → AreWords ys (y ∷ []) → length xs ≡ length ys → eqb (and_not x y) 0 ≡ inside xs ys
+pub lone_within : (xs ys : Members) (x y : ℕ) → AreWords xs (x ∷ []) → AreWords ys (y ∷ []) → length xs ≡ length ys
+    → eqb (and_not x y) 0 ≡ inside xs ys
 lone_within xs ys x y p q same = and_true (eqb (and_not x y) 0) ∙ pair_within xs ys (x ∷ []) (y ∷ []) p q same
 
-pub lone_apart : (xs ys : Members) (x y : ℕ) → AreWords xs (x ∷ []) → AreWords ys (y ∷ []) → length xs ≡ length ys → eqb (bit_and x y) 0 ≡ not (meets xs ys)
+pub lone_apart : (xs ys : Members) (x y : ℕ) → AreWords xs (x ∷ []) → AreWords ys (y ∷ []) → length xs ≡ length ys
+    → eqb (bit_and x y) 0 ≡ not (meets xs ys)
 lone_apart xs ys x y p q same = and_true (eqb (bit_and x y) 0) ∙ pair_apart xs ys (x ∷ []) (y ∷ []) p q same
 
-pub lone_same : (xs ys : Members) (x y : ℕ) → AreWords xs (x ∷ []) → AreWords ys (y ∷ []) → length xs ≡ length ys → IsTrue (eqb x y) ↔ (xs ≡ ys)
+pub lone_same : (xs ys : Members) (x y : ℕ) → AreWords xs (x ∷ []) → AreWords ys (y ∷ []) → length xs ≡ length ys
+    → IsTrue (eqb x y) ↔ (xs ≡ ys)
 lone_same xs ys x y p q same = (
   (λ t. pair_from xs ys (x ∷ []) (y ∷ []) p q same (ap (λ w. w ∷ []) (eqb-true x y t))),
   (λ e. (let words = pair_words xs ys (x ∷ []) (y ∷ []) p q same e in eq-eqb x y cc)),

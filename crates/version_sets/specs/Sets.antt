@@ -1,6 +1,7 @@
 -- Sets of numbers below a universe, each as the list of its tests, with the operations of set theory on them (Dart
 -- pub's `solver.md`, "Term": a term is a set of allowed versions).
-use Rattle.std.specs.Prelude.{ℕ, ◌+◌, Bool, true, false, not, ◌&&◌, ◌||◌, List, [], ◌∷◌, map, replicate, slice_index_or, slice_set}
+use Rattle.std.specs.Prelude.{ℕ, ◌+◌, Bool, true, false, not, ◌&&◌, ◌||◌, List, [], ◌∷◌, map, replicate, slice_index_or}
+use Rattle.std.specs.Prelude.{slice_set}
 use Rattle.std.specs.List.{list_all, zip}
 
 -- for each number below the universe, whether the set has it; the universe is the length

@@ -1,5 +1,6 @@
 -- A text is split at the byte that joins it, where what stands before has none.
-use Rattle.std.proofs.Common.{◌≡◌, ℕ, suc, ◌+◌, List, [], ◌∷◌, ◌++◌, length, take, drop, Bool, true, false, not, cond, ◌&&◌, ◌||◌, ◌==◌, Some, None, Ok, refl, ap, ap₂, ◌∙◌, arith}
+use Rattle.std.proofs.Common.{◌≡◌, ℕ, suc, ◌+◌, List, [], ◌∷◌, ◌++◌, length, take, drop, Bool, true, false, not, cond}
+use Rattle.std.proofs.Common.{◌&&◌, ◌||◌, ◌==◌, Some, None, Ok, refl, ap, ap₂, ◌∙◌, arith}
 use Rattle.std.proofs.lemmas.Bool.{eq-eqb}
 use Rattle.std.proofs.lemmas.List.Folds.{list_any-append}
 use Rattle.std.specs.List.{list_any, list_all, position_or_len, before_first, after_first}
@@ -22,7 +23,8 @@ both-true true b h = (refl, h)
 both-true false b h = cc
 
 -- of a test that the byte fails
-pub lacks-all : (test : ℕ → Bool) (byte : ℕ) → ((b : ℕ) → test b ≡ true → (b == byte) ≡ false) → (text : List ℕ) → list_all test text ≡ true → Lacks byte text
+pub lacks-all : (test : ℕ → Bool) (byte : ℕ) → ((b : ℕ) → test b ≡ true → (b == byte) ≡ false) → (text : List ℕ)
+    → list_all test text ≡ true → Lacks byte text
 lacks-all test byte other [] h = refl
 lacks-all test byte other (b ∷ bs) h =
     let p = both-true (test b) (list_all test bs) h in
@@ -36,7 +38,8 @@ first-place : (byte : ℕ) (a b : List ℕ) → Lacks byte a → position_or_len
 first-place byte [] b h = ap (λ t. cond (not t) (1 + position_or_len (λ x. x == byte) b) 0) (eq-eqb byte byte refl)
 first-place byte (x ∷ a) b h =
     let p = either-false (x == byte) (list_any (λ y. y == byte) a) h in
-    ap (λ t. cond (not t) (1 + position_or_len (λ y. y == byte) (a ++ (byte ∷ b))) 0) p.0 ∙ ap (λ n. 1 + n) (first-place byte a b p.1) ∙ one-more (length a)
+    ap (λ t. cond (not t) (1 + position_or_len (λ y. y == byte) (a ++ (byte ∷ b))) 0) p.0
+    ∙ ap (λ n. 1 + n) (first-place byte a b p.1) ∙ one-more (length a)
 
 found : (byte : ℕ) (a b : List ℕ) → list_any (λ x. x == byte) (a ++ (byte ∷ b)) ≡ true
 found byte [] b = ap (λ t. t || list_any (λ x. x == byte) b) (eq-eqb byte byte refl)
@@ -61,7 +64,8 @@ pub around-first : (byte : ℕ) (a b : List ℕ) → Lacks byte a → around byt
 around-first byte a b h =
     let n = first-place byte a b h in
     let text = a ++ (byte ∷ b) in
-    ap (λ t. cond t (Some (before_first (λ x. x == byte) text, after_first (λ x. x == byte) text)) None) (found byte a b)
+    ap (λ t.
+    cond t (Some (before_first (λ x. x == byte) text, after_first (λ x. x == byte) text)) None) (found byte a b)
     ∙ ap (λ k. Some (take k text, drop (k + 1) text)) n
     ∙ ap₂ (λ s t. Some (s, t)) (take-seam a (byte ∷ b)) (drop-seam byte a b)
 

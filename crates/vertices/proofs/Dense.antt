@@ -1,9 +1,11 @@
 -- Names, numbers, classes and versions have no space, and names no `@`.
-use Rattle.std.proofs.Common.{◌≡◌, ℕ, ◌<◌, ◌^◌, List, [], ◌∷◌, Bool, true, false, ◌&&◌, ◌||◌, ◌==◌, decimal, refl, ap, ◌∙◌, subst, arith}
+use Rattle.std.proofs.Common.{◌≡◌, ℕ, ◌<◌, ◌^◌, List, [], ◌∷◌, Bool, true, false, ◌&&◌, ◌||◌, ◌==◌, decimal, refl, ap}
+use Rattle.std.proofs.Common.{◌∙◌, subst, arith}
 use Rattle.std.specs.Char.{is_ascii_digit}
 use Rattle.std.specs.List.{list_all, list_any}
 use Rattle.std.proofs.lemmas.Bool.Decides.{nat_tests}
-use Rattle.semver.specs.Grammar.{IsValid, is_identifier_byte, is_build_identifier, is_pre_identifier, is_pre_release, is_build}
+use Rattle.semver.specs.Grammar.{IsValid, is_identifier_byte, is_build_identifier, is_pre_identifier, is_pre_release}
+use Rattle.semver.specs.Grammar.{is_build}
 use Rattle.semver.specs.Identifiers.{parts_text, marked}
 use Rattle.semver.specs.Order.{parts}
 use Rattle.semver.specs.OrderLaws.{join_dots, join-parts}
@@ -24,11 +26,13 @@ pub not-byte : (test : ℕ → Bool) (byte : ℕ) → test byte ≡ false → (b
 not-byte test byte fails b h = by (b == byte) refl
   where
     by : (t : Bool) → (b == byte) ≡ t → t ≡ false
-    by true e = let same : b ≡ byte = grind (arith, nat_tests) in let no : test byte ≡ true = subst (λ c. test c ≡ true) same h in cc
+    by true e = let same : b ≡ byte = grind (arith, nat_tests) in let no : test byte ≡ true =
+        subst (λ c. test c ≡ true) same h in cc
     by false e = refl
 
 pub name-lacks : (byte : ℕ) → is_package_byte byte ≡ false → (n : List ℕ) → IsPackageName n → Lacks byte n
-name-lacks byte fails n h = lacks-all is_package_byte byte (not-byte is_package_byte byte fails) n (and-both _ (list_all is_package_byte n) (and-both _ _ h).1).1
+name-lacks byte fails n h = lacks-all is_package_byte byte (not-byte is_package_byte byte fails) n
+    (and-both _ (list_all is_package_byte n) (and-both _ _ h).1).1
 
 pub decimal-dense : (n : ℕ) → n < 2 ^ 64 → Lacks 32 (decimal n)
 decimal-dense n h = lacks-all is_ascii_digit 32 (not-byte is_ascii_digit 32 refl) (decimal n) (decimal-digits n h)
@@ -39,12 +43,14 @@ class-dense (minor n) h = decimal-dense n h.1
 class-dense (patch n) h = decimal-dense n h
 
 build-part : (part : List ℕ) → is_build_identifier part ≡ true → Lacks 32 part
-build-part part h = lacks-all is_identifier_byte 32 (not-byte is_identifier_byte 32 refl) part (and-both _ (list_all is_identifier_byte part) h).1
+build-part part h = lacks-all is_identifier_byte 32 (not-byte is_identifier_byte 32 refl) part
+    (and-both _ (list_all is_identifier_byte part) h).1
 
 pre-part : (part : List ℕ) → is_pre_identifier part ≡ true → Lacks 32 part
 pre-part part h = build-part part (and-both (is_build_identifier part) _ h).0
 
-dots : (test : List ℕ → Bool) → ((part : List ℕ) → test part ≡ true → Lacks 32 part) → (ps : List (List ℕ)) → list_all test ps ≡ true → Lacks 32 (join_dots ps)
+dots : (test : List ℕ → Bool) → ((part : List ℕ) → test part ≡ true → Lacks 32 part) → (ps : List (List ℕ))
+    → list_all test ps ≡ true → Lacks 32 (join_dots ps)
 unfolding join_dots
 dots test dense [] h = refl
 dots test dense (p ∷ []) h = dense p (and-both (test p) _ h).0
@@ -52,7 +58,8 @@ dots test dense (p ∷ (q ∷ ps)) h =
     let both = and-both (test p) (list_all test (q ∷ ps)) h in
     lacks-append 32 p (46 ∷ join_dots (q ∷ ps)) (dense p both.0) (dots test dense (q ∷ ps) both.1)
 
-dotted : (test : List ℕ → Bool) → ((part : List ℕ) → test part ≡ true → Lacks 32 part) → (text : List ℕ) → list_all test (parts text) ≡ true → Lacks 32 text
+dotted : (test : List ℕ → Bool) → ((part : List ℕ) → test part ≡ true → Lacks 32 part) → (text : List ℕ)
+    → list_all test (parts text) ≡ true → Lacks 32 text
 dotted test dense text h = subst (λ t. Lacks 32 t) (join-parts text) (dots test dense (parts text) h)
 
 pre-dense : (text : List ℕ) → is_pre_release text ≡ true → Lacks 32 text
@@ -72,4 +79,5 @@ version-dense v h =
     lacks-append 32 (decimal v.0) _ (decimal-dense v.0 h.0)
     (lacks-append 32 (decimal v.1) _ (decimal-dense v.1 h.1)
     (lacks-append 32 (decimal v.2) _ (decimal-dense v.2 h.2)
-    (lacks-append 32 (marked 45 (v.3)) _ (marked-dense 45 refl (v.3) (pre-dense (v.3) h.3)) (marked-dense 43 refl (v.4) (build-dense (v.4) h.4)))))
+    (lacks-append 32 (marked 45 (v.3)) _ (marked-dense 45 refl (v.3) (pre-dense (v.3) h.3))
+    (marked-dense 43 refl (v.4) (build-dense (v.4) h.4)))))

@@ -1,5 +1,6 @@
 -- What is read is valid.
-use Rattle.std.proofs.Common.{◌≡◌, ℕ, ◌<◌, ◌^◌, List, Bool, true, false, cond, ◌&&◌, nat_lt, Option, Some, None, Ok, codes, refl, subst}
+use Rattle.std.proofs.Common.{◌≡◌, ℕ, ◌<◌, ◌^◌, List, Bool, true, false, cond, ◌&&◌, nat_lt, Option, Some, None, Ok}
+use Rattle.std.proofs.Common.{codes, refl, subst}
 use Rattle.std.specs.Str.Parse.{digits_value}
 use Rattle.std.proofs.lemmas.Bool.{ltb-true}
 use Rattle.semver.specs.Grammar.{IsValid}
@@ -12,7 +13,10 @@ use Rattle.model.specs.Vertices.{Owner, the_root, version_of, Vertex, root, pkg,
 use Rattle.features.specs.Entries.{after_text}
 use Rattle.features.specs.Names.{is_package_name, is_feature_name}
 use Rattle.classes.specs.Numbers.{is_plain_number, number_of}
-use Rattle.vertices.specs.Texts.{Reading, needed, parted, package_name_of, feature_name_of, version_of_text, above_zero, lesser_class, class_or, class_of_text, index_of, named_version_of_text, owner_of_text, package_of_text, dependency_of_text, feature_of_text, ask_of_text, kinded_vertex, vertex_of_text}
+use Rattle.vertices.specs.Texts.{Reading, needed, parted, package_name_of, feature_name_of, version_of_text, above_zero}
+use Rattle.vertices.specs.Texts.{lesser_class, class_or, class_of_text, index_of, named_version_of_text, owner_of_text}
+use Rattle.vertices.specs.Texts.{package_of_text, dependency_of_text, feature_of_text, ask_of_text, kinded_vertex}
+use Rattle.vertices.specs.Texts.{vertex_of_text}
 use Rattle.vertices.proofs.Bound.{steps, same-Ok, same-Some, some, chosen}
 use Rattle.vertices.proofs.TextLaws.{version-or}
 use Rattle.vertices.specs.Valid.{IsPackageName, IsFeatureName, IsValidClass, IsIndex, IsValidOwner, IsValidVertex}
@@ -24,7 +28,8 @@ either false x y v f g h = g h
 number-fits : (text : List ℕ) (n : ℕ) → number_of text ≡ Some n → n < 2 ^ 64
 number-fits text n h = by (is_plain_number text) (nat_lt (digits_value 10 text) (2 ^ 64)) refl h
   where
-    by : (a b : Bool) → nat_lt (digits_value 10 text) (2 ^ 64) ≡ b → cond (a && b) (Some (digits_value 10 text)) None ≡ Some n → n < 2 ^ 64
+    by : (a b : Bool) → nat_lt (digits_value 10 text) (2 ^ 64) ≡ b
+        → cond (a && b) (Some (digits_value 10 text)) None ≡ Some n → n < 2 ^ 64
     by true true is h = subst (λ m. m < 2 ^ 64) (same-Some h) (ltb-true _ _ is)
     by true false is h = cc
     by false b is h = cc
@@ -47,14 +52,17 @@ index-fits text n h =
     subst (λ m. IsIndex m) c.1 (ltb-true _ _ c.0)
 
 lesser-fits : (text : List ℕ) (o : Option (List ℕ)) (c : Class) → lesser_class text o ≡ Ok c → IsValidClass c
-lesser-fits text None c h = let s = steps (above_zero text) (λ n. Ok (minor n)) c h in subst (λ k. IsValidClass k) (same-Ok _ _ s.then) (above-fits text s.at s.first)
-lesser-fits text (Some rest) c h = let s = steps (needed (number_of rest)) (λ n. Ok (patch n)) c h in subst (λ k. IsValidClass k) (same-Ok _ _ s.then) (needed-fits rest s.at s.first)
+lesser-fits text None c h = let s = steps (above_zero text) (λ n. Ok (minor n)) c h in
+    subst (λ k. IsValidClass k) (same-Ok _ _ s.then) (above-fits text s.at s.first)
+lesser-fits text (Some rest) c h = let s = steps (needed (number_of rest)) (λ n. Ok (patch n)) c h in
+    subst (λ k. IsValidClass k) (same-Ok _ _ s.then) (needed-fits rest s.at s.first)
 
 class-fits : (text : List ℕ) (c : Class) → class_of_text text ≡ Ok c → IsValidClass c
 class-fits text c h = by (after_text (codes "0.") text) h
   where
     by : (o : Option (List ℕ)) → class_or text o ≡ Ok c → IsValidClass c
-    by None h = let s = steps (above_zero text) (λ n. Ok (major n)) c h in subst (λ k. IsValidClass k) (same-Ok _ _ s.then) (above-fits text s.at s.first)
+    by None h = let s = steps (above_zero text) (λ n. Ok (major n)) c h in
+        subst (λ k. IsValidClass k) (same-Ok _ _ s.then) (above-fits text s.at s.first)
     by (Some rest) h = lesser-fits rest (after_text (codes "0.") rest) c h
 
 version-fits : (text : List ℕ) (v : Parts) → version_of_text text ≡ Ok v → IsValid v
@@ -73,12 +81,15 @@ named-fits text p h =
     let t = steps (package_name_of s.at.0) _ p s.then in
     let u = steps (version_of_text s.at.1) _ p t.then in
     let same : (t.at, u.at) ≡ p = same-Ok _ _ u.then in
-    subst (λ (r : List ℕ × Parts). IsPackageName r.0 × IsValid r.1) same (name-fits s.at.0 t.at t.first, version-fits s.at.1 u.at u.first)
+    subst (λ (r : List ℕ × Parts). IsPackageName r.0 × IsValid r.1) same
+    (name-fits s.at.0 t.at t.first, version-fits s.at.1 u.at u.first)
 
 owner-fits : (text : List ℕ) (o : Owner) → owner_of_text text ≡ Ok o → IsValidOwner o
-owner-fits text o h = either (same_text text (codes "root")) (Ok the_root) (named_version_of_text text >>= λ p. Ok (version_of p.0 p.1)) o
+owner-fits text o h =
+    either (same_text text (codes "root")) (Ok the_root) (named_version_of_text text >>= λ p. Ok (version_of p.0 p.1)) o
     (λ e. subst (λ x. IsValidOwner x) (same-Ok _ _ e) tt)
-    (λ e. let s = steps (named_version_of_text text) (λ p. Ok (version_of p.0 p.1)) o e in subst (λ x. IsValidOwner x) (same-Ok _ _ s.then) (named-fits text s.at s.first)) h
+    (λ e. let s = steps (named_version_of_text text) (λ p. Ok (version_of p.0 p.1)) o e in
+    subst (λ x. IsValidOwner x) (same-Ok _ _ s.then) (named-fits text s.at s.first)) h
 
 package-fits : (text : List ℕ) (v : Vertex) → package_of_text text ≡ Ok v → IsValidVertex v
 unfolding package_of_text
@@ -107,7 +118,8 @@ asked-fits text v h =
     let u = steps (class_of_text m.at.0) _ v t.then in
     let w = steps (feature_name_of m.at.1) _ v u.then in
     let same : feat t.at u.at w.at ≡ v = same-Ok _ _ w.then in
-    subst (λ x. IsValidVertex x) same (name-fits s.at.0 t.at t.first, class-fits m.at.0 u.at u.first, feature-fits m.at.1 w.at w.first)
+    subst (λ x. IsValidVertex x) same
+    (name-fits s.at.0 t.at t.first, class-fits m.at.0 u.at u.first, feature-fits m.at.1 w.at w.first)
 
 ask-fits : (text : List ℕ) (v : Vertex) → ask_of_text text ≡ Ok v → IsValidVertex v
 unfolding ask_of_text
@@ -123,10 +135,13 @@ ask-fits text v h =
 
 kinded-fits : (word rest : List ℕ) (v : Vertex) → kinded_vertex word rest ≡ Ok v → IsValidVertex v
 kinded-fits word rest v h =
-    either (same_text word (codes "pkg")) _ _ v (package-fits rest v) (either (same_text word (codes "dep")) _ _ v (dependency-fits rest v)
-    (either (same_text word (codes "feat")) _ _ v (asked-fits rest v) (either (same_text word (codes "ask")) _ _ v (ask-fits rest v) (λ e. cc)))) h
+    either (same_text word (codes "pkg")) _ _ v (package-fits rest v)
+    (either (same_text word (codes "dep")) _ _ v (dependency-fits rest v)
+    (either (same_text word (codes "feat")) _ _ v (asked-fits rest v)
+    (either (same_text word (codes "ask")) _ _ v (ask-fits rest v) (λ e. cc)))) h
 
 pub vertex-fits : (text : List ℕ) (v : Vertex) → vertex_of_text text ≡ Ok v → IsValidVertex v
-vertex-fits text v h = either (same_text text (codes "root")) (Ok root) (parted 32 text >>= λ p. kinded_vertex p.0 p.1) v
+vertex-fits text v h =
+    either (same_text text (codes "root")) (Ok root) (parted 32 text >>= λ p. kinded_vertex p.0 p.1) v
     (λ e. subst (λ x. IsValidVertex x) (same-Ok _ _ e) tt)
     (λ e. let s = steps (parted 32 text) (λ p. kinded_vertex p.0 p.1) v e in kinded-fits s.at.0 s.at.1 v s.then) h

@@ -12,7 +12,9 @@ use Rattle.model.specs.Vertices.{State, absent, present, version, in_class}
 use Rattle.vertices.specs.Orders.{class_rank, class_number, class_cmp, state_rank, state_cmp}
 
 precedence_total : IsTotalOrder precedence
-precedence_total = then_total (on_total (λ (v : Parts). v.0) nat_cmp_total) (then_total (on_total (λ (v : Parts). v.1) nat_cmp_total) (then_total (on_total (λ (v : Parts). v.2) nat_cmp_total) (on_total (λ (v : Parts). v.3) pre_total)))
+precedence_total =
+    then_total (on_total (λ (v : Parts). v.0) nat_cmp_total) (then_total (on_total (λ (v : Parts). v.1) nat_cmp_total)
+    (then_total (on_total (λ (v : Parts). v.2) nat_cmp_total) (on_total (λ (v : Parts). v.3) pre_total)))
 
 version_total : IsTotalOrder version_cmp
 version_total = then_total precedence_total (on_total parts_text nat_list_cmp_total)
@@ -35,10 +37,12 @@ version_in (in_class c) = (0, 0, 0, [], [])
 
 -- the same order in steps
 abbrev by_steps : State → State → Ordering
-by_steps s t = ordering_then (nat_cmp (state_rank s) (state_rank t)) (ordering_then (class_cmp (class_in s) (class_in t)) (version_cmp (version_in s) (version_in t)))
+by_steps s t = ordering_then (nat_cmp (state_rank s) (state_rank t))
+    (ordering_then (class_cmp (class_in s) (class_in t)) (version_cmp (version_in s) (version_in t)))
 
 by_steps_total : IsTotalOrder by_steps
-by_steps_total = then_total (on_total state_rank nat_cmp_total) (then_total (on_total class_in class_total) (on_total version_in version_total))
+by_steps_total = then_total (on_total state_rank nat_cmp_total)
+    (then_total (on_total class_in class_total) (on_total version_in version_total))
 
 then-equal : (r : Ordering) → ordering_then r Equal ≡ r
 then-equal Less = refl
@@ -61,7 +65,8 @@ same (version v) (in_class c) = refl
 same (in_class c) absent = refl
 same (in_class c) present = refl
 same (in_class c) (version v) = refl
-same (in_class c) (in_class d) = ap (ordering_then (class_cmp c d)) (tied_itself version_total (0, 0, 0, [], [])) ∙ then-equal (class_cmp c d)
+same (in_class c) (in_class d) =
+    ap (ordering_then (class_cmp c d)) (tied_itself version_total (0, 0, 0, [], [])) ∙ then-equal (class_cmp c d)
 
 pub state_total : IsTotalOrder state_cmp
 state_total = record {

@@ -1,5 +1,6 @@
 -- Valid vertices and states are what their own texts read as.
-use Rattle.std.proofs.Common.{◌≡◌, ℕ, List, [], ◌∷◌, ◌++◌, Bool, true, false, cond, ◌||◌, ◌==◌, Result, Ok, Err, codes, decimal, refl, sym, ap, ◌∙◌, arith, append_assoc, true≢false}
+use Rattle.std.proofs.Common.{◌≡◌, ℕ, List, [], ◌∷◌, ◌++◌, Bool, true, false, cond, ◌||◌, ◌==◌, Result, Ok, Err, codes}
+use Rattle.std.proofs.Common.{decimal, refl, sym, ap, ◌∙◌, arith, append_assoc, true≢false}
 use Rattle.std.specs.List.{list_any}
 use Rattle.semver.specs.Grammar.{IsValid}
 use Rattle.semver.specs.Identifiers.{parts_text}
@@ -9,12 +10,17 @@ use Rattle.semver.proofs.OnLiterals.{semver_on_literals}
 use Rattle.model.specs.Outcome.{◌>>=◌}
 use Rattle.model.specs.Summary.{same_text}
 use Rattle.model.specs.Selection.{Class}
-use Rattle.model.specs.Vertices.{Owner, the_root, version_of, Vertex, root, pkg, dep, feat, ask, State, absent, present, version, in_class}
+use Rattle.model.specs.Vertices.{Owner, the_root, version_of, Vertex, root, pkg, dep, feat, ask, State, absent, present}
+use Rattle.model.specs.Vertices.{version, in_class}
 use Rattle.model.proofs.Same.{text-same}
 use Rattle.classes.specs.Classes.{class_text}
 use Rattle.vertices.specs.Texts.{IsReadVertex, IsReadState}
-use Rattle.vertices.specs.Texts.{Reading, parted, kinded_vertex, package_name_of, feature_name_of, version_or, version_of_text, above_zero, class_of_text, named_version_of_text, owner_text, owner_of_text, vertex_text, package_of_text, dependency_of_text, feature_of_text, ask_of_text, vertex_of_text, value_of_text}
-use Rattle.vertices.specs.Valid.{IsPackageName, IsFeatureName, IsValidClass, IsIndex, IsValidOwner, IsValidVertex, IsValidState}
+use Rattle.vertices.specs.Texts.{Reading, parted, kinded_vertex, package_name_of, feature_name_of, version_or}
+use Rattle.vertices.specs.Texts.{version_of_text, above_zero, class_of_text, named_version_of_text, owner_text}
+use Rattle.vertices.specs.Texts.{owner_of_text, vertex_text, package_of_text, dependency_of_text, feature_of_text}
+use Rattle.vertices.specs.Texts.{ask_of_text, vertex_of_text, value_of_text}
+use Rattle.vertices.specs.Valid.{IsPackageName, IsFeatureName, IsValidClass, IsIndex, IsValidOwner, IsValidVertex}
+use Rattle.vertices.specs.Valid.{IsValidState}
 use Rattle.vertices.proofs.Around.{Lacks, lacks-append, parted-first}
 use Rattle.vertices.proofs.Numbers.{index-reads, class-is-read}
 use Rattle.vertices.proofs.Dense.{name-lacks, decimal-dense, class-dense, version-dense}
@@ -23,7 +29,8 @@ use Rattle.vertices.proofs.Dense.{name-lacks, decimal-dense, class-dense, versio
 pub goes-on : {A B : Type 0} (r : Reading A) (x : A) (f : A → Reading B) → r ≡ Ok x → (r >>= f) ≡ f x
 goes-on r x f h = ap (λ s. s >>= f) h
 
-taken : {A E : Type 0} (test : Bool) (x : A) (e : E) → test ≡ true → ◌≡◌ {A = Result A E} (cond test (Ok x) (Err e)) (Ok x)
+taken : {A E : Type 0} (test : Bool) (x : A) (e : E) → test ≡ true
+    → ◌≡◌ {A = Result A E} (cond test (Ok x) (Err e)) (Ok x)
 taken true x e h = refl
 taken false x e h = cc
 
@@ -42,10 +49,12 @@ feature-reads f h = taken _ f _ h
 pub version-is-read : (v : Parts) → IsValid v → version_of_text (parts_text v) ≡ Ok v
 version-is-read v h = ap version_or (version_parts-complete v h)
 
-pub named-reads : (n : List ℕ) (v : Parts) → IsPackageName n → IsValid v → named_version_of_text (n ++ (64 ∷ parts_text v)) ≡ Ok (n, v)
+pub named-reads : (n : List ℕ) (v : Parts) → IsPackageName n → IsValid v
+    → named_version_of_text (n ++ (64 ∷ parts_text v)) ≡ Ok (n, v)
 unfolding named_version_of_text
 named-reads n v h k =
-    goes-on _ (n, parts_text v) _ (parted-first 64 n (parts_text v) (name-lacks 64 refl n h)) ∙ goes-on _ n _ (name-reads n h) ∙ goes-on _ v _ (version-is-read v k)
+    goes-on _ (n, parts_text v) _ (parted-first 64 n (parts_text v) (name-lacks 64 refl n h))
+    ∙ goes-on _ n _ (name-reads n h) ∙ goes-on _ v _ (version-is-read v k)
 
 -- ---- owners
 
@@ -66,27 +75,34 @@ has-at (x ∷ n) t = or-true (x == 64) _ (has-at n t)
     or-true false t e = e
 
 not-root : (n t : List ℕ) → same_text (n ++ (64 ∷ t)) (codes "root") ≡ false
-not-root n t = not-true _ (λ e. true≢false (sym (has-at n t) ∙ ap (list_any (λ b. b == 64)) (text-same (n ++ (64 ∷ t)) (codes "root") e)))
+not-root n t = not-true _
+    (λ e. true≢false (sym (has-at n t) ∙ ap (list_any (λ b. b == 64)) (text-same (n ++ (64 ∷ t)) (codes "root") e)))
 
 owner-reads : (o : Owner) → IsValidOwner o → owner_of_text (owner_text o) ≡ Ok o
 owner-reads the_root h = refl
 owner-reads (version_of n v) h =
-    ap (λ t. cond t (Ok the_root) (named_version_of_text (n ++ (64 ∷ parts_text v)) >>= λ p. Ok (version_of p.0 p.1))) (not-root n (parts_text v))
+    ap (λ t. cond t (Ok the_root) (named_version_of_text (n ++ (64 ∷ parts_text v)) >>= λ p. Ok (version_of p.0 p.1)))
+    (not-root n (parts_text v))
     ∙ goes-on _ (n, v) _ (named-reads n v h.0 h.1)
 
 -- ---- vertices
 
-package-reads : (n : List ℕ) (c : Class) → IsPackageName n → IsValidClass c → package_of_text (n ++ (32 ∷ class_text c)) ≡ Ok (pkg n c)
+package-reads : (n : List ℕ) (c : Class) → IsPackageName n → IsValidClass c
+    → package_of_text (n ++ (32 ∷ class_text c)) ≡ Ok (pkg n c)
 unfolding package_of_text
 package-reads n c h k =
-    goes-on _ (n, class_text c) _ (parted-first 32 n (class_text c) (name-lacks 32 refl n h)) ∙ goes-on _ n _ (name-reads n h) ∙ goes-on _ c _ (class-is-read c k)
+    goes-on _ (n, class_text c) _ (parted-first 32 n (class_text c) (name-lacks 32 refl n h))
+    ∙ goes-on _ n _ (name-reads n h) ∙ goes-on _ c _ (class-is-read c k)
 
-dependency-reads : (o : Owner) (i : ℕ) → IsValidOwner o → IsIndex i → dependency_of_text (owner_text o ++ (32 ∷ decimal i)) ≡ Ok (dep o i)
+dependency-reads : (o : Owner) (i : ℕ) → IsValidOwner o → IsIndex i
+    → dependency_of_text (owner_text o ++ (32 ∷ decimal i)) ≡ Ok (dep o i)
 unfolding dependency_of_text
 dependency-reads o i h k =
-    goes-on _ (owner_text o, decimal i) _ (parted-first 32 (owner_text o) (decimal i) (owner-dense o h)) ∙ goes-on _ o _ (owner-reads o h) ∙ goes-on _ i _ (index-reads i k)
+    goes-on _ (owner_text o, decimal i) _ (parted-first 32 (owner_text o) (decimal i) (owner-dense o h))
+    ∙ goes-on _ o _ (owner-reads o h) ∙ goes-on _ i _ (index-reads i k)
 
-asked-reads : (n : List ℕ) (c : Class) (f : List ℕ) → IsPackageName n → IsValidClass c → IsFeatureName f → feature_of_text (n ++ (32 ∷ (class_text c ++ (32 ∷ f)))) ≡ Ok (feat n c f)
+asked-reads : (n : List ℕ) (c : Class) (f : List ℕ) → IsPackageName n → IsValidClass c → IsFeatureName f
+    → feature_of_text (n ++ (32 ∷ (class_text c ++ (32 ∷ f)))) ≡ Ok (feat n c f)
 unfolding feature_of_text
 asked-reads n c f h k l =
     goes-on _ (n, class_text c ++ (32 ∷ f)) _ (parted-first 32 n (class_text c ++ (32 ∷ f)) (name-lacks 32 refl n h))
@@ -104,15 +120,18 @@ ask-reads n v i g h k l m =
     ∙ goes-on _ (decimal i, g) _ (parted-first 32 (decimal i) g (decimal-dense i (omega arith)))
     ∙ goes-on _ (n, v) _ (named-reads n v h k) ∙ goes-on _ i _ (index-reads i l) ∙ goes-on _ g _ (feature-reads g m)
 
-worded : (word rest : List ℕ) → Lacks 32 word → (parted 32 (word ++ (32 ∷ rest)) >>= λ p. kinded_vertex p.0 p.1) ≡ kinded_vertex word rest
+worded : (word rest : List ℕ) → Lacks 32 word
+    → (parted 32 (word ++ (32 ∷ rest)) >>= λ p. kinded_vertex p.0 p.1) ≡ kinded_vertex word rest
 worded word rest h = goes-on _ (word, rest) (λ p. kinded_vertex p.0 p.1) (parted-first 32 word rest h)
 
 pub vertex-is-read : (v : Vertex) → IsValidVertex v → IsReadVertex v
 vertex-is-read root h = refl
 vertex-is-read (pkg n c) h = worded (codes "pkg") (n ++ (32 ∷ class_text c)) refl ∙ package-reads n c h.0 h.1
 vertex-is-read (dep o i) h = worded (codes "dep") (owner_text o ++ (32 ∷ decimal i)) refl ∙ dependency-reads o i h.0 h.1
-vertex-is-read (feat n c f) h = worded (codes "feat") (n ++ (32 ∷ (class_text c ++ (32 ∷ f)))) refl ∙ asked-reads n c f h.0 h.1 h.2
-vertex-is-read (ask n v i g) h = worded (codes "ask") (n ++ (64 ∷ (parts_text v ++ (32 ∷ (decimal i ++ (32 ∷ g)))))) refl ∙ ask-reads n v i g h.0 h.1 h.2 h.3
+vertex-is-read (feat n c f) h =
+    worded (codes "feat") (n ++ (32 ∷ (class_text c ++ (32 ∷ f)))) refl ∙ asked-reads n c f h.0 h.1 h.2
+vertex-is-read (ask n v i g) h = worded (codes "ask")
+    (n ++ (64 ∷ (parts_text v ++ (32 ∷ (decimal i ++ (32 ∷ g)))))) refl ∙ ask-reads n v i g h.0 h.1 h.2 h.3
 
 pub same-texts : (v w : Vertex) → IsReadVertex v → IsReadVertex w → vertex_text v ≡ vertex_text w → v ≡ w
 same-texts v w h k e = inside v w (sym h ∙ ap vertex_of_text e ∙ k)
@@ -129,12 +148,14 @@ ends-well (Err e) = false
 class-not-absent : (c : Class) → IsValidClass c → same_text (class_text c) (codes "absent") ≡ false
 unfolding above_zero
 class-not-absent c h = not-true _ (λ e.
-    let no : false ≡ true = ap ends-well (sym (ap class_of_text (text-same (class_text c) (codes "absent") e)) ∙ class-is-read c h) in true≢false (sym no))
+    let no : false ≡ true = ap ends-well (sym (ap class_of_text (text-same (class_text c) (codes "absent") e))
+    ∙ class-is-read c h) in true≢false (sym no))
 
 version-not-absent : (v : Parts) → IsValid v → same_text (parts_text v) (codes "absent") ≡ false
 unfolding semver_on_literals
 version-not-absent v h = not-true _ (λ e.
-    let no : false ≡ true = ap ends-well (sym (ap version_of_text (text-same (parts_text v) (codes "absent") e)) ∙ version-is-read v h) in true≢false (sym no))
+    let no : false ≡ true = ap ends-well (sym (ap version_of_text (text-same (parts_text v) (codes "absent") e))
+    ∙ version-is-read v h) in true≢false (sym no))
 
 pub state-is-read : (v : Vertex) (s : State) → IsValidState v s → IsReadState v s
 state-is-read v absent h = refl
@@ -142,9 +163,11 @@ state-is-read root present h = refl
 state-is-read (feat n c f) present h = refl
 state-is-read (ask n w i g) present h = refl
 state-is-read (pkg n c) (version w) h =
-    ap (λ t. cond t (Ok absent) (value_of_text (pkg n c) (parts_text w))) (version-not-absent w h) ∙ goes-on _ w _ (version-is-read w h)
+    ap (λ t. cond t (Ok absent) (value_of_text (pkg n c) (parts_text w))) (version-not-absent w h)
+    ∙ goes-on _ w _ (version-is-read w h)
 state-is-read (dep o i) (in_class c) h =
-    ap (λ t. cond t (Ok absent) (value_of_text (dep o i) (class_text c))) (class-not-absent c h) ∙ goes-on _ c _ (class-is-read c h)
+    ap (λ t. cond t (Ok absent) (value_of_text (dep o i) (class_text c))) (class-not-absent c h)
+    ∙ goes-on _ c _ (class-is-read c h)
 state-is-read root (version w) h = absurd h
 state-is-read root (in_class c) h = absurd h
 state-is-read (pkg n c) present h = absurd h

@@ -1,5 +1,8 @@
 -- A text that is read is the text of what it is read as.
-use Rattle.std.proofs.Common.{◌≡◌, ℕ, suc, ◌+◌, ◌<◌, ◌^◌, List, [], ◌∷◌, ◌++◌, length, take, drop, get_or, slice_index, Bool, true, false, not, cond, ◌&&◌, ◌||◌, ◌==◌, Option, Some, None, Result, Ok, Err, nat_eq, nat_lt, nat_le, decimal, codes, refl, sym, ap, ap₂, ◌∙◌, arith, append_assoc, subst, true≢false}
+use Rattle.std.proofs.Common.{◌≡◌, ℕ, suc, ◌+◌, ◌<◌, ◌^◌, List, [], ◌∷◌, ◌++◌, length, take, drop, get_or, slice_index}
+use Rattle.std.proofs.Common.{Bool, true, false, not, cond, ◌&&◌, ◌||◌, ◌==◌, Option, Some, None, Result, Ok, Err}
+use Rattle.std.proofs.Common.{nat_eq, nat_lt, nat_le, decimal, codes, refl, sym, ap, ap₂, ◌∙◌, arith, append_assoc}
+use Rattle.std.proofs.Common.{subst, true≢false}
 use Rattle.std.specs.Char.{is_ascii_digit}
 use Rattle.std.specs.List.{list_all, list_any, position_or_len, before_first, after_first, starts_with}
 use Rattle.std.specs.Str.{all_ascii_digits}
@@ -16,13 +19,18 @@ use Rattle.semver.specs.declared.error.Error.{Error}
 use Rattle.semver.proofs.Grammar.{version_parts-sound}
 use Rattle.model.specs.Outcome.{◌>>=◌}
 use Rattle.model.specs.Summary.{same_text as same_bytes}
-use Rattle.model.specs.Vertices.{Owner, the_root, version_of, Vertex, root, pkg, dep, feat, ask, State, absent, present, version, in_class}
+use Rattle.model.specs.Vertices.{Owner, the_root, version_of, Vertex, root, pkg, dep, feat, ask, State, absent, present}
+use Rattle.model.specs.Vertices.{version, in_class}
 use Rattle.model.specs.Selection.{Class, patch, minor, major}
 use Rattle.features.specs.Entries.{after_text, around}
 use Rattle.features.specs.Names.{is_package_name, is_feature_name}
 use Rattle.classes.specs.Classes.{class_text}
 use Rattle.classes.specs.Numbers.{is_plain_number, number_of}
-use Rattle.vertices.specs.Texts.{needed, parted, package_name_of, feature_name_of, version_or, version_of_text, above_zero, lesser_class, class_or, class_of_text, index_of, named_version_of_text, owner_text, owner_of_text, vertex_text, package_of_text, dependency_of_text, feature_of_text, ask_of_text, kinded_vertex, vertex_of_text, state_text, present_of_text, value_of_text, state_of_text}
+use Rattle.vertices.specs.Texts.{needed, parted, package_name_of, feature_name_of, version_or, version_of_text}
+use Rattle.vertices.specs.Texts.{above_zero, lesser_class, class_or, class_of_text, index_of, named_version_of_text}
+use Rattle.vertices.specs.Texts.{owner_text, owner_of_text, vertex_text, package_of_text, dependency_of_text}
+use Rattle.vertices.specs.Texts.{feature_of_text, ask_of_text, kinded_vertex, vertex_of_text, state_text}
+use Rattle.vertices.specs.Texts.{present_of_text, value_of_text, state_of_text}
 use Rattle.vertices.specs.declared.fault.TextFault.TheVariants.{NotAText}
 use Rattle.vertices.proofs.Bound.{steps, same-Ok, same-Some, some, chosen}
 
@@ -32,25 +40,32 @@ within : (p : ℕ → Bool) (s : List ℕ) → list_any p s ≡ true → positio
 within p [] e = cc
 within p (x ∷ xs) e = by (within p xs) (p x) e
   where
-    by : (list_any p xs ≡ true → position_or_len p xs < length xs) → (b : Bool) → (b || list_any p xs) ≡ true → cond (not b) (1 + position_or_len p xs) 0 < suc (length xs)
+    by : (list_any p xs ≡ true → position_or_len p xs < length xs) → (b : Bool) → (b || list_any p xs) ≡ true
+        → cond (not b) (1 + position_or_len p xs) 0 < suc (length xs)
     by rest true e = omega arith
     by rest false e = let lt = rest e in omega arith
 
-pub around-joins : (byte : ℕ) (text : List ℕ) (p : List ℕ × List ℕ) → around byte text ≡ Some p → text ≡ p.0 ++ (byte ∷ p.1)
+pub around-joins : (byte : ℕ) (text : List ℕ) (p : List ℕ × List ℕ) → around byte text ≡ Some p
+    → text ≡ p.0 ++ (byte ∷ p.1)
 around-joins byte text p h = by (list_any (λ b. b == byte) text) refl h
   where
-    by : (b : Bool) → list_any (λ b. b == byte) text ≡ b → cond b (Some (before_first (λ b. b == byte) text, after_first (λ b. b == byte) text)) None ≡ Some p → text ≡ p.0 ++ (byte ∷ p.1)
+    by : (b : Bool) → list_any (λ b. b == byte) text ≡ b
+        → cond b (Some (before_first (λ b. b == byte) text, after_first (λ b. b == byte) text)) None ≡ Some p
+        → text ≡ p.0 ++ (byte ∷ p.1)
     by true is h =
         let lt = within (λ b. b == byte) text is in
-        let here : get_or text (position_or_len (λ b. b == byte) text) 0 ≡ byte = eqb-true _ _ (passes_at_first (λ b. b == byte) text 0 lt) in
-        split_at_first (λ b. b == byte) text 0 lt ∙ ap (λ c. before_first (λ b. b == byte) text ++ (c ∷ after_first (λ b. b == byte) text)) here
+        let here : get_or text (position_or_len (λ b. b == byte) text) 0 ≡ byte =
+        eqb-true _ _ (passes_at_first (λ b. b == byte) text 0 lt) in
+        split_at_first (λ b. b == byte) text 0 lt
+        ∙ ap (λ c. before_first (λ b. b == byte) text ++ (c ∷ after_first (λ b. b == byte) text)) here
         ∙ ap (λ (q : List ℕ × List ℕ). q.0 ++ (byte ∷ q.1)) (same-Some h)
     by false is h = cc
 
 pub front-joins : (front text rest : List ℕ) → after_text front text ≡ Some rest → text ≡ front ++ rest
 front-joins front text rest h = by (starts_with nat_eq text front) refl h
   where
-    by : (b : Bool) → starts_with nat_eq text front ≡ b → cond b (Some (drop (length front) text)) None ≡ Some rest → text ≡ front ++ rest
+    by : (b : Bool) → starts_with nat_eq text front ≡ b
+        → cond b (Some (drop (length front) text)) None ≡ Some rest → text ≡ front ++ rest
     by true is h =
         let begins : front ≡ take (length front) text = same_text front (take (length front) text) is in
         let left : drop (length front) text ≡ rest = same-Some h in
@@ -67,13 +82,17 @@ digits : (text : List ℕ) → list_all is_ascii_digit text ≡ true → all_asc
 digits [] e = refl
 digits (c ∷ text) e = let p = both (is_ascii_digit c) (list_all is_ascii_digit text) e in rw (p.0, digits text p.1) refl
 
-plain-text : (text : List ℕ) → is_plain_number text ≡ true → digits_value 10 text < 2 ^ 64 → decimal (digits_value 10 text) ≡ text
+plain-text : (text : List ℕ) → is_plain_number text ≡ true → digits_value 10 text < 2 ^ 64
+    → decimal (digits_value 10 text) ≡ text
 plain-text text plain lt =
     let some_digit = both _ _ plain in
     let rest = both _ _ some_digit.1 in
-    decimal-digits_value (numerals_by_value (λ ds. all_ascii_digits ds ≡ true) tells_all_ascii_digits) text (digits text rest.0) (leb-true _ _ some_digit.0) (λ zero_first. one_digit text zero_first some_digit.0 rest.1) lt
+    decimal-digits_value (numerals_by_value (λ ds. all_ascii_digits ds ≡ true) tells_all_ascii_digits) text
+    (digits text rest.0) (leb-true _ _ some_digit.0)
+    (λ zero_first. one_digit text zero_first some_digit.0 rest.1) lt
   where
-    one_digit : (text : List ℕ) → get_or text 0 0 ≡ 48 → nat_le 1 (length text) ≡ true → (nat_le (length text) 1 || not (slice_index text 0 == 48)) ≡ true → length text ≡ 1
+    one_digit : (text : List ℕ) → get_or text 0 0 ≡ 48 → nat_le 1 (length text) ≡ true
+        → (nat_le (length text) 1 || not (slice_index text 0 == 48)) ≡ true → length text ≡ 1
     one_digit text z more h = by (nat_le (length text) 1) refl h
       where
         by : (b : Bool) → nat_le (length text) 1 ≡ b → (b || not (slice_index text 0 == 48)) ≡ true → length text ≡ 1
@@ -83,8 +102,10 @@ plain-text text plain lt =
 pub number-text : (text : List ℕ) (n : ℕ) → number_of text ≡ Some n → decimal n ≡ text
 number-text text n h = by (is_plain_number text && nat_lt (digits_value 10 text) (2 ^ 64)) refl h
   where
-    by : (b : Bool) → (is_plain_number text && nat_lt (digits_value 10 text) (2 ^ 64)) ≡ b → cond b (Some (digits_value 10 text)) None ≡ Some n → decimal n ≡ text
-    by true is h = let p = both _ _ is in let same : digits_value 10 text ≡ n = same-Some h in ap decimal (sym same) ∙ plain-text text p.0 (ltb-true _ _ p.1)
+    by : (b : Bool) → (is_plain_number text && nat_lt (digits_value 10 text) (2 ^ 64)) ≡ b
+        → cond b (Some (digits_value 10 text)) None ≡ Some n → decimal n ≡ text
+    by true is h = let p = both _ _ is in let same : digits_value 10 text ≡ n =
+        same-Some h in ap decimal (sym same) ∙ plain-text text p.0 (ltb-true _ _ p.1)
     by false is h = cc
 
 number-needed : (text : List ℕ) (n : ℕ) → needed (number_of text) ≡ Ok n → decimal n ≡ text
@@ -106,7 +127,8 @@ index-text text n h =
 
 -- ---- classes and versions
 
-lesser-text : (text : List ℕ) (o : Option (List ℕ)) (c : Class) → after_text (codes "0.") text ≡ o → lesser_class text o ≡ Ok c → class_text c ≡ 48 ∷ 46 ∷ text
+lesser-text : (text : List ℕ) (o : Option (List ℕ)) (c : Class) → after_text (codes "0.") text ≡ o
+    → lesser_class text o ≡ Ok c → class_text c ≡ 48 ∷ 46 ∷ text
 lesser-text text None c is h =
     let s = steps (above_zero text) (λ n. Ok (minor n)) c h in
     let same : minor s.at ≡ c = same-Ok _ _ s.then in
@@ -115,9 +137,11 @@ lesser-text text (Some rest) c is h =
     let s = steps (needed (number_of rest)) (λ n. Ok (patch n)) c h in
     let same : patch s.at ≡ c = same-Ok _ _ s.then in
     let whole : text ≡ 48 ∷ 46 ∷ rest = front-joins (codes "0.") text rest is in
-    ap class_text (sym same) ∙ ap (λ t. 48 ∷ 46 ∷ 48 ∷ 46 ∷ t) (number-needed rest s.at s.first) ∙ ap (λ t. 48 ∷ 46 ∷ t) (sym whole)
+    ap class_text (sym same) ∙ ap (λ t. 48 ∷ 46 ∷ 48 ∷ 46 ∷ t) (number-needed rest s.at s.first)
+    ∙ ap (λ t. 48 ∷ 46 ∷ t) (sym whole)
 
-class-by : (text : List ℕ) (o : Option (List ℕ)) (c : Class) → after_text (codes "0.") text ≡ o → class_or text o ≡ Ok c → class_text c ≡ text
+class-by : (text : List ℕ) (o : Option (List ℕ)) (c : Class) → after_text (codes "0.") text ≡ o
+    → class_or text o ≡ Ok c → class_text c ≡ text
 class-by text None c is h =
     let s = steps (above_zero text) (λ n. Ok (major n)) c h in
     let same : major s.at ≡ c = same-Ok _ _ s.then in
@@ -144,25 +168,30 @@ name-is text n h = (chosen (is_package_name text) text n NotAText h).1
 feature-is : (text f : List ℕ) → feature_name_of text ≡ Ok f → text ≡ f
 feature-is text f h = (chosen (is_feature_name text) text f NotAText h).1
 
-pub parted-joins : (byte : ℕ) (text : List ℕ) (p : List ℕ × List ℕ) → parted byte text ≡ Ok p → text ≡ p.0 ++ (byte ∷ p.1)
+pub parted-joins : (byte : ℕ) (text : List ℕ) (p : List ℕ × List ℕ) → parted byte text ≡ Ok p
+    → text ≡ p.0 ++ (byte ∷ p.1)
 parted-joins byte text p h = around-joins byte text p (some (around byte text) NotAText p h)
 
 joined : (byte : ℕ) (a b c d : List ℕ) → a ≡ c → b ≡ d → a ++ (byte ∷ b) ≡ c ++ (byte ∷ d)
 joined byte a b c d p q = cc
 
-named-text : (text : List ℕ) (p : List ℕ × Parts) → named_version_of_text text ≡ Ok p → p.0 ++ (64 ∷ parts_text p.1) ≡ text
+named-text : (text : List ℕ) (p : List ℕ × Parts) → named_version_of_text text ≡ Ok p
+    → p.0 ++ (64 ∷ parts_text p.1) ≡ text
 unfolding named_version_of_text
 named-text text p h =
     let s = steps (parted 64 text) _ p h in
     let t = steps (package_name_of s.at.0) _ p s.then in
     let u = steps (version_of_text s.at.1) _ p t.then in
     let same : (t.at, u.at) ≡ p = same-Ok _ _ u.then in
-    ap (λ (q : List ℕ × Parts). q.0 ++ (64 ∷ parts_text q.1)) (sym same) ∙ joined 64 t.at (parts_text u.at) s.at.0 s.at.1 (sym (name-is _ _ t.first)) (version-reads _ _ u.first) ∙ sym (parted-joins 64 text s.at s.first)
+    ap (λ (q : List ℕ × Parts). q.0 ++ (64 ∷ parts_text q.1)) (sym same)
+    ∙ joined 64 t.at (parts_text u.at) s.at.0 s.at.1 (sym (name-is _ _ t.first)) (version-reads _ _ u.first)
+    ∙ sym (parted-joins 64 text s.at s.first)
 
 owner-text : (text : List ℕ) (o : Owner) → owner_of_text text ≡ Ok o → owner_text o ≡ text
 owner-text text o h = by (same_bytes text (codes "root")) refl h
   where
-    by : (b : Bool) → same_bytes text (codes "root") ≡ b → cond b (Ok the_root) (named_version_of_text text >>= λ p. Ok (version_of p.0 p.1)) ≡ Ok o → owner_text o ≡ text
+    by : (b : Bool) → same_bytes text (codes "root") ≡ b → cond b (Ok the_root)
+        (named_version_of_text text >>= λ p. Ok (version_of p.0 p.1)) ≡ Ok o → owner_text o ≡ text
     by true is h = ap owner_text (sym (same-Ok _ _ h)) ∙ sym (same_text text (codes "root") is)
     by false is h =
         let s = steps (named_version_of_text text) (λ p. Ok (version_of p.0 p.1)) o h in
@@ -175,7 +204,8 @@ package-text text v h =
     let t = steps (package_name_of s.at.0) _ v s.then in
     let u = steps (class_of_text s.at.1) _ v t.then in
     let same : pkg t.at u.at ≡ v = same-Ok _ _ u.then in
-    ap vertex_text (sym same) ∙ ap (λ r. codes "pkg " ++ r) (joined 32 t.at (class_text u.at) s.at.0 s.at.1 (sym (name-is _ _ t.first)) (class-reads _ _ u.first) ∙ sym (parted-joins 32 text s.at s.first))
+    ap vertex_text (sym same) ∙ ap (λ r. codes "pkg " ++ r) (joined 32 t.at (class_text u.at) s.at.0 s.at.1
+    (sym (name-is _ _ t.first)) (class-reads _ _ u.first) ∙ sym (parted-joins 32 text s.at s.first))
 
 dependency-text : (text : List ℕ) (v : Vertex) → dependency_of_text text ≡ Ok v → vertex_text v ≡ codes "dep " ++ text
 unfolding dependency_of_text
@@ -184,7 +214,8 @@ dependency-text text v h =
     let t = steps (owner_of_text s.at.0) _ v s.then in
     let u = steps (index_of s.at.1) _ v t.then in
     let same : dep t.at u.at ≡ v = same-Ok _ _ u.then in
-    ap vertex_text (sym same) ∙ ap (λ r. codes "dep " ++ r) (joined 32 (owner_text t.at) (decimal u.at) s.at.0 s.at.1 (owner-text _ _ t.first) (index-text _ _ u.first) ∙ sym (parted-joins 32 text s.at s.first))
+    ap vertex_text (sym same) ∙ ap (λ r. codes "dep " ++ r) (joined 32 (owner_text t.at) (decimal u.at) s.at.0 s.at.1
+    (owner-text _ _ t.first) (index-text _ _ u.first) ∙ sym (parted-joins 32 text s.at s.first))
 
 feature-text : (text : List ℕ) (v : Vertex) → feature_of_text text ≡ Ok v → vertex_text v ≡ codes "feat " ++ text
 unfolding feature_of_text
@@ -195,8 +226,10 @@ feature-text text v h =
     let u = steps (class_of_text m.at.0) _ v t.then in
     let w = steps (feature_name_of m.at.1) _ v u.then in
     let same : feat t.at u.at w.at ≡ v = same-Ok _ _ w.then in
-    let more : class_text u.at ++ (32 ∷ w.at) ≡ s.at.1 = joined 32 (class_text u.at) w.at m.at.0 m.at.1 (class-reads _ _ u.first) (sym (feature-is _ _ w.first)) ∙ sym (parted-joins 32 s.at.1 m.at m.first) in
-    ap vertex_text (sym same) ∙ ap (λ r. codes "feat " ++ r) (joined 32 t.at (class_text u.at ++ (32 ∷ w.at)) s.at.0 s.at.1 (sym (name-is _ _ t.first)) more ∙ sym (parted-joins 32 text s.at s.first))
+    let more : class_text u.at ++ (32 ∷ w.at) ≡ s.at.1 = joined 32 (class_text u.at) w.at m.at.0 m.at.1
+    (class-reads _ _ u.first) (sym (feature-is _ _ w.first)) ∙ sym (parted-joins 32 s.at.1 m.at m.first) in
+    ap vertex_text (sym same) ∙ ap (λ r. codes "feat " ++ r) (joined 32 t.at (class_text u.at
+    ++ (32 ∷ w.at)) s.at.0 s.at.1 (sym (name-is _ _ t.first)) more ∙ sym (parted-joins 32 text s.at s.first))
 
 ask-text : (text : List ℕ) (v : Vertex) → ask_of_text text ≡ Ok v → vertex_text v ≡ codes "ask " ++ text
 unfolding ask_of_text
@@ -207,10 +240,14 @@ ask-text text v h =
     let u = steps (index_of m.at.0) _ v t.then in
     let w = steps (feature_name_of m.at.1) _ v u.then in
     let same : ask t.at.0 t.at.1 u.at w.at ≡ v = same-Ok _ _ w.then in
-    let more : decimal u.at ++ (32 ∷ w.at) ≡ s.at.1 = joined 32 (decimal u.at) w.at m.at.0 m.at.1 (index-text _ _ u.first) (sym (feature-is _ _ w.first)) ∙ sym (parted-joins 32 s.at.1 m.at m.first) in
+    let more : decimal u.at ++ (32 ∷ w.at) ≡ s.at.1 = joined 32 (decimal u.at) w.at m.at.0 m.at.1
+    (index-text _ _ u.first) (sym (feature-is _ _ w.first)) ∙ sym (parted-joins 32 s.at.1 m.at m.first) in
     let owner : t.at.0 ++ (64 ∷ parts_text t.at.1) ≡ s.at.0 = named-text _ _ t.first in
     ap vertex_text (sym same)
-    ∙ ap (λ r. codes "ask " ++ r) (sym (append_assoc t.at.0 (64 ∷ parts_text t.at.1) (32 ∷ (decimal u.at ++ (32 ∷ w.at)))) ∙ joined 32 (t.at.0 ++ (64 ∷ parts_text t.at.1)) (decimal u.at ++ (32 ∷ w.at)) s.at.0 s.at.1 owner more ∙ sym (parted-joins 32 text s.at s.first))
+    ∙ ap (λ r. codes "ask " ++ r)
+    (sym (append_assoc t.at.0 (64 ∷ parts_text t.at.1) (32 ∷ (decimal u.at ++ (32 ∷ w.at))))
+    ∙ joined 32 (t.at.0 ++ (64 ∷ parts_text t.at.1)) (decimal u.at ++ (32 ∷ w.at)) s.at.0 s.at.1 owner more
+    ∙ sym (parted-joins 32 text s.at s.first))
 
 kinded-text : (word rest : List ℕ) (v : Vertex) → kinded_vertex word rest ≡ Ok v → vertex_text v ≡ word ++ (32 ∷ rest)
 kinded-text word rest v h = pkg_or (same_bytes word (codes "pkg")) refl h
@@ -218,22 +255,28 @@ kinded-text word rest v h = pkg_or (same_bytes word (codes "pkg")) refl h
     after : (front : List ℕ) → same_bytes word front ≡ true → front ++ (32 ∷ rest) ≡ word ++ (32 ∷ rest)
     after front is = ap (λ w. w ++ (32 ∷ rest)) (sym (same_text word front is))
 
-    ask_or : (b : Bool) → same_bytes word (codes "ask") ≡ b → cond b (ask_of_text rest) (Err NotAText) ≡ Ok v → vertex_text v ≡ word ++ (32 ∷ rest)
+    ask_or : (b : Bool) → same_bytes word (codes "ask") ≡ b → cond b (ask_of_text rest) (Err NotAText) ≡ Ok v
+        → vertex_text v ≡ word ++ (32 ∷ rest)
     ask_or true is h = ask-text rest v h ∙ after (codes "ask") is
     ask_or false is h = cc
 
-    feat_or : (b : Bool) → same_bytes word (codes "feat") ≡ b → cond b (feature_of_text rest) (cond (same_bytes word (codes "ask")) (ask_of_text rest) (Err NotAText)) ≡ Ok v → vertex_text v ≡ word ++ (32 ∷ rest)
+    feat_or : (b : Bool) → same_bytes word (codes "feat") ≡ b
+        → cond b (feature_of_text rest) (cond (same_bytes word (codes "ask")) (ask_of_text rest) (Err NotAText)) ≡ Ok v
+        → vertex_text v ≡ word ++ (32 ∷ rest)
     feat_or true is h = feature-text rest v h ∙ after (codes "feat") is
     feat_or false is h = ask_or (same_bytes word (codes "ask")) refl h
 
     dep_or : (b : Bool) → same_bytes word (codes "dep") ≡ b
-        → cond b (dependency_of_text rest) (cond (same_bytes word (codes "feat")) (feature_of_text rest) (cond (same_bytes word (codes "ask")) (ask_of_text rest) (Err NotAText))) ≡ Ok v
+        → cond b (dependency_of_text rest) (cond (same_bytes word (codes "feat")) (feature_of_text rest)
+        (cond (same_bytes word (codes "ask")) (ask_of_text rest) (Err NotAText))) ≡ Ok v
         → vertex_text v ≡ word ++ (32 ∷ rest)
     dep_or true is h = dependency-text rest v h ∙ after (codes "dep") is
     dep_or false is h = feat_or (same_bytes word (codes "feat")) refl h
 
     pkg_or : (b : Bool) → same_bytes word (codes "pkg") ≡ b
-        → cond b (package_of_text rest) (cond (same_bytes word (codes "dep")) (dependency_of_text rest) (cond (same_bytes word (codes "feat")) (feature_of_text rest) (cond (same_bytes word (codes "ask")) (ask_of_text rest) (Err NotAText)))) ≡ Ok v
+        → cond b (package_of_text rest)
+        (cond (same_bytes word (codes "dep")) (dependency_of_text rest) (cond (same_bytes word (codes "feat"))
+        (feature_of_text rest) (cond (same_bytes word (codes "ask")) (ask_of_text rest) (Err NotAText)))) ≡ Ok v
         → vertex_text v ≡ word ++ (32 ∷ rest)
     pkg_or true is h = package-text rest v h ∙ after (codes "pkg") is
     pkg_or false is h = dep_or (same_bytes word (codes "dep")) refl h
@@ -241,7 +284,8 @@ kinded-text word rest v h = pkg_or (same_bytes word (codes "pkg")) refl h
 pub vertex-reads : (text : List ℕ) (v : Vertex) → vertex_of_text text ≡ Ok v → vertex_text v ≡ text
 vertex-reads text v h = by (same_bytes text (codes "root")) refl h
   where
-    by : (b : Bool) → same_bytes text (codes "root") ≡ b → cond b (Ok root) (parted 32 text >>= λ p. kinded_vertex p.0 p.1) ≡ Ok v → vertex_text v ≡ text
+    by : (b : Bool) → same_bytes text (codes "root") ≡ b
+        → cond b (Ok root) (parted 32 text >>= λ p. kinded_vertex p.0 p.1) ≡ Ok v → vertex_text v ≡ text
     by true is h = ap vertex_text (sym (same-Ok _ _ h)) ∙ sym (same_text text (codes "root") is)
     by false is h =
         let s = steps (parted 32 text) (λ p. kinded_vertex p.0 p.1) v h in
@@ -256,14 +300,17 @@ present-text text s h =
 
 value-text : (v : Vertex) (text : List ℕ) (s : State) → value_of_text v text ≡ Ok s → state_text s ≡ text
 value-text root text s h = present-text text s h
-value-text (pkg n c) text s h = let t = steps (version_of_text text) (λ w. Ok (version w)) s h in ap state_text (sym (same-Ok _ _ t.then)) ∙ version-reads text t.at t.first
-value-text (dep o i) text s h = let t = steps (class_of_text text) (λ c. Ok (in_class c)) s h in ap state_text (sym (same-Ok _ _ t.then)) ∙ class-reads text t.at t.first
+value-text (pkg n c) text s h = let t = steps (version_of_text text) (λ w. Ok (version w)) s h in
+    ap state_text (sym (same-Ok _ _ t.then)) ∙ version-reads text t.at t.first
+value-text (dep o i) text s h = let t = steps (class_of_text text) (λ c. Ok (in_class c)) s h in
+    ap state_text (sym (same-Ok _ _ t.then)) ∙ class-reads text t.at t.first
 value-text (feat n c f) text s h = present-text text s h
 value-text (ask n w i g) text s h = present-text text s h
 
 pub state-reads : (v : Vertex) (text : List ℕ) (s : State) → state_of_text v text ≡ Ok s → state_text s ≡ text
 state-reads v text s h = by (same_bytes text (codes "absent")) refl h
   where
-    by : (b : Bool) → same_bytes text (codes "absent") ≡ b → cond b (Ok absent) (value_of_text v text) ≡ Ok s → state_text s ≡ text
+    by : (b : Bool) → same_bytes text (codes "absent") ≡ b
+        → cond b (Ok absent) (value_of_text v text) ≡ Ok s → state_text s ≡ text
     by true is h = ap state_text (sym (same-Ok _ _ h)) ∙ sym (same_text text (codes "absent") is)
     by false is h = value-text v text s h

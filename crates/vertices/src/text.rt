@@ -79,7 +79,8 @@ pub(crate) fn version(alloc: Global, text: &str) -> Result<Version, TextFault>
 
 /// What an error of `semver` is.
 fn fault_of(e: semver::Error) -> TextFault
-    ensures { ((result ≡ TextFault.OutOfMemory) × (e ≡ memory_error)) ⊎ ((result ≡ TextFault.NotAText) × (e ≢ memory_error)) }
+    ensures { ((result ≡ TextFault.OutOfMemory) × (e ≡ memory_error))
+        ⊎ ((result ≡ TextFault.NotAText) × (e ≢ memory_error)) }
 {
     if e == semver::Error::from(AllocError) {
         TextFault::OutOfMemory

@@ -1,5 +1,6 @@
 -- What the test of completeness says: that the walk is complete.
-use Rattle.std.proofs.Common.{◌≡◌, ℕ, zero, suc, Bool, true, false, not, ◌||◌, List, [], ◌∷◌, map, Option, Some, None, Vec, slice_get, is_some, refl, sym, subst, arith, true≢false}
+use Rattle.std.proofs.Common.{◌≡◌, ℕ, zero, suc, Bool, true, false, not, ◌||◌, List, [], ◌∷◌, map, Option, Some, None}
+use Rattle.std.proofs.Common.{Vec, slice_get, is_some, refl, sym, subst, arith, true≢false}
 use Rattle.std.specs.declared.alloc.Global.{Global}
 use Rattle.std.proofs.lemmas.Bool.{and_from}
 use Rattle.std.proofs.lemmas.Option.{slice_get_within, same_Some, none-some}
@@ -27,34 +28,42 @@ met_if (Some x) b h = refl
 met_if None true h = h refl
 met_if None false h = refl
 
-each_met : (ts : List (Option ℕ)) (bs : List Bool) → are_met ts bs ≡ true → (i : ℕ) (t : Option ℕ) → slice_get ts i ≡ Some t → flag_at bs i ≡ true → is_some t ≡ true
+each_met : (ts : List (Option ℕ)) (bs : List Bool) → are_met ts bs ≡ true → (i : ℕ) (t : Option ℕ)
+    → slice_get ts i ≡ Some t → flag_at bs i ≡ true → is_some t ≡ true
 each_met [] bs h i t got flag = absurd (none-some t got)
 each_met (u ∷ ts) [] h i t got flag = absurd (true≢false (sym flag))
 each_met (u ∷ ts) (b ∷ bs) h zero t got flag =
     subst (λ o. is_some o ≡ true) (same_Some u t got) (is_met u b (both (is_some u || not b) (are_met ts bs) h).0 flag)
-each_met (u ∷ ts) (b ∷ bs) h (suc i) t got flag = each_met ts bs (both (is_some u || not b) (are_met ts bs) h).1 i t got flag
+each_met (u ∷ ts) (b ∷ bs) h (suc i) t got flag =
+    each_met ts bs (both (is_some u || not b) (are_met ts bs) h).1 i t got flag
 
-if_each_met : (ts : List (Option ℕ)) (bs : List Bool) → ((i : ℕ) (t : Option ℕ) → slice_get ts i ≡ Some t → flag_at bs i ≡ true → is_some t ≡ true) → are_met ts bs ≡ true
+if_each_met : (ts : List (Option ℕ)) (bs : List Bool)
+    → ((i : ℕ) (t : Option ℕ) → slice_get ts i ≡ Some t → flag_at bs i ≡ true → is_some t ≡ true) → are_met ts bs ≡ true
 if_each_met [] bs h = refl
 if_each_met (u ∷ ts) [] h = refl
-if_each_met (u ∷ ts) (b ∷ bs) h = and_from (is_some u || not b) (are_met ts bs) (met_if u b (h 0 u refl)) (if_each_met ts bs (λ i t got flag. h (suc i) t got flag))
+if_each_met (u ∷ ts) (b ∷ bs) h = and_from (is_some u || not b) (are_met ts bs) (met_if u b (h 0 u refl))
+    (if_each_met ts bs (λ i t got flag. h (suc i) t got flag))
 
 abbrev lists_of : List (Vec Bool Global) → List (List Bool)
 lists_of vs = map (λ v. v.items) vs
 
 -- each enabled dependency has a target
 abbrev pub AllMet : List NodeView → List (List Bool) → Type 0
-AllMet nodes lists = (n i : ℕ) (v : NodeView) (target : Option ℕ) → slice_get nodes n ≡ Some v → slice_get v.targets i ≡ Some target → flag_in lists n i ≡ true → is_some target ≡ true
+AllMet nodes lists = (n i : ℕ) (v : NodeView) (target : Option ℕ) → slice_get nodes n ≡ Some v
+    → slice_get v.targets i ≡ Some target → flag_in lists n i ≡ true → is_some target ≡ true
 
-pub all_met_says : (nodes : List Node) (vs : List (Vec Bool Global)) → all_met nodes vs ≡ true → AllMet (node_views nodes) (lists_of vs)
+pub all_met_says : (nodes : List Node) (vs : List (Vec Bool Global)) → all_met nodes vs ≡ true
+    → AllMet (node_views nodes) (lists_of vs)
 all_met_says [] vs h n i v target got at flag = absurd (none-some v got)
 all_met_says (m ∷ nodes) [] h n i v target got at flag = absurd (true≢false (sym flag))
 all_met_says (m ∷ nodes) (w ∷ vs) h zero i v target got at flag =
     each_met m.targets.items w.items (both (are_met m.targets.items w.items) (all_met nodes vs) h).0 i target
     (subst (λ (x : NodeView). slice_get x.targets i ≡ Some target) (sym (same_Some (node_view m) v got)) at) flag
-all_met_says (m ∷ nodes) (w ∷ vs) h (suc n) i v target got at flag = all_met_says nodes vs (both (are_met m.targets.items w.items) (all_met nodes vs) h).1 n i v target got at flag
+all_met_says (m ∷ nodes) (w ∷ vs) h (suc n) i v target got at flag =
+    all_met_says nodes vs (both (are_met m.targets.items w.items) (all_met nodes vs) h).1 n i v target got at flag
 
-pub if_all_met : (nodes : List Node) (vs : List (Vec Bool Global)) → AllMet (node_views nodes) (lists_of vs) → all_met nodes vs ≡ true
+pub if_all_met : (nodes : List Node) (vs : List (Vec Bool Global)) → AllMet (node_views nodes) (lists_of vs)
+    → all_met nodes vs ≡ true
 if_all_met [] vs h = refl
 if_all_met (m ∷ nodes) [] h = refl
 if_all_met (m ∷ nodes) (w ∷ vs) h = and_from (are_met m.targets.items w.items) (all_met nodes vs)
@@ -63,22 +72,27 @@ if_all_met (m ∷ nodes) (w ∷ vs) h = and_from (are_met m.targets.items w.item
 
 -- ---- the walk
 
-module _ (q : Problem) (preferred : List (List ℕ × List Candidate)) (owners : List Owner) (nodes : List NodeView) (met : AreMet q (Picks q preferred) owners nodes)
-    (asks : q.root_asks ≡ root_asks q.brings.features) (flags : List Bool) (lists : List (List Bool)) (are : AreFlags nodes flags lists) where
+module _ (q : Problem) (preferred : List (List ℕ × List Candidate)) (owners : List Owner) (nodes : List NodeView)
+    (met : AreMet q (Picks q preferred) owners nodes)
+    (asks : q.root_asks ≡ root_asks q.brings.features) (flags : List Bool) (lists : List (List Bool))
+    (are : AreFlags nodes flags lists) where
   -- where each enabled dependency has a target, the walk is complete
   pub complete : AllMet nodes lists → IsComplete q preferred
   complete h = record {
     picks = λ o i d on_it b.
         let (n, at, p) = near_of q (Picks q preferred) owners nodes met asks (enabled o i) on_it in
         let (v, got, is) = node_at q (Picks q preferred) owners nodes met asks n o at in
-        let brought : slice_get (v.brings).dependencies i ≡ Some d = subst (λ (o : Summary). slice_get o.dependencies i ≡ Some d) (sym is.brings) b in
+        let brought : slice_get (v.brings).dependencies i ≡ Some d =
+        subst (λ (o : Summary). slice_get o.dependencies i ≡ Some d) (sym is.brings) b in
         let lt = slice_get_within (v.brings).dependencies i d brought in
         let many = (is.leads).as_many in
         let (target, stands) = some_at v.targets i (omega (arith, lt, many)) in
-        by o i d target (h n i v target got stands ((are.each_enabled n i).1 p)) ((is.leads).leads i d target brought stands);
+        by o i d target (h n i v target got stands ((are.each_enabled n i).1 p))
+        ((is.leads).leads i d target brought stands);
   }
     where
-      by : (o : Owner) (i : ℕ) (d : Dependency) (target : Option ℕ) → is_some target ≡ true → IsLead q (Picks q preferred) owners o i d target → (t : Owner) × Picks q preferred o i d t
+      by : (o : Owner) (i : ℕ) (d : Dependency) (target : Option ℕ) → is_some target ≡ true
+          → IsLead q (Picks q preferred) owners o i d target → (t : Owner) × Picks q preferred o i d t
       by o i d None e l = absurd (true≢false (sym e))
       by o i d (Some n) e (t, at, l, only) = (t, l)
 
@@ -91,9 +105,11 @@ module _ (q : Problem) (preferred : List (List ℕ × List Candidate)) (owners :
       let many = (is.leads).as_many in
       let (d, brought) = some_at (v.brings).dependencies i (omega (arith, lt, many)) in
       let far = enabled_far q (Picks q preferred) owners nodes met asks n i o at ((are.each_enabled n i).0 flag) in
-      let (t, l) = all.picks o i d far (subst (λ (o : Summary). slice_get o.dependencies i ≡ Some d) is.brings brought) in
+      let (t, l) =
+      all.picks o i d far (subst (λ (o : Summary). slice_get o.dependencies i ≡ Some d) is.brings brought) in
       by o d t target l ((is.leads).leads i d target brought stands)
     where
-      by : (o : Owner) (d : Dependency) (t : Owner) (target : Option ℕ) → Picks q preferred o i d t → IsLead q (Picks q preferred) owners o i d target → is_some target ≡ true
+      by : (o : Owner) (d : Dependency) (t : Owner) (target : Option ℕ) → Picks q preferred o i d t
+          → IsLead q (Picks q preferred) owners o i d target → is_some target ≡ true
       by o d t None l none = absurd (none t l)
       by o d t (Some s) l p = refl

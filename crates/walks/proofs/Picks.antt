@@ -1,5 +1,7 @@
 -- The place that is picked is that of the first candidate, in the order of preference, that matches.
-use Rattle.std.proofs.Common.{◌≡◌, ℕ, zero, suc, ◌+◌, ◌<◌, ◌≤◌, Bool, true, false, cond, List, [], ◌∷◌, ◌++◌, map, filter, reverse, length, drop, take, get_or, Contains, Option, Some, None, option_map, slice_get, refl, sym, ap, ap₂, ◌∙◌, subst, inl, inr, arith, add-one}
+use Rattle.std.proofs.Common.{◌≡◌, ℕ, zero, suc, ◌+◌, ◌<◌, ◌≤◌, Bool, true, false, cond, List, [], ◌∷◌, ◌++◌, map}
+use Rattle.std.proofs.Common.{filter, reverse, length, drop, take, get_or, Contains, Option, Some, None, option_map}
+use Rattle.std.proofs.Common.{slice_get, refl, sym, ap, ap₂, ◌∙◌, subst, inl, inr, arith, add-one}
 use Rattle.std.specs.List.{find}
 use Rattle.std.proofs.Math.Seq.{drop-cons}
 use Rattle.std.proofs.lemmas.List.{map-append, reverse-append, take_more, length-map, take_all}
@@ -22,11 +24,15 @@ use Rattle.walks.specs.Met.{is_matched, versions_at, place_picked}
 
 -- ---- the loop over the places
 
-pub find_yes : (t : ℕ → Bool) (xs : List ℕ) (i : ℕ) → i < length xs → t (get_or xs i 0) ≡ true → find t (drop i xs) ≡ Some (get_or xs i 0)
-find_yes t xs i lt e = ap (find t) (drop-cons xs i 0 lt) ∙ ap (λ b. cond b (Some (get_or xs i 0)) (find t (drop (suc i) xs))) e
+pub find_yes : (t : ℕ → Bool) (xs : List ℕ) (i : ℕ) → i < length xs → t (get_or xs i 0) ≡ true
+    → find t (drop i xs) ≡ Some (get_or xs i 0)
+find_yes t xs i lt e =
+    ap (find t) (drop-cons xs i 0 lt) ∙ ap (λ b. cond b (Some (get_or xs i 0)) (find t (drop (suc i) xs))) e
 
-pub find_no : (t : ℕ → Bool) (xs : List ℕ) (i : ℕ) → i < length xs → t (get_or xs i 0) ≡ false → find t (drop i xs) ≡ find t (drop (i + 1) xs)
-find_no t xs i lt e = ap (find t) (drop-cons xs i 0 lt) ∙ ap (λ b. cond b (Some (get_or xs i 0)) (find t (drop (suc i) xs))) e ∙ ap (λ k. find t (drop k xs)) (suc_is i)
+pub find_no : (t : ℕ → Bool) (xs : List ℕ) (i : ℕ) → i < length xs → t (get_or xs i 0) ≡ false
+    → find t (drop i xs) ≡ find t (drop (i + 1) xs)
+find_no t xs i lt e = ap (find t) (drop-cons xs i 0 lt)
+    ∙ ap (λ b. cond b (Some (get_or xs i 0)) (find t (drop (suc i) xs))) e ∙ ap (λ k. find t (drop k xs)) (suc_is i)
   where
     suc_is : (i : ℕ) → suc i ≡ i + 1
     suc_is i = omega arith
@@ -39,14 +45,16 @@ filter-same p q (x ∷ xs) same = ap₂ (λ b zs. cond b (x ∷ zs) zs) (same x)
 
 map-reverse : {X Y : Type 0} (f : X → Y) (xs : List X) → map f (reverse xs) ≡ reverse (map f xs)
 map-reverse f [] = refl
-map-reverse f (x ∷ xs) = ap (map f) (reverse-append (x ∷ []) xs) ∙ map-append f (reverse xs) (x ∷ []) ∙ ap (λ zs. zs ++ f x ∷ []) (map-reverse f xs) ∙ sym (reverse-append (f x ∷ []) (map f xs))
+map-reverse f (x ∷ xs) = ap (map f) (reverse-append (x ∷ []) xs) ∙ map-append f (reverse xs) (x ∷ [])
+    ∙ ap (λ zs. zs ++ f x ∷ []) (map-reverse f xs) ∙ sym (reverse-append (f x ∷ []) (map f xs))
 
 nil-right : {Z : Type 0} (zs : List Z) → zs ++ [] ≡ zs
 nil-right [] = refl
 nil-right (z ∷ zs) = ap (λ l. z ∷ l) (nil-right zs)
 
 at_places : {X : Type 0} (xs : List X) (t : Option X → Bool) (n : ℕ) → n ≤ length xs
-    → map (slice_get xs) (filter (λ i. t (slice_get xs i)) (places_down n)) ≡ map Some (reverse (filter (λ x. t (Some x)) (take n xs)))
+    → map (slice_get xs) (filter (λ i. t (slice_get xs i)) (places_down n))
+    ≡ map Some (reverse (filter (λ x. t (Some x)) (take n xs)))
 at_places xs t zero le = refl
 at_places [] t (suc n) le = absurd (omega (arith, le))
 at_places (y ∷ ys) t (suc n) le =
@@ -55,25 +63,35 @@ at_places (y ∷ ys) t (suc n) le =
     let here : slice_get xs n ≡ Some x = slice_get-get_or xs n y (omega (arith, le)) in
     let more : take (suc n) xs ≡ take n xs ++ x ∷ [] = rw add-one at (take_more xs n y (omega (arith, le))) in
     by x here (t (Some x)) (ap t here) refl (at_places xs t n (omega (arith, le)))
-    ∙ sym (ap (λ zs. map Some (reverse (filter (λ x. t (Some x)) zs))) more ∙ ap (λ zs. map Some (reverse zs)) (filter-append (λ x. t (Some x)) (take n xs) (x ∷ [])))
+    ∙ sym (ap (λ zs. map Some (reverse (filter (λ x. t (Some x)) zs))) more
+    ∙ ap (λ zs. map Some (reverse zs)) (filter-append (λ x. t (Some x)) (take n xs) (x ∷ [])))
   where
     by : (x : _) → slice_get (y ∷ ys) n ≡ Some x → (b : Bool) → t (slice_get (y ∷ ys) n) ≡ b → t (Some x) ≡ b
-        → map (slice_get (y ∷ ys)) (filter (λ i. t (slice_get (y ∷ ys) i)) (places_down n)) ≡ map Some (reverse (filter (λ x. t (Some x)) (take n (y ∷ ys))))
-        → map (slice_get (y ∷ ys)) (cond (t (slice_get (y ∷ ys) n)) (n ∷ filter (λ i. t (slice_get (y ∷ ys) i)) (places_down n)) (filter (λ i. t (slice_get (y ∷ ys) i)) (places_down n)))
+        → map (slice_get (y ∷ ys)) (filter (λ i. t (slice_get (y ∷ ys) i)) (places_down n))
+        ≡ map Some (reverse (filter (λ x. t (Some x)) (take n (y ∷ ys))))
+        → map (slice_get (y ∷ ys)) (cond (t (slice_get (y ∷ ys) n)) (n ∷ filter (λ i. t (slice_get (y ∷ ys) i))
+        (places_down n)) (filter (λ i. t (slice_get (y ∷ ys) i)) (places_down n)))
         ≡ map Some (reverse (filter (λ x. t (Some x)) (take n (y ∷ ys)) ++ cond (t (Some x)) (x ∷ []) []))
     by x here true e f rest =
-        ap (λ c. map (slice_get (y ∷ ys)) (cond c (n ∷ filter (λ i. t (slice_get (y ∷ ys) i)) (places_down n)) (filter (λ i. t (slice_get (y ∷ ys) i)) (places_down n)))) e
+        ap (λ c. map (slice_get (y ∷ ys)) (cond c (n ∷ filter (λ i. t (slice_get (y ∷ ys) i)) (places_down n))
+        (filter (λ i. t (slice_get (y ∷ ys) i)) (places_down n)))) e
         ∙ ap₂ (λ o zs. o ∷ zs) here rest
-        ∙ sym (ap (λ c. map Some (reverse (filter (λ x. t (Some x)) (take n (y ∷ ys)) ++ cond c (x ∷ []) []))) f ∙ ap (map Some) (reverse-append (filter (λ x. t (Some x)) (take n (y ∷ ys))) (x ∷ [])))
+        ∙ sym (ap (λ c. map Some (reverse (filter (λ x. t (Some x)) (take n (y ∷ ys)) ++ cond c (x ∷ []) []))) f
+        ∙ ap (map Some) (reverse-append (filter (λ x. t (Some x)) (take n (y ∷ ys))) (x ∷ [])))
     by x here false e f rest =
-        ap (λ c. map (slice_get (y ∷ ys)) (cond c (n ∷ filter (λ i. t (slice_get (y ∷ ys) i)) (places_down n)) (filter (λ i. t (slice_get (y ∷ ys) i)) (places_down n)))) e
+        ap (λ c. map (slice_get (y ∷ ys)) (cond c (n ∷ filter (λ i. t (slice_get (y ∷ ys) i)) (places_down n))
+        (filter (λ i. t (slice_get (y ∷ ys) i)) (places_down n)))) e
         ∙ rest
-        ∙ sym (ap (λ c. map Some (reverse (filter (λ x. t (Some x)) (take n (y ∷ ys)) ++ cond c (x ∷ []) []))) f ∙ ap (λ zs. map Some (reverse zs)) (nil-right (filter (λ x. t (Some x)) (take n (y ∷ ys)))))
+        ∙ sym (ap (λ c. map Some (reverse (filter (λ x. t (Some x)) (take n (y ∷ ys)) ++ cond c (x ∷ []) []))) f
+        ∙ ap (λ zs. map Some (reverse zs)) (nil-right (filter (λ x. t (Some x)) (take n (y ∷ ys)))))
 
-rank_is : (cs : List Ranked) (rank : Rank) → map (slice_get cs) (places_of rank (map (λ c. c.1) cs)) ≡ map Some (reverse (filter (λ c. same_rank c.1 rank) cs))
+rank_is : (cs : List Ranked) (rank : Rank)
+    → map (slice_get cs) (places_of rank (map (λ c. c.1) cs)) ≡ map Some (reverse (filter (λ c. same_rank c.1 rank) cs))
 rank_is cs rank =
-    ap (map (slice_get cs)) (ap (λ n. filter (λ i. is_ranked rank (slice_get (map (λ (c : Ranked). c.1) cs) i)) (places_down n)) (rw length-map refl)
-    ∙ filter-same (λ i. is_ranked rank (slice_get (map (λ (c : Ranked). c.1) cs) i)) (λ i. ranked (slice_get cs i)) (places_down (length cs)) (λ i. ap (is_ranked rank) (slice_get-map (λ (c : Ranked). c.1) cs i)))
+    ap (map (slice_get cs)) (ap (λ n. filter
+    (λ i. is_ranked rank (slice_get (map (λ (c : Ranked). c.1) cs) i)) (places_down n)) (rw length-map refl)
+    ∙ filter-same (λ i. is_ranked rank (slice_get (map (λ (c : Ranked). c.1) cs) i)) (λ i. ranked (slice_get cs i))
+    (places_down (length cs)) (λ i. ap (is_ranked rank) (slice_get-map (λ (c : Ranked). c.1) cs i)))
     ∙ at_places cs ranked (length cs) (omega arith)
     ∙ ap (λ zs. map Some (reverse (filter (λ c. same_rank c.1 rank) zs))) (take_all (length cs) cs (omega arith))
   where
@@ -88,7 +106,8 @@ records-candidates : (cs : List Ranked) → map as_candidate (records cs) ≡ ma
 records-candidates [] = refl
 records-candidates (c ∷ cs) = ap (λ zs. candidate c ∷ zs) (records-candidates cs)
 
-get-mapped : (cs : List Ranked) (ns : List ℕ) → map (slice_get (map candidate cs)) ns ≡ map (option_map candidate) (map (slice_get cs) ns)
+get-mapped : (cs : List Ranked) (ns : List ℕ)
+    → map (slice_get (map candidate cs)) ns ≡ map (option_map candidate) (map (slice_get cs) ns)
 get-mapped cs [] = refl
 get-mapped cs (n ∷ ns) = ap₂ (λ o os. o ∷ os) (slice_get-map candidate cs n) (get-mapped cs ns)
 
@@ -96,82 +115,109 @@ some-mapped : (zs : List Ranked) → map (option_map candidate) (map Some zs) �
 some-mapped [] = refl
 some-mapped (z ∷ zs) = ap (λ os. Some (candidate z) ∷ os) (some-mapped zs)
 
-rank_lies : (cs : List Ranked) (rank : Rank) → map (slice_get (map candidate cs)) (places_of rank (map (λ c. c.1) cs)) ≡ map Some (map as_candidate (of_rank rank cs))
+rank_lies : (cs : List Ranked) (rank : Rank) → map (slice_get (map candidate cs)) (places_of rank (map (λ c. c.1) cs))
+    ≡ map Some (map as_candidate (of_rank rank cs))
 rank_lies cs rank =
     let kept = filter (λ (c : Ranked). same_rank c.1 rank) cs in
-    get-mapped cs (places_of rank (map (λ c. c.1) cs)) ∙ ap (map (option_map candidate)) (rank_is cs rank) ∙ some-mapped (reverse kept)
-    ∙ ap (map Some) (map-reverse candidate kept ∙ ap reverse (sym (records-candidates kept)) ∙ sym (map-reverse as_candidate (records kept)))
+    get-mapped cs (places_of rank (map (λ c. c.1) cs)) ∙ ap (map (option_map candidate)) (rank_is cs rank)
+    ∙ some-mapped (reverse kept)
+    ∙ ap (map Some) (map-reverse candidate kept ∙ ap reverse (sym (records-candidates kept))
+    ∙ sym (map-reverse as_candidate (records kept)))
 
-two : {X Y Z : Type 0} (f : X → Z) (g : Y → Z) (xs xs' : List X) (ys ys' : List Y) → map f xs ≡ map g ys → map f xs' ≡ map g ys' → map f (xs ++ xs') ≡ map g (ys ++ ys')
+two : {X Y Z : Type 0} (f : X → Z) (g : Y → Z) (xs xs' : List X) (ys ys' : List Y) → map f xs ≡ map g ys
+    → map f xs' ≡ map g ys' → map f (xs ++ xs') ≡ map g (ys ++ ys')
 two f g xs xs' ys ys' e h = map-append f xs xs' ∙ ap₂ (λ a b. a ++ b) e h ∙ sym (map-append g ys ys')
 
 -- what lies at the places in the order of preference
-lies : (cs : List Ranked) → map (slice_get (map candidate cs)) (places_by_rank (map (λ c. c.1) cs)) ≡ map Some (map as_candidate (by_rank cs))
+lies : (cs : List Ranked)
+    → map (slice_get (map candidate cs)) (places_by_rank (map (λ c. c.1) cs)) ≡ map Some (map as_candidate (by_rank cs))
 lies cs =
     let ranks = map (λ (c : Ranked). c.1) cs in
     let at = slice_get (map candidate cs) in
-    two at Some (places_of Locked ranks) (places_of Fits ranks ++ places_of Rest ranks) (map as_candidate (of_rank Locked cs)) (map as_candidate (of_rank Fits cs) ++ map as_candidate (of_rank Rest cs))
+    two at Some (places_of Locked ranks) (places_of Fits ranks ++ places_of Rest ranks) (map as_candidate
+    (of_rank Locked cs)) (map as_candidate (of_rank Fits cs) ++ map as_candidate (of_rank Rest cs))
     (rank_lies cs Locked)
-    (two at Some (places_of Fits ranks) (places_of Rest ranks) (map as_candidate (of_rank Fits cs)) (map as_candidate (of_rank Rest cs)) (rank_lies cs Fits) (rank_lies cs Rest))
-    ∙ ap (map Some) (sym (map-append as_candidate (of_rank Locked cs) (of_rank Fits cs ++ of_rank Rest cs) ∙ ap (λ zs. map as_candidate (of_rank Locked cs) ++ zs) (map-append as_candidate (of_rank Fits cs) (of_rank Rest cs))))
+    (two at Some (places_of Fits ranks) (places_of Rest ranks) (map as_candidate (of_rank Fits cs))
+    (map as_candidate (of_rank Rest cs)) (rank_lies cs Fits) (rank_lies cs Rest))
+    ∙ ap (map Some) (sym (map-append as_candidate (of_rank Locked cs) (of_rank Fits cs ++ of_rank Rest cs) ∙ ap (λ zs.
+    map as_candidate (of_rank Locked cs) ++ zs) (map-append as_candidate (of_rank Fits cs) (of_rank Rest cs))))
 
 -- ---- the rows of a name
 
-pub preferred_are : (index : CatalogueView) (name : List ℕ) → candidates_of (preferred_in index) name ≡ map as_candidate (by_rank (ranked_at index name))
+pub preferred_are : (index : CatalogueView) (name : List ℕ)
+    → candidates_of (preferred_in index) name ≡ map as_candidate (by_rank (ranked_at index name))
 preferred_are index name = row_of by_rank refl index.rows name
 
 -- ---- the first that matches
 
-first_of : (cs : List Candidate) (d : Dependency) (ns : List ℕ) (ps : List Candidate) → map (slice_get cs) ns ≡ map Some ps
-    → option_map (slice_get cs) (find (λ n. is_matched d.requirement (slice_get (map (λ c. c.version) cs) n)) ns) ≡ option_map Some (first_match d ps)
+first_of : (cs : List Candidate) (d : Dependency) (ns : List ℕ) (ps : List Candidate)
+    → map (slice_get cs) ns ≡ map Some ps
+    → option_map (slice_get cs) (find (λ n. is_matched d.requirement (slice_get (map (λ c. c.version) cs) n)) ns)
+    ≡ option_map Some (first_match d ps)
 first_of cs d [] [] e = refl
 first_of cs d [] (p ∷ ps) e = cc
 first_of cs d (n ∷ ns) [] e = cc
 first_of cs d (n ∷ ns) (p ∷ ps) e =
     let first : slice_get cs n ≡ Some p = cc in
     let rest : map (slice_get cs) ns ≡ map Some ps = cc in
-    let test : is_matched d.requirement (slice_get (map (λ (c : Candidate). c.version) cs) n) ≡ matches_views d.requirement p.version
-    = ap (is_matched d.requirement) (slice_get-map (λ (c : Candidate). c.version) cs n ∙ ap (option_map (λ (c : Candidate). c.version)) first) in
-    ap (λ b. option_map (slice_get cs) (cond b (Some n) (find (λ n. is_matched d.requirement (slice_get (map (λ c. c.version) cs) n)) ns))) test
+    let test : is_matched d.requirement (slice_get (map (λ (c : Candidate). c.version) cs) n)
+    ≡ matches_views d.requirement p.version
+    = ap (is_matched d.requirement)
+    (slice_get-map (λ (c : Candidate). c.version) cs n ∙ ap (option_map (λ (c : Candidate). c.version)) first) in
+    ap (λ b. option_map (slice_get cs)
+    (cond b (Some n) (find (λ n. is_matched d.requirement (slice_get (map (λ c. c.version) cs) n)) ns))) test
     ∙ by first (first_of cs d ns ps rest) (matches_views d.requirement p.version)
   where
     by : slice_get cs n ≡ Some p
-        → option_map (slice_get cs) (find (λ n. is_matched d.requirement (slice_get (map (λ c. c.version) cs) n)) ns) ≡ option_map Some (first_match d ps) → (b : Bool)
-        → option_map (slice_get cs) (cond b (Some n) (find (λ n. is_matched d.requirement (slice_get (map (λ c. c.version) cs) n)) ns)) ≡ option_map Some (cond b (Some p) (first_match d ps))
+        → option_map (slice_get cs) (find (λ n. is_matched d.requirement (slice_get (map (λ c. c.version) cs) n)) ns)
+        ≡ option_map Some (first_match d ps) → (b : Bool)
+        → option_map (slice_get cs)
+        (cond b (Some n) (find (λ n. is_matched d.requirement (slice_get (map (λ c. c.version) cs) n)) ns))
+        ≡ option_map Some (cond b (Some p) (first_match d ps))
     by first rest true = ap Some first
     by first rest false = rest
 
 -- what stands at the place that is picked
 pub picked_is : (index : CatalogueView) (d : Dependency)
-    → option_map (slice_get (candidates_of (rows_by_name index) d.real_name)) (place_picked index d) ≡ option_map Some (first_match d (candidates_of (preferred_in index) d.real_name))
+    → option_map (slice_get (candidates_of (rows_by_name index) d.real_name)) (place_picked index d)
+    ≡ option_map Some (first_match d (candidates_of (preferred_in index) d.real_name))
 picked_is index d =
     let ranked = ranked_at index d.real_name in
     let cs = map candidate ranked in
-    let all : candidates_of (rows_by_name index) d.real_name ≡ cs = candidates_are index d.real_name ∙ records-candidates ranked in
-    let vs : versions_at index d.real_name ≡ map (λ (c : Candidate). c.version) cs = versions_are (records ranked) ∙ ap (map (λ (c : Candidate). c.version)) (records-candidates ranked) in
-    ap₂ (λ xs ys. option_map (slice_get xs) (find (λ n. is_matched d.requirement (slice_get ys n)) (places_by_rank (map (λ c. c.1) ranked)))) all vs
+    let all : candidates_of (rows_by_name index) d.real_name ≡ cs =
+    candidates_are index d.real_name ∙ records-candidates ranked in
+    let vs : versions_at index d.real_name ≡ map (λ (c : Candidate). c.version) cs =
+    versions_are (records ranked) ∙ ap (map (λ (c : Candidate). c.version)) (records-candidates ranked) in
+    ap₂ (λ xs ys. option_map (slice_get xs)
+    (find (λ n. is_matched d.requirement (slice_get ys n)) (places_by_rank (map (λ c. c.1) ranked)))) all vs
     ∙ first_of cs d (places_by_rank (map (λ c. c.1) ranked)) (map as_candidate (by_rank ranked)) (lies ranked)
     ∙ sym (ap (λ ps. option_map Some (first_match d ps)) (preferred_are index d.real_name))
 
-pub none_picked : (index : CatalogueView) (d : Dependency) → place_picked index d ≡ None → first_match d (candidates_of (preferred_in index) d.real_name) ≡ None
-none_picked index d e = by (first_match d (candidates_of (preferred_in index) d.real_name)) (sym (ap (option_map (slice_get (candidates_of (rows_by_name index) d.real_name))) e) ∙ picked_is index d)
+pub none_picked : (index : CatalogueView) (d : Dependency) → place_picked index d ≡ None
+    → first_match d (candidates_of (preferred_in index) d.real_name) ≡ None
+none_picked index d e = by (first_match d (candidates_of (preferred_in index) d.real_name))
+    (sym (ap (option_map (slice_get (candidates_of (rows_by_name index) d.real_name))) e) ∙ picked_is index d)
   where
     by : (o : Option Candidate) → None ≡ option_map Some o → o ≡ None
     by None h = refl
     by (Some c) h = absurd (none-some (Some c) h)
 
 pub one_picked : (index : CatalogueView) (d : Dependency) (n : ℕ) → place_picked index d ≡ Some n
-    → (c : Candidate) × (first_match d (candidates_of (preferred_in index) d.real_name) ≡ Some c) × (slice_get (candidates_of (rows_by_name index) d.real_name) n ≡ Some c)
-one_picked index d n e = by (first_match d (candidates_of (preferred_in index) d.real_name)) (sym (ap (option_map (slice_get (candidates_of (rows_by_name index) d.real_name))) e) ∙ picked_is index d)
+    → (c : Candidate) × (first_match d (candidates_of (preferred_in index) d.real_name) ≡ Some c)
+    × (slice_get (candidates_of (rows_by_name index) d.real_name) n ≡ Some c)
+one_picked index d n e = by (first_match d (candidates_of (preferred_in index) d.real_name))
+    (sym (ap (option_map (slice_get (candidates_of (rows_by_name index) d.real_name))) e) ∙ picked_is index d)
   where
-    by : (o : Option Candidate) → Some (slice_get (candidates_of (rows_by_name index) d.real_name) n) ≡ option_map Some o
+    by : (o : Option Candidate)
+        → Some (slice_get (candidates_of (rows_by_name index) d.real_name) n) ≡ option_map Some o
         → (c : Candidate) × (o ≡ Some c) × (slice_get (candidates_of (rows_by_name index) d.real_name) n ≡ Some c)
     by None h = absurd (none-some (slice_get (candidates_of (rows_by_name index) d.real_name) n) (sym h))
     by (Some c) h = (c, refl, same_Some (slice_get (candidates_of (rows_by_name index) d.real_name) n) (Some c) h)
 
 -- ---- what is preferred are candidates
 
-lies_in : (cs : List Candidate) (ns : List ℕ) (ps : List Candidate) (c : Candidate) → map (slice_get cs) ns ≡ map Some ps → Contains ps c → Contains cs c
+lies_in : (cs : List Candidate) (ns : List ℕ) (ps : List Candidate) (c : Candidate)
+    → map (slice_get cs) ns ≡ map Some ps → Contains ps c → Contains cs c
 lies_in cs [] [] c e i = absurd (in_none c i)
 lies_in cs [] (p ∷ ps) c e i = cc
 lies_in cs (n ∷ ns) [] c e i = cc
@@ -183,9 +229,11 @@ lies_in cs (n ∷ ns) (p ∷ ps) c e i =
       | inr j ↦ lies_in cs ns ps c rest j
     ]
 
-pub preferred_among : (index : CatalogueView) (name : List ℕ) (c : Candidate) → Contains (candidates_of (preferred_in index) name) c → Contains (candidates_of (rows_by_name index) name) c
+pub preferred_among : (index : CatalogueView) (name : List ℕ) (c : Candidate)
+    → Contains (candidates_of (preferred_in index) name) c → Contains (candidates_of (rows_by_name index) name) c
 preferred_among index name c i =
     let ranked = ranked_at index name in
     subst (λ cs. Contains cs c) (sym (candidates_are index name ∙ records-candidates ranked))
-    (lies_in (map candidate ranked) (places_by_rank (map (λ (r : Ranked). r.1) ranked)) (map as_candidate (by_rank ranked)) c (lies ranked)
+    (lies_in (map candidate ranked) (places_by_rank (map (λ (r : Ranked). r.1) ranked))
+    (map as_candidate (by_rank ranked)) c (lies ranked)
     (subst (λ cs. Contains cs c) (preferred_are index name) i))

@@ -1,6 +1,7 @@
 -- The versions that a walk may meet: from the root, those that the picks of all dependencies lead to, enabled or not
 -- (own; a superset of what the preferred walk reaches, on which the facts are found).
-use Rattle.std.specs.Prelude.{Vec, ◌≡◌, ℕ, Bool, false, List, map, length, Option, Some, None, slice_get, not, ◌||◌, is_some}
+use Rattle.std.specs.Prelude.{Vec, ◌≡◌, ℕ, Bool, false, List, map, length, Option, Some, None, slice_get, not, ◌||◌}
+use Rattle.std.specs.Prelude.{is_some}
 use Rattle.std.specs.List.{find, list_all, zip}
 use Rattle.semver.specs.Parse.{Held, Parts}
 use Rattle.semver.specs.EvalViews.{matches_views}
@@ -25,7 +26,8 @@ versions_at index name = map (λ r. r.version) (candidates_at index name)
 
 -- the place of the candidate that a dependency picks
 abbrev pub place_picked : CatalogueView → Dependency → Option ℕ
-place_picked index d = find (λ n. is_matched d.requirement (slice_get (versions_at index d.real_name) n)) (places_by_rank (map (λ c. c.1) (ranked_at index d.real_name)))
+place_picked index d = find (λ n. is_matched d.requirement (slice_get (versions_at index d.real_name) n))
+    (places_by_rank (map (λ c. c.1) (ranked_at index d.real_name)))
 
 -- ---- picks among the versions met
 
@@ -33,12 +35,14 @@ module _ (preferred : List (List ℕ × List Candidate)) (owners : List Owner) w
   -- the pick of a dependency is the owner at this place, or there is none
   abbrev pub IsPick : Dependency → Option ℕ → Type 0
   IsPick d None = first_match d (candidates_of preferred d.real_name) ≡ None
-  IsPick d (Some t) = (c : Candidate) × (first_match d (candidates_of preferred d.real_name) ≡ Some c) × (slice_get owners t ≡ Some (version_of d.real_name c.version))
+  IsPick d (Some t) = (c : Candidate) × (first_match d (candidates_of preferred d.real_name) ≡ Some c)
+      × (slice_get owners t ≡ Some (version_of d.real_name c.version))
 
   -- by number, where the picks of dependencies stand
   pub record ArePicks (ds : List Dependency) (targets : List (Option ℕ)) : Type 0 where
     pub as_many : length targets ≡ length ds
-    pub picks : (i : ℕ) (d : Dependency) (target : Option ℕ) → slice_get ds i ≡ Some d → slice_get targets i ≡ Some target → IsPick d target
+    pub picks : (i : ℕ) (d : Dependency) (target : Option ℕ) → slice_get ds i ≡ Some d
+        → slice_get targets i ≡ Some target → IsPick d target
 
 -- ---- completeness
 

@@ -25,7 +25,8 @@ preferred_in index = map (λ row. (row.0, map as_candidate (by_rank row.1))) ind
 -- The same in the model's order of preference, for an old lock and a Rust version to go by. For those that a run loaded
 -- its index with, both are one: a law in `src/laws.rt`.
 abbrev pub preferred_by : Content → Option RustVersion → CatalogueView → List (List ℕ × List Candidate)
-preferred_by old rust index = map (λ row. (row.0, map as_candidate (by_preference (is_locked old index.source row.0) rust (records row.1)))) index.rows
+preferred_by old rust index = map (λ row.
+    (row.0, map as_candidate (by_preference (is_locked old index.source row.0) rust (records row.1)))) index.rows
 
 module _ (q : Problem) (preferred : List (List ℕ × List Candidate)) where
   -- the content is the walk, which is complete and a valid selection

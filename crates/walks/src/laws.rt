@@ -20,7 +20,8 @@ use manifest::Manifest;
 /// There is one preferred walk and no other, whether or not it is complete and valid.
 pub fn there_is_one_walk(manifest: &Manifest, catalogue: &Catalogue)
     ensures { (content : Content) × IsWalk (problem_in manifest.now catalogue.now) (preferred_in catalogue.now) content
-        × ((other : Content) → IsWalk (problem_in manifest.now catalogue.now) (preferred_in catalogue.now) other → other ≡ content) }
+        × ((other : Content)
+        → IsWalk (problem_in manifest.now catalogue.now) (preferred_in catalogue.now) other → other ≡ content) }
 {
     catalogues_are_well_formed(manifest, catalogue);
     model::walks_exist();
@@ -30,8 +31,11 @@ pub fn there_is_one_walk(manifest: &Manifest, catalogue: &Catalogue)
 /// In an index that a run loads, each candidate has the rank that the run's old lock and Rust version give it, and the
 /// candidates by rank are those in the model's order of preference.
 pub fn ranks_are_preferences()
-    ensures ranked { (old : Content) (source : List ℕ) (rust : Option RustVersion) (root : List Dependency) (asked : List Asked) (index : CatalogueView)
-        → index ≡ store_of old source rust root asked → (name : List ℕ) → AreRanked (is_locked old source name) rust (ranked_at index name) }
-    ensures preferred { (old : Content) (source : List ℕ) (rust : Option RustVersion) (root : List Dependency) (asked : List Asked) (index : CatalogueView)
+    ensures ranked { (old : Content) (source : List ℕ) (rust : Option RustVersion) (root : List Dependency)
+        (asked : List Asked) (index : CatalogueView)
+        → index ≡ store_of old source rust root asked → (name : List ℕ)
+        → AreRanked (is_locked old source name) rust (ranked_at index name) }
+    ensures preferred { (old : Content) (source : List ℕ) (rust : Option RustVersion) (root : List Dependency)
+        (asked : List Asked) (index : CatalogueView)
         → index ≡ store_of old source rust root asked → preferred_in index ≡ preferred_by old rust index }
 {}

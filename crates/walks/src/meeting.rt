@@ -34,7 +34,9 @@ pub(crate) fn meet<'a>(
     manifest: &'a Manifest,
     catalogue: &'a Catalogue,
 ) -> Result<Met<'a>, AllocError>
-    ensures met { IfOk result (λ m. AreMet (problem_in manifest.entry.now catalogue.entry.now) (Picks (problem_in manifest.entry.now catalogue.entry.now) (preferred_in catalogue.entry.now)) (owners_of catalogue.entry.now m.stops.keys) (node_views m.nodes.items)) }
+    ensures met { IfOk result (λ m. AreMet (problem_in manifest.entry.now catalogue.entry.now)
+        (Picks (problem_in manifest.entry.now catalogue.entry.now) (preferred_in catalogue.entry.now))
+        (owners_of catalogue.entry.now m.stops.keys) (node_views m.nodes.items)) }
     ensures stops { IfOk result (λ m. AreStops catalogue.entry.now m.stops.keys) }
 {
     store_holds(catalogue);
@@ -61,7 +63,8 @@ fn targets_of(
     dependencies: &[Dependency],
 ) -> Result<Vec<Option<usize>>, AllocError>
     ensures grows { OnOk result (Grows catalogue.now stops.old.keys stops.new.keys) }
-    ensures picks { IfOk result (λ v. ArePicks (preferred_in catalogue.now) (owners_of catalogue.now stops.new.keys) (dependency_views dependencies.now) v.items) }
+    ensures picks { IfOk result (λ v. ArePicks (preferred_in catalogue.now) (owners_of catalogue.now stops.new.keys)
+        (dependency_views dependencies.now) v.items) }
 {
     let mut targets = Vec::new(alloc);
     'dependencies: for dependency in dependencies.iter() {
@@ -77,7 +80,8 @@ fn target_of(
     dependency: &Dependency,
 ) -> Result<Option<usize>, AllocError>
     ensures grows { OnOk result (Grows catalogue.now stops.old.keys stops.new.keys) }
-    ensures pick { IfOk result (λ o. IsPick (preferred_in catalogue.now) (owners_of catalogue.now stops.new.keys) (dependency_view dependency.now) o) }
+    ensures pick { IfOk result (λ o. IsPick (preferred_in catalogue.now) (owners_of catalogue.now stops.new.keys)
+        (dependency_view dependency.now) o) }
 {
     let Some(place) = pick(catalogue, dependency)? else {
         return Ok(None);

@@ -25,7 +25,8 @@ pub(crate) fn pick(
 
 /// The first of these places at which a version stands that the requirement matches.
 fn first_matched(requirement: &VersionReq, versions: &[Version], order: &[u32]) -> Option<usize>
-    ensures { result ≡ find (λ n. is_matched (requirement_view requirement.now) (slice_get (map parts_of versions.now) n)) order.now }
+    ensures { result ≡ find (λ n.
+        is_matched (requirement_view requirement.now) (slice_get (map parts_of versions.now) n)) order.now }
 {
     'order: for place in order.iter() {
         if is_matched(requirement, versions.get(*place as usize)) {

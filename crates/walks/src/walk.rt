@@ -26,7 +26,8 @@ pub fn preferred(
     catalogue: &Catalogue,
 ) -> Result<Option<LockContent>, AllocError>
     ensures answer { IfOk result (λ o. Answers (problem_in manifest.now catalogue.now) (preferred_in catalogue.now) o) }
-    ensures root { IfOk result (λ o. IfSome o (λ content. HasBareRoot (problem_in manifest.now catalogue.now) content)) }
+    ensures root { IfOk result
+        (λ o. IfSome o (λ content. HasBareRoot (problem_in manifest.now catalogue.now) content)) }
 {
     built_contents_walk();
     let Met { stops, nodes } = meet(alloc, manifest, catalogue)?;

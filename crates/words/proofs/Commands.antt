@@ -30,7 +30,8 @@ right : (a b : Bool) → (a && b) ≡ true → b ≡ true
 right true b h = h
 right false b h = cc
 
-last : (a b c d e f g i j k : Bool) → (a && (b && (c && (d && (e && (f && (g && (i && (j && not k))))))))) ≡ true → k ≡ false
+last : (a b c d e f g i j k : Bool)
+    → (a && (b && (c && (d && (e && (f && (g && (i && (j && not k))))))))) ≡ true → k ≡ false
 last a b c d e f g i j false h = refl
 last a b c d e f g i j true h =
     let from_c = right b _ (right a _ h) in
@@ -41,5 +42,6 @@ last a b c d e f g i j true h =
 
 -- a simple argument is not global
 pub is_not_global : (a : Arg) → (rule_of a).is_simple ≡ true → a.global ≡ false
-is_not_global a h = last (is_empty a.overrides.items) (is_empty a.default_vals_ifs.items) (is_empty a.groups.items) (not (is_some a.val_delim)) (not (is_some a.terminator))
+is_not_global a h = last (is_empty a.overrides.items) (is_empty a.default_vals_ifs.items) (is_empty a.groups.items)
+    (not (is_some a.val_delim)) (not (is_some a.terminator))
     (not a.allow_hyphen_values) (not a.allow_negative_numbers) (not a.require_equals) (not a.last) a.global h

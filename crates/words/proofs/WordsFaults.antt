@@ -8,7 +8,8 @@ use Rattle.words.specs.WordsFaults.{IsWordsFault, Tells}
 use Rattle.words.specs.declared.fault.WordsFault.{WordsFault}
 use Rattle.words.specs.declared.fault.WordsFault.TheVariants.{OutOfMemory, Help, Wrong}
 
-pub is_words_fault : (words : List Text) (k : ErrorKind) (fault : WordsFault) → (k ≡ kind.OutOfMemory) ⊎ IsAmong k (faults words) → Tells k fault → IsWordsFault words fault
+pub is_words_fault : (words : List Text) (k : ErrorKind) (fault : WordsFault)
+    → (k ≡ kind.OutOfMemory) ⊎ IsAmong k (faults words) → Tells k fault → IsWordsFault words fault
 is_words_fault words k OutOfMemory met told = tt
 is_words_fault words k (Help text) (inl memory) told = absurd (told ((λ h. cc), (λ h. cc)))
 is_words_fault words k (Help text) (inr among) told = (k, among, told)

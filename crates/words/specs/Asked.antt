@@ -1,7 +1,9 @@
 -- What words ask of the program, by the meaning that `clap` gives them: a command, each of whose options stands at most
 -- once.
-use Rattle.std.specs.Prelude.{Bool, true, false, nat_lt, List, [], ◌∷◌, length, if◌then◌else◌, Option, Some, None, option_map, option_and_then, codes}
-use Rattle.clap.specs.Words.{App, Kinds, Row, Rule, Text, fault_of, first_of, new_app, new_rule, subcommand_of, with_rule, with_subcommand}
+use Rattle.std.specs.Prelude.{Bool, true, false, nat_lt, List, [], ◌∷◌, length, if◌then◌else◌, Option, Some, None}
+use Rattle.std.specs.Prelude.{option_map, option_and_then, codes}
+use Rattle.clap.specs.Words.{App, Kinds, Row, Rule, Text, fault_of, first_of, new_app, new_rule, subcommand_of}
+use Rattle.clap.specs.Words.{with_rule, with_subcommand}
 use Rattle.clap.specs.Simple.{on_top}
 use Rattle.clap.specs.declared.builder.action.ArgAction.TheVariants.{Set, SetTrue}
 use Rattle.model.specs.Summary.{same_text}
@@ -57,10 +59,12 @@ resolve_app = with_rules (new_app (codes "resolve"))
     (manifest_option ∷ index_option ∷ lock_option ∷ source_option ∷ proof_option ∷ rust_first_flag ∷ [])
 
 abbrev pub verify_app : App
-verify_app = with_rules (new_app (codes "verify")) (manifest_option ∷ index_option ∷ required lock_option ∷ source_option ∷ [])
+verify_app =
+    with_rules (new_app (codes "verify")) (manifest_option ∷ index_option ∷ required lock_option ∷ source_option ∷ [])
 
 abbrev pub check_app : App
-check_app = with_rules (new_app (codes "check")) (manifest_option ∷ index_option ∷ lock_option ∷ required proof_option ∷ source_option ∷ [])
+check_app = with_rules (new_app (codes "check"))
+    (manifest_option ∷ index_option ∷ lock_option ∷ required proof_option ∷ source_option ∷ [])
 
 abbrev pub explain_app : App
 explain_app = with_rules (new_app (codes "explain")) (required proof_option ∷ [])
@@ -71,7 +75,9 @@ bare_app = on_top (λ s. record s { subcommand_required = true }) (new_app (code
 
 -- the whole program
 abbrev pub relock_app : App
-relock_app = with_subcommand (with_subcommand (with_subcommand (with_subcommand bare_app resolve_app.top) verify_app.top) check_app.top) explain_app.top
+relock_app =
+    with_subcommand (with_subcommand (with_subcommand (with_subcommand bare_app resolve_app.top) verify_app.top)
+    check_app.top) explain_app.top
 
 -- ---- what the options say
 
@@ -81,15 +87,18 @@ is_set (Some value) = same_text value (codes "true")
 
 abbrev pub resolve_of : List Row → Option WordsView
 resolve_of rows = option_and_then (λ m. option_map (λ i.
-    resolve m i (first_of (codes "lock") rows) (first_of (codes "source") rows) (first_of (codes "proof") rows) (is_set (first_of (codes "rust-first") rows)))
+    resolve m i (first_of (codes "lock") rows) (first_of (codes "source") rows) (first_of (codes "proof") rows)
+    (is_set (first_of (codes "rust-first") rows)))
     (first_of (codes "index") rows)) (first_of (codes "manifest") rows)
 
 abbrev pub verify_of : List Row → Option WordsView
-verify_of rows = option_and_then (λ m. option_and_then (λ i. option_map (λ l. verify m i l (first_of (codes "source") rows))
+verify_of rows =
+    option_and_then (λ m. option_and_then (λ i. option_map (λ l. verify m i l (first_of (codes "source") rows))
     (first_of (codes "lock") rows)) (first_of (codes "index") rows)) (first_of (codes "manifest") rows)
 
 abbrev pub check_of : List Row → Option WordsView
-check_of rows = option_and_then (λ m. option_and_then (λ i. option_map (λ p. check m i (first_of (codes "lock") rows) (first_of (codes "source") rows) p)
+check_of rows = option_and_then (λ m. option_and_then
+    (λ i. option_map (λ p. check m i (first_of (codes "lock") rows) (first_of (codes "source") rows) p)
     (first_of (codes "proof") rows)) (first_of (codes "index") rows)) (first_of (codes "manifest") rows)
 
 abbrev pub explain_of : List Row → Option WordsView

@@ -2,7 +2,9 @@
 
 ghost use Rattle.std.specs.Prelude.{◌≡◌, true, IfOk};
 ghost use Rattle.clap.specs.Words.{app_of, rule_of, shape_of, with_rule, with_subcommand};
-ghost use Rattle.words.specs.Asked.{option, required, manifest_option, index_option, lock_option, source_option, proof_option, rust_first_flag, resolve_app, verify_app, check_app, explain_app, relock_app};
+ghost use Rattle.words.specs.Asked.{option, required, manifest_option, index_option, lock_option, source_option};
+ghost use Rattle.words.specs.Asked.{proof_option, rust_first_flag, resolve_app, verify_app, check_app, explain_app};
+ghost use Rattle.words.specs.Asked.{relock_app};
 
 use clap::{Arg, ArgAction, Command};
 use std::alloc::{AllocError, Global};

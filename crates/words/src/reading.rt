@@ -2,7 +2,8 @@
 
 ghost use Rattle.std.specs.Prelude.{◌≡◌, IfErr, IfOk, [], Some, map, option_map, option_and_then, string_bytes};
 ghost use Rattle.clap.specs.Words.{first_of, found_of, rows_of, subcommand_rows_of};
-ghost use Rattle.words.specs.Asked.{asked, command_of, faults, is_set, or_help, parsed, resolve_of, verify_of, check_of, explain_of};
+ghost use Rattle.words.specs.Asked.{asked, command_of, faults, is_set, or_help, parsed, resolve_of, verify_of};
+ghost use Rattle.words.specs.Asked.{check_of, explain_of};
 ghost use Rattle.words.specs.WordsFaults.{IsWordsFault};
 ghost use Rattle.words.specs.Views.{text_if, words_view};
 

@@ -1,6 +1,7 @@
 -- Contents that are no valid selection: two versions of one class, a package that nobody needs, an older package beside
 -- the target, no root.
-use Rattle.std.proofs.Common.{◌≡◌, ◌⊎◌, ℕ, zero, suc, [], ◌∷◌, Contains, Some, slice_get, refl, sym, ap, ◌∙◌, subst, inl, inr, true≢false, arith}
+use Rattle.std.proofs.Common.{◌≡◌, ◌⊎◌, ℕ, zero, suc, [], ◌∷◌, Contains, Some, slice_get, refl, sym, ap, ◌∙◌, subst}
+use Rattle.std.proofs.Common.{inl, inr, true≢false, arith}
 use Rattle.std.proofs.lemmas.Option.{none-some, same_Some}
 use Rattle.model.specs.Summary.{Dependency}
 use Rattle.model.specs.Content.{Problem, Content, Package, is_root, target_of}
@@ -9,12 +10,14 @@ use Rattle.model.specs.Selection.IsReached.{root, listed}
 use Rattle.model.specs.Verdict.{IsVerdict, no_root}
 use Rattle.model.specs.WellFormed.{IsContent}
 use Rattle.model.proofs.Lists.{in_none, in_first, in_rest}
-use Rattle.model.proofs.Examples.Small.{text_a, text_b, version_1_0, version_1_1, version_2_0, on_any, candidate, asked_by_demo, locked, demo, in_one, formed}
+use Rattle.model.proofs.Examples.Small.{text_a, text_b, version_1_0, version_1_1, version_2_0, on_any, candidate}
+use Rattle.model.proofs.Examples.Small.{asked_by_demo, locked, demo, in_one, formed}
 
 -- the root needs a; there are three versions of a, and one of b
 abbrev needs_a : Problem
 needs_a = asked_by_demo (on_any text_a ∷ [])
-    ((text_a, candidate version_1_0 [] [] ∷ candidate version_1_1 [] [] ∷ candidate version_2_0 [] [] ∷ []) ∷ (text_b, candidate version_1_0 [] [] ∷ []) ∷ [])
+    ((text_a, candidate version_1_0 [] [] ∷ candidate version_1_1 [] [] ∷ candidate version_2_0 [] [] ∷ [])
+    ∷ (text_b, candidate version_1_0 [] [] ∷ []) ∷ [])
 
 root_dep : (i : ℕ) (d : Dependency) → slice_get (needs_a.brings).dependencies i ≡ Some d → on_any text_a ≡ d
 root_dep zero d e = same_Some (on_any text_a) d e
@@ -26,7 +29,8 @@ twice = locked text_a version_1_0 [] ∷ locked text_a version_1_1 [] ∷ demo (
 
 pub twice-invalid : IsValidSelection needs_a twice → ⊥
 twice-invalid v =
-    let same : zero ≡ suc zero = v.one_in_class 0 1 (locked text_a version_1_0 []) (locked text_a version_1_1 []) (refl, refl) (refl, refl) refl refl in
+    let same : zero ≡ suc zero = v.one_in_class 0 1 (locked text_a version_1_0 []) (locked text_a version_1_1 [])
+    (refl, refl) (refl, refl) refl refl in
     omega arith
 
 -- b is listed, and nobody needs it
@@ -40,7 +44,8 @@ unneeded-formed = formed unneeded refl
 pub unneeded-invalid : IsValidSelection needs_a unneeded → ⊥
 unneeded-invalid v =
     let t = (v.lists 2 1 (demo (0 ∷ 1 ∷ [])) refl).0 (in_rest 0 1 (1 ∷ []) (in_first 1 [])) in
-    let to : target_of unneeded 2 (on_any text_a) ≡ Some 1 = ap (target_of unneeded 2) (root_dep t.0 t.1 (t.2).0) ∙ t.3 in
+    let to : target_of unneeded 2 (on_any text_a) ≡ Some 1 =
+    ap (target_of unneeded 2) (root_dep t.0 t.1 (t.2).0) ∙ t.3 in
     let same : zero ≡ suc zero = same_Some 0 1 to in
     omega arith
 
@@ -52,15 +57,20 @@ unlisted-formed : IsContent unlisted
 unlisted-formed = formed unlisted refl
 
 root_place : (n : ℕ) → IsRootAt needs_a unlisted n → n ≡ 2
-root_place zero (p, got, is) = absurd (true≢false (sym (ap (is_root needs_a) (same_Some (locked text_a version_1_0 []) p got) ∙ is)))
-root_place (suc zero) (p, got, is) = absurd (true≢false (sym (ap (is_root needs_a) (same_Some (locked text_b version_1_0 []) p got) ∙ is)))
+root_place zero (p, got, is) =
+    absurd (true≢false (sym (ap (is_root needs_a) (same_Some (locked text_a version_1_0 []) p got) ∙ is)))
+root_place (suc zero) (p, got, is) =
+    absurd (true≢false (sym (ap (is_root needs_a) (same_Some (locked text_b version_1_0 []) p got) ∙ is)))
 root_place (suc (suc zero)) r = refl
 root_place (suc (suc (suc n))) (p, got, is) = absurd (none-some p got)
 
 lists_lead : (n t : ℕ) (p : Package) → slice_get unlisted n ≡ Some p → Contains p.list t → t ≡ 0
-lists_lead zero t p got c = absurd (in_none t (subst (λ (x : Package). Contains x.list t) (sym (same_Some (locked text_a version_1_0 []) p got)) c))
-lists_lead (suc zero) t p got c = absurd (in_none t (subst (λ (x : Package). Contains x.list t) (sym (same_Some (locked text_b version_1_0 []) p got)) c))
-lists_lead (suc (suc zero)) t p got c = sym (in_one 0 t (subst (λ (x : Package). Contains x.list t) (sym (same_Some (demo (0 ∷ [])) p got)) c))
+lists_lead zero t p got c = absurd
+    (in_none t (subst (λ (x : Package). Contains x.list t) (sym (same_Some (locked text_a version_1_0 []) p got)) c))
+lists_lead (suc zero) t p got c = absurd
+    (in_none t (subst (λ (x : Package). Contains x.list t) (sym (same_Some (locked text_b version_1_0 []) p got)) c))
+lists_lead (suc (suc zero)) t p got c =
+    sym (in_one 0 t (subst (λ (x : Package). Contains x.list t) (sym (same_Some (demo (0 ∷ [])) p got)) c))
 lists_lead (suc (suc (suc n))) t p got c = absurd (none-some p got)
 
 not_reached : (n : ℕ) → IsReached needs_a unlisted n → (n ≡ 2) ⊎ (n ≡ 0)
@@ -83,7 +93,8 @@ older_beside-formed = formed older_beside refl
 pub older_beside-invalid : IsValidSelection needs_a older_beside → ⊥
 older_beside-invalid v =
     let t = (v.lists 2 0 (demo (0 ∷ 1 ∷ [])) refl).0 (in_first 0 (1 ∷ [])) in
-    let to : target_of older_beside 2 (on_any text_a) ≡ Some 0 = ap (target_of older_beside 2) (root_dep t.0 t.1 (t.2).0) ∙ t.3 in
+    let to : target_of older_beside 2 (on_any text_a) ≡ Some 0 =
+    ap (target_of older_beside 2) (root_dep t.0 t.1 (t.2).0) ∙ t.3 in
     let same : suc zero ≡ zero = same_Some 1 0 to in
     omega arith
 

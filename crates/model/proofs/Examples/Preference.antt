@@ -2,7 +2,8 @@
 use Rattle.std.proofs.Common.{◌≡◌, List, [], ◌∷◌, Bool, true, false, Option, Some, None, refl}
 use Rattle.semver.specs.Parse.{Parts}
 use Rattle.model.specs.Summary.{nothing}
-use Rattle.model.specs.Candidates.{RustVersion, Record, newest, rust_first, preferred_rust, is_locked, oldest_first, candidates_among, by_preference}
+use Rattle.model.specs.Candidates.{RustVersion, Record, newest, rust_first, preferred_rust, is_locked, oldest_first}
+use Rattle.model.specs.Candidates.{candidates_among, by_preference}
 use Rattle.model.proofs.Examples.Small.{text_a, registry, digits, version_1_0, version_1_1, version_2_0, locked}
 
 abbrev at : Parts → Option RustVersion → Bool → Record
@@ -31,13 +32,16 @@ three = any_rust ∷ older_rust ∷ newer_rust ∷ []
 abbrev manifest_rust : Option RustVersion
 manifest_rust = Some (1, 70, 0)
 
-pub newest_first : by_preference unlocked (preferred_rust newest manifest_rust) three ≡ newer_rust ∷ older_rust ∷ any_rust ∷ []
+pub newest_first : by_preference unlocked (preferred_rust newest manifest_rust) three
+    ≡ newer_rust ∷ older_rust ∷ any_rust ∷ []
 newest_first = refl
 
-pub rust_version_first : by_preference unlocked (preferred_rust rust_first manifest_rust) three ≡ older_rust ∷ any_rust ∷ newer_rust ∷ []
+pub rust_version_first : by_preference unlocked (preferred_rust rust_first manifest_rust) three
+    ≡ older_rust ∷ any_rust ∷ newer_rust ∷ []
 rust_version_first = refl
 
-pub locked_first : by_preference first_locked (preferred_rust newest manifest_rust) three ≡ any_rust ∷ newer_rust ∷ older_rust ∷ []
+pub locked_first : by_preference first_locked (preferred_rust newest manifest_rust) three
+    ≡ any_rust ∷ newer_rust ∷ older_rust ∷ []
 locked_first = refl
 
 -- records stand in the order of their lines, and candidates oldest first

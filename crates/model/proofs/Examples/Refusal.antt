@@ -24,7 +24,8 @@ abbrev refusal : List Step
 refusal = step0 ∷ step1 ∷ step2 ∷ []
 
 -- the instance of Needed without its full term
-same1 : SameTerms (at root (present ∷ []) ∷ []) (without_full without (at root (present ∷ []) ∷ at (dep the_root 0) (absent ∷ []) ∷ []))
+same1 : SameTerms (at root (present ∷ []) ∷ [])
+    (without_full without (at root (present ∷ []) ∷ at (dep the_root 0) (absent ∷ []) ∷ []))
 same1 root = λ s. refl
 same1 (pkg n k) = tt
 same1 (dep o i) = tt
@@ -49,8 +50,11 @@ pub refusal-accepted : IsAccepted without refusal
 refusal-accepted = record {
   each = one_more (step0 ∷ step1 ∷ []) step2
       (one_more (step0 ∷ []) step1
-      (one_more [] step0 none_yet (at root (absent ∷ []) ∷ [], root_is, same0))
-      (at root (present ∷ []) ∷ at (dep the_root 0) (absent ∷ []) ∷ [], needed the_root 0 (on_any text_a) (tt, refl) tt, same1))
+      (one_more [] step0 none_yet (at root (absent ∷ []) ∷ [], root_is, same0)) (
+        at root (present ∷ []) ∷ at (dep the_root 0) (absent ∷ []) ∷ [],
+        needed the_root 0 (on_any text_a) (tt, refl) tt,
+        same1,
+      ))
       (step0, step1, refl, refl, joined);
   final = (step0 ∷ step1 ∷ [], step2, refl, refl);
 }

@@ -1,7 +1,8 @@
 -- Feature tables with implicit features and `default`, and each of their faults.
 use Rattle.std.proofs.Common.{◌≡◌, List, [], ◌∷◌, true, false, Ok, Err, refl}
 use Rattle.model.specs.Summary.{feature, dependency, weak_feature}
-use Rattle.model.specs.Tables.{DepName, default_feature, with_implicit, no_such_feature, no_such_dependency, not_optional, first_with, table_of}
+use Rattle.model.specs.Tables.{DepName, default_feature, with_implicit, no_such_feature, no_such_dependency}
+use Rattle.model.specs.Tables.{not_optional, first_with, table_of}
 use Rattle.model.proofs.Examples.Small.{text_b, text_f, text_g, text_h}
 
 abbrev optional_b : List DepName
@@ -21,7 +22,8 @@ unfolding table_of with_implicit first_with
 implicit = refl
 
 -- not where some entry is `dep:b`
-pub named_by_dep : table_of optional_b ((text_f, dependency text_b ∷ []) ∷ []) ≡ Ok ((default_feature, []) ∷ (text_f, dependency text_b ∷ []) ∷ [])
+pub named_by_dep : table_of optional_b ((text_f, dependency text_b ∷ []) ∷ [])
+    ≡ Ok ((default_feature, []) ∷ (text_f, dependency text_b ∷ []) ∷ [])
 unfolding table_of with_implicit first_with
 named_by_dep = refl
 
@@ -47,7 +49,8 @@ unfolding table_of with_implicit first_with
 no_dependency = refl
 
 -- a weak entry may name a dependency that isn't optional
-pub weak_on_plain : table_of plain_b ((text_f, weak_feature text_b text_g ∷ []) ∷ []) ≡ Ok ((default_feature, []) ∷ (text_f, weak_feature text_b text_g ∷ []) ∷ [])
+pub weak_on_plain : table_of plain_b ((text_f, weak_feature text_b text_g ∷ []) ∷ [])
+    ≡ Ok ((default_feature, []) ∷ (text_f, weak_feature text_b text_g ∷ []) ∷ [])
 unfolding table_of with_implicit first_with
 weak_on_plain = refl
 
@@ -57,6 +60,7 @@ unfolding table_of with_implicit first_with
 plain = refl
 
 -- the lowest number is answered, though another fault stands first
-pub lowest : table_of plain_b ((text_f, dependency text_b ∷ []) ∷ (text_g, feature text_h ∷ []) ∷ []) ≡ Err (no_such_feature, text_g)
+pub lowest : table_of plain_b ((text_f, dependency text_b ∷ []) ∷ (text_g, feature text_h ∷ []) ∷ [])
+    ≡ Err (no_such_feature, text_g)
 unfolding table_of with_implicit first_with
 lowest = refl

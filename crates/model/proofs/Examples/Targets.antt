@@ -16,5 +16,6 @@ pub newer_is_target : target_of both_listed 2 (on_any text_a) ≡ Some 1
 newer_is_target = refl
 
 -- and is the target where it is listed alone
-pub older_alone : target_of (locked text_a version_1_0 [] ∷ locked text_a version_2_0 [] ∷ demo (0 ∷ []) ∷ []) 2 (on_any text_a) ≡ Some 0
+pub older_alone : target_of
+    (locked text_a version_1_0 [] ∷ locked text_a version_2_0 [] ∷ demo (0 ∷ []) ∷ []) 2 (on_any text_a) ≡ Some 0
 older_alone = refl

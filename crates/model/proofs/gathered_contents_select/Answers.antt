@@ -5,4 +5,5 @@ use Rattle.model.proofs.Gathered.{gathered}
 use Rattle.model.proofs.gathered_contents_select.Goals as goal
 
 pub returns : goal.returns
-returns c = λ q state kept known ok are. stands_valid q state ok known (content_of q kept) (gathered q (LeadsTo q state) known kept are)
+returns c = λ q state kept known ok are.
+    stands_valid q state ok known (content_of q kept) (gathered q (LeadsTo q state) known kept are)

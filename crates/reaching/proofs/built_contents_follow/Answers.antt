@@ -6,4 +6,6 @@ use Rattle.reaching.proofs.built_contents_follow.Goals as goal
 
 pub returns : goal.returns
 returns c = λ q state owners nodes flags lists content other asks unbroken met are built valid bare brought agrees.
-    one_content q (LeadsTo q state) content other (stands q (LeadsTo q state) owners nodes met asks flags lists are content built) (follows q other state valid unbroken agrees bare brought)
+    one_content q (LeadsTo q state) content other
+    (stands q (LeadsTo q state) owners nodes met asks flags lists are content built)
+    (follows q other state valid unbroken agrees bare brought)

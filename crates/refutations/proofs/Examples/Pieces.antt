@@ -26,13 +26,33 @@ from a = (op.GreaterEq, a, None, None, []) ∷ []
 
 -- a dependency that is called by its package's name
 abbrev pub on : List ℕ → List Held → Dependency
-on name requirement = record { name = name; real_name = name; requirement = requirement; optional = false; default_features = true; features = [] }
+on name requirement = record {
+  name = name;
+  real_name = name;
+  requirement = requirement;
+  optional =
+      false;
+  default_features = true;
+  features = [];
+}
 
 abbrev pub candidate : Parts → List Dependency → Table → Candidate
-candidate v ds table = record { version = v; checksum = codes "0"; brings = record { dependencies = ds; features = table } }
+candidate v ds table =
+    record { version = v; checksum = codes "0"; brings = record { dependencies = ds; features = table } }
 
 abbrev pub demo : List Dependency → List (List ℕ × List Candidate) → Problem
-demo ds cs = record { name = codes "demo"; version = plain 0 1 0; brings = record { dependencies = ds; features = (codes "default", []) ∷ [] }; root_asks = []; source = codes "r"; candidates = cs }
+demo ds cs = record {
+  name = codes "demo";
+  version = plain 0 1 0;
+  brings = record {
+    dependencies = ds;
+    features =
+        (codes "default", []) ∷ [];
+  };
+  root_asks = [];
+  source = codes "r";
+  candidates = cs;
+}
 
 -- the table of a package without features
 abbrev pub no_features : Table
@@ -50,4 +70,5 @@ one v s = at v (s ∷ [])
 
 -- the cause is there, is of this kind, has these terms, and they pass the test of the kind
 abbrev pub Gives : Problem → Cause → Kind → List Term → Type 0
-Gives q c k ts = (is_cause q c ≡ true) × (kind_of c ≡ k) × (without_full q (terms_of_cause q c) ≡ ts) × (is_instance q k ts ≡ true)
+Gives q c k ts =
+    (is_cause q c ≡ true) × (kind_of c ≡ k) × (without_full q (terms_of_cause q c) ≡ ts) × (is_instance q k ts ≡ true)

@@ -63,11 +63,13 @@ pub accepted : refused_step unmeetable thirteen ≡ None
 accepted = refl
 
 -- a state less in the eleventh step
-pub state_missing : refused_step unmeetable (with_eleventh (one a absent ∷ one root present ∷ [])) ≡ Some (10, not_combined)
+pub state_missing : refused_step unmeetable (with_eleventh (one a absent ∷ one root present ∷ []))
+    ≡ Some (10, not_combined)
 state_missing = refl
 
 -- a state less in an axiom's step
-pub axiom_missing : refused_step unmeetable (given Target (one (dep the_root 0) class_1 ∷ one a absent ∷ []) ∷ []) ≡ Some (0, not_an_axiom)
+pub axiom_missing : refused_step unmeetable (given Target (one (dep the_root 0) class_1 ∷ one a absent ∷ []) ∷ [])
+    ≡ Some (0, not_an_axiom)
 axiom_missing = refl
 
 -- one kind taken for another
@@ -82,9 +84,11 @@ pub nothing_said : refused_step unmeetable [] ≡ Some (0, not_final)
 nothing_said = refl
 
 -- a step that combines itself
-pub itself : refused_step unmeetable (given Root (one root absent ∷ []) ∷ combine 0 1 root [] ∷ []) ≡ Some (1, not_combined)
+pub itself : refused_step unmeetable (given Root (one root absent ∷ []) ∷ combine 0 1 root [] ∷ [])
+    ≡ Some (1, not_combined)
 itself = refl
 
 -- the vertex need not be spoken of, nor be there: both terms stay
-pub elsewhere : refused_step unmeetable (given Root (one root absent ∷ []) ∷ combine 0 0 (pkg (codes "z") (major 7)) (one root absent ∷ []) ∷ []) ≡ Some (1, not_final)
+pub elsewhere : refused_step unmeetable (given Root (one root absent ∷ [])
+    ∷ combine 0 0 (pkg (codes "z") (major 7)) (one root absent ∷ []) ∷ []) ≡ Some (1, not_final)
 elsewhere = refl

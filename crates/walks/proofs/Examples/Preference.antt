@@ -3,7 +3,8 @@ use Rattle.std.proofs.Common.{◌≡◌, ℕ, List, [], ◌∷◌, Bool, true, f
 use Rattle.semver.specs.Parse.{Parts}
 use Rattle.model.specs.Summary.{nothing}
 use Rattle.model.specs.Content.{Content}
-use Rattle.model.specs.Candidates.{RustVersion, Record, by_preference, candidates_among, is_locked, newest, oldest_first, preferred_rust, rust_first}
+use Rattle.model.specs.Candidates.{RustVersion, Record, by_preference, candidates_among, is_locked, newest}
+use Rattle.model.specs.Candidates.{oldest_first, preferred_rust, rust_first}
 use Rattle.model.proofs.Examples.Small.{text_a, registry, digits, locked}
 use Rattle.catalogue.specs.Loads.{ranked_among}
 use Rattle.catalogue.specs.declared.candidate.Rank.TheVariants.{Locked, Fits, Rest}
@@ -11,7 +12,8 @@ use Rattle.walks.specs.Preferred.{by_rank}
 
 -- version 1.n.0 with what it needs of Rust
 abbrev at : ℕ → Option RustVersion → Bool → Record
-at n rust yanked = record { version = (1, n, 0, [], []); checksum = digits; yanked = yanked; rust_version = rust; brings = nothing }
+at n rust yanked =
+    record { version = (1, n, 0, [], []); checksum = digits; yanked = yanked; rust_version = rust; brings = nothing }
 
 abbrev plain : Record
 plain = at 0 None false
@@ -54,23 +56,28 @@ by_age = preferred_rust newest (Some (1, 70, 0))
 
 -- the candidates, oldest first, and their ranks: the yanked one that isn't locked is none
 pub ranks : ranked_among is_held by_rust lines
-    ≡ (plain, Fits) ∷ (older_locked, Locked) ∷ (yanked_locked, Locked) ∷ (fitting, Fits) ∷ (too_new, Rest) ∷ (newer_still, Rest) ∷ []
+    ≡ (plain, Fits) ∷ (older_locked, Locked) ∷ (yanked_locked, Locked) ∷ (fitting, Fits) ∷ (too_new, Rest)
+    ∷ (newer_still, Rest) ∷ []
 unfolding oldest_first
 ranks = refl
 
-pub ranked : by_rank (ranked_among is_held by_rust lines) ≡ yanked_locked ∷ older_locked ∷ fitting ∷ plain ∷ newer_still ∷ too_new ∷ []
+pub ranked : by_rank (ranked_among is_held by_rust lines)
+    ≡ yanked_locked ∷ older_locked ∷ fitting ∷ plain ∷ newer_still ∷ too_new ∷ []
 unfolding oldest_first
 ranked = refl
 
-pub preferred : by_preference is_held by_rust (candidates_among is_held lines) ≡ yanked_locked ∷ older_locked ∷ fitting ∷ plain ∷ newer_still ∷ too_new ∷ []
+pub preferred : by_preference is_held by_rust (candidates_among is_held lines)
+    ≡ yanked_locked ∷ older_locked ∷ fitting ∷ plain ∷ newer_still ∷ too_new ∷ []
 unfolding oldest_first
 preferred = refl
 
 -- without a Rust version to go by, the newest after the locked ones
-pub ranked_by_age : by_rank (ranked_among is_held by_age lines) ≡ yanked_locked ∷ older_locked ∷ newer_still ∷ too_new ∷ fitting ∷ plain ∷ []
+pub ranked_by_age : by_rank (ranked_among is_held by_age lines)
+    ≡ yanked_locked ∷ older_locked ∷ newer_still ∷ too_new ∷ fitting ∷ plain ∷ []
 unfolding oldest_first
 ranked_by_age = refl
 
-pub preferred_by_age : by_preference is_held by_age (candidates_among is_held lines) ≡ yanked_locked ∷ older_locked ∷ newer_still ∷ too_new ∷ fitting ∷ plain ∷ []
+pub preferred_by_age : by_preference is_held by_age (candidates_among is_held lines)
+    ≡ yanked_locked ∷ older_locked ∷ newer_still ∷ too_new ∷ fitting ∷ plain ∷ []
 unfolding oldest_first
 preferred_by_age = refl

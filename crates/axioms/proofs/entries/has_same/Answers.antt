@@ -9,4 +9,6 @@ use Rattle.looking_up.proofs.Versions.{any-map}
 use Rattle.axioms.proofs.entries.has_same.Goals as goal
 
 pub returns : goal.returns
-returns c = any_from_yields_List (λ (e : Entry). same_entry (entry_view c.args.entry.now) (entry_view e)) _ _ _ c.any.ensures.ran (YieldsList-from_slice c.args.entries.now cc) (λ x b q k. search (rules, tests)) ∙ sym (any-map (same_entry (entry_view c.args.entry.now)) entry_view c.args.entries.now)
+returns c = any_from_yields_List (λ (e : Entry). same_entry (entry_view c.args.entry.now) (entry_view e)) _ _ _
+    c.any.ensures.ran (YieldsList-from_slice c.args.entries.now cc) (λ x b q k. search (rules, tests))
+    ∙ sym (any-map (same_entry (entry_view c.args.entry.now)) entry_view c.args.entries.now)

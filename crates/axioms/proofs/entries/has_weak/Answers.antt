@@ -10,4 +10,7 @@ use Rattle.looking_up.proofs.Versions.{any-map}
 use Rattle.axioms.proofs.entries.has_weak.Goals as goal
 
 pub returns : goal.returns
-returns c = any_from_yields_List (λ (e : Entry). same_entry (weak_feature c.args.name.now c.args.feature.now) (entry_view e)) _ _ _ c.any.ensures.ran (YieldsList-from_slice c.args.entries.now cc) (λ x b q k. search (rules, tests)) ∙ sym (any-map (same_entry (weak_feature c.args.name.now c.args.feature.now)) entry_view c.args.entries.now)
+returns c = any_from_yields_List
+    (λ (e : Entry). same_entry (weak_feature c.args.name.now c.args.feature.now) (entry_view e)) _ _ _ c.any.ensures.ran
+    (YieldsList-from_slice c.args.entries.now cc) (λ x b q k. search (rules, tests))
+    ∙ sym (any-map (same_entry (weak_feature c.args.name.now c.args.feature.now)) entry_view c.args.entries.now)

@@ -7,4 +7,5 @@ pub returns : goal.returns
 returns c =
     let k = c.args.problem.now in
     c.has_one.ensures
-    ∙ any_classed k.manifest.now k.catalogue.now c.args.name.now (class_view c.args.class) c.class_versions.result.now c.class_versions.ensures.versions (λ v. true)
+    ∙ any_classed k.manifest.now k.catalogue.now c.args.name.now
+    (class_view c.args.class) c.class_versions.result.now c.class_versions.ensures.versions (λ v. true)

@@ -9,5 +9,6 @@ abbrev pub invariant-rows : goal.invariant-rows
 invariant-rows l = record {
   can : (goal.iterator-rows).can_next l.row-iterator;
   finite : (goal.iterator-rows).is_finite l.row-iterator;
-  told : list_any (row_asks l.fn.name l.fn.feature l.fn.table) (rows_of l.row-iterator) ≡ list_any (row_asks l.fn.name l.fn.feature l.fn.table) l.fn.table;
+  told : list_any (row_asks l.fn.name l.fn.feature l.fn.table) (rows_of l.row-iterator)
+      ≡ list_any (row_asks l.fn.name l.fn.feature l.fn.table) l.fn.table;
 }

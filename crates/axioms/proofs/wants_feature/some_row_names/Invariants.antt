@@ -9,5 +9,6 @@ abbrev pub invariant-rows : goal.invariant-rows
 invariant-rows l = record {
   can : (goal.iterator-rows).can_next l.entries-iterator;
   finite : (goal.iterator-rows).is_finite l.entries-iterator;
-  told : list_any (row_names l.fn.name l.fn.feature) (rows_of l.entries-iterator) ≡ list_any (row_names l.fn.name l.fn.feature) l.fn.table;
+  told : list_any (row_names l.fn.name l.fn.feature) (rows_of l.entries-iterator)
+      ≡ list_any (row_names l.fn.name l.fn.feature) l.fn.table;
 }

@@ -14,17 +14,21 @@ use Rattle.catalogue.proofs.choosing.candidates_of.Goals as goal
 
 pub kept-requires-clause-rising : goal.kept-requires-clause-rising
 kept-requires-clause-rising c =
-    let sorted = c.in_ok-sort_by.ensures.sorted (λ x y. is_lt (precedence_cmp x.version y.version)) (ranks_by precedence_total (λ r. r.version)) (answers_always _ _ _ (λ f a r g called. search rules)) in
+    let sorted = c.in_ok-sort_by.ensures.sorted (λ x y. is_lt (precedence_cmp x.version y.version))
+    (ranks_by precedence_total (λ r. r.version)) (answers_always _ _ _ (λ f a r g called. search rules)) in
     let moved = IsPermutation-map (λ r. as_record (record_view r)) _ _ c.sort_by.ensures.permutation in
     sorted-rise _ _ c.requires.apart moved (sorted-views _ sorted)
 
 pub kept-requires-clause-known : goal.kept-requires-clause-known
-kept-requires-clause-known c = moved-known _ _ (IsPermutation-map (λ r. as_record (record_view r)) _ _ c.sort_by.ensures.permutation) c.requires.known
+kept-requires-clause-known c = moved-known _ _
+    (IsPermutation-map (λ r. as_record (record_view r)) _ _ c.sort_by.ensures.permutation) c.requires.known
 
 pub returns : goal.returns
 returns c =
     let locked = is_locked (packages_of_old c.args.run.now.old) c.args.run.now.source.now c.args.name.now in
     let rust = option_map rust_version_view c.args.run.now.rust_version in
-    let sorted = c.in_ok-sort_by.ensures.sorted (λ x y. is_lt (precedence_cmp x.version y.version)) (ranks_by precedence_total (λ r. r.version)) (answers_always _ _ _ (λ f a r g called. search rules)) in
+    let sorted = c.in_ok-sort_by.ensures.sorted (λ x y. is_lt (precedence_cmp x.version y.version))
+    (ranks_by precedence_total (λ r. r.version)) (answers_always _ _ _ (λ f a r g called. search rules)) in
     let moved = IsPermutation-map (λ r. as_record (record_view r)) _ _ c.sort_by.ensures.permutation in
-    subst (λ rs. IfOk c.kept.result (λ x. candidates_view x ≡ with_ranks locked rust rs)) (sorted-chosen _ _ c.requires.apart moved (sorted-views _ sorted) (may_be_locked locked)) c.kept.ensures
+    subst (λ rs. IfOk c.kept.result (λ x. candidates_view x ≡ with_ranks locked rust rs))
+    (sorted-chosen _ _ c.requires.apart moved (sorted-views _ sorted) (may_be_locked locked)) c.kept.ensures

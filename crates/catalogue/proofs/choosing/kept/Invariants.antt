@@ -17,6 +17,9 @@ invariant-records l =
       beside : length l.versions.items ≡ length l.kept.items;
       read : AreRead l.versions.items;
       few : length l.kept.items + length (into_iter_items l.record-iterator) ≤ length l.fn.records.items;
-      told : ranked_view l.versions.items l.kept.items ++ chosen (is_locked (packages_of_old l.run.old) l.run.source.now l.name) (option_map rust_version_view l.run.rust_version) (into_iter_items l.record-iterator)
-          ≡ chosen (is_locked (packages_of_old l.run.old) l.run.source.now l.name) (option_map rust_version_view l.run.rust_version) l.fn.records.items;
+      told : ranked_view l.versions.items l.kept.items
+          ++ chosen (is_locked (packages_of_old l.run.old) l.run.source.now l.name)
+          (option_map rust_version_view l.run.rust_version) (into_iter_items l.record-iterator)
+          ≡ chosen (is_locked (packages_of_old l.run.old) l.run.source.now l.name)
+          (option_map rust_version_view l.run.rust_version) l.fn.records.items;
     }

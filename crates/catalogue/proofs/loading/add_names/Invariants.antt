@@ -8,4 +8,5 @@ use Rattle.catalogue.proofs.loading.add_names.Given as goal
 -- with the names that are left, the names so far are all of them
 abbrev pub invariant-dependencies : goal.invariant-dependencies
 invariant-dependencies l =
-    insert_all same_text l.names.keys (meant_by (dependency_views (drop l.dependency-index l.dependencies))) ≡ insert_all same_text l.fn.names.keys (meant_by (dependency_views l.dependencies))
+    insert_all same_text l.names.keys (meant_by (dependency_views (drop l.dependency-index l.dependencies)))
+    ≡ insert_all same_text l.fn.names.keys (meant_by (dependency_views l.dependencies))

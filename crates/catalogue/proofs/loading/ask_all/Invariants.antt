@@ -9,7 +9,9 @@ use Rattle.catalogue.proofs.loading.ask_all.Given as goal
 -- what was asked for so far gave these names, candidates and skips
 abbrev pub invariant-names : goal.invariant-names
 invariant-names g l =
-    SoFar (packages_of_old l.run.old) l.run.source.now (option_map rust_version_view l.run.rust_version) (dependency_views l.dependencies) g.F.Folder.calls l.fn.folder l.names.keys l.candidates.items (map skip_view l.skips.items) l.folder
+    SoFar (packages_of_old l.run.old) l.run.source.now (option_map rust_version_view l.run.rust_version)
+    (dependency_views l.dependencies) g.F.Folder.calls l.fn.folder l.names.keys l.candidates.items
+    (map skip_view l.skips.items) l.folder
 
 abbrev pub decreases-names : goal.decreases-names
 decreases-names g l = most_names - length l.candidates.items

@@ -10,8 +10,11 @@ use Rattle.catalogue.proofs.locked.is_locked_in.Goals as goal
 pub returns : goal.returns
 returns c =
     let r = wanted c.args.name.now (parts_of c.args.version.now) c.args.source.now in
-    let searched = c.binary_search_by.ensures.position (λ p. package_cmp (package_view p) r) (always_returns_same _ _ _ (λ a r g called. search rules)) in
+    let searched = c.binary_search_by.ensures.position
+    (λ p. package_cmp (package_view p) r) (always_returns_same _ _ _ (λ a r g called. search rules)) in
     let content = rw (← c.packages-packages.ensures.views) at c.packages-packages.ensures.content in
     c.is_ok.ensures.value
-    ∙ search_locks c.packages-packages.result.now c.args.source.now c.args.name.now (parts_of c.args.version.now) c.binary_search_by.result c.requires content.in_order c.binary_search_by.ensures.bound searched
-    ∙ ap (λ ps. is_locked ps c.args.source.now c.args.name.now (parts_of c.args.version.now)) c.packages-packages.ensures.views
+    ∙ search_locks c.packages-packages.result.now c.args.source.now c.args.name.now (parts_of c.args.version.now)
+    c.binary_search_by.result c.requires content.in_order c.binary_search_by.ensures.bound searched
+    ∙ ap (λ ps.
+    is_locked ps c.args.source.now c.args.name.now (parts_of c.args.version.now)) c.packages-packages.ensures.views

@@ -6,14 +6,20 @@ use Rattle.catalogue.proofs.places.place_of.Goals as goal
 
 pub returns-then-is_same : goal.returns-then-is_same
 returns-then-is_same c =
-    search_finds c.args.versions.now c.args.version.now c.index-versions-place.result c.in-Ok.place (rw c.in-Ok.is at c.binary_search_by.ensures.bound) (sym c.index-versions-place.is) (sym c.is_same.ensures ∙ c.if-is_same.true)
+    search_finds c.args.versions.now c.args.version.now c.index-versions-place.result c.in-Ok.place
+    (rw c.in-Ok.is at c.binary_search_by.ensures.bound) (sym c.index-versions-place.is)
+    (sym c.is_same.ensures ∙ c.if-is_same.true)
 
 pub returns-else-is_same : goal.returns-else-is_same
 returns-else-is_same c =
-    let searched = c.binary_search_by.ensures.position (λ v. precedence_cmp v c.args.version.now) (always_returns_same _ _ _ (λ a r g called. search rules)) in
-    search_differs c.args.versions.now c.args.version.now c.in-Ok.place c.requires (rw c.in-Ok.is at c.binary_search_by.ensures.bound) (rw c.in-Ok.is at searched) c.index-versions-place.result (sym c.index-versions-place.is) (sym c.is_same.ensures ∙ c.if-is_same.false)
+    let searched = c.binary_search_by.ensures.position
+    (λ v. precedence_cmp v c.args.version.now) (always_returns_same _ _ _ (λ a r g called. search rules)) in
+    search_differs c.args.versions.now c.args.version.now c.in-Ok.place c.requires
+    (rw c.in-Ok.is at c.binary_search_by.ensures.bound) (rw c.in-Ok.is at searched) c.index-versions-place.result
+    (sym c.index-versions-place.is) (sym c.is_same.ensures ∙ c.if-is_same.false)
 
 pub returns-in-Err : goal.returns-in-Err
 returns-in-Err c =
-    let searched = c.binary_search_by.ensures.position (λ v. precedence_cmp v c.args.version.now) (always_returns_same _ _ _ (λ a r g called. search rules)) in
+    let searched = c.binary_search_by.ensures.position
+    (λ v. precedence_cmp v c.args.version.now) (always_returns_same _ _ _ (λ a r g called. search rules)) in
     search_ends c.args.versions.now c.args.version.now _ c.requires (rw c.in-Err.is at searched)

@@ -11,6 +11,7 @@ use Rattle.causes.proofs.feature_on_dependency.enabled_number.Goals as goal
 pub returns-in-None-clause-number : goal.returns-in-None-clause-number
 returns-in-None-clause-number c =
     IfOk-weaker c.enabled_unmatched.result _ _
-    (λ n e. e ∙ or_found (number_read (term_views c.args.terms.now)) (enabled_unmatched (problem_of c.args.numbers.now) c.args.name.now (parts_of c.args.version.now) c.args.on.now)
+    (λ n e. e ∙ or_found (number_read (term_views c.args.terms.now)) (enabled_unmatched
+    (problem_of c.args.numbers.now) c.args.name.now (parts_of c.args.version.now) c.args.on.now)
     (ap (option_map (λ p. p.1)) (sym c.first_dependency.ensures ∙ ap (option_map dep_seen) c.in-None.is)))
     c.enabled_unmatched.ensures.number

@@ -6,4 +6,5 @@ use Rattle.causes.proofs.feature_on_dependency.first_enabling.Given as goal
 
 -- the first among the entries that are left is the first of all
 abbrev pub invariant-entries : goal.invariant-entries
-invariant-entries l = find (enables l.name) (entry_views (drop l.entry-index l.entries)) ≡ find (enables l.name) (entry_views l.entries)
+invariant-entries l =
+    find (enables l.name) (entry_views (drop l.entry-index l.entries)) ≡ find (enables l.name) (entry_views l.entries)

@@ -4,4 +4,5 @@ use Rattle.features.proofs.DraftLemmas.{has_text-insert_key}
 use Rattle.causes.proofs.feature_on_dependency.put.Goals as goal
 
 pub returns : goal.returns
-returns c = λ d. ap (λ ks. has_text ks d) c.in_ok-insert.ensures.keys ∙ has_text-insert_key d c.args.name c.args.names.now.keys
+returns c =
+    λ d. ap (λ ks. has_text ks d) c.in_ok-insert.ensures.keys ∙ has_text-insert_key d c.args.name c.args.names.now.keys

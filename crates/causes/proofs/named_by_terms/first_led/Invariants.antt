@@ -5,4 +5,5 @@ use Rattle.causes.proofs.named_by_terms.first_led.Given as goal
 
 -- the first among the terms that are left is the first of all
 abbrev pub invariant-terms : goal.invariant-terms
-invariant-terms l = first_read led_read (term_views (drop l.term-index l.terms)) ≡ first_read led_read (term_views l.terms)
+invariant-terms l =
+    first_read led_read (term_views (drop l.term-index l.terms)) ≡ first_read led_read (term_views l.terms)

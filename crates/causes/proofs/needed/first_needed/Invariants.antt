@@ -7,5 +7,7 @@ use Rattle.causes.proofs.needed.first_needed.Given as goal
 
 -- the first among the dependencies that are left is the first of all
 abbrev pub invariant-dependencies : goal.invariant-dependencies
-invariant-dependencies l = place_from (is_needed_unmatched (problem_view l.problem) (owner_ref_view l.owner)) l.number (dependency_views (drop l.number l.dependencies))
-    ≡ place_from (is_needed_unmatched (problem_view l.problem) (owner_ref_view l.owner)) 0 (dependency_views l.dependencies)
+invariant-dependencies l = place_from (is_needed_unmatched (problem_view l.problem) (owner_ref_view l.owner)) l.number
+    (dependency_views (drop l.number l.dependencies))
+    ≡ place_from (is_needed_unmatched (problem_view l.problem) (owner_ref_view l.owner)) 0
+    (dependency_views l.dependencies)

@@ -11,6 +11,7 @@ use Rattle.causes.proofs.needed.needed_number.Goals as goal
 pub returns-in-None-clause-number : goal.returns-in-None-clause-number
 returns-in-None-clause-number c =
     IfOk-weaker c.needed_unmatched.result _ _
-    (λ n e. e ∙ or_found (number_read (term_views c.args.terms.now)) (needed_unmatched (problem_of c.args.numbers.now) (owner_ref_view c.args.owner))
+    (λ n e. e ∙ or_found (number_read (term_views c.args.terms.now))
+    (needed_unmatched (problem_of c.args.numbers.now) (owner_ref_view c.args.owner))
     (ap (option_map (λ p. p.1)) (sym c.first_dependency.ensures ∙ ap (option_map dep_seen) c.in-None.is)))
     c.needed_unmatched.ensures.number

@@ -18,7 +18,8 @@ rules-preserved c =
     record {
       length = c.in_ok-mark.ensures.length ∙ same;
       follows = rw (take_more rules at none c.rules-test.true)
-          (one_followed (take at rules) c.args.marked.now c.args.waiting.now.items c.rules.marked c.rules.waiting.items (get_or rules at none) c.mark.new.marked c.mark.new.waiting.items
+          (one_followed (take at rules) c.args.marked.now c.args.waiting.now.items c.rules.marked c.rules.waiting.items
+          (get_or rules at none) c.mark.new.marked c.mark.new.waiting.items
           c.rules.invariant.follows (rw same (c.requires.below at none c.rules-test.true)) c.in_ok-mark.ensures.marks);
     }
 
@@ -28,7 +29,8 @@ returns-clause-grows c = c.rules.invariant.follows.grows
 pub returns-clause-sound : goal.returns-clause-sound
 returns-clause-sound c =
     let few = take c.rules.rule-index c.args.rules.now in
-    sound_by_more few c.args.rules.now c.args.marked.now c.rules.marked (take_within c.rules.rule-index c.args.rules.now) c.rules.invariant.follows.sound
+    sound_by_more few c.args.rules.now c.args.marked.now c.rules.marked
+    (take_within c.rules.rule-index c.args.rules.now) c.rules.invariant.follows.sound
 
 -- where memory is wanting, what the rule gives is marked, and only doesn't wait
 pub returns-in_err-mark-clause-grows : goal.returns-in_err-mark-clause-grows
@@ -36,8 +38,10 @@ returns-in_err-mark-clause-grows c =
     let none : Rule = record { first = 0; second = 0; gives = 0 } in
     let rule = get_or c.args.rules.now c.rules.rule-index none in
     let some = c.rules.waiting.items in
-    (one_followed (take c.rules.rule-index c.args.rules.now) c.args.marked.now c.args.waiting.now.items c.rules.marked some rule c.mark.new.marked (cond (is_ready c.rules.marked rule) (some ++ rule.gives ∷ []) some)
-    c.rules.invariant.follows (rw c.rules.invariant.length (c.requires.below c.rules.rule-index none c.rules-test.true)) (c.in_err-mark.ensures.marked, refl)).grows
+    (one_followed (take c.rules.rule-index c.args.rules.now) c.args.marked.now c.args.waiting.now.items c.rules.marked
+    some rule c.mark.new.marked (cond (is_ready c.rules.marked rule) (some ++ rule.gives ∷ []) some)
+    c.rules.invariant.follows (rw c.rules.invariant.length (c.requires.below c.rules.rule-index none c.rules-test.true))
+    (c.in_err-mark.ensures.marked, refl)).grows
 
 pub returns-in_err-mark-clause-sound : goal.returns-in_err-mark-clause-sound
 returns-in_err-mark-clause-sound c =
@@ -49,6 +53,9 @@ returns-in_err-mark-clause-sound c =
     let more = cond (is_ready c.rules.marked rule) (some ++ rule.gives ∷ []) some in
     let followed : Follows (take (at + 1) rules) c.args.marked.now c.args.waiting.now.items c.mark.new.marked more
     = rw (take_more rules at none c.rules-test.true)
-    (one_followed (take at rules) c.args.marked.now c.args.waiting.now.items c.rules.marked some rule c.mark.new.marked more
-    c.rules.invariant.follows (rw c.rules.invariant.length (c.requires.below at none c.rules-test.true)) (c.in_err-mark.ensures.marked, refl)) in
-    sound_by_more (take (at + 1) rules) rules c.args.marked.now c.mark.new.marked (take_within (at + 1) rules) followed.sound
+    (one_followed (take at rules) c.args.marked.now c.args.waiting.now.items c.rules.marked some
+    rule c.mark.new.marked more
+    c.rules.invariant.follows (rw c.rules.invariant.length (c.requires.below at none c.rules-test.true))
+    (c.in_err-mark.ensures.marked, refl)) in
+    sound_by_more (take (at + 1) rules) rules c.args.marked.now c.mark.new.marked
+    (take_within (at + 1) rules) followed.sound

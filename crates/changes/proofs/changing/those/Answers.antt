@@ -16,7 +16,8 @@ packages-preserved c =
     let i = c.packages.locked-index in
     let p = c.locked-item.result in
     let left = drop (i + 1) xs in
-    let here : drop i xs ≡ p ∷ left = drop_more xs i p c.packages-test.true ∙ ap (λ y. y ∷ left) (sym c.locked-item.is) in
+    let here : drop i xs ≡ p ∷ left =
+    drop_more xs i p c.packages-test.true ∙ ap (λ y. y ∷ left) (sym c.locked-item.is) in
     let so_far = lent_views c.packages.found.items in
     ap (λ l. l ++ filter test (package_views left)) c.in_ok-put.ensures
     ∙ append_assoc so_far (filter test (package_view p ∷ [])) (filter test (package_views left))

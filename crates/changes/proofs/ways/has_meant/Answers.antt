@@ -6,4 +6,5 @@ use Rattle.changes.proofs.Those.{any_view}
 use Rattle.changes.proofs.ways.has_meant.Goals as goal
 
 pub returns : goal.returns
-returns c = c.some_meant.ensures ∙ sym (any_view (is_meant c.args.name.now (option_map (λ v. parts_of v.now) c.args.version)) package_view c.args.packages.now)
+returns c = c.some_meant.ensures ∙ sym (any_view (is_meant c.args.name.now
+    (option_map (λ v. parts_of v.now) c.args.version)) package_view c.args.packages.now)

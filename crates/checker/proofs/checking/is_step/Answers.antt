@@ -17,12 +17,18 @@ returns-in-Some-Some c =
     let said_a = c.deref.result.now in
     let said_b = c.deref-in-Combination.result.now in
     let said = c.deref-in-Combination-2.result.now in
-    let first = lent c.args.earlier.now c.in-Combination.first c.get.result c.in-Some-Some.a c.get.ensures.lookup c.in-Some-Some.is-0 in
-    let second = lent c.args.earlier.now c.in-Combination.second c.get-in-Combination.result c.in-Some-Some.b c.get-in-Combination.ensures.lookup c.in-Some-Some.is-1 in
+    let first = lent c.args.earlier.now c.in-Combination.first c.get.result c.in-Some-Some.a
+    c.get.ensures.lookup c.in-Some-Some.is-0 in
+    let second = lent c.args.earlier.now c.in-Combination.second c.get-in-Combination.result c.in-Some-Some.b
+    c.get-in-Combination.ensures.lookup c.in-Some-Some.is-1 in
     c.holds.ensures
-    ∙ ap (λ m. is_combination (problem_in m c.catalogue.result.now) v (terms_at t said_a) (terms_at t said_b) (terms_at t said)) c.manifest.ensures
-    ∙ ap (λ k. is_combination (problem_in (manifest_of c.args.gathered.now) k) v (terms_at t said_a) (terms_at t said_b) (terms_at t said)) c.catalogue.ensures
+    ∙ ap (λ m. is_combination (problem_in m c.catalogue.result.now) v (terms_at t said_a) (terms_at t said_b)
+    (terms_at t said)) c.manifest.ensures
+    ∙ ap (λ k. is_combination (problem_in (manifest_of c.args.gathered.now) k) v (terms_at t said_a) (terms_at t said_b)
+    (terms_at t said)) c.catalogue.ensures
     ∙ ap (λ xs. is_combination q v (terms_at t xs) (terms_at t said_b) (terms_at t said)) c.deref.ensures.value
-    ∙ ap (λ xs. is_combination q v (terms_at t a) (terms_at t xs) (terms_at t said)) c.deref-in-Combination.ensures.value
+    ∙ ap (λ xs.
+    is_combination q v (terms_at t a) (terms_at t xs) (terms_at t said)) c.deref-in-Combination.ensures.value
     ∙ ap (λ xs. is_combination q v (terms_at t a) (terms_at t b) (terms_at t xs)) c.deref-in-Combination-2.ensures.value
-    ∙ combined_step q t c.args.earlier.now c.args.step.now c.in-Some-Some.a.now c.in-Some-Some.b.now c.in-Combination.first c.in-Combination.second c.in-Combination.vertex c.in-Combination.is first second
+    ∙ combined_step q t c.args.earlier.now c.args.step.now c.in-Some-Some.a.now c.in-Some-Some.b.now
+    c.in-Combination.first c.in-Combination.second c.in-Combination.vertex c.in-Combination.is first second

@@ -7,6 +7,8 @@ use Rattle.checker.proofs.decoding.decode.Goals as goal
 pub returns-clause-ready : goal.returns-clause-ready
 returns-clause-ready c =
     let t = c.args.tables.now in
-    let named = subst (AreNamedSteps t c.steps.decoding) (take_all c.steps.step-index c.args.steps.now c.steps-test.false) c.steps.invariant.named in
+    let named = subst (AreNamedSteps t c.steps.decoding)
+    (take_all c.steps.step-index c.args.steps.now c.steps-test.false) c.steps.invariant.named in
     all_ready t c.steps.decoding c.finish.result c.args.steps.now c.requires named
-    (IfOk-weaker c.finish.result _ _ (λ d h. h ∙ c.steps.invariant.sound.tables) c.finish.ensures.tables) c.finish.ensures.bound c.finish.ensures.sets
+    (IfOk-weaker c.finish.result _ _ (λ d h. h ∙ c.steps.invariant.sound.tables) c.finish.ensures.tables)
+    c.finish.ensures.bound c.finish.ensures.sets

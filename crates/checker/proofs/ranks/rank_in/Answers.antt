@@ -8,6 +8,9 @@ use Rattle.checker.proofs.ranks.rank_in.Goals as goal
 pub returns : goal.returns
 returns c =
     let x = c.args.text.now in
-    let parted = IsPartitionPoint-from_clause (λ y. is_lt (text_cmp y.now x)) c.args.sorted.now _ c.partition_point.ensures.partitioned (parts_by (λ y. y.now) c.args.sorted.now x c.requires) (λ a r g called. search rules) in
-    sym (count_is (λ y. is_lt (text_cmp y.now x)) c.args.sorted.now c.partition_point.result c.partition_point.ensures.bound parted)
+    let parted = IsPartitionPoint-from_clause
+    (λ y. is_lt (text_cmp y.now x)) c.args.sorted.now _ c.partition_point.ensures.partitioned
+    (parts_by (λ y. y.now) c.args.sorted.now x c.requires) (λ a r g called. search rules) in
+    sym (count_is (λ y.
+    is_lt (text_cmp y.now x)) c.args.sorted.now c.partition_point.result c.partition_point.ensures.bound parted)
     ∙ count_by (λ y. y.now) (λ y. is_lt (text_cmp y x)) c.args.sorted.now

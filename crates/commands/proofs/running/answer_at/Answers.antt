@@ -13,7 +13,8 @@ returns-clause-answer g c = record {
   given = option_copied c.slice_if-given.result;
   given_is = c.slice_if-given.ensures;
   from = c.in_ok-from.from;
-  source_is = source_with (text_if c.args.source) c.in_ok-from.from c.in_ok-text.text.now c.in_ok-from.ensures c.in_ok-text.ensures.source;
+  source_is = source_with
+      (text_if c.args.source) c.in_ok-from.from c.in_ok-text.text.now c.in_ok-from.ensures c.in_ok-text.ensures.source;
   prefer = c.preference-prefer.result;
   prefer_is = c.preference-prefer.ensures;
   folder = c.in_ok-folder.folder;
@@ -25,17 +26,37 @@ returns-clause-answer g c = record {
 pub returns-in_err-old-clause-lacks : goal.returns-in_err-old-clause-lacks
 returns-in_err-old-clause-lacks g c =
     let p = err_from_is_err_and c.from_residual-in_err-old.result c.from_residual-in_err-old.ensures.1 in
-    rw (p.1, p.2) (inr (inl (((c.in_ok-text.text.now, c.in_ok-text.ensures.source), (c.in_ok-bytes.bytes, c.in_ok-bytes.ensures)), c.in_err-old.ensures)))
+    rw (p.1, p.2) (inr (inl (
+      (
+        (c.in_ok-text.text.now, c.in_ok-text.ensures.source),
+        (c.in_ok-bytes.bytes, c.in_ok-bytes.ensures),
+      ),
+      c.in_err-old.ensures,
+    )))
 
 pub returns-in_err-from-clause-lacks : goal.returns-in_err-from-clause-lacks
 returns-in_err-from-clause-lacks g c =
     let p = err_from_is_err_and c.from_residual-in_err-from.result c.from_residual-in_err-from.ensures.1 in
-    rw p.1 (inr (inr (inl (((c.in_ok-text.text.now, c.in_ok-text.ensures.source), (c.in_ok-bytes.bytes, c.in_ok-bytes.ensures)), (c.in_ok-old.old, c.in_ok-old.ensures), p.2))))
+    rw p.1 (inr (inr (inl (
+      (
+        (c.in_ok-text.text.now, c.in_ok-text.ensures.source),
+        (c.in_ok-bytes.bytes, c.in_ok-bytes.ensures),
+      ),
+      (c.in_ok-old.old, c.in_ok-old.ensures),
+      p.2,
+    ))))
 
 pub returns-in_err-folder-clause-lacks : goal.returns-in_err-folder-clause-lacks
 returns-in_err-folder-clause-lacks g c =
     let p = err_from_is_err_and c.from_residual-in_err-folder.result c.from_residual-in_err-folder.ensures.1 in
-    rw p.1 (inr (inr (inl (((c.in_ok-text.text.now, c.in_ok-text.ensures.source), (c.in_ok-bytes.bytes, c.in_ok-bytes.ensures)), (c.in_ok-old.old, c.in_ok-old.ensures), p.2))))
+    rw p.1 (inr (inr (inl (
+      (
+        (c.in_ok-text.text.now, c.in_ok-text.ensures.source),
+        (c.in_ok-bytes.bytes, c.in_ok-bytes.ensures),
+      ),
+      (c.in_ok-old.old, c.in_ok-old.ensures),
+      p.2,
+    ))))
 
 pub returns-in_err-answer-clause-lacks : goal.returns-in_err-answer-clause-lacks
 returns-in_err-answer-clause-lacks g c =
@@ -50,7 +71,8 @@ returns-in_err-answer-clause-lacks g c =
         given = option_copied c.slice_if-given.result;
         given_is = c.slice_if-given.ensures;
         from = c.in_ok-from.from;
-        source_is = source_with (text_if c.args.source) c.in_ok-from.from c.in_ok-text.text.now c.in_ok-from.ensures c.in_ok-text.ensures.source;
+        source_is = source_with (text_if c.args.source) c.in_ok-from.from c.in_ok-text.text.now c.in_ok-from.ensures
+            c.in_ok-text.ensures.source;
         prefer = c.preference-prefer.result;
         prefer_is = c.preference-prefer.ensures;
         folder = c.in_ok-folder.folder;

@@ -10,15 +10,18 @@ returns-in-Ok-clause-answers g c =
     let told = told_of answer given.status in
     rw c.in-Resolve.is (
       told,
-      three_if_ok given.status (λ status printed filed is_told. (answer, c.in-Ok.ensures.answer, printed, filed, is_told))
-          c.print_answer.ensures.printed c.print_answer.ensures.filed (ok_with given.status (λ r. told ≡ told_of answer r) refl),
+      three_if_ok given.status
+          (λ status printed filed is_told. (answer, c.in-Ok.ensures.answer, printed, filed, is_told))
+          c.print_answer.ensures.printed c.print_answer.ensures.filed
+          (ok_with given.status (λ r. told ≡ told_of answer r) refl),
       both_if_err given.status (λ ending unwritten is_told. inr (answer, c.in-Ok.ensures.answer, unwritten, is_told))
           c.print_answer.ensures.unwritten (err_with given.status (λ r. told ≡ told_of answer r) refl),
       c.print_answer.ensures.told,
     )
 
 pub returns-in-Err-clause-answers : goal.returns-in-Err-clause-answers
-returns-in-Err-clause-answers g c = rw (c.in-Resolve.is, c.quiet-in-Err.ensures.status) ([], tt, inl (c.in-Err.ensures.lacks, refl, refl), (c.quiet-in-Err.ensures.told, refl))
+returns-in-Err-clause-answers g c = rw (c.in-Resolve.is, c.quiet-in-Err.ensures.status)
+    ([], tt, inl (c.in-Err.ensures.lacks, refl, refl), (c.quiet-in-Err.ensures.told, refl))
 
 pub returns-in-Verify-clause-answers : goal.returns-in-Verify-clause-answers
 returns-in-Verify-clause-answers g c = rw (c.in-Verify.is, c.quiet.ensures.status) (

@@ -12,4 +12,10 @@ returns-clause-derivation g c = record {
 pub returns-in_err-derivation-clause-lacks : goal.returns-in_err-derivation-clause-lacks
 returns-in_err-derivation-clause-lacks g c =
     let p = err_from_is_err_and c.from_residual-in_err-derivation.result c.from_residual-in_err-derivation.ensures.1 in
-    rw p.1 (inr (inl (c.in_ok-bytes.bytes, c.in_err-derivation.field-0.0, c.in_ok-bytes.ensures, rw (sym c.as_slice.ensures.value) c.in_err-derivation.ensures, p.2)))
+    rw p.1 (inr (inl (
+      c.in_ok-bytes.bytes,
+      c.in_err-derivation.field-0.0,
+      c.in_ok-bytes.ensures,
+      rw (sym c.as_slice.ensures.value) c.in_err-derivation.ensures,
+      p.2,
+    )))

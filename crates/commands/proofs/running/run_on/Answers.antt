@@ -17,9 +17,11 @@ returns-in-Ok g c =
       answers = answered.1;
       ends = answered.2;
       ended_before = c.answered-status.ensures.ended_before;
-      ended = tells-then g.E.Stream.contents g.E.Stream.fails answered.0 (ending_of c.answered-status.result.status) c.args.err.now c.answered-status.new.err c.finish-status.new.err
+      ended = tells-then g.E.Stream.contents g.E.Stream.fails answered.0
+          (ending_of c.answered-status.result.status) c.args.err.now c.answered-status.new.err c.finish-status.new.err
           c.answered-status.result.told c.finish-status.result.1 answered.3 c.finish-status.ensures.told;
     })
 
 pub returns-in-Err : goal.returns-in-Err
-returns-in-Err g c = inr (c.in-Err.fault, c.in-Err.ensures.fault, c.without_words.ensures.printed, c.without_words.ensures.told, refl)
+returns-in-Err g c =
+    inr (c.in-Err.fault, c.in-Err.ensures.fault, c.without_words.ensures.printed, c.without_words.ensures.told, refl)

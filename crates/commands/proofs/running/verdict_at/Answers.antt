@@ -11,7 +11,8 @@ returns-clause-verdict g c = record {
   locked = c.in_ok-locked.locked;
   lock_read = c.in_ok-locked.ensures;
   from = c.in_ok-from.from;
-  source_is = source_with (text_if c.args.source) c.in_ok-from.from c.in_ok-text.text.now c.in_ok-from.ensures c.in_ok-text.ensures.source;
+  source_is = source_with
+      (text_if c.args.source) c.in_ok-from.from c.in_ok-text.text.now c.in_ok-from.ensures c.in_ok-text.ensures.source;
   folder = c.in_ok-folder.folder;
   opened = c.in_ok-folder.ensures;
   after = c.verify_bytes.new.folder;
@@ -21,17 +22,43 @@ returns-clause-verdict g c = record {
 pub returns-in_err-locked-clause-lacks : goal.returns-in_err-locked-clause-lacks
 returns-in_err-locked-clause-lacks g c =
     let p = err_from_is_err_and c.from_residual-in_err-locked.result c.from_residual-in_err-locked.ensures.1 in
-    rw (p.1, p.2) (inr (inl (((c.in_ok-text.text.now, c.in_ok-text.ensures.source), (c.in_ok-bytes.bytes, c.in_ok-bytes.ensures)), c.in_err-locked.ensures)))
+    rw (p.1, p.2) (inr (inl (
+      (
+        (c.in_ok-text.text.now, c.in_ok-text.ensures.source),
+        (c.in_ok-bytes.bytes, c.in_ok-bytes.ensures),
+      ),
+      c.in_err-locked.ensures,
+    )))
 
 pub returns-in_err-from-clause-lacks : goal.returns-in_err-from-clause-lacks
 returns-in_err-from-clause-lacks g c =
     let p = err_from_is_err_and c.from_residual-in_err-from.result c.from_residual-in_err-from.ensures.1 in
-    rw p.1 (inr (inr (inl (((c.in_ok-text.text.now, c.in_ok-text.ensures.source), (c.in_ok-bytes.bytes, c.in_ok-bytes.ensures)), (c.in_ok-locked.locked, c.in_ok-locked.ensures), p.2))))
+    rw p.1 (inr (inr (inl (
+      (
+        (c.in_ok-text.text.now, c.in_ok-text.ensures.source),
+        (
+          c.in_ok-bytes.bytes,
+          c.in_ok-bytes.ensures,
+        ),
+      ),
+      (c.in_ok-locked.locked, c.in_ok-locked.ensures),
+      p.2,
+    ))))
 
 pub returns-in_err-folder-clause-lacks : goal.returns-in_err-folder-clause-lacks
 returns-in_err-folder-clause-lacks g c =
     let p = err_from_is_err_and c.from_residual-in_err-folder.result c.from_residual-in_err-folder.ensures.1 in
-    rw p.1 (inr (inr (inl (((c.in_ok-text.text.now, c.in_ok-text.ensures.source), (c.in_ok-bytes.bytes, c.in_ok-bytes.ensures)), (c.in_ok-locked.locked, c.in_ok-locked.ensures), p.2))))
+    rw p.1 (inr (inr (inl (
+      (
+        (c.in_ok-text.text.now, c.in_ok-text.ensures.source),
+        (
+          c.in_ok-bytes.bytes,
+          c.in_ok-bytes.ensures,
+        ),
+      ),
+      (c.in_ok-locked.locked, c.in_ok-locked.ensures),
+      p.2,
+    ))))
 
 pub returns-in_err-verdict-clause-lacks : goal.returns-in_err-verdict-clause-lacks
 returns-in_err-verdict-clause-lacks g c =
@@ -44,7 +71,8 @@ returns-in_err-verdict-clause-lacks g c =
         locked = c.in_ok-locked.locked;
         lock_read = c.in_ok-locked.ensures;
         from = c.in_ok-from.from;
-        source_is = source_with (text_if c.args.source) c.in_ok-from.from c.in_ok-text.text.now c.in_ok-from.ensures c.in_ok-text.ensures.source;
+        source_is = source_with (text_if c.args.source) c.in_ok-from.from c.in_ok-text.text.now c.in_ok-from.ensures
+            c.in_ok-text.ensures.source;
         folder = c.in_ok-folder.folder;
         opened = c.in_ok-folder.ensures;
         after = c.verify_bytes.new.folder;

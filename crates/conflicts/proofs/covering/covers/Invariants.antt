@@ -9,4 +9,5 @@ use Rattle.conflicts.proofs.covering.covers.Given as goal
 abbrev pub invariant-terms : goal.invariant-terms
 invariant-terms g l =
     let ts = terms_view g.S.States.tests l.list in
-    (i : ℕ) → i < l.term-index → CoversAt (states_at (terms_view g.S.States.tests l.old) (term_at ts i).vertex) (Some (term_at ts i).states)
+    (i : ℕ) → i < l.term-index
+    → CoversAt (states_at (terms_view g.S.States.tests l.old) (term_at ts i).vertex) (Some (term_at ts i).states)

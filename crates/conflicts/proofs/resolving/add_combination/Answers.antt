@@ -8,5 +8,7 @@ pub is_watched-watched-requires-clause-lies : goal.is_watched-watched-requires-c
 is_watched-watched-requires-clause-lies g c =
     let t = trail_view g.S.States.tests c.args.trail.now in
     c.in_ok-made.ensures.spaces (space_of t)
-    (subst (λ (ts : List TermView). LiesIn (space_of t) (states_at ts)) (sym c.get.ensures.value) (c.requires.trail.lies c.args.first c.requires.first))
-    (subst (λ (ts : List TermView). LiesIn (space_of t) (states_at ts)) (sym c.get-2.ensures.value) (c.requires.trail.lies c.args.second c.requires.second))
+    (subst (λ (ts : List TermView). LiesIn (space_of t) (states_at ts)) (sym c.get.ensures.value)
+    (c.requires.trail.lies c.args.first c.requires.first))
+    (subst (λ (ts : List TermView). LiesIn (space_of t) (states_at ts)) (sym c.get-2.ensures.value)
+    (c.requires.trail.lies c.args.second c.requires.second))

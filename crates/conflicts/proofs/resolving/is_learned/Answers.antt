@@ -10,7 +10,8 @@ pub returns-then-is_empty : goal.returns-then-is_empty
 returns-then-is_empty g c =
     let tests = g.S.States.tests in
     let empty : length c.terms.result.now ≡ 0 = search rules in
-    let none : terms_view tests c.args.incompatibility.now ≡ [] = ap (terms_view tests) (sym c.terms.ensures.terms ∙ no_items c.terms.result.now empty) in
+    let none : terms_view tests c.args.incompatibility.now ≡ [] =
+    ap (terms_view tests) (sym c.terms.ensures.terms ∙ no_items c.terms.result.now empty) in
     none_learned (trail_view tests c.args.trail.now) (terms_view tests c.args.incompatibility.now) _ none
 
 pub returns : goal.returns

@@ -12,4 +12,5 @@ returns-in-Some g c =
     let t = trail_view tests c.args.trail.now in
     let s = c.in-Some.found in
     let found : IsFound es t c.args.id (Some s) = subst (IsFound es t c.args.id) c.in-Some.is c.satisfier_of.ensures in
-    on_true c.is_at_top.result (λ top. start_instead es t c.args.id s c.requires.trail c.requires.within c.requires.satisfied found top.0 (top.1 ∙ c.level.ensures)) c.is_at_top.ensures
+    on_true c.is_at_top.result (λ top. start_instead es t c.args.id s c.requires.trail c.requires.within
+    c.requires.satisfied found top.0 (top.1 ∙ c.level.ensures)) c.is_at_top.ensures

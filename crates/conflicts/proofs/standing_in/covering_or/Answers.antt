@@ -10,9 +10,12 @@ use Rattle.conflicts.proofs.standing_in.covering_or.Goals as goal
 pub covers-requires : goal.covers-requires
 covers-requires g c =
     let space = c.requires.lies.0 in
-    lies_fit space (states_at (terms_view g.S.States.tests c.get.result.now)) (states_at (terms_view g.S.States.tests c.get-2.result.now))
-    (subst (λ (ts : List TermView). LiesIn space (states_at ts)) (sym c.get.ensures.value) (c.requires.lies.1 c.args.id c.requires.within))
-    (subst (λ (ts : List TermView). LiesIn space (states_at ts)) (sym c.get-2.ensures.value) (c.requires.lies.1 c.args.other (search rules)))
+    lies_fit space (states_at (terms_view g.S.States.tests c.get.result.now))
+    (states_at (terms_view g.S.States.tests c.get-2.result.now))
+    (subst (λ (ts : List TermView). LiesIn space (states_at ts)) (sym c.get.ensures.value)
+    (c.requires.lies.1 c.args.id c.requires.within))
+    (subst (λ (ts : List TermView). LiesIn space (states_at ts)) (sym c.get-2.ensures.value)
+    (c.requires.lies.1 c.args.other (search rules)))
 
 pub returns-then-covers-clause-covers : goal.returns-then-covers-clause-covers
 returns-then-covers-clause-covers g c =
@@ -20,12 +23,14 @@ returns-then-covers-clause-covers g c =
     let es = entries_view tests c.args.store.now in
     let one = terms_view tests c.get.result.now in
     let two = terms_view tests c.get-2.result.now in
-    let is : Covers (states_at one) (states_at two) = subst (λ b. OnTrue b (Covers (states_at one) (states_at two))) c.if-covers.true c.covers.ensures in
+    let is : Covers (states_at one) (states_at two) =
+    subst (λ b. OnTrue b (Covers (states_at one) (states_at two))) c.if-covers.true c.covers.ensures in
     subst (λ (ts : List TermView). Covers (states_at ts) (terms_of es c.args.other)) c.get.ensures.value
     (subst (λ (ts : List TermView). Covers (states_at one) (states_at ts)) c.get-2.ensures.value is)
 
 pub returns-then-index-len-clause-covers : goal.returns-then-index-len-clause-covers
-returns-then-index-len-clause-covers g c = covers_itself (terms_of (entries_view g.S.States.tests c.args.store.now) c.args.id)
+returns-then-index-len-clause-covers g c =
+    covers_itself (terms_of (entries_view g.S.States.tests c.args.store.now) c.args.id)
 
 pub returns-clause-covers : goal.returns-clause-covers
 returns-clause-covers g c = covers_itself (terms_of (entries_view g.S.States.tests c.args.store.now) c.args.id)

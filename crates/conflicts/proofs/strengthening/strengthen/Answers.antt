@@ -20,8 +20,10 @@ with_units-requires-clause-lies g c = let view = entries_view g.S.States.tests i
 
 pub returns : goal.returns
 returns g c = let view = entries_view g.S.States.tests in
-    strengthened_again (view c.args.store.now) (view c.prepare.new.store) (view c.with_units.new.store) c.in_ok-prepare.ensures c.in_ok-made.ensures.strengthened
+    strengthened_again (view c.args.store.now) (view c.prepare.new.store)
+    (view c.with_units.new.store) c.in_ok-prepare.ensures c.in_ok-made.ensures.strengthened
 
 pub returns-in_err-made : goal.returns-in_err-made
 returns-in_err-made g c = let view = entries_view g.S.States.tests in
-    strengthened_again (view c.args.store.now) (view c.prepare.new.store) (view c.with_units.new.store) c.prepare.ensures c.with_units.ensures.strengthened
+    strengthened_again (view c.args.store.now) (view c.prepare.new.store)
+    (view c.with_units.new.store) c.prepare.ensures c.with_units.ensures.strengthened

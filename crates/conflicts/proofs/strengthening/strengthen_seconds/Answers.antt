@@ -11,8 +11,10 @@ strengthen_second-requires g c = let view = entries_view g.S.States.tests in
 
 pub gained-preserved : goal.gained-preserved
 gained-preserved g c = let view = entries_view g.S.States.tests in
-    strengthened_again (view c.args.store.now) (view c.gained.store) (view c.strengthen_second.new.store) c.gained.invariant c.in_ok-strengthen_second.ensures
+    strengthened_again (view c.args.store.now) (view c.gained.store)
+    (view c.strengthen_second.new.store) c.gained.invariant c.in_ok-strengthen_second.ensures
 
 pub returns-in_err-strengthen_second : goal.returns-in_err-strengthen_second
 returns-in_err-strengthen_second g c = let view = entries_view g.S.States.tests in
-    strengthened_again (view c.args.store.now) (view c.gained.store) (view c.strengthen_second.new.store) c.gained.invariant c.strengthen_second.ensures
+    strengthened_again (view c.args.store.now) (view c.gained.store)
+    (view c.strengthen_second.new.store) c.gained.invariant c.strengthen_second.ensures

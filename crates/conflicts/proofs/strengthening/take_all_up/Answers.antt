@@ -11,8 +11,10 @@ take_up-requires g c = let view = entries_view g.S.States.tests in
 
 pub places-preserved : goal.places-preserved
 places-preserved g c = let view = entries_view g.S.States.tests in
-    strengthened_again (view c.args.store.now) (view c.places.store) (view c.take_up.new.store) c.places.invariant c.in_ok-take_up.ensures
+    strengthened_again (view c.args.store.now) (view c.places.store)
+    (view c.take_up.new.store) c.places.invariant c.in_ok-take_up.ensures
 
 pub returns-in_err-take_up : goal.returns-in_err-take_up
 returns-in_err-take_up g c = let view = entries_view g.S.States.tests in
-    strengthened_again (view c.args.store.now) (view c.places.store) (view c.take_up.new.store) c.places.invariant c.take_up.ensures
+    strengthened_again (view c.args.store.now) (view c.places.store)
+    (view c.take_up.new.store) c.places.invariant c.take_up.ensures

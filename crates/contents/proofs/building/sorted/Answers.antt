@@ -13,5 +13,7 @@ returns-clause-permutes c = IsPermutation-map placed_view _ _ c.in_ok-sort_by.en
 
 pub returns-clause-order : goal.returns-clause-order
 returns-clause-order c =
-    let sorted = c.in_ok-sort_by.ensures.sorted (λ x y. is_lt (package_cmp (package_view x.locked) (package_view y.locked))) (ranks_by package_total (λ k. package_view k.locked)) (answers_always _ _ _ (λ f a r g called. search rules)) in
+    let sorted =
+    c.in_ok-sort_by.ensures.sorted (λ x y. is_lt (package_cmp (package_view x.locked) (package_view y.locked)))
+    (ranks_by package_total (λ k. package_view k.locked)) (answers_always _ _ _ (λ f a r g called. search rules)) in
     in_order _ _ c.requires (IsPermutation-map placed_view _ _ c.in_ok-sort_by.ensures.permutation) sorted

@@ -11,8 +11,10 @@ pub index_mut-requires : goal.index_mut-requires
 index_mut-requires c =
     let ks = c.args.kept.now in
     let k = c.index-kept-rank.result in
-    let at = map_at (λ k. k.1) (placed_views ks) c.kept.rank (placed_view k) (map_at placed_view ks c.kept.rank k (slice_get-get_or ks c.kept.rank k c.kept-test.true ∙ ap Some (sym c.index-kept-rank.is))) in
-    let below = all_get (λ n. n < c.args.count) (places_in (placed_views ks)) c.kept.rank k.place c.requires.within at in
+    let at = map_at (λ k. k.1) (placed_views ks) c.kept.rank (placed_view k) (map_at placed_view ks c.kept.rank k
+    (slice_get-get_or ks c.kept.rank k c.kept-test.true ∙ ap Some (sym c.index-kept-rank.is))) in
+    let below =
+    all_get (λ n. n < c.args.count) (places_in (placed_views ks)) c.kept.rank k.place c.requires.within at in
     let many = c.kept.invariant.many in
     omega (arith, below, many)
 
@@ -20,11 +22,15 @@ pub kept-preserved : goal.kept-preserved
 kept-preserved c =
     let ks = c.args.kept.now in
     let k = c.index-kept-rank.result in
-    let at = map_at (λ k. k.1) (placed_views ks) c.kept.rank (placed_view k) (map_at placed_view ks c.kept.rank k (slice_get-get_or ks c.kept.rank k c.kept-test.true ∙ ap Some (sym c.index-kept-rank.is))) in
-    let below = all_get (λ n. n < c.args.count) (places_in (placed_views ks)) c.kept.rank k.place c.requires.within at in
-    one_rank (places_in (placed_views ks)) c.args.count c.kept.rank k.place c.kept.ranks.items c.requires.apart at below c.kept.invariant
+    let at = map_at (λ k. k.1) (placed_views ks) c.kept.rank (placed_view k) (map_at placed_view ks c.kept.rank k
+    (slice_get-get_or ks c.kept.rank k c.kept-test.true ∙ ap Some (sym c.index-kept-rank.is))) in
+    let below =
+    all_get (λ n. n < c.args.count) (places_in (placed_views ks)) c.kept.rank k.place c.requires.within at in
+    one_rank (places_in (placed_views ks)) c.args.count c.kept.rank k.place c.kept.ranks.items c.requires.apart
+    at below c.kept.invariant
 
 pub returns : goal.returns
 returns c =
     let test = c.kept-test.false in
-    ranks_are (places_in (placed_views c.args.kept.now)) c.args.count c.kept.rank c.kept.ranks.items c.kept.invariant (rw (length-map, length-map) (omega (arith, test)))
+    ranks_are (places_in (placed_views c.args.kept.now)) c.args.count c.kept.rank c.kept.ranks.items c.kept.invariant
+    (rw (length-map, length-map) (omega (arith, test)))

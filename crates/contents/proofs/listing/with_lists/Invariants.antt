@@ -12,6 +12,7 @@ invariant-kept l =
       can : (goal.iterator-kept).can_next l.kept-iterator;
       finite : (goal.iterator-kept).is_finite l.kept-iterator;
       counted : into_iter_len l.kept-iterator ≡ length (into_iter_items l.kept-iterator);
-      told : (done : List Placed) × (done ++ placed_views (into_iter_items l.kept-iterator) ≡ placed_views l.fn.kept.items)
+      told : (done : List Placed)
+          × (done ++ placed_views (into_iter_items l.kept-iterator) ≡ placed_views l.fn.kept.items)
           × HaveLists (node_views l.nodes) (map (λ v. v.items) l.enabled) l.ranks done (package_views l.packages.items);
     }

@@ -6,4 +6,5 @@ use Rattle.derivations.proofs.earlier.have_texts.Given as goal
 
 -- what is left has its texts just where all has
 abbrev pub invariant-values : goal.invariant-values
-invariant-values l = HaveTexts (trees_view (drop l.index l.values.items)) (states_at l.tables (drop l.index l.numbers)) → HaveTexts (trees_view l.values.items) (states_at l.tables l.numbers)
+invariant-values l = HaveTexts (trees_view (drop l.index l.values.items)) (states_at l.tables (drop l.index l.numbers))
+    → HaveTexts (trees_view l.values.items) (states_at l.tables l.numbers)

@@ -13,5 +13,6 @@ invariant-states l =
       counted : into_iter_len l.state-iterator ≡ length (into_iter_items l.state-iterator);
       grown : IsGrown l.fn.tables l.tables;
       within : AreStatesOf l.tables l.kept.items;
-      told : states_at l.tables l.kept.items ++ state_views (into_iter_items l.state-iterator) ≡ state_views l.fn.states.items;
+      told : states_at l.tables l.kept.items ++ state_views (into_iter_items l.state-iterator)
+          ≡ state_views l.fn.states.items;
     }

@@ -13,5 +13,7 @@ returns-then-is_sorted_by-clause-same c = IsPermutation-refl _
 
 pub returns-then-is_sorted_by-clause-terms : goal.returns-then-is_sorted_by-clause-terms
 returns-then-is_sorted_by-clause-terms c t =
-    let cases = c.is_sorted_by.ensures.cases (λ x y. is_lt (written_cmp (written_view t x) (written_view t y))) (answers_always _ _ _ (λ f a r g called. search (rules, is_lt_index))) in
-    ordered-ok written_total (written_view t) c.args.terms.items c.args.terms.items (IsPermutation-refl _) _ c.if-is_sorted_by.true (rw c.deref.ensures.value at cases)
+    let cases = c.is_sorted_by.ensures.cases (λ x y. is_lt (written_cmp (written_view t x) (written_view t y)))
+    (answers_always _ _ _ (λ f a r g called. search (rules, is_lt_index))) in
+    ordered-ok written_total (written_view t) c.args.terms.items c.args.terms.items
+    (IsPermutation-refl _) _ c.if-is_sorted_by.true (rw c.deref.ensures.value at cases)

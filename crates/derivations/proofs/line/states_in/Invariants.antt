@@ -7,4 +7,5 @@ use Rattle.derivations.proofs.line.states_in.Given as goal
 
 -- the states so far and those of what is left are those of all
 abbrev pub invariant-items : goal.invariant-items
-invariant-items l = with_front (state_views l.found.items) (states_in (vertex_view l.vertex) (trees_view (drop l.value-index l.values.items))) ≡ states_in (vertex_view l.vertex) (trees_view l.values.items)
+invariant-items l = with_front (state_views l.found.items) (states_in (vertex_view l.vertex)
+    (trees_view (drop l.value-index l.values.items))) ≡ states_in (vertex_view l.vertex) (trees_view l.values.items)

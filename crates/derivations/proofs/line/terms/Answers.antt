@@ -9,13 +9,16 @@ use Rattle.derivations.proofs.line.terms.Goals as goal
 pub returns-clause-within : goal.returns-clause-within
 returns-clause-within c =
     rw (c.in_ok-without_texts.ensures, c.deref.ensures.value)
-    (sorted-within c.terms_in.new.tables c.in_ok-written.written.items c.in_ok-sorted.sorted.items c.in_ok-sorted.ensures.same c.in_ok-written.ensures.within)
+    (sorted-within c.terms_in.new.tables c.in_ok-written.written.items c.in_ok-sorted.sorted.items
+    c.in_ok-sorted.ensures.same c.in_ok-written.ensures.within)
 
 pub returns-clause-terms : goal.returns-clause-terms
 unfolding terms_of
 returns-clause-terms c =
     let t = c.terms_in.new.tables in
-    let dropped : terms_at t c.in_ok-without_texts.field-0.items ≡ terms_without_texts (written_views t c.in_ok-sorted.sorted.items)
+    let dropped : terms_at t c.in_ok-without_texts.field-0.items
+    ≡ terms_without_texts (written_views t c.in_ok-sorted.sorted.items)
     = rw (c.in_ok-without_texts.ensures, c.deref.ensures.value) (texts-dropped t c.in_ok-sorted.sorted.items) in
-    let sorted : ordered written_cmp (written_views t c.in_ok-written.written.items) ≡ Ok (written_views t c.in_ok-sorted.sorted.items) = c.in_ok-sorted.ensures.terms t in
+    let sorted : ordered written_cmp (written_views t c.in_ok-written.written.items)
+    ≡ Ok (written_views t c.in_ok-sorted.sorted.items) = c.in_ok-sorted.ensures.terms t in
     search rules

@@ -18,16 +18,20 @@ items-preserved c =
     let t = c.term.new.tables in
     let w = c.in_ok-term.field-0 in
     let rest = trees_view (drop (c.items.value-index + 1) c.args.values.now.items) in
-    let more = more-written c.items.tables t c.in_ok-term.ensures.grown c.items.found.items w (written_view t w) c.items.invariant.within c.in_ok-term.ensures.within refl in
+    let more = more-written c.items.tables t c.in_ok-term.ensures.grown c.items.found.items w
+    (written_view t w) c.items.invariant.within c.in_ok-term.ensures.within refl in
     let values = c.args.values.now.items in
     let i = c.items.value-index in
     let below : i < length values = search rules in
     let same : c.value-item.result ≡ get_or values i c.value-item.result = search rules in
-    let item : drop i values ≡ c.value-item.result ∷ drop (i + 1) values = drop_more values i c.value-item.result below ∙ ap (λ x. x ∷ drop (i + 1) values) (sym same) in
-    let read : terms_in (trees_view (drop i values)) ≡ terms_in rest >>= (λ others. Ok (written_view t w ∷ others)) = rw (item, c.in_ok-term.ensures.term) refl in
+    let item : drop i values ≡ c.value-item.result ∷ drop (i + 1) values =
+    drop_more values i c.value-item.result below ∙ ap (λ x. x ∷ drop (i + 1) values) (sym same) in
+    let read : terms_in (trees_view (drop i values)) ≡ terms_in rest >>= (λ others. Ok (written_view t w ∷ others)) =
+    rw (item, c.in_ok-term.ensures.term) refl in
     record {
       grown = grown-trans c.args.tables.now c.items.tables t c.items.invariant.grown c.in_ok-term.ensures.grown;
       within = rw c.in_ok-push.ensures.items more.0;
       told = rw (c.in_ok-push.ensures.items, more.1)
-          (with_front-next (written_views c.items.tables c.items.found.items) (written_view t w) (terms_in rest) _ (ap (with_front (written_views c.items.tables c.items.found.items)) (sym read) ∙ c.items.invariant.told));
+          (with_front-next (written_views c.items.tables c.items.found.items) (written_view t w) (terms_in rest) _ (ap
+          (with_front (written_views c.items.tables c.items.found.items)) (sym read) ∙ c.items.invariant.told));
     }

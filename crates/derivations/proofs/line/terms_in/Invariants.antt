@@ -12,5 +12,6 @@ invariant-items l =
     record {
       grown : IsGrown l.fn.tables l.tables;
       within : AreTermsOf l.tables (map written_term l.found.items);
-      told : with_front (written_views l.tables l.found.items) (terms_in (trees_view (drop l.value-index l.values.items))) ≡ terms_in (trees_view l.values.items);
+      told : with_front (written_views l.tables l.found.items)
+          (terms_in (trees_view (drop l.value-index l.values.items))) ≡ terms_in (trees_view l.values.items);
     }

@@ -10,5 +10,7 @@ use Rattle.derivations.proofs.named.ordered_states.Goals as goal
 
 pub returns-then-is_sorted_by : goal.returns-then-is_sorted_by
 returns-then-is_sorted_by c =
-    let cases = c.is_sorted_by.ensures.cases (λ x y. is_lt (state_cmp (state_ref_view x) (state_ref_view y))) (answers_always _ _ _ (λ f a r g called. search (rules, is_lt_index))) in
-    sym (ordered-run state_total state_ref_view c.args.states.now c.args.states.now (IsPermutation-refl _) _ c.if-is_sorted_by.true cases).1
+    let cases = c.is_sorted_by.ensures.cases (λ x y. is_lt (state_cmp (state_ref_view x) (state_ref_view y)))
+    (answers_always _ _ _ (λ f a r g called. search (rules, is_lt_index))) in
+    sym (ordered-run state_total state_ref_view c.args.states.now c.args.states.now
+    (IsPermutation-refl _) _ c.if-is_sorted_by.true cases).1

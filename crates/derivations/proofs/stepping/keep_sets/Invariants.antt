@@ -13,5 +13,6 @@ invariant-terms l =
       counted : into_iter_len l.term-iterator ≡ length (into_iter_items l.term-iterator);
       grown : IsGrown l.fn.tables l.tables;
       within : AreTermsOf l.tables l.kept.items;
-      told : terms_at l.tables l.kept.items ++ set_in_order_views (into_iter_items l.term-iterator) ≡ set_in_order_views l.fn.terms.items;
+      told : terms_at l.tables l.kept.items ++ set_in_order_views (into_iter_items l.term-iterator)
+          ≡ set_in_order_views l.fn.terms.items;
     }

@@ -5,4 +5,5 @@ use Rattle.derivations.proofs.stepping.keep_states.Given as goal
 
 -- the numbers so far stand for the states so far
 abbrev pub invariant-states : goal.invariant-states
-invariant-states l = IsGrown l.fn.tables l.tables × AreStatesOf l.tables l.kept.items × (states_at l.tables l.kept.items ≡ state_ref_views (take l.state-index l.states))
+invariant-states l = IsGrown l.fn.tables l.tables × AreStatesOf l.tables l.kept.items
+    × (states_at l.tables l.kept.items ≡ state_ref_views (take l.state-index l.states))

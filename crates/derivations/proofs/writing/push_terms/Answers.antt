@@ -4,4 +4,5 @@ use Rattle.derivations.proofs.Commas.{all-written}
 use Rattle.derivations.proofs.writing.push_terms.Goals as goal
 
 pub returns : goal.returns
-returns c = all-written term_json (term_at c.args.tables.now) _ _ c.terms.later c.terms.term-index c.args.terms.now c.terms-test.false c.terms.invariant
+returns c = all-written term_json (term_at c.args.tables.now) _ _ c.terms.later c.terms.term-index c.args.terms.now
+    c.terms-test.false c.terms.invariant

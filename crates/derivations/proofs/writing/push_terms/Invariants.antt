@@ -6,4 +6,5 @@ use Rattle.derivations.proofs.writing.push_terms.Given as goal
 
 -- what is written, with what is left, is the whole
 abbrev pub invariant-terms : goal.invariant-terms
-invariant-terms l = string_bytes l.text ++ separated term_json l.later (terms_at l.tables (drop l.term-index l.terms)) ≡ string_bytes l.fn.text ++ separated term_json false (terms_at l.tables l.terms)
+invariant-terms l = string_bytes l.text ++ separated term_json l.later (terms_at l.tables (drop l.term-index l.terms))
+    ≡ string_bytes l.fn.text ++ separated term_json false (terms_at l.tables l.terms)

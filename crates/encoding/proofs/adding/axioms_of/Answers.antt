@@ -12,14 +12,16 @@ pub instances-requires-clause-there : goal.instances-requires-clause-there
 instances-requires-clause-there g c =
     let q = problem c.args.inputs.now in
     let p : Pair = (vertex_ref_view c.args.vertex, state_ref_view c.args.state) in
-    causes_there q p (cause_views c.as_slice.result.now) (subst (λ l. AreCausesAt q p (cause_views l)) (sym c.as_slice.ensures.keys) c.in_ok-causes.ensures)
+    causes_there q p (cause_views c.as_slice.result.now)
+    (subst (λ l. AreCausesAt q p (cause_views l)) (sym c.as_slice.ensures.keys) c.in_ok-causes.ensures)
 
 pub returns-clause-given : goal.returns-clause-given
 returns-clause-given g c =
     let q = problem c.args.inputs.now in
     let p : Pair = (vertex_ref_view c.args.vertex, state_ref_view c.args.state) in
     let cs = cause_views c.as_slice.result.now in
-    IfOk-weaker c.instances.result (λ xs. AreGiven q c.instances.new.table cs (given_views g.S.States.tests xs.items)) (λ xs. IsGivenAt q c.instances.new.table p (given_views g.S.States.tests xs.items))
+    IfOk-weaker c.instances.result (λ xs. AreGiven q c.instances.new.table cs (given_views g.S.States.tests xs.items))
+    (λ xs. IsGivenAt q c.instances.new.table p (given_views g.S.States.tests xs.items))
     (λ xs are. record {
       causes = cs;
       are = subst (λ l. AreCausesAt q p (cause_views l)) (sym c.as_slice.ensures.keys) c.in_ok-causes.ensures;

@@ -12,5 +12,6 @@ invariant-causes g l = record {
   grown : IsGrown l.fn.table l.table;
   numbering : IsNumbering (problem l.fn.inputs) l.table;
   only : AddsOnly (IsSpokenOf (problem l.fn.inputs) (Contains (cause_views l.causes))) l.fn.table l.table;
-  are : AreGiven (problem l.fn.inputs) l.table (cause_views (take l.cause-index l.causes)) (given_views g.S.States.tests l.given.items);
+  are : AreGiven (problem l.fn.inputs) l.table (cause_views (take l.cause-index l.causes))
+      (given_views g.S.States.tests l.given.items);
 }

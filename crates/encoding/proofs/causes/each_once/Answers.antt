@@ -12,6 +12,7 @@ causes-preserved c =
     let x = c.cause-item.result in
     let left = drop (i + 1) xs in
     let here : drop i xs ≡ x ∷ left = drop_more xs i x c.causes-test.true ∙ ap (λ y. y ∷ left) (sym c.cause-item.is) in
-    ap (λ ks. with_causes ks (cause_views left)) (ap cause_views c.in_ok-insert.ensures.keys ∙ cause_put x c.causes.kept.keys)
+    ap (λ ks. with_causes ks (cause_views left))
+    (ap cause_views c.in_ok-insert.ensures.keys ∙ cause_put x c.causes.kept.keys)
     ∙ ap (λ l. with_causes (cause_views c.causes.kept.keys) (cause_views l)) (sym here)
     ∙ c.causes.invariant

@@ -5,4 +5,5 @@ use Rattle.encoding.proofs.causes.each_once.Given as goal
 
 -- those kept so far, with those that are left, are all
 abbrev pub invariant-causes : goal.invariant-causes
-invariant-causes l = with_causes (cause_views l.kept.keys) (cause_views (drop l.cause-index l.causes)) ≡ with_causes [] (cause_views l.causes)
+invariant-causes l = with_causes (cause_views l.kept.keys) (cause_views (drop l.cause-index l.causes))
+    ≡ with_causes [] (cause_views l.causes)

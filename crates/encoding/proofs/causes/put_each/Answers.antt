@@ -22,7 +22,8 @@ returns-in-Some c =
     let e = entry_view c.args.entry.now in
     let ds = (owner_brings q (version_of name v)).dependencies in
     let cs = cause_views c.args.causes.now.items in
-    let named : called_so c.as_str.result.now (numbered_from 0 c.args.called.now) ≡ called_so c.in-Some.name.now (numbered_from 0 ds)
+    let named : called_so c.as_str.result.now (numbered_from 0 c.args.called.now)
+    ≡ called_so c.in-Some.name.now (numbered_from 0 ds)
     = ap₂ (λ x l. called_so x (numbered_from 0 l)) c.as_str.ensures.text c.requires.called in
     on_ok_weaker c.put_called.result
     (λ put. put ∙ ap (λ l. cs ++ l)
@@ -37,5 +38,6 @@ returns-in-None c =
     let v = parts_of c.args.own.version.now in
     let cs = cause_views c.args.causes.now.items in
     sym (ap (λ l. cs ++ l)
-    (entry_without q name v c.args.own.feature.now (entry_view c.args.entry.now) c.in-None.ensures (owner_brings q (version_of name v)).dependencies)
+    (entry_without q name v c.args.own.feature.now (entry_view c.args.entry.now) c.in-None.ensures
+    (owner_brings q (version_of name v)).dependencies)
     ∙ append-nil cs)

@@ -29,6 +29,7 @@ rows-preserved c =
     record {
       can = tt;
       finite = tt;
-      told = rest_more f cs (cause_views c.put_feature.new.causes.items) (cause_views c.args.causes.now.items ++ flat_map f c.args.table.now) first (rows_of rest)
+      told = rest_more f cs (cause_views c.put_feature.new.causes.items)
+          (cause_views c.args.causes.now.items ++ flat_map f c.args.table.now) first (rows_of rest)
           (ap (λ es. cs ++ flat_map f (rows_of es)) (sym steps) ∙ c.rows.invariant.told) step;
     }

@@ -10,5 +10,7 @@ use Rattle.encoding.proofs.causes.put_weak_in.Given as goal
 -- the causes so far, with those of the classes that are left, are all
 abbrev pub invariant-classes : goal.invariant-classes
 invariant-classes l =
-    cause_views l.causes.items ++ flat_map (weak_if l.own.name.now (parts_of l.own.version.now) l.own.feature.now l.asked l.number (dependency_view l.dependency)) (map class_view (drop l.class-index l.classes))
-    ≡ cause_views l.fn.causes.items ++ flat_map (weak_if l.own.name.now (parts_of l.own.version.now) l.own.feature.now l.asked l.number (dependency_view l.dependency)) (map class_view l.classes)
+    cause_views l.causes.items ++ flat_map (weak_if l.own.name.now (parts_of l.own.version.now) l.own.feature.now
+    l.asked l.number (dependency_view l.dependency)) (map class_view (drop l.class-index l.classes))
+    ≡ cause_views l.fn.causes.items ++ flat_map (weak_if l.own.name.now (parts_of l.own.version.now) l.own.feature.now
+    l.asked l.number (dependency_view l.dependency)) (map class_view l.classes)

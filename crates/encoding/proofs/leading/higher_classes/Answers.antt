@@ -15,7 +15,9 @@ returns c =
     let q = problem c.args.inputs.now in
     let k = class_view c.args.class in
     let d = dependency_view c.args.dependency.now in
-    IfOk-weaker c.those_above.result (λ s. AreAbove k (map class_view c.as_slice.result.now) (map class_view s.keys)) (λ s. AreHigher q k d (map class_view s.keys))
+    IfOk-weaker c.those_above.result (λ s. AreAbove k (map class_view c.as_slice.result.now) (map class_view s.keys))
+    (λ s. AreHigher q k d (map class_view s.keys))
     (λ s above. are_higher q k d (map class_view s.keys)
-    (λ m. above m ∙ ap (λ ks. is_lower k m && list_any (same_class m) ks) (ap (map class_view) c.as_slice.ensures.value ∙ c.in_ok-classes.ensures)))
+    (λ m. above m ∙ ap (λ ks. is_lower k m && list_any (same_class m) ks)
+    (ap (map class_view) c.as_slice.ensures.value ∙ c.in_ok-classes.ensures)))
     c.those_above.ensures

@@ -9,5 +9,7 @@ use Rattle.encoding.proofs.leading.put_classes.Given as goal
 -- the causes so far, with those of the classes that are left, are all
 abbrev pub invariant-classes : goal.invariant-classes
 invariant-classes l =
-    cause_views l.causes.items ++ flat_map (newest_in (map class_view l.higher.keys) (owner_ref_view l.lead.owner) l.lead.number l.number (class_view l.lead.class)) (map class_view (drop l.class-index l.classes))
-    ≡ cause_views l.fn.causes.items ++ flat_map (newest_in (map class_view l.higher.keys) (owner_ref_view l.lead.owner) l.lead.number l.number (class_view l.lead.class)) (map class_view l.classes)
+    cause_views l.causes.items ++ flat_map (newest_in (map class_view l.higher.keys) (owner_ref_view l.lead.owner)
+    l.lead.number l.number (class_view l.lead.class)) (map class_view (drop l.class-index l.classes))
+    ≡ cause_views l.fn.causes.items ++ flat_map (newest_in (map class_view l.higher.keys)
+    (owner_ref_view l.lead.owner) l.lead.number l.number (class_view l.lead.class)) (map class_view l.classes)

@@ -16,6 +16,7 @@ returns c =
     let o = owner_ref_view c.args.lead.owner in
     let d = dependency_view c.args.dependency.now in
     on_ok_weaker c.put_root_lists.result
-    (λ e. both_lists (of_list o c.args.lead.number (class_view c.args.lead.class)) (asked_of_target d) (root_asked q o d) (cause_views c.args.causes.now.items) (cause_views c.put_own_list.new.causes.items)
+    (λ e. both_lists (of_list o c.args.lead.number (class_view c.args.lead.class)) (asked_of_target d)
+    (root_asked q o d) (cause_views c.args.causes.now.items) (cause_views c.put_own_list.new.causes.items)
     (cause_views c.put_root_lists.new.causes.items) c.in_ok-put_own_list.ensures e)
     c.put_root_lists.ensures

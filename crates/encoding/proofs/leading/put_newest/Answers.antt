@@ -14,7 +14,8 @@ returns-then-is_alone c =
     let lead = c.args.lead in
     let cs = cause_views c.args.causes.now.items in
     sym (ap (λ l. cs ++ l)
-    (none_alone (problem c.args.inputs.now) (owner_ref_view lead.owner) lead.number (class_view lead.class) (dependency_view c.args.dependency.now) 0 (dependency_views c.args.others.now)
+    (none_alone (problem c.args.inputs.now) (owner_ref_view lead.owner) lead.number (class_view lead.class)
+    (dependency_view c.args.dependency.now) 0 (dependency_views c.args.others.now)
     (sym c.is_alone.ensures ∙ c.if-is_alone.true))
     ∙ append-nil cs)
 
@@ -24,8 +25,10 @@ returns-then-is_empty c =
     let cs = cause_views c.args.causes.now.items in
     let keys = c.in_ok-higher.higher.keys in
     sym (ap (λ l. cs ++ l)
-    (none_newest (problem c.args.inputs.now) (owner_ref_view lead.owner) lead.number (class_view lead.class) (dependency_view c.args.dependency.now) (map class_view keys)
-    c.in_ok-higher.ensures (no_views keys (c.is_empty.ensures.0 c.if-is_empty.true)) 0 (dependency_views c.args.others.now))
+    (none_newest (problem c.args.inputs.now) (owner_ref_view lead.owner) lead.number (class_view lead.class)
+    (dependency_view c.args.dependency.now) (map class_view keys)
+    c.in_ok-higher.ensures (no_views keys (c.is_empty.ensures.0 c.if-is_empty.true)) 0
+    (dependency_views c.args.others.now))
     ∙ append-nil cs)
 
 pub returns : goal.returns
@@ -34,6 +37,7 @@ returns c =
     let cs = cause_views c.args.causes.now.items in
     on_ok_weaker c.put_others.result
     (λ e. e ∙ ap (λ l. cs ++ l)
-    (each_same (problem c.args.inputs.now) (owner_ref_view lead.owner) lead.number (class_view lead.class) (dependency_view c.args.dependency.now) (map class_view c.in_ok-higher.higher.keys)
+    (each_same (problem c.args.inputs.now) (owner_ref_view lead.owner) lead.number (class_view lead.class)
+    (dependency_view c.args.dependency.now) (map class_view c.in_ok-higher.higher.keys)
     c.in_ok-higher.ensures 0 (dependency_views c.args.others.now)))
     c.put_others.ensures

@@ -16,6 +16,8 @@ returns c =
     let d = dependency_view c.args.dependency.now in
     let cs = cause_views c.args.causes.now.items in
     on_ok_weaker c.put_default.result
-    (λ e. e ∙ ap (λ l. l ++ cond d.default_features (f (codes "default") ∷ []) []) (c.in_ok-put_listed.ensures ∙ ap (λ fs. cs ++ map f fs) c.as_slice.ensures.value)
-    ∙ append_assoc cs (map f d.features) (cond d.default_features (f (codes "default") ∷ []) []) ∙ ap (λ l. cs ++ l) (own_list f d))
+    (λ e. e ∙ ap (λ l. l ++ cond d.default_features (f (codes "default") ∷ []) [])
+    (c.in_ok-put_listed.ensures ∙ ap (λ fs. cs ++ map f fs) c.as_slice.ensures.value)
+    ∙ append_assoc cs (map f d.features) (cond d.default_features (f (codes "default") ∷ []) [])
+    ∙ ap (λ l. cs ++ l) (own_list f d))
     c.put_default.ensures

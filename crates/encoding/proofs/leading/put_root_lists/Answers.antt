@@ -22,5 +22,6 @@ returns-in-Root c =
     let cs = cause_views c.args.causes.now.items in
     on_ok_weaker c.put_root_rows.result
     (λ e. e ∙ ap (λ (t : Table). cs ++ flat_map (λ row. flat_map (listed_by o i k d) row.1) t) c.features.ensures
-    ∙ ap (λ l. cs ++ l) (sym (rows_ask o i k d q.brings.features) ∙ ap (λ w. map (of_list o i k) (root_asked q w d)) (sym (ap owner_ref_view c.in-Root.is))))
+    ∙ ap (λ l. cs ++ l) (sym (rows_ask o i k d q.brings.features)
+    ∙ ap (λ w. map (of_list o i k) (root_asked q w d)) (sym (ap owner_ref_view c.in-Root.is))))
     c.put_root_rows.ensures

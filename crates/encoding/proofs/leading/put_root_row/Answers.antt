@@ -13,7 +13,8 @@ use Rattle.encoding.proofs.leading.put_root_row.Goals as goal
 
 pub entries-preserved : goal.entries-preserved
 entries-preserved c =
-    let f : model.Entry → List Cause = listed_by (owner_ref_view c.args.lead.owner) c.args.lead.number (class_view c.args.lead.class) (dependency_view c.args.dependency.now) in
+    let f : model.Entry → List Cause = listed_by (owner_ref_view c.args.lead.owner) c.args.lead.number
+    (class_view c.args.lead.class) (dependency_view c.args.dependency.now) in
     let xs = c.args.entries.now in
     let i = c.entries.entry-index in
     let e = c.entry-item.result in

@@ -11,5 +11,7 @@ use Rattle.encoding.proofs.leading.put_root_row.Given as goal
 -- the causes so far, with those of the entries that are left, are all
 abbrev pub invariant-entries : goal.invariant-entries
 invariant-entries l =
-    cause_views l.causes.items ++ flat_map (listed_by (owner_ref_view l.lead.owner) l.lead.number (class_view l.lead.class) (dependency_view l.dependency)) (entry_views (drop l.entry-index l.entries))
-    ≡ cause_views l.fn.causes.items ++ flat_map (listed_by (owner_ref_view l.lead.owner) l.lead.number (class_view l.lead.class) (dependency_view l.dependency)) (entry_views l.entries)
+    cause_views l.causes.items ++ flat_map (listed_by (owner_ref_view l.lead.owner) l.lead.number
+    (class_view l.lead.class) (dependency_view l.dependency)) (entry_views (drop l.entry-index l.entries))
+    ≡ cause_views l.fn.causes.items ++ flat_map (listed_by (owner_ref_view l.lead.owner) l.lead.number
+    (class_view l.lead.class) (dependency_view l.dependency)) (entry_views l.entries)

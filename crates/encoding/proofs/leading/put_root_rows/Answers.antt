@@ -19,7 +19,8 @@ rows-preserved c =
     let row : List ℕ × Vec Entry Global = (c.in-Some.field-0-0.now, c.in-Some.entries.now) in
     let rest : List (List ℕ × Vec Entry Global) = c.next.new.self in
     let steps : c.rows.entries-iterator ≡ row ∷ rest = search rules in
-    let g : model.Entry → List Cause = listed_by (owner_ref_view c.args.lead.owner) c.args.lead.number (class_view c.args.lead.class) (dependency_view c.args.dependency.now) in
+    let g : model.Entry → List Cause = listed_by (owner_ref_view c.args.lead.owner) c.args.lead.number
+    (class_view c.args.lead.class) (dependency_view c.args.dependency.now) in
     let f : List ℕ × List model.Entry → List Cause = λ r. flat_map g r.1 in
     let first : List ℕ × List model.Entry = (row.0, entry_views row.1.items) in
     let cs = cause_views c.rows.causes.items in
@@ -28,6 +29,7 @@ rows-preserved c =
     record {
       can = tt;
       finite = tt;
-      told = rest_more f cs (cause_views c.put_root_row.new.causes.items) (cause_views c.args.causes.now.items ++ flat_map f c.args.table.now) first (rows_of rest)
+      told = rest_more f cs (cause_views c.put_root_row.new.causes.items)
+          (cause_views c.args.causes.now.items ++ flat_map f c.args.table.now) first (rows_of rest)
           (ap (λ es. cs ++ flat_map f (rows_of es)) (sym steps) ∙ c.rows.invariant.told) step;
     }

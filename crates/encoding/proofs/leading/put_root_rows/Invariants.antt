@@ -13,6 +13,8 @@ abbrev pub invariant-rows : goal.invariant-rows
 invariant-rows l = record {
   can : (goal.iterator-rows).can_next l.entries-iterator;
   finite : (goal.iterator-rows).is_finite l.entries-iterator;
-  told : cause_views l.causes.items ++ flat_map (λ row. flat_map (listed_by (owner_ref_view l.lead.owner) l.lead.number (class_view l.lead.class) (dependency_view l.dependency)) row.1) (rows_of l.entries-iterator)
-      ≡ cause_views l.fn.causes.items ++ flat_map (λ row. flat_map (listed_by (owner_ref_view l.lead.owner) l.lead.number (class_view l.lead.class) (dependency_view l.dependency)) row.1) l.table;
+  told : cause_views l.causes.items ++ flat_map (λ row. flat_map (listed_by (owner_ref_view l.lead.owner) l.lead.number
+      (class_view l.lead.class) (dependency_view l.dependency)) row.1) (rows_of l.entries-iterator)
+      ≡ cause_views l.fn.causes.items ++ flat_map (λ row. flat_map (listed_by (owner_ref_view l.lead.owner)
+      l.lead.number (class_view l.lead.class) (dependency_view l.dependency)) row.1) l.table;
 }

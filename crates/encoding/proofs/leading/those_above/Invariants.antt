@@ -9,5 +9,6 @@ use Rattle.encoding.proofs.leading.those_above.Given as goal
 -- the higher ones so far, with those among the classes that are left, are all
 abbrev pub invariant-classes : goal.invariant-classes
 invariant-classes l = (m : Class) →
-    (list_any (same_class m) (map class_view l.higher.keys) || (is_lower (class_view l.class) m && list_any (same_class m) (map class_view (drop l.other-index l.classes))))
+    (list_any (same_class m) (map class_view l.higher.keys) || (is_lower (class_view l.class) m
+    && list_any (same_class m) (map class_view (drop l.other-index l.classes))))
     ≡ (is_lower (class_view l.class) m && list_any (same_class m) (map class_view l.classes))

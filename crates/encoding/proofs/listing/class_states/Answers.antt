@@ -10,6 +10,8 @@ use Rattle.encoding.proofs.listing.class_states.Goals as goal
 
 pub returns : goal.returns
 returns c =
-    c.in_ok-states.ensures ∙ ap (λ (ks : List Class). absent ∷ map (λ k. in_class (class_view k)) ks) c.as_slice.ensures.value
-    ∙ ap (λ ss. absent ∷ ss) (sym (map_map in_class class_view c.in_ok-classes.classes.items) ∙ ap (map in_class) c.in_ok-classes.ensures)
+    c.in_ok-states.ensures
+    ∙ ap (λ (ks : List Class). absent ∷ map (λ k. in_class (class_view k)) ks) c.as_slice.ensures.value
+    ∙ ap (λ ss. absent ∷ ss)
+    (sym (map_map in_class class_view c.in_ok-classes.classes.items) ∙ ap (map in_class) c.in_ok-classes.ensures)
     ∙ classes_space (problem c.args.inputs.now) (owner_ref_view c.args.owner.now) c.args.dependency

@@ -10,4 +10,5 @@ returns c =
     let i = c.args.inputs.now in
     let vs = c.class_versions.result.now in
     c.in_ok-states.ensures
-    ∙ ap (λ ss. absent ∷ ss) (sym (map_map version parts_of vs) ∙ sym (states_here i.manifest.now i.catalogue.now c.args.name.now (class_view c.args.class) vs c.class_versions.ensures.versions))
+    ∙ ap (λ ss. absent ∷ ss) (sym (map_map version parts_of vs) ∙ sym (states_here i.manifest.now i.catalogue.now
+    c.args.name.now (class_view c.args.class) vs c.class_versions.ensures.versions))

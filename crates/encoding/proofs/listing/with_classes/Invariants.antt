@@ -6,4 +6,5 @@ use Rattle.encoding.proofs.listing.with_classes.Given as goal
 
 -- the states so far, with those of the classes that are left, are all
 abbrev pub invariant-classes : goal.invariant-classes
-invariant-classes l = state_ref_views l.states.items ++ map (λ k. in_class (class_view k)) (drop l.class-index l.classes) ≡ absent ∷ map (λ k. in_class (class_view k)) l.classes
+invariant-classes l = state_ref_views l.states.items ++ map (λ k. in_class (class_view k))
+    (drop l.class-index l.classes) ≡ absent ∷ map (λ k. in_class (class_view k)) l.classes

@@ -6,4 +6,5 @@ use Rattle.encoding.proofs.listing.with_versions.Given as goal
 
 -- the states so far, with those of the versions that are left, are all
 abbrev pub invariant-versions : goal.invariant-versions
-invariant-versions l = state_ref_views l.states.items ++ map (λ v. version (parts_of v)) (drop l.version-index l.versions) ≡ absent ∷ map (λ v. version (parts_of v)) l.versions
+invariant-versions l = state_ref_views l.states.items ++ map (λ v. version (parts_of v))
+    (drop l.version-index l.versions) ≡ absent ∷ map (λ v. version (parts_of v)) l.versions

@@ -4,4 +4,5 @@ use Rattle.encoding.proofs.matched.firsts.Given as goal
 
 -- the classes so far, with those of the groups that are left, are those of all
 abbrev pub invariant-groups : goal.invariant-groups
-invariant-groups l = map class_view l.classes.items ++ map (λ g. class_view g.0) (drop l.group-index l.groups) ≡ map (λ g. class_view g.0) l.groups
+invariant-groups l = map class_view l.classes.items ++ map (λ g. class_view g.0) (drop l.group-index l.groups)
+    ≡ map (λ g. class_view g.0) l.groups

@@ -14,7 +14,10 @@ pub returns : goal.returns
 returns c =
     let k = c.args.problem.now in
     let d = dependency_view c.args.dependency.now in
-    IfOk-weaker c.firsts.result (λ ks. map class_view ks.items ≡ map (λ g. class_view g.0) c.as_slice.result.now) (λ ks. map class_view ks.items ≡ dep_classes (problem_view k) d)
+    IfOk-weaker c.firsts.result (λ ks. map class_view ks.items ≡ map (λ g. class_view g.0) c.as_slice.result.now)
+    (λ ks. map class_view ks.items ≡ dep_classes (problem_view k) d)
     (λ ks e. e ∙ ap (map (λ g. class_view g.0)) c.as_slice.ensures.value
-    ∙ classes_are k.manifest.now k.catalogue.now d c.versions.result.now c.within-versions.result.now c.in_ok-groups.groups.items c.catalogues_are_well_formed.ensures c.versions.ensures.versions c.within-versions.ensures.matched c.in_ok-groups.ensures)
+    ∙ classes_are k.manifest.now k.catalogue.now d c.versions.result.now c.within-versions.result.now
+    c.in_ok-groups.groups.items c.catalogues_are_well_formed.ensures c.versions.ensures.versions
+    c.within-versions.ensures.matched c.in_ok-groups.ensures)
     c.firsts.ensures

@@ -9,5 +9,6 @@ use Rattle.encoding.proofs.narrowing.only_class.Goals as goal
 pub returns-in-Some : goal.returns-in-Some
 returns-in-Some c =
     let one = c.comparator-item.result in
-    one_allows c.args.comparators.now c.comparators.comparator-index one (class_view c.in-Some.class) c.comparators-test.true c.comparator-item.is
+    one_allows c.args.comparators.now c.comparators.comparator-index one
+    (class_view c.in-Some.class) c.comparators-test.true c.comparator-item.is
     (subst (λ o. IfSome o (λ k. AllowsOnly (comparator_view one) (class_view k))) c.in-Some.is c.allowed_class.ensures)

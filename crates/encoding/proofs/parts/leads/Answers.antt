@@ -13,5 +13,7 @@ pub returns : goal.returns
 returns c =
     let o = owner_ref_view c.args.owner in
     ap (λ m. (dep o c.args.number, m)) (c.in_ok-tests.ensures
-    ∙ ap (λ (ks : List Class). false ∷ map (λ m. is_class (class_view c.args.class) (class_view m)) ks) c.as_slice.ensures.value
-    ∙ class_is (problem c.args.inputs.now) o c.args.number c.in_ok-classes.classes.items c.in_ok-classes.ensures (class_view c.args.class))
+    ∙ ap (λ (ks : List Class). false
+    ∷ map (λ m. is_class (class_view c.args.class) (class_view m)) ks) c.as_slice.ensures.value
+    ∙ class_is (problem c.args.inputs.now) o c.args.number c.in_ok-classes.classes.items c.in_ok-classes.ensures
+    (class_view c.args.class))

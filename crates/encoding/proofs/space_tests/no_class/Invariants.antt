@@ -4,4 +4,5 @@ use Rattle.encoding.proofs.space_tests.no_class.Given as goal
 
 -- the tests so far, with those of the classes that are left, are those of all
 abbrev pub invariant-classes : goal.invariant-classes
-invariant-classes l = l.tests.items ++ map (λ k. false) (drop l._class-index l.classes) ≡ true ∷ map (λ k. false) l.classes
+invariant-classes l =
+    l.tests.items ++ map (λ k. false) (drop l._class-index l.classes) ≡ true ∷ map (λ k. false) l.classes

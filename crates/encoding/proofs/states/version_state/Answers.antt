@@ -9,4 +9,5 @@ returns c =
     let name = c.args.name.now in
     let n = c.args.number in
     c.version_at.ensures
-    ∙ versions_space i.manifest.now i.catalogue.now name (class_view c.args.class) c.class_versions-versions.result.now n c.class_versions-versions.ensures.versions
+    ∙ versions_space i.manifest.now i.catalogue.now name
+    (class_view c.args.class) c.class_versions-versions.result.now n c.class_versions-versions.ensures.versions

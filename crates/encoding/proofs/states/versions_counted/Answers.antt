@@ -6,4 +6,5 @@ pub returns : goal.returns
 returns c =
     let i = c.args.inputs.now in
     let name = c.args.name.now in
-    versions_counted i.manifest.now i.catalogue.now name (class_view c.args.class) c.class_versions.result.now c.class_versions.ensures.versions
+    versions_counted i.manifest.now i.catalogue.now name
+    (class_view c.args.class) c.class_versions.result.now c.class_versions.ensures.versions

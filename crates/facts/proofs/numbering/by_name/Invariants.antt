@@ -3,4 +3,5 @@ use Rattle.facts.specs.FactNumbers.{at_text, link_views, links_if, links_called}
 use Rattle.facts.proofs.numbering.by_name.Given as goal
 
 abbrev pub invariant-links : goal.invariant-links
-invariant-links l = (d : List ℕ) → links_if (at_text l.called.entries d) ≡ links_called d (link_views (take l.link-index l.links))
+invariant-links l =
+    (d : List ℕ) → links_if (at_text l.called.entries d) ≡ links_called d (link_views (take l.link-index l.links))

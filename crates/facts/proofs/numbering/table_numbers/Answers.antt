@@ -16,10 +16,16 @@ rows-preserved c =
     record {
       can = tt;
       finite = tt;
-      marked = flag_more c.rows.marked.items c.push.new.self.items (c.args.marked.now.items ++ unmarked_for c.args.table.now) (row.0, entry_views row.1.items) (rows_of rest)
-          (sym (ap (λ es. c.rows.marked.items ++ unmarked_for (rows_of es)) steps) ∙ c.rows.invariant.marked) c.in_ok-push.ensures.items;
+      marked = flag_more c.rows.marked.items c.push.new.self.items
+          (c.args.marked.now.items ++ unmarked_for c.args.table.now) (row.0, entry_views row.1.items) (rows_of rest)
+          (sym (ap (λ es. c.rows.marked.items ++ unmarked_for (rows_of es)) steps)
+          ∙ c.rows.invariant.marked) c.in_ok-push.ensures.items;
       numbers = λ f.
-          number_more f c.rows.marked.items c.push.new.self.items c.rows.numbers.entries c.insert.new.self.entries c.as_str.result row rest
-          c.in_ok-push.ensures.items (c.in_ok-insert.ensures.entries ∙ ap (insert_entry str_cmp c.rows.numbers.entries c.as_str.result) (c.len.ensures ∙ c.rows.marked.ok.0)) c.as_str.ensures.text
-          ∙ sym (ap (λ es. number_in (length c.rows.marked.items) (at_text c.rows.numbers.entries f) f (rows_of es)) steps) ∙ c.rows.invariant.numbers f;
+          number_more f c.rows.marked.items c.push.new.self.items c.rows.numbers.entries
+          c.insert.new.self.entries c.as_str.result row rest
+          c.in_ok-push.ensures.items
+          (c.in_ok-insert.ensures.entries ∙ ap (insert_entry str_cmp c.rows.numbers.entries c.as_str.result)
+          (c.len.ensures ∙ c.rows.marked.ok.0)) c.as_str.ensures.text
+          ∙ sym (ap (λ es. number_in (length c.rows.marked.items) (at_text c.rows.numbers.entries f) f (rows_of es))
+          steps) ∙ c.rows.invariant.numbers f;
     }

@@ -4,4 +4,5 @@ use Rattle.facts.specs.RuleLists.{ask_all}
 use Rattle.facts.proofs.rules.ask_all.Given as goal
 
 abbrev pub invariant-links : goal.invariant-links
-invariant-links l = l.rules.items ≡ l.fn.rules.items ++ ask_all (numbers_views l.packages) l.fact (link_views (take l.link-index l.links)) l.feature
+invariant-links l = l.rules.items
+    ≡ l.fn.rules.items ++ ask_all (numbers_views l.packages) l.fact (link_views (take l.link-index l.links)) l.feature

@@ -4,4 +4,5 @@ use Rattle.facts.specs.RuleLists.{ask_enabled}
 use Rattle.facts.proofs.rules.ask_enabled.Given as goal
 
 abbrev pub invariant-links : goal.invariant-links
-invariant-links l = l.rules.items ≡ l.fn.rules.items ++ ask_enabled (numbers_views l.packages) l.fact (link_views (take l.link-index l.links)) l.feature
+invariant-links l = l.rules.items ≡ l.fn.rules.items
+    ++ ask_enabled (numbers_views l.packages) l.fact (link_views (take l.link-index l.links)) l.feature

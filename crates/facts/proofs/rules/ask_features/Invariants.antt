@@ -4,4 +4,5 @@ use Rattle.facts.specs.RuleLists.{ask_features}
 use Rattle.facts.proofs.rules.ask_features.Given as goal
 
 abbrev pub invariant-features : goal.invariant-features
-invariant-features l = l.rules.items ≡ l.fn.rules.items ++ ask_features l.fact (numbers_view l.target) (take l.feature-index l.features)
+invariant-features l =
+    l.rules.items ≡ l.fn.rules.items ++ ask_features l.fact (numbers_view l.target) (take l.feature-index l.features)

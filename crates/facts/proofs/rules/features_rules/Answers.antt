@@ -21,12 +21,15 @@ rows-preserved c =
     let steps : c.rows.name-iterator ≡ row ∷ rest = search rules in
     let f : List ℕ × List model.Entry → List Rule = λ r. feature_rules ps p table r.0 in
     let first : List ℕ × List model.Entry = (row.0, entry_views row.1.items) in
-    let fact : c.number_on-fact.result ≡ number_on p row.0 = c.number_on-fact.ensures ∙ ap (number_on p) c.as_str.ensures.text in
+    let fact : c.number_on-fact.result ≡ number_on p row.0 =
+    c.number_on-fact.ensures ∙ ap (number_on p) c.as_str.ensures.text in
     let step : c.entries_rules.new.rules.items ≡ c.rows.rules.items ++ f first
-    = c.in_ok-entries_rules.ensures ∙ ap₂ (λ a es. c.rows.rules.items ++ entries_rules ps p a es) fact c.entries.ensures in
+    = c.in_ok-entries_rules.ensures
+    ∙ ap₂ (λ a es. c.rows.rules.items ++ entries_rules ps p a es) fact c.entries.ensures in
     record {
       can = tt;
       finite = tt;
-      told = rest_more f c.rows.rules.items c.entries_rules.new.rules.items (c.args.rules.now.items ++ flat_map f table) first (rows_of rest)
+      told = rest_more f c.rows.rules.items c.entries_rules.new.rules.items
+          (c.args.rules.now.items ++ flat_map f table) first (rows_of rest)
           (ap (λ es. c.rows.rules.items ++ flat_map f (rows_of es)) (sym steps) ∙ c.rows.invariant.told) step;
     }

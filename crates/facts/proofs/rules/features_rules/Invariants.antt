@@ -9,6 +9,8 @@ abbrev pub invariant-rows : goal.invariant-rows
 invariant-rows l = record {
   can : (goal.iterator-rows).can_next l.name-iterator;
   finite : (goal.iterator-rows).is_finite l.name-iterator;
-  told : l.rules.items ++ flat_map (λ row. feature_rules (numbers_views l.packages) (numbers_view l.node) l.table row.0) (rows_of l.name-iterator)
-      ≡ l.fn.rules.items ++ flat_map (λ row. feature_rules (numbers_views l.packages) (numbers_view l.node) l.table row.0) l.table;
+  told : l.rules.items ++ flat_map (λ row. feature_rules (numbers_views l.packages) (numbers_view l.node) l.table row.0)
+      (rows_of l.name-iterator)
+      ≡ l.fn.rules.items
+      ++ flat_map (λ row. feature_rules (numbers_views l.packages) (numbers_view l.node) l.table row.0) l.table;
 }

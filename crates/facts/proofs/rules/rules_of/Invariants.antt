@@ -4,4 +4,5 @@ use Rattle.facts.specs.RuleLists.{rules_from, all_rules}
 use Rattle.facts.proofs.rules.rules_of.Given as goal
 
 abbrev pub invariant-packages : goal.invariant-packages
-invariant-packages l = l.rules.items ++ rules_from (numbers_views l.packages) l.root l.number (numbers_views (drop l.number l.packages)) ≡ all_rules l.root (numbers_views l.packages)
+invariant-packages l = l.rules.items ++ rules_from (numbers_views l.packages) l.root l.number
+    (numbers_views (drop l.number l.packages)) ≡ all_rules l.root (numbers_views l.packages)

@@ -6,4 +6,5 @@ use Rattle.features.proofs.draft.called.Given as goal
 
 -- the names of the dependencies so far
 abbrev pub invariant-loop-dependency : goal.invariant-loop-dependency
-invariant-loop-dependency l = HasThose (texts_in l.names) (has_dependency (dep_names_view (take l.dependency-index l.dependencies)))
+invariant-loop-dependency l =
+    HasThose (texts_in l.names) (has_dependency (dep_names_view (take l.dependency-index l.dependencies)))

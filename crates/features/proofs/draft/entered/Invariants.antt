@@ -9,5 +9,6 @@ abbrev pub invariant-rows : goal.invariant-rows
 invariant-rows l = record {
   can : (goal.iterator-rows).can_next l.entries-iterator;
   finite : (goal.iterator-rows).is_finite l.entries-iterator;
-  told : (d : List ℕ) → (has_text (texts_in l.names) d || has_dep_entry (rows_of l.entries-iterator) d) ≡ has_dep_entry (rows_of l.fn.written.entries) d;
+  told : (d : List ℕ) → (has_text (texts_in l.names) d || has_dep_entry (rows_of l.entries-iterator) d)
+      ≡ has_dep_entry (rows_of l.fn.written.entries) d;
 }

@@ -10,5 +10,6 @@ abbrev pub invariant-rows : goal.invariant-rows
 invariant-rows l = record {
   can : (goal.iterator-rows).can_next l.name-iterator;
   finite : (goal.iterator-rows).is_finite l.name-iterator;
-  told : (d : List ℕ) → (has_text l.names.items d || list_any (same_text d) l.name-iterator) ≡ has_feature (rows_of l.fn.written.entries) d;
+  told : (d : List ℕ) → (has_text l.names.items d || list_any (same_text d) l.name-iterator)
+      ≡ has_feature (rows_of l.fn.written.entries) d;
 }

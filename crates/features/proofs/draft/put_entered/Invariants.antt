@@ -7,4 +7,5 @@ use Rattle.features.proofs.draft.put_entered.Given as goal
 
 -- the names so far
 abbrev pub invariant-loop-entry : goal.invariant-loop-entry
-invariant-loop-entry l = (d : List ℕ) → has_text (texts_in l.names) d ≡ (has_text (texts_in l.fn.names) d || list_any (is_dep d) (entry_views (take l.entry-index l.entries)))
+invariant-loop-entry l = (d : List ℕ) → has_text (texts_in l.names) d
+    ≡ (has_text (texts_in l.fn.names) d || list_any (is_dep d) (entry_views (take l.entry-index l.entries)))

@@ -6,10 +6,13 @@ use Rattle.features.proofs.table.entries_in.Goals as goal
 
 pub returns-in-Ok : goal.returns-in-Ok
 returns-in-Ok c =
-    let searched = c.binary_search_by.ensures.position (λ e. text_cmp e.0 c.args.name.now) (always_returns_same _ _ _ (λ a r g called. search rules)) in
-    row_found c.args.rows.now c.args.name.now c.in-Ok.place c.index-rows-place.result c.requires (rw c.in-Ok.is at searched) (rw c.in-Ok.is at c.binary_search_by.ensures.bound)
+    let searched = c.binary_search_by.ensures.position
+    (λ e. text_cmp e.0 c.args.name.now) (always_returns_same _ _ _ (λ a r g called. search rules)) in
+    row_found c.args.rows.now c.args.name.now c.in-Ok.place c.index-rows-place.result c.requires
+    (rw c.in-Ok.is at searched) (rw c.in-Ok.is at c.binary_search_by.ensures.bound)
 
 pub returns-in-Err : goal.returns-in-Err
 returns-in-Err c =
-    let searched = c.binary_search_by.ensures.position (λ e. text_cmp e.0 c.args.name.now) (always_returns_same _ _ _ (λ a r g called. search rules)) in
+    let searched = c.binary_search_by.ensures.position
+    (λ e. text_cmp e.0 c.args.name.now) (always_returns_same _ _ _ (λ a r g called. search rules)) in
     row_lacking c.args.rows.now c.args.name.now _ c.requires (rw c.in-Err.is at searched)

@@ -9,12 +9,16 @@ pub rows-preserved-in_ok-insert : goal.rows-preserved-in_ok-insert
 rows-preserved-in_ok-insert c = record {
   can = tt;
   finite = tt;
-  told = row-put c.rows.features.entries c.insert.new.self.entries (into_iter_items c.next.new.self) c.in-Some.name c.in-Some.entries (with_rows (rows_of c.args.features.entries) (rows_of c.args.rows.items)) c.in_ok-insert.ensures.entries (search rules);
+  told = row-put c.rows.features.entries c.insert.new.self.entries
+      (into_iter_items c.next.new.self) c.in-Some.name c.in-Some.entries (with_rows (rows_of c.args.features.entries)
+      (rows_of c.args.rows.items)) c.in_ok-insert.ensures.entries (search rules);
 }
 
 pub rows-preserved : goal.rows-preserved
 rows-preserved c = record {
   can = tt;
   finite = tt;
-  told = row-put c.rows.features.entries c.insert.new.self.entries (into_iter_items c.next.new.self) c.in-Some.name c.in-Some.entries (with_rows (rows_of c.args.features.entries) (rows_of c.args.rows.items)) c.in_ok-insert.ensures.entries (search rules);
+  told = row-put c.rows.features.entries c.insert.new.self.entries
+      (into_iter_items c.next.new.self) c.in-Some.name c.in-Some.entries (with_rows (rows_of c.args.features.entries)
+      (rows_of c.args.rows.items)) c.in_ok-insert.ensures.entries (search rules);
 }

@@ -9,4 +9,6 @@ use Rattle.following.proofs.in_content.lower.Goals as goal
 
 pub returns-clause-place : goal.returns-clause-place
 returns-clause-place c =
-    IsPartitionPoint-from_clause (λ p. is_lt (beside c.args.name.now (package_view p))) c.args.content.now _ c.partition_point.ensures.partitioned (lower_first c.args.name.now c.args.content.now c.requires) (λ a r g called. search (rules, is_lt_index))
+    IsPartitionPoint-from_clause (λ p. is_lt (beside c.args.name.now (package_view p))) c.args.content.now _
+    c.partition_point.ensures.partitioned (lower_first c.args.name.now c.args.content.now c.requires)
+    (λ a r g called. search (rules, is_lt_index))

@@ -15,13 +15,16 @@ returns-in-Package c =
     let v = pkg c.in-Package.name.now (class_view c.in-Package.class) in
     let is : v ≡ vertex_ref_view c.args.vertex.now = ap vertex_ref_view (sym c.in-Package.is) in
     subst (λ (w : Vertex). IsStateIn q c.args.content.now w c.version_in.result) is
-    (subst (λ (x : Content). IsStateIn q x v c.version_in.result) c.packages-packages.ensures.views c.version_in.ensures)
+    (subst (λ (x : Content).
+    IsStateIn q x v c.version_in.result) c.packages-packages.ensures.views c.version_in.ensures)
 
 pub returns-in-Dependency : goal.returns-in-Dependency
 returns-in-Dependency c =
     let q = problem c.args.inputs.now in
     let v = dep (owner_ref_view c.in-Dependency.owner) c.in-Dependency.number in
     let is : v ≡ vertex_ref_view c.args.vertex.now = ap vertex_ref_view (sym c.in-Dependency.is) in
-    IfOk-weaker c.class_in.result (IsStateIn q (package_views c.packages-packages.result.now) v) (IsStateIn q c.args.content.now (vertex_ref_view c.args.vertex.now))
-    (λ (o : Option ℕ) h. subst (λ (w : Vertex). IsStateIn q c.args.content.now w o) is (subst (λ (x : Content). IsStateIn q x v o) c.packages-packages.ensures.views h))
+    IfOk-weaker c.class_in.result (IsStateIn q (package_views c.packages-packages.result.now) v)
+    (IsStateIn q c.args.content.now (vertex_ref_view c.args.vertex.now))
+    (λ (o : Option ℕ) h. subst (λ (w : Vertex). IsStateIn q c.args.content.now w o) is
+    (subst (λ (x : Content). IsStateIn q x v o) c.packages-packages.ensures.views h))
     c.class_in.ensures

@@ -12,7 +12,8 @@ returns-in_err-given-clause-grown g c =
     let ss = c.args.spaces.now.items in
     let new = c.all_axioms.new.table in
     let same : length ss ≤ length ss = omega arith in
-    taken_grows vs new (length ss) (length ss) (grows_on vs c.number_all.new.table new c.number_all.ensures.grown c.all_axioms.ensures.grown)
+    taken_grows vs new (length ss) (length ss)
+    (grows_on vs c.number_all.new.table new c.number_all.ensures.grown c.all_axioms.ensures.grown)
     (spaces_few (problem c.args.inputs.now) vs ss (c.requires.encoding).spaces) same
 
 pub returns-in_err-put_spaces-clause-grown : goal.returns-in_err-put_spaces-clause-grown
@@ -20,7 +21,8 @@ returns-in_err-put_spaces-clause-grown g c =
     let vs = c.args.table.now in
     let ss = c.args.spaces.now.items in
     let new = c.all_axioms.new.table in
-    taken_grows vs new (length ss) (length c.put_spaces.new.spaces.items) (grows_on vs c.number_all.new.table new c.number_all.ensures.grown c.all_axioms.ensures.grown)
+    taken_grows vs new (length ss) (length c.put_spaces.new.spaces.items)
+    (grows_on vs c.number_all.new.table new c.number_all.ensures.grown c.all_axioms.ensures.grown)
     (spaces_few (problem c.args.inputs.now) vs ss (c.requires.encoding).spaces) c.put_spaces.ensures.more
 
 pub returns-clause-grown : goal.returns-clause-grown
@@ -28,7 +30,8 @@ returns-clause-grown g c =
     let vs = c.args.table.now in
     let ss = c.args.spaces.now.items in
     let new = c.all_axioms.new.table in
-    taken_grows vs new (length ss) (length c.put_spaces.new.spaces.items) (grows_on vs c.number_all.new.table new c.number_all.ensures.grown c.all_axioms.ensures.grown)
+    taken_grows vs new (length ss) (length c.put_spaces.new.spaces.items)
+    (grows_on vs c.number_all.new.table new c.number_all.ensures.grown c.all_axioms.ensures.grown)
     (spaces_few (problem c.args.inputs.now) vs ss (c.requires.encoding).spaces) c.put_spaces.ensures.more
 
 pub returns-clause-whole : goal.returns-clause-whole

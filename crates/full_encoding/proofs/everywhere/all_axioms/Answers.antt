@@ -1,4 +1,5 @@
-use Rattle.std.proofs.Common.{◌≡◌, ◌<◌, ◌≤◌, ◌+◌, suc, length, take, take_all, Some, slice_get, refl, sym, ap, ◌∙◌, subst, arith}
+use Rattle.std.proofs.Common.{◌≡◌, ◌<◌, ◌≤◌, ◌+◌, suc, length, take, take_all, Some, slice_get, refl, sym, ap, ◌∙◌}
+use Rattle.std.proofs.Common.{subst, arith}
 use Rattle.encoding.specs.GivenViews.{given_views}
 use Rattle.encoding.specs.Inputs.{problem}
 use Rattle.encoding.proofs.Needing.{grows_on, still_at}
@@ -15,7 +16,9 @@ vertices-init g c =
       same = refl;
       grown = (put_none c.args.table.now Rattle.std.proofs.Common.[]).grown;
       numbering = c.requires.numbering;
-      given = subst (λ xs. IsGivenFor q c.args.table.now (all_pairs q (take 0 c.args.table.now)) (given_views g.S.States.tests xs)) (sym c.new-given.ensures.items) (no_pairs q c.args.table.now c.args.table.now);
+      given = subst (λ xs.
+          IsGivenFor q c.args.table.now (all_pairs q (take 0 c.args.table.now)) (given_views g.S.States.tests xs))
+          (sym c.new-given.ensures.items) (no_pairs q c.args.table.now c.args.table.now);
     }
 
 pub vertices-preserved : goal.vertices-preserved
@@ -34,7 +37,8 @@ vertices-preserved g c =
       numbering = c.put_vertex.ensures.numbering;
       given = subst (λ k. IsGivenFor q new (all_pairs q (take k old)) xs) (sym e)
           (subst (λ l. IsGivenFor q new l xs) (vertices_next q old n r.0 r.1)
-          (c.in_ok-put_vertex.ensures.given r.0 (all_pairs q (take n old)) (still_at old c.vertices.table n r.0 c.vertices.invariant.grown r.1) (vertex_fresh q old n r.0 c.requires.numbering r.1)
+          (c.in_ok-put_vertex.ensures.given r.0 (all_pairs q (take n old)) (still_at old c.vertices.table n r.0
+          c.vertices.invariant.grown r.1) (vertex_fresh q old n r.0 c.requires.numbering r.1)
           c.vertices.invariant.given));
     }
 
@@ -42,6 +46,8 @@ pub returns-clause-given : goal.returns-clause-given
 returns-clause-given g c =
     let q = problem c.args.inputs.now in
     let old = c.args.table.now in
-    let all : length old ≤ c.vertices.number = subst (λ k. k ≤ c.vertices.number) c.len-number-end.ensures (omega (arith, c.vertices-test.false)) in
+    let all : length old ≤ c.vertices.number =
+    subst (λ k. k ≤ c.vertices.number) c.len-number-end.ensures (omega (arith, c.vertices-test.false)) in
     given_all q old c.vertices.table (given_views g.S.States.tests c.vertices.given.items) c.requires.whole
-    (subst (λ vs. IsGivenFor q c.vertices.table (all_pairs q vs) (given_views g.S.States.tests c.vertices.given.items)) (take_all c.vertices.number old all) c.vertices.invariant.given)
+    (subst (λ vs. IsGivenFor q c.vertices.table (all_pairs q vs) (given_views g.S.States.tests c.vertices.given.items))
+    (take_all c.vertices.number old all) c.vertices.invariant.given)

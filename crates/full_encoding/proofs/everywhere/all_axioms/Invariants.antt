@@ -11,5 +11,6 @@ invariant-vertices g l = record {
   same : l.inputs ≡ l.fn.inputs;
   grown : IsGrown l.fn.table l.table;
   numbering : IsNumbering (problem l.fn.inputs) l.table;
-  given : IsGivenFor (problem l.fn.inputs) l.table (all_pairs (problem l.fn.inputs) (take l.number l.fn.table)) (given_views g.S.States.tests l.given.items);
+  given : IsGivenFor (problem l.fn.inputs) l.table (all_pairs (problem l.fn.inputs) (take l.number l.fn.table))
+      (given_views g.S.States.tests l.given.items);
 }

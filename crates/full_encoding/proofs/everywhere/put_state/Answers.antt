@@ -23,5 +23,7 @@ returns-clause-given g c = λ ps fresh old.
     let kept = given_stays q c.args.table.now new ps xs c.axioms_of.ensures.grown c.axioms_of.ensures.numbering old in
     let both : given_views tests c.append.new.self.items ≡ xs ++ ys
     = ap (given_views tests) c.in_ok-append.ensures.items
-    ∙ map-append (λ (x : Kind × List (Term g.row.S.Denot)). (kind_view x.0, terms_view tests x.1)) c.args.given.now.items c.in_ok-more.more.items in
-    subst (IsGivenFor q new (ps ++ p ∷ [])) (sym both) (given_pair q new ps p xs ys kept c.in_ok-more.ensures.given fresh)
+    ∙ map-append (λ (x : Kind × List (Term g.row.S.Denot)).
+    (kind_view x.0, terms_view tests x.1)) c.args.given.now.items c.in_ok-more.more.items in
+    subst (IsGivenFor q new (ps ++ p ∷ [])) (sym both)
+    (given_pair q new ps p xs ys kept c.in_ok-more.ensures.given fresh)

@@ -16,5 +16,6 @@ invariant-states g l = record {
   numbering : IsNumbering (problem l.fn.inputs) l.table;
   given : (ps : List Pair) → ((s : State) → Contains ps (vertex_ref_view l.vertex, s) → ⊥)
       → IsGivenFor (problem l.fn.inputs) l.fn.table ps (given_views g.S.States.tests l.fn.given.items)
-      → IsGivenFor (problem l.fn.inputs) l.table (ps ++ map (λ s. (vertex_ref_view l.vertex, s)) (take l.state-index (space (problem l.fn.inputs) (vertex_ref_view l.vertex)))) (given_views g.S.States.tests l.given.items);
+      → IsGivenFor (problem l.fn.inputs) l.table (ps ++ map (λ s. (vertex_ref_view l.vertex, s)) (take l.state-index
+      (space (problem l.fn.inputs) (vertex_ref_view l.vertex)))) (given_views g.S.States.tests l.given.items);
 }

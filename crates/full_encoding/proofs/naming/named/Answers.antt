@@ -10,5 +10,6 @@ pub returns : goal.returns
 returns c =
     let q = problem c.args.inputs.now in
     c.in_ok-put_names.ensures
-    ∙ ap₂ (λ a b. a ++ flat_map (of_name q) b) (c.in_ok-put_root.ensures ∙ ap (λ l. vertex_views l ++ of_root q) c.new-vertices.ensures.items)
+    ∙ ap₂ (λ a b. a ++ flat_map (of_name q) b)
+    (c.in_ok-put_root.ensures ∙ ap (λ l. vertex_views l ++ of_root q) c.new-vertices.ensures.items)
     (c.names.ensures.names ∙ names_are c.args.inputs.now.catalogue.now.rows)

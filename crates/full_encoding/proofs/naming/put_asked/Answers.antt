@@ -14,7 +14,8 @@ returns-in-DependencyFeature c =
     let f = asked_of (problem c.args.inputs.now) c.args.called.now in
     let vs = vertex_views c.args.vertices.now.items in
     on_ok_weaker c.put_called.result
-    (λ e. e ∙ ap (λ l. vs ++ l) (sym (append_none _)) ∙ ap (λ x. vs ++ flat_map f (asked_by (entry_view x))) (sym c.in-DependencyFeature.is))
+    (λ e. e ∙ ap (λ l. vs ++ l) (sym (append_none _))
+    ∙ ap (λ x. vs ++ flat_map f (asked_by (entry_view x))) (sym c.in-DependencyFeature.is))
     c.put_called.ensures
 
 pub returns-in-WeakFeature : goal.returns-in-WeakFeature
@@ -22,5 +23,6 @@ returns-in-WeakFeature c =
     let f = asked_of (problem c.args.inputs.now) c.args.called.now in
     let vs = vertex_views c.args.vertices.now.items in
     on_ok_weaker c.put_called-in-WeakFeature.result
-    (λ e. e ∙ ap (λ l. vs ++ l) (sym (append_none _)) ∙ ap (λ x. vs ++ flat_map f (asked_by (entry_view x))) (sym c.in-WeakFeature.is))
+    (λ e. e ∙ ap (λ l. vs ++ l) (sym (append_none _))
+    ∙ ap (λ x. vs ++ flat_map f (asked_by (entry_view x))) (sym c.in-WeakFeature.is))
     c.put_called-in-WeakFeature.ensures

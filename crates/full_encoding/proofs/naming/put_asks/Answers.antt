@@ -42,4 +42,5 @@ returns-in-WeakFeature c =
     let v = parts_of c.args.release.version.now in
     let ds = c.args.called.now in
     let vs = vertex_views c.args.vertices.now.items in
-    rw c.in-WeakFeature.is (asks_none vs (ask_if name v (weak_feature c.in-WeakFeature.field-0 c.in-WeakFeature.field-1)) (λ i d. refl) 0 ds)
+    rw c.in-WeakFeature.is (asks_none vs
+    (ask_if name v (weak_feature c.in-WeakFeature.field-0 c.in-WeakFeature.field-1)) (λ i d. refl) 0 ds)

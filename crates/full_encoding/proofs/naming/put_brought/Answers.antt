@@ -17,6 +17,7 @@ returns c =
     let s = summary_view c.args.brings.now in
     let vs = vertex_views c.args.vertices.now.items in
     on_ok_weaker c.put_table.result
-    (λ e. e ∙ ap (λ l. l ++ of_table q name v s) (c.in_ok-put_dependencies.ensures ∙ ap (λ ds. vs ++ each_from (of_dependency q (version_of name v)) 0 (dependency_views ds)) c.as_slice.ensures.value)
+    (λ e. e ∙ ap (λ l. l ++ of_table q name v s) (c.in_ok-put_dependencies.ensures ∙ ap (λ ds. vs
+    ++ each_from (of_dependency q (version_of name v)) 0 (dependency_views ds)) c.as_slice.ensures.value)
     ∙ append_assoc vs (each_from (of_dependency q (version_of name v)) 0 s.dependencies) (of_table q name v s))
     c.put_table.ensures

@@ -19,7 +19,8 @@ returns-in-Some c =
     let f : ℕ × Dependency → List Vertex = λ p. feature_of q p.1.real_name g in
     on_ok_weaker c.put_each_asked.result
     (λ e. e
-    ∙ ap (λ l. vs ++ flat_map f l) (ap those_views (sym c.in-Some.is) ∙ c.those.ensures ∙ ap (λ x. called_so x (numbered_from 0 ds)) c.as_str.ensures.text)
+    ∙ ap (λ l. vs ++ flat_map f l) (ap those_views (sym c.in-Some.is) ∙ c.those.ensures
+    ∙ ap (λ x. called_so x (numbered_from 0 ds)) c.as_str.ensures.text)
     ∙ ap (λ l. vs ++ l) (asked_called q c.args.name.now g 0 ds))
     c.put_each_asked.ensures
 
@@ -31,5 +32,6 @@ returns-in-None c =
     let g = c.args.asked.now in
     let f : ℕ × Dependency → List Vertex = λ p. feature_of q p.1.real_name g in
     sym (append_none vs)
-    ∙ ap (λ l. vs ++ flat_map f l) (ap those_views (sym c.in-None.is) ∙ c.those.ensures ∙ ap (λ x. called_so x (numbered_from 0 ds)) c.as_str.ensures.text)
+    ∙ ap (λ l. vs ++ flat_map f l) (ap those_views (sym c.in-None.is) ∙ c.those.ensures
+    ∙ ap (λ x. called_so x (numbered_from 0 ds)) c.as_str.ensures.text)
     ∙ ap (λ l. vs ++ l) (asked_called q c.args.name.now g 0 ds)

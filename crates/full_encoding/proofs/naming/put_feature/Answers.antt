@@ -21,11 +21,14 @@ returns c =
     let s = summary_view c.args.brings.now in
     let f = c.args.feature.now in
     let vs = vertex_views c.args.vertices.now.items in
-    let of : List Entry → List Rattle.model.specs.Vertices.Vertex = λ es. flat_map (of_entry q name v s.dependencies) es in
+    let of : List Entry → List Rattle.model.specs.Vertices.Vertex =
+    λ es. flat_map (of_entry q name v s.dependencies) es in
     on_ok_weaker c.put_entries.result
     (λ e. e
-    ∙ ap (λ ds. vertex_views c.put_first.new.vertices.items ++ flat_map (of_entry q name v ds) (entry_views c.entries.result.now)) c.requires.called
-    ∙ ap (λ es. vertex_views c.put_first.new.vertices.items ++ of es) (c.entries.ensures ∙ entries_are (entries_at f s.features))
+    ∙ ap (λ ds. vertex_views c.put_first.new.vertices.items
+    ++ flat_map (of_entry q name v ds) (entry_views c.entries.result.now)) c.requires.called
+    ∙ ap (λ es. vertex_views c.put_first.new.vertices.items ++ of es)
+    (c.entries.ensures ∙ entries_are (entries_at f s.features))
     ∙ ap (λ l. l ++ of (entries_or_none (entries_at f s.features))) c.in_ok-put_first.ensures
     ∙ append_assoc vs (feature_of q name f) (of (entries_or_none (entries_at f s.features))))
     c.put_entries.ensures

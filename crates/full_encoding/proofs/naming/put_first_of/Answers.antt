@@ -13,12 +13,15 @@ returns-in_ok-push-in-Some c =
     let name = c.args.name.now in
     let f = c.args.feature.now in
     let vs = vertex_views c.args.vertices.now.items in
-    let at : slice_get c.args.versions.now 0 ≡ Some c.in-Some.version.now = sym c.first.ensures.value ∙ ap option_copied c.in-Some.is in
-    ap vertex_views c.in_ok-push-in-Some.ensures.items ∙ map-append vertex_ref_view c.args.vertices.now.items _ ∙ ap (λ (m : Class). vs ++ feat name m f ∷ []) c.of.ensures
+    let at : slice_get c.args.versions.now 0 ≡ Some c.in-Some.version.now =
+    sym c.first.ensures.value ∙ ap option_copied c.in-Some.is in
+    ap vertex_views c.in_ok-push-in-Some.ensures.items ∙ map-append vertex_ref_view c.args.vertices.now.items _
+    ∙ ap (λ (m : Class). vs ++ feat name m f ∷ []) c.of.ensures
     ∙ ap (λ l. vs ++ l) (sym (first_some name f c.args.versions.now c.in-Some.version.now at))
 
 pub returns-in-None : goal.returns-in-None
 returns-in-None c =
     let at : slice_get c.args.versions.now 0 ≡ None = sym c.first.ensures.value ∙ ap option_copied c.in-None.is in
     let vs = vertex_views c.args.vertices.now.items in
-    sym (append_none vs) ∙ ap (λ l. vs ++ l) (sym (first_none c.args.name.now c.args.feature.now c.args.versions.now at))
+    sym (append_none vs)
+    ∙ ap (λ l. vs ++ l) (sym (first_none c.args.name.now c.args.feature.now c.args.versions.now at))

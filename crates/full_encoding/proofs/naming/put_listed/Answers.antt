@@ -15,7 +15,8 @@ features-preserved c =
     let i = c.features.feature-index in
     let e = c.feature-item.result in
     let left = drop (i + 1) xs in
-    let here : drop i xs ≡ e ∷ left = drop_more xs i e c.features-test.true ∙ ap (λ y. y ∷ left) (sym c.feature-item.is) in
+    let here : drop i xs ≡ e ∷ left =
+    drop_more xs i e c.features-test.true ∙ ap (λ y. y ∷ left) (sym c.feature-item.is) in
     let all = vertex_views c.features.vertices.items in
     ap (λ l. l ++ flat_map f left) c.in_ok-put_first.ensures
     ∙ append_assoc all (f e) (flat_map f left)

@@ -19,13 +19,17 @@ returns c =
     let vs = vertex_views c.args.vertices.now.items in
     let ds = dependency_views c.dependencies-dependencies.result.now in
     let owned : List Dependency → List Vertex = λ l. each_from (of_dependency q the_root) 0 l in
-    let asked : List Dependency → Table → List Vertex = λ l t. flat_map (λ row. flat_map (λ e. flat_map (asked_of q l) (asked_by e)) row.1) t in
+    let asked : List Dependency → Table → List Vertex =
+    λ l t. flat_map (λ row. flat_map (λ e. flat_map (asked_of q l) (asked_by e)) row.1) t in
     on_ok_weaker c.put_rows.result
     (λ e. e
-    ∙ ap (λ l. vertex_views c.put_dependencies.new.vertices.items ++ asked l c.features.result.now) c.in_ok-called.ensures
-    ∙ ap (λ l. l ++ asked ds c.features.result.now) (c.in_ok-put_dependencies.ensures ∙ ap (λ l. l ++ owned ds) (ap vertex_views c.in_ok-push.ensures.items ∙ map-append vertex_ref_view c.args.vertices.now.items _))
+    ∙ ap (λ l. vertex_views c.put_dependencies.new.vertices.items
+    ++ asked l c.features.result.now) c.in_ok-called.ensures
+    ∙ ap (λ l. l ++ asked ds c.features.result.now) (c.in_ok-put_dependencies.ensures ∙ ap (λ l. l ++ owned ds)
+    (ap vertex_views c.in_ok-push.ensures.items ∙ map-append vertex_ref_view c.args.vertices.now.items _))
     ∙ three vs (root ∷ []) (owned ds) (asked ds c.features.result.now)
     ∙ ap (λ l. vs ++ (root ∷ (owned l ++ asked l c.features.result.now))) c.dependencies-dependencies.ensures
     ∙ ap (λ t. vs ++ (root ∷ (owned q.brings.dependencies ++ asked q.brings.dependencies t))) c.features.ensures
-    ∙ ap (λ l. vs ++ (root ∷ (owned q.brings.dependencies ++ l))) (rows_ask (asked_of q q.brings.dependencies) q.brings.features))
+    ∙ ap (λ l. vs ++ (root ∷ (owned q.brings.dependencies ++ l)))
+    (rows_ask (asked_of q q.brings.dependencies) q.brings.features))
     c.put_rows.ensures

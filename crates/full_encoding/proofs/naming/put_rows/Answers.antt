@@ -18,7 +18,8 @@ rows-preserved c =
     let row : List ℕ × Vec Entry Global = (c.in-Some.field-0-0.now, c.in-Some.entries.now) in
     let rest : List (List ℕ × Vec Entry Global) = c.next.new.self in
     let steps : c.rows.entries-iterator ≡ row ∷ rest = search rules in
-    let g : model.Entry → List Vertex = λ e. flat_map (asked_of (problem c.args.inputs.now) c.args.called.now) (asked_by e) in
+    let g : model.Entry → List Vertex =
+    λ e. flat_map (asked_of (problem c.args.inputs.now) c.args.called.now) (asked_by e) in
     let f : List ℕ × List model.Entry → List Vertex = λ r. flat_map g r.1 in
     let first : List ℕ × List model.Entry = (row.0, entry_views row.1.items) in
     let vs = vertex_views c.rows.vertices.items in
@@ -27,6 +28,7 @@ rows-preserved c =
     record {
       can = tt;
       finite = tt;
-      told = rest_more f vs (vertex_views c.put_row.new.vertices.items) (vertex_views c.args.vertices.now.items ++ flat_map f c.args.table.now) first (rows_of rest)
+      told = rest_more f vs (vertex_views c.put_row.new.vertices.items)
+          (vertex_views c.args.vertices.now.items ++ flat_map f c.args.table.now) first (rows_of rest)
           (ap (λ es. vs ++ flat_map f (rows_of es)) (sym steps) ∙ c.rows.invariant.told) step;
     }

@@ -19,12 +19,15 @@ rows-preserved c =
     let row : List ℕ × Vec Entry Global = (c.in-Some.feature.now, c.in-Some.field-0-1.now) in
     let rest : List (List ℕ × Vec Entry Global) = c.next.new.self in
     let steps : c.rows.feature-iterator ≡ row ∷ rest = search rules in
-    let f : List ℕ × List model.Entry → List Vertex = λ r. of_feature (problem c.args.inputs.now) c.args.release.name.now (parts_of c.args.release.version.now) (summary_view c.args.brings.now) r.0 in
+    let f : List ℕ × List model.Entry → List Vertex =
+    λ r. of_feature (problem c.args.inputs.now) c.args.release.name.now (parts_of c.args.release.version.now)
+    (summary_view c.args.brings.now) r.0 in
     let first : List ℕ × List model.Entry = (row.0, entry_views row.1.items) in
     let vs = vertex_views c.rows.vertices.items in
     record {
       can = tt;
       finite = tt;
-      told = rest_more f vs (vertex_views c.put_feature.new.vertices.items) (vertex_views c.args.vertices.now.items ++ flat_map f c.args.brings.now.features) first (rows_of rest)
+      told = rest_more f vs (vertex_views c.put_feature.new.vertices.items)
+          (vertex_views c.args.vertices.now.items ++ flat_map f c.args.brings.now.features) first (rows_of rest)
           (ap (λ es. vs ++ flat_map f (rows_of es)) (sym steps) ∙ c.rows.invariant.told) c.in_ok-put_feature.ensures;
     }

@@ -22,14 +22,17 @@ returns-in-Some c =
     let name = c.args.release.name.now in
     let v = parts_of c.args.release.version.now in
     let vs = vertex_views c.args.vertices.now.items in
-    let brought : Summary → List Vertex = λ s. each_from (of_dependency q (version_of name v)) 0 s.dependencies ++ of_table q name v s in
+    let brought : Summary → List Vertex =
+    λ s. each_from (of_dependency q (version_of name v)) 0 s.dependencies ++ of_table q name v s in
     let s = (said_by c.in-Some.candidate.now).brings in
     on_ok_weaker c.put_brought.result
     (λ e. e
-    ∙ ap (λ l. l ++ brought s) (ap vertex_views c.in_ok-push.ensures.items ∙ map-append vertex_ref_view c.args.vertices.now.items _ ∙ ap (λ (m : Class). vs ++ pkg name m ∷ []) c.of.ensures)
+    ∙ ap (λ l. l ++ brought s) (ap vertex_views c.in_ok-push.ensures.items
+    ∙ map-append vertex_ref_view c.args.vertices.now.items _ ∙ ap (λ (m : Class). vs ++ pkg name m ∷ []) c.of.ensures)
     ∙ append_assoc vs (pkg name (class_of v) ∷ []) (brought s)
     ∙ ap (λ t. vs ++ (pkg name (class_of v) ∷ brought t))
-    (is_there k.catalogue.now k.manifest.now name v (said_by c.in-Some.candidate.now) (sym (ap (option_map (λ (x : Bor Candidate). said_by x.now)) c.in-Some.is) ∙ c.candidate.ensures)))
+    (is_there k.catalogue.now k.manifest.now name v (said_by c.in-Some.candidate.now)
+    (sym (ap (option_map (λ (x : Bor Candidate). said_by x.now)) c.in-Some.is) ∙ c.candidate.ensures)))
     c.put_brought.ensures
 
 pub returns-in-None : goal.returns-in-None
@@ -39,7 +42,10 @@ returns-in-None c =
     let name = c.args.release.name.now in
     let v = parts_of c.args.release.version.now in
     let vs = vertex_views c.args.vertices.now.items in
-    let brought : Summary → List Vertex = λ s. each_from (of_dependency q (version_of name v)) 0 s.dependencies ++ of_table q name v s in
-    ap vertex_views c.in_ok-push.ensures.items ∙ map-append vertex_ref_view c.args.vertices.now.items _ ∙ ap (λ (m : Class). vs ++ pkg name m ∷ []) c.of.ensures
+    let brought : Summary → List Vertex =
+    λ s. each_from (of_dependency q (version_of name v)) 0 s.dependencies ++ of_table q name v s in
+    ap vertex_views c.in_ok-push.ensures.items ∙ map-append vertex_ref_view c.args.vertices.now.items _
+    ∙ ap (λ (m : Class). vs ++ pkg name m ∷ []) c.of.ensures
     ∙ ap (λ t. vs ++ (pkg name (class_of v) ∷ brought t))
-    (not_there k.catalogue.now k.manifest.now name v (sym (ap (option_map (λ (x : Bor Candidate). said_by x.now)) c.in-None.is) ∙ c.candidate.ensures))
+    (not_there k.catalogue.now k.manifest.now name v
+    (sym (ap (option_map (λ (x : Bor Candidate). said_by x.now)) c.in-None.is) ∙ c.candidate.ensures))

@@ -16,7 +16,8 @@ versions-preserved c =
     let i = c.versions.version-index in
     let e = c.version-item.result in
     let left = drop (i + 1) xs in
-    let here : drop i xs ≡ e ∷ left = drop_more xs i e c.versions-test.true ∙ ap (λ y. y ∷ left) (sym c.version-item.is) in
+    let here : drop i xs ≡ e ∷ left =
+    drop_more xs i e c.versions-test.true ∙ ap (λ y. y ∷ left) (sym c.version-item.is) in
     let all = vertex_views c.versions.vertices.items in
     ap (λ l. l ++ flat_map f (map parts_of left)) c.in_ok-put_version.ensures
     ∙ append_assoc all (f (parts_of e)) (flat_map f (map parts_of left))

@@ -9,5 +9,6 @@ use Rattle.full_encoding.proofs.naming.put_versions.Given as goal
 -- the vertices so far, with those of the versions that are left, are all
 abbrev pub invariant-versions : goal.invariant-versions
 invariant-versions l =
-    vertex_views l.vertices.items ++ flat_map (of_version (problem l.inputs) l.name) (map parts_of (drop l.version-index l.versions))
+    vertex_views l.vertices.items
+    ++ flat_map (of_version (problem l.inputs) l.name) (map parts_of (drop l.version-index l.versions))
     ≡ vertex_views l.fn.vertices.items ++ flat_map (of_version (problem l.inputs) l.name) (map parts_of l.versions)

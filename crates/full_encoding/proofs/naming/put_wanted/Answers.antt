@@ -15,6 +15,8 @@ returns c =
     let f = feature_of (problem c.args.inputs.now) d.real_name in
     let vs = vertex_views c.args.vertices.now.items in
     on_ok_weaker c.put_default.result
-    (λ e. e ∙ ap (λ l. l ++ cond d.default_features (f (codes "default")) []) (c.in_ok-put_listed.ensures ∙ ap (λ fs. vs ++ flat_map f fs) c.as_slice.ensures.value)
-    ∙ append_assoc vs (flat_map f d.features) (cond d.default_features (f (codes "default")) []) ∙ ap (λ l. vs ++ l) (own_list f d))
+    (λ e. e ∙ ap (λ l. l ++ cond d.default_features (f (codes "default")) [])
+    (c.in_ok-put_listed.ensures ∙ ap (λ fs. vs ++ flat_map f fs) c.as_slice.ensures.value)
+    ∙ append_assoc vs (flat_map f d.features) (cond d.default_features (f (codes "default")) [])
+    ∙ ap (λ l. vs ++ l) (own_list f d))
     c.put_default.ensures

@@ -9,12 +9,15 @@ use Rattle.full_encoding.proofs.Put.{put_none}
 use Rattle.full_encoding.proofs.numbering.widen.Goals as goal
 
 pub returns-in_err-vertices-clause-put : goal.returns-in_err-vertices-clause-put
-returns-in_err-vertices-clause-put c = put_none c.args.table.now (flat_map (in_classes (problem c.args.inputs.now)) c.args.table.now)
+returns-in_err-vertices-clause-put c =
+    put_none c.args.table.now (flat_map (in_classes (problem c.args.inputs.now)) c.args.table.now)
 
 pub returns-clause-put : goal.returns-clause-put
 returns-clause-put c =
-    subst (IsPut c.args.table.now c.put_all.new.table) (ap vertex_views c.as_slice.ensures.value ∙ c.in_ok-vertices.ensures) c.put_all.ensures.put
+    subst (IsPut c.args.table.now c.put_all.new.table)
+    (ap vertex_views c.as_slice.ensures.value ∙ c.in_ok-vertices.ensures) c.put_all.ensures.put
 
 pub returns-clause-all : goal.returns-clause-all
 returns-clause-all c =
-    on_ok_weaker c.put_all.result (subst (AreIn c.put_all.new.table) (ap vertex_views c.as_slice.ensures.value ∙ c.in_ok-vertices.ensures)) c.put_all.ensures.all
+    on_ok_weaker c.put_all.result (subst (AreIn c.put_all.new.table)
+    (ap vertex_views c.as_slice.ensures.value ∙ c.in_ok-vertices.ensures)) c.put_all.ensures.all

@@ -12,4 +12,5 @@ returns-clause-are c =
     let ss = c.args.spaces.now.items in
     let counted : vec_len c.args.spaces.now ≡ length ss = search rules in
     let r = get_below vs (length ss) c.requires.less in
-    subst (AreSpaces q vs) (sym c.in_ok-push.ensures.items) (space_put q vs ss c.in_ok-space.space r.0 c.requires.are r.1 (c.in_ok-space.ensures.space r.0 (ap (slice_get vs) (c.len.ensures ∙ counted) ∙ r.1)))
+    subst (AreSpaces q vs) (sym c.in_ok-push.ensures.items) (space_put q vs ss c.in_ok-space.space r.0 c.requires.are
+    r.1 (c.in_ok-space.ensures.space r.0 (ap (slice_get vs) (c.len.ensures ∙ counted) ∙ r.1)))

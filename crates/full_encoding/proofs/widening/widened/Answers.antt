@@ -14,12 +14,15 @@ numbers-preserved c =
     let table = c.args.table.now in
     let r = get_below table n (subst (λ k. n < k) c.len-number-end.ensures c.numbers-test.true) in
     let vs = vertex_views c.numbers.vertices.items in
-    rest_more f vs (vertex_views c.put_at.new.vertices.items) (flat_map f table) r.0 (drop (n + 1) table) (ap (λ l. vs ++ flat_map f l) (sym (drop_next table n r.0 r.1)) ∙ c.numbers.invariant) (c.in_ok-put_at.ensures r.0 r.1)
+    rest_more f vs (vertex_views c.put_at.new.vertices.items) (flat_map f table) r.0 (drop (n + 1) table) (ap (λ l. vs
+    ++ flat_map f l) (sym (drop_next table n r.0 r.1)) ∙ c.numbers.invariant) (c.in_ok-put_at.ensures r.0 r.1)
 
 pub returns : goal.returns
 returns c =
     let f = in_classes (problem c.args.inputs.now) in
     let table = c.args.table.now in
-    let all : length table ≤ c.numbers.number = subst (λ k. k ≤ c.numbers.number) c.len-number-end.ensures (omega (arith, c.numbers-test.false)) in
+    let all : length table ≤ c.numbers.number =
+    subst (λ k. k ≤ c.numbers.number) c.len-number-end.ensures (omega (arith, c.numbers-test.false)) in
     let vs = vertex_views c.numbers.vertices.items in
-    sym (append_none vs) ∙ ap (λ l. vs ++ flat_map f l) (sym (drop_past table c.numbers.number all)) ∙ c.numbers.invariant
+    sym (append_none vs)
+    ∙ ap (λ l. vs ++ flat_map f l) (sym (drop_past table c.numbers.number all)) ∙ c.numbers.invariant

@@ -15,6 +15,9 @@ dependencies-preserved g c =
     let ds = c.args.dependencies.now in
     let n = c.dependencies.number in
     let d = c.index-dependencies-number.result in
-    let there = map_at dependency_view ds n d (slice_get-get_or ds n d c.dependencies-test.true ∙ ap Some (sym c.index-dependencies-number.is)) in
-    one_led (problem i) (ends i c.args.table.now (trail_view g.S.States.tests c.args.trail.now)) i.catalogue.now (owner_ref_view c.args.owner.now) (dependency_views ds) n c.dependencies.places.items c.push.new.self.items (dependency_view d) c.in_ok-place.place
+    let there = map_at dependency_view ds n d
+    (slice_get-get_or ds n d c.dependencies-test.true ∙ ap Some (sym c.index-dependencies-number.is)) in
+    one_led (problem i) (ends i c.args.table.now (trail_view g.S.States.tests c.args.trail.now)) i.catalogue.now
+    (owner_ref_view c.args.owner.now) (dependency_views ds) n c.dependencies.places.items c.push.new.self.items
+    (dependency_view d) c.in_ok-place.place
     c.dependencies.invariant there c.in_ok-place.ensures c.in_ok-push.ensures.items

@@ -17,7 +17,8 @@ pub stops-init : goal.stops-init
 stops-init g c =
     let i = c.args.inputs.now in
     let q = problem i in
-    begun q (LeadsTo q (ends i c.args.table.now (trail_view g.S.States.tests c.args.trail.now))) i.catalogue.now _ _ c.new-stops.ensures.empty (ap node_views c.new-nodes.ensures.items)
+    begun q (LeadsTo q (ends i c.args.table.now (trail_view g.S.States.tests c.args.trail.now))) i.catalogue.now _ _
+    c.new-stops.ensures.empty (ap node_views c.new-nodes.ensures.items)
 
 pub brings_at-brings-requires : goal.brings_at-brings-requires
 brings_at-brings-requires g c = rw c.as_slice.ensures.keys c.stops.invariant.are
@@ -35,8 +36,10 @@ targets_of-requires-clause-many g c =
     let len = c.len.ensures in
     let place = c.len-place.ensures in
     let wide = c.len-in-stops.ensures.len in
-    let (o, at) = owner_next i.catalogue.now c.stops.stops.keys c.len-place.result (omega (arith, test, len, place, wide)) in
-    let led = c.in_ok-places.ensures o (subst (λ ks. slice_get (owners_of i.catalogue.now ks) c.len-place.result ≡ Some o) (sym c.as_slice-in-stops.ensures.keys) at) in
+    let (o, at) =
+    owner_next i.catalogue.now c.stops.stops.keys c.len-place.result (omega (arith, test, len, place, wide)) in
+    let led = c.in_ok-places.ensures o (subst (λ ks. slice_get (owners_of i.catalogue.now ks) c.len-place.result
+    ≡ Some o) (sym c.as_slice-in-stops.ensures.keys) at) in
     let many : length c.in_ok-places.places.items ≡ length ds = rw length-map at led.as_many in
     rw c.as_slice-in-stops-2.ensures.value many
 
@@ -50,9 +53,12 @@ targets_of-requires-clause-there g c =
     let len = c.len.ensures in
     let place = c.len-place.ensures in
     let wide = c.len-in-stops.ensures.len in
-    let (o, at) = owner_next i.catalogue.now c.stops.stops.keys c.len-place.result (omega (arith, test, len, place, wide)) in
-    let led = c.in_ok-places.ensures o (subst (λ ks. slice_get (owners_of i.catalogue.now ks) c.len-place.result ≡ Some o) (sym c.as_slice-in-stops.ensures.keys) at) in
-    subst (AreThere i.catalogue.now (dependency_views ds)) (sym c.as_slice-in-stops-2.ensures.value) (led_there q st i.catalogue.now o (dependency_views ds) c.in_ok-places.places.items led)
+    let (o, at) =
+    owner_next i.catalogue.now c.stops.stops.keys c.len-place.result (omega (arith, test, len, place, wide)) in
+    let led = c.in_ok-places.ensures o (subst (λ ks. slice_get (owners_of i.catalogue.now ks) c.len-place.result
+    ≡ Some o) (sym c.as_slice-in-stops.ensures.keys) at) in
+    subst (AreThere i.catalogue.now (dependency_views ds)) (sym c.as_slice-in-stops-2.ensures.value)
+    (led_there q st i.catalogue.now o (dependency_views ds) c.in_ok-places.places.items led)
 
 pub stops-smaller : goal.stops-smaller
 stops-smaller g c =
@@ -81,11 +87,14 @@ stops-preserved g c =
     let put = rw c.as_slice-in-stops-2.ensures.value at c.in_ok-targets.ensures.put in
     one_more q (LeadsTo q st) index old new (node_views nodes) _ _ c.stops.invariant
     (rw length-map (omega (arith, test, len, wide))) c.in_ok-targets.ensures.grows
-    (λ o at. c.brings_at-brings.ensures o (subst (λ ks. slice_get (owners_of index ks) c.len-place.result ≡ Some o) (sym c.as_slice.ensures.keys) (ap (slice_get (owners_of index old)) even ∙ at)))
+    (λ o at. c.brings_at-brings.ensures o (subst (λ ks. slice_get (owners_of index ks) c.len-place.result ≡ Some o)
+    (sym c.as_slice.ensures.keys) (ap (slice_get (owners_of index old)) even ∙ at)))
     (ap (λ k. nat_eq k 0) even)
-    (λ o at. subst (λ (ds : List Dependency). AreLeads q (LeadsTo q st) (owners_of index new) o ds c.in_ok-targets.targets.items) c.dependencies_of-dependencies.ensures
+    (λ o at. subst (λ (ds : List Dependency). AreLeads q (LeadsTo q st)
+    (owners_of index new) o ds c.in_ok-targets.targets.items) c.dependencies_of-dependencies.ensures
     (leads_of q st index o new ds c.in_ok-places.places.items c.in_ok-targets.targets.items
-    (c.in_ok-places.ensures o (subst (λ ks. slice_get (owners_of index ks) c.len-place.result ≡ Some o) (sym c.as_slice-in-stops.ensures.keys) (ap (slice_get (owners_of index old)) even ∙ at))) put))
+    (c.in_ok-places.ensures o (subst (λ ks. slice_get (owners_of index ks) c.len-place.result ≡ Some o)
+    (sym c.as_slice-in-stops.ensures.keys) (ap (slice_get (owners_of index old)) even ∙ at))) put))
     (ap node_views c.in_ok-push.ensures.items ∙ map-append node_view nodes (_ ∷ []))
 
 pub returns-clause-met : goal.returns-clause-met
@@ -95,7 +104,8 @@ returns-clause-met g c =
     let test = c.stops-test.false in
     let len = c.len.ensures in
     let wide = c.len-in-stops.ensures.len in
-    all_met q (LeadsTo q (ends i c.args.table.now (trail_view g.S.States.tests c.args.trail.now))) i.catalogue.now c.stops.stops.keys (node_views c.stops.nodes.items) c.store_holds.ensures c.stops.invariant
+    all_met q (LeadsTo q (ends i c.args.table.now (trail_view g.S.States.tests c.args.trail.now))) i.catalogue.now
+    c.stops.stops.keys (node_views c.stops.nodes.items) c.store_holds.ensures c.stops.invariant
     (rw length-map (omega (arith, test, len, wide)))
 
 pub returns-clause-stops : goal.returns-clause-stops

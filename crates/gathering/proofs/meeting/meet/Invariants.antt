@@ -9,7 +9,9 @@ use Rattle.gathering.proofs.meeting.meet.Given as goal
 
 -- each of those met so far is there once, and the first of them have their nodes
 abbrev pub invariant-stops : goal.invariant-stops
-invariant-stops g l = SoFar (problem l.inputs) (LeadsTo (problem l.inputs) (ends l.inputs l.table (trail_view g.S.States.tests l.trail))) l.inputs.catalogue.now l.stops.keys (node_views l.nodes.items)
+invariant-stops g l =
+    SoFar (problem l.inputs) (LeadsTo (problem l.inputs) (ends l.inputs l.table (trail_view g.S.States.tests l.trail)))
+    l.inputs.catalogue.now l.stops.keys (node_views l.nodes.items)
 
 abbrev pub decreases-stops : goal.decreases-stops
 decreases-stops g l = 2 ^ 64 - length l.nodes.items

@@ -20,7 +20,8 @@ pub facts_of-requires : goal.facts_of-requires
 facts_of-requires g c =
     let i = c.args.inputs.now in
     record {
-      graph = rw c.as_slice.ensures.value (c.packages_are_a_graph.ensures (problem i) (ends i c.args.table.now (trail_view g.S.States.tests c.args.trail.now)) _ _ refl c.in_ok-stops.ensures.met);
+      graph = rw c.as_slice.ensures.value (c.packages_are_a_graph.ensures (problem i) (ends i c.args.table.now
+          (trail_view g.S.States.tests c.args.trail.now)) _ _ refl c.in_ok-stops.ensures.met);
     }
 
 pub returns-clause-selection : goal.returns-clause-selection
@@ -33,9 +34,15 @@ returns-clause-selection g c =
     let here = c.in_ok-facts.facts.here.items in
     let lists = map (λ v. v.items) c.in_ok-facts.facts.enabled.items in
     let met : AreMet q (LeadsTo q st) owners nodes = c.in_ok-stops.ensures.met in
-    let flags : AreFlags nodes here lists = record { each_here = rw c.as_slice.ensures.value at c.in_ok-facts.ensures.here; each_enabled = rw c.as_slice.ensures.value at c.in_ok-facts.ensures.enabled } in
+    let flags : AreFlags nodes here lists =
+    record {
+      each_here = rw c.as_slice.ensures.value at c.in_ok-facts.ensures.here;
+      each_enabled =
+          rw c.as_slice.ensures.value at c.in_ok-facts.ensures.enabled;
+    } in
     IfOk-weaker c.content_of.result (λ x. IsBuilt owners nodes lists q here x) _
-    (λ x built. c.built_contents_select.ensures q st owners nodes here lists x c.catalogues_are_well_formed.ensures refl c.requires.unbroken met flags built)
+    (λ x built. c.built_contents_select.ensures q st owners nodes here lists x c.catalogues_are_well_formed.ensures
+    refl c.requires.unbroken met flags built)
     (rw (c.as_slice-2.ensures.keys, c.as_slice-3.ensures.value) at c.content_of.ensures)
 
 pub returns-clause-root : goal.returns-clause-root
@@ -60,9 +67,15 @@ returns-clause-brought g c =
     let here = c.in_ok-facts.facts.here.items in
     let lists = map (λ v. v.items) c.in_ok-facts.facts.enabled.items in
     let met : AreMet q (LeadsTo q st) owners nodes = c.in_ok-stops.ensures.met in
-    let flags : AreFlags nodes here lists = record { each_here = rw c.as_slice.ensures.value at c.in_ok-facts.ensures.here; each_enabled = rw c.as_slice.ensures.value at c.in_ok-facts.ensures.enabled } in
+    let flags : AreFlags nodes here lists =
+    record {
+      each_here = rw c.as_slice.ensures.value at c.in_ok-facts.ensures.here;
+      each_enabled =
+          rw c.as_slice.ensures.value at c.in_ok-facts.ensures.enabled;
+    } in
     IfOk-weaker c.content_of.result (λ x. IsBuilt owners nodes lists q here x) _
-    (λ x built. root_brings q st c.requires.unbroken c.catalogues_are_well_formed.ensures x (stands q (LeadsTo q st) owners nodes met refl here lists flags x built))
+    (λ x built. root_brings q st c.requires.unbroken c.catalogues_are_well_formed.ensures x
+    (stands q (LeadsTo q st) owners nodes met refl here lists flags x built))
     (rw (c.as_slice-2.ensures.keys, c.as_slice-3.ensures.value) at c.content_of.ensures)
 
 pub returns-clause-followed : goal.returns-clause-followed
@@ -77,7 +90,13 @@ returns-clause-followed g c =
     let here = c.in_ok-facts.facts.here.items in
     let lists = map (λ v. v.items) c.in_ok-facts.facts.enabled.items in
     let met : AreMet q (LeadsTo q st) owners nodes = c.in_ok-stops.ensures.met in
-    let flags : AreFlags nodes here lists = record { each_here = rw c.as_slice.ensures.value at c.in_ok-facts.ensures.here; each_enabled = rw c.as_slice.ensures.value at c.in_ok-facts.ensures.enabled } in
+    let flags : AreFlags nodes here lists =
+    record {
+      each_here = rw c.as_slice.ensures.value at c.in_ok-facts.ensures.here;
+      each_enabled =
+          rw c.as_slice.ensures.value at c.in_ok-facts.ensures.enabled;
+    } in
     IfOk-weaker c.content_of.result (λ x. IsBuilt owners nodes lists q here x) _
-    (λ x built w valid bare brought left. c.built_contents_follow.ensures q st owners nodes here lists x w refl c.requires.unbroken met flags built valid bare brought (agrees_with q vs w t c.requires.whole valid left))
+    (λ x built w valid bare brought left. c.built_contents_follow.ensures q st owners nodes here lists x w refl
+    c.requires.unbroken met flags built valid bare brought (agrees_with q vs w t c.requires.whole valid left))
     (rw (c.as_slice-2.ensures.keys, c.as_slice-3.ensures.value) at c.content_of.ensures)

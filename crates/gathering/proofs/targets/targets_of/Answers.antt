@@ -10,18 +10,23 @@ target_of-requires c =
     let ds = c.args.dependencies.now in
     let n = c.dependencies.number in
     let d = c.index-dependencies-number.result in
-    let there = map_at dependency_view ds n d (slice_get-get_or ds n d c.dependencies-test.true ∙ ap Some (sym c.index-dependencies-number.is)) in
+    let there = map_at dependency_view ds n d
+    (slice_get-get_or ds n d c.dependencies-test.true ∙ ap Some (sym c.index-dependencies-number.is)) in
     let p = get_or c.args.places.now n None in
     let at = slice_get-get_or c.args.places.now n None (omega (arith, c.requires.many, c.dependencies-test.true)) in
-    there_put c.args.catalogue.now (dependency_views ds) c.args.places.now c.requires.there n (dependency_view d) p there at
+    there_put c.args.catalogue.now (dependency_views ds) c.args.places.now c.requires.there n
+    (dependency_view d) p there at
 
 pub dependencies-preserved : goal.dependencies-preserved
 dependencies-preserved c =
     let ds = c.args.dependencies.now in
     let n = c.dependencies.number in
     let d = c.index-dependencies-number.result in
-    let there = map_at dependency_view ds n d (slice_get-get_or ds n d c.dependencies-test.true ∙ ap Some (sym c.index-dependencies-number.is)) in
+    let there = map_at dependency_view ds n d
+    (slice_get-get_or ds n d c.dependencies-test.true ∙ ap Some (sym c.index-dependencies-number.is)) in
     let p = get_or c.args.places.now n None in
     let at = slice_get-get_or c.args.places.now n None (omega (arith, c.requires.many, c.dependencies-test.true)) in
-    one_put c.args.catalogue.now c.args.stops.now.keys c.dependencies.stops.keys c.target_of.new.stops.keys (dependency_views ds) c.args.places.now n c.dependencies.targets.items _ (dependency_view d) p c.in_ok-target.target
+    one_put c.args.catalogue.now c.args.stops.now.keys c.dependencies.stops.keys c.target_of.new.stops.keys
+    (dependency_views ds) c.args.places.now n c.dependencies.targets.items _
+    (dependency_view d) p c.in_ok-target.target
     c.dependencies.invariant c.in_ok-target.ensures.grows there at c.in_ok-target.ensures.put c.in_ok-push.ensures.items

@@ -10,5 +10,6 @@ abbrev pub invariant-given : goal.invariant-given
 invariant-given g l = let tests = g.S.States.tests in record {
   can : (goal.iterator-given g).can_next l.kind-iterator;
   finite : (goal.iterator-given g).is_finite l.kind-iterator;
-  told : with_given (entries_view tests l.store) (given_views tests (into_iter_items l.kind-iterator)) ≡ with_given (entries_view tests l.fn.store) (given_views tests l.fn.given.items);
+  told : with_given (entries_view tests l.store) (given_views tests (into_iter_items l.kind-iterator))
+      ≡ with_given (entries_view tests l.fn.store) (given_views tests l.fn.given.items);
 }

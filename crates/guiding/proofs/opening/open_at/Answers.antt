@@ -11,6 +11,10 @@ returns g c =
     let sets = (trail_view tests c.args.trail.now).sets in
     let asked = c.args.asked.now in
     let v = c.args.vertex in
-    let here : set_of (map tests asked) v ≡ tests c.index-asked-vertex.result = view_at tests asked v c.index-asked-vertex.result _ (omega (arith, c.requires.vertex, c.requires.long)) c.index-asked-vertex.is in
-    let one : size (set_of sets v) ≡ 1 = sym (ap size c.states-left.ensures) ∙ sym c.count.ensures ∙ c.if-count-ne1.false in
-    open_by sets (map tests asked) v c.least.result (tests c.index-asked-vertex.result) c.unless_asked.result here one (subst (λ s. has s c.least.result ≡ true) c.states-left.ensures c.least.ensures) c.unless_asked.ensures
+    let here : set_of (map tests asked) v ≡ tests c.index-asked-vertex.result =
+    view_at tests asked v c.index-asked-vertex.result _
+    (omega (arith, c.requires.vertex, c.requires.long)) c.index-asked-vertex.is in
+    let one : size (set_of sets v) ≡ 1 =
+    sym (ap size c.states-left.ensures) ∙ sym c.count.ensures ∙ c.if-count-ne1.false in
+    open_by sets (map tests asked) v c.least.result (tests c.index-asked-vertex.result) c.unless_asked.result here one
+    (subst (λ s. has s c.least.result ≡ true) c.states-left.ensures c.least.ensures) c.unless_asked.ensures

@@ -10,7 +10,8 @@ pub begin-requires-clause-trail : goal.begin-requires-clause-trail
 begin-requires-clause-trail g c =
     let t = trail_view g.S.States.tests c.in_ok-trail.trail in
     c.in_ok-trail.ensures.trail (entries_view g.S.States.tests c.new-store.result)
-    (subst (λ (es : List EntryView). LieIn t es) (sym c.new-store.ensures) (λ id below. let no : id < 0 = below in omega (arith, no)))
+    (subst (λ (es : List EntryView). LieIn t es) (sym c.new-store.ensures)
+    (λ id below. let no : id < 0 = below in omega (arith, no)))
 
 pub returns-clause-problem : goal.returns-clause-problem
 returns-clause-problem g c = c.in_ok-found.ensures.keeps.problem ∙ c.in_ok-guide.ensures.problem
@@ -22,8 +23,11 @@ pub returns-clause-searched : goal.returns-clause-searched
 returns-clause-searched g c =
     let tests = g.S.States.tests in
     let end = c.in_ok-found.ensures in
-    searched_of (problem c.args.inputs) c.args.follows c.in_ok-guide.guide c.search.new.guide (trail_view tests c.begin.new.trail) (trail_view tests c.search.new.trail) (entries_view tests c.begin.new.store) (entries_view tests c.search.new.store) c.in_ok-found.found.answer
-    c.in_ok-guide.ensures end.keeps c.is_kept.ensures.numbering c.is_kept.ensures.spaces end.spaces end.trail end.ended end.given end.stored end.touching end.walks end.selects
+    searched_of (problem c.args.inputs) c.args.follows c.in_ok-guide.guide c.search.new.guide
+    (trail_view tests c.begin.new.trail) (trail_view tests c.search.new.trail)
+    (entries_view tests c.begin.new.store) (entries_view tests c.search.new.store) c.in_ok-found.found.answer
+    c.in_ok-guide.ensures end.keeps c.is_kept.ensures.numbering c.is_kept.ensures.spaces end.spaces end.trail end.ended
+    end.given end.stored end.touching end.walks end.selects
 
 pub returns-clause-counted : goal.returns-clause-counted
 returns-clause-counted g c =

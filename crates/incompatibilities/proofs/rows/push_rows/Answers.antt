@@ -11,17 +11,22 @@ terms-init g c =
       can = tt;
       finite = tt;
       counted = gives.1 ∙ long ∙ sym (ap length gives.0);
-      entering = entering_first c.args.id c.args.rows.now.items c.args.terms.items _ gives.0 c.requires.room c.requires.apart;
+      entering =
+          entering_first c.args.id c.args.rows.now.items c.args.terms.items _ gives.0 c.requires.room c.requires.apart;
     }
 
 pub push_at-requires : goal.push_at-requires
 push_at-requires g c =
-    let here : into_iter_items c.terms.term-iterator ≡ c.in-Some.term ∷ into_iter_items c.next.new.self = c.in-Some.ensures.steps.0 in
-    first_room c.args.id c.args.rows.now.items c.terms.rows.items c.args.terms.items (into_iter_items c.terms.term-iterator) (into_iter_items c.next.new.self) c.in-Some.term here c.terms.invariant.entering
+    let here : into_iter_items c.terms.term-iterator ≡ c.in-Some.term ∷ into_iter_items c.next.new.self =
+    c.in-Some.ensures.steps.0 in
+    first_room c.args.id c.args.rows.now.items c.terms.rows.items c.args.terms.items
+    (into_iter_items c.terms.term-iterator)
+    (into_iter_items c.next.new.self) c.in-Some.term here c.terms.invariant.entering
 
 pub terms-preserved : goal.terms-preserved
 terms-preserved g c =
-    let here : into_iter_items c.terms.term-iterator ≡ c.in-Some.term ∷ into_iter_items c.next.new.self = c.in-Some.ensures.steps.0 in
+    let here : into_iter_items c.terms.term-iterator ≡ c.in-Some.term ∷ into_iter_items c.next.new.self =
+    c.in-Some.ensures.steps.0 in
     let left : into_iter_len c.next.new.self + 1 ≡ into_iter_len c.terms.term-iterator = c.in-Some.ensures.steps.1 in
     let count = ap length here in
     let counted = c.terms.invariant.counted in
@@ -29,11 +34,15 @@ terms-preserved g c =
       can = tt;
       finite = tt;
       counted = omega (arith, counted, count, left);
-      entering = entering_more c.args.id c.args.rows.now.items c.terms.rows.items c.push_at.new.rows.items c.args.terms.items (into_iter_items c.terms.term-iterator) (into_iter_items c.next.new.self) c.in-Some.term
+      entering =
+          entering_more c.args.id c.args.rows.now.items c.terms.rows.items c.push_at.new.rows.items c.args.terms.items
+          (into_iter_items c.terms.term-iterator) (into_iter_items c.next.new.self) c.in-Some.term
           here c.push_at.ensures.here c.push_at.ensures.others c.push_at.ensures.room c.terms.invariant.entering;
     }
 
 pub returns : goal.returns
 returns g c =
-    let none : into_iter_items c.terms.term-iterator ≡ [] = none_left (into_iter_len c.terms.term-iterator) (into_iter_items c.terms.term-iterator) c.terms.invariant.counted c.in-None.ensures.steps.0 in
-    entering_last c.args.id c.args.rows.now.items c.terms.rows.items c.args.terms.items (into_iter_items c.terms.term-iterator) none c.terms.invariant.entering
+    let none : into_iter_items c.terms.term-iterator ≡ [] = none_left (into_iter_len c.terms.term-iterator)
+    (into_iter_items c.terms.term-iterator) c.terms.invariant.counted c.in-None.ensures.steps.0 in
+    entering_last c.args.id c.args.rows.now.items c.terms.rows.items c.args.terms.items
+    (into_iter_items c.terms.term-iterator) none c.terms.invariant.entering

@@ -13,5 +13,7 @@ invariant-parts l =
       can : (goal.iterator-parts).can_next l.part-iterator;
       finite : (goal.iterator-parts).is_finite l.part-iterator;
       counted : into_iter_len l.part-iterator ≡ length (into_iter_items l.part-iterator);
-      told : with_front (dependency_views l.found.items) (dependencies_read (required_views (into_iter_items l.part-iterator))) ≡ dependencies_read (required_views l.fn.parts.items);
+      told : with_front (dependency_views l.found.items)
+          (dependencies_read (required_views (into_iter_items l.part-iterator)))
+          ≡ dependencies_read (required_views l.fn.parts.items);
     }

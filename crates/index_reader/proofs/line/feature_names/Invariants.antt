@@ -6,4 +6,5 @@ use Rattle.index_reader.proofs.line.feature_names.Given as goal
 
 -- the names so far and those of what is left are those of all
 abbrev pub invariant-texts : goal.invariant-texts
-invariant-texts l = with_front l.found.items (feature_names (texts_view (drop l.text-index l.texts))) ≡ feature_names (texts_view l.texts)
+invariant-texts l = with_front l.found.items (feature_names (texts_view (drop l.text-index l.texts)))
+    ≡ feature_names (texts_view l.texts)

@@ -6,4 +6,5 @@ use Rattle.index_reader.proofs.line.requirements.Given as goal
 
 -- the parts so far and those of what is left are those of all
 abbrev pub invariant-shapes : goal.invariant-shapes
-invariant-shapes l = with_front (required_views l.found.items) (required (line_dependency_views (drop l.shape-index l.shapes))) ≡ required (line_dependency_views l.shapes)
+invariant-shapes l = with_front (required_views l.found.items)
+    (required (line_dependency_views (drop l.shape-index l.shapes))) ≡ required (line_dependency_views l.shapes)

@@ -6,4 +6,5 @@ use Rattle.index_reader.proofs.made.are_features.Goals as goal
 
 pub returns-then-known-features : goal.returns-then-known-features
 returns-then-known-features c h =
-    features-same _ _ (sym (by_place feature_text_view feature_view same_feature c.args.known.now c.args.features.now c.if-known-features.true) ∙ sym c.all_features.ensures ∙ h)
+    features-same _ _ (sym (by_place feature_text_view feature_view same_feature c.args.known.now c.args.features.now
+    c.if-known-features.true) ∙ sym c.all_features.ensures ∙ h)

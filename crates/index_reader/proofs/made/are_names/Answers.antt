@@ -6,4 +6,6 @@ use Rattle.index_reader.proofs.made.are_names.Goals as goal
 
 pub returns-then-known-names : goal.returns-then-known-names
 returns-then-known-names c h =
-    names-same _ _ (sym (by_place dep_name_view dep_name_view same_name c.args.known.now c.args.names.now c.if-known-names.true) ∙ sym c.all_names.ensures ∙ h)
+    names-same _ _
+    (sym (by_place dep_name_view dep_name_view same_name c.args.known.now c.args.names.now c.if-known-names.true)
+    ∙ sym c.all_names.ensures ∙ h)

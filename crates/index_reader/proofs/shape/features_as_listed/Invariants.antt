@@ -7,4 +7,5 @@ use Rattle.index_reader.proofs.shape.features_as_listed.Given as goal
 
 -- the features so far and those of what is left are those of all
 abbrev pub invariant-members : goal.invariant-members
-invariant-members l = with_front (feature_views l.found.items) (features_in (listed_view (drop l.member-index l.member-items))) ≡ features_in (listed_view l.member-items)
+invariant-members l = with_front (feature_views l.found.items)
+    (features_in (listed_view (drop l.member-index l.member-items))) ≡ features_in (listed_view l.member-items)

@@ -11,5 +11,6 @@ invariant-members l =
     record {
       can : (goal.iterator-members).can_next l.name-iterator;
       finite : (goal.iterator-members).is_finite l.name-iterator;
-      told : with_front (feature_views l.found.items) (features_in (sorted_view l.name-iterator)) ≡ features_in (entries_view l.fn.members.items);
+      told : with_front (feature_views l.found.items) (features_in (sorted_view l.name-iterator))
+          ≡ features_in (entries_view l.fn.members.items);
     }

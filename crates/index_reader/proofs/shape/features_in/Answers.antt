@@ -5,5 +5,6 @@ use Rattle.index_reader.proofs.shape.features_in.Goals as goal
 
 pub returns-then-are_rising : goal.returns-then-are_rising
 returns-then-are_rising c =
-    let listed : entries_view c.args.members.now.items ≡ listed_view c.args.members.now.items = entries-listed c.args.members.now.items (sym c.are_rising.ensures ∙ c.if-are_rising.true) in
+    let listed : entries_view c.args.members.now.items ≡ listed_view c.args.members.now.items =
+    entries-listed c.args.members.now.items (sym c.are_rising.ensures ∙ c.if-are_rising.true) in
     rw listed c.features_as_listed.ensures

@@ -7,4 +7,5 @@ use Rattle.index_reader.proofs.values.texts_in.Given as goal
 
 -- the texts so far and those of what is left are those of all
 abbrev pub invariant-items : goal.invariant-items
-invariant-items l = with_front (texts_view l.found.items) (texts_in (trees_view (drop l.value-index l.values.items))) ≡ texts_in (trees_view l.values.items)
+invariant-items l = with_front (texts_view l.found.items) (texts_in (trees_view (drop l.value-index l.values.items)))
+    ≡ texts_in (trees_view l.values.items)

@@ -6,4 +6,5 @@ use Rattle.index_reader.proofs.written.dep_names.Given as goal
 
 -- the names so far are those of the dependencies so far
 abbrev pub invariant-dependencies : goal.invariant-dependencies
-invariant-dependencies l = dep_names_view l.found.items ≡ dep_names_of (line_dependency_views (take l.dependency-index l.dependencies))
+invariant-dependencies l =
+    dep_names_view l.found.items ≡ dep_names_of (line_dependency_views (take l.dependency-index l.dependencies))

@@ -7,4 +7,5 @@ use Rattle.index_reader.proofs.written.entries.Given as goal
 
 -- the entries so far and those of what is left are those of all
 abbrev pub invariant-texts : goal.invariant-texts
-invariant-texts l = with_front (entry_views l.found.items) (entries_read (texts_view (drop l.text-index l.texts))) ≡ entries_read (texts_view l.texts)
+invariant-texts l = with_front (entry_views l.found.items) (entries_read (texts_view (drop l.text-index l.texts)))
+    ≡ entries_read (texts_view l.texts)

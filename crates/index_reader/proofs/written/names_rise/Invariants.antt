@@ -9,5 +9,6 @@ use Rattle.index_reader.proofs.written.names_rise.Given as goal
 abbrev pub invariant-features : goal.invariant-features
 invariant-features l = record {
   text : shadow (Utf8 l.before);
-  told : names_rise l.before (feature_views (drop l.feature-index l.features)) ≡ names_rise [] (feature_views l.features);
+  told : names_rise l.before (feature_views (drop l.feature-index l.features))
+      ≡ names_rise [] (feature_views l.features);
 }

@@ -7,4 +7,5 @@ use Rattle.index_reader.proofs.written.rows.Given as goal
 
 -- the rows so far and those of what is left are those of all
 abbrev pub invariant-features : goal.invariant-features
-invariant-features l = with_front (rows_of l.found.items) (features_read (feature_views (drop l.feature-index l.features))) ≡ features_read (feature_views l.features)
+invariant-features l = with_front (rows_of l.found.items)
+    (features_read (feature_views (drop l.feature-index l.features))) ≡ features_read (feature_views l.features)

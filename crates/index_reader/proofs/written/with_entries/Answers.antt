@@ -10,13 +10,17 @@ use Rattle.index_reader.proofs.written.with_entries.Goals as goal
 
 pub returns-in-Some : goal.returns-in-Some
 returns-in-Some c =
-    let all : entry_views c.append.new.self.items ≡ entry_views c.in-Some.before.now.items ++ entry_views c.args.entries.items
-    = ap entry_views c.in_ok-append.ensures.items ∙ map-append entry_view c.in-Some.before.now.items c.args.entries.items in
+    let all : entry_views c.append.new.self.items
+    ≡ entry_views c.in-Some.before.now.items ++ entry_views c.args.entries.items
+    = ap entry_views c.in_ok-append.ensures.items
+    ∙ map-append entry_view c.in-Some.before.now.items c.args.entries.items in
     ap rows_of (c.get_mut.follows.holds c.append.new.self).0
-    ∙ joined-set c.args.written.entries c.args.name c.in-Some.before.now c.append.new.self (entry_views c.args.entries.items) (sym c.in-Some.ensures.value) all
+    ∙ joined-set c.args.written.entries c.args.name c.in-Some.before.now c.append.new.self
+    (entry_views c.args.entries.items) (sym c.in-Some.ensures.value) all
 
 pub returns : goal.returns
 returns c =
     ap rows_of c.in_ok-insert.ensures.entries
-    ∙ ap (λ m. rows_of (insert_entry (slice_cmp nat_cmp) m.entries c.args.name c.args.entries)) c.get_mut.follows.holds-at-none
+    ∙ ap (λ m.
+    rows_of (insert_entry (slice_cmp nat_cmp) m.entries c.args.name c.args.entries)) c.get_mut.follows.holds-at-none
     ∙ joined-insert c.args.written.entries c.args.name c.args.entries (sym c.in_default.ensures.value)

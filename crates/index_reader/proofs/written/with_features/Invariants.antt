@@ -6,4 +6,5 @@ use Rattle.index_reader.proofs.written.with_features.Given as goal
 
 -- the features so far, with those that are left, are all of them
 abbrev pub invariant-features : goal.invariant-features
-invariant-features l = with_features (rows_of l.written.entries) (feature_views (drop l.feature-index l.features)) ≡ with_features (rows_of l.fn.written.entries) (feature_views l.features)
+invariant-features l = with_features (rows_of l.written.entries) (feature_views (drop l.feature-index l.features))
+    ≡ with_features (rows_of l.fn.written.entries) (feature_views l.features)

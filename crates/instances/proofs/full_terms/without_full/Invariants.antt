@@ -11,5 +11,7 @@ invariant-terms l =
     record {
       can : (goal.iterator-terms).can_next l.term-iterator;
       finite : (goal.iterator-terms).is_finite l.term-iterator;
-      told : term_views l.kept.items ++ without_full (problem_view l.problem) (term_views (into_iter_items l.term-iterator)) ≡ without_full (problem_view l.problem) (term_views l.fn.terms.items);
+      told : term_views l.kept.items
+          ++ without_full (problem_view l.problem) (term_views (into_iter_items l.term-iterator))
+          ≡ without_full (problem_view l.problem) (term_views l.fn.terms.items);
     }

@@ -9,5 +9,7 @@ use Rattle.instances.proofs.has_feature.lacking_states.Given as goal
 
 -- those taken so far, with those among the versions that are left, are those of all
 abbrev pub invariant-versions : goal.invariant-versions
-invariant-versions l = state_ref_views l.states.items ++ versions_with (is_lacking (problem_view l.problem) l.name l.feature) (map parts_of (drop l.version-index l.versions))
+invariant-versions l =
+    state_ref_views l.states.items ++ versions_with (is_lacking (problem_view l.problem) l.name l.feature)
+    (map parts_of (drop l.version-index l.versions))
     ≡ absent ∷ versions_with (is_lacking (problem_view l.problem) l.name l.feature) (map parts_of l.versions)

@@ -17,8 +17,11 @@ use Rattle.instances.proofs.has_feature.lacking_term.Goals as goal
 
 pub rising-requires : goal.rising-requires
 rising-requires c =
-    let those = subst AreRising (sym c.of_class.ensures) (AllPairs-filter (λ v w. precedence_cmp v w ≡ Less) (λ v. is_of (class_view c.args.class) (parts_of v)) c.versions-versions.result.now c.versions-versions.ensures.rising) in
-    subst (IsStrictlySortedBy state_cmp) (sym c.in_ok-states.ensures) (absent_first (is_lacking (problem_view c.args.problem.now) c.args.name.now c.args.feature.now) c.of_class.result.now those)
+    let those = subst AreRising (sym c.of_class.ensures)
+    (AllPairs-filter (λ v w. precedence_cmp v w ≡ Less) (λ v. is_of (class_view c.args.class) (parts_of v))
+    c.versions-versions.result.now c.versions-versions.ensures.rising) in
+    subst (IsStrictlySortedBy state_cmp) (sym c.in_ok-states.ensures) (absent_first
+    (is_lacking (problem_view c.args.problem.now) c.args.name.now c.args.feature.now) c.of_class.result.now those)
 
 pub returns : goal.returns
 returns c =
@@ -26,4 +29,6 @@ returns c =
     let name = c.args.name.now in
     ap (at (pkg name (class_view c.args.class)))
     (c.rising.ensures ∙ c.in_ok-states.ensures
-    ∙ ap (λ ss. absent ∷ ss) (lacking_is k.manifest.now k.catalogue.now name (class_view c.args.class) c.args.feature.now c.versions-versions.result.now c.of_class.result.now c.versions-versions.ensures.versions c.versions-versions.ensures.rising c.of_class.ensures))
+    ∙ ap (λ ss. absent ∷ ss) (lacking_is k.manifest.now k.catalogue.now name
+    (class_view c.args.class) c.args.feature.now c.versions-versions.result.now c.of_class.result.now
+    c.versions-versions.ensures.versions c.versions-versions.ensures.rising c.of_class.ensures))

@@ -8,5 +8,6 @@ use Rattle.instances.proofs.newest_listed.taken_states.Given as goal
 
 -- those taken so far, with those among the versions that are left, are those of all
 abbrev pub invariant-versions : goal.invariant-versions
-invariant-versions l = state_ref_views l.states.items ++ versions_with (matches_views (requirement_view l.requirement)) (map parts_of (drop l.version-index l.versions))
+invariant-versions l = state_ref_views l.states.items
+    ++ versions_with (matches_views (requirement_view l.requirement)) (map parts_of (drop l.version-index l.versions))
     ≡ versions_with (matches_views (requirement_view l.requirement)) (map parts_of l.versions)

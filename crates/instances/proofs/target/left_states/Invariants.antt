@@ -9,5 +9,6 @@ use Rattle.instances.proofs.target.left_states.Given as goal
 
 -- those taken so far, with those among the versions that are left, are those of all
 abbrev pub invariant-versions : goal.invariant-versions
-invariant-versions l = state_ref_views l.states.items ++ versions_with (is_left (requirement_view l.requirement)) (map parts_of (drop l.version-index l.versions))
+invariant-versions l = state_ref_views l.states.items
+    ++ versions_with (is_left (requirement_view l.requirement)) (map parts_of (drop l.version-index l.versions))
     ≡ absent ∷ versions_with (is_left (requirement_view l.requirement)) (map parts_of l.versions)

@@ -12,11 +12,14 @@ use Rattle.instances.proofs.target.left_term.Goals as goal
 
 pub rising-requires : goal.rising-requires
 rising-requires c =
-    subst (IsStrictlySortedBy state_cmp) (sym c.in_ok-states.ensures) (absent_first (is_left (requirement_view c.args.dependency.now.requirement)) c.class_versions-versions.result.now c.class_versions-versions.ensures.rising)
+    subst (IsStrictlySortedBy state_cmp) (sym c.in_ok-states.ensures)
+    (absent_first (is_left (requirement_view c.args.dependency.now.requirement))
+    c.class_versions-versions.result.now c.class_versions-versions.ensures.rising)
 
 pub returns : goal.returns
 returns c =
     let k = c.args.problem.now in
     let d = dependency_view c.args.dependency.now in
     ap (at (pkg d.real_name (class_view c.args.class)))
-    (c.rising.ensures ∙ c.in_ok-states.ensures ∙ ap (λ ss. absent ∷ ss) (left_is k.manifest.now k.catalogue.now d (class_view c.args.class) c.class_versions-versions.result.now c.class_versions-versions.ensures.versions))
+    (c.rising.ensures ∙ c.in_ok-states.ensures ∙ ap (λ ss. absent ∷ ss) (left_is k.manifest.now k.catalogue.now d
+    (class_view c.args.class) c.class_versions-versions.result.now c.class_versions-versions.ensures.versions))

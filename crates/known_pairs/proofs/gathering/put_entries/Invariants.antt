@@ -7,4 +7,5 @@ use Rattle.known_pairs.proofs.gathering.put_entries.Given as goal
 
 -- what the entries so far ask for is there
 abbrev pub invariant-entries : goal.invariant-entries
-invariant-entries l = (d g : List ℕ) → has_pair l.asked d g ≡ (has_pair l.fn.asked d g || list_any (asks_for d g) (entry_views (take l.entry-index l.entries)))
+invariant-entries l = (d g : List ℕ) → has_pair l.asked d g
+    ≡ (has_pair l.fn.asked d g || list_any (asks_for d g) (entry_views (take l.entry-index l.entries)))

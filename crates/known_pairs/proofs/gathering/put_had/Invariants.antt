@@ -9,5 +9,6 @@ use Rattle.known_pairs.proofs.gathering.put_had.Given as goal
 
 -- with the features of the candidates that are left, those of all are there
 abbrev pub invariant-places : goal.invariant-places
-invariant-places l = (n f : List ℕ) → (has_pair l.known n f || (same_text n l.name && list_any (λ (e : Candidate). has_feature e.brings.features f) (drop l.place (candidates_of (rows_by_name l.catalogue) l.name))))
+invariant-places l = (n f : List ℕ) → (has_pair l.known n f || (same_text n l.name && list_any (λ (e : Candidate).
+    has_feature e.brings.features f) (drop l.place (candidates_of (rows_by_name l.catalogue) l.name))))
     ≡ (has_pair l.fn.known n f || is_had l.catalogue l.name n f)

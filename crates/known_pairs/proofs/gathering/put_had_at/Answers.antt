@@ -13,9 +13,11 @@ pub returns-in-Some : goal.returns-in-Some
 returns-in-Some c =
     let table = c.in-Some.candidate.now.brings.features in
     adds_ok c.put_table.result c.args.known.now c.put_table.new.known _ _
-    (λ n f. ap (λ name. list_any (λ row. same_pair (n, f) (name, row.0)) table) c.as_str.ensures.text ∙ named_rows n f c.args.name.now table
+    (λ n f. ap (λ name. list_any (λ row. same_pair (n, f) (name, row.0)) table) c.as_str.ensures.text
+    ∙ named_rows n f c.args.name.now table
     ∙ ap (λ b. same_text n c.args.name.now && b)
-    (one_at (λ (o : Summary). has_feature o.features f) c.args.catalogue.now c.args.name.now c.args.place (said_by c.in-Some.candidate.now)
+    (one_at (λ (o : Summary). has_feature o.features f) c.args.catalogue.now c.args.name.now c.args.place
+    (said_by c.in-Some.candidate.now)
     (sym (ap (option_map (λ (x : Bor Candidate). said_by x.now)) c.in-Some.is) ∙ c.candidate_at.ensures)))
     c.put_table.ensures
 

@@ -6,4 +6,5 @@ use Rattle.known_pairs.proofs.gathering.put_names.Given as goal
 
 -- what the candidates of the names so far have and ask for is there
 abbrev pub invariant-names : goal.invariant-names
-invariant-names l = (n f : List ℕ) → has_pair l.known n f ≡ (has_pair l.fn.known n f || list_any (λ name. is_known_by l.catalogue name n f) (take l.name-index l.names))
+invariant-names l = (n f : List ℕ) → has_pair l.known n f
+    ≡ (has_pair l.fn.known n f || list_any (λ name. is_known_by l.catalogue name n f) (take l.name-index l.names))

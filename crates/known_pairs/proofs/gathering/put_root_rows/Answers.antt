@@ -18,7 +18,10 @@ rows-preserved c =
     record {
       can = tt;
       finite = tt;
-      told = λ d g. one_more (has_pair c.rows.asked d g) (has_pair c.put_entries.new.asked d g) (row_names d g (row.0, entry_views row.1.items)) (list_any (row_names d g) (rows_of rest)) _
-          (c.in_ok-put_entries.ensures d g ∙ ap (λ b. has_pair c.rows.asked d g || b) (ap (λ es. list_any (asks_for d g) (entry_views es)) c.as_slice.ensures.value ∙ names_is d g (row.0, entry_views row.1.items)))
-          (sym (ap (λ es. has_pair c.rows.asked d g || list_any (row_names d g) (rows_of es)) steps) ∙ c.rows.invariant.told d g);
+      told = λ d g. one_more (has_pair c.rows.asked d g) (has_pair c.put_entries.new.asked d g)
+          (row_names d g (row.0, entry_views row.1.items)) (list_any (row_names d g) (rows_of rest)) _
+          (c.in_ok-put_entries.ensures d g ∙ ap (λ b. has_pair c.rows.asked d g || b) (ap (λ es. list_any (asks_for d g)
+          (entry_views es)) c.as_slice.ensures.value ∙ names_is d g (row.0, entry_views row.1.items)))
+          (sym (ap (λ es. has_pair c.rows.asked d g || list_any (row_names d g) (rows_of es)) steps)
+          ∙ c.rows.invariant.told d g);
     }

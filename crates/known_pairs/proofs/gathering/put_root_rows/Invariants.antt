@@ -10,5 +10,6 @@ abbrev pub invariant-rows : goal.invariant-rows
 invariant-rows l = record {
   can : (goal.iterator-rows).can_next l.entries-iterator;
   finite : (goal.iterator-rows).is_finite l.entries-iterator;
-  told : (d g : List ℕ) → (has_pair l.asked d g || list_any (row_names d g) (rows_of l.entries-iterator)) ≡ (has_pair l.fn.asked d g || list_any (row_names d g) l.fn.table);
+  told : (d g : List ℕ) → (has_pair l.asked d g || list_any (row_names d g) (rows_of l.entries-iterator))
+      ≡ (has_pair l.fn.asked d g || list_any (row_names d g) l.fn.table);
 }

@@ -19,7 +19,10 @@ rows-preserved c =
     record {
       can = tt;
       finite = tt;
-      told = λ d g. one_more (has_pair c.rows.asked d g) (has_pair c.put_entries.new.asked d g) (row_may_ask d g table (row.0, entry_views row.1.items)) (list_any (row_may_ask d g table) (rows_of rest)) _
-          (c.in_ok-put_entries.ensures d g ∙ ap (λ b. has_pair c.rows.asked d g || b) (ap (list_any (asks_for d g)) c.entries.ensures ∙ may_ask_is d g table (row.0, entry_views row.1.items)))
-          (sym (ap (λ es. has_pair c.rows.asked d g || list_any (row_may_ask d g table) (rows_of es)) steps) ∙ c.rows.invariant.told d g);
+      told = λ d g. one_more (has_pair c.rows.asked d g) (has_pair c.put_entries.new.asked d g)
+          (row_may_ask d g table (row.0, entry_views row.1.items)) (list_any (row_may_ask d g table) (rows_of rest)) _
+          (c.in_ok-put_entries.ensures d g ∙ ap (λ b. has_pair c.rows.asked d g || b) (ap (list_any (asks_for d g))
+          c.entries.ensures ∙ may_ask_is d g table (row.0, entry_views row.1.items)))
+          (sym (ap (λ es. has_pair c.rows.asked d g || list_any (row_may_ask d g table) (rows_of es)) steps)
+          ∙ c.rows.invariant.told d g);
     }

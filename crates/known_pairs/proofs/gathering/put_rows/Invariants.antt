@@ -10,5 +10,6 @@ abbrev pub invariant-rows : goal.invariant-rows
 invariant-rows l = record {
   can : (goal.iterator-rows).can_next l.row-iterator;
   finite : (goal.iterator-rows).is_finite l.row-iterator;
-  told : (d g : List ℕ) → (has_pair l.asked d g || list_any (row_may_ask d g l.fn.table) (rows_of l.row-iterator)) ≡ (has_pair l.fn.asked d g || list_any (row_may_ask d g l.fn.table) l.fn.table);
+  told : (d g : List ℕ) → (has_pair l.asked d g || list_any (row_may_ask d g l.fn.table) (rows_of l.row-iterator))
+      ≡ (has_pair l.fn.asked d g || list_any (row_may_ask d g l.fn.table) l.fn.table);
 }

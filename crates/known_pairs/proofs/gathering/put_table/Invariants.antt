@@ -10,5 +10,7 @@ abbrev pub invariant-rows : goal.invariant-rows
 invariant-rows l = record {
   can : (goal.iterator-rows).can_next l.feature-iterator;
   finite : (goal.iterator-rows).is_finite l.feature-iterator;
-  told : (n f : List ℕ) → (has_pair l.known n f || list_any (λ row. same_pair (n, f) (l.name, row.0)) (rows_of l.feature-iterator)) ≡ (has_pair l.fn.known n f || list_any (λ row. same_pair (n, f) (l.name, row.0)) l.fn.table);
+  told : (n f : List ℕ)
+      → (has_pair l.known n f || list_any (λ row. same_pair (n, f) (l.name, row.0)) (rows_of l.feature-iterator))
+      ≡ (has_pair l.fn.known n f || list_any (λ row. same_pair (n, f) (l.name, row.0)) l.fn.table);
 }

@@ -9,4 +9,5 @@ use Rattle.lacks.proofs.lack.matches_yanked.Goals as goal
 pub returns : goal.returns
 returns c =
     c.some_yanked.ensures
-    ∙ sym (any-map (λ (l : RecordView). l.yanked && matches_views (requirement_view c.args.requirement.now) l.version) record_view c.args.records.now)
+    ∙ sym (any-map (λ (l : RecordView). l.yanked
+    && matches_views (requirement_view c.args.requirement.now) l.version) record_view c.args.records.now)

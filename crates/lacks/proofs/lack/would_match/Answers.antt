@@ -9,4 +9,5 @@ use Rattle.lacks.proofs.lack.would_match.Goals as goal
 pub returns : goal.returns
 returns c =
     c.some_held_back.ensures
-    ∙ sym (any-map (λ (l : RecordView). is_held_back (requirement_view c.args.requirement.now) l.version) record_view c.args.records.now)
+    ∙ sym (any-map (λ (l : RecordView).
+    is_held_back (requirement_view c.args.requirement.now) l.version) record_view c.args.records.now)

@@ -10,7 +10,11 @@ places-preserved c =
     let place = c.listed_at.ensures in
     elim c.match-listed_at.branch [
       | in-Some+in_ok-push w ↦
-          let items : c.match-listed_at.found.items ≡ c.places.found.items ++ w.in-Some.other ∷ [] = rw w.found-is w.in_ok-push.ensures.items in
-          rw (items, map-append) (place-there (listed_views c.places.found.items) (entry_views c.args.entries.now) c.args.places.now c.places.place-index (listed_view w.in-Some.other) c.places-test.true (rw w.in-Some.is at place) c.places.invariant)
-      | in_default w ↦ rw w.found-is (place-none (listed_views c.places.found.items) (entry_views c.args.entries.now) c.args.places.now c.places.place-index c.places-test.true (rw w.in_default.is at place) c.places.invariant)
+          let items : c.match-listed_at.found.items ≡ c.places.found.items ++ w.in-Some.other ∷ [] =
+          rw w.found-is w.in_ok-push.ensures.items in
+          rw (items, map-append) (place-there (listed_views c.places.found.items)
+          (entry_views c.args.entries.now) c.args.places.now c.places.place-index
+          (listed_view w.in-Some.other) c.places-test.true (rw w.in-Some.is at place) c.places.invariant)
+      | in_default w ↦ rw w.found-is (place-none (listed_views c.places.found.items) (entry_views c.args.entries.now)
+          c.args.places.now c.places.place-index c.places-test.true (rw w.in_default.is at place) c.places.invariant)
     ]

@@ -8,6 +8,9 @@ use Rattle.lockfile.proofs.listed.listed.Goals as goal
 
 pub returns : goal.returns
 returns c =
-    let sorted = c.in_ok-sort_by.ensures.sorted (λ x y. is_lt (written_cmp (listed_view x) (listed_view y))) (ranks_by written_total listed_view) (answers_always _ _ _ (λ f a r g called. search rules)) in
-    let stable = c.sort_by.ensures.stable (λ x y. is_lt (written_cmp (listed_view x) (listed_view y))) (ranks_by written_total listed_view) (answers_always _ _ _ (λ f a r g called. search rules)) in
-    rw (← c.in_ok-found.ensures) (sym (in_order-stable written_total listed_view c.in_ok-found.found.items c.sort_by.new.self.items sorted stable))
+    let sorted = c.in_ok-sort_by.ensures.sorted (λ x y. is_lt (written_cmp (listed_view x) (listed_view y)))
+    (ranks_by written_total listed_view) (answers_always _ _ _ (λ f a r g called. search rules)) in
+    let stable = c.sort_by.ensures.stable (λ x y. is_lt (written_cmp (listed_view x) (listed_view y)))
+    (ranks_by written_total listed_view) (answers_always _ _ _ (λ f a r g called. search rules)) in
+    rw (← c.in_ok-found.ensures) (sym (in_order-stable written_total listed_view c.in_ok-found.found.items
+    c.sort_by.new.self.items sorted stable))

@@ -7,4 +7,5 @@ use Rattle.lockfile.proofs.packages.packages_in.Given as goal
 
 -- the packages so far and those of what is left are those of all
 abbrev pub invariant-items : goal.invariant-items
-invariant-items l = with_front (unlinked_views l.found.items) (unlinked_in (items_view (drop l.value-index l.values.items))) ≡ unlinked_in (items_view l.values.items)
+invariant-items l = with_front (unlinked_views l.found.items)
+    (unlinked_in (items_view (drop l.value-index l.values.items))) ≡ unlinked_in (items_view l.values.items)

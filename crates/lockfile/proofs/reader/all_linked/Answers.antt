@@ -12,6 +12,10 @@ use Rattle.lockfile.proofs.reader.all_linked.Goals as goal
 
 pub returns : goal.returns
 returns c =
-    let pairs = YieldsList-from_zip (YieldsList-at c.zip.ensures.first (YieldsList-from_vec c.args.packages.items (search rules) (search rules))) (YieldsList-at c.zip.ensures.second (YieldsList-from_vec c.args.lists.items (search rules) (search rules))) in
+    let pairs = YieldsList-from_zip
+    (YieldsList-at c.zip.ensures.first (YieldsList-from_vec c.args.packages.items (search rules) (search rules)))
+    (YieldsList-at c.zip.ensures.second (YieldsList-from_vec c.args.lists.items (search rules) (search rules))) in
     IfOk-weaker c.collect.result _ _ (λ v e. e ∙ linked-zip c.args.packages.items c.args.lists.items)
-    (map_from_collect c.collect.result c.collect.ensures.ran (YieldsList-from_map_by _ package_view (λ (p : UnlinkedPackage × Vec ℕ Global). linked (unlinked_view p.0, p.1.items)) (YieldsList-at c.map.ensures.source pairs) c.map.ensures.closure (λ x r q k. search rules)))
+    (map_from_collect c.collect.result c.collect.ensures.ran (YieldsList-from_map_by _ package_view
+    (λ (p : UnlinkedPackage × Vec ℕ Global). linked (unlinked_view p.0, p.1.items))
+    (YieldsList-at c.map.ensures.source pairs) c.map.ensures.closure (λ x r q k. search rules)))

@@ -7,4 +7,6 @@ use Rattle.lockfile.proofs.search.lists.Given as goal
 -- the lists so far and those of what is left are those of all
 abbrev pub invariant-packages : goal.invariant-packages
 invariant-packages l =
-    with_front (list_views l.found.items) (lists_of (locked_packages (unlinked_views l.packages)) (unlinked_views (drop l.package-index l.packages))) ≡ lists_of (locked_packages (unlinked_views l.packages)) (unlinked_views l.packages)
+    with_front (list_views l.found.items)
+    (lists_of (locked_packages (unlinked_views l.packages)) (unlinked_views (drop l.package-index l.packages)))
+    ≡ lists_of (locked_packages (unlinked_views l.packages)) (unlinked_views l.packages)

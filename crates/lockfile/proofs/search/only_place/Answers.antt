@@ -9,19 +9,27 @@ pub returns-then-next : goal.returns-then-next
 returns-then-next c =
     let w = c.args.wanted in
     let ps = c.args.packages.now in
-    let first = IsPartitionPoint-from_clause (λ p. is_lt (order_to w p)) ps _ c.partition_point-first.ensures.partitioned (less-partitioned w ps c.requires) (λ a r g called. search (rules, is_lt_index)) in
+    let first =
+    IsPartitionPoint-from_clause (λ p. is_lt (order_to w p)) ps _ c.partition_point-first.ensures.partitioned
+    (less-partitioned w ps c.requires) (λ a r g called. search (rules, is_lt_index)) in
     wanted-twice w ps _ _ _ c.requires first (c.is_wanted_at-here.ensures, c.is_wanted_at-next.ensures) c.if-next.true
 
 pub returns-then-here : goal.returns-then-here
 returns-then-here c =
     let w = c.args.wanted in
     let ps = c.args.packages.now in
-    let first = IsPartitionPoint-from_clause (λ p. is_lt (order_to w p)) ps _ c.partition_point-first.ensures.partitioned (less-partitioned w ps c.requires) (λ a r g called. search (rules, is_lt_index)) in
-    wanted-there w ps _ _ _ c.requires first (c.is_wanted_at-here.ensures, c.is_wanted_at-next.ensures) c.if-here.true c.if-next.false
+    let first =
+    IsPartitionPoint-from_clause (λ p. is_lt (order_to w p)) ps _ c.partition_point-first.ensures.partitioned
+    (less-partitioned w ps c.requires) (λ a r g called. search (rules, is_lt_index)) in
+    wanted-there w ps _ _ _ c.requires first
+    (c.is_wanted_at-here.ensures, c.is_wanted_at-next.ensures) c.if-here.true c.if-next.false
 
 pub returns-else-here : goal.returns-else-here
 returns-else-here c =
     let w = c.args.wanted in
     let ps = c.args.packages.now in
-    let first = IsPartitionPoint-from_clause (λ p. is_lt (order_to w p)) ps _ c.partition_point-first.ensures.partitioned (less-partitioned w ps c.requires) (λ a r g called. search (rules, is_lt_index)) in
-    wanted-nowhere w ps _ _ _ c.requires first (c.is_wanted_at-here.ensures, c.is_wanted_at-next.ensures) c.if-here.false
+    let first =
+    IsPartitionPoint-from_clause (λ p. is_lt (order_to w p)) ps _ c.partition_point-first.ensures.partitioned
+    (less-partitioned w ps c.requires) (λ a r g called. search (rules, is_lt_index)) in
+    wanted-nowhere w ps _ _ _ c.requires first
+    (c.is_wanted_at-here.ensures, c.is_wanted_at-next.ensures) c.if-here.false

@@ -7,4 +7,5 @@ returns-in-Ok c = table-read _ _ c.in-Ok.ensures.ok.0 c.in-Ok.ensures.ok.1
 
 pub returns-else-is_memory : goal.returns-else-is_memory
 returns-else-is_memory c =
-    table-refused c.args.bytes.now (c.in-Err.ensures.refused (λ m. let yes : c.is_memory.result ≡ true = c.is_memory.ensures.1 m in cc))
+    table-refused c.args.bytes.now
+    (c.in-Err.ensures.refused (λ m. let yes : c.is_memory.result ≡ true = c.is_memory.ensures.1 m in cc))

@@ -6,4 +6,5 @@ use Rattle.lockfile.proofs.writer.put_dependencies.Given as goal
 
 -- the lines so far
 abbrev pub invariant-listed : goal.invariant-listed
-invariant-listed l = l.out.items ≡ l.fn.out.items ++ flat_map dependency_line (map (λ w. w.text) (listed_views (take l.other-index l.listed)))
+invariant-listed l = l.out.items
+    ≡ l.fn.out.items ++ flat_map dependency_line (map (λ w. w.text) (listed_views (take l.other-index l.listed)))

@@ -5,4 +5,5 @@ use Rattle.lockfile.proofs.writer.put_packages.Given as goal
 
 -- the packages so far
 abbrev pub invariant-entries : goal.invariant-entries
-invariant-entries l = l.out.items ≡ l.fn.out.items ++ flat_map (λ w. written_block w (written_list (entry_views l.entries) w)) (entry_views (take l.entry-index l.entries))
+invariant-entries l = l.out.items ≡ l.fn.out.items ++ flat_map (λ w.
+    written_block w (written_list (entry_views l.entries) w)) (entry_views (take l.entry-index l.entries))

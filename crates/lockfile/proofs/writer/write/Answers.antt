@@ -9,5 +9,10 @@ entries-requires c = rw c.packages.ensures.views (strictly-sorted package_cmp _ 
 pub returns : goal.returns
 returns c =
     let table = rw c.packages.ensures.views at c.in_ok-entries.ensures in
-    let written = rw (c.deref.ensures.value, table, c.in_ok-extend_from_slice.ensures.items, c.new-out.ensures.items) at c.in_ok-put_packages.ensures in
+    let written = rw (
+      c.deref.ensures.value,
+      table,
+      c.in_ok-extend_from_slice.ensures.items,
+      c.new-out.ensures.items,
+    ) at c.in_ok-put_packages.ensures in
     written ∙ whole-text c.args.content.now

@@ -4,7 +4,10 @@ use Rattle.lockfile.proofs.Alone.{are-read, passes-there, name-itself, own-name}
 use Rattle.lockfile.proofs.written_package.has_own_name.Goals as goal
 
 pub is_alone-requires-clause-wanted : goal.is_alone-requires-clause-wanted
-is_alone-requires-clause-wanted c = passes-there c.name_of.result c.args.packages.now c.args.place c.args.locked.now c.requires.place (name-itself c.name_of.result (package_view c.args.locked.now) c.name_of.ensures)
+is_alone-requires-clause-wanted c =
+    passes-there c.name_of.result c.args.packages.now c.args.place c.args.locked.now c.requires.place
+    (name-itself c.name_of.result (package_view c.args.locked.now) c.name_of.ensures)
 
 pub returns : goal.returns
-returns c = c.is_alone.ensures ∙ own-name c.name_of.result (package_view c.args.locked.now) (package_views c.args.packages.now) (are-read c.args.packages.now) c.name_of.ensures
+returns c = c.is_alone.ensures ∙ own-name c.name_of.result (package_view c.args.locked.now)
+    (package_views c.args.packages.now) (are-read c.args.packages.now) c.name_of.ensures

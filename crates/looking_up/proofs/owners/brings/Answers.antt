@@ -13,7 +13,8 @@ returns-in_err-candidate-in-Version c =
     let k = c.args.problem.now in
     let n = c.in-Version.name.now in
     let v = parts_of c.in-Version.version.now in
-    ap brings_view c.from_residual.ensures ∙ not_there k.catalogue.now k.manifest.now n v c.in_err-candidate-in-Version.ensures
+    ap brings_view c.from_residual.ensures
+    ∙ not_there k.catalogue.now k.manifest.now n v c.in_err-candidate-in-Version.ensures
     ∙ ap (λ o. owner_brings (problem_view k) (owner_ref_view o)) (sym c.in-Version.is)
 
 pub returns-in_ok-candidate-in-Version : goal.returns-in_ok-candidate-in-Version
@@ -21,5 +22,6 @@ returns-in_ok-candidate-in-Version c =
     let k = c.args.problem.now in
     let n = c.in-Version.name.now in
     let v = parts_of c.in-Version.version.now in
-    is_there k.catalogue.now k.manifest.now n v (said_by c.in_ok-candidate-in-Version.candidate.now) c.in_ok-candidate-in-Version.ensures
+    is_there k.catalogue.now k.manifest.now n v
+    (said_by c.in_ok-candidate-in-Version.candidate.now) c.in_ok-candidate-in-Version.ensures
     ∙ ap (λ o. owner_brings (problem_view k) (owner_ref_view o)) (sym c.in-Version.is)

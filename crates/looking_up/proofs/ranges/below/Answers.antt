@@ -8,4 +8,6 @@ use Rattle.looking_up.proofs.ranges.below.Goals as goal
 
 pub returns-clause-place : goal.returns-clause-place
 returns-clause-place c =
-    IsPartitionPoint-from_clause (λ v. is_below (class_view c.args.class) (parts_of v)) c.args.versions.now _ c.partition_point.ensures.partitioned (below_parted (class_view c.args.class) c.args.versions.now c.requires) (λ a r g called. search rules)
+    IsPartitionPoint-from_clause (λ v. is_below (class_view c.args.class) (parts_of v)) c.args.versions.now _
+    c.partition_point.ensures.partitioned (below_parted (class_view c.args.class) c.args.versions.now c.requires)
+    (λ a r g called. search rules)

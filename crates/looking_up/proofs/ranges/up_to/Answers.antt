@@ -8,4 +8,6 @@ use Rattle.looking_up.proofs.ranges.up_to.Goals as goal
 
 pub returns-clause-place : goal.returns-clause-place
 returns-clause-place c =
-    IsPartitionPoint-from_clause (λ v. not (is_above (class_view c.args.class) (parts_of v))) c.args.versions.now _ c.partition_point.ensures.partitioned (above_parted (class_view c.args.class) c.args.versions.now c.requires) (λ a r g called. search rules)
+    IsPartitionPoint-from_clause (λ v. not (is_above (class_view c.args.class) (parts_of v))) c.args.versions.now _
+    c.partition_point.ensures.partitioned (above_parted (class_view c.args.class) c.args.versions.now c.requires)
+    (λ a r g called. search rules)

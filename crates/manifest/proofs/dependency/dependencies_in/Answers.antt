@@ -6,4 +6,9 @@ use Rattle.manifest.proofs.dependency.dependencies_in.Goals as goal
 
 pub members-preserved : goal.members-preserved
 unfolding dependencies_in
-members-preserved c = record { can = tt; finite = tt; told = pushed dependency_view _ _ _ _ _ _ c.in_ok-push.ensures.items c.in_ok-dependency.ensures (search rules) }
+members-preserved c = record {
+  can = tt;
+  finite = tt;
+  told =
+      pushed dependency_view _ _ _ _ _ _ c.in_ok-push.ensures.items c.in_ok-dependency.ensures (search rules);
+}

@@ -11,5 +11,6 @@ invariant-members l =
     record {
       can : (goal.iterator-members).can_next l.key-iterator;
       finite : (goal.iterator-members).is_finite l.key-iterator;
-      told : with_front (dependency_views l.found.items) (dependencies_in l.part l.kind (members_view l.key-iterator)) ≡ dependencies_in l.part l.kind (members_view l.fn.table.entries);
+      told : with_front (dependency_views l.found.items) (dependencies_in l.part l.kind (members_view l.key-iterator))
+          ≡ dependencies_in l.part l.kind (members_view l.fn.table.entries);
     }

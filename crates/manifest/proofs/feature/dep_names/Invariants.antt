@@ -6,4 +6,5 @@ use Rattle.manifest.proofs.feature.dep_names.Given as goal
 
 -- the names so far are those of the dependencies so far
 abbrev pub invariant-dependencies : goal.invariant-dependencies
-invariant-dependencies l = dep_names_view l.names.items ≡ map dep_name (dependency_views (take l.dependency-index l.fn.dependencies))
+invariant-dependencies l =
+    dep_names_view l.names.items ≡ map dep_name (dependency_views (take l.dependency-index l.fn.dependencies))

@@ -7,4 +7,5 @@ use Rattle.manifest.proofs.feature.entries.Goals as goal
 
 pub items-preserved : goal.items-preserved
 unfolding entries_in
-items-preserved c = pushed entry_view _ _ _ _ _ _ c.in_ok-push.ensures.items c.in_ok-entry.ensures (grind (arith, common_steps))
+items-preserved c =
+    pushed entry_view _ _ _ _ _ _ c.in_ok-push.ensures.items c.in_ok-entry.ensures (grind (arith, common_steps))

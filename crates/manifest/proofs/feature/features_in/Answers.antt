@@ -5,16 +5,31 @@ use Rattle.manifest.proofs.ReadLemmas.{pushed}
 use Rattle.manifest.proofs.feature.features_in.Goals as goal
 
 pub members-init : goal.members-init
-members-init c = let rising = texts_rise _ c.iter-key-items.ensures.ordered in record { can = tt; finite = tt; sorted = search rules; told = search rules }
+members-init c = let rising = texts_rise _ c.iter-key-items.ensures.ordered in
+    record { can = tt; finite = tt; sorted = search rules; told = search rules }
 
 pub members-preserved-in_ok-insert : goal.members-preserved-in_ok-insert
 unfolding features_in
 members-preserved-in_ok-insert c =
-    let last = inserted c.members.found.entries _ c.in_ok-name.name _ (key_texts c.next.new.self) c.in_ok-insert.ensures.entries (search rules) in
-    record { can = tt; finite = tt; sorted = last.1; told = pushed row_view _ _ _ _ _ _ last.0 c.in_ok-name.ensures.row (search rules) }
+    let last = inserted c.members.found.entries _ c.in_ok-name.name _
+    (key_texts c.next.new.self) c.in_ok-insert.ensures.entries (search rules) in
+    record {
+      can = tt;
+      finite = tt;
+      sorted = last.1;
+      told =
+          pushed row_view _ _ _ _ _ _ last.0 c.in_ok-name.ensures.row (search rules);
+    }
 
 pub members-preserved : goal.members-preserved
 unfolding features_in
 members-preserved c =
-    let last = inserted c.members.found.entries _ c.in_ok-name.name _ (key_texts c.next.new.self) c.in_ok-insert.ensures.entries (search rules) in
-    record { can = tt; finite = tt; sorted = last.1; told = pushed row_view _ _ _ _ _ _ last.0 c.in_ok-name.ensures.row (search rules) }
+    let last = inserted c.members.found.entries _ c.in_ok-name.name _
+    (key_texts c.next.new.self) c.in_ok-insert.ensures.entries (search rules) in
+    record {
+      can = tt;
+      finite = tt;
+      sorted = last.1;
+      told =
+          pushed row_view _ _ _ _ _ _ last.0 c.in_ok-name.ensures.row (search rules);
+    }

@@ -15,5 +15,6 @@ invariant-members l =
       can : (goal.iterator-members).can_next l.key-iterator;
       finite : (goal.iterator-members).is_finite l.key-iterator;
       sorted : IsStrictlySortedBy text_cmp (row_names l.found.entries ++ key_texts l.key-iterator);
-      told : with_front (rows_of l.found.entries) (features_in (members_view l.key-iterator)) ≡ features_in (members_view l.fn.table.entries);
+      told : with_front (rows_of l.found.entries) (features_in (members_view l.key-iterator))
+          ≡ features_in (members_view l.fn.table.entries);
     }

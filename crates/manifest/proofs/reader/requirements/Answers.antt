@@ -6,4 +6,9 @@ use Rattle.manifest.proofs.reader.requirements.Goals as goal
 
 pub shapes-preserved : goal.shapes-preserved
 unfolding dependencies_of
-shapes-preserved c = record { can = tt; finite = tt; told = pushed dependency_view _ _ _ _ _ _ c.in_ok-push.ensures.items c.in_ok-with_requirement.ensures (search rules) }
+shapes-preserved c = record {
+  can = tt;
+  finite = tt;
+  told =
+      pushed dependency_view _ _ _ _ _ _ c.in_ok-push.ensures.items c.in_ok-with_requirement.ensures (search rules);
+}

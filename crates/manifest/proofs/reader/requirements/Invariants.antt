@@ -12,5 +12,7 @@ invariant-shapes l =
     record {
       can : (goal.iterator-shapes).can_next l.shape-iterator;
       finite : (goal.iterator-shapes).is_finite l.shape-iterator;
-      told : with_front (dependency_views l.found.items) (dependencies_of (shaped.dependency_views (into_iter_items l.shape-iterator))) ≡ dependencies_of (shaped.dependency_views l.fn.shapes.items);
+      told : with_front (dependency_views l.found.items)
+          (dependencies_of (shaped.dependency_views (into_iter_items l.shape-iterator)))
+          ≡ dependencies_of (shaped.dependency_views l.fn.shapes.items);
     }

@@ -9,4 +9,6 @@ use Rattle.manifest.proofs.ReadLemmas.{list_any-map}
 use Rattle.manifest.proofs.reader.uses.Goals as goal
 
 pub returns : goal.returns
-returns c = rw list_any-map (any_from_yields_List (λ (d : DependencyShape). is_from c.args.source (source_view d.source)) _ _ _ c.any.ensures.ran (YieldsList-from_slice c.args.dependencies.now cc) (λ x b q k. search (rules, tests)))
+returns c =
+    rw list_any-map (any_from_yields_List (λ (d : DependencyShape). is_from c.args.source (source_view d.source)) _ _ _
+    c.any.ensures.ran (YieldsList-from_slice c.args.dependencies.now cc) (λ x b q k. search (rules, tests)))

@@ -6,4 +6,9 @@ use Rattle.manifest.proofs.section.targets.Goals as goal
 
 pub members-preserved : goal.members-preserved
 unfolding targets_in
-members-preserved c = record { can = tt; finite = tt; told = appended dependency_view _ c.in_ok-own.own.items _ _ _ _ c.in_ok-append.ensures.items c.in_ok-own.ensures (search rules) }
+members-preserved c = record {
+  can = tt;
+  finite = tt;
+  told = appended dependency_view _ c.in_ok-own.own.items _ _ _ _
+      c.in_ok-append.ensures.items c.in_ok-own.ensures (search rules);
+}

@@ -11,5 +11,6 @@ invariant-members l =
     record {
       can : (goal.iterator-members).can_next l.value-iterator;
       finite : (goal.iterator-members).is_finite l.value-iterator;
-      told : with_front (dependency_views l.found.items) (targets_in (members_view l.value-iterator)) ≡ targets_in (members_view l.fn.targets.entries);
+      told : with_front (dependency_views l.found.items) (targets_in (members_view l.value-iterator))
+          ≡ targets_in (members_view l.fn.targets.entries);
     }

@@ -9,4 +9,6 @@ use Rattle.named_terms.proofs.SetLaws.{all_map}
 use Rattle.named_terms.proofs.compare.all_agree.Goals as goal
 
 pub returns : goal.returns
-returns c = all_from_yields_List (λ (t : Term). agree (term_views c.args.a.now) (term_views c.args.b.now) (term_view t)) _ _ _ c.all.ensures.ran (YieldsList-from_slice c.args.terms.now cc) (λ x b q k. search (rules, tests)) ∙ sym (all_map term_view (agree (term_views c.args.a.now) (term_views c.args.b.now)) c.args.terms.now)
+returns c = all_from_yields_List (λ (t : Term). agree (term_views c.args.a.now) (term_views c.args.b.now) (term_view t))
+    _ _ _ c.all.ensures.ran (YieldsList-from_slice c.args.terms.now cc) (λ x b q k. search (rules, tests))
+    ∙ sym (all_map term_view (agree (term_views c.args.a.now) (term_views c.args.b.now)) c.args.terms.now)

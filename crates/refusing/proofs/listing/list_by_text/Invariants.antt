@@ -4,4 +4,5 @@ use Rattle.refusing.specs.Refusing.{AreListed, AreSpelt}
 use Rattle.refusing.proofs.listing.list_by_text.Given as goal
 
 abbrev pub invariant-vertices : goal.invariant-vertices
-invariant-vertices g l = AreListed (problem l.inputs) l.table l.spaces × AreSpelt l.table l.spaces × (l.steps ≡ l.fn.steps)
+invariant-vertices g l =
+    AreListed (problem l.inputs) l.table l.spaces × AreSpelt l.table l.spaces × (l.steps ≡ l.fn.steps)

@@ -20,7 +20,8 @@ returns-clause-accepted g c =
     let place = place_in c.in_ok-kept.kept.places.items in
     let ids = c.in_ok-kept.kept.ids.items in
     IfOk-weaker c.steps_of.result (λ d. AreStepsOf q vs es place ids d) (λ d. IsAccepted q d)
-    (λ d are. refuted q vs es place c.catalogues_are_well_formed.ensures c.requires.numbering c.requires.axioms c.requires.touching c.args.last c.requires.within ids c.in_ok-kept.ensures.needed d are c.requires.none)
+    (λ d are. refuted q vs es place c.catalogues_are_well_formed.ensures c.requires.numbering c.requires.axioms
+    c.requires.touching c.args.last c.requires.within ids c.in_ok-kept.ensures.needed d are c.requires.none)
     c.steps_of.ensures
 
 pub returns-clause-once : goal.returns-clause-once

@@ -8,15 +8,18 @@ use Rattle.refusing.specs.Refusing.{spoken_view, spoken_views}
 use Rattle.refusing.proofs.speaking.push_spoken.Goals as goal
 
 pub speak-requires-clause-sized : goal.speak-requires-clause-sized
-speak-requires-clause-sized g c = c.requires.sized ∙ ap (size_of (problem c.args.inputs.now)) (sym c.vertex.ensures ∙ ap (option_map vertex_ref_view) c.in-Some.is)
+speak-requires-clause-sized g c = c.requires.sized
+    ∙ ap (size_of (problem c.args.inputs.now)) (sym c.vertex.ensures ∙ ap (option_map vertex_ref_view) c.in-Some.is)
 
 pub returns-in_ok-push-in-Some : goal.returns-in_ok-push-in-Some
 returns-in_ok-push-in-Some g c =
     let q = problem c.args.inputs.now in
     let m = g.S.States.tests c.args.term.now.states in
     let old = c.args.made.now.items in
-    let seen : slice_get c.args.table.now c.args.term.now.vertex ≡ Some (vertex_ref_view c.in-Some.vertex) = sym c.vertex.ensures ∙ ap (option_map vertex_ref_view) c.in-Some.is in
-    ap spoken_views c.in_ok-push-in-Some.ensures.items ∙ map-append spoken_view old (c.in_ok-one-in-Some.one ∷ []) ∙ ap (λ x. spoken_views old ++ x ∷ []) c.in_ok-one-in-Some.ensures
+    let seen : slice_get c.args.table.now c.args.term.now.vertex ≡ Some (vertex_ref_view c.in-Some.vertex) =
+    sym c.vertex.ensures ∙ ap (option_map vertex_ref_view) c.in-Some.is in
+    ap spoken_views c.in_ok-push-in-Some.ensures.items ∙ map-append spoken_view old (c.in_ok-one-in-Some.one ∷ [])
+    ∙ ap (λ x. spoken_views old ++ x ∷ []) c.in_ok-one-in-Some.ensures
     ∙ ap (λ o. spoken_views old ++ with_term q o m []) (sym seen)
 
 pub returns-in-None : goal.returns-in-None
@@ -24,4 +27,5 @@ returns-in-None g c =
     let q = problem c.args.inputs.now in
     let m = g.S.States.tests c.args.term.now.states in
     let old = c.args.made.now.items in
-    sym (append-nil (spoken_views old)) ∙ ap (λ o. spoken_views old ++ with_term q o m []) (sym (sym c.vertex.ensures ∙ ap (option_map vertex_ref_view) c.in-None.is))
+    sym (append-nil (spoken_views old)) ∙ ap (λ o. spoken_views old ++ with_term q o m [])
+    (sym (sym c.vertex.ensures ∙ ap (option_map vertex_ref_view) c.in-None.is))

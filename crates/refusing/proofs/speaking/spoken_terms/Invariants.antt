@@ -5,4 +5,5 @@ use Rattle.refusing.proofs.Sized.{IsSpeaking}
 use Rattle.refusing.proofs.speaking.spoken_terms.Given as goal
 
 abbrev pub invariant-terms : goal.invariant-terms
-invariant-terms g l = IsSpeaking (problem l.inputs) l.table (terms_view g.S.States.tests l.terms) l.term-index (spoken_views l.made.items)
+invariant-terms g l =
+    IsSpeaking (problem l.inputs) l.table (terms_view g.S.States.tests l.terms) l.term-index (spoken_views l.made.items)

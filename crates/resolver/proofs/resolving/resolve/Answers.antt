@@ -8,8 +8,15 @@ pub returns-in_err-reply : goal.returns-in_err-reply
 returns-in_err-reply g c =
     let p = err_from_is_err_and c.from_residual-in_err-reply.result c.from_residual-in_err-reply.ensures.1 in
     rw (p.1, p.2)
-    (unanswered g.F.Folder.calls g.F.Folder.failed (record { manifest = c.args.manifest.now; old = option_copied c.args.old; source = c.args.source.now; prefer = c.args.prefer })
-    c.args.folder.now c.read_inputs.new.folder c.in_ok-inputs.inputs c.in_err-reply.field-0.0 c.as_str.ensures.source c.in_ok-inputs.ensures c.in_err-reply.ensures)
+    (unanswered g.F.Folder.calls g.F.Folder.failed (record {
+      manifest = c.args.manifest.now;
+      old =
+          option_copied c.args.old;
+      source = c.args.source.now;
+      prefer = c.args.prefer;
+    })
+    c.args.folder.now c.read_inputs.new.folder c.in_ok-inputs.inputs c.in_err-reply.field-0.0 c.as_str.ensures.source
+    c.in_ok-inputs.ensures c.in_err-reply.ensures)
 
 pub returns : goal.returns
 returns g c =
@@ -17,5 +24,6 @@ returns g c =
       inputs = c.in_ok-inputs.inputs;
       read = c.in_ok-inputs.ensures;
       is = subst (IsAnswer (option_copied c.args.old) c.in_ok-inputs.inputs) (sym c.with_skips.ensures)
-          (answered (option_copied c.args.old) c.in_ok-inputs.inputs c.in_ok-reply.reply c.into_skips.result c.in_ok-inputs.ensures.lock_says c.into_skips.ensures c.in_ok-reply.ensures);
+          (answered (option_copied c.args.old) c.in_ok-inputs.inputs c.in_ok-reply.reply c.into_skips.result
+          c.in_ok-inputs.ensures.lock_says c.into_skips.ensures c.in_ok-reply.ensures);
     }

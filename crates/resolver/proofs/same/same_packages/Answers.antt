@@ -5,4 +5,5 @@ use Rattle.resolver.proofs.Sameness.{place_by_place}
 use Rattle.resolver.proofs.same.same_packages.Goals as goal
 
 pub returns-then-a-b : goal.returns-then-a-b
-returns-then-a-b c = c.all_same.ensures ∙ place_by_place package_view same_package c.args.a.now c.args.b.now c.if-a-b.true
+returns-then-a-b c =
+    c.all_same.ensures ∙ place_by_place package_view same_package c.args.a.now c.args.b.now c.if-a-b.true

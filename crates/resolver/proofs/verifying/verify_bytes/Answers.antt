@@ -5,5 +5,10 @@ use Rattle.resolver.proofs.verifying.verify_bytes.Goals as goal
 
 pub returns-in_err-verify-in-Some : goal.returns-in_err-verify-in-Some
 returns-in_err-verify-in-Some g c =
-    let p = err_from_is_err_and c.from_residual-in_err-verify-in-Some.result c.from_residual-in_err-verify-in-Some.ensures.1 in
-    rw (p.1, p.2) (names_of c.in_ok-inputs.inputs, after_loading c.in_ok-inputs.inputs c.read_inputs.new.folder c.in_ok-inputs.ensures)
+    let p =
+    err_from_is_err_and c.from_residual-in_err-verify-in-Some.result c.from_residual-in_err-verify-in-Some.ensures.1
+    in
+    rw (p.1, p.2) (
+      names_of c.in_ok-inputs.inputs,
+      after_loading c.in_ok-inputs.inputs c.read_inputs.new.folder c.in_ok-inputs.ensures,
+    )

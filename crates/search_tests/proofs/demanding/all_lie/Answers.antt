@@ -12,6 +12,8 @@ terms-preserved g c =
     let ts = terms_view tests c.args.terms.now in
     let spaces = c.args.spaces.now in
     let t = c.index-terms-place.result in
-    let at : term_at ts c.terms.place ≡ term_view tests t = view_at (term_view tests) c.args.terms.now c.terms.place t _ c.terms-test.true c.index-terms-place.is in
-    one_more (λ i. length (term_at ts i).states ≡ universe_at spaces (term_at ts i).vertex) c.terms.place c.terms.invariant
+    let at : term_at ts c.terms.place ≡ term_view tests t =
+    view_at (term_view tests) c.args.terms.now c.terms.place t _ c.terms-test.true c.index-terms-place.is in
+    one_more
+    (λ i. length (term_at ts i).states ≡ universe_at spaces (term_at ts i).vertex) c.terms.place c.terms.invariant
     (subst (λ (x : TermView). length x.states ≡ universe_at spaces x.vertex) (sym at) c.if-not-lies.ensures)

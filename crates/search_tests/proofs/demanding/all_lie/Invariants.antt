@@ -5,4 +5,5 @@ use Rattle.search_tests.specs.Universes.{universe_at}
 use Rattle.search_tests.proofs.demanding.all_lie.Given as goal
 
 abbrev pub invariant-terms : goal.invariant-terms
-invariant-terms g l = (i : ℕ) → i < l.place → length (term_at (terms_view g.S.States.tests l.terms) i).states ≡ universe_at l.spaces (term_at (terms_view g.S.States.tests l.terms) i).vertex
+invariant-terms g l = (i : ℕ) → i < l.place → length (term_at (terms_view g.S.States.tests l.terms) i).states
+    ≡ universe_at l.spaces (term_at (terms_view g.S.States.tests l.terms) i).vertex

@@ -7,10 +7,12 @@ pub returns-clause-trail : goal.returns-clause-trail
 returns-clause-trail g c =
     let tests = g.S.States.tests in
     let es = entries_view tests c.args.store.now in
-    c.grow.ensures.trail es (below_proper (trail_view tests c.args.trail.now) es c.is_proper.ensures c.requires.trail.lies) c.requires.trail
+    c.grow.ensures.trail es
+    (below_proper (trail_view tests c.args.trail.now) es c.is_proper.ensures c.requires.trail.lies) c.requires.trail
 
 pub returns-in_err-push-clause-trail : goal.returns-in_err-push-clause-trail
 returns-in_err-push-clause-trail g c =
     let tests = g.S.States.tests in
     let es = entries_view tests c.args.store.now in
-    c.grow.ensures.trail es (below_proper (trail_view tests c.args.trail.now) es c.is_proper.ensures c.requires.trail.lies) c.requires.trail
+    c.grow.ensures.trail es
+    (below_proper (trail_view tests c.args.trail.now) es c.is_proper.ensures c.requires.trail.lies) c.requires.trail

@@ -13,4 +13,7 @@ returns g c =
     let ts = terms_view tests p.axiom in
     let one = ap (terms_view tests) c.terms.ensures.terms in
     let two = ap (terms_view tests) c.terms-2.ensures.terms in
-    put_one spaces p.vertex p.state (entries_view tests c.args.store.now) (entries_view tests c.add.new.self) ts c.terms.ensures.is c.if-is_lone.ensures (subst (AllFit spaces) one c.if-not-all_lie.ensures) (subst (λ (us : List TermView). HasOnly us p.vertex p.state) two c.if-not-has_one.ensures) c.in_ok-add.ensures.ok.1
+    put_one spaces p.vertex p.state (entries_view tests c.args.store.now)
+    (entries_view tests c.add.new.self) ts c.terms.ensures.is c.if-is_lone.ensures
+    (subst (AllFit spaces) one c.if-not-all_lie.ensures) (subst (λ (us : List TermView).
+    HasOnly us p.vertex p.state) two c.if-not-has_one.ensures) c.in_ok-add.ensures.ok.1

@@ -28,4 +28,5 @@ search-requires-clause-spaces g c =
 
 pub search-requires-clause-trail : goal.search-requires-clause-trail
 search-requires-clause-trail g c =
-    c.in_ok-trail.ensures.trail (entries_view g.S.States.tests c.new-store.result) (λ id lt. absurd (omega (arith, lt, ap length c.new-store.ensures)))
+    c.in_ok-trail.ensures.trail (entries_view g.S.States.tests c.new-store.result)
+    (λ id lt. absurd (omega (arith, lt, ap length c.new-store.ensures)))

@@ -12,7 +12,9 @@ said-preserved g c =
     let v : ℕ = (slice_index_or c.args.said.now c.said.vertex-index (0, 0)).0 in
     let before = terms_view tests c.said.terms.items in
     let term : TermView = record { vertex = v; states = tests c.in_ok-states.states } in
-    let pushed : terms_view tests c.push.new.self.items ≡ before ++ term ∷ [] = ap (terms_view tests) c.in_ok-push.ensures.items ∙ map-append (term_view tests) c.said.terms.items _ in
+    let pushed : terms_view tests c.push.new.self.items ≡ before ++ term ∷ [] =
+    ap (terms_view tests) c.in_ok-push.ensures.items ∙ map-append (term_view tests) c.said.terms.items _ in
     let low : c.said.low ≤ v = search rules in
     let fits : length (tests c.in_ok-states.states) ≡ space v = c.in_ok-states.ensures ∙ search rules in
-    subst (AreSoFar space (v + 1)) (sym pushed) (one_more space c.said.low (v + 1) before term c.said.invariant low refl fits)
+    subst (AreSoFar space (v + 1)) (sym pushed)
+    (one_more space c.said.low (v + 1) before term c.said.invariant low refl fits)

@@ -13,11 +13,14 @@ returns-clause-preferred g c x prefers within none =
     let new : IsNew old.spaces.items t = subst (λ xs. IsNew xs t) c.deref.ensures.value c.in_ok-trail.ensures.new in
     let same = c.in_ok-found.ensures.keeps in
     c.in_ok-found.ensures.selects x
-    (subst (λ xs. Prefers xs c.search.new.guide.states.items x) (sym (ap (λ v. v.items) same.0)) (subst (λ xs. Prefers old.spaces.items xs x) (sym (ap (λ v. v.items) same.1)) prefers))
+    (subst (λ xs. Prefers xs c.search.new.guide.states.items x) (sym (ap (λ v. v.items) same.0))
+    (subst (λ xs. Prefers old.spaces.items xs x) (sym (ap (λ v. v.items) same.1)) prefers))
     (none, agrees_new old.spaces.items t x new within)
 
 pub returns-clause-selected : goal.returns-clause-selected
-returns-clause-selected g c = let tests = g.S.States.tests in selects (λ v i. true) (entries_view tests c.search.new.store) (trail_view tests c.search.new.trail) c.in_ok-found.found.answer c.in_ok-found.ensures.trail c.in_ok-found.ensures.ended
+returns-clause-selected g c = let tests = g.S.States.tests in
+    selects (λ v i. true) (entries_view tests c.search.new.store) (trail_view tests c.search.new.trail)
+    c.in_ok-found.found.answer c.in_ok-found.ensures.trail c.in_ok-found.ensures.ended
 
 pub search-requires-clause-seen : goal.search-requires-clause-seen
 search-requires-clause-seen g c = record { within = omega arith; all = λ v i lt only. refl }

@@ -5,4 +5,5 @@ use Rattle.incompatibilities.proofs.Broken.{lies_fit}
 use Rattle.search_tests.proofs.stores.again.Goals as goal
 
 pub combine-requires : goal.combine-requires
-combine-requires g c = lies_fit space (states_at (terms_view g.S.States.tests c.in_ok-a.a)) (states_at (terms_view g.S.States.tests c.in_ok-a.a)) c.in_ok-a.ensures c.in_ok-a.ensures
+combine-requires g c = lies_fit space (states_at (terms_view g.S.States.tests c.in_ok-a.a))
+    (states_at (terms_view g.S.States.tests c.in_ok-a.a)) c.in_ok-a.ensures c.in_ok-a.ensures

@@ -7,6 +7,9 @@ use Rattle.search_trials.proofs.terms_of.with_state.Goals as goal
 pub returns : goal.returns
 returns g c =
     let tests = g.S.States.tests in
-    let wide : length (tests c.args.set) ≡ length (tests c.in_ok-one.one) = c.requires.universe ∙ sym (ap length c.in_ok-one.ensures ∙ length-only c.args.universe c.args.state) in
-    IfOk-weaker c.union.result (λ s. tests s ≡ join (tests c.args.set) (tests c.in_ok-one.one)) (λ s. length (tests s) ≡ c.args.universe)
-    (λ s e. ap length e ∙ length-join (tests c.args.set) (tests c.in_ok-one.one) wide ∙ c.requires.universe) c.union.ensures
+    let wide : length (tests c.args.set) ≡ length (tests c.in_ok-one.one) =
+    c.requires.universe ∙ sym (ap length c.in_ok-one.ensures ∙ length-only c.args.universe c.args.state) in
+    IfOk-weaker c.union.result (λ s. tests s ≡ join (tests c.args.set) (tests c.in_ok-one.one))
+    (λ s. length (tests s) ≡ c.args.universe)
+    (λ s e. ap length e ∙ length-join (tests c.args.set) (tests c.in_ok-one.one) wide
+    ∙ c.requires.universe) c.union.ensures

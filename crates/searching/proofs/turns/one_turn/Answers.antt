@@ -10,4 +10,5 @@ at_one P n (Err e) all = tt
 pub returns-in-Fixpoint-clause-counted : goal.returns-in-Fixpoint-clause-counted
 returns-in-Fixpoint-clause-counted g c =
     let tests = g.S.States.tests in
-    at_one (λ k. CountsOn (entries_view tests c.args.store.now) k (entries_view tests c.turn_on.new.store) k) c.args.steps.now c.turn_on.result c.turn_on.ensures.counted
+    at_one (λ k. CountsOn (entries_view tests c.args.store.now) k (entries_view tests c.turn_on.new.store) k)
+    c.args.steps.now c.turn_on.result c.turn_on.ensures.counted

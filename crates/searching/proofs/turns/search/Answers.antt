@@ -20,7 +20,9 @@ turns-preserved g c =
     let late = g.G.Guide.late c.turns.guide in
     let later = g.G.Guide.late c.one_turn.new.guide in
     let seen = g.G.Guide.seen c.one_turn.new.guide in
-    let gone : HasGone (space late old + left) more fewer later seen es new c.in-Goes.next = subst (HasTurned (g.G.Guide.done c.one_turn.new.guide new) (space late old + left) more fewer later seen es new) c.in-Goes.is c.in_ok-next.ensures.turned in
+    let gone : HasGone (space late old + left) more fewer later seen es new c.in-Goes.next =
+    subst (HasTurned (g.G.Guide.done c.one_turn.new.guide new) (space late old + left) more fewer later seen es new)
+    c.in-Goes.is c.in_ok-next.ensures.turned in
     let was = c.turns.invariant in
     let turn = c.in_ok-next.ensures in
     record {
@@ -33,7 +35,8 @@ turns-preserved g c =
       stored = λ stored. turn.stored (was.stored stored);
       touching = λ touching. turn.touching (was.touching touching);
       counted = turn.counted (combinations (entries_view tests c.args.store.now)) was.counted;
-      walks = λ x is. let mid = turn.walks x is in let first = was.walks x mid.0 in (first.0, λ walked. mid.1 (first.1 walked));
+      walks = λ x is. let mid = turn.walks x is in let first =
+          was.walks x mid.0 in (first.0, λ walked. mid.1 (first.1 walked));
     }
 
 pub returns-in-Ends-clause-given : goal.returns-in-Ends-clause-given
@@ -46,7 +49,8 @@ pub returns-in-Ends-clause-touching : goal.returns-in-Ends-clause-touching
 returns-in-Ends-clause-touching g c touching = c.in_ok-next.ensures.touching (c.turns.invariant.touching touching)
 
 pub returns-in-Ends-clause-walks : goal.returns-in-Ends-clause-walks
-returns-in-Ends-clause-walks g c x is = let mid = c.in_ok-next.ensures.walks x is in let first = c.turns.invariant.walks x mid.0 in (first.0, λ walked. mid.1 (first.1 walked))
+returns-in-Ends-clause-walks g c x is = let mid = c.in_ok-next.ensures.walks x is in let first =
+    c.turns.invariant.walks x mid.0 in (first.0, λ walked. mid.1 (first.1 walked))
 
 pub returns-in-Ends-clause-selects : goal.returns-in-Ends-clause-selects
 returns-in-Ends-clause-selects g c x is walked =
@@ -54,14 +58,16 @@ returns-in-Ends-clause-selects g c x is walked =
     subst RefutesNothing c.in-Ends.is (c.in_ok-next.ensures.turns x is ((c.turns.invariant.walks x mid.0).1 walked))
 
 pub returns-in-Ends-clause-each : goal.returns-in-Ends-clause-each
-returns-in-Ends-clause-each g c = each_falls (g.G.Guide.late c.one_turn.new.guide) (trail_view g.S.States.tests c.one_turn.new.trail) c.in_ok-next.ensures.trail.sound
+returns-in-Ends-clause-each g c = each_falls (g.G.Guide.late c.one_turn.new.guide)
+    (trail_view g.S.States.tests c.one_turn.new.trail) c.in_ok-next.ensures.trail.sound
 
 pub returns-in-Ends-clause-keeps : goal.returns-in-Ends-clause-keeps
 returns-in-Ends-clause-keeps g c = g.G.Guide.keeps_on _ _ _ c.turns.invariant.keeps c.in_ok-next.ensures.keeps
 
 pub returns-in-Ends-clause-counted : goal.returns-in-Ends-clause-counted
 returns-in-Ends-clause-counted g c =
-    let more = c.in_ok-next.ensures.counted (combinations (entries_view g.S.States.tests c.args.store.now)) c.turns.invariant.counted in
+    let more = c.in_ok-next.ensures.counted
+    (combinations (entries_view g.S.States.tests c.args.store.now)) c.turns.invariant.counted in
     record {
       combined = omega (arith, more, c.with_assignments.ensures.steps);
       assigned = omega (arith, c.assigned.ensures, c.with_assignments.ensures.assigned);

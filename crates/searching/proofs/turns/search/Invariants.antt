@@ -14,10 +14,13 @@ invariant-turns g l = let tests = g.S.States.tests in record {
   spaces : HasSpaces (g.G.Guide.spaces l.guide) (trail_view tests l.trail);
   counted : combinations (entries_view tests l.store) ≤ combinations (entries_view tests l.fn.store) + l.steps;
   keeps : g.G.Guide.keeps l.fn.guide l.guide;
-  given : AreGiven (g.G.Guide.given l.fn.guide) (entries_view tests l.fn.store) → AreGiven (g.G.Guide.given l.guide) (entries_view tests l.store);
-  stored : g.G.Guide.stored l.fn.guide (entries_view tests l.fn.store) → g.G.Guide.stored l.guide (entries_view tests l.store);
+  given : AreGiven (g.G.Guide.given l.fn.guide) (entries_view tests l.fn.store)
+      → AreGiven (g.G.Guide.given l.guide) (entries_view tests l.store);
+  stored : g.G.Guide.stored l.fn.guide (entries_view tests l.fn.store)
+      → g.G.Guide.stored l.guide (entries_view tests l.store);
   touching : AreTouching (entries_view tests l.fn.store) → AreTouching (entries_view tests l.store);
-  walks : KeepsWalks (g.G.Guide.walks l.fn.guide) (entries_view tests l.fn.store) (trail_view tests l.fn.trail) (g.G.Guide.walks l.guide) (entries_view tests l.store) (trail_view tests l.trail);
+  walks : KeepsWalks (g.G.Guide.walks l.fn.guide) (entries_view tests l.fn.store) (trail_view tests l.fn.trail)
+      (g.G.Guide.walks l.guide) (entries_view tests l.store) (trail_view tests l.trail);
 }
 
 abbrev pub decreases-turns : goal.decreases-turns

@@ -14,10 +14,13 @@ use Rattle.selection.proofs.faults.verdict_by.Goals as goal
 pub returns-in-Some : goal.returns-in-Some
 returns-in-Some c =
     let f = c.args.findings.now in
-    first_said c.invalid.result f c.places.at (package_view c.index-findings-at.result) c.in_ok-checked.checked c.in-Some.fault (sym c.lowest.ensures ∙ c.in-Some.is)
+    first_said c.invalid.result f c.places.at (package_view c.index-findings-at.result) c.in_ok-checked.checked
+    c.in-Some.fault (sym c.lowest.ensures ∙ c.in-Some.is)
     (view_at f.content.now c.places.at c.index-findings-at.result c.places-test.true (sym c.index-findings-at.is))
-    c.in_ok-checked.ensures (omega (arith, c.places-test.true, length-map f.content.now package_view)) c.places.invariant
-    (subst (λ (x : code.Package). IfOk c.invalid.result (IsFaultOf c.in-Some.fault x.name (parts_of x.version))) (sym c.index-findings-at.is) c.invalid.ensures)
+    c.in_ok-checked.ensures
+    (omega (arith, c.places-test.true, length-map f.content.now package_view)) c.places.invariant
+    (subst (λ (x : code.Package). IfOk c.invalid.result (IsFaultOf c.in-Some.fault x.name (parts_of x.version)))
+    (sym c.index-findings-at.is) c.invalid.ensures)
 
 pub places-preserved : goal.places-preserved
 places-preserved c =
@@ -26,12 +29,14 @@ places-preserved c =
       | inr back ↦
           let place : m ≡ c.places.at = omega (arith, lt, back) in
           subst (λ i. IsFaultless q (content_in c.args.findings.now) i) (sym place)
-          (faultless c.in_ok-checked.checked q (content_in c.args.findings.now) c.places.at (c.in_ok-checked.ensures q found) (none_named (lowest c.in_ok-checked.checked) (sym c.lowest.ensures ∙ c.in_default.is)))
+          (faultless c.in_ok-checked.checked q (content_in c.args.findings.now) c.places.at (c.in_ok-checked.ensures q
+          found) (none_named (lowest c.in_ok-checked.checked) (sym c.lowest.ensures ∙ c.in_default.is)))
     ]
 
 pub returns : goal.returns
 returns c =
     λ q found. (
       (c.args.findings.now.root, (found.only_root c.args.findings.now.root).1 refl),
-      λ n place. c.places.invariant q found n (omega (arith, place, length-map c.args.findings.now.content.now package_view, c.places-test.false)),
+      λ n place. c.places.invariant q found n
+          (omega (arith, place, length-map c.args.findings.now.content.now package_view, c.places-test.false)),
     )

@@ -6,4 +6,5 @@ use Rattle.selection.proofs.faults.verdict_by.Given as goal
 
 -- the packages so far are faultless
 abbrev pub invariant-places : goal.invariant-places
-invariant-places l = (q : Problem) → AreFindings q l.findings → (m : ℕ) → m < l.at → IsFaultless q (content_in l.findings) m
+invariant-places l =
+    (q : Problem) → AreFindings q l.findings → (m : ℕ) → m < l.at → IsFaultless q (content_in l.findings) m

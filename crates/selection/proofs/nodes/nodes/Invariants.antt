@@ -8,6 +8,8 @@ use Rattle.selection.proofs.nodes.nodes.Given as goal
 -- the packages so far
 abbrev pub invariant-packages : goal.invariant-packages
 invariant-packages l = record {
-  graph : node_views l.found.items ≡ map (node_of (problem_in l.manifest l.catalogue) (package_views l.content)) (package_views (take l.locked-index l.content));
-  known : are_known l.found.items ≡ map (is_known (problem_in l.manifest l.catalogue)) (package_views (take l.locked-index l.content));
+  graph : node_views l.found.items ≡ map (node_of (problem_in l.manifest l.catalogue) (package_views l.content))
+      (package_views (take l.locked-index l.content));
+  known : are_known l.found.items
+      ≡ map (is_known (problem_in l.manifest l.catalogue)) (package_views (take l.locked-index l.content));
 }

@@ -12,8 +12,10 @@ use Rattle.selection.proofs.roots.root_of.Goals as goal
 pub returns-then-is_root : goal.returns-then-is_root
 returns-then-is_root c = (
   c.places-test.true,
-  λ index. only_root (problem_in c.args.manifest.now index) (package_views c.args.content.now) c.places.at (package_view c.index-content-at.result) c.requires
-      (view_at c.args.content.now c.places.at c.index-content-at.result c.places-test.true (sym c.index-content-at.is)) (sym (c.is_root.ensures index) ∙ c.if-is_root.true),
+  λ index. only_root (problem_in c.args.manifest.now index) (package_views c.args.content.now) c.places.at
+      (package_view c.index-content-at.result) c.requires
+      (view_at c.args.content.now c.places.at c.index-content-at.result c.places-test.true (sym c.index-content-at.is))
+      (sym (c.is_root.ensures index) ∙ c.if-is_root.true),
 )
 
 pub places-preserved : goal.places-preserved
@@ -22,11 +24,19 @@ places-preserved c =
       | inl less ↦ c.places.invariant index k p less got
       | inr back ↦
           let place : k ≡ c.places.at = omega (arith, lt, back) in
-          let here = view_at c.args.content.now c.places.at c.index-content-at.result c.places-test.true (sym c.index-content-at.is) in
-          ap (is_root (problem_in c.args.manifest.now index)) (same_Some p (package_view c.index-content-at.result) (sym got ∙ ap (slice_get (package_views c.args.content.now)) place ∙ here))
+          let here = view_at c.args.content.now c.places.at c.index-content-at.result c.places-test.true
+          (sym c.index-content-at.is) in
+          ap (is_root (problem_in c.args.manifest.now index)) (same_Some p (package_view c.index-content-at.result)
+          (sym got ∙ ap (slice_get (package_views c.args.content.now)) place ∙ here))
           ∙ sym (c.is_root.ensures index) ∙ c.if-is_root.false
     ]
 
 pub returns : goal.returns
 returns c =
-    λ index n h. true≢false (sym h.2 ∙ c.places.invariant index n h.0 (omega (arith, slice_get_within (package_views c.args.content.now) n h.0 h.1, length-map c.args.content.now package_view, c.places-test.false)) h.1)
+    λ index n h. true≢false (sym h.2
+    ∙ c.places.invariant index n h.0 (omega (
+      arith,
+      slice_get_within (package_views c.args.content.now) n h.0 h.1,
+      length-map c.args.content.now package_view,
+      c.places-test.false,
+    )) h.1)

@@ -7,4 +7,5 @@ use Rattle.selection.proofs.roots.root_of.Given as goal
 
 -- no package so far is the root
 abbrev pub invariant-places : goal.invariant-places
-invariant-places l = (index : CatalogueView) (k : ℕ) (p : Package) → k < l.at → slice_get (package_views l.content) k ≡ Some p → is_root (problem_in l.manifest index) p ≡ false
+invariant-places l = (index : CatalogueView) (k : ℕ) (p : Package) → k < l.at
+    → slice_get (package_views l.content) k ≡ Some p → is_root (problem_in l.manifest index) p ≡ false

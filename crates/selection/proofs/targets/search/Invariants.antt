@@ -8,7 +8,8 @@ use Rattle.selection.proofs.targets.search.Given as goal
 abbrev pub invariant-places : goal.invariant-places
 invariant-places l = record {
   within : l.left ≤ length l.list;
-  told : last_serving (package_views l.content) (dependency_view l.dependency) (take l.left l.list) ≡ last_serving (package_views l.content) (dependency_view l.dependency) l.list;
+  told : last_serving (package_views l.content) (dependency_view l.dependency) (take l.left l.list)
+      ≡ last_serving (package_views l.content) (dependency_view l.dependency) l.list;
 }
 
 abbrev pub decreases-places : goal.decreases-places

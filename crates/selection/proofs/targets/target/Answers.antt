@@ -12,15 +12,23 @@ use Rattle.selection.proofs.targets.target.Goals as goal
 pub search-requires-clause-before : goal.search-requires-clause-before
 search-requires-clause-before c =
     let content = package_views c.args.content.now in
-    let within : All (λ t. t < length (package_views c.args.content.now)) c.args.list.now = rw (length-map c.args.content.now package_view) c.requires.within in
+    let within : All (λ t. t < length (package_views c.args.content.now)) c.args.list.now =
+    rw (length-map c.args.content.now package_view) c.requires.within in
     let d = dependency_view c.args.dependency.now in
-    let found = IsPartitionPoint-from_clause (λ t. is_lt (beside content d t)) c.args.list.now _ c.partition_point-first.ensures.partitioned (less_partitioned content d c.requires.content c.args.list.now within c.requires.rising) (λ a r g called. search (rules, is_lt_index)) in
+    let found = IsPartitionPoint-from_clause
+    (λ t. is_lt (beside content d t)) c.args.list.now _ c.partition_point-first.ensures.partitioned
+    (less_partitioned content d c.requires.content c.args.list.now within c.requires.rising)
+    (λ a r g called. search (rules, is_lt_index)) in
     λ k e l u. lower_fails content d _ (found.0 k e l u)
 
 pub search-requires-clause-behind : goal.search-requires-clause-behind
 search-requires-clause-behind c =
     let content = package_views c.args.content.now in
-    let within : All (λ t. t < length (package_views c.args.content.now)) c.args.list.now = rw (length-map c.args.content.now package_view) c.requires.within in
+    let within : All (λ t. t < length (package_views c.args.content.now)) c.args.list.now =
+    rw (length-map c.args.content.now package_view) c.requires.within in
     let d = dependency_view c.args.dependency.now in
-    let found = IsPartitionPoint-from_clause (λ t. not (is_gt (beside content d t))) c.args.list.now _ c.partition_point-after.ensures.partitioned (most_partitioned content d c.requires.content c.args.list.now within c.requires.rising) (λ a r g called. search (rules, is_gt_index)) in
+    let found = IsPartitionPoint-from_clause
+    (λ t. not (is_gt (beside content d t))) c.args.list.now _ c.partition_point-after.ensures.partitioned
+    (most_partitioned content d c.requires.content c.args.list.now within c.requires.rising)
+    (λ a r g called. search (rules, is_gt_index)) in
     λ k e l u. higher_fails content d _ (found.1 k e l u)

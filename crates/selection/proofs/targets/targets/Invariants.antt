@@ -6,4 +6,5 @@ use Rattle.selection.proofs.targets.targets.Given as goal
 
 -- the targets so far
 abbrev pub invariant-dependencies : goal.invariant-dependencies
-invariant-dependencies l = l.found.items ≡ targets_in (package_views l.content) l.list (dependency_views (take l.dependency-index l.dependencies))
+invariant-dependencies l = l.found.items
+    ≡ targets_in (package_views l.content) l.list (dependency_views (take l.dependency-index l.dependencies))

@@ -11,13 +11,18 @@ entries-preserved g c =
     let test = c.entries-test.true in
     let long = c.len-place-end.ensures in
     elim c.if-is_axiom.branch [
-      | then-is_axiom w ↦ w.count-is ∙ counted_axiom es n c.entries.count c.origin.result (omega (arith, test, long)) c.entries.invariant
-          (c.origin.ensures.value ∙ ap (λ k. (entry es k).origin) c.new.ensures) (sym c.is_axiom.ensures ∙ w.if-is_axiom.true)
-      | else-is_axiom w ↦ w.count-is ∙ counted_other es n c.entries.count c.origin.result (omega (arith, test, long)) c.entries.invariant
-          (c.origin.ensures.value ∙ ap (λ k. (entry es k).origin) c.new.ensures) (sym c.is_axiom.ensures ∙ w.if-is_axiom.false)
+      | then-is_axiom w ↦ w.count-is
+          ∙ counted_axiom es n c.entries.count c.origin.result (omega (arith, test, long)) c.entries.invariant
+          (c.origin.ensures.value ∙ ap (λ k. (entry es k).origin) c.new.ensures)
+          (sym c.is_axiom.ensures ∙ w.if-is_axiom.true)
+      | else-is_axiom w ↦ w.count-is
+          ∙ counted_other es n c.entries.count c.origin.result (omega (arith, test, long)) c.entries.invariant
+          (c.origin.ensures.value ∙ ap (λ k. (entry es k).origin) c.new.ensures)
+          (sym c.is_axiom.ensures ∙ w.if-is_axiom.false)
     ]
 
 pub overflow_add-count : goal.overflow_add-count
 overflow_add-count g c =
-    let few = counted_le (entries_view g.S.States.tests c.args.store.now) c.entries.place c.entries.count c.entries.invariant in
+    let few = counted_le
+    (entries_view g.S.States.tests c.args.store.now) c.entries.place c.entries.count c.entries.invariant in
     omega (arith, few, c.entries-test.true, c.len-place-end.type_inv)

@@ -13,13 +13,15 @@ pub returns-then-is_following-clause-once : goal.returns-then-is_following-claus
 returns-then-is_following-clause-once g c =
     let follows = c.args.searched.guide.follows in
     let some : is_some follows ≡ true = search rules in
-    subst (HasNoMore (entries_view g.S.States.tests c.args.searched.store)) (sym (followed-derives_nothing follows c.followed.result some c.followed.ensures))
+    subst (HasNoMore (entries_view g.S.States.tests c.args.searched.store))
+    (sym (followed-derives_nothing follows c.followed.result some c.followed.ensures))
     record { few_axioms = omega arith; few_combined = omega arith }
 
 pub found-requires : goal.found-requires
 found-requires g c =
     let searched = c.args.searched in
-    subst (λ q. HasSearched q searched.guide (trail_view g.S.States.tests searched.trail) (entries_view g.S.States.tests searched.store) searched.found.answer) (sym c.inputs.ensures)
+    subst (λ q. HasSearched q searched.guide (trail_view g.S.States.tests searched.trail)
+    (entries_view g.S.States.tests searched.store) searched.found.answer) (sym c.inputs.ensures)
     c.requires
 
 pub returns-else-is_following-clause-answer : goal.returns-else-is_following-clause-answer
@@ -27,4 +29,5 @@ returns-else-is_following-clause-answer g c =
     let follows = c.args.searched.guide.follows in
     let none : is_some follows ≡ false = search rules in
     IfOk-weaker c.found.result (IsFound (problem c.inputs.result.now)) (IsAnswer c.args.searched.guide.problem follows)
-    (λ o found. found-answers c.args.searched.guide.problem follows o none (subst (λ q. IsFound q o) c.inputs.ensures found)) c.found.ensures.found
+    (λ o found. found-answers c.args.searched.guide.problem follows o none
+    (subst (λ q. IsFound q o) c.inputs.ensures found)) c.found.ensures.found

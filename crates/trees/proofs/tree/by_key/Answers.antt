@@ -10,6 +10,10 @@ members-preserved c =
     let all = c.deref-member-items.result.now in
     let m = c.member-item.result in
     let left = drop (c.members.member-index + 1) all in
-    let here : drop c.members.member-index all ≡ m ∷ left = drop_more all c.members.member-index m (omega arith) ∙ ap (λ x. x ∷ left) (sym c.member-item.is) in
-    let put_there = ap sorted_view c.in_ok-insert.ensures.entries ∙ sorted_view-insert_entry c.members.sorted.entries _ _ in
-    ap (members_of (members_view left)) put_there ∙ sym (ap (λ ms. members_of (members_view ms) (sorted_view c.members.sorted.entries)) here) ∙ c.members.invariant
+    let here : drop c.members.member-index all ≡ m ∷ left =
+    drop_more all c.members.member-index m (omega arith) ∙ ap (λ x. x ∷ left) (sym c.member-item.is) in
+    let put_there =
+    ap sorted_view c.in_ok-insert.ensures.entries ∙ sorted_view-insert_entry c.members.sorted.entries _ _ in
+    ap (members_of (members_view left)) put_there
+    ∙ sym (ap (λ ms. members_of (members_view ms) (sorted_view c.members.sorted.entries)) here)
+    ∙ c.members.invariant

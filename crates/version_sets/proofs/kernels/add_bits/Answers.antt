@@ -7,7 +7,8 @@ vectors-preserved c =
     let a = c.args.words.now in
     let b = c.args.other.now in
     let next : c.vectors.block * 8 + 8 ≡ (c.vectors.block + 1) * 8 = omega arith in
-    c.add_bits_block.ensures ∙ rw c.vectors.invariant (block_step bit_or (c.vectors.block * 8) a b (omega arith) c.requires) ∙ ap (λ n. done_to bit_or n a b) next
+    c.add_bits_block.ensures ∙ rw c.vectors.invariant
+    (block_step bit_or (c.vectors.block * 8) a b (omega arith) c.requires) ∙ ap (λ n. done_to bit_or n a b) next
 
 pub rest-preserved : goal.rest-preserved
 rest-preserved c =

@@ -6,4 +6,6 @@ use Rattle.version_sets.proofs.kernels.are_within_block.Goals as goal
 
 pub returns : goal.returns
 returns c =
-    ap (λ l. eqb (fold_l bit_or 0 l) 0) (not_lanes (chunk c.args.at 8 c.args.words.now) (chunk c.args.at 8 c.args.other.now)) ∙ lanes_zero (zip2 and_not (chunk c.args.at 8 c.args.words.now) (chunk c.args.at 8 c.args.other.now))
+    ap (λ l. eqb (fold_l bit_or 0 l) 0)
+    (not_lanes (chunk c.args.at 8 c.args.words.now) (chunk c.args.at 8 c.args.other.now))
+    ∙ lanes_zero (zip2 and_not (chunk c.args.at 8 c.args.words.now) (chunk c.args.at 8 c.args.other.now))

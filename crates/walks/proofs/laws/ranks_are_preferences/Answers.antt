@@ -7,7 +7,9 @@ use Rattle.walks.proofs.Preferences.{rows_ranked, rows_prefer}
 use Rattle.walks.proofs.laws.ranks_are_preferences.Goals as goal
 
 pub returns-clause-ranked : goal.returns-clause-ranked
-returns-clause-ranked c = λ old source rust root asked index is name. subst (λ i. AreRanked (is_locked old source name) rust (ranked_at i name)) (sym is) (rows_ranked old source rust asked name)
+returns-clause-ranked c = λ old source rust root asked index is name. subst (λ i.
+    AreRanked (is_locked old source name) rust (ranked_at i name)) (sym is) (rows_ranked old source rust asked name)
 
 pub returns-clause-preferred : goal.returns-clause-preferred
-returns-clause-preferred c = λ old source rust root asked index is. subst (λ i. preferred_in i ≡ preferred_by old rust i) (sym is) (rows_prefer old source rust root asked)
+returns-clause-preferred c = λ old source rust root asked index is.
+    subst (λ i. preferred_in i ≡ preferred_by old rust i) (sym is) (rows_prefer old source rust root asked)

@@ -7,5 +7,6 @@ pub returns : goal.returns
 returns c =
     let q = problem_in c.args.manifest.now c.args.catalogue.now in
     let preferred = preferred_in c.args.catalogue.now in
-    let (walk, is) = c.walks_exist.ensures q preferred c.catalogues_are_well_formed.ensures (preferred_among c.args.catalogue.now) in
+    let (walk, is) =
+    c.walks_exist.ensures q preferred c.catalogues_are_well_formed.ensures (preferred_among c.args.catalogue.now) in
     (walk, is, λ other o. c.walks_are_unique.ensures q preferred other walk o is)

@@ -8,7 +8,8 @@ use Rattle.walks.proofs.meeting.meet.Given as goal
 
 -- each of those met so far is there once, and the first of them have their nodes
 abbrev pub invariant-stops : goal.invariant-stops
-invariant-stops l = SoFar (problem_in l.manifest l.catalogue) (Picks (problem_in l.manifest l.catalogue) (preferred_in l.catalogue)) l.catalogue l.stops.keys (node_views l.nodes.items)
+invariant-stops l = SoFar (problem_in l.manifest l.catalogue) (Picks (problem_in l.manifest l.catalogue)
+    (preferred_in l.catalogue)) l.catalogue l.stops.keys (node_views l.nodes.items)
 
 abbrev pub decreases-stops : goal.decreases-stops
 decreases-stops l = 2 ^ 64 - length l.nodes.items

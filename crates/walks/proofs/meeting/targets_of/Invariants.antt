@@ -4,4 +4,5 @@ use Rattle.walks.proofs.meeting.targets_of.Given as goal
 
 -- the targets of the dependencies so far
 abbrev pub invariant-dependencies : goal.invariant-dependencies
-invariant-dependencies l = TargetsTo l.catalogue l.fn.stops.keys l.stops.keys (dependency_views l.dependencies) l.dependency-index l.targets.items
+invariant-dependencies l = TargetsTo l.catalogue l.fn.stops.keys l.stops.keys
+    (dependency_views l.dependencies) l.dependency-index l.targets.items

@@ -7,5 +7,6 @@ use Rattle.walks.proofs.picking.first_matched.Given as goal
 
 -- the first among the places that are left is the first of all
 abbrev pub invariant-order : goal.invariant-order
-invariant-order l = find (λ n. is_matched (requirement_view l.requirement) (slice_get (map parts_of l.versions) n)) (drop l.place-index l.order)
+invariant-order l = find (λ n. is_matched (requirement_view l.requirement) (slice_get (map parts_of l.versions) n))
+    (drop l.place-index l.order)
     ≡ find (λ n. is_matched (requirement_view l.requirement) (slice_get (map parts_of l.versions) n)) l.order

@@ -7,4 +7,5 @@ use Rattle.walks.proofs.picking.pick.Goals as goal
 pub returns : goal.returns
 returns c =
     c.first_matched.ensures
-    ∙ ap₂ (λ vs ns. find (λ n. is_matched (requirement_view c.args.dependency.now.requirement) (slice_get vs n)) ns) c.versions-versions.ensures.versions (c.as_slice.ensures.value ∙ c.in_ok-order.ensures.places)
+    ∙ ap₂ (λ vs ns. find (λ n. is_matched (requirement_view c.args.dependency.now.requirement) (slice_get vs n)) ns)
+    c.versions-versions.ensures.versions (c.as_slice.ensures.value ∙ c.in_ok-order.ensures.places)

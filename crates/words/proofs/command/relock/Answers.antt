@@ -12,8 +12,11 @@ returns c =
     let bare : app_of c.subcommand_required-program.result ≡ bare_app = search rules in
     let resolve_in : app_of c.in_ok-program.program ≡ with_subcommand bare_app resolve_app.top =
     c.in_ok-program.ensures ∙ ap₂ with_subcommand bare (top_is c.in_ok-resolve.ensures) in
-    let verify_in : app_of c.in_ok-program-2.program ≡ with_subcommand (with_subcommand bare_app resolve_app.top) verify_app.top =
+    let verify_in : app_of c.in_ok-program-2.program
+    ≡ with_subcommand (with_subcommand bare_app resolve_app.top) verify_app.top =
     c.in_ok-program-2.ensures ∙ ap₂ with_subcommand resolve_in (top_is c.in_ok-verify.ensures) in
-    let check_in : app_of c.in_ok-program-3.program ≡ with_subcommand (with_subcommand (with_subcommand bare_app resolve_app.top) verify_app.top) check_app.top =
+    let check_in : app_of c.in_ok-program-3.program
+    ≡ with_subcommand (with_subcommand (with_subcommand bare_app resolve_app.top) verify_app.top) check_app.top =
     c.in_ok-program-3.ensures ∙ ap₂ with_subcommand verify_in (top_is c.in_ok-check.ensures) in
-    IfOk-weaker c.with_command-4.result _ _ (λ r added. added ∙ ap₂ with_subcommand check_in (top_is c.in_ok-explain.ensures)) c.with_command-4.ensures
+    IfOk-weaker c.with_command-4.result _ _
+    (λ r added. added ∙ ap₂ with_subcommand check_in (top_is c.in_ok-explain.ensures)) c.with_command-4.ensures

@@ -11,6 +11,8 @@ returns c =
     let index_in = c.in_ok-command-2.ensures ∙ ap₂ with_rule manifest_in c.index.ensures in
     let lock_in = c.in_ok-command-3.ensures ∙ ap₂ with_rule index_in c.lock.ensures in
     let source_in = c.in_ok-command-4.ensures ∙ ap₂ with_rule lock_in c.source.ensures in
-    let proof_in : app_of c.in_ok-command-5.command ≡ with_rules (new_app (codes "resolve")) (manifest_option ∷ index_option ∷ lock_option ∷ source_option ∷ proof_option ∷ []) =
+    let proof_in : app_of c.in_ok-command-5.command ≡ with_rules (new_app (codes "resolve"))
+    (manifest_option ∷ index_option ∷ lock_option ∷ source_option ∷ proof_option ∷ []) =
     c.in_ok-command-5.ensures ∙ ap₂ with_rule source_in c.proof.ensures in
-    IfOk-weaker c.with_option-6.result _ _ (λ r added. added ∙ ap₂ with_rule proof_in c.rust_first.ensures) c.with_option-6.ensures
+    IfOk-weaker c.with_option-6.result _ _
+    (λ r added. added ∙ ap₂ with_rule proof_in c.rust_first.ensures) c.with_option-6.ensures

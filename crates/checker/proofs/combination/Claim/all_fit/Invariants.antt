@@ -5,4 +5,5 @@ use Rattle.checker.specs.Claims.{claim_tables, fits_claim}
 use Rattle.checker.proofs.combination.Claim.all_fit.Given as goal
 
 abbrev pub invariant-those : goal.invariant-those
-invariant-those l = list_all (fits_claim l.self) (terms_at (claim_tables l.self) (drop l.term-index l.those)) ≡ list_all (fits_claim l.self) (terms_at (claim_tables l.self) l.those)
+invariant-those l = list_all (fits_claim l.self) (terms_at (claim_tables l.self) (drop l.term-index l.those))
+    ≡ list_all (fits_claim l.self) (terms_at (claim_tables l.self) l.those)

@@ -8,10 +8,12 @@ pub returns-then-is_same_vertex : goal.returns-then-is_same_vertex
 returns-then-is_same_vertex c =
     let k = c.args.self.now in
     rw (c.find-said.ensures.said, c.find-first.ensures.said, c.find-second.ensures.said) at c.is_union.ensures
-    ∙ fits_there (claim_problem k) (claim_vertex k) (claim_first k) (claim_second k) (claim_terms k) (term_at (claim_tables k) c.args.term.now) (sym c.is_same_vertex.ensures ∙ c.if-is_same_vertex.true)
+    ∙ fits_there (claim_problem k) (claim_vertex k) (claim_first k) (claim_second k) (claim_terms k)
+    (term_at (claim_tables k) c.args.term.now) (sym c.is_same_vertex.ensures ∙ c.if-is_same_vertex.true)
 
 pub returns-else-is_same_vertex : goal.returns-else-is_same_vertex
 returns-else-is_same_vertex c =
     let k = c.args.self.now in
     rw (c.find-said.ensures.said, c.find-first.ensures.said, c.find-second.ensures.said) at c.is_meet.ensures
-    ∙ fits_elsewhere (claim_problem k) (claim_vertex k) (claim_first k) (claim_second k) (claim_terms k) (term_at (claim_tables k) c.args.term.now) (sym c.is_same_vertex.ensures ∙ c.if-is_same_vertex.false)
+    ∙ fits_elsewhere (claim_problem k) (claim_vertex k) (claim_first k) (claim_second k) (claim_terms k)
+    (term_at (claim_tables k) c.args.term.now) (sym c.is_same_vertex.ensures ∙ c.if-is_same_vertex.false)

@@ -8,4 +8,5 @@ use Rattle.checker.proofs.decoded.Decoded.is_same_set.Goals as goal
 pub returns-then-a-b : goal.returns-then-a-b
 returns-then-a-b c =
     let t = tables_of c.args.self.now in
-    sym ((same_states-is (named_set t c.args.a) (named_set t c.args.a)).1 (λ s. refl)) ∙ ap (λ n. same_states (named_set t c.args.a) (named_set t n)) c.if-a-b.true
+    sym ((same_states-is (named_set t c.args.a) (named_set t c.args.a)).1 (λ s. refl))
+    ∙ ap (λ n. same_states (named_set t c.args.a) (named_set t n)) c.if-a-b.true

@@ -8,4 +8,5 @@ use Rattle.derivations.proofs.derivation.Derivation.push_named_axiom.Goals as go
 
 pub push_named-requires : goal.push_named-requires
 push_named-requires c =
-    subst (λ ts. IsStepAt (length c.args.self.now) (given (kind_view c.args.kind) ts)) (sym c.in_ok-ordered.ensures) (tt, terms-are (named_views c.args.terms.now) c.requires)
+    subst (λ ts. IsStepAt (length c.args.self.now) (given (kind_view c.args.kind) ts)) (sym c.in_ok-ordered.ensures)
+    (tt, terms-are (named_views c.args.terms.now) c.requires)

@@ -7,5 +7,8 @@ use Rattle.derivations.proofs.derivation.Derivation.push_named_combination.Goals
 
 pub push_named-requires : goal.push_named-requires
 push_named-requires c =
-    subst (λ ts. IsStepAt (length c.args.self.now) (combine c.args.first c.args.second c.args.vertex.now ts)) (sym c.in_ok-ordered.ensures)
-    ((c.requires.first, c.requires.second, c.requires.vertex), terms-are (named_views c.args.terms.now) c.requires.terms)
+    subst (λ ts. IsStepAt (length c.args.self.now) (combine c.args.first c.args.second c.args.vertex.now ts))
+    (sym c.in_ok-ordered.ensures) (
+      (c.requires.first, c.requires.second, c.requires.vertex),
+      terms-are (named_views c.args.terms.now) c.requires.terms,
+    )

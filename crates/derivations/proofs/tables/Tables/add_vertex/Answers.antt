@@ -5,7 +5,8 @@ use Rattle.derivations.proofs.TableLaws.{found-at, grown-vertices}
 use Rattle.derivations.proofs.tables.Tables.add_vertex.Goals as goal
 
 pub returns-clause-grown : goal.returns-clause-grown
-returns-clause-grown c = grown-vertices same_vertex c.self.inside.vertices.keys c.args.vertex _ _ _ _ c.in_ok-number.ensures.keys c.self.view_is
+returns-clause-grown c = grown-vertices same_vertex c.self.inside.vertices.keys c.args.vertex _ _ _ _
+    c.in_ok-number.ensures.keys c.self.view_is
 
 pub returns-clause-number : goal.returns-clause-number
 returns-clause-number c =

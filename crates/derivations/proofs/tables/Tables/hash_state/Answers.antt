@@ -5,7 +5,8 @@ use Rattle.derivations.proofs.TableLaws.{found-at, grown-states}
 use Rattle.derivations.proofs.tables.Tables.hash_state.Goals as goal
 
 pub returns-clause-grown : goal.returns-clause-grown
-returns-clause-grown c = grown-states same_state c.self.inside.states.keys c.args.state _ _ _ _ c.in_ok-number.ensures.keys c.self.view_is
+returns-clause-grown c =
+    grown-states same_state c.self.inside.states.keys c.args.state _ _ _ _ c.in_ok-number.ensures.keys c.self.view_is
 
 pub returns-clause-number : goal.returns-clause-number
 returns-clause-number c =

@@ -6,5 +6,9 @@ use Rattle.encoding.proofs.matched.Matched.classes.Goals as goal
 pub returns-in-Some : goal.returns-in-Some
 returns-in-Some c =
     let d = c.args.dependency in
-    let ask : Ask = (record { ref_ptr = d.ref_ptr; now = d.now.real_name }, record { ref_ptr = d.ref_ptr; now = d.now.requirement }) in
-    ap (map class_view) c.as_slice.ensures.value ∙ c.args.self.now.are_matched ask c.in-Some.classes.now (sym c.in-Some.ensures.value)
+    let ask : Ask = (
+      record { ref_ptr = d.ref_ptr; now = d.now.real_name },
+      record { ref_ptr = d.ref_ptr; now = d.now.requirement },
+    ) in
+    ap (map class_view) c.as_slice.ensures.value
+    ∙ c.args.self.now.are_matched ask c.in-Some.classes.now (sym c.in-Some.ensures.value)

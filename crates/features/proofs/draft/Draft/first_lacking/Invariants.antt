@@ -9,6 +9,8 @@ abbrev pub invariant-rows : goal.invariant-rows
 invariant-rows l = record {
   can : (goal.iterator-rows).can_next l.feature-iterator;
   finite : (goal.iterator-rows).is_finite l.feature-iterator;
-  told : first_with (has_fault (dep_names_view l.fn.self.dependencies.now) (rows_of l.fn.self.written.now.entries) (lack_view l.fn.lack)) (rows_of l.feature-iterator)
-      ≡ first_with (has_fault (dep_names_view l.fn.self.dependencies.now) (rows_of l.fn.self.written.now.entries) (lack_view l.fn.lack)) (rows_of l.fn.self.written.now.entries);
+  told : first_with (has_fault (dep_names_view l.fn.self.dependencies.now) (rows_of l.fn.self.written.now.entries)
+      (lack_view l.fn.lack)) (rows_of l.feature-iterator)
+      ≡ first_with (has_fault (dep_names_view l.fn.self.dependencies.now) (rows_of l.fn.self.written.now.entries)
+      (lack_view l.fn.lack)) (rows_of l.fn.self.written.now.entries);
 }

@@ -4,7 +4,8 @@ use Rattle.features.proofs.BuildLemmas.{built-rows}
 use Rattle.features.proofs.table.FeatureTable.build.Goals as goal
 
 pub returns-in_err-implicit : goal.returns-in_err-implicit
-returns-in_err-implicit c = rw (built-rows (dep_names_view c.args.dependencies.now) (rows_of c.args.written.entries)) (search rules)
+returns-in_err-implicit c =
+    rw (built-rows (dep_names_view c.args.dependencies.now) (rows_of c.args.written.entries)) (search rules)
 
 pub returns : goal.returns
 returns c = rw (built-rows (dep_names_view c.args.dependencies.now) (rows_of c.args.written.entries)) (search rules)

@@ -15,8 +15,12 @@ returns g c =
     let t = trail_view tests c.args.trail.now in
     let wide = trail_view tests c.come.new.trail in
     let given = given_views tests c.in_ok-given.given.items in
-    begun c.args.inputs c.args.follows c.put.new.self c.axioms_at.new.table c.in_ok-root.root asked t wide (entries_view tests c.put_given.new.store) given c.come.ensures.encoding c.requires.follows c.in_ok-root.ensures.number
+    begun c.args.inputs c.args.follows c.put.new.self c.axioms_at.new.table c.in_ok-root.root asked t wide
+    (entries_view tests c.put_given.new.store) given c.come.ensures.encoding c.requires.follows
+    c.in_ok-root.ensures.number
     (subst (λ l. IsCome (map tests l) asked t wide) c.new-asked.ensures.items c.in_ok-come.ensures.came)
-    (subst (λ n. length c.axioms_at.new.table ≤ n) (sym (length-map c.come.new.asked.items tests)) c.in_ok-come.ensures.whole)
-    c.requires.bare c.requires.steps (subst (λ (es : List EntryView). IsTrail es wide) c.requires.store c.come.ensures.trail) c.in_ok-given.ensures.given
+    (subst (λ n. length c.axioms_at.new.table ≤ n)
+    (sym (length-map c.come.new.asked.items tests)) c.in_ok-come.ensures.whole)
+    c.requires.bare c.requires.steps (subst (λ (es : List EntryView).
+    IsTrail es wide) c.requires.store c.come.ensures.trail) c.in_ok-given.ensures.given
     (c.in_ok-put_given.ensures ∙ ap (λ es. with_given es given) c.requires.store)

@@ -8,7 +8,8 @@ use Rattle.searching.specs.Turning.{IsAdding}
 use Rattle.searching.specs.Walking as walking
 use Rattle.searching.specs.Walking.{KeepsWalks}
 use Rattle.searching.proofs.Guides.{adding_nothing}
-use Rattle.guiding.specs.Guides.{AreStored, CanAsk, EncodedView, Follows, IsNextOpen, IsOfInstance, asked_of, encoded_view, late_with, left_with}
+use Rattle.guiding.specs.Guides.{AreStored, CanAsk, EncodedView, Follows, IsNextOpen, IsOfInstance, asked_of}
+use Rattle.guiding.specs.Guides.{encoded_view, late_with, left_with}
 use Rattle.guiding.proofs.Adding.{asked_adding, asked_given, asked_seen, asked_spaces, asked_stored}
 use Rattle.guiding.proofs.Asked.{all_seen, only_below}
 use Rattle.guiding.proofs.Following.{asked_walks}
@@ -25,10 +26,16 @@ returns-in_ok-ask-in-Some-clause-adding g c =
     let more = entries_view tests c.ask.new.store in
     let new = c.ask.new.self in
     let mid = encoded_view (problem f.inputs) f.table sets c.next_open.new.seen f.follows in
-    let spaced : HasSpaces (map length sets) t = subst (λ (o : EncodedView). HasSpaces (map length o.asked) t) (sym c.self.view_is) c.requires.spaces in
-    let alone : IsNextOpen t sets c.next_open.new.seen (Some (c.in-Some.vertex, c.in-Some.state)) = subst (λ l. IsNextOpen t (map tests l) c.next_open.new.seen (Some (c.in-Some.vertex, c.in-Some.state))) c.deref.ensures.value c.in-Some.ensures.open in
-    subst (λ (o : EncodedView). IsAdding (asked_of o.asked) (asked_of new.asked) (left_with o) (left_with new) (late_with o) (late_with new) t wide es more true) c.self.view_is
-    (asked_adding c.in-Some.vertex c.in-Some.state mid new t wide es more c.in_ok-ask-in-Some.ensures spaced c.requires.trail alone.0 ((alone.1).1) ((alone.1).2) (only_below sets t c.in-Some.vertex c.in-Some.state spaced ((alone.1).0)))
+    let spaced : HasSpaces (map length sets) t =
+    subst (λ (o : EncodedView). HasSpaces (map length o.asked) t) (sym c.self.view_is) c.requires.spaces in
+    let alone : IsNextOpen t sets c.next_open.new.seen (Some (c.in-Some.vertex, c.in-Some.state)) =
+    subst (λ l. IsNextOpen t (map tests l) c.next_open.new.seen (Some (c.in-Some.vertex, c.in-Some.state)))
+    c.deref.ensures.value c.in-Some.ensures.open in
+    subst (λ (o : EncodedView). IsAdding (asked_of o.asked) (asked_of new.asked) (left_with o) (left_with new)
+    (late_with o) (late_with new) t wide es more true) c.self.view_is
+    (asked_adding c.in-Some.vertex c.in-Some.state mid new t wide es more c.in_ok-ask-in-Some.ensures spaced
+    c.requires.trail alone.0 ((alone.1).1) ((alone.1).2)
+    (only_below sets t c.in-Some.vertex c.in-Some.state spaced ((alone.1).0)))
 
 pub returns-in_ok-ask-in-Some-clause-spaces : goal.returns-in_ok-ask-in-Some-clause-spaces
 returns-in_ok-ask-in-Some-clause-spaces g c =
@@ -41,9 +48,14 @@ returns-in_ok-ask-in-Some-clause-spaces g c =
     let more = entries_view tests c.ask.new.store in
     let new = c.ask.new.self in
     let mid = encoded_view (problem f.inputs) f.table sets c.next_open.new.seen f.follows in
-    let spaced : HasSpaces (map length sets) t = subst (λ (o : EncodedView). HasSpaces (map length o.asked) t) (sym c.self.view_is) c.requires.spaces in
-    let alone : IsNextOpen t sets c.next_open.new.seen (Some (c.in-Some.vertex, c.in-Some.state)) = subst (λ l. IsNextOpen t (map tests l) c.next_open.new.seen (Some (c.in-Some.vertex, c.in-Some.state))) c.deref.ensures.value c.in-Some.ensures.open in
-    asked_spaces c.in-Some.vertex c.in-Some.state mid new t wide es more c.in_ok-ask-in-Some.ensures spaced c.requires.trail alone.0 ((alone.1).1) ((alone.1).2) (only_below sets t c.in-Some.vertex c.in-Some.state spaced ((alone.1).0))
+    let spaced : HasSpaces (map length sets) t =
+    subst (λ (o : EncodedView). HasSpaces (map length o.asked) t) (sym c.self.view_is) c.requires.spaces in
+    let alone : IsNextOpen t sets c.next_open.new.seen (Some (c.in-Some.vertex, c.in-Some.state)) =
+    subst (λ l. IsNextOpen t (map tests l) c.next_open.new.seen (Some (c.in-Some.vertex, c.in-Some.state)))
+    c.deref.ensures.value c.in-Some.ensures.open in
+    asked_spaces c.in-Some.vertex c.in-Some.state mid new t wide es more c.in_ok-ask-in-Some.ensures spaced
+    c.requires.trail alone.0 ((alone.1).1) ((alone.1).2)
+    (only_below sets t c.in-Some.vertex c.in-Some.state spaced ((alone.1).0))
 
 pub returns-in_ok-ask-in-Some-clause-seen : goal.returns-in_ok-ask-in-Some-clause-seen
 returns-in_ok-ask-in-Some-clause-seen g c =
@@ -57,9 +69,13 @@ returns-in_ok-ask-in-Some-clause-seen g c =
     let new = c.ask.new.self in
     let seen = c.next_open.new.seen in
     let mid = encoded_view (problem f.inputs) f.table sets seen f.follows in
-    let spaced : HasSpaces (map length sets) t = subst (λ (o : EncodedView). HasSpaces (map length o.asked) t) (sym c.self.view_is) c.requires.spaces in
-    let alone : IsNextOpen t sets seen (Some (c.in-Some.vertex, c.in-Some.state)) = subst (λ l. IsNextOpen t (map tests l) seen (Some (c.in-Some.vertex, c.in-Some.state))) c.deref.ensures.value c.in-Some.ensures.open in
-    asked_seen c.in-Some.vertex c.in-Some.state mid new t wide es more c.in_ok-ask-in-Some.ensures spaced c.requires.trail alone.0 ((alone.1).1) ((alone.1).2) (only_below sets t c.in-Some.vertex c.in-Some.state spaced ((alone.1).0))
+    let spaced : HasSpaces (map length sets) t =
+    subst (λ (o : EncodedView). HasSpaces (map length o.asked) t) (sym c.self.view_is) c.requires.spaces in
+    let alone : IsNextOpen t sets seen (Some (c.in-Some.vertex, c.in-Some.state)) = subst (λ l. IsNextOpen t
+    (map tests l) seen (Some (c.in-Some.vertex, c.in-Some.state))) c.deref.ensures.value c.in-Some.ensures.open in
+    asked_seen c.in-Some.vertex c.in-Some.state mid new t wide es more c.in_ok-ask-in-Some.ensures spaced
+    c.requires.trail alone.0 ((alone.1).1) ((alone.1).2)
+    (only_below sets t c.in-Some.vertex c.in-Some.state spaced ((alone.1).0))
     (subst (λ l. IsSeen seen (asked_of (map tests l)) t) c.deref.ensures.value c.next_open.ensures.seen)
 
 pub returns-in_ok-ask-in-Some-clause-given : goal.returns-in_ok-ask-in-Some-clause-given
@@ -73,9 +89,14 @@ returns-in_ok-ask-in-Some-clause-given g c was =
     let more = entries_view tests c.ask.new.store in
     let new = c.ask.new.self in
     let mid = encoded_view (problem f.inputs) f.table sets c.next_open.new.seen f.follows in
-    let spaced : HasSpaces (map length sets) t = subst (λ (o : EncodedView). HasSpaces (map length o.asked) t) (sym c.self.view_is) c.requires.spaces in
-    let alone : IsNextOpen t sets c.next_open.new.seen (Some (c.in-Some.vertex, c.in-Some.state)) = subst (λ l. IsNextOpen t (map tests l) c.next_open.new.seen (Some (c.in-Some.vertex, c.in-Some.state))) c.deref.ensures.value c.in-Some.ensures.open in
-    asked_given c.in-Some.vertex c.in-Some.state mid new t wide es more c.in_ok-ask-in-Some.ensures spaced c.requires.trail alone.0 ((alone.1).1) ((alone.1).2) (only_below sets t c.in-Some.vertex c.in-Some.state spaced ((alone.1).0))
+    let spaced : HasSpaces (map length sets) t =
+    subst (λ (o : EncodedView). HasSpaces (map length o.asked) t) (sym c.self.view_is) c.requires.spaces in
+    let alone : IsNextOpen t sets c.next_open.new.seen (Some (c.in-Some.vertex, c.in-Some.state)) =
+    subst (λ l. IsNextOpen t (map tests l) c.next_open.new.seen (Some (c.in-Some.vertex, c.in-Some.state)))
+    c.deref.ensures.value c.in-Some.ensures.open in
+    asked_given c.in-Some.vertex c.in-Some.state mid new t wide es more c.in_ok-ask-in-Some.ensures spaced
+    c.requires.trail alone.0 ((alone.1).1) ((alone.1).2)
+    (only_below sets t c.in-Some.vertex c.in-Some.state spaced ((alone.1).0))
     (subst (λ (o : EncodedView). walking.AreGiven (IsOfInstance o.problem o.vertices) es) (sym c.self.view_is) was)
 
 pub returns-in_ok-ask-in-Some-clause-stored : goal.returns-in_ok-ask-in-Some-clause-stored
@@ -89,9 +110,14 @@ returns-in_ok-ask-in-Some-clause-stored g c was =
     let more = entries_view tests c.ask.new.store in
     let new = c.ask.new.self in
     let mid = encoded_view (problem f.inputs) f.table sets c.next_open.new.seen f.follows in
-    let spaced : HasSpaces (map length sets) t = subst (λ (o : EncodedView). HasSpaces (map length o.asked) t) (sym c.self.view_is) c.requires.spaces in
-    let alone : IsNextOpen t sets c.next_open.new.seen (Some (c.in-Some.vertex, c.in-Some.state)) = subst (λ l. IsNextOpen t (map tests l) c.next_open.new.seen (Some (c.in-Some.vertex, c.in-Some.state))) c.deref.ensures.value c.in-Some.ensures.open in
-    asked_stored c.in-Some.vertex c.in-Some.state mid new t wide es more c.in_ok-ask-in-Some.ensures spaced c.requires.trail alone.0 ((alone.1).1) ((alone.1).2) (only_below sets t c.in-Some.vertex c.in-Some.state spaced ((alone.1).0))
+    let spaced : HasSpaces (map length sets) t =
+    subst (λ (o : EncodedView). HasSpaces (map length o.asked) t) (sym c.self.view_is) c.requires.spaces in
+    let alone : IsNextOpen t sets c.next_open.new.seen (Some (c.in-Some.vertex, c.in-Some.state)) =
+    subst (λ l. IsNextOpen t (map tests l) c.next_open.new.seen (Some (c.in-Some.vertex, c.in-Some.state)))
+    c.deref.ensures.value c.in-Some.ensures.open in
+    asked_stored c.in-Some.vertex c.in-Some.state mid new t wide es more c.in_ok-ask-in-Some.ensures spaced
+    c.requires.trail alone.0 ((alone.1).1) ((alone.1).2)
+    (only_below sets t c.in-Some.vertex c.in-Some.state spaced ((alone.1).0))
     (subst (λ (o : EncodedView). AreStored o.problem o.vertices o.asked es) (sym c.self.view_is) was)
 
 pub returns-in_ok-ask-in-Some-clause-walks : goal.returns-in_ok-ask-in-Some-clause-walks
@@ -105,10 +131,15 @@ returns-in_ok-ask-in-Some-clause-walks g c =
     let more = entries_view tests c.ask.new.store in
     let new = c.ask.new.self in
     let mid = encoded_view (problem f.inputs) f.table sets c.next_open.new.seen f.follows in
-    let spaced : HasSpaces (map length sets) t = subst (λ (o : EncodedView). HasSpaces (map length o.asked) t) (sym c.self.view_is) c.requires.spaces in
-    let alone : IsNextOpen t sets c.next_open.new.seen (Some (c.in-Some.vertex, c.in-Some.state)) = subst (λ l. IsNextOpen t (map tests l) c.next_open.new.seen (Some (c.in-Some.vertex, c.in-Some.state))) c.deref.ensures.value c.in-Some.ensures.open in
+    let spaced : HasSpaces (map length sets) t =
+    subst (λ (o : EncodedView). HasSpaces (map length o.asked) t) (sym c.self.view_is) c.requires.spaces in
+    let alone : IsNextOpen t sets c.next_open.new.seen (Some (c.in-Some.vertex, c.in-Some.state)) =
+    subst (λ l. IsNextOpen t (map tests l) c.next_open.new.seen (Some (c.in-Some.vertex, c.in-Some.state)))
+    c.deref.ensures.value c.in-Some.ensures.open in
     subst (λ (o : EncodedView). KeepsWalks (Follows o) es t (Follows new) more wide) c.self.view_is
-    (asked_walks c.in-Some.vertex c.in-Some.state mid new t wide es more c.in_ok-ask-in-Some.ensures spaced c.requires.trail alone.0 ((alone.1).1) ((alone.1).2) (only_below sets t c.in-Some.vertex c.in-Some.state spaced ((alone.1).0)))
+    (asked_walks c.in-Some.vertex c.in-Some.state mid new t wide es more c.in_ok-ask-in-Some.ensures spaced
+    c.requires.trail alone.0 ((alone.1).1) ((alone.1).2)
+    (only_below sets t c.in-Some.vertex c.in-Some.state spaced ((alone.1).0)))
 
 pub returns-in_ok-note-in-Some-2-clause-adding : goal.returns-in_ok-note-in-Some-2-clause-adding
 returns-in_ok-note-in-Some-2-clause-adding g c =
@@ -124,11 +155,16 @@ returns-in_ok-note-in-Some-2-clause-adding g c =
     let end = encoded_view (problem here.inputs) here.table (map tests here.asked.items) here.seen here.follows in
     let seen = c.next_open.new.seen in
     let mid = encoded_view (problem f.inputs) f.table sets seen f.follows in
-    let spaced : HasSpaces (map length sets) t = subst (λ (o : EncodedView). HasSpaces (map length o.asked) t) (sym c.self.view_is) c.requires.spaces in
-    let can : CanAsk t sets c.in-Some-2.vertex c.in-Some-2.state = subst (λ o. IfSome o (λ d. CanAsk t sets d.0 d.1)) c.in-Some-2.is c.in_ok-vertex-in-None.ensures in
-    subst (λ (o : EncodedView). IsAdding (asked_of o.asked) (asked_of end.asked) (left_with o) (left_with end) (late_with o) (late_with end) t wide es more true) c.self.view_is
-    (subst (λ (n : EncodedView). IsAdding (asked_of mid.asked) (asked_of n.asked) (left_with mid) (left_with n) (late_with mid) (late_with n) t wide es more true) (sym c.self-in-Some-2.view_is)
-    (asked_adding c.in-Some-2.vertex c.in-Some-2.state mid new t wide es more c.in_ok-ask-in-Some-2.ensures spaced c.requires.trail can.0 can.1 can.2 can.3))
+    let spaced : HasSpaces (map length sets) t =
+    subst (λ (o : EncodedView). HasSpaces (map length o.asked) t) (sym c.self.view_is) c.requires.spaces in
+    let can : CanAsk t sets c.in-Some-2.vertex c.in-Some-2.state =
+    subst (λ o. IfSome o (λ d. CanAsk t sets d.0 d.1)) c.in-Some-2.is c.in_ok-vertex-in-None.ensures in
+    subst (λ (o : EncodedView). IsAdding (asked_of o.asked) (asked_of end.asked) (left_with o) (left_with end)
+    (late_with o) (late_with end) t wide es more true) c.self.view_is
+    (subst (λ (n : EncodedView). IsAdding (asked_of mid.asked) (asked_of n.asked) (left_with mid) (left_with n)
+    (late_with mid) (late_with n) t wide es more true) (sym c.self-in-Some-2.view_is)
+    (asked_adding c.in-Some-2.vertex c.in-Some-2.state mid new t wide es more c.in_ok-ask-in-Some-2.ensures spaced
+    c.requires.trail can.0 can.1 can.2 can.3))
 
 pub returns-in_ok-note-in-Some-2-clause-seen : goal.returns-in_ok-note-in-Some-2-clause-seen
 returns-in_ok-note-in-Some-2-clause-seen g c =
@@ -144,10 +180,13 @@ returns-in_ok-note-in-Some-2-clause-seen g c =
     let end = encoded_view (problem here.inputs) here.table (map tests here.asked.items) here.seen here.follows in
     let seen = c.next_open.new.seen in
     let mid = encoded_view (problem f.inputs) f.table sets seen f.follows in
-    let spaced : HasSpaces (map length sets) t = subst (λ (o : EncodedView). HasSpaces (map length o.asked) t) (sym c.self.view_is) c.requires.spaces in
-    let can : CanAsk t sets c.in-Some-2.vertex c.in-Some-2.state = subst (λ o. IfSome o (λ d. CanAsk t sets d.0 d.1)) c.in-Some-2.is c.in_ok-vertex-in-None.ensures in
+    let spaced : HasSpaces (map length sets) t =
+    subst (λ (o : EncodedView). HasSpaces (map length o.asked) t) (sym c.self.view_is) c.requires.spaces in
+    let can : CanAsk t sets c.in-Some-2.vertex c.in-Some-2.state =
+    subst (λ o. IfSome o (λ d. CanAsk t sets d.0 d.1)) c.in-Some-2.is c.in_ok-vertex-in-None.ensures in
     subst (λ (n : EncodedView). IsSeen n.seen (asked_of n.asked) wide) (sym c.self-in-Some-2.view_is)
-    (asked_seen c.in-Some-2.vertex c.in-Some-2.state mid new t wide es more c.in_ok-ask-in-Some-2.ensures spaced c.requires.trail can.0 can.1 can.2 can.3
+    (asked_seen c.in-Some-2.vertex c.in-Some-2.state mid new t wide es more c.in_ok-ask-in-Some-2.ensures spaced
+    c.requires.trail can.0 can.1 can.2 can.3
     (subst (λ l. IsSeen seen (asked_of (map tests l)) t) c.deref.ensures.value c.next_open.ensures.seen))
 
 pub returns-in_ok-note-in-Some-2-clause-given : goal.returns-in_ok-note-in-Some-2-clause-given
@@ -164,10 +203,14 @@ returns-in_ok-note-in-Some-2-clause-given g c was =
     let end = encoded_view (problem here.inputs) here.table (map tests here.asked.items) here.seen here.follows in
     let seen = c.next_open.new.seen in
     let mid = encoded_view (problem f.inputs) f.table sets seen f.follows in
-    let spaced : HasSpaces (map length sets) t = subst (λ (o : EncodedView). HasSpaces (map length o.asked) t) (sym c.self.view_is) c.requires.spaces in
-    let can : CanAsk t sets c.in-Some-2.vertex c.in-Some-2.state = subst (λ o. IfSome o (λ d. CanAsk t sets d.0 d.1)) c.in-Some-2.is c.in_ok-vertex-in-None.ensures in
-    subst (λ (n : EncodedView). walking.AreGiven (IsOfInstance n.problem n.vertices) more) (sym c.self-in-Some-2.view_is)
-    (asked_given c.in-Some-2.vertex c.in-Some-2.state mid new t wide es more c.in_ok-ask-in-Some-2.ensures spaced c.requires.trail can.0 can.1 can.2 can.3
+    let spaced : HasSpaces (map length sets) t =
+    subst (λ (o : EncodedView). HasSpaces (map length o.asked) t) (sym c.self.view_is) c.requires.spaces in
+    let can : CanAsk t sets c.in-Some-2.vertex c.in-Some-2.state =
+    subst (λ o. IfSome o (λ d. CanAsk t sets d.0 d.1)) c.in-Some-2.is c.in_ok-vertex-in-None.ensures in
+    subst
+    (λ (n : EncodedView). walking.AreGiven (IsOfInstance n.problem n.vertices) more) (sym c.self-in-Some-2.view_is)
+    (asked_given c.in-Some-2.vertex c.in-Some-2.state mid new t wide es more c.in_ok-ask-in-Some-2.ensures spaced
+    c.requires.trail can.0 can.1 can.2 can.3
     (subst (λ (o : EncodedView). walking.AreGiven (IsOfInstance o.problem o.vertices) es) (sym c.self.view_is) was))
 
 pub returns-in_ok-note-in-Some-2-clause-stored : goal.returns-in_ok-note-in-Some-2-clause-stored
@@ -184,10 +227,13 @@ returns-in_ok-note-in-Some-2-clause-stored g c was =
     let end = encoded_view (problem here.inputs) here.table (map tests here.asked.items) here.seen here.follows in
     let seen = c.next_open.new.seen in
     let mid = encoded_view (problem f.inputs) f.table sets seen f.follows in
-    let spaced : HasSpaces (map length sets) t = subst (λ (o : EncodedView). HasSpaces (map length o.asked) t) (sym c.self.view_is) c.requires.spaces in
-    let can : CanAsk t sets c.in-Some-2.vertex c.in-Some-2.state = subst (λ o. IfSome o (λ d. CanAsk t sets d.0 d.1)) c.in-Some-2.is c.in_ok-vertex-in-None.ensures in
+    let spaced : HasSpaces (map length sets) t =
+    subst (λ (o : EncodedView). HasSpaces (map length o.asked) t) (sym c.self.view_is) c.requires.spaces in
+    let can : CanAsk t sets c.in-Some-2.vertex c.in-Some-2.state =
+    subst (λ o. IfSome o (λ d. CanAsk t sets d.0 d.1)) c.in-Some-2.is c.in_ok-vertex-in-None.ensures in
     subst (λ (n : EncodedView). AreStored n.problem n.vertices n.asked more) (sym c.self-in-Some-2.view_is)
-    (asked_stored c.in-Some-2.vertex c.in-Some-2.state mid new t wide es more c.in_ok-ask-in-Some-2.ensures spaced c.requires.trail can.0 can.1 can.2 can.3
+    (asked_stored c.in-Some-2.vertex c.in-Some-2.state mid new t wide es more c.in_ok-ask-in-Some-2.ensures spaced
+    c.requires.trail can.0 can.1 can.2 can.3
     (subst (λ (o : EncodedView). AreStored o.problem o.vertices o.asked es) (sym c.self.view_is) was))
 
 pub returns-in_ok-note-in-Some-2-clause-walks : goal.returns-in_ok-note-in-Some-2-clause-walks
@@ -204,11 +250,14 @@ returns-in_ok-note-in-Some-2-clause-walks g c =
     let end = encoded_view (problem here.inputs) here.table (map tests here.asked.items) here.seen here.follows in
     let seen = c.next_open.new.seen in
     let mid = encoded_view (problem f.inputs) f.table sets seen f.follows in
-    let spaced : HasSpaces (map length sets) t = subst (λ (o : EncodedView). HasSpaces (map length o.asked) t) (sym c.self.view_is) c.requires.spaces in
-    let can : CanAsk t sets c.in-Some-2.vertex c.in-Some-2.state = subst (λ o. IfSome o (λ d. CanAsk t sets d.0 d.1)) c.in-Some-2.is c.in_ok-vertex-in-None.ensures in
+    let spaced : HasSpaces (map length sets) t =
+    subst (λ (o : EncodedView). HasSpaces (map length o.asked) t) (sym c.self.view_is) c.requires.spaces in
+    let can : CanAsk t sets c.in-Some-2.vertex c.in-Some-2.state =
+    subst (λ o. IfSome o (λ d. CanAsk t sets d.0 d.1)) c.in-Some-2.is c.in_ok-vertex-in-None.ensures in
     subst (λ (o : EncodedView). KeepsWalks (Follows o) es t (Follows end) more wide) c.self.view_is
     (subst (λ (n : EncodedView). KeepsWalks (Follows mid) es t (Follows n) more wide) (sym c.self-in-Some-2.view_is)
-    (asked_walks c.in-Some-2.vertex c.in-Some-2.state mid new t wide es more c.in_ok-ask-in-Some-2.ensures spaced c.requires.trail can.0 can.1 can.2 can.3))
+    (asked_walks c.in-Some-2.vertex c.in-Some-2.state mid new t wide es more c.in_ok-ask-in-Some-2.ensures spaced
+    c.requires.trail can.0 can.1 can.2 can.3))
 
 pub returns-in-None-2-clause-adding : goal.returns-in-None-2-clause-adding
 returns-in-None-2-clause-adding g c =
@@ -218,9 +267,12 @@ returns-in-None-2-clause-adding g c =
     let t = trail_view tests c.args.trail.now in
     let es = entries_view tests c.args.store.now in
     let mid = encoded_view (problem f.inputs) f.table sets c.next_open.new.seen f.follows in
-    let seen : IsSeen c.next_open.new.seen (asked_of sets) t = subst (λ l. IsSeen c.next_open.new.seen (asked_of (map tests l)) t) c.deref.ensures.value c.next_open.ensures.seen in
-    subst (λ (o : EncodedView). IsAdding (asked_of o.asked) (asked_of sets) (left_with o) (left_with mid) (late_with o) (late_with mid) t t es es false) c.self.view_is
-    (adding_nothing (asked_of sets) (left_with mid) (late_with mid) t es c.requires.trail.lies (all_seen c.next_open.new.seen (asked_of sets) t seen c.in-None.ensures.open))
+    let seen : IsSeen c.next_open.new.seen (asked_of sets) t = subst
+    (λ l. IsSeen c.next_open.new.seen (asked_of (map tests l)) t) c.deref.ensures.value c.next_open.ensures.seen in
+    subst (λ (o : EncodedView). IsAdding (asked_of o.asked) (asked_of sets) (left_with o) (left_with mid) (late_with o)
+    (late_with mid) t t es es false) c.self.view_is
+    (adding_nothing (asked_of sets) (left_with mid) (late_with mid) t es c.requires.trail.lies
+    (all_seen c.next_open.new.seen (asked_of sets) t seen c.in-None.ensures.open))
 
 pub returns-in-None-2-clause-walks : goal.returns-in-None-2-clause-walks
 returns-in-None-2-clause-walks g c x is = (subst (λ (o : EncodedView). Follows o x) c.self.view_is is, λ walked. walked)
@@ -239,7 +291,10 @@ returns-in_ok-note-in-Some-2-clause-spaces g c =
     let end = encoded_view (problem here.inputs) here.table (map tests here.asked.items) here.seen here.follows in
     let seen = c.next_open.new.seen in
     let mid = encoded_view (problem f.inputs) f.table sets seen f.follows in
-    let spaced : HasSpaces (map length sets) t = subst (λ (o : EncodedView). HasSpaces (map length o.asked) t) (sym c.self.view_is) c.requires.spaces in
-    let can : CanAsk t sets c.in-Some-2.vertex c.in-Some-2.state = subst (λ o. IfSome o (λ d. CanAsk t sets d.0 d.1)) c.in-Some-2.is c.in_ok-vertex-in-None.ensures in
+    let spaced : HasSpaces (map length sets) t =
+    subst (λ (o : EncodedView). HasSpaces (map length o.asked) t) (sym c.self.view_is) c.requires.spaces in
+    let can : CanAsk t sets c.in-Some-2.vertex c.in-Some-2.state =
+    subst (λ o. IfSome o (λ d. CanAsk t sets d.0 d.1)) c.in-Some-2.is c.in_ok-vertex-in-None.ensures in
     subst (λ (n : EncodedView). HasSpaces (map length n.asked) wide) (sym c.self-in-Some-2.view_is)
-    (asked_spaces c.in-Some-2.vertex c.in-Some-2.state mid new t wide es more c.in_ok-ask-in-Some-2.ensures spaced c.requires.trail can.0 can.1 can.2 can.3)
+    (asked_spaces c.in-Some-2.vertex c.in-Some-2.state mid new t wide es more c.in_ok-ask-in-Some-2.ensures spaced
+    c.requires.trail can.0 can.1 can.2 can.3)

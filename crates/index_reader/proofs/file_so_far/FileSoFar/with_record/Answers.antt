@@ -18,7 +18,8 @@ returns-then-not-branch c =
     = from_not _ true (sym c.in_ok-insert.ensures.added ∙ c.if-not-branch.true) in
     let has : has_version (map record_view c.args.self.records.items) (parts_of c.args.found.version) ≡ true
     = sym (c.args.self.agrees (parts_of c.args.found.version)) ∙ sym (ap (has_equal c.args.self.kept.keys) same)
-    ∙ sym (found-bare c.in_ok-version.version c.args.self.kept.keys (ap (λ p. p.4) same) c.args.self.without_build) ∙ found in
+    ∙ sym (found-bare c.in_ok-version.version c.args.self.kept.keys (ap (λ p. p.4) same) c.args.self.without_build)
+    ∙ found in
     rw has c.with_skip.ensures
 
 pub invariant_of-self-2 : goal.invariant_of-self-2
@@ -27,8 +28,10 @@ invariant_of-self-2 c =
     let absent : list_any (is_at ((cmp-value).it c.in_ok-version.version)) c.args.self.kept.keys ≡ false
     = from_not _ false (sym c.in_ok-insert.ensures.added ∙ c.if-not-branch.false) in
     rw (c.in_ok-insert.ensures.keys, c.in_ok-push.ensures.items) record {
-      without_build = All-insert_key (cmp-value).it c.in_ok-version.version (λ k. (parts_of k).4 ≡ []) c.args.self.kept.keys c.args.self.without_build (ap (λ p. p.4) same);
-      agrees = agrees-more c.args.self.kept.keys c.args.self.records.items c.in_ok-version.version c.args.found c.args.self.agrees same absent;
+      without_build = All-insert_key (cmp-value).it c.in_ok-version.version
+          (λ k. (parts_of k).4 ≡ []) c.args.self.kept.keys c.args.self.without_build (ap (λ p. p.4) same);
+      agrees = agrees-more c.args.self.kept.keys c.args.self.records.items c.in_ok-version.version c.args.found
+          c.args.self.agrees same absent;
     }
 
 pub returns : goal.returns
@@ -38,5 +41,6 @@ returns c =
     = from_not _ false (sym c.in_ok-insert.ensures.added ∙ c.if-not-branch.false) in
     let none : has_version (map record_view c.args.self.records.items) (parts_of c.args.found.version) ≡ false
     = sym (c.args.self.agrees (parts_of c.args.found.version)) ∙ sym (ap (has_equal c.args.self.kept.keys) same)
-    ∙ sym (found-bare c.in_ok-version.version c.args.self.kept.keys (ap (λ p. p.4) same) c.args.self.without_build) ∙ absent in
+    ∙ sym (found-bare c.in_ok-version.version c.args.self.kept.keys (ap (λ p. p.4) same) c.args.self.without_build)
+    ∙ absent in
     rw (none, c.in_ok-push.ensures.items, map-append) refl

@@ -11,4 +11,7 @@ invariant_of-result c =
     let table : features_of line ≡ Ok c.in_ok-table.table = search rules in
     let features : feature_text_views c.in_ok-feature_texts.field-0.items ≡ line.features = search rules in
     let features2 : feature_text_views c.in_ok-feature_texts-2.field-0.items ≡ line.features2 = search rules in
-    record { made = λ s ds fs gs. makes line c.in_ok-table.table table s (ds ∙ c.requires) (fs ∙ features) (gs ∙ features2) }
+    record {
+      made =
+          λ s ds fs gs. makes line c.in_ok-table.table table s (ds ∙ c.requires) (fs ∙ features) (gs ∙ features2);
+    }

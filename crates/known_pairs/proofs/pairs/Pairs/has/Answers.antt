@@ -8,7 +8,9 @@ use Rattle.known_pairs.proofs.pairs.Pairs.has.Goals as goal
 pub returns-in-Some : goal.returns-in-Some
 returns-in-Some c =
     c.contains.ensures ∙ contains-has c.args.feature.now c.in-Some.features.now.keys
-    ∙ ap (λ s. has_text (keys_if s) c.args.feature.now) (c.in-Some.ensures.value ∙ text_at-get c.args.name.now c.args.self.now.features.entries)
+    ∙ ap (λ s. has_text (keys_if s) c.args.feature.now)
+    (c.in-Some.ensures.value ∙ text_at-get c.args.name.now c.args.self.now.features.entries)
 
 pub returns-in-None : goal.returns-in-None
-returns-in-None c = ap (λ s. has_text (keys_if s) c.args.feature.now) (c.in-None.ensures.value ∙ text_at-get c.args.name.now c.args.self.now.features.entries)
+returns-in-None c = ap (λ s. has_text (keys_if s) c.args.feature.now)
+    (c.in-None.ensures.value ∙ text_at-get c.args.name.now c.args.self.now.features.entries)

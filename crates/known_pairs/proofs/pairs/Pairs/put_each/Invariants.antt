@@ -9,5 +9,6 @@ abbrev pub invariant-features : goal.invariant-features
 invariant-features l = record {
   can : (goal.iterator-features).can_next l.feature-iterator;
   finite : (goal.iterator-features).is_finite l.feature-iterator;
-  told : (n f : List ℕ) → (has_pair l.self n f || list_any (λ k. same_pair (n, f) (l.name, k.now)) l.feature-iterator) ≡ (has_pair l.fn.self n f || list_any (λ k. same_pair (n, f) (l.name, k.now)) l.fn.features.keys);
+  told : (n f : List ℕ) → (has_pair l.self n f || list_any (λ k. same_pair (n, f) (l.name, k.now)) l.feature-iterator)
+      ≡ (has_pair l.fn.self n f || list_any (λ k. same_pair (n, f) (l.name, k.now)) l.fn.features.keys);
 }

@@ -8,11 +8,13 @@ returns-then-lies_in_both c =
     let ss = c.args.self.now in
     let a = c.args.a.now in
     let b = c.args.b.now in
-    c.shares_in.ensures ∙ and_then (all_in_both ss a b) (all_shared_in a b ss) _ (sym c.lies_in_both.ensures ∙ c.if-lies_in_both.true) (meet_is ss a b)
+    c.shares_in.ensures ∙ and_then (all_in_both ss a b) (all_shared_in a b ss) _
+    (sym c.lies_in_both.ensures ∙ c.if-lies_in_both.true) (meet_is ss a b)
 
 pub returns-else-lies_in_both : goal.returns-else-lies_in_both
 returns-else-lies_in_both c =
     let ss = c.args.self.now in
     let a = c.args.a.now in
     let b = c.args.b.now in
-    c.lies_in_both.ensures ∙ and_else (all_in_both ss a b) (all_shared_in a b ss) _ (sym c.lies_in_both.ensures ∙ c.if-lies_in_both.false) (meet_is ss a b)
+    c.lies_in_both.ensures ∙ and_else (all_in_both ss a b) (all_shared_in a b ss) _
+    (sym c.lies_in_both.ensures ∙ c.if-lies_in_both.false) (meet_is ss a b)

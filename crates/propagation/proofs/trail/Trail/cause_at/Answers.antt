@@ -7,4 +7,5 @@ pub returns : goal.returns
 returns g c =
     let steps = c.args.self.now.steps.items in
     let within : c.args.place < length steps = omega (arith, c.requires, length-map {B = StepView} steps) in
-    ap (λ (s : _). s.cause) c.index.ensures ∙ sym (ap (λ (s : StepView). s.cause) (get_or-map (step_view g.S.States.tests) steps c.args.place _ no_step within))
+    ap (λ (s : _). s.cause) c.index.ensures ∙ sym (ap (λ (s : StepView). s.cause)
+    (get_or-map (step_view g.S.States.tests) steps c.args.place _ no_step within))

@@ -9,7 +9,8 @@ subset-requires g c =
     let tests = g.S.States.tests in
     let sets = c.args.self.now.sets.items in
     let within : c.args.vertex < length sets = rw length-map at c.requires.vertex in
-    let here : set_of (map tests sets) c.args.vertex ≡ tests c.index.result.now = get_or-map tests sets c.args.vertex _ [] within ∙ ap tests (sym c.index.ensures) in
+    let here : set_of (map tests sets) c.args.vertex ≡ tests c.index.result.now =
+    get_or-map tests sets c.args.vertex _ [] within ∙ ap tests (sym c.index.ensures) in
     sym (c.requires.fits ∙ ap length here)
 
 pub returns : goal.returns
@@ -17,5 +18,6 @@ returns g c =
     let tests = g.S.States.tests in
     let sets = c.args.self.now.sets.items in
     let within : c.args.vertex < length sets = rw length-map at c.requires.vertex in
-    let here : set_of (map tests sets) c.args.vertex ≡ tests c.index.result.now = get_or-map tests sets c.args.vertex _ [] within ∙ ap tests (sym c.index.ensures) in
+    let here : set_of (map tests sets) c.args.vertex ≡ tests c.index.result.now =
+    get_or-map tests sets c.args.vertex _ [] within ∙ ap tests (sym c.index.ensures) in
     c.subset.ensures ∙ ap (λ (s : Members). inside s (tests c.args.states.now)) (sym here)

@@ -8,15 +8,18 @@ use Rattle.propagation.proofs.trail.Trail.look_again.Goals as goal
 pub is_within-requires-clause-vertex : goal.is_within-requires-clause-vertex
 is_within-requires-clause-vertex g c =
     let t = trail_view g.S.States.tests c.args.self.now in
-    subst (λ v. v < length t.sets) (sym c.requires.vertex) (vertex_within t c.requires.trail.sound t.walked c.requires.waits)
+    subst (λ v. v < length t.sets) (sym c.requires.vertex)
+    (vertex_within t c.requires.trail.sound t.walked c.requires.waits)
 
 pub is_within-requires-clause-fits : goal.is_within-requires-clause-fits
-is_within-requires-clause-fits g c = c.requires.trail.lies c.args.posting.now.id c.requires.id c.args.vertex (g.S.States.tests c.args.posting.now.states) c.requires.states
+is_within-requires-clause-fits g c = c.requires.trail.lies c.args.posting.now.id c.requires.id c.args.vertex
+    (g.S.States.tests c.args.posting.now.states) c.requires.states
 
 pub returns-then-is_within-clause-looked : goal.returns-then-is_within-clause-looked
 returns-then-is_within-clause-looked g c =
     let tests = g.S.States.tests in
-    looked_again (entries_view tests c.args.store.now) (trail_view tests c.args.self.now) (trail_view tests c.look.new.self) c.args.posting.now.id c.look.result c.requires.waits c.look.ensures.looked
+    looked_again (entries_view tests c.args.store.now) (trail_view tests c.args.self.now)
+    (trail_view tests c.look.new.self) c.args.posting.now.id c.look.result c.requires.waits c.look.ensures.looked
 
 pub returns-clause-looked : goal.returns-clause-looked
 returns-clause-looked g c =
@@ -26,5 +29,9 @@ returns-clause-looked g c =
     let id = c.args.posting.now.id in
     let v = c.args.vertex in
     let off : c.is_within.result ≡ false = search rules in
-    let apart : is_within (set_of t.sets v) (terms_of es id v) ≡ false = ap (is_within (set_of t.sets v)) c.requires.states ∙ sym c.is_within.ensures ∙ off in
-    ([], passed_over es t id c.requires.trail c.requires.waits (subst (λ u. is_within (set_of t.sets u) (terms_of es id u) ≡ false) c.requires.vertex apart))
+    let apart : is_within (set_of t.sets v) (terms_of es id v) ≡ false =
+    ap (is_within (set_of t.sets v)) c.requires.states ∙ sym c.is_within.ensures ∙ off in (
+      [],
+      passed_over es t id c.requires.trail c.requires.waits
+          (subst (λ u. is_within (set_of t.sets u) (terms_of es id u) ≡ false) c.requires.vertex apart),
+    )

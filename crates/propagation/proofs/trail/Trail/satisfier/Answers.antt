@@ -14,16 +14,28 @@ ranked_some : (t : TrailView) (ts : List TermView) (n : ℕ) (r : Ranks) → 0 <
 ranked_some t ts zero r some h = absurd (omega (arith, some))
 ranked_some t ts (suc n) r some h = h
 
-read : {S : Type 0} (tests : S → Members) (ss : List (Step S)) (p : ℕ) (s d : Step S) → p < length (steps_view tests ss) → s ≡ get_or ss p d → step_at (steps_view tests ss) p ≡ step_view tests s
-read {S} tests ss p s d lt e = get_or-map (step_view tests) ss p d no_step (rw length-map at lt) ∙ ap (step_view tests) (sym e)
+read : {S : Type 0} (tests : S → Members) (ss : List (Step S)) (p : ℕ) (s d : Step S) → p < length (steps_view tests ss)
+    → s ≡ get_or ss p d → step_at (steps_view tests ss) p ≡ step_view tests s
+read {S} tests ss p s d lt e =
+    get_or-map (step_view tests) ss p d no_step (rw length-map at lt) ∙ ap (step_view tests) (sym e)
 
-is_read : (g : Over) (c : goal.After-level_after g) → IsRead (trail_view g.S.States.tests c.args.self.now) (terms_view g.S.States.tests c.args.incompatibility.now) c.ranks-ranks.result (record { place = c.ranks-ranks.result.all - 1; vertex = c.index-step.result.now.vertex; level = c.index-step.result.now.level; cause = c.index-step.result.now.cause; before = c.level_after.result })
+is_read : (g : Over) (c : goal.After-level_after g) → IsRead (trail_view g.S.States.tests c.args.self.now)
+    (terms_view g.S.States.tests c.args.incompatibility.now) c.ranks-ranks.result
+    (record {
+      place = c.ranks-ranks.result.all - 1;
+      vertex = c.index-step.result.now.vertex;
+      level =
+          c.index-step.result.now.level;
+      cause = c.index-step.result.now.cause;
+      before = c.level_after.result;
+    })
 is_read g c =
     let tests = g.S.States.tests in
     let t = trail_view tests c.args.self.now in
     let ts = terms_view tests c.args.incompatibility.now in
     let r = c.ranks-ranks.result in
-    let ranked : Ranked t ts (length ts) r = subst (λ (us : List TermView). Ranked t us (length us) r) (ap (terms_view tests) c.terms.ensures.terms) c.ranks-ranks.ensures in
+    let ranked : Ranked t ts (length ts) r = subst (λ (us : List TermView). Ranked t us (length us) r)
+    (ap (terms_view tests) c.terms.ensures.terms) c.ranks-ranks.ensures in
     let ranks = ranked_some t ts (length ts) r c.requires.some ranked in
     let place : suc (r.all - 1) ≡ r.all = (let some = ranks.some in omega (arith, some)) in
     let lt : r.all - 1 < length t.steps = (let w = ranks.count.within in omega (arith, w, place)) in

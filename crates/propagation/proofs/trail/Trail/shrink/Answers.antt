@@ -24,9 +24,13 @@ back-preserved g c =
     let off = c.take_off.ensures.off in
     let mid = view c.back.self in
     let new = view c.take_off.new.self in
-    let one : length c.back.self.steps.items ≡ 1 + length c.take_off.new.self.steps.items = rw (length-map, length-map) at (steps_one mid new off.0 off.1) in
+    let one : length c.back.self.steps.items ≡ 1 + length c.take_off.new.self.steps.items =
+    rw (length-map, length-map) at (steps_one mid new off.0 off.1) in
     record {
-      back = (off.0 ∷ was.0, longer_again new mid (view c.args.self.now) (off.0 ∷ []) was.0 (off_longer mid new off.0 off.1) was.1);
+      back = (
+        off.0 ∷ was.0,
+        longer_again new mid (view c.args.self.now) (off.0 ∷ []) was.0 (off_longer mid new off.0 off.1) was.1,
+      );
       places = search (rules, one);
       level = off.1.level_is ∙ c.back.invariant.level;
     }

@@ -15,8 +15,10 @@ relation-relation-requires-clause-vertex g c =
     let t = c.index-terms-place.result in
     let k = c.terms.place - 1 in
     let lt : k < length ts = omega arith in
-    let here : term_at (terms_view tests ts) k ≡ term_view tests t = view_at (term_view tests) ts k t _ lt c.index-terms-place.is in
-    subst (λ (x : TermView). x.vertex < length (trail_view tests c.args.self.now).sets) here (term_within (trail_view tests c.args.self.now) (terms_view tests ts) k c.requires (rw length-map lt))
+    let here : term_at (terms_view tests ts) k ≡ term_view tests t =
+    view_at (term_view tests) ts k t _ lt c.index-terms-place.is in
+    subst (λ (x : TermView). x.vertex < length (trail_view tests c.args.self.now).sets) here
+    (term_within (trail_view tests c.args.self.now) (terms_view tests ts) k c.requires (rw length-map lt))
 
 pub relation-relation-requires-clause-fits : goal.relation-relation-requires-clause-fits
 relation-relation-requires-clause-fits g c =
@@ -25,8 +27,10 @@ relation-relation-requires-clause-fits g c =
     let t = c.index-terms-place.result in
     let k = c.terms.place - 1 in
     let lt : k < length ts = omega arith in
-    let here : term_at (terms_view tests ts) k ≡ term_view tests t = view_at (term_view tests) ts k t _ lt c.index-terms-place.is in
-    subst (λ (x : TermView). length x.states ≡ space_of (trail_view tests c.args.self.now) x.vertex) here (term_fits (trail_view tests c.args.self.now) (terms_view tests ts) k c.requires (rw length-map lt))
+    let here : term_at (terms_view tests ts) k ≡ term_view tests t =
+    view_at (term_view tests) ts k t _ lt c.index-terms-place.is in
+    subst (λ (x : TermView). length x.states ≡ space_of (trail_view tests c.args.self.now) x.vertex) here
+    (term_fits (trail_view tests c.args.self.now) (terms_view tests ts) k c.requires (rw length-map lt))
 
 pub terms-preserved : goal.terms-preserved
 terms-preserved g c =
@@ -37,10 +41,14 @@ terms-preserved g c =
     let k = c.terms.place - 1 in
     let lt : k < length ts = omega arith in
     let f = relation_at sets (terms_view tests ts) in
-    let here : term_at (terms_view tests ts) k ≡ term_view tests t = view_at (term_view tests) ts k t _ lt c.index-terms-place.is in
-    let now : f k ≡ c.relation-relation.result = ap (λ (x : TermView). relation_of (set_of sets x.vertex) x.states) here ∙ sym c.relation-relation.ensures in
+    let here : term_at (terms_view tests ts) k ≡ term_view tests t =
+    view_at (term_view tests) ts k t _ lt c.index-terms-place.is in
+    let now : f k ≡ c.relation-relation.result =
+    ap (λ (x : TermView). relation_of (set_of sets x.vertex) x.states) here ∙ sym c.relation-relation.ensures in
     let more : c.terms.place ≡ suc k = omega arith in
-    subst (StandsFrom k (length ts) f) (sym c.with_next-seen.ensures) (after_next f k (length ts) c.terms.seen c.relation-relation.result lt now (subst (λ m. StandsFrom m (length ts) f c.terms.seen) more c.terms.invariant))
+    subst (StandsFrom k (length ts) f) (sym c.with_next-seen.ensures)
+    (after_next f k (length ts) c.terms.seen c.relation-relation.result lt now
+    (subst (λ m. StandsFrom m (length ts) f c.terms.seen) more c.terms.invariant))
 
 pub returns-in-Quiet : goal.returns-in-Quiet
 returns-in-Quiet g c =
@@ -51,11 +59,14 @@ returns-in-Quiet g c =
     let k = c.terms.place - 1 in
     let lt : k < length ts = omega arith in
     let f = relation_at sets (terms_view tests ts) in
-    let here : term_at (terms_view tests ts) k ≡ term_view tests t = view_at (term_view tests) ts k t _ lt c.index-terms-place.is in
-    let now : f k ≡ c.relation-relation.result = ap (λ (x : TermView). relation_of (set_of sets x.vertex) x.states) here ∙ sym c.relation-relation.ensures in
+    let here : term_at (terms_view tests ts) k ≡ term_view tests t =
+    view_at (term_view tests) ts k t _ lt c.index-terms-place.is in
+    let now : f k ≡ c.relation-relation.result =
+    ap (λ (x : TermView). relation_of (set_of sets x.vertex) x.states) here ∙ sym c.relation-relation.ensures in
     let more : c.terms.place ≡ suc k = omega arith in
     let is : after c.terms.seen k c.relation-relation.result ≡ Quiet = sym c.with_next-seen.ensures ∙ c.in-Quiet.is in
-    subst (StandsFrom k (length ts) f) is (after_next f k (length ts) c.terms.seen c.relation-relation.result lt now (subst (λ m. StandsFrom m (length ts) f c.terms.seen) more c.terms.invariant))
+    subst (StandsFrom k (length ts) f) is (after_next f k (length ts) c.terms.seen c.relation-relation.result lt now
+    (subst (λ m. StandsFrom m (length ts) f c.terms.seen) more c.terms.invariant))
 
 pub returns : goal.returns
 returns g c =

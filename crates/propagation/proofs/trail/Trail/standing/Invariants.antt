@@ -6,4 +6,5 @@ use Rattle.propagation.proofs.Standings.{StandsFrom}
 use Rattle.propagation.proofs.trail.Trail.standing.Given as goal
 
 abbrev pub invariant-terms : goal.invariant-terms
-invariant-terms g l = StandsFrom l.place (length l.terms) (relation_at (trail_view g.S.States.tests l.self).sets (terms_view g.S.States.tests l.terms)) l.seen
+invariant-terms g l = StandsFrom l.place (length l.terms)
+    (relation_at (trail_view g.S.States.tests l.self).sets (terms_view g.S.States.tests l.terms)) l.seen

@@ -14,8 +14,11 @@ force-requires-clause-fits g c =
     let ts = c.args.terms.now in
     let t = c.index-terms-open.result in
     let lt : c.in-OneOpen.open < length ts = c.in-OneOpen.ensures.within in
-    let here : term_at (terms_view tests ts) c.in-OneOpen.open ≡ term_view tests t = view_at (term_view tests) ts c.in-OneOpen.open t _ lt c.index-terms-open.is in
-    subst (λ (x : TermView). length x.states ≡ space_of (trail_view tests c.args.self.now) x.vertex) here (term_fits (trail_view tests c.args.self.now) (terms_view tests ts) c.in-OneOpen.open c.requires.lies (rw length-map lt))
+    let here : term_at (terms_view tests ts) c.in-OneOpen.open ≡ term_view tests t =
+    view_at (term_view tests) ts c.in-OneOpen.open t _ lt c.index-terms-open.is in
+    subst (λ (x : TermView). length x.states ≡ space_of (trail_view tests c.args.self.now) x.vertex) here
+    (term_fits (trail_view tests c.args.self.now)
+    (terms_view tests ts) c.in-OneOpen.open c.requires.lies (rw length-map lt))
 
 pub force-requires-clause-vertex : goal.force-requires-clause-vertex
 force-requires-clause-vertex g c =
@@ -23,8 +26,11 @@ force-requires-clause-vertex g c =
     let ts = c.args.terms.now in
     let t = c.index-terms-open.result in
     let lt : c.in-OneOpen.open < length ts = c.in-OneOpen.ensures.within in
-    let here : term_at (terms_view tests ts) c.in-OneOpen.open ≡ term_view tests t = view_at (term_view tests) ts c.in-OneOpen.open t _ lt c.index-terms-open.is in
-    subst (λ (x : TermView). x.vertex < length (trail_view tests c.args.self.now).sets) here (term_within (trail_view tests c.args.self.now) (terms_view tests ts) c.in-OneOpen.open c.requires.lies (rw length-map lt))
+    let here : term_at (terms_view tests ts) c.in-OneOpen.open ≡ term_view tests t =
+    view_at (term_view tests) ts c.in-OneOpen.open t _ lt c.index-terms-open.is in
+    subst (λ (x : TermView). x.vertex < length (trail_view tests c.args.self.now).sets) here
+    (term_within (trail_view tests c.args.self.now)
+    (terms_view tests ts) c.in-OneOpen.open c.requires.lies (rw length-map lt))
 
 pub returns-in-Holds-clause-visited : goal.returns-in-Holds-clause-visited
 returns-in-Holds-clause-visited g c =
@@ -50,6 +56,14 @@ returns-in_ok-force-in-OneOpen-clause-visited g c =
     let ts = terms_view tests c.args.terms.now in
     let t = c.index-terms-open.result in
     let one : OneIsOpen (length ts) (relation_at old.sets ts) c.in-OneOpen.open = rw length-map c.in-OneOpen.ensures in
-    let here : term_at ts c.in-OneOpen.open ≡ term_view tests t = view_at (term_view tests) c.args.terms.now c.in-OneOpen.open t _ c.in-OneOpen.ensures.within c.index-terms-open.is in
-    let put = subst (λ (x : TermView). IsPut old new x.vertex (meet (set_of old.sets x.vertex) (rest x.states)) (Some c.args.id) old.level) (sym here) c.in_ok-force-in-OneOpen.ensures.put in
-    record { vertex = (term_at ts c.in-OneOpen.open).vertex; states = (term_at ts c.in-OneOpen.open).states; one = open_one old.sets ts c.in-OneOpen.open c.requires.lies.is.rising one; put = put }
+    let here : term_at ts c.in-OneOpen.open ≡ term_view tests t = view_at
+    (term_view tests) c.args.terms.now c.in-OneOpen.open t _ c.in-OneOpen.ensures.within c.index-terms-open.is in
+    let put = subst (λ (x : TermView). IsPut old new x.vertex (meet (set_of old.sets x.vertex) (rest x.states))
+    (Some c.args.id) old.level) (sym here) c.in_ok-force-in-OneOpen.ensures.put in
+    record {
+      vertex = (term_at ts c.in-OneOpen.open).vertex;
+      states = (term_at ts c.in-OneOpen.open).states;
+      one =
+          open_one old.sets ts c.in-OneOpen.open c.requires.lies.is.rising one;
+      put = put;
+    }

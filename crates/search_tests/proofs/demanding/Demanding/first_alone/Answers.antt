@@ -18,6 +18,8 @@ pairs-preserved g c =
     let p = c.index-pair.result.now in
     let pair : Pending g.row.S.Denot → ℕ × ℕ = λ x. (x.vertex, x.state) in
     let lt : c.pairs.place < length items = omega (arith, c.pairs-test.true, c.len-place-end.ensures) in
-    let at : pair_at ps c.pairs.place ≡ (p.vertex, p.state) = view_at pair items c.pairs.place p _ lt c.index-pair.ensures in
-    one_more (λ k. (pair_at ps k).0 < length sets → ¬ IsOnly (set_of sets (pair_at ps k).0) (pair_at ps k).1) c.pairs.place c.pairs.invariant
+    let at : pair_at ps c.pairs.place ≡ (p.vertex, p.state) =
+    view_at pair items c.pairs.place p _ lt c.index-pair.ensures in
+    one_more (λ k. (pair_at ps k).0 < length sets
+    → ¬ IsOnly (set_of sets (pair_at ps k).0) (pair_at ps k).1) c.pairs.place c.pairs.invariant
     (subst (λ (q : ℕ × ℕ). q.0 < length sets → ¬ IsOnly (set_of sets q.0) q.1) (sym at) c.if-stands_alone.ensures.no)

@@ -11,6 +11,8 @@ invariant_of-self-2 g c =
     let old = trail_view tests c.self.inside.trail in
     let new = trail_view tests c.grow.new.self in
     record {
-      trail = c.grow.ensures.trail es (below_proper old es c.is_proper.ensures c.self.invariant.trail.lies) c.self.invariant.trail;
-      vertices = one_wider c.self.inside.vertices c.args.universe old new c.self.invariant.vertices c.in_ok-grow.ensures.wider;
+      trail = c.grow.ensures.trail es
+          (below_proper old es c.is_proper.ensures c.self.invariant.trail.lies) c.self.invariant.trail;
+      vertices =
+          one_wider c.self.inside.vertices c.args.universe old new c.self.invariant.vertices c.in_ok-grow.ensures.wider;
     }

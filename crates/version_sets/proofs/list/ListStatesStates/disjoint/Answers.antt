@@ -8,4 +8,5 @@ pub returns : goal.returns
 returns c =
     ap not
     (c.has_any.ensures ∙ ap (list_any (has c.args.other.now)) c.deref.ensures.value
-    ∙ any_is c.self.inside.universe c.self.inside.members.items c.self.invariant c.args.self.now c.args.other.now c.self.view_is c.requires)
+    ∙ any_is c.self.inside.universe c.self.inside.members.items c.self.invariant c.args.self.now c.args.other.now
+    c.self.view_is c.requires)

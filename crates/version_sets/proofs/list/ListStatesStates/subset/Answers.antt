@@ -7,4 +7,5 @@ use Rattle.version_sets.proofs.list.ListStatesStates.subset.Goals as goal
 pub returns : goal.returns
 returns c =
     c.has_all.ensures ∙ ap (list_all (has c.args.other.now)) c.deref.ensures.value
-    ∙ all_is c.self.inside.universe c.self.inside.members.items c.self.invariant c.args.self.now c.args.other.now c.self.view_is c.requires
+    ∙ all_is c.self.inside.universe c.self.inside.members.items c.self.invariant c.args.self.now c.args.other.now
+    c.self.view_is c.requires

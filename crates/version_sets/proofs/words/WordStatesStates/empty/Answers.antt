@@ -11,5 +11,7 @@ returns-then-universe-le64 c = c.of_word.ensures ∙ zeros_are c.args.universe 1
 
 pub returns : goal.returns
 returns c =
-    made_is c.of_words.result (set_where c.args.universe (has_bit c.in_ok-filled.field-0.items)) (none c.args.universe) c.of_words.ensures
-    (ap (λ l. set_where c.args.universe (has_bit l)) c.in_ok-filled.ensures ∙ zeros_are c.args.universe ((c.args.universe - 1) / 64 + 1))
+    made_is c.of_words.result (set_where c.args.universe (has_bit c.in_ok-filled.field-0.items))
+    (none c.args.universe) c.of_words.ensures
+    (ap (λ l. set_where c.args.universe (has_bit l)) c.in_ok-filled.ensures
+    ∙ zeros_are c.args.universe ((c.args.universe - 1) / 64 + 1))
