@@ -2,9 +2,8 @@
 //!
 //! A step says its kind and its terms, and by these just one instance can be meant. Of each kind it is known which of
 //! its terms names what: the owner, the dependency with its number, the class, the feature (`named_by_terms.rt`). So a
-//! cause
-//! is read off the terms (`cause_in`), and need not be searched among all. `kinds.rt` goes through the kinds; one that
-//! takes more than a function has a file of its name.
+//! cause is read off the terms (`cause_in`), and need not be searched among all. `kinds.rt` goes through the kinds; one
+//! that takes more than a function has a file of its name.
 //!
 //! What is hard is a term that isn't there. That of a dependency which no candidate serves is full and not written;
 //! then it is the first such dependency among all of the owner's (`needed.rt`), or among those that the feature's

@@ -212,8 +212,7 @@ module _ {F : Type 0} (reads : Reading) (writes : Writing) (opens : List ℕ →
     pub ended : tells (told ++ ending_of given)
 
   -- A run: as the words ask, or, where they ask for nothing, what is said of them; with standard output before and
-  -- after,
-  -- and with what it means that texts were told on standard error.
+  -- after, and with what it means that texts were told on standard error.
   abbrev pub Runs : List (List ℕ) → Option (List ℕ) → Option (List ℕ) → (List (List ℕ) → Type 0) → Type 0 → ℕ → Type 0
   Runs words old new tells unchanged status = IsRunOf words old new tells unchanged status
       ⊎ ((fault : WordsFault) × IsWordsFault (or_help words) fault × IsToldOfWords fails old new fault status

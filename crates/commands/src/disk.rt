@@ -53,8 +53,7 @@ pub trait Puts {
 }
 
 /// The system's call. That the bytes come to be the file there the toolchain's files don't promise, and so nothing
-/// above
-/// does.
+/// above does.
 impl<R: Files> Puts for R {
     ghost puts = { λ _ _ _ _ _. Unit {0} };
 
