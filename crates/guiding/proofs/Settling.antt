@@ -129,19 +129,14 @@ module _ (q : Problem) (vs : Numbering) (asked : List Members) (es : List EntryV
 
   rests : (id : ℕ) → id < length es → watched (entry es id).origin ≡ true → IsAtRest (set_of t.sets) (terms_of es id)
   rests id lt on = let quiet = stops id lt on in record {
-    not_all = λ h. quiet.not_all (λ u. holds u (terms_of es id u) (h u));
+    not_all = quiet.not_all;
     not_one = λ v x one. quiet.not_one v x (record {
       term = one.term;
       common = one.common;
       apart = one.apart;
-      others =
-          λ u ne. holds u (terms_of es id u) (one.others u ne);
+      others = one.others;
     });
   }
-    where
-      holds : (u : ℕ) (o : Option Members) → HoldsAt (set_of t.sets u) o → HoldsAt (set_of t.sets u) o
-      holds u None h = tt
-      holds u (Some x) h = h
 
   none_broken : (id : ℕ) → id < length es → IsAxiom (entry es id).origin → Breaks chosen (terms_of es id) → ⊥
   none_broken id lt ax breaks =

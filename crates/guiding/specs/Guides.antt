@@ -127,7 +127,7 @@ pub record IsCome (asked more : List Members) (t wide : TrailView) : Type 0 wher
 
 -- an instance as an entry
 abbrev pub as_entry : Given → EntryView
-as_entry x = record { terms = x.1; origin = Axiom (number_of x.0) }
+as_entry x = record { terms = x.1; origin = Axiom (kind_number x.0) }
 
 -- a store with instances more
 abbrev pub with_given : List EntryView → List Given → List EntryView

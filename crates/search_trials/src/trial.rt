@@ -1,7 +1,7 @@
 //! A store with the trail that meets it.
 
 ghost use Rattle.incompatibilities.specs.Stores.{entries_view};
-ghost use Rattle.propagation.specs.Promises.{IsTrail, Stops};
+ghost use Rattle.propagation.specs.Promises.{IsTrail, IsProgress};
 ghost use Rattle.propagation.specs.Trails.{trail_view};
 ghost use Rattle.propagation.specs.declared.propagating.Progress.TheVariants.{Conflict};
 ghost use Rattle.std.specs.Prelude.{◌≤◌};
@@ -41,7 +41,7 @@ fn satisfier_of<S: States + Drop>(
     id: Id,
 ) -> Option<(Id, Satisfier)>
     requires trail { IsTrail (entries_view S.tests store.now) (trail_view S.tests trail.now) }
-    requires stops { Stops (entries_view S.tests store.now) (trail_view S.tests trail.now).sets (Conflict id) }
+    requires stops { IsProgress (entries_view S.tests store.now) (trail_view S.tests trail.now).sets (Conflict id) }
 {
     let conflict = store.get(id);
     if conflict.terms().is_empty() {
