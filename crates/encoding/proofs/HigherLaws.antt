@@ -1,7 +1,7 @@
 -- The higher classes that a dependency may lead to are those of its own, and only with these another one can be newer.
-use Rattle.std.proofs.Common.{◌≡◌, ℕ, suc, ◌+◌, length, List, [], ◌∷◌, ◌++◌, map, Bool, true, false, cond, not, ◌&&◌}
-use Rattle.std.proofs.Common.{◌||◌, nat_eq, refl, sym, ap, ap₂, ◌∙◌, subst}
-use Rattle.std.specs.List.{flat_map, list_any}
+use Rattle.std.proofs.Common.{◌≡◌, ℕ, suc, length, List, [], ◌∷◌, ◌++◌, map, Bool, true, false, cond, ◌&&◌, ◌||◌}
+use Rattle.std.proofs.Common.{nat_eq, refl, sym, ap, ap₂, ◌∙◌, subst}
+use Rattle.std.specs.List.{flat_map, list_all, list_any}
 use Rattle.indexmap.specs.IndexSet.{insert_key}
 use Rattle.classes.specs.Classes.{class_view}
 use Rattle.classes.specs.declared.class.Class as code
@@ -15,8 +15,8 @@ use Rattle.model.proofs.Lists.{any_of, to_any}
 use Rattle.model.proofs.Same.{class-same, class-refl}
 use Rattle.refutations.specs.Causes.{Cause, of_newest, has_class}
 use Rattle.refutations.proofs.Named.{class-is, to_class}
-use Rattle.encoding.specs.CausesAt.{each_from, newest_at, newest_if}
-use Rattle.encoding.specs.Higher.{Adds, AreAbove, AreHigher, alone_from, newest_among, newest_in}
+use Rattle.encoding.specs.CausesAt.{newest_at, newest_if}
+use Rattle.encoding.specs.Higher.{Adds, AreAbove, AreHigher, newest_among, newest_in}
 use Rattle.encoding.proofs.Same.{class_same}
 
 -- ---- classes that a set keeps
@@ -103,10 +103,11 @@ module _ (q : Problem) where
         (flat_same (newest_in hs o i j k) (newest_at q o i j k d)
         (λ m. ap (λ b. cond b (of_newest o i j k m ∷ []) []) (are m)) (dep_classes q e))
 
-    pub each_same : (hs : List Class) → AreHigher q k d hs → (n : ℕ) (es : List Dependency)
-        → each_from (newest_among q hs o i k d.real_name) n es ≡ each_from (newest_if q o i k d) n es
-    each_same hs are n [] = refl
-    each_same hs are n (e ∷ es) = ap₂ (λ a b. a ++ b) (one_same hs are n e) (each_same hs are (n + 1) es)
+    pub all_same : (hs : List Class) → AreHigher q k d hs → (ps : List (ℕ × Dependency))
+        → flat_map (λ p. newest_among q hs o i k d.real_name p.0 p.1) ps
+        ≡ flat_map (λ p. newest_if q o i k d p.0 p.1) ps
+    all_same hs are [] = refl
+    all_same hs are (p ∷ ps) = ap₂ (λ a b. a ++ b) (one_same hs are p.0 p.1) (all_same hs are ps)
 
     flat_none : (j : ℕ) (ks : List Class) → flat_map (newest_in [] o i j k) ks ≡ []
     flat_none j [] = refl
@@ -121,31 +122,31 @@ module _ (q : Problem) where
         by false true h = h
         by false false h = refl
 
-    each_none : (n : ℕ) (es : List Dependency) → each_from (newest_among q [] o i k d.real_name) n es ≡ []
-    each_none n [] = refl
-    each_none n (e ∷ es) =
-        ap (λ l. l ++ each_from (newest_among q [] o i k d.real_name) (n + 1) es) (one_none n e) ∙ each_none (n + 1) es
+    all_none : (ps : List (ℕ × Dependency)) → flat_map (λ p. newest_among q [] o i k d.real_name p.0 p.1) ps ≡ []
+    all_none [] = refl
+    all_none (p ∷ ps) =
+        ap (λ l. l ++ flat_map (λ p. newest_among q [] o i k d.real_name p.0 p.1) ps) (one_none p.0 p.1) ∙ all_none ps
 
     -- there is none where it leads to its highest class
-    pub none_newest : (hs : List Class) → AreHigher q k d hs → hs ≡ [] → (n : ℕ) (es : List Dependency)
-        → each_from (newest_if q o i k d) n es ≡ []
-    none_newest hs are none n es = sym (each_same hs are n es)
-        ∙ ap (λ l. each_from (newest_among q l o i k d.real_name) n es) none ∙ each_none n es
+    pub none_newest : (hs : List Class) → AreHigher q k d hs → hs ≡ [] → (ps : List (ℕ × Dependency))
+        → flat_map (λ p. newest_if q o i k d p.0 p.1) ps ≡ []
+    none_newest hs are none ps = sym (all_same hs are ps)
+        ∙ ap (λ l. flat_map (λ p. newest_among q l o i k d.real_name p.0 p.1) ps) none ∙ all_none ps
 
-    -- nor where no other one is on its package
-    pub none_alone : (j : ℕ) (es : List Dependency) → alone_from i d.real_name j es ≡ true
-        → each_from (newest_if q o i k d) j es ≡ []
-    none_alone j [] h = refl
-    none_alone j (e ∷ es) h = by (nat_eq i j) (same_text d.real_name e.real_name) (none_alone (j + 1) es) h
+    -- nor where no other one is there
+    pub none_alone : (ps : List (ℕ × Dependency)) → list_all (λ p. nat_eq i p.0) ps ≡ true
+        → flat_map (λ p. newest_if q o i k d p.0 p.1) ps ≡ []
+    none_alone [] h = refl
+    none_alone (p ∷ ps) h = by (nat_eq i p.0) (none_alone ps) h
       where
-        by : (a b : Bool)
-            → (alone_from i d.real_name (j + 1) es ≡ true → each_from (newest_if q o i k d) (j + 1) es ≡ [])
-            → cond (not a && b) false (alone_from i d.real_name (j + 1) es) ≡ true
-            → cond a [] (cond b (flat_map (newest_at q o i j k d) (dep_classes q e)) [])
-            ++ each_from (newest_if q o i k d) (j + 1) es ≡ []
-        by true b rest t = rest t
-        by false false rest t = rest t
-        by false true rest t = let no : false ≡ true = t in cc
+        by : (a : Bool)
+            → (list_all (λ p. nat_eq i p.0) ps ≡ true → flat_map (λ p. newest_if q o i k d p.0 p.1) ps ≡ [])
+            → (a && list_all (λ p. nat_eq i p.0) ps) ≡ true
+            → cond a []
+            (cond (same_text d.real_name p.1.real_name) (flat_map (newest_at q o i p.0 k d) (dep_classes q p.1)) [])
+            ++ flat_map (λ p. newest_if q o i k d p.0 p.1) ps ≡ []
+        by true rest t = rest t
+        by false rest t = let no : false ≡ true = t in cc
 
 pub no_views : (ks : List code.Class) → length ks ≡ 0 → map class_view ks ≡ []
 no_views [] e = refl

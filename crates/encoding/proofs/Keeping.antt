@@ -1,6 +1,6 @@
--- What is kept stays what requirements match, where one more is kept.
-use Rattle.std.proofs.Common.{◌≡◌, Bool, true, false, cond, Some, Result, Ok, Err, OnOk, OnErr, Vec, map, refl, sym, ap}
-use Rattle.std.proofs.Common.{ap₂, ◌∙◌}
+-- What is kept stays right, where one more is kept.
+use Rattle.std.proofs.Common.{◌≡◌, Bool, true, false, cond, List, Some, Result, Ok, Err, OnOk, OnErr, Vec, map, refl}
+use Rattle.std.proofs.Common.{sym, ap, ap₂, ◌∙◌, subst}
 use Rattle.std.specs.HashMap.{HashMap, IsUnchanged, Updates, get}
 use Rattle.std.specs.Map.{lookup}
 use Rattle.std.specs.declared.alloc.Global.{Global}
@@ -9,10 +9,40 @@ use Rattle.classes.specs.Classes.{class_view}
 use Rattle.classes.specs.declared.class.Class as code
 use Rattle.features.specs.Views.{requirement_view}
 use Rattle.model.specs.Content.{Problem}
-use Rattle.model.specs.Summary.{same_text}
-use Rattle.model.proofs.Same.{both, text-same}
+use Rattle.model.specs.Summary.{Dependency, same_text}
+use Rattle.model.specs.Vertices.{owner_brings}
+use Rattle.model.proofs.Same.{both, owner-same, text-same}
+use Rattle.vertices.specs.RefViews.{owner_ref_view}
+use Rattle.vertices.specs.declared.vertex.OwnerRef.{OwnerRef}
+use Rattle.encoding.specs.Indexed.{AreBrought, IsBrought, same_ref}
 use Rattle.encoding.specs.Matched.{AreMatched, Ask, classes_asked, same_ask}
 use Rattle.encoding.proofs.Requirements.{requirement-same}
+
+-- ---- of any values that are right for their keys
+
+module _ {K V S : Type 0} (same : K → K → Bool) (Is : K → V → Type 0)
+    (alike : (k l : K) (v : V) → same k l ≡ true → Is k v → Is l v) where
+  abbrev AreRight : HashMap K V S → Type 0
+  AreRight m = (k : K) (v : V) → get same m k ≡ Some v → Is k v
+
+  same_kept : (m after : HashMap K V S) → IsUnchanged m after → AreRight m → AreRight after
+  same_kept m after e are k v got = are k v (sym (ap (lookup (same k)) e) ∙ got)
+
+  more_kept : (m after : HashMap K V S) (k : K) (v : V) → AreRight m → Is k v
+      → Updates same m after k (Some v) → AreRight after
+  more_kept m after k v are one u l w got = by (same k l) refl (sym (u.0 l) ∙ got)
+    where
+      by : (b : Bool) → same k l ≡ b → cond b (Some v) (get same m l) ≡ Some w → Is l w
+      by true e f = alike k l w e (subst (Is k) (same_Some v w f) one)
+      by false e f = are l w f
+
+  -- after one is put there, or isn't for want of memory
+  kept_after : {X E : Type 0} (m after : HashMap K V S) (k : K) (v : V) (r : Result X E)
+      → OnOk r (Updates same m after k (Some v)) → OnErr r (IsUnchanged m after) → AreRight m → Is k v → AreRight after
+  kept_after m after k v (Ok x) u e are one = more_kept m after k v are one u
+  kept_after m after k v (Err x) u e are one = same_kept m after e are
+
+-- ---- of classes
 
 asked-alike : (q : Problem) (k l : Ask) → same_ask k l ≡ true
     → classes_asked q k.0.now (requirement_view k.1.now) ≡ classes_asked q l.0.now (requirement_view l.1.now)
@@ -20,26 +50,20 @@ asked-alike q k l e =
     let b = both (same_text k.0.now l.0.now) _ e in
     ap₂ (classes_asked q) (text-same k.0.now l.0.now b.0) (requirement-same k.1.now l.1.now b.1)
 
-module _ (q : Problem) {S : Type 0} where
-  same_kept : (m after : HashMap Ask (Vec code.Class Global) S) → IsUnchanged m after
-      → AreMatched q m → AreMatched q after
-  same_kept m after e is k ks got = is k ks (sym (ap (lookup (same_ask k)) e) ∙ got)
+pub put_kept : (q : Problem) {S X E : Type 0} (m after : HashMap Ask (Vec code.Class Global) S) (k : Ask)
+    (ks : Vec code.Class Global) (r : Result X E)
+    → OnOk r (Updates same_ask m after k (Some ks)) → OnErr r (IsUnchanged m after) → AreMatched q m
+    → map class_view ks.items ≡ classes_asked q k.0.now (requirement_view k.1.now) → AreMatched q after
+put_kept q m after k ks r u e are one =
+    kept_after same_ask (λ k ks. map class_view ks.items ≡ classes_asked q k.0.now (requirement_view k.1.now))
+    (λ k l ks same is. is ∙ asked-alike q k l same) m after k ks r u e are one
 
-  more_kept : (m after : HashMap Ask (Vec code.Class Global) S) (k : Ask) (ks : Vec code.Class Global) → AreMatched q m
-      → map class_view ks.items ≡ classes_asked q k.0.now (requirement_view k.1.now)
-      → Updates same_ask m after k (Some ks) → AreMatched q after
-  more_kept m after k ks is one u l ms got = by (same_ask k l) refl (sym (u.0 l) ∙ got)
-    where
-      by : (b : Bool) → same_ask k l ≡ b → cond b (Some ks) (get same_ask m l) ≡ Some ms
-          → map class_view ms.items ≡ classes_asked q l.0.now (requirement_view l.1.now)
-      by true e f = ap (λ (v : Vec code.Class Global). map class_view v.items) (sym (same_Some ks ms f))
-          ∙ one ∙ asked-alike q k l e
-      by false e f = is l ms f
+-- ---- of dependencies
 
-  -- after classes are put there, or aren't for want of memory
-  pub put_kept : {X E : Type 0} (m after : HashMap Ask (Vec code.Class Global) S) (k : Ask)
-      (ks : Vec code.Class Global) (r : Result X E)
-      → OnOk r (Updates same_ask m after k (Some ks)) → OnErr r (IsUnchanged m after) → AreMatched q m
-      → map class_view ks.items ≡ classes_asked q k.0.now (requirement_view k.1.now) → AreMatched q after
-  put_kept m after k ks (Ok x) u e is one = more_kept m after k ks is one u
-  put_kept m after k ks (Err x) u e is one = same_kept m after e is
+pub put_brought : (q : Problem) {S X E : Type 0} (m after : HashMap OwnerRef (List Dependency) S) (o : OwnerRef)
+    (ds : List Dependency) (r : Result X E)
+    → OnOk r (Updates same_ref m after o (Some ds)) → OnErr r (IsUnchanged m after) → AreBrought q m
+    → IsBrought q o ds → AreBrought q after
+put_brought q m after o ds r u e are one =
+    kept_after same_ref (IsBrought q) (λ o p ds same is. is ∙ ap (λ w. (owner_brings q w).dependencies)
+    (owner-same (owner_ref_view o) (owner_ref_view p) same)) m after o ds r u e are one

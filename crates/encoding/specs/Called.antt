@@ -1,7 +1,7 @@
 -- The dependencies of an owner with their numbers, and those of them that are called by a name.
-use Rattle.std.specs.Prelude.{◌≡◌, ◌+◌, ◌++◌, ℕ, Bool, List, [], ◌∷◌, map, Vec, Option, None, Some}
+use Rattle.std.specs.Prelude.{◌≡◌, ◌+◌, ◌++◌, ℕ, List, [], ◌∷◌, map, Vec, Option, None, Some}
 use Rattle.std.specs.Borrow.{Bor}
-use Rattle.std.specs.HashMap.{HashMap, get}
+use Rattle.std.specs.HashMap.{HashMap}
 use Rattle.std.specs.List.{filter}
 use Rattle.std.specs.declared.alloc.Global.{Global}
 use Rattle.semver.specs.Parse.{Parts}
@@ -9,6 +9,7 @@ use Rattle.features.specs.Views.{dependency_view}
 use Rattle.model.specs.Content.{Problem}
 use Rattle.model.specs.Summary.{Dependency, Entry, feature, dependency, dependency_feature, weak_feature, same_text}
 use Rattle.model.specs.Vertices.{owner_brings, version_of}
+use Rattle.encoding.specs.Lists.{listed_in}
 use Rattle.encoding.specs.declared.called.Numbered.{Numbered}
 
 abbrev pub numbered_view : Numbered → ℕ × Dependency
@@ -25,13 +26,6 @@ numbered_from n (d ∷ ds) = (n, d) ∷ numbered_from (n + 1) ds
 abbrev pub called_so : List ℕ → List (ℕ × Dependency) → List (ℕ × Dependency)
 called_so x ps = filter (λ p. same_text p.1.name x) ps
 
-abbrev pub same_name : Bor (List ℕ) → Bor (List ℕ) → Bool
-same_name a b = same_text a.now b.now
-
-abbrev pub if_some : Option (Vec Numbered Global) → List (ℕ × Dependency)
-if_some None = []
-if_some (Some those) = numbered_views those.items
-
 -- those of a slice that may not be there
 abbrev pub those_views : Option (Bor (List Numbered)) → List (ℕ × Dependency)
 those_views None = []
@@ -40,16 +34,17 @@ those_views (Some those) = numbered_views those.now
 module _ {S : Type 0} where
   -- what a map has at a name
   abbrev pub called_in : HashMap (Bor (List ℕ)) (Vec Numbered Global) S → Bor (List ℕ) → List (ℕ × Dependency)
-  called_in m x = if_some (get same_name m x)
+  called_in m x = numbered_views (listed_in m x)
 
   -- it has at each name those called so, in their order
   abbrev pub IsByName : HashMap (Bor (List ℕ)) (Vec Numbered Global) S → List (ℕ × Dependency) → Type 0
   IsByName m ps = (x : Bor (List ℕ)) → called_in m x ≡ called_so x.now ps
 
   -- one more behind those that it has
-  abbrev pub Puts : HashMap (Bor (List ℕ)) (Vec Numbered Global) S → Numbered
+  abbrev pub PutsCalled : HashMap (Bor (List ℕ)) (Vec Numbered Global) S → Numbered
       → HashMap (Bor (List ℕ)) (Vec Numbered Global) S → Type 0
-  Puts old n new = (x : Bor (List ℕ)) → called_in new x ≡ called_in old x ++ called_so x.now (numbered_view n ∷ [])
+  PutsCalled old n new =
+      (x : Bor (List ℕ)) → called_in new x ≡ called_in old x ++ called_so x.now (numbered_view n ∷ [])
 
 -- these are those of a version
 abbrev pub AreOfVersion : Problem → List ℕ → Parts → List Dependency → Type 0

@@ -35,13 +35,6 @@ abbrev pub weak_if : List ℕ → Parts → List ℕ → List ℕ → ℕ → De
 weak_if name v f g i d k =
     if same_vertex (feat name (class_of v) f) (feat d.real_name k g) then [] else of_weak name v f g i k ∷ []
 
--- what an entry of the root asks the dependency d for, as causes of a class k that it leads to
-abbrev pub listed_by : Owner → ℕ → Class → Dependency → Entry → List Cause
-listed_by o i k d (feature g) = []
-listed_by o i k d (dependency e) = []
-listed_by o i k d (dependency_feature e g) = if same_text d.name e then of_list o i k g ∷ [] else []
-listed_by o i k d (weak_feature e g) = if same_text d.name e then of_list o i k g ∷ [] else []
-
 module _ (q : Problem) where
   abbrev pub needs_of : Owner → List Cause
   needs_of o = each_from (need_if o) 0 (owner_brings q o).dependencies

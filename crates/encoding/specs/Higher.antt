@@ -1,6 +1,6 @@
 -- The dependencies of one package that may lead to a higher class, where the higher classes are known that matter.
-use Rattle.std.specs.Prelude.{◌≡◌, ◌+◌, ℕ, Bool, true, false, not, List, [], ◌∷◌, ◌&&◌, ◌||◌, if◌then◌else◌, nat_eq}
-use Rattle.std.specs.List.{flat_map, list_any}
+use Rattle.std.specs.Prelude.{◌≡◌, ℕ, Bool, not, List, [], ◌∷◌, ◌&&◌, ◌||◌, if◌then◌else◌, nat_eq}
+use Rattle.std.specs.List.{filter, flat_map, list_any}
 use Rattle.model.specs.Summary.{Dependency, same_text}
 use Rattle.model.specs.Content.{Problem}
 use Rattle.model.specs.Selection.{Class}
@@ -25,10 +25,9 @@ AreHigher q k d hs = (m : Class) → list_any (same_class m) hs ≡ (is_lower k 
 abbrev pub is_other : ℕ → List ℕ → ℕ → Dependency → Bool
 is_other i name j e = not (nat_eq i j) && same_text name e.real_name
 
--- of the dependencies from number j on none is such a one
-abbrev pub alone_from : ℕ → List ℕ → ℕ → List Dependency → Bool
-alone_from i name j [] = true
-alone_from i name j (e ∷ es) = if is_other i name j e then false else alone_from i name (j + 1) es
+-- those that are
+abbrev pub others_on : ℕ → List ℕ → List (ℕ × Dependency) → List (ℕ × Dependency)
+others_on i name ps = filter (λ p. is_other i name p.0 p.1) ps
 
 module _ (hs : List Class) where
   abbrev pub newest_in : Owner → ℕ → ℕ → Class → Class → List Cause

@@ -9,7 +9,12 @@ pub mod Parts
 pub mod GivenViews
 pub mod CausesAt
 pub mod Higher
+pub mod Lists
 pub mod Called
+pub mod OnPackage
+pub mod Asked
+pub mod Indexed
+pub mod IndexedViews
 pub mod Narrowed
 pub mod Matched
 pub mod MatchedViews

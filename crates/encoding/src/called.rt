@@ -2,8 +2,9 @@
 
 ghost use Rattle.std.specs.Prelude.{◌≡◌, IfOk, OnOk};
 ghost use Rattle.features.specs.Views.{dependency_views};
-ghost use Rattle.encoding.specs.Called.{IsByName, Puts, called_so, numbered_from, those_views};
+ghost use Rattle.encoding.specs.Called.{IsByName, PutsCalled, called_so, numbered_from, those_views};
 
+use crate::lists::put;
 use features::Dependency;
 use std::alloc::{AllocError, Global};
 use std::collections::HashMap;
@@ -72,26 +73,18 @@ fn by_name<'a>(
 {
     let mut called = HashMap::new(alloc);
     'dependencies: for (number, dependency) in dependencies.iter().enumerate() {
-        put(alloc, &mut called, Numbered { number, dependency })?;
+        put_called(alloc, &mut called, Numbered { number, dependency })?;
     }
     Ok(called)
 }
 
 /// Puts a dependency behind those that are called so too.
-fn put<'a>(
+fn put_called<'a>(
     alloc: Global,
     called: &mut HashMap<&'a str, Vec<Numbered<'a>>>,
     one: Numbered<'a>,
 ) -> Result<(), AllocError>
-    ensures { OnOk result (Puts called.old one.entry called.new) }
+    ensures { OnOk result (PutsCalled called.old one.entry called.new) }
 {
-    let name = one.dependency.name.as_str();
-    if let Some(those) = called.get_mut(&name) {
-        those.push(one)?;
-        return Ok(());
-    }
-    let mut those = Vec::new(alloc);
-    those.push(one)?;
-    called.insert(name, those)?;
-    Ok(())
+    put(alloc, called, one.dependency.name.as_str(), one)
 }

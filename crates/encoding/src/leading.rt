@@ -1,25 +1,27 @@
 //! The causes of the instances that are added once a dependency leads to a class.
 
-ghost use Rattle.std.specs.Prelude.{◌≡◌, ◌++◌, ◌∷◌, [], List, Some, IfOk, OnOk, map, codes, if◌then◌else◌};
-ghost use Rattle.std.specs.List.{flat_map, list_any};
+ghost use Rattle.std.specs.Prelude.{◌≡◌, ◌++◌, ◌∷◌, [], List, Some, IfOk, OnOk, map, nat_eq, codes, if◌then◌else◌};
+ghost use Rattle.std.specs.List.{flat_map, list_all, list_any};
 ghost use Rattle.classes.specs.Classes.{class_view};
-ghost use Rattle.features.specs.EntryViews.{entry_view, entry_views};
 ghost use Rattle.features.specs.Views.{dependency_view, dependency_views};
 ghost use Rattle.model.specs.Summary.{asked_of_target, same_text};
-ghost use Rattle.model.specs.Vertices.{dep_classes, same_class};
+ghost use Rattle.model.specs.Vertices.{dep_classes, owner_brings, same_class};
 ghost use Rattle.refutations.specs.Causes.{dependency_at, of_list};
+ghost use Rattle.encoding.specs.Asked.{asked_so, features_of};
+ghost use Rattle.encoding.specs.Called.{numbered_from, numbered_view, numbered_views};
 ghost use Rattle.encoding.specs.GivenViews.{cause_views};
-ghost use Rattle.encoding.specs.CausesAt.{each_from, lead_causes, listed_by, newest_if, root_asked};
-ghost use Rattle.encoding.specs.Higher.{Adds, AreAbove, AreHigher, alone_from, is_other, newest_among, newest_in};
+ghost use Rattle.encoding.specs.CausesAt.{each_from, lead_causes, newest_if, root_asked};
+ghost use Rattle.encoding.specs.Higher.{Adds, AreAbove, AreHigher, is_other, newest_among, newest_in, others_on};
 ghost use Rattle.encoding.specs.Inputs.{KnowsDefault, problem};
 ghost use Rattle.vertices.specs.RefViews.{owner_ref_view};
 
+use crate::asked::{Asked, Wanted};
+use crate::called::Numbered;
 use crate::inputs::Inputs;
 use crate::lookups::{dependencies_of, dependency_at};
-use crate::narrowing::within;
 use crate::spaces::classes_of;
 use classes::Class;
-use features::{Dependency, Entry, FeatureName, FeatureTable, PackageName};
+use features::{Dependency, FeatureName, PackageName};
 use indexmap::IndexSet;
 use named_terms::Cause;
 use std::alloc::{AllocError, Global};
@@ -66,13 +68,13 @@ fn put_leading<'a>(
         (class_view lead.entry.class) (Some (dependency_view dependency.entry.now))) }
 {
     causes.push(Cause::Target(lead.owner, lead.number, lead.class))?;
-    put_lists(inputs, causes, lead, dependency)?;
-    let others = dependencies_of(inputs, &lead.owner);
-    put_newest(alloc, inputs, causes, lead, dependency, others)
+    put_lists(alloc, inputs, causes, lead, dependency)?;
+    put_newest(alloc, inputs, causes, lead, dependency)
 }
 
 /// The features that it asks for.
 fn put_lists<'a>(
+    alloc: Global,
     inputs: &Inputs<'a>,
     causes: &mut Vec<Cause<'a>>,
     lead: Lead<'a>,
@@ -85,7 +87,7 @@ fn put_lists<'a>(
         (owner_ref_view lead.entry.owner) (dependency_view dependency.entry.now))) }
 {
     put_own_list(inputs, causes, lead, dependency)?;
-    put_root_lists(inputs, causes, lead, dependency)
+    put_root_lists(alloc, inputs, causes, lead, dependency)
 }
 
 /// Those of its own list, and `default`.
@@ -137,113 +139,114 @@ fn put_listed<'a>(
 
 /// Those that entries of the root's features ask it for.
 fn put_root_lists<'a>(
+    alloc: Global,
     inputs: &Inputs<'a>,
     causes: &mut Vec<Cause<'a>>,
     lead: Lead<'a>,
-    dependency: &Dependency,
+    dependency: &'a Dependency,
 ) -> Result<(), AllocError>
     ensures { OnOk result (cause_views causes.new.items ≡ cause_views causes.old.items
         ++ map (of_list (owner_ref_view lead.entry.owner) lead.entry.number (class_view lead.entry.class))
-        (root_asked (problem inputs.now) (owner_ref_view lead.entry.owner) (dependency_view dependency.now))) }
+        (root_asked (problem inputs.now) (owner_ref_view lead.entry.owner) (dependency_view dependency.entry.now))) }
 {
     match lead.owner {
-        OwnerRef::Root => put_root_rows(causes, lead, dependency, inputs.manifest.features()),
+        OwnerRef::Root => put_root_asked(alloc, inputs, causes, lead, dependency.name.as_str()),
         OwnerRef::Version(_, _) => Ok(()),
     }
 }
 
-fn put_root_rows<'a>(
+/// Those that the dependencies called so are asked for: no entry is looked at for each of them.
+fn put_root_asked<'a>(
+    alloc: Global,
+    inputs: &Inputs<'a>,
     causes: &mut Vec<Cause<'a>>,
     lead: Lead<'a>,
-    dependency: &Dependency,
-    table: &'a FeatureTable,
+    name: &'a str,
 ) -> Result<(), AllocError>
     ensures { OnOk result (cause_views causes.new.items ≡ cause_views causes.old.items
-        ++ flat_map (λ row. flat_map (listed_by (owner_ref_view lead.entry.owner) lead.entry.number
-        (class_view lead.entry.class) (dependency_view dependency.now)) row.1) table.entry.now) }
+        ++ map (of_list (owner_ref_view lead.entry.owner) lead.entry.number (class_view lead.entry.class))
+        (asked_so name.entry.now (problem inputs.now).root_asks)) }
 {
-    'rows: for (_, entries) in table.iter() {
-        put_root_row(causes, lead, dependency, entries.as_slice())?;
-    }
-    Ok(())
-}
-
-fn put_root_row<'a>(
-    causes: &mut Vec<Cause<'a>>,
-    lead: Lead<'a>,
-    dependency: &Dependency,
-    entries: &'a [Entry],
-) -> Result<(), AllocError>
-    ensures { OnOk result (cause_views causes.new.items
-        ≡ cause_views causes.old.items ++ flat_map (listed_by (owner_ref_view lead.entry.owner) lead.entry.number
-        (class_view lead.entry.class) (dependency_view dependency.now)) (entry_views entries.entry.now)) }
-{
-    'entries: for entry in entries.iter() {
-        put_root_entry(causes, lead, dependency, entry)?;
-    }
-    Ok(())
-}
-
-fn put_root_entry<'a>(
-    causes: &mut Vec<Cause<'a>>,
-    lead: Lead<'a>,
-    dependency: &Dependency,
-    entry: &'a Entry,
-) -> Result<(), AllocError>
-    ensures { OnOk result (cause_views causes.new.items
-        ≡ cause_views causes.old.items ++ listed_by (owner_ref_view lead.entry.owner) lead.entry.number
-        (class_view lead.entry.class) (dependency_view dependency.now) (entry_view entry.entry.now)) }
-{
-    match entry {
-        Entry::Feature(_) => Ok(()),
-        Entry::Dependency(_) => Ok(()),
-        Entry::DependencyFeature(called, asked) => {
-            put_root_asked(causes, lead, dependency, called, asked)
-        }
-        Entry::WeakFeature(called, asked) => {
-            put_root_asked(causes, lead, dependency, called, asked)
+    match inputs.matched.asked() {
+        Some(asked) => put_asked(causes, lead, name, asked),
+        None => {
+            let asked = Asked::of(alloc, inputs.manifest.features())?;
+            put_asked(causes, lead, name, &asked)
         }
     }
 }
 
-/// What an entry `d/g` or `d?/g` of the root gives with a dependency.
-fn put_root_asked<'a>(
+fn put_asked<'a>(
     causes: &mut Vec<Cause<'a>>,
     lead: Lead<'a>,
-    dependency: &Dependency,
-    called: &PackageName,
-    asked: &'a FeatureName,
+    name: &'a str,
+    asked: &Asked<'a>,
 ) -> Result<(), AllocError>
-    ensures { OnOk result (cause_views causes.new.items ≡ cause_views causes.old.items ++ (if same_text
-        (dependency_view dependency.now).name called.now then of_list (owner_ref_view lead.entry.owner)
-        lead.entry.number (class_view lead.entry.class) asked.entry.now ∷ [] else [])) }
+    ensures { OnOk result (cause_views causes.new.items ≡ cause_views causes.old.items
+        ++ map (of_list (owner_ref_view lead.entry.owner) lead.entry.number (class_view lead.entry.class))
+        (asked_so name.entry.now asked.now)) }
 {
-    if dependency.name == *called {
-        causes.push(Cause::List(lead.owner, lead.number, lead.class, asked))?;
+    match asked.those(name) {
+        Some(features) => put_each_asked(causes, lead, features),
+        None => Ok(()),
+    }
+}
+
+fn put_each_asked<'a>(
+    causes: &mut Vec<Cause<'a>>,
+    lead: Lead<'a>,
+    features: &[Wanted<'a>],
+) -> Result<(), AllocError>
+    ensures { OnOk result (cause_views causes.new.items ≡ cause_views causes.old.items
+        ++ map (of_list (owner_ref_view lead.entry.owner) lead.entry.number (class_view lead.entry.class))
+        (features_of features.now)) }
+{
+    'features: for wanted in features.iter() {
+        causes.push(Cause::List(lead.owner, lead.number, lead.class, wanted.feature))?;
     }
     Ok(())
 }
 
-/// The dependencies of the same package that may lead to a higher class, to which this one may lead too. There are none
-/// where no other one is on the package, which is asked first where that is quicker told, or where this one leads to
-/// its highest class.
+/// The dependencies of the same package that may lead to a higher class, to which this one may lead too: of the others
+/// of its owner those on the package alone are looked at.
 fn put_newest<'a>(
     alloc: Global,
     inputs: &Inputs<'a>,
     causes: &mut Vec<Cause<'a>>,
     lead: Lead<'a>,
     dependency: &'a Dependency,
-    others: &'a [Dependency],
 ) -> Result<(), AllocError>
-    ensures { OnOk result (cause_views causes.new.items ≡ cause_views causes.old.items ++ each_from (newest_if
-        (problem inputs.now) (owner_ref_view lead.entry.owner) lead.entry.number (class_view lead.entry.class)
-        (dependency_view dependency.entry.now)) 0 (dependency_views others.entry.now)) }
+    ensures { OnOk result (cause_views causes.new.items ≡ cause_views causes.old.items
+        ++ each_from (newest_if (problem inputs.now) (owner_ref_view lead.entry.owner) lead.entry.number
+        (class_view lead.entry.class) (dependency_view dependency.entry.now)) 0
+        (owner_brings (problem inputs.now) (owner_ref_view lead.entry.owner)).dependencies) }
 {
-    let versions = within(
-        &dependency.requirement,
-        inputs.catalogue.versions(&dependency.real_name),
-    );
-    if others.len() <= versions.len() && is_alone(lead.number, &dependency.real_name, others) {
+    let name = dependency.real_name.as_str();
+    match inputs.matched.on_package(&lead.owner, name) {
+        Some(those) => put_newest_of(alloc, inputs, causes, lead, dependency, those),
+        None => {
+            let all = dependencies_of(inputs, &lead.owner);
+            let others = others_on(alloc, lead.number, &dependency.real_name, all)?;
+            put_newest_of(alloc, inputs, causes, lead, dependency, others.as_slice())
+        }
+    }
+}
+
+/// Those of these dependencies. There are none where no other one is among them, or where this one leads to its highest
+/// class.
+fn put_newest_of<'a>(
+    alloc: Global,
+    inputs: &Inputs<'a>,
+    causes: &mut Vec<Cause<'a>>,
+    lead: Lead<'a>,
+    dependency: &'a Dependency,
+    others: &[Numbered<'a>],
+) -> Result<(), AllocError>
+    ensures { OnOk result (cause_views causes.new.items ≡ cause_views causes.old.items
+        ++ flat_map (λ p. newest_if (problem inputs.now) (owner_ref_view lead.entry.owner) lead.entry.number
+        (class_view lead.entry.class) (dependency_view dependency.entry.now) p.0 p.1) (numbered_views others.now)) }
+{
+    if is_alone(lead.number, others) {
         return Ok(());
     }
     let higher = higher_classes(alloc, inputs, lead.class, dependency)?;
@@ -261,16 +264,47 @@ fn put_newest<'a>(
     )
 }
 
-/// Whether no other of the dependencies is on the package of the one with this number.
-fn is_alone(number: usize, name: &PackageName, others: &[Dependency]) -> bool
-    ensures { result ≡ alone_from number name.now 0 (dependency_views others.now) }
+/// Whether no other dependency is among these than the one with this number.
+fn is_alone(number: usize, others: &[Numbered<'_>]) -> bool
+    ensures { result ≡ list_all (λ p. nat_eq number p.0) (numbered_views others.now) }
 {
-    'others: for (place, other) in others.iter().enumerate() {
-        if is_other(number, name, place, other) {
-            return false;
-        }
+    others.iter().all(|other| number == other.number)
+}
+
+/// The other dependencies on the package of the one with this number.
+fn others_on<'a>(
+    alloc: Global,
+    number: usize,
+    name: &PackageName,
+    dependencies: &'a [Dependency],
+) -> Result<Vec<Numbered<'a>>, AllocError>
+    ensures { IfOk result (λ v. numbered_views v.items
+        ≡ others_on number name.now (numbered_from 0 (dependency_views dependencies.entry.now))) }
+{
+    let mut others = Vec::new(alloc);
+    'dependencies: for (place, dependency) in dependencies.iter().enumerate() {
+        let one = Numbered {
+            number: place,
+            dependency,
+        };
+        put_if_other(&mut others, number, name, one)?;
     }
-    true
+    Ok(others)
+}
+
+fn put_if_other<'a>(
+    others: &mut Vec<Numbered<'a>>,
+    number: usize,
+    name: &PackageName,
+    one: Numbered<'a>,
+) -> Result<(), AllocError>
+    ensures { OnOk result (numbered_views others.new.items
+        ≡ numbered_views others.old.items ++ others_on number name.now (numbered_view one.entry ∷ [])) }
+{
+    if is_other(number, name, one.number, one.dependency) {
+        others.push(one)?;
+    }
+    Ok(())
 }
 
 /// Whether a dependency is another one than that of the number, on the same package.
@@ -327,15 +361,22 @@ fn put_others<'a>(
     lead: Lead<'a>,
     real_name: &PackageName,
     higher: &IndexSet<Class>,
-    others: &'a [Dependency],
+    others: &[Numbered<'a>],
 ) -> Result<(), AllocError>
-    ensures { OnOk result (cause_views causes.new.items ≡ cause_views causes.old.items ++ each_from
-        (newest_among (problem inputs.now) (map class_view higher.now.keys) (owner_ref_view lead.entry.owner)
-        lead.entry.number (class_view lead.entry.class) real_name.now) 0 (dependency_views others.entry.now)) }
+    ensures { OnOk result (cause_views causes.new.items ≡ cause_views causes.old.items ++ flat_map (λ p. newest_among
+        (problem inputs.now) (map class_view higher.now.keys) (owner_ref_view lead.entry.owner) lead.entry.number
+        (class_view lead.entry.class) real_name.now p.0 p.1) (numbered_views others.now)) }
 {
-    'others: for (number, other) in others.iter().enumerate() {
+    'others: for other in others.iter() {
         put_other(
-            alloc, inputs, causes, lead, real_name, higher, number, other,
+            alloc,
+            inputs,
+            causes,
+            lead,
+            real_name,
+            higher,
+            other.number,
+            other.dependency,
         )?;
     }
     Ok(())

@@ -9,8 +9,9 @@
 //! (`first_pair`, `specs/Pairs`), and belongs to that pair of a vertex and a state: while the vertex doesn't have the
 //! state, the instance isn't broken. So `axioms_at` gives the instances of one pair, and only those of pairs that stand
 //! alone are ever needed. What it gives is found from what the pair's vertex names, with no pass over all owners.
-//! Where a dependency leads is kept by name and requirement (`matched.rt`), so that no requirement is matched twice
-//! against one name; nothing that is stated here rests on what is kept.
+//! What requirements match is kept by name and requirement (`matched.rt`), so that none is matched twice against one
+//! name, and what owners bring is found by name (`called.rt`, `indexed.rt`) where a pass over it would be made for each
+//! of its parts; nothing that is stated here rests on what is kept.
 //!
 //! A layer above may rely on the laws at the end of this file. An assignment that breaks none of the entries for the
 //! pairs that hold in it breaks no instance at all; a valid selection breaks no instance over numbers. At most one term
@@ -19,16 +20,20 @@
 #![tactic(auto)]
 
 mod adding;
+mod asked;
 mod called;
 mod causes;
+mod indexed;
 mod inputs;
 mod instances;
 mod leading;
 mod listing;
+mod lists;
 mod lookups;
 mod making;
 mod matched;
 mod narrowing;
+mod on_package;
 mod pairing;
 mod parts;
 mod space_tests;

@@ -3,10 +3,17 @@
 ghost use Rattle.std.specs.Prelude.{◌≡◌, IfOk, IfSome, map};
 ghost use Rattle.classes.specs.Classes.{class_view};
 ghost use Rattle.features.specs.Views.{dependency_view};
-ghost use Rattle.model.specs.Vertices.{dep_classes};
 ghost use Rattle.looking_up.specs.Views.{problem_view};
+ghost use Rattle.model.specs.Vertices.{dep_classes, owner_brings};
+ghost use Rattle.vertices.specs.RefViews.{owner_ref_view};
+ghost use Rattle.encoding.specs.Called.{numbered_from, numbered_views};
+ghost use Rattle.encoding.specs.IndexedViews.{problem_indexed};
 ghost use Rattle.encoding.specs.Matched.{AreMatched};
+ghost use Rattle.encoding.specs.OnPackage.{on_package};
 
+use crate::asked::Asked;
+use crate::called::Numbered;
+use crate::indexed::Indexed;
 use crate::narrowing::within;
 use crate::table::Table;
 use catalogue::{Catalogue, catalogues_are_well_formed};
@@ -19,14 +26,16 @@ use std::alloc::{AllocError, Global};
 use std::collections::HashMap;
 use vertices::{OwnerRef, VertexRef};
 
-/// By name and requirement, the classes of the candidates that are matched.
+/// By name and requirement, the classes of the candidates that are matched; and what owners bring, found by name.
 ///
 /// Nothing but time rests on what is kept: what isn't is matched where it is asked for.
 #[derive(Drop)]
 pub struct Matched<'a> {
     pub(crate) problem: Problem<'a>,
     pub(crate) classes: HashMap<(&'a PackageName, &'a VersionReq), Vec<Class>>,
+    indexed: Indexed<'a>,
     ghost are_matched: { AreMatched (problem_view problem) classes },
+    ghost same_problem: { problem_indexed indexed ≡ problem_view problem },
 }
 
 impl<'a> Matched<'a> {
@@ -43,6 +52,7 @@ impl<'a> Matched<'a> {
                 catalogue,
             },
             classes: HashMap::new(alloc),
+            indexed: Indexed::new(alloc, manifest, catalogue),
         }
     }
 
@@ -56,6 +66,21 @@ impl<'a> Matched<'a> {
             Some(classes) => Some(classes.as_slice()),
             None => None,
         }
+    }
+
+    /// What the entries of the root's features ask for, if it is kept.
+    pub(crate) fn asked(&self) -> Option<&Asked<'a>>
+        ensures { IfSome result (λ a. a.now ≡ (problem_of self.now).root_asks) }
+    {
+        self.indexed.asked()
+    }
+
+    /// The dependencies of the owner that are on the package of this name, if there are any and they are kept.
+    pub(crate) fn on_package(&self, owner: &OwnerRef<'a>, name: &'a str) -> Option<&[Numbered<'a>]>
+        ensures { IfSome result (λ those. numbered_views those.now ≡ on_package name.entry.now
+            (numbered_from 0 (owner_brings (problem_of self.now) (owner_ref_view owner.now)).dependencies)) }
+    {
+        self.indexed.on_package(owner, name)
     }
 
     /// Matches what the owner needs that the vertex of this number is in the state of this number: all dependencies of
@@ -74,7 +99,7 @@ impl<'a> Matched<'a> {
     {
         let problem = self.problem;
         match owner_at(&problem, table, number, state) {
-            Some(owner) => self.keep_each(alloc, dependencies_of(&problem, &owner)),
+            Some(owner) => self.keep_owner(alloc, owner),
             None => Ok(()),
         }
     }
@@ -87,7 +112,7 @@ impl<'a> Matched<'a> {
         ensures { problem_of self.new ≡ problem_of self.old }
     {
         let problem = self.problem;
-        self.keep_each(alloc, dependencies_of(&problem, &OwnerRef::Root))?;
+        self.keep_owner(alloc, OwnerRef::Root)?;
         'names: for name in problem.catalogue.names() {
             self.keep_name(alloc, name)?;
         }
@@ -100,10 +125,17 @@ impl<'a> Matched<'a> {
     {
         let problem = self.problem;
         'versions: for version in problem.catalogue.versions(name) {
-            let owner = OwnerRef::Version(name, version);
-            self.keep_each(alloc, dependencies_of(&problem, &owner))?;
+            self.keep_owner(alloc, OwnerRef::Version(name, version))?;
         }
         Ok(())
+    }
+
+    fn keep_owner(&mut self, alloc: Global, owner: OwnerRef<'a>) -> Result<(), AllocError>
+        ensures { problem_of self.new ≡ problem_of self.old }
+    {
+        let problem = self.problem;
+        self.keep_each(alloc, dependencies_of(&problem, &owner))?;
+        self.indexed.keep(alloc, owner)
     }
 
     fn keep_each(&mut self, alloc: Global, dependencies: &'a [Dependency]) -> Result<(), AllocError>

@@ -14,4 +14,5 @@ invariant_of-self c =
       are_matched = put_kept (problem_of c.args.self.now) c.args.self.now.classes c.insert.new.self ask
           c.in_ok-classes.classes c.insert.result c.insert.ensures.updates c.insert.ensures.err
           c.args.self.now.are_matched c.in_ok-classes.ensures;
+      same_problem = c.args.self.now.same_problem;
     }
