@@ -54,7 +54,7 @@ fn follow(rt: &HostRuntime, trial: &mut Trial<WordStates>) -> io::Result<bool> {
 }
 
 /// How long it takes to make the store, to settle it, to propagate along it, and to cut; and first how long where no
-/// entry was looked at before the decision, so that each is settled and walked.
+/// entry was looked at before the decision, so that each is settled and propagated.
 pub(crate) fn run(rt: &HostRuntime, length: u32) -> io::Result<()> {
     let mut trial = links(rt.alloc(), length)?;
     trial.decide(0, 1)?;

@@ -25,8 +25,8 @@ const MADE: &str = "made";
 
 /// Plays the case of a name and prints each command that ends otherwise than told; whether none did.
 ///
-/// A case is a folder in the present one, with a file `session` and the files that its commands read. A session
-/// without a command ends otherwise than told.
+/// A case is a folder in the present one, with a file `session` and the files that its commands read. A session without
+/// a command ends otherwise than told.
 pub(crate) fn play<R: Env + Files + AllocGlobal + Print + Clone + Drop, P: Programs>(
     rt: &R,
     programs: &P,

@@ -107,8 +107,8 @@ zip-short (x ∷ xs) (y ∷ ys) = let rest = zip-short xs ys in omega (arith, re
 
 few_candidates : (c : Candidates) → length (candidates_view c) ≤ most_candidates
 few_candidates c =
-    let wide = length-map (zip c.versions.items c.records.items) ranked_of in
-    let short = zip-short c.versions.items c.records.items in
+    let wide = length-map (zip c.versions.items c.candidates.items) ranked_of in
+    let short = zip-short c.versions.items c.candidates.items in
     let few = c.few in
     omega (arith, wide, short, few)
 

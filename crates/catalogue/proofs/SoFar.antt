@@ -208,7 +208,7 @@ module _ (old : Content) (source : List ℕ) (rust : Option RustVersion) (root :
         (skips skips' : List SkipView) (mid after : S) (name : List ℕ) → SoFar calls before names found skips mid
         → slice_get names (length found) ≡ Some name → length found < most_names
         → IsAsked old source rust calls mid name skips (candidates_view c) after skips'
-        → names' ≡ insert_all same_text names (needs_of c.records.items)
+        → names' ≡ insert_all same_text names (needs_of c.candidates.items)
         → SoFar calls before names' (found ++ c ∷ []) skips' after
     asked_more names names' found c skips skips' mid after name s at less got added =
         let a : Asked = (name, got.answer) in
@@ -216,9 +216,9 @@ module _ (old : Content) (source : List ℕ) (rust : Option RustVersion) (root :
         let next = next_known names found skips mid name s at in
         let here = rest-next (map (λ (a : Asked). a.0) s.asked) s.rest name
         (ap₂ slice_get (sym s.split) (length-map s.asked (λ (a : Asked). a.0) ∙ sym long) ∙ at) in
-        let after_them = added-after names (needs_of c.records.items) in
-        let needs : needs_of c.records.items ≡ needed_by old source a =
-        needs-are c.versions.items c.records.items c.beside
+        let after_them = added-after names (needs_of c.candidates.items) in
+        let needs : needs_of c.candidates.items ≡ needed_by old source a =
+        needs-are c.versions.items c.candidates.items c.beside
         ∙ ap (λ (rs : List Ranked). flat_map (λ (r : Record). meant_by (r.brings).dependencies) (records rs)) got.ranked
         ∙ ap (flat_map (λ (r : Record). meant_by (r.brings).dependencies))
         (records-ranked (is_locked old source name) rust (candidates_in old source a)) in

@@ -43,7 +43,7 @@ abbrev pub rows_by_name : CatalogueView → List (List ℕ × List model.Candida
 rows_by_name c = map (λ row. (row.0, map as_candidate (records row.1))) c.rows
 
 abbrev pub candidates_view : Candidates → List Ranked
-candidates_view cs = ranked_view cs.versions.items cs.records.items
+candidates_view cs = ranked_view cs.versions.items cs.candidates.items
 
 abbrev pub row_of : List ℕ × Candidates → Row
 row_of p = (p.0, candidates_view p.1)

@@ -10,10 +10,10 @@ use semver::Version;
 #[derive(Drop)]
 pub(crate) struct Candidates {
     pub(crate) versions: Vec<Version>,
-    pub(crate) records: Vec<Candidate>,
-    ghost beside: { length versions.items ≡ length records.items },
-    ghost rising: { AreRising (ranked_view versions.items records.items) },
+    pub(crate) candidates: Vec<Candidate>,
+    ghost beside: { length versions.items ≡ length candidates.items },
+    ghost rising: { AreRising (ranked_view versions.items candidates.items) },
     ghost read: { AreRead versions.items },
-    ghost few: { length records.items ≤ most_candidates },
-    ghost known: { AreKnown (ranked_view versions.items records.items) },
+    ghost few: { length candidates.items ≤ most_candidates },
+    ghost known: { AreKnown (ranked_view versions.items candidates.items) },
 }

@@ -86,7 +86,7 @@ fn kept(
     }
     Ok(Candidates {
         versions,
-        records: kept,
+        candidates: kept,
     })
 }
 

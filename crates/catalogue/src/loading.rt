@@ -101,7 +101,7 @@ fn ask_all<F: Folder>(
             &mut skips,
             &mut scratch,
         )?;
-        add_needed(&mut names, found.records.as_slice())?;
+        add_needed(&mut names, found.candidates.as_slice())?;
         candidates.push(found)?;
     }
     Ok(Catalogue {
@@ -132,11 +132,11 @@ fn ask<F: Folder>(
 }
 
 /// Adds the names of the packages that these candidates need, each once.
-fn add_needed(names: &mut IndexSet<PackageName>, records: &[Candidate]) -> Result<(), AllocError>
-    ensures { OnOk result (names.new.keys ≡ insert_all same_text names.old.keys (needs_of records.now)) }
+fn add_needed(names: &mut IndexSet<PackageName>, candidates: &[Candidate]) -> Result<(), AllocError>
+    ensures { OnOk result (names.new.keys ≡ insert_all same_text names.old.keys (needs_of candidates.now)) }
 {
-    'records: for record in records.iter() {
-        add_names(names, record.brings.dependencies.as_slice())?;
+    'candidates: for candidate in candidates.iter() {
+        add_names(names, candidate.brings.dependencies.as_slice())?;
     }
     Ok(())
 }

@@ -90,7 +90,7 @@ impl Catalogue {
         ensures { option_map (λ c. said_by c.now) result
             ≡ option_map said (slice_get (candidates_at self.now name.now) place) }
     {
-        self.of(name)?.records.get(place)
+        self.of(name)?.candidates.get(place)
     }
 
     /// The candidate of a name that has this version, by the whole text.
@@ -149,7 +149,7 @@ fn candidate_in<'a>(candidates: &'a Candidates, version: &Version) -> Option<&'a
         ≡ option_map said (record_at (map (λ c. c.0) (candidates_view candidates.now)) (parts_of version.now)) }
 {
     let place = place_of(candidates.versions.as_slice(), version)?;
-    candidates.records.get(place)
+    candidates.candidates.get(place)
 }
 
 /// The places of candidates by rank, in each rank the newest first.
@@ -157,21 +157,21 @@ fn places_by_rank(alloc: Global, candidates: &Candidates) -> Result<Vec<u32>, Al
     ensures { IfOk result (λ v. v.items ≡ places_by_rank (map (λ c. c.1) (candidates_view candidates.now))) }
 {
     let mut order = Vec::new(alloc);
-    add_rank(&mut order, candidates.records.as_slice(), Rank::Locked)?;
-    add_rank(&mut order, candidates.records.as_slice(), Rank::Fits)?;
-    add_rank(&mut order, candidates.records.as_slice(), Rank::Rest)?;
+    add_rank(&mut order, candidates.candidates.as_slice(), Rank::Locked)?;
+    add_rank(&mut order, candidates.candidates.as_slice(), Rank::Fits)?;
+    add_rank(&mut order, candidates.candidates.as_slice(), Rank::Rest)?;
     Ok(order)
 }
 
 /// Adds the places of this rank, the newest first.
-fn add_rank(order: &mut Vec<u32>, records: &[Candidate], rank: Rank) -> Result<(), AllocError>
-    requires { length records.now ≤ most_candidates }
-    ensures { OnOk result (order.new.items ≡ order.old.items ++ places_of rank (map (λ c. c.rank) records.now)) }
+fn add_rank(order: &mut Vec<u32>, candidates: &[Candidate], rank: Rank) -> Result<(), AllocError>
+    requires { length candidates.now ≤ most_candidates }
+    ensures { OnOk result (order.new.items ≡ order.old.items ++ places_of rank (map (λ c. c.rank) candidates.now)) }
 {
-    let mut place = records.len();
+    let mut place = candidates.len();
     'places: while place > 0 {
         place -= 1;
-        if records[place].rank.is(rank) {
+        if candidates[place].rank.is(rank) {
             order.push(place as u32)?;
         }
     }

@@ -38,8 +38,8 @@ fn covers_term<S: States + Drop>(old: &Incompatibility<S>, term: &Term<S>) -> bo
     }
 }
 
-/// Whether one incompatibility holds wherever another does: each of its terms has all states of the other's term at
-/// the same vertex.
+/// Whether one incompatibility holds wherever another does: each of its terms has all states of the other's term at the
+/// same vertex.
 pub(crate) fn covers<S: States + Drop>(old: &Incompatibility<S>, new: &Incompatibility<S>) -> bool
     requires { Fit (states_at (terms_view S.tests old.now)) (states_at (terms_view S.tests new.now)) }
     ensures { OnTrue result (Covers (states_at (terms_view S.tests old.now)) (states_at (terms_view S.tests new.now))) }

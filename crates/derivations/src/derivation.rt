@@ -21,9 +21,8 @@ use std::marker::Model;
 use vertices::{Kind, VertexRef};
 
 /// Why there is no selection: steps, each by an axiom or from two earlier ones. Terms stand by the bytes of their
-/// vertices' texts, states
-/// `absent` first and then oldest or lowest first, none of them twice, and each vertex, state and version is what its
-/// own text reads as.
+/// vertices' texts, states `absent` first and then oldest or lowest first, none of them twice, and each vertex, state
+/// and version is what its own text reads as.
 ///
 /// It may have any number of steps. Each vertex, state and set of states is kept once, and steps name them by numbers.
 #[derive(Drop)]

@@ -113,8 +113,7 @@ impl Tables {
     }
 
     /// The number of a spelt vertex, which is added unless it is there. The number that is guessed is looked at before
-    /// the
-    /// vertex is parsed anew and hashed.
+    /// the vertex is parsed anew and hashed.
     pub(crate) fn add_spelt(
         &mut self,
         alloc: Global,

@@ -19,8 +19,7 @@ use std::alloc::{AllocError, Global};
 use vertices::Kind;
 
 /// The bytes of a derivation of any length: a line of compact JSON for each step. `read` takes them back, unless there
-/// are more lines than it
-/// reads.
+/// are more lines than it reads.
 pub fn write(alloc: Global, derivation: &Derivation) -> Result<Vec<u8>, AllocError>
     ensures text { IfOk result (λ v. v.items ≡ lines_of derivation.now) }
     ensures reads { IfOk result

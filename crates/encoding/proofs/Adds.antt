@@ -12,9 +12,9 @@ use Rattle.encoding.specs.GivenViews.{cause_views}
 use Rattle.named_terms.specs.CauseViews.{cause_view}
 use Rattle.encoding.specs.Numberings.{AddsOnly, Numbering, with_vertex}
 use Rattle.encoding.specs.Pairs.{AreCausesAt, IsCauseAt, IsSpokenOf, Pair, spoken_by}
-use Rattle.encoding.specs.Parts.{Part, part_view, part_views, parts_of_terms, vertices_of}
+use Rattle.encoding.specs.TestedTerms.{TestedTerm, tested_view, tested_views, all_tested, vertices_of}
 use Rattle.named_terms.specs.declared.cause.Cause as cause
-use Rattle.encoding.specs.declared.parts.Part as part
+use Rattle.encoding.specs.declared.tested_terms.TestedTerm as tested_term
 use Rattle.encoding.proofs.Needing.{in_last}
 use Rattle.encoding.proofs.Places.{got_in}
 
@@ -35,30 +35,30 @@ adds_put vs new w e = λ v i. by (list_any (same_vertex w) vs) v (subst (λ l. C
     by true v d = inl d
     by false v d = in_last vs w v d
 
--- ---- of parts, and of a cause's instance
+-- ---- of tested terms, and of a cause's instance
 
 item_in : {X Y : Type 0} (f : X → Y) (xs : List X) (i : ℕ) (x : X) → i < length xs → x ≡ get_or xs i x
     → Contains (map f xs) (f x)
 item_in f xs i x lt is = to_map f xs x (got_in xs i x (slice_get_read xs (length xs) i x refl lt is))
 
-pub part_adds : (all : List part.Part) (i : ℕ) (p : part.Part) (a b c : Numbering) → i < length all → p ≡ get_or all i p
-    → AddsOnly (Contains (vertices_of (part_views all))) a b
-    → AddsOnly (λ v. (part_view p).0 ≡ v) b c → AddsOnly (Contains (vertices_of (part_views all))) a c
-part_adds all i p a b c lt is first next =
-    let here = to_map (λ (x : Part). x.0) (part_views all) (part_view p) (item_in part_view all i p lt is) in
-    adds_on (Contains (vertices_of (part_views all))) a b c first
-    (adds_wider (λ v. (part_view p).0 ≡ v) (Contains (vertices_of (part_views all))) b c
-    (λ v e. subst (Contains (vertices_of (part_views all))) e here) next)
+pub tested_adds : (all : List tested_term.TestedTerm) (i : ℕ) (p : tested_term.TestedTerm) (a b c : Numbering) → i < length all → p ≡ get_or all i p
+    → AddsOnly (Contains (vertices_of (tested_views all))) a b
+    → AddsOnly (λ v. (tested_view p).0 ≡ v) b c → AddsOnly (Contains (vertices_of (tested_views all))) a c
+tested_adds all i p a b c lt is first next =
+    let here = to_map (λ (x : TestedTerm). x.0) (tested_views all) (tested_view p) (item_in tested_view all i p lt is) in
+    adds_on (Contains (vertices_of (tested_views all))) a b c first
+    (adds_wider (λ v. (tested_view p).0 ≡ v) (Contains (vertices_of (tested_views all))) b c
+    (λ v e. subst (Contains (vertices_of (tested_views all))) e here) next)
 
-parts_vertices : (q : Problem) (ts : List Term) → vertices_of (parts_of_terms q ts) ≡ map (λ t. t.vertex) ts
-parts_vertices q [] = refl
-parts_vertices q (t ∷ ts) = ap (λ vs. t.vertex ∷ vs) (parts_vertices q ts)
+tested_vertices : (q : Problem) (ts : List Term) → vertices_of (all_tested q ts) ≡ map (λ t. t.vertex) ts
+tested_vertices q [] = refl
+tested_vertices q (t ∷ ts) = ap (λ vs. t.vertex ∷ vs) (tested_vertices q ts)
 
-pub cause_adds : (q : Problem) (c : Cause) (ps : List Part) (old new : Numbering)
-    → ps ≡ parts_of_terms q (terms_of_cause q c) → AddsOnly (Contains (vertices_of ps)) old new
+pub cause_adds : (q : Problem) (c : Cause) (ps : List TestedTerm) (old new : Numbering)
+    → ps ≡ all_tested q (terms_of_cause q c) → AddsOnly (Contains (vertices_of ps)) old new
     → AddsOnly (Contains (spoken_by q c)) old new
 cause_adds q c ps old new is adds =
-    let same : vertices_of ps ≡ spoken_by q c = ap vertices_of is ∙ parts_vertices q (terms_of_cause q c) in
+    let same : vertices_of ps ≡ spoken_by q c = ap vertices_of is ∙ tested_vertices q (terms_of_cause q c) in
     subst (λ vs. AddsOnly (Contains vs) old new) same adds
 
 -- ---- of causes

@@ -1,4 +1,4 @@
--- Parts of an instance as terms over numbers.
+-- Tested terms of an instance as terms over numbers.
 use Rattle.std.proofs.Common.{◌≡◌, ℕ, zero, suc, ◌<◌, ◌≤◌, ◌+◌, get_or, take, take_all, List, [], ◌∷◌, ◌++◌, map}
 use Rattle.std.proofs.Common.{filter, length, Bool, true, false, cond, Option, Some, None, slice_get, refl, sym, ap}
 use Rattle.std.proofs.Common.{◌∙◌, subst, arith}
@@ -20,7 +20,7 @@ use Rattle.catalogue.specs.Stores.{CatalogueView, IsStore, Row}
 use Rattle.catalogue.specs.Views.{most_candidates}
 use Rattle.encoding.specs.Numberings.{Numbering, IsGrown}
 use Rattle.encoding.specs.Numbered.{AreNumbered}
-use Rattle.encoding.specs.Parts.{Part, IsOfPart, AreOfParts, IsFitting, parts_of_terms}
+use Rattle.encoding.specs.TestedTerms.{TestedTerm, IsOfTested, AreOfTested, IsFitting, all_tested}
 use Rattle.encoding.proofs.Needing.{still_at, numbering_put, put_grows}
 use Rattle.std.proofs.lemmas.List.{map-append}
 use Rattle.std.proofs.Math.Seq.{take-suc}
@@ -29,12 +29,12 @@ use Rattle.terms.specs.declared.term.Term as Numbered
 use Rattle.model.specs.WellFormed.{IsCatalogue}
 use Rattle.refutations.specs.Causes.{Cause, is_cause, kind_of, terms_of_cause}
 use Rattle.encoding.specs.Numberings.{IsNumbering, with_vertex}
-use Rattle.encoding.specs.Parts.{part_view, part_views}
-use Rattle.encoding.specs.declared.parts.Part as code
+use Rattle.encoding.specs.TestedTerms.{tested_view, tested_views}
+use Rattle.encoding.specs.declared.tested_terms.TestedTerm as code
 
--- terms of the parts of terms are those, numbered
+-- tested terms of terms are those, numbered
 pub are_numbered : (q : Problem) (vs : Numbering) (ts : List TermView) (ms : List Term)
-    → AreOfParts vs ts (parts_of_terms q ms) → AreNumbered q vs ts ms
+    → AreOfTested vs ts (all_tested q ms) → AreNumbered q vs ts ms
 are_numbered q vs [] [] are = tt
 are_numbered q vs [] (m ∷ ms) are = are
 are_numbered q vs (t ∷ ts) [] are = are
@@ -42,20 +42,20 @@ are_numbered q vs (t ∷ ts) (m ∷ ms) are =
     (record { vertex = (are.0).0; states = (are.0).1 }, are_numbered q vs ts ms are.1)
 
 -- they stay so as more vertices get numbers
-pub parts_more : (vs new : Numbering) (ts : List TermView) (ps : List Part) → IsGrown vs new
-    → AreOfParts vs ts ps → AreOfParts new ts ps
-parts_more vs new [] [] grown are = tt
-parts_more vs new [] (p ∷ ps) grown are = are
-parts_more vs new (t ∷ ts) [] grown are = are
-parts_more vs new (t ∷ ts) (p ∷ ps) grown are =
-    ((still_at vs new t.vertex p.0 grown (are.0).0, (are.0).1), parts_more vs new ts ps grown are.1)
+pub tested_more : (vs new : Numbering) (ts : List TermView) (ps : List TestedTerm) → IsGrown vs new
+    → AreOfTested vs ts ps → AreOfTested new ts ps
+tested_more vs new [] [] grown are = tt
+tested_more vs new [] (p ∷ ps) grown are = are
+tested_more vs new (t ∷ ts) [] grown are = are
+tested_more vs new (t ∷ ts) (p ∷ ps) grown are =
+    ((still_at vs new t.vertex p.0 grown (are.0).0, (are.0).1), tested_more vs new ts ps grown are.1)
 
-pub parts_last : (vs : Numbering) (ts : List TermView) (ps : List Part) (t : TermView) (p : Part) → AreOfParts vs ts ps
-    → IsOfPart vs t p → AreOfParts vs (ts ++ t ∷ []) (ps ++ p ∷ [])
-parts_last vs [] [] t p are is = (is, tt)
-parts_last vs [] (r ∷ ps) t p are is = absurd are
-parts_last vs (u ∷ ts) [] t p are is = absurd are
-parts_last vs (u ∷ ts) (r ∷ ps) t p are is = (are.0, parts_last vs ts ps t p are.1 is)
+pub tested_last : (vs : Numbering) (ts : List TermView) (ps : List TestedTerm) (t : TermView) (p : TestedTerm) → AreOfTested vs ts ps
+    → IsOfTested vs t p → AreOfTested vs (ts ++ t ∷ []) (ps ++ p ∷ [])
+tested_last vs [] [] t p are is = (is, tt)
+tested_last vs [] (r ∷ ps) t p are is = absurd are
+tested_last vs (u ∷ ts) [] t p are is = absurd are
+tested_last vs (u ∷ ts) (r ∷ ps) t p are is = (are.0, tested_last vs ts ps t p are.1 is)
 
 -- ---- no space is too large
 
@@ -125,9 +125,9 @@ module _ (m : ManifestView) (c : CatalogueView) (store : IsStore c) where
   spaces_few (feat name k f) = omega arith
   spaces_few (ask name v i g) = omega arith
 
-  -- the parts of terms whose vertices are there can be made terms
+  -- the tested terms of terms whose vertices are there can be made terms
   pub fitting : (ms : List Term) → AllByRecursion (λ t. IsVertex (problem_in m c) t.vertex) ms
-      → AllByRecursion (IsFitting (problem_in m c)) (parts_of_terms (problem_in m c) ms)
+      → AllByRecursion (IsFitting (problem_in m c)) (all_tested (problem_in m c) ms)
   fitting [] h = tt
   fitting (t ∷ ms) h = (
     record {
@@ -144,40 +144,40 @@ pub vertex_put : (q : Problem) (vs : Numbering) (v : Vertex) (new : Numbering) �
 vertex_put q vs v new ok is same =
     (subst (IsNumbering q) (sym same) (numbering_put q vs v ok is), subst (IsGrown vs) (sym same) (put_grows vs v))
 
-pub part_put : {S : Type 0} (tests : S → Members) (vs new : Numbering) (old is : List (Numbered.Term S))
-    (t : Numbered.Term S) (p : Part) (ps : List Part) → IsGrown vs new → is ≡ old ++ t ∷ []
-    → IsOfPart new (term_view tests t) p → AreOfParts vs (terms_view tests old) ps
-    → AreOfParts new (terms_view tests is) (ps ++ p ∷ [])
-part_put tests vs new old is t p ps grown same of are =
-    subst (λ ts. AreOfParts new ts (ps ++ p ∷ []))
+pub tested_put : {S : Type 0} (tests : S → Members) (vs new : Numbering) (old is : List (Numbered.Term S))
+    (t : Numbered.Term S) (p : TestedTerm) (ps : List TestedTerm) → IsGrown vs new → is ≡ old ++ t ∷ []
+    → IsOfTested new (term_view tests t) p → AreOfTested vs (terms_view tests old) ps
+    → AreOfTested new (terms_view tests is) (ps ++ p ∷ [])
+tested_put tests vs new old is t p ps grown same of are =
+    subst (λ ts. AreOfTested new ts (ps ++ p ∷ []))
     (sym (ap (terms_view tests) same ∙ map-append (term_view tests) old (t ∷ [])))
-    (parts_last new (terms_view tests old) ps (term_view tests t) p
-    (parts_more vs new (terms_view tests old) ps grown are) of)
+    (tested_last new (terms_view tests old) ps (term_view tests t) p
+    (tested_more vs new (terms_view tests old) ps grown are) of)
 
-pub parts_next : (all : List code.Part) (i : ℕ) (p : code.Part) → i < length all → p ≡ get_or all i p
-    → part_views (take (i + 1) all) ≡ part_views (take i all) ++ part_view p ∷ []
-parts_next all i p lt is =
+pub tested_next : (all : List code.TestedTerm) (i : ℕ) (p : code.TestedTerm) → i < length all → p ≡ get_or all i p
+    → tested_views (take (i + 1) all) ≡ tested_views (take i all) ++ tested_view p ∷ []
+tested_next all i p lt is =
     let e : i + 1 ≡ suc i = omega arith in
-    ap (λ n. part_views (take n all)) e ∙ ap part_views (take-suc all i p lt ∙ ap (λ x. take i all ++ x ∷ []) (sym is))
-    ∙ map-append part_view (take i all) (p ∷ [])
+    ap (λ n. tested_views (take n all)) e ∙ ap tested_views (take-suc all i p lt ∙ ap (λ x. take i all ++ x ∷ []) (sym is))
+    ∙ map-append tested_view (take i all) (p ∷ [])
 
-pub parts_whole : (all : List code.Part) (i : ℕ) → length all ≤ i → part_views (take i all) ≡ part_views all
-parts_whole all i h = ap part_views (take_all i all h)
+pub tested_whole : (all : List code.TestedTerm) (i : ℕ) → length all ≤ i → tested_views (take i all) ≡ tested_views all
+tested_whole all i h = ap tested_views (take_all i all h)
 
-pub fit_at : (P : Part → Type 0) (all : List code.Part) (i : ℕ) (p : code.Part) → AllByRecursion P (part_views all)
-    → i < length all → p ≡ get_or all i p → P (part_view p)
+pub fit_at : (P : TestedTerm → Type 0) (all : List code.TestedTerm) (i : ℕ) (p : code.TestedTerm) → AllByRecursion P (tested_views all)
+    → i < length all → p ≡ get_or all i p → P (tested_view p)
 fit_at P [] i p h lt is = absurd (omega (arith, lt))
-fit_at P (x ∷ all) zero p h lt is = subst (λ y. P (part_view y)) (sym is) h.0
+fit_at P (x ∷ all) zero p h lt is = subst (λ y. P (tested_view y)) (sym is) h.0
 fit_at P (x ∷ all) (suc i) p h lt is = fit_at P all i p h.1 (omega (arith, lt)) is
 
 by_recursion : {X : Type 0} (P : X → Type 0) (xs : List X) → All P xs → AllByRecursion P xs
 by_recursion P [] h = tt
 by_recursion P (x ∷ xs) h = (all_first P x xs h, by_recursion P xs (all_rest P x xs h))
 
--- the parts of an instance can be made terms, each on its own number
-pub cause_fits : (m : ManifestView) (c : CatalogueView) (cause : Cause) (ps : List Part) → IsStore c
+-- the tested terms of an instance can be made terms over numbers, each on its own number
+pub cause_fits : (m : ManifestView) (c : CatalogueView) (cause : Cause) (ps : List TestedTerm) → IsStore c
     → IsCatalogue (problem_in m c) → is_cause (problem_in m c) cause ≡ true
-    → ps ≡ parts_of_terms (problem_in m c) (terms_of_cause (problem_in m c) cause)
+    → ps ≡ all_tested (problem_in m c) (terms_of_cause (problem_in m c) cause)
     → AllByRecursion (IsFitting (problem_in m c)) ps
 cause_fits m c cause ps store known t is =
     let q = problem_in m c in

@@ -23,7 +23,7 @@ use Rattle.classes.specs.Classes.{class_view}
 use Rattle.classes.specs.declared.class.Class as code
 use Rattle.refutations.specs.Listed.{classes_at, classes_if}
 use Rattle.encoding.specs.Numberings.{members_at}
-use Rattle.encoding.specs.Parts.{is_chosen, is_class}
+use Rattle.encoding.specs.TestedTerms.{is_chosen, is_class}
 use Rattle.looking_up.specs.Matching.{is_lacking, is_left}
 use Rattle.looking_up.specs.Ranges.{is_of, versions_with}
 use Rattle.encoding.proofs.ClassOrder.{IsOlder}

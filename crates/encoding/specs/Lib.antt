@@ -4,8 +4,8 @@ pub mod Assignments
 pub mod Numbered
 pub mod Absences
 pub mod Finals
-pub mod Inputs
-pub mod Parts
+pub mod KnownProblem
+pub mod TestedTerms
 pub mod GivenViews
 pub mod CausesAt
 pub mod Higher

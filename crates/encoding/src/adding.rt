@@ -10,13 +10,13 @@ ghost use Rattle.vertices.specs.Kinds.{kind_view};
 ghost use Rattle.encoding.specs.Assignments.{state_at};
 ghost use Rattle.encoding.specs.GivenViews.{cause_views, given_views};
 ghost use Rattle.named_terms.specs.CauseViews.{cause_view};
-ghost use Rattle.encoding.specs.Inputs.{KnowsDefault, problem};
+ghost use Rattle.encoding.specs.KnownProblem.{KnowsDefault, problem};
 ghost use Rattle.encoding.specs.Numberings.{AddsOnly, IsGrown, IsNumbering};
 ghost use Rattle.encoding.specs.Pairs.{AreGiven, IsCauseAt, IsGivenAt, IsSpokenOf, spoken_by};
 ghost use Rattle.vertices.specs.RefViews.{state_ref_view, vertex_ref_view};
 
-use crate::inputs::Inputs;
 use crate::instances::instance;
+use crate::known_problem::KnownProblem;
 use crate::pairing::causes_at;
 use crate::states::state_at;
 use crate::table::Table;
@@ -30,7 +30,7 @@ use vertices::{Kind, StateRef, VertexRef};
 /// its kind; their vertices get numbers where they have none, and no others do.
 pub fn axioms_at<'a, S: States + Drop>(
     alloc: Global,
-    inputs: &Inputs<'a>,
+    inputs: &KnownProblem<'a>,
     table: &mut Table<'a>,
     number: usize,
     state: usize,
@@ -55,7 +55,7 @@ pub fn axioms_at<'a, S: States + Drop>(
 /// The same of a vertex.
 fn vertex_axioms<'a, S: States + Drop>(
     alloc: Global,
-    inputs: &Inputs<'a>,
+    inputs: &KnownProblem<'a>,
     table: &mut Table<'a>,
     vertex: VertexRef<'a>,
     number: usize,
@@ -85,7 +85,7 @@ fn vertex_axioms<'a, S: States + Drop>(
 /// number.
 pub fn axioms_of<'a, S: States + Drop>(
     alloc: Global,
-    inputs: &Inputs<'a>,
+    inputs: &KnownProblem<'a>,
     table: &mut Table<'a>,
     vertex: VertexRef<'a>,
     state: StateRef<'a>,
@@ -108,7 +108,7 @@ pub fn axioms_of<'a, S: States + Drop>(
 /// The instances of causes, each with its kind.
 fn instances<'a, S: States + Drop>(
     alloc: Global,
-    inputs: &Inputs<'a>,
+    inputs: &KnownProblem<'a>,
     table: &mut Table<'a>,
     causes: &[Cause<'a>],
 ) -> Result<Vec<(Kind, Incompatibility<S>)>, AllocError>
@@ -129,7 +129,7 @@ fn instances<'a, S: States + Drop>(
 
 fn put_instance<'a, S: States + Drop>(
     alloc: Global,
-    inputs: &Inputs<'a>,
+    inputs: &KnownProblem<'a>,
     table: &mut Table<'a>,
     given: &mut Vec<(Kind, Incompatibility<S>)>,
     cause: &Cause<'a>,

@@ -17,11 +17,11 @@ ghost use Rattle.encoding.specs.Called.{AreOfVersion, called_so, named_by, numbe
 ghost use Rattle.encoding.specs.GivenViews.{cause_views};
 ghost use Rattle.encoding.specs.CausesAt.{each_from, entry_causes, entry_if, feature_causes, need_if, turned_if};
 ghost use Rattle.encoding.specs.CausesAt.{version_causes, weak_if, with_causes};
-ghost use Rattle.encoding.specs.Inputs.{problem};
+ghost use Rattle.encoding.specs.KnownProblem.{problem};
 ghost use Rattle.vertices.specs.RefViews.{owner_ref_view};
 
 use crate::called::{ByName, Numbered};
-use crate::inputs::Inputs;
+use crate::known_problem::KnownProblem;
 use crate::lookups::{brings, dependencies_of, entries_of};
 use crate::spaces::classes_of;
 use classes::Class;
@@ -83,7 +83,7 @@ fn put_need<'a>(
 /// What the entries of a version's feature give.
 pub(crate) fn put_feature<'a>(
     alloc: Global,
-    inputs: &Inputs<'a>,
+    inputs: &KnownProblem<'a>,
     causes: &mut Vec<Cause<'a>>,
     own: Own<'a>,
     called: &ByName<'a>,
@@ -102,7 +102,7 @@ pub(crate) fn put_feature<'a>(
 
 fn put_entry<'a>(
     alloc: Global,
-    inputs: &Inputs<'a>,
+    inputs: &KnownProblem<'a>,
     causes: &mut Vec<Cause<'a>>,
     own: Own<'a>,
     called: &ByName<'a>,
@@ -153,7 +153,7 @@ fn put_off<'a>(
 /// What an entry of the feature gives with the dependencies that it names: no other one is looked at.
 fn put_each<'a>(
     alloc: Global,
-    inputs: &Inputs<'a>,
+    inputs: &KnownProblem<'a>,
     causes: &mut Vec<Cause<'a>>,
     own: Own<'a>,
     called: &ByName<'a>,
@@ -186,7 +186,7 @@ fn name_of(entry: &Entry) -> Option<&PackageName>
 /// What an entry of the feature gives with the dependencies called so.
 fn put_called<'a>(
     alloc: Global,
-    inputs: &Inputs<'a>,
+    inputs: &KnownProblem<'a>,
     causes: &mut Vec<Cause<'a>>,
     own: Own<'a>,
     called: &ByName<'a>,
@@ -206,7 +206,7 @@ fn put_called<'a>(
 /// What an entry of the feature gives with each of these dependencies.
 fn put_those<'a>(
     alloc: Global,
-    inputs: &Inputs<'a>,
+    inputs: &KnownProblem<'a>,
     causes: &mut Vec<Cause<'a>>,
     own: Own<'a>,
     entry: &'a Entry,
@@ -232,7 +232,7 @@ fn put_those<'a>(
 
 fn put_on<'a>(
     alloc: Global,
-    inputs: &Inputs<'a>,
+    inputs: &KnownProblem<'a>,
     causes: &mut Vec<Cause<'a>>,
     own: Own<'a>,
     entry: &'a Entry,
@@ -302,7 +302,7 @@ fn put_asked<'a>(
 /// What an entry `d?/g` gives with a dependency.
 fn put_weak<'a>(
     alloc: Global,
-    inputs: &Inputs<'a>,
+    inputs: &KnownProblem<'a>,
     causes: &mut Vec<Cause<'a>>,
     own: Own<'a>,
     called: &'a PackageName,
@@ -393,7 +393,7 @@ pub(crate) fn each_once<'a>(
 /// What a version's needs and the entries of its features give.
 pub(crate) fn put_version<'a>(
     alloc: Global,
-    inputs: &Inputs<'a>,
+    inputs: &KnownProblem<'a>,
     causes: &mut Vec<Cause<'a>>,
     name: &'a PackageName,
     version: &'a Version,
@@ -409,7 +409,7 @@ pub(crate) fn put_version<'a>(
 /// What the entries of a version's features give.
 fn put_features<'a>(
     alloc: Global,
-    inputs: &Inputs<'a>,
+    inputs: &KnownProblem<'a>,
     causes: &mut Vec<Cause<'a>>,
     name: &'a PackageName,
     version: &'a Version,
@@ -438,7 +438,7 @@ fn put_features<'a>(
 /// What the entries of the features of a table give.
 fn put_rows<'a>(
     alloc: Global,
-    inputs: &Inputs<'a>,
+    inputs: &KnownProblem<'a>,
     causes: &mut Vec<Cause<'a>>,
     name: &'a PackageName,
     version: &'a Version,

@@ -5,15 +5,15 @@ ghost use Rattle.std.specs.List.{AllByRecursion};
 ghost use Rattle.terms.specs.Terms.{term_view, terms_view};
 ghost use Rattle.refutations.specs.Causes.{is_cause, terms_of_cause};
 ghost use Rattle.named_terms.specs.CauseViews.{cause_view};
-ghost use Rattle.encoding.specs.Inputs.{problem};
+ghost use Rattle.encoding.specs.KnownProblem.{problem};
 ghost use Rattle.encoding.specs.Numberings.{AddsOnly, IsGrown, IsNumbering, Says};
 ghost use Rattle.encoding.specs.Pairs.{spoken_by};
-ghost use Rattle.encoding.specs.Parts.{AreOfParts, IsFitting, Part as PartView, part_view, part_views, vertices_of};
+ghost use Rattle.encoding.specs.TestedTerms.{AreOfTested, IsFitting, TestedTerm as TestedView, tested_view, tested_views, vertices_of};
 
-use crate::inputs::Inputs;
+use crate::known_problem::KnownProblem;
 use crate::making::made_of;
-use crate::parts::{Part, parts_of_cause};
 use crate::table::Table;
+use crate::tested_terms::{TestedTerm, terms_tested};
 use catalogue::catalogues_are_well_formed;
 use incompatibilities::Incompatibility;
 use named_terms::Cause;
@@ -24,7 +24,7 @@ use version_sets::States;
 /// The instance that a cause gives rise to; its vertices get numbers where they have none.
 pub fn instance<'a, S: States + Drop>(
     alloc: Global,
-    inputs: &Inputs<'a>,
+    inputs: &KnownProblem<'a>,
     table: &mut Table<'a>,
     cause: &Cause<'a>,
 ) -> Result<Incompatibility<S>, AllocError>
@@ -38,50 +38,50 @@ pub fn instance<'a, S: States + Drop>(
 {
     catalogues_are_well_formed(inputs.manifest, inputs.catalogue);
     let _ = inputs.catalogue.names();
-    let parts = parts_of_cause(alloc, inputs, cause)?;
-    let terms = put_parts(alloc, inputs, table, parts.as_slice())?;
+    let tested_terms = terms_tested(alloc, inputs, cause)?;
+    let terms = put_all_tested(alloc, inputs, table, tested_terms.as_slice())?;
     Ok(made_of(terms))
 }
 
 /// Gives the vertices numbers, and makes a term of each.
-fn put_parts<'a, S: States + Drop>(
+fn put_all_tested<'a, S: States + Drop>(
     alloc: Global,
-    inputs: &Inputs<'a>,
+    inputs: &KnownProblem<'a>,
     table: &mut Table<'a>,
-    parts: &[Part<'a>],
+    tested_terms: &[TestedTerm<'a>],
 ) -> Result<Vec<Term<S>>, AllocError>
     requires numbering { IsNumbering (problem inputs.now) table.old }
-    requires fit { AllByRecursion (IsFitting (problem inputs.now)) (part_views parts.now) }
+    requires fit { AllByRecursion (IsFitting (problem inputs.now)) (tested_views tested_terms.now) }
     ensures grown { IsGrown table.old table.new }
     ensures numbering { IsNumbering (problem inputs.now) table.new }
-    ensures only { AddsOnly (Contains (vertices_of (part_views parts.now))) table.old table.new }
-    ensures terms { IfOk result (λ ts. AreOfParts table.new (terms_view S.tests ts.items) (part_views parts.now)) }
+    ensures only { AddsOnly (Contains (vertices_of (tested_views tested_terms.now))) table.old table.new }
+    ensures terms { IfOk result (λ ts. AreOfTested table.new (terms_view S.tests ts.items) (tested_views tested_terms.now)) }
 {
     let mut terms = Vec::new(alloc);
-    'parts: for part in parts.iter() {
-        put_part(alloc, inputs, table, &mut terms, part)?;
+    'tested_terms: for tested_term in tested_terms.iter() {
+        put_tested(alloc, inputs, table, &mut terms, tested_term)?;
     }
     Ok(terms)
 }
 
 /// Gives a vertex its number, and makes a term of its tests.
-fn put_part<'a, S: States + Drop>(
+fn put_tested<'a, S: States + Drop>(
     alloc: Global,
-    inputs: &Inputs<'a>,
+    inputs: &KnownProblem<'a>,
     table: &mut Table<'a>,
     terms: &mut Vec<Term<S>>,
-    part: &Part<'a>,
+    tested_term: &TestedTerm<'a>,
 ) -> Result<(), AllocError>
     requires numbering { IsNumbering (problem inputs.now) table.old }
-    requires fit { IsFitting (problem inputs.now) (part_view part.now) }
+    requires fit { IsFitting (problem inputs.now) (tested_view tested_term.now) }
     ensures grown { IsGrown table.old table.new }
     ensures numbering { IsNumbering (problem inputs.now) table.new }
-    ensures only { AddsOnly (λ v. (part_view part.now).0 ≡ v) table.old table.new }
-    ensures terms { OnOk result ((ps : List PartView) → AreOfParts table.old (terms_view S.tests terms.old.items) ps
-        → AreOfParts table.new (terms_view S.tests terms.new.items) (ps ++ part_view part.now ∷ [])) }
+    ensures only { AddsOnly (λ v. (tested_view tested_term.now).0 ≡ v) table.old table.new }
+    ensures terms { OnOk result ((ps : List TestedView) → AreOfTested table.old (terms_view S.tests terms.old.items) ps
+        → AreOfTested table.new (terms_view S.tests terms.new.items) (ps ++ tested_view tested_term.now ∷ [])) }
 {
-    let vertex = table.put(part.vertex)?;
-    let states = S::of_tests(alloc, part.tests.as_slice())?;
+    let vertex = table.put(tested_term.vertex)?;
+    let states = S::of_tests(alloc, tested_term.tests.as_slice())?;
     terms.push(Term { vertex, states })?;
     Ok(())
 }

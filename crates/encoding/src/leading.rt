@@ -12,12 +12,12 @@ ghost use Rattle.encoding.specs.Called.{numbered_from, numbered_view, numbered_v
 ghost use Rattle.encoding.specs.GivenViews.{cause_views};
 ghost use Rattle.encoding.specs.CausesAt.{each_from, lead_causes, newest_if, root_asked};
 ghost use Rattle.encoding.specs.Higher.{Adds, AreAbove, AreHigher, is_other, newest_among, newest_in, others_on};
-ghost use Rattle.encoding.specs.Inputs.{KnowsDefault, problem};
+ghost use Rattle.encoding.specs.KnownProblem.{KnowsDefault, problem};
 ghost use Rattle.vertices.specs.RefViews.{owner_ref_view};
 
 use crate::asked::{Asked, Wanted};
 use crate::called::Numbered;
-use crate::inputs::Inputs;
+use crate::known_problem::KnownProblem;
 use crate::lookups::{dependencies_of, dependency_at};
 use crate::spaces::classes_of;
 use classes::Class;
@@ -38,7 +38,7 @@ pub(crate) struct Lead<'a> {
 /// What a dependency gives that leads to a class: nothing where it isn't there.
 pub(crate) fn put_lead<'a>(
     alloc: Global,
-    inputs: &Inputs<'a>,
+    inputs: &KnownProblem<'a>,
     causes: &mut Vec<Cause<'a>>,
     lead: Lead<'a>,
 ) -> Result<(), AllocError>
@@ -57,7 +57,7 @@ pub(crate) fn put_lead<'a>(
 /// higher class.
 fn put_leading<'a>(
     alloc: Global,
-    inputs: &Inputs<'a>,
+    inputs: &KnownProblem<'a>,
     causes: &mut Vec<Cause<'a>>,
     lead: Lead<'a>,
     dependency: &'a Dependency,
@@ -75,7 +75,7 @@ fn put_leading<'a>(
 /// The features that it asks for.
 fn put_lists<'a>(
     alloc: Global,
-    inputs: &Inputs<'a>,
+    inputs: &KnownProblem<'a>,
     causes: &mut Vec<Cause<'a>>,
     lead: Lead<'a>,
     dependency: &'a Dependency,
@@ -92,7 +92,7 @@ fn put_lists<'a>(
 
 /// Those of its own list, and `default`.
 fn put_own_list<'a>(
-    inputs: &Inputs<'a>,
+    inputs: &KnownProblem<'a>,
     causes: &mut Vec<Cause<'a>>,
     lead: Lead<'a>,
     dependency: &'a Dependency,
@@ -107,7 +107,7 @@ fn put_own_list<'a>(
 }
 
 fn put_default<'a>(
-    inputs: &Inputs<'a>,
+    inputs: &KnownProblem<'a>,
     causes: &mut Vec<Cause<'a>>,
     lead: Lead<'a>,
     dependency: &Dependency,
@@ -140,7 +140,7 @@ fn put_listed<'a>(
 /// Those that entries of the root's features ask it for.
 fn put_root_lists<'a>(
     alloc: Global,
-    inputs: &Inputs<'a>,
+    inputs: &KnownProblem<'a>,
     causes: &mut Vec<Cause<'a>>,
     lead: Lead<'a>,
     dependency: &'a Dependency,
@@ -158,7 +158,7 @@ fn put_root_lists<'a>(
 /// Those that the dependencies called so are asked for: no entry is looked at for each of them.
 fn put_root_asked<'a>(
     alloc: Global,
-    inputs: &Inputs<'a>,
+    inputs: &KnownProblem<'a>,
     causes: &mut Vec<Cause<'a>>,
     lead: Lead<'a>,
     name: &'a str,
@@ -211,7 +211,7 @@ fn put_each_asked<'a>(
 /// of its owner those on the package alone are looked at.
 fn put_newest<'a>(
     alloc: Global,
-    inputs: &Inputs<'a>,
+    inputs: &KnownProblem<'a>,
     causes: &mut Vec<Cause<'a>>,
     lead: Lead<'a>,
     dependency: &'a Dependency,
@@ -236,7 +236,7 @@ fn put_newest<'a>(
 /// class.
 fn put_newest_of<'a>(
     alloc: Global,
-    inputs: &Inputs<'a>,
+    inputs: &KnownProblem<'a>,
     causes: &mut Vec<Cause<'a>>,
     lead: Lead<'a>,
     dependency: &'a Dependency,
@@ -317,7 +317,7 @@ fn is_other(number: usize, name: &PackageName, place: usize, other: &Dependency)
 /// The higher classes to which a dependency may lead.
 fn higher_classes<'a>(
     alloc: Global,
-    inputs: &Inputs<'a>,
+    inputs: &KnownProblem<'a>,
     class: Class,
     dependency: &'a Dependency,
 ) -> Result<IndexSet<Class>, AllocError>
@@ -356,7 +356,7 @@ fn put_above(higher: &mut IndexSet<Class>, class: Class, other: Class) -> Result
 
 fn put_others<'a>(
     alloc: Global,
-    inputs: &Inputs<'a>,
+    inputs: &KnownProblem<'a>,
     causes: &mut Vec<Cause<'a>>,
     lead: Lead<'a>,
     real_name: &PackageName,
@@ -384,7 +384,7 @@ fn put_others<'a>(
 
 fn put_other<'a>(
     alloc: Global,
-    inputs: &Inputs<'a>,
+    inputs: &KnownProblem<'a>,
     causes: &mut Vec<Cause<'a>>,
     lead: Lead<'a>,
     real_name: &PackageName,
@@ -406,7 +406,7 @@ fn put_other<'a>(
 
 fn put_higher<'a>(
     alloc: Global,
-    inputs: &Inputs<'a>,
+    inputs: &KnownProblem<'a>,
     causes: &mut Vec<Cause<'a>>,
     lead: Lead<'a>,
     real_name: &PackageName,

@@ -8,10 +8,10 @@
 //! What is hard is to bring few axioms and to miss none. Each instance has a first term with just one state
 //! (`first_pair`, `specs/Pairs`), and belongs to that pair of a vertex and a state: while the vertex doesn't have the
 //! state, the instance isn't broken. So `axioms_at` gives the instances of one pair, and only those of pairs that stand
-//! alone are ever needed. What it gives is found from what the pair's vertex names, with no pass over all owners.
-//! What requirements match is kept by name and requirement (`matched.rt`), so that none is matched twice against one
-//! name, and what owners bring is found by name (`called.rt`, `indexed.rt`) where a pass over it would be made for each
-//! of its parts; nothing that is stated here rests on what is kept.
+//! alone are ever needed. What it gives is found from what the pair's vertex names, with no pass over all owners. What
+//! requirements match is kept by name and requirement (`matched.rt`), so that none is matched twice against one name,
+//! and what owners bring is found by name (`called.rt`, `indexed.rt`) where a pass over it would be made for each of
+//! its parts; nothing that is stated here rests on what is kept.
 //!
 //! A layer above may rely on the laws at the end of this file. An assignment that breaks none of the entries for the
 //! pairs that hold in it breaks no instance at all; a valid selection breaks no instance over numbers. At most one term
@@ -24,8 +24,8 @@ mod asked;
 mod called;
 mod causes;
 mod indexed;
-mod inputs;
 mod instances;
+mod known_problem;
 mod leading;
 mod listing;
 mod lists;
@@ -35,11 +35,11 @@ mod matched;
 mod narrowing;
 mod on_package;
 mod pairing;
-mod parts;
 mod space_tests;
 mod spaces;
 mod states;
 mod table;
+mod tested_terms;
 
 ghost use Rattle.std.specs.Prelude.{◌≡◌, ◌≢◌, ℕ, List, Some, map};
 ghost use Rattle.incompatibilities.specs.Incompatibilities.{Assignment, Breaks, Terms};
@@ -66,8 +66,8 @@ ghost use Rattle.encoding.specs.Assignments.{IsOf, IsSettled, state_of};
 
 pub use adding::{axioms_at, axioms_of};
 pub use called::{ByName, Numbered};
-pub use inputs::Inputs;
 pub use instances::instance;
+pub use known_problem::KnownProblem;
 pub use listing::states_of;
 pub use lookups::dependency_at;
 pub use matched::Matched;

@@ -4,10 +4,10 @@ ghost use Rattle.std.specs.Prelude.{◌≡◌, ◌++◌, ◌∷◌, [], IfOk, On
 ghost use Rattle.semver.specs.Identifiers.{parts_of};
 ghost use Rattle.classes.specs.Classes.{class_view};
 ghost use Rattle.model.specs.Vertices.{absent, dep, in_class, pkg, present, space, version};
-ghost use Rattle.encoding.specs.Inputs.{problem};
+ghost use Rattle.encoding.specs.KnownProblem.{problem};
 ghost use Rattle.vertices.specs.RefViews.{owner_ref_view, state_ref_views, vertex_ref_view};
 
-use crate::inputs::Inputs;
+use crate::known_problem::KnownProblem;
 use crate::spaces::classes_at;
 use classes::Class;
 use features::PackageName;
@@ -19,7 +19,7 @@ use vertices::{OwnerRef, StateRef, VertexRef};
 /// The states of a vertex: `absent`, and the others in the order of their numbers.
 pub fn states_of<'a>(
     alloc: Global,
-    inputs: &Inputs<'a>,
+    inputs: &KnownProblem<'a>,
     vertex: &VertexRef<'a>,
 ) -> Result<Vec<StateRef<'a>>, AllocError>
     ensures { IfOk result (λ v. state_ref_views v.items ≡ space (problem inputs.now) (vertex_ref_view vertex.now)) }
@@ -48,7 +48,7 @@ fn two_states<'a>(alloc: Global) -> Result<Vec<StateRef<'a>>, AllocError>
 /// Absent, and the versions of the class.
 fn version_states<'a>(
     alloc: Global,
-    inputs: &Inputs<'a>,
+    inputs: &KnownProblem<'a>,
     name: &PackageName,
     class: Class,
 ) -> Result<Vec<StateRef<'a>>, AllocError>
@@ -76,7 +76,7 @@ fn with_versions<'a>(
 /// Absent, and the classes that the dependency may lead to.
 fn class_states<'a>(
     alloc: Global,
-    inputs: &Inputs<'a>,
+    inputs: &KnownProblem<'a>,
     owner: &OwnerRef<'_>,
     dependency: usize,
 ) -> Result<Vec<StateRef<'a>>, AllocError>

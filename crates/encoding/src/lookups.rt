@@ -6,16 +6,16 @@ ghost use Rattle.features.specs.Views.{dependency_view, dependency_views, brings
 ghost use Rattle.features.specs.EntryViews.{entry_views};
 ghost use Rattle.model.specs.Vertices.{owner_brings};
 ghost use Rattle.refutations.specs.Causes.{dependency_at, entries_of};
-ghost use Rattle.encoding.specs.Inputs.{problem};
+ghost use Rattle.encoding.specs.KnownProblem.{problem};
 ghost use Rattle.vertices.specs.RefViews.{owner_ref_view};
 
-use crate::inputs::Inputs;
+use crate::known_problem::KnownProblem;
 use features::{Dependency, Entry, FeatureName, PackageName, Summary};
 use semver::Version;
 use vertices::OwnerRef;
 
 /// What an owner brings: nothing where it is neither the root nor a candidate.
-pub(crate) fn brings<'a>(inputs: &Inputs<'a>, owner: &OwnerRef<'_>) -> Option<&'a Summary>
+pub(crate) fn brings<'a>(inputs: &KnownProblem<'a>, owner: &OwnerRef<'_>) -> Option<&'a Summary>
     ensures { brings_view result ≡ owner_brings (problem inputs.now) (owner_ref_view owner.now) }
 {
     let held = inputs.held();
@@ -23,7 +23,10 @@ pub(crate) fn brings<'a>(inputs: &Inputs<'a>, owner: &OwnerRef<'_>) -> Option<&'
 }
 
 /// The dependencies of an owner.
-pub(crate) fn dependencies_of<'a>(inputs: &Inputs<'a>, owner: &OwnerRef<'_>) -> &'a [Dependency]
+pub(crate) fn dependencies_of<'a>(
+    inputs: &KnownProblem<'a>,
+    owner: &OwnerRef<'_>,
+) -> &'a [Dependency]
     ensures { dependency_views result.now
         ≡ (owner_brings (problem inputs.now) (owner_ref_view owner.now)).dependencies }
 {
@@ -33,7 +36,7 @@ pub(crate) fn dependencies_of<'a>(inputs: &Inputs<'a>, owner: &OwnerRef<'_>) -> 
 
 /// The dependency of an owner that has this number.
 pub fn dependency_at<'a>(
-    inputs: &Inputs<'a>,
+    inputs: &KnownProblem<'a>,
     owner: &OwnerRef<'_>,
     number: usize,
 ) -> Option<&'a Dependency>
@@ -46,7 +49,7 @@ pub fn dependency_at<'a>(
 
 /// The entries of a feature of a version.
 pub(crate) fn entries_of<'a>(
-    inputs: &Inputs<'a>,
+    inputs: &KnownProblem<'a>,
     name: &PackageName,
     version: &Version,
     feature: &FeatureName,

@@ -10,12 +10,12 @@ ghost use Rattle.refutations.specs.Listed.{classes_at};
 ghost use Rattle.encoding.specs.GivenViews.{cause_views};
 ghost use Rattle.named_terms.specs.CauseViews.{cause_view};
 ghost use Rattle.encoding.specs.CausesAt.{causes_at};
-ghost use Rattle.encoding.specs.Inputs.{KnowsDefault, problem};
+ghost use Rattle.encoding.specs.KnownProblem.{KnowsDefault, problem};
 ghost use Rattle.encoding.specs.Pairs.{AreCausesAt};
 ghost use Rattle.vertices.specs.RefViews.{owner_ref_view, state_ref_view, vertex_ref_view};
 
 use crate::causes::{each_once, put_needs, put_version};
-use crate::inputs::Inputs;
+use crate::known_problem::KnownProblem;
 use crate::leading::{Lead, put_lead};
 use crate::lookups::dependencies_of;
 use crate::spaces::classes_at;
@@ -30,7 +30,7 @@ use vertices::{OwnerRef, StateRef, VertexRef};
 /// The causes whose instances are added once the vertex has the state, each once.
 pub fn causes_at<'a>(
     alloc: Global,
-    inputs: &Inputs<'a>,
+    inputs: &KnownProblem<'a>,
     vertex: VertexRef<'a>,
     state: StateRef<'a>,
 ) -> Result<IndexSet<Cause<'a>>, AllocError>
@@ -47,7 +47,7 @@ pub fn causes_at<'a>(
 
 fn put_causes<'a>(
     alloc: Global,
-    inputs: &Inputs<'a>,
+    inputs: &KnownProblem<'a>,
     causes: &mut Vec<Cause<'a>>,
     vertex: VertexRef<'a>,
     state: StateRef<'a>,
@@ -80,7 +80,7 @@ fn put_one<'a>(causes: &mut Vec<Cause<'a>>, cause: Cause<'a>) -> Result<(), Allo
 /// The root needs its dependencies, a feature versions that have it, an ask the feature where it leads.
 fn put_present<'a>(
     alloc: Global,
-    inputs: &Inputs<'a>,
+    inputs: &KnownProblem<'a>,
     causes: &mut Vec<Cause<'a>>,
     vertex: VertexRef<'a>,
 ) -> Result<(), AllocError>
@@ -106,7 +106,7 @@ fn put_present<'a>(
 /// What an ask gives in each class that its dependency may lead to.
 fn put_asks<'a>(
     alloc: Global,
-    inputs: &Inputs<'a>,
+    inputs: &KnownProblem<'a>,
     causes: &mut Vec<Cause<'a>>,
     name: &'a PackageName,
     version: &'a Version,
@@ -141,7 +141,7 @@ fn put_asks_in<'a>(
 /// What a package gives once a version is chosen.
 fn put_chosen<'a>(
     alloc: Global,
-    inputs: &Inputs<'a>,
+    inputs: &KnownProblem<'a>,
     causes: &mut Vec<Cause<'a>>,
     vertex: VertexRef<'a>,
     version: &'a Version,
@@ -161,7 +161,7 @@ fn put_chosen<'a>(
 /// What a dependency gives once it leads to a class.
 fn put_in_class<'a>(
     alloc: Global,
-    inputs: &Inputs<'a>,
+    inputs: &KnownProblem<'a>,
     causes: &mut Vec<Cause<'a>>,
     vertex: VertexRef<'a>,
     class: Class,

@@ -4,26 +4,26 @@ ghost use Rattle.std.specs.Prelude.{◌≡◌, ◌∷◌, true, false, map, IfOk
 ghost use Rattle.semver.specs.Identifiers.{parts_of};
 ghost use Rattle.classes.specs.Classes.{class_view};
 ghost use Rattle.features.specs.Views.{requirement_view};
-ghost use Rattle.encoding.specs.Inputs.{problem};
-ghost use Rattle.encoding.specs.Parts.{is_chosen, is_class};
+ghost use Rattle.encoding.specs.KnownProblem.{problem};
+ghost use Rattle.encoding.specs.TestedTerms.{is_chosen, is_class};
 ghost use Rattle.looking_up.specs.Matching.{is_lacking, is_left};
 ghost use Rattle.semver.specs.EvalViews.{matches_views};
 
-use crate::inputs::Inputs;
+use crate::known_problem::KnownProblem;
 use classes::{Class, is_matched};
 use features::{FeatureName, PackageName};
 use looking_up::is_left;
 use semver::{Version, VersionReq};
 use std::alloc::{AllocError, Global};
 
-#[tactic(auto, unfolding(crate::specs::Parts::is_chosen))]
+#[tactic(auto, unfolding(crate::specs::TestedTerms::is_chosen))]
 fn is_chosen(version: &Version, other: &Version) -> bool
     ensures { result ≡ is_chosen (parts_of version.now) (parts_of other.now) }
 {
     other == version
 }
 
-#[tactic(auto, unfolding(crate::specs::Parts::is_class))]
+#[tactic(auto, unfolding(crate::specs::TestedTerms::is_class))]
 fn is_class(class: Class, other: Class) -> bool
     ensures { result ≡ is_class (class_view class) (class_view other) }
 {
@@ -31,7 +31,7 @@ fn is_class(class: Class, other: Class) -> bool
 }
 
 fn is_lacking(
-    inputs: &Inputs<'_>,
+    inputs: &KnownProblem<'_>,
     name: &PackageName,
     feature: &FeatureName,
     version: &Version,
@@ -95,7 +95,7 @@ pub(crate) fn chosen_tests(
 /// Absent, and the versions that lack the feature.
 pub(crate) fn lacking_tests(
     alloc: Global,
-    inputs: &Inputs<'_>,
+    inputs: &KnownProblem<'_>,
     name: &PackageName,
     feature: &FeatureName,
     versions: &[Version],

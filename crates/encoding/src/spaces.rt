@@ -5,10 +5,10 @@ ghost use Rattle.classes.specs.Classes.{class_view};
 ghost use Rattle.features.specs.Views.{dependency_view};
 ghost use Rattle.model.specs.Vertices.{dep_classes};
 ghost use Rattle.refutations.specs.Listed.{classes_at};
-ghost use Rattle.encoding.specs.Inputs.{problem};
+ghost use Rattle.encoding.specs.KnownProblem.{problem};
 ghost use Rattle.vertices.specs.RefViews.{owner_ref_view};
 
-use crate::inputs::Inputs;
+use crate::known_problem::KnownProblem;
 use crate::lookups::dependency_at;
 use crate::matched::match_anew;
 use classes::Class;
@@ -19,7 +19,7 @@ use vertices::OwnerRef;
 /// The classes that a dependency of an owner may lead to, lowest first: none where there is no such dependency.
 pub(crate) fn classes_at(
     alloc: Global,
-    inputs: &Inputs<'_>,
+    inputs: &KnownProblem<'_>,
     owner: &OwnerRef<'_>,
     number: usize,
 ) -> Result<Vec<Class>, AllocError>
@@ -35,7 +35,7 @@ pub(crate) fn classes_at(
 /// The classes in which some candidate is matched, lowest first: those that are kept, else it is matched for them.
 pub fn classes_of<'a>(
     alloc: Global,
-    inputs: &Inputs<'a>,
+    inputs: &KnownProblem<'a>,
     dependency: &'a Dependency,
 ) -> Result<Vec<Class>, AllocError>
     ensures { IfOk result

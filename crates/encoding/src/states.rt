@@ -5,10 +5,10 @@ ghost use Rattle.semver.specs.Identifiers.{parts_of};
 ghost use Rattle.classes.specs.Classes.{class_view};
 ghost use Rattle.model.specs.Vertices.{Vertex, absent, dep, in_class, pkg, present, space, version};
 ghost use Rattle.encoding.specs.Assignments.{state_at};
-ghost use Rattle.encoding.specs.Inputs.{problem};
+ghost use Rattle.encoding.specs.KnownProblem.{problem};
 ghost use Rattle.vertices.specs.RefViews.{owner_ref_view, state_ref_view, vertex_ref_view};
 
-use crate::inputs::Inputs;
+use crate::known_problem::KnownProblem;
 use crate::spaces::classes_at;
 use crate::table::Table;
 use classes::Class;
@@ -19,7 +19,7 @@ use std::alloc::{AllocError, Global};
 use vertices::{OwnerRef, StateRef, VertexRef};
 
 /// A vertex has at least one state, and no more than a set may have.
-pub fn spaces_are_small(inputs: &Inputs<'_>)
+pub fn spaces_are_small(inputs: &KnownProblem<'_>)
     ensures { (v : Vertex)
         → (1 ≤ length (space (problem inputs.now) v)) × (length (space (problem inputs.now) v) ≤ 65536) }
 {
@@ -29,7 +29,7 @@ pub fn spaces_are_small(inputs: &Inputs<'_>)
 /// How many states the vertex has, absent among them.
 pub fn space_of(
     alloc: Global,
-    inputs: &Inputs<'_>,
+    inputs: &KnownProblem<'_>,
     vertex: &VertexRef<'_>,
 ) -> Result<usize, AllocError>
     ensures length { IfOk result (λ n. n ≡ length (space (problem inputs.now) (vertex_ref_view vertex.now))) }
@@ -42,7 +42,7 @@ pub fn space_of(
 /// How many states the vertex with a number has, absent among them; 0 where no vertex has it.
 pub fn space_at(
     alloc: Global,
-    inputs: &Inputs<'_>,
+    inputs: &KnownProblem<'_>,
     table: &Table<'_>,
     number: usize,
 ) -> Result<u32, AllocError>
@@ -58,7 +58,7 @@ pub fn space_at(
 
 fn states_counted(
     alloc: Global,
-    inputs: &Inputs<'_>,
+    inputs: &KnownProblem<'_>,
     vertex: &VertexRef<'_>,
 ) -> Result<usize, AllocError>
     ensures { IfOk result (λ n. n ≡ length (space (problem inputs.now) (vertex_ref_view vertex.now))) }
@@ -75,7 +75,7 @@ fn states_counted(
 }
 
 /// Absent, and the versions of the class.
-fn versions_counted(inputs: &Inputs<'_>, name: &PackageName, class: Class) -> usize
+fn versions_counted(inputs: &KnownProblem<'_>, name: &PackageName, class: Class) -> usize
     ensures { result ≡ length (space (problem inputs.now) (pkg name.now (class_view class))) }
 {
     spaces_are_small(inputs);
@@ -85,7 +85,7 @@ fn versions_counted(inputs: &Inputs<'_>, name: &PackageName, class: Class) -> us
 /// Absent, and the classes that the dependency may lead to.
 fn classes_counted(
     alloc: Global,
-    inputs: &Inputs<'_>,
+    inputs: &KnownProblem<'_>,
     owner: &OwnerRef<'_>,
     dependency: usize,
 ) -> Result<usize, AllocError>
@@ -99,7 +99,7 @@ fn classes_counted(
 /// The state of the vertex that has this number: absent where none has it.
 pub fn state_at<'a>(
     alloc: Global,
-    inputs: &Inputs<'a>,
+    inputs: &KnownProblem<'a>,
     vertex: &VertexRef<'a>,
     number: usize,
 ) -> Result<StateRef<'a>, AllocError>
@@ -118,7 +118,7 @@ pub fn state_at<'a>(
 
 /// The state of a package in a class: its versions follow absent.
 fn version_state<'a>(
-    inputs: &Inputs<'a>,
+    inputs: &KnownProblem<'a>,
     name: &PackageName,
     class: Class,
     number: usize,
@@ -132,7 +132,7 @@ fn version_state<'a>(
 /// The state of a dependency: the classes that it may lead to follow absent.
 fn class_state<'a>(
     alloc: Global,
-    inputs: &Inputs<'a>,
+    inputs: &KnownProblem<'a>,
     owner: &OwnerRef<'_>,
     dependency: usize,
     number: usize,

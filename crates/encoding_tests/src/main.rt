@@ -6,10 +6,10 @@ mod lines;
 mod loading;
 
 ghost use Rattle.std.specs.Prelude.{◌≡◌};
-ghost use Rattle.encoding.specs.Inputs.{KnowsDefault};
+ghost use Rattle.encoding.specs.KnownProblem.{KnowsDefault};
 
 use catalogue::Catalogue;
-use encoding::{Inputs, Matched};
+use encoding::{KnownProblem, Matched};
 use features::FeatureName;
 use full_encoding::Encoding;
 use lines::{all_lines, pair_lines, vertex_lines};
@@ -50,10 +50,10 @@ fn inputs_of<'a>(
     manifest: &'a Manifest,
     catalogue: &'a Catalogue,
     default: &'a FeatureName,
-) -> Inputs<'a>
+) -> KnownProblem<'a>
     ensures { result.default ≡ default.entry }
 {
-    Inputs {
+    KnownProblem {
         manifest,
         catalogue,
         default,
@@ -62,7 +62,7 @@ fn inputs_of<'a>(
 }
 
 /// Tells what there is where every vertex has a number first. The instances of all pairs.
-fn tell_whole(rt: &HostRuntime, inputs: Inputs<'_>) -> io::Result<Vec<String>>
+fn tell_whole(rt: &HostRuntime, inputs: KnownProblem<'_>) -> io::Result<Vec<String>>
     requires { KnowsDefault inputs }
 {
     let mut encoding = Encoding::new(rt.alloc(), inputs)?;
@@ -74,7 +74,7 @@ fn tell_whole(rt: &HostRuntime, inputs: Inputs<'_>) -> io::Result<Vec<String>>
 }
 
 /// The instances of all pairs, where vertices get numbers as instances speak of them.
-fn on_demand(alloc: Global, inputs: Inputs<'_>) -> Result<Vec<String>, AllocError>
+fn on_demand(alloc: Global, inputs: KnownProblem<'_>) -> Result<Vec<String>, AllocError>
     requires { KnowsDefault inputs }
 {
     let mut encoding = Encoding::on_demand(alloc, inputs)?;

@@ -28,8 +28,7 @@ pub struct DepName {
     pub optional: bool,
 }
 
-/// The fault of a feature table: the lowest of its faults, at the first feature that has it by the bytes of the
-/// names.
+/// The fault of a feature table: the lowest of its faults, at the first feature that has it by the bytes of the names.
 #[derive(Debug, Drop, PartialEq, Error)]
 pub enum FeatureFault {
     #[error("out of memory")]

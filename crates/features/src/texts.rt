@@ -30,8 +30,7 @@ impl<'a> Texts<'a> {
     }
 
     /// The texts of a list. Where there are more than a few, the tree is made at once: those of a map rise, so that
-    /// none
-    /// need be looked up.
+    /// none need be looked up.
     pub(crate) fn of(alloc: Global, texts: Vec<&'a str>) -> Result<Texts<'a>, AllocError>
         ensures { IfOk result (λ t. (d : List ℕ) → has_text (texts_in t) d ≡ has_text texts.entry.items d) }
     {

@@ -8,13 +8,13 @@ ghost use Rattle.features.specs.Views.{dependency_view};
 ghost use Rattle.lockfile.specs.Views.{package_view, package_views};
 ghost use Rattle.model.specs.Selection.{IsValidSelection};
 ghost use Rattle.model.specs.Vertices.{same_class};
-ghost use Rattle.encoding.specs.Inputs.{problem};
+ghost use Rattle.encoding.specs.KnownProblem.{problem};
 ghost use Rattle.vertices.specs.RefViews.{owner_ref_view};
 ghost use Rattle.model.specs.WellFormed.{IsContent};
 ghost use Rattle.following.specs.Found.{beside, is_locked, is_owner, is_sourceless, led_to};
 
 use classes::Class;
-use encoding::Inputs;
+use encoding::KnownProblem;
 use features::{Dependency, PackageName};
 use lockfile::Package;
 use selection::target;
@@ -22,7 +22,7 @@ use std::cmp::Ordering;
 use vertices::OwnerRef;
 
 /// The first package without a source: the root is the only one in a valid selection.
-fn root_in<'a>(inputs: &Inputs<'_>, content: &'a [Package]) -> Option<&'a Package>
+fn root_in<'a>(inputs: &KnownProblem<'_>, content: &'a [Package]) -> Option<&'a Package>
     requires { IsValidSelection (problem inputs.now) (package_views content.now) }
     ensures { option_map (λ p. p.now) result ≡ find (λ p. is_sourceless (package_view p)) content.entry.now }
 {
@@ -98,7 +98,7 @@ fn is_same(a: Class, b: Class) -> bool
 
 /// The package that an owner is.
 fn owner_in<'a>(
-    inputs: &Inputs<'_>,
+    inputs: &KnownProblem<'_>,
     content: &'a [Package],
     owner: &OwnerRef<'_>,
 ) -> Option<&'a Package>
@@ -114,7 +114,7 @@ fn owner_in<'a>(
 
 /// The package that a dependency of an owner leads to, if it is enabled.
 pub(crate) fn led_to<'a>(
-    inputs: &Inputs<'_>,
+    inputs: &KnownProblem<'_>,
     content: &'a [Package],
     owner: &OwnerRef<'_>,
     dependency: &Dependency,

@@ -5,19 +5,19 @@ ghost use Rattle.semver.specs.Identifiers.{parts_of};
 ghost use Rattle.classes.specs.Classes.{class_view};
 ghost use Rattle.model.specs.Vertices.{has_state, pkg, same_class, space};
 ghost use Rattle.model.specs.Vertices as model;
-ghost use Rattle.encoding.specs.Inputs.{problem};
+ghost use Rattle.encoding.specs.KnownProblem.{problem};
 ghost use Rattle.following.specs.Found.{IsNumberOf};
 
 use catalogue::place_of;
 use classes::Class;
-use encoding::Inputs;
+use encoding::KnownProblem;
 use features::PackageName;
 use looking_up::below;
 use semver::Version;
 
 /// The number of a version among the states of a name in its class.
 pub(crate) fn version_number(
-    inputs: &Inputs<'_>,
+    inputs: &KnownProblem<'_>,
     name: &PackageName,
     class: Class,
     version: &Version,

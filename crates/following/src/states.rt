@@ -7,26 +7,26 @@ ghost use Rattle.model.specs.Assignment.{Has};
 ghost use Rattle.model.specs.Selection.{IsValidSelection};
 ghost use Rattle.model.specs.Vertices.{State, dep, pkg, space};
 ghost use Rattle.encoding.specs.Assignments.{state_at};
-ghost use Rattle.encoding.specs.Inputs.{problem};
+ghost use Rattle.encoding.specs.KnownProblem.{problem};
 ghost use Rattle.vertices.specs.RefViews.{owner_ref_view, vertex_ref_view};
 ghost use Rattle.following.specs.Found.{IsStateIn};
 
 use crate::in_content::{led_to, package_in};
 use crate::numbers::{class_number, version_number};
 use classes::Class;
-use encoding::{Inputs, classes_of, dependency_at, spaces_are_small};
+use encoding::{KnownProblem, classes_of, dependency_at, spaces_are_small};
 use features::PackageName;
 use lockfile::{LockContent, Package};
 use std::alloc::{AllocError, Global};
 use vertices::{OwnerRef, VertexRef};
 
-/// The number of the state that a vertex has in a valid selection; `None` only where it is absent there, or has no
-/// such state.
+/// The number of the state that a vertex has in a valid selection; `None` only where it is absent there, or has no such
+/// state.
 ///
 /// A vertex that is absent may get a number all the same. The only error is want of memory.
 pub fn state_in(
     alloc: Global,
-    inputs: &Inputs<'_>,
+    inputs: &KnownProblem<'_>,
     content: &LockContent,
     vertex: &VertexRef<'_>,
 ) -> Result<Option<u32>, AllocError>
@@ -47,7 +47,7 @@ pub fn state_in(
 
 /// The state of a name and a class: the version of its package.
 fn version_in(
-    inputs: &Inputs<'_>,
+    inputs: &KnownProblem<'_>,
     content: &[Package],
     name: &PackageName,
     class: Class,
@@ -62,7 +62,7 @@ fn version_in(
 /// The state of a dependency of an owner: the class of the package that it leads to.
 fn class_in(
     alloc: Global,
-    inputs: &Inputs<'_>,
+    inputs: &KnownProblem<'_>,
     content: &[Package],
     owner: &OwnerRef<'_>,
     number: usize,

@@ -3,10 +3,10 @@ use Rattle.std.specs.Prelude.{◌≡◌, ◌++◌, [], ℕ, List, Option, None, 
 use Rattle.std.specs.Prelude.{option_and_then, slice_get, nat_lt, if◌then◌else◌}
 use Rattle.model.specs.Content.{Problem}
 use Rattle.model.specs.Vertices.{State, Vertex, space}
-use Rattle.encoding.specs.Inputs.{KnowsDefault, problem}
+use Rattle.encoding.specs.KnownProblem.{KnowsDefault, problem}
 use Rattle.encoding.specs.Numberings.{AddsOnly, IsNumbering, Numbering}
 use Rattle.encoding.specs.Pairs.{Given, IsCauseAt, IsGivenAt, IsSpokenOf, Pair}
-use Rattle.encoding.specs.declared.inputs.Inputs.{Inputs}
+use Rattle.encoding.specs.declared.known_problem.KnownProblem.{KnownProblem}
 
 pub record EncodingView : Type 0 where
   pub problem : Problem
@@ -15,7 +15,7 @@ pub record EncodingView : Type 0 where
   pub waiting : List Vertex
 
 -- a vertex counts once the size of its space is known
-abbrev pub encoding_view : Inputs → Numbering → List ℕ → EncodingView
+abbrev pub encoding_view : KnownProblem → Numbering → List ℕ → EncodingView
 encoding_view i vs spaces =
     record { problem = problem i; vertices = take (length spaces) vs; waiting = drop (length spaces) vs }
 
@@ -27,7 +27,7 @@ spoken e = e.vertices ++ e.waiting
 abbrev pub AreSpaces : Problem → Numbering → List ℕ → Type 0
 AreSpaces q vs spaces = spaces ≡ map (λ v. length (space q v)) (take (length spaces) vs)
 
-pub record IsEncoding (i : Inputs) (vs : Numbering) (sizes : List ℕ) : Type 0 where
+pub record IsEncoding (i : KnownProblem) (vs : Numbering) (sizes : List ℕ) : Type 0 where
   pub default : KnowsDefault i
   pub numbering : IsNumbering (problem i) vs
   pub spaces : AreSpaces (problem i) vs sizes

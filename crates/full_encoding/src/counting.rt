@@ -2,7 +2,7 @@
 
 ghost use Rattle.std.specs.Prelude.{◌≡◌, IfOk, is_some, length, option_map, slice_get, take};
 ghost use Rattle.encoding.specs.GivenViews.{given_views};
-ghost use Rattle.encoding.specs.Inputs.{problem};
+ghost use Rattle.encoding.specs.KnownProblem.{problem};
 ghost use Rattle.encoding.specs.Numberings.{IsGrown, IsWhole, number_in};
 ghost use Rattle.vertices.specs.RefViews.{state_ref_view, vertex_ref_view};
 ghost use Rattle.full_encoding.specs.Encodings.{AddsFor, AreSpaces, IsEncoding, IsGivenIf, below, encoding_view};
@@ -12,7 +12,7 @@ ghost use Rattle.full_encoding.specs.Everywhere.{IsGivenAll};
 use crate::everywhere::all_axioms;
 use crate::numbering::number_all;
 use crate::spaces::put_spaces;
-use encoding::{Inputs, Table, axioms_at, state_at};
+use encoding::{KnownProblem, Table, axioms_at, state_at};
 use incompatibilities::Incompatibility;
 use std::alloc::{AllocError, Global};
 use version_sets::States;
@@ -56,7 +56,13 @@ pub(crate) fn vertex_below<'a>(
 }
 
 /// Whether there is a vertex with a number that has a state with a number.
-fn has(inputs: &Inputs<'_>, table: &Table<'_>, spaces: &[u32], vertex: usize, state: usize) -> bool
+fn has(
+    inputs: &KnownProblem<'_>,
+    table: &Table<'_>,
+    spaces: &[u32],
+    vertex: usize,
+    state: usize,
+) -> bool
     requires { AreSpaces (problem inputs.now) table.now spaces.now }
     ensures { result ≡ is_some (pair_at (encoding_view inputs.now table.now spaces.now) vertex state) }
 {
@@ -69,7 +75,7 @@ fn has(inputs: &Inputs<'_>, table: &Table<'_>, spaces: &[u32], vertex: usize, st
 /// The state with a number, of the vertex with a number.
 pub(crate) fn value_of<'a>(
     alloc: Global,
-    inputs: &Inputs<'a>,
+    inputs: &KnownProblem<'a>,
     table: &Table<'a>,
     spaces: &[u32],
     vertex: usize,
@@ -91,7 +97,7 @@ pub(crate) fn value_of<'a>(
 /// The instances of a vertex and a state, by their numbers.
 pub(crate) fn pair_axioms<'a, S: States + Drop>(
     alloc: Global,
-    inputs: &Inputs<'a>,
+    inputs: &KnownProblem<'a>,
     table: &mut Table<'a>,
     spaces: &mut Vec<u32>,
     vertex: usize,
@@ -117,7 +123,7 @@ pub(crate) fn pair_axioms<'a, S: States + Drop>(
 /// All instances, once every vertex has a number.
 pub(crate) fn every_axiom<'a, S: States + Drop>(
     alloc: Global,
-    inputs: &Inputs<'a>,
+    inputs: &KnownProblem<'a>,
     table: &mut Table<'a>,
     spaces: &mut Vec<u32>,
 ) -> Result<Vec<(Kind, Incompatibility<S>)>, AllocError>

@@ -5,13 +5,13 @@ ghost use Rattle.model.specs.Axioms.{IsVertex};
 ghost use Rattle.model.specs.Vertices.{State, Vertex, space};
 ghost use Rattle.vertices.specs.RefViews.{state_ref_view, state_ref_views, vertex_ref_view};
 ghost use Rattle.encoding.specs.GivenViews.{given_views};
-ghost use Rattle.encoding.specs.Inputs.{KnowsDefault, problem};
+ghost use Rattle.encoding.specs.KnownProblem.{KnowsDefault, problem};
 ghost use Rattle.encoding.specs.Numberings.{IsGrown, IsNumbering, IsWhole};
 ghost use Rattle.encoding.specs.Pairs.{Pair};
 ghost use Rattle.full_encoding.specs.Everywhere.{IsGivenAll, IsGivenFor, pairs_of};
 
 use catalogue::catalogues_are_well_formed;
-use encoding::{Inputs, Table, axioms_of, states_of};
+use encoding::{KnownProblem, Table, axioms_of, states_of};
 use incompatibilities::Incompatibility;
 use std::alloc::{AllocError, Global};
 use version_sets::States;
@@ -20,7 +20,7 @@ use vertices::{Kind, StateRef, VertexRef};
 /// The instances of all pairs of a vertex and a state, where every vertex has a number.
 pub(crate) fn all_axioms<'a, S: States + Drop>(
     alloc: Global,
-    inputs: &Inputs<'a>,
+    inputs: &KnownProblem<'a>,
     table: &mut Table<'a>,
 ) -> Result<Vec<(Kind, Incompatibility<S>)>, AllocError>
     requires default { KnowsDefault inputs.now }
@@ -41,7 +41,7 @@ pub(crate) fn all_axioms<'a, S: States + Drop>(
 /// The instances of the vertex with a number, in each of its states.
 fn put_vertex<'a, S: States + Drop>(
     alloc: Global,
-    inputs: &Inputs<'a>,
+    inputs: &KnownProblem<'a>,
     table: &mut Table<'a>,
     given: &mut Vec<(Kind, Incompatibility<S>)>,
     number: usize,
@@ -66,7 +66,7 @@ fn put_vertex<'a, S: States + Drop>(
 /// name.
 fn put_each<'a, S: States + Drop>(
     alloc: Global,
-    inputs: &Inputs<'a>,
+    inputs: &KnownProblem<'a>,
     table: &mut Table<'a>,
     given: &mut Vec<(Kind, Incompatibility<S>)>,
     vertex: VertexRef<'a>,
@@ -87,7 +87,7 @@ fn put_each<'a, S: States + Drop>(
 
 fn put_states<'a, S: States + Drop>(
     alloc: Global,
-    inputs: &Inputs<'a>,
+    inputs: &KnownProblem<'a>,
     table: &mut Table<'a>,
     given: &mut Vec<(Kind, Incompatibility<S>)>,
     vertex: VertexRef<'a>,
@@ -114,7 +114,7 @@ fn put_states<'a, S: States + Drop>(
 /// The instances of a vertex in a state.
 fn put_state<'a, S: States + Drop>(
     alloc: Global,
-    inputs: &Inputs<'a>,
+    inputs: &KnownProblem<'a>,
     table: &mut Table<'a>,
     given: &mut Vec<(Kind, Incompatibility<S>)>,
     vertex: VertexRef<'a>,

@@ -9,7 +9,7 @@ ghost use Rattle.manifest.specs.Manifests.{asked_by};
 ghost use Rattle.model.specs.Summary.{asked_of_target};
 ghost use Rattle.model.specs.Vertices.{ask, version_of};
 ghost use Rattle.encoding.specs.Called.{called_so, numbered_from, numbered_views};
-ghost use Rattle.encoding.specs.Inputs.{KnowsDefault, problem};
+ghost use Rattle.encoding.specs.KnownProblem.{KnowsDefault, problem};
 ghost use Rattle.vertices.specs.RefViews.{owner_ref_view, vertex_ref_view};
 ghost use Rattle.full_encoding.specs.Everything.{ask_if, asked_of, each_from, feature_of, first_feature, named};
 ghost use Rattle.full_encoding.specs.Everything.{of_dependency, of_entry, of_feature, of_name, of_root, of_table};
@@ -17,7 +17,7 @@ ghost use Rattle.full_encoding.specs.Everything.{of_version};
 ghost use Rattle.full_encoding.specs.Views.{vertex_views};
 
 use classes::Class;
-use encoding::{ByName, Inputs, Numbered};
+use encoding::{ByName, KnownProblem, Numbered};
 use features::{Dependency, Entry, FeatureName, FeatureTable, PackageName, Summary};
 use semver::Version;
 use std::alloc::{AllocError, Global};
@@ -33,7 +33,7 @@ struct Release<'a> {
 /// The vertices of the root, and those of the candidates of each name.
 pub(crate) fn named<'a>(
     alloc: Global,
-    inputs: &Inputs<'a>,
+    inputs: &KnownProblem<'a>,
 ) -> Result<Vec<VertexRef<'a>>, AllocError>
     requires default { KnowsDefault inputs.now }
     ensures { IfOk result (λ vs. vertex_views vs.items ≡ named (problem inputs.now)) }
@@ -47,7 +47,7 @@ pub(crate) fn named<'a>(
 /// The root, its dependencies, and what the entries of its features ask these for.
 fn put_root<'a>(
     alloc: Global,
-    inputs: &Inputs<'a>,
+    inputs: &KnownProblem<'a>,
     vertices: &mut Vec<VertexRef<'a>>,
 ) -> Result<(), AllocError>
     requires default { KnowsDefault inputs.now }
@@ -62,7 +62,7 @@ fn put_root<'a>(
 }
 
 fn put_rows<'a>(
-    inputs: &Inputs<'a>,
+    inputs: &KnownProblem<'a>,
     vertices: &mut Vec<VertexRef<'a>>,
     called: &ByName<'a>,
     table: &'a FeatureTable,
@@ -77,7 +77,7 @@ fn put_rows<'a>(
 }
 
 fn put_row<'a>(
-    inputs: &Inputs<'a>,
+    inputs: &KnownProblem<'a>,
     vertices: &mut Vec<VertexRef<'a>>,
     called: &ByName<'a>,
     entries: &'a [Entry],
@@ -94,7 +94,7 @@ fn put_row<'a>(
 /// The candidates of each name.
 fn put_names<'a>(
     alloc: Global,
-    inputs: &Inputs<'a>,
+    inputs: &KnownProblem<'a>,
     vertices: &mut Vec<VertexRef<'a>>,
     names: &'a [PackageName],
 ) -> Result<(), AllocError>
@@ -116,7 +116,7 @@ fn put_names<'a>(
 
 fn put_versions<'a>(
     alloc: Global,
-    inputs: &Inputs<'a>,
+    inputs: &KnownProblem<'a>,
     vertices: &mut Vec<VertexRef<'a>>,
     name: &'a PackageName,
     versions: &'a [Version],
@@ -134,7 +134,7 @@ fn put_versions<'a>(
 /// A version in its class, and what it brings.
 fn put_version<'a>(
     alloc: Global,
-    inputs: &Inputs<'a>,
+    inputs: &KnownProblem<'a>,
     vertices: &mut Vec<VertexRef<'a>>,
     release: Release<'a>,
 ) -> Result<(), AllocError>
@@ -152,7 +152,7 @@ fn put_version<'a>(
 /// The dependencies of a version, and its features.
 fn put_brought<'a>(
     alloc: Global,
-    inputs: &Inputs<'a>,
+    inputs: &KnownProblem<'a>,
     vertices: &mut Vec<VertexRef<'a>>,
     release: Release<'a>,
     brings: &'a Summary,
@@ -171,7 +171,7 @@ fn put_brought<'a>(
 }
 
 fn put_table<'a>(
-    inputs: &Inputs<'a>,
+    inputs: &KnownProblem<'a>,
     vertices: &mut Vec<VertexRef<'a>>,
     release: Release<'a>,
     called: &ByName<'a>,
@@ -190,7 +190,7 @@ fn put_table<'a>(
 
 /// A feature of a version, and what its entries ask for.
 fn put_feature<'a>(
-    inputs: &Inputs<'a>,
+    inputs: &KnownProblem<'a>,
     vertices: &mut Vec<VertexRef<'a>>,
     release: Release<'a>,
     called: &ByName<'a>,
@@ -213,7 +213,7 @@ fn put_feature<'a>(
 }
 
 fn put_entries<'a>(
-    inputs: &Inputs<'a>,
+    inputs: &KnownProblem<'a>,
     vertices: &mut Vec<VertexRef<'a>>,
     release: Release<'a>,
     called: &ByName<'a>,
@@ -230,7 +230,7 @@ fn put_entries<'a>(
 }
 
 fn put_entry<'a>(
-    inputs: &Inputs<'a>,
+    inputs: &KnownProblem<'a>,
     vertices: &mut Vec<VertexRef<'a>>,
     release: Release<'a>,
     called: &ByName<'a>,
@@ -300,7 +300,7 @@ fn put_each_ask<'a>(
 
 /// The features that an entry `d/g` or `d?/g` asks of the dependencies called d.
 fn put_asked<'a>(
-    inputs: &Inputs<'a>,
+    inputs: &KnownProblem<'a>,
     vertices: &mut Vec<VertexRef<'a>>,
     called: &ByName<'a>,
     entry: &'a Entry,
@@ -317,7 +317,7 @@ fn put_asked<'a>(
 }
 
 fn put_called<'a>(
-    inputs: &Inputs<'a>,
+    inputs: &KnownProblem<'a>,
     vertices: &mut Vec<VertexRef<'a>>,
     called: &ByName<'a>,
     name: &'a PackageName,
@@ -333,7 +333,7 @@ fn put_called<'a>(
 }
 
 fn put_each_asked<'a>(
-    inputs: &Inputs<'a>,
+    inputs: &KnownProblem<'a>,
     vertices: &mut Vec<VertexRef<'a>>,
     those: &[Numbered<'a>],
     asked: &'a FeatureName,
@@ -349,7 +349,7 @@ fn put_each_asked<'a>(
 
 /// Dependencies, and the features that they ask for.
 fn put_dependencies<'a>(
-    inputs: &Inputs<'a>,
+    inputs: &KnownProblem<'a>,
     vertices: &mut Vec<VertexRef<'a>>,
     owner: OwnerRef<'a>,
     dependencies: &'a [Dependency],
@@ -365,7 +365,7 @@ fn put_dependencies<'a>(
 }
 
 fn put_dependency<'a>(
-    inputs: &Inputs<'a>,
+    inputs: &KnownProblem<'a>,
     vertices: &mut Vec<VertexRef<'a>>,
     owner: OwnerRef<'a>,
     number: usize,
@@ -381,7 +381,7 @@ fn put_dependency<'a>(
 
 /// The features of a dependency's own list, and `default`.
 fn put_wanted<'a>(
-    inputs: &Inputs<'a>,
+    inputs: &KnownProblem<'a>,
     vertices: &mut Vec<VertexRef<'a>>,
     dependency: &'a Dependency,
 ) -> Result<(), AllocError>
@@ -400,7 +400,7 @@ fn put_wanted<'a>(
 }
 
 fn put_listed<'a>(
-    inputs: &Inputs<'a>,
+    inputs: &KnownProblem<'a>,
     vertices: &mut Vec<VertexRef<'a>>,
     name: &'a PackageName,
     features: &'a [FeatureName],
@@ -415,7 +415,7 @@ fn put_listed<'a>(
 }
 
 fn put_default<'a>(
-    inputs: &Inputs<'a>,
+    inputs: &KnownProblem<'a>,
     vertices: &mut Vec<VertexRef<'a>>,
     dependency: &'a Dependency,
 ) -> Result<(), AllocError>
@@ -432,7 +432,7 @@ fn put_default<'a>(
 
 /// A feature of a name, in the class of the name's first candidate.
 fn put_first<'a>(
-    inputs: &Inputs<'a>,
+    inputs: &KnownProblem<'a>,
     vertices: &mut Vec<VertexRef<'a>>,
     name: &'a PackageName,
     feature: &'a FeatureName,

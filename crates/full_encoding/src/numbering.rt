@@ -2,7 +2,7 @@
 
 ghost use Rattle.std.specs.Prelude.{OnOk};
 ghost use Rattle.std.specs.List.{flat_map};
-ghost use Rattle.encoding.specs.Inputs.{KnowsDefault, problem};
+ghost use Rattle.encoding.specs.KnownProblem.{KnowsDefault, problem};
 ghost use Rattle.encoding.specs.Numberings.{IsGrown, IsNumbering, IsWhole};
 ghost use Rattle.full_encoding.specs.Everything.{in_classes};
 ghost use Rattle.full_encoding.specs.Putting.{AreIn, IsPut};
@@ -11,14 +11,14 @@ ghost use Rattle.full_encoding.specs.Views.{vertex_views};
 use crate::naming::named;
 use crate::widening::widened;
 use catalogue::catalogues_are_well_formed;
-use encoding::{Inputs, Table};
+use encoding::{KnownProblem, Table};
 use std::alloc::{AllocError, Global};
 use vertices::VertexRef;
 
 /// Gives every vertex of the manifest and the loaded index a number, where it has none.
 pub(crate) fn number_all<'a>(
     alloc: Global,
-    inputs: &Inputs<'a>,
+    inputs: &KnownProblem<'a>,
     table: &mut Table<'a>,
 ) -> Result<(), AllocError>
     requires default { KnowsDefault inputs.now }
@@ -34,7 +34,11 @@ pub(crate) fn number_all<'a>(
 }
 
 /// Gives numbers to the features of the table in all classes of their names.
-fn widen<'a>(alloc: Global, inputs: &Inputs<'a>, table: &mut Table<'a>) -> Result<(), AllocError>
+fn widen<'a>(
+    alloc: Global,
+    inputs: &KnownProblem<'a>,
+    table: &mut Table<'a>,
+) -> Result<(), AllocError>
     ensures put { IsPut table.old table.new (flat_map (in_classes (problem inputs.now)) table.old) }
     ensures all { OnOk result (AreIn table.new (flat_map (in_classes (problem inputs.now)) table.old)) }
 {

@@ -1,16 +1,16 @@
 //! How many states vertices have, beside their numbers.
 
 ghost use Rattle.std.specs.Prelude.{◌≡◌, ◌+◌, ◌<◌, ◌≤◌, [], IfOk, OnOk, length, take, drop};
-ghost use Rattle.encoding.specs.Inputs.{problem};
+ghost use Rattle.encoding.specs.KnownProblem.{problem};
 ghost use Rattle.full_encoding.specs.Encodings.{AreSpaces};
 
-use encoding::{Inputs, Table, space_at};
+use encoding::{KnownProblem, Table, space_at};
 use std::alloc::{AllocError, Global};
 
 /// How many states each vertex of the table has.
 pub(crate) fn spaces_of(
     alloc: Global,
-    inputs: &Inputs<'_>,
+    inputs: &KnownProblem<'_>,
     table: &Table<'_>,
 ) -> Result<Vec<u32>, AllocError>
     ensures are { IfOk result (λ ss. AreSpaces (problem inputs.now) table.now ss.items) }
@@ -25,7 +25,7 @@ pub(crate) fn spaces_of(
 /// Puts how many states each vertex of the table has, where it isn't there yet.
 pub(crate) fn put_spaces(
     alloc: Global,
-    inputs: &Inputs<'_>,
+    inputs: &KnownProblem<'_>,
     table: &Table<'_>,
     spaces: &mut Vec<u32>,
 ) -> Result<(), AllocError>
@@ -42,7 +42,7 @@ pub(crate) fn put_spaces(
 
 fn put_space(
     alloc: Global,
-    inputs: &Inputs<'_>,
+    inputs: &KnownProblem<'_>,
     table: &Table<'_>,
     spaces: &mut Vec<u32>,
 ) -> Result<(), AllocError>

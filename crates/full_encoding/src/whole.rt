@@ -3,7 +3,7 @@
 ghost use Rattle.std.specs.Prelude.{◌≡◌, ◌∷◌, [], IfOk, length, option_map, slice_get};
 ghost use Rattle.model.specs.Vertices.{root, space};
 ghost use Rattle.encoding.specs.GivenViews.{given_views};
-ghost use Rattle.encoding.specs.Inputs.{KnowsDefault, problem};
+ghost use Rattle.encoding.specs.KnownProblem.{KnowsDefault, problem};
 ghost use Rattle.encoding.specs.Numberings.{IsGrown, IsNumbering, IsWhole, number_in};
 ghost use Rattle.vertices.specs.RefViews.{state_ref_view, vertex_ref_view};
 ghost use Rattle.full_encoding.specs.Encodings.{AddsFor, IsGivenIf, pair_at, spoken};
@@ -12,7 +12,7 @@ ghost use Rattle.full_encoding.specs.Everywhere.{IsGivenAll};
 use crate::counting::{every_axiom, number_below, pair_axioms, value_of, vertex_below};
 use crate::numbering::number_all;
 use crate::spaces::spaces_of;
-use encoding::{Inputs, Table};
+use encoding::{KnownProblem, Table};
 use incompatibilities::Incompatibility;
 use std::alloc::{AllocError, Global};
 use std::marker::Model;
@@ -26,7 +26,7 @@ use vertices::{Kind, StateRef, VertexRef};
 #[derive(Drop)]
 pub struct Encoding<'a> {
     alloc: Global,
-    inputs: Inputs<'a>,
+    inputs: KnownProblem<'a>,
     table: Table<'a>,
     /// At the place of each vertex, how many states it has. A vertex without a place here has no number yet.
     spaces: Vec<u32>,
@@ -47,7 +47,7 @@ impl<'a> Encoding<'a> {
     ///
     /// # Errors
     /// Memory is wanting.
-    pub fn new(alloc: Global, mut inputs: Inputs<'a>) -> Result<Encoding<'a>, AllocError>
+    pub fn new(alloc: Global, mut inputs: KnownProblem<'a>) -> Result<Encoding<'a>, AllocError>
         requires default { KnowsDefault inputs }
         ensures problem { IfOk result (λ e. e.problem ≡ problem inputs.entry) }
         ensures whole { IfOk result (λ e. IsWhole (problem inputs.entry) e.vertices) }
@@ -63,7 +63,7 @@ impl<'a> Encoding<'a> {
     ///
     /// # Errors
     /// Memory is wanting.
-    pub fn on_demand(alloc: Global, inputs: Inputs<'a>) -> Result<Encoding<'a>, AllocError>
+    pub fn on_demand(alloc: Global, inputs: KnownProblem<'a>) -> Result<Encoding<'a>, AllocError>
         requires default { KnowsDefault inputs }
         ensures problem { IfOk result (λ e. e.problem ≡ problem inputs.entry) }
         ensures root { IfOk result (λ e. e.vertices ≡ root ∷ []) }
@@ -75,7 +75,11 @@ impl<'a> Encoding<'a> {
     }
 
     /// The encoding in which the vertices of a table have their numbers.
-    fn of(alloc: Global, inputs: Inputs<'a>, table: Table<'a>) -> Result<Encoding<'a>, AllocError>
+    fn of(
+        alloc: Global,
+        inputs: KnownProblem<'a>,
+        table: Table<'a>,
+    ) -> Result<Encoding<'a>, AllocError>
         requires default { KnowsDefault inputs }
         requires numbering { IsNumbering (problem inputs) table }
         ensures problem { IfOk result (λ e. e.problem ≡ problem inputs.entry) }

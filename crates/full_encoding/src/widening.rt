@@ -6,14 +6,14 @@ ghost use Rattle.semver.specs.Identifiers.{parts_of};
 ghost use Rattle.classes.specs.Classes.{class_view};
 ghost use Rattle.model.specs.Vertices.{Vertex, feat, same_class};
 ghost use Rattle.looking_up.specs.Ranges.{AreRising};
-ghost use Rattle.encoding.specs.Inputs.{problem};
+ghost use Rattle.encoding.specs.KnownProblem.{problem};
 ghost use Rattle.vertices.specs.RefViews.{vertex_ref_view};
 ghost use Rattle.full_encoding.specs.Everything.{classes_in, each_feature, in_classes};
 ghost use Rattle.full_encoding.specs.Runs.{IsFirstRun};
 ghost use Rattle.full_encoding.specs.Views.{vertex_views};
 
 use classes::Class;
-use encoding::{Inputs, Table};
+use encoding::{KnownProblem, Table};
 use features::{FeatureName, PackageName};
 use looking_up::of_class;
 use semver::Version;
@@ -23,7 +23,7 @@ use vertices::VertexRef;
 /// The features in the other classes of their names. Each costs a search among its name's versions.
 pub(crate) fn widened<'a>(
     alloc: Global,
-    inputs: &Inputs<'a>,
+    inputs: &KnownProblem<'a>,
     table: &Table<'a>,
 ) -> Result<Vec<VertexRef<'a>>, AllocError>
     ensures { IfOk result (λ vs. vertex_views vs.items ≡ flat_map (in_classes (problem inputs.now)) table.now) }
@@ -36,7 +36,7 @@ pub(crate) fn widened<'a>(
 }
 
 fn put_at<'a>(
-    inputs: &Inputs<'a>,
+    inputs: &KnownProblem<'a>,
     vertices: &mut Vec<VertexRef<'a>>,
     table: &Table<'a>,
     number: usize,
@@ -51,7 +51,7 @@ fn put_at<'a>(
 }
 
 fn put_in_classes<'a>(
-    inputs: &Inputs<'a>,
+    inputs: &KnownProblem<'a>,
     vertices: &mut Vec<VertexRef<'a>>,
     vertex: VertexRef<'a>,
 ) -> Result<(), AllocError>

@@ -13,13 +13,13 @@ use Rattle.catalogue.specs.Stores.{CatalogueView, rows_by_name}
 use Rattle.contents.specs.Contents.{candidate_owner, owners_of}
 use Rattle.contents.specs.declared.stop.Stop.{Stop}
 use Rattle.encoding.specs.Assignments.{IsOf, state_of}
-use Rattle.encoding.specs.Inputs.{problem}
+use Rattle.encoding.specs.KnownProblem.{problem}
 use Rattle.encoding.specs.Numberings.{Numbering}
-use Rattle.encoding.specs.declared.inputs.Inputs.{Inputs}
+use Rattle.encoding.specs.declared.known_problem.KnownProblem.{KnownProblem}
 use Rattle.guiding.specs.Guides.{IsDone, final_of}
 
 -- the states of vertices at the end
-abbrev pub ends : Inputs → Numbering → TrailView → Vertex → State
+abbrev pub ends : KnownProblem → Numbering → TrailView → Vertex → State
 ends i vs t = state_of (problem i) vs (final_of t)
 
 -- the states that a content gives to vertices with numbers are left, alone where absent isn't left
@@ -28,7 +28,7 @@ pub record IsLeft (q : Problem) (vs : Numbering) (content : Content) (t : TrailV
   pub agrees : (x : Assignment) → IsOf q vs content x → Agrees x t.sets
 
 -- no instance is broken at the end, and each vertex with a number is on the trail
-pub record HasEnded (i : Inputs) (vs : Numbering) (t : TrailView) : Type 0 where
+pub record HasEnded (i : KnownProblem) (vs : Numbering) (t : TrailView) : Type 0 where
   pub unbroken : IsUnbroken (problem i) (ends i vs t)
   pub whole : length vs ≤ length t.sets
 

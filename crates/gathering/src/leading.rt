@@ -7,7 +7,7 @@ ghost use Rattle.propagation.specs.Trails.{trail_view};
 ghost use Rattle.features.specs.Views.{dependency_view, dependency_views};
 ghost use Rattle.vertices.specs.RefViews.{owner_ref_view};
 ghost use Rattle.model.specs.Vertices.{Owner, dep, pkg};
-ghost use Rattle.encoding.specs.Inputs.{problem};
+ghost use Rattle.encoding.specs.KnownProblem.{problem};
 ghost use Rattle.contents.specs.Contents.{AreStops, owners_of};
 ghost use Rattle.gathering.specs.Leads.{AreLed, HasEnded, IsLed, class_if, ends, version_if};
 
@@ -15,7 +15,7 @@ use crate::states::{class_if, state_of, version_if};
 use catalogue::{Catalogue, place_of};
 use classes::Class;
 use contents::Stop;
-use encoding::{Inputs, Table};
+use encoding::{KnownProblem, Table};
 use features::{Dependency, PackageName};
 use propagation::Trail;
 use semver::Version;
@@ -26,7 +26,7 @@ use vertices::{OwnerRef, VertexRef};
 /// The class that a dependency has at the end, if it has one.
 fn class_at<'a, S: States + Drop>(
     alloc: Global,
-    inputs: &Inputs<'a>,
+    inputs: &KnownProblem<'a>,
     table: &Table<'a>,
     trail: &Trail<S>,
     owner: &OwnerRef<'a>,
@@ -44,7 +44,7 @@ fn class_at<'a, S: States + Drop>(
 /// The version that a name has in a class at the end, if it has one.
 fn version_at<'a, S: States + Drop>(
     alloc: Global,
-    inputs: &Inputs<'a>,
+    inputs: &KnownProblem<'a>,
     table: &Table<'a>,
     trail: &Trail<S>,
     name: &'a PackageName,
@@ -62,7 +62,7 @@ fn version_at<'a, S: States + Drop>(
 /// Where a dependency leads: the place of the version that its name has in the class that it has.
 fn led_to<'a, S: States + Drop>(
     alloc: Global,
-    inputs: &Inputs<'a>,
+    inputs: &KnownProblem<'a>,
     table: &Table<'a>,
     trail: &Trail<S>,
     owner: &OwnerRef<'a>,
@@ -86,7 +86,7 @@ fn led_to<'a, S: States + Drop>(
 /// Where dependencies of an owner lead, by number.
 fn led_by<'a, S: States + Drop>(
     alloc: Global,
-    inputs: &Inputs<'a>,
+    inputs: &KnownProblem<'a>,
     table: &Table<'a>,
     trail: &Trail<S>,
     owner: &OwnerRef<'a>,
@@ -124,7 +124,7 @@ fn owner_at<'a>(catalogue: &'a Catalogue, stops: &'a [Stop], place: usize) -> Ow
 /// Where the dependencies of what stands at a place lead.
 pub(crate) fn led_at<'a, S: States + Drop>(
     alloc: Global,
-    inputs: &Inputs<'a>,
+    inputs: &KnownProblem<'a>,
     table: &Table<'a>,
     trail: &Trail<S>,
     stops: &[Stop],

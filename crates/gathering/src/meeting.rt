@@ -5,14 +5,14 @@ ghost use Rattle.propagation.specs.Trails.{trail_view};
 ghost use Rattle.facts.specs.Graphs.{node_views};
 ghost use Rattle.model.specs.Search.{LeadsTo};
 ghost use Rattle.reaching.specs.Nodes.{AreMet};
-ghost use Rattle.encoding.specs.Inputs.{problem};
+ghost use Rattle.encoding.specs.KnownProblem.{problem};
 ghost use Rattle.contents.specs.Contents.{AreStops, owners_of};
 ghost use Rattle.gathering.specs.Leads.{HasEnded, ends};
 
 use crate::leading::led_at;
 use crate::targets::targets_of;
 use contents::{Stop, brings_at, store_holds};
-use encoding::{Inputs, Table};
+use encoding::{KnownProblem, Table};
 use facts::{Node, dependencies_of};
 use indexmap::IndexSet;
 use propagation::Trail;
@@ -31,7 +31,7 @@ pub(crate) struct Met<'a> {
 /// Follows where each dependency leads, enabled or not, and takes each version once.
 pub(crate) fn meet<'a, S: States + Drop>(
     alloc: Global,
-    inputs: &Inputs<'a>,
+    inputs: &KnownProblem<'a>,
     table: &Table<'a>,
     trail: &Trail<S>,
 ) -> Result<Met<'a>, AllocError>

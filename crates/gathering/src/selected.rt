@@ -6,7 +6,7 @@ ghost use Rattle.model.specs.Content.{Content};
 ghost use Rattle.model.specs.Search.{IsUnbroken};
 ghost use Rattle.model.specs.Selection.{IsValidSelection};
 ghost use Rattle.encoding.specs.Assignments.{state_of};
-ghost use Rattle.encoding.specs.Inputs.{problem};
+ghost use Rattle.encoding.specs.KnownProblem.{problem};
 ghost use Rattle.guiding.specs.Guides.{final_of};
 ghost use Rattle.reaching.specs.Built.{HasBareRoot};
 ghost use Rattle.reaching.specs.Followed.{IsBrought};
@@ -15,7 +15,7 @@ ghost use Rattle.gathering.specs.Leads.{IsLeft};
 use crate::meeting::{Met, meet};
 use catalogue::catalogues_are_well_formed;
 use contents::content_of;
-use encoding::{Inputs, Table};
+use encoding::{KnownProblem, Table};
 use facts::facts_of;
 use lockfile::LockContent;
 use propagation::Trail;
@@ -32,7 +32,7 @@ use version_sets::States;
 /// The only error is want of memory.
 pub fn content<'a, S: States + Drop>(
     alloc: Global,
-    inputs: &Inputs<'a>,
+    inputs: &KnownProblem<'a>,
     table: &Table<'a>,
     trail: &Trail<S>,
 ) -> Result<LockContent, AllocError>

@@ -9,7 +9,7 @@ ghost use Rattle.guiding.specs.Guides.{first_in};
 ghost use Rattle.gathering.specs.Leads.{class_if, ends, version_if};
 
 use classes::Class;
-use encoding::{Inputs, Table, state_at};
+use encoding::{KnownProblem, Table, state_at};
 use propagation::Trail;
 use semver::Version;
 use std::alloc::{AllocError, Global};
@@ -31,7 +31,7 @@ fn first_in<S: States>(set: &S) -> u32
 /// The state that a vertex has at the end: absent without a number.
 pub(crate) fn state_of<'a, S: States + Drop>(
     alloc: Global,
-    inputs: &Inputs<'a>,
+    inputs: &KnownProblem<'a>,
     table: &Table<'a>,
     trail: &Trail<S>,
     vertex: &VertexRef<'a>,

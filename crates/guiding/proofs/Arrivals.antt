@@ -5,9 +5,9 @@ use Rattle.std.proofs.lemmas.List.{length-append, length-replicate}
 use Rattle.std.proofs.lemmas.Option.{none-some, same_Some}
 use Rattle.version_sets.specs.Sets.{Members, none}
 use Rattle.model.specs.Vertices.{Vertex, space}
-use Rattle.encoding.specs.Inputs.{problem}
+use Rattle.encoding.specs.KnownProblem.{problem}
 use Rattle.encoding.specs.Numberings.{Numbering}
-use Rattle.encoding.specs.declared.inputs.Inputs.{Inputs}
+use Rattle.encoding.specs.declared.known_problem.KnownProblem.{KnownProblem}
 use Rattle.encoding.proofs.Places.{get_below}
 use Rattle.propagation.specs.Trails.{TrailView}
 use Rattle.propagation.proofs.Widened.{wider_again, wider_none}
@@ -24,7 +24,7 @@ take_next [] k x e = absurd (none-some x e)
 take_next (y ∷ xs) zero x e = ap (λ z. z ∷ []) (same_Some y x e)
 take_next (y ∷ xs) (suc k) x e = ap (λ l. y ∷ l) (take_next xs k x e)
 
-pub encoding_next : (i : Inputs) (vs : Numbering) (asked more : List Members) (n : ℕ) → IsEncoding i vs asked
+pub encoding_next : (i : KnownProblem) (vs : Numbering) (asked more : List Members) (n : ℕ) → IsEncoding i vs asked
     → length asked < length vs
     → ((v : Vertex) → slice_get vs (length asked) ≡ Some v → n ≡ length (space (problem i) v))
     → more ≡ asked ++ none n ∷ [] → IsEncoding i vs more

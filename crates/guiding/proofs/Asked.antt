@@ -13,10 +13,10 @@ use Rattle.model.specs.Content.{Content}
 use Rattle.model.specs.Vertices.{Vertex, space}
 use Rattle.model.specs.WellFormed.{IsCatalogue}
 use Rattle.encoding.specs.Assignments.{state_at}
-use Rattle.encoding.specs.Inputs.{KnowsDefault, problem}
+use Rattle.encoding.specs.KnownProblem.{KnowsDefault, problem}
 use Rattle.encoding.specs.Numberings.{IsGrown, IsNumbering, Numbering}
 use Rattle.encoding.specs.Pairs.{Given, IsGivenAt}
-use Rattle.encoding.specs.declared.inputs.Inputs.{Inputs}
+use Rattle.encoding.specs.declared.known_problem.KnownProblem.{KnownProblem}
 use Rattle.searching.specs.Searching.{HasSpaces, IsOnly, IsSeen, Pairs}
 use Rattle.searching.specs.Searching as searching
 use Rattle.searching.proofs.Seen.{seen_all}
@@ -29,7 +29,7 @@ pub ok_by : {A E : Type 0} {P Q : Type 0} (r : Result A E) → (P → Q) → OnO
 ok_by (Ok x) f h = f h
 ok_by (Err e) f h = tt
 
-pub encoding_same : (i : Inputs) (vs : Numbering) (asked more : List Members) → map length more ≡ map length asked
+pub encoding_same : (i : KnownProblem) (vs : Numbering) (asked more : List Members) → map length more ≡ map length asked
     → IsEncoding i vs asked → IsEncoding i vs more
 encoding_same i vs asked more e was = record {
   default = was.default;
@@ -40,7 +40,7 @@ encoding_same i vs asked more e was = record {
 }
 
 -- where something else is kept of what requirements match
-pub encoding_of : {j : Inputs} (i : Inputs) (vs : Numbering) (asked : List Members) → IsEncoding j vs asked
+pub encoding_of : {j : KnownProblem} (i : KnownProblem) (vs : Numbering) (asked : List Members) → IsEncoding j vs asked
     → KnowsDefault i → problem j ≡ problem i → IsEncoding i vs asked
 encoding_of i vs asked was default same = record {
   default = default;
@@ -49,14 +49,14 @@ encoding_of i vs asked was default same = record {
   spaces = subst (λ q. map length asked ≡ spaces_of q (known vs asked)) same was.spaces;
 }
 
-pub encoding_marked : {A E : Type 0} (r : Result A E) (i : Inputs) (vs : Numbering) (asked more : List Members)
+pub encoding_marked : {A E : Type 0} (r : Result A E) (i : KnownProblem) (vs : Numbering) (asked more : List Members)
     (v s : ℕ) → OnOk r (more ≡ marked asked v s) → OnErr r (more ≡ asked) → IsEncoding i vs asked → IsEncoding i vs more
 encoding_marked (Ok x) i vs asked more v s is same was =
     encoding_same i vs asked more (ap (map length) is ∙ mark_lengths asked v s) was
 encoding_marked (Err e) i vs asked more v s is same was = encoding_same i vs asked more (ap (map length) same) was
 
 -- a state of a vertex
-pub state_below : (i : Inputs) (vs : Numbering) (asked : List Members) (old : EncodedView) (seen : ℕ)
+pub state_below : (i : KnownProblem) (vs : Numbering) (asked : List Members) (old : EncodedView) (seen : ℕ)
     (follows : Option Content) (v s : ℕ) → IsEncoding i vs asked → encoded_view (problem i) vs asked seen follows ≡ old
     → v < length old.asked → s < length (set_of old.asked v)
     → (w : Vertex) → slice_get vs v ≡ Some w → s < length (space (problem i) w)
@@ -66,7 +66,7 @@ state_below i vs asked old seen follows v s is view low lt w at =
     let r = known_at (problem i) vs asked v is.spaces low in
     subst (λ n. s < n) (r.2 ∙ ap (λ x. length (space (problem i) x)) (same_Some r.0 w (sym r.1 ∙ at))) lt
 
-pub asking_by : (i : Inputs) (vs new : Numbering) (asked mid last : List Members) (seen : ℕ) (follows : Option Content)
+pub asking_by : (i : KnownProblem) (vs new : Numbering) (asked mid last : List Members) (seen : ℕ) (follows : Option Content)
     (v s : ℕ) (old : EncodedView) (t wide : TrailView) (es more : List EntryView) (given : List Given)
     → encoded_view (problem i) vs asked seen follows ≡ old → IsEncoding i vs asked → IsGrown vs new
     → IsEncoding i new mid → IsCome asked mid t wide → length new ≤ length mid → IsTrail es wide

@@ -15,10 +15,10 @@ use Rattle.model.specs.Vertices.{Vertex, absent, root}
 use Rattle.refutations.specs.Causes.{kind_of, terms_of_cause}
 use Rattle.refutations.proofs.CauseLaws.{cause_instance}
 use Rattle.encoding.specs.Assignments.{state_at}
-use Rattle.encoding.specs.Inputs.{problem}
+use Rattle.encoding.specs.KnownProblem.{problem}
 use Rattle.encoding.specs.Numberings.{Numbering}
 use Rattle.encoding.specs.Pairs.{Given, IsGivenAt}
-use Rattle.encoding.specs.declared.inputs.Inputs.{Inputs}
+use Rattle.encoding.specs.declared.known_problem.KnownProblem.{KnownProblem}
 use Rattle.searching.specs.Searching.{AreTouching, HasSpaces, IsSeen}
 use Rattle.searching.specs.Walking as walking
 use Rattle.searching.specs.Walking.{IsWalked}
@@ -63,7 +63,7 @@ seen_first asked es t trail =
         ap length full ∙ length-replicate (space_of t v) true in
         omega (arith, n, below, long)
 
-pub begun : (i : Inputs) (follows : Option Content) (put vs : Numbering) (n : ℕ) (asked : List Members)
+pub begun : (i : KnownProblem) (follows : Option Content) (put vs : Numbering) (n : ℕ) (asked : List Members)
     (t wide : TrailView) (more : List EntryView) (given : List Given) → IsEncoding i vs asked
     → CanFollow (problem i) follows → slice_get put n ≡ Some root → IsCome [] asked t wide → length vs ≤ length asked
     → length t.sets ≡ 0 → t.steps ≡ [] → IsTrail [] wide

@@ -20,10 +20,10 @@ use Rattle.model.specs.WellFormed.{IsCatalogue}
 use Rattle.refutations.specs.Causes.{Cause, is_cause, terms_of_cause}
 use Rattle.model.specs.Search.{IsUnbroken}
 use Rattle.encoding.specs.Assignments.{IsOf, state_at, state_of}
-use Rattle.encoding.specs.Inputs.{KnowsDefault, problem}
+use Rattle.encoding.specs.KnownProblem.{KnowsDefault, problem}
 use Rattle.encoding.specs.Numberings.{IsGrown, IsNumbering, Numbering, Says, number_in}
 use Rattle.encoding.specs.Pairs.{Given, IsGivenAt, Pair, first_pair}
-use Rattle.encoding.specs.declared.inputs.Inputs.{Inputs}
+use Rattle.encoding.specs.declared.known_problem.KnownProblem.{KnownProblem}
 use Rattle.searching.specs.Counting.{combinations}
 use Rattle.searching.specs.Searching.{AreTouching, HasSpaces, IsOnly, IsRefutation, IsSeen, Pairs}
 use Rattle.searching.specs.declared.turns.Answer.{Answer}
@@ -49,7 +49,7 @@ abbrev pub known : Numbering → List Members → Numbering
 known vs asked = take (length asked) vs
 
 -- each vertex that the trail has is asked for in its own states
-pub record IsEncoding (i : Inputs) (vs : Numbering) (asked : List Members) : Type 0 where
+pub record IsEncoding (i : KnownProblem) (vs : Numbering) (asked : List Members) : Type 0 where
   pub default : KnowsDefault i
   pub catalogue : IsCatalogue (problem i)
   pub numbering : IsNumbering (problem i) vs

@@ -6,7 +6,7 @@ ghost use Rattle.propagation.specs.Promises.{IsTrail};
 ghost use Rattle.propagation.specs.Trails.{trail_view};
 ghost use Rattle.guiding.specs.Guides.{IsCome, IsEncoding};
 
-use encoding::{Inputs, Table, space_at};
+use encoding::{KnownProblem, Table, space_at};
 use incompatibilities::Store;
 use propagation::Trail;
 use std::alloc::{AllocError, Global};
@@ -15,7 +15,7 @@ use version_sets::States;
 /// Gives the trail the next vertex.
 fn come_next<S: States + Drop>(
     alloc: Global,
-    inputs: &Inputs<'_>,
+    inputs: &KnownProblem<'_>,
     table: &Table<'_>,
     asked: &mut Vec<S>,
     trail: &mut Trail<S>,
@@ -43,7 +43,7 @@ fn come_next<S: States + Drop>(
 /// Gives the trail the vertices that have numbers.
 pub(crate) fn come<S: States + Drop>(
     alloc: Global,
-    inputs: &Inputs<'_>,
+    inputs: &KnownProblem<'_>,
     table: &Table<'_>,
     asked: &mut Vec<S>,
     trail: &mut Trail<S>,

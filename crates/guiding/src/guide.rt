@@ -1,7 +1,7 @@
 //! What a search asks of a manifest and a loaded index: its vertices and axioms on demand, and what to decide.
 
 ghost use Rattle.std.specs.Prelude.{◌≡◌, ◌<◌, [], IfOk, IfSome, OnOk, false, is_some, length, map, true};
-ghost use Rattle.encoding.specs.Inputs.{KnowsDefault, problem};
+ghost use Rattle.encoding.specs.KnownProblem.{KnowsDefault, problem};
 ghost use Rattle.encoding.specs.Numberings.{IsNumbering};
 ghost use Rattle.incompatibilities.specs.Incompatibilities.{Assignment};
 ghost use Rattle.incompatibilities.specs.Stores.{entries_view};
@@ -22,7 +22,7 @@ use crate::opening::{next_open, unless_asked};
 use crate::order::Order;
 use crate::preferring::preferred_state;
 use catalogue::catalogues_are_well_formed;
-use encoding::{Inputs, Table, axioms_at};
+use encoding::{KnownProblem, Table, axioms_at};
 use following::state_in;
 use incompatibilities::{Id, Store};
 use lockfile::LockContent;
@@ -37,7 +37,7 @@ use vertices::VertexRef;
 #[derive(Drop)]
 pub struct Encoded<'a, S: States> {
     alloc: Global,
-    inputs: Inputs<'a>,
+    inputs: KnownProblem<'a>,
     table: Table<'a>,
     /// The valid selection that the search decides as; else it decides by preference.
     follows: Option<LockContent>,
@@ -54,7 +54,7 @@ pub struct Encoded<'a, S: States> {
 
 impl<'a, S: States> Model for Encoded<'a, S> {
     ghost use Rattle.std.specs.Prelude.{map};
-    ghost use Rattle.encoding.specs.Inputs.{problem};
+    ghost use Rattle.encoding.specs.KnownProblem.{problem};
     ghost use Rattle.guiding.specs.Guides.{CanFollow, EncodedView, IsEncoding, encoded_view};
 
     ghost Value = { EncodedView };
@@ -66,11 +66,11 @@ impl<'a, S: States> Model for Encoded<'a, S> {
 }
 
 impl<'a, S: States + Drop> Encoded<'a, S> {
-    /// The guide of a search that begins, for a trail without vertices and a store without entries: the root comes
-    /// onto the trail, and the instance of its absence into the store.
+    /// The guide of a search that begins, for a trail without vertices and a store without entries: the root comes onto
+    /// the trail, and the instance of its absence into the store.
     pub fn begin(
         alloc: Global,
-        inputs: Inputs<'a>,
+        inputs: KnownProblem<'a>,
         follows: Option<LockContent>,
         trail: &mut Trail<S>,
         store: &mut Store<S>,
@@ -106,7 +106,7 @@ impl<'a, S: States + Drop> Encoded<'a, S> {
     }
 
     /// What vertices and axioms are looked up in, with what was matched for them.
-    pub fn inputs(&self) -> &Inputs<'a>
+    pub fn inputs(&self) -> &KnownProblem<'a>
         ensures { problem result.now ≡ self.now.problem }
     {
         &self.inputs

@@ -4,7 +4,7 @@ ghost use Rattle.std.specs.Prelude.{◌≡◌, IfOk, IfSome, true};
 ghost use Rattle.version_sets.specs.Sets.{has};
 
 use classes::Class;
-use encoding::{Inputs, classes_of, dependency_at};
+use encoding::{KnownProblem, classes_of, dependency_at};
 use features::PackageName;
 use std::alloc::{AllocError, Global};
 use version_sets::States;
@@ -13,7 +13,7 @@ use vertices::{OwnerRef, VertexRef};
 /// The preferred state of a package or a dependency: `None` for other vertices.
 pub(crate) fn preferred_state<S: States>(
     alloc: Global,
-    inputs: &Inputs<'_>,
+    inputs: &KnownProblem<'_>,
     vertex: &VertexRef<'_>,
     left: &S,
 ) -> Result<Option<u32>, AllocError>
@@ -30,7 +30,7 @@ pub(crate) fn preferred_state<S: States>(
 
 /// The state of the most preferred version of a class that is left.
 fn preferred_version<S: States>(
-    inputs: &Inputs<'_>,
+    inputs: &KnownProblem<'_>,
     name: &PackageName,
     class: Class,
     left: &S,
@@ -55,7 +55,7 @@ fn preferred_version<S: States>(
 /// The state of the class of the most preferred candidate that a dependency matches and whose class is left.
 fn preferred_class<S: States>(
     alloc: Global,
-    inputs: &Inputs<'_>,
+    inputs: &KnownProblem<'_>,
     owner: &OwnerRef<'_>,
     number: usize,
     left: &S,

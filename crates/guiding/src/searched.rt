@@ -3,12 +3,12 @@
 ghost use Rattle.std.specs.Prelude.{◌≡◌, [], IfOk};
 ghost use Rattle.incompatibilities.specs.Stores.{entries_view};
 ghost use Rattle.propagation.specs.Trails.{trail_view};
-ghost use Rattle.encoding.specs.Inputs.{KnowsDefault, problem};
+ghost use Rattle.encoding.specs.KnownProblem.{KnowsDefault, problem};
 ghost use Rattle.searching.specs.Counting.{IsCount};
 ghost use Rattle.guiding.specs.Guides.{CanFollow, HasSearched};
 
 use crate::guide::Encoded;
-use encoding::Inputs;
+use encoding::KnownProblem;
 use incompatibilities::Store;
 use lockfile::LockContent;
 use propagation::Trail;
@@ -34,7 +34,7 @@ pub struct Searched<'a, S: States> {
 /// (`HasFollowed`).
 pub fn search_over<'a, S: States + Drop>(
     alloc: Global,
-    inputs: Inputs<'a>,
+    inputs: KnownProblem<'a>,
     follows: Option<LockContent>,
 ) -> Result<Searched<'a, S>, AllocError>
     requires default { KnowsDefault inputs }

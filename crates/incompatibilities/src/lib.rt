@@ -2,8 +2,7 @@
 //!
 //! An incompatibility is a list of terms that don't all hold: one term a vertex, by rising vertex, and none with all
 //! states of its vertex, since such a term says nothing. So two are combined by one merge, and of those that say the
-//! same
-//! of each vertex there is one form.
+//! same of each vertex there is one form.
 //!
 //! `combine` is the one rule by which anything follows: the union of the two at one vertex, the intersection at each
 //! other one. What breaks the combination breaks one of the two. A `Store` keeps for each entry that it is an axiom or

@@ -12,8 +12,8 @@ use version_sets::{States, WordStates};
 
 /// What a vertex's row has of an incompatibility with a term there.
 ///
-/// The states stand in the row too, so that who goes through it reads memory in order: most often they are all that
-/// has to be looked at, and the incompatibility and its terms lie elsewhere.
+/// The states stand in the row too, so that who goes through it reads memory in order: most often they are all that has
+/// to be looked at, and the incompatibility and its terms lie elsewhere.
 #[derive(Drop)]
 pub struct Posting<S> {
     /// The place of the incompatibility.

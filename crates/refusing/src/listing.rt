@@ -3,12 +3,12 @@
 //! So a derivation numbers them in that order, and finds and orders terms by numbers. Nothing rests on the order.
 
 ghost use Rattle.std.specs.Prelude.{◌≡◌};
-ghost use Rattle.encoding.specs.Inputs.{problem};
+ghost use Rattle.encoding.specs.KnownProblem.{problem};
 ghost use Rattle.refusing.specs.Refusing.{AreListed, AreReadVertices, AreSpelt};
 
 use crate::spaces::Spaces;
 use derivations::Derivation;
-use encoding::{Inputs, Table};
+use encoding::{KnownProblem, Table};
 use incompatibilities::{Id, Store};
 use std::alloc::{AllocError, Global};
 use std::fmt::Write;
@@ -79,7 +79,7 @@ fn by_text(alloc: Global, table: &Table<'_>, marks: &[bool]) -> Result<Vec<Texte
 /// Lists the vertices that entries speak of.
 pub(crate) fn list_by_text<'a, S: States + Drop>(
     alloc: Global,
-    inputs: &Inputs<'a>,
+    inputs: &KnownProblem<'a>,
     table: &Table<'a>,
     store: &Store<S>,
     ids: &[Id],

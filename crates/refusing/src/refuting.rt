@@ -4,7 +4,7 @@ ghost use Rattle.std.specs.Prelude.{◌≡◌, ◌<◌, [], ℕ, IfOk, length};
 ghost use Rattle.incompatibilities.specs.Stores.{entries_view, entry};
 ghost use Rattle.model.specs.Derivation.{IsAccepted};
 ghost use Rattle.vertices.specs.Valid.{HasValidParts};
-ghost use Rattle.encoding.specs.Inputs.{problem};
+ghost use Rattle.encoding.specs.KnownProblem.{problem};
 ghost use Rattle.encoding.specs.Numberings.{IsNumbering};
 ghost use Rattle.decoding.specs.Needs.{place_in};
 ghost use Rattle.decoding.specs.Steps.{AreStepsOf, IsNeeded};
@@ -17,7 +17,7 @@ use crate::stepping::push_step;
 use catalogue::catalogues_are_well_formed;
 use decoding::{Kept, needed};
 use derivations::Derivation;
-use encoding::{Inputs, Table};
+use encoding::{KnownProblem, Table};
 use incompatibilities::{Id, Store};
 use std::alloc::{AllocError, Global};
 use version_sets::States;
@@ -25,7 +25,7 @@ use version_sets::States;
 /// The steps of needed entries, in their order.
 fn steps_of<'a, S: States + Drop>(
     alloc: Global,
-    inputs: &Inputs<'a>,
+    inputs: &KnownProblem<'a>,
     table: &Table<'a>,
     store: &Store<S>,
     kept: &Kept,
@@ -65,7 +65,7 @@ fn steps_of<'a, S: States + Drop>(
 /// It takes time and memory in proportion to the entry's place and to what those entries say.
 pub fn refusal<'a, S: States + Drop>(
     alloc: Global,
-    inputs: &Inputs<'a>,
+    inputs: &KnownProblem<'a>,
     table: &Table<'a>,
     store: &Store<S>,
     last: Id,

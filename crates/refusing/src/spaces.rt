@@ -4,12 +4,12 @@ ghost use Rattle.std.specs.Prelude.{◌≡◌, ◌<◌, ℕ, IfOk, None, OnOk, S
 ghost use Rattle.model.specs.Content.{Problem};
 ghost use Rattle.vertices.specs.RefViews.{vertex_ref_view};
 ghost use Rattle.vertices.specs.Texts.{IsReadVertex};
-ghost use Rattle.encoding.specs.Inputs.{problem};
+ghost use Rattle.encoding.specs.KnownProblem.{problem};
 ghost use Rattle.encoding.specs.Numberings.{Numbering};
 ghost use Rattle.refusing.specs.Refusing.{AreListed, AreReadVertices, AreSpelt};
 
 use derivations::{Derivation, Spelling};
-use encoding::{Inputs, Table, states_of};
+use encoding::{KnownProblem, Table, states_of};
 use std::alloc::{AllocError, Global};
 use terms::Term;
 use version_sets::States;
@@ -54,7 +54,7 @@ impl<'a> Spaces<'a> {
     fn put(
         &mut self,
         alloc: Global,
-        inputs: &Inputs<'a>,
+        inputs: &KnownProblem<'a>,
         table: &Table<'a>,
         steps: &mut Derivation,
         number: usize,
@@ -87,7 +87,7 @@ impl<'a> Spaces<'a> {
     pub(crate) fn list(
         &mut self,
         alloc: Global,
-        inputs: &Inputs<'a>,
+        inputs: &KnownProblem<'a>,
         table: &Table<'a>,
         steps: &mut Derivation,
         number: usize,
@@ -112,7 +112,7 @@ impl<'a> Spaces<'a> {
     pub(crate) fn list_each<S: States + Drop>(
         &mut self,
         alloc: Global,
-        inputs: &Inputs<'a>,
+        inputs: &KnownProblem<'a>,
         table: &Table<'a>,
         steps: &mut Derivation,
         terms: &[Term<S>],

@@ -6,14 +6,14 @@ ghost use Rattle.model.specs.Axioms.{at};
 ghost use Rattle.model.specs.Vertices.{space};
 ghost use Rattle.vertices.specs.RefViews.{vertex_ref_view};
 ghost use Rattle.derivations.specs.Named.{named_views};
-ghost use Rattle.encoding.specs.Inputs.{problem};
+ghost use Rattle.encoding.specs.KnownProblem.{problem};
 ghost use Rattle.decoding.specs.Decoding.{sizes, states_in, terms_of, with_term};
 ghost use Rattle.refusing.specs.Refusing.{AreListed, AreSized, AreSpelt, spoken_view, spoken_views};
 
 use crate::spaces::Spaces;
 use decoding::chosen;
 use derivations::{NamedTerm, Spelling};
-use encoding::{Inputs, Table};
+use encoding::{KnownProblem, Table};
 use std::alloc::{AllocError, Global};
 use terms::Term;
 use version_sets::States;
@@ -29,7 +29,7 @@ pub(crate) struct Spoken<'p, 'a> {
 /// A vertex with those of its states that a set has.
 fn speak<'p, 'a, S: States + Drop>(
     alloc: Global,
-    inputs: &Inputs<'a>,
+    inputs: &KnownProblem<'a>,
     table: &Table<'a>,
     spaces: &'p Spaces<'a>,
     number: usize,
@@ -54,7 +54,7 @@ fn speak<'p, 'a, S: States + Drop>(
 /// Puts one term at the end.
 fn push_spoken<'p, 'a, S: States + Drop>(
     alloc: Global,
-    inputs: &Inputs<'a>,
+    inputs: &KnownProblem<'a>,
     table: &Table<'a>,
     spaces: &'p Spaces<'a>,
     made: &mut Vec<Spoken<'p, 'a>>,
@@ -87,7 +87,7 @@ fn push_spoken<'p, 'a, S: States + Drop>(
 /// The terms of an incompatibility, in its order.
 pub(crate) fn spoken_terms<'p, 'a, S: States + Drop>(
     alloc: Global,
-    inputs: &Inputs<'a>,
+    inputs: &KnownProblem<'a>,
     table: &Table<'a>,
     spaces: &'p Spaces<'a>,
     terms: &[Term<S>],

@@ -7,7 +7,7 @@ ghost use Rattle.vertices.specs.Kinds.{kind_view, kind_at};
 ghost use Rattle.vertices.specs.Valid.{HasValidParts};
 ghost use Rattle.derivations.specs.Building.{AreNewTerms, ordered_terms};
 ghost use Rattle.derivations.specs.Named.{named_views};
-ghost use Rattle.encoding.specs.Inputs.{problem};
+ghost use Rattle.encoding.specs.KnownProblem.{problem};
 ghost use Rattle.encoding.specs.Numberings.{IsNumbering};
 ghost use Rattle.decoding.specs.Needs.{place_in};
 ghost use Rattle.decoding.specs.Steps.{IsStepOf};
@@ -17,7 +17,7 @@ use crate::spaces::Spaces;
 use crate::speaking::{named_terms, spoken_terms};
 use catalogue::catalogues_are_well_formed;
 use derivations::{Derivation, NamedTerm};
-use encoding::{Inputs, Table};
+use encoding::{KnownProblem, Table};
 use incompatibilities::{Id, Origin, Store};
 use std::alloc::{AllocError, Global};
 use version_sets::States;
@@ -69,7 +69,7 @@ fn push_by<'a>(
 /// Puts an entry's step at the end.
 pub(crate) fn push_step<'a, S: States + Drop>(
     alloc: Global,
-    inputs: &Inputs<'a>,
+    inputs: &KnownProblem<'a>,
     table: &Table<'a>,
     store: &Store<S>,
     places: &[usize],

@@ -117,7 +117,7 @@ up_to t k = record {
       level_after t.steps k;
   assigned = t.assigned;
   settled = t.settled;
-  walked = t.walked;
+  propagated = t.propagated;
 }
 
 abbrev pub EachFalls : ℕ → TrailView → Type 0

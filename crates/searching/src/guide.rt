@@ -55,8 +55,8 @@ pub trait Guide<S: States + Drop>: Sized {
 
     ghost keeps_on: { (a b c : Self) → keeps a b → keeps b c → keeps a c };
 
-    /// Puts the axioms of pairs that stand alone now into the store, and says whether there were any. The vertices
-    /// that these speak of first come onto the trail.
+    /// Puts the axioms of pairs that stand alone now into the store, and says whether there were any. The vertices that
+    /// these speak of first come onto the trail.
     ///
     /// Each has a term of one state, for a pair that wasn't asked for, at a vertex that was there before. At the end of
     /// each earlier level all pairs that stood alone had been asked for, so the axiom isn't satisfied there.

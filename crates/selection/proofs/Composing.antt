@@ -1,5 +1,6 @@
 -- What is found of a lock, put together, and what follows for the verdict.
-use Rattle.std.proofs.Common.{◌≡◌, ℕ, ◌↔◌, true, List, map, Result, Ok, Err, IfOk, refl, sym, ap, ◌∙◌, subst}
+use Rattle.std.proofs.Common.{◌≡◌, ℕ, ◌↔◌, true, List, length, map, Result, Ok, Err, IfOk, refl, sym, ap, ◌∙◌, subst}
+use Rattle.std.proofs.lemmas.List.{length-map}
 use Rattle.semver.specs.Identifiers.{parts_of}
 use Rattle.semver.specs.Parse.{Parts}
 use Rattle.model.specs.Facts.{enabled}
@@ -8,12 +9,13 @@ use Rattle.model.specs.Selection.{IsValidSelection, IsReached}
 use Rattle.model.specs.Verdict.{VerdictFault}
 use Rattle.model.specs.WellFormed.{IsContent}
 use Rattle.model.proofs.Verdicts.{valid_iff}
+use Rattle.lockfile.specs.Views.{package_view}
 use Rattle.manifest.specs.Manifests.{ManifestView}
 use Rattle.catalogue.specs.Problems.{problem_in}
 use Rattle.catalogue.specs.Stores.{CatalogueView}
-use Rattle.facts.specs.Graphs.{node_views, flag_at, flag_in, IsFactOf, LacksFeature}
+use Rattle.facts.specs.Graphs.{node_view, node_views, flag_at, flag_in, IsFactOf, LacksFeature}
 use Rattle.facts.specs.declared.node.Node.{Node}
-use Rattle.selection.specs.Graphs.{graph_of, is_known, are_known, IsOnlyRoot, HasNoRoot}
+use Rattle.selection.specs.Graphs.{node_of, graph_of, is_known, are_known, IsOnlyRoot, HasNoRoot}
 use Rattle.selection.specs.Places.{content_in, AreFindings}
 use Rattle.selection.specs.Verdicts.{IsAt, IsInvalid, IsVerdictOn, IsFaultOf}
 use Rattle.selection.specs.declared.findings.Findings.{Findings}
@@ -54,6 +56,12 @@ findings_are m index f nodes same only graph known facts lacks reached =
           (lacks_same q (content_in f) f.root only refl n);
       reached_is = reached;
     }
+
+-- what packages bring stands beside them
+pub beside : (q : Problem) (f : Findings) → AreFindings q f → length f.nodes.items ≡ length f.content.now
+beside q f found =
+    sym (length-map f.nodes.items node_view) ∙ ap length found.graph_is
+    ∙ length-map (content_in f) (node_of q (content_in f)) ∙ length-map f.content.now package_view
 
 pub said_of : {E : Type 0} (r : Result Verdict E) (q : Problem) (f : Findings) (content : Content)
     → content_in f ≡ content → AreFindings q f

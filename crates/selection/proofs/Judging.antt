@@ -73,7 +73,7 @@ module _ (q : Problem) (content : Content) (n : ℕ) (p : Package) (got : slice_
   owner_here : summary_at q content n ≡ summary_of q p
   owner_here = ap (summary_if q) got
 
-  target_here : (d : Dependency) → target_of content n d ≡ last_serving content d p.list
+  pub target_here : (d : Dependency) → target_of content n d ≡ last_serving content d p.list
   target_here d = ap (λ o. last_serving content d (list_if o)) got
 
   module _ (flags : List Bool) (targets : List (Option ℕ))
@@ -85,14 +85,14 @@ module _ (q : Problem) (content : Content) (n : ℕ) (p : Package) (got : slice_
         ∙ slice_get-map (λ d. last_serving content d p.list) (summary_of q p).dependencies i
 
     -- of a dependency that is there
-    its_target : (i : ℕ) (d : Dependency) → slice_get (summary_at q content n).dependencies i ≡ Some d
+    pub its_target : (i : ℕ) (d : Dependency) → slice_get (summary_at q content n).dependencies i ≡ Some d
         → slice_get targets i ≡ Some (last_serving content d p.list)
     its_target i d b =
         target_at_number i ∙ ap (option_map (λ e. last_serving content e p.list))
         (subst (λ (o : Summary). slice_get o.dependencies i ≡ Some d) owner_here b)
 
     -- a target is that of a dependency
-    its_dependency : (i : ℕ) (o : Option ℕ) → slice_get targets i ≡ Some o → (d : Dependency)
+    pub its_dependency : (i : ℕ) (o : Option ℕ) → slice_get targets i ≡ Some o → (d : Dependency)
         × (slice_get (summary_at q content n).dependencies i ≡ Some d) × (last_serving content d p.list ≡ o)
     its_dependency i o e = by (slice_get (summary_of q p).dependencies i) refl (sym (target_at_number i) ∙ e)
       where
@@ -123,11 +123,11 @@ module _ (q : Problem) (content : Content) (n : ℕ) (p : Package) (got : slice_
             let t = free i d.0 (d.1, (flags_are i).0 flag) in
             none-some t.0 (sym (target_here d.0 ∙ d.2) ∙ t.1)
 
-    led_to_target : (t : ℕ) → IsLedTo flags targets t → IsTarget q content n t
+    pub led_to_target : (t : ℕ) → IsLedTo flags targets t → IsTarget q content n t
     led_to_target t l = let d =
         its_dependency l.0 (Some t) l.2 in (l.0, d.0, (d.1, (flags_are l.0).0 l.1), target_here d.0 ∙ d.2)
 
-    target_led_to : (t : ℕ) → IsTarget q content n t → IsLedTo flags targets t
+    pub target_led_to : (t : ℕ) → IsTarget q content n t → IsLedTo flags targets t
     target_led_to t h = (h.0, (flags_are h.0).1 h.2.1, its_target h.0 h.1 h.2.0 ∙ ap Some (sym (target_here h.1) ∙ h.3))
 
     target_listed : (t : ℕ) → IsTarget q content n t → Contains p.list t

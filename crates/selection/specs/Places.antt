@@ -11,7 +11,8 @@ use Rattle.model.specs.Summary.{has_feature}
 use Rattle.model.specs.Selection.{IsFact, IsReached}
 use Rattle.model.specs.Verdict.{VerdictFault, not_candidate, two_in_class, unmet, no_feature, wrong_list, unreached}
 use Rattle.model.specs.Verdict.{IsFreeOf}
-use Rattle.selection.specs.Graphs.{graph_of, is_known, are_known, IsOnlyRoot}
+use Rattle.model.specs.WellFormed.{IsContent}
+use Rattle.selection.specs.Graphs.{graph_of, is_known, are_known, IsOnlyRoot, HasNoRoot}
 use Rattle.selection.specs.declared.checked.Checked.{Checked}
 use Rattle.selection.specs.declared.findings.Findings.{Findings}
 use Rattle.selection.specs.declared.verdict.VerdictFault as said
@@ -110,3 +111,8 @@ pub record AreFindings (q : Problem) (f : Findings) : Type 0 where
       → (flag_in (map (λ v. v.items) f.facts.enabled.items) n i ≡ true) ↔ IsFact q (content_in f) (enabled n i)
   pub lacks_is : (n : ℕ) → (flag_at f.facts.lacks.items n ≡ true) ↔ Lacks q (content_in f) n
   pub reached_is : (n : ℕ) → (flag_at f.reached.items n ≡ true) ↔ IsReached q (content_in f) n
+
+-- what is found of a content, which has a root or has none
+abbrev pub AreFound : Problem → Content → Option Findings → Type 0
+AreFound q content None = IsContent content × HasNoRoot q content
+AreFound q content (Some f) = IsContent content × (content_in f ≡ content) × AreFindings q f

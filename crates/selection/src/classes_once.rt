@@ -31,7 +31,7 @@ pub(crate) fn is_second(content: &[Package], root: usize, at: usize) -> bool
 }
 
 /// The last place before this one that isn't the root's.
-fn place_before(root: usize, at: usize) -> Option<usize>
+pub fn place_before(root: usize, at: usize) -> Option<usize>
     ensures { MatchOption result ((m : ℕ) → m < at → m ≡ root)
         (λ b. (b < at) × (b ≢ root) × ((m : ℕ) → m < at → m ≢ root → m ≤ b)) }
 {
@@ -47,7 +47,7 @@ fn place_before(root: usize, at: usize) -> Option<usize>
 }
 
 /// Whether two packages have one name and one class.
-fn is_like(a: &Package, b: &Package) -> bool
+pub fn is_like(a: &Package, b: &Package) -> bool
     ensures { result ≡ is_like (package_view a.now) (package_view b.now) }
 {
     a.name == b.name && is_same_class(Class::of(&a.version), Class::of(&b.version))

@@ -10,7 +10,7 @@ use std::alloc::{AllocError, Global};
 use std::collections::BTreeSet;
 
 /// Whether there is a flag at a place.
-pub(crate) fn flag(flags: &[bool], at: usize) -> bool
+pub fn flag(flags: &[bool], at: usize) -> bool
     ensures { result ≡ flag_at flags.now at }
 {
     match flags.get(at) {
@@ -20,7 +20,7 @@ pub(crate) fn flag(flags: &[bool], at: usize) -> bool
 }
 
 /// The flags at a place of lists of them.
-pub(crate) fn flags(lists: &[Vec<bool>], at: usize) -> &[bool]
+pub fn flags(lists: &[Vec<bool>], at: usize) -> &[bool]
     ensures { result.now ≡ unwrap_or (slice_get (map (λ v. v.items) lists.now) at) [] }
 {
     match lists.get(at) {
@@ -41,7 +41,8 @@ pub(crate) fn are_met(enabled: &[bool], targets: &[Option<usize>]) -> bool
     true
 }
 
-fn lacks_target(enabled: &[bool], targets: &[Option<usize>], number: usize) -> bool
+/// Whether a dependency is there, is enabled and has no target.
+pub fn lacks_target(enabled: &[bool], targets: &[Option<usize>], number: usize) -> bool
     ensures { result ≡ (is_missing (slice_get targets.now number) && flag_at enabled.now number) }
 {
     match targets.get(number) {
@@ -64,7 +65,7 @@ pub(crate) fn are_led_to(
 }
 
 /// Where enabled dependencies lead.
-fn places_led_to(
+pub fn places_led_to(
     alloc: Global,
     enabled: &[bool],
     targets: &[Option<usize>],

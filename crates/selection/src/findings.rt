@@ -5,7 +5,7 @@ use lockfile::Package;
 
 /// The packages of a lock with what they bring, the facts of features, and what lists lead to.
 #[derive(Drop)]
-pub(crate) struct Findings<'a> {
+pub struct Findings<'a> {
     pub content: &'a [Package],
     /// The place of the root.
     pub root: usize,

@@ -9,7 +9,9 @@
 //! class stand side by side too, but for the root, which may stand between them (`classes_once.rt`).
 //!
 //! A layer above may rely on this: `verify` says `Valid` exactly where the content is a valid selection; else it gives
-//! the first package, in package order, with its lowest fault (`IsVerdict`, in `model`).
+//! the first package, in package order, with its lowest fault (`IsVerdict`, in `model`). `findings_of` gives what all
+//! of
+//! this goes by, for those who tell more than the first fault.
 #![tactic(auto)]
 
 mod checked;
@@ -25,6 +27,9 @@ mod targets;
 mod verdict;
 mod verifying;
 
+pub use classes_once::{is_like, place_before};
+pub use enabled::{flag, flags, lacks_target, places_led_to};
+pub use findings::Findings;
 pub use targets::target;
 pub use verdict::{Verdict, VerdictFault};
-pub use verifying::verify;
+pub use verifying::{findings_of, verify};

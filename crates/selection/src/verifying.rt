@@ -3,6 +3,7 @@
 ghost use Rattle.std.specs.Prelude.{◌≡◌, ◌↔◌, IfOk};
 ghost use Rattle.model.specs.Selection.{IsValidSelection};
 ghost use Rattle.catalogue.specs.Problems.{problem_in};
+ghost use Rattle.selection.specs.Places.{AreFound};
 ghost use Rattle.selection.specs.Verdicts.{IsVerdictOn};
 
 use crate::faults::{invalid, verdict_by};
@@ -30,19 +31,34 @@ pub fn verify(
     ensures selects { IfOk result
         (λ v. (v ≡ Verdict.Valid) ↔ IsValidSelection (problem_in manifest.now catalogue.now) content.now) }
 {
+    let found = findings_of(alloc, manifest, catalogue, content)?;
+    match found {
+        Some(findings) => verdict_by(alloc, &findings),
+        None => invalid(VerdictFault::Root, manifest.name(), manifest.version()),
+    }
+}
+
+/// What is found of a content, if it has a root package. The only error is want of memory.
+pub fn findings_of<'a>(
+    alloc: Global,
+    manifest: &'a Manifest,
+    catalogue: &'a Catalogue,
+    content: &'a LockContent,
+) -> Result<Option<Findings<'a>>, AllocError>
+    ensures { IfOk result (AreFound (problem_in manifest.entry.now catalogue.entry.now) content.entry.now) }
+{
     let content = content.packages();
     let Some(root) = root_of(manifest, content) else {
-        return invalid(VerdictFault::Root, manifest.name(), manifest.version());
+        return Ok(None);
     };
     let nodes = nodes(alloc, manifest, catalogue, content)?;
     let facts = facts_of(alloc, &nodes, root)?;
     let reached = reached(alloc, content, root)?;
-    let findings = Findings {
+    Ok(Some(Findings {
         content,
         root,
         nodes,
         facts,
         reached,
-    };
-    verdict_by(alloc, &findings)
+    }))
 }

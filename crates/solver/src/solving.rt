@@ -3,7 +3,7 @@
 ghost use Rattle.std.specs.Prelude.{◌≡◌, ◌≤◌, IfOk, IfSome, codes, is_some, true};
 ghost use Rattle.incompatibilities.specs.Stores.{entries_view};
 ghost use Rattle.catalogue.specs.Problems.{problem_in};
-ghost use Rattle.encoding.specs.Inputs.{problem};
+ghost use Rattle.encoding.specs.KnownProblem.{problem};
 ghost use Rattle.guiding.specs.Guides.{HasSearched, IsOfInstance};
 ghost use Rattle.encoding.specs.Numberings.{IsNumbering};
 ghost use Rattle.propagation.specs.Trails.{trail_view};
@@ -16,7 +16,7 @@ ghost use Rattle.walks.specs.Preferred.{preferred_in};
 use crate::counting::axioms_in;
 use catalogue::Catalogue;
 use derivations::Derivation;
-use encoding::{Inputs, Matched, Table};
+use encoding::{KnownProblem, Matched, Table};
 use features::{FeatureName, NameFault};
 use gathering::content;
 use guiding::{Encoded, Searched, search_over};
@@ -70,7 +70,7 @@ pub fn solve(
     ensures axioms { IfOk result (λ s. axioms_of (derivation_of s.outcome) ≤ s.axioms) }
 {
     let default = default_name(alloc)?;
-    let inputs = Inputs {
+    let inputs = KnownProblem {
         manifest,
         catalogue,
         default: &default,
@@ -123,7 +123,7 @@ fn followed<'a, S: States + Drop>(guide: Encoded<'a, S>) -> Outcome
 /// What a search found, as a content or a derivation.
 fn found<'a, S: States + Drop>(
     alloc: Global,
-    inputs: &Inputs<'a>,
+    inputs: &KnownProblem<'a>,
     searched: &Searched<'a, S>,
 ) -> Result<Outcome, AllocError>
     requires { HasSearched (problem inputs.now) searched.now.guide (trail_view S.tests searched.now.trail)
@@ -150,7 +150,7 @@ fn found<'a, S: States + Drop>(
 /// that is read is so large that a run gets there, so this has no error of its own.
 fn why_unsolvable<'a, S: States + Drop>(
     alloc: Global,
-    inputs: &Inputs<'a>,
+    inputs: &KnownProblem<'a>,
     table: &Table<'a>,
     store: &Store<S>,
     last: Id,

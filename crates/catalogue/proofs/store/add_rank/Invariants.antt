@@ -6,9 +6,9 @@ use Rattle.catalogue.proofs.store.add_rank.Given as goal
 abbrev pub invariant-places : goal.invariant-places
 invariant-places l =
     record {
-      within : l.place ≤ length l.records;
-      told : l.order.items ++ filter (λ i. is_ranked l.rank (slice_get (map (λ c. c.rank) l.records) i))
-          (places_down l.place) ≡ l.fn.order.items ++ places_of l.rank (map (λ c. c.rank) l.records);
+      within : l.place ≤ length l.candidates;
+      told : l.order.items ++ filter (λ i. is_ranked l.rank (slice_get (map (λ c. c.rank) l.candidates) i))
+          (places_down l.place) ≡ l.fn.order.items ++ places_of l.rank (map (λ c. c.rank) l.candidates);
     }
 
 abbrev pub decreases-places : goal.decreases-places

@@ -8,12 +8,12 @@ use Rattle.catalogue.proofs.store.candidate_in.Goals as goal
 pub place_of-requires : goal.place_of-requires
 place_of-requires c =
     let cs = c.args.candidates.now in
-    rw c.as_slice.ensures.value (versions_rise cs.versions.items cs.records.items cs.beside cs.rising)
+    rw c.as_slice.ensures.value (versions_rise cs.versions.items cs.candidates.items cs.beside cs.rising)
 
 pub returns-in_err-place : goal.returns-in_err-place
 returns-in_err-place c =
     let cs = c.args.candidates.now in
-    rw c.from_residual.ensures (sym (ap (option_map said) (none_found cs.versions.items cs.records.items
+    rw c.from_residual.ensures (sym (ap (option_map said) (none_found cs.versions.items cs.candidates.items
     (parts_of c.args.version.now) (rw c.as_slice.ensures.value at c.in_err-place.ensures))))
 
 pub returns : goal.returns
@@ -21,5 +21,5 @@ returns c =
     let cs = c.args.candidates.now in
     let got = rw c.deref.ensures.value at
     (item_at said_by c.deref.result.now c.in_ok-place.place c.get.result c.get.ensures.lookup) in
-    got ∙ candidate_found cs.versions.items cs.records.items (parts_of c.args.version.now) c.in_ok-place.place cs.beside
+    got ∙ candidate_found cs.versions.items cs.candidates.items (parts_of c.args.version.now) c.in_ok-place.place cs.beside
     cs.rising (rw c.as_slice.ensures.value at c.in_ok-place.ensures)

@@ -6,7 +6,7 @@ use Rattle.model.specs.Axioms.{IsVertex}
 use Rattle.model.specs.Vertices.{Vertex}
 use Rattle.encoding.specs.Assignments.{state_at}
 use Rattle.encoding.specs.GivenViews.{given_views}
-use Rattle.encoding.specs.Inputs.{problem}
+use Rattle.encoding.specs.KnownProblem.{problem}
 use Rattle.encoding.specs.Numberings.{AddsOnly}
 use Rattle.encoding.specs.Pairs.{IsCauseAt, IsGivenAt, IsSpokenOf}
 use Rattle.vertices.specs.RefViews.{vertex_ref_view}

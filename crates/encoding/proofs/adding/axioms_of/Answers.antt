@@ -1,7 +1,7 @@
 use Rattle.std.proofs.Common.{sym, subst}
 use Rattle.std.proofs.lemmas.Result.{IfOk-weaker}
 use Rattle.encoding.specs.GivenViews.{cause_views, given_views}
-use Rattle.encoding.specs.Inputs.{problem}
+use Rattle.encoding.specs.KnownProblem.{problem}
 use Rattle.encoding.specs.Pairs.{Pair, AreCausesAt, AreGiven, IsGivenAt}
 use Rattle.vertices.specs.RefViews.{state_ref_view, vertex_ref_view}
 use Rattle.encoding.proofs.AddLaws.{causes_there}

@@ -1,7 +1,7 @@
 use Rattle.std.proofs.Common.{◌≡◌, ◌≤◌, length, arith, refl, sym, true, subst}
 use Rattle.refutations.specs.Causes.{Cause, is_cause}
 use Rattle.encoding.specs.GivenViews.{given_views}
-use Rattle.encoding.specs.Inputs.{problem}
+use Rattle.encoding.specs.KnownProblem.{problem}
 use Rattle.encoding.specs.Pairs.{AreGiven}
 use Rattle.encoding.proofs.Adds.{causes_add}
 use Rattle.encoding.proofs.Needing.{grows_on}

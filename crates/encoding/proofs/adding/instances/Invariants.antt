@@ -1,6 +1,6 @@
 use Rattle.std.proofs.Common.{◌≡◌, take, Contains}
 use Rattle.encoding.specs.GivenViews.{cause_views, given_views}
-use Rattle.encoding.specs.Inputs.{problem}
+use Rattle.encoding.specs.KnownProblem.{problem}
 use Rattle.encoding.specs.Numberings.{AddsOnly, IsGrown, IsNumbering}
 use Rattle.encoding.specs.Pairs.{AreGiven, IsSpokenOf}
 use Rattle.encoding.proofs.adding.instances.Given as goal

@@ -1,5 +1,5 @@
 use Rattle.named_terms.specs.CauseViews.{cause_view}
-use Rattle.encoding.specs.Inputs.{problem}
+use Rattle.encoding.specs.KnownProblem.{problem}
 use Rattle.encoding.proofs.AddLaws.{given_put}
 use Rattle.encoding.proofs.adding.put_instance.Goals as goal
 

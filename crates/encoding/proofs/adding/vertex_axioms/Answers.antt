@@ -3,7 +3,7 @@ use Rattle.std.proofs.lemmas.Result.{IfOk-weaker}
 use Rattle.model.specs.Vertices.{State}
 use Rattle.encoding.specs.Assignments.{state_at}
 use Rattle.encoding.specs.GivenViews.{given_views}
-use Rattle.encoding.specs.Inputs.{problem}
+use Rattle.encoding.specs.KnownProblem.{problem}
 use Rattle.encoding.specs.Numberings.{AddsOnly}
 use Rattle.encoding.specs.Pairs.{IsCauseAt, IsGivenAt, IsSpokenOf}
 use Rattle.vertices.specs.RefViews.{state_ref_view, vertex_ref_view}

@@ -9,7 +9,7 @@ use Rattle.model.specs.Vertices.{owner_brings, version_of}
 use Rattle.encoding.specs.Called.{called_so, numbered_from}
 use Rattle.encoding.specs.GivenViews.{cause_views}
 use Rattle.encoding.specs.CausesAt.{entry_if}
-use Rattle.encoding.specs.Inputs.{problem}
+use Rattle.encoding.specs.KnownProblem.{problem}
 use Rattle.encoding.proofs.CalledLaws.{entry_called, entry_without}
 use Rattle.encoding.proofs.causes.put_each.Goals as goal
 

@@ -7,7 +7,7 @@ use Rattle.model.specs.Summary as model
 use Rattle.refutations.specs.Causes.{Cause}
 use Rattle.encoding.specs.GivenViews.{cause_views}
 use Rattle.encoding.specs.CausesAt.{entry_causes}
-use Rattle.encoding.specs.Inputs.{problem}
+use Rattle.encoding.specs.KnownProblem.{problem}
 use Rattle.encoding.proofs.causes.put_feature.Goals as goal
 
 pub entries-preserved : goal.entries-preserved

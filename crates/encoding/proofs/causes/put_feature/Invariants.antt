@@ -4,7 +4,7 @@ use Rattle.semver.specs.Identifiers.{parts_of}
 use Rattle.features.specs.EntryViews.{entry_views}
 use Rattle.encoding.specs.GivenViews.{cause_views}
 use Rattle.encoding.specs.CausesAt.{entry_causes}
-use Rattle.encoding.specs.Inputs.{problem}
+use Rattle.encoding.specs.KnownProblem.{problem}
 use Rattle.encoding.proofs.causes.put_feature.Given as goal
 
 -- the causes so far, with those of the entries that are left, are all

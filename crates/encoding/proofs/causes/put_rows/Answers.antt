@@ -9,7 +9,7 @@ use Rattle.model.specs.Summary as model
 use Rattle.refutations.specs.Causes.{Cause}
 use Rattle.encoding.specs.GivenViews.{cause_views}
 use Rattle.encoding.specs.CausesAt.{entry_causes, feature_causes}
-use Rattle.encoding.specs.Inputs.{problem}
+use Rattle.encoding.specs.KnownProblem.{problem}
 use Rattle.encoding.proofs.SameCauses.{rest_more}
 use Rattle.encoding.proofs.causes.put_rows.Goals as goal
 

@@ -4,7 +4,7 @@ use Rattle.semver.specs.Identifiers.{parts_of}
 use Rattle.features.specs.Tables.{rows_of}
 use Rattle.encoding.specs.GivenViews.{cause_views}
 use Rattle.encoding.specs.CausesAt.{feature_causes}
-use Rattle.encoding.specs.Inputs.{problem}
+use Rattle.encoding.specs.KnownProblem.{problem}
 use Rattle.encoding.proofs.causes.put_rows.Given as goal
 
 -- the causes so far, with those of the rows that are left, are all

@@ -5,7 +5,7 @@ use Rattle.features.specs.EntryViews.{entry_view}
 use Rattle.encoding.specs.Called.{numbered_views}
 use Rattle.encoding.specs.GivenViews.{cause_views}
 use Rattle.encoding.specs.CausesAt.{entry_if}
-use Rattle.encoding.specs.Inputs.{problem}
+use Rattle.encoding.specs.KnownProblem.{problem}
 use Rattle.encoding.proofs.causes.put_those.Given as goal
 
 -- the causes so far, with those of the dependencies that are left, are all

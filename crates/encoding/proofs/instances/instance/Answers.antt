@@ -4,28 +4,28 @@ use Rattle.model.proofs.Accepted.{instance_apart}
 use Rattle.refutations.specs.Causes.{kind_of, terms_of_cause}
 use Rattle.refutations.proofs.CauseLaws.{cause_instance}
 use Rattle.named_terms.specs.CauseViews.{cause_view}
-use Rattle.encoding.specs.Inputs.{problem}
-use Rattle.encoding.specs.Parts.{AreOfParts, part_views}
+use Rattle.encoding.specs.KnownProblem.{problem}
+use Rattle.encoding.specs.TestedTerms.{AreOfTested, tested_views}
 use Rattle.encoding.proofs.Adds.{cause_adds}
 use Rattle.encoding.proofs.Putting.{are_numbered, cause_fits}
 use Rattle.encoding.proofs.Saying.{one_each}
 use Rattle.encoding.proofs.instances.instance.Goals as goal
 
-pub put_parts-requires-clause-fit : goal.put_parts-requires-clause-fit
-put_parts-requires-clause-fit g c =
+pub put_all_tested-requires-clause-fit : goal.put_all_tested-requires-clause-fit
+put_all_tested-requires-clause-fit g c =
     cause_fits c.args.inputs.now.manifest.now c.args.inputs.now.catalogue.now (cause_view c.args.cause.now)
-    (part_views c.as_slice.result.now)
+    (tested_views c.as_slice.result.now)
     c.names.ensures.store c.catalogues_are_well_formed.ensures c.requires.there
-    (ap part_views c.as_slice.ensures.value ∙ c.in_ok-parts.ensures)
+    (ap tested_views c.as_slice.ensures.value ∙ c.in_ok-tested_terms.ensures)
 
 pub made_of-requires : goal.made_of-requires
 made_of-requires g c =
     let q = problem c.args.inputs.now in
     let ts = terms_of_cause q (cause_view c.args.cause.now) in
-    let are = are_numbered q c.put_parts.new.table (terms_view g.S.States.tests c.in_ok-terms.terms.items) ts
-    (subst (AreOfParts c.put_parts.new.table (terms_view g.S.States.tests c.in_ok-terms.terms.items))
-    (ap part_views c.as_slice.ensures.value ∙ c.in_ok-parts.ensures) c.in_ok-terms.ensures.terms) in
-    one_each q c.put_parts.new.table c.put_parts.ensures.numbering.once
+    let are = are_numbered q c.put_all_tested.new.table (terms_view g.S.States.tests c.in_ok-terms.terms.items) ts
+    (subst (AreOfTested c.put_all_tested.new.table (terms_view g.S.States.tests c.in_ok-terms.terms.items))
+    (ap tested_views c.as_slice.ensures.value ∙ c.in_ok-tested_terms.ensures) c.in_ok-terms.ensures.terms) in
+    one_each q c.put_all_tested.new.table c.put_all_tested.ensures.numbering.once
     (terms_view g.S.States.tests c.in_ok-terms.terms.items) ts are
     (instance_apart q (kind_of (cause_view c.args.cause.now)) ts
     (cause_instance q (cause_view c.args.cause.now) c.requires.there))
@@ -34,19 +34,19 @@ pub returns-clause-says : goal.returns-clause-says
 returns-clause-says g c =
     let q = problem c.args.inputs.now in
     let ts = terms_of_cause q (cause_view c.args.cause.now) in
-    let are = are_numbered q c.put_parts.new.table (terms_view g.S.States.tests c.in_ok-terms.terms.items) ts
-    (subst (AreOfParts c.put_parts.new.table (terms_view g.S.States.tests c.in_ok-terms.terms.items))
-    (ap part_views c.as_slice.ensures.value ∙ c.in_ok-parts.ensures) c.in_ok-terms.ensures.terms) in
-    c.made_of.ensures.says q c.put_parts.new.table ts c.put_parts.ensures.numbering are
+    let are = are_numbered q c.put_all_tested.new.table (terms_view g.S.States.tests c.in_ok-terms.terms.items) ts
+    (subst (AreOfTested c.put_all_tested.new.table (terms_view g.S.States.tests c.in_ok-terms.terms.items))
+    (ap tested_views c.as_slice.ensures.value ∙ c.in_ok-tested_terms.ensures) c.in_ok-terms.ensures.terms) in
+    c.made_of.ensures.says q c.put_all_tested.new.table ts c.put_all_tested.ensures.numbering are
 
 pub returns-in_err-terms-clause-only : goal.returns-in_err-terms-clause-only
 returns-in_err-terms-clause-only g c =
     cause_adds (problem c.args.inputs.now) (cause_view c.args.cause.now)
-    (part_views c.as_slice.result.now) c.args.table.now c.put_parts.new.table
-    (ap part_views c.as_slice.ensures.value ∙ c.in_ok-parts.ensures) c.put_parts.ensures.only
+    (tested_views c.as_slice.result.now) c.args.table.now c.put_all_tested.new.table
+    (ap tested_views c.as_slice.ensures.value ∙ c.in_ok-tested_terms.ensures) c.put_all_tested.ensures.only
 
 pub returns-clause-only : goal.returns-clause-only
 returns-clause-only g c =
     cause_adds (problem c.args.inputs.now) (cause_view c.args.cause.now)
-    (part_views c.as_slice.result.now) c.args.table.now c.put_parts.new.table
-    (ap part_views c.as_slice.ensures.value ∙ c.in_ok-parts.ensures) c.put_parts.ensures.only
+    (tested_views c.as_slice.result.now) c.args.table.now c.put_all_tested.new.table
+    (ap tested_views c.as_slice.ensures.value ∙ c.in_ok-tested_terms.ensures) c.put_all_tested.ensures.only

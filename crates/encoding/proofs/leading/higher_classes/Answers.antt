@@ -6,7 +6,7 @@ use Rattle.features.specs.Views.{dependency_view}
 use Rattle.model.specs.Axioms.{is_lower}
 use Rattle.model.specs.Vertices.{same_class}
 use Rattle.encoding.specs.Higher.{AreAbove, AreHigher}
-use Rattle.encoding.specs.Inputs.{problem}
+use Rattle.encoding.specs.KnownProblem.{problem}
 use Rattle.encoding.proofs.HigherLaws.{are_higher}
 use Rattle.encoding.proofs.leading.higher_classes.Goals as goal
 

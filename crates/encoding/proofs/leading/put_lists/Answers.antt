@@ -4,7 +4,7 @@ use Rattle.model.specs.Summary.{asked_of_target}
 use Rattle.refutations.specs.Causes.{of_list}
 use Rattle.encoding.specs.GivenViews.{cause_views}
 use Rattle.encoding.specs.CausesAt.{root_asked}
-use Rattle.encoding.specs.Inputs.{problem}
+use Rattle.encoding.specs.KnownProblem.{problem}
 use Rattle.classes.specs.Classes.{class_view}
 use Rattle.vertices.specs.RefViews.{owner_ref_view}
 use Rattle.encoding.proofs.LeadLaws.{both_lists}

@@ -9,7 +9,7 @@ use Rattle.encoding.specs.Called.{numbered_from}
 use Rattle.encoding.specs.CausesAt.{newest_if}
 use Rattle.encoding.specs.GivenViews.{cause_views}
 use Rattle.encoding.specs.Higher.{others_on}
-use Rattle.encoding.specs.Inputs.{problem}
+use Rattle.encoding.specs.KnownProblem.{problem}
 use Rattle.encoding.specs.OnPackage.{on_package}
 use Rattle.vertices.specs.RefViews.{owner_ref_view}
 use Rattle.encoding.proofs.OnPackageLaws.{newest_on, newest_others}

@@ -5,7 +5,7 @@ use Rattle.classes.specs.Classes.{class_view}
 use Rattle.features.specs.Views.{dependency_view}
 use Rattle.encoding.specs.Called.{numbered_views}
 use Rattle.encoding.specs.GivenViews.{cause_views}
-use Rattle.encoding.specs.Inputs.{problem}
+use Rattle.encoding.specs.KnownProblem.{problem}
 use Rattle.vertices.specs.RefViews.{owner_ref_view}
 use Rattle.encoding.proofs.HigherLaws.{all_same, no_views, none_alone, none_newest}
 use Rattle.encoding.proofs.leading.put_newest_of.Goals as goal

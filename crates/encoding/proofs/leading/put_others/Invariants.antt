@@ -3,7 +3,7 @@ use Rattle.std.specs.List.{flat_map}
 use Rattle.encoding.specs.Called.{numbered_views}
 use Rattle.encoding.specs.GivenViews.{cause_views}
 use Rattle.encoding.specs.Higher.{newest_among}
-use Rattle.encoding.specs.Inputs.{problem}
+use Rattle.encoding.specs.KnownProblem.{problem}
 use Rattle.classes.specs.Classes.{class_view}
 use Rattle.vertices.specs.RefViews.{owner_ref_view}
 use Rattle.encoding.proofs.leading.put_others.Given as goal

@@ -2,7 +2,7 @@ use Rattle.std.proofs.Common.{List, ◌∷◌, map, sym, ap, ◌∙◌}
 use Rattle.classes.specs.Classes.{class_view}
 use Rattle.classes.specs.declared.class.Class.{Class}
 use Rattle.model.specs.Vertices.{absent, in_class}
-use Rattle.encoding.specs.Inputs.{problem}
+use Rattle.encoding.specs.KnownProblem.{problem}
 use Rattle.encoding.proofs.Stated.{classes_space}
 use Rattle.encoding.proofs.Tested.{map_map}
 use Rattle.vertices.specs.RefViews.{owner_ref_view}

@@ -1,6 +1,6 @@
 use Rattle.std.proofs.Common.{◌≡◌, ◌++◌, ◌∷◌, false, map, drop}
 use Rattle.semver.specs.Identifiers.{parts_of}
-use Rattle.encoding.specs.Parts.{is_chosen}
+use Rattle.encoding.specs.TestedTerms.{is_chosen}
 use Rattle.encoding.proofs.space_tests.chosen_tests.Given as goal
 
 -- the tests so far, with those of the versions that are left, are those of all

@@ -1,6 +1,6 @@
 use Rattle.std.proofs.Common.{◌≡◌, ◌++◌, ◌∷◌, false, map, drop}
 use Rattle.classes.specs.Classes.{class_view}
-use Rattle.encoding.specs.Parts.{is_class}
+use Rattle.encoding.specs.TestedTerms.{is_class}
 use Rattle.encoding.proofs.space_tests.class_tests.Given as goal
 
 -- the tests so far, with those of the classes that are left, are those of all

@@ -1,6 +1,6 @@
 use Rattle.std.proofs.Common.{◌≡◌, ◌++◌, ◌∷◌, true, map, drop}
 use Rattle.semver.specs.Identifiers.{parts_of}
-use Rattle.encoding.specs.Inputs.{problem}
+use Rattle.encoding.specs.KnownProblem.{problem}
 use Rattle.looking_up.specs.Matching.{is_lacking}
 use Rattle.encoding.proofs.space_tests.lacking_tests.Given as goal
 

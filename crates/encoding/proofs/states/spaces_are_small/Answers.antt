@@ -1,4 +1,4 @@
-use Rattle.encoding.specs.Inputs.{problem}
+use Rattle.encoding.specs.KnownProblem.{problem}
 use Rattle.encoding.proofs.Putting.{spaces_few}
 use Rattle.encoding.proofs.Stated.{some_states}
 use Rattle.encoding.proofs.states.spaces_are_small.Goals as goal

@@ -1,5 +1,5 @@
 use Rattle.std.proofs.Common.{◌≤◌, arith, length, take_all, sym, subst}
-use Rattle.encoding.specs.Inputs.{problem}
+use Rattle.encoding.specs.KnownProblem.{problem}
 use Rattle.encoding.specs.Numberings.{IsWhole}
 use Rattle.encoding.proofs.Needing.{grows_on}
 use Rattle.full_encoding.proofs.Counted.{spaces_few, taken_grows}

@@ -3,7 +3,7 @@ use Rattle.std.proofs.Common.{subst}
 use Rattle.std.proofs.lemmas.List.{take-append-drop}
 use Rattle.encoding.specs.Assignments.{state_at}
 use Rattle.encoding.specs.GivenViews.{given_views}
-use Rattle.encoding.specs.Inputs.{problem}
+use Rattle.encoding.specs.KnownProblem.{problem}
 use Rattle.encoding.specs.Pairs.{IsGivenAt}
 use Rattle.encoding.proofs.Needing.{still_at}
 use Rattle.full_encoding.specs.Encodings.{IsGivenIf}

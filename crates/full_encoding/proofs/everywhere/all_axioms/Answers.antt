@@ -1,7 +1,7 @@
 use Rattle.std.proofs.Common.{◌≡◌, ◌<◌, ◌≤◌, ◌+◌, suc, length, take, take_all, Some, slice_get, refl, sym, ap, ◌∙◌}
 use Rattle.std.proofs.Common.{subst, arith}
 use Rattle.encoding.specs.GivenViews.{given_views}
-use Rattle.encoding.specs.Inputs.{problem}
+use Rattle.encoding.specs.KnownProblem.{problem}
 use Rattle.encoding.proofs.Needing.{grows_on, still_at}
 use Rattle.encoding.proofs.Places.{get_below}
 use Rattle.full_encoding.specs.Everywhere.{IsGivenFor, all_pairs}

@@ -1,6 +1,6 @@
 use Rattle.std.proofs.Common.{◌≡◌, take}
 use Rattle.encoding.specs.GivenViews.{given_views}
-use Rattle.encoding.specs.Inputs.{problem}
+use Rattle.encoding.specs.KnownProblem.{problem}
 use Rattle.encoding.specs.Numberings.{IsGrown, IsNumbering}
 use Rattle.full_encoding.specs.Everywhere.{IsGivenFor, all_pairs}
 use Rattle.full_encoding.proofs.everywhere.all_axioms.Given as goal

@@ -6,7 +6,7 @@ use Rattle.vertices.specs.Kinds.{kind_view}
 use Rattle.vertices.specs.RefViews.{state_ref_view, vertex_ref_view}
 use Rattle.vertices.specs.declared.kind.Kind.{Kind}
 use Rattle.encoding.specs.GivenViews.{given_views}
-use Rattle.encoding.specs.Inputs.{problem}
+use Rattle.encoding.specs.KnownProblem.{problem}
 use Rattle.encoding.specs.Pairs.{Pair}
 use Rattle.full_encoding.specs.Everywhere.{IsGivenFor}
 use Rattle.full_encoding.proofs.Pairing.{given_pair, given_stays}

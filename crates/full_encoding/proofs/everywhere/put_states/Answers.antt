@@ -3,7 +3,7 @@ use Rattle.std.proofs.Common.{Contains, arith}
 use Rattle.std.proofs.lemmas.List.{length-map}
 use Rattle.model.specs.Vertices.{State, space}
 use Rattle.encoding.specs.GivenViews.{given_views}
-use Rattle.encoding.specs.Inputs.{problem}
+use Rattle.encoding.specs.KnownProblem.{problem}
 use Rattle.encoding.proofs.AddLaws.{state_in}
 use Rattle.encoding.proofs.Needing.{grows_on}
 use Rattle.vertices.specs.RefViews.{state_ref_view, vertex_ref_view}

@@ -1,7 +1,7 @@
 use Rattle.std.proofs.Common.{◌≡◌, ◌++◌, List, map, take, Contains}
 use Rattle.model.specs.Vertices.{State, space}
 use Rattle.encoding.specs.GivenViews.{given_views}
-use Rattle.encoding.specs.Inputs.{problem}
+use Rattle.encoding.specs.KnownProblem.{problem}
 use Rattle.encoding.specs.Numberings.{IsGrown, IsNumbering}
 use Rattle.encoding.specs.Pairs.{Pair}
 use Rattle.vertices.specs.RefViews.{vertex_ref_view}

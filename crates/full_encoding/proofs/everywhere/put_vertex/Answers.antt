@@ -5,7 +5,7 @@ use Rattle.std.proofs.lemmas.Result.{on_ok_weaker}
 use Rattle.model.specs.Axioms.{IsVertex}
 use Rattle.model.specs.Vertices.{State, Vertex}
 use Rattle.encoding.specs.GivenViews.{given_views}
-use Rattle.encoding.specs.Inputs.{problem}
+use Rattle.encoding.specs.KnownProblem.{problem}
 use Rattle.encoding.proofs.AddLaws.{vertex_there}
 use Rattle.vertices.specs.RefViews.{vertex_ref_view}
 use Rattle.full_encoding.specs.Everywhere.{IsGivenFor, pairs_of}

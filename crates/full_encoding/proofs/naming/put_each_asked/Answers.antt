@@ -4,7 +4,7 @@ use Rattle.std.proofs.lemmas.List.{append_assoc, drop_more}
 use Rattle.model.specs.Summary.{Dependency}
 use Rattle.model.specs.Vertices.{Vertex}
 use Rattle.encoding.specs.Called.{numbered_view, numbered_views}
-use Rattle.encoding.specs.Inputs.{problem}
+use Rattle.encoding.specs.KnownProblem.{problem}
 use Rattle.full_encoding.specs.Everything.{feature_of}
 use Rattle.full_encoding.specs.Views.{vertex_views}
 use Rattle.full_encoding.proofs.naming.put_each_asked.Goals as goal

@@ -7,7 +7,7 @@ use Rattle.features.specs.EntryViews.{entry_views}
 use Rattle.features.specs.Views.{summary_view}
 use Rattle.model.specs.Summary.{Entry, entries_at}
 use Rattle.refutations.specs.Causes.{entries_or_none}
-use Rattle.encoding.specs.Inputs.{problem}
+use Rattle.encoding.specs.KnownProblem.{problem}
 use Rattle.full_encoding.specs.Everything.{feature_of, of_entry}
 use Rattle.full_encoding.specs.Views.{vertex_views}
 use Rattle.full_encoding.proofs.Steps.{entries_are}

@@ -1,6 +1,6 @@
 use Rattle.std.proofs.Common.{◌≡◌, ◌++◌, drop}
 use Rattle.std.specs.List.{flat_map}
-use Rattle.encoding.specs.Inputs.{problem}
+use Rattle.encoding.specs.KnownProblem.{problem}
 use Rattle.full_encoding.specs.Everything.{of_name}
 use Rattle.full_encoding.specs.Views.{vertex_views}
 use Rattle.full_encoding.proofs.naming.put_names.Given as goal

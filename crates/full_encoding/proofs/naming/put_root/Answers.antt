@@ -6,7 +6,7 @@ use Rattle.features.specs.Views.{dependency_views}
 use Rattle.manifest.specs.Manifests.{asked_by}
 use Rattle.model.specs.Summary.{Dependency, Table}
 use Rattle.model.specs.Vertices.{Vertex, root, the_root}
-use Rattle.encoding.specs.Inputs.{problem}
+use Rattle.encoding.specs.KnownProblem.{problem}
 use Rattle.vertices.specs.RefViews.{vertex_ref_view}
 use Rattle.full_encoding.specs.Everything.{asked_of, each_from, of_dependency}
 use Rattle.full_encoding.specs.Views.{vertex_views}

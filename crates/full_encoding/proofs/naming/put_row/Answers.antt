@@ -5,7 +5,7 @@ use Rattle.model.specs.Vertices.{Vertex}
 use Rattle.features.specs.EntryViews.{entry_view, entry_views}
 use Rattle.manifest.specs.Manifests.{asked_by}
 use Rattle.model.specs.Summary as model
-use Rattle.encoding.specs.Inputs.{problem}
+use Rattle.encoding.specs.KnownProblem.{problem}
 use Rattle.full_encoding.specs.Everything.{asked_of}
 use Rattle.full_encoding.specs.Views.{vertex_views}
 use Rattle.full_encoding.proofs.naming.put_row.Goals as goal

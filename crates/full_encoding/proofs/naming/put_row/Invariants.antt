@@ -2,7 +2,7 @@ use Rattle.std.proofs.Common.{◌≡◌, ◌++◌, drop}
 use Rattle.std.specs.List.{flat_map}
 use Rattle.features.specs.EntryViews.{entry_views}
 use Rattle.manifest.specs.Manifests.{asked_by}
-use Rattle.encoding.specs.Inputs.{problem}
+use Rattle.encoding.specs.KnownProblem.{problem}
 use Rattle.full_encoding.specs.Everything.{asked_of}
 use Rattle.full_encoding.specs.Views.{vertex_views}
 use Rattle.full_encoding.proofs.naming.put_row.Given as goal

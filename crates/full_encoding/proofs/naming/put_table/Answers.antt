@@ -8,7 +8,7 @@ use Rattle.features.specs.Views.{summary_view}
 use Rattle.features.specs.declared.entry.Entry.{Entry}
 use Rattle.model.specs.Summary as model
 use Rattle.model.specs.Vertices.{Vertex}
-use Rattle.encoding.specs.Inputs.{problem}
+use Rattle.encoding.specs.KnownProblem.{problem}
 use Rattle.full_encoding.specs.Everything.{of_feature}
 use Rattle.full_encoding.specs.Views.{vertex_views}
 use Rattle.full_encoding.proofs.Steps.{rest_more}

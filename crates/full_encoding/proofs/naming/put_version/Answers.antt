@@ -8,7 +8,7 @@ use Rattle.model.specs.Summary.{Summary}
 use Rattle.model.specs.Vertices.{Vertex, pkg, version_of}
 use Rattle.catalogue.specs.Views.{said_by}
 use Rattle.catalogue.specs.declared.candidate.Candidate.{Candidate}
-use Rattle.encoding.specs.Inputs.{problem}
+use Rattle.encoding.specs.KnownProblem.{problem}
 use Rattle.looking_up.proofs.Brought.{is_there, not_there}
 use Rattle.vertices.specs.RefViews.{vertex_ref_view}
 use Rattle.full_encoding.specs.Everything.{each_from, of_dependency, of_table}

@@ -3,7 +3,7 @@ use Rattle.std.specs.List.{flat_map}
 use Rattle.std.proofs.lemmas.List.{append_assoc}
 use Rattle.std.proofs.lemmas.Result.{on_ok_weaker}
 use Rattle.features.specs.Views.{dependency_view}
-use Rattle.encoding.specs.Inputs.{problem}
+use Rattle.encoding.specs.KnownProblem.{problem}
 use Rattle.full_encoding.specs.Everything.{feature_of}
 use Rattle.full_encoding.specs.Views.{vertex_views}
 use Rattle.full_encoding.proofs.Steps.{own_list}

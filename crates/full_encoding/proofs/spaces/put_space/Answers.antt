@@ -1,5 +1,5 @@
 use Rattle.std.proofs.Common.{◌≡◌, length, rules, slice_get, vec_len, sym, subst, ap, ◌∙◌}
-use Rattle.encoding.specs.Inputs.{problem}
+use Rattle.encoding.specs.KnownProblem.{problem}
 use Rattle.encoding.proofs.Places.{get_below}
 use Rattle.full_encoding.specs.Encodings.{AreSpaces}
 use Rattle.full_encoding.proofs.Counted.{space_put}

@@ -1,5 +1,5 @@
 use Rattle.std.proofs.Common.{◌≤◌, ◌-◌, length}
-use Rattle.encoding.specs.Inputs.{problem}
+use Rattle.encoding.specs.KnownProblem.{problem}
 use Rattle.full_encoding.specs.Encodings.{AreSpaces}
 use Rattle.full_encoding.proofs.spaces.put_spaces.Given as goal
 

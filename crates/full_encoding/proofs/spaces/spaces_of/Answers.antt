@@ -1,6 +1,6 @@
 use Rattle.std.proofs.Common.{length, sym, subst, take_all}
 use Rattle.std.proofs.lemmas.List.{drop_all}
-use Rattle.encoding.specs.Inputs.{problem}
+use Rattle.encoding.specs.KnownProblem.{problem}
 use Rattle.full_encoding.specs.Encodings.{AreSpaces}
 use Rattle.full_encoding.proofs.Counted.{spaces_none}
 use Rattle.full_encoding.proofs.spaces.spaces_of.Goals as goal

@@ -1,7 +1,7 @@
 use Rattle.std.proofs.Common.{◌∙◌, ◌++◌, ap, sym}
 use Rattle.std.proofs.lemmas.Result.{on_ok_weaker}
 use Rattle.classes.specs.Classes.{class_view}
-use Rattle.encoding.specs.Inputs.{problem}
+use Rattle.encoding.specs.KnownProblem.{problem}
 use Rattle.vertices.specs.RefViews.{vertex_ref_view}
 use Rattle.full_encoding.specs.Everything.{each_feature, in_classes}
 use Rattle.full_encoding.specs.Views.{vertex_views}

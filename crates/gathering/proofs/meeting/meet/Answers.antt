@@ -6,7 +6,7 @@ use Rattle.propagation.specs.Trails.{trail_view}
 use Rattle.model.specs.Search.{LeadsTo}
 use Rattle.model.specs.Summary.{Dependency}
 use Rattle.reaching.specs.Nodes.{AreLeads}
-use Rattle.encoding.specs.Inputs.{problem}
+use Rattle.encoding.specs.KnownProblem.{problem}
 use Rattle.contents.specs.Contents.{owners_of}
 use Rattle.contents.proofs.Nodes.{begun, one_more, all_met, owner_next}
 use Rattle.gathering.specs.Leads.{AreThere, ends}

@@ -6,7 +6,7 @@ use Rattle.model.specs.Search.{LeadsTo}
 use Rattle.reaching.specs.Built.{IsBuilt}
 use Rattle.reaching.specs.Nodes.{AreFlags, AreMet}
 use Rattle.reaching.proofs.Found.{stands}
-use Rattle.encoding.specs.Inputs.{problem}
+use Rattle.encoding.specs.KnownProblem.{problem}
 use Rattle.contents.specs.Contents.{owners_of}
 use Rattle.gathering.specs.Leads.{ends}
 use Rattle.gathering.proofs.Brought.{root_brings}

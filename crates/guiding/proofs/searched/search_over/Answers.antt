@@ -2,7 +2,7 @@ use Rattle.std.proofs.Common.{◌<◌, ◌∙◌, List, sym, subst, arith}
 use Rattle.incompatibilities.specs.Stores.{EntryView, entries_view}
 use Rattle.propagation.specs.Promises.{LieIn}
 use Rattle.propagation.specs.Trails.{trail_view}
-use Rattle.encoding.specs.Inputs.{problem}
+use Rattle.encoding.specs.KnownProblem.{problem}
 use Rattle.guiding.proofs.Ended.{searched_of}
 use Rattle.guiding.proofs.searched.search_over.Goals as goal
 

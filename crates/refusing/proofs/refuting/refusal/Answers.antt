@@ -1,7 +1,7 @@
 use Rattle.std.proofs.lemmas.Result.{IfOk-weaker}
 use Rattle.incompatibilities.specs.Stores.{entries_view}
 use Rattle.model.specs.Derivation.{IsAccepted}
-use Rattle.encoding.specs.Inputs.{problem}
+use Rattle.encoding.specs.KnownProblem.{problem}
 use Rattle.decoding.specs.Needs.{place_in}
 use Rattle.decoding.specs.Steps.{AreStepsOf}
 use Rattle.refusing.specs.Refusing.{HasNoMore}

@@ -1,7 +1,7 @@
 use Rattle.std.proofs.Common.{◌≡◌, ◌≤◌, ◌++◌, ◌∷◌, [], ℕ, List, length, sym, subst, arith, ◌∙◌}
 use Rattle.incompatibilities.specs.Stores.{entries_view, entry}
 use Rattle.model.specs.Derivation.{Step}
-use Rattle.encoding.specs.Inputs.{problem}
+use Rattle.encoding.specs.KnownProblem.{problem}
 use Rattle.decoding.specs.Needs.{place_in}
 use Rattle.decoding.specs.Steps.{AreStepsOf, IsStepOf}
 use Rattle.refusing.specs.Refusing.{IsNext}

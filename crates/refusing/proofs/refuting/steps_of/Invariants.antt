@@ -1,6 +1,6 @@
 use Rattle.std.proofs.Common.{take}
 use Rattle.incompatibilities.specs.Stores.{entries_view}
-use Rattle.encoding.specs.Inputs.{problem}
+use Rattle.encoding.specs.KnownProblem.{problem}
 use Rattle.decoding.specs.Needs.{place_in}
 use Rattle.decoding.specs.Steps.{AreStepsOf}
 use Rattle.refusing.specs.Refusing.{AreListed, AreSpelt}

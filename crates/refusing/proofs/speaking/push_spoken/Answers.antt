@@ -2,7 +2,7 @@ use Rattle.std.proofs.Common.{◌≡◌, [], ◌∷◌, ◌++◌, append-nil, So
 use Rattle.std.specs.Prelude.{option_map}
 use Rattle.std.proofs.lemmas.List.{map-append}
 use Rattle.vertices.specs.RefViews.{vertex_ref_view}
-use Rattle.encoding.specs.Inputs.{problem}
+use Rattle.encoding.specs.KnownProblem.{problem}
 use Rattle.decoding.specs.Decoding.{size_of, with_term}
 use Rattle.refusing.specs.Refusing.{spoken_view, spoken_views}
 use Rattle.refusing.proofs.speaking.push_spoken.Goals as goal

@@ -2,7 +2,7 @@ use Rattle.std.proofs.Common.{◌≡◌, ap, ap₂, ◌∙◌}
 use Rattle.model.specs.Axioms.{at}
 use Rattle.model.specs.Vertices.{space}
 use Rattle.vertices.specs.RefViews.{state_ref_view, state_ref_views, vertex_ref_view}
-use Rattle.encoding.specs.Inputs.{problem}
+use Rattle.encoding.specs.KnownProblem.{problem}
 use Rattle.decoding.specs.Decoding.{states_in}
 use Rattle.refusing.proofs.Sized.{map_chosen}
 use Rattle.refusing.proofs.speaking.speak.Goals as goal

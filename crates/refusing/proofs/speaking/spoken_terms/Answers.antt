@@ -1,5 +1,5 @@
 use Rattle.std.proofs.Common.{arith}
-use Rattle.encoding.specs.Inputs.{problem}
+use Rattle.encoding.specs.KnownProblem.{problem}
 use Rattle.refusing.specs.Refusing.{spoken_views}
 use Rattle.refusing.proofs.Sized.{all_spoken, sized_at, spoken_more}
 use Rattle.refusing.proofs.speaking.spoken_terms.Goals as goal

@@ -4,7 +4,7 @@ use Rattle.terms.specs.Terms.{terms_view}
 use Rattle.incompatibilities.specs.Stores.{entries_view, entry}
 use Rattle.derivations.specs.Building.{ordered_terms}
 use Rattle.derivations.specs.Named.{named_views}
-use Rattle.encoding.specs.Inputs.{problem}
+use Rattle.encoding.specs.KnownProblem.{problem}
 use Rattle.decoding.specs.Decoding.{terms_of}
 use Rattle.decoding.specs.Needs.{place_in}
 use Rattle.refusing.specs.Refusing.{AreSized, AreThere, IsStepWith, spoken_views}

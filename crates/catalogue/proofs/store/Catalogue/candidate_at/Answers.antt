@@ -10,6 +10,6 @@ returns c =
     let found = c.in_ok-of.field-0.now in
     let got = rw c.deref.ensures.value at
     (item_at said_by c.deref.result.now c.args.place c.get.result c.get.ensures.lookup) in
-    got ∙ said_at found.versions.items found.records.items c.args.place found.beside
+    got ∙ said_at found.versions.items found.candidates.items c.args.place found.beside
     ∙ sym (ap (λ rs. option_map said (slice_get (records rs) c.args.place))
     (of_row c.args.self.now c.args.name.now _ c.in_ok-of.ensures))

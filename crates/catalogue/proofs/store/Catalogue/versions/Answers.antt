@@ -8,10 +8,10 @@ pub returns-in-Some-clause-versions : goal.returns-in-Some-clause-versions
 returns-in-Some-clause-versions c =
     let found = c.in-Some.candidates.now in
     rw c.as_slice.ensures.value
-    (versions_seen found.versions.items found.records.items found.beside ∙ sym (ap (λ rs.
+    (versions_seen found.versions.items found.candidates.items found.beside ∙ sym (ap (λ rs.
     map (λ r. r.version) (records rs)) (of_row c.args.self.now c.args.name.now _ c.in-Some.ensures)))
 
 pub returns-in-Some-clause-rising : goal.returns-in-Some-clause-rising
 returns-in-Some-clause-rising c =
     let found = c.in-Some.candidates.now in
-    rw c.as_slice.ensures.value (versions_rise found.versions.items found.records.items found.beside found.rising)
+    rw c.as_slice.ensures.value (versions_rise found.versions.items found.candidates.items found.beside found.rising)

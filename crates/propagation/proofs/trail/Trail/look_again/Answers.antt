@@ -9,7 +9,7 @@ pub is_within-requires-clause-vertex : goal.is_within-requires-clause-vertex
 is_within-requires-clause-vertex g c =
     let t = trail_view g.S.States.tests c.args.self.now in
     subst (λ v. v < length t.sets) (sym c.requires.vertex)
-    (vertex_within t c.requires.trail.sound t.walked c.requires.waits)
+    (vertex_within t c.requires.trail.sound t.propagated c.requires.waits)
 
 pub is_within-requires-clause-fits : goal.is_within-requires-clause-fits
 is_within-requires-clause-fits g c = c.requires.trail.lies c.args.posting.now.id c.requires.id c.args.vertex

@@ -2,7 +2,7 @@ use Rattle.std.proofs.Common.{◌≡◌, Some, slice_get, sym, ap, ◌∙◌}
 use Rattle.std.proofs.lemmas.Option.{same_Some}
 use Rattle.model.specs.Vertices.{Vertex, space}
 use Rattle.vertices.specs.RefViews.{state_ref_views, vertex_ref_view}
-use Rattle.encoding.specs.Inputs.{problem}
+use Rattle.encoding.specs.KnownProblem.{problem}
 use Rattle.refusing.proofs.Listed.{one_more}
 use Rattle.refusing.proofs.spaces.Spaces.put.Goals as goal
 

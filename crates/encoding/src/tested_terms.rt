@@ -12,11 +12,11 @@ ghost use Rattle.model.specs.Vertices as model;
 ghost use Rattle.refutations.specs.Causes as causes;
 ghost use Rattle.refutations.specs.Causes.{feature_holds, terms_of_cause};
 ghost use Rattle.named_terms.specs.CauseViews.{cause_view};
-ghost use Rattle.encoding.specs.Inputs.{problem};
-ghost use Rattle.encoding.specs.Parts.{part_of, part_view, part_views, parts_of_terms};
+ghost use Rattle.encoding.specs.KnownProblem.{problem};
+ghost use Rattle.encoding.specs.TestedTerms.{tested, tested_view, tested_views, all_tested};
 ghost use Rattle.vertices.specs.RefViews.{owner_ref_view, vertex_ref_view};
 
-use crate::inputs::Inputs;
+use crate::known_problem::KnownProblem;
 use crate::lookups::dependency_at;
 use crate::space_tests::{
     chosen_tests, class_tests, lacking_tests, left_tests, no_class, taken_tests,
@@ -33,64 +33,68 @@ use vertices::{OwnerRef, VertexRef};
 
 /// A term: a vertex, and for each of its states, in their order, whether the term has it.
 #[derive(Drop)]
-pub(crate) struct Part<'a> {
+pub(crate) struct TestedTerm<'a> {
     pub(crate) vertex: VertexRef<'a>,
     pub(crate) tests: Vec<bool>,
 }
 
 /// The terms of the instance.
-pub(crate) fn parts_of_cause<'a>(
+pub(crate) fn terms_tested<'a>(
     alloc: Global,
-    inputs: &Inputs<'a>,
+    inputs: &KnownProblem<'a>,
     cause: &Cause<'a>,
-) -> Result<Vec<Part<'a>>, AllocError>
-    ensures { IfOk result (λ v. part_views v.items
-        ≡ parts_of_terms (problem inputs.now) (terms_of_cause (problem inputs.now) (cause_view cause.now))) }
+) -> Result<Vec<TestedTerm<'a>>, AllocError>
+    ensures { IfOk result (λ v. tested_views v.items
+        ≡ all_tested (problem inputs.now) (terms_of_cause (problem inputs.now) (cause_view cause.now))) }
 {
     match *cause {
         Cause::Root => Ok(vec![in alloc; two_states(alloc, VertexRef::Root, false)?]?),
-        Cause::Need(owner, number) => need_parts(alloc, inputs, owner, number),
-        Cause::Target(owner, number, class) => target_parts(alloc, inputs, owner, number, class),
-        Cause::Feature(name, class, feature) => feature_parts(alloc, inputs, name, class, feature),
+        Cause::Need(owner, number) => need_terms(alloc, inputs, owner, number),
+        Cause::Target(owner, number, class) => target_terms(alloc, inputs, owner, number, class),
+        Cause::Feature(name, class, feature) => feature_terms(alloc, inputs, name, class, feature),
         Cause::List(owner, number, class, feature) => {
-            list_parts(alloc, inputs, owner, number, class, feature)
+            list_terms(alloc, inputs, owner, number, class, feature)
         }
         Cause::Ask(name, version, number, feature, class) => {
-            ask_parts(alloc, inputs, name, version, number, feature, class)
+            ask_terms(alloc, inputs, name, version, number, feature, class)
         }
-        Cause::Entry(name, version, on, off) => entry_parts(alloc, inputs, name, version, on, off),
+        Cause::Entry(name, version, on, off) => entry_terms(alloc, inputs, name, version, on, off),
         Cause::Enabling(name, version, on, _, number) => {
-            enabling_parts(alloc, inputs, name, version, on, number)
+            enabling_terms(alloc, inputs, name, version, on, number)
         }
         Cause::Asking(name, version, on, asked, number) => {
-            asking_parts(alloc, inputs, name, version, on, asked, number)
+            asking_terms(alloc, inputs, name, version, on, asked, number)
         }
         Cause::Newest(owner, number, other, class, higher) => {
-            newest_parts(alloc, inputs, owner, number, other, class, higher)
+            newest_terms(alloc, inputs, owner, number, other, class, higher)
         }
         Cause::Weak(name, version, on, off, number, class) => {
-            weak_parts(alloc, inputs, name, version, on, off, number, class)
+            weak_terms(alloc, inputs, name, version, on, off, number, class)
         }
     }
 }
 
 /// A vertex that may be absent or present: it is the one of them.
-fn two_states(alloc: Global, vertex: VertexRef<'_>, present: bool) -> Result<Part<'_>, AllocError>
-    ensures { IfOk result (λ p. part_view p ≡ (vertex_ref_view vertex.entry, not present ∷ present ∷ [])) }
+fn two_states(
+    alloc: Global,
+    vertex: VertexRef<'_>,
+    present: bool,
+) -> Result<TestedTerm<'_>, AllocError>
+    ensures { IfOk result (λ p. tested_view p ≡ (vertex_ref_view vertex.entry, not present ∷ present ∷ [])) }
 {
     let mut tests = Vec::new(alloc);
     tests.push(!present)?;
     tests.push(present)?;
-    Ok(Part { vertex, tests })
+    Ok(TestedTerm { vertex, tests })
 }
 
 /// The owner counts.
 fn holds<'a>(
     alloc: Global,
-    inputs: &Inputs<'a>,
+    inputs: &KnownProblem<'a>,
     owner: OwnerRef<'a>,
-) -> Result<Part<'a>, AllocError>
-    ensures { IfOk result (λ p. part_view p ≡ part_of (problem inputs.now) (owner_holds (owner_ref_view owner.entry))) }
+) -> Result<TestedTerm<'a>, AllocError>
+    ensures { IfOk result (λ p. tested_view p ≡ tested (problem inputs.now) (owner_holds (owner_ref_view owner.entry))) }
 {
     match owner {
         OwnerRef::Root => two_states(alloc, VertexRef::Root, true),
@@ -101,17 +105,17 @@ fn holds<'a>(
 /// The version is chosen.
 fn chosen<'a>(
     alloc: Global,
-    inputs: &Inputs<'a>,
+    inputs: &KnownProblem<'a>,
     name: &'a PackageName,
     version: &'a Version,
-) -> Result<Part<'a>, AllocError>
-    ensures { IfOk result (λ p. part_view p ≡ part_of (problem inputs.now) (at (model.pkg name.entry.now
+) -> Result<TestedTerm<'a>, AllocError>
+    ensures { IfOk result (λ p. tested_view p ≡ tested (problem inputs.now) (at (model.pkg name.entry.now
         (class_of (parts_of version.entry.now))) (model.version (parts_of version.entry.now) ∷ []))) }
 {
     let class = Class::of(version);
     let versions = class_versions(inputs.catalogue, name, class);
     let tests = chosen_tests(alloc, version, versions)?;
-    Ok(Part {
+    Ok(TestedTerm {
         vertex: VertexRef::Package(name, class),
         tests,
     })
@@ -124,8 +128,8 @@ fn own_feature<'a>(
     version: &'a Version,
     feature: &'a FeatureName,
     on: bool,
-) -> Result<Part<'a>, AllocError>
-    ensures { IfOk result (λ p. part_view p
+) -> Result<TestedTerm<'a>, AllocError>
+    ensures { IfOk result (λ p. tested_view p
         ≡ (model.feat name.entry.now (class_of (parts_of version.entry.now)) feature.entry.now, not on ∷ on ∷ [])) }
 {
     two_states(
@@ -141,8 +145,8 @@ fn off_there<'a>(
     dependency: &'a Dependency,
     class: Class,
     feature: &'a FeatureName,
-) -> Result<Part<'a>, AllocError>
-    ensures { IfOk result (λ p. part_view p ≡ (
+) -> Result<TestedTerm<'a>, AllocError>
+    ensures { IfOk result (λ p. tested_view p ≡ (
       model.feat (dependency_view dependency.entry.now).real_name
           (class_view class) feature.entry.now,
       true ∷ false ∷ [],
@@ -158,16 +162,16 @@ fn off_there<'a>(
 /// The dependency is absent.
 fn absent<'a>(
     alloc: Global,
-    inputs: &Inputs<'a>,
+    inputs: &KnownProblem<'a>,
     owner: OwnerRef<'a>,
     number: usize,
-) -> Result<Part<'a>, AllocError>
-    ensures { IfOk result (λ p. part_view p
-        ≡ part_of (problem inputs.now) (at (model.dep (owner_ref_view owner.entry) number) (model.absent ∷ []))) }
+) -> Result<TestedTerm<'a>, AllocError>
+    ensures { IfOk result (λ p. tested_view p
+        ≡ tested (problem inputs.now) (at (model.dep (owner_ref_view owner.entry) number) (model.absent ∷ []))) }
 {
     let classes = classes_at(alloc, inputs, &owner, number)?;
     let tests = no_class(alloc, classes.as_slice())?;
-    Ok(Part {
+    Ok(TestedTerm {
         vertex: VertexRef::Dependency(owner, number),
         tests,
     })
@@ -176,29 +180,29 @@ fn absent<'a>(
 /// The dependency leads to the class.
 fn leads<'a>(
     alloc: Global,
-    inputs: &Inputs<'a>,
+    inputs: &KnownProblem<'a>,
     owner: OwnerRef<'a>,
     number: usize,
     class: Class,
-) -> Result<Part<'a>, AllocError>
-    ensures { IfOk result (λ p. part_view p ≡ part_of (problem inputs.now)
+) -> Result<TestedTerm<'a>, AllocError>
+    ensures { IfOk result (λ p. tested_view p ≡ tested (problem inputs.now)
         (at (model.dep (owner_ref_view owner.entry) number) (model.in_class (class_view class) ∷ []))) }
 {
     let classes = classes_at(alloc, inputs, &owner, number)?;
     let tests = class_tests(alloc, class, classes.as_slice())?;
-    Ok(Part {
+    Ok(TestedTerm {
         vertex: VertexRef::Dependency(owner, number),
         tests,
     })
 }
 
-fn need_parts<'a>(
+fn need_terms<'a>(
     alloc: Global,
-    inputs: &Inputs<'a>,
+    inputs: &KnownProblem<'a>,
     owner: OwnerRef<'a>,
     number: usize,
-) -> Result<Vec<Part<'a>>, AllocError>
-    ensures { IfOk result (λ v. part_views v.items ≡ parts_of_terms (problem inputs.now)
+) -> Result<Vec<TestedTerm<'a>>, AllocError>
+    ensures { IfOk result (λ v. tested_views v.items ≡ all_tested (problem inputs.now)
         (terms_of_cause (problem inputs.now) (causes.of_need (owner_ref_view owner.entry) number))) }
 {
     Ok(vec![in alloc;
@@ -207,15 +211,15 @@ fn need_parts<'a>(
     ]?)
 }
 
-fn entry_parts<'a>(
+fn entry_terms<'a>(
     alloc: Global,
-    inputs: &Inputs<'a>,
+    inputs: &KnownProblem<'a>,
     name: &'a PackageName,
     version: &'a Version,
     on: &'a FeatureName,
     off: &'a FeatureName,
-) -> Result<Vec<Part<'a>>, AllocError>
-    ensures { IfOk result (λ v. part_views v.items ≡ parts_of_terms (problem inputs.now)
+) -> Result<Vec<TestedTerm<'a>>, AllocError>
+    ensures { IfOk result (λ v. tested_views v.items ≡ all_tested (problem inputs.now)
         (feature_holds name.entry.now (parts_of version.entry.now) on.entry.now (at (model.feat name.entry.now
         (class_of (parts_of version.entry.now)) off.entry.now) (model.absent ∷ []) ∷ []))) }
 {
@@ -226,15 +230,15 @@ fn entry_parts<'a>(
     ]?)
 }
 
-fn enabling_parts<'a>(
+fn enabling_terms<'a>(
     alloc: Global,
-    inputs: &Inputs<'a>,
+    inputs: &KnownProblem<'a>,
     name: &'a PackageName,
     version: &'a Version,
     on: &'a FeatureName,
     number: usize,
-) -> Result<Vec<Part<'a>>, AllocError>
-    ensures { IfOk result (λ v. part_views v.items ≡ parts_of_terms (problem inputs.now) (feature_holds name.entry.now
+) -> Result<Vec<TestedTerm<'a>>, AllocError>
+    ensures { IfOk result (λ v. tested_views v.items ≡ all_tested (problem inputs.now) (feature_holds name.entry.now
         (parts_of version.entry.now) on.entry.now (at (model.dep (model.version_of name.entry.now
         (parts_of version.entry.now)) number) (model.absent ∷ []) ∷ []))) }
 {
@@ -245,16 +249,16 @@ fn enabling_parts<'a>(
     ]?)
 }
 
-fn asking_parts<'a>(
+fn asking_terms<'a>(
     alloc: Global,
-    inputs: &Inputs<'a>,
+    inputs: &KnownProblem<'a>,
     name: &'a PackageName,
     version: &'a Version,
     on: &'a FeatureName,
     asked: &'a FeatureName,
     number: usize,
-) -> Result<Vec<Part<'a>>, AllocError>
-    ensures { IfOk result (λ v. part_views v.items ≡ parts_of_terms (problem inputs.now)
+) -> Result<Vec<TestedTerm<'a>>, AllocError>
+    ensures { IfOk result (λ v. tested_views v.items ≡ all_tested (problem inputs.now)
         (feature_holds name.entry.now (parts_of version.entry.now) on.entry.now (at (model.ask name.entry.now
         (parts_of version.entry.now) number asked.entry.now) (model.absent ∷ []) ∷ []))) }
 {
@@ -265,14 +269,14 @@ fn asking_parts<'a>(
     ]?)
 }
 
-fn target_parts<'a>(
+fn target_terms<'a>(
     alloc: Global,
-    inputs: &Inputs<'a>,
+    inputs: &KnownProblem<'a>,
     owner: OwnerRef<'a>,
     number: usize,
     class: Class,
-) -> Result<Vec<Part<'a>>, AllocError>
-    ensures { IfOk result (λ v. part_views v.items ≡ parts_of_terms (problem inputs.now) (terms_of_cause
+) -> Result<Vec<TestedTerm<'a>>, AllocError>
+    ensures { IfOk result (λ v. tested_views v.items ≡ all_tested (problem inputs.now) (terms_of_cause
         (problem inputs.now) (causes.of_target (owner_ref_view owner.entry) number (class_view class)))) }
 {
     match dependency_at(inputs, &owner, number) {
@@ -287,18 +291,18 @@ fn target_parts<'a>(
 /// The package is absent or has a version of the class that isn't matched.
 fn left<'a>(
     alloc: Global,
-    inputs: &Inputs<'a>,
+    inputs: &KnownProblem<'a>,
     dependency: &'a Dependency,
     class: Class,
-) -> Result<Part<'a>, AllocError>
-    ensures { IfOk result (λ p. part_view p ≡ part_of (problem inputs.now)
+) -> Result<TestedTerm<'a>, AllocError>
+    ensures { IfOk result (λ p. tested_view p ≡ tested (problem inputs.now)
         (at (model.pkg (dependency_view dependency.entry.now).real_name (class_view class))
         (absent_or (problem inputs.now) (λ c. not (matched (dependency_view dependency.entry.now) c))
         (dependency_view dependency.entry.now).real_name (class_view class)))) }
 {
     let versions = class_versions(inputs.catalogue, &dependency.real_name, class);
     let tests = left_tests(alloc, &dependency.requirement, versions)?;
-    Ok(Part {
+    Ok(TestedTerm {
         vertex: VertexRef::Package(&dependency.real_name, class),
         tests,
     })
@@ -307,18 +311,18 @@ fn left<'a>(
 /// The package has a version of the class that is matched.
 fn taken<'a>(
     alloc: Global,
-    inputs: &Inputs<'a>,
+    inputs: &KnownProblem<'a>,
     dependency: &'a Dependency,
     class: Class,
-) -> Result<Part<'a>, AllocError>
+) -> Result<TestedTerm<'a>, AllocError>
     ensures { IfOk result
-        (λ p. part_view p ≡ part_of (problem inputs.now) (at (model.pkg (dependency_view dependency.entry.now).real_name
+        (λ p. tested_view p ≡ tested (problem inputs.now) (at (model.pkg (dependency_view dependency.entry.now).real_name
         (class_view class)) (versions_that (problem inputs.now) (matched (dependency_view dependency.entry.now))
         (dependency_view dependency.entry.now).real_name (class_view class)))) }
 {
     let versions = class_versions(inputs.catalogue, &dependency.real_name, class);
     let tests = taken_tests(alloc, &dependency.requirement, versions)?;
-    Ok(Part {
+    Ok(TestedTerm {
         vertex: VertexRef::Package(&dependency.real_name, class),
         tests,
     })
@@ -327,32 +331,32 @@ fn taken<'a>(
 /// The package is absent or has a version of the class that lacks the feature.
 fn lacking<'a>(
     alloc: Global,
-    inputs: &Inputs<'a>,
+    inputs: &KnownProblem<'a>,
     name: &'a PackageName,
     class: Class,
     feature: &FeatureName,
-) -> Result<Part<'a>, AllocError>
-    ensures { IfOk result (λ p. part_view p ≡ part_of (problem inputs.now)
+) -> Result<TestedTerm<'a>, AllocError>
+    ensures { IfOk result (λ p. tested_view p ≡ tested (problem inputs.now)
         (at (model.pkg name.entry.now (class_view class)) (absent_or (problem inputs.now)
         (λ c. not (has_feature c.brings.features feature.now)) name.entry.now (class_view class)))) }
 {
     catalogues_are_well_formed(inputs.manifest, inputs.catalogue);
     let versions = class_versions(inputs.catalogue, name, class);
     let tests = lacking_tests(alloc, inputs, name, feature, versions)?;
-    Ok(Part {
+    Ok(TestedTerm {
         vertex: VertexRef::Package(name, class),
         tests,
     })
 }
 
-fn feature_parts<'a>(
+fn feature_terms<'a>(
     alloc: Global,
-    inputs: &Inputs<'a>,
+    inputs: &KnownProblem<'a>,
     name: &'a PackageName,
     class: Class,
     feature: &'a FeatureName,
-) -> Result<Vec<Part<'a>>, AllocError>
-    ensures { IfOk result (λ v. part_views v.items ≡ parts_of_terms (problem inputs.now) (terms_of_cause
+) -> Result<Vec<TestedTerm<'a>>, AllocError>
+    ensures { IfOk result (λ v. tested_views v.items ≡ all_tested (problem inputs.now) (terms_of_cause
         (problem inputs.now) (causes.of_feature name.entry.now (class_view class) feature.entry.now))) }
 {
     Ok(vec![in alloc;
@@ -361,16 +365,16 @@ fn feature_parts<'a>(
     ]?)
 }
 
-fn list_parts<'a>(
+fn list_terms<'a>(
     alloc: Global,
-    inputs: &Inputs<'a>,
+    inputs: &KnownProblem<'a>,
     owner: OwnerRef<'a>,
     number: usize,
     class: Class,
     feature: &'a FeatureName,
-) -> Result<Vec<Part<'a>>, AllocError>
+) -> Result<Vec<TestedTerm<'a>>, AllocError>
     ensures { IfOk result
-        (λ v. part_views v.items ≡ parts_of_terms (problem inputs.now) (terms_of_cause (problem inputs.now)
+        (λ v. tested_views v.items ≡ all_tested (problem inputs.now) (terms_of_cause (problem inputs.now)
         (causes.of_list (owner_ref_view owner.entry) number (class_view class) feature.entry.now))) }
 {
     match dependency_at(inputs, &owner, number) {
@@ -382,17 +386,17 @@ fn list_parts<'a>(
     }
 }
 
-fn ask_parts<'a>(
+fn ask_terms<'a>(
     alloc: Global,
-    inputs: &Inputs<'a>,
+    inputs: &KnownProblem<'a>,
     name: &'a PackageName,
     version: &'a Version,
     number: usize,
     feature: &'a FeatureName,
     class: Class,
-) -> Result<Vec<Part<'a>>, AllocError>
+) -> Result<Vec<TestedTerm<'a>>, AllocError>
     ensures { IfOk result
-        (λ v. part_views v.items ≡ parts_of_terms (problem inputs.now) (terms_of_cause (problem inputs.now)
+        (λ v. tested_views v.items ≡ all_tested (problem inputs.now) (terms_of_cause (problem inputs.now)
         (causes.of_ask name.entry.now (parts_of version.entry.now) number feature.entry.now (class_view class)))) }
 {
     let owner = OwnerRef::Version(name, version);
@@ -406,17 +410,17 @@ fn ask_parts<'a>(
     }
 }
 
-fn newest_parts<'a>(
+fn newest_terms<'a>(
     alloc: Global,
-    inputs: &Inputs<'a>,
+    inputs: &KnownProblem<'a>,
     owner: OwnerRef<'a>,
     number: usize,
     other: usize,
     class: Class,
     higher: Class,
-) -> Result<Vec<Part<'a>>, AllocError>
+) -> Result<Vec<TestedTerm<'a>>, AllocError>
     ensures { IfOk result
-        (λ v. part_views v.items ≡ parts_of_terms (problem inputs.now) (terms_of_cause (problem inputs.now)
+        (λ v. tested_views v.items ≡ all_tested (problem inputs.now) (terms_of_cause (problem inputs.now)
         (causes.of_newest (owner_ref_view owner.entry) number other (class_view class) (class_view higher)))) }
 {
     match dependency_at(inputs, &owner, number) {
@@ -429,18 +433,18 @@ fn newest_parts<'a>(
     }
 }
 
-fn weak_parts<'a>(
+fn weak_terms<'a>(
     alloc: Global,
-    inputs: &Inputs<'a>,
+    inputs: &KnownProblem<'a>,
     name: &'a PackageName,
     version: &'a Version,
     on: &'a FeatureName,
     off: &'a FeatureName,
     number: usize,
     class: Class,
-) -> Result<Vec<Part<'a>>, AllocError>
-    ensures { IfOk result (λ v. part_views v.items
-        ≡ parts_of_terms (problem inputs.now) (terms_of_cause (problem inputs.now) (causes.of_weak name.entry.now
+) -> Result<Vec<TestedTerm<'a>>, AllocError>
+    ensures { IfOk result (λ v. tested_views v.items
+        ≡ all_tested (problem inputs.now) (terms_of_cause (problem inputs.now) (causes.of_weak name.entry.now
         (parts_of version.entry.now) on.entry.now off.entry.now number (class_view class)))) }
 {
     let owner = OwnerRef::Version(name, version);
@@ -458,15 +462,15 @@ fn weak_parts<'a>(
 
 fn four<'a>(
     alloc: Global,
-    a: Part<'a>,
-    b: Part<'a>,
-    c: Part<'a>,
-    d: Part<'a>,
-) -> Result<Vec<Part<'a>>, AllocError>
+    a: TestedTerm<'a>,
+    b: TestedTerm<'a>,
+    c: TestedTerm<'a>,
+    d: TestedTerm<'a>,
+) -> Result<Vec<TestedTerm<'a>>, AllocError>
     ensures { IfOk result
-        (λ v. part_views v.items ≡ part_view a.entry ∷ part_view b.entry ∷ part_view c.entry ∷ part_view d.entry ∷ []) }
+        (λ v. tested_views v.items ≡ tested_view a.entry ∷ tested_view b.entry ∷ tested_view c.entry ∷ tested_view d.entry ∷ []) }
 {
-    let mut parts = vec![in alloc; a, b, c]?;
-    parts.push(d)?;
-    Ok(parts)
+    let mut tested_terms = vec![in alloc; a, b, c]?;
+    tested_terms.push(d)?;
+    Ok(tested_terms)
 }

@@ -2,10 +2,10 @@ use Rattle.std.proofs.Common.{List, ◌∷◌, true, false, map}
 use Rattle.classes.specs.declared.class.Class.{Class}
 use Rattle.std.proofs.Common.{ap, ◌∙◌}
 use Rattle.model.specs.Vertices.{dep}
-use Rattle.encoding.specs.Inputs.{problem}
+use Rattle.encoding.specs.KnownProblem.{problem}
 use Rattle.vertices.specs.RefViews.{owner_ref_view}
 use Rattle.encoding.proofs.Tested.{no_class_is}
-use Rattle.encoding.proofs.parts.absent.Goals as goal
+use Rattle.encoding.proofs.tested_terms.absent.Goals as goal
 
 pub returns : goal.returns
 returns c =

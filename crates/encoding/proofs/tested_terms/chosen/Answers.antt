@@ -4,7 +4,7 @@ use Rattle.classes.specs.Classes.{class_view}
 use Rattle.model.specs.Selection.{class_of}
 use Rattle.model.specs.Vertices.{pkg}
 use Rattle.encoding.proofs.Tested.{chosen_at}
-use Rattle.encoding.proofs.parts.chosen.Goals as goal
+use Rattle.encoding.proofs.tested_terms.chosen.Goals as goal
 
 pub returns : goal.returns
 returns c =

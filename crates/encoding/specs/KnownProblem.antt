@@ -2,11 +2,11 @@
 use Rattle.std.specs.Prelude.{◌≡◌, codes}
 use Rattle.model.specs.Content.{Problem}
 use Rattle.catalogue.specs.Problems.{problem_in}
-use Rattle.encoding.specs.declared.inputs.Inputs.{Inputs}
+use Rattle.encoding.specs.declared.known_problem.KnownProblem.{KnownProblem}
 
-abbrev pub problem : Inputs → Problem
+abbrev pub problem : KnownProblem → Problem
 problem i = problem_in i.manifest.now i.catalogue.now
 
 -- the name that is given for the feature `default` is that name
-abbrev pub KnowsDefault : Inputs → Type 0
+abbrev pub KnowsDefault : KnownProblem → Type 0
 KnowsDefault i = i.default.now ≡ codes "default"

@@ -1,13 +1,13 @@
 use Rattle.std.proofs.Common.{ap, ◌∙◌}
 use Rattle.classes.specs.Classes.{class_view}
 use Rattle.model.specs.Vertices.{dep}
-use Rattle.encoding.specs.Inputs.{problem}
+use Rattle.encoding.specs.KnownProblem.{problem}
 use Rattle.vertices.specs.RefViews.{owner_ref_view}
 use Rattle.encoding.proofs.Tested.{class_is}
-use Rattle.encoding.specs.Parts.{is_class}
+use Rattle.encoding.specs.TestedTerms.{is_class}
 use Rattle.std.proofs.Common.{List, ◌∷◌, false, map}
 use Rattle.classes.specs.declared.class.Class.{Class}
-use Rattle.encoding.proofs.parts.leads.Goals as goal
+use Rattle.encoding.proofs.tested_terms.leads.Goals as goal
 
 pub returns : goal.returns
 returns c =

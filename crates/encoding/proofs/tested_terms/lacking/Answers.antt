@@ -2,7 +2,7 @@ use Rattle.std.proofs.Common.{refl, ap, ◌∙◌}
 use Rattle.classes.specs.Classes.{class_view}
 use Rattle.model.specs.Vertices.{pkg}
 use Rattle.encoding.proofs.Tested.{lacking_at}
-use Rattle.encoding.proofs.parts.lacking.Goals as goal
+use Rattle.encoding.proofs.tested_terms.lacking.Goals as goal
 
 pub returns : goal.returns
 returns c =

@@ -2,8 +2,8 @@ use Rattle.std.proofs.Common.{refl, ap, ◌∙◌}
 use Rattle.features.specs.Views.{dependency_view}
 use Rattle.classes.specs.Classes.{class_view}
 use Rattle.model.specs.Vertices.{pkg}
-use Rattle.encoding.proofs.Tested.{taken_at}
-use Rattle.encoding.proofs.parts.taken.Goals as goal
+use Rattle.encoding.proofs.Tested.{left_at}
+use Rattle.encoding.proofs.tested_terms.left.Goals as goal
 
 pub returns : goal.returns
 returns c =
@@ -11,5 +11,5 @@ returns c =
     let d = dependency_view c.args.dependency.now in
     ap (λ m. (pkg d.real_name (class_view c.args.class), m))
     (c.in_ok-tests.ensures
-    ∙ taken_at i.manifest.now i.catalogue.now d (class_view c.args.class) (class_view c.args.class)
+    ∙ left_at i.manifest.now i.catalogue.now d (class_view c.args.class) (class_view c.args.class)
     c.class_versions-versions.result.now refl c.class_versions-versions.ensures.versions)
