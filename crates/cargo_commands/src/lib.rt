@@ -7,8 +7,8 @@
 //! Nothing is stated of it: what is proved is what the calls promise, and `told_cases` plays whole runs.
 #![tactic(auto)]
 
-mod asking;
+mod answers;
+mod failure;
 mod running;
-mod stop;
 
 pub use running::{run, without_arguments};

@@ -1,7 +1,7 @@
 //! One run of the program: words in, a status and two texts out.
 
-use crate::asking::{answer_to, changes_in, lacks_in, skips_in, why_in};
-use crate::stop::Stop;
+use crate::answers::{answer_to, changes_in, lacks_in, skips_in, why_in};
+use crate::failure::Failure;
 use cargo_words::{CargoWords, Places, WordsFault, own_words, read_words};
 use project_files::{Bytes, Paths, lock_at, read_files, replace_lock};
 use reports::{Told, package_in};
@@ -45,7 +45,7 @@ fn run_words<R: Files + AllocGlobal + Clone + Drop, O: Write, E: Write>(
 ) -> u8 {
     let paths = match paths_of(rt.alloc(), words.places(), index) {
         Ok(paths) => paths,
-        Err(stop) => return finish(Err(stop), err),
+        Err(failure) => return finish(Err(failure), err),
     };
     let status = match words {
         CargoWords::Resolve {
@@ -73,9 +73,9 @@ fn paths_of<'a>(
     alloc: Global,
     places: Places<'a>,
     named: Option<&'a str>,
-) -> Result<Paths<'a>, Stop<'a>> {
+) -> Result<Paths<'a>, Failure<'a>> {
     let Some(index) = places.index.or(named) else {
-        return Err(Stop::NoIndex);
+        return Err(Failure::NoIndex);
     };
     let manifest = places.manifest.unwrap_or("Cargo.toml");
     let lock = lock_at(alloc, places.lock, manifest)?;
@@ -95,11 +95,11 @@ struct Wish {
 }
 
 /// The status, and what is told where there is none.
-fn finish<E: Write>(status: Result<u8, Stop<'_>>, err: &mut E) -> u8 {
+fn finish<E: Write>(status: Result<u8, Failure<'_>>, err: &mut E) -> u8 {
     match status {
         Ok(status) => status,
-        Err(stop) => {
-            let _ = writeln!(err, "error: {stop}");
+        Err(failure) => {
+            let _ = writeln!(err, "error: {failure}");
             FAILED
         }
     }
@@ -112,7 +112,7 @@ fn resolve_at<'a, R: Files + AllocGlobal + Clone + Drop, O: Write, E: Write>(
     wish: Wish,
     out: &mut O,
     err: &mut E,
-) -> Result<u8, Stop<'a>> {
+) -> Result<u8, Failure<'a>> {
     let bytes = read_files(rt, paths, false)?;
     let answer = answer_to(rt, paths.index, &bytes)?;
     match &answer {
@@ -139,7 +139,7 @@ fn with_new_lock<'a, R: Files + AllocGlobal, E: Write>(
     new: &[u8],
     wish: Wish,
     err: &mut E,
-) -> Result<u8, Stop<'a>> {
+) -> Result<u8, Failure<'a>> {
     let lock = paths.lock.as_str();
     if wish.locked {
         let _ = writeln!(err, "error: {lock} would change, and --locked was given");
@@ -158,7 +158,7 @@ fn tell_refusal<'a, R: Files + AllocGlobal + Clone + Drop, E: Write>(
     bytes: &Bytes,
     explanation: &str,
     err: &mut E,
-) -> Result<u8, Stop<'a>> {
+) -> Result<u8, Failure<'a>> {
     let lacks = lacks_in(rt, paths.index, bytes)?;
     let why = if lacks.is_empty() {
         explanation
@@ -176,9 +176,9 @@ fn why_at<'a, R: Files + AllocGlobal + Clone + Drop, O: Write, E: Write>(
     package: &'a str,
     out: &mut O,
     err: &mut E,
-) -> Result<u8, Stop<'a>> {
+) -> Result<u8, Failure<'a>> {
     let Some(wanted) = package_in(rt.alloc(), package)? else {
-        return Err(Stop::NoPackage(package));
+        return Err(Failure::NoPackage(package));
     };
     let bytes = read_files(rt, paths, true)?;
     let told = why_in(rt, paths.index, &bytes, &wanted)?;
@@ -191,7 +191,7 @@ fn tell_why<'a, O: Write, E: Write>(
     told: &Told,
     out: &mut O,
     err: &mut E,
-) -> Result<u8, Stop<'a>> {
+) -> Result<u8, Failure<'a>> {
     let lock = paths.lock.as_str();
     let _ = match told {
         Told::Way(text) => {
@@ -215,16 +215,16 @@ fn skips_at<'a, R: Files + AllocGlobal + Clone + Drop, O: Write>(
     paths: &'a Paths<'a>,
     all: bool,
     out: &mut O,
-) -> Result<u8, Stop<'a>> {
+) -> Result<u8, Failure<'a>> {
     let bytes = read_files(rt, paths, false)?;
     let text = skips_in(rt, paths.index, &bytes, all)?;
     print(text.as_str(), out)?;
     Ok(0)
 }
 
-fn print<'a, O: Write>(text: &str, out: &mut O) -> Result<(), Stop<'a>> {
+fn print<'a, O: Write>(text: &str, out: &mut O) -> Result<(), Failure<'a>> {
     out.write_all(text.as_bytes())
-        .map_err(|_| Stop::CannotWrite)
+        .map_err(|_| Failure::CannotWrite)
 }
 
 /// Prints why the command line can't be read, to `err`, and answers the exit status.
@@ -245,6 +245,6 @@ fn without_words<O: Write, E: Write>(fault: &WordsFault, out: &mut O, err: &mut 
             let _ = err.write_all(text.as_bytes());
             FAILED
         }
-        WordsFault::OutOfMemory => finish(Err(Stop::from(AllocError)), err),
+        WordsFault::OutOfMemory => finish(Err(Failure::from(AllocError)), err),
     }
 }

@@ -1,4 +1,4 @@
-//! What a run asks of the files that it read.
+//! What a run answers from the files that it read.
 
 use catalogue::{Prefer, Source};
 use index_reader::DiskFolder;
@@ -53,6 +53,17 @@ fn inputs_in(alloc: Global, bytes: &Bytes) -> Result<Inputs, Fault> {
     })
 }
 
+/// What a report is about, and the index that it is held against.
+fn opened<R: Files + AllocGlobal + Clone + Drop>(
+    rt: &R,
+    index: &str,
+    bytes: &Bytes,
+) -> Result<(Inputs, DiskFolder<R>), Fault> {
+    let inputs = inputs_in(rt.alloc(), bytes)?;
+    let folder = DiskFolder::open(rt, index)?;
+    Ok((inputs, folder))
+}
+
 /// What changes from the lock to a new one.
 pub(crate) fn changes_in<R: Files + AllocGlobal + Clone + Drop>(
     rt: &R,
@@ -61,9 +72,8 @@ pub(crate) fn changes_in<R: Files + AllocGlobal + Clone + Drop>(
     new: &[u8],
     all: bool,
 ) -> Result<String, Fault> {
-    let inputs = inputs_in(rt.alloc(), bytes)?;
+    let (inputs, mut folder) = opened(rt, index, bytes)?;
     let new = lockfile::read(rt.alloc(), new)?;
-    let mut folder = DiskFolder::open(rt, index)?;
     let text = changes_to(rt.alloc(), &mut folder, &inputs, &new, all)?;
     Ok(text)
 }
@@ -74,8 +84,7 @@ pub(crate) fn lacks_in<R: Files + AllocGlobal + Clone + Drop>(
     index: &str,
     bytes: &Bytes,
 ) -> Result<String, Fault> {
-    let inputs = inputs_in(rt.alloc(), bytes)?;
-    let mut folder = DiskFolder::open(rt, index)?;
+    let (inputs, mut folder) = opened(rt, index, bytes)?;
     let text = lacks_of(rt.alloc(), &mut folder, &inputs)?;
     Ok(text)
 }
@@ -87,8 +96,7 @@ pub(crate) fn skips_in<R: Files + AllocGlobal + Clone + Drop>(
     bytes: &Bytes,
     all: bool,
 ) -> Result<String, Fault> {
-    let inputs = inputs_in(rt.alloc(), bytes)?;
-    let mut folder = DiskFolder::open(rt, index)?;
+    let (inputs, mut folder) = opened(rt, index, bytes)?;
     let text = skips_of(rt.alloc(), &mut folder, &inputs, all)?;
     Ok(text)
 }
@@ -100,8 +108,7 @@ pub(crate) fn why_in<R: Files + AllocGlobal + Clone + Drop>(
     bytes: &Bytes,
     wanted: &Wanted,
 ) -> Result<Told, Fault> {
-    let inputs = inputs_in(rt.alloc(), bytes)?;
-    let mut folder = DiskFolder::open(rt, index)?;
+    let (inputs, mut folder) = opened(rt, index, bytes)?;
     let told = why_there(rt.alloc(), &mut folder, &inputs, wanted)?;
     Ok(told)
 }
