@@ -41,11 +41,13 @@ item_in : {X Y : Type 0} (f : X → Y) (xs : List X) (i : ℕ) (x : X) → i < l
     → Contains (map f xs) (f x)
 item_in f xs i x lt is = to_map f xs x (got_in xs i x (slice_get_read xs (length xs) i x refl lt is))
 
-pub tested_adds : (all : List tested_term.TestedTerm) (i : ℕ) (p : tested_term.TestedTerm) (a b c : Numbering) → i < length all → p ≡ get_or all i p
+pub tested_adds : (all : List tested_term.TestedTerm) (i : ℕ) (p : tested_term.TestedTerm) (a b c : Numbering)
+    → i < length all → p ≡ get_or all i p
     → AddsOnly (Contains (vertices_of (tested_views all))) a b
     → AddsOnly (λ v. (tested_view p).0 ≡ v) b c → AddsOnly (Contains (vertices_of (tested_views all))) a c
 tested_adds all i p a b c lt is first next =
-    let here = to_map (λ (x : TestedTerm). x.0) (tested_views all) (tested_view p) (item_in tested_view all i p lt is) in
+    let here =
+    to_map (λ (x : TestedTerm). x.0) (tested_views all) (tested_view p) (item_in tested_view all i p lt is) in
     adds_on (Contains (vertices_of (tested_views all))) a b c first
     (adds_wider (λ v. (tested_view p).0 ≡ v) (Contains (vertices_of (tested_views all))) b c
     (λ v e. subst (Contains (vertices_of (tested_views all))) e here) next)

@@ -12,11 +12,11 @@ use Rattle.model.specs.Content.{Problem, Candidate, candidates_of}
 use Rattle.model.specs.Selection.{Class, class_of}
 use Rattle.model.specs.Vertices.{Owner, the_root, version_of, Vertex, root, pkg, dep, feat, ask, State, absent, present}
 use Rattle.model.specs.Vertices.{version, in_class, same_vertex, owner_brings, dep_classes, dep_space, class_candidates}
-use Rattle.model.specs.Vertices.{in_that_class, space}
+use Rattle.model.specs.Vertices.{in_that_class, same_class, space}
 use Rattle.model.specs.Axioms.{is_lower, IsVertex, RootAsks}
 use Rattle.model.proofs.Lists.{in_none, in_cons, in_first, in_rest, in_filter, in_map, to_map, any_of, to_any}
 use Rattle.model.proofs.Lists.{pairs_none}
-use Rattle.model.proofs.Same.{both, text-same, text-refl, class-same}
+use Rattle.model.proofs.Same.{both, text-same, text-refl, class-same, class-refl}
 use Rattle.refutations.specs.Causes.{Cause, of_root, of_need, of_target, of_feature, of_list, of_ask, of_entry}
 use Rattle.refutations.specs.Causes.{of_enabling, of_asking, of_newest, of_weak, same_entry, enables, passes, is_needed}
 use Rattle.refutations.specs.Causes.{dependency_at, has_class, has_entry, some_entry, lists_feature, root_asks_for}
@@ -27,8 +27,8 @@ use Rattle.refutations.proofs.Named.{entry-refl, passes-is, to_passes, has_entry
 use Rattle.refutations.proofs.Named.{to_class, to_lists, to_feature, to_some_entry}
 use Rattle.encoding.specs.Pairs.{Pair, owner_pair, first_pair, AreCausesAt}
 use Rattle.encoding.specs.CausesAt.{each_from, need_if, turned_if, weak_if, needs_of, entry_if, entry_causes}
-use Rattle.encoding.specs.CausesAt.{feature_causes, version_causes, root_asked, newest_at, newest_if, lead_causes}
-use Rattle.encoding.specs.CausesAt.{causes_at, with_causes}
+use Rattle.encoding.specs.CausesAt.{feature_causes, version_causes, root_asked, newest_above, newest_at, newest_if}
+use Rattle.encoding.specs.CausesAt.{lead_causes, causes_at, with_causes}
 use Rattle.encoding.proofs.SameCauses.{all_once, same_ones}
 
 -- ---- lists
@@ -175,19 +175,23 @@ module _ (q : Problem) where
 
   newest_there : (o : Owner) (i j : ℕ) (k m : Class) (d e : Dependency) → dependency_at q o j ≡ Some e
       → nat_eq i j ≡ false → is_overtaken q k m d e ≡ true
-      → Contains (each_from (newest_if q o i k d) 0 (owner_brings q o).dependencies) (of_newest o i j k m)
+      → Contains (flat_map (newest_above q o i k d) (dep_classes q d)) (of_newest o i j k m)
   newest_there o i j k m d e at apart t =
       let a = both (same_text d.real_name e.real_name)
       (has_class q k d && (has_class q m e && (is_lower k m && has_class q m d))) t in
       let b = both (has_class q k d) (has_class q m e && (is_lower k m && has_class q m d)) a.1 in
       let c = both (has_class q m e) (is_lower k m && has_class q m d) b.1 in
-      to_all (newest_if q o i k d) (owner_brings q o).dependencies j e (of_newest o i j k m) at
+      let l = both (is_lower k m) (has_class q m d) c.1 in
+      to_flat (newest_above q o i k d) (dep_classes q d) m (of_newest o i j k m) (class-is q d m l.1)
+      (to_if (is_lower k m) (of_newest o i j k m)
+      (each_from (newest_if q o i k d m) 0 (owner_brings q o).dependencies) l.0
+      (to_all (newest_if q o i k d m) (owner_brings q o).dependencies j e (of_newest o i j k m) at
       (to_unless (nat_eq i j) (of_newest o i j k m) _ apart
       (to_if (same_text d.real_name e.real_name) (of_newest o i j k m)
-      (flat_map (newest_at q o i j k d) (dep_classes q e)) a.0
-      (to_flat (newest_at q o i j k d) (dep_classes q e) m (of_newest o i j k m) (class-is q e m c.0)
-      (to_if (is_lower k m && has_class q m d) (of_newest o i j k m) (of_newest o i j k m ∷ []) c.1
-      (in_first (of_newest o i j k m) [])))))
+      (flat_map (newest_at o i j k m) (dep_classes q e)) a.0
+      (to_flat (newest_at o i j k m) (dep_classes q e) m (of_newest o i j k m) (class-is q e m c.0)
+      (to_if (same_class m m) (of_newest o i j k m) (of_newest o i j k m ∷ []) (class-refl m)
+      (in_first (of_newest o i j k m) [])))))))
 
   pub is_listed : (c : Cause) → is_cause q c ≡ true → Contains (causes_at q (first_pair c).0 (first_pair c).1) c
   is_listed of_root t = in_first of_root []
@@ -388,34 +392,44 @@ module _ (q : Problem) where
         (to_lists q o d g (elim (in_either (asked_of_target d) (root_asked q o d) g h)
         [ inl a ↦ inl a | inr b ↦ inr (root_asked_back o d g b) ])))) refl
 
-    newest_back : (j : ℕ) (e : Dependency) (c : Cause) → dependency_at q o j ≡ Some e
-        → Contains (newest_if q o i k d j e) c → Is (dep o i) (in_class k) c
-    newest_back j e c at_j h =
+    newest_back : (m : Class) (j : ℕ) (e : Dependency) (c : Cause) → Contains (dep_classes q d) m
+        → is_lower k m ≡ true → dependency_at q o j ≡ Some e → Contains (newest_if q o i k d m j e) c
+        → Is (dep o i) (in_class k) c
+    newest_back m j e c there low at_j h =
         let a = from_unless (nat_eq i j) c _ h in
         let b =
-        from_if (same_text d.real_name e.real_name) c (flat_map (newest_at q o i j k d) (dep_classes q e)) a.1 in
-        let r = in_flat (newest_at q o i j k d) (dep_classes q e) c b.1 in
-        let w = from_if (is_lower k r.0 && has_class q r.0 d) c (of_newest o i j k r.0 ∷ []) r.2 in
-        thus _ _ (of_newest o i j k r.0) c (only_one (of_newest o i j k r.0) c w.1)
+        from_if (same_text d.real_name e.real_name) c (flat_map (newest_at o i j k m) (dep_classes q e)) a.1 in
+        let r = in_flat (newest_at o i j k m) (dep_classes q e) c b.1 in
+        let w = from_if (same_class r.0 m) c (of_newest o i j k m ∷ []) r.2 in
+        let has_m : has_class q m e ≡ true =
+        subst (λ n. has_class q n e ≡ true) (class-same r.0 m w.0) (to_class q e r.0 r.1) in
+        let own = and_from (is_lower k m) (has_class q m d) low (to_class q d m there) in
+        thus _ _ (of_newest o i j k m) c (only_one (of_newest o i j k m) c w.1)
         (and_from (not (nat_eq i j))
-        (passes (λ d. passes (is_overtaken q k r.0 d) (dependency_at q o j)) (dependency_at q o i)) (ap not a.0)
-        (to_passes (λ d. passes (is_overtaken q k r.0 d) (dependency_at q o j)) (dependency_at q o i) d at
-        (to_passes (is_overtaken q k r.0 d) (dependency_at q o j) e at_j
+        (passes (λ d. passes (is_overtaken q k m d) (dependency_at q o j)) (dependency_at q o i)) (ap not a.0)
+        (to_passes (λ d. passes (is_overtaken q k m d) (dependency_at q o j)) (dependency_at q o i) d at
+        (to_passes (is_overtaken q k m d) (dependency_at q o j) e at_j
         (and_from (same_text d.real_name e.real_name)
-        (has_class q k d && (has_class q r.0 e && (is_lower k r.0 && has_class q r.0 d))) b.0
-        (and_from (has_class q k d) (has_class q r.0 e && (is_lower k r.0 && has_class q r.0 d)) has
-        (and_from (has_class q r.0 e) (is_lower k r.0 && has_class q r.0 d) (to_class q e r.0 r.1) w.0)))))) refl
+        (has_class q k d && (has_class q m e && (is_lower k m && has_class q m d))) b.0
+        (and_from (has_class q k d) (has_class q m e && (is_lower k m && has_class q m d)) has
+        (and_from (has_class q m e) (is_lower k m && has_class q m d) has_m own)))))) refl
+
+    above_back : (c : Cause) → (m : Class) × Contains (dep_classes q d) m × Contains (newest_above q o i k d m) c
+        → Is (dep o i) (in_class k) c
+    above_back c (m, there, h) =
+        let l = from_if (is_lower k m) c (each_from (newest_if q o i k d m) 0 (owner_brings q o).dependencies) h in
+        let r = in_all (newest_if q o i k d m) (owner_brings q o).dependencies c l.1 in
+        newest_back m r.0 r.1 c there l.0 r.2 r.3
 
     lead_back : (c : Cause) → Contains (lead_causes q o i k (Some d)) c → Is (dep o i) (in_class k) c
     lead_back c h = elim (in_cons (of_target o i k) c (map (of_list o i k) (asked_of_target d ++ root_asked q o d)
-        ++ each_from (newest_if q o i k d) 0 (owner_brings q o).dependencies) h) [
+        ++ flat_map (newest_above q o i k d) (dep_classes q d)) h) [
           | inl e ↦ thus _ _ (of_target o i k) c (sym e) (to_passes (has_class q k) (dependency_at q o i) d at has) refl
           | inr r ↦ elim (in_either (map (of_list o i k) (asked_of_target d ++ root_asked q o d))
-              (each_from (newest_if q o i k d) 0 (owner_brings q o).dependencies) c r) [
+              (flat_map (newest_above q o i k d) (dep_classes q d)) c r) [
                 | inl a ↦ let m =
                     in_map (of_list o i k) (asked_of_target d ++ root_asked q o d) c a in list_back m.0 c m.1 (sym m.2)
-                | inr b ↦ let m =
-                    in_all (newest_if q o i k d) (owner_brings q o).dependencies c b in newest_back m.0 m.1 c m.2 m.3
+                | inr b ↦ above_back c (in_flat (newest_above q o i k d) (dep_classes q d) c b)
               ]
         ]
 

@@ -1,22 +1,21 @@
 -- What one dependency gives with those of its owner is what it gives with those on its package.
-use Rattle.std.proofs.Common.{◌≡◌, ℕ, List, [], ◌∷◌, ◌++◌, Bool, true, false, cond, not, ◌&&◌, nat_eq, Vec, refl, sym}
-use Rattle.std.proofs.Common.{ap, ◌∙◌, true≢false}
+use Rattle.std.proofs.Common.{◌≡◌, ℕ, ◌+◌, List, [], ◌∷◌, ◌++◌, Bool, true, false, cond, not, ◌&&◌, nat_eq, Vec, refl}
+use Rattle.std.proofs.Common.{sym, ap, ap₂, ◌∙◌, true≢false, Option, None, Some, IfSome}
 use Rattle.std.specs.Borrow.{Bor}
 use Rattle.std.specs.HashMap.{HashMap}
-use Rattle.std.specs.List.{flat_map}
+use Rattle.std.specs.List.{filter, flat_map}
 use Rattle.std.specs.declared.alloc.Global.{Global}
 use Rattle.model.specs.Content.{Problem}
 use Rattle.model.specs.Selection.{Class}
 use Rattle.model.specs.Summary.{Dependency, same_text}
 use Rattle.model.specs.Vertices.{Owner, dep_classes}
+use Rattle.model.proofs.Same.{both}
 use Rattle.refutations.specs.Causes.{Cause}
-use Rattle.encoding.specs.Called.{numbered_from, numbered_view}
+use Rattle.encoding.specs.Called.{numbered_from, numbered_view, numbered_views, those_views}
 use Rattle.encoding.specs.CausesAt.{each_from, newest_at, newest_if}
-use Rattle.encoding.specs.Higher.{is_other, others_on}
 use Rattle.encoding.specs.Lists.{Puts}
-use Rattle.encoding.specs.OnPackage.{PutsOn, on_in, on_package}
+use Rattle.encoding.specs.OnPackage.{PutsOn, is_other, on_in, on_package, others_on}
 use Rattle.encoding.specs.declared.called.Numbered.{Numbered}
-use Rattle.encoding.proofs.CalledLaws.{each_passing}
 use Rattle.encoding.proofs.ListLaws.{put_views, text-turned}
 
 -- one that is put stands behind those that are on its package
@@ -25,28 +24,53 @@ pub puts_on : {S : Type 0} (m new : HashMap (Bor (List ℕ)) (Vec Numbered Globa
 puts_on m new name one named put x = put_views numbered_view m new name one put x
     ∙ ap (λ n. on_in m x ++ cond (same_text n x.now) (numbered_view one ∷ []) []) named
 
-module _ (q : Problem) (o : Owner) (i : ℕ) (k : Class) (d : Dependency) where
+-- those of a slice that is there
+pub some_views : (o : Option (Bor (List Numbered))) (ps : List (ℕ × Dependency)) → those_views o ≡ ps
+    → IfSome o (λ those. numbered_views those.now ≡ ps)
+some_views None ps e = tt
+some_views (Some those) ps e = e
+
+-- what is given for none but those that pass a test, and for these otherwise, is given for these
+each_in : (f : ℕ → Dependency → List Cause) (g : ℕ × Dependency → List Cause) (test : ℕ × Dependency → Bool)
+    → ((j : ℕ) (e : Dependency) → test (j, e) ≡ false → f j e ≡ [])
+    → ((j : ℕ) (e : Dependency) → test (j, e) ≡ true → g (j, e) ≡ f j e) → (n : ℕ) (ds : List Dependency)
+    → flat_map g (filter test (numbered_from n ds)) ≡ each_from f n ds
+each_in f g test off on n [] = refl
+each_in f g test off on n (d ∷ ds) = by (test (n, d)) refl (each_in f g test off on (n + 1) ds)
+  where
+    by : (b : Bool) → test (n, d) ≡ b
+        → flat_map g (filter test (numbered_from (n + 1) ds)) ≡ each_from f (n + 1) ds
+        → flat_map g (cond b ((n, d) ∷ filter test (numbered_from (n + 1) ds))
+        (filter test (numbered_from (n + 1) ds))) ≡ f n d ++ each_from f (n + 1) ds
+    by true e rest = ap₂ (λ a l. a ++ l) (on n d e) rest
+    by false e rest = rest ∙ ap (λ l. l ++ each_from f (n + 1) ds) (sym (off n d e))
+
+module _ (q : Problem) (o : Owner) (i : ℕ) (k : Class) (d : Dependency) (m : Class) where
   none_if : (a b : Bool) (cs : List Cause) → (not a && b) ≡ false → cond a [] (cond b cs []) ≡ []
   none_if true b cs h = refl
   none_if false true cs h = absurd (true≢false h)
   none_if false false cs h = refl
 
-  off_package : (j : ℕ) (e : Dependency) → same_text e.real_name d.real_name ≡ false → newest_if q o i k d j e ≡ []
+  off_package : (j : ℕ) (e : Dependency) → same_text e.real_name d.real_name ≡ false → newest_if q o i k d m j e ≡ []
   off_package j e h = by (nat_eq i j) (same_text d.real_name e.real_name) (text-turned d.real_name e.real_name ∙ h)
     where
-      by : (a b : Bool) → b ≡ false → cond a [] (cond b (flat_map (newest_at q o i j k d) (dep_classes q e)) []) ≡ []
+      by : (a b : Bool) → b ≡ false → cond a [] (cond b (flat_map (newest_at o i j k m) (dep_classes q e)) []) ≡ []
       by true b f = refl
       by false true f = absurd (true≢false f)
       by false false f = refl
 
-  -- those on its package alone ..
-  pub newest_on : (ds : List Dependency) → flat_map (λ p. newest_if q o i k d p.0 p.1)
-      (on_package d.real_name (numbered_from 0 ds)) ≡ each_from (newest_if q o i k d) 0 ds
-  newest_on ds = each_passing (newest_if q o i k d) (λ p. same_text p.1.real_name d.real_name) off_package 0 ds
+  module _ (g : ℕ × Dependency → List Cause) (on : (j : ℕ) (e : Dependency)
+      → same_text d.real_name e.real_name ≡ true → g (j, e) ≡ newest_if q o i k d m j e) where
+    -- those on its package alone ..
+    pub each_on : (ds : List Dependency)
+        → flat_map g (on_package d.real_name (numbered_from 0 ds)) ≡ each_from (newest_if q o i k d m) 0 ds
+    each_on ds = each_in (newest_if q o i k d m) g (λ p. same_text p.1.real_name d.real_name) off_package
+        (λ j e t. on j e (text-turned d.real_name e.real_name ∙ t)) 0 ds
 
-  -- .. and of these the others
-  pub newest_others : (ds : List Dependency) → flat_map (λ p. newest_if q o i k d p.0 p.1)
-      (others_on i d.real_name (numbered_from 0 ds)) ≡ each_from (newest_if q o i k d) 0 ds
-  newest_others ds = each_passing (newest_if q o i k d) (λ p. is_other i d.real_name p.0 p.1)
-      (λ j e h. none_if (nat_eq i j) (same_text d.real_name e.real_name)
-      (flat_map (newest_at q o i j k d) (dep_classes q e)) h) 0 ds
+    -- .. and of these the others
+    pub each_other : (ds : List Dependency)
+        → flat_map g (others_on i d.real_name (numbered_from 0 ds)) ≡ each_from (newest_if q o i k d m) 0 ds
+    each_other ds = each_in (newest_if q o i k d m) g (λ p. is_other i d.real_name p.0 p.1)
+        (λ j e h. none_if (nat_eq i j) (same_text d.real_name e.real_name)
+        (flat_map (newest_at o i j k m) (dep_classes q e)) h)
+        (λ j e t. on j e (both (not (nat_eq i j)) (same_text d.real_name e.real_name) t).1) 0 ds

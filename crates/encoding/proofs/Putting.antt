@@ -50,7 +50,8 @@ tested_more vs new (t ∷ ts) [] grown are = are
 tested_more vs new (t ∷ ts) (p ∷ ps) grown are =
     ((still_at vs new t.vertex p.0 grown (are.0).0, (are.0).1), tested_more vs new ts ps grown are.1)
 
-pub tested_last : (vs : Numbering) (ts : List TermView) (ps : List TestedTerm) (t : TermView) (p : TestedTerm) → AreOfTested vs ts ps
+pub tested_last : (vs : Numbering) (ts : List TermView) (ps : List TestedTerm) (t : TermView) (p : TestedTerm)
+    → AreOfTested vs ts ps
     → IsOfTested vs t p → AreOfTested vs (ts ++ t ∷ []) (ps ++ p ∷ [])
 tested_last vs [] [] t p are is = (is, tt)
 tested_last vs [] (r ∷ ps) t p are is = absurd are
@@ -158,13 +159,15 @@ pub tested_next : (all : List code.TestedTerm) (i : ℕ) (p : code.TestedTerm) �
     → tested_views (take (i + 1) all) ≡ tested_views (take i all) ++ tested_view p ∷ []
 tested_next all i p lt is =
     let e : i + 1 ≡ suc i = omega arith in
-    ap (λ n. tested_views (take n all)) e ∙ ap tested_views (take-suc all i p lt ∙ ap (λ x. take i all ++ x ∷ []) (sym is))
+    ap (λ n. tested_views (take n all)) e
+    ∙ ap tested_views (take-suc all i p lt ∙ ap (λ x. take i all ++ x ∷ []) (sym is))
     ∙ map-append tested_view (take i all) (p ∷ [])
 
 pub tested_whole : (all : List code.TestedTerm) (i : ℕ) → length all ≤ i → tested_views (take i all) ≡ tested_views all
 tested_whole all i h = ap tested_views (take_all i all h)
 
-pub fit_at : (P : TestedTerm → Type 0) (all : List code.TestedTerm) (i : ℕ) (p : code.TestedTerm) → AllByRecursion P (tested_views all)
+pub fit_at : (P : TestedTerm → Type 0) (all : List code.TestedTerm) (i : ℕ) (p : code.TestedTerm)
+    → AllByRecursion P (tested_views all)
     → i < length all → p ≡ get_or all i p → P (tested_view p)
 fit_at P [] i p h lt is = absurd (omega (arith, lt))
 fit_at P (x ∷ all) zero p h lt is = subst (λ y. P (tested_view y)) (sym is) h.0

@@ -1,8 +1,8 @@
 -- The assignment that is taken at the end of a search: absent where that is left, else the one state that is left. The
 -- words of propagation (a term holds, is the one open one) are repeated over any sets, since this crate stands below
 -- it.
-use Rattle.std.specs.Prelude.{◌≡◌, ◌≢◌, ℕ, ◌<◌, true, false, Option, Some, None}
-use Rattle.version_sets.specs.Sets.{Members, has, inside, meets, size}
+use Rattle.std.specs.Prelude.{◌≡◌, ◌≢◌, ℕ, true, false, Some}
+use Rattle.version_sets.specs.Sets.{Members, has, inside, meets}
 use Rattle.incompatibilities.specs.Incompatibilities.{HoldsAt, Terms}
 
 -- absent, or the one state that is left

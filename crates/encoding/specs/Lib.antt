@@ -8,7 +8,7 @@ pub mod KnownProblem
 pub mod TestedTerms
 pub mod GivenViews
 pub mod CausesAt
-pub mod Higher
+pub mod ByClass
 pub mod Lists
 pub mod Called
 pub mod OnPackage

@@ -1,5 +1,5 @@
 -- What requirements match, kept by the name and the requirement.
-use Rattle.std.specs.Prelude.{◌≡◌, ◌&&◌, nat_eq, Bool, List, ℕ, Option, Some, Vec, map, filter}
+use Rattle.std.specs.Prelude.{◌≡◌, ◌&&◌, nat_eq, Bool, List, ℕ, Some, Vec, map, filter}
 use Rattle.std.specs.Borrow.{Bor}
 use Rattle.std.specs.Cmp.Lexicographic.{pointwise}
 use Rattle.std.specs.HashMap.{HashMap, get}

@@ -1,5 +1,5 @@
 -- The dependencies of an owner with their numbers, and those of them that are on a package.
-use Rattle.std.specs.Prelude.{◌≡◌, ◌++◌, ℕ, List, [], ◌∷◌, Vec}
+use Rattle.std.specs.Prelude.{◌≡◌, ◌++◌, ◌&&◌, ℕ, Bool, not, nat_eq, List, [], ◌∷◌, Vec}
 use Rattle.std.specs.Borrow.{Bor}
 use Rattle.std.specs.HashMap.{HashMap}
 use Rattle.std.specs.List.{filter}
@@ -11,6 +11,14 @@ use Rattle.encoding.specs.declared.called.Numbered.{Numbered}
 
 abbrev pub on_package : List ℕ → List (ℕ × Dependency) → List (ℕ × Dependency)
 on_package x ps = filter (λ p. same_text p.1.real_name x) ps
+
+-- the dependency j is another one than i, on the same package
+abbrev pub is_other : ℕ → List ℕ → ℕ → Dependency → Bool
+is_other i name j e = not (nat_eq i j) && same_text name e.real_name
+
+-- those that are
+abbrev pub others_on : ℕ → List ℕ → List (ℕ × Dependency) → List (ℕ × Dependency)
+others_on i name ps = filter (λ p. is_other i name p.0 p.1) ps
 
 module _ {S : Type 0} where
   -- what a map has at the name of a package

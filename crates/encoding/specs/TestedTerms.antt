@@ -1,6 +1,6 @@
 -- Terms of an instance as vertices and tests of their spaces: which of the vertex's states, in their order, the term
 -- has.
-use Rattle.std.specs.Prelude.{◌≡◌, ◌≤◌, ℕ, List, [], ◌∷◌, Bool, map, length, Some, slice_get}
+use Rattle.std.specs.Prelude.{◌≡◌, ◌≤◌, List, [], ◌∷◌, Bool, map, length, Some, slice_get}
 use Rattle.terms.specs.Terms.{TermView}
 use Rattle.semver.specs.Parse.{Parts}
 use Rattle.model.specs.Content.{Problem, same_version}

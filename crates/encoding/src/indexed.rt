@@ -14,7 +14,7 @@ use crate::asked::Asked;
 use crate::called::Numbered;
 use crate::on_package::OnPackage;
 use catalogue::Catalogue;
-use features::Dependency;
+use features::{Dependency, PackageName};
 use looking_up::{Problem, dependencies_of};
 use manifest::Manifest;
 use std::alloc::{AllocError, Global};
@@ -36,6 +36,23 @@ pub(crate) struct Indexed<'a> {
 /// Whether a pass over the dependencies takes no longer than to look up the owner.
 fn are_few(dependencies: &[Dependency]) -> bool {
     dependencies.len() <= 32
+}
+
+/// Whether two of the dependencies are on one package.
+fn share_a_package(dependencies: &[Dependency]) -> bool {
+    'dependencies: for (place, dependency) in dependencies.iter().enumerate() {
+        if are_on(&dependency.real_name, &dependencies[..place]) {
+            return true;
+        }
+    }
+    false
+}
+
+/// Whether one of the dependencies is on the package.
+fn are_on(name: &PackageName, dependencies: &[Dependency]) -> bool {
+    dependencies
+        .iter()
+        .any(|dependency| dependency.real_name == *name)
 }
 
 impl<'a> Indexed<'a> {
@@ -114,7 +131,10 @@ impl<'a> Indexed<'a> {
     {
         let problem = self.problem;
         let dependencies = dependencies_of(&problem, &owner);
-        if are_few(dependencies) || self.owners.contains_key(&owner) {
+        if self.owners.contains_key(&owner) {
+            return Ok(());
+        }
+        if are_few(dependencies) && !share_a_package(dependencies) {
             return Ok(());
         }
         let brought = OnPackage::of(alloc, dependencies)?;

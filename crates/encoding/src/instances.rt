@@ -8,7 +8,8 @@ ghost use Rattle.named_terms.specs.CauseViews.{cause_view};
 ghost use Rattle.encoding.specs.KnownProblem.{problem};
 ghost use Rattle.encoding.specs.Numberings.{AddsOnly, IsGrown, IsNumbering, Says};
 ghost use Rattle.encoding.specs.Pairs.{spoken_by};
-ghost use Rattle.encoding.specs.TestedTerms.{AreOfTested, IsFitting, TestedTerm as TestedView, tested_view, tested_views, vertices_of};
+ghost use Rattle.encoding.specs.TestedTerms.{AreOfTested, IsFitting, TestedTerm as TestedView, tested_view};
+ghost use Rattle.encoding.specs.TestedTerms.{tested_views, vertices_of};
 
 use crate::known_problem::KnownProblem;
 use crate::making::made_of;
@@ -55,7 +56,8 @@ fn put_all_tested<'a, S: States + Drop>(
     ensures grown { IsGrown table.old table.new }
     ensures numbering { IsNumbering (problem inputs.now) table.new }
     ensures only { AddsOnly (Contains (vertices_of (tested_views tested_terms.now))) table.old table.new }
-    ensures terms { IfOk result (λ ts. AreOfTested table.new (terms_view S.tests ts.items) (tested_views tested_terms.now)) }
+    ensures terms { IfOk result
+        (λ ts. AreOfTested table.new (terms_view S.tests ts.items) (tested_views tested_terms.now)) }
 {
     let mut terms = Vec::new(alloc);
     'tested_terms: for tested_term in tested_terms.iter() {

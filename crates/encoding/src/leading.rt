@@ -1,28 +1,29 @@
 //! The causes of the instances that are added once a dependency leads to a class.
 
 ghost use Rattle.std.specs.Prelude.{◌≡◌, ◌++◌, ◌∷◌, [], List, Some, IfOk, OnOk, map, nat_eq, codes, if◌then◌else◌};
-ghost use Rattle.std.specs.List.{flat_map, list_all, list_any};
+ghost use Rattle.std.specs.List.{flat_map, list_all};
 ghost use Rattle.classes.specs.Classes.{class_view};
 ghost use Rattle.features.specs.Views.{dependency_view, dependency_views};
-ghost use Rattle.model.specs.Summary.{asked_of_target, same_text};
-ghost use Rattle.model.specs.Vertices.{dep_classes, owner_brings, same_class};
+ghost use Rattle.model.specs.Summary.{asked_of_target};
+ghost use Rattle.model.specs.Vertices.{dep_classes};
 ghost use Rattle.refutations.specs.Causes.{dependency_at, of_list};
 ghost use Rattle.encoding.specs.Asked.{asked_so, features_of};
 ghost use Rattle.encoding.specs.Called.{numbered_from, numbered_view, numbered_views};
 ghost use Rattle.encoding.specs.GivenViews.{cause_views};
-ghost use Rattle.encoding.specs.CausesAt.{each_from, lead_causes, newest_if, root_asked};
-ghost use Rattle.encoding.specs.Higher.{Adds, AreAbove, AreHigher, is_other, newest_among, newest_in, others_on};
+ghost use Rattle.encoding.specs.CausesAt.{lead_causes, newest_above, root_asked};
+ghost use Rattle.encoding.specs.ByClass.{newest_among, newest_with};
+ghost use Rattle.encoding.specs.OnPackage.{is_other, others_on};
 ghost use Rattle.encoding.specs.KnownProblem.{KnowsDefault, problem};
 ghost use Rattle.vertices.specs.RefViews.{owner_ref_view};
 
 use crate::asked::{Asked, Wanted};
+use crate::by_class::ByClass;
 use crate::called::Numbered;
 use crate::known_problem::KnownProblem;
 use crate::lookups::{dependencies_of, dependency_at};
 use crate::spaces::classes_of;
 use classes::Class;
 use features::{Dependency, FeatureName, PackageName};
-use indexmap::IndexSet;
 use named_terms::Cause;
 use std::alloc::{AllocError, Global};
 use vertices::OwnerRef;
@@ -207,8 +208,8 @@ fn put_each_asked<'a>(
     Ok(())
 }
 
-/// The dependencies of the same package that may lead to a higher class, to which this one may lead too: of the others
-/// of its owner those on the package alone are looked at.
+/// The dependencies on the same package that may lead to a higher class, to which this one may lead too: of the others
+/// of its owner those are looked at that may lead to one of its classes.
 fn put_newest<'a>(
     alloc: Global,
     inputs: &KnownProblem<'a>,
@@ -217,24 +218,42 @@ fn put_newest<'a>(
     dependency: &'a Dependency,
 ) -> Result<(), AllocError>
     ensures { OnOk result (cause_views causes.new.items ≡ cause_views causes.old.items
-        ++ each_from (newest_if (problem inputs.now) (owner_ref_view lead.entry.owner) lead.entry.number
-        (class_view lead.entry.class) (dependency_view dependency.entry.now)) 0
-        (owner_brings (problem inputs.now) (owner_ref_view lead.entry.owner)).dependencies) }
+        ++ flat_map (newest_above (problem inputs.now) (owner_ref_view lead.entry.owner) lead.entry.number
+        (class_view lead.entry.class) (dependency_view dependency.entry.now))
+        (dep_classes (problem inputs.now) (dependency_view dependency.entry.now))) }
+{
+    match inputs.matched.by_class(&lead.owner, &dependency.real_name) {
+        Some(those) => put_newest_of(alloc, inputs, causes, lead, dependency, those),
+        None => put_newest_anew(alloc, inputs, causes, lead, dependency),
+    }
+}
+
+/// Where the dependencies on its package aren't kept by their classes.
+fn put_newest_anew<'a>(
+    alloc: Global,
+    inputs: &KnownProblem<'a>,
+    causes: &mut Vec<Cause<'a>>,
+    lead: Lead<'a>,
+    dependency: &'a Dependency,
+) -> Result<(), AllocError>
+    ensures { OnOk result (cause_views causes.new.items ≡ cause_views causes.old.items
+        ++ flat_map (newest_above (problem inputs.now) (owner_ref_view lead.entry.owner) lead.entry.number
+        (class_view lead.entry.class) (dependency_view dependency.entry.now))
+        (dep_classes (problem inputs.now) (dependency_view dependency.entry.now))) }
 {
     let name = dependency.real_name.as_str();
     match inputs.matched.on_package(&lead.owner, name) {
-        Some(those) => put_newest_of(alloc, inputs, causes, lead, dependency, those),
+        Some(those) => put_newest_among(alloc, inputs, causes, lead, dependency, those),
         None => {
             let all = dependencies_of(inputs, &lead.owner);
             let others = others_on(alloc, lead.number, &dependency.real_name, all)?;
-            put_newest_of(alloc, inputs, causes, lead, dependency, others.as_slice())
+            put_newest_among(alloc, inputs, causes, lead, dependency, others.as_slice())
         }
     }
 }
 
-/// Those of these dependencies. There are none where no other one is among them, or where this one leads to its highest
-/// class.
-fn put_newest_of<'a>(
+/// Those of these dependencies: none where no other one is among them.
+fn put_newest_among<'a>(
     alloc: Global,
     inputs: &KnownProblem<'a>,
     causes: &mut Vec<Cause<'a>>,
@@ -243,25 +262,15 @@ fn put_newest_of<'a>(
     others: &[Numbered<'a>],
 ) -> Result<(), AllocError>
     ensures { OnOk result (cause_views causes.new.items ≡ cause_views causes.old.items
-        ++ flat_map (λ p. newest_if (problem inputs.now) (owner_ref_view lead.entry.owner) lead.entry.number
-        (class_view lead.entry.class) (dependency_view dependency.entry.now) p.0 p.1) (numbered_views others.now)) }
+        ++ flat_map (newest_among (problem inputs.now) (owner_ref_view lead.entry.owner) lead.entry.number
+        (class_view lead.entry.class) (numbered_views others.now))
+        (dep_classes (problem inputs.now) (dependency_view dependency.entry.now))) }
 {
     if is_alone(lead.number, others) {
         return Ok(());
     }
-    let higher = higher_classes(alloc, inputs, lead.class, dependency)?;
-    if higher.is_empty() {
-        return Ok(());
-    }
-    put_others(
-        alloc,
-        inputs,
-        causes,
-        lead,
-        &dependency.real_name,
-        &higher,
-        others,
-    )
+    let those = ByClass::of(alloc, &inputs.matched, others)?;
+    put_newest_of(alloc, inputs, causes, lead, dependency, &those)
 }
 
 /// Whether no other dependency is among these than the one with this number.
@@ -314,155 +323,88 @@ fn is_other(number: usize, name: &PackageName, place: usize, other: &Dependency)
     number != place && *name == other.real_name
 }
 
-/// The higher classes to which a dependency may lead.
-fn higher_classes<'a>(
+/// Those of the dependencies that may lead to a class of this one.
+fn put_newest_of<'a>(
     alloc: Global,
     inputs: &KnownProblem<'a>,
-    class: Class,
+    causes: &mut Vec<Cause<'a>>,
+    lead: Lead<'a>,
     dependency: &'a Dependency,
-) -> Result<IndexSet<Class>, AllocError>
-    ensures { IfOk result (λ s.
-        AreHigher (problem inputs.now) (class_view class) (dependency_view dependency.now) (map class_view s.keys)) }
-{
-    let classes = classes_of(alloc, inputs, dependency)?;
-    those_above(alloc, class, classes.as_slice())
-}
-
-/// Those of the classes that are higher.
-fn those_above(
-    alloc: Global,
-    class: Class,
-    classes: &[Class],
-) -> Result<IndexSet<Class>, AllocError>
-    ensures { IfOk result (λ s. AreAbove (class_view class) (map class_view classes.now) (map class_view s.keys)) }
-{
-    let mut higher = IndexSet::new(alloc);
-    'classes: for other in classes.iter() {
-        put_above(&mut higher, class, *other)?;
-    }
-    Ok(higher)
-}
-
-#[tactic(auto, using(crate::proofs::HigherLaws::higher_put, crate::proofs::HigherLaws::lower_left))]
-fn put_above(higher: &mut IndexSet<Class>, class: Class, other: Class) -> Result<(), AllocError>
-    ensures { OnOk result
-        (Adds (class_view class) (class_view other) (map class_view higher.old.keys) (map class_view higher.new.keys)) }
-{
-    if class.is_lower(other) {
-        higher.insert(other)?;
-    }
-    Ok(())
-}
-
-fn put_others<'a>(
-    alloc: Global,
-    inputs: &KnownProblem<'a>,
-    causes: &mut Vec<Cause<'a>>,
-    lead: Lead<'a>,
-    real_name: &PackageName,
-    higher: &IndexSet<Class>,
-    others: &[Numbered<'a>],
-) -> Result<(), AllocError>
-    ensures { OnOk result (cause_views causes.new.items ≡ cause_views causes.old.items ++ flat_map (λ p. newest_among
-        (problem inputs.now) (map class_view higher.now.keys) (owner_ref_view lead.entry.owner) lead.entry.number
-        (class_view lead.entry.class) real_name.now p.0 p.1) (numbered_views others.now)) }
-{
-    'others: for other in others.iter() {
-        put_other(
-            alloc,
-            inputs,
-            causes,
-            lead,
-            real_name,
-            higher,
-            other.number,
-            other.dependency,
-        )?;
-    }
-    Ok(())
-}
-
-fn put_other<'a>(
-    alloc: Global,
-    inputs: &KnownProblem<'a>,
-    causes: &mut Vec<Cause<'a>>,
-    lead: Lead<'a>,
-    real_name: &PackageName,
-    higher: &IndexSet<Class>,
-    number: usize,
-    other: &'a Dependency,
+    those: &ByClass<'a>,
 ) -> Result<(), AllocError>
     ensures { OnOk result (cause_views causes.new.items ≡ cause_views causes.old.items
-        ++ newest_among (problem inputs.now) (map class_view higher.now.keys) (owner_ref_view lead.entry.owner)
-        lead.entry.number (class_view lead.entry.class) real_name.now number (dependency_view other.entry.now)) }
+        ++ flat_map (newest_among (those.now).0 (owner_ref_view lead.entry.owner) lead.entry.number
+        (class_view lead.entry.class) (those.now).1)
+        (dep_classes (problem inputs.now) (dependency_view dependency.entry.now))) }
 {
-    if lead.number == number {
-        return Ok(());
-    }
-    put_higher(
-        alloc, inputs, causes, lead, real_name, higher, number, other,
-    )
-}
-
-fn put_higher<'a>(
-    alloc: Global,
-    inputs: &KnownProblem<'a>,
-    causes: &mut Vec<Cause<'a>>,
-    lead: Lead<'a>,
-    real_name: &PackageName,
-    higher: &IndexSet<Class>,
-    number: usize,
-    other: &'a Dependency,
-) -> Result<(), AllocError>
-    ensures { OnOk result (cause_views causes.new.items ≡ cause_views causes.old.items ++ (if same_text real_name.now
-        (dependency_view other.entry.now).real_name then flat_map (newest_in (map class_view higher.now.keys)
-        (owner_ref_view lead.entry.owner) lead.entry.number number (class_view lead.entry.class))
-        (dep_classes (problem inputs.now) (dependency_view other.entry.now)) else [])) }
-{
-    if *real_name != other.real_name {
-        return Ok(());
-    }
-    let classes = classes_of(alloc, inputs, other)?;
-    put_classes(causes, lead, higher, number, classes.as_slice())
+    let classes = classes_of(alloc, inputs, dependency)?;
+    put_classes(causes, lead, those, classes.as_slice())
 }
 
 fn put_classes<'a>(
     causes: &mut Vec<Cause<'a>>,
     lead: Lead<'a>,
-    higher: &IndexSet<Class>,
-    number: usize,
+    those: &ByClass<'a>,
     classes: &[Class],
 ) -> Result<(), AllocError>
     ensures { OnOk result (cause_views causes.new.items ≡ cause_views causes.old.items
-        ++ flat_map (newest_in (map class_view higher.now.keys) (owner_ref_view lead.entry.owner) lead.entry.number
-        number (class_view lead.entry.class)) (map class_view classes.now)) }
+        ++ flat_map (newest_among (those.now).0 (owner_ref_view lead.entry.owner) lead.entry.number
+        (class_view lead.entry.class) (those.now).1) (map class_view classes.now)) }
 {
     'classes: for class in classes.iter() {
-        put_class(causes, lead, higher, number, *class)?;
+        put_class(causes, lead, those, *class)?;
     }
     Ok(())
 }
 
+/// Those that may lead to this class, if it is higher.
 fn put_class<'a>(
     causes: &mut Vec<Cause<'a>>,
     lead: Lead<'a>,
-    higher: &IndexSet<Class>,
-    number: usize,
+    those: &ByClass<'a>,
     class: Class,
 ) -> Result<(), AllocError>
-    ensures { OnOk result
-        (cause_views causes.new.items ≡ cause_views causes.old.items ++ newest_in (map class_view higher.now.keys)
-        (owner_ref_view lead.entry.owner) lead.entry.number number (class_view lead.entry.class) (class_view class)) }
+    ensures { OnOk result (cause_views causes.new.items ≡ cause_views causes.old.items
+        ++ newest_among (those.now).0 (owner_ref_view lead.entry.owner) lead.entry.number
+        (class_view lead.entry.class) (those.now).1 (class_view class)) }
 {
-    if has(higher, class) {
-        causes.push(Cause::Newest(lead.owner, lead.number, number, lead.class, class))?;
+    if !lead.class.is_lower(class) {
+        return Ok(());
+    }
+    match those.those(class) {
+        Some(numbers) => put_numbers(causes, lead, class, numbers),
+        None => Ok(()),
+    }
+}
+
+fn put_numbers<'a>(
+    causes: &mut Vec<Cause<'a>>,
+    lead: Lead<'a>,
+    class: Class,
+    numbers: &[usize],
+) -> Result<(), AllocError>
+    ensures { OnOk result (cause_views causes.new.items ≡ cause_views causes.old.items
+        ++ flat_map (newest_with (owner_ref_view lead.entry.owner) lead.entry.number (class_view lead.entry.class)
+        (class_view class)) numbers.now) }
+{
+    'numbers: for number in numbers.iter() {
+        put_number(causes, lead, class, *number)?;
     }
     Ok(())
 }
 
-#[tactic(auto, using(crate::proofs::HigherLaws::any_class))]
-fn has(classes: &IndexSet<Class>, class: Class) -> bool
-    ensures { result ≡ list_any (same_class (class_view class)) (map class_view classes.now.keys) }
+fn put_number<'a>(
+    causes: &mut Vec<Cause<'a>>,
+    lead: Lead<'a>,
+    class: Class,
+    number: usize,
+) -> Result<(), AllocError>
+    ensures { OnOk result (cause_views causes.new.items ≡ cause_views causes.old.items
+        ++ newest_with (owner_ref_view lead.entry.owner) lead.entry.number (class_view lead.entry.class)
+        (class_view class) number) }
 {
-    classes.contains(&class)
+    if lead.number != number {
+        causes.push(Cause::Newest(lead.owner, lead.number, number, lead.class, class))?;
+    }
+    Ok(())
 }

@@ -21,6 +21,7 @@
 
 mod adding;
 mod asked;
+mod by_class;
 mod called;
 mod causes;
 mod indexed;

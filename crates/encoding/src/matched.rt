@@ -7,11 +7,13 @@ ghost use Rattle.looking_up.specs.Views.{problem_view};
 ghost use Rattle.model.specs.Vertices.{dep_classes, owner_brings};
 ghost use Rattle.vertices.specs.RefViews.{owner_ref_view};
 ghost use Rattle.encoding.specs.Called.{numbered_from, numbered_views};
+ghost use Rattle.encoding.specs.Indexed.{AreByClass};
 ghost use Rattle.encoding.specs.IndexedViews.{problem_indexed};
 ghost use Rattle.encoding.specs.Matched.{AreMatched};
 ghost use Rattle.encoding.specs.OnPackage.{on_package};
 
 use crate::asked::Asked;
+use crate::by_class::ByClass;
 use crate::called::Numbered;
 use crate::indexed::Indexed;
 use crate::narrowing::within;
@@ -26,7 +28,8 @@ use std::alloc::{AllocError, Global};
 use std::collections::HashMap;
 use vertices::{OwnerRef, VertexRef};
 
-/// By name and requirement, the classes of the candidates that are matched; and what owners bring, found by name.
+/// By name and requirement, the classes of the candidates that are matched; and what owners bring, found by name, and
+/// by class where several dependencies of an owner are on one package.
 ///
 /// Nothing but time rests on what is kept: what isn't is matched where it is asked for.
 #[derive(Drop)]
@@ -34,8 +37,10 @@ pub struct Matched<'a> {
     pub(crate) problem: Problem<'a>,
     pub(crate) classes: HashMap<(&'a PackageName, &'a VersionReq), Vec<Class>>,
     indexed: Indexed<'a>,
+    pub(crate) by_class: HashMap<(OwnerRef<'a>, &'a PackageName), ByClass<'a>>,
     ghost are_matched: { AreMatched (problem_view problem) classes },
     ghost same_problem: { problem_indexed indexed ≡ problem_view problem },
+    ghost are_by_class: { AreByClass (problem_view problem) by_class },
 }
 
 impl<'a> Matched<'a> {
@@ -53,6 +58,7 @@ impl<'a> Matched<'a> {
             },
             classes: HashMap::new(alloc),
             indexed: Indexed::new(alloc, manifest, catalogue),
+            by_class: HashMap::new(alloc),
         }
     }
 
@@ -65,6 +71,21 @@ impl<'a> Matched<'a> {
         match self.classes.get(&ask) {
             Some(classes) => Some(classes.as_slice()),
             None => None,
+        }
+    }
+
+    /// The classes to which a dependency may lead, lowest first: those that are kept, else it is matched for them.
+    pub(crate) fn classes_of(
+        &self,
+        alloc: Global,
+        dependency: &'a Dependency,
+    ) -> Result<Vec<Class>, AllocError>
+        ensures { IfOk result
+            (λ ks. map class_view ks.items ≡ dep_classes (problem_of self.now) (dependency_view dependency.now)) }
+    {
+        match self.classes(dependency) {
+            Some(classes) => Vec::from_slice(alloc, classes),
+            None => match_anew(alloc, &self.problem, dependency),
         }
     }
 
@@ -81,6 +102,25 @@ impl<'a> Matched<'a> {
             (numbered_from 0 (owner_brings (problem_of self.now) (owner_ref_view owner.now)).dependencies)) }
     {
         self.indexed.on_package(owner, name)
+    }
+
+    /// The dependencies of the owner on the package by the classes that they may lead to, if they are kept.
+    pub(crate) fn by_class(
+        &self,
+        owner: &OwnerRef<'a>,
+        name: &'a PackageName,
+    ) -> Option<&ByClass<'a>>
+        ensures { IfSome result (λ b. b.now ≡ (
+          problem_of self.now,
+          on_package name.entry.now
+              (numbered_from 0 (owner_brings (problem_of self.now) (owner_ref_view owner.now)).dependencies),
+        )) }
+    {
+        let place = (*owner, name);
+        match self.by_class.get(&place) {
+            Some(those) => Some(those),
+            None => None,
+        }
     }
 
     /// Matches what the owner needs that the vertex of this number is in the state of this number: all dependencies of
@@ -134,8 +174,47 @@ impl<'a> Matched<'a> {
         ensures { problem_of self.new ≡ problem_of self.old }
     {
         let problem = self.problem;
-        self.keep_each(alloc, dependencies_of(&problem, &owner))?;
-        self.indexed.keep(alloc, owner)
+        let dependencies = dependencies_of(&problem, &owner);
+        self.keep_each(alloc, dependencies)?;
+        self.indexed.keep(alloc, owner)?;
+        self.keep_packages(alloc, owner, dependencies)
+    }
+
+    /// Puts by their classes those that are on one package with others.
+    fn keep_packages(
+        &mut self,
+        alloc: Global,
+        owner: OwnerRef<'a>,
+        dependencies: &'a [Dependency],
+    ) -> Result<(), AllocError>
+        ensures { problem_of self.new ≡ problem_of self.old }
+    {
+        'dependencies: for dependency in dependencies.iter() {
+            self.keep_package(alloc, owner, &dependency.real_name)?;
+        }
+        Ok(())
+    }
+
+    fn keep_package(
+        &mut self,
+        alloc: Global,
+        owner: OwnerRef<'a>,
+        name: &'a PackageName,
+    ) -> Result<(), AllocError>
+        ensures { problem_of self.new ≡ problem_of self.old }
+    {
+        if self.by_class(&owner, name).is_some() {
+            return Ok(());
+        }
+        let Some(those) = self.on_package(&owner, name.as_str()) else {
+            return Ok(());
+        };
+        if those.len() < 2 {
+            return Ok(());
+        }
+        let by_class = ByClass::of(alloc, self, those)?;
+        self.by_class.insert((owner, name), by_class)?;
+        Ok(())
     }
 
     fn keep_each(&mut self, alloc: Global, dependencies: &'a [Dependency]) -> Result<(), AllocError>

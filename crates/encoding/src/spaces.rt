@@ -10,7 +10,6 @@ ghost use Rattle.vertices.specs.RefViews.{owner_ref_view};
 
 use crate::known_problem::KnownProblem;
 use crate::lookups::dependency_at;
-use crate::matched::match_anew;
 use classes::Class;
 use features::Dependency;
 use std::alloc::{AllocError, Global};
@@ -41,8 +40,5 @@ pub fn classes_of<'a>(
     ensures { IfOk result
         (λ ks. map class_view ks.items ≡ dep_classes (problem inputs.now) (dependency_view dependency.now)) }
 {
-    match inputs.matched.classes(dependency) {
-        Some(classes) => Vec::from_slice(alloc, classes),
-        None => match_anew(alloc, &inputs.held(), dependency),
-    }
+    inputs.matched.classes_of(alloc, dependency)
 }

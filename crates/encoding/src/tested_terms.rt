@@ -94,7 +94,8 @@ fn holds<'a>(
     inputs: &KnownProblem<'a>,
     owner: OwnerRef<'a>,
 ) -> Result<TestedTerm<'a>, AllocError>
-    ensures { IfOk result (λ p. tested_view p ≡ tested (problem inputs.now) (owner_holds (owner_ref_view owner.entry))) }
+    ensures { IfOk result
+        (λ p. tested_view p ≡ tested (problem inputs.now) (owner_holds (owner_ref_view owner.entry))) }
 {
     match owner {
         OwnerRef::Root => two_states(alloc, VertexRef::Root, true),
@@ -316,7 +317,8 @@ fn taken<'a>(
     class: Class,
 ) -> Result<TestedTerm<'a>, AllocError>
     ensures { IfOk result
-        (λ p. tested_view p ≡ tested (problem inputs.now) (at (model.pkg (dependency_view dependency.entry.now).real_name
+        (λ p. tested_view p
+        ≡ tested (problem inputs.now) (at (model.pkg (dependency_view dependency.entry.now).real_name
         (class_view class)) (versions_that (problem inputs.now) (matched (dependency_view dependency.entry.now))
         (dependency_view dependency.entry.now).real_name (class_view class)))) }
 {
@@ -468,7 +470,8 @@ fn four<'a>(
     d: TestedTerm<'a>,
 ) -> Result<Vec<TestedTerm<'a>>, AllocError>
     ensures { IfOk result
-        (λ v. tested_views v.items ≡ tested_view a.entry ∷ tested_view b.entry ∷ tested_view c.entry ∷ tested_view d.entry ∷ []) }
+        (λ v. tested_views v.items
+        ≡ tested_view a.entry ∷ tested_view b.entry ∷ tested_view c.entry ∷ tested_view d.entry ∷ []) }
 {
     let mut tested_terms = vec![in alloc; a, b, c]?;
     tested_terms.push(d)?;

@@ -12,5 +12,6 @@ invariant-tested_terms g l = record {
   grown : IsGrown l.fn.table l.table;
   numbering : IsNumbering (problem l.fn.inputs) l.table;
   only : AddsOnly (Contains (vertices_of (tested_views l.tested_terms))) l.fn.table l.table;
-  are : AreOfTested l.table (terms_view g.S.States.tests l.terms.items) (tested_views (take l.tested_term-index l.tested_terms));
+  are : AreOfTested l.table (terms_view g.S.States.tests l.terms.items)
+      (tested_views (take l.tested_term-index l.tested_terms));
 }

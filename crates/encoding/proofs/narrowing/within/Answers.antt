@@ -8,7 +8,7 @@ use Rattle.semver.specs.Identifiers.{comparator_view, parts_of}
 use Rattle.classes.specs.Classes.{class_view}
 use Rattle.features.specs.Views.{requirement_view}
 use Rattle.looking_up.specs.Ranges.{AreRising, is_of}
-use Rattle.looking_up.proofs.Pieces.{tested_filtered}
+use Rattle.looking_up.proofs.Pieces.{parts_filtered}
 use Rattle.encoding.specs.Narrowed.{MatchOnly}
 use Rattle.encoding.proofs.Pinned.{left_out, no_more}
 use Rattle.encoding.proofs.narrowing.within.Goals as goal
@@ -33,5 +33,5 @@ returns-in-Some-clause-matched c =
     subst (λ o. IfSome o (λ j. MatchOnly (requirement_view c.args.requirement.now) (class_view j))) c.in-Some.is
     (subst (λ cs. IfSome c.only_class.result
     (λ j. MatchOnly (map comparator_view cs) (class_view j))) c.as_slice.ensures.value c.only_class.ensures) in
-    ap (filter t) (ap (map parts_of) c.of_class.ensures ∙ tested_filtered (is_of k) all)
+    ap (filter t) (ap (map parts_of) c.of_class.ensures ∙ parts_filtered (is_of k) all)
     ∙ left_out t (is_of k) only (map parts_of all)

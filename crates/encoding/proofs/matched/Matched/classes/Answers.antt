@@ -1,4 +1,4 @@
-use Rattle.std.proofs.Common.{◌∙◌, Bor, map, sym, ap}
+use Rattle.std.proofs.Common.{◌∙◌, map, sym, ap}
 use Rattle.classes.specs.Classes.{class_view}
 use Rattle.encoding.specs.Matched.{Ask}
 use Rattle.encoding.proofs.matched.Matched.classes.Goals as goal

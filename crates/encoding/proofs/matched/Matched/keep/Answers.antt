@@ -15,4 +15,5 @@ invariant_of-self c =
           c.in_ok-classes.classes c.insert.result c.insert.ensures.updates c.insert.ensures.err
           c.args.self.now.are_matched c.in_ok-classes.ensures;
       same_problem = c.args.self.now.same_problem;
+      are_by_class = c.args.self.now.are_by_class;
     }
