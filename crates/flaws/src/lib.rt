@@ -1,0 +1,31 @@
+//! What is wrong with each package of a lock, and the sentences that tell it.
+//!
+//! `selection` says which package is at fault first; what it found of all packages on its way (`Findings`) says as well
+//! which others are. Here each condition of a valid selection is looked at, at each package, and where it fails it is
+//! kept why: which dependencies no package of a list serves, which packages of a list nothing leads to (`Flawed`).
+//!
+//! A lock whose checksums aren't those of the index has no verdict, and no index is loaded beside it. So that all else
+//! is told of such a lock too, an index is loaded beside its content without the checksums (`unsummed`).
+//!
+//! A layer above may rely on this: `flaws_of` gives just the packages at which a condition fails, in the order of the
+//! lock, each with just what is wrong there; none of them exactly where the lock is a valid selection. Of the sentences
+//! nothing is stated.
+#![tactic(auto)]
+
+mod feature_sentences;
+mod flawed;
+mod index_file;
+mod judging;
+mod list_sentences;
+mod lists;
+mod naming;
+mod no_candidate;
+mod sentences;
+mod unsummed;
+mod versions;
+
+pub use flawed::Flawed;
+pub use judging::{Judged, flaws_of};
+pub use no_candidate::NoCandidate;
+pub use sentences::{has_metadata, tell_flaws};
+pub use unsummed::without_checksums;
