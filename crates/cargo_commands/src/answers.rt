@@ -12,7 +12,7 @@ use std::rt::Files;
 /// The source of all packages of an index.
 const CRATES_IO: &str = "registry+https://github.com/rust-lang/crates.io-index";
 
-fn own_source(alloc: Global) -> Result<Source, AllocError> {
+pub(crate) fn own_source(alloc: Global) -> Result<Source, AllocError> {
     Source::parse(alloc, CRATES_IO).map_err(|_| AllocError)
 }
 
@@ -54,7 +54,7 @@ fn inputs_in(alloc: Global, bytes: &Bytes) -> Result<Inputs, Fault> {
 }
 
 /// What a report is about, and the index that it is held against.
-fn opened<R: Files + AllocGlobal + Clone + Drop>(
+pub(crate) fn opened<R: Files + AllocGlobal + Clone + Drop>(
     rt: &R,
     index: &str,
     bytes: &Bytes,

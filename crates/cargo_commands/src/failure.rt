@@ -1,7 +1,7 @@
 //! Why a run fails.
 
 use project_files::{ReadFault, WriteFault};
-use resolver::Fault;
+use resolver::{Fault, TooLarge};
 use std::alloc::AllocError;
 use std::fmt;
 
@@ -15,6 +15,21 @@ pub(crate) enum Failure<'a> {
     NoIndex,
     NoPackage(&'a str),
     CannotWrite,
+}
+
+impl Failure<'_> {
+    /// Whether the lock is there and doesn't read.
+    pub(crate) fn is_of_lock(&self) -> bool {
+        matches!(
+            self,
+            Failure::Fault(
+                Fault::LockNotToml
+                    | Fault::LockVersion
+                    | Fault::LockShape
+                    | Fault::TooLarge(TooLarge::Lock)
+            )
+        )
+    }
 }
 
 impl fmt::Display for Failure<'_> {

@@ -10,5 +10,7 @@
 mod answers;
 mod failure;
 mod running;
+mod unread;
+mod verifying;
 
 pub use running::{run, without_arguments};

@@ -2,6 +2,8 @@
 
 use crate::answers::{answer_to, changes_in, lacks_in, skips_in, why_in};
 use crate::failure::Failure;
+use crate::unread::tell_misreading;
+use crate::verifying::verify_at;
 use cargo_words::{CargoWords, Places, WordsFault, own_words, read_words};
 use project_files::{Bytes, Paths, lock_at, read_files, replace_lock};
 use reports::{Told, package_in};
@@ -10,11 +12,12 @@ use std::alloc::{AllocError, Global};
 use std::io::{self, ErrorKind, Write};
 use std::rt::Files;
 
-/// The status of a no: a lock that would change, a manifest without a lock, a package that isn't in the lock.
-const NO: u8 = 1;
+/// The status of a no: a lock that would change or isn't valid, a manifest without a lock, a package that isn't in the
+/// lock.
+pub(crate) const NO: u8 = 1;
 
 /// The status of wrong use, of a fault, of a file that can't be read and of output that can't be written.
-const FAILED: u8 = 2;
+pub(crate) const FAILED: u8 = 2;
 
 /// Does what the words ask, the program's name first, and answers the exit status. `index` is the index where the words
 /// name none.
@@ -61,10 +64,16 @@ fn run_words<R: Files + AllocGlobal + Clone + Drop, O: Write, E: Write>(
             };
             resolve_at(rt, &paths, wish, out, err)
         }
+        CargoWords::Verify { .. } => verify_at(rt, &paths, out, err),
         CargoWords::Why { package, .. } => why_at(rt, &paths, package, out, err),
         CargoWords::Skips { all, .. } => skips_at(rt, &paths, *all, out),
     };
-    finish(status, err)
+    let is_unread = matches!(&status, Err(failure) if failure.is_of_lock());
+    let status = finish(status, err);
+    if is_unread {
+        tell_misreading(rt, &paths, err);
+    }
+    status
 }
 
 /// Where the words say, else `Cargo.toml` in the present folder, `Cargo.lock` beside the manifest, and the index that
@@ -222,7 +231,7 @@ fn skips_at<'a, R: Files + AllocGlobal + Clone + Drop, O: Write>(
     Ok(0)
 }
 
-fn print<'a, O: Write>(text: &str, out: &mut O) -> Result<(), Failure<'a>> {
+pub(crate) fn print<'a, O: Write>(text: &str, out: &mut O) -> Result<(), Failure<'a>> {
     out.write_all(text.as_bytes())
         .map_err(|_| Failure::CannotWrite)
 }

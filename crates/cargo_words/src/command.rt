@@ -9,6 +9,7 @@ pub(crate) fn cargo_relock<'a>(alloc: Global) -> Result<Command<'a>, AllocError>
         .about("Tells what relock answers, as Cargo does")
         .subcommand_required(true);
     let program = program.subcommand(resolve(alloc)?)?;
+    let program = program.subcommand(verify(alloc)?)?;
     let program = program.subcommand(why(alloc)?)?;
     program.subcommand(skips(alloc)?)
 }
@@ -18,6 +19,10 @@ fn resolve<'a>(alloc: Global) -> Result<Command<'a>, AllocError> {
     let command = with_option(command, locked(alloc))?;
     let command = with_option(command, write(alloc))?;
     with_option(command, all(alloc))
+}
+
+fn verify<'a>(alloc: Global) -> Result<Command<'a>, AllocError> {
+    command(alloc, "verify", "Tells what is wrong with the lock")
 }
 
 fn why<'a>(alloc: Global) -> Result<Command<'a>, AllocError> {

@@ -22,6 +22,9 @@ pub enum CargoWords<'a> {
         write: bool,
         all: bool,
     },
+    Verify {
+        places: Places<'a>,
+    },
     Why {
         places: Places<'a>,
         /// `NAME` or `NAME@VERSION`.
@@ -38,6 +41,7 @@ impl<'a> CargoWords<'a> {
     pub fn places(&self) -> Places<'a> {
         match self {
             CargoWords::Resolve { places, .. }
+            | CargoWords::Verify { places }
             | CargoWords::Why { places, .. }
             | CargoWords::Skips { places, .. } => *places,
         }
@@ -87,6 +91,7 @@ fn words_of<'a>(matches: &ArgMatches<'a>) -> Option<CargoWords<'a>> {
             write: found.get_flag("write"),
             all: found.get_flag("all"),
         }),
+        "verify" => Some(CargoWords::Verify { places }),
         "why" => Some(CargoWords::Why {
             places,
             package: found.get_str("package")?,

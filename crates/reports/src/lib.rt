@@ -8,7 +8,9 @@
 #![tactic(auto)]
 
 mod reporting;
+mod verifying;
 mod wanted;
 
 pub use reporting::{Inputs, Told, changes_to, lacks_of, skips_of, why_there};
+pub use verifying::flaws_of_lock;
 pub use wanted::{Wanted, package_in};

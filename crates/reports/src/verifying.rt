@@ -1,0 +1,42 @@
+//! The report on a lock: all that is wrong with it.
+
+use crate::reporting::Inputs;
+use catalogue::{LoadFault, Prefer, load};
+use flaws::{has_metadata, tell_flaws, without_checksums};
+use index_reader::{Folder, FolderFault};
+use std::alloc::Global;
+
+/// All that is wrong with a lock, whose bytes these are; nothing where there is no lock, or the folder fails while it
+/// is asked once more for the files of versions that aren't there.
+///
+/// The index is loaded beside the lock without its checksums, so that those that changed are told with all else.
+pub fn flaws_of_lock<F: Folder>(
+    alloc: Global,
+    folder: &mut F,
+    inputs: &Inputs,
+    bytes: &[u8],
+) -> Result<String, LoadFault> {
+    let Some(lock) = &inputs.lock else {
+        return Ok(String::new(alloc));
+    };
+    let unsummed = without_checksums(alloc, lock)?;
+    let Inputs {
+        manifest,
+        source,
+        ..
+    } = inputs;
+    let catalogue = load(
+        alloc,
+        manifest,
+        folder,
+        Some(&unsummed),
+        source,
+        Prefer::Newest,
+    )?;
+    let has_metadata = has_metadata(bytes);
+    match tell_flaws(alloc, manifest, &catalogue, lock, folder, has_metadata) {
+        Ok(text) => Ok(text),
+        Err(FolderFault::OutOfMemory) => Err(LoadFault::OutOfMemory),
+        Err(FolderFault::Failed) => Ok(String::new(alloc)),
+    }
+}
