@@ -1,10 +1,13 @@
 //! What a run answers from the files that it read.
 
+use crate::failure::Failure;
 use catalogue::{Prefer, Source};
 use index_reader::DiskFolder;
 use manifest::Manifest;
-use project_files::Bytes;
-use reports::{Inputs, Told, Wanted, changes_to, lacks_of, skips_of, why_there};
+use project_files::{Bytes, paths_below};
+use reports::{
+    Inputs, Told, Wanted, all_ways_there, changes_to, lacks_of, skips_of, skips_of_all, why_there,
+};
 use resolver::{Answer, Fault, resolve};
 use std::alloc::{AllocError, Global};
 use std::rt::Files;
@@ -101,14 +104,31 @@ pub(crate) fn skips_in<R: Files + AllocGlobal + Clone + Drop>(
     Ok(text)
 }
 
-/// Why a package is in the lock.
+/// The lines of all files of the index that were not used.
+pub(crate) fn skips_in_all<'a, R: Files + AllocGlobal + Clone + Drop>(
+    rt: &R,
+    index: &'a str,
+    all: bool,
+) -> Result<String, Failure<'a>> {
+    let paths = paths_below(rt, index)?;
+    let mut folder = DiskFolder::open(rt, index)?;
+    let text = skips_of_all(rt.alloc(), &mut folder, &paths, all).map_err(Fault::from)?;
+    Ok(text)
+}
+
+/// Why a package is in the lock: a shortest way to it, or each dependency that leads there.
 pub(crate) fn why_in<R: Files + AllocGlobal + Clone + Drop>(
     rt: &R,
     index: &str,
     bytes: &Bytes,
     wanted: &Wanted,
+    all: bool,
 ) -> Result<Told, Fault> {
     let (inputs, mut folder) = opened(rt, index, bytes)?;
-    let told = why_there(rt.alloc(), &mut folder, &inputs, wanted)?;
+    let told = if all {
+        all_ways_there(rt.alloc(), &mut folder, &inputs, wanted)?
+    } else {
+        why_there(rt.alloc(), &mut folder, &inputs, wanted)?
+    };
     Ok(told)
 }

@@ -9,6 +9,7 @@
 
 mod answers;
 mod failure;
+mod repairing;
 mod running;
 mod unread;
 mod verifying;

@@ -1,11 +1,12 @@
 //! One run of the program: words in, a status and two texts out.
 
-use crate::answers::{answer_to, changes_in, lacks_in, skips_in, why_in};
+use crate::answers::{answer_to, changes_in, lacks_in, skips_in, skips_in_all, why_in};
 use crate::failure::Failure;
+use crate::repairing::repaired;
 use crate::unread::tell_misreading;
 use crate::verifying::verify_at;
 use cargo_words::{CargoWords, Places, WordsFault, own_words, read_words};
-use project_files::{Bytes, Paths, lock_at, read_files, replace_lock};
+use project_files::{Bytes, Paths, is_missing, lock_at, read_files, replace_lock};
 use reports::{Told, package_in};
 use resolver::{Answer, Fault};
 use std::alloc::{AllocError, Global};
@@ -54,19 +55,24 @@ fn run_words<R: Files + AllocGlobal + Clone + Drop, O: Write, E: Write>(
         CargoWords::Resolve {
             locked,
             write,
+            repair,
             all,
             ..
         } => {
             let wish = Wish {
                 locked: *locked,
                 write: *write,
+                repair: *repair,
                 all: *all,
             };
             resolve_at(rt, &paths, wish, out, err)
         }
         CargoWords::Verify { .. } => verify_at(rt, &paths, out, err),
-        CargoWords::Why { package, .. } => why_at(rt, &paths, package, out, err),
-        CargoWords::Skips { all, .. } => skips_at(rt, &paths, *all, out),
+        CargoWords::Why { package, all, .. } => why_at(rt, &paths, package, *all, out, err),
+        CargoWords::Skips { all, places } => {
+            let whole = places.manifest.is_none() && is_missing(rt, paths.manifest);
+            skips_at(rt, &paths, whole, *all, out)
+        }
     };
     let is_unread = matches!(&status, Err(failure) if failure.is_of_lock());
     let status = finish(status, err);
@@ -100,6 +106,7 @@ fn paths_of<'a>(
 struct Wish {
     locked: bool,
     write: bool,
+    repair: bool,
     all: bool,
 }
 
@@ -122,7 +129,10 @@ fn resolve_at<'a, R: Files + AllocGlobal + Clone + Drop, O: Write, E: Write>(
     out: &mut O,
     err: &mut E,
 ) -> Result<u8, Failure<'a>> {
-    let bytes = read_files(rt, paths, false)?;
+    let mut bytes = read_files(rt, paths, false)?;
+    if wish.repair {
+        bytes = repaired(rt.alloc(), paths.lock.as_str(), bytes, err)?;
+    }
     let answer = answer_to(rt, paths.index, &bytes)?;
     match &answer {
         Answer::Lock {
@@ -183,6 +193,7 @@ fn why_at<'a, R: Files + AllocGlobal + Clone + Drop, O: Write, E: Write>(
     rt: &R,
     paths: &'a Paths<'a>,
     package: &'a str,
+    all: bool,
     out: &mut O,
     err: &mut E,
 ) -> Result<u8, Failure<'a>> {
@@ -190,7 +201,7 @@ fn why_at<'a, R: Files + AllocGlobal + Clone + Drop, O: Write, E: Write>(
         return Err(Failure::NoPackage(package));
     };
     let bytes = read_files(rt, paths, true)?;
-    let told = why_in(rt, paths.index, &bytes, &wanted)?;
+    let told = why_in(rt, paths.index, &bytes, &wanted, all)?;
     tell_why(paths, package, &told, out, err)
 }
 
@@ -218,15 +229,20 @@ fn tell_why<'a, O: Write, E: Write>(
 /// What is told of the root.
 const IS_ROOT: &str = "it is the package of the manifest\n";
 
-/// The lines of the index that were not used.
+/// The lines of the index that were not used: of what the manifest comes to, or of the `whole` index.
 fn skips_at<'a, R: Files + AllocGlobal + Clone + Drop, O: Write>(
     rt: &R,
     paths: &'a Paths<'a>,
+    whole: bool,
     all: bool,
     out: &mut O,
 ) -> Result<u8, Failure<'a>> {
-    let bytes = read_files(rt, paths, false)?;
-    let text = skips_in(rt, paths.index, &bytes, all)?;
+    let text = if whole {
+        skips_in_all(rt, paths.index, all)?
+    } else {
+        let bytes = read_files(rt, paths, false)?;
+        skips_in(rt, paths.index, &bytes, all)?
+    };
     print(text.as_str(), out)?;
     Ok(0)
 }

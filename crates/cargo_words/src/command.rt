@@ -18,6 +18,7 @@ fn resolve<'a>(alloc: Global) -> Result<Command<'a>, AllocError> {
     let command = command(alloc, "resolve", "Tells what changes in the lock")?;
     let command = with_option(command, locked(alloc))?;
     let command = with_option(command, write(alloc))?;
+    let command = with_option(command, repair(alloc))?;
     with_option(command, all(alloc))
 }
 
@@ -27,7 +28,8 @@ fn verify<'a>(alloc: Global) -> Result<Command<'a>, AllocError> {
 
 fn why<'a>(alloc: Global) -> Result<Command<'a>, AllocError> {
     let command = command(alloc, "why", "Tells why a package is in the lock")?;
-    with_option(command, package(alloc))
+    let command = with_option(command, package(alloc))?;
+    with_option(command, all(alloc))
 }
 
 fn skips<'a>(alloc: Global) -> Result<Command<'a>, AllocError> {
@@ -81,8 +83,14 @@ fn write<'a>(alloc: Global) -> Arg<'a> {
     flag(alloc, "write").help("Replaces the Cargo.lock by the new one")
 }
 
+fn repair<'a>(alloc: Global) -> Arg<'a> {
+    flag(alloc, "repair").help("Goes on where the Cargo.lock can't be read, with what of it can be")
+}
+
 fn all<'a>(alloc: Global) -> Arg<'a> {
-    flag(alloc, "all").help("Tells more: what stays behind, each line that is skipped")
+    flag(alloc, "all").help(
+        "Tells more: what stays behind, each dependency that leads there, each line skipped",
+    )
 }
 
 /// An option that takes a value.

@@ -20,6 +20,7 @@ pub enum CargoWords<'a> {
         places: Places<'a>,
         locked: bool,
         write: bool,
+        repair: bool,
         all: bool,
     },
     Verify {
@@ -29,6 +30,7 @@ pub enum CargoWords<'a> {
         places: Places<'a>,
         /// `NAME` or `NAME@VERSION`.
         package: &'a str,
+        all: bool,
     },
     Skips {
         places: Places<'a>,
@@ -89,12 +91,14 @@ fn words_of<'a>(matches: &ArgMatches<'a>) -> Option<CargoWords<'a>> {
             places,
             locked: found.get_flag("locked"),
             write: found.get_flag("write"),
+            repair: found.get_flag("repair"),
             all: found.get_flag("all"),
         }),
         "verify" => Some(CargoWords::Verify { places }),
         "why" => Some(CargoWords::Why {
             places,
             package: found.get_str("package")?,
+            all: found.get_flag("all"),
         }),
         "skips" => Some(CargoWords::Skips {
             places,

@@ -1,6 +1,6 @@
 -- Why a package is in a lock: the lists of the lock lead there from its root (Cargo book, "Cargo.toml vs Cargo.lock").
 use Rattle.std.specs.Prelude.{◌≡◌, ℕ, nat_eq, List, [], ◌∷◌, Bool, true, false, not, ◌&&◌, Option, Some, None, is_some}
-use Rattle.std.specs.Prelude.{slice_get}
+use Rattle.std.specs.Prelude.{slice_get, length, ◌≤◌}
 use Rattle.std.specs.List.{list_any}
 use Rattle.semver.specs.Parse.{Parts}
 use Rattle.manifest.specs.Manifests.{ManifestView}
@@ -42,8 +42,21 @@ abbrev pub is_way : Content → (Package → Bool) → (Package → Bool) → Li
 is_way content begins ends [] = false
 is_way content begins ends (i ∷ is) = holds_at begins (slice_get content i) && leads content ends i is
 
--- what is said of why a package is there; that none leads there is not stated
+-- a way that is no longer than any other
+abbrev pub IsShortest : Content → (Package → Bool) → (Package → Bool) → List ℕ → Type 0
+IsShortest content begins ends places = (is_way content begins ends places ≡ true)
+    × ((others : List ℕ) → is_way content begins ends others ≡ true → length places ≤ length others)
+
+abbrev pub HasNoWay : Content → (Package → Bool) → (Package → Bool) → Type 0
+HasNoWay content begins ends = (places : List ℕ) → is_way content begins ends places ≡ false
+
+-- a shortest way where there is one
+abbrev pub IsFound : Content → (Package → Bool) → (Package → Bool) → Option (List ℕ) → Type 0
+IsFound content begins ends None = HasNoWay content begins ends
+IsFound content begins ends (Some places) = IsShortest content begins ends places
+
+-- what is said of why a package is there
 abbrev pub IsWhy : Content → (Package → Bool) → (Package → Bool) → Why → Type 0
-IsWhy content begins ends (Way places) = is_way content begins ends places.items ≡ true
+IsWhy content begins ends (Way places) = IsShortest content begins ends places.items
 IsWhy content begins ends Absent = list_any ends content ≡ false
-IsWhy content begins ends Unreached = list_any ends content ≡ true
+IsWhy content begins ends Unreached = (list_any ends content ≡ true) × HasNoWay content begins ends

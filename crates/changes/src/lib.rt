@@ -2,15 +2,19 @@
 //! not used.
 //!
 //! Locks are in package order, so whether one has a package is found by halves, and what came, went and stayed costs n
-//! log n (`changing`). Why a package is there is a shortest way over the lists of the lock (`searching`); the way that
-//! was found is looked at once more before it is told (`ways`), so that it is one whatever the search does.
+//! log n (`changing`). Why a package is there is a shortest way over the lists of the lock: a search visits each package
+//! once, the nearest first (`searching`). What is hard is that no way is shorter, and that there is none where none is
+//! found: the proof goes by what the search keeps (`specs/Searches`), that what visited packages list is visited too,
+//! and no visit is more than one list farther than the next that is followed.
 //!
-//! A layer above may rely on this: what changed is exact, a way is a way, and a package that is said to be absent is.
-//! Which version is told as available, and all texts, are shown by cases and not stated.
+//! A layer above may rely on this: what changed is exact, a way is a shortest one, and where it is said that there is no
+//! package or no way there is none. Which version is told as available, and all texts, are shown by cases and not
+//! stated.
 #![tactic(auto)]
 
 mod available;
 mod changing;
+mod on_ways;
 mod printing;
 mod searching;
 mod skips;
@@ -18,7 +22,8 @@ mod steps;
 mod ways;
 
 pub use changing::{Changes, changes_between};
+pub use on_ways::dependencies_to;
 pub use printing::tell_changes;
 pub use skips::tell_skips;
-pub use steps::tell_way;
+pub use steps::{tell_dependencies, tell_way};
 pub use ways::{Why, reason_for};

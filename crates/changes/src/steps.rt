@@ -1,5 +1,6 @@
 //! The lines of a way through a lock.
 
+use crate::ways::is_own;
 use catalogue::Catalogue;
 use features::Dependency;
 use lockfile::{LockContent, Package};
@@ -25,6 +26,29 @@ pub fn tell_way(
                 push_step(&mut text, owner, dependencies, target)?;
                 dependencies = dependencies_of(catalogue, target);
             }
+        }
+    }
+    Ok(text)
+}
+
+/// A line for each of some dependencies, which are given by the places of a package and of one that it lists.
+pub fn tell_dependencies(
+    alloc: Global,
+    manifest: &Manifest,
+    catalogue: &Catalogue,
+    content: &LockContent,
+    pairs: &[(usize, usize)],
+) -> Result<String, AllocError> {
+    let mut text = String::new(alloc);
+    let packages = content.packages();
+    for (owner, target) in pairs.iter() {
+        if let (Some(owner), Some(target)) = (packages.get(*owner), packages.get(*target)) {
+            let dependencies = if is_own(manifest, owner) {
+                manifest.dependencies()
+            } else {
+                dependencies_of(catalogue, owner)
+            };
+            push_step(&mut text, owner, dependencies, target)?;
         }
     }
     Ok(text)

@@ -4,7 +4,7 @@ ghost use Rattle.std.specs.Prelude.{◌≡◌, ◌&&◌, nat_eq, IfOk, Some, opt
 ghost use Rattle.std.specs.List.{list_any};
 ghost use Rattle.semver.specs.Identifiers.{parts_of};
 ghost use Rattle.lockfile.specs.Views.{package_view, package_views};
-ghost use Rattle.changes.specs.Ways.{IsWhy, holds_at, is_meant, is_own, is_version, is_way, leads, lists};
+ghost use Rattle.changes.specs.Ways.{IsWhy, holds_at, is_meant, is_own, is_version};
 
 use crate::searching::shortest_way;
 use classes::version_order;
@@ -27,8 +27,6 @@ pub enum Why {
 
 /// Why a package of a name, and of a version if there is one, is in the lock of a manifest; of several the nearest to
 /// the root is meant.
-///
-/// A way that was found is looked at once more, so that what is told is a way whatever the search does.
 pub fn reason_for(
     alloc: Global,
     manifest: &Manifest,
@@ -43,11 +41,9 @@ pub fn reason_for(
     if !has_meant(packages, name, version) {
         return Ok(Why::Absent);
     }
-    let places = shortest_way(alloc, manifest, packages, name, version)?;
-    if is_way(manifest, packages, name, version, &places) {
-        Ok(Why::Way(places))
-    } else {
-        Ok(Why::Unreached)
+    match shortest_way(alloc, manifest, packages, name, version)? {
+        Some(places) => Ok(Why::Way(places)),
+        None => Ok(Why::Unreached),
     }
 }
 
@@ -90,74 +86,18 @@ pub(crate) fn is_own(manifest: &Manifest, locked: &Package) -> bool
     locked.source().is_none() && is_meant(locked, manifest.name(), Some(manifest.version()))
 }
 
-/// Whether places lead from the root to a package that is meant, each listed by the one before.
-fn is_way(
-    manifest: &Manifest,
-    packages: &[Package],
-    name: &PackageName,
-    version: Option<&Version>,
-    places: &[usize],
-) -> bool
-    ensures { result ≡ is_way (package_views packages.now) (is_own manifest.now)
-        (is_meant name.now (option_map (λ v. parts_of v.now) version.entry)) places.now }
-{
-    match places.split_first() {
-        Some((first, rest)) => {
-            begins(manifest, packages, *first) && leads(packages, name, version, *first, rest)
-        }
-        None => false,
-    }
-}
-
-/// Whether the root stands at a place.
-fn begins(manifest: &Manifest, packages: &[Package], place: usize) -> bool
-    ensures { result ≡ holds_at (is_own manifest.now) (slice_get (package_views packages.now) place) }
-{
-    match packages.get(place) {
-        Some(package) => is_own(manifest, package),
-        None => false,
-    }
-}
-
-/// Whether from a place on each package lists the next one, and the last one is meant.
-#[tactic(auto, unfolding(crate::specs::Ways::leads))]
-fn leads(
-    packages: &[Package],
-    name: &PackageName,
-    version: Option<&Version>,
-    first: usize,
-    rest: &[usize],
-) -> bool
-    ensures { result ≡ leads (package_views packages.now)
-        (is_meant name.now (option_map (λ v. parts_of v.now) version.entry)) first rest.now }
-{
-    let mut place = first;
-    'rest: for next in rest.iter() {
-        if !lists(packages, place, *next) {
-            return false;
-        }
-        place = *next;
-    }
-    ends(packages, name, version, place)
-}
-
 /// Whether a package that is meant stands at a place.
-fn ends(packages: &[Package], name: &PackageName, version: Option<&Version>, place: usize) -> bool
+pub(crate) fn ends(
+    packages: &[Package],
+    name: &PackageName,
+    version: Option<&Version>,
+    place: usize,
+) -> bool
     ensures { result ≡ holds_at (is_meant name.now (option_map (λ v. parts_of v.now) version.entry))
         (slice_get (package_views packages.now) place) }
 {
     match packages.get(place) {
         Some(package) => is_meant(package, name, version),
-        None => false,
-    }
-}
-
-/// Whether the package at a place lists that at another one.
-fn lists(packages: &[Package], from: usize, to: usize) -> bool
-    ensures { result ≡ lists (package_views packages.now) from to }
-{
-    match packages.get(from) {
-        Some(package) => package.list.contains(&to),
         None => false,
     }
 }

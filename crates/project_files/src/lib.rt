@@ -9,11 +9,13 @@
 #![tactic(auto)]
 
 mod fault;
+mod listing;
 mod paths;
 mod reading;
 mod writing;
 
 pub use fault::{ReadFault, WriteFault};
+pub use listing::{is_missing, paths_below};
 pub use paths::{Paths, lock_at};
 pub use reading::{Bytes, read_files};
 pub use writing::replace_lock;

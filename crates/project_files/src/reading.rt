@@ -69,7 +69,7 @@ fn read_lock<'a, R: Files + AllocGlobal>(
     }
 }
 
-fn check_index<'a, R: Files>(rt: &R, path: &'a str) -> Result<(), ReadFault<'a>>
+pub(crate) fn check_index<'a, R: Files>(rt: &R, path: &'a str) -> Result<(), ReadFault<'a>>
     ensures { IfErr result (IsAbout path.entry.now) }
 {
     match fs::metadata(rt, path) {
@@ -92,7 +92,7 @@ fn front_of<R: Files + AllocGlobal>(rt: &R, path: &str, most: u64) -> io::Result
 }
 
 /// Only a growth that was refused here is want of memory.
-fn fault_at<'a>(path: &'a str, error: io::Error) -> ReadFault<'a>
+pub(crate) fn fault_at<'a>(path: &'a str, error: io::Error) -> ReadFault<'a>
     ensures { IsAbout path.entry.now result }
 {
     if error.kind() == ErrorKind::OutOfMemory && error.raw_os_error().is_none() {

@@ -7,10 +7,16 @@
 //! and a text `NAME` or `NAME@VERSION` asks for just the package that `specs/Asked` says.
 #![tactic(auto)]
 
+mod all_ways;
+mod repairing;
 mod reporting;
 mod verifying;
 mod wanted;
+mod whole_index;
 
+pub use all_ways::all_ways_there;
+pub use repairing::{Readable, readable_part};
 pub use reporting::{Inputs, Told, changes_to, lacks_of, skips_of, why_there};
 pub use verifying::flaws_of_lock;
 pub use wanted::{Wanted, package_in};
+pub use whole_index::skips_of_all;

@@ -22,7 +22,7 @@ pub struct Inputs {
 }
 
 /// What is loaded of an index for these, the newest versions preferred.
-fn loaded<F: Folder>(
+pub(crate) fn loaded<F: Folder>(
     alloc: Global,
     folder: &mut F,
     inputs: &Inputs,

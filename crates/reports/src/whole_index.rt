@@ -1,0 +1,137 @@
+//! The lines of all files of an index.
+
+use catalogue::{Limit, LoadFault};
+use changes::tell_skips;
+use features::{NameFault, PackageName};
+use index_reader::{Folder, FolderFault, Skip, index_path, lines, read_file_in};
+use json::Scratch;
+use std::alloc::{AllocError, Global};
+use trees::{TreeFault, as_text, member, read_tree};
+
+/// How many bytes a file has at most.
+const MAX_BYTES: usize = 16_777_216;
+
+/// How many lines a file has at most.
+const MAX_LINES: usize = 65_535;
+
+/// The lines that were not used of the files at these paths, by the names of the files in order of their bytes. A file
+/// that isn't where the name of a package would be looked for is passed over.
+pub fn skips_of_all<F: Folder>(
+    alloc: Global,
+    folder: &mut F,
+    paths: &[String],
+    all: bool,
+) -> Result<String, LoadFault> {
+    let mut skips = Vec::new(alloc);
+    let mut scratch = Scratch::new(alloc);
+    for name in names_at(alloc, paths)?.iter() {
+        push_skips(alloc, folder, name, &mut scratch, &mut skips)?;
+    }
+    Ok(tell_skips(alloc, &skips, all)?)
+}
+
+/// The names of the packages whose files are at these paths.
+fn names_at(alloc: Global, paths: &[String]) -> Result<Vec<PackageName>, AllocError> {
+    let mut names = Vec::new(alloc);
+    for path in paths.iter() {
+        if let Some(name) = name_at(alloc, path.as_str())? {
+            names.push(name)?;
+        }
+    }
+    names.sort()?;
+    Ok(names)
+}
+
+fn name_at(alloc: Global, path: &str) -> Result<Option<PackageName>, AllocError> {
+    let text = match path.rsplit_once('/') {
+        Some((_, text)) => text,
+        None => path,
+    };
+    let Some(name) = name_of(alloc, text)? else {
+        return Ok(None);
+    };
+    let own = index_path(alloc, &name)?;
+    if own.as_str() == path {
+        Ok(Some(name))
+    } else {
+        Ok(None)
+    }
+}
+
+/// Adds the lines of a file that were not used.
+fn push_skips<F: Folder>(
+    alloc: Global,
+    folder: &mut F,
+    name: &PackageName,
+    scratch: &mut Scratch,
+    skips: &mut Vec<Skip>,
+) -> Result<(), LoadFault> {
+    let path = index_path(alloc, name)?;
+    let bytes = match folder.file(path.as_str()) {
+        Ok(Some(bytes)) => bytes,
+        Ok(None) => return Ok(()),
+        Err(FolderFault::OutOfMemory) => return Err(LoadFault::OutOfMemory),
+        Err(FolderFault::Failed) => return Err(LoadFault::FolderFailed(path)),
+    };
+    if bytes.len() > MAX_BYTES {
+        return Err(LoadFault::TooLarge(Limit::File(name.clone()?)));
+    }
+    if lines(&bytes) > MAX_LINES {
+        return Err(LoadFault::TooLarge(Limit::Lines(name.clone()?)));
+    }
+    let spelt = spelt_in(alloc, name, &bytes, scratch)?;
+    let name = match &spelt {
+        Some(spelt) => spelt,
+        None => name,
+    };
+    let (_, found) = read_file_in(alloc, name, &bytes, scratch)?;
+    for skip in found.into_iter() {
+        skips.push(skip)?;
+    }
+    Ok(())
+}
+
+/// The name of a file as its lines spell it, with the letters that are large there: the first name in them that is the
+/// file's but for the case of letters.
+fn spelt_in(
+    alloc: Global,
+    name: &PackageName,
+    bytes: &[u8],
+    scratch: &mut Scratch,
+) -> Result<Option<PackageName>, AllocError> {
+    for line in bytes.split(|byte| *byte == b'\n') {
+        if let Some(spelt) = name_in(alloc, line, scratch)? {
+            let lower = spelt.as_str().to_ascii_lowercase(alloc)?;
+            if lower.as_str() == name.as_str() {
+                return Ok(Some(spelt));
+            }
+        }
+    }
+    Ok(None)
+}
+
+/// The name that a line says.
+fn name_in(
+    alloc: Global,
+    line: &[u8],
+    scratch: &mut Scratch,
+) -> Result<Option<PackageName>, AllocError> {
+    let tree = match read_tree(alloc, line, scratch) {
+        Ok(tree) => tree,
+        Err(TreeFault::OutOfMemory) => return Err(AllocError),
+        Err(TreeFault::NotJson) => return Ok(None),
+    };
+    let Some(text) = member(&tree, "name").and_then(as_text) else {
+        return Ok(None);
+    };
+    name_of(alloc, text)
+}
+
+/// The package name that a text is, if it is one.
+fn name_of(alloc: Global, text: &str) -> Result<Option<PackageName>, AllocError> {
+    match PackageName::parse(alloc, text) {
+        Ok(name) => Ok(Some(name)),
+        Err(NameFault::OutOfMemory) => Err(AllocError),
+        Err(NameFault::NotAName) => Ok(None),
+    }
+}
