@@ -2,11 +2,12 @@
 
 use crate::failure::Failure;
 use catalogue::{Prefer, Source};
+use derivations::Derivation;
 use index_reader::DiskFolder;
 use manifest::Manifest;
 use project_files::{Bytes, paths_below};
 use reports::{
-    Inputs, Told, Wanted, all_ways_there, changes_to, lacks_of, skips_of, skips_of_all, why_there,
+    Inputs, Told, Wanted, all_ways_there, changes_to, refusal_of, skips_of, skips_of_all, why_there,
 };
 use resolver::{Answer, Fault, resolve};
 use std::alloc::{AllocError, Global};
@@ -81,14 +82,16 @@ pub(crate) fn changes_in<R: Files + AllocGlobal + Clone + Drop>(
     Ok(text)
 }
 
-/// The dependencies of the manifest for which nothing fits.
-pub(crate) fn lacks_in<R: Files + AllocGlobal + Clone + Drop>(
+/// Why there is no lock, by what the derivation says too, if it can be told in sentences.
+pub(crate) fn refusal_in<R: Files + AllocGlobal + Clone + Drop>(
     rt: &R,
     index: &str,
     bytes: &Bytes,
-) -> Result<String, Fault> {
+    derivation: &Derivation,
+    all: bool,
+) -> Result<Option<String>, Fault> {
     let (inputs, mut folder) = opened(rt, index, bytes)?;
-    let text = lacks_of(rt.alloc(), &mut folder, &inputs)?;
+    let text = refusal_of(rt.alloc(), &mut folder, &inputs, derivation, all)?;
     Ok(text)
 }
 

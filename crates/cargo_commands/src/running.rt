@@ -1,6 +1,6 @@
 //! One run of the program: words in, a status and two texts out.
 
-use crate::answers::{answer_to, changes_in, lacks_in, skips_in, skips_in_all, why_in};
+use crate::answers::{answer_to, changes_in, refusal_in, skips_in, skips_in_all, why_in};
 use crate::failure::Failure;
 use crate::repairing::repaired;
 use crate::unread::tell_misreading;
@@ -147,7 +147,18 @@ fn resolve_at<'a, R: Files + AllocGlobal + Clone + Drop, O: Write, E: Write>(
             }
             with_new_lock(rt, paths, new, wish, err)
         }
-        Answer::Unsolvable { text, .. } => tell_refusal(rt, paths, &bytes, text.as_str(), err),
+        Answer::Unsolvable {
+            derivation,
+            text,
+            ..
+        } => {
+            let told = refusal_in(rt, paths.index, &bytes, derivation, wish.all)?;
+            let why = match &told {
+                Some(told) => told.as_str(),
+                None => text.as_str(),
+            };
+            tell_refusal(paths, why, err)
+        }
     }
 }
 
@@ -170,20 +181,12 @@ fn with_new_lock<'a, R: Files + AllocGlobal, E: Write>(
     Ok(0)
 }
 
-/// Why there is no lock: the dependencies of the manifest for which nothing fits, or else the explanation.
-fn tell_refusal<'a, R: Files + AllocGlobal + Clone + Drop, E: Write>(
-    rt: &R,
-    paths: &'a Paths<'a>,
-    bytes: &Bytes,
-    explanation: &str,
+/// Tells why there is no lock.
+fn tell_refusal<'a, E: Write>(
+    paths: &Paths<'_>,
+    why: &str,
     err: &mut E,
 ) -> Result<u8, Failure<'a>> {
-    let lacks = lacks_in(rt, paths.index, bytes)?;
-    let why = if lacks.is_empty() {
-        explanation
-    } else {
-        lacks.as_str()
-    };
     let _ = write!(err, "error: there is no lock for {}\n{why}", paths.manifest);
     Ok(NO)
 }

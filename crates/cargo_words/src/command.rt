@@ -89,7 +89,7 @@ fn repair<'a>(alloc: Global) -> Arg<'a> {
 
 fn all<'a>(alloc: Global) -> Arg<'a> {
     flag(alloc, "all").help(
-        "Tells more: what stays behind, each dependency that leads there, each line skipped",
+        "Tells more: what stays behind, all of a refusal, each dependency that leads there, each line skipped",
     )
 }
 

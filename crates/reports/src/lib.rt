@@ -8,6 +8,7 @@
 #![tactic(auto)]
 
 mod all_ways;
+mod refusing;
 mod repairing;
 mod reporting;
 mod verifying;
@@ -15,8 +16,9 @@ mod wanted;
 mod whole_index;
 
 pub use all_ways::all_ways_there;
+pub use refusing::refusal_of;
 pub use repairing::{Readable, readable_part};
-pub use reporting::{Inputs, Told, changes_to, lacks_of, skips_of, why_there};
+pub use reporting::{Inputs, Told, changes_to, skips_of, why_there};
 pub use verifying::flaws_of_lock;
 pub use wanted::{Wanted, package_in};
 pub use whole_index::skips_of_all;

@@ -7,8 +7,7 @@ ghost use Rattle.reports.specs.Told.{IsTold, asks_for, packages_if};
 use crate::wanted::Wanted;
 use catalogue::{Catalogue, LoadFault, Prefer, Source, load};
 use changes::{Why, changes_between, reason_for, tell_changes, tell_skips, tell_way};
-use index_reader::{Folder, FolderFault};
-use lacks::tell_lacks;
+use index_reader::Folder;
 use lockfile::LockContent;
 use manifest::Manifest;
 use std::alloc::Global;
@@ -48,21 +47,6 @@ pub fn changes_to<F: Folder>(
     let catalogue = loaded(alloc, folder, inputs)?;
     let changes = changes_between(alloc, inputs.lock.as_ref(), new)?;
     Ok(tell_changes(alloc, &catalogue, new, &changes, all)?)
-}
-
-/// The dependencies of the manifest for which nothing fits; where there is none, or the folder fails while it is asked
-/// for these once more, nothing.
-pub fn lacks_of<F: Folder>(
-    alloc: Global,
-    folder: &mut F,
-    inputs: &Inputs,
-) -> Result<String, LoadFault> {
-    let catalogue = loaded(alloc, folder, inputs)?;
-    match tell_lacks(alloc, &inputs.manifest, &catalogue, folder) {
-        Ok(text) => Ok(text),
-        Err(FolderFault::OutOfMemory) => Err(LoadFault::OutOfMemory),
-        Err(FolderFault::Failed) => Ok(String::new(alloc)),
-    }
 }
 
 /// The lines of the index that were not used.

@@ -1,0 +1,72 @@
+//! Why there is no lock.
+
+ghost use Rattle.std.specs.Prelude.{IfOk, IsSome};
+ghost use Rattle.model.specs.Derivation.{IsAccepted};
+ghost use Rattle.catalogue.specs.Problems.{problem_in};
+
+use crate::reporting::{Inputs, loaded};
+use catalogue::{Catalogue, LoadFault};
+use checker::{Check, check};
+use derivations::Derivation;
+use index_reader::{Folder, FolderFault};
+use lacks::tell_lacks;
+use looking_up::Problem;
+use manifest::Manifest;
+use std::alloc::{AllocError, Global};
+use telling::tell;
+
+/// Why there is no lock: the dependencies of the manifest for which nothing fits; where there is none, what the
+/// derivation says, if the checker accepts it.
+pub fn refusal_of<F: Folder>(
+    alloc: Global,
+    folder: &mut F,
+    inputs: &Inputs,
+    derivation: &Derivation,
+    all: bool,
+) -> Result<Option<String>, LoadFault> {
+    let catalogue = loaded(alloc, folder, inputs)?;
+    let lacks = lacks_of(alloc, folder, inputs, &catalogue)?;
+    if !lacks.is_empty() {
+        return Ok(Some(lacks));
+    }
+    let told = told(alloc, &inputs.manifest, &catalogue, derivation, all)?;
+    Ok(told)
+}
+
+/// The dependencies of the manifest for which nothing fits; where there is none, or the folder fails while it is asked
+/// for these once more, nothing.
+fn lacks_of<F: Folder>(
+    alloc: Global,
+    folder: &mut F,
+    inputs: &Inputs,
+    catalogue: &Catalogue,
+) -> Result<String, LoadFault> {
+    match tell_lacks(alloc, &inputs.manifest, catalogue, folder) {
+        Ok(text) => Ok(text),
+        Err(FolderFault::OutOfMemory) => Err(LoadFault::OutOfMemory),
+        Err(FolderFault::Failed) => Ok(String::new(alloc)),
+    }
+}
+
+/// What a derivation says, in sentences, if the checker accepts it.
+fn told(
+    alloc: Global,
+    manifest: &Manifest,
+    catalogue: &Catalogue,
+    derivation: &Derivation,
+    all: bool,
+) -> Result<Option<String>, AllocError>
+    ensures { IfOk result (λ o. IsSome o → IsAccepted (problem_in manifest.now catalogue.now) derivation.now) }
+{
+    match check(alloc, manifest, catalogue, derivation)? {
+        Check::Proves => {
+            let problem = Problem {
+                manifest,
+                catalogue,
+            };
+            let text = tell(alloc, problem, derivation, all)?;
+            Ok(Some(text))
+        }
+        Check::Refused { .. } => Ok(None),
+    }
+}

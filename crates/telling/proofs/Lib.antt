@@ -1,0 +1,5 @@
+pub mod LeadingBack
+pub mod OrderedTerms
+pub mod OutlineLaws
+pub mod SpansSay
+pub mod UsesLaws

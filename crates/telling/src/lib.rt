@@ -1,0 +1,33 @@
+//! Why there is no lock, told in sentences.
+//!
+//! A derivation has a step for each thing that was combined, and most of these say little. So a step gets a sentence of
+//! its own only where several need it, or where its reasons have become too many for one sentence; else its reasons
+//! stand for it (`outline.rt`, with `uses.rt`). What is hard is to be sure that nothing is lost by that. Which steps are
+//! told is a definition, and a law says of it that each sentence follows from its reasons, down to what axioms say.
+//!
+//! What an axiom says is told by the cause that its terms can have, which `causes` finds (`axiom.rt`). What is said of
+//! several versions of a name is one fact (`facts.rt`), so that thirty versions that need the same are told at once.
+//! Versions stand as ranges over the candidates of their name (`spans.rt`, `ranges.rt`), from marks that say which of
+//! them a term means (`marks.rt`).
+//!
+//! A layer above may rely on this: `sentences_of` loses no reason, and a range has exactly the versions that it is to
+//! have. Whether the derivation is right is for the checker to say: ask it first.
+#![tactic(auto)]
+
+mod axiom;
+mod claim;
+mod clauses;
+mod facts;
+mod marks;
+mod naming;
+mod outline;
+mod ranges;
+mod spans;
+mod telling;
+mod terms;
+mod uses;
+
+pub use outline::{Note, Reason, Sentence, sentences_of};
+pub use spans::{Span, spans_of};
+pub use telling::tell;
+pub use uses::Uses;

@@ -1,0 +1,278 @@
+//! Which steps of a derivation are told, and by which reasons.
+
+ghost use Rattle.std.specs.Prelude.{◌≡◌, ◌++◌, ◌∷◌, [], IfOk, OnOk, length, map, slice_get};
+ghost use Rattle.telling.specs.Outlines as outlines;
+ghost use Rattle.telling.specs.Outlines.{IsOutline, by_fact, fact_of, has_reason, is_plain, is_told_before, looked_at};
+ghost use Rattle.telling.specs.Outlines.{merged, outline_from, reasons_at, same_reason, too_many, with_reason};
+ghost use Rattle.telling.specs.Outlines.{with_reasons, with_sentence, with_step};
+ghost use Rattle.telling.specs.Views.{sentence_views, so_far_view};
+
+use crate::uses::{Uses, is_needed, uses_of};
+use derivations::Derivation;
+use std::alloc::{AllocError, Global};
+
+/// Why a step holds.
+#[derive(Clone, Copy, Debug)]
+pub enum Reason {
+    /// What axioms say: the number of a fact.
+    Fact(usize),
+    /// What an earlier sentence says: its place.
+    Told(usize),
+}
+
+/// What is known of a step by itself.
+#[derive(Clone, Copy, Debug)]
+pub struct Note {
+    /// The number of the fact that it says, if it is an axiom that says one.
+    pub fact: Option<usize>,
+    /// Whether what it says is plain: of versions of packages alone.
+    pub plain: bool,
+}
+
+/// A step that is told, and why it holds.
+#[derive(Debug, Drop)]
+pub struct Sentence {
+    /// The number of the step.
+    pub step: usize,
+    pub reasons: Vec<Reason>,
+}
+
+/// What is known of the steps so far.
+#[derive(Drop)]
+struct SoFar {
+    sentences: Vec<Sentence>,
+    /// For each step what is told where it is combined.
+    said: Vec<Vec<Reason>>,
+}
+
+/// The sentences that tell a derivation: its needed steps in order, but for those that only restate a reason, and those
+/// that one step alone combines and that have few reasons: at most two, or five where what they say isn't plain. The
+/// notes stand at the numbers of their steps.
+pub fn sentences_of(
+    alloc: Global,
+    derivation: &Derivation,
+    notes: &[Note],
+) -> Result<Vec<Sentence>, AllocError>
+    ensures sentences { IfOk result (λ v. sentence_views v.items ≡ outlines.sentences_of notes.now derivation.now) }
+    ensures outline { IfOk result (λ v. IsOutline notes.now derivation.now (sentence_views v.items)) }
+{
+    let (_, steps) = derivation.parts();
+    let mut so_far = SoFar {
+        sentences: Vec::new(alloc),
+        said: Vec::with_capacity(alloc, steps.len())?,
+    };
+    look_at_all(alloc, &mut so_far, derivation, notes)?;
+    Ok(so_far.sentences)
+}
+
+#[tactic(auto, unfolding(crate::specs::Outlines::outline_from))]
+fn look_at_all(
+    alloc: Global,
+    so_far: &mut SoFar,
+    derivation: &Derivation,
+    notes: &[Note],
+) -> Result<(), AllocError>
+    ensures { OnOk result (so_far_view so_far.new
+        ≡ outline_from notes.now derivation.now 0 (outlines.uses_of derivation.now) (so_far_view so_far.old)) }
+{
+    let uses = uses_of(alloc, derivation)?;
+    'steps: for (number, used) in uses.iter().enumerate() {
+        look_at(alloc, so_far, derivation, notes, number, *used)?;
+    }
+    Ok(())
+}
+
+/// Takes the next step into account.
+fn look_at(
+    alloc: Global,
+    so_far: &mut SoFar,
+    derivation: &Derivation,
+    notes: &[Note],
+    number: usize,
+    uses: Uses,
+) -> Result<(), AllocError>
+    ensures { OnOk result
+        (so_far_view so_far.new ≡ looked_at notes.now derivation.now uses number (so_far_view so_far.old)) }
+{
+    if !is_needed(uses) {
+        return merge(so_far, Vec::new(alloc));
+    }
+    let reasons = reasons_of(alloc, &so_far.said, derivation, notes, number)?;
+    add_step(
+        alloc,
+        so_far,
+        number,
+        reasons,
+        uses,
+        is_plain(notes, number),
+    )
+}
+
+/// Adds a needed step, with a sentence or without.
+fn add_step(
+    alloc: Global,
+    so_far: &mut SoFar,
+    number: usize,
+    reasons: Vec<Reason>,
+    uses: Uses,
+    plain: bool,
+) -> Result<(), AllocError>
+    ensures { OnOk result
+        (so_far_view so_far.new ≡ with_step plain uses number reasons.items (so_far_view so_far.old)) }
+{
+    if is_merged(plain, uses, &reasons) {
+        merge(so_far, reasons)
+    } else {
+        tell(alloc, so_far, number, reasons)
+    }
+}
+
+/// Whether a step with these reasons has no sentence.
+fn is_merged(plain: bool, uses: Uses, reasons: &[Reason]) -> bool
+    ensures { result ≡ outlines.is_merged plain uses reasons.now }
+{
+    match uses {
+        Uses::Never => true,
+        Uses::Once => reasons.len() < too_many(plain),
+        Uses::Often => reasons.len() < 2,
+        Uses::End => is_told_before(reasons),
+    }
+}
+
+/// How many reasons are too many for a step to have no sentence.
+fn too_many(plain: bool) -> usize
+    ensures { result ≡ too_many plain }
+{
+    if plain { 3 } else { 6 }
+}
+
+fn is_plain(notes: &[Note], number: usize) -> bool
+    ensures { result ≡ is_plain (slice_get notes.now number) }
+{
+    match notes.get(number) {
+        Some(note) => note.plain,
+        None => true,
+    }
+}
+
+/// Whether a single sentence is all the reason.
+fn is_told_before(reasons: &[Reason]) -> bool
+    ensures { result ≡ is_told_before reasons.now }
+{
+    match reasons {
+        [Reason::Told(_)] => true,
+        _ => false,
+    }
+}
+
+fn merge(so_far: &mut SoFar, reasons: Vec<Reason>) -> Result<(), AllocError>
+    ensures { OnOk result (so_far_view so_far.new ≡ merged reasons.items (so_far_view so_far.old)) }
+{
+    so_far.said.push(reasons)?;
+    Ok(())
+}
+
+fn tell(
+    alloc: Global,
+    so_far: &mut SoFar,
+    step: usize,
+    reasons: Vec<Reason>,
+) -> Result<(), AllocError>
+    ensures { OnOk result (so_far_view so_far.new ≡ with_sentence step reasons.items (so_far_view so_far.old)) }
+{
+    let mut told = Vec::new(alloc);
+    told.push(Reason::Told(so_far.sentences.len()))?;
+    so_far.sentences.push(Sentence { step, reasons })?;
+    so_far.said.push(told)?;
+    Ok(())
+}
+
+/// Why a step holds: what it says by itself, or the reasons of the two that it combines.
+fn reasons_of(
+    alloc: Global,
+    said: &[Vec<Reason>],
+    derivation: &Derivation,
+    notes: &[Note],
+    number: usize,
+) -> Result<Vec<Reason>, AllocError>
+    ensures { IfOk result
+        (λ v. v.items ≡ outlines.reasons_of notes.now derivation.now (map (λ v. v.items) said.now) number) }
+{
+    match derivation.references(number) {
+        Some((first, second)) => both(alloc, reasons_at(said, first), reasons_at(said, second)),
+        None => own(alloc, notes, number),
+    }
+}
+
+fn reasons_at(said: &[Vec<Reason>], number: u64) -> &[Reason]
+    ensures { result.now ≡ reasons_at (map (λ v. v.items) said.entry.now) number }
+{
+    if number >= said.len() as u64 {
+        return &[];
+    }
+    said[number as usize].as_slice()
+}
+
+/// What an axiom says by itself.
+fn own(alloc: Global, notes: &[Note], number: usize) -> Result<Vec<Reason>, AllocError>
+    ensures { IfOk result (λ v. v.items ≡ by_fact (fact_of (slice_get notes.now number))) }
+{
+    let mut reasons = Vec::new(alloc);
+    if let Some(fact) = fact_of(notes, number) {
+        reasons.push(Reason::Fact(fact))?;
+    }
+    Ok(reasons)
+}
+
+fn fact_of(notes: &[Note], number: usize) -> Option<usize>
+    ensures { result ≡ fact_of (slice_get notes.now number) }
+{
+    match notes.get(number) {
+        Some(note) => note.fact,
+        None => None,
+    }
+}
+
+/// The reasons of two steps, each once.
+fn both(alloc: Global, first: &[Reason], second: &[Reason]) -> Result<Vec<Reason>, AllocError>
+    ensures { IfOk result (λ v. v.items ≡ with_reasons first.now second.now) }
+{
+    let mut reasons = Vec::from_slice(alloc, first)?;
+    add_reasons(&mut reasons, second)?;
+    Ok(reasons)
+}
+
+#[tactic(auto, unfolding(crate::specs::Outlines::with_reasons))]
+fn add_reasons(reasons: &mut Vec<Reason>, more: &[Reason]) -> Result<(), AllocError>
+    ensures { OnOk result (reasons.new.items ≡ with_reasons reasons.old.items more.now) }
+{
+    'more: for reason in more {
+        add_reason(reasons, *reason)?;
+    }
+    Ok(())
+}
+
+fn add_reason(reasons: &mut Vec<Reason>, reason: Reason) -> Result<(), AllocError>
+    ensures { OnOk result (reasons.new.items ≡ with_reason reasons.old.items reason) }
+{
+    if !has_reason(reasons, reason) {
+        reasons.push(reason)?;
+    }
+    Ok(())
+}
+
+fn has_reason(reasons: &[Reason], reason: Reason) -> bool
+    ensures { result ≡ has_reason reasons.now reason }
+{
+    reasons.iter().any(|other| is_same(reason, *other))
+}
+
+fn is_same(a: Reason, b: Reason) -> bool
+    ensures { result ≡ same_reason a b }
+{
+    match (a, b) {
+        (Reason::Fact(a), Reason::Fact(b)) => a == b,
+        (Reason::Told(a), Reason::Told(b)) => a == b,
+        _ => false,
+    }
+}

@@ -1,0 +1,183 @@
+//! A derivation in sentences.
+
+use crate::claim::push_claim;
+use crate::clauses::{Clause, clauses_of, is_told, push_facts};
+use crate::facts::{Facts, facts_of};
+use crate::outline::{Reason, Sentence, sentences_of};
+use crate::terms::terms_of;
+use derivations::Derivation;
+use looking_up::Problem;
+use std::alloc::{AllocError, Global};
+
+/// How many lines are told at most, unless all are asked for.
+const MOST_LINES: usize = 40;
+
+/// What a derivation says, a sentence a line. Of more than 40 the last ones are told, unless `all` are asked for.
+///
+/// Whether a step is right is for the checker to say.
+pub fn tell(
+    alloc: Global,
+    problem: Problem<'_>,
+    derivation: &Derivation,
+    all: bool,
+) -> Result<String, AllocError> {
+    let facts = facts_of(alloc, problem, derivation)?;
+    let sentences = sentences_of(alloc, derivation, facts.notes())?;
+    let numbers = numbers_of(alloc, &sentences)?;
+    let whole = Whole {
+        problem,
+        derivation,
+        facts: &facts,
+        sentences: &sentences,
+        numbers: &numbers,
+    };
+    whole.text(alloc, all)
+}
+
+/// All that a sentence may speak of.
+#[derive(Clone, Copy)]
+struct Whole<'w, 'a> {
+    problem: Problem<'a>,
+    derivation: &'a Derivation,
+    facts: &'w Facts<'a>,
+    sentences: &'w [Sentence],
+    /// For each sentence its number, if it has one.
+    numbers: &'w [Option<usize>],
+}
+
+/// For each sentence the number by which others than the next one speak of it, from 1; none where none does.
+fn numbers_of(alloc: Global, sentences: &[Sentence]) -> Result<Vec<Option<usize>>, AllocError> {
+    let mut marks = vec![in alloc; false; sentences.len()]?;
+    for (place, sentence) in sentences.iter().enumerate() {
+        mark(&mut marks, place.checked_sub(1), &sentence.reasons);
+    }
+    let mut numbers = Vec::new(alloc);
+    let mut last = 0usize;
+    for mark in marks.iter() {
+        if *mark {
+            last = last.saturating_add(1);
+        }
+        numbers.push(if *mark { Some(last) } else { None })?;
+    }
+    Ok(numbers)
+}
+
+/// Marks the sentences among these reasons, but for the one before.
+fn mark(marks: &mut [bool], before: Option<usize>, reasons: &[Reason]) {
+    for reason in reasons.iter() {
+        if let Reason::Told(told) = reason {
+            if !is_told(reason, before) {
+                if let Some(mark) = marks.get_mut(*told) {
+                    *mark = true;
+                }
+            }
+        }
+    }
+}
+
+/// The place of the first sentence that is told, so that with the line before it there are no more than may be.
+fn first_told(count: usize, all: bool) -> usize {
+    if all || count <= MOST_LINES {
+        0
+    } else {
+        count - MOST_LINES + 1
+    }
+}
+
+impl Whole<'_, '_> {
+    fn text(&self, alloc: Global, all: bool) -> Result<String, AllocError> {
+        let mut text = String::new(alloc);
+        let from = first_told(self.sentences.len(), all);
+        if from > 0 {
+            writeln!(
+                text,
+                "note: pass `--all` to see {from} sentences before these"
+            )?;
+        }
+        let mut before = None;
+        for (place, sentence) in self.sentences.iter().enumerate() {
+            if place >= from {
+                self.push_sentence(alloc, &mut text, sentence, before)?;
+                self.push_number(&mut text, place)?;
+                text.push_str("\n")?;
+                before = Some(place);
+            }
+        }
+        Ok(text)
+    }
+
+    /// `Because .., and .., ...`, after the sentence at a place, if one is told before it.
+    fn push_sentence(
+        &self,
+        alloc: Global,
+        text: &mut String,
+        sentence: &Sentence,
+        before: Option<usize>,
+    ) -> Result<(), AllocError> {
+        let reasons = sentence.reasons.as_slice();
+        let goes_on = reasons.iter().any(|reason| is_told(reason, before));
+        let clauses = clauses_of(alloc, self.facts, reasons, before)?;
+        text.push_str(opening(goes_on, clauses.len()))?;
+        for (place, clause) in clauses.iter().enumerate() {
+            push_comma(text, place, clauses.len())?;
+            self.push_clause(alloc, text, clause)?;
+        }
+        if !clauses.is_empty() {
+            text.push_str(", ")?;
+        }
+        self.push_step(alloc, text, sentence.step)?;
+        text.push_str(".")
+    }
+
+    fn push_clause(
+        &self,
+        alloc: Global,
+        text: &mut String,
+        clause: &Clause,
+    ) -> Result<(), AllocError> {
+        match clause {
+            Clause::Facts(numbers) => push_facts(alloc, text, &self.problem, self.facts, numbers),
+            Clause::Told(place) => {
+                if let Some(sentence) = self.sentences.get(*place) {
+                    self.push_step(alloc, text, sentence.step)?;
+                }
+                self.push_number(text, *place)
+            }
+        }
+    }
+
+    /// The number of the sentence at a place, if it has one.
+    fn push_number(&self, text: &mut String, place: usize) -> Result<(), AllocError> {
+        match self.numbers.get(place) {
+            Some(Some(number)) => write!(text, " ({number})"),
+            _ => Ok(()),
+        }
+    }
+
+    /// What the step of this number says.
+    fn push_step(&self, alloc: Global, text: &mut String, number: usize) -> Result<(), AllocError> {
+        let terms = terms_of(alloc, self.derivation, number)?;
+        push_claim(alloc, text, &self.problem, &terms)
+    }
+}
+
+/// How a sentence begins that goes on from the one before it, or doesn't, and has so many clauses.
+fn opening(goes_on: bool, count: usize) -> &'static str {
+    match (goes_on, count) {
+        (true, 0) => "So ",
+        (true, _) => "And because ",
+        (false, 0) => "",
+        (false, _) => "Because ",
+    }
+}
+
+/// What stands before one of several clauses.
+fn push_comma(text: &mut String, place: usize, count: usize) -> Result<(), AllocError> {
+    if place == 0 {
+        Ok(())
+    } else if place.saturating_add(1) < count {
+        text.push_str(", ")
+    } else {
+        text.push_str(", and ")
+    }
+}
