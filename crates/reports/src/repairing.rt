@@ -50,7 +50,8 @@ fn part_of(alloc: Global, table: &Table) -> Result<Readable, AllocError> {
         }
     }
     entries.sort_by(|one, other| entry_order(one, other))?;
-    lock_of(alloc, &entries)
+    let kept = first_of_each(alloc, &entries)?;
+    lock_of(alloc, &kept)
 }
 
 /// Adds what a section says, if it is whole.
@@ -125,26 +126,32 @@ fn entry_order(one: &Entry<'_>, other: &Entry<'_>) -> Ordering {
         .then_with(|| one.source.cmp(other.source))
 }
 
-/// The lock of these packages, of those that are alike the first.
-fn lock_of(alloc: Global, entries: &[Entry<'_>]) -> Result<Readable, AllocError> {
-    let mut lock = String::from_str(alloc, "version = 4\n")?;
-    let mut packages = 0;
-    let mut last = None;
+/// Of those that are alike the first; they stand beside each other.
+fn first_of_each<'a>(alloc: Global, entries: &[Entry<'a>]) -> Result<Vec<Entry<'a>>, AllocError> {
+    let mut kept = Vec::new(alloc);
     for entry in entries.iter() {
-        if !is_like(last, entry) {
-            push_package(&mut lock, entry)?;
-            packages += 1;
+        if !is_like(kept.last(), entry) {
+            kept.push(*entry)?;
         }
-        last = Some(*entry);
     }
-    Ok(Readable { lock, packages })
+    Ok(kept)
 }
 
-fn is_like(last: Option<Entry<'_>>, entry: &Entry<'_>) -> bool {
+fn is_like(last: Option<&Entry<'_>>, entry: &Entry<'_>) -> bool {
     match last {
-        Some(last) => entry_order(&last, entry) == Ordering::Equal,
+        Some(last) => entry_order(last, entry) == Ordering::Equal,
         None => false,
     }
+}
+
+/// The lock of these packages.
+fn lock_of(alloc: Global, entries: &[Entry<'_>]) -> Result<Readable, AllocError> {
+    let mut lock = String::from_str(alloc, "version = 4\n")?;
+    for entry in entries.iter() {
+        push_package(&mut lock, entry)?;
+    }
+    let packages = entries.len();
+    Ok(Readable { lock, packages })
 }
 
 fn push_package(lock: &mut String, entry: &Entry<'_>) -> Result<(), AllocError> {

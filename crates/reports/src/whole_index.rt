@@ -121,7 +121,10 @@ fn name_in(
         Err(TreeFault::OutOfMemory) => return Err(AllocError),
         Err(TreeFault::NotJson) => return Ok(None),
     };
-    let Some(text) = member(&tree, "name").and_then(as_text) else {
+    let Some(value) = member(&tree, "name") else {
+        return Ok(None);
+    };
+    let Some(text) = as_text(value) else {
         return Ok(None);
     };
     name_of(alloc, text)
