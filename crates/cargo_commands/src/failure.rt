@@ -14,6 +14,8 @@ pub(crate) enum Failure<'a> {
     /// Neither the words nor the environment name an index.
     NoIndex,
     NoPackage(&'a str),
+    /// The environment has no word of `--color` where it has one for that.
+    NoColor(&'a str),
     CannotWrite,
 }
 
@@ -42,6 +44,10 @@ impl fmt::Display for Failure<'_> {
                 "no index is named: give --index DIR, or set RELOCK_INDEX",
             ),
             Failure::NoPackage(text) => write!(f, "`{text}` is no NAME or NAME@VERSION"),
+            Failure::NoColor(word) => write!(
+                f,
+                "CARGO_TERM_COLOR must be auto, always, or never, but is `{word}`"
+            ),
             Failure::CannotWrite => f.write_str("cannot write"),
         }
     }

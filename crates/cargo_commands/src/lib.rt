@@ -11,7 +11,9 @@ mod answers;
 mod failure;
 mod repairing;
 mod running;
+mod showing;
 mod unread;
 mod verifying;
 
 pub use running::{run, without_arguments};
+pub use showing::Surroundings;

@@ -3,6 +3,7 @@
 use crate::answers::{answer_to, changes_in, refusal_in, skips_in, skips_in_all, why_in};
 use crate::failure::Failure;
 use crate::repairing::repaired;
+use crate::showing::{Surroundings, painted, run_asked};
 use crate::unread::tell_misreading;
 use crate::verifying::verify_at;
 use cargo_words::{CargoWords, Places, WordsFault, own_words, read_words};
@@ -20,14 +21,13 @@ pub(crate) const NO: u8 = 1;
 /// The status of wrong use, of a fault, of a file that can't be read and of output that can't be written.
 pub(crate) const FAILED: u8 = 2;
 
-/// Does what the words ask, the program's name first, and answers the exit status. `index` is the index where the words
-/// name none.
+/// Does what the words ask, the program's name first, and answers the exit status.
 ///
 /// What was asked for goes to `out`, help too; errors go to `err`. A write to `err` that fails is passed over.
 pub fn run<R: Files + AllocGlobal + Clone + Drop, O: Write, E: Write>(
     rt: &R,
     words: &[String],
-    index: Option<&str>,
+    around: &Surroundings<'_>,
     out: &mut O,
     err: &mut E,
 ) -> u8 {
@@ -35,12 +35,12 @@ pub fn run<R: Files + AllocGlobal + Clone + Drop, O: Write, E: Write>(
         return without_words(&WordsFault::OutOfMemory, out, err);
     };
     match read_words(rt.alloc(), words.as_slice()) {
-        Ok(words) => run_words(rt, &words, index, out, err),
-        Err(fault) => without_words(&fault, out, err),
+        Ok(asked) => run_asked(rt, &asked, around, out, err),
+        Err(fault) => without_words(&fault, out, &mut painted(rt.alloc(), around, err)),
     }
 }
 
-fn run_words<R: Files + AllocGlobal + Clone + Drop, O: Write, E: Write>(
+pub(crate) fn run_words<R: Files + AllocGlobal + Clone + Drop, O: Write, E: Write>(
     rt: &R,
     words: &CargoWords<'_>,
     index: Option<&str>,
@@ -111,7 +111,7 @@ struct Wish {
 }
 
 /// The status, and what is told where there is none.
-fn finish<E: Write>(status: Result<u8, Failure<'_>>, err: &mut E) -> u8 {
+pub(crate) fn finish<E: Write>(status: Result<u8, Failure<'_>>, err: &mut E) -> u8 {
     match status {
         Ok(status) => status,
         Err(failure) => {

@@ -1,5 +1,6 @@
 //! The commands and options of `cargo relock`.
 
+use crate::manner::with_manner;
 use clap::{Arg, ArgAction, Command};
 use std::alloc::{AllocError, Global};
 
@@ -37,16 +38,20 @@ fn skips<'a>(alloc: Global) -> Result<Command<'a>, AllocError> {
     with_option(command, all(alloc))
 }
 
-/// A command with the options that say where its files are.
+/// A command with the options that say where its files are, and how it tells what it finds.
 fn command<'a>(alloc: Global, name: &'a str, about: &'a str) -> Result<Command<'a>, AllocError> {
     let command = Command::new(alloc, name).about(about);
     let command = with_option(command, manifest(alloc))?;
     let command = with_option(command, lock(alloc))?;
-    with_option(command, index(alloc))
+    let command = with_option(command, index(alloc))?;
+    with_manner(alloc, command)
 }
 
 /// A command with another option.
-fn with_option<'a>(command: Command<'a>, option: Arg<'a>) -> Result<Command<'a>, AllocError> {
+pub(crate) fn with_option<'a>(
+    command: Command<'a>,
+    option: Arg<'a>,
+) -> Result<Command<'a>, AllocError> {
     command.arg(option)
 }
 
@@ -94,11 +99,11 @@ fn all<'a>(alloc: Global) -> Arg<'a> {
 }
 
 /// An option that takes a value.
-fn option<'a>(alloc: Global, name: &'a str) -> Arg<'a> {
+pub(crate) fn option<'a>(alloc: Global, name: &'a str) -> Arg<'a> {
     Arg::new(alloc, name).long(name).action(ArgAction::Set)
 }
 
 /// An option that takes none.
-fn flag<'a>(alloc: Global, name: &'a str) -> Arg<'a> {
+pub(crate) fn flag<'a>(alloc: Global, name: &'a str) -> Arg<'a> {
     Arg::new(alloc, name).long(name).action(ArgAction::SetTrue)
 }

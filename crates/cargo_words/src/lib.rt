@@ -8,7 +8,9 @@
 #![tactic(auto)]
 
 mod command;
+mod manner;
 mod reading;
 
-pub use reading::{CargoWords, Places, own_words, read_words};
+pub use manner::{Color, Manner, color_in};
+pub use reading::{Asked, CargoWords, Places, own_words, read_words};
 pub use words::WordsFault;

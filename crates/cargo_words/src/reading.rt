@@ -1,6 +1,7 @@
 //! Reading the words of `cargo relock`; of what they ask no contract says anything.
 
 use crate::command::cargo_relock;
+use crate::manner::{Manner, manner_of};
 use clap::ArgMatches;
 use std::alloc::{AllocError, Global};
 use words::{WordsFault, fault_of};
@@ -50,6 +51,13 @@ impl<'a> CargoWords<'a> {
     }
 }
 
+/// What words ask for.
+#[derive(Debug, Drop)]
+pub struct Asked<'a> {
+    pub command: CargoWords<'a>,
+    pub manner: Manner,
+}
+
 /// The words of a command line with the name by which the program is to be called. Cargo puts one more before the
 /// others, `relock`; where there is no other, they ask for help.
 pub fn own_words<'a>(alloc: Global, words: &'a [String]) -> Result<Vec<&'a str>, AllocError> {
@@ -73,14 +81,22 @@ fn names(words: &[String]) -> usize {
 }
 
 /// The command and the options that words give, the program's name first.
-pub fn read_words<'a>(alloc: Global, words: &'a [&'a str]) -> Result<CargoWords<'a>, WordsFault> {
+pub fn read_words<'a>(alloc: Global, words: &'a [&'a str]) -> Result<Asked<'a>, WordsFault> {
     match cargo_relock(alloc)?.try_get_matches_from(words) {
-        Ok(matches) => match words_of(&matches) {
-            Some(words) => Ok(words),
+        Ok(matches) => match asked_by(&matches) {
+            Some(asked) => Ok(asked),
             None => Err(WordsFault::Wrong(String::new(alloc))),
         },
         Err(error) => Err(fault_of(alloc, &error)),
     }
+}
+
+fn asked_by<'a>(matches: &ArgMatches<'a>) -> Option<Asked<'a>> {
+    let (_, found) = matches.subcommand()?;
+    Some(Asked {
+        command: words_of(matches)?,
+        manner: manner_of(found),
+    })
 }
 
 fn words_of<'a>(matches: &ArgMatches<'a>) -> Option<CargoWords<'a>> {

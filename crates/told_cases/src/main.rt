@@ -2,7 +2,7 @@
 //! which commands end otherwise than told.
 #![tactic(auto)]
 
-use cargo_commands::run as tell;
+use cargo_commands::{Surroundings, run as tell};
 use cases::{Programs, play_cases};
 use commands::run;
 use std::io::{self, Write};
@@ -12,7 +12,7 @@ fn main(rt: HostRuntime) -> io::Result<ExitCode> {
     play_cases(&rt, &Both { rt: &rt })
 }
 
-/// `relock`, and `cargo-relock`, which may find an index in the environment.
+/// `relock`, and `cargo-relock`, before whose name may stand what is around it.
 #[derive(Clone, Copy)]
 struct Both<'a> {
     rt: &'a HostRuntime,
@@ -26,20 +26,35 @@ impl Programs for Both<'_> {
         err: &mut E,
     ) -> io::Result<Option<u8>> {
         let rt = self.rt;
+        let (around, words) = around(words);
         let status = match words.first().map(|word| word.as_str()) {
             Some("relock") => run(&mut rt.clone()?, words, out, err),
-            Some("cargo-relock") => tell(rt, words, None, out, err),
-            Some("RELOCK_INDEX=index") => tell(rt, rest(words), Some("index"), out, err),
+            Some("cargo-relock") => tell(rt, words, &around, out, err),
             _ => return Ok(None),
         };
         Ok(Some(status))
     }
 }
 
-/// All words but the first.
-fn rest(words: &[String]) -> &[String] {
-    match words.split_first() {
-        Some((_, rest)) => rest,
-        None => &[],
+/// What the first words say of what is around a run, and the words after these.
+fn around(words: &[String]) -> (Surroundings<'_>, &[String]) {
+    let mut around = Surroundings::bare(None);
+    let mut count = 0;
+    for word in words.iter() {
+        let Some((name, value)) = word.as_str().split_once('=') else {
+            break;
+        };
+        match name {
+            "RELOCK_INDEX" => around.index = Some(value),
+            "CARGO_TERM_COLOR" => around.color = Some(value),
+            "NO_COLOR" => around.no_color = true,
+            "TERM" => {
+                around.out_is_terminal = true;
+                around.err_is_terminal = true;
+            }
+            _ => break,
+        }
+        count += 1;
     }
+    (around, &words[count..])
 }

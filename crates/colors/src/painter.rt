@@ -1,0 +1,72 @@
+//! A writer that paints the lines which go through it.
+
+use crate::paint::push_painted;
+use std::alloc::{AllocError, Global};
+use std::io::{self, Write};
+
+/// What becomes of what goes through a painter.
+#[derive(Clone, Copy, Debug, PartialEq, Eq)]
+pub enum Show {
+    Plain,
+    InColors,
+    Nothing,
+}
+
+/// A writer that hands on what it gets as it is, or painted line by line, or not at all.
+#[derive(Drop)]
+pub struct Painter<W: Write + Drop> {
+    to: W,
+    alloc: Global,
+    show: Show,
+    /// The line that didn't end yet, where lines are painted.
+    line: Vec<u8>,
+}
+
+impl<W: Write + Drop> Painter<W> {
+    pub fn new(alloc: Global, to: W, show: Show) -> Painter<W> {
+        Painter {
+            to,
+            alloc,
+            show,
+            line: Vec::new(alloc),
+        }
+    }
+
+    /// Paints the lines that end in a text, and keeps what stands after them.
+    fn paint(&mut self, bytes: &[u8]) -> io::Result<()> {
+        let mut painted = Vec::new(self.alloc);
+        for byte in bytes.iter() {
+            self.line.push(*byte)?;
+            if *byte == b'\n' {
+                self.push_line(&mut painted)?;
+            }
+        }
+        self.to.write_all(&painted)
+    }
+
+    /// Adds the line that was kept, painted.
+    fn push_line(&mut self, painted: &mut Vec<u8>) -> Result<(), AllocError> {
+        push_painted(painted, &self.line)?;
+        self.line.clear();
+        Ok(())
+    }
+}
+
+impl<W: Write + Drop> Write for Painter<W> {
+    fn write(&mut self, buf: &[u8]) -> io::Result<usize> {
+        match self.show {
+            Show::Plain => return self.to.write(buf),
+            Show::InColors => self.paint(buf)?,
+            Show::Nothing => (),
+        }
+        Ok(buf.len())
+    }
+
+    /// What is left of a line that didn't end is handed on too.
+    fn flush(&mut self) -> io::Result<()> {
+        let mut painted = Vec::new(self.alloc);
+        self.push_line(&mut painted)?;
+        self.to.write_all(&painted)?;
+        self.to.flush()
+    }
+}
