@@ -39,22 +39,28 @@ impl Programs for Both<'_> {
 /// What the first words say of what is around a run, and the words after these.
 fn around(words: &[String]) -> (Surroundings<'_>, &[String]) {
     let mut around = Surroundings::bare(None);
-    let mut count = 0;
-    for word in words.iter() {
-        let Some((name, value)) = word.as_str().split_once('=') else {
-            break;
+    for (place, word) in words.iter().enumerate() {
+        let Some(more) = with_word(around, word.as_str()) else {
+            return (around, &words[place..]);
         };
-        match name {
-            "RELOCK_INDEX" => around.index = Some(value),
-            "CARGO_TERM_COLOR" => around.color = Some(value),
-            "NO_COLOR" => around.no_color = true,
-            "TERM" => {
-                around.out_is_terminal = true;
-                around.err_is_terminal = true;
-            }
-            _ => break,
-        }
-        count += 1;
+        around = more;
     }
-    (around, &words[count..])
+    (around, &[])
+}
+
+/// What is around a run with what a word `NAME=VALUE` says of it; `None` for any other word.
+fn with_word<'a>(around: Surroundings<'a>, word: &'a str) -> Option<Surroundings<'a>> {
+    let (name, value) = word.split_once('=')?;
+    let mut around = around;
+    match name {
+        "RELOCK_INDEX" => around.index = Some(value),
+        "CARGO_TERM_COLOR" => around.color = Some(value),
+        "NO_COLOR" => around.no_color = true,
+        "TERM" => {
+            around.out_is_terminal = true;
+            around.err_is_terminal = true;
+        }
+        _ => return None,
+    }
+    Some(around)
 }
