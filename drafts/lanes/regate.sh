@@ -5,7 +5,7 @@ work=$(dirname "$(dirname "$(realpath "$0")")")
 pkill -f "bin/rt ci"
 sleep 1
 cd "$work/gate/final" && git fetch -q "$1" "$2" && git checkout -q -B gate FETCH_HEAD && git log --oneline -1 | cat
-setsid nohup rt ci > "$3" 2>&1 &
+RT_JOBS=${JOBS:-3} setsid nohup rt ci > "$3" 2>&1 &
 sleep 1
 pid=$(pgrep -f "bin/rt ci" | head -1)
 echo -12 > "/proc/$pid/autogroup"
