@@ -6,7 +6,7 @@ use Rattle.refutations.specs.Causes.{terms_of_cause}
 use Rattle.refutations.specs.Instances.{cause_in}
 use Rattle.named_terms.specs.CauseViews.{cause_view}
 use Rattle.named_terms.specs.Views.{term_views}
-use Rattle.axioms.specs.declared.instance.Candidate.{Candidate}
+use Rattle.axioms.specs.declared.instance.FoundInstance.{FoundInstance}
 use Rattle.axioms.specs.declared.instance.Instance.{Instance}
 
 -- the one cause that the terms can have, and the terms of its instance
@@ -19,5 +19,5 @@ IsFoundIf q k ts None = cause_in q k ts ≡ None
 IsFoundIf q k ts (Some i) = IsInstanceOf q k ts i
 
 -- found for terms of the kind
-abbrev pub IsFound : Problem → Kind → List Term → Candidate → Type 0
+abbrev pub IsFound : Problem → Kind → List Term → FoundInstance → Type 0
 IsFound q k ts c = IsFoundIf q k ts c.instance

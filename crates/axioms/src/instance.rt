@@ -25,7 +25,7 @@ use vertices::Kind;
 
 /// The instance of an axiom that terms can be of, if there is one.
 #[derive(Drop)]
-pub struct Candidate<'a> {
+pub struct FoundInstance<'a> {
     instance: Option<Instance<'a>>,
 }
 
@@ -40,12 +40,12 @@ struct Instance<'a> {
 ///
 /// # Errors
 /// Want of memory.
-pub fn find_candidate<'a>(
+pub fn find_instance<'a>(
     alloc: Global,
     gathered: &mut Gathered<'a>,
     kind: Kind,
     terms: &[Term<'a>],
-) -> Result<Candidate<'a>, AllocError>
+) -> Result<FoundInstance<'a>, AllocError>
     ensures found { IfOk result (λ c. IsFound (problem_of gathered.old) (kind_view kind) (term_views terms.now) c) }
     ensures same { problem_of gathered.new ≡ problem_of gathered.old }
 {
@@ -53,7 +53,7 @@ pub fn find_candidate<'a>(
         Some(cause) => Some(instance_of(alloc, &gathered.problem, cause)?),
         None => None,
     };
-    Ok(Candidate { instance })
+    Ok(FoundInstance { instance })
 }
 
 fn instance_of<'a>(
@@ -69,16 +69,16 @@ fn instance_of<'a>(
     Ok(Instance { cause, terms })
 }
 
-/// Whether terms, without the full ones, are those of an instance of the kind that the candidate was found for.
+/// Whether terms, without the full ones, are those of an instance of the kind that this was found for.
 pub fn is_instance<'a>(
     gathered: &Gathered<'a>,
     terms: &[Term<'a>],
-    candidate: &Candidate<'a>,
+    found: &FoundInstance<'a>,
 ) -> bool
-    ensures { (k : model.Kind) → IsFound (problem_of gathered.now) k (term_views terms.now) candidate.now
+    ensures { (k : model.Kind) → IsFound (problem_of gathered.now) k (term_views terms.now) found.now
         → result ≡ is_instance (problem_of gathered.now) k (term_views terms.now) }
 {
-    match &candidate.instance {
+    match &found.instance {
         Some(instance) => is_its(gathered, terms, instance),
         None => false,
     }

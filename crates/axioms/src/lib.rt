@@ -6,10 +6,10 @@
 //! takes more than a function has a file of its name; tests of entries, which several have, stand in `entries.rt`.
 //!
 //! To decide that takes no memory (`is_instance`). What may want memory comes before it and apart: the instance that
-//! terms can be of is found and spelled (`find_candidate`), and what all owners ask for is gathered once for a whole
+//! terms can be of is found and spelled (`find_instance`), and what all owners ask for is gathered once for a whole
 //! check (`Gathered`, `known_pairs`).
 //!
-//! A layer above may rely on this: for the candidate that was found for a kind and terms, `is_instance` says exactly
+//! A layer above may rely on this: for the instance that was found for a kind and terms, `is_instance` says exactly
 //! whether these are an instance of the kind, all ten kinds. A step costs in the order of its terms, their states and
 //! the versions of the classes that it names, times the logarithm of these. Two tests look at all versions of a
 //! package, whether a dependency has a candidate at all and whether a term has all classes that its requirement
@@ -27,4 +27,4 @@ mod wants_feature;
 mod weak_feature;
 
 pub use gathered::Gathered;
-pub use instance::{Candidate, find_candidate, is_instance};
+pub use instance::{FoundInstance, find_instance, is_instance};

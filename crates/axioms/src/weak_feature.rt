@@ -4,12 +4,12 @@ ghost use Rattle.std.specs.Prelude.{◌≡◌};
 ghost use Rattle.semver.specs.Identifiers.{parts_of};
 ghost use Rattle.classes.specs.Classes.{class_view};
 ghost use Rattle.features.specs.Views.{dependency_view};
-ghost use Rattle.model.specs.Vertices.{feat, same_class, same_vertex};
+ghost use Rattle.model.specs.Vertices.{feat, same_vertex};
 ghost use Rattle.refutations.specs.Causes.{is_cause, is_weak_on, of_weak};
 ghost use Rattle.looking_up.specs.Views.{problem_view};
 
 use crate::entries::has_weak;
-use classes::Class;
+use classes::{Class, same_class};
 use features::{Dependency, FeatureName, PackageName};
 use looking_up::{Problem, dependency_at, entries_of, has_class};
 use semver::Version;
@@ -74,11 +74,5 @@ fn is_same_feature(
     ensures { result ≡ same_vertex (feat name.now (class_view class) feature.now)
         (feat other_name.now (class_view other_class) other.now) }
 {
-    name == other_name && is_same(class, other_class) && feature == other
-}
-
-fn is_same(a: Class, b: Class) -> bool
-    ensures { result ≡ same_class (class_view a) (class_view b) }
-{
-    a == b
+    name == other_name && same_class(&class, &other_class) && feature == other
 }

@@ -20,8 +20,9 @@ use Rattle.model.proofs.Lists.{to_any, to_map, all_first, all_rest}
 use Rattle.model.proofs.Same.{text-same, text-refl, version-same, version-refl}
 use Rattle.lockfile.specs.Locks.{is_alike}
 use Rattle.lockfile.specs.Views.{package_view, package_views}
-use Rattle.lockfile.specs.declared.locked.Package.{Package}
-use Rattle.lockfile.proofs.PackageOrder.{package_total, then-eq, text-eq, version-eq, source-eq, same-tests}
+use Rattle.lockfile.specs.declared.package.Package.{Package}
+use Rattle.model.proofs.PackageOrder.{package_total}
+use Rattle.lockfile.proofs.PackageOrder.{then-eq, text-eq, version-eq, source-eq, same-tests}
 use Rattle.catalogue.proofs.Found.{beside, less-other, greater-other}
 
 -- the package that is asked for

@@ -6,7 +6,7 @@ use Rattle.std.specs.List.{AllPairs}
 use Rattle.std.specs.List.Sorted.{IsPermutation, IsSortedBy}
 use Rattle.std.specs.Ordering.{is_lt, is_gt, ordering_reverse}
 use Rattle.std.specs.declared.cmp.Ordering.TheVariants.{Less, Equal, Greater}
-use Rattle.std.proofs.lemmas.List.{append_assoc, length-map}
+use Rattle.std.proofs.lemmas.List.{append-nil, append_assoc, length-map}
 use Rattle.std.proofs.lemmas.List.Kept.{AllPairs-filter}
 use Rattle.std.proofs.lemmas.List.Sorted.{IsPermutation-sym, Contains-permutation, sorted_far, ranks_by}
 use Rattle.std.proofs.lemmas.Option.{slice_get-map, slice_get-get_or, get_or_from_slice_get}
@@ -75,14 +75,10 @@ module _ (locked : Parts → Bool) (rust : Option RustVersion) where
   records-ranked [] = refl
   records-ranked (r ∷ rs) = ap (λ zs. r ∷ zs) (records-ranked rs)
 
-  nil-right : {Z : Type 0} (zs : List Z) → zs ++ [] ≡ zs
-  nil-right [] = refl
-  nil-right (z ∷ zs) = ap (λ l. z ∷ l) (nil-right zs)
-
   -- all are chosen
   pub chosen-done : (front : List Ranked) (all : List reader.Record)
       → front ++ chosen [] ≡ chosen all → front ≡ chosen all
-  chosen-done front all told = sym (nil-right front) ∙ told
+  chosen-done front all told = sym (append-nil front) ∙ told
 
   pub chosen-rise : (all : List reader.Record) → AllPairs IsOlder (records_view all) → AreRising (chosen all)
   chosen-rise all h = subst (AllPairs IsOlder) (sym (records-ranked (filter (may_be_locked locked) (records_view all))))

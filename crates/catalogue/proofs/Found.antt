@@ -1,5 +1,5 @@
 -- A candidate is found by its place and by its version.
-use Rattle.std.proofs.Common.{◌≡◌, ◌≢◌, ℕ, zero, suc, ◌<◌, ◌≤◌, Bool, true, false, ◌&&◌, cond, List, [], ◌∷◌, map}
+use Rattle.std.proofs.Common.{◌≡◌, ◌≢◌, ℕ, zero, suc, ◌<◌, ◌≤◌, Bool, true, false, cond, List, [], ◌∷◌, map}
 use Rattle.std.proofs.Common.{length, get_or, Some, None, Ok, Err, option_map, slice_get, refl, sym, ap, ◌∙◌, subst}
 use Rattle.std.proofs.Common.{arith, Ordering, inl, inr, ◌⊎◌}
 use Rattle.std.specs.Cmp.{IsTotalOrder}
@@ -118,13 +118,6 @@ one_found (v ∷ vs) (c ∷ cs) p (suc i) same h at =
         let clash : Less ≡ Equal = sym less ∙ equal in cc
 
 -- ---- the search
-
--- the test of two versions, as it is computed
-pub and-five : (a b c d e : Bool) → (a && (b && (c && (d && e)))) ≡ (a && b && c && d && e)
-and-five true true true d e = refl
-and-five true true false d e = refl
-and-five true false c d e = refl
-and-five false b c d e = refl
 
 -- what rises along an order stands beside another in rising order
 module _ {K : Type 0} {R : K → K → Ordering} (o : IsTotalOrder R) where

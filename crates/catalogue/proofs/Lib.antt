@@ -1,4 +1,5 @@
 pub mod Rows
+pub mod Lookups
 pub mod Preferences
 pub mod Found
 pub mod Alike

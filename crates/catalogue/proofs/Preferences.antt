@@ -8,7 +8,8 @@ use Rattle.semver.specs.declared.Version.{Version}
 use Rattle.catalogue.specs.Views.{ranked_view}
 use Rattle.std.specs.List.Sorted.{IsPermutation}
 use Rattle.std.proofs.Math.ListN.{get_or-map}
-use Rattle.std.proofs.lemmas.List.{append_assoc, map-append, reverse-append, take_more, length-map, take_all}
+use Rattle.std.proofs.lemmas.List.{append-nil, append_assoc, map-append, reverse-append, take_more, length-map}
+use Rattle.std.proofs.lemmas.List.{take_all}
 use Rattle.std.proofs.lemmas.List.Elements.{filter-append}
 use Rattle.std.proofs.lemmas.List.Sorted.{IsPermutation-trans, IsPermutation-append, IsPermutation-refl}
 use Rattle.std.proofs.lemmas.List.Sorted.{IsPermutation-filter_both}
@@ -39,14 +40,10 @@ filter-same : {X : Type 0} (p q : X → Bool) (xs : List X) → ((x : X) → p x
 filter-same p q [] same = refl
 filter-same p q (x ∷ xs) same = ap₂ (λ b zs. cond b (x ∷ zs) zs) (same x) (filter-same p q xs same)
 
-map-reverse : {X Y : Type 0} (f : X → Y) (xs : List X) → map f (reverse xs) ≡ reverse (map f xs)
+pub map-reverse : {X Y : Type 0} (f : X → Y) (xs : List X) → map f (reverse xs) ≡ reverse (map f xs)
 map-reverse f [] = refl
 map-reverse f (x ∷ xs) = ap (map f) (reverse-append (x ∷ []) xs) ∙ map-append f (reverse xs) (x ∷ [])
     ∙ ap (λ zs. zs ++ f x ∷ []) (map-reverse f xs) ∙ sym (reverse-append (f x ∷ []) (map f xs))
-
-nil-right : {Z : Type 0} (zs : List Z) → zs ++ [] ≡ zs
-nil-right [] = refl
-nil-right (z ∷ zs) = ap (λ l. z ∷ l) (nil-right zs)
 
 -- ---- one place more
 
@@ -149,7 +146,7 @@ at_places (y ∷ ys) t (suc n) le =
         (filter (λ i. t (slice_get (y ∷ ys) i)) (places_down n)))) e
         ∙ rest
         ∙ sym (ap (λ c. map Some (reverse (filter (λ x. t (Some x)) (take n (y ∷ ys)) ++ cond c (x ∷ []) []))) f
-        ∙ ap (λ zs. map Some (reverse zs)) (nil-right (filter (λ x. t (Some x)) (take n (y ∷ ys)))))
+        ∙ ap (λ zs. map Some (reverse zs)) (append-nil (filter (λ x. t (Some x)) (take n (y ∷ ys)))))
 
 rank_is : (cs : List Ranked) (rank : Rank)
     → map (slice_get cs) (places_of rank (map (λ c. c.1) cs)) ≡ map Some (reverse (filter (λ c. same_rank c.1 rank) cs))
@@ -168,22 +165,42 @@ rank_is cs rank =
     seen : (o : Option Ranked) → is_ranked rank (option_map (λ c. c.1) o) ≡ ranked o
     seen o = refl
 
+-- what lies there of each
+module _ {X : Type 0} (f : Ranked → X) where
+  map-places : (cs : List Ranked) (is : List ℕ)
+      → map (slice_get (map f cs)) is ≡ map (option_map f) (map (slice_get cs) is)
+  map-places cs [] = refl
+  map-places cs (i ∷ is) = ap₂ (λ o os. o ∷ os) (slice_get-map f cs i) (map-places cs is)
+
+  map-some : (zs : List Ranked) → map (option_map f) (map Some zs) ≡ map Some (map f zs)
+  map-some [] = refl
+  map-some (z ∷ zs) = ap (λ os. Some (f z) ∷ os) (map-some zs)
+
+  pub at_rank : (cs : List Ranked) (rank : Rank) → map (slice_get (map f cs)) (places_of rank (map (λ c. c.1) cs))
+      ≡ map Some (reverse (map f (filter (λ c. same_rank c.1 rank) cs)))
+  at_rank cs rank =
+      let kept = filter (λ (c : Ranked). same_rank c.1 rank) cs in
+      map-places cs (places_of rank (map (λ c. c.1) cs)) ∙ ap (map (option_map f)) (rank_is cs rank)
+      ∙ map-some (reverse kept) ∙ ap (map Some) (map-reverse f kept)
+
+-- ---- which have a rank
+
 module _ (locked : Parts → Bool) (rust : Option RustVersion) where
   -- the records of those that have a rank are those that pass its test
-  of_rank : (rank : Rank) (t : Record → Bool) → ((r : Record) → same_rank (rank_of locked rust r) rank ≡ t r)
+  passing : (rank : Rank) (t : Record → Bool) → ((r : Record) → same_rank (rank_of locked rust r) rank ≡ t r)
       → (cs : List Ranked) → AreRanked locked rust cs
-      → map (λ c. c.0) (filter (λ (c : Ranked). same_rank c.1 rank) cs) ≡ filter t (map (λ c. c.0) cs)
-  of_rank rank t same [] h = refl
-  of_rank rank t same (c ∷ cs) h =
+      → records (filter (λ (c : Ranked). same_rank c.1 rank) cs) ≡ filter t (records cs)
+  passing rank t same [] h = refl
+  passing rank t same (c ∷ cs) h =
       by (same_rank c.1 rank) (t c.0)
       (ap (λ r. same_rank r rank) (all_first (λ (c : Ranked). c.1 ≡ rank_of locked rust c.0) c cs h) ∙ same c.0)
-      (of_rank rank t same cs (all_rest (λ (c : Ranked). c.1 ≡ rank_of locked rust c.0) c cs h))
+      (passing rank t same cs (all_rest (λ (c : Ranked). c.1 ≡ rank_of locked rust c.0) c cs h))
     where
       by : (a b : Bool) → a ≡ b
-          → map (λ c. c.0) (filter (λ (c : Ranked). same_rank c.1 rank) cs) ≡ filter t (map (λ c. c.0) cs)
-          → map (λ c. c.0) (cond a (c ∷ filter (λ (c : Ranked). same_rank c.1 rank) cs)
+          → records (filter (λ (c : Ranked). same_rank c.1 rank) cs) ≡ filter t (records cs)
+          → records (cond a (c ∷ filter (λ (c : Ranked). same_rank c.1 rank) cs)
           (filter (λ (c : Ranked). same_rank c.1 rank) cs))
-          ≡ cond b (c.0 ∷ filter t (map (λ c. c.0) cs)) (filter t (map (λ c. c.0) cs))
+          ≡ cond b (c.0 ∷ filter t (records cs)) (filter t (records cs))
       by true true e rest = ap (λ zs. c.0 ∷ zs) rest
       by false false e rest = rest
       by true false e rest = cc
@@ -213,41 +230,31 @@ module _ (locked : Parts → Bool) (rust : Option RustVersion) where
       by false true = refl
       by false false = refl
 
-  -- the records at the places of a rank
-  records_at : (rank : Rank) (t : Record → Bool) → ((r : Record) → same_rank (rank_of locked rust r) rank ≡ t r)
-      → (cs : List Ranked) → AreRanked locked rust cs
-      → map (slice_get (records cs)) (places_of rank (map (λ c. c.1) cs)) ≡ map Some (reverse (filter t (records cs)))
-  records_at rank t same cs h =
-      map-same (places_of rank (map (λ c. c.1) cs))
-      ∙ ap (map (option_map (λ c. c.0))) (rank_is cs rank)
-      ∙ some-map (reverse (filter (λ c. same_rank c.1 rank) cs))
-      ∙ ap (map Some) (map-reverse (λ (c : Ranked). c.0) (filter (λ c. same_rank c.1 rank) cs)
-      ∙ ap reverse (of_rank rank t same cs h))
-    where
-      map-same : (is : List ℕ)
-          → map (slice_get (records cs)) is ≡ map (option_map (λ (c : Ranked). c.0)) (map (slice_get cs) is)
-      map-same [] = refl
-      map-same (i ∷ is) = ap₂ (λ o os. o ∷ os) (slice_get-map (λ (c : Ranked). c.0) cs i) (map-same is)
+  pub locked_first : (cs : List Ranked) → AreRanked locked rust cs
+      → records (filter (λ (c : Ranked). same_rank c.1 Locked) cs) ≡ locked_ones locked (records cs)
+  locked_first cs h = passing Locked (λ r. locked r.version) is_locked_rank cs h
 
-      some-map : (zs : List Ranked)
-          → map (option_map (λ (c : Ranked). c.0)) (map Some zs) ≡ map Some (map (λ (c : Ranked). c.0) zs)
-      some-map [] = refl
-      some-map (z ∷ zs) = ap (λ os. Some z.0 ∷ os) (some-map zs)
+  pub fitting_next : (cs : List Ranked) → AreRanked locked rust cs
+      → records (filter (λ (c : Ranked). same_rank c.1 Fits) cs) ≡ fitting_ones locked rust (records cs)
+  fitting_next cs h = passing Fits (λ r. not (locked r.version) && fits rust r) is_fits_rank cs h
+      ∙ sym (filter-filter (fits rust) (λ (r : Record). not (locked r.version)) (records cs))
+
+  pub others_last : (cs : List Ranked) → AreRanked locked rust cs
+      → records (filter (λ (c : Ranked). same_rank c.1 Rest) cs) ≡ other_ones locked rust (records cs)
+  others_last cs h = passing Rest (λ r. not (locked r.version) && not (fits rust r)) is_rest_rank cs h
+      ∙ sym (filter-filter (λ r. not (fits rust r)) (λ (r : Record). not (locked r.version)) (records cs))
 
   pub places_preferred : (cs : List Ranked) → AreRanked locked rust cs → map (slice_get (records cs))
       (places_by_rank (map (λ c. c.1) cs)) ≡ map Some (by_preference locked rust (records cs))
   places_preferred cs h =
       let ranks = map (λ (c : Ranked). c.1) cs in
       let rs = records cs in
-      let others = filter (λ (r : Record). not (locked r.version)) rs in
+      let by = at_rank (λ (c : Ranked). c.0) cs in
       map-append (slice_get rs) (places_of Locked ranks) (places_of Fits ranks ++ places_of Rest ranks)
-      ∙ ap₂ (λ a b. a ++ b) (records_at Locked (λ r. locked r.version) is_locked_rank cs h)
+      ∙ ap₂ (λ a b. a ++ b) (by Locked ∙ ap (λ zs. map Some (reverse zs)) (locked_first cs h))
       (map-append (slice_get rs) (places_of Fits ranks) (places_of Rest ranks)
-      ∙ ap₂ (λ a b. a ++ b)
-      (records_at Fits (λ r. not (locked r.version) && fits rust r) is_fits_rank cs h ∙ ap (λ zs. map Some (reverse zs))
-      (sym (filter-filter (fits rust) (λ (r : Record). not (locked r.version)) rs)))
-      (records_at Rest (λ r. not (locked r.version) && not (fits rust r)) is_rest_rank cs h ∙ ap (λ zs. map Some
-      (reverse zs)) (sym (filter-filter (λ r. not (fits rust r)) (λ (r : Record). not (locked r.version)) rs))))
+      ∙ ap₂ (λ a b. a ++ b) (by Fits ∙ ap (λ zs. map Some (reverse zs)) (fitting_next cs h))
+      (by Rest ∙ ap (λ zs. map Some (reverse zs)) (others_last cs h)))
       ∙ sym (map-append Some (reverse (locked_ones locked rs))
       (reverse (fitting_ones locked rust rs) ++ reverse (other_ones locked rust rs))
       ∙ ap (λ zs. map Some (reverse (locked_ones locked rs)) ++ zs)

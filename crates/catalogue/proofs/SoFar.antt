@@ -3,7 +3,7 @@ use Rattle.std.proofs.Common.{◌≡◌, ℕ, ◌<◌, ◌≤◌, Bool, true, fa
 use Rattle.std.proofs.Common.{filter, flat_map, length, slice_get, Option, Some, Ok, refl, sym, ap, ap₂, ◌∙◌, subst}
 use Rattle.std.proofs.Common.{arith, true≢false, inl, inr}
 use Rattle.std.specs.List.{All, list_any}
-use Rattle.std.proofs.lemmas.List.{append_assoc, map-append, length-map, length-append}
+use Rattle.std.proofs.lemmas.List.{append-nil, append_assoc, map-append, length-map, length-append}
 use Rattle.std.proofs.lemmas.List.Elements.{filter-append}
 use Rattle.std.proofs.lemmas.Option.{slice_get_past}
 use Rattle.indexmap.specs.IndexSet.{insert_key, insert_all}
@@ -29,10 +29,6 @@ use Rattle.catalogue.specs.declared.fault.Limit.TheVariants as limit
 use Rattle.catalogue.specs.declared.candidate.Candidate.{Candidate}
 use Rattle.catalogue.specs.declared.candidates.Candidates.{Candidates}
 use Rattle.catalogue.proofs.Chosen.{records-ranked}
-
-nil-right : {Z : Type 0} (zs : List Z) → zs ++ [] ≡ zs
-nil-right [] = refl
-nil-right (z ∷ zs) = ap (λ l. z ∷ l) (nil-right zs)
 
 -- ---- each text once
 
@@ -92,18 +88,18 @@ once-snoc (y ∷ ys) x = ap (λ zs. y ∷ filter (λ z. not (same_text y z)) zs)
             ≡ cond (b || (not b && false)) (y ∷ filter (λ z. not (same_text y z)) (once ys))
             ((y ∷ filter (λ z. not (same_text y z)) (once ys)) ++ x ∷ [])
         last true f = ap (λ c. y ∷ (filter (λ z. not (same_text y z)) (once ys) ++ cond (not c) (x ∷ []) [])) f
-            ∙ ap (λ zs. y ∷ zs) (nil-right (filter (λ z. not (same_text y z)) (once ys)))
+            ∙ ap (λ zs. y ∷ zs) (append-nil (filter (λ z. not (same_text y z)) (once ys)))
         last false f = ap (λ c. y ∷ (filter (λ z. not (same_text y z)) (once ys) ++ cond (not c) (x ∷ []) [])) f
 
 -- texts added one by one to texts that are there once
 pub added-once : (xs ys : List (List ℕ)) → insert_all same_text (once xs) ys ≡ once (xs ++ ys)
-added-once xs [] = ap once (sym (nil-right xs))
+added-once xs [] = ap once (sym (append-nil xs))
 added-once xs (y ∷ ys) = ap (λ ks. insert_all same_text ks ys) (sym (once-snoc xs y)) ∙ added-once (xs ++ y ∷ []) ys
     ∙ ap once (append_assoc xs (y ∷ []) ys)
 
 -- stand after them
 pub added-after : (ks ys : List (List ℕ)) → (more : List (List ℕ)) × (insert_all same_text ks ys ≡ ks ++ more)
-added-after ks [] = ([], sym (nil-right ks))
+added-after ks [] = ([], sym (append-nil ks))
 added-after ks (y ∷ ys) = by (list_any (same_text y) ks) (λ ls. added-after ls ys)
   where
     by : (b : Bool) → ((ls : List (List ℕ)) → (more : List (List ℕ)) × (insert_all same_text ls ys ≡ ls ++ more))
@@ -124,7 +120,7 @@ all-snoc P [] x h p = all_cons P x [] p (all_none P)
 all-snoc P (y ∷ ys) x h p = all_cons P y (ys ++ x ∷ []) (all_first P y ys h) (all-snoc P ys x (all_rest P y ys h) p)
 
 flat-snoc : {X Y : Type 0} (f : X → List Y) (xs : List X) (x : X) → flat_map f (xs ++ x ∷ []) ≡ flat_map f xs ++ f x
-flat-snoc f [] x = nil-right (f x)
+flat-snoc f [] x = append-nil (f x)
 flat-snoc f (y ∷ ys) x = ap (λ zs. f y ++ zs) (flat-snoc f ys x) ∙ sym (append_assoc (f y) (flat_map f ys) (f x))
 
 -- what is there after those that are asked for
@@ -155,7 +151,7 @@ needs-are (v ∷ vs) [] same = absurd (omega (arith, same))
 module _ (old : Content) (source : List ℕ) (rust : Option RustVersion) (root : List Dependency) where
   next-snoc : (before later : List Asked) (a : Asked) → AreNext old source root before later
       → next_name old source root (before ++ later) ≡ Some a.0 → AreNext old source root before (later ++ a ∷ [])
-  next-snoc before [] a h e = (ap (next_name old source root) (sym (nil-right before)) ∙ e, tt)
+  next-snoc before [] a h e = (ap (next_name old source root) (sym (append-nil before)) ∙ e, tt)
   next-snoc before (x ∷ xs) a h e = (
     h.0,
     next-snoc (before ++ x ∷ []) xs a h.1 (ap (next_name old source root) (append_assoc before (x ∷ []) xs) ∙ e),
@@ -182,7 +178,7 @@ module _ (old : Content) (source : List ℕ) (rust : Option RustVersion) (root :
       rest = names;
       so_far =
           record { chain = refl; in_turn = tt; within = all_none (λ (a : Asked). IsWithin a.1); few = omega arith };
-      known = h ∙ first ∙ added-once [] (meant_by root) ∙ ap once (sym (nil-right (meant_by root)));
+      known = h ∙ first ∙ added-once [] (meant_by root) ∙ ap once (sym (append-nil (meant_by root)));
       split = refl;
       found_are = refl;
       skips_are = refl;
@@ -269,7 +265,7 @@ module _ (old : Content) (source : List ℕ) (rust : Option RustVersion) (root :
         let wide = length-map s.asked (λ (a : Asked). a.0) in
         let split = ap length s.split in
         let none : s.rest ≡ [] = rest-none firsts s.rest (omega (arith, wide, split, long, le)) in
-        let names_are : names ≡ firsts = s.split ∙ ap (λ zs. firsts ++ zs) none ∙ nil-right firsts in
+        let names_are : names ≡ firsts = s.split ∙ ap (λ zs. firsts ++ zs) none ∙ append-nil firsts in
         let even = ap length names_are in (
           omega (arith, even, wide, long),
           record {

@@ -2,7 +2,6 @@
 
 ghost use Rattle.std.specs.Prelude.{◌≡◌, ◌≤◌, ◌||◌, not, length, option_map, filter, IfOk};
 ghost use Rattle.std.specs.List.{AllPairs};
-ghost use Rattle.semver.specs.Identifiers.{parts_of};
 ghost use Rattle.classes.specs.RustVersions.{rust_version_view};
 ghost use Rattle.model.specs.Candidates.{IsApart, IsOlder, is_locked, may_be_locked};
 ghost use Rattle.catalogue.specs.Loads.{packages_of_old, records_view, with_ranks, ranked_among};
@@ -12,7 +11,7 @@ ghost use Rattle.catalogue.specs.Views.{KnowFeatures, most_candidates};
 
 use crate::candidate::{Candidate, Rank};
 use crate::candidates::Candidates;
-use crate::locked::is_locked;
+use crate::old_lock::is_locked;
 use crate::source::Source;
 use classes::RustVersion;
 use features::PackageName;

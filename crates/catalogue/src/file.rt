@@ -1,6 +1,5 @@
 //! Asking a folder for the file of a name.
 
-ghost use Rattle.std.specs.Prelude.{◌≡◌};
 ghost use Rattle.catalogue.specs.Loads.{Reads, SaysOfFile};
 
 use crate::fault::{Limit, LoadFault};

@@ -22,7 +22,7 @@ mod fault;
 mod file;
 mod laws;
 mod loading;
-mod locked;
+mod old_lock;
 mod places;
 mod source;
 mod store;
@@ -35,7 +35,7 @@ pub use laws::{
     selections_hold_with_other_locks, selections_hold_with_themselves, selections_run_again,
 };
 pub use loading::load;
-pub use locked::is_locked;
+pub use old_lock::is_locked;
 pub use places::place_of;
 pub use source::{Source, SourceFault, is_source};
 pub use store::{Catalogue, Prefer};

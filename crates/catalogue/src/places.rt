@@ -8,6 +8,7 @@ ghost use Rattle.semver.specs.Eval.{precedence_cmp};
 ghost use Rattle.semver.specs.Identifiers.{parts_of};
 ghost use Rattle.model.specs.Content.{same_version};
 
+use classes::same_version;
 use semver::Version;
 
 /// The place of a version, by its whole text, among versions that rise by precedence.
@@ -18,7 +19,7 @@ pub fn place_of(versions: &[Version], version: &Version) -> Option<usize>
 {
     match versions.binary_search_by(|v| v.cmp_precedence(version)) {
         Ok(place) => {
-            if is_same(version, &versions[place]) {
+            if same_version(version, &versions[place]) {
                 Some(place)
             } else {
                 None
@@ -26,11 +27,4 @@ pub fn place_of(versions: &[Version], version: &Version) -> Option<usize>
         }
         Err(_) => None,
     }
-}
-
-/// Whether two versions are the same, by their whole texts.
-fn is_same(a: &Version, b: &Version) -> bool
-    ensures { result ≡ same_version (parts_of a.now) (parts_of b.now) }
-{
-    a == b
 }

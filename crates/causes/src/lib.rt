@@ -24,5 +24,4 @@ mod wants_feature;
 
 pub use feature_on_dependency::enables;
 pub use kinds::cause_in;
-pub use needed::is_needed;
 pub use numbers::Numbers;

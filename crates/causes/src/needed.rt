@@ -3,7 +3,6 @@
 ghost use Rattle.std.specs.Prelude.{◌≡◌, option_map, IfOk};
 ghost use Rattle.std.specs.Option.{option_or};
 ghost use Rattle.features.specs.Views.{dependency_view, dependency_views};
-ghost use Rattle.refutations.specs.Causes.{is_needed};
 ghost use Rattle.refutations.specs.Instances.{need_in, needed_unmatched, number_read};
 ghost use Rattle.vertices.specs.RefViews.{owner_ref_view};
 ghost use Rattle.looking_up.specs.Views.{problem_view};
@@ -15,7 +14,7 @@ ghost use Rattle.causes.specs.Needs.{is_needed_unmatched, place_from};
 use crate::named_by_terms::{first_dependency, first_owner};
 use crate::numbers::Numbers;
 use features::Dependency;
-use looking_up::{Problem, dependencies_of, is_unmatched};
+use looking_up::{Problem, dependencies_of, is_needed, is_unmatched};
 use named_terms::{Cause, Term};
 use std::alloc::AllocError;
 use vertices::OwnerRef;
@@ -94,14 +93,4 @@ fn is_needed_unmatched(problem: &Problem<'_>, owner: &OwnerRef<'_>, dependency: 
         ≡ is_needed_unmatched (problem_view problem.now) (owner_ref_view owner.now) (dependency_view dependency.now) }
 {
     is_needed(owner, dependency) && is_unmatched(problem, dependency)
-}
-
-/// Whether the owner needs the dependency: the root each one, a version those that aren't optional.
-pub fn is_needed(owner: &OwnerRef<'_>, dependency: &Dependency) -> bool
-    ensures { result ≡ is_needed (owner_ref_view owner.now) (dependency_view dependency.now) }
-{
-    match owner {
-        OwnerRef::Root => true,
-        OwnerRef::Version(_, _) => !dependency.optional,
-    }
 }

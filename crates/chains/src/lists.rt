@@ -1,6 +1,6 @@
 //! The rules by the facts that they need.
 
-ghost use Rattle.std.specs.Prelude.{◌≡◌, ◌<◌, ℕ, length, OnOk, IfOk};
+ghost use Rattle.std.specs.Prelude.{◌≡◌, ◌<◌, length, OnOk, IfOk};
 ghost use Rattle.chains.specs.Chains.{AreBelow};
 ghost use Rattle.chains.specs.Worklists.{IsBelow};
 ghost use Rattle.chains.specs.Lists.{rule_lists, rules_at, no_lists, put_at, put_both, index_of};

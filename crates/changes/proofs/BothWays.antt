@@ -15,7 +15,8 @@ use Rattle.model.specs.WellFormed.{IsContent}
 use Rattle.changes.specs.OnWays.{AreBetween, AreOnWays, IsOnWay, all_pairs, are_both, pairs_at, pairs_below}
 use Rattle.changes.specs.OnWays.{rule, rules_ahead, rules_back}
 use Rattle.changes.specs.Searches.{is_in}
-use Rattle.changes.specs.Ways.{holds_at, is_way, leads, lists}
+use Rattle.lockfile.specs.Search.{holds_at}
+use Rattle.changes.specs.Ways.{is_way, leads, lists}
 use Rattle.changes.proofs.Searched.{list_within}
 use Rattle.changes.proofs.Visiting.{in_first, in_rest}
 

@@ -1,5 +1,6 @@
 -- Ways back through visits, and that a search in its end knows whether there is a way.
-use Rattle.std.proofs.Common.{◌≡◌, ◌<◌, ◌≤◌, ◌+◌, ◌&&◌, ℕ, zero, suc, Bool, true, false, List, [], ◌∷◌, ◌++◌, None, Some}
+use Rattle.std.proofs.Common.{◌≡◌, ◌<◌, ◌≤◌, ◌+◌, ◌&&◌, ℕ, zero, suc, Bool, true, false, List, [], ◌∷◌, ◌++◌, None}
+use Rattle.std.proofs.Common.{Some}
 use Rattle.std.proofs.Common.{length, reverse, refl, sym, ap, subst, ◌∙◌, inl, inr, arith, true≢false}
 use Rattle.std.specs.List.{slice_get}
 use Rattle.std.proofs.lemmas.Bool.{and_from, and_parts}
@@ -7,7 +8,8 @@ use Rattle.std.proofs.lemmas.List.{reverse-append}
 use Rattle.std.proofs.lemmas.Option.{same_Some, slice_get_within}
 use Rattle.model.specs.Content.{Content, Package}
 use Rattle.changes.specs.Searches.{AreBehind, AreLed, AreSorted, IsBehind, IsLed, IsSearched, IsVisited, is_end}
-use Rattle.changes.specs.Ways.{HasNoWay, holds_at, is_way, leads, lists}
+use Rattle.lockfile.specs.Search.{holds_at}
+use Rattle.changes.specs.Ways.{HasNoWay, is_way, leads, lists}
 use Rattle.changes.specs.declared.searching.Visit.{Visit}
 
 -- ---- back from a visit

@@ -16,7 +16,8 @@ use Rattle.model.specs.Content.{Content, Package, list_if}
 use Rattle.model.specs.WellFormed.{IsContent}
 use Rattle.changes.specs.Searches.{AreBegun, IsSearched, IsSearching, IsVisited, is_end, is_in, places_below}
 use Rattle.changes.specs.Searches.{seen_with, visited}
-use Rattle.changes.specs.Ways.{HasNoWay, IsShortest, holds_at, is_way, lists}
+use Rattle.lockfile.specs.Search.{holds_at}
+use Rattle.changes.specs.Ways.{HasNoWay, IsShortest, is_way, lists}
 use Rattle.changes.specs.declared.searching.Visit.{Visit}
 use Rattle.changes.proofs.Leading.{way_ends}
 use Rattle.changes.proofs.Visiting.{Followed, MayCome, followed, in_first, in_rest}

@@ -224,7 +224,8 @@ module _ (content : Content) (begins : Package → Bool) (next before depth : �
         searching = f.searching;
         stays = λ k v at. f.stays k v (get_more visits (new ∷ []) k v at);
         all = λ j e. elim (or_cases (nat_eq place j) (is_in js j) e) [
-          | inl is ↦ (length visits, new, f.stays (length visits) new (get_push visits new), eqb-true place j is, omega arith)
+          | inl is ↦
+              (length visits, new, f.stays (length visits) new (get_push visits new), eqb-true place j is, omega arith)
           | inr e ↦ f.all j e
         ];
       }
@@ -233,7 +234,8 @@ module _ (content : Content) (begins : Package → Bool) (next before depth : �
       → MayCome content begins next visits before depth js
       → Ends visits js (seen_with seen js) (visited before depth seen visits js)
   unfolding visited seen_with
-  followed [] seen visits s may = record { searching = s; stays = λ k v at. at; all = λ j e. absurd (true≢false (sym e)) }
+  followed [] seen visits s may =
+      record { searching = s; stays = λ k v at. at; all = λ j e. absurd (true≢false (sym e)) }
   followed (place ∷ js) seen visits s may = by (has seen place) refl (λ t u. followed js t u) where
     by : (b : Bool) → has seen place ≡ b
         → ((t : List Bool) (u : List Visit) → IsSearching content begins next t u

@@ -6,7 +6,8 @@ use Rattle.std.specs.List.{list_any}
 use Rattle.chains.specs.Chains.{has}
 use Rattle.chains.specs.Worklists.{unmarked}
 use Rattle.model.specs.Content.{Content, Package}
-use Rattle.changes.specs.Ways.{holds_at, lists}
+use Rattle.lockfile.specs.Search.{holds_at}
+use Rattle.changes.specs.Ways.{lists}
 use Rattle.changes.specs.declared.searching.Visit.{Visit}
 
 abbrev pub visit : ℕ → ℕ → ℕ → Visit

@@ -3,7 +3,7 @@ use Rattle.std.specs.Prelude.{List, map}
 use Rattle.std.specs.Borrow.{Bor}
 use Rattle.model.specs.Content as model
 use Rattle.lockfile.specs.Views.{package_view}
-use Rattle.lockfile.specs.declared.locked.Package.{Package}
+use Rattle.lockfile.specs.declared.package.Package.{Package}
 
 abbrev pub lent_views : List (Bor Package) → List model.Package
 lent_views ps = map (λ p. package_view p.now) ps

@@ -8,6 +8,7 @@ use Rattle.std.specs.Ordering.{is_eq}
 use Rattle.model.specs.Content.{Content, Package, list_if}
 use Rattle.model.specs.Order.{version_cmp}
 use Rattle.model.specs.Summary.{same_text}
+use Rattle.lockfile.specs.Search.{holds_at}
 use Rattle.changes.specs.declared.ways.Why.{Why}
 use Rattle.changes.specs.declared.ways.Why.TheVariants.{Way, Absent, Unreached}
 
@@ -23,10 +24,6 @@ is_meant name version p = same_text p.name name && is_version version p.version
 -- the package of the manifest has no source
 abbrev pub is_own : ManifestView → Package → Bool
 is_own m p = not (is_some p.source) && is_meant m.name (Some m.version) p
-
-abbrev pub holds_at : (Package → Bool) → Option Package → Bool
-holds_at test None = false
-holds_at test (Some p) = test p
 
 -- whether the package at place i lists that at place j
 abbrev pub lists : Content → ℕ → ℕ → Bool

@@ -2,13 +2,13 @@
 //! not used.
 //!
 //! Locks are in package order, so whether one has a package is found by halves, and what came, went and stayed costs n
-//! log n (`changing`). Why a package is there is a shortest way over the lists of the lock: a search visits each package
-//! once, the nearest first (`searching`). What is hard is that no way is shorter, and that there is none where none is
-//! found: the proof goes by what the search keeps (`specs/Searches`), that what visited packages list is visited too,
-//! and no visit is more than one list farther than the next that is followed.
+//! log n (`changing`). Why a package is there is a shortest way over the lists of the lock: a search visits each
+//! package once, the nearest first (`searching`). What is hard is that no way is shorter, and that there is none where
+//! none is found: the proof goes by what the search keeps (`specs/Searches`), that what visited packages list is
+//! visited too, and no visit is more than one list farther than the next that is followed.
 //!
-//! A layer above may rely on this: what changed is exact, a way is a shortest one, and where it is said that there is no
-//! package or no way there is none. Which version is told as available, and all texts, are shown by cases and not
+//! A layer above may rely on this: what changed is exact, a way is a shortest one, and where it is said that there is
+//! no package or no way there is none. Which version is told as available, and all texts, are shown by cases and not
 //! stated.
 #![tactic(auto)]
 

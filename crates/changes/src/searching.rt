@@ -11,7 +11,8 @@ ghost use Rattle.model.specs.WellFormed.{IsContent};
 ghost use Rattle.chains.specs.Chains.{has};
 ghost use Rattle.changes.specs.Searches.{AreBehind, AreLed, IsBehind, IsLed, IsSearched, is_end, places_below};
 ghost use Rattle.changes.specs.Searches.{seen_with, visited};
-ghost use Rattle.changes.specs.Ways.{IsFound, holds_at, is_meant, is_own, is_way};
+ghost use Rattle.lockfile.specs.Search.{holds_at};
+ghost use Rattle.changes.specs.Ways.{IsFound, is_meant, is_own, is_way};
 
 use crate::ways::{ends, is_own};
 use features::PackageName;

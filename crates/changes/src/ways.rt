@@ -4,7 +4,8 @@ ghost use Rattle.std.specs.Prelude.{◌≡◌, ◌&&◌, nat_eq, IfOk, Some, opt
 ghost use Rattle.std.specs.List.{list_any};
 ghost use Rattle.semver.specs.Identifiers.{parts_of};
 ghost use Rattle.lockfile.specs.Views.{package_view, package_views};
-ghost use Rattle.changes.specs.Ways.{IsWhy, holds_at, is_meant, is_own, is_version};
+ghost use Rattle.lockfile.specs.Search.{holds_at};
+ghost use Rattle.changes.specs.Ways.{IsWhy, is_meant, is_own, is_version};
 
 use crate::searching::shortest_way;
 use classes::version_order;

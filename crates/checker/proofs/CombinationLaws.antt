@@ -11,7 +11,7 @@ use Rattle.model.proofs.Lists.{all_at}
 use Rattle.model.proofs.Same.{both, vertex-same}
 use Rattle.refutations.specs.Terms.{same_at, is_combination, speaks_of}
 use Rattle.refutations.proofs.Bools.{all_pass, one_test}
-use Rattle.refutations.proofs.Sets.{same_at-is, term_at, is_combination-is}
+use Rattle.refutations.proofs.Sets.{same_at-is, silent, term_at, is_combination-is}
 use Rattle.checker.specs.Combinations.{fits, fits_or_said, all_fit}
 
 second_passes : (a b : Bool) → b ≡ true → (a || b) ≡ true
@@ -42,14 +42,6 @@ module _ (q : Problem) (v : Vertex) (a b ts : List Term) where
   fit_says : (t : Term) (w : Vertex) → w ≡ t.vertex → fits q v a b ts t ≡ true → Fit w
   fit_says t w e h = subst Fit (sym e) ((same_at-is (states_at ts t.vertex) (combined_at q a b v t.vertex)).0 h)
 
-  silent : (w : Vertex) → states_at a w ≡ None → states_at b w ≡ None → combined_at q a b v w ≡ None
-  silent w e f = by (same_vertex v w)
-    where
-      by : (t : Bool)
-          → cond t (union_at q w (states_at a w) (states_at b w)) (meet_at (states_at a w) (states_at b w)) ≡ None
-      by true = ap (λ o. union_at q w o (states_at b w)) e
-      by false = rw (e, f) refl
-
   abbrev Passes : List Term → Type 0
   Passes us = list_all (fits q v a b ts) us ≡ true
 
@@ -69,7 +61,7 @@ module _ (q : Problem) (v : Vertex) (a b ts : List Term) where
       term_at a w ss e in fit_says r.0 w r.2 (unsaid r.0 w r.2 d (all_at (fits_or_said q v a b ts) a r.0 k r.1))
   to_at h k l w None None (Some ss) d e f = let r =
       term_at b w ss f in fit_says r.0 w r.2 (unsaid r.0 w r.2 d (all_at (fits_or_said q v a b ts) b r.0 l r.1))
-  to_at h k l w None None None d e f = rw (d, silent w e f) tt
+  to_at h k l w None None None d e f = rw (d, silent q v a b w e f) tt
 
   to : all_fit q v a b ts ≡ true → IsCombined q v a b ts
   to h w =

@@ -7,12 +7,12 @@ use Rattle.model.proofs.Accepted.{all-push}
 use Rattle.derivations.specs.Tables.{TablesView}
 use Rattle.derivations.specs.declared.step.Term.{Term}
 use Rattle.derivations.specs.declared.step.Step.{Step}
-use Rattle.checker.specs.Decoded.{Sets, IsMade}
+use Rattle.checker.specs.Names.{Sets, IsMade}
 use Rattle.checker.specs.Naming.{AreNamed, AreNamedSteps, IsGrown, IsNamed}
 use Rattle.checker.specs.Ready.{tables_of, AreReadySteps, IsReady}
 use Rattle.checker.specs.Steps.{AreOrderedSteps, IsOrderedStep}
-use Rattle.checker.specs.declared.decoded.Decoded.{Decoded}
-use Rattle.checker.specs.declared.decoding.Decoding.{Decoding}
+use Rattle.checker.specs.declared.names.Names.{Names}
+use Rattle.checker.specs.declared.naming.Naming.{Naming}
 
 each_weaker : {X : Type 0} (P Q : X → Type 0) → ((x : X) → P x → Q x) → (xs : List X)
     → AllByRecursion P xs → AllByRecursion Q xs
@@ -27,14 +27,14 @@ each_more P Q f xs i d lt so_far here =
     subst (λ n. AllByRecursion Q (take n xs)) next (subst (AllByRecursion Q) (sym (take-suc xs i d lt))
     (all-push Q (take i xs) (get_or xs i d) (each_weaker P Q f (take i xs) so_far) here))
 
-grown_more : (t u : TablesView) (first old new : Decoding) → u ≡ t → IsGrown t first old
+grown_more : (t u : TablesView) (first old new : Naming) → u ≡ t → IsGrown t first old
     → IsGrown u old new → IsGrown t first new
 grown_more t u first old new e g h = record {
   sound = (subst (λ t. IsGrown t old new) e h).sound;
   stays = λ x named. (subst (λ t. IsGrown t old new) e h).stays x (g.stays x named);
 }
 
-pub named_more : (t u : TablesView) (first old new : Decoding) (terms : List Term) (i : ℕ) (d : Term) → u ≡ t
+pub named_more : (t u : TablesView) (first old new : Naming) (terms : List Term) (i : ℕ) (d : Term) → u ≡ t
     → i < length terms → IsGrown t first old → AreNamed t old (take i terms)
     → IsGrown u old new → IsNamed u new (get_or terms i d) → IsGrown t first new × AreNamed t new (take (i + 1) terms)
 named_more t u first old new terms i d e lt g so_far h here = (
@@ -43,7 +43,7 @@ named_more t u first old new terms i d e lt g so_far h here = (
       (subst (λ t. IsNamed t new (get_or terms i d)) e here),
 )
 
-pub named_steps_more : (t u : TablesView) (old new : Decoding) (steps : List Step) (i : ℕ) (d : Step) → u ≡ t
+pub named_steps_more : (t u : TablesView) (old new : Naming) (steps : List Step) (i : ℕ) (d : Step) → u ≡ t
     → i < length steps → AreNamedSteps t old (take i steps)
     → IsGrown u old new → AreNamed u new (get_or steps i d).terms.items → AreNamedSteps t new (take (i + 1) steps)
 named_steps_more t u old new steps i d e lt so_far h here =
@@ -53,7 +53,7 @@ named_steps_more t u old new steps i d e lt so_far h here =
 
 -- ---- what is at hand in the end
 
-module _ (t : TablesView) (g : Decoding) (d : Decoded) (same : tables_of d ≡ t)
+module _ (t : TablesView) (g : Naming) (d : Names) (same : tables_of d ≡ t)
     (bound : length d.ranks.items ≡ length g.texts.items) (sets : d.sets.items ≡ g.sets.items) where
   term_ready : (x : Term) → IsNamed t g x → IsReady d x
   term_ready x h = (
@@ -69,7 +69,7 @@ module _ (t : TablesView) (g : Decoding) (d : Decoded) (same : tables_of d ≡ t
         steps_ready steps ordered.1 named.1,
       )
 
-pub all_ready : {E : Type 0} (t : TablesView) (g : Decoding) (r : Result Decoded E) (steps : List Step)
+pub all_ready : {E : Type 0} (t : TablesView) (g : Naming) (r : Result Names E) (steps : List Step)
     → AreOrderedSteps t steps → AreNamedSteps t g steps
     → IfOk r (λ d. tables_of d ≡ t) → IfOk r (λ d. length d.ranks.items ≡ length g.texts.items)
     → IfOk r (λ d. d.sets.items ≡ g.sets.items) → IfOk r (λ d. AreReadySteps d steps)

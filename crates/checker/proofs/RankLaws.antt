@@ -12,7 +12,7 @@ use Rattle.std.proofs.lemmas.List.Sorted.{Contains-permutation, searchable_from_
 use Rattle.model.specs.Order.{text_cmp}
 use Rattle.model.proofs.Lists.{in_none, in_cons, in_first, in_rest}
 use Rattle.model.proofs.Ordered.{text-tie}
-use Rattle.checker.specs.Decoded.{rank_of, rank_at, text_at, AreRanks}
+use Rattle.checker.specs.Names.{rank_of, rank_at, text_at, AreRanks}
 
 -- ---- a place that parts those that pass from the others is how many pass
 

@@ -1,18 +1,15 @@
 -- What the function that gives the first refused step means: which step is the first that isn't accepted.
 use Rattle.std.proofs.Common.{◌≡◌, ◌↔◌, inl, inr, ℕ, suc, ◌+◌, ◌-◌, List, [], ◌∷◌, ◌++◌, Bool, true, false, cond}
-use Rattle.std.proofs.Common.{Option, Some, None, slice_get, length, refl, sym, ap, ap₂, ◌∙◌, subst, true≢false, arith}
+use Rattle.std.proofs.Common.{Option, Some, None, length, refl, sym, ap, ap₂, ◌∙◌, subst, true≢false, arith}
 use Rattle.std.specs.Option.{option_or}
 use Rattle.std.proofs.lemmas.List.{append-nil, append_assoc}
 use Rattle.std.proofs.lemmas.Option.{none-some, same_Some}
 use Rattle.model.specs.Content.{Problem}
-use Rattle.model.specs.Axioms.{AreApart}
 use Rattle.model.specs.Derivation.{Step, given, combine, terms_of, IsStep, AreSteps, none_yet, one_more, IsAccepted}
 use Rattle.refutations.specs.Checks as model
-use Rattle.refutations.specs.Checks.{RefusedStep, ArePlain, combines, is_step, reason_of, first_refused, is_none_left}
+use Rattle.refutations.specs.Checks.{RefusedStep, ArePlain, is_step, reason_of, first_refused, is_none_left}
 use Rattle.refutations.specs.Checks.{end_if, end_refused, refused_step, not_an_axiom, not_combined, not_final}
-use Rattle.refutations.proofs.Accepting.{refused-is}
-use Rattle.refutations.proofs.Found.{instance-is}
-use Rattle.refutations.proofs.Sets.{is_combination-is}
+use Rattle.refutations.proofs.Accepting.{refused-is, step-is, to_step}
 use Rattle.checker.specs.Answers.{check_view, reason_view}
 use Rattle.checker.specs.RefusedSteps.{reason_for, IsRefusedAt}
 use Rattle.checker.specs.declared.outcome.Check.{Check}
@@ -40,23 +37,6 @@ same_reason : (r s : Reason) → reason_view r ≡ reason_view s → r ≡ s
 same_reason r s h = sym (back_is r) ∙ ap reason_back h ∙ back_is s
 
 module _ (q : Problem) where
-  -- ---- one step
-
-  step_is : (earlier : List Step) (s : Step) → AreApart (terms_of s) → is_step q earlier s ≡ true → IsStep q earlier s
-  step_is earlier (given k ts) apart h = (instance-is q k ts apart).0 h
-  step_is earlier (combine i j v ts) apart h = by (slice_get earlier i) (slice_get earlier j) refl refl h
-    where
-      by : (a b : Option Step) → slice_get earlier i ≡ a → slice_get earlier j ≡ b → combines q v a b ts ≡ true
-          → IsStep q earlier (combine i j v ts)
-      by (Some a) (Some b) e f h = (a, b, e, f, (is_combination-is q v (terms_of a) (terms_of b) ts).0 h)
-      by (Some a) None e f h = absurd (true≢false (sym h))
-      by None b e f h = absurd (true≢false (sym h))
-
-  passes : (earlier : List Step) (s : Step) → AreApart (terms_of s) → IsStep q earlier s → is_step q earlier s ≡ true
-  passes earlier (given k ts) apart h = (instance-is q k ts apart).1 h
-  passes earlier (combine i j v ts) apart (a, b, e, f, is) =
-      (λ t. combines q v (e t) (f t) ts) ∙ (is_combination-is q v (terms_of a) (terms_of b) ts).1 is
-
   -- ---- accepted steps one by one
 
   abbrev Each : List Step → List Step → Type 0
@@ -80,7 +60,7 @@ module _ (q : Problem) where
   first_none earlier [] plain h = refl
   first_none earlier (s ∷ rest) plain h =
       ap (λ b. cond b (first_refused q (earlier ++ s ∷ []) rest) (Some (length earlier, reason_of s)))
-      (passes earlier s plain.0 h.0)
+      (to_step q earlier s plain.0 h.0)
       ∙ first_none (earlier ++ s ∷ []) rest plain.1 h.1
 
   first_at : (earlier before : List Step) (s : Step) (after : List Step) → ArePlain (before ++ s ∷ after)
@@ -90,12 +70,12 @@ module _ (q : Problem) where
     where
       by : (b : Bool) → is_step q earlier s ≡ b → cond b (first_refused q (earlier ++ s ∷ []) after)
           (Some (length earlier, reason_of s)) ≡ Some (length (earlier ++ []), reason_of s)
-      by true t = absurd (wrong (subst (λ l. IsStep q l s) (sym (append-nil earlier)) (step_is earlier s plain.0 t)))
+      by true t = absurd (wrong (subst (λ l. IsStep q l s) (sym (append-nil earlier)) (step-is q earlier s plain.0 t)))
       by false t = ap (λ l. Some (length l, reason_of s)) (sym (append-nil earlier))
   first_at earlier (b ∷ before) s after plain h wrong =
       let same = append_assoc earlier (b ∷ []) before in
       ap (λ t. cond t (first_refused q (earlier ++ b ∷ []) (before ++ s ∷ after)) (Some (length earlier, reason_of b)))
-      (passes earlier b plain.0 h.0)
+      (to_step q earlier b plain.0 h.0)
       ∙ first_at (earlier ++ b ∷ []) before s after plain.1 h.1 (λ is. wrong (subst (λ l. IsStep q l s) same is))
       ∙ ap (λ l. Some (length l, reason_of s)) same
 
@@ -115,9 +95,9 @@ module _ (q : Problem) where
           → Told (earlier ++ s ∷ rest)
           (cond b (first_refused q (earlier ++ s ∷ []) rest) (Some (length earlier, reason_of s)))
       by others true t = subst (λ l. Told l (first_refused q (earlier ++ s ∷ []) rest))
-          (append_assoc earlier (s ∷ []) rest) (others (one_more earlier s are (step_is earlier s plain.0 t)))
+          (append_assoc earlier (s ∷ []) rest) (others (one_more earlier s are (step-is q earlier s plain.0 t)))
       by others false t =
-          (earlier, rest, s, refl, refl, are, (λ is. true≢false (sym (passes earlier s plain.0 is) ∙ t)))
+          (earlier, rest, s, refl, refl, are, (λ is. true≢false (sym (to_step q earlier s plain.0 is) ∙ t)))
 
   -- ---- the end
 

@@ -37,7 +37,7 @@ each_term : (t : TablesView) (terms : List Term) → AreTermsOf t terms → AllB
 each_term t [] h k = tt
 each_term t (x ∷ terms) h k = ((h.0, (k.0).order), each_term t terms h.1 k.1)
 
-terms_by : (t : TablesView) (c : Origin) (ts : List axioms.Term)
+terms_by : (t : TablesView) (c : Origin ℕ) (ts : List axioms.Term)
     → AreTerms (steps.terms_of (step_by_origin t c ts)) → AreTerms ts
 terms_by t (Axiom k) ts h = h
 terms_by t (Combination a b v) ts h = h
@@ -51,7 +51,7 @@ each_step t n (s ∷ ss) h k =
 
 -- ---- what a combination step says
 
-said_by_step : (t : TablesView) (c : Origin) (ts : List axioms.Term) → steps.terms_of (step_by_origin t c ts) ≡ ts
+said_by_step : (t : TablesView) (c : Origin ℕ) (ts : List axioms.Term) → steps.terms_of (step_by_origin t c ts) ≡ ts
 said_by_step t (Axiom k) ts = refl
 said_by_step t (Combination a b v) ts = refl
 

@@ -11,14 +11,14 @@ use Rattle.checker.specs.Ready.{AreReady, tables_of}
 use Rattle.checker.specs.declared.combination.Claim.{Claim}
 
 abbrev pub claim_tables : Claim → TablesView
-claim_tables c = tables_of c.decoded.now
+claim_tables c = tables_of c.names.now
 
 -- its numbers stand for what is at hand
 pub record IsSound (c : Claim) : Type 0 where
   pub vertex : c.vertex < length (claim_tables c).vertices
-  pub first : AreReady c.decoded.now c.first.now
-  pub second : AreReady c.decoded.now c.second.now
-  pub terms : AreReady c.decoded.now c.terms.now
+  pub first : AreReady c.names.now c.first.now
+  pub second : AreReady c.names.now c.second.now
+  pub terms : AreReady c.names.now c.terms.now
 
 abbrev pub claim_problem : Claim → Problem
 claim_problem c = problem_in c.manifest.now c.catalogue.now

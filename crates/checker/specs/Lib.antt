@@ -1,6 +1,6 @@
 pub mod Combinations
 pub mod Claims
-pub mod Decoded
+pub mod Names
 pub mod Naming
 pub mod Prepared
 pub mod Ready

@@ -1,5 +1,5 @@
 -- What is made before the decision of a step (the layout is this project's).
-use Rattle.std.specs.Prelude.{◌≡◌, List, ⊤}
+use Rattle.std.specs.Prelude.{◌≡◌, ℕ, List, ⊤}
 use Rattle.model.specs.Content.{Problem}
 use Rattle.model.specs.Axioms.{Term}
 use Rattle.vertices.specs.Kinds.{kind_view}
@@ -13,9 +13,9 @@ use Rattle.checker.specs.declared.preparing.Prepared.{Prepared}
 use Rattle.checker.specs.declared.preparing.Prepared.TheVariants as prepared
 
 -- of an axiom: the terms as they are looked up, and the instance that they can be of
-abbrev pub IsPreparedBy : Problem → List Term → Origin → Prepared → Type 0
-IsPreparedBy q ts (Axiom k) (prepared.Axiom terms candidate) =
-    (term_views terms.items ≡ ts) × IsFound q (kind_view k) ts candidate
+abbrev pub IsPreparedBy : Problem → List Term → Origin ℕ → Prepared → Type 0
+IsPreparedBy q ts (Axiom k) (prepared.Axiom terms instance) =
+    (term_views terms.items ≡ ts) × IsFound q (kind_view k) ts instance
 IsPreparedBy q ts (Axiom k) prepared.Combination = ⊥
 IsPreparedBy q ts (Combination a b v) p = ⊤
 

@@ -6,26 +6,26 @@ use Rattle.derivations.specs.Derivations.{term_cmp}
 use Rattle.derivations.specs.Tables.{TablesView, terms_at, IsOriginOf}
 use Rattle.derivations.specs.declared.step.Term.{Term}
 use Rattle.derivations.specs.declared.step.Step.{Step}
-use Rattle.checker.specs.Decoded.{IsMade}
-use Rattle.checker.specs.declared.decoded.Decoded.{Decoded}
+use Rattle.checker.specs.Names.{IsMade}
+use Rattle.checker.specs.declared.names.Names.{Names}
 
-abbrev pub tables_of : Decoded → TablesView
+abbrev pub tables_of : Names → TablesView
 tables_of d = d.tables.now
 
-abbrev pub IsReady : Decoded → Term → Type 0
+abbrev pub IsReady : Names → Term → Type 0
 IsReady d term = (term.vertex < length d.ranks.items) × IsMade (tables_of d) d.sets.items term.states
 
 -- a set that is at hand, if one is named
-abbrev pub IsSetIf : Decoded → Option ℕ → Type 0
+abbrev pub IsSetIf : Names → Option ℕ → Type 0
 IsSetIf d None = ⊤
 IsSetIf d (Some n) = IsMade (tables_of d) d.sets.items n
 
 -- in the written order too
-abbrev pub AreReady : Decoded → List Term → Type 0
+abbrev pub AreReady : Names → List Term → Type 0
 AreReady d terms = AllByRecursion (IsReady d) terms × IsStrictlySortedBy term_cmp (terms_at (tables_of d) terms)
 
-abbrev pub IsReadyStep : Decoded → Step → Type 0
+abbrev pub IsReadyStep : Names → Step → Type 0
 IsReadyStep d s = IsOriginOf (tables_of d) s.origin × AreReady d s.terms.items
 
-abbrev pub AreReadySteps : Decoded → List Step → Type 0
+abbrev pub AreReadySteps : Names → List Step → Type 0
 AreReadySteps d ss = AllByRecursion (IsReadyStep d) ss

@@ -5,12 +5,11 @@ ghost use Rattle.model.specs.Axioms as axioms;
 ghost use Rattle.model.specs.Content.{Content};
 ghost use Rattle.model.specs.Derivation.{IsAccepted};
 ghost use Rattle.model.specs.Selection.{IsValidSelection};
-ghost use Rattle.refutations.specs.Checks.{combines, end_refused, first_refused, is_none_left, is_step, reason_of};
+ghost use Rattle.refutations.specs.Checks.{end_refused, first_refused, is_none_left, is_step, reason_of};
 ghost use Rattle.refutations.specs.Checks.{refused_step};
 ghost use Rattle.catalogue.specs.Problems.{problem_in};
 ghost use Rattle.derivations.specs.Derivations.{IsDerivation};
 ghost use Rattle.derivations.specs.Tables.{TablesView, step_at, step_by_origin, steps_at, terms_at};
-ghost use Rattle.vertices.specs.Views.{vertex_view};
 ghost use Rattle.axioms.specs.GatheredViews.{problem_of};
 ghost use Rattle.checker.specs.Answers.{check_view, reason_view};
 ghost use Rattle.checker.specs.RefusedSteps.{IsRefusedAt};
@@ -19,10 +18,10 @@ ghost use Rattle.checker.specs.Ready.{AreReadySteps, IsReadyStep, tables_of};
 ghost use Rattle.checker.specs.Steps.{AreOrderedSteps};
 
 use crate::combination::Claim;
-use crate::decoded::Decoded;
-use crate::decoding::decode;
+use crate::names::Names;
+use crate::naming::names_of;
 use crate::outcome::{Check, Reason};
-use crate::preparing::{Prepared, is_instance, prepare};
+use crate::preparing::{Prepared, is_axiom, prepare};
 use axioms::Gathered;
 use catalogue::{Catalogue, catalogues_are_well_formed};
 use derivations::{Derivation, Origin, Step, Tables, Term};
@@ -78,8 +77,8 @@ fn answer<'a>(
     requires { AreOrderedSteps tables.now steps.now }
     ensures { IfOk result (λ c. check_view c ≡ refused_step (problem_of gathered.old) (steps_at tables.now steps.now)) }
 {
-    let decoded = decode(alloc, tables, steps)?;
-    match first_refused(alloc, gathered, &decoded, steps)? {
+    let names = names_of(alloc, tables, steps)?;
+    match first_refused(alloc, gathered, &names, steps)? {
         Check::Proves => Ok(end_of(steps)),
         refused => Ok(refused),
     }
@@ -89,16 +88,16 @@ fn answer<'a>(
 fn first_refused<'a>(
     alloc: Global,
     gathered: &mut Gathered<'a>,
-    decoded: &Decoded<'a>,
+    names: &Names<'a>,
     steps: &[Step],
 ) -> Result<Check, AllocError>
-    requires { AreReadySteps decoded.now steps.now }
+    requires { AreReadySteps names.now steps.now }
     ensures { IfOk result
-        (λ c. check_view c ≡ first_refused (problem_of gathered.old) [] (steps_at (tables_of decoded.now) steps.now)) }
+        (λ c. check_view c ≡ first_refused (problem_of gathered.old) [] (steps_at (tables_of names.now) steps.now)) }
 {
     'steps: for (number, step) in steps.iter().enumerate() {
-        let prepared = prepare(alloc, gathered, decoded, step)?;
-        if !is_step(gathered, decoded, &steps[..number], step, &prepared) {
+        let prepared = prepare(alloc, gathered, names, step)?;
+        if !is_step(gathered, names, &steps[..number], step, &prepared) {
             return Ok(Check::Refused {
                 step: number as u64,
                 reason: reason_of(&step.origin),
@@ -111,19 +110,19 @@ fn first_refused<'a>(
 /// Whether a step is accepted after the earlier ones.
 fn is_step<'a>(
     gathered: &Gathered<'a>,
-    decoded: &Decoded<'a>,
+    names: &Names<'a>,
     earlier: &[Step],
     step: &Step,
     prepared: &Prepared<'a>,
 ) -> bool
-    requires earlier { AreReadySteps decoded.now earlier.now }
-    requires step { IsReadyStep decoded.now step.now }
-    requires prepared { IsPrepared (problem_of gathered.now) (tables_of decoded.now) step.now prepared.now }
-    ensures { result ≡ is_step (problem_of gathered.now) (steps_at (tables_of decoded.now) earlier.now)
-        (step_at (tables_of decoded.now) step.now) }
+    requires earlier { AreReadySteps names.now earlier.now }
+    requires step { IsReadyStep names.now step.now }
+    requires prepared { IsPrepared (problem_of gathered.now) (tables_of names.now) step.now prepared.now }
+    ensures { result ≡ is_step (problem_of gathered.now) (steps_at (tables_of names.now) earlier.now)
+        (step_at (tables_of names.now) step.now) }
 {
     match &step.origin {
-        Origin::Axiom(_) => is_instance(gathered, prepared),
+        Origin::Axiom(_) => is_axiom(gathered, prepared),
         Origin::Combination(first, second, vertex) => {
             let (Some(a), Some(b)) = (earlier.get(*first as usize), earlier.get(*second as usize))
             else {
@@ -132,7 +131,7 @@ fn is_step<'a>(
             let claim = Claim {
                 manifest: gathered.manifest(),
                 catalogue: gathered.catalogue(),
-                decoded,
+                names,
                 vertex: *vertex,
                 first: &a.terms,
                 second: &b.terms,
@@ -143,7 +142,7 @@ fn is_step<'a>(
     }
 }
 
-fn reason_of(origin: &Origin) -> Reason
+fn reason_of(origin: &Origin<usize>) -> Reason
     ensures { (t : TablesView) (terms : List axioms.Term)
         → reason_view result ≡ reason_of (step_by_origin t origin.now terms) }
 {

@@ -5,7 +5,7 @@
 //! derivation.
 //!
 //! What is hard is to check very many steps soon. Steps name vertices and sets of states by numbers, and what these
-//! stand for is decoded once for all of them (`Decoded`): the rank of each vertex, how many texts of vertices are less
+//! stand for is gathered once for all of them (`Names`): the rank of each vertex, how many texts of vertices are less
 //! than its own, and each set of states. Terms stand in the order of ranks, so a term is found by search, and two sets
 //! of one number are one set. So the decision of a combination looks at the numbers of three steps, and at the vertices
 //! of the earlier two only where the step itself says nothing (`combination.rt`). Deciding a step wants no memory; what
@@ -17,8 +17,8 @@
 
 mod checking;
 mod combination;
-mod decoded;
-mod decoding;
+mod names;
+mod naming;
 mod outcome;
 mod preparing;
 mod ranks;

@@ -4,12 +4,10 @@ ghost use Rattle.std.specs.Prelude.{◌≡◌, IfOk};
 ghost use Rattle.std.specs.List.Sorted.{IsStrictlySortedBy};
 ghost use Rattle.vertices.specs.Orders.{state_cmp};
 ghost use Rattle.derivations.specs.Tables.{AreStatesOf, states_at};
-ghost use Rattle.vertices.specs.RefViews.{state_ref_views};
 
-use derivations::Tables;
+use derivations::{Tables, states_in};
 use named_terms::StateSet;
 use std::alloc::{AllocError, Global};
-use vertices::StateRef;
 
 /// The states of these numbers.
 pub(crate) fn read_states<'a>(
@@ -23,19 +21,4 @@ pub(crate) fn read_states<'a>(
 {
     let states = states_in(alloc, tables, numbers)?;
     Ok(StateSet::rising(states))
-}
-
-fn states_in<'a>(
-    alloc: Global,
-    tables: &'a Tables,
-    numbers: &[usize],
-) -> Result<Vec<StateRef<'a>>, AllocError>
-    requires { AreStatesOf tables.now numbers.now }
-    ensures { IfOk result (λ v. state_ref_views v.items ≡ states_at tables.entry.now numbers.now) }
-{
-    let mut states = Vec::with_capacity(alloc, numbers.len())?;
-    'numbers: for number in numbers {
-        states.push(tables.state(*number).borrowed())?;
-    }
-    Ok(states)
 }

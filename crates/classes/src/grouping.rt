@@ -4,12 +4,12 @@ ghost use Rattle.std.specs.Prelude.{◌≡◌, ◌≤◌, IfOk, OnOk, [], length
 ghost use Rattle.features.specs.Views.{requirement_view};
 ghost use Rattle.semver.specs.EvalViews.{matches_views};
 ghost use Rattle.semver.specs.Identifiers.{parts_of};
-ghost use Rattle.model.specs.Vertices.{same_class};
 ghost use Rattle.classes.specs.Classes.{class_view};
 ghost use Rattle.classes.specs.Groups.{IsOldestFirst, group_views, ends_in, groups_of, with_last, with_position};
 ghost use Rattle.classes.specs.Groups.{with_versions};
 
 use crate::class::Class;
+use crate::same::same_class;
 use semver::{Version, VersionReq};
 use std::alloc::{AllocError, Global};
 
@@ -79,7 +79,7 @@ fn ends_in(groups: &[(Class, Vec<u32>)], class: Class) -> bool
     ensures { result ≡ ends_in (class_view class) (group_views groups.now) }
 {
     match groups.last() {
-        Some(last) => is_same(class, last.0),
+        Some(last) => same_class(&class, &last.0),
         None => false,
     }
 }
@@ -91,10 +91,4 @@ fn put_last(groups: &mut Vec<(Class, Vec<u32>)>, position: u32) -> Result<(), Al
         last.1.push(position)?;
     }
     Ok(())
-}
-
-fn is_same(a: Class, b: Class) -> bool
-    ensures { result ≡ same_class (class_view a) (class_view b) }
-{
-    a == b
 }

@@ -16,9 +16,11 @@ mod grouping;
 mod numbers;
 mod order;
 mod rust_version;
+mod same;
 
 pub use class::Class;
 pub use grouping::{is_matched, matching};
 pub use numbers::whole_number;
-pub use order::{rust_version_order, version_order};
+pub use order::version_order;
 pub use rust_version::RustVersion;
+pub use same::{same_class, same_version};

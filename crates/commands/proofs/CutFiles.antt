@@ -1,9 +1,8 @@
 -- A file that is longer than may be has one meaning, whatever comes after its limit.
-use Rattle.std.proofs.Common.{◌≡◌, ℕ, ◌+◌, ◌<◌, ◌≤◌, List, length, take, Bool, true, false, nat_le, nat_lt, Err, inl}
+use Rattle.std.proofs.Common.{◌≡◌, ℕ, ◌+◌, ◌<◌, ◌≤◌, List, length, take, true, false, nat_le, nat_lt, Err, inl}
 use Rattle.std.proofs.Common.{inr, refl, sym, ◌∙◌, arith}
 use Rattle.std.proofs.lemmas.Bool.{cases_lt}
 use Rattle.std.proofs.lemmas.List.{length-take-le, take_all}
-use Rattle.model.specs.Outcome.{◌>>=◌}
 use Rattle.manifest.specs.Manifests.{limit, manifest_of_bytes}
 use Rattle.manifest.specs.declared.fault.ManifestFault.TheVariants as manifest
 use Rattle.lockfile.specs.Locks.{content_of_bytes, most_bytes}

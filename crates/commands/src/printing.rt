@@ -16,7 +16,6 @@ use crate::ending::Ending;
 use crate::files::write_proof;
 use crate::streams::Stream;
 use checker::Check;
-use derivations::Derivation;
 use index_reader::Skip;
 use resolver::Answer;
 use selection::Verdict;

@@ -1,17 +1,18 @@
--- Combining with an entry that covers a cause.
-use Rattle.std.proofs.Common.{◌≡◌, ℕ, suc, ◌+◌, ◌<◌, Bool, true, false, cond, eq-eqb, List, [], ◌∷◌, length, Option}
+-- Combining with an entry that covers what forced an assignment.
+use Rattle.std.proofs.Common.{◌≡◌, ℕ, suc, ◌+◌, ◌<◌, true, false, cond, eq-eqb, List, [], ◌∷◌, length, Option}
 use Rattle.std.proofs.Common.{Some, None, refl, sym, ap, ◌∙◌, subst, arith, inl, inr}
 use Rattle.std.proofs.lemmas.Bool.{cases_eq, cases_lt, false≢true, ne_eqb}
-use Rattle.version_sets.specs.Sets.{Members, inside, is_full, join, meet, rest, size}
+use Rattle.version_sets.specs.Sets.{Members, inside, join, meet, rest, size}
 use Rattle.terms.specs.Terms.{TermView}
-use Rattle.incompatibilities.specs.Incompatibilities.{Fit, IsCombination, LiesIn, Terms, combined_at, meet_at}
+use Rattle.incompatibilities.specs.Incompatibilities.{IsCombination, LiesIn, Terms, combined_at, meet_at}
 use Rattle.incompatibilities.specs.Incompatibilities.{states_at, union_at, unless_full, HoldsAt}
 use Rattle.incompatibilities.specs.Stores.{EntryView, entry, terms_of}
-use Rattle.propagation.specs.Promises.{IsCause, IsSatisfied, LieIn, OpenFits}
+use Rattle.propagation.specs.Promises.{IsForcedBy, IsSatisfied, LieIn, OpenFits}
 use Rattle.propagation.specs.Satisfaction.{IsForced, Sat}
 use Rattle.propagation.specs.Trails.{TrailView, set_of, sets_at, space_of}
 use Rattle.propagation.specs.Units.{term_at}
 use Rattle.propagation.specs.declared.satisfying.Satisfier.{Satisfier}
+use Rattle.propagation.proofs.Combining.{kept_holds, meet_holds}
 use Rattle.propagation.proofs.SetLemmas.{inside_through, meets_some}
 use Rattle.propagation.proofs.Vertices.{place_of}
 use Rattle.conflicts.specs.Covering.{Covers, CoversAt}
@@ -53,10 +54,6 @@ covers_itself f u = at (f u)
     at None = tt
     at (Some x) = same x
 
--- sets of one trail fit
-pub lies_fit : (space : ℕ → ℕ) (f g : Terms) → LiesIn space f → LiesIn space g → Fit f g
-lies_fit space f g lf lg u x y ex ey = lf u x ex ∙ sym (lg u y ey)
-
 -- ---- the combination
 
 -- what holds keeps to hold of what covers it
@@ -64,31 +61,6 @@ covered_holds : (set : Members) (x y : Option Members) → CoversAt x y → Hold
 covered_holds set x None c h = tt
 covered_holds set None (Some y) c h = absurd c
 covered_holds set (Some x) (Some y) c h = (h.0, inside_through set x y h.1 c)
-
-both_hold : (set : Members) (x y : Option Members) → HoldsAt set x → HoldsAt set y → HoldsAt set (meet_at x y)
-both_hold set None y hx hy = hy
-both_hold set (Some x) None hx hy = hx
-both_hold set (Some x) (Some y) hx hy = (hx.0, inside_both set x y hx.1 hy.1)
-  where
-    inside_both : (b x y : Members) → inside b x ≡ true → inside b y ≡ true → inside b (meet x y) ≡ true
-    inside_both [] x y hx hy = refl
-    inside_both (true ∷ bs) [] y hx hy = hx
-    inside_both (false ∷ bs) [] y hx hy = hx
-    inside_both (true ∷ bs) (x ∷ xs) [] hx hy = hy
-    inside_both (false ∷ bs) (x ∷ xs) [] hx hy = hy
-    inside_both (true ∷ bs) (true ∷ xs) (true ∷ ys) hx hy = inside_both bs xs ys hx hy
-    inside_both (true ∷ bs) (true ∷ xs) (false ∷ ys) hx hy = hy
-    inside_both (true ∷ bs) (false ∷ xs) (y ∷ ys) hx hy = hx
-    inside_both (false ∷ bs) (x ∷ xs) (y ∷ ys) hx hy = inside_both bs xs ys hx hy
-
--- a full term is dropped
-kept_holds : (set : Members) (o : Option Members) → HoldsAt set o → HoldsAt set (unless_full o)
-kept_holds set None h = tt
-kept_holds set (Some x) h = by (is_full x)
-  where
-    by : (b : Bool) → HoldsAt set (cond b None (Some x))
-    by true = tt
-    by false = h
 
 -- of a set without x all is in z, and all of x is in y
 inside_union : (b x z y : Members) → length x ≡ length b → length z ≡ length b → length y ≡ length b → inside x y ≡ true
@@ -119,13 +91,13 @@ covered_union b x (Some z) None some fits fz fy c h = tt
 covered_union b x (Some z) (Some y) some fits fz fy c h =
     (some, inside_union b x z y fits (fz z refl) (fy y refl) c h.1)
 
--- a combination with what covers the cause of an assignment is satisfied before it, if the first is after it
-pub covered_before : (sets after : List Members) (v : ℕ) (f cause g made : Terms) (x : Members)
-    → IsForced sets after v cause x → Covers cause g → Sat after f
+-- a combination with what covers what forced an assignment is satisfied before it, if the first is after it
+pub covered_before : (sets after : List Members) (v : ℕ) (f forcing g made : Terms) (x : Members)
+    → IsForced sets after v forcing x → Covers forcing g → Sat after f
     → ((z : Members) → f v ≡ Some z → length z ≡ length (set_of sets v))
     → ((y : Members) → g v ≡ Some y → length y ≡ length (set_of sets v))
     → ((u : ℕ) → made u ≡ unless_full (combined_at v f g u)) → Sat sets made
-covered_before sets after v f cause g made x forced covers sat fz fy each u = subst (HoldsAt (set_of sets u))
+covered_before sets after v f forcing g made x forced covers sat fz fy each u = subst (HoldsAt (set_of sets u))
     (sym (each u)) (kept_holds (set_of sets u) (combined_at v f g u) (elim (cases_eq u v) [
       | inl e ↦ subst (λ w. HoldsAt (set_of sets w) (combined_at v f g w)) (sym e)
           (subst (HoldsAt (set_of sets v))
@@ -136,19 +108,19 @@ covered_before sets after v f cause g made x forced covers sat fz fy each u = su
           (subst (λ s. HoldsAt s (f v)) forced.here (sat v))))
       | inr ne ↦ subst (HoldsAt (set_of sets u))
           (sym (ap (λ b. cond b (union_at (f u) (g u)) (meet_at (f u) (g u))) (ne_eqb u v ne)))
-          (both_hold (set_of sets u) (f u) (g u) (subst (λ s. HoldsAt s (f u)) (forced.there u ne) (sat u))
-          (covered_holds (set_of sets u) (cause u) (g u) (covers u) (forced.one.others u ne)))
+          (meet_holds (set_of sets u) (f u) (g u) (subst (λ s. HoldsAt s (f u)) (forced.there u ne) (sat u))
+          (covered_holds (set_of sets u) (forcing u) (g u) (covers u) (forced.one.others u ne)))
     ]))
 
--- so it is with the cause of a satisfier
+-- so it is with what forced a satisfier
 pub stands_before : (es : List EntryView) (t : TrailView) (ts made : List TermView) (s : Satisfier) (c j : ℕ)
     → LieIn t es → j < length es → LiesIn (space_of t) (states_at ts) → IsSatisfied t (states_at ts) s
-    → OpenFits t (states_at ts) s → IsCause es (sets_at t s.place) (sets_at t (suc s.place)) s.vertex c
+    → OpenFits t (states_at ts) s → IsForcedBy es (sets_at t s.place) (sets_at t (suc s.place)) s.vertex c
     → Covers (terms_of es c) (terms_of es j) → IsCombination s.vertex ts (entry es j).terms made
     → Sat (sets_at t s.place) (states_at made)
-stands_before es t ts made s c j lies within fits found opens cause covers is =
+stands_before es t ts made s c j lies within fits found opens forced_by covers is =
     covered_before (sets_at t s.place) (sets_at t (suc s.place)) s.vertex (states_at ts) (terms_of es c) (terms_of es j)
-    (states_at made) cause.states cause.forced covers found.after
+    (states_at made) forced_by.states forced_by.forced covers found.after
     (λ z e. fits s.vertex z e ∙ sym opens.here)
     (λ y e. lies j within s.vertex y e ∙ sym opens.here)
     is.each

@@ -4,8 +4,7 @@ use Rattle.std.proofs.Common.{Option, Some, None, refl, sym, ap, ◌∙◌, subs
 use Rattle.std.specs.Bool.{OnTrue}
 use Rattle.std.specs.Option.{is_some}
 use Rattle.std.proofs.lemmas.Bool.{cases_eq, cases_lt}
-use Rattle.std.proofs.lemmas.List.{get_or_append_left, length-append}
-use Rattle.std.proofs.Math.Seq.{get_or-append_seam}
+use Rattle.std.proofs.lemmas.List.{length-append}
 use Rattle.version_sets.specs.Sets.{Members, inside, size}
 use Rattle.terms.specs.Terms.{TermView}
 use Rattle.incompatibilities.specs.Incompatibilities.{IsCombination, LiesIn, Terms, states_at, HoldsAt}
@@ -15,7 +14,7 @@ use Rattle.incompatibilities.specs.declared.origin.Origin.TheVariants.{Axiom, Co
 use Rattle.incompatibilities.proofs.Broken.{lies_combined}
 use Rattle.propagation.specs.Satisfaction.{IsOneOpen, OthersHold, Sat}
 use Rattle.propagation.specs.Trails.{StepView, TrailView, end_sets, level_after, set_of, sets_at, space_of, step_at}
-use Rattle.propagation.specs.Promises.{CauseFits, IsCut, IsSatisfied, IsSound, IsTrail, LieIn}
+use Rattle.propagation.specs.Promises.{ForcedFits, IsCut, IsSatisfied, IsSound, IsTrail, LieIn}
 use Rattle.propagation.specs.declared.satisfying.Satisfier.{Satisfier}
 use Rattle.propagation.proofs.Back.{sets_now}
 use Rattle.propagation.proofs.Combining.{combined_others}
@@ -24,9 +23,10 @@ use Rattle.propagation.proofs.Places.{cut_sets, end_is_place, holds_at_ends, kep
 use Rattle.propagation.proofs.SetLemmas.{meets_of}
 use Rattle.propagation.proofs.Soundness.{trail_grown}
 use Rattle.conflicts.specs.Covering.{Covers}
-use Rattle.conflicts.specs.Resolving.{IsAsked, IsCombined, IsFound, IsGained, IsLearned, IsLone, IsSatisfierOf, IsStart}
-use Rattle.conflicts.specs.Resolving.{Learns, Quiet}
+use Rattle.conflicts.specs.Resolving.{IsForcedAtLevel, IsCombined, IsFound, IsGained, IsLearned, IsLone, IsSatisfierOf}
+use Rattle.conflicts.specs.Resolving.{IsStart, Learns, Quiet}
 use Rattle.conflicts.proofs.Covered.{stands_before}
+use Rattle.conflicts.proofs.Growing.{combined_added, combined_kept, entry_added, entry_kept, one_longer}
 
 -- how many places there are up to the satisfier
 abbrev pub places_left : Option Satisfier → ℕ
@@ -84,11 +84,11 @@ axiom_not_combined (Combined a b u x) i j v w e given = given
 pub combined_not_given : (es : List EntryView) (id : ℕ) → IsCombined es id → IsAxiom (entry es id).origin → ⊥
 combined_not_given es id c = axiom_not_combined (entry es id).origin c.first c.second c.vertex c.watches c.origin
 
--- one combination more, with what stands in for the cause
+-- one combination more, with what stands in for what forced the satisfier
 pub record IsStep (old : List EntryView) (t : TrailView) (es : List EntryView) (current : ℕ) (s : Satisfier) (c j : ℕ)
     (made : List TermView) (w : Bool) (new : List EntryView) (id : ℕ) : Type 0 where
   pub way : IsResolving old t es current (Some s)
-  pub asked : IsAsked s (Some c)
+  pub forced : IsForcedAtLevel s (Some c)
   pub id_is : id ≡ length es
   pub stands : j < length es
   pub covers : Covers (terms_of es c) (terms_of es j)
@@ -96,30 +96,31 @@ pub record IsStep (old : List EntryView) (t : TrailView) (es : List EntryView) (
   pub learns : Learns t made w
   pub grown : new ≡ es ++ record { terms = made; origin = Combined current j s.vertex w } ∷ []
 
--- the cause of the satisfier, of an entry that is being resolved
-pub cause_of : (old : List EntryView) (t : TrailView) (es : List EntryView) (current : ℕ) (s : Satisfier) (c : ℕ)
-    → IsResolving old t es current (Some s) → IsAsked s (Some c) → CauseFits es t (entry es current).terms s (Some c)
-cause_of old t es current s c way asked =
-    subst (CauseFits es t (entry es current).terms s) asked.1 way.here.satisfier.cause
+-- what forced the satisfier of an entry that is being resolved
+pub forced_of : (old : List EntryView) (t : TrailView) (es : List EntryView) (current : ℕ) (s : Satisfier) (c : ℕ)
+    → IsResolving old t es current (Some s) → IsForcedAtLevel s (Some c)
+    → ForcedFits es t (entry es current).terms s (Some c)
+forced_of old t es current s c way forced =
+    subst (ForcedFits es t (entry es current).terms s) forced.1 way.here.satisfier.forced_by
 
 -- what comes of the two is satisfied before the satisfier
 made_before : (old : List EntryView) (t : TrailView) (es : List EntryView) (current : ℕ) (s : Satisfier) (c j : ℕ)
-    → IsResolving old t es current (Some s) → IsAsked s (Some c) → j < length es
+    → IsResolving old t es current (Some s) → IsForcedAtLevel s (Some c) → j < length es
     → Covers (terms_of es c) (terms_of es j) → (made : List TermView)
     → IsCombination s.vertex (entry es current).terms (entry es j).terms made → Sat (sets_at t s.place) (states_at made)
-made_before old t es current s c j way asked within covers made is =
+made_before old t es current s c j way forced within covers made is =
     stands_before es t (entry es current).terms made s c j way.trail.lies within (way.trail.lies current way.within)
-    way.here.satisfier.satisfied way.here.satisfier.opens (cause_of old t es current s c way asked).0 covers is
+    way.here.satisfier.satisfied way.here.satisfier.opens (forced_of old t es current s c way forced).0 covers is
 
 -- and so it is now
 pub made_sat : (old : List EntryView) (t : TrailView) (es : List EntryView) (current : ℕ) (s : Satisfier) (c j : ℕ)
-    → IsResolving old t es current (Some s) → IsAsked s (Some c) → j < length es
+    → IsResolving old t es current (Some s) → IsForcedAtLevel s (Some c) → j < length es
     → Covers (terms_of es c) (terms_of es j) → (made : List TermView)
     → IsCombination s.vertex (entry es current).terms (entry es j).terms made → Sat t.sets (states_at made)
-made_sat old t es current s c j way asked within covers made is =
+made_sat old t es current s c j way forced within covers made is =
     subst (λ (ss : List Members). Sat ss (states_at made)) (sets_now t)
     (sat_later t way.trail.sound (states_at made) s.place (length t.steps) (let w = way.here.satisfier.satisfied.within
-    in omega (arith, w)) (omega arith) (made_before old t es current s c j way asked within covers made is))
+    in omega (arith, w)) (omega arith) (made_before old t es current s c j way forced within covers made is))
 
 module _ (old : List EntryView) (t : TrailView) (es : List EntryView) (current : ℕ) (s : Satisfier) (c j : ℕ)
     (made : List TermView) (w : Bool) (new : List EntryView) (id : ℕ)
@@ -128,15 +129,13 @@ module _ (old : List EntryView) (t : TrailView) (es : List EntryView) (current :
   last = record { terms = made; origin = Combined current j s.vertex w }
 
   at_new : entry new id ≡ last
-  at_new = ap (λ (xs : List EntryView). entry xs id) d.grown ∙ ap (entry (es ++ last ∷ [])) d.id_is
-      ∙ get_or-append_seam es last [] (record { terms = []; origin = Axiom 0 })
+  at_new = ap (entry new) d.id_is ∙ entry_added es last new d.grown
 
   at_old : (i : ℕ) → i < length es → entry new i ≡ entry es i
-  at_old i lt = ap (λ (xs : List EntryView). entry xs i) d.grown
-      ∙ get_or_append_left es (last ∷ []) (record { terms = []; origin = Axiom 0 }) i lt
+  at_old = entry_kept es (last ∷ []) new d.grown
 
   long : length new ≡ suc (length es)
-  long = ap length d.grown ∙ length-append es (last ∷ []) ∙ omega arith
+  long = one_longer es last new d.grown
 
   -- an id is an earlier one or the new one
   by_id : (P : ℕ → Type 0) → ((i : ℕ) → i < length es → P i) → P id → (i : ℕ) → i < length new → P i
@@ -150,7 +149,7 @@ module _ (old : List EntryView) (t : TrailView) (es : List EntryView) (current :
 
   sat_before : Sat (sets_at t s.place) (terms_of new id)
   sat_before = subst (λ (e : EntryView). Sat (sets_at t s.place) (states_at e.terms)) (sym at_new)
-      (made_before old t es current s c j d.way d.asked d.stands d.covers made d.combination)
+      (made_before old t es current s c j d.way d.forced d.stands d.covers made d.combination)
 
   pub sat_now : Sat t.sets (terms_of new id)
   sat_now = subst (λ (ss : List Members). Sat ss (terms_of new id)) (sets_now t)
@@ -175,7 +174,7 @@ module _ (old : List EntryView) (t : TrailView) (es : List EntryView) (current :
   -- there
   lone_new : IsLone new t id
   lone_new l lt sat = d.way.here.satisfier.satisfied.others_no l
-      (let top = level_top es t current s sound d.way.lone d.way.here.satisfier d.asked.0 in omega (arith, lt, top))
+      (let top = level_top es t current s sound d.way.lone d.way.here.satisfier d.forced.0 in omega (arith, lt, top))
       (combined_others (space_of t) (end_sets t l) s.vertex (entry es current).terms (entry es j).terms made
       d.way.here.is (d.way.trail.lies current d.way.within) (d.way.trail.lies j d.stands) d.combination
       (subst (λ (e : EntryView). Sat (end_sets t l) (states_at e.terms)) at_new sat))
@@ -189,47 +188,14 @@ module _ (old : List EntryView) (t : TrailView) (es : List EntryView) (current :
   learns_new : Learns t (entry new id).terms (watched (entry new id).origin)
   learns_new = subst (λ (e : EntryView). Learns t e.terms (watched e.origin)) (sym at_new) d.learns
 
-  combined_was : (i : ℕ) → i < length es → IsCombined es i → IsCombined new i
-  combined_was i lt was = record {
-    first = was.first;
-    second = was.second;
-    vertex = was.vertex;
-    watches = was.watches;
-    origin = ap (λ (e : EntryView). e.origin) (at_old i lt) ∙ was.origin;
-    first_earlier = was.first_earlier;
-    second_earlier = was.second_earlier;
-    term = ap (λ (e : EntryView). touches was.vertex e.terms)
-        (at_old was.first (let f = was.first_earlier in omega (arith, f, lt))) ∙ was.term;
-    is = subst (λ (e : EntryView).
-        IsCombination was.vertex (entry new was.first).terms (entry new was.second).terms e.terms) (sym (at_old i lt))
-        (subst (λ (e : EntryView). IsCombination was.vertex e.terms (entry new was.second).terms (entry es i).terms)
-        (sym (at_old was.first (let f = was.first_earlier in omega (arith, f, lt))))
-        (subst (λ (e : EntryView). IsCombination was.vertex (entry es was.first).terms e.terms (entry es i).terms)
-        (sym (at_old was.second (let f = was.second_earlier in omega (arith, f, lt)))) was.is));
-  }
-
   combined_here : IsCombined new id
-  combined_here = record {
-    first = current;
-    second = j;
-    vertex = s.vertex;
-    watches = w;
-    origin = ap (λ (e : EntryView). e.origin) at_new;
-    first_earlier = (let x = d.way.within in let k = d.id_is in omega (arith, x, k));
-    second_earlier = (let x = d.stands in let k = d.id_is in omega (arith, x, k));
-    term = ap (λ (e : EntryView). touches s.vertex e.terms) (at_old current d.way.within)
-        ∙ vertex_touched es t current s sound d.way.here.satisfier;
-    is = subst
-        (λ (e : EntryView). IsCombination s.vertex (entry new current).terms (entry new j).terms e.terms) (sym at_new)
-        (subst (λ (e : EntryView). IsCombination s.vertex e.terms (entry new j).terms made)
-        (sym (at_old current d.way.within))
-        (subst (λ (e : EntryView). IsCombination s.vertex (entry es current).terms e.terms made)
-        (sym (at_old j d.stands)) d.combination));
-  }
+  combined_here = subst (IsCombined new) (sym d.id_is) (combined_added es new current j s.vertex w made d.way.within
+      d.stands (vertex_touched es t current s sound d.way.here.satisfier) d.combination d.grown)
 
   combined_new : (i : ℕ) → length old ≤ i → i < length new → IsCombined new i
   combined_new i from lt = by_id (λ j. length old ≤ j → IsCombined new j)
-      (λ j less ge. combined_was j less (d.way.combined j ge less)) (λ ge. combined_here) i lt from
+      (λ j less ge. combined_kept es (last ∷ []) new d.grown j less (d.way.combined j ge less))
+      (λ ge. combined_here) i lt from
 
   -- the satisfier of the combination stands earlier on the trail
   pub nearer : (found : Option Satisfier) → IsFound new t id found → places_left found ≤ s.place

@@ -1,26 +1,23 @@
 -- What a store keeps as it gains combinations that are not watched.
-use Rattle.std.proofs.Common.{◌≡◌, ℕ, suc, ◌<◌, ◌≤◌, Bool, true, false, Result, Ok, Err, IfOk, OnErr, List, [], ◌∷◌}
+use Rattle.std.proofs.Common.{◌≡◌, ℕ, ◌<◌, ◌≤◌, Bool, true, false, Result, Ok, Err, IfOk, OnErr, List, [], ◌∷◌}
 use Rattle.std.proofs.Common.{◌++◌, length, append_assoc, refl, sym, ap, ◌∙◌, subst, arith, inl, inr}
 use Rattle.std.specs.Bool.{OnTrue}
 use Rattle.std.proofs.lemmas.Bool.{cases_lt, false≢true}
-use Rattle.std.proofs.lemmas.List.{get_or_append_left, length-append}
-use Rattle.std.proofs.Math.Seq.{get_or-append_seam}
 use Rattle.terms.specs.Terms.{TermView}
-use Rattle.incompatibilities.specs.Incompatibilities.{Breaks, IsCombination, IsWithin, LiesIn, Terms, states_at}
-use Rattle.incompatibilities.specs.Stores.{EntryView, Follows, IsAxiom, entry, terms_of, touches, watched}
-use Rattle.incompatibilities.specs.declared.origin.Origin.TheVariants.{Axiom, Combined}
+use Rattle.incompatibilities.specs.Incompatibilities.{IsCombination, LiesIn, states_at}
+use Rattle.incompatibilities.specs.Stores.{EntryView, Follows, entry, terms_of, touches, watched}
+use Rattle.incompatibilities.specs.declared.origin.Origin.TheVariants.{Combined}
 use Rattle.incompatibilities.proofs.Broken.{lies_combined}
 use Rattle.propagation.specs.Promises.{IsTrail}
 use Rattle.propagation.specs.Satisfaction.{IsOneOpen, Sat}
 use Rattle.propagation.specs.Trails.{TrailView, end_sets, space_of}
 use Rattle.propagation.proofs.Soundness.{trail_grown}
+use Rattle.conflicts.proofs.Growing.{combined_added, combined_kept, entry_added, entry_kept, follows_kept, longer}
+use Rattle.conflicts.proofs.Growing.{one_longer}
 use Rattle.conflicts.specs.Covering.{AllLie, LieSomewhere}
 use Rattle.conflicts.specs.Resolving.{IsCombined, IsGained, IsStrengthened, Quiet, Resolved}
 use Rattle.conflicts.specs.declared.resolving.Resolution.{Resolution}
 use Rattle.conflicts.specs.declared.resolving.Resolution.TheVariants.{Learned, Unsolvable}
-
-abbrev empty : EntryView
-empty = record { terms = []; origin = Axiom 0 }
 
 nothing : (xs : List EntryView) → xs ++ [] ≡ xs
 nothing [] = refl
@@ -35,47 +32,6 @@ either_way (Err e) Q R P h k q failed = k failed
 pub whichever : {P : Type 0} (b : Bool) → P → OnTrue b P
 whichever true p = p
 whichever false p = tt
-
--- ---- a store that grows
-
-module _ (es more new : List EntryView) (grown : new ≡ es ++ more) where
-  pub at_old : (i : ℕ) → i < length es → entry new i ≡ entry es i
-  at_old i lt = ap (λ (xs : List EntryView). entry xs i) grown ∙ get_or_append_left es more empty i lt
-
-  pub longer : length es ≤ length new
-  longer = omega (arith, ap length grown, length-append es more)
-
-  pub combined_was : (i : ℕ) → i < length es → IsCombined es i → IsCombined new i
-  combined_was i lt was = record {
-    first = was.first;
-    second = was.second;
-    vertex = was.vertex;
-    watches = was.watches;
-    origin = ap (λ (e : EntryView). e.origin) (at_old i lt) ∙ was.origin;
-    first_earlier = was.first_earlier;
-    second_earlier = was.second_earlier;
-    term = ap (λ (e : EntryView). touches was.vertex e.terms)
-        (at_old was.first (let f = was.first_earlier in omega (arith, f, lt))) ∙ was.term;
-    is = subst (λ (e : EntryView).
-        IsCombination was.vertex (entry new was.first).terms (entry new was.second).terms e.terms) (sym (at_old i lt))
-        (subst (λ (e : EntryView). IsCombination was.vertex e.terms (entry new was.second).terms (entry es i).terms)
-        (sym (at_old was.first (let f = was.first_earlier in omega (arith, f, lt))))
-        (subst (λ (e : EntryView). IsCombination was.vertex (entry es was.first).terms e.terms (entry es i).terms)
-        (sym (at_old was.second (let f = was.second_earlier in omega (arith, f, lt)))) was.is));
-  }
-
-  -- what followed from the axioms still does
-  pub follows_on : (f : Terms) → Follows es f → Follows new f
-  follows_on f was x within breaks =
-      let one = was x (λ id lt given. subst
-      (λ (e : EntryView). IsWithin x (states_at e.terms)) (at_old id lt) (within id (omega (arith, lt, longer))
-      (subst (λ (e : EntryView). IsAxiom e.origin) (sym (at_old id lt)) given))) breaks in (
-        one.0,
-        omega (arith, one.1, longer),
-        subst (λ (e : EntryView). IsAxiom e.origin) (sym (at_old one.0 one.1))
-            one.2,
-        subst (λ (e : EntryView). Breaks x (states_at e.terms)) (sym (at_old one.0 one.1)) one.3,
-      )
 
 -- ---- none, one and more
 
@@ -96,11 +52,11 @@ strengthened_again a b c one two = record {
   gained = one.gained ++ two.gained;
   grown = two.grown ∙ ap (λ xs. xs ++ two.gained) one.grown ∙ append_assoc a one.gained two.gained;
   combined = λ id from lt. elim (cases_lt id (length b)) [
-    | inl less ↦ combined_was b two.gained c two.grown id less (one.combined id from less)
+    | inl less ↦ combined_kept b two.gained c two.grown id less (one.combined id from less)
     | inr ge ↦ two.combined id ge lt
   ];
   unwatched = λ id from lt. elim (cases_lt id (length b)) [
-    | inl less ↦ ap (λ (e : EntryView). watched e.origin) (at_old b two.gained c two.grown id less)
+    | inl less ↦ ap (λ (e : EntryView). watched e.origin) (entry_kept b two.gained c two.grown id less)
         ∙ one.unwatched id from less
     | inr ge ↦ two.unwatched id ge lt
   ];
@@ -119,35 +75,15 @@ module _ (es new : List EntryView) (i j v : ℕ) (made : List TermView) (first :
   last = record { terms = made; origin = Combined i j v false }
 
   at_new : entry new (length es) ≡ last
-  at_new = ap (λ (xs : List EntryView). entry xs (length es)) grown ∙ get_or-append_seam es last [] empty
-
-  long : length new ≡ suc (length es)
-  long = ap length grown ∙ length-append es (last ∷ []) ∙ omega arith
+  at_new = entry_added es last new grown
 
   at_last : (id : ℕ) → length es ≤ id → id < length new → length es ≡ id
-  at_last id from lt = omega (arith, from, lt, long)
-
-  here : IsCombined new (length es)
-  here = record {
-    first = i;
-    second = j;
-    vertex = v;
-    watches = false;
-    origin = ap (λ (e : EntryView). e.origin) at_new;
-    first_earlier = first;
-    second_earlier = second;
-    term = ap (λ (e : EntryView). touches v e.terms) (at_old es (last ∷ []) new grown i first) ∙ term;
-    is = subst (λ (e : EntryView). IsCombination v (entry new i).terms (entry new j).terms e.terms) (sym at_new)
-        (subst (λ (e : EntryView). IsCombination v e.terms (entry new j).terms made)
-        (sym (at_old es (last ∷ []) new grown i first))
-        (subst (λ (e : EntryView). IsCombination v (entry es i).terms e.terms made)
-        (sym (at_old es (last ∷ []) new grown j second)) is));
-  }
+  at_last id from lt = omega (arith, from, lt, one_longer es last new grown)
 
   lies_here : (space : ℕ → ℕ) → AllLie space es → AllLie space new
   lies_here space all id lt = elim (cases_lt id (length es)) [
     | inl less ↦ subst (λ (e : EntryView). LiesIn space (states_at e.terms))
-        (sym (at_old es (last ∷ []) new grown id less)) (all id less)
+        (sym (entry_kept es (last ∷ []) new grown id less)) (all id less)
     | inr ge ↦ subst (λ k. LiesIn space (terms_of new k)) (at_last id ge lt)
         (subst (λ (e : EntryView). LiesIn space (states_at e.terms)) (sym at_new) (lies_combined v (terms_of es i)
         (terms_of es j) (states_at made) is.each space (all i first) (all j second)))
@@ -157,7 +93,8 @@ module _ (es new : List EntryView) (i j v : ℕ) (made : List TermView) (first :
   strengthened_one = record {
     gained = last ∷ [];
     grown = grown;
-    combined = λ id from lt. subst (IsCombined new) (at_last id from lt) here;
+    combined = λ id from lt. subst (IsCombined new) (at_last id from lt)
+        (combined_added es new i j v false made first second term is grown);
     unwatched = λ id from lt. subst (λ k. watched (entry new k).origin ≡ false) (at_last id from lt)
         (ap (λ (e : EntryView). watched e.origin) at_new);
     lies = lies_here;
@@ -172,7 +109,7 @@ module _ (old : List EntryView) (t u : TrailView) (es new : List EntryView) (s :
     record {
       grown = s.grown ∙ ap (λ xs. xs ++ s.gained) g.grown ∙ append_assoc old gained s.gained;
       combined = λ id from lt. elim (cases_lt id (length es)) [
-        | inl less ↦ combined_was es s.gained new s.grown id less (g.combined id from less)
+        | inl less ↦ combined_kept es s.gained new s.grown id less (g.combined id from less)
         | inr ge ↦ s.combined id ge lt
       ];
       quiet = quiet g.quiet;
@@ -182,9 +119,9 @@ module _ (old : List EntryView) (t u : TrailView) (es new : List EntryView) (s :
       quiet : Quiet es t t.level → Quiet new t t.level
       quiet was l lt id within on sat = elim (cases_lt id (length es)) [
         | inl less ↦ was l lt id less
-            (subst (λ (e : EntryView). watched e.origin ≡ true) (at_old es s.gained new s.grown id less) on)
+            (subst (λ (e : EntryView). watched e.origin ≡ true) (entry_kept es s.gained new s.grown id less) on)
             (subst (λ (e : EntryView). Sat (end_sets t l) (states_at e.terms))
-            (at_old es s.gained new s.grown id less) sat)
+            (entry_kept es s.gained new s.grown id less) sat)
         | inr ge ↦ absurd (false≢true (sym (s.unwatched id ge within) ∙ on))
       ]
 
@@ -195,25 +132,27 @@ module _ (old : List EntryView) (t u : TrailView) (es new : List EntryView) (s :
   pub resolved_on : (o : Resolution) → Resolved t es u o → Resolved t new u o
   resolved_on (Learned id back_to) r = record {
     within = omega (arith, r.within, longer es s.gained new s.grown);
-    watches = ap (λ (e : EntryView). watched e.origin) (at_old es s.gained new s.grown id r.within) ∙ r.watches;
+    watches = ap (λ (e : EntryView). watched e.origin) (entry_kept es s.gained new s.grown id r.within) ∙ r.watches;
     follows =
-        subst (λ (e : EntryView). Follows new (states_at e.terms)) (sym (at_old es s.gained new s.grown id r.within))
-        (follows_on es s.gained new s.grown (terms_of es id) r.follows);
+        subst
+        (λ (e : EntryView). Follows new (states_at e.terms)) (sym (entry_kept es s.gained new s.grown id r.within))
+        (follows_kept es s.gained new s.grown (terms_of es id) r.follows);
     lower = r.lower;
     gone = r.gone;
     cut = r.cut;
     vertex = r.vertex;
     states = r.states;
     one = subst (λ (e : EntryView). IsOneOpen u.sets (states_at e.terms) r.vertex r.states)
-        (sym (at_old es s.gained new s.grown id r.within)) r.one;
+        (sym (entry_kept es s.gained new s.grown id r.within)) r.one;
     least = λ l lt v x one. r.least l lt v x (subst (λ (e : EntryView).
-        IsOneOpen (end_sets t l) (states_at e.terms) v x) (at_old es s.gained new s.grown id r.within) one);
+        IsOneOpen (end_sets t l) (states_at e.terms) v x) (entry_kept es s.gained new s.grown id r.within) one);
   }
   resolved_on (Unsolvable id) r = record {
     within = omega (arith, r.within, longer es s.gained new s.grown);
     follows =
-        subst (λ (e : EntryView). Follows new (states_at e.terms)) (sym (at_old es s.gained new s.grown id r.within))
-        (follows_on es s.gained new s.grown (terms_of es id) r.follows);
-    none = ap (λ (e : EntryView). e.terms) (at_old es s.gained new s.grown id r.within) ∙ r.none;
+        subst
+        (λ (e : EntryView). Follows new (states_at e.terms)) (sym (entry_kept es s.gained new s.grown id r.within))
+        (follows_kept es s.gained new s.grown (terms_of es id) r.follows);
+    none = ap (λ (e : EntryView). e.terms) (entry_kept es s.gained new s.grown id r.within) ∙ r.none;
     stays = r.stays;
   }

@@ -7,7 +7,7 @@ use Rattle.incompatibilities.specs.Stores.{EntryView, Follows, entry, terms_of, 
 use Rattle.incompatibilities.specs.declared.origin.Origin.TheVariants.{Combined}
 use Rattle.propagation.specs.Trails.{StepView, TrailView, end_sets}
 use Rattle.propagation.specs.Satisfaction.{IsOneOpen, Sat}
-use Rattle.propagation.specs.Promises.{CauseFits, IsCut, IsSatisfied, OpenFits}
+use Rattle.propagation.specs.Promises.{ForcedFits, IsCut, IsSatisfied, OpenFits}
 use Rattle.propagation.specs.declared.satisfying.Satisfier.{Satisfier}
 use Rattle.conflicts.specs.Covering.{AllLie}
 use Rattle.conflicts.specs.declared.resolving.Resolution.{Resolution}
@@ -21,7 +21,7 @@ Quiet es t level = (l : ℕ) → l < level → (id : ℕ) → id < length es →
 -- the satisfier of an entry that has a term
 pub record IsSatisfierOf (es : List EntryView) (t : TrailView) (id : ℕ) (s : Satisfier) : Type 0 where
   pub satisfied : IsSatisfied t (terms_of es id) s
-  pub cause : CauseFits es t (entry es id).terms s s.cause
+  pub forced_by : ForcedFits es t (entry es id).terms s s.forced_by
   pub opens : OpenFits t (terms_of es id) s
 
 abbrev pub Satisfies : List EntryView → TrailView → ℕ → Option Satisfier → Type 0
@@ -49,10 +49,10 @@ pub record IsStart (es : List EntryView) (t : TrailView) (id : ℕ) : Type 0 whe
   pub lone : IsLone es t id
   pub learns : Learns t (entry es id).terms (watched (entry es id).origin)
 
--- the cause of a satisfier, where the other terms were satisfied at its own level
-abbrev pub IsAsked : Satisfier → Option ℕ → Type 0
-IsAsked s None = s.before < s.level
-IsAsked s (Some c) = (s.before ≡ s.level) × (s.cause ≡ Some c)
+-- what forced a satisfier, where the other terms were satisfied at its own level
+abbrev pub IsForcedAtLevel : Satisfier → Option ℕ → Type 0
+IsForcedAtLevel s None = s.before < s.level
+IsForcedAtLevel s (Some c) = (s.before ≡ s.level) × (s.forced_by ≡ Some c)
 
 -- an entry is the combination of two earlier ones, at a vertex at which the first has a term
 pub record IsCombined (es : List EntryView) (id : ℕ) : Type 0 where

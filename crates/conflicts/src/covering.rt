@@ -3,7 +3,7 @@
 ghost use Rattle.conflicts.specs.Covering.{Covers, CoversAt};
 ghost use Rattle.incompatibilities.specs.Incompatibilities.{Fit, states_at};
 ghost use Rattle.std.specs.Bool.{OnTrue};
-ghost use Rattle.std.specs.Prelude.{◌≡◌, List, Some, length, option_map};
+ghost use Rattle.std.specs.Prelude.{◌≡◌, Some, length, option_map};
 ghost use Rattle.terms.specs.Terms.{terms_view};
 ghost use Rattle.version_sets.specs.Sets.{Members};
 

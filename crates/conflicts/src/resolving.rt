@@ -1,8 +1,9 @@
 //! Learning from a satisfied incompatibility, and going back (Dart pub's `solver.md`, "Conflict Resolution").
 
 ghost use Rattle.conflicts.specs.Covering.{Covers};
-ghost use Rattle.conflicts.specs.Resolving.{IsAsked, IsFound, IsGained, IsStart, Learns, Quiet, Resolved, Teaches};
-ghost use Rattle.incompatibilities.specs.Incompatibilities.{Fit, IsCombination, LiesIn, states_at};
+ghost use Rattle.conflicts.specs.Resolving.{IsForcedAtLevel, IsFound, IsGained, IsStart};
+ghost use Rattle.conflicts.specs.Resolving.{Learns, Quiet, Resolved, Teaches};
+ghost use Rattle.incompatibilities.specs.Incompatibilities.{IsCombination, LiesIn, states_at};
 ghost use Rattle.incompatibilities.specs.Stores.{EntryView, entries_view, entry, terms_of, watched};
 ghost use Rattle.incompatibilities.specs.declared.origin.Origin.TheVariants.{Combined};
 ghost use Rattle.propagation.specs.Promises.{IsSound, IsTrail, SameSpaces};
@@ -53,15 +54,15 @@ fn satisfier_of<S: States + Drop>(trail: &Trail<S>, store: &Store<S>, id: Id) ->
 
 /// What forced the satisfier, if the other terms were satisfied no earlier than at its own level; else `None`, as for
 /// each decision, which is the first assignment of its level.
-fn cause_at_level(found: Satisfier) -> Option<Id>
+fn forced_at_level(found: Satisfier) -> Option<Id>
     requires level { found.before ≤ found.level }
-    requires decision { found.cause ≡ None → found.before < found.level }
-    ensures { IsAsked found result }
+    requires decision { found.forced_by ≡ None → found.before < found.level }
+    ensures { IsForcedAtLevel found result }
 {
     if found.before < found.level {
         return None;
     }
-    found.cause
+    found.forced_by
 }
 
 /// Whether an incompatibility that is satisfied now is what a conflict teaches: all its terms but one were satisfied at
@@ -128,34 +129,36 @@ fn add_combination<S: States + Drop>(
     )
 }
 
-/// The combination of an entry with a cause, or with what stands in for the cause.
-fn add_with_cause<S: States + Drop>(
+/// The combination of an entry with what forced its satisfier, or with what stands in for that.
+fn add_with_stand_in<S: States + Drop>(
     alloc: Global,
     trail: &Trail<S>,
     store: &mut Store<S>,
     table: &StandIns,
     current: Id,
-    cause: Id,
+    forced_by: Id,
     vertex: usize,
 ) -> Result<Id, AllocError>
     requires current { current < length (entries_view S.tests store.old) }
-    requires cause { cause < length (entries_view S.tests store.old) }
+    requires forced_by { forced_by < length (entries_view S.tests store.old) }
     requires trail { IsTrail (entries_view S.tests store.old) (trail_view S.tests trail.now) }
     requires satisfied { (second : ℕ) → second < length (entries_view S.tests store.old)
-        → Covers (terms_of (entries_view S.tests store.old) cause) (terms_of (entries_view S.tests store.old) second)
+        → Covers (terms_of (entries_view S.tests store.old) forced_by)
+        (terms_of (entries_view S.tests store.old) second)
         → (made : List TermView) → IsCombination vertex (entry (entries_view S.tests store.old) current).terms
         (entry (entries_view S.tests store.old) second).terms made
         → Sat (trail_view S.tests trail.now).sets (states_at made) }
     ensures added { IfOk result (λ id. (id ≡ length (entries_view S.tests store.old)) × (second : ℕ)
         × (second < length (entries_view S.tests store.old))
-        × Covers (terms_of (entries_view S.tests store.old) cause) (terms_of (entries_view S.tests store.old) second)
+        × Covers (terms_of (entries_view S.tests store.old) forced_by)
+        (terms_of (entries_view S.tests store.old) second)
         × (made : List TermView) × IsCombination vertex (entry (entries_view S.tests store.old) current).terms
         (entry (entries_view S.tests store.old) second).terms made × (watches : Bool)
         × Learns (trail_view S.tests trail.now) made watches × (entries_view S.tests store.new ≡ entries_view S.tests
         store.old ++ record { terms = made; origin = Combined current second vertex watches } ∷ [])) }
     ensures kept { OnErr result (entries_view S.tests store.new ≡ entries_view S.tests store.old) }
 {
-    let second = in_place_of(store, table, cause);
+    let second = in_place_of(store, table, forced_by);
     add_combination(alloc, trail, store, current, second, vertex)
 }
 
@@ -229,8 +232,8 @@ fn resolve<S: States + Drop>(
     let mut found = satisfier_of(trail, store, current);
     'steps: while let Some(satisfier) = found {
         let (vertex, back_to) = (satisfier.vertex, satisfier.before);
-        let cause = match cause_at_level(satisfier) {
-            Some(cause) => cause,
+        let forced_by = match forced_at_level(satisfier) {
+            Some(forced_by) => forced_by,
             // At the level where the other terms came to be satisfied, the satisfier's own term is open again, so
             // `current` would have forced the opposite there. It is learned.
             None => {
@@ -243,7 +246,7 @@ fn resolve<S: States + Drop>(
         // Going back would undo the satisfier and other terms alike, and leave nothing to force. But whatever breaks
         // the combination breaks one of the two, and it was satisfied before the satisfier was put. The vertex has a
         // term in `current`, which stands first: by that a derivation can name it.
-        current = add_with_cause(alloc, trail, store, table, current, cause, vertex)?;
+        current = add_with_stand_in(alloc, trail, store, table, current, forced_by, vertex)?;
         found = satisfier_of(trail, store, current);
     }
     // Nothing satisfied it, since it has no term.

@@ -135,7 +135,7 @@ impl StandIns {
     pub(crate) fn look<S: States + Drop>(&mut self, trail: &Trail<S>) -> Result<(), AllocError> {
         let first = self.places;
         'places: for place in first..trail.places() {
-            if trail.cause_at(place).is_none() {
+            if trail.forced_by_at(place).is_none() {
                 return Ok(());
             }
             self.put_last(trail.vertex_at(place), place)?;

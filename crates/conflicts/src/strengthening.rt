@@ -161,14 +161,14 @@ fn wanted<S: States + Drop>(
     'back: for place in (0..count).rev() {
         if is_wanted(&marks, table, trail.vertex_at(place), place) {
             places.push(place)?;
-            mark_cause(&mut marks, trail, store, place);
+            mark_forcing(&mut marks, trail, store, place);
         }
     }
     Ok(places)
 }
 
 /// Marks the vertices of what forced the assignment at a place.
-fn mark_cause<S: States + Drop>(
+fn mark_forcing<S: States + Drop>(
     marks: &mut [bool],
     trail: &Trail<S>,
     store: &Store<S>,
@@ -176,9 +176,9 @@ fn mark_cause<S: States + Drop>(
 )
     requires { place < length (trail_view S.tests trail.now).steps }
 {
-    if let Some(cause) = trail.cause_at(place) {
-        if cause.index() < store.len() {
-            mark(marks, store.get(cause));
+    if let Some(forced_by) = trail.forced_by_at(place) {
+        if forced_by.index() < store.len() {
+            mark(marks, store.get(forced_by));
         }
     }
 }
@@ -209,14 +209,14 @@ fn take_up<S: States + Drop>(
         return Ok(());
     }
     let vertex = trail.vertex_at(place);
-    let cause = match trail.cause_at(place) {
-        Some(cause) => cause,
+    let forced_by = match trail.forced_by_at(place) {
+        Some(forced_by) => forced_by,
         None => return Ok(()),
     };
-    if cause.index() >= store.len() {
+    if forced_by.index() >= store.len() {
         return Ok(());
     }
-    let made = with_units(alloc, store, table, cause)?;
+    let made = with_units(alloc, store, table, forced_by)?;
     table.put_unit(vertex, unit_of(store, made, vertex), place);
     Ok(())
 }
@@ -307,7 +307,7 @@ fn second_of<S: States + Drop>(store: &Store<S>, table: &StandIns, id: Id) -> Op
     }
 }
 
-/// Makes what stands in for the cause that a combination took.
+/// Makes what stands in for what a combination took as its second.
 fn strengthen_second<S: States + Drop>(
     alloc: Global,
     trail: &Trail<S>,
@@ -319,12 +319,12 @@ fn strengthen_second<S: States + Drop>(
     ensures { IsStrengthened (entries_view S.tests store.old) (entries_view S.tests store.new) }
 {
     match second_of(store, table, id) {
-        Some(cause) => strengthen(alloc, trail, store, table, cause),
+        Some(second) => strengthen(alloc, trail, store, table, second),
         None => Ok(()),
     }
 }
 
-/// Makes what stands in for the causes that some combinations took.
+/// Makes what stands in for what some combinations took as their second.
 fn strengthen_seconds<S: States + Drop>(
     alloc: Global,
     trail: &Trail<S>,
@@ -342,7 +342,7 @@ fn strengthen_seconds<S: States + Drop>(
     Ok(())
 }
 
-/// Makes what stands in for the entries that a conflict took: itself, the causes, and what was learned.
+/// Makes what stands in for the entries that a conflict took: itself, what forced its satisfiers, and what was learned.
 pub(crate) fn strengthen_used<S: States + Drop>(
     alloc: Global,
     trail: &Trail<S>,

@@ -19,20 +19,21 @@ use Rattle.model.specs.Order.{package_cmp, precedence, text_cmp, version_cmp, so
 use Rattle.model.specs.Vertices.{Owner, the_root, version_of}
 use Rattle.model.proofs.Lists.{all_get, in_none, pairs_get, pairs_none, all_none}
 use Rattle.model.proofs.Permuted.{pairs-permutation}
-use Rattle.lockfile.proofs.PackageOrder.{precedence_total, text-eq}
+use Rattle.model.proofs.Candidates.{precedence_total}
+use Rattle.lockfile.proofs.PackageOrder.{text-eq}
 use Rattle.model.proofs.Same.{text-same}
 use Rattle.manifest.specs.Manifests.{ManifestView}
 use Rattle.catalogue.specs.Problems.{problem_in}
 use Rattle.catalogue.specs.Stores.{CatalogueView, IsStore, rows_by_name}
-use Rattle.contents.specs.declared.stop.Stop.{Stop}
+use Rattle.contents.specs.declared.met.MetVersion.{MetVersion}
 use Rattle.facts.specs.Graphs.{NodeView, flag_at}
-use Rattle.contents.specs.Contents.{AreInOrder, AreKept, AreListed, IsPackage, IsPlace, LeadsFrom, AreStops, IsThere}
-use Rattle.contents.specs.Contents.{owner_if, owners_of, stop_owner, Placed, kept_with, package_if, places_in}
+use Rattle.contents.specs.Contents.{AreInOrder, AreKept, AreListed, IsPackage, IsPlace, LeadsFrom, AreMetVersions}
+use Rattle.contents.specs.Contents.{IsThere, owner_if, owners_of, met_owner, Placed, kept_with, package_if, places_in}
 use Rattle.model.specs.ContentOf.{package_of}
 use Rattle.reaching.specs.Built.{IsBuilt}
 use Rattle.contents.proofs.Lists.{place_of, there_at, some_at, still_at, map_at, pairs-map}
-use Rattle.contents.proofs.Stops.{all-snoc, pairs-snoc, snoc_at, once_at, rising_of, owners_once, some_is, name_in}
-use Rattle.contents.proofs.Stops.{version_in}
+use Rattle.contents.proofs.MetVersions.{all-snoc, pairs-snoc, snoc_at, once_at, rising_of, owners_once}
+use Rattle.contents.proofs.MetVersions.{some_is, name_in, version_in}
 
 -- ---- one place more
 
@@ -137,27 +138,27 @@ ties p r h =
     let c = then_equal (precedence p.version r.version) (text_cmp (parts_text p.version) (parts_text r.version)) b.0 in
     (text-same p.name r.name (sym (text-eq p.name r.name) ∙ ap is_eq a.0), c.0, b.1)
 
-module _ (manifest : ManifestView) (index : CatalogueView) (store : IsStore index) (stops : List Stop)
-    (are : AreStops index stops) where
+module _ (manifest : ManifestView) (index : CatalogueView) (store : IsStore index) (versions : List MetVersion)
+    (are : AreMetVersions index versions) where
   abbrev Q : Problem
   Q = problem_in manifest index
 
   -- a version that stands there is a candidate of its name
-  stands : (t : ℕ) (n : List ℕ) (v : Parts) → slice_get (owners_of index stops) t ≡ Some (version_of n v)
+  stands : (t : ℕ) (n : List ℕ) (v : Parts) → slice_get (owners_of index versions) t ≡ Some (version_of n v)
       → (p : ℕ) × (c : Candidate) × (slice_get (candidates_of (rows_by_name index) n) p ≡ Some c) × (c.version ≡ v)
   stands zero n v at = let x : the_root ≡ version_of n v = same_Some the_root (version_of n v) at in cc
-  stands (suc t) n v at = by (slice_get stops t) refl (sym (slice_get-map (stop_owner index) stops t) ∙ at)
+  stands (suc t) n v at = by (slice_get versions t) refl (sym (slice_get-map (met_owner index) versions t) ∙ at)
     where
-      by : (o : Option Stop) → slice_get stops t ≡ o
-          → option_map (stop_owner index) (slice_get stops t) ≡ Some (version_of n v)
+      by : (o : Option MetVersion) → slice_get versions t ≡ o
+          → option_map (met_owner index) (slice_get versions t) ≡ Some (version_of n v)
           → (p : ℕ) × (c : Candidate) × (slice_get (candidates_of (rows_by_name index) n) p ≡ Some c) × (c.version ≡ v)
-      by None e h = absurd (none-some (version_of n v) (sym (ap (option_map (stop_owner index)) e) ∙ h))
+      by None e h = absurd (none-some (version_of n v) (sym (ap (option_map (met_owner index)) e) ∙ h))
       by (Some s) e h =
           let (c, got) = some_is (slice_get (candidates_of (rows_by_name index) s.name) s.place)
-          (all_get (IsThere index) stops t s are.there e) in
+          (all_get (IsThere index) versions t s are.there e) in
           let is : version_of s.name c.version ≡ version_of n v
           = sym (ap (owner_if s.name) got)
-          ∙ same_Some (stop_owner index s) (version_of n v) (sym (ap (option_map (stop_owner index)) e) ∙ h) in (
+          ∙ same_Some (met_owner index s) (version_of n v) (sym (ap (option_map (met_owner index)) e) ∙ h) in (
             s.place,
             c,
             ap (λ k. slice_get (candidates_of (rows_by_name index) k) s.place)
@@ -165,8 +166,9 @@ module _ (manifest : ManifestView) (index : CatalogueView) (store : IsStore inde
             version_in s.name n c.version v is,
           )
 
-  tie_is_same : (t r : ℕ) (o u : Owner) (l m : List ℕ) → slice_get (owners_of index stops) t ≡ Some o
-      → slice_get (owners_of index stops) r ≡ Some u → package_cmp (package_of Q o l) (package_of Q u m) ≡ Equal → o ≡ u
+  tie_is_same : (t r : ℕ) (o u : Owner) (l m : List ℕ) → slice_get (owners_of index versions) t ≡ Some o
+      → slice_get (owners_of index versions) r ≡ Some u
+      → package_cmp (package_of Q o l) (package_of Q u m) ≡ Equal → o ≡ u
   tie_is_same t r the_root the_root l m at there h = refl
   tie_is_same t r the_root (version_of n v) l m at there h = let x : Greater ≡ Equal =
       (ties (package_of Q the_root l) (package_of Q (version_of n v) m) h).2 in cc
@@ -186,7 +188,7 @@ module _ (manifest : ManifestView) (index : CatalogueView) (store : IsStore inde
       same_Some c e (sym got ∙ ap (slice_get (candidates_of (rows_by_name index) n)) places ∙ beside) in
       ap₂ (λ a b. version_of a b) names (sym is ∙ ap (λ (c : Candidate). c.version) one ∙ has_it)
 
-  pub no_ties : (here : List Bool) (n : ℕ) (ks : List Placed) → AreKept Q (owners_of index stops) here n ks
+  pub no_ties : (here : List Bool) (n : ℕ) (ks : List Placed) → AreKept Q (owners_of index versions) here n ks
       → AllPairs (λ k m. package_cmp k.0 m.0 ≢ Equal) ks
   no_ties here n ks h i j d lt within e =
       let k = get_or ks i d in
@@ -197,15 +199,15 @@ module _ (manifest : ManifestView) (index : CatalogueView) (store : IsStore inde
       (subst₂ (λ p r. package_cmp p r ≡ Equal) is has_it e) in
       h.distinct i j d lt within (place_is k.1 m.1 o at (there ∙ ap Some (sym same)))
     where
-      place_is : (a b : ℕ) (o : Owner) → slice_get (owners_of index stops) a ≡ Some o
-          → slice_get (owners_of index stops) b ≡ Some o → a ≡ b
+      place_is : (a b : ℕ) (o : Owner) → slice_get (owners_of index versions) a ≡ Some o
+          → slice_get (owners_of index versions) b ≡ Some o → a ≡ b
       place_is a b o at there = elim (cases_order a b) [
         | inl e ↦ e
         | inr r ↦ elim r [
-          | inl below ↦ absurd (pairs_get (λ a b. a ≢ b) (owners_of index stops) a b o o
-              (owners_once index store stops are) below at there refl)
-          | inr above ↦ absurd (pairs_get (λ a b. a ≢ b) (owners_of index stops) b a o o
-              (owners_once index store stops are) above there at refl)
+          | inl below ↦ absurd (pairs_get (λ a b. a ≢ b) (owners_of index versions) a b o o
+              (owners_once index store versions are) below at there refl)
+          | inr above ↦ absurd (pairs_get (λ a b. a ≢ b) (owners_of index versions) b a o o
+              (owners_once index store versions are) above there at refl)
         ]
       ]
 

@@ -1,6 +1,6 @@
 pub mod Lists
 pub mod Rows
-pub mod Stops
+pub mod MetVersions
 pub mod Nodes
 pub mod RankLists
 pub mod Ordered

@@ -10,25 +10,25 @@ use Rattle.model.proofs.Lists.{all_none, pairs_none}
 use Rattle.facts.specs.Graphs.{NodeView}
 use Rattle.catalogue.specs.Stores.{CatalogueView, IsStore}
 use Rattle.reaching.specs.Nodes.{AreLeads, AreMet, IsLead, IsNode}
-use Rattle.contents.specs.Contents.{AreStops, Grows, IsThere, owners_of}
-use Rattle.contents.specs.declared.stop.Stop.{Stop}
+use Rattle.contents.specs.Contents.{AreMetVersions, Grows, IsThere, owners_of}
+use Rattle.contents.specs.declared.met.MetVersion.{MetVersion}
 use Rattle.contents.proofs.Lists.{some_at}
-use Rattle.contents.proofs.Stops.{many_owners, owner_on, owners_once, snoc_at}
+use Rattle.contents.proofs.MetVersions.{many_owners, owner_on, owners_once, snoc_at}
 
 -- an owner stands where the next node goes
-pub owner_next : (index : CatalogueView) (stops : List Stop) (n : ℕ) → n ≤ length stops
-    → (o : Owner) × (slice_get (owners_of index stops) n ≡ Some o)
-owner_next index stops n le = let wide =
-    many_owners index stops in some_at (owners_of index stops) n (omega (arith, le, wide))
+pub owner_next : (index : CatalogueView) (versions : List MetVersion) (n : ℕ) → n ≤ length versions
+    → (o : Owner) × (slice_get (owners_of index versions) n ≡ Some o)
+owner_next index versions n le = let wide =
+    many_owners index versions in some_at (owners_of index versions) n (omega (arith, le, wide))
 
 module _ (q : Problem) (LeadsTo : Owner → ℕ → Dependency → Owner → Type 0) (index : CatalogueView) where
-  lead_on : (old new : List Stop) → Grows index old new → (o : Owner) (i : ℕ) (d : Dependency) (target : Option ℕ)
+  lead_on : (old new : List MetVersion) → Grows index old new → (o : Owner) (i : ℕ) (d : Dependency) (target : Option ℕ)
       → IsLead q LeadsTo (owners_of index old) o i d target
       → IsLead q LeadsTo (owners_of index new) o i d target
   lead_on old new g o i d None h = h
   lead_on old new g o i d (Some n) (t, at, leads, once) = (t, owner_on index old new g n t at, leads, once)
 
-  leads_on : (old new : List Stop) → Grows index old new → (o : Owner) (ds : List Dependency)
+  leads_on : (old new : List MetVersion) → Grows index old new → (o : Owner) (ds : List Dependency)
       (targets : List (Option ℕ)) → AreLeads q LeadsTo (owners_of index old) o ds targets
       → AreLeads q LeadsTo (owners_of index new) o ds targets
   leads_on old new g o ds targets h = record {
@@ -38,21 +38,21 @@ module _ (q : Problem) (LeadsTo : Owner → ℕ → Dependency → Owner → Typ
   }
 
   -- those met so far, with a node for each of the first
-  pub record SoFar (stops : List Stop) (nodes : List NodeView) : Type 0 where
-    pub are : AreStops index stops
-    pub few : length nodes ≤ suc (length stops)
-    pub each : (n : ℕ) (o : Owner) (v : NodeView) → slice_get (owners_of index stops) n ≡ Some o
-        → slice_get nodes n ≡ Some v → IsNode q LeadsTo (owners_of index stops) n o v
+  pub record SoFar (versions : List MetVersion) (nodes : List NodeView) : Type 0 where
+    pub are : AreMetVersions index versions
+    pub few : length nodes ≤ suc (length versions)
+    pub each : (n : ℕ) (o : Owner) (v : NodeView) → slice_get (owners_of index versions) n ≡ Some o
+        → slice_get nodes n ≡ Some v → IsNode q LeadsTo (owners_of index versions) n o v
 
-  pub begun : (stops : List Stop) (nodes : List NodeView) → stops ≡ [] → nodes ≡ [] → SoFar stops nodes
-  begun stops nodes e f = record {
-    are = subst (AreStops index) (sym e)
+  pub begun : (versions : List MetVersion) (nodes : List NodeView) → versions ≡ [] → nodes ≡ [] → SoFar versions nodes
+  begun versions nodes e f = record {
+    are = subst (AreMetVersions index) (sym e)
         (record { distinct = pairs_none (λ s t. s ≢ t); there = all_none (IsThere index) });
     few = let none = ap length f in omega (arith, none);
     each = λ n o v at got. absurd (none-some v (sym (ap (λ ns. slice_get ns n) f) ∙ got));
   }
 
-  pub one_more : (old new : List Stop) (nodes more : List NodeView) (v : NodeView) → SoFar old nodes
+  pub one_more : (old new : List MetVersion) (nodes more : List NodeView) (v : NodeView) → SoFar old nodes
       → length nodes ≤ length old → Grows index old new
       → ((o : Owner) → slice_get (owners_of index old) (length nodes) ≡ Some o → v.brings ≡ owner_brings q o)
       → v.starts ≡ nat_eq (length nodes) 0
@@ -101,11 +101,11 @@ module _ (q : Problem) (LeadsTo : Owner → ℕ → Dependency → Owner → Typ
             leads = leads o here;
           })
 
-  pub all_met : (stops : List Stop) (nodes : List NodeView) → IsStore index → SoFar stops nodes
-      → length stops < length nodes → AreMet q LeadsTo (owners_of index stops) nodes
-  all_met stops nodes store h lt = record {
-    as_many = let few = h.few in let wide = many_owners index stops in omega (arith, few, lt, wide);
-    distinct = owners_once index store stops h.are;
+  pub all_met : (versions : List MetVersion) (nodes : List NodeView) → IsStore index → SoFar versions nodes
+      → length versions < length nodes → AreMet q LeadsTo (owners_of index versions) nodes
+  all_met versions nodes store h lt = record {
+    as_many = let few = h.few in let wide = many_owners index versions in omega (arith, few, lt, wide);
+    distinct = owners_once index store versions h.are;
     root = refl;
     each = h.each;
   }

@@ -12,7 +12,7 @@ use Rattle.model.specs.Content.{Package}
 use Rattle.model.specs.Order.{package_cmp}
 use Rattle.model.proofs.Permuted.{pairs-permutation}
 use Rattle.lockfile.specs.Views.{package_view}
-use Rattle.lockfile.proofs.PackageOrder.{package_total}
+use Rattle.model.proofs.PackageOrder.{package_total}
 use Rattle.contents.specs.Contents.{AreInOrder, Placed, placed_view, placed_views}
 use Rattle.contents.specs.declared.placed.PlacedPackage.{PlacedPackage}
 use Rattle.contents.proofs.Lists.{map_at}

@@ -1,7 +1,7 @@
 -- Ranks, and the lists that they make.
-use Rattle.std.proofs.Common.{◌≡◌, ◌≢◌, ◌↔◌, ℕ, zero, suc, ◌+◌, ◌<◌, ◌≤◌, Bool, true, false, List, [], ◌∷◌, ◌++◌, map}
+use Rattle.std.proofs.Common.{◌≡◌, ◌≢◌, ◌↔◌, ℕ, zero, suc, ◌+◌, ◌<◌, ◌≤◌, Bool, true, false, List, [], ◌∷◌, ◌++◌}
 use Rattle.std.proofs.Common.{length, get_or, drop, nat_eq, Contains, Bor, Vec, Result, Ok, Err, IfOk, Option, Some}
-use Rattle.std.proofs.Common.{None, option_map, slice_get, unwrap_or, refl, sym, ap, ap₂, ◌∙◌, subst, subst₂, inl, inr}
+use Rattle.std.proofs.Common.{None, option_map, slice_get, refl, sym, ap, ap₂, ◌∙◌, subst, subst₂, inl, inr}
 use Rattle.std.proofs.Common.{◌⊎◌, arith}
 use Rattle.std.specs.List.{AllPairs}
 use Rattle.std.specs.Option.{option_and_then}
@@ -16,7 +16,7 @@ use Rattle.std.specs.List.Retain.{DiffersFromLast, IsFiltered}
 use Rattle.std.specs.declared.alloc.Global.{Global}
 use Rattle.std.specs.declared.alloc.AllocError.{AllocError}
 use Rattle.lockfile.specs.Views.{package_views}
-use Rattle.lockfile.specs.declared.locked.Package.{Package}
+use Rattle.lockfile.specs.declared.package.Package.{Package}
 use Rattle.std.proofs.lemmas.List.{append_assoc, length-append, length-set, get_or-set_same, get_or-set_other}
 use Rattle.std.proofs.lemmas.List.Filters.{dedup_is}
 use Rattle.std.proofs.lemmas.List.Kept.{AllPairs-from_increasing, Contains-dedup_nat, Contains-from_dedup}
@@ -29,9 +29,9 @@ use Rattle.catalogue.proofs.Rows.{item_at}
 use Rattle.facts.specs.Graphs.{NodeView, flag_at, node_view, node_views, target_at, target_if}
 use Rattle.facts.specs.declared.node.Node.{Node}
 use Rattle.contents.specs.Contents.{AreBeside, AreListed, AreRanks, HaveLists, Placed, places_in, IsListed, IsRising}
-use Rattle.contents.specs.Contents.{after, flags_at, targets_at, targets_if, rank_if, ranks_from, with_rank}
+use Rattle.contents.specs.Contents.{after, targets_at, targets_if, rank_if, ranks_from, with_rank}
 use Rattle.model.specs.Content.{Content}
-use Rattle.contents.proofs.Stops.{snoc_at}
+use Rattle.contents.proofs.MetVersions.{snoc_at}
 use Rattle.contents.proofs.Lists.{map_at}
 
 -- ---- the ranks of enabled targets
@@ -241,14 +241,6 @@ targets_got nodes n m got = ap targets_if (map_at node_view nodes n m got)
 
 pub targets_none : (nodes : List Node) (n : ℕ) → slice_get nodes n ≡ None → targets_at (node_views nodes) n ≡ []
 targets_none nodes n none = ap targets_if (slice_get-map node_view nodes n ∙ ap (option_map node_view) none)
-
-pub flags_got : (vs : List (Vec Bool Global)) (n : ℕ) (v : Vec Bool Global) → slice_get vs n ≡ Some v
-    → flags_at (map (λ v. v.items) vs) n ≡ v.items
-flags_got vs n v got = ap (λ o. unwrap_or o []) (map_at (λ (v : Vec Bool Global). v.items) vs n v got)
-
-pub flags_none : (vs : List (Vec Bool Global)) (n : ℕ) → slice_get vs n ≡ None → flags_at (map (λ v. v.items) vs) n ≡ []
-flags_none vs n none = ap (λ o. unwrap_or o [])
-    (slice_get-map (λ (v : Vec Bool Global). v.items) vs n ∙ ap (option_map (λ (v : Vec Bool Global). v.items)) none)
 
 pub no_item : {X : Type 0} (xs : List X) (i : ℕ) (r : Option (Bor X)) → IsItemAt xs i r
     → r ≡ None → slice_get xs i ≡ None

@@ -14,12 +14,12 @@ use Rattle.catalogue.specs.Stores.{CatalogueView, rows_by_name}
 use Rattle.lockfile.specs.Views.{package_view}
 use Rattle.facts.specs.Graphs.{NodeView, flag_at, flag_in, target_at}
 use Rattle.contents.specs.declared.placed.PlacedPackage.{PlacedPackage}
-use Rattle.contents.specs.declared.stop.Stop.{Stop}
+use Rattle.contents.specs.declared.met.MetVersion.{MetVersion}
 
--- ---- stops
+-- ---- versions that are met
 
-abbrev pub same_stop : Stop → Stop → Bool
-same_stop s t = same_text s.name t.name && nat_eq s.place t.place
+abbrev pub same_met : MetVersion → MetVersion → Bool
+same_met s t = same_text s.name t.name && nat_eq s.place t.place
 
 -- the version that a candidate is
 abbrev pub owner_if : List ℕ → Option Candidate → Owner
@@ -30,32 +30,32 @@ owner_if name (Some c) = version_of name c.version
 abbrev pub candidate_owner : CatalogueView → List ℕ → ℕ → Owner
 candidate_owner index name place = owner_if name (slice_get (candidates_of (rows_by_name index) name) place)
 
--- the version that stands at a stop
-abbrev pub stop_owner : CatalogueView → Stop → Owner
-stop_owner index s = candidate_owner index s.name s.place
+-- the version that is met
+abbrev pub met_owner : CatalogueView → MetVersion → Owner
+met_owner index s = candidate_owner index s.name s.place
 
 -- the root, then the versions met
-abbrev pub owners_of : CatalogueView → List Stop → List Owner
-owners_of index stops = the_root ∷ map (stop_owner index) stops
+abbrev pub owners_of : CatalogueView → List MetVersion → List Owner
+owners_of index versions = the_root ∷ map (met_owner index) versions
 
 -- a name has a candidate at this place
 abbrev pub IsCandidate : CatalogueView → List ℕ → ℕ → Type 0
 IsCandidate index name place = IsSome (slice_get (candidates_of (rows_by_name index) name) place)
 
 -- a candidate stands there
-abbrev pub IsThere : CatalogueView → Stop → Type 0
+abbrev pub IsThere : CatalogueView → MetVersion → Type 0
 IsThere index s = IsCandidate index s.name s.place
 
--- each stop once, and a candidate at each
-pub record AreStops (index : CatalogueView) (stops : List Stop) : Type 0 where
-  pub distinct : AllPairs (λ s t. s ≢ t) stops
-  pub there : All (IsThere index) stops
+-- each version once, and a candidate for each
+pub record AreMetVersions (index : CatalogueView) (versions : List MetVersion) : Type 0 where
+  pub distinct : AllPairs (λ s t. s ≢ t) versions
+  pub there : All (IsThere index) versions
 
--- more stops after these
-pub record Grows (index : CatalogueView) (old new : List Stop) : Type 0 where
-  pub more : List Stop
+-- more versions after these
+pub record Grows (index : CatalogueView) (old new : List MetVersion) : Type 0 where
+  pub more : List MetVersion
   pub is : new ≡ old ++ more
-  pub still : AreStops index old → AreStops index new
+  pub still : AreMetVersions index old → AreMetVersions index new
 
 -- ---- the content of those that are here
 

@@ -4,9 +4,9 @@ ghost use Rattle.std.specs.Prelude.{◌≡◌, Some, slice_get};
 ghost use Rattle.model.specs.Vertices.{Owner, owner_brings};
 ghost use Rattle.features.specs.Views.{brings_view};
 ghost use Rattle.catalogue.specs.Problems.{problem_in};
-ghost use Rattle.contents.specs.Contents.{AreStops, owners_of};
+ghost use Rattle.contents.specs.Contents.{AreMetVersions, owners_of};
 
-use crate::stop::{Stop, store_holds};
+use crate::met::{MetVersion, store_holds};
 use catalogue::Catalogue;
 use features::Summary;
 use manifest::Manifest;
@@ -15,18 +15,18 @@ use manifest::Manifest;
 pub fn brings_at<'a>(
     manifest: &'a Manifest,
     catalogue: &'a Catalogue,
-    stops: &[Stop],
+    versions: &[MetVersion],
     place: usize,
 ) -> Option<&'a Summary>
-    requires { AreStops catalogue.now stops.now }
-    ensures { (o : Owner) → slice_get (owners_of catalogue.now stops.now) place ≡ Some o
+    requires { AreMetVersions catalogue.now versions.now }
+    ensures { (o : Owner) → slice_get (owners_of catalogue.now versions.now) place ≡ Some o
         → brings_view result ≡ owner_brings (problem_in manifest.now catalogue.now) o }
 {
     store_holds(catalogue);
     if place == 0 {
         return Some(manifest.brings());
     }
-    let stop = stops.get(place - 1)?;
-    let candidate = catalogue.candidate_at(&stop.name, stop.place)?;
+    let met = versions.get(place - 1)?;
+    let candidate = catalogue.candidate_at(&met.name, met.place)?;
     Some(&candidate.brings)
 }

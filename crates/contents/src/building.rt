@@ -11,12 +11,12 @@ ghost use Rattle.model.specs.Vertices.{the_root};
 ghost use Rattle.model.specs.Order.{package_cmp};
 ghost use Rattle.model.specs.ContentOf.{package_of};
 ghost use Rattle.reaching.specs.Built.{IsBuilt};
-ghost use Rattle.contents.specs.Contents.{AreInOrder, AreKept, AreStops, IsThere, placed_views, kept_with, owners_of};
-ghost use Rattle.contents.specs.Contents.{package_if, stop_owner};
+ghost use Rattle.contents.specs.Contents.{AreInOrder, AreKept, AreMetVersions, IsThere, placed_views, kept_with};
+ghost use Rattle.contents.specs.Contents.{met_owner, owners_of, package_if};
 
 use crate::listing::listed;
+use crate::met::{MetVersion, store_holds};
 use crate::placed::PlacedPackage;
-use crate::stop::{Stop, store_holds};
 use catalogue::Catalogue;
 use facts::{Facts, Node};
 use lockfile::{LockContent, Package, package_order};
@@ -28,17 +28,17 @@ pub fn content_of(
     alloc: Global,
     manifest: &Manifest,
     catalogue: &Catalogue,
-    stops: &[Stop],
+    versions: &[MetVersion],
     nodes: &[Node<'_>],
     facts: &Facts,
 ) -> Result<LockContent, AllocError>
-    requires stops { AreStops catalogue.now stops.now }
-    requires nodes { length nodes.now ≡ length (owners_of catalogue.now stops.now) }
-    ensures { IfOk result (λ content. IsBuilt (owners_of catalogue.now stops.now) (node_views nodes.now) (map (λ v.
+    requires versions { AreMetVersions catalogue.now versions.now }
+    requires nodes { length nodes.now ≡ length (owners_of catalogue.now versions.now) }
+    ensures { IfOk result (λ content. IsBuilt (owners_of catalogue.now versions.now) (node_views nodes.now) (map (λ v.
         v.items) facts.now.enabled.items) (problem_in manifest.now catalogue.now) facts.now.here.items content) }
 {
     store_holds(catalogue);
-    let kept = kept_of(alloc, manifest, catalogue, stops, facts.here.as_slice())?;
+    let kept = kept_of(alloc, manifest, catalogue, versions, facts.here.as_slice())?;
     let kept = sorted(kept)?;
     let packages = listed(alloc, kept, nodes, facts)?;
     Ok(LockContent::new(packages))
@@ -49,16 +49,16 @@ fn kept_of(
     alloc: Global,
     manifest: &Manifest,
     catalogue: &Catalogue,
-    stops: &[Stop],
+    versions: &[MetVersion],
     here: &[bool],
 ) -> Result<Vec<PlacedPackage>, AllocError>
-    requires stops { AreStops catalogue.now stops.now }
+    requires versions { AreMetVersions catalogue.now versions.now }
     ensures { IfOk result (λ v. AreKept (problem_in manifest.now catalogue.now)
-        (owners_of catalogue.now stops.now) here.now (length here.now) (placed_views v.items)) }
+        (owners_of catalogue.now versions.now) here.now (length here.now) (placed_views v.items)) }
 {
     let mut kept = Vec::new(alloc);
     'places: for (place, here) in here.iter().enumerate() {
-        let found = package_if(alloc, manifest, catalogue, stops, place, *here)?;
+        let found = package_if(alloc, manifest, catalogue, versions, place, *here)?;
         keep(&mut kept, found, place)?;
     }
     Ok(kept)
@@ -69,16 +69,16 @@ fn package_if(
     alloc: Global,
     manifest: &Manifest,
     catalogue: &Catalogue,
-    stops: &[Stop],
+    versions: &[MetVersion],
     place: usize,
     here: bool,
 ) -> Result<Option<Package>, AllocError>
-    requires { AreStops catalogue.now stops.now }
+    requires { AreMetVersions catalogue.now versions.now }
     ensures { IfOk result (λ o. option_map package_view o ≡ package_if (problem_in manifest.now catalogue.now) here
-        (slice_get (owners_of catalogue.now stops.now) place)) }
+        (slice_get (owners_of catalogue.now versions.now) place)) }
 {
     if here {
-        package_at(alloc, manifest, catalogue, stops, place)
+        package_at(alloc, manifest, catalogue, versions, place)
     } else {
         Ok(None)
     }
@@ -99,23 +99,23 @@ fn keep(
     Ok(())
 }
 
-/// The package at a place, with an empty list: the root, or what stands at a stop.
+/// The package at a place, with an empty list: the root, or a version that is met.
 fn package_at(
     alloc: Global,
     manifest: &Manifest,
     catalogue: &Catalogue,
-    stops: &[Stop],
+    versions: &[MetVersion],
     place: usize,
 ) -> Result<Option<Package>, AllocError>
-    requires { AreStops catalogue.now stops.now }
+    requires { AreMetVersions catalogue.now versions.now }
     ensures { IfOk result (λ o. option_map package_view o ≡ option_map (λ n. package_of
-        (problem_in manifest.now catalogue.now) n []) (slice_get (owners_of catalogue.now stops.now) place)) }
+        (problem_in manifest.now catalogue.now) n []) (slice_get (owners_of catalogue.now versions.now) place)) }
 {
     if place == 0 {
         return Ok(Some(root_package(alloc, manifest, catalogue)?));
     }
-    match stops.get(place - 1) {
-        Some(stop) => stop_package(alloc, manifest, catalogue, stop),
+    match versions.get(place - 1) {
+        Some(met) => met_package(alloc, manifest, catalogue, met),
         None => Ok(None),
     }
 }
@@ -139,28 +139,28 @@ fn root_package(
     })
 }
 
-fn stop_package(
+fn met_package(
     alloc: Global,
     manifest: &Manifest,
     catalogue: &Catalogue,
-    stop: &Stop,
+    met: &MetVersion,
 ) -> Result<Option<Package>, AllocError>
-    requires { IsThere catalogue.now stop.now }
+    requires { IsThere catalogue.now met.now }
     ensures { IfOk result (λ o. option_map package_view o
-        ≡ Some (package_of (problem_in manifest.now catalogue.now) (stop_owner catalogue.now stop.now) [])) }
+        ≡ Some (package_of (problem_in manifest.now catalogue.now) (met_owner catalogue.now met.now) [])) }
 {
     store_holds(catalogue);
     // The contract speaks of the manifest too; that the name is one is what `as_str` promises.
     let _ = manifest;
-    let _ = stop.name.as_str();
-    let Some(version) = catalogue.versions(&stop.name).get(stop.place) else {
+    let _ = met.name.as_str();
+    let Some(version) = catalogue.versions(&met.name).get(met.place) else {
         return Ok(None);
     };
-    let Some(candidate) = catalogue.candidate_at(&stop.name, stop.place) else {
+    let Some(candidate) = catalogue.candidate_at(&met.name, met.place) else {
         return Ok(None);
     };
     Ok(Some(Package {
-        name: stop.name.clone()?,
+        name: met.name.clone()?,
         version: version.clone()?,
         source: Some(String::from_str(alloc, catalogue.source())?),
         checksum: Some(candidate.checksum.clone()?),

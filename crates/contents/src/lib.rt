@@ -1,7 +1,7 @@
 //! The versions that a content may have, and the content of those that are found to be here.
 //!
 //! To find the facts of packages one needs the packages first, and which are here one learns from the facts. So all
-//! versions are met that dependencies may lead to, enabled or not, each once (`put_stop`); the facts are found over
+//! versions are met that dependencies may lead to, enabled or not, each once (`put_met`); the facts are found over
 //! them, and `content_of` keeps those that are here. Where dependencies lead is the caller's matter: to their picks for
 //! a walk, to the states at the end for a search.
 //!
@@ -16,11 +16,11 @@
 mod bringing;
 mod building;
 mod listing;
+mod met;
 mod placed;
 mod putting;
-mod stop;
 
 pub use bringing::brings_at;
 pub use building::content_of;
-pub use putting::put_stop;
-pub use stop::{Stop, store_holds};
+pub use met::{Met, MetVersion, store_holds};
+pub use putting::put_met;

@@ -2,13 +2,13 @@
 
 ghost use Rattle.std.specs.Prelude.{◌≡◌, ◌≢◌, ◌↔◌, ◌<◌, ℕ, Some, Contains, IfOk, OnOk, length, map};
 ghost use Rattle.std.specs.List.{All, AllPairs};
-ghost use Rattle.facts.specs.Graphs.{flag_at, node_views};
+ghost use Rattle.facts.specs.Graphs.{node_views};
 ghost use Rattle.lockfile.specs.Views.{package_views};
 ghost use Rattle.contents.specs.Contents.{AreListed, AreRanks, HaveLists, IsListed, IsRising, flags_at, placed_views};
 ghost use Rattle.contents.specs.Contents.{places_in, rank_if, ranks_from, targets_at, with_rank};
 
 use crate::placed::PlacedPackage;
-use facts::{Facts, Node};
+use facts::{Facts, Node, flag, flags};
 use lockfile::Package;
 use std::alloc::{AllocError, Global};
 
@@ -86,7 +86,7 @@ fn list_at(
     list_of(
         alloc,
         targets_at(nodes, place),
-        flags_at(enabled, place),
+        flags(enabled, place),
         ranks,
     )
 }
@@ -96,15 +96,6 @@ fn targets_at<'a>(nodes: &'a [Node<'_>], place: usize) -> &'a [Option<usize>]
 {
     match nodes.get(place) {
         Some(node) => node.targets.as_slice(),
-        None => &[],
-    }
-}
-
-fn flags_at(enabled: &[Vec<bool>], place: usize) -> &[bool]
-    ensures { result.now ≡ flags_at (map (λ v. v.items) enabled.now) place }
-{
-    match enabled.get(place) {
-        Some(flags) => flags.as_slice(),
         None => &[],
     }
 }
@@ -149,15 +140,6 @@ fn add(list: &mut Vec<usize>, rank: Option<usize>) -> Result<(), AllocError>
         list.push(rank)?;
     }
     Ok(())
-}
-
-fn flag(enabled: &[bool], number: usize) -> bool
-    ensures { result ≡ flag_at enabled.now number }
-{
-    match enabled.get(number) {
-        Some(flag) => *flag,
-        None => false,
-    }
 }
 
 /// The rank of a target that is enabled.

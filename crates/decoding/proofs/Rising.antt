@@ -2,14 +2,14 @@
 -- places.
 use Rattle.std.proofs.Common.{◌≡◌, ◌≢◌, ℕ, List, [], ◌∷◌, map, Bool, true, false, cond, nat_lt, Contains, Option, Some}
 use Rattle.std.proofs.Common.{None, slice_get, inl, inr, refl, sym, ap, ◌∙◌, subst, true≢false, arith}
-use Rattle.std.specs.List.{list_any, All, AllPairs, AllByRecursion}
+use Rattle.std.specs.List.{list_any, AllPairs, AllByRecursion}
 use Rattle.std.specs.List.Sorted.{IsStrictlySortedBy}
 use Rattle.std.specs.Ordering.{is_gt}
 use Rattle.std.specs.declared.cmp.Ordering.{Ordering}
 use Rattle.std.specs.declared.cmp.Ordering.TheVariants.{Less}
 use Rattle.std.proofs.lemmas.Bool.{cases_order}
 use Rattle.std.proofs.lemmas.List.Kept.{AllPairs-cons}
-use Rattle.model.specs.Summary.{Dependency, same_text}
+use Rattle.model.specs.Summary.{Dependency}
 use Rattle.model.specs.Content.{Candidate, Problem, candidates_of}
 use Rattle.model.specs.Selection.{Class, patch, minor, major, class_of}
 use Rattle.model.specs.WellFormed.{IsCatalogue}
@@ -20,9 +20,10 @@ use Rattle.model.specs.Axioms.{is_lower}
 use Rattle.model.proofs.Same.{class-refl}
 use Rattle.model.proofs.Orders.{class_above}
 use Rattle.model.proofs.Vertices.{class_from}
-use Rattle.model.proofs.Lists.{in_first, in_rest, to_any, pairs_first, pairs_rest, pairs_none, all_first, all_rest}
+use Rattle.model.proofs.Lists.{in_first, in_rest, to_any, pairs_first, pairs_rest, pairs_none}
 use Rattle.encoding.proofs.Needing.{from_all}
 use Rattle.encoding.proofs.ClassOrder.{IsOlder, pairs_filter}
+use Rattle.encoding.proofs.Distinct.{of_rows}
 use Rattle.decoding.specs.Decoding.{IsStateOrder}
 
 below : (a b : ℕ) → nat_lt b a ≡ false → (a ≡ b → ⊥) → nat_lt a b ≡ true
@@ -79,17 +80,6 @@ module _ (cmp : State → State → Ordering) where
   two_rise s r h = ((h, tt), (tt, tt))
 
 -- ---- candidates and their classes
-
-of_rows : (rows : List (List ℕ × List Candidate)) → All (λ row. AllPairs IsOlder row.1) rows → (name : List ℕ)
-    → AllPairs IsOlder (candidates_of rows name)
-of_rows [] h name = pairs_none IsOlder
-of_rows (row ∷ rows) h name =
-    by (of_rows rows (all_rest (λ row. AllPairs IsOlder row.1) row rows h) name) (same_text name row.0)
-  where
-    by : AllPairs IsOlder (candidates_of rows name) → (b : Bool)
-        → AllPairs IsOlder (cond b row.1 (candidates_of rows name))
-    by rest true = all_first (λ row. AllPairs IsOlder row.1) row rows h
-    by rest false = rest
 
 not_lower : (c e : Candidate) → IsOlder c e → is_lower (class_of e.version) (class_of c.version) ≡ false
 not_lower c e less = by (is_lower (class_of e.version) (class_of c.version)) refl

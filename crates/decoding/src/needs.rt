@@ -1,6 +1,6 @@
 //! The entries of a store that one of them needs.
 
-ghost use Rattle.std.specs.Prelude.{◌≡◌, ◌++◌, ◌∷◌, [], ◌<◌, ◌≤◌, suc, true, ℕ, IfOk, OnOk, Contains, if◌then◌else◌};
+ghost use Rattle.std.specs.Prelude.{◌≡◌, ◌++◌, ◌∷◌, [], ◌<◌, ◌≤◌, true, ℕ, IfOk, OnOk, Contains, if◌then◌else◌};
 ghost use Rattle.std.specs.Prelude.{length};
 ghost use Rattle.version_sets.specs.Sets.{has};
 ghost use Rattle.incompatibilities.specs.Stores.{OriginFits, entries_view, entry};

@@ -20,7 +20,7 @@ use Rattle.vertices.proofs.Bound.{same-Ok}
 use Rattle.vertices.proofs.OrderLaws.{state_total}
 use Rattle.derivations.specs.Building.{IsNewTerm, AreNewTerms, ordered_term, ordered_terms}
 use Rattle.derivations.specs.Derivations.{IsTerm, term_cmp, AreTerms}
-use Rattle.derivations.proofs.Sorting.{each-in_order, sorted-in_order}
+use Rattle.model.proofs.Sorting.{each-in_order, sorted-in_order}
 
 -- ---- what the orders don't tell apart
 

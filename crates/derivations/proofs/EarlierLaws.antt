@@ -27,10 +27,8 @@ use Rattle.derivations.specs.Lines.{Line, vertex_in_line}
 use Rattle.derivations.specs.Steps.{Written, text_of, two_of, states_in, states_of, step_by, term_of}
 use Rattle.derivations.specs.Steps.{terms_without_texts}
 use Rattle.derivations.specs.StepViews.{origin_view, written_term, written_view, written_views}
-use Rattle.derivations.specs.Views.{step_from}
+use Rattle.derivations.specs.Origins.{step_from}
 use Rattle.derivations.specs.declared.fault.LineFault.{LineFault}
-use Rattle.derivations.specs.declared.whole.WholeOrigin.{WholeOrigin}
-use Rattle.derivations.specs.declared.whole.WholeOrigin.TheVariants as origin
 use Rattle.derivations.specs.Tables.{TablesView, AreStepsOf, AreTermsOf, IsTermOf, IsGrown, state_at, states_at}
 use Rattle.derivations.specs.Tables.{term_at, terms_at, steps_at, step_by_origin}
 use Rattle.derivations.specs.declared.earlier.Earlier.{Earlier}
@@ -93,18 +91,19 @@ abbrev with-terms : List axioms.Term → steps.Step → steps.Step
 with-terms ts (steps.given k us) = steps.given k ts
 with-terms ts (steps.combine a b v us) = steps.combine a b v ts
 
-own-put : (t : TablesView) (o : Origin) (ts : List axioms.Term)
+own-put : (t : TablesView) (o : Origin ℕ) (ts : List axioms.Term)
     → with-terms ts (step_by_origin t o []) ≡ step_by_origin t o ts
 own-put t (Axiom k) ts = refl
 own-put t (Combination a b v) ts = refl
 
-whole-put : (o : WholeOrigin) (ts : List axioms.Term) → with-terms ts (step_from o []) ≡ step_by (origin_view o) ts
-whole-put (origin.Axiom k) ts = refl
-whole-put (origin.Combination a b v) ts = refl
+whole-put : (o : Origin Vertex) (ts : List axioms.Term)
+    → with-terms ts (step_from (λ v. v) o []) ≡ step_by (origin_view o) ts
+whole-put (Axiom k) ts = refl
+whole-put (Combination a b v) ts = refl
 
 -- an origin that is kept, with the terms that are
-pub step-put : (t : TablesView) (o : Origin) (w : WholeOrigin) (ts : List axioms.Term)
-    → step_by_origin t o [] ≡ step_from w [] → step_by_origin t o ts ≡ step_by (origin_view w) ts
+pub step-put : (t : TablesView) (o : Origin ℕ) (w : Origin Vertex) (ts : List axioms.Term)
+    → step_by_origin t o [] ≡ step_from (λ v. v) w [] → step_by_origin t o ts ≡ step_by (origin_view w) ts
 step-put t o w ts h = sym (own-put t o ts) ∙ ap (with-terms ts) h ∙ whole-put w ts
 
 -- a fault is that of what comes after, too
@@ -115,7 +114,7 @@ faults-then false e r k h = rw h refl
 
 -- ---- the terms of a step before
 
-own-terms : (t : TablesView) (o : Origin) (ts : List axioms.Term) → terms_of (step_by_origin t o ts) ≡ ts
+own-terms : (t : TablesView) (o : Origin ℕ) (ts : List axioms.Term) → terms_of (step_by_origin t o ts) ≡ ts
 own-terms t (Axiom k) ts = refl
 own-terms t (Combination a b v) ts = refl
 

@@ -1,6 +1,6 @@
 pub mod Commas
 pub mod ReadLemmas
-pub mod Sorting
+pub mod Ordered
 pub mod OrderLaws
 pub mod ReadLaws
 pub mod JsonLaws

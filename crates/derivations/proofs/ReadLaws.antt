@@ -30,7 +30,7 @@ use Rattle.derivations.specs.declared.fault.LineFault.TheVariants.{NotALine, For
 use Rattle.vertices.proofs.Bound.{steps, same-Ok, passed}
 use Rattle.vertices.proofs.OrderLaws.{state_total}
 use Rattle.derivations.proofs.OrderLaws.{written_total}
-use Rattle.derivations.proofs.Sorting.{each-in_order, sorted-in_order, distinct-from_none}
+use Rattle.model.proofs.Sorting.{each-in_order, sorted-in_order, distinct-from_none}
 use Rattle.vertices.proofs.TextLaws.{vertex-reads, state-reads}
 
 -- what a line reads off a text is what the text reads as

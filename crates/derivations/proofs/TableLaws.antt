@@ -137,7 +137,7 @@ module _ (s t : TablesView) (g : IsGrown s t) where
       let rest = kept-terms xs h.1 in
       ((here.0, rest.0), ap₂ (λ y ys. y ∷ ys) here.1 rest.1)
 
-  pub kept-origin : (c : Origin) (ts : List axioms.Term) → IsOriginOf s c
+  pub kept-origin : (c : Origin ℕ) (ts : List axioms.Term) → IsOriginOf s c
       → IsOriginOf t c × (step_by_origin t c ts ≡ step_by_origin s c ts)
   kept-origin (Axiom k) ts h = (tt, refl)
   kept-origin (Combination a b v) ts h = let here = g.vertices v h in (here.0, ap (λ w. combine a b w ts) here.1)

@@ -42,7 +42,7 @@ use Rattle.vertices.proofs.OrderLaws.{state_total}
 use Rattle.derivations.proofs.OrderLaws.{written_total}
 use Rattle.vertices.proofs.PlainTexts.{IsPlain, literal, vertex-plain, state-plain, kind-plain, decimal-plain}
 use Rattle.derivations.proofs.ReadLemmas.{data-read}
-use Rattle.derivations.proofs.Sorting.{none-from_distinct, in_order-sorted, distinct-sorted}
+use Rattle.model.proofs.Sorting.{none-from_distinct, in_order-sorted, distinct-sorted}
 
 -- ---- the JSON value of a step
 

@@ -3,6 +3,7 @@ pub mod Orders
 pub mod Steps
 pub mod Files
 pub mod Faults
+pub mod Origins
 pub mod Views
 pub mod StepViews
 pub mod Tables

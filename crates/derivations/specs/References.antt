@@ -13,7 +13,7 @@ references_of (combine a b v ts) = Some (a, b)
 abbrev pub references_at : List Step → ℕ → Option (ℕ × ℕ)
 references_at steps n = option_and_then references_of (slice_get steps n)
 
--- those of a step whose vertices are numbers
-abbrev pub references_by : Origin → Option (ℕ × ℕ)
+-- those of a step of such an origin
+abbrev pub references_by : {V : Type 0} → Origin V → Option (ℕ × ℕ)
 references_by (Axiom k) = None
 references_by (Combination a b v) = Some (a, b)

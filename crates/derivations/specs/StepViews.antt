@@ -5,13 +5,14 @@ use Rattle.serde_json.specs.Data.{Data}
 use Rattle.std.specs.declared.alloc.Global.{Global}
 use Rattle.json.specs.declared.value.Value.{Value}
 use Rattle.trees.specs.Trees.{tree_view}
+use Rattle.model.specs.Vertices.{Vertex}
 use Rattle.vertices.specs.Kinds.{kind_view}
 use Rattle.derivations.specs.Steps.{Written, Origin, by_axiom, by_combination}
 use Rattle.derivations.specs.Tables.{TablesView, term_at}
 use Rattle.derivations.specs.declared.line.WrittenTerm.{WrittenTerm}
 use Rattle.derivations.specs.declared.step.Term.{Term}
-use Rattle.derivations.specs.declared.whole.WholeOrigin.{WholeOrigin}
-use Rattle.derivations.specs.declared.whole.WholeOrigin.TheVariants.{Axiom, Combination}
+use Rattle.derivations.specs.declared.step.Origin as own
+use Rattle.derivations.specs.declared.step.Origin.TheVariants.{Axiom, Combination}
 
 abbrev pub two_view : Bor (Value Global) × Bor (Value Global) → Data × Data
 two_view p = (tree_view p.0.now, tree_view p.1.now)
@@ -25,6 +26,6 @@ written_view t w = (w.text.now, term_at t w.term)
 abbrev pub written_views : TablesView → List WrittenTerm → List Written
 written_views t ws = map (written_view t) ws
 
-abbrev pub origin_view : WholeOrigin → Origin
+abbrev pub origin_view : own.Origin Vertex → Origin
 origin_view (Axiom k) = by_axiom (kind_view k)
 origin_view (Combination a b v) = by_combination a b v

@@ -4,7 +4,7 @@ use Rattle.std.specs.List.{AllByRecursion}
 use Rattle.model.specs.Vertices as model
 use Rattle.model.specs.Axioms as axioms
 use Rattle.model.specs.Derivation as steps
-use Rattle.vertices.specs.Kinds.{kind_view}
+use Rattle.derivations.specs.Origins.{step_from}
 use Rattle.derivations.specs.declared.step.Term.{Term}
 use Rattle.derivations.specs.declared.step.Origin.{Origin}
 use Rattle.derivations.specs.declared.step.Origin.TheVariants.{Axiom, Combination}
@@ -39,9 +39,8 @@ term_at t term = axioms.at (vertex_at t term.vertex) (states_at t (set_at t term
 abbrev pub terms_at : TablesView → List Term → List axioms.Term
 terms_at t terms = map (term_at t) terms
 
-abbrev pub step_by_origin : TablesView → Origin → List axioms.Term → steps.Step
-step_by_origin t (Axiom k) ts = steps.given (kind_view k) ts
-step_by_origin t (Combination a b v) ts = steps.combine a b (vertex_at t v) ts
+abbrev pub step_by_origin : TablesView → Origin ℕ → List axioms.Term → steps.Step
+step_by_origin t = step_from (vertex_at t)
 
 abbrev pub step_at : TablesView → Step → steps.Step
 step_at t s = step_by_origin t s.origin (terms_at t s.terms.items)
@@ -65,7 +64,7 @@ IsTermOf t term =
 abbrev pub AreTermsOf : TablesView → List Term → Type 0
 AreTermsOf t terms = AllByRecursion (IsTermOf t) terms
 
-abbrev pub IsOriginOf : TablesView → Origin → Type 0
+abbrev pub IsOriginOf : TablesView → Origin ℕ → Type 0
 IsOriginOf t (Axiom k) = ⊤
 IsOriginOf t (Combination a b v) = v < length t.vertices
 

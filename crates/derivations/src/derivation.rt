@@ -9,12 +9,13 @@ ghost use Rattle.derivations.specs.Building.{AreNewTerms, ordered_terms};
 ghost use Rattle.derivations.specs.Derivations.{IsDerivation, IsStepAt};
 ghost use Rattle.derivations.specs.Earlier.{IsReading};
 ghost use Rattle.derivations.specs.Named.{named_views, named_step_from, set_in_order_views};
-ghost use Rattle.derivations.specs.References.{references_at, references_by};
+ghost use Rattle.derivations.specs.References.{references_at};
 ghost use Rattle.derivations.specs.Tables.{AreStepsOf, steps_at};
 
-use crate::named::{NamedTerm, SetInOrder, Spelling, named_in_order};
+use crate::keeping_spelt::keep_named;
+use crate::named::{NamedTerm, SetInOrder, named_in_order};
+use crate::spelt::Spelling;
 use crate::step::{Origin, Step};
-use crate::stepping::{NamedOrigin, keep_named};
 use crate::tables::Tables;
 use std::alloc::{AllocError, Global};
 use std::marker::Model;
@@ -84,7 +85,7 @@ impl Derivation {
         ensures { result ≡ references_at self.now number }
     {
         match self.steps.get(number) {
-            Some(step) => references(&step.origin),
+            Some(step) => step.origin.references(),
             None => None,
         }
     }
@@ -99,7 +100,7 @@ impl Derivation {
         ensures vertex { IfOk result (λ s. s ≡ vertex_ref_view vertex.entry) }
     {
         let first = Spelling::new(alloc, vertex, 0)?;
-        let number = self.tables.add_spelt(alloc, &first)?;
+        let number = self.tables.add_spelling(alloc, &first)?;
         Spelling::new(alloc, vertex, number)
     }
 
@@ -120,7 +121,7 @@ impl Derivation {
         ensures err { OnErr result (self.new ≡ self.old) }
     {
         let ordered = named_in_order(alloc, terms)?;
-        self.push_named(alloc, NamedOrigin::Axiom(kind), ordered)
+        self.push_named(alloc, Origin::Axiom(kind), ordered)
     }
 
     /// Puts a combination of two earlier steps at a vertex at the end, and its terms into the written order.
@@ -144,18 +145,14 @@ impl Derivation {
         ensures err { OnErr result (self.new ≡ self.old) }
     {
         let ordered = named_in_order(alloc, terms)?;
-        self.push_named(
-            alloc,
-            NamedOrigin::Combination(first, second, vertex),
-            ordered,
-        )
+        self.push_named(alloc, Origin::Combination(first, second, vertex), ordered)
     }
 
     /// Puts a step at spelt vertices at the end.
     fn push_named(
         &mut self,
         alloc: Global,
-        origin: NamedOrigin<'_>,
+        origin: Origin<&Spelling>,
         terms: Vec<SetInOrder<'_, '_, '_>>,
     ) -> Result<(), AllocError>
         requires { IsStepAt (length self.old) (named_step_from origin (set_in_order_views terms.items)) }
@@ -166,14 +163,5 @@ impl Derivation {
         let kept = keep_named(alloc, &mut self.tables, &self.steps, origin, terms)?;
         self.steps.push(kept)?;
         Ok(())
-    }
-}
-
-fn references(origin: &Origin) -> Option<(u64, u64)>
-    ensures { result ≡ references_by origin.now }
-{
-    match origin {
-        Origin::Axiom(_) => None,
-        Origin::Combination(first, second, _) => Some((*first, *second)),
     }
 }

@@ -9,7 +9,7 @@ ghost use Rattle.vertices.specs.Texts.{state_text, vertex_text};
 ghost use Rattle.derivations.specs.Derivations.{IsTerm};
 ghost use Rattle.derivations.specs.Earlier.{AreEarlier, AreTermsBefore, AreWritten, HaveTexts, IsReading, term_from};
 ghost use Rattle.derivations.specs.Named.{set_in_order_view};
-ghost use Rattle.derivations.specs.Tables.{AreStatesOf, IsTermOf, TablesView, set_at, state_at, states_at, term_at};
+ghost use Rattle.derivations.specs.Tables.{AreStatesOf, IsTermOf, TablesView, state_at, states_at, term_at};
 ghost use Rattle.derivations.specs.Tables.{vertex_at};
 
 use crate::named::SetInOrder;

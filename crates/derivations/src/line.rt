@@ -9,7 +9,7 @@ ghost use Rattle.vertices.specs.Orders.{state_cmp};
 ghost use Rattle.derivations.specs.Earlier.{AreEarlier, IsReading, term_from};
 ghost use Rattle.derivations.specs.Orders.{ordered};
 ghost use Rattle.derivations.specs.Steps.{states_in, states_of, written_cmp, term_of, terms_in, terms_of, axiom_of};
-ghost use Rattle.derivations.specs.Steps.{combination_of, origin_from, origin_of, is_backward, step_of, step_of_line};
+ghost use Rattle.derivations.specs.Steps.{combination_of, origin_of, is_backward, step_of, step_of_line};
 ghost use Rattle.derivations.specs.StepViews.{written_term, written_view, written_views, origin_view};
 ghost use Rattle.derivations.specs.Lines.{line_wants_memory};
 ghost use Rattle.derivations.specs.Tables.{AreTermsOf, IsGrown, IsStepOf, IsTermOf, TablesView, step_at, term_at};
@@ -19,12 +19,12 @@ ghost use Rattle.derivations.specs.Views.{term_view};
 
 use crate::earlier::{Earlier, Places};
 use crate::fault::LineFault;
-use crate::keeping::{keep_origin, keep_term};
-use crate::step::{Step, Term};
+use crate::keeping_read::{WholeTerm, keep_origin, keep_term};
+use crate::spelt::SpeltVertex;
+use crate::step::{Origin, Step, Term};
 use crate::tables::Tables;
 use crate::texts::{read_state, read_vertex};
 use crate::values::{array, item, no_item, read_json, text, two, whole};
-use crate::whole::{WholeOrigin, WholeTerm};
 use json::{Scratch, Value};
 use std::alloc::{AllocError, Global};
 use std::cmp::Ordering;
@@ -70,18 +70,15 @@ fn step(
         (step_of (length steps.now) (tree_view value.now)) }
 {
     let origin = origin(alloc, value)?;
-    let terms = terms(alloc, tables, Earlier::of(steps, parents(&origin)), value)?;
+    let terms = terms(
+        alloc,
+        tables,
+        Earlier::of(steps, origin.references()),
+        value,
+    )?;
     check(is_backward(steps.len(), &origin), LineFault::Forward)?;
     let origin = keep_origin(tables, origin)?;
     Ok(Step { origin, terms })
-}
-
-/// The numbers of the two steps that are combined, if an origin does that.
-fn parents(origin: &WholeOrigin) -> Option<(u64, u64)> {
-    match origin {
-        WholeOrigin::Axiom(_) => None,
-        WholeOrigin::Combination(first, second, _) => Some((*first, *second)),
-    }
 }
 
 fn check(passes: bool, why: LineFault) -> Result<(), LineFault>
@@ -91,19 +88,19 @@ fn check(passes: bool, why: LineFault) -> Result<(), LineFault>
 }
 
 /// Whether an origin refers to steps before this number alone.
-fn is_backward(number: usize, origin: &WholeOrigin) -> bool
+fn is_backward(number: usize, origin: &Origin<SpeltVertex>) -> bool
     ensures { result ≡ is_backward number (origin_view origin.now) }
 {
     match origin {
-        WholeOrigin::Axiom(_) => true,
-        WholeOrigin::Combination(first, second, _) => {
+        Origin::Axiom(_) => true,
+        Origin::Combination(first, second, _) => {
             *first < number as u64 && *second < number as u64
         }
     }
 }
 
 /// What `axiom` or `combine` says: just one of them is there.
-fn origin(alloc: Global, value: &Value<'_>) -> Result<WholeOrigin, LineFault>
+fn origin(alloc: Global, value: &Value<'_>) -> Result<Origin<SpeltVertex>, LineFault>
     ensures { Gives line_wants_memory origin_view result (origin_of (tree_view value.now)) }
 {
     match (member(value, "axiom"), member(value, "combine")) {
@@ -114,25 +111,25 @@ fn origin(alloc: Global, value: &Value<'_>) -> Result<WholeOrigin, LineFault>
 }
 
 #[tactic(auto, unfolding(crate::specs::Steps::axiom_of))]
-fn axiom(value: &Value<'_>) -> Result<WholeOrigin, LineFault>
+fn axiom(value: &Value<'_>) -> Result<Origin<SpeltVertex>, LineFault>
     ensures { Gives line_wants_memory origin_view result (axiom_of (tree_view value.now)) }
 {
     match Kind::of_code(text(value)?) {
-        Some(kind) => Ok(WholeOrigin::Axiom(kind)),
+        Some(kind) => Ok(Origin::Axiom(kind)),
         None => Err(LineFault::NotALine),
     }
 }
 
 /// `[A,B,"VERTEX"]`
 #[tactic(auto, unfolding(crate::specs::Steps::combination_of))]
-fn combination(alloc: Global, value: &Value<'_>) -> Result<WholeOrigin, LineFault>
+fn combination(alloc: Global, value: &Value<'_>) -> Result<Origin<SpeltVertex>, LineFault>
     ensures { Gives line_wants_memory origin_view result (combination_of (tree_view value.now)) }
 {
     let first = whole(item(value, 0)?)?;
     let second = whole(item(value, 1)?)?;
     let vertex = read_vertex(alloc, text(item(value, 2)?)?)?;
     no_item(value, 3)?;
-    Ok(WholeOrigin::Combination(first, second, vertex))
+    Ok(Origin::Combination(first, second, vertex))
 }
 
 /// The terms by the bytes of their vertices' texts, no vertex twice.

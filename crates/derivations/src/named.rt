@@ -1,88 +1,19 @@
-//! Vertices that are spelt once, and terms at them.
+//! Terms at spelt vertices, and the written order of these and of their states.
 
 ghost use Rattle.std.specs.Prelude.{◌≡◌, IfOk, map};
 ghost use Rattle.std.specs.List.{All, IsDistinct};
 ghost use Rattle.std.specs.Ordering.{eq_by_cmp};
 ghost use Rattle.vertices.specs.Orders.{state_cmp};
-ghost use Rattle.vertices.specs.RefViews.{vertex_ref_view, state_ref_views};
-ghost use Rattle.vertices.specs.Texts.{vertex_text, IsReadVertex};
-ghost use Rattle.vertices.specs.Views.{vertex_view};
+ghost use Rattle.vertices.specs.RefViews.{state_ref_views};
 ghost use Rattle.derivations.specs.Building.{IsNewTerm, AreNewTerms, ordered_term, ordered_terms};
 ghost use Rattle.model.specs.Sorting.{in_order};
 ghost use Rattle.derivations.specs.Named.{named_view, named_views, set_in_order_view, set_in_order_views};
 ghost use Rattle.derivations.specs.Named.{states_in_order};
 
-use crate::owning::owned_vertex;
+use crate::spelt::Spelling;
 use std::alloc::{AllocError, Global};
 use std::cmp::Ordering;
-use std::marker::Model;
-use vertices::{StateRef, Vertex, VertexRef, state_order};
-
-/// A vertex with its text, to stand in terms of any number of steps.
-///
-/// It also has the number that the vertex has in a derivation's tables. Nothing follows from the number: it is looked
-/// at first, and where another derivation has another vertex there, the vertex is looked for.
-#[derive(Drop)]
-pub struct Spelling {
-    text: String,
-    vertex: Vertex,
-    number: usize,
-}
-
-impl Model for Spelling {
-    ghost use Rattle.std.specs.Prelude.{◌≡◌, string_bytes};
-    ghost use Rattle.model.specs.Vertices as model;
-    ghost use Rattle.vertices.specs.Texts.{vertex_text, IsReadVertex};
-    ghost use Rattle.vertices.specs.Views.{vertex_view};
-
-    ghost Value = { model.Vertex };
-
-    ghost view = { λ s. vertex_view s.vertex };
-
-    ghost invariant = { λ s. (string_bytes s.text ≡ vertex_text (vertex_view s.vertex))
-        × IsReadVertex (vertex_view s.vertex) };
-}
-
-impl Spelling {
-    /// A vertex that may have this number.
-    pub(crate) fn new(
-        alloc: Global,
-        vertex: VertexRef<'_>,
-        number: usize,
-    ) -> Result<Spelling, AllocError>
-        requires { IsReadVertex (vertex_ref_view vertex) }
-        ensures { IfOk result (λ s. s ≡ vertex_ref_view vertex.entry) }
-    {
-        let mut text = String::new(alloc);
-        write!(text, "{vertex}")?;
-        let vertex = owned_vertex(alloc, &text)?;
-        Ok(Spelling {
-            text,
-            vertex,
-            number,
-        })
-    }
-
-    /// The vertex's text.
-    pub(crate) fn text(&self) -> &str
-        ensures text { result.now ≡ vertex_text self.now }
-        ensures read { IsReadVertex self.now }
-    {
-        &self.text
-    }
-
-    /// The vertex.
-    pub(crate) fn vertex(&self) -> &Vertex
-        ensures { vertex_view result.now ≡ self.now }
-    {
-        &self.vertex
-    }
-
-    /// The number that the vertex may have.
-    pub(crate) fn guess(&self) -> usize {
-        self.number
-    }
-}
+use vertices::{StateRef, state_order};
 
 /// A spelt vertex and a set of its states, in any order.
 #[derive(Clone, Copy)]

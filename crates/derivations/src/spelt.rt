@@ -1,17 +1,19 @@
-//! Vertices and states with their texts.
+//! Vertices and states that stand with their texts.
 
-ghost use Rattle.std.specs.Prelude.{◌≡◌, IfOk};
+ghost use Rattle.std.specs.Prelude.{◌≡◌, IfOk, string_bytes};
 ghost use Rattle.std.specs.Cmp.{partial_equiv_from_equiv};
 ghost use Rattle.model.specs.Vertices.{same_state, same_vertex};
+ghost use Rattle.vertices.specs.RefViews.{vertex_ref_view};
 ghost use Rattle.vertices.specs.Same.{state_alike, state_equivalence, state_fed, vertex_alike, vertex_equivalence};
 ghost use Rattle.vertices.specs.Same.{vertex_fed};
-ghost use Rattle.vertices.specs.Texts.{state_text, vertex_text};
+ghost use Rattle.vertices.specs.Texts.{IsReadVertex, state_text, vertex_text};
 ghost use Rattle.vertices.specs.Views.{state_view, vertex_view};
 
+use crate::owning::owned_vertex;
 use std::alloc::{AllocError, Global};
 use std::hash::{Hash, Hasher};
 use std::marker::Model;
-use vertices::{State, Vertex};
+use vertices::{State, Vertex, VertexRef};
 
 /// A vertex with its text.
 #[derive(Drop)]
@@ -39,8 +41,15 @@ impl SpeltVertex {
         requires { text.now ≡ vertex_text (vertex_view vertex) }
         ensures { IfOk result (λ s. s ≡ vertex_view vertex) }
     {
-        let text = String::from_str(alloc, text)?;
-        Ok(SpeltVertex { text, vertex })
+        Ok(SpeltVertex::of(String::from_str(alloc, text)?, vertex))
+    }
+
+    /// A vertex and its text, which is its own.
+    fn of(text: String, vertex: Vertex) -> SpeltVertex
+        requires { string_bytes text ≡ vertex_text (vertex_view vertex) }
+        ensures { result ≡ vertex_view vertex }
+    {
+        SpeltVertex { text, vertex }
     }
 
     pub(crate) fn text(&self) -> &str
@@ -77,6 +86,67 @@ impl Hash for SpeltVertex {
 
     fn hash<H: Hasher>(&self, state: &mut H) {
         self.vertex.hash(state)
+    }
+}
+
+/// A spelt vertex that is what its text reads as, to stand in terms of any number of steps.
+///
+/// It also has the number that the vertex has in a derivation's tables. Nothing follows from the number: it is looked
+/// at first, and where another derivation has another vertex there, the vertex is looked for.
+#[derive(Drop)]
+pub struct Spelling {
+    spelt: SpeltVertex,
+    number: usize,
+}
+
+impl Model for Spelling {
+    ghost use Rattle.model.specs.Vertices as model;
+    ghost use Rattle.vertices.specs.Texts.{IsReadVertex};
+
+    ghost Value = { model.Vertex };
+
+    ghost view = { λ s. s.spelt };
+
+    ghost invariant = { λ s. IsReadVertex s.spelt };
+}
+
+impl Spelling {
+    /// A vertex that may have this number.
+    pub(crate) fn new(
+        alloc: Global,
+        vertex: VertexRef<'_>,
+        number: usize,
+    ) -> Result<Spelling, AllocError>
+        requires { IsReadVertex (vertex_ref_view vertex) }
+        ensures { IfOk result (λ s. s ≡ vertex_ref_view vertex.entry) }
+    {
+        let mut text = String::new(alloc);
+        write!(text, "{vertex}")?;
+        let vertex = owned_vertex(alloc, &text)?;
+        Ok(Spelling {
+            spelt: SpeltVertex::of(text, vertex),
+            number,
+        })
+    }
+
+    /// The vertex's text.
+    pub(crate) fn text(&self) -> &str
+        ensures text { result.now ≡ vertex_text self.now }
+        ensures read { IsReadVertex self.now }
+    {
+        self.spelt.text()
+    }
+
+    /// The vertex.
+    pub(crate) fn vertex(&self) -> &Vertex
+        ensures { vertex_view result.now ≡ self.now }
+    {
+        self.spelt.vertex()
+    }
+
+    /// The number that the vertex may have.
+    pub(crate) fn guess(&self) -> usize {
+        self.number
     }
 }
 

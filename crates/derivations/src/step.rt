@@ -1,5 +1,8 @@
 //! The steps of a derivation, whose vertices and states are numbers into its tables.
 
+ghost use Rattle.std.specs.Prelude.{◌≡◌};
+ghost use Rattle.derivations.specs.References.{references_by};
+
 use vertices::Kind;
 
 /// A vertex and a set of its states, by their numbers.
@@ -9,17 +12,29 @@ pub struct Term {
     pub states: usize,
 }
 
-/// Why the terms of a step can't all hold.
+/// Why the terms of a step can't all hold. Of a derivation's own steps the vertex is a number.
 #[derive(Drop)]
-pub enum Origin {
+pub enum Origin<V> {
     Axiom(Kind),
-    /// The numbers of two earlier steps, and that of the vertex at which they are combined.
-    Combination(u64, u64, usize),
+    /// The numbers of two earlier steps, and the vertex at which they are combined.
+    Combination(u64, u64, V),
+}
+
+impl<V> Origin<V> {
+    /// The numbers of the two steps that it combines, if it does.
+    pub(crate) fn references(&self) -> Option<(u64, u64)>
+        ensures { result ≡ references_by self.now }
+    {
+        match self {
+            Origin::Axiom(_) => None,
+            Origin::Combination(first, second, _) => Some((*first, *second)),
+        }
+    }
 }
 
 /// A step: a set of terms that can't all hold, and why.
 #[derive(Drop)]
 pub struct Step {
-    pub origin: Origin,
+    pub origin: Origin<usize>,
     pub terms: Vec<Term>,
 }

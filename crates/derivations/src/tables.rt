@@ -6,9 +6,8 @@ ghost use Rattle.vertices.specs.RefViews.{state_ref_view};
 ghost use Rattle.vertices.specs.Texts.{state_text, vertex_text};
 ghost use Rattle.vertices.specs.Views.{vertex_view, state_view};
 
-use crate::named::Spelling;
 use crate::owning::{owned_state, owned_vertex};
-use crate::spelt::{SpeltState, SpeltVertex};
+use crate::spelt::{Spelling, SpeltState, SpeltVertex};
 use indexmap::IndexSet;
 use std::alloc::{AllocError, Global};
 use std::marker::Model;
@@ -114,7 +113,7 @@ impl Tables {
 
     /// The number of a spelt vertex, which is added unless it is there. The number that is guessed is looked at before
     /// the vertex is parsed anew and hashed.
-    pub(crate) fn add_spelt(
+    pub(crate) fn add_spelling(
         &mut self,
         alloc: Global,
         spelling: &Spelling,

@@ -63,7 +63,7 @@ fn push_step(text: &mut String, tables: &Tables, step: &Step) -> Result<(), Allo
     text.push_str("]}")
 }
 
-fn push_origin(text: &mut String, tables: &Tables, origin: &Origin) -> Result<(), AllocError>
+fn push_origin(text: &mut String, tables: &Tables, origin: &Origin<usize>) -> Result<(), AllocError>
     requires { IsOriginOf tables.now origin.now }
     ensures { OnOk result ((terms : List axioms.Term)
         → string_bytes text.new ≡ string_bytes text.old ++ origin_json (step_by_origin tables.now origin.now terms)) }

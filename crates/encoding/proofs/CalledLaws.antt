@@ -1,6 +1,6 @@
 -- What an entry gives with the dependencies of an owner is what it gives with those that are called so.
 use Rattle.std.proofs.Common.{◌≡◌, ℕ, ◌+◌, List, [], ◌∷◌, ◌++◌, Bool, true, false, cond, Some, None, Vec, refl, sym, ap}
-use Rattle.std.proofs.Common.{◌∙◌}
+use Rattle.std.proofs.Common.{◌∙◌, ap₂}
 use Rattle.std.specs.Borrow.{Bor}
 use Rattle.std.specs.HashMap.{HashMap}
 use Rattle.std.specs.List.{filter, flat_map}
@@ -26,18 +26,19 @@ puts_called m new name one named put x = put_views numbered_view m new name one 
 
 -- ---- what is given for each
 
--- what is given for none but those that pass a test is given for these
-pub each_passing : (f : ℕ → Dependency → List Cause) (test : ℕ × Dependency → Bool)
-    → ((i : ℕ) (d : Dependency) → test (i, d) ≡ false → f i d ≡ []) → (n : ℕ) (ds : List Dependency)
-    → flat_map (λ p. f p.0 p.1) (filter test (numbered_from n ds)) ≡ each_from f n ds
-each_passing f test off n [] = refl
-each_passing f test off n (d ∷ ds) = by (test (n, d)) refl (each_passing f test off (n + 1) ds)
+-- what is given for none but those that pass a test, and for these otherwise, is given for these
+pub each_in : (f : ℕ → Dependency → List Cause) (g : ℕ × Dependency → List Cause) (test : ℕ × Dependency → Bool)
+    → ((j : ℕ) (e : Dependency) → test (j, e) ≡ false → f j e ≡ [])
+    → ((j : ℕ) (e : Dependency) → test (j, e) ≡ true → g (j, e) ≡ f j e) → (n : ℕ) (ds : List Dependency)
+    → flat_map g (filter test (numbered_from n ds)) ≡ each_from f n ds
+each_in f g test off on n [] = refl
+each_in f g test off on n (d ∷ ds) = by (test (n, d)) refl (each_in f g test off on (n + 1) ds)
   where
     by : (b : Bool) → test (n, d) ≡ b
-        → flat_map (λ p. f p.0 p.1) (filter test (numbered_from (n + 1) ds)) ≡ each_from f (n + 1) ds
-        → flat_map (λ p. f p.0 p.1) (cond b ((n, d) ∷ filter test (numbered_from (n + 1) ds))
+        → flat_map g (filter test (numbered_from (n + 1) ds)) ≡ each_from f (n + 1) ds
+        → flat_map g (cond b ((n, d) ∷ filter test (numbered_from (n + 1) ds))
         (filter test (numbered_from (n + 1) ds))) ≡ f n d ++ each_from f (n + 1) ds
-    by true e rest = ap (λ l. f n d ++ l) rest
+    by true e rest = ap₂ (λ a l. a ++ l) (on n d e) rest
     by false e rest = rest ∙ ap (λ l. l ++ each_from f (n + 1) ds) (sym (off n d e))
 
 pub each_nothing : (f : ℕ → Dependency → List Cause) → ((i : ℕ) (d : Dependency) → f i d ≡ [])
@@ -70,7 +71,8 @@ module _ (q : Problem) (name : List ℕ) (v : Parts) (f : List ℕ) where
   pub entry_called : (e : Entry) (x : List ℕ) → Some x ≡ named_by e → (ds : List Dependency)
       → flat_map (λ p. entry_if q name v f e p.0 p.1) (called_so x (numbered_from 0 ds))
       ≡ each_from (entry_if q name v f e) 0 ds
-  entry_called e x is ds = each_passing (entry_if q name v f e) (λ p. same_text p.1.name x) (off_name e x is) 0 ds
+  entry_called e x is ds = each_in (entry_if q name v f e) (λ p. entry_if q name v f e p.0 p.1)
+      (λ p. same_text p.1.name x) (off_name e x is) (λ i d called. refl) 0 ds
 
   pub entry_without : (e : Entry) → None ≡ named_by e → (ds : List Dependency)
       → each_from (entry_if q name v f e) 0 ds ≡ []

@@ -22,7 +22,7 @@ use Rattle.encoding.proofs.Needing.{from_all}
 use Rattle.classes.specs.Groups.{each_once, classes_matched}
 
 -- the second class isn't lower
-abbrev Comes : Class → Class → Type 0
+abbrev pub Comes : Class → Class → Type 0
 Comes k m = is_lower m k ≡ false
 
 same_number : (a b : ℕ) → nat_lt a b ≡ false → nat_lt b a ≡ false → a ≡ b
@@ -40,7 +40,7 @@ neither (major a) (patch b) h k = absurd (true≢false k)
 neither (major a) (minor b) h k = absurd (true≢false k)
 neither (major a) (major b) h k = ap major (same_number a b h k)
 
-abbrev folded : List Class → List Class
+abbrev pub folded : List Class → List Class
 folded [] = []
 folded (k ∷ ks) = add_class k (folded ks)
 
@@ -77,7 +77,7 @@ again : (k : Class) (ks : List Class) → each_once (k ∷ k ∷ ks) ≡ each_on
 again k ks = ap (λ l. k ∷ l) (ap (λ b. cond (not b) (k ∷ without k (without k (each_once ks)))
     (without k (without k (each_once ks)))) (class-refl k) ∙ without_again k (each_once ks))
 
-folded_in : (ks : List Class) (c : Class) → Contains (folded ks) c → Contains ks c
+pub folded_in : (ks : List Class) (c : Class) → Contains (folded ks) c → Contains ks c
 folded_in [] c h = h
 folded_in (k ∷ ks) c h = by (folded_in ks c) (list_any (same_class k) (folded ks)) h
   where
@@ -91,7 +91,7 @@ folded_in (k ∷ ks) c h = by (folded_in ks c) (list_any (same_class k) (folded 
     ]
 
 -- a class that is there again among those that don't fall comes next
-next_same : (k m : Class) (ks : List Class) → AllPairs Comes (k ∷ m ∷ ks) → Contains (m ∷ ks) k → m ≡ k
+pub next_same : (k m : Class) (ks : List Class) → AllPairs Comes (k ∷ m ∷ ks) → Contains (m ∷ ks) k → m ≡ k
 next_same k m ks h c = elim (in_cons m k ks c) [
   | inl e ↦ e
   | inr d ↦ neither m k (pairs_first Comes k m (m ∷ ks) h (in_first m ks))

@@ -1,7 +1,6 @@
 -- The classes of the groups that a requirement makes of a name's versions are those that a dependency may lead to.
 use Rattle.std.proofs.Common.{◌≡◌, ℕ, List, [], ◌∷◌, map, filter, Vec, refl, ap, ◌∙◌}
 use Rattle.std.specs.declared.alloc.Global.{Global}
-use Rattle.std.specs.List.{AllPairs}
 use Rattle.std.specs.Ordering.{is_gt}
 use Rattle.std.specs.declared.cmp.Ordering.TheVariants.{Less}
 use Rattle.semver.specs.Eval.{precedence_cmp}

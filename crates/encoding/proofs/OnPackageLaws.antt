@@ -1,9 +1,9 @@
 -- What one dependency gives with those of its owner is what it gives with those on its package.
 use Rattle.std.proofs.Common.{◌≡◌, ℕ, ◌+◌, List, [], ◌∷◌, ◌++◌, Bool, true, false, cond, not, ◌&&◌, nat_eq, Vec, refl}
-use Rattle.std.proofs.Common.{sym, ap, ap₂, ◌∙◌, true≢false, Option, None, Some, IfSome}
+use Rattle.std.proofs.Common.{ap, ◌∙◌, true≢false, Option, None, Some, IfSome}
 use Rattle.std.specs.Borrow.{Bor}
 use Rattle.std.specs.HashMap.{HashMap}
-use Rattle.std.specs.List.{filter, flat_map}
+use Rattle.std.specs.List.{flat_map}
 use Rattle.std.specs.declared.alloc.Global.{Global}
 use Rattle.model.specs.Content.{Problem}
 use Rattle.model.specs.Selection.{Class}
@@ -16,6 +16,7 @@ use Rattle.encoding.specs.CausesAt.{each_from, newest_at, newest_if}
 use Rattle.encoding.specs.Lists.{Puts}
 use Rattle.encoding.specs.OnPackage.{PutsOn, is_other, on_in, on_package, others_on}
 use Rattle.encoding.specs.declared.called.Numbered.{Numbered}
+use Rattle.encoding.proofs.CalledLaws.{each_in}
 use Rattle.encoding.proofs.ListLaws.{put_views, text-turned}
 
 -- one that is put stands behind those that are on its package
@@ -29,21 +30,6 @@ pub some_views : (o : Option (Bor (List Numbered))) (ps : List (ℕ × Dependenc
     → IfSome o (λ those. numbered_views those.now ≡ ps)
 some_views None ps e = tt
 some_views (Some those) ps e = e
-
--- what is given for none but those that pass a test, and for these otherwise, is given for these
-each_in : (f : ℕ → Dependency → List Cause) (g : ℕ × Dependency → List Cause) (test : ℕ × Dependency → Bool)
-    → ((j : ℕ) (e : Dependency) → test (j, e) ≡ false → f j e ≡ [])
-    → ((j : ℕ) (e : Dependency) → test (j, e) ≡ true → g (j, e) ≡ f j e) → (n : ℕ) (ds : List Dependency)
-    → flat_map g (filter test (numbered_from n ds)) ≡ each_from f n ds
-each_in f g test off on n [] = refl
-each_in f g test off on n (d ∷ ds) = by (test (n, d)) refl (each_in f g test off on (n + 1) ds)
-  where
-    by : (b : Bool) → test (n, d) ≡ b
-        → flat_map g (filter test (numbered_from (n + 1) ds)) ≡ each_from f (n + 1) ds
-        → flat_map g (cond b ((n, d) ∷ filter test (numbered_from (n + 1) ds))
-        (filter test (numbered_from (n + 1) ds))) ≡ f n d ++ each_from f (n + 1) ds
-    by true e rest = ap₂ (λ a l. a ++ l) (on n d e) rest
-    by false e rest = rest ∙ ap (λ l. l ++ each_from f (n + 1) ds) (sym (off n d e))
 
 module _ (q : Problem) (o : Owner) (i : ℕ) (k : Class) (d : Dependency) (m : Class) where
   none_if : (a b : Bool) (cs : List Cause) → (not a && b) ≡ false → cond a [] (cond b cs []) ≡ []

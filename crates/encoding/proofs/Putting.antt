@@ -7,7 +7,7 @@ use Rattle.terms.specs.Terms.{TermView, term_view, terms_view}
 use Rattle.model.specs.Summary.{Dependency, same_text}
 use Rattle.model.specs.Content.{Candidate, Problem, candidates_of}
 use Rattle.model.specs.Candidates.{as_candidate}
-use Rattle.model.specs.Vertices.{Vertex, root, pkg, dep, feat, ask, State, in_class, version, same_class, add_class}
+use Rattle.model.specs.Vertices.{Vertex, root, pkg, dep, feat, ask, in_class, version, same_class}
 use Rattle.model.specs.Vertices.{classes_of, matching, dep_classes, dep_space, class_candidates, owner_brings, space}
 use Rattle.model.specs.Axioms.{Term, IsVertex}
 use Rattle.model.proofs.Lists.{all_first, all_rest}

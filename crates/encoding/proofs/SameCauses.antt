@@ -5,7 +5,7 @@ use Rattle.std.specs.List.{list_any, flat_map, AllPairs}
 use Rattle.std.proofs.lemmas.List.{append_assoc}
 use Rattle.indexmap.specs.IndexSet.{insert_key}
 use Rattle.model.specs.Summary.{same_text}
-use Rattle.model.proofs.Lists.{in_first, in_rest, any_of, to_any, pairs_none}
+use Rattle.model.proofs.Lists.{in_first, in_rest, any_of, to_any}
 use Rattle.refutations.specs.Causes as model
 use Rattle.refutations.specs.Causes.{same_entry}
 use Rattle.refutations.specs.Listed.{same_cause}

@@ -1,8 +1,8 @@
 //! What the needs of an owner and the entries of its features give rise to.
 
-ghost use Rattle.std.specs.Prelude.{◌≡◌, ◌++◌, ◌∷◌, [], ◌&&◌, List, Some, None, OnOk, IfOk, map, option_map};
+ghost use Rattle.std.specs.Prelude.{◌≡◌, ◌++◌, ◌∷◌, [], ◌&&◌, Some, None, OnOk, IfOk, map, option_map};
 ghost use Rattle.std.specs.Prelude.{if◌then◌else◌};
-ghost use Rattle.std.specs.List.{flat_map, list_any};
+ghost use Rattle.std.specs.List.{flat_map};
 ghost use Rattle.semver.specs.Identifiers.{parts_of};
 ghost use Rattle.classes.specs.Classes.{class_view};
 ghost use Rattle.features.specs.EntryViews.{entry_view, entry_views};
@@ -11,7 +11,7 @@ ghost use Rattle.model.specs.Selection.{class_of};
 ghost use Rattle.model.specs.Summary as model;
 ghost use Rattle.model.specs.Summary.{same_text};
 ghost use Rattle.model.specs.Vertices as model_vertices;
-ghost use Rattle.model.specs.Vertices.{feat, owner_brings, same_class, same_vertex};
+ghost use Rattle.model.specs.Vertices.{feat, owner_brings, same_vertex};
 ghost use Rattle.refutations.specs.Causes.{is_needed, of_asking, of_enabling, table_of_owner};
 ghost use Rattle.encoding.specs.Called.{AreOfVersion, called_so, named_by, numbered_from, numbered_views};
 ghost use Rattle.encoding.specs.GivenViews.{cause_views};
@@ -23,8 +23,8 @@ ghost use Rattle.vertices.specs.RefViews.{owner_ref_view};
 use crate::called::{ByName, Numbered};
 use crate::known_problem::KnownProblem;
 use crate::lookups::{brings, dependencies_of, entries_of};
-use crate::spaces::classes_of;
-use classes::Class;
+use crate::possible_classes::classes_of;
+use classes::{Class, same_class};
 use features::{Dependency, Entry, FeatureName, FeatureTable, PackageName};
 use indexmap::IndexSet;
 use named_terms::Cause;
@@ -83,38 +83,38 @@ fn put_need<'a>(
 /// What the entries of a version's feature give.
 pub(crate) fn put_feature<'a>(
     alloc: Global,
-    inputs: &KnownProblem<'a>,
+    known: &KnownProblem<'a>,
     causes: &mut Vec<Cause<'a>>,
     own: Own<'a>,
     called: &ByName<'a>,
     entries: &'a [Entry],
 ) -> Result<(), AllocError>
-    requires called { AreOfVersion (problem inputs.now) own.name.now (parts_of own.version.now) called.now }
+    requires called { AreOfVersion (problem known.now) own.name.now (parts_of own.version.now) called.now }
     ensures { OnOk result (cause_views causes.new.items
-        ≡ cause_views causes.old.items ++ flat_map (entry_causes (problem inputs.now) own.entry.name.now
+        ≡ cause_views causes.old.items ++ flat_map (entry_causes (problem known.now) own.entry.name.now
         (parts_of own.entry.version.now) own.entry.feature.now) (entry_views entries.entry.now)) }
 {
     'entries: for entry in entries.iter() {
-        put_entry(alloc, inputs, causes, own, called, entry)?;
+        put_entry(alloc, known, causes, own, called, entry)?;
     }
     Ok(())
 }
 
 fn put_entry<'a>(
     alloc: Global,
-    inputs: &KnownProblem<'a>,
+    known: &KnownProblem<'a>,
     causes: &mut Vec<Cause<'a>>,
     own: Own<'a>,
     called: &ByName<'a>,
     entry: &'a Entry,
 ) -> Result<(), AllocError>
-    requires called { AreOfVersion (problem inputs.now) own.name.now (parts_of own.version.now) called.now }
+    requires called { AreOfVersion (problem known.now) own.name.now (parts_of own.version.now) called.now }
     ensures { OnOk result (cause_views causes.new.items
-        ≡ cause_views causes.old.items ++ entry_causes (problem inputs.now) own.entry.name.now
+        ≡ cause_views causes.old.items ++ entry_causes (problem known.now) own.entry.name.now
         (parts_of own.entry.version.now) own.entry.feature.now (entry_view entry.entry.now)) }
 {
     put_turned(causes, own, entry)?;
-    put_each(alloc, inputs, causes, own, called, entry)
+    put_each(alloc, known, causes, own, called, entry)
 }
 
 /// What an entry `g` of the feature gives.
@@ -153,20 +153,20 @@ fn put_off<'a>(
 /// What an entry of the feature gives with the dependencies that it names: no other one is looked at.
 fn put_each<'a>(
     alloc: Global,
-    inputs: &KnownProblem<'a>,
+    known: &KnownProblem<'a>,
     causes: &mut Vec<Cause<'a>>,
     own: Own<'a>,
     called: &ByName<'a>,
     entry: &'a Entry,
 ) -> Result<(), AllocError>
-    requires called { AreOfVersion (problem inputs.now) own.name.now (parts_of own.version.now) called.now }
+    requires called { AreOfVersion (problem known.now) own.name.now (parts_of own.version.now) called.now }
     ensures { OnOk result (cause_views causes.new.items ≡ cause_views causes.old.items
-        ++ each_from (entry_if (problem inputs.now) own.entry.name.now (parts_of own.entry.version.now)
-        own.entry.feature.now (entry_view entry.entry.now)) 0 (owner_brings (problem inputs.now)
+        ++ each_from (entry_if (problem known.now) own.entry.name.now (parts_of own.entry.version.now)
+        own.entry.feature.now (entry_view entry.entry.now)) 0 (owner_brings (problem known.now)
         (model_vertices.version_of own.entry.name.now (parts_of own.entry.version.now))).dependencies) }
 {
     match name_of(entry) {
-        Some(name) => put_called(alloc, inputs, causes, own, called, entry, name.as_str()),
+        Some(name) => put_called(alloc, known, causes, own, called, entry, name.as_str()),
         None => Ok(()),
     }
 }
@@ -186,7 +186,7 @@ fn name_of(entry: &Entry) -> Option<&PackageName>
 /// What an entry of the feature gives with the dependencies called so.
 fn put_called<'a>(
     alloc: Global,
-    inputs: &KnownProblem<'a>,
+    known: &KnownProblem<'a>,
     causes: &mut Vec<Cause<'a>>,
     own: Own<'a>,
     called: &ByName<'a>,
@@ -194,11 +194,11 @@ fn put_called<'a>(
     name: &'a str,
 ) -> Result<(), AllocError>
     ensures { OnOk result (cause_views causes.new.items ≡ cause_views causes.old.items ++ flat_map (λ p.
-        entry_if (problem inputs.now) own.entry.name.now (parts_of own.entry.version.now) own.entry.feature.now
+        entry_if (problem known.now) own.entry.name.now (parts_of own.entry.version.now) own.entry.feature.now
         (entry_view entry.entry.now) p.0 p.1) (called_so name.entry.now (numbered_from 0 called.now))) }
 {
     match called.those(name) {
-        Some(those) => put_those(alloc, inputs, causes, own, entry, those),
+        Some(those) => put_those(alloc, known, causes, own, entry, those),
         None => Ok(()),
     }
 }
@@ -206,33 +206,25 @@ fn put_called<'a>(
 /// What an entry of the feature gives with each of these dependencies.
 fn put_those<'a>(
     alloc: Global,
-    inputs: &KnownProblem<'a>,
+    known: &KnownProblem<'a>,
     causes: &mut Vec<Cause<'a>>,
     own: Own<'a>,
     entry: &'a Entry,
     those: &[Numbered<'a>],
 ) -> Result<(), AllocError>
     ensures { OnOk result (cause_views causes.new.items ≡ cause_views causes.old.items
-        ++ flat_map (λ p. entry_if (problem inputs.now) own.entry.name.now (parts_of own.entry.version.now)
+        ++ flat_map (λ p. entry_if (problem known.now) own.entry.name.now (parts_of own.entry.version.now)
         own.entry.feature.now (entry_view entry.entry.now) p.0 p.1) (numbered_views those.now)) }
 {
     'those: for one in those.iter() {
-        put_on(
-            alloc,
-            inputs,
-            causes,
-            own,
-            entry,
-            one.number,
-            one.dependency,
-        )?;
+        put_on(alloc, known, causes, own, entry, one.number, one.dependency)?;
     }
     Ok(())
 }
 
 fn put_on<'a>(
     alloc: Global,
-    inputs: &KnownProblem<'a>,
+    known: &KnownProblem<'a>,
     causes: &mut Vec<Cause<'a>>,
     own: Own<'a>,
     entry: &'a Entry,
@@ -240,7 +232,7 @@ fn put_on<'a>(
     dependency: &'a Dependency,
 ) -> Result<(), AllocError>
     ensures { OnOk result (cause_views causes.new.items ≡ cause_views causes.old.items
-        ++ entry_if (problem inputs.now) own.entry.name.now (parts_of own.entry.version.now) own.entry.feature.now
+        ++ entry_if (problem known.now) own.entry.name.now (parts_of own.entry.version.now) own.entry.feature.now
         (entry_view entry.entry.now) number (dependency_view dependency.entry.now)) }
 {
     match entry {
@@ -250,9 +242,7 @@ fn put_on<'a>(
             put_asked(causes, own, entry, called, asked, number, dependency)
         }
         Entry::WeakFeature(called, asked) => {
-            put_weak(
-                alloc, inputs, causes, own, called, asked, number, dependency,
-            )
+            put_weak(alloc, known, causes, own, called, asked, number, dependency)
         }
     }
 }
@@ -302,7 +292,7 @@ fn put_asked<'a>(
 /// What an entry `d?/g` gives with a dependency.
 fn put_weak<'a>(
     alloc: Global,
-    inputs: &KnownProblem<'a>,
+    known: &KnownProblem<'a>,
     causes: &mut Vec<Cause<'a>>,
     own: Own<'a>,
     called: &'a PackageName,
@@ -311,13 +301,13 @@ fn put_weak<'a>(
     dependency: &'a Dependency,
 ) -> Result<(), AllocError>
     ensures { OnOk result (cause_views causes.new.items ≡ cause_views causes.old.items
-        ++ entry_if (problem inputs.now) own.entry.name.now (parts_of own.entry.version.now) own.entry.feature.now
+        ++ entry_if (problem known.now) own.entry.name.now (parts_of own.entry.version.now) own.entry.feature.now
         (model.weak_feature called.entry.now asked.entry.now) number (dependency_view dependency.entry.now)) }
 {
     if dependency.name != *called {
         return Ok(());
     }
-    let classes = classes_of(alloc, inputs, dependency)?;
+    let classes = classes_of(alloc, known, dependency)?;
     put_weak_in(causes, own, asked, number, dependency, classes.as_slice())
 }
 
@@ -365,14 +355,8 @@ fn is_itself(own: &Own<'_>, asked: &FeatureName, dependency: &Dependency, class:
         (feat (dependency_view dependency.now).real_name (class_view class) asked.now) }
 {
     *own.name == dependency.real_name
-        && is_same(Class::of(own.version), class)
+        && same_class(&Class::of(own.version), &class)
         && *own.feature == *asked
-}
-
-fn is_same(a: Class, b: Class) -> bool
-    ensures { result ≡ same_class (class_view a) (class_view b) }
-{
-    a == b
 }
 
 /// The causes, each once.
@@ -393,37 +377,37 @@ pub(crate) fn each_once<'a>(
 /// What a version's needs and the entries of its features give.
 pub(crate) fn put_version<'a>(
     alloc: Global,
-    inputs: &KnownProblem<'a>,
+    known: &KnownProblem<'a>,
     causes: &mut Vec<Cause<'a>>,
     name: &'a PackageName,
     version: &'a Version,
 ) -> Result<(), AllocError>
     ensures { OnOk result (cause_views causes.new.items ≡ cause_views causes.old.items
-        ++ version_causes (problem inputs.now) name.entry.now (parts_of version.entry.now)) }
+        ++ version_causes (problem known.now) name.entry.now (parts_of version.entry.now)) }
 {
     let owner = OwnerRef::Version(name, version);
-    put_needs(causes, owner, dependencies_of(inputs, &owner))?;
-    put_features(alloc, inputs, causes, name, version)
+    put_needs(causes, owner, dependencies_of(known, &owner))?;
+    put_features(alloc, known, causes, name, version)
 }
 
 /// What the entries of a version's features give.
 fn put_features<'a>(
     alloc: Global,
-    inputs: &KnownProblem<'a>,
+    known: &KnownProblem<'a>,
     causes: &mut Vec<Cause<'a>>,
     name: &'a PackageName,
     version: &'a Version,
 ) -> Result<(), AllocError>
     ensures { OnOk result (cause_views causes.new.items ≡ cause_views causes.old.items
-        ++ flat_map (λ row. feature_causes (problem inputs.now) name.entry.now (parts_of version.entry.now) row.0)
-        (table_of_owner (problem inputs.now) (model_vertices.version_of name.entry.now (parts_of version.entry.now)))) }
+        ++ flat_map (λ row. feature_causes (problem known.now) name.entry.now (parts_of version.entry.now) row.0)
+        (table_of_owner (problem known.now) (model_vertices.version_of name.entry.now (parts_of version.entry.now)))) }
 {
-    match brings(inputs, &OwnerRef::Version(name, version)) {
+    match brings(known, &OwnerRef::Version(name, version)) {
         Some(summary) => {
             let called = ByName::of(alloc, summary.dependencies.as_slice())?;
             put_rows(
                 alloc,
-                inputs,
+                known,
                 causes,
                 name,
                 version,
@@ -438,16 +422,16 @@ fn put_features<'a>(
 /// What the entries of the features of a table give.
 fn put_rows<'a>(
     alloc: Global,
-    inputs: &KnownProblem<'a>,
+    known: &KnownProblem<'a>,
     causes: &mut Vec<Cause<'a>>,
     name: &'a PackageName,
     version: &'a Version,
     called: &ByName<'a>,
     table: &'a FeatureTable,
 ) -> Result<(), AllocError>
-    requires called { AreOfVersion (problem inputs.now) name.now (parts_of version.now) called.now }
+    requires called { AreOfVersion (problem known.now) name.now (parts_of version.now) called.now }
     ensures { OnOk result (cause_views causes.new.items ≡ cause_views causes.old.items ++ flat_map (λ row.
-        feature_causes (problem inputs.now) name.entry.now (parts_of version.entry.now) row.0) table.entry.now) }
+        feature_causes (problem known.now) name.entry.now (parts_of version.entry.now) row.0) table.entry.now) }
 {
     'rows: for (feature, _) in table.iter() {
         let own = Own {
@@ -457,11 +441,11 @@ fn put_rows<'a>(
         };
         put_feature(
             alloc,
-            inputs,
+            known,
             causes,
             own,
             called,
-            entries_of(inputs, name, version, feature),
+            entries_of(known, name, version, feature),
         )?;
     }
     Ok(())

@@ -3,7 +3,6 @@
 ghost use Rattle.std.specs.Prelude.{◌≡◌, IfSome};
 ghost use Rattle.std.specs.Option.{ForSome};
 ghost use Rattle.model.specs.Vertices.{owner_brings};
-ghost use Rattle.features.specs.Views.{dependency_views};
 ghost use Rattle.looking_up.specs.Views.{problem_view};
 ghost use Rattle.vertices.specs.RefViews.{owner_ref_view};
 ghost use Rattle.encoding.specs.Called.{numbered_from, numbered_views};

@@ -2,7 +2,7 @@
 
 ghost use Rattle.std.specs.Prelude.{◌≡◌, ◌++◌, ◌∷◌, [], true, Contains, List, IfOk, OnOk};
 ghost use Rattle.std.specs.List.{AllByRecursion};
-ghost use Rattle.terms.specs.Terms.{term_view, terms_view};
+ghost use Rattle.terms.specs.Terms.{terms_view};
 ghost use Rattle.refutations.specs.Causes.{is_cause, terms_of_cause};
 ghost use Rattle.named_terms.specs.CauseViews.{cause_view};
 ghost use Rattle.encoding.specs.KnownProblem.{problem};
@@ -25,43 +25,43 @@ use version_sets::States;
 /// The instance that a cause gives rise to; its vertices get numbers where they have none.
 pub fn instance<'a, S: States + Drop>(
     alloc: Global,
-    inputs: &KnownProblem<'a>,
+    known: &KnownProblem<'a>,
     table: &mut Table<'a>,
     cause: &Cause<'a>,
 ) -> Result<Incompatibility<S>, AllocError>
-    requires numbering { IsNumbering (problem inputs.now) table.old }
-    requires there { is_cause (problem inputs.now) (cause_view cause.now) ≡ true }
+    requires numbering { IsNumbering (problem known.now) table.old }
+    requires there { is_cause (problem known.now) (cause_view cause.now) ≡ true }
     ensures grown { IsGrown table.old table.new }
-    ensures numbering { IsNumbering (problem inputs.now) table.new }
-    ensures only { AddsOnly (Contains (spoken_by (problem inputs.now) (cause_view cause.now))) table.old table.new }
-    ensures says { IfOk result (λ i. Says (problem inputs.now) table.new (terms_view S.tests i)
-        (terms_of_cause (problem inputs.now) (cause_view cause.now))) }
+    ensures numbering { IsNumbering (problem known.now) table.new }
+    ensures only { AddsOnly (Contains (spoken_by (problem known.now) (cause_view cause.now))) table.old table.new }
+    ensures says { IfOk result (λ i. Says (problem known.now) table.new (terms_view S.tests i)
+        (terms_of_cause (problem known.now) (cause_view cause.now))) }
 {
-    catalogues_are_well_formed(inputs.manifest, inputs.catalogue);
-    let _ = inputs.catalogue.names();
-    let tested_terms = terms_tested(alloc, inputs, cause)?;
-    let terms = put_all_tested(alloc, inputs, table, tested_terms.as_slice())?;
+    catalogues_are_well_formed(known.manifest, known.catalogue);
+    let _ = known.catalogue.names();
+    let tested_terms = terms_tested(alloc, known, cause)?;
+    let terms = put_all_tested(alloc, known, table, tested_terms.as_slice())?;
     Ok(made_of(terms))
 }
 
 /// Gives the vertices numbers, and makes a term of each.
 fn put_all_tested<'a, S: States + Drop>(
     alloc: Global,
-    inputs: &KnownProblem<'a>,
+    known: &KnownProblem<'a>,
     table: &mut Table<'a>,
     tested_terms: &[TestedTerm<'a>],
 ) -> Result<Vec<Term<S>>, AllocError>
-    requires numbering { IsNumbering (problem inputs.now) table.old }
-    requires fit { AllByRecursion (IsFitting (problem inputs.now)) (tested_views tested_terms.now) }
+    requires numbering { IsNumbering (problem known.now) table.old }
+    requires fit { AllByRecursion (IsFitting (problem known.now)) (tested_views tested_terms.now) }
     ensures grown { IsGrown table.old table.new }
-    ensures numbering { IsNumbering (problem inputs.now) table.new }
+    ensures numbering { IsNumbering (problem known.now) table.new }
     ensures only { AddsOnly (Contains (vertices_of (tested_views tested_terms.now))) table.old table.new }
     ensures terms { IfOk result
         (λ ts. AreOfTested table.new (terms_view S.tests ts.items) (tested_views tested_terms.now)) }
 {
     let mut terms = Vec::new(alloc);
     'tested_terms: for tested_term in tested_terms.iter() {
-        put_tested(alloc, inputs, table, &mut terms, tested_term)?;
+        put_tested(alloc, known, table, &mut terms, tested_term)?;
     }
     Ok(terms)
 }
@@ -69,15 +69,15 @@ fn put_all_tested<'a, S: States + Drop>(
 /// Gives a vertex its number, and makes a term of its tests.
 fn put_tested<'a, S: States + Drop>(
     alloc: Global,
-    inputs: &KnownProblem<'a>,
+    known: &KnownProblem<'a>,
     table: &mut Table<'a>,
     terms: &mut Vec<Term<S>>,
     tested_term: &TestedTerm<'a>,
 ) -> Result<(), AllocError>
-    requires numbering { IsNumbering (problem inputs.now) table.old }
-    requires fit { IsFitting (problem inputs.now) (tested_view tested_term.now) }
+    requires numbering { IsNumbering (problem known.now) table.old }
+    requires fit { IsFitting (problem known.now) (tested_view tested_term.now) }
     ensures grown { IsGrown table.old table.new }
-    ensures numbering { IsNumbering (problem inputs.now) table.new }
+    ensures numbering { IsNumbering (problem known.now) table.new }
     ensures only { AddsOnly (λ v. (tested_view tested_term.now).0 ≡ v) table.old table.new }
     ensures terms { OnOk result ((ps : List TestedView) → AreOfTested table.old (terms_view S.tests terms.old.items) ps
         → AreOfTested table.new (terms_view S.tests terms.new.items) (ps ++ tested_view tested_term.now ∷ [])) }

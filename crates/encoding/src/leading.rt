@@ -21,7 +21,7 @@ use crate::by_class::ByClass;
 use crate::called::Numbered;
 use crate::known_problem::KnownProblem;
 use crate::lookups::{dependencies_of, dependency_at};
-use crate::spaces::classes_of;
+use crate::possible_classes::classes_of;
 use classes::Class;
 use features::{Dependency, FeatureName, PackageName};
 use named_terms::Cause;
@@ -39,17 +39,17 @@ pub(crate) struct Lead<'a> {
 /// What a dependency gives that leads to a class: nothing where it isn't there.
 pub(crate) fn put_lead<'a>(
     alloc: Global,
-    inputs: &KnownProblem<'a>,
+    known: &KnownProblem<'a>,
     causes: &mut Vec<Cause<'a>>,
     lead: Lead<'a>,
 ) -> Result<(), AllocError>
-    requires default { KnowsDefault inputs.now }
+    requires default { KnowsDefault known.now }
     ensures { OnOk result (cause_views causes.new.items ≡ cause_views causes.old.items ++ lead_causes
-        (problem inputs.now) (owner_ref_view lead.entry.owner) lead.entry.number (class_view lead.entry.class)
-        (dependency_at (problem inputs.now) (owner_ref_view lead.entry.owner) lead.entry.number)) }
+        (problem known.now) (owner_ref_view lead.entry.owner) lead.entry.number (class_view lead.entry.class)
+        (dependency_at (problem known.now) (owner_ref_view lead.entry.owner) lead.entry.number)) }
 {
-    match dependency_at(inputs, &lead.owner, lead.number) {
-        Some(dependency) => put_leading(alloc, inputs, causes, lead, dependency),
+    match dependency_at(known, &lead.owner, lead.number) {
+        Some(dependency) => put_leading(alloc, known, causes, lead, dependency),
         None => Ok(()),
     }
 }
@@ -58,68 +58,68 @@ pub(crate) fn put_lead<'a>(
 /// higher class.
 fn put_leading<'a>(
     alloc: Global,
-    inputs: &KnownProblem<'a>,
+    known: &KnownProblem<'a>,
     causes: &mut Vec<Cause<'a>>,
     lead: Lead<'a>,
     dependency: &'a Dependency,
 ) -> Result<(), AllocError>
-    requires default { KnowsDefault inputs.now }
+    requires default { KnowsDefault known.now }
     ensures { OnOk result (cause_views causes.new.items ≡ cause_views causes.old.items
-        ++ lead_causes (problem inputs.now) (owner_ref_view lead.entry.owner) lead.entry.number
+        ++ lead_causes (problem known.now) (owner_ref_view lead.entry.owner) lead.entry.number
         (class_view lead.entry.class) (Some (dependency_view dependency.entry.now))) }
 {
     causes.push(Cause::Target(lead.owner, lead.number, lead.class))?;
-    put_lists(alloc, inputs, causes, lead, dependency)?;
-    put_newest(alloc, inputs, causes, lead, dependency)
+    put_lists(alloc, known, causes, lead, dependency)?;
+    put_newest(alloc, known, causes, lead, dependency)
 }
 
 /// The features that it asks for.
 fn put_lists<'a>(
     alloc: Global,
-    inputs: &KnownProblem<'a>,
+    known: &KnownProblem<'a>,
     causes: &mut Vec<Cause<'a>>,
     lead: Lead<'a>,
     dependency: &'a Dependency,
 ) -> Result<(), AllocError>
-    requires default { KnowsDefault inputs.now }
+    requires default { KnowsDefault known.now }
     ensures { OnOk result (cause_views causes.new.items ≡ cause_views causes.old.items
         ++ map (of_list (owner_ref_view lead.entry.owner) lead.entry.number (class_view lead.entry.class))
-        (asked_of_target (dependency_view dependency.entry.now) ++ root_asked (problem inputs.now)
+        (asked_of_target (dependency_view dependency.entry.now) ++ root_asked (problem known.now)
         (owner_ref_view lead.entry.owner) (dependency_view dependency.entry.now))) }
 {
-    put_own_list(inputs, causes, lead, dependency)?;
-    put_root_lists(alloc, inputs, causes, lead, dependency)
+    put_own_list(known, causes, lead, dependency)?;
+    put_root_lists(alloc, known, causes, lead, dependency)
 }
 
 /// Those of its own list, and `default`.
 fn put_own_list<'a>(
-    inputs: &KnownProblem<'a>,
+    known: &KnownProblem<'a>,
     causes: &mut Vec<Cause<'a>>,
     lead: Lead<'a>,
     dependency: &'a Dependency,
 ) -> Result<(), AllocError>
-    requires default { KnowsDefault inputs.now }
+    requires default { KnowsDefault known.now }
     ensures { OnOk result (cause_views causes.new.items ≡ cause_views causes.old.items
         ++ map (of_list (owner_ref_view lead.entry.owner) lead.entry.number (class_view lead.entry.class))
         (asked_of_target (dependency_view dependency.entry.now))) }
 {
     put_listed(causes, lead, dependency.features.as_slice())?;
-    put_default(inputs, causes, lead, dependency)
+    put_default(known, causes, lead, dependency)
 }
 
 fn put_default<'a>(
-    inputs: &KnownProblem<'a>,
+    known: &KnownProblem<'a>,
     causes: &mut Vec<Cause<'a>>,
     lead: Lead<'a>,
     dependency: &Dependency,
 ) -> Result<(), AllocError>
-    requires default { KnowsDefault inputs.now }
+    requires default { KnowsDefault known.now }
     ensures { OnOk result (cause_views causes.new.items ≡ cause_views causes.old.items
         ++ (if (dependency_view dependency.now).default_features then of_list (owner_ref_view lead.entry.owner)
         lead.entry.number (class_view lead.entry.class) (codes "default") ∷ [] else [])) }
 {
     if dependency.default_features {
-        causes.push(Cause::List(lead.owner, lead.number, lead.class, inputs.default))?;
+        causes.push(Cause::List(lead.owner, lead.number, lead.class, known.default))?;
     }
     Ok(())
 }
@@ -141,17 +141,17 @@ fn put_listed<'a>(
 /// Those that entries of the root's features ask it for.
 fn put_root_lists<'a>(
     alloc: Global,
-    inputs: &KnownProblem<'a>,
+    known: &KnownProblem<'a>,
     causes: &mut Vec<Cause<'a>>,
     lead: Lead<'a>,
     dependency: &'a Dependency,
 ) -> Result<(), AllocError>
     ensures { OnOk result (cause_views causes.new.items ≡ cause_views causes.old.items
         ++ map (of_list (owner_ref_view lead.entry.owner) lead.entry.number (class_view lead.entry.class))
-        (root_asked (problem inputs.now) (owner_ref_view lead.entry.owner) (dependency_view dependency.entry.now))) }
+        (root_asked (problem known.now) (owner_ref_view lead.entry.owner) (dependency_view dependency.entry.now))) }
 {
     match lead.owner {
-        OwnerRef::Root => put_root_asked(alloc, inputs, causes, lead, dependency.name.as_str()),
+        OwnerRef::Root => put_root_asked(alloc, known, causes, lead, dependency.name.as_str()),
         OwnerRef::Version(_, _) => Ok(()),
     }
 }
@@ -159,19 +159,19 @@ fn put_root_lists<'a>(
 /// Those that the dependencies called so are asked for: no entry is looked at for each of them.
 fn put_root_asked<'a>(
     alloc: Global,
-    inputs: &KnownProblem<'a>,
+    known: &KnownProblem<'a>,
     causes: &mut Vec<Cause<'a>>,
     lead: Lead<'a>,
     name: &'a str,
 ) -> Result<(), AllocError>
     ensures { OnOk result (cause_views causes.new.items ≡ cause_views causes.old.items
         ++ map (of_list (owner_ref_view lead.entry.owner) lead.entry.number (class_view lead.entry.class))
-        (asked_so name.entry.now (problem inputs.now).root_asks)) }
+        (asked_so name.entry.now (problem known.now).root_asks)) }
 {
-    match inputs.matched.asked() {
+    match known.matched.asked() {
         Some(asked) => put_asked(causes, lead, name, asked),
         None => {
-            let asked = Asked::of(alloc, inputs.manifest.features())?;
+            let asked = Asked::of(alloc, known.manifest.features())?;
             put_asked(causes, lead, name, &asked)
         }
     }
@@ -212,42 +212,42 @@ fn put_each_asked<'a>(
 /// of its owner those are looked at that may lead to one of its classes.
 fn put_newest<'a>(
     alloc: Global,
-    inputs: &KnownProblem<'a>,
+    known: &KnownProblem<'a>,
     causes: &mut Vec<Cause<'a>>,
     lead: Lead<'a>,
     dependency: &'a Dependency,
 ) -> Result<(), AllocError>
     ensures { OnOk result (cause_views causes.new.items ≡ cause_views causes.old.items
-        ++ flat_map (newest_above (problem inputs.now) (owner_ref_view lead.entry.owner) lead.entry.number
+        ++ flat_map (newest_above (problem known.now) (owner_ref_view lead.entry.owner) lead.entry.number
         (class_view lead.entry.class) (dependency_view dependency.entry.now))
-        (dep_classes (problem inputs.now) (dependency_view dependency.entry.now))) }
+        (dep_classes (problem known.now) (dependency_view dependency.entry.now))) }
 {
-    match inputs.matched.by_class(&lead.owner, &dependency.real_name) {
-        Some(those) => put_newest_of(alloc, inputs, causes, lead, dependency, those),
-        None => put_newest_anew(alloc, inputs, causes, lead, dependency),
+    match known.matched.by_class(&lead.owner, &dependency.real_name) {
+        Some(those) => put_newest_of(alloc, known, causes, lead, dependency, those),
+        None => put_newest_anew(alloc, known, causes, lead, dependency),
     }
 }
 
 /// Where the dependencies on its package aren't kept by their classes.
 fn put_newest_anew<'a>(
     alloc: Global,
-    inputs: &KnownProblem<'a>,
+    known: &KnownProblem<'a>,
     causes: &mut Vec<Cause<'a>>,
     lead: Lead<'a>,
     dependency: &'a Dependency,
 ) -> Result<(), AllocError>
     ensures { OnOk result (cause_views causes.new.items ≡ cause_views causes.old.items
-        ++ flat_map (newest_above (problem inputs.now) (owner_ref_view lead.entry.owner) lead.entry.number
+        ++ flat_map (newest_above (problem known.now) (owner_ref_view lead.entry.owner) lead.entry.number
         (class_view lead.entry.class) (dependency_view dependency.entry.now))
-        (dep_classes (problem inputs.now) (dependency_view dependency.entry.now))) }
+        (dep_classes (problem known.now) (dependency_view dependency.entry.now))) }
 {
     let name = dependency.real_name.as_str();
-    match inputs.matched.on_package(&lead.owner, name) {
-        Some(those) => put_newest_among(alloc, inputs, causes, lead, dependency, those),
+    match known.matched.on_package(&lead.owner, name) {
+        Some(those) => put_newest_among(alloc, known, causes, lead, dependency, those),
         None => {
-            let all = dependencies_of(inputs, &lead.owner);
+            let all = dependencies_of(known, &lead.owner);
             let others = others_on(alloc, lead.number, &dependency.real_name, all)?;
-            put_newest_among(alloc, inputs, causes, lead, dependency, others.as_slice())
+            put_newest_among(alloc, known, causes, lead, dependency, others.as_slice())
         }
     }
 }
@@ -255,22 +255,22 @@ fn put_newest_anew<'a>(
 /// Those of these dependencies: none where no other one is among them.
 fn put_newest_among<'a>(
     alloc: Global,
-    inputs: &KnownProblem<'a>,
+    known: &KnownProblem<'a>,
     causes: &mut Vec<Cause<'a>>,
     lead: Lead<'a>,
     dependency: &'a Dependency,
     others: &[Numbered<'a>],
 ) -> Result<(), AllocError>
     ensures { OnOk result (cause_views causes.new.items ≡ cause_views causes.old.items
-        ++ flat_map (newest_among (problem inputs.now) (owner_ref_view lead.entry.owner) lead.entry.number
+        ++ flat_map (newest_among (problem known.now) (owner_ref_view lead.entry.owner) lead.entry.number
         (class_view lead.entry.class) (numbered_views others.now))
-        (dep_classes (problem inputs.now) (dependency_view dependency.entry.now))) }
+        (dep_classes (problem known.now) (dependency_view dependency.entry.now))) }
 {
     if is_alone(lead.number, others) {
         return Ok(());
     }
-    let those = ByClass::of(alloc, &inputs.matched, others)?;
-    put_newest_of(alloc, inputs, causes, lead, dependency, &those)
+    let those = ByClass::of(alloc, &known.matched, others)?;
+    put_newest_of(alloc, known, causes, lead, dependency, &those)
 }
 
 /// Whether no other dependency is among these than the one with this number.
@@ -326,7 +326,7 @@ fn is_other(number: usize, name: &PackageName, place: usize, other: &Dependency)
 /// Those of the dependencies that may lead to a class of this one.
 fn put_newest_of<'a>(
     alloc: Global,
-    inputs: &KnownProblem<'a>,
+    known: &KnownProblem<'a>,
     causes: &mut Vec<Cause<'a>>,
     lead: Lead<'a>,
     dependency: &'a Dependency,
@@ -335,9 +335,9 @@ fn put_newest_of<'a>(
     ensures { OnOk result (cause_views causes.new.items ≡ cause_views causes.old.items
         ++ flat_map (newest_among (those.now).0 (owner_ref_view lead.entry.owner) lead.entry.number
         (class_view lead.entry.class) (those.now).1)
-        (dep_classes (problem inputs.now) (dependency_view dependency.entry.now))) }
+        (dep_classes (problem known.now) (dependency_view dependency.entry.now))) }
 {
-    let classes = classes_of(alloc, inputs, dependency)?;
+    let classes = classes_of(alloc, known, dependency)?;
     put_classes(causes, lead, those, classes.as_slice())
 }
 

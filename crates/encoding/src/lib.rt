@@ -19,7 +19,6 @@
 //! breaks none either. No number changes, also where memory is wanting.
 #![tactic(auto)]
 
-mod adding;
 mod asked;
 mod by_class;
 mod called;
@@ -28,14 +27,15 @@ mod indexed;
 mod instances;
 mod known_problem;
 mod leading;
-mod listing;
 mod lists;
 mod lookups;
 mod making;
 mod matched;
 mod narrowing;
 mod on_package;
-mod pairing;
+mod pair_axioms;
+mod pair_causes;
+mod possible_classes;
 mod space_tests;
 mod spaces;
 mod states;
@@ -65,16 +65,16 @@ ghost use Rattle.encoding.specs.Numberings.{IsNumbering, Numbering, Says};
 ghost use Rattle.encoding.specs.Absences.{OneZero};
 ghost use Rattle.encoding.specs.Assignments.{IsOf, IsSettled, state_of};
 
-pub use adding::{axioms_at, axioms_of};
 pub use called::{ByName, Numbered};
 pub use instances::instance;
 pub use known_problem::KnownProblem;
-pub use listing::states_of;
 pub use lookups::dependency_at;
 pub use matched::Matched;
-pub use pairing::causes_at;
-pub use spaces::classes_of;
-pub use states::{space_at, space_of, spaces_are_small, state_at};
+pub use pair_axioms::{axioms_at, axioms_of};
+pub use pair_causes::causes_at;
+pub use possible_classes::classes_of;
+pub use spaces::{space_at, space_of, spaces_are_small};
+pub use states::{state_at, states_of};
 pub use table::Table;
 
 /// An assignment over numbers that breaks no entry of a store, where each pair that holds in it has been added, breaks

@@ -1,4 +1,4 @@
-//! What owners bring, looked up for the inputs.
+//! What owners bring, looked up in a known problem.
 
 ghost use Rattle.std.specs.Prelude.{◌≡◌, option_map};
 ghost use Rattle.semver.specs.Identifiers.{parts_of};
@@ -15,47 +15,47 @@ use semver::Version;
 use vertices::OwnerRef;
 
 /// What an owner brings: nothing where it is neither the root nor a candidate.
-pub(crate) fn brings<'a>(inputs: &KnownProblem<'a>, owner: &OwnerRef<'_>) -> Option<&'a Summary>
-    ensures { brings_view result ≡ owner_brings (problem inputs.now) (owner_ref_view owner.now) }
+pub(crate) fn brings<'a>(known: &KnownProblem<'a>, owner: &OwnerRef<'_>) -> Option<&'a Summary>
+    ensures { brings_view result ≡ owner_brings (problem known.now) (owner_ref_view owner.now) }
 {
-    let held = inputs.held();
+    let held = known.held();
     looking_up::brings(&held, owner)
 }
 
 /// The dependencies of an owner.
 pub(crate) fn dependencies_of<'a>(
-    inputs: &KnownProblem<'a>,
+    known: &KnownProblem<'a>,
     owner: &OwnerRef<'_>,
 ) -> &'a [Dependency]
     ensures { dependency_views result.now
-        ≡ (owner_brings (problem inputs.now) (owner_ref_view owner.now)).dependencies }
+        ≡ (owner_brings (problem known.now) (owner_ref_view owner.now)).dependencies }
 {
-    let held = inputs.held();
+    let held = known.held();
     looking_up::dependencies_of(&held, owner)
 }
 
 /// The dependency of an owner that has this number.
 pub fn dependency_at<'a>(
-    inputs: &KnownProblem<'a>,
+    known: &KnownProblem<'a>,
     owner: &OwnerRef<'_>,
     number: usize,
 ) -> Option<&'a Dependency>
     ensures { option_map (λ d. dependency_view d.now) result
-        ≡ dependency_at (problem inputs.now) (owner_ref_view owner.now) number }
+        ≡ dependency_at (problem known.now) (owner_ref_view owner.now) number }
 {
-    let held = inputs.held();
+    let held = known.held();
     looking_up::dependency_at(&held, owner, number)
 }
 
 /// The entries of a feature of a version.
 pub(crate) fn entries_of<'a>(
-    inputs: &KnownProblem<'a>,
+    known: &KnownProblem<'a>,
     name: &PackageName,
     version: &Version,
     feature: &FeatureName,
 ) -> &'a [Entry]
-    ensures { entry_views result.now ≡ entries_of (problem inputs.now) name.now (parts_of version.now) feature.now }
+    ensures { entry_views result.now ≡ entries_of (problem known.now) name.now (parts_of version.now) feature.now }
 {
-    let held = inputs.held();
+    let held = known.held();
     looking_up::entries_of(&held, name, version, feature)
 }

@@ -31,14 +31,14 @@ fn is_class(class: Class, other: Class) -> bool
 }
 
 fn is_lacking(
-    inputs: &KnownProblem<'_>,
+    known: &KnownProblem<'_>,
     name: &PackageName,
     feature: &FeatureName,
     version: &Version,
 ) -> bool
-    ensures { result ≡ is_lacking (problem inputs.now) name.now feature.now (parts_of version.now) }
+    ensures { result ≡ is_lacking (problem known.now) name.now feature.now (parts_of version.now) }
 {
-    looking_up::is_lacking(&inputs.held(), name, feature, version)
+    looking_up::is_lacking(&known.held(), name, feature, version)
 }
 
 /// Absent, and the versions that aren't matched.
@@ -95,18 +95,18 @@ pub(crate) fn chosen_tests(
 /// Absent, and the versions that lack the feature.
 pub(crate) fn lacking_tests(
     alloc: Global,
-    inputs: &KnownProblem<'_>,
+    known: &KnownProblem<'_>,
     name: &PackageName,
     feature: &FeatureName,
     versions: &[Version],
 ) -> Result<Vec<bool>, AllocError>
     ensures { IfOk result (λ v. v.items
-        ≡ true ∷ map (λ w. is_lacking (problem inputs.now) name.now feature.now (parts_of w)) versions.now) }
+        ≡ true ∷ map (λ w. is_lacking (problem known.now) name.now feature.now (parts_of w)) versions.now) }
 {
     let mut tests = Vec::new(alloc);
     tests.push(true)?;
     'versions: for version in versions.iter() {
-        tests.push(is_lacking(inputs, name, feature, version))?;
+        tests.push(is_lacking(known, name, feature, version))?;
     }
     Ok(tests)
 }

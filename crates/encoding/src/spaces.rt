@@ -1,44 +1,94 @@
-//! The classes that dependencies may lead to.
+//! How many states vertices have.
 
-ghost use Rattle.std.specs.Prelude.{◌≡◌, map, IfOk};
+ghost use Rattle.std.specs.Prelude.{◌≡◌, ◌≤◌, IfOk, Some, length, slice_get};
 ghost use Rattle.classes.specs.Classes.{class_view};
-ghost use Rattle.features.specs.Views.{dependency_view};
-ghost use Rattle.model.specs.Vertices.{dep_classes};
-ghost use Rattle.refutations.specs.Listed.{classes_at};
+ghost use Rattle.model.specs.Vertices.{Vertex, dep, pkg, space};
 ghost use Rattle.encoding.specs.KnownProblem.{problem};
-ghost use Rattle.vertices.specs.RefViews.{owner_ref_view};
+ghost use Rattle.vertices.specs.RefViews.{owner_ref_view, vertex_ref_view};
 
 use crate::known_problem::KnownProblem;
-use crate::lookups::dependency_at;
+use crate::possible_classes::classes_at;
+use crate::table::Table;
 use classes::Class;
-use features::Dependency;
+use features::PackageName;
+use looking_up::class_versions;
 use std::alloc::{AllocError, Global};
-use vertices::OwnerRef;
+use vertices::{OwnerRef, VertexRef};
 
-/// The classes that a dependency of an owner may lead to, lowest first: none where there is no such dependency.
-pub(crate) fn classes_at(
-    alloc: Global,
-    inputs: &KnownProblem<'_>,
-    owner: &OwnerRef<'_>,
-    number: usize,
-) -> Result<Vec<Class>, AllocError>
-    ensures { IfOk result
-        (λ ks. map class_view ks.items ≡ classes_at (problem inputs.now) (owner_ref_view owner.now) number) }
+/// A vertex has at least one state, and no more than a set may have.
+pub fn spaces_are_small(known: &KnownProblem<'_>)
+    ensures { (v : Vertex)
+        → (1 ≤ length (space (problem known.now) v)) × (length (space (problem known.now) v) ≤ 65536) }
 {
-    match dependency_at(inputs, owner, number) {
-        Some(dependency) => classes_of(alloc, inputs, dependency),
-        None => Ok(Vec::new(alloc)),
+    let _ = known.catalogue.names();
+}
+
+/// How many states the vertex has, absent among them.
+pub fn space_of(
+    alloc: Global,
+    known: &KnownProblem<'_>,
+    vertex: &VertexRef<'_>,
+) -> Result<usize, AllocError>
+    ensures length { IfOk result (λ n. n ≡ length (space (problem known.now) (vertex_ref_view vertex.now))) }
+    ensures small { IfOk result (λ n. (1 ≤ n) × (n ≤ 65536)) }
+{
+    spaces_are_small(known);
+    states_counted(alloc, known, vertex)
+}
+
+/// How many states the vertex with a number has, absent among them; 0 where no vertex has it.
+pub fn space_at(
+    alloc: Global,
+    known: &KnownProblem<'_>,
+    table: &Table<'_>,
+    number: usize,
+) -> Result<u32, AllocError>
+    ensures small { IfOk result (λ n. n ≤ 65536) }
+    ensures space { IfOk result
+        (λ n. (v : Vertex) → slice_get table.now number ≡ Some v → n ≡ length (space (problem known.now) v)) }
+{
+    match table.vertex(number) {
+        Some(vertex) => Ok(space_of(alloc, known, &vertex)? as u32),
+        None => Ok(0),
     }
 }
 
-/// The classes in which some candidate is matched, lowest first: those that are kept, else it is matched for them.
-pub fn classes_of<'a>(
+fn states_counted(
     alloc: Global,
-    inputs: &KnownProblem<'a>,
-    dependency: &'a Dependency,
-) -> Result<Vec<Class>, AllocError>
-    ensures { IfOk result
-        (λ ks. map class_view ks.items ≡ dep_classes (problem inputs.now) (dependency_view dependency.now)) }
+    known: &KnownProblem<'_>,
+    vertex: &VertexRef<'_>,
+) -> Result<usize, AllocError>
+    ensures { IfOk result (λ n. n ≡ length (space (problem known.now) (vertex_ref_view vertex.now))) }
 {
-    inputs.matched.classes_of(alloc, dependency)
+    match vertex {
+        VertexRef::Root => Ok(2),
+        VertexRef::Package(name, class) => Ok(versions_counted(known, name, *class)),
+        VertexRef::Dependency(owner, dependency) => {
+            classes_counted(alloc, known, owner, *dependency)
+        }
+        VertexRef::Feature(_, _, _) => Ok(2),
+        VertexRef::Ask(_, _, _, _) => Ok(2),
+    }
+}
+
+/// Absent, and the versions of the class.
+fn versions_counted(known: &KnownProblem<'_>, name: &PackageName, class: Class) -> usize
+    ensures { result ≡ length (space (problem known.now) (pkg name.now (class_view class))) }
+{
+    spaces_are_small(known);
+    class_versions(known.catalogue, name, class).len() + 1
+}
+
+/// Absent, and the classes that the dependency may lead to.
+fn classes_counted(
+    alloc: Global,
+    known: &KnownProblem<'_>,
+    owner: &OwnerRef<'_>,
+    dependency: usize,
+) -> Result<usize, AllocError>
+    ensures { IfOk result (λ n. n ≡ length (space (problem known.now) (dep (owner_ref_view owner.now) dependency))) }
+{
+    spaces_are_small(known);
+    let classes = classes_at(alloc, known, owner, dependency)?;
+    Ok(classes.len() + 1)
 }

@@ -1,6 +1,6 @@
 //! Vertices with numbers, in the order in which they were first spoken of.
 
-ghost use Rattle.std.specs.Prelude.{◌≡◌, [], Some, IfOk, IfSome, OnOk, OnErr, option_map, slice_get, length};
+ghost use Rattle.std.specs.Prelude.{◌≡◌, [], Some, IfOk, OnOk, OnErr, option_map, slice_get, length};
 ghost use Rattle.encoding.specs.Numberings.{number_in, with_vertex};
 ghost use Rattle.vertices.specs.RefViews.{vertex_ref_view};
 

@@ -1,11 +1,10 @@
 //! The terms of the instance that a cause gives rise to, each as a vertex and tests of its space.
 
-ghost use Rattle.std.specs.Prelude.{◌≡◌, ◌∷◌, [], true, false, not, map, IfOk};
+ghost use Rattle.std.specs.Prelude.{◌≡◌, ◌∷◌, [], true, false, not, IfOk};
 ghost use Rattle.semver.specs.Identifiers.{parts_of};
 ghost use Rattle.classes.specs.Classes.{class_view};
-ghost use Rattle.features.specs.Views.{dependency_view, requirement_view};
+ghost use Rattle.features.specs.Views.{dependency_view};
 ghost use Rattle.model.specs.Axioms.{absent_or, at, matched, owner_holds, versions_that};
-ghost use Rattle.model.specs.Content.{Problem};
 ghost use Rattle.model.specs.Selection.{class_of};
 ghost use Rattle.model.specs.Summary.{has_feature};
 ghost use Rattle.model.specs.Vertices as model;
@@ -18,10 +17,10 @@ ghost use Rattle.vertices.specs.RefViews.{owner_ref_view, vertex_ref_view};
 
 use crate::known_problem::KnownProblem;
 use crate::lookups::dependency_at;
+use crate::possible_classes::classes_at;
 use crate::space_tests::{
     chosen_tests, class_tests, lacking_tests, left_tests, no_class, taken_tests,
 };
-use crate::spaces::classes_at;
 use catalogue::catalogues_are_well_formed;
 use classes::Class;
 use features::{Dependency, FeatureName, PackageName};
@@ -41,35 +40,35 @@ pub(crate) struct TestedTerm<'a> {
 /// The terms of the instance.
 pub(crate) fn terms_tested<'a>(
     alloc: Global,
-    inputs: &KnownProblem<'a>,
+    known: &KnownProblem<'a>,
     cause: &Cause<'a>,
 ) -> Result<Vec<TestedTerm<'a>>, AllocError>
     ensures { IfOk result (λ v. tested_views v.items
-        ≡ all_tested (problem inputs.now) (terms_of_cause (problem inputs.now) (cause_view cause.now))) }
+        ≡ all_tested (problem known.now) (terms_of_cause (problem known.now) (cause_view cause.now))) }
 {
     match *cause {
         Cause::Root => Ok(vec![in alloc; two_states(alloc, VertexRef::Root, false)?]?),
-        Cause::Need(owner, number) => need_terms(alloc, inputs, owner, number),
-        Cause::Target(owner, number, class) => target_terms(alloc, inputs, owner, number, class),
-        Cause::Feature(name, class, feature) => feature_terms(alloc, inputs, name, class, feature),
+        Cause::Need(owner, number) => need_terms(alloc, known, owner, number),
+        Cause::Target(owner, number, class) => target_terms(alloc, known, owner, number, class),
+        Cause::Feature(name, class, feature) => feature_terms(alloc, known, name, class, feature),
         Cause::List(owner, number, class, feature) => {
-            list_terms(alloc, inputs, owner, number, class, feature)
+            list_terms(alloc, known, owner, number, class, feature)
         }
         Cause::Ask(name, version, number, feature, class) => {
-            ask_terms(alloc, inputs, name, version, number, feature, class)
+            ask_terms(alloc, known, name, version, number, feature, class)
         }
-        Cause::Entry(name, version, on, off) => entry_terms(alloc, inputs, name, version, on, off),
+        Cause::Entry(name, version, on, off) => entry_terms(alloc, known, name, version, on, off),
         Cause::Enabling(name, version, on, _, number) => {
-            enabling_terms(alloc, inputs, name, version, on, number)
+            enabling_terms(alloc, known, name, version, on, number)
         }
         Cause::Asking(name, version, on, asked, number) => {
-            asking_terms(alloc, inputs, name, version, on, asked, number)
+            asking_terms(alloc, known, name, version, on, asked, number)
         }
         Cause::Newest(owner, number, other, class, higher) => {
-            newest_terms(alloc, inputs, owner, number, other, class, higher)
+            newest_terms(alloc, known, owner, number, other, class, higher)
         }
         Cause::Weak(name, version, on, off, number, class) => {
-            weak_terms(alloc, inputs, name, version, on, off, number, class)
+            weak_terms(alloc, known, name, version, on, off, number, class)
         }
     }
 }
@@ -91,30 +90,30 @@ fn two_states(
 /// The owner counts.
 fn holds<'a>(
     alloc: Global,
-    inputs: &KnownProblem<'a>,
+    known: &KnownProblem<'a>,
     owner: OwnerRef<'a>,
 ) -> Result<TestedTerm<'a>, AllocError>
     ensures { IfOk result
-        (λ p. tested_view p ≡ tested (problem inputs.now) (owner_holds (owner_ref_view owner.entry))) }
+        (λ p. tested_view p ≡ tested (problem known.now) (owner_holds (owner_ref_view owner.entry))) }
 {
     match owner {
         OwnerRef::Root => two_states(alloc, VertexRef::Root, true),
-        OwnerRef::Version(name, version) => chosen(alloc, inputs, name, version),
+        OwnerRef::Version(name, version) => chosen(alloc, known, name, version),
     }
 }
 
 /// The version is chosen.
 fn chosen<'a>(
     alloc: Global,
-    inputs: &KnownProblem<'a>,
+    known: &KnownProblem<'a>,
     name: &'a PackageName,
     version: &'a Version,
 ) -> Result<TestedTerm<'a>, AllocError>
-    ensures { IfOk result (λ p. tested_view p ≡ tested (problem inputs.now) (at (model.pkg name.entry.now
+    ensures { IfOk result (λ p. tested_view p ≡ tested (problem known.now) (at (model.pkg name.entry.now
         (class_of (parts_of version.entry.now))) (model.version (parts_of version.entry.now) ∷ []))) }
 {
     let class = Class::of(version);
-    let versions = class_versions(inputs.catalogue, name, class);
+    let versions = class_versions(known.catalogue, name, class);
     let tests = chosen_tests(alloc, version, versions)?;
     Ok(TestedTerm {
         vertex: VertexRef::Package(name, class),
@@ -163,14 +162,14 @@ fn off_there<'a>(
 /// The dependency is absent.
 fn absent<'a>(
     alloc: Global,
-    inputs: &KnownProblem<'a>,
+    known: &KnownProblem<'a>,
     owner: OwnerRef<'a>,
     number: usize,
 ) -> Result<TestedTerm<'a>, AllocError>
     ensures { IfOk result (λ p. tested_view p
-        ≡ tested (problem inputs.now) (at (model.dep (owner_ref_view owner.entry) number) (model.absent ∷ []))) }
+        ≡ tested (problem known.now) (at (model.dep (owner_ref_view owner.entry) number) (model.absent ∷ []))) }
 {
-    let classes = classes_at(alloc, inputs, &owner, number)?;
+    let classes = classes_at(alloc, known, &owner, number)?;
     let tests = no_class(alloc, classes.as_slice())?;
     Ok(TestedTerm {
         vertex: VertexRef::Dependency(owner, number),
@@ -181,15 +180,15 @@ fn absent<'a>(
 /// The dependency leads to the class.
 fn leads<'a>(
     alloc: Global,
-    inputs: &KnownProblem<'a>,
+    known: &KnownProblem<'a>,
     owner: OwnerRef<'a>,
     number: usize,
     class: Class,
 ) -> Result<TestedTerm<'a>, AllocError>
-    ensures { IfOk result (λ p. tested_view p ≡ tested (problem inputs.now)
+    ensures { IfOk result (λ p. tested_view p ≡ tested (problem known.now)
         (at (model.dep (owner_ref_view owner.entry) number) (model.in_class (class_view class) ∷ []))) }
 {
-    let classes = classes_at(alloc, inputs, &owner, number)?;
+    let classes = classes_at(alloc, known, &owner, number)?;
     let tests = class_tests(alloc, class, classes.as_slice())?;
     Ok(TestedTerm {
         vertex: VertexRef::Dependency(owner, number),
@@ -199,33 +198,33 @@ fn leads<'a>(
 
 fn need_terms<'a>(
     alloc: Global,
-    inputs: &KnownProblem<'a>,
+    known: &KnownProblem<'a>,
     owner: OwnerRef<'a>,
     number: usize,
 ) -> Result<Vec<TestedTerm<'a>>, AllocError>
-    ensures { IfOk result (λ v. tested_views v.items ≡ all_tested (problem inputs.now)
-        (terms_of_cause (problem inputs.now) (causes.of_need (owner_ref_view owner.entry) number))) }
+    ensures { IfOk result (λ v. tested_views v.items ≡ all_tested (problem known.now)
+        (terms_of_cause (problem known.now) (causes.of_need (owner_ref_view owner.entry) number))) }
 {
     Ok(vec![in alloc;
-        holds(alloc, inputs, owner)?,
-        absent(alloc, inputs, owner, number)?,
+        holds(alloc, known, owner)?,
+        absent(alloc, known, owner, number)?,
     ]?)
 }
 
 fn entry_terms<'a>(
     alloc: Global,
-    inputs: &KnownProblem<'a>,
+    known: &KnownProblem<'a>,
     name: &'a PackageName,
     version: &'a Version,
     on: &'a FeatureName,
     off: &'a FeatureName,
 ) -> Result<Vec<TestedTerm<'a>>, AllocError>
-    ensures { IfOk result (λ v. tested_views v.items ≡ all_tested (problem inputs.now)
+    ensures { IfOk result (λ v. tested_views v.items ≡ all_tested (problem known.now)
         (feature_holds name.entry.now (parts_of version.entry.now) on.entry.now (at (model.feat name.entry.now
         (class_of (parts_of version.entry.now)) off.entry.now) (model.absent ∷ []) ∷ []))) }
 {
     Ok(vec![in alloc;
-        chosen(alloc, inputs, name, version)?,
+        chosen(alloc, known, name, version)?,
         own_feature(alloc, name, version, on, true)?,
         own_feature(alloc, name, version, off, false)?,
     ]?)
@@ -233,38 +232,38 @@ fn entry_terms<'a>(
 
 fn enabling_terms<'a>(
     alloc: Global,
-    inputs: &KnownProblem<'a>,
+    known: &KnownProblem<'a>,
     name: &'a PackageName,
     version: &'a Version,
     on: &'a FeatureName,
     number: usize,
 ) -> Result<Vec<TestedTerm<'a>>, AllocError>
-    ensures { IfOk result (λ v. tested_views v.items ≡ all_tested (problem inputs.now) (feature_holds name.entry.now
+    ensures { IfOk result (λ v. tested_views v.items ≡ all_tested (problem known.now) (feature_holds name.entry.now
         (parts_of version.entry.now) on.entry.now (at (model.dep (model.version_of name.entry.now
         (parts_of version.entry.now)) number) (model.absent ∷ []) ∷ []))) }
 {
     Ok(vec![in alloc;
-        chosen(alloc, inputs, name, version)?,
+        chosen(alloc, known, name, version)?,
         own_feature(alloc, name, version, on, true)?,
-        absent(alloc, inputs, OwnerRef::Version(name, version), number)?,
+        absent(alloc, known, OwnerRef::Version(name, version), number)?,
     ]?)
 }
 
 fn asking_terms<'a>(
     alloc: Global,
-    inputs: &KnownProblem<'a>,
+    known: &KnownProblem<'a>,
     name: &'a PackageName,
     version: &'a Version,
     on: &'a FeatureName,
     asked: &'a FeatureName,
     number: usize,
 ) -> Result<Vec<TestedTerm<'a>>, AllocError>
-    ensures { IfOk result (λ v. tested_views v.items ≡ all_tested (problem inputs.now)
+    ensures { IfOk result (λ v. tested_views v.items ≡ all_tested (problem known.now)
         (feature_holds name.entry.now (parts_of version.entry.now) on.entry.now (at (model.ask name.entry.now
         (parts_of version.entry.now) number asked.entry.now) (model.absent ∷ []) ∷ []))) }
 {
     Ok(vec![in alloc;
-        chosen(alloc, inputs, name, version)?,
+        chosen(alloc, known, name, version)?,
         own_feature(alloc, name, version, on, true)?,
         two_states(alloc, VertexRef::Ask(name, version, number, asked), false)?,
     ]?)
@@ -272,18 +271,18 @@ fn asking_terms<'a>(
 
 fn target_terms<'a>(
     alloc: Global,
-    inputs: &KnownProblem<'a>,
+    known: &KnownProblem<'a>,
     owner: OwnerRef<'a>,
     number: usize,
     class: Class,
 ) -> Result<Vec<TestedTerm<'a>>, AllocError>
-    ensures { IfOk result (λ v. tested_views v.items ≡ all_tested (problem inputs.now) (terms_of_cause
-        (problem inputs.now) (causes.of_target (owner_ref_view owner.entry) number (class_view class)))) }
+    ensures { IfOk result (λ v. tested_views v.items ≡ all_tested (problem known.now) (terms_of_cause
+        (problem known.now) (causes.of_target (owner_ref_view owner.entry) number (class_view class)))) }
 {
-    match dependency_at(inputs, &owner, number) {
+    match dependency_at(known, &owner, number) {
         Some(dependency) => Ok(vec![in alloc;
-            leads(alloc, inputs, owner, number, class)?,
-            left(alloc, inputs, dependency, class)?,
+            leads(alloc, known, owner, number, class)?,
+            left(alloc, known, dependency, class)?,
         ]?),
         None => Ok(Vec::new(alloc)),
     }
@@ -292,16 +291,16 @@ fn target_terms<'a>(
 /// The package is absent or has a version of the class that isn't matched.
 fn left<'a>(
     alloc: Global,
-    inputs: &KnownProblem<'a>,
+    known: &KnownProblem<'a>,
     dependency: &'a Dependency,
     class: Class,
 ) -> Result<TestedTerm<'a>, AllocError>
-    ensures { IfOk result (λ p. tested_view p ≡ tested (problem inputs.now)
+    ensures { IfOk result (λ p. tested_view p ≡ tested (problem known.now)
         (at (model.pkg (dependency_view dependency.entry.now).real_name (class_view class))
-        (absent_or (problem inputs.now) (λ c. not (matched (dependency_view dependency.entry.now) c))
+        (absent_or (problem known.now) (λ c. not (matched (dependency_view dependency.entry.now) c))
         (dependency_view dependency.entry.now).real_name (class_view class)))) }
 {
-    let versions = class_versions(inputs.catalogue, &dependency.real_name, class);
+    let versions = class_versions(known.catalogue, &dependency.real_name, class);
     let tests = left_tests(alloc, &dependency.requirement, versions)?;
     Ok(TestedTerm {
         vertex: VertexRef::Package(&dependency.real_name, class),
@@ -312,17 +311,17 @@ fn left<'a>(
 /// The package has a version of the class that is matched.
 fn taken<'a>(
     alloc: Global,
-    inputs: &KnownProblem<'a>,
+    known: &KnownProblem<'a>,
     dependency: &'a Dependency,
     class: Class,
 ) -> Result<TestedTerm<'a>, AllocError>
     ensures { IfOk result
         (λ p. tested_view p
-        ≡ tested (problem inputs.now) (at (model.pkg (dependency_view dependency.entry.now).real_name
-        (class_view class)) (versions_that (problem inputs.now) (matched (dependency_view dependency.entry.now))
+        ≡ tested (problem known.now) (at (model.pkg (dependency_view dependency.entry.now).real_name
+        (class_view class)) (versions_that (problem known.now) (matched (dependency_view dependency.entry.now))
         (dependency_view dependency.entry.now).real_name (class_view class)))) }
 {
-    let versions = class_versions(inputs.catalogue, &dependency.real_name, class);
+    let versions = class_versions(known.catalogue, &dependency.real_name, class);
     let tests = taken_tests(alloc, &dependency.requirement, versions)?;
     Ok(TestedTerm {
         vertex: VertexRef::Package(&dependency.real_name, class),
@@ -333,18 +332,18 @@ fn taken<'a>(
 /// The package is absent or has a version of the class that lacks the feature.
 fn lacking<'a>(
     alloc: Global,
-    inputs: &KnownProblem<'a>,
+    known: &KnownProblem<'a>,
     name: &'a PackageName,
     class: Class,
     feature: &FeatureName,
 ) -> Result<TestedTerm<'a>, AllocError>
-    ensures { IfOk result (λ p. tested_view p ≡ tested (problem inputs.now)
-        (at (model.pkg name.entry.now (class_view class)) (absent_or (problem inputs.now)
+    ensures { IfOk result (λ p. tested_view p ≡ tested (problem known.now)
+        (at (model.pkg name.entry.now (class_view class)) (absent_or (problem known.now)
         (λ c. not (has_feature c.brings.features feature.now)) name.entry.now (class_view class)))) }
 {
-    catalogues_are_well_formed(inputs.manifest, inputs.catalogue);
-    let versions = class_versions(inputs.catalogue, name, class);
-    let tests = lacking_tests(alloc, inputs, name, feature, versions)?;
+    catalogues_are_well_formed(known.manifest, known.catalogue);
+    let versions = class_versions(known.catalogue, name, class);
+    let tests = lacking_tests(alloc, known, name, feature, versions)?;
     Ok(TestedTerm {
         vertex: VertexRef::Package(name, class),
         tests,
@@ -353,35 +352,35 @@ fn lacking<'a>(
 
 fn feature_terms<'a>(
     alloc: Global,
-    inputs: &KnownProblem<'a>,
+    known: &KnownProblem<'a>,
     name: &'a PackageName,
     class: Class,
     feature: &'a FeatureName,
 ) -> Result<Vec<TestedTerm<'a>>, AllocError>
-    ensures { IfOk result (λ v. tested_views v.items ≡ all_tested (problem inputs.now) (terms_of_cause
-        (problem inputs.now) (causes.of_feature name.entry.now (class_view class) feature.entry.now))) }
+    ensures { IfOk result (λ v. tested_views v.items ≡ all_tested (problem known.now) (terms_of_cause
+        (problem known.now) (causes.of_feature name.entry.now (class_view class) feature.entry.now))) }
 {
     Ok(vec![in alloc;
         two_states(alloc, VertexRef::Feature(name, class, feature), true)?,
-        lacking(alloc, inputs, name, class, feature)?,
+        lacking(alloc, known, name, class, feature)?,
     ]?)
 }
 
 fn list_terms<'a>(
     alloc: Global,
-    inputs: &KnownProblem<'a>,
+    known: &KnownProblem<'a>,
     owner: OwnerRef<'a>,
     number: usize,
     class: Class,
     feature: &'a FeatureName,
 ) -> Result<Vec<TestedTerm<'a>>, AllocError>
     ensures { IfOk result
-        (λ v. tested_views v.items ≡ all_tested (problem inputs.now) (terms_of_cause (problem inputs.now)
+        (λ v. tested_views v.items ≡ all_tested (problem known.now) (terms_of_cause (problem known.now)
         (causes.of_list (owner_ref_view owner.entry) number (class_view class) feature.entry.now))) }
 {
-    match dependency_at(inputs, &owner, number) {
+    match dependency_at(known, &owner, number) {
         Some(dependency) => Ok(vec![in alloc;
-            leads(alloc, inputs, owner, number, class)?,
+            leads(alloc, known, owner, number, class)?,
             off_there(alloc, dependency, class, feature)?,
         ]?),
         None => Ok(Vec::new(alloc)),
@@ -390,7 +389,7 @@ fn list_terms<'a>(
 
 fn ask_terms<'a>(
     alloc: Global,
-    inputs: &KnownProblem<'a>,
+    known: &KnownProblem<'a>,
     name: &'a PackageName,
     version: &'a Version,
     number: usize,
@@ -398,14 +397,14 @@ fn ask_terms<'a>(
     class: Class,
 ) -> Result<Vec<TestedTerm<'a>>, AllocError>
     ensures { IfOk result
-        (λ v. tested_views v.items ≡ all_tested (problem inputs.now) (terms_of_cause (problem inputs.now)
+        (λ v. tested_views v.items ≡ all_tested (problem known.now) (terms_of_cause (problem known.now)
         (causes.of_ask name.entry.now (parts_of version.entry.now) number feature.entry.now (class_view class)))) }
 {
     let owner = OwnerRef::Version(name, version);
-    match dependency_at(inputs, &owner, number) {
+    match dependency_at(known, &owner, number) {
         Some(dependency) => Ok(vec![in alloc;
             two_states(alloc, VertexRef::Ask(name, version, number, feature), true)?,
-            leads(alloc, inputs, owner, number, class)?,
+            leads(alloc, known, owner, number, class)?,
             off_there(alloc, dependency, class, feature)?,
         ]?),
         None => Ok(Vec::new(alloc)),
@@ -414,7 +413,7 @@ fn ask_terms<'a>(
 
 fn newest_terms<'a>(
     alloc: Global,
-    inputs: &KnownProblem<'a>,
+    known: &KnownProblem<'a>,
     owner: OwnerRef<'a>,
     number: usize,
     other: usize,
@@ -422,14 +421,14 @@ fn newest_terms<'a>(
     higher: Class,
 ) -> Result<Vec<TestedTerm<'a>>, AllocError>
     ensures { IfOk result
-        (λ v. tested_views v.items ≡ all_tested (problem inputs.now) (terms_of_cause (problem inputs.now)
+        (λ v. tested_views v.items ≡ all_tested (problem known.now) (terms_of_cause (problem known.now)
         (causes.of_newest (owner_ref_view owner.entry) number other (class_view class) (class_view higher)))) }
 {
-    match dependency_at(inputs, &owner, number) {
+    match dependency_at(known, &owner, number) {
         Some(dependency) => Ok(vec![in alloc;
-            leads(alloc, inputs, owner, number, class)?,
-            leads(alloc, inputs, owner, other, higher)?,
-            taken(alloc, inputs, dependency, higher)?,
+            leads(alloc, known, owner, number, class)?,
+            leads(alloc, known, owner, other, higher)?,
+            taken(alloc, known, dependency, higher)?,
         ]?),
         None => Ok(Vec::new(alloc)),
     }
@@ -437,7 +436,7 @@ fn newest_terms<'a>(
 
 fn weak_terms<'a>(
     alloc: Global,
-    inputs: &KnownProblem<'a>,
+    known: &KnownProblem<'a>,
     name: &'a PackageName,
     version: &'a Version,
     on: &'a FeatureName,
@@ -446,16 +445,16 @@ fn weak_terms<'a>(
     class: Class,
 ) -> Result<Vec<TestedTerm<'a>>, AllocError>
     ensures { IfOk result (λ v. tested_views v.items
-        ≡ all_tested (problem inputs.now) (terms_of_cause (problem inputs.now) (causes.of_weak name.entry.now
+        ≡ all_tested (problem known.now) (terms_of_cause (problem known.now) (causes.of_weak name.entry.now
         (parts_of version.entry.now) on.entry.now off.entry.now number (class_view class)))) }
 {
     let owner = OwnerRef::Version(name, version);
-    match dependency_at(inputs, &owner, number) {
+    match dependency_at(known, &owner, number) {
         Some(dependency) => four(
             alloc,
-            chosen(alloc, inputs, name, version)?,
+            chosen(alloc, known, name, version)?,
             own_feature(alloc, name, version, on, true)?,
-            leads(alloc, inputs, owner, number, class)?,
+            leads(alloc, known, owner, number, class)?,
             off_there(alloc, dependency, class, off)?,
         ),
         None => Ok(Vec::new(alloc)),

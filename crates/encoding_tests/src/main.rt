@@ -62,10 +62,10 @@ fn inputs_of<'a>(
 }
 
 /// Tells what there is where every vertex has a number first. The instances of all pairs.
-fn tell_whole(rt: &HostRuntime, inputs: KnownProblem<'_>) -> io::Result<Vec<String>>
-    requires { KnowsDefault inputs }
+fn tell_whole(rt: &HostRuntime, known: KnownProblem<'_>) -> io::Result<Vec<String>>
+    requires { KnowsDefault known }
 {
-    let mut encoding = Encoding::new(rt.alloc(), inputs)?;
+    let mut encoding = Encoding::new(rt.alloc(), known)?;
     print(rt, &vertex_lines(rt.alloc(), &encoding)?)?;
     print(rt, &all_lines(rt.alloc(), &mut encoding)?)?;
     let pairs = pair_lines(rt.alloc(), &mut encoding)?;
@@ -74,10 +74,10 @@ fn tell_whole(rt: &HostRuntime, inputs: KnownProblem<'_>) -> io::Result<Vec<Stri
 }
 
 /// The instances of all pairs, where vertices get numbers as instances speak of them.
-fn on_demand(alloc: Global, inputs: KnownProblem<'_>) -> Result<Vec<String>, AllocError>
-    requires { KnowsDefault inputs }
+fn on_demand(alloc: Global, known: KnownProblem<'_>) -> Result<Vec<String>, AllocError>
+    requires { KnowsDefault known }
 {
-    let mut encoding = Encoding::on_demand(alloc, inputs)?;
+    let mut encoding = Encoding::on_demand(alloc, known)?;
     pair_lines(alloc, &mut encoding)
 }
 

@@ -130,7 +130,11 @@ fn push_term(
     text.push_str("}")
 }
 
-fn push_origin(text: &mut String, needed: &[usize], origin: &Origin) -> Result<(), AllocError>
+fn push_origin(
+    text: &mut String,
+    needed: &[usize],
+    origin: &Origin<usize>,
+) -> Result<(), AllocError>
     requires { IsNonDecreasing needed.now }
     ensures { OnOk result ((t : TablesView) (terms : List axioms.Term) → string_bytes text.new
         ≡ string_bytes text.old ++ origin_words needed.now (step_by_origin t origin.now terms)) }

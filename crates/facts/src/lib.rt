@@ -17,10 +17,12 @@
 
 mod fact_numbers;
 mod facts;
+mod flagged;
 mod node;
 mod numbering;
 mod rules;
 
 pub use facts::{Facts, facts_of};
+pub use flagged::{flag, flags};
 pub use node::Node;
 pub use numbering::dependencies_of;

@@ -12,7 +12,7 @@ use Rattle.features.specs.EntryViews.{entry_views}
 use Rattle.features.specs.declared.entry.Entry.{Entry}
 
 -- the test of a map's look-up is the comparison of names
-at_is : (name key : List ℕ) → is_at (slice_cmp nat_cmp name) key ≡ same_text name key
+pub at_is : (name key : List ℕ) → is_at (slice_cmp nat_cmp name) key ≡ same_text name key
 at_is name key = sym (texts_ties name key)
 
 pub entries_at-rows_of : (name : List ℕ) (es : List (List ℕ × Vec Entry Global))

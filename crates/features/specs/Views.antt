@@ -1,5 +1,5 @@
--- What the entries, dependencies and faults of this crate stand for.
-use Rattle.std.specs.Prelude.{Bool, true, false, List, map, Option, Some, None}
+-- What the entries, dependencies and faults of this crate stand for, and texts behind references.
+use Rattle.std.specs.Prelude.{ℕ, Bool, true, false, List, map, Option, Some, None}
 use Rattle.std.specs.Borrow.{Bor}
 use Rattle.semver.specs.Identifiers.{comparator_view}
 use Rattle.semver.specs.Parse.{Held}
@@ -19,6 +19,10 @@ wants_memory NotAnEntry = false
 abbrev pub entry_fault_of : NameFault → EntryFault
 entry_fault_of name.OutOfMemory = OutOfMemory
 entry_fault_of name.NotAName = NotAnEntry
+
+-- the texts behind references
+abbrev pub text_views : List (Bor (List ℕ)) → List (List ℕ)
+text_views ts = map (λ t. t.now) ts
 
 -- what a requirement says
 abbrev pub requirement_view : VersionReq → List Held

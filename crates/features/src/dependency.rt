@@ -5,6 +5,14 @@ use crate::name::PackageName;
 use crate::table::FeatureTable;
 use semver::VersionReq;
 
+/// What a dependency is needed for.
+#[derive(Clone, Copy, Debug, PartialEq, Eq)]
+pub enum DependencyKind {
+    Normal,
+    Dev,
+    Build,
+}
+
 /// A dependency of a manifest or of an index line (Cargo book, "Specifying Dependencies").
 #[derive(Drop)]
 pub struct Dependency {

@@ -24,7 +24,7 @@ mod name_text;
 mod table;
 mod texts;
 
-pub use dependency::{Dependency, Summary};
+pub use dependency::{Dependency, DependencyKind, Summary};
 pub use entry::{Entry, EntryFault};
 pub use feature_name::FeatureName;
 pub use name::{NameFault, PackageName};

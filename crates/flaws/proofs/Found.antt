@@ -16,7 +16,7 @@ use Rattle.catalogue.specs.Stores.{CatalogueView}
 use Rattle.facts.specs.Graphs.{flag_at}
 use Rattle.facts.specs.declared.node.Node.{Node}
 use Rattle.lockfile.specs.Views.{package_view}
-use Rattle.lockfile.specs.declared.locked.Package as code
+use Rattle.lockfile.specs.declared.package.Package as code
 use Rattle.selection.specs.Graphs.{IsOnlyRoot, targets_in}
 use Rattle.selection.specs.Places.{AreFindings, content_in, is_missing, IsLedTo, Lacks}
 use Rattle.selection.specs.declared.findings.Findings.{Findings}

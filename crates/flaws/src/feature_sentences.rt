@@ -1,9 +1,10 @@
 //! Which features are asked of a package that it lacks, and by whom.
 
 use crate::naming::Named;
+use facts::{flag, flags};
 use features::{Dependency, Entry, FeatureName, FeatureTable, Summary};
 use lockfile::Package;
-use selection::{Findings, flag, flags};
+use selection::Findings;
 use std::alloc::AllocError;
 
 /// A sentence for each feature that a package lacks and that an enabled dependency on it asks for, with the package

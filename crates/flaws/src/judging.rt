@@ -16,9 +16,10 @@ use crate::flawed::{Flawed, is_flawless};
 use crate::lists::{surplus_of, unmet_of};
 use crate::no_candidate::why_not;
 use catalogue::Catalogue;
+use facts::{flag, flags};
 use lockfile::{LockContent, Package};
 use manifest::Manifest;
-use selection::{Findings, findings_of, flag, flags, is_like, place_before};
+use selection::{Findings, findings_of, is_like, place_before};
 use std::alloc::{AllocError, Global};
 
 /// What is found of a lock that has a root package, and its packages at fault.

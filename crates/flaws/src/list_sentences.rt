@@ -2,10 +2,10 @@
 
 use crate::flawed::Flawed;
 use crate::naming::{Named, Needed, has_weak_entry, last_serving, may_serve};
-use facts::Node;
+use facts::{Node, flag, flags};
 use features::Dependency;
 use lockfile::Package;
-use selection::{Findings, flag, flags};
+use selection::Findings;
 use std::alloc::AllocError;
 
 /// The dependencies that no package of its list serves.

@@ -5,7 +5,7 @@ use Rattle.std.proofs.Common.{refl, sym, ap, ◌∙◌, subst, arith, inl, inr, 
 use Rattle.std.specs.List.{All}
 use Rattle.std.specs.List.Sorted.{IsPartitionPoint}
 use Rattle.std.specs.Prelude.{unwrap_or}
-use Rattle.std.proofs.lemmas.Bool.{cases_lt, ltb-false, eq-eqb}
+use Rattle.std.proofs.lemmas.Bool.{cases_lt}
 use Rattle.std.proofs.lemmas.List.{get_or-drop, length-drop, length-map, take_rest}
 use Rattle.std.proofs.lemmas.Option.{none-some, same_Some, slice_get-map, slice_get_within, get_or_from_slice_get}
 use Rattle.semver.specs.Identifiers.{parts_of}
@@ -13,7 +13,7 @@ use Rattle.semver.specs.Parse.{Parts}
 use Rattle.semver.specs.declared.Version.{Version}
 use Rattle.model.specs.Axioms.{is_lower}
 use Rattle.model.specs.Content.{same_version}
-use Rattle.model.specs.Selection.{Class, patch, minor, major, class_of}
+use Rattle.model.specs.Selection.{Class, class_of}
 use Rattle.model.specs.Vertices.{absent, version, has_state, pkg, same_class, space}
 use Rattle.model.proofs.Lists.{in_cons, in_filter, in_map}
 use Rattle.model.proofs.Orders.{not_lower_itself}
@@ -23,23 +23,12 @@ use Rattle.manifest.specs.Manifests.{ManifestView}
 use Rattle.catalogue.specs.Problems.{problem_in}
 use Rattle.catalogue.specs.Stores.{CatalogueView, candidates_at}
 use Rattle.looking_up.specs.Ranges.{AreRising, is_above, is_below, is_of}
-use Rattle.looking_up.proofs.Pieces.{above_parted, parts_filtered}
+use Rattle.looking_up.proofs.Pieces.{above_parted, apart_below, neither, not_true, parts_filtered, skipped}
 use Rattle.encoding.proofs.Stated.{versions_counted, versions_space}
 use Rattle.encoding.proofs.Tested.{states_here}
 use Rattle.following.specs.Found.{IsNumberOf}
 
 -- ---- classes
-
-neither : (k c : Class) → is_lower c k ≡ false → is_lower k c ≡ false → same_class k c ≡ true
-neither (patch a) (patch b) h l = let x = ltb-false b a h in let y = ltb-false a b l in eq-eqb a b (omega arith)
-neither (patch a) (minor b) h l = absurd (true≢false l)
-neither (patch a) (major b) h l = absurd (true≢false l)
-neither (minor a) (patch b) h l = absurd (true≢false h)
-neither (minor a) (minor b) h l = let x = ltb-false b a h in let y = ltb-false a b l in eq-eqb a b (omega arith)
-neither (minor a) (major b) h l = absurd (true≢false l)
-neither (major a) (patch b) h l = absurd (true≢false h)
-neither (major a) (minor b) h l = absurd (true≢false h)
-neither (major a) (major b) h l = let x = ltb-false b a h in let y = ltb-false a b l in eq-eqb a b (omega arith)
 
 not_above : (k c : Class) → same_class k c ≡ true → is_lower k c ≡ false
 not_above k c same = by (is_lower k c) refl
@@ -55,30 +44,9 @@ not_below k c same = by (is_lower c k) refl
     by false e = refl
     by true e = absurd (not_lower_itself c (ap (is_lower c) (sym (class-same k c same)) ∙ e))
 
-apart_below : (k c : Class) → is_lower c k ≡ true → same_class k c ≡ false
-apart_below k c l = by (same_class k c) refl
-  where
-    by : (b : Bool) → same_class k c ≡ b → b ≡ false
-    by false e = refl
-    by true e = absurd (true≢false (sym l ∙ not_below k c e))
-
-not_true : (b : Bool) → not b ≡ true → b ≡ false
-not_true false e = refl
-not_true true e = sym e
-
 -- ---- a filtered list
 
 module _ {X : Type 0} (p : X → Bool) where
-  -- what fails at the front may be left out
-  skipped : (xs : List X) (i : ℕ) → ((k : ℕ) (d : X) → k < i → k < length xs → p (get_or xs k d) ≡ false)
-      → filter p xs ≡ filter p (drop i xs)
-  skipped [] zero h = refl
-  skipped [] (suc i) h = refl
-  skipped (x ∷ xs) zero h = refl
-  skipped (x ∷ xs) (suc i) h =
-      ap (λ b. cond b (x ∷ filter p xs) (filter p xs)) (h 0 x (omega arith) (omega arith))
-      ∙ skipped xs i (λ k d low within. h (suc k) d (omega (arith, low)) (omega (arith, within)))
-
   -- what passes at the front stays where it is
   kept_at : (xs : List X) (i : ℕ) (x : X) → slice_get xs i ≡ Some x
       → ((k : ℕ) (d : X) → k ≤ i → p (get_or xs k d) ≡ true) → slice_get (filter p xs) i ≡ Some x

@@ -13,9 +13,9 @@ use Rattle.semver.specs.Identifiers.{parts_of}
 use Rattle.classes.specs.Classes.{class_view}
 use Rattle.classes.specs.declared.class.Class as code
 use Rattle.lockfile.specs.Views.{package_view, package_views}
-use Rattle.lockfile.specs.declared.locked.Package as locked
+use Rattle.lockfile.specs.declared.package.Package as locked
 use Rattle.model.specs.Content as model
-use Rattle.model.specs.Content.{Problem, Content, last_serving, list_if, summary_at}
+use Rattle.model.specs.Content.{Problem, Content, last_serving, list_if}
 use Rattle.model.specs.Summary.{Dependency}
 use Rattle.model.specs.Selection.{Class, class_of, IsValidSelection}
 use Rattle.model.specs.Vertices.{Owner, State, absent, version, in_class, dep, pkg, dep_classes, dep_space, has_state}

@@ -13,7 +13,7 @@ use Rattle.model.specs.Vertices.{Owner}
 use Rattle.model.specs.WellFormed.{IsContent}
 use Rattle.model.proofs.Contents.{rising_at, within_at}
 use Rattle.lockfile.specs.Views.{package_view, package_views}
-use Rattle.lockfile.specs.declared.locked.Package.{Package}
+use Rattle.lockfile.specs.declared.package.Package.{Package}
 use Rattle.catalogue.proofs.Rows.{item_at}
 use Rattle.following.specs.Found.{is_owner, led_to, served_by}
 use Rattle.following.proofs.Owners.{find_seen}

@@ -1,7 +1,7 @@
 -- In package order the packages of a name stand side by side: what is looked for by name isn't among those of lower
 -- names.
 use Rattle.std.proofs.Common.{◌≡◌, ℕ, zero, suc, ◌<◌, ◌≤◌, Bool, true, false, cond, ◌&&◌, List, [], ◌∷◌, drop, find}
-use Rattle.std.proofs.Common.{length, get_or, map, Some, option_map, slice_get, is_some, refl, sym, ap, ◌∙◌, subst}
+use Rattle.std.proofs.Common.{length, get_or, Some, option_map, slice_get, is_some, refl, sym, ap, ◌∙◌, subst}
 use Rattle.std.proofs.Common.{arith, inl, inr, true≢false}
 use Rattle.std.specs.List.{AllWithin}
 use Rattle.std.specs.List.Sorted.{IsPartitionedBy}
@@ -11,7 +11,7 @@ use Rattle.std.proofs.lemmas.Bool.{cases_lt}
 use Rattle.std.proofs.lemmas.List.{length-map}
 use Rattle.std.proofs.lemmas.Option.{slice_get-get_or, slice_get-map}
 use Rattle.lockfile.specs.Views.{package_view, package_views}
-use Rattle.lockfile.specs.declared.locked.Package as locked
+use Rattle.lockfile.specs.declared.package.Package as locked
 use Rattle.model.specs.Content.{Package, Problem}
 use Rattle.model.specs.Order.{package_cmp}
 use Rattle.model.specs.Selection.{Class, class_of, IsValidSelection}
@@ -22,7 +22,8 @@ use Rattle.model.proofs.Contents.{text-equal}
 use Rattle.model.proofs.Owners.{root_parts}
 use Rattle.model.proofs.Same.{text-same}
 use Rattle.selection.proofs.NameOrder.{below_less, names_rise}
-use Rattle.following.specs.Found.{beside, is_locked, is_sourceless}
+use Rattle.lockfile.specs.Search.{named_cmp}
+use Rattle.following.specs.Found.{is_locked, is_sourceless}
 use Rattle.following.proofs.Owners.{sourceless_root}
 
 -- what is found is past those that fail
@@ -42,21 +43,21 @@ view_at (p ∷ ps) (suc i) d = view_at ps i d
 
 module _ (name : List ℕ) where
   pub lower_first : (ps : List locked.Package) → IsContent (package_views ps)
-      → IsPartitionedBy (λ p. is_lt (beside name (package_view p))) ps
+      → IsPartitionedBy (λ p. is_lt (named_cmp name (package_view p))) ps
   lower_first ps formed i j d le lt h = elim (cases_lt i j) [
     | inl less ↦
         let before : package_cmp (package_view (get_or ps i d)) (package_view (get_or ps j d)) ≡ Less =
         subst (λ r. package_cmp (package_view (get_or ps i d)) r ≡ Less) (view_at ps j d)
         (subst (λ p. package_cmp p (get_or (package_views ps) j (package_view d)) ≡ Less) (view_at ps i d)
         (formed.in_order i j (package_view d) less (omega (arith, lt, length-map ps package_view)))) in
-        below_less (beside name (package_view (get_or ps i d))) (beside name (package_view (get_or ps j d)))
+        below_less (named_cmp name (package_view (get_or ps i d))) (named_cmp name (package_view (get_or ps j d)))
         (names_rise name (package_view (get_or ps i d)) (package_view (get_or ps j d)) before) h
     | inr ge ↦ let same : j ≡ i =
-        omega (arith, le, ge) in subst (λ k. is_lt (beside name (package_view (get_or ps k d))) ≡ true) same h
+        omega (arith, le, ge) in subst (λ k. is_lt (named_cmp name (package_view (get_or ps k d))) ≡ true) same h
   ]
 
   -- a package of a lower name isn't one of this name
-  pub lower_is_other : (k : Class) (p : Package) → is_lt (beside name p) ≡ true → is_locked name k p ≡ false
+  pub lower_is_other : (k : Class) (p : Package) → is_lt (named_cmp name p) ≡ true → is_locked name k p ≡ false
   lower_is_other k p h = by (is_some p.source) (same_text name p.name) refl (same_class k (class_of p.version))
     where
       by : (a b : Bool) → same_text name p.name ≡ b → (c : Bool) → (a && b && c) ≡ false
@@ -67,7 +68,7 @@ module _ (name : List ℕ) where
 
 -- nor is the root among those of lower names than its own
 module _ (q : Problem) (ps : List locked.Package) (valid : IsValidSelection q (package_views ps)) where
-  sourced_by : (k : ℕ) (p : Package) → slice_get (package_views ps) k ≡ Some p → is_lt (beside q.name p) ≡ true
+  sourced_by : (k : ℕ) (p : Package) → slice_get (package_views ps) k ≡ Some p → is_lt (named_cmp q.name p) ≡ true
       → is_sourceless p ≡ false
   sourced_by k p got h = by (is_sourceless p) refl
     where
@@ -79,7 +80,7 @@ module _ (q : Problem) (ps : List locked.Package) (valid : IsValidSelection q (p
       by true s = absurd (true≢false (sym h ∙ ap is_lt (text-equal p.name q.name (sym (named s)))))
 
   pub lower_is_sourced : (k : ℕ) (e : locked.Package) → k < length ps
-      → is_lt (beside q.name (package_view (get_or ps k e))) ≡ true
+      → is_lt (named_cmp q.name (package_view (get_or ps k e))) ≡ true
       → is_sourceless (package_view (get_or ps k e)) ≡ false
   lower_is_sourced k e lt h = sourced_by k (package_view (get_or ps k e))
       (slice_get-map package_view ps k ∙ ap (option_map package_view) (slice_get-get_or ps k e lt)) h

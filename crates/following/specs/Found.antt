@@ -1,10 +1,8 @@
 -- What is looked for in a content, and what the number of a state is.
 use Rattle.std.specs.Prelude.{◌≡◌, ◌<◌, ℕ, List, Bool, not, ◌&&◌, Option, Some, is_some, find, length, slice_get}
 use Rattle.std.specs.Option.{option_and_then}
-use Rattle.std.specs.declared.cmp.Ordering.{Ordering}
 use Rattle.model.specs.Summary.{Dependency, same_text}
 use Rattle.model.specs.Content.{Package, Content, Problem, last_serving}
-use Rattle.model.specs.Order.{text_cmp}
 use Rattle.model.specs.Selection.{Class, class_of}
 use Rattle.model.specs.Vertices.{Owner, the_root, version_of, Vertex, State, same_class, space}
 use Rattle.model.specs.Assignment.{Has}
@@ -18,10 +16,6 @@ is_sourceless p = not (is_some p.source)
 -- a package other than the root, of this name and class
 abbrev pub is_locked : List ℕ → Class → Package → Bool
 is_locked name k p = is_some p.source && same_text name p.name && same_class k (class_of p.version)
-
--- where a package's name stands beside another one
-abbrev pub beside : List ℕ → Package → Ordering
-beside name p = text_cmp p.name name
 
 -- In a valid selection the root alone is without a source, and a version is the only one of its name and class.
 abbrev pub is_owner : Owner → Package → Bool

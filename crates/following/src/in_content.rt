@@ -5,15 +5,16 @@ ghost use Rattle.std.specs.Ordering.{is_lt};
 ghost use Rattle.std.specs.Prelude.{◌≡◌, ◌≤◌, true, false, find, length, option_map};
 ghost use Rattle.classes.specs.Classes.{class_view};
 ghost use Rattle.features.specs.Views.{dependency_view};
+ghost use Rattle.lockfile.specs.Search.{named_cmp};
 ghost use Rattle.lockfile.specs.Views.{package_view, package_views};
 ghost use Rattle.model.specs.Selection.{IsValidSelection};
 ghost use Rattle.model.specs.Vertices.{same_class};
 ghost use Rattle.encoding.specs.KnownProblem.{problem};
 ghost use Rattle.vertices.specs.RefViews.{owner_ref_view};
 ghost use Rattle.model.specs.WellFormed.{IsContent};
-ghost use Rattle.following.specs.Found.{beside, is_locked, is_owner, is_sourceless, led_to};
+ghost use Rattle.following.specs.Found.{is_locked, is_owner, is_sourceless, led_to};
 
-use classes::Class;
+use classes::{Class, same_class};
 use encoding::KnownProblem;
 use features::{Dependency, PackageName};
 use lockfile::Package;
@@ -22,12 +23,12 @@ use std::cmp::Ordering;
 use vertices::OwnerRef;
 
 /// The first package without a source: the root is the only one in a valid selection.
-fn root_in<'a>(inputs: &KnownProblem<'_>, content: &'a [Package]) -> Option<&'a Package>
-    requires { IsValidSelection (problem inputs.now) (package_views content.now) }
+fn root_in<'a>(known: &KnownProblem<'_>, content: &'a [Package]) -> Option<&'a Package>
+    requires { IsValidSelection (problem known.now) (package_views content.now) }
     ensures { option_map (λ p. p.now) result ≡ find (λ p. is_sourceless (package_view p)) content.entry.now }
 {
     // It has the manifest's name, and those of a name stand side by side.
-    let rest = &content[lower(content, inputs.manifest.name())..];
+    let rest = &content[lower(content, known.manifest.name())..];
     first_sourceless(rest)
 }
 
@@ -71,15 +72,15 @@ fn first_locked<'a>(
 fn lower(content: &[Package], name: &PackageName) -> usize
     requires { IsContent (package_views content.now) }
     ensures few { result ≤ length content.now }
-    ensures place { IsPartitionPoint (λ p. is_lt (beside name.now (package_view p)) ≡ true)
-        (λ p. is_lt (beside name.now (package_view p)) ≡ false) content.now result }
+    ensures place { IsPartitionPoint (λ p. is_lt (named_cmp name.now (package_view p)) ≡ true)
+        (λ p. is_lt (named_cmp name.now (package_view p)) ≡ false) content.now result }
 {
     content.partition_point(|locked| name_order(locked, name) == Ordering::Less)
 }
 
 /// Where a package's name stands beside another one.
 fn name_order(locked: &Package, name: &PackageName) -> Ordering
-    ensures { result ≡ beside name.now (package_view locked.now) }
+    ensures { result ≡ named_cmp name.now (package_view locked.now) }
 {
     locked.name.cmp(name)
 }
@@ -87,43 +88,39 @@ fn name_order(locked: &Package, name: &PackageName) -> Ordering
 fn is_locked(locked: &Package, name: &PackageName, class: Class) -> bool
     ensures { result ≡ is_locked name.now (class_view class) (package_view locked.now) }
 {
-    locked.source.is_some() && *name == locked.name && is_same(class, Class::of(&locked.version))
-}
-
-fn is_same(a: Class, b: Class) -> bool
-    ensures { result ≡ same_class (class_view a) (class_view b) }
-{
-    a == b
+    locked.source.is_some()
+        && *name == locked.name
+        && same_class(&class, &Class::of(&locked.version))
 }
 
 /// The package that an owner is.
 fn owner_in<'a>(
-    inputs: &KnownProblem<'_>,
+    known: &KnownProblem<'_>,
     content: &'a [Package],
     owner: &OwnerRef<'_>,
 ) -> Option<&'a Package>
-    requires { IsValidSelection (problem inputs.now) (package_views content.now) }
+    requires { IsValidSelection (problem known.now) (package_views content.now) }
     ensures { option_map (λ p. p.now) result
         ≡ find (λ p. is_owner (owner_ref_view owner.now) (package_view p)) content.entry.now }
 {
     match owner {
-        OwnerRef::Root => root_in(inputs, content),
+        OwnerRef::Root => root_in(known, content),
         OwnerRef::Version(name, version) => package_in(content, name, Class::of(version)),
     }
 }
 
 /// The package that a dependency of an owner leads to, if it is enabled.
 pub(crate) fn led_to<'a>(
-    inputs: &KnownProblem<'_>,
+    known: &KnownProblem<'_>,
     content: &'a [Package],
     owner: &OwnerRef<'_>,
     dependency: &Dependency,
 ) -> Option<&'a Package>
-    requires { IsValidSelection (problem inputs.now) (package_views content.now) }
+    requires { IsValidSelection (problem known.now) (package_views content.now) }
     ensures { option_map (λ p. package_view p.now) result
         ≡ led_to (package_views content.entry.now) (owner_ref_view owner.now) (dependency_view dependency.now) }
 {
-    let locked = owner_in(inputs, content, owner)?;
+    let locked = owner_in(known, content, owner)?;
     let place = target(content, locked.list.as_slice(), dependency)?;
     content.get(place)
 }

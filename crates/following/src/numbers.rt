@@ -9,7 +9,7 @@ ghost use Rattle.encoding.specs.KnownProblem.{problem};
 ghost use Rattle.following.specs.Found.{IsNumberOf};
 
 use catalogue::place_of;
-use classes::Class;
+use classes::{Class, same_class};
 use encoding::KnownProblem;
 use features::PackageName;
 use looking_up::below;
@@ -17,16 +17,16 @@ use semver::Version;
 
 /// The number of a version among the states of a name in its class.
 pub(crate) fn version_number(
-    inputs: &KnownProblem<'_>,
+    known: &KnownProblem<'_>,
     name: &PackageName,
     class: Class,
     version: &Version,
 ) -> Option<u32>
-    ensures { has_state (space (problem inputs.now) (pkg name.now (class_view class)))
-        (model.version (parts_of version.now)) ≡ true → IsNumberOf (problem inputs.now)
+    ensures { has_state (space (problem known.now) (pkg name.now (class_view class)))
+        (model.version (parts_of version.now)) ≡ true → IsNumberOf (problem known.now)
         (pkg name.now (class_view class)) (model.version (parts_of version.now)) result }
 {
-    let versions = inputs.catalogue.versions(name);
+    let versions = known.catalogue.versions(name);
     // The versions of a class stand together, after those of lower classes.
     let rest = &versions[below(class, versions)..];
     let place = place_of(rest, version)?;
@@ -47,13 +47,5 @@ fn class_place(classes: &[Class], class: Class) -> Option<usize>
     ensures place { result ≡ position (λ k. same_class (class_view class) (class_view k)) classes.now }
     ensures within { IfSome result (λ i. i < length classes.now) }
 {
-    classes
-        .iter()
-        .position(|other| is_same_class(class, *other))
-}
-
-fn is_same_class(a: Class, b: Class) -> bool
-    ensures { result ≡ same_class (class_view a) (class_view b) }
-{
-    a == b
+    classes.iter().position(|other| same_class(&class, other))
 }

@@ -26,20 +26,20 @@ use vertices::{OwnerRef, VertexRef};
 /// A vertex that is absent may get a number all the same. The only error is want of memory.
 pub fn state_in(
     alloc: Global,
-    inputs: &KnownProblem<'_>,
+    known: &KnownProblem<'_>,
     content: &LockContent,
     vertex: &VertexRef<'_>,
 ) -> Result<Option<u32>, AllocError>
-    requires valid { IsValidSelection (problem inputs.now) content.now }
-    ensures { IfOk result (λ o. (s : State) → Has (problem inputs.now) content.now (vertex_ref_view vertex.now) s
-        → (n : ℕ) × (o ≡ Some n) × (n < length (space (problem inputs.now) (vertex_ref_view vertex.now)))
-        × (state_at (problem inputs.now) (vertex_ref_view vertex.now) n ≡ s)) }
+    requires valid { IsValidSelection (problem known.now) content.now }
+    ensures { IfOk result (λ o. (s : State) → Has (problem known.now) content.now (vertex_ref_view vertex.now) s
+        → (n : ℕ) × (o ≡ Some n) × (n < length (space (problem known.now) (vertex_ref_view vertex.now)))
+        × (state_at (problem known.now) (vertex_ref_view vertex.now) n ≡ s)) }
 {
     let packages = content.packages();
     match vertex {
         VertexRef::Root => Ok(Some(1)),
-        VertexRef::Package(name, class) => Ok(version_in(inputs, packages, name, *class)),
-        VertexRef::Dependency(owner, number) => class_in(alloc, inputs, packages, owner, *number),
+        VertexRef::Package(name, class) => Ok(version_in(known, packages, name, *class)),
+        VertexRef::Dependency(owner, number) => class_in(alloc, known, packages, owner, *number),
         VertexRef::Feature(_, _, _) => Ok(Some(1)),
         VertexRef::Ask(_, _, _, _) => Ok(Some(1)),
     }
@@ -47,37 +47,37 @@ pub fn state_in(
 
 /// The state of a name and a class: the version of its package.
 fn version_in(
-    inputs: &KnownProblem<'_>,
+    known: &KnownProblem<'_>,
     content: &[Package],
     name: &PackageName,
     class: Class,
 ) -> Option<u32>
-    requires valid { IsValidSelection (problem inputs.now) (package_views content.now) }
-    ensures { IsStateIn (problem inputs.now) (package_views content.now) (pkg name.now (class_view class)) result }
+    requires valid { IsValidSelection (problem known.now) (package_views content.now) }
+    ensures { IsStateIn (problem known.now) (package_views content.now) (pkg name.now (class_view class)) result }
 {
     let locked = package_in(content, name, class)?;
-    version_number(inputs, name, class, &locked.version)
+    version_number(known, name, class, &locked.version)
 }
 
 /// The state of a dependency of an owner: the class of the package that it leads to.
 fn class_in(
     alloc: Global,
-    inputs: &KnownProblem<'_>,
+    known: &KnownProblem<'_>,
     content: &[Package],
     owner: &OwnerRef<'_>,
     number: usize,
 ) -> Result<Option<u32>, AllocError>
-    requires valid { IsValidSelection (problem inputs.now) (package_views content.now) }
+    requires valid { IsValidSelection (problem known.now) (package_views content.now) }
     ensures { IfOk result
-        (IsStateIn (problem inputs.now) (package_views content.now) (dep (owner_ref_view owner.now) number)) }
+        (IsStateIn (problem known.now) (package_views content.now) (dep (owner_ref_view owner.now) number)) }
 {
-    spaces_are_small(inputs);
-    let Some(dependency) = dependency_at(inputs, owner, number) else {
+    spaces_are_small(known);
+    let Some(dependency) = dependency_at(known, owner, number) else {
         return Ok(None);
     };
-    let Some(locked) = led_to(inputs, content, owner, dependency) else {
+    let Some(locked) = led_to(known, content, owner, dependency) else {
         return Ok(None);
     };
-    let classes = classes_of(alloc, inputs, dependency)?;
+    let classes = classes_of(alloc, known, dependency)?;
     Ok(class_number(classes.as_slice(), Class::of(&locked.version)))
 }

@@ -1,6 +1,6 @@
 -- The classes of versions that are oldest first come in runs: behind those of the first class stand those of others.
 use Rattle.std.proofs.Common.{◌≡◌, ◌<◌, ◌≤◌, ℕ, zero, suc, List, [], ◌∷◌, map, filter, drop, length, Bool, true, false}
-use Rattle.std.proofs.Common.{cond, ◌||◌, Contains, nat_lt, Some, slice_get, refl, sym, ap, ◌∙◌, subst, inl, inr, arith}
+use Rattle.std.proofs.Common.{cond, ◌||◌, Contains, Some, slice_get, refl, sym, ap, ◌∙◌, subst, arith}
 use Rattle.std.proofs.Common.{true≢false}
 use Rattle.std.specs.List.{list_any, AllPairs}
 use Rattle.std.specs.Ordering.{is_gt}
@@ -13,62 +13,19 @@ use Rattle.semver.specs.declared.Version.{Version}
 use Rattle.model.specs.Axioms.{is_lower}
 use Rattle.model.specs.Content.{Candidate}
 use Rattle.model.specs.Order.{precedence}
-use Rattle.model.specs.Selection.{Class, patch, minor, major, class_of}
+use Rattle.model.specs.Selection.{Class, class_of}
 use Rattle.model.specs.Vertices.{add_class, classes_of, same_class}
-use Rattle.model.proofs.Lists.{any_of, in_cons, in_first, in_rest, pairs_first, pairs_rest}
+use Rattle.model.proofs.Lists.{any_of, in_first, in_rest, pairs_rest}
 use Rattle.model.proofs.Orders.{class_above}
 use Rattle.model.proofs.Same.{class-refl, class-same}
 use Rattle.looking_up.specs.Ranges.{AreRising, is_of}
+use Rattle.encoding.proofs.ClassOrder.{Comes, folded, folded_in, next_same}
 use Rattle.encoding.proofs.Distinct.{pairs_map}
 use Rattle.encoding.proofs.Grouped.{oldest_first}
 use Rattle.full_encoding.specs.Everything.{classes_in, versions}
 use Rattle.full_encoding.specs.Runs.{IsRun}
 
 -- ---- classes
-
--- the second class isn't lower
-abbrev Comes : Class → Class → Type 0
-Comes k m = is_lower m k ≡ false
-
-same_number : (a b : ℕ) → nat_lt a b ≡ false → nat_lt b a ≡ false → a ≡ b
-same_number a b h k = grind (arith, h, k)
-
--- two classes of which neither is lower are one
-neither : (k m : Class) → Comes k m → Comes m k → m ≡ k
-neither (patch a) (patch b) h k = ap patch (same_number b a h k)
-neither (patch a) (minor b) h k = absurd (true≢false k)
-neither (patch a) (major b) h k = absurd (true≢false k)
-neither (minor a) (patch b) h k = absurd (true≢false h)
-neither (minor a) (minor b) h k = ap minor (same_number b a h k)
-neither (minor a) (major b) h k = absurd (true≢false k)
-neither (major a) (patch b) h k = absurd (true≢false h)
-neither (major a) (minor b) h k = absurd (true≢false h)
-neither (major a) (major b) h k = ap major (same_number b a h k)
-
--- a class that is there again comes next
-next_same : (k m : Class) (ks : List Class) → AllPairs Comes (k ∷ m ∷ ks) → Contains (m ∷ ks) k → m ≡ k
-next_same k m ks h c = elim (in_cons m k ks c) [
-  | inl e ↦ e
-  | inr d ↦ neither k m (pairs_first Comes k m (m ∷ ks) h (in_first m ks))
-      (pairs_first Comes m k ks (pairs_rest Comes k (m ∷ ks) h) d)
-]
-
-abbrev folded : List Class → List Class
-folded [] = []
-folded (k ∷ ks) = add_class k (folded ks)
-
-folded_in : (ks : List Class) (c : Class) → Contains (folded ks) c → Contains ks c
-folded_in [] c h = h
-folded_in (k ∷ ks) c h = by (folded_in ks c) (list_any (same_class k) (folded ks)) h
-  where
-    by : (Contains (folded ks) c → Contains ks c) → (b : Bool)
-        → Contains (cond b (folded ks) (k ∷ folded ks)) c → Contains (k ∷ ks) c
-    by rest true h = in_rest k c ks (rest h)
-    by rest false h = elim (in_cons k c (folded ks) h) [
-      | inl e ↦ subst
-          (λ x. Contains (k ∷ ks) x) e (in_first k ks)
-      | inr d ↦ in_rest k c ks (rest d)
-    ]
 
 filter_none : (k : Class) (ks : List Class) → (Contains ks k → ⊥) → filter (same_class k) ks ≡ []
 filter_none k [] none = refl

@@ -57,14 +57,14 @@ pub(crate) fn vertex_below<'a>(
 
 /// Whether there is a vertex with a number that has a state with a number.
 fn has(
-    inputs: &KnownProblem<'_>,
+    known: &KnownProblem<'_>,
     table: &Table<'_>,
     spaces: &[u32],
     vertex: usize,
     state: usize,
 ) -> bool
-    requires { AreSpaces (problem inputs.now) table.now spaces.now }
-    ensures { result ≡ is_some (pair_at (encoding_view inputs.now table.now spaces.now) vertex state) }
+    requires { AreSpaces (problem known.now) table.now spaces.now }
+    ensures { result ≡ is_some (pair_at (encoding_view known.now table.now spaces.now) vertex state) }
 {
     match spaces.get(vertex) {
         Some(count) => state < *count as usize,
@@ -75,21 +75,21 @@ fn has(
 /// The state with a number, of the vertex with a number.
 pub(crate) fn value_of<'a>(
     alloc: Global,
-    inputs: &KnownProblem<'a>,
+    known: &KnownProblem<'a>,
     table: &Table<'a>,
     spaces: &[u32],
     vertex: usize,
     state: usize,
 ) -> Result<Option<StateRef<'a>>, AllocError>
-    requires { AreSpaces (problem inputs.now) table.now spaces.now }
+    requires { AreSpaces (problem known.now) table.now spaces.now }
     ensures { IfOk result (λ s. option_map state_ref_view s
-        ≡ option_map (λ p. p.1) (pair_at (encoding_view inputs.now table.now spaces.now) vertex state)) }
+        ≡ option_map (λ p. p.1) (pair_at (encoding_view known.now table.now spaces.now) vertex state)) }
 {
-    if !has(inputs, table, spaces, vertex, state) {
+    if !has(known, table, spaces, vertex, state) {
         return Ok(None);
     }
     match table.vertex(vertex) {
-        Some(found) => Ok(Some(state_at(alloc, inputs, &found, state)?)),
+        Some(found) => Ok(Some(state_at(alloc, known, &found, state)?)),
         None => Ok(None),
     }
 }
@@ -97,45 +97,45 @@ pub(crate) fn value_of<'a>(
 /// The instances of a vertex and a state, by their numbers.
 pub(crate) fn pair_axioms<'a, S: States + Drop>(
     alloc: Global,
-    inputs: &KnownProblem<'a>,
+    known: &KnownProblem<'a>,
     table: &mut Table<'a>,
     spaces: &mut Vec<u32>,
     vertex: usize,
     state: usize,
 ) -> Result<Vec<(Kind, Incompatibility<S>)>, AllocError>
-    requires encoding { IsEncoding inputs.now table.old spaces.old.items }
-    ensures encoding { IsEncoding inputs.now table.new spaces.new.items }
+    requires encoding { IsEncoding known.now table.old spaces.old.items }
+    ensures encoding { IsEncoding known.now table.new spaces.new.items }
     ensures grown { IsGrown (take (length spaces.old.items) table.old) (take (length spaces.new.items) table.new) }
-    ensures only { AddsFor (problem inputs.now) (pair_at (encoding_view inputs.now table.old spaces.old.items) vertex
-        state) (spoken (encoding_view inputs.now table.old spaces.old.items))
-        (spoken (encoding_view inputs.now table.new spaces.new.items)) }
-    ensures given { IfOk result (λ xs. IsGivenIf (problem inputs.now) (take (length spaces.new.items) table.new)
-        (pair_at (encoding_view inputs.now table.old spaces.old.items) vertex state) (given_views S.tests xs.items)) }
+    ensures only { AddsFor (problem known.now) (pair_at (encoding_view known.now table.old spaces.old.items) vertex
+        state) (spoken (encoding_view known.now table.old spaces.old.items))
+        (spoken (encoding_view known.now table.new spaces.new.items)) }
+    ensures given { IfOk result (λ xs. IsGivenIf (problem known.now) (take (length spaces.new.items) table.new)
+        (pair_at (encoding_view known.now table.old spaces.old.items) vertex state) (given_views S.tests xs.items)) }
 {
-    if !has(inputs, table, spaces.as_slice(), vertex, state) {
+    if !has(known, table, spaces.as_slice(), vertex, state) {
         return Ok(Vec::new(alloc));
     }
-    let given = axioms_at(alloc, inputs, table, vertex, state)?;
-    put_spaces(alloc, inputs, table, spaces)?;
+    let given = axioms_at(alloc, known, table, vertex, state)?;
+    put_spaces(alloc, known, table, spaces)?;
     Ok(given)
 }
 
 /// All instances, once every vertex has a number.
 pub(crate) fn every_axiom<'a, S: States + Drop>(
     alloc: Global,
-    inputs: &KnownProblem<'a>,
+    known: &KnownProblem<'a>,
     table: &mut Table<'a>,
     spaces: &mut Vec<u32>,
 ) -> Result<Vec<(Kind, Incompatibility<S>)>, AllocError>
-    requires encoding { IsEncoding inputs.now table.old spaces.old.items }
-    ensures encoding { IsEncoding inputs.now table.new spaces.new.items }
+    requires encoding { IsEncoding known.now table.old spaces.old.items }
+    ensures encoding { IsEncoding known.now table.new spaces.new.items }
     ensures grown { IsGrown (take (length spaces.old.items) table.old) (take (length spaces.new.items) table.new) }
-    ensures whole { IfOk result (λ _. IsWhole (problem inputs.now) (take (length spaces.new.items) table.new)) }
+    ensures whole { IfOk result (λ _. IsWhole (problem known.now) (take (length spaces.new.items) table.new)) }
     ensures given { IfOk result (λ xs.
-        IsGivenAll (problem inputs.now) (take (length spaces.new.items) table.new) (given_views S.tests xs.items)) }
+        IsGivenAll (problem known.now) (take (length spaces.new.items) table.new) (given_views S.tests xs.items)) }
 {
-    number_all(alloc, inputs, table)?;
-    let given = all_axioms(alloc, inputs, table)?;
-    put_spaces(alloc, inputs, table, spaces)?;
+    number_all(alloc, known, table)?;
+    let given = all_axioms(alloc, known, table)?;
+    put_spaces(alloc, known, table, spaces)?;
     Ok(given)
 }

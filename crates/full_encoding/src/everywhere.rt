@@ -20,20 +20,20 @@ use vertices::{Kind, StateRef, VertexRef};
 /// The instances of all pairs of a vertex and a state, where every vertex has a number.
 pub(crate) fn all_axioms<'a, S: States + Drop>(
     alloc: Global,
-    inputs: &KnownProblem<'a>,
+    known: &KnownProblem<'a>,
     table: &mut Table<'a>,
 ) -> Result<Vec<(Kind, Incompatibility<S>)>, AllocError>
-    requires default { KnowsDefault inputs.now }
-    requires numbering { IsNumbering (problem inputs.now) table.old }
-    requires whole { IsWhole (problem inputs.now) table.old }
+    requires default { KnowsDefault known.now }
+    requires numbering { IsNumbering (problem known.now) table.old }
+    requires whole { IsWhole (problem known.now) table.old }
     ensures grown { IsGrown table.old table.new }
-    ensures numbering { IsNumbering (problem inputs.now) table.new }
-    ensures given { IfOk result (λ xs. IsGivenAll (problem inputs.now) table.new (given_views S.tests xs.items)) }
+    ensures numbering { IsNumbering (problem known.now) table.new }
+    ensures given { IfOk result (λ xs. IsGivenAll (problem known.now) table.new (given_views S.tests xs.items)) }
 {
-    catalogues_are_well_formed(inputs.manifest, inputs.catalogue);
+    catalogues_are_well_formed(known.manifest, known.catalogue);
     let mut given = Vec::new(alloc);
     'vertices: for number in 0..table.len() {
-        put_vertex(alloc, inputs, table, &mut given, number)?;
+        put_vertex(alloc, known, table, &mut given, number)?;
     }
     Ok(given)
 }
@@ -41,23 +41,23 @@ pub(crate) fn all_axioms<'a, S: States + Drop>(
 /// The instances of the vertex with a number, in each of its states.
 fn put_vertex<'a, S: States + Drop>(
     alloc: Global,
-    inputs: &KnownProblem<'a>,
+    known: &KnownProblem<'a>,
     table: &mut Table<'a>,
     given: &mut Vec<(Kind, Incompatibility<S>)>,
     number: usize,
 ) -> Result<(), AllocError>
-    requires default { KnowsDefault inputs.now }
-    requires numbering { IsNumbering (problem inputs.now) table.old }
+    requires default { KnowsDefault known.now }
+    requires numbering { IsNumbering (problem known.now) table.old }
     ensures grown { IsGrown table.old table.new }
-    ensures numbering { IsNumbering (problem inputs.now) table.new }
+    ensures numbering { IsNumbering (problem known.now) table.new }
     ensures given { OnOk result
         ((v : Vertex) (ps : List Pair) → slice_get table.old number ≡ Some v → ((s : State) → Contains ps (v, s) → ⊥)
-        → IsGivenFor (problem inputs.now) table.old ps (given_views S.tests given.old.items)
-        → IsGivenFor (problem inputs.now) table.new (ps ++ pairs_of (problem inputs.now) v)
+        → IsGivenFor (problem known.now) table.old ps (given_views S.tests given.old.items)
+        → IsGivenFor (problem known.now) table.new (ps ++ pairs_of (problem known.now) v)
         (given_views S.tests given.new.items)) }
 {
     match table.vertex(number) {
-        Some(vertex) => put_each(alloc, inputs, table, given, vertex),
+        Some(vertex) => put_each(alloc, known, table, given, vertex),
         None => Ok(()),
     }
 }
@@ -66,47 +66,47 @@ fn put_vertex<'a, S: States + Drop>(
 /// name.
 fn put_each<'a, S: States + Drop>(
     alloc: Global,
-    inputs: &KnownProblem<'a>,
+    known: &KnownProblem<'a>,
     table: &mut Table<'a>,
     given: &mut Vec<(Kind, Incompatibility<S>)>,
     vertex: VertexRef<'a>,
 ) -> Result<(), AllocError>
-    requires default { KnowsDefault inputs.now }
-    requires numbering { IsNumbering (problem inputs.now) table.old }
-    requires vertex { IsVertex (problem inputs.now) (vertex_ref_view vertex) }
+    requires default { KnowsDefault known.now }
+    requires numbering { IsNumbering (problem known.now) table.old }
+    requires vertex { IsVertex (problem known.now) (vertex_ref_view vertex) }
     ensures grown { IsGrown table.old table.new }
-    ensures numbering { IsNumbering (problem inputs.now) table.new }
+    ensures numbering { IsNumbering (problem known.now) table.new }
     ensures given { OnOk result ((ps : List Pair) → ((s : State) → Contains ps (vertex_ref_view vertex.entry, s) → ⊥)
-        → IsGivenFor (problem inputs.now) table.old ps (given_views S.tests given.old.items)
-        → IsGivenFor (problem inputs.now) table.new (ps ++ pairs_of (problem inputs.now) (vertex_ref_view vertex.entry))
+        → IsGivenFor (problem known.now) table.old ps (given_views S.tests given.old.items)
+        → IsGivenFor (problem known.now) table.new (ps ++ pairs_of (problem known.now) (vertex_ref_view vertex.entry))
         (given_views S.tests given.new.items)) }
 {
-    let states = states_of(alloc, inputs, &vertex)?;
-    put_states(alloc, inputs, table, given, vertex, states.as_slice())
+    let states = states_of(alloc, known, &vertex)?;
+    put_states(alloc, known, table, given, vertex, states.as_slice())
 }
 
 fn put_states<'a, S: States + Drop>(
     alloc: Global,
-    inputs: &KnownProblem<'a>,
+    known: &KnownProblem<'a>,
     table: &mut Table<'a>,
     given: &mut Vec<(Kind, Incompatibility<S>)>,
     vertex: VertexRef<'a>,
     states: &[StateRef<'a>],
 ) -> Result<(), AllocError>
-    requires default { KnowsDefault inputs.now }
-    requires numbering { IsNumbering (problem inputs.now) table.old }
-    requires vertex { IsVertex (problem inputs.now) (vertex_ref_view vertex) }
-    requires states { state_ref_views states.now ≡ space (problem inputs.now) (vertex_ref_view vertex) }
+    requires default { KnowsDefault known.now }
+    requires numbering { IsNumbering (problem known.now) table.old }
+    requires vertex { IsVertex (problem known.now) (vertex_ref_view vertex) }
+    requires states { state_ref_views states.now ≡ space (problem known.now) (vertex_ref_view vertex) }
     ensures grown { IsGrown table.old table.new }
-    ensures numbering { IsNumbering (problem inputs.now) table.new }
+    ensures numbering { IsNumbering (problem known.now) table.new }
     ensures given { OnOk result ((ps : List Pair) → ((s : State) → Contains ps (vertex_ref_view vertex.entry, s) → ⊥)
-        → IsGivenFor (problem inputs.now) table.old ps (given_views S.tests given.old.items)
-        → IsGivenFor (problem inputs.now) table.new (ps ++ pairs_of (problem inputs.now) (vertex_ref_view vertex.entry))
+        → IsGivenFor (problem known.now) table.old ps (given_views S.tests given.old.items)
+        → IsGivenFor (problem known.now) table.new (ps ++ pairs_of (problem known.now) (vertex_ref_view vertex.entry))
         (given_views S.tests given.new.items)) }
 {
-    catalogues_are_well_formed(inputs.manifest, inputs.catalogue);
+    catalogues_are_well_formed(known.manifest, known.catalogue);
     'states: for state in states.iter() {
-        put_state(alloc, inputs, table, given, vertex, *state)?;
+        put_state(alloc, known, table, given, vertex, *state)?;
     }
     Ok(())
 }
@@ -114,25 +114,25 @@ fn put_states<'a, S: States + Drop>(
 /// The instances of a vertex in a state.
 fn put_state<'a, S: States + Drop>(
     alloc: Global,
-    inputs: &KnownProblem<'a>,
+    known: &KnownProblem<'a>,
     table: &mut Table<'a>,
     given: &mut Vec<(Kind, Incompatibility<S>)>,
     vertex: VertexRef<'a>,
     state: StateRef<'a>,
 ) -> Result<(), AllocError>
-    requires default { KnowsDefault inputs.now }
-    requires numbering { IsNumbering (problem inputs.now) table.old }
-    requires vertex { IsVertex (problem inputs.now) (vertex_ref_view vertex) }
-    requires state { Contains (space (problem inputs.now) (vertex_ref_view vertex)) (state_ref_view state) }
+    requires default { KnowsDefault known.now }
+    requires numbering { IsNumbering (problem known.now) table.old }
+    requires vertex { IsVertex (problem known.now) (vertex_ref_view vertex) }
+    requires state { Contains (space (problem known.now) (vertex_ref_view vertex)) (state_ref_view state) }
     ensures grown { IsGrown table.old table.new }
-    ensures numbering { IsNumbering (problem inputs.now) table.new }
+    ensures numbering { IsNumbering (problem known.now) table.new }
     ensures given { OnOk result
         ((ps : List Pair) → (Contains ps (vertex_ref_view vertex.entry, state_ref_view state.entry) → ⊥)
-        → IsGivenFor (problem inputs.now) table.old ps (given_views S.tests given.old.items)
-        → IsGivenFor (problem inputs.now) table.new (ps ++ (vertex_ref_view vertex.entry, state_ref_view state.entry)
+        → IsGivenFor (problem known.now) table.old ps (given_views S.tests given.old.items)
+        → IsGivenFor (problem known.now) table.new (ps ++ (vertex_ref_view vertex.entry, state_ref_view state.entry)
         ∷ []) (given_views S.tests given.new.items)) }
 {
-    let mut more = axioms_of(alloc, inputs, table, vertex, state)?;
+    let mut more = axioms_of(alloc, known, table, vertex, state)?;
     given.append(&mut more)?;
     Ok(())
 }

@@ -10,7 +10,7 @@ ghost use Rattle.model.specs.Summary.{asked_of_target};
 ghost use Rattle.model.specs.Vertices.{ask, version_of};
 ghost use Rattle.encoding.specs.Called.{called_so, numbered_from, numbered_views};
 ghost use Rattle.encoding.specs.KnownProblem.{KnowsDefault, problem};
-ghost use Rattle.vertices.specs.RefViews.{owner_ref_view, vertex_ref_view};
+ghost use Rattle.vertices.specs.RefViews.{owner_ref_view};
 ghost use Rattle.full_encoding.specs.Everything.{ask_if, asked_of, each_from, feature_of, first_feature, named};
 ghost use Rattle.full_encoding.specs.Everything.{of_dependency, of_entry, of_feature, of_name, of_root, of_table};
 ghost use Rattle.full_encoding.specs.Everything.{of_version};
@@ -33,60 +33,60 @@ struct Release<'a> {
 /// The vertices of the root, and those of the candidates of each name.
 pub(crate) fn named<'a>(
     alloc: Global,
-    inputs: &KnownProblem<'a>,
+    known: &KnownProblem<'a>,
 ) -> Result<Vec<VertexRef<'a>>, AllocError>
-    requires default { KnowsDefault inputs.now }
-    ensures { IfOk result (λ vs. vertex_views vs.items ≡ named (problem inputs.now)) }
+    requires default { KnowsDefault known.now }
+    ensures { IfOk result (λ vs. vertex_views vs.items ≡ named (problem known.now)) }
 {
     let mut vertices = Vec::new(alloc);
-    put_root(alloc, inputs, &mut vertices)?;
-    put_names(alloc, inputs, &mut vertices, inputs.catalogue.names())?;
+    put_root(alloc, known, &mut vertices)?;
+    put_names(alloc, known, &mut vertices, known.catalogue.names())?;
     Ok(vertices)
 }
 
 /// The root, its dependencies, and what the entries of its features ask these for.
 fn put_root<'a>(
     alloc: Global,
-    inputs: &KnownProblem<'a>,
+    known: &KnownProblem<'a>,
     vertices: &mut Vec<VertexRef<'a>>,
 ) -> Result<(), AllocError>
-    requires default { KnowsDefault inputs.now }
+    requires default { KnowsDefault known.now }
     ensures { OnOk result
-        (vertex_views vertices.new.items ≡ vertex_views vertices.old.items ++ of_root (problem inputs.now)) }
+        (vertex_views vertices.new.items ≡ vertex_views vertices.old.items ++ of_root (problem known.now)) }
 {
-    let dependencies = inputs.manifest.dependencies();
+    let dependencies = known.manifest.dependencies();
     vertices.push(VertexRef::Root)?;
-    put_dependencies(inputs, vertices, OwnerRef::Root, dependencies)?;
+    put_dependencies(known, vertices, OwnerRef::Root, dependencies)?;
     let called = ByName::of(alloc, dependencies)?;
-    put_rows(inputs, vertices, &called, inputs.manifest.features())
+    put_rows(known, vertices, &called, known.manifest.features())
 }
 
 fn put_rows<'a>(
-    inputs: &KnownProblem<'a>,
+    known: &KnownProblem<'a>,
     vertices: &mut Vec<VertexRef<'a>>,
     called: &ByName<'a>,
     table: &'a FeatureTable,
 ) -> Result<(), AllocError>
     ensures { OnOk result (vertex_views vertices.new.items ≡ vertex_views vertices.old.items ++ flat_map (λ row.
-        flat_map (λ e. flat_map (asked_of (problem inputs.now) called.now) (asked_by e)) row.1) table.entry.now) }
+        flat_map (λ e. flat_map (asked_of (problem known.now) called.now) (asked_by e)) row.1) table.entry.now) }
 {
     'rows: for (_, entries) in table.iter() {
-        put_row(inputs, vertices, called, entries.as_slice())?;
+        put_row(known, vertices, called, entries.as_slice())?;
     }
     Ok(())
 }
 
 fn put_row<'a>(
-    inputs: &KnownProblem<'a>,
+    known: &KnownProblem<'a>,
     vertices: &mut Vec<VertexRef<'a>>,
     called: &ByName<'a>,
     entries: &'a [Entry],
 ) -> Result<(), AllocError>
     ensures { OnOk result (vertex_views vertices.new.items ≡ vertex_views vertices.old.items ++ flat_map (λ e.
-        flat_map (asked_of (problem inputs.now) called.now) (asked_by e)) (entry_views entries.entry.now)) }
+        flat_map (asked_of (problem known.now) called.now) (asked_by e)) (entry_views entries.entry.now)) }
 {
     'entries: for entry in entries.iter() {
-        put_asked(inputs, vertices, called, entry)?;
+        put_asked(known, vertices, called, entry)?;
     }
     Ok(())
 }
@@ -94,39 +94,33 @@ fn put_row<'a>(
 /// The candidates of each name.
 fn put_names<'a>(
     alloc: Global,
-    inputs: &KnownProblem<'a>,
+    known: &KnownProblem<'a>,
     vertices: &mut Vec<VertexRef<'a>>,
     names: &'a [PackageName],
 ) -> Result<(), AllocError>
-    requires default { KnowsDefault inputs.now }
+    requires default { KnowsDefault known.now }
     ensures { OnOk result (vertex_views vertices.new.items
-        ≡ vertex_views vertices.old.items ++ flat_map (of_name (problem inputs.now)) names.entry.now) }
+        ≡ vertex_views vertices.old.items ++ flat_map (of_name (problem known.now)) names.entry.now) }
 {
     'names: for name in names.iter() {
-        put_versions(
-            alloc,
-            inputs,
-            vertices,
-            name,
-            inputs.catalogue.versions(name),
-        )?;
+        put_versions(alloc, known, vertices, name, known.catalogue.versions(name))?;
     }
     Ok(())
 }
 
 fn put_versions<'a>(
     alloc: Global,
-    inputs: &KnownProblem<'a>,
+    known: &KnownProblem<'a>,
     vertices: &mut Vec<VertexRef<'a>>,
     name: &'a PackageName,
     versions: &'a [Version],
 ) -> Result<(), AllocError>
-    requires default { KnowsDefault inputs.now }
+    requires default { KnowsDefault known.now }
     ensures { OnOk result (vertex_views vertices.new.items ≡ vertex_views vertices.old.items
-        ++ flat_map (of_version (problem inputs.now) name.entry.now) (map parts_of versions.entry.now)) }
+        ++ flat_map (of_version (problem known.now) name.entry.now) (map parts_of versions.entry.now)) }
 {
     'versions: for version in versions.iter() {
-        put_version(alloc, inputs, vertices, Release { name, version })?;
+        put_version(alloc, known, vertices, Release { name, version })?;
     }
     Ok(())
 }
@@ -134,17 +128,17 @@ fn put_versions<'a>(
 /// A version in its class, and what it brings.
 fn put_version<'a>(
     alloc: Global,
-    inputs: &KnownProblem<'a>,
+    known: &KnownProblem<'a>,
     vertices: &mut Vec<VertexRef<'a>>,
     release: Release<'a>,
 ) -> Result<(), AllocError>
-    requires default { KnowsDefault inputs.now }
+    requires default { KnowsDefault known.now }
     ensures { OnOk result (vertex_views vertices.new.items ≡ vertex_views vertices.old.items
-        ++ of_version (problem inputs.now) release.entry.name.now (parts_of release.entry.version.now)) }
+        ++ of_version (problem known.now) release.entry.name.now (parts_of release.entry.version.now)) }
 {
     vertices.push(VertexRef::Package(release.name, Class::of(release.version)))?;
-    match inputs.catalogue.candidate(release.name, release.version) {
-        Some(candidate) => put_brought(alloc, inputs, vertices, release, &candidate.brings),
+    match known.catalogue.candidate(release.name, release.version) {
+        Some(candidate) => put_brought(alloc, known, vertices, release, &candidate.brings),
         None => Ok(()),
     }
 }
@@ -152,26 +146,26 @@ fn put_version<'a>(
 /// The dependencies of a version, and its features.
 fn put_brought<'a>(
     alloc: Global,
-    inputs: &KnownProblem<'a>,
+    known: &KnownProblem<'a>,
     vertices: &mut Vec<VertexRef<'a>>,
     release: Release<'a>,
     brings: &'a Summary,
 ) -> Result<(), AllocError>
-    requires default { KnowsDefault inputs.now }
+    requires default { KnowsDefault known.now }
     ensures { OnOk result (vertex_views vertices.new.items
-        ≡ vertex_views vertices.old.items ++ (each_from (of_dependency (problem inputs.now)
+        ≡ vertex_views vertices.old.items ++ (each_from (of_dependency (problem known.now)
         (version_of release.entry.name.now (parts_of release.entry.version.now))) 0
-        (summary_view brings.entry.now).dependencies ++ of_table (problem inputs.now) release.entry.name.now
+        (summary_view brings.entry.now).dependencies ++ of_table (problem known.now) release.entry.name.now
         (parts_of release.entry.version.now) (summary_view brings.entry.now))) }
 {
     let owner = OwnerRef::Version(release.name, release.version);
-    put_dependencies(inputs, vertices, owner, brings.dependencies.as_slice())?;
+    put_dependencies(known, vertices, owner, brings.dependencies.as_slice())?;
     let called = ByName::of(alloc, brings.dependencies.as_slice())?;
-    put_table(inputs, vertices, release, &called, brings)
+    put_table(known, vertices, release, &called, brings)
 }
 
 fn put_table<'a>(
-    inputs: &KnownProblem<'a>,
+    known: &KnownProblem<'a>,
     vertices: &mut Vec<VertexRef<'a>>,
     release: Release<'a>,
     called: &ByName<'a>,
@@ -179,18 +173,18 @@ fn put_table<'a>(
 ) -> Result<(), AllocError>
     requires called { called.now ≡ (summary_view brings.now).dependencies }
     ensures { OnOk result (vertex_views vertices.new.items
-        ≡ vertex_views vertices.old.items ++ of_table (problem inputs.now) release.entry.name.now
+        ≡ vertex_views vertices.old.items ++ of_table (problem known.now) release.entry.name.now
         (parts_of release.entry.version.now) (summary_view brings.entry.now)) }
 {
     'rows: for (feature, _) in brings.features.iter() {
-        put_feature(inputs, vertices, release, called, brings, feature)?;
+        put_feature(known, vertices, release, called, brings, feature)?;
     }
     Ok(())
 }
 
 /// A feature of a version, and what its entries ask for.
 fn put_feature<'a>(
-    inputs: &KnownProblem<'a>,
+    known: &KnownProblem<'a>,
     vertices: &mut Vec<VertexRef<'a>>,
     release: Release<'a>,
     called: &ByName<'a>,
@@ -199,12 +193,12 @@ fn put_feature<'a>(
 ) -> Result<(), AllocError>
     requires called { called.now ≡ (summary_view brings.now).dependencies }
     ensures { OnOk result (vertex_views vertices.new.items
-        ≡ vertex_views vertices.old.items ++ of_feature (problem inputs.now) release.entry.name.now
+        ≡ vertex_views vertices.old.items ++ of_feature (problem known.now) release.entry.name.now
         (parts_of release.entry.version.now) (summary_view brings.entry.now) feature.entry.now) }
 {
-    put_first(inputs, vertices, release.name, feature)?;
+    put_first(known, vertices, release.name, feature)?;
     put_entries(
-        inputs,
+        known,
         vertices,
         release,
         called,
@@ -213,35 +207,35 @@ fn put_feature<'a>(
 }
 
 fn put_entries<'a>(
-    inputs: &KnownProblem<'a>,
+    known: &KnownProblem<'a>,
     vertices: &mut Vec<VertexRef<'a>>,
     release: Release<'a>,
     called: &ByName<'a>,
     entries: &'a [Entry],
 ) -> Result<(), AllocError>
     ensures { OnOk result (vertex_views vertices.new.items
-        ≡ vertex_views vertices.old.items ++ flat_map (of_entry (problem inputs.now) release.entry.name.now
+        ≡ vertex_views vertices.old.items ++ flat_map (of_entry (problem known.now) release.entry.name.now
         (parts_of release.entry.version.now) called.now) (entry_views entries.entry.now)) }
 {
     'entries: for entry in entries.iter() {
-        put_entry(inputs, vertices, release, called, entry)?;
+        put_entry(known, vertices, release, called, entry)?;
     }
     Ok(())
 }
 
 fn put_entry<'a>(
-    inputs: &KnownProblem<'a>,
+    known: &KnownProblem<'a>,
     vertices: &mut Vec<VertexRef<'a>>,
     release: Release<'a>,
     called: &ByName<'a>,
     entry: &'a Entry,
 ) -> Result<(), AllocError>
     ensures { OnOk result (vertex_views vertices.new.items
-        ≡ vertex_views vertices.old.items ++ of_entry (problem inputs.now) release.entry.name.now
+        ≡ vertex_views vertices.old.items ++ of_entry (problem known.now) release.entry.name.now
         (parts_of release.entry.version.now) called.now (entry_view entry.entry.now)) }
 {
     put_asks(vertices, release, called, entry)?;
-    put_asked(inputs, vertices, called, entry)
+    put_asked(known, vertices, called, entry)
 }
 
 /// The vertices of what an entry `d/g` asks the dependencies called d for: no other dependency is looked at.
@@ -300,147 +294,147 @@ fn put_each_ask<'a>(
 
 /// The features that an entry `d/g` or `d?/g` asks of the dependencies called d.
 fn put_asked<'a>(
-    inputs: &KnownProblem<'a>,
+    known: &KnownProblem<'a>,
     vertices: &mut Vec<VertexRef<'a>>,
     called: &ByName<'a>,
     entry: &'a Entry,
 ) -> Result<(), AllocError>
     ensures { OnOk result (vertex_views vertices.new.items ≡ vertex_views vertices.old.items
-        ++ flat_map (asked_of (problem inputs.now) called.now) (asked_by (entry_view entry.entry.now))) }
+        ++ flat_map (asked_of (problem known.now) called.now) (asked_by (entry_view entry.entry.now))) }
 {
     match entry {
         Entry::Feature(_) => Ok(()),
         Entry::Dependency(_) => Ok(()),
-        Entry::DependencyFeature(name, asked) => put_called(inputs, vertices, called, name, asked),
-        Entry::WeakFeature(name, asked) => put_called(inputs, vertices, called, name, asked),
+        Entry::DependencyFeature(name, asked) => put_called(known, vertices, called, name, asked),
+        Entry::WeakFeature(name, asked) => put_called(known, vertices, called, name, asked),
     }
 }
 
 fn put_called<'a>(
-    inputs: &KnownProblem<'a>,
+    known: &KnownProblem<'a>,
     vertices: &mut Vec<VertexRef<'a>>,
     called: &ByName<'a>,
     name: &'a PackageName,
     asked: &'a FeatureName,
 ) -> Result<(), AllocError>
     ensures { OnOk result (vertex_views vertices.new.items ≡ vertex_views vertices.old.items
-        ++ asked_of (problem inputs.now) called.now (name.entry.now, asked.entry.now)) }
+        ++ asked_of (problem known.now) called.now (name.entry.now, asked.entry.now)) }
 {
     match called.those(name.as_str()) {
-        Some(those) => put_each_asked(inputs, vertices, those, asked),
+        Some(those) => put_each_asked(known, vertices, those, asked),
         None => Ok(()),
     }
 }
 
 fn put_each_asked<'a>(
-    inputs: &KnownProblem<'a>,
+    known: &KnownProblem<'a>,
     vertices: &mut Vec<VertexRef<'a>>,
     those: &[Numbered<'a>],
     asked: &'a FeatureName,
 ) -> Result<(), AllocError>
     ensures { OnOk result (vertex_views vertices.new.items ≡ vertex_views vertices.old.items
-        ++ flat_map (λ p. feature_of (problem inputs.now) p.1.real_name asked.entry.now) (numbered_views those.now)) }
+        ++ flat_map (λ p. feature_of (problem known.now) p.1.real_name asked.entry.now) (numbered_views those.now)) }
 {
     'those: for one in those.iter() {
-        put_first(inputs, vertices, &one.dependency.real_name, asked)?;
+        put_first(known, vertices, &one.dependency.real_name, asked)?;
     }
     Ok(())
 }
 
 /// Dependencies, and the features that they ask for.
 fn put_dependencies<'a>(
-    inputs: &KnownProblem<'a>,
+    known: &KnownProblem<'a>,
     vertices: &mut Vec<VertexRef<'a>>,
     owner: OwnerRef<'a>,
     dependencies: &'a [Dependency],
 ) -> Result<(), AllocError>
-    requires default { KnowsDefault inputs.now }
+    requires default { KnowsDefault known.now }
     ensures { OnOk result (vertex_views vertices.new.items ≡ vertex_views vertices.old.items ++ each_from (of_dependency
-        (problem inputs.now) (owner_ref_view owner.entry)) 0 (dependency_views dependencies.entry.now)) }
+        (problem known.now) (owner_ref_view owner.entry)) 0 (dependency_views dependencies.entry.now)) }
 {
     'dependencies: for (number, dependency) in dependencies.iter().enumerate() {
-        put_dependency(inputs, vertices, owner, number, dependency)?;
+        put_dependency(known, vertices, owner, number, dependency)?;
     }
     Ok(())
 }
 
 fn put_dependency<'a>(
-    inputs: &KnownProblem<'a>,
+    known: &KnownProblem<'a>,
     vertices: &mut Vec<VertexRef<'a>>,
     owner: OwnerRef<'a>,
     number: usize,
     dependency: &'a Dependency,
 ) -> Result<(), AllocError>
-    requires default { KnowsDefault inputs.now }
+    requires default { KnowsDefault known.now }
     ensures { OnOk result (vertex_views vertices.new.items ≡ vertex_views vertices.old.items ++ of_dependency
-        (problem inputs.now) (owner_ref_view owner.entry) number (dependency_view dependency.entry.now)) }
+        (problem known.now) (owner_ref_view owner.entry) number (dependency_view dependency.entry.now)) }
 {
     vertices.push(VertexRef::Dependency(owner, number))?;
-    put_wanted(inputs, vertices, dependency)
+    put_wanted(known, vertices, dependency)
 }
 
 /// The features of a dependency's own list, and `default`.
 fn put_wanted<'a>(
-    inputs: &KnownProblem<'a>,
+    known: &KnownProblem<'a>,
     vertices: &mut Vec<VertexRef<'a>>,
     dependency: &'a Dependency,
 ) -> Result<(), AllocError>
-    requires default { KnowsDefault inputs.now }
+    requires default { KnowsDefault known.now }
     ensures { OnOk result (vertex_views vertices.new.items ≡ vertex_views vertices.old.items
-        ++ flat_map (feature_of (problem inputs.now) (dependency_view dependency.entry.now).real_name)
+        ++ flat_map (feature_of (problem known.now) (dependency_view dependency.entry.now).real_name)
         (asked_of_target (dependency_view dependency.entry.now))) }
 {
     put_listed(
-        inputs,
+        known,
         vertices,
         &dependency.real_name,
         dependency.features.as_slice(),
     )?;
-    put_default(inputs, vertices, dependency)
+    put_default(known, vertices, dependency)
 }
 
 fn put_listed<'a>(
-    inputs: &KnownProblem<'a>,
+    known: &KnownProblem<'a>,
     vertices: &mut Vec<VertexRef<'a>>,
     name: &'a PackageName,
     features: &'a [FeatureName],
 ) -> Result<(), AllocError>
     ensures { OnOk result (vertex_views vertices.new.items ≡ vertex_views vertices.old.items
-        ++ flat_map (feature_of (problem inputs.now) name.entry.now) features.entry.now) }
+        ++ flat_map (feature_of (problem known.now) name.entry.now) features.entry.now) }
 {
     'features: for feature in features.iter() {
-        put_first(inputs, vertices, name, feature)?;
+        put_first(known, vertices, name, feature)?;
     }
     Ok(())
 }
 
 fn put_default<'a>(
-    inputs: &KnownProblem<'a>,
+    known: &KnownProblem<'a>,
     vertices: &mut Vec<VertexRef<'a>>,
     dependency: &'a Dependency,
 ) -> Result<(), AllocError>
-    requires default { KnowsDefault inputs.now }
+    requires default { KnowsDefault known.now }
     ensures { OnOk result (vertex_views vertices.new.items ≡ vertex_views vertices.old.items
-        ++ (if (dependency_view dependency.entry.now).default_features then feature_of (problem inputs.now)
+        ++ (if (dependency_view dependency.entry.now).default_features then feature_of (problem known.now)
         (dependency_view dependency.entry.now).real_name (codes "default") else [])) }
 {
     if dependency.default_features {
-        put_first(inputs, vertices, &dependency.real_name, inputs.default)?;
+        put_first(known, vertices, &dependency.real_name, known.default)?;
     }
     Ok(())
 }
 
 /// A feature of a name, in the class of the name's first candidate.
 fn put_first<'a>(
-    inputs: &KnownProblem<'a>,
+    known: &KnownProblem<'a>,
     vertices: &mut Vec<VertexRef<'a>>,
     name: &'a PackageName,
     feature: &'a FeatureName,
 ) -> Result<(), AllocError>
     ensures { OnOk result (vertex_views vertices.new.items
-        ≡ vertex_views vertices.old.items ++ feature_of (problem inputs.now) name.entry.now feature.entry.now) }
+        ≡ vertex_views vertices.old.items ++ feature_of (problem known.now) name.entry.now feature.entry.now) }
 {
-    put_first_of(vertices, name, feature, inputs.catalogue.versions(name))
+    put_first_of(vertices, name, feature, known.catalogue.versions(name))
 }
 
 fn put_first_of<'a>(

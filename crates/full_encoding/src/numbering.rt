@@ -18,31 +18,31 @@ use vertices::VertexRef;
 /// Gives every vertex of the manifest and the loaded index a number, where it has none.
 pub(crate) fn number_all<'a>(
     alloc: Global,
-    inputs: &KnownProblem<'a>,
+    known: &KnownProblem<'a>,
     table: &mut Table<'a>,
 ) -> Result<(), AllocError>
-    requires default { KnowsDefault inputs.now }
-    requires numbering { IsNumbering (problem inputs.now) table.old }
+    requires default { KnowsDefault known.now }
+    requires numbering { IsNumbering (problem known.now) table.old }
     ensures grown { IsGrown table.old table.new }
-    ensures numbering { IsNumbering (problem inputs.now) table.new }
-    ensures whole { OnOk result (IsWhole (problem inputs.now) table.new) }
+    ensures numbering { IsNumbering (problem known.now) table.new }
+    ensures whole { OnOk result (IsWhole (problem known.now) table.new) }
 {
-    catalogues_are_well_formed(inputs.manifest, inputs.catalogue);
-    let vertices = named(alloc, inputs)?;
+    catalogues_are_well_formed(known.manifest, known.catalogue);
+    let vertices = named(alloc, known)?;
     put_all(table, vertices.as_slice())?;
-    widen(alloc, inputs, table)
+    widen(alloc, known, table)
 }
 
 /// Gives numbers to the features of the table in all classes of their names.
 fn widen<'a>(
     alloc: Global,
-    inputs: &KnownProblem<'a>,
+    known: &KnownProblem<'a>,
     table: &mut Table<'a>,
 ) -> Result<(), AllocError>
-    ensures put { IsPut table.old table.new (flat_map (in_classes (problem inputs.now)) table.old) }
-    ensures all { OnOk result (AreIn table.new (flat_map (in_classes (problem inputs.now)) table.old)) }
+    ensures put { IsPut table.old table.new (flat_map (in_classes (problem known.now)) table.old) }
+    ensures all { OnOk result (AreIn table.new (flat_map (in_classes (problem known.now)) table.old)) }
 {
-    let vertices = widened(alloc, inputs, table)?;
+    let vertices = widened(alloc, known, table)?;
     put_all(table, vertices.as_slice())
 }
 

@@ -10,49 +10,49 @@ use std::alloc::{AllocError, Global};
 /// How many states each vertex of the table has.
 pub(crate) fn spaces_of(
     alloc: Global,
-    inputs: &KnownProblem<'_>,
+    known: &KnownProblem<'_>,
     table: &Table<'_>,
 ) -> Result<Vec<u32>, AllocError>
-    ensures are { IfOk result (λ ss. AreSpaces (problem inputs.now) table.now ss.items) }
+    ensures are { IfOk result (λ ss. AreSpaces (problem known.now) table.now ss.items) }
     ensures all { IfOk result (λ ss. take (length ss.items) table.now ≡ table.now) }
     ensures none_waits { IfOk result (λ ss. drop (length ss.items) table.now ≡ []) }
 {
     let mut spaces = Vec::new(alloc);
-    put_spaces(alloc, inputs, table, &mut spaces)?;
+    put_spaces(alloc, known, table, &mut spaces)?;
     Ok(spaces)
 }
 
 /// Puts how many states each vertex of the table has, where it isn't there yet.
 pub(crate) fn put_spaces(
     alloc: Global,
-    inputs: &KnownProblem<'_>,
+    known: &KnownProblem<'_>,
     table: &Table<'_>,
     spaces: &mut Vec<u32>,
 ) -> Result<(), AllocError>
-    requires are { AreSpaces (problem inputs.now) table.now spaces.old.items }
-    ensures are { AreSpaces (problem inputs.now) table.now spaces.new.items }
+    requires are { AreSpaces (problem known.now) table.now spaces.old.items }
+    ensures are { AreSpaces (problem known.now) table.now spaces.new.items }
     ensures more { length spaces.old.items ≤ length spaces.new.items }
     ensures all { OnOk result (length table.now ≤ length spaces.new.items) }
 {
     'vertices: while spaces.len() < table.len() {
-        put_space(alloc, inputs, table, spaces)?;
+        put_space(alloc, known, table, spaces)?;
     }
     Ok(())
 }
 
 fn put_space(
     alloc: Global,
-    inputs: &KnownProblem<'_>,
+    known: &KnownProblem<'_>,
     table: &Table<'_>,
     spaces: &mut Vec<u32>,
 ) -> Result<(), AllocError>
-    requires are { AreSpaces (problem inputs.now) table.now spaces.old.items }
+    requires are { AreSpaces (problem known.now) table.now spaces.old.items }
     requires less { length spaces.old.items < length table.now }
-    ensures are { AreSpaces (problem inputs.now) table.now spaces.new.items }
+    ensures are { AreSpaces (problem known.now) table.now spaces.new.items }
     ensures more { length spaces.old.items ≤ length spaces.new.items }
     ensures longer { OnOk result (length spaces.new.items ≡ length spaces.old.items + 1) }
 {
-    let space = space_at(alloc, inputs, table, spaces.len())?;
+    let space = space_at(alloc, known, table, spaces.len())?;
     spaces.push(space)?;
     Ok(())
 }

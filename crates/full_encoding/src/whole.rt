@@ -26,7 +26,7 @@ use vertices::{Kind, StateRef, VertexRef};
 #[derive(Drop)]
 pub struct Encoding<'a> {
     alloc: Global,
-    inputs: KnownProblem<'a>,
+    known: KnownProblem<'a>,
     table: Table<'a>,
     /// At the place of each vertex, how many states it has. A vertex without a place here has no number yet.
     spaces: Vec<u32>,
@@ -37,9 +37,9 @@ impl<'a> Model for Encoding<'a> {
 
     ghost Value = { EncodingView };
 
-    ghost view = { λ e. encoding_view e.inputs e.table e.spaces.items };
+    ghost view = { λ e. encoding_view e.known e.table e.spaces.items };
 
-    ghost invariant = { λ e. IsEncoding e.inputs e.table e.spaces.items };
+    ghost invariant = { λ e. IsEncoding e.known e.table e.spaces.items };
 }
 
 impl<'a> Encoding<'a> {
@@ -47,49 +47,49 @@ impl<'a> Encoding<'a> {
     ///
     /// # Errors
     /// Memory is wanting.
-    pub fn new(alloc: Global, mut inputs: KnownProblem<'a>) -> Result<Encoding<'a>, AllocError>
-        requires default { KnowsDefault inputs }
-        ensures problem { IfOk result (λ e. e.problem ≡ problem inputs.entry) }
-        ensures whole { IfOk result (λ e. IsWhole (problem inputs.entry) e.vertices) }
+    pub fn new(alloc: Global, mut known: KnownProblem<'a>) -> Result<Encoding<'a>, AllocError>
+        requires default { KnowsDefault known }
+        ensures problem { IfOk result (λ e. e.problem ≡ problem known.entry) }
+        ensures whole { IfOk result (λ e. IsWhole (problem known.entry) e.vertices) }
         ensures none_waits { IfOk result (λ e. e.waiting ≡ []) }
     {
-        inputs.matched.keep_all(alloc)?;
+        known.matched.keep_all(alloc)?;
         let mut table = Table::new(alloc);
-        number_all(alloc, &inputs, &mut table)?;
-        Encoding::of(alloc, inputs, table)
+        number_all(alloc, &known, &mut table)?;
+        Encoding::of(alloc, known, table)
     }
 
     /// The encoding in which the root has a number, and others get theirs once an axiom speaks of them.
     ///
     /// # Errors
     /// Memory is wanting.
-    pub fn on_demand(alloc: Global, inputs: KnownProblem<'a>) -> Result<Encoding<'a>, AllocError>
-        requires default { KnowsDefault inputs }
-        ensures problem { IfOk result (λ e. e.problem ≡ problem inputs.entry) }
+    pub fn on_demand(alloc: Global, known: KnownProblem<'a>) -> Result<Encoding<'a>, AllocError>
+        requires default { KnowsDefault known }
+        ensures problem { IfOk result (λ e. e.problem ≡ problem known.entry) }
         ensures root { IfOk result (λ e. e.vertices ≡ root ∷ []) }
         ensures none_waits { IfOk result (λ e. e.waiting ≡ []) }
     {
         let mut table = Table::new(alloc);
         table.put(VertexRef::Root)?;
-        Encoding::of(alloc, inputs, table)
+        Encoding::of(alloc, known, table)
     }
 
     /// The encoding in which the vertices of a table have their numbers.
     fn of(
         alloc: Global,
-        inputs: KnownProblem<'a>,
+        known: KnownProblem<'a>,
         table: Table<'a>,
     ) -> Result<Encoding<'a>, AllocError>
-        requires default { KnowsDefault inputs }
-        requires numbering { IsNumbering (problem inputs) table }
-        ensures problem { IfOk result (λ e. e.problem ≡ problem inputs.entry) }
+        requires default { KnowsDefault known }
+        requires numbering { IsNumbering (problem known) table }
+        ensures problem { IfOk result (λ e. e.problem ≡ problem known.entry) }
         ensures vertices { IfOk result (λ e. e.vertices ≡ table.entry) }
         ensures none_waits { IfOk result (λ e. e.waiting ≡ []) }
     {
-        let spaces = spaces_of(alloc, &inputs, &table)?;
+        let spaces = spaces_of(alloc, &known, &table)?;
         Ok(Encoding {
             alloc,
-            inputs,
+            known,
             table,
             spaces,
         })
@@ -143,7 +143,7 @@ impl<'a> Encoding<'a> {
     {
         value_of(
             self.alloc,
-            &self.inputs,
+            &self.known,
             &self.table,
             self.spaces.as_slice(),
             vertex,
@@ -169,13 +169,13 @@ impl<'a> Encoding<'a> {
         ensures given { IfOk result (λ xs. IsGivenIf self.new.problem self.new.vertices (pair_at self.old vertex state)
             (given_views S.tests xs.items)) }
     {
-        let inputs = &mut self.inputs;
-        inputs
+        let known = &mut self.known;
+        known
             .matched
             .keep_at(self.alloc, &self.table, vertex, state)?;
         pair_axioms(
             self.alloc,
-            &self.inputs,
+            &self.known,
             &mut self.table,
             &mut self.spaces,
             vertex,
@@ -196,8 +196,8 @@ impl<'a> Encoding<'a> {
         ensures given { IfOk result
             (λ xs. IsGivenAll self.new.problem self.new.vertices (given_views S.tests xs.items)) }
     {
-        let inputs = &mut self.inputs;
-        inputs.matched.keep_all(self.alloc)?;
-        every_axiom(self.alloc, &self.inputs, &mut self.table, &mut self.spaces)
+        let known = &mut self.known;
+        known.matched.keep_all(self.alloc)?;
+        every_axiom(self.alloc, &self.known, &mut self.table, &mut self.spaces)
     }
 }

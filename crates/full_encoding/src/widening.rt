@@ -4,7 +4,7 @@ ghost use Rattle.std.specs.Prelude.{◌≡◌, ◌++◌, Some, IfOk, OnOk, map, 
 ghost use Rattle.std.specs.List.{flat_map};
 ghost use Rattle.semver.specs.Identifiers.{parts_of};
 ghost use Rattle.classes.specs.Classes.{class_view};
-ghost use Rattle.model.specs.Vertices.{Vertex, feat, same_class};
+ghost use Rattle.model.specs.Vertices.{Vertex, feat};
 ghost use Rattle.looking_up.specs.Ranges.{AreRising};
 ghost use Rattle.encoding.specs.KnownProblem.{problem};
 ghost use Rattle.vertices.specs.RefViews.{vertex_ref_view};
@@ -12,7 +12,7 @@ ghost use Rattle.full_encoding.specs.Everything.{classes_in, each_feature, in_cl
 ghost use Rattle.full_encoding.specs.Runs.{IsFirstRun};
 ghost use Rattle.full_encoding.specs.Views.{vertex_views};
 
-use classes::Class;
+use classes::{Class, same_class};
 use encoding::{KnownProblem, Table};
 use features::{FeatureName, PackageName};
 use looking_up::of_class;
@@ -23,40 +23,40 @@ use vertices::VertexRef;
 /// The features in the other classes of their names. Each costs a search among its name's versions.
 pub(crate) fn widened<'a>(
     alloc: Global,
-    inputs: &KnownProblem<'a>,
+    known: &KnownProblem<'a>,
     table: &Table<'a>,
 ) -> Result<Vec<VertexRef<'a>>, AllocError>
-    ensures { IfOk result (λ vs. vertex_views vs.items ≡ flat_map (in_classes (problem inputs.now)) table.now) }
+    ensures { IfOk result (λ vs. vertex_views vs.items ≡ flat_map (in_classes (problem known.now)) table.now) }
 {
     let mut vertices = Vec::new(alloc);
     'numbers: for number in 0..table.len() {
-        put_at(inputs, &mut vertices, table, number)?;
+        put_at(known, &mut vertices, table, number)?;
     }
     Ok(vertices)
 }
 
 fn put_at<'a>(
-    inputs: &KnownProblem<'a>,
+    known: &KnownProblem<'a>,
     vertices: &mut Vec<VertexRef<'a>>,
     table: &Table<'a>,
     number: usize,
 ) -> Result<(), AllocError>
     ensures { OnOk result ((v : Vertex) → slice_get table.now number ≡ Some v
-        → vertex_views vertices.new.items ≡ vertex_views vertices.old.items ++ in_classes (problem inputs.now) v) }
+        → vertex_views vertices.new.items ≡ vertex_views vertices.old.items ++ in_classes (problem known.now) v) }
 {
     match table.vertex(number) {
-        Some(vertex) => put_in_classes(inputs, vertices, vertex),
+        Some(vertex) => put_in_classes(known, vertices, vertex),
         None => Ok(()),
     }
 }
 
 fn put_in_classes<'a>(
-    inputs: &KnownProblem<'a>,
+    known: &KnownProblem<'a>,
     vertices: &mut Vec<VertexRef<'a>>,
     vertex: VertexRef<'a>,
 ) -> Result<(), AllocError>
     ensures { OnOk result (vertex_views vertices.new.items
-        ≡ vertex_views vertices.old.items ++ in_classes (problem inputs.now) (vertex_ref_view vertex.entry)) }
+        ≡ vertex_views vertices.old.items ++ in_classes (problem known.now) (vertex_ref_view vertex.entry)) }
 {
     match vertex {
         VertexRef::Root => Ok(()),
@@ -68,7 +68,7 @@ fn put_in_classes<'a>(
                 name,
                 class,
                 feature,
-                inputs.catalogue.versions(name),
+                known.catalogue.versions(name),
             )
         }
         VertexRef::Ask(_, _, _, _) => Ok(()),
@@ -89,7 +89,7 @@ fn put_each<'a>(
 {
     match versions.first() {
         Some(version) => {
-            if is_same(class, Class::of(version)) {
+            if same_class(&class, &Class::of(version)) {
                 put_classes(vertices, name, feature, versions)
             } else {
                 Ok(())
@@ -97,13 +97,6 @@ fn put_each<'a>(
         }
         None => Ok(()),
     }
-}
-
-#[tactic(auto, using(encoding::proofs::Same::class_same))]
-fn is_same(class: Class, other: Class) -> bool
-    ensures { result ≡ same_class (class_view class) (class_view other) }
-{
-    class == other
 }
 
 fn put_classes<'a>(

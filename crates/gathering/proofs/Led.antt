@@ -19,11 +19,11 @@ use Rattle.model.specs.Search.{IsUnbroken, LeadsTo}
 use Rattle.model.proofs.Lists.{all_first, all_rest}
 use Rattle.catalogue.specs.Stores.{CatalogueView, candidates_at, rows_by_name}
 use Rattle.reaching.specs.Nodes.{AreLeads, IsLead}
-use Rattle.contents.specs.Contents.{owner_if, owners_of, stop_owner}
-use Rattle.contents.specs.declared.stop.Stop.{Stop}
+use Rattle.contents.specs.Contents.{owner_if, owners_of, met_owner}
+use Rattle.contents.specs.declared.met.MetVersion.{MetVersion}
 use Rattle.contents.proofs.Lists.{some_at}
 use Rattle.contents.proofs.Rows.{candidates_are, versions_are}
-use Rattle.contents.proofs.Stops.{snoc_at}
+use Rattle.contents.proofs.MetVersions.{snoc_at}
 use Rattle.gathering.specs.Leads.{AreLed, ArePut, AreThere, IsLed, IsPut, class_if, version_if}
 
 -- ---- states
@@ -60,10 +60,10 @@ stands : (cs : List Candidate) (vs : List Parts) (p : ℕ) (v : Parts) → vs �
 stands cs vs p v e got = got_mapped (λ (c : Candidate). c.version) (slice_get cs p) v
     (sym (slice_get-map (λ (c : Candidate). c.version) cs p) ∙ sym (ap (λ l. slice_get l p) e) ∙ got)
 
--- the owner that stands at a stop, by the version that is read there
-pub owner_is : (index : CatalogueView) (s : Stop) (vs : List Version) (v : Parts) → map parts_of vs
+-- the owner that a version is that is met, by what is read of it
+pub owner_is : (index : CatalogueView) (s : MetVersion) (vs : List Version) (v : Parts) → map parts_of vs
     ≡ map (λ (r : Record). r.version) (candidates_at index s.name) → slice_get (map parts_of vs) s.place ≡ Some v
-    → version_of s.name v ≡ stop_owner index s
+    → version_of s.name v ≡ met_owner index s
 owner_is index s vs v e got =
     let (c, at, is) = stands (candidates_of (rows_by_name index) s.name) (map parts_of vs) s.place v
     (versions_same index s.name vs e) got in
@@ -153,13 +153,13 @@ module _ (q : Problem) (state : Vertex → State) (index : CatalogueView) (o : O
       same_Some a.v b.v (ap version_if (sym a.locked ∙ ap (λ k. state (pkg d.real_name k)) classes ∙ b.locked)) in
       a.target ∙ ap (version_of d.real_name) versions ∙ sym b.target
 
-  pub lead_of : (stops : List Stop) (p target : Option ℕ) → IsLed q state index o i d p
-      → IsPut index stops d.real_name p target
-      → IsLead q (LeadsTo q state) (owners_of index stops) o i d target
-  lead_of stops None None led put = led
-  lead_of stops None (Some n) led put = absurd put
-  lead_of stops (Some p) None led put = absurd put
-  lead_of stops (Some p) (Some n) (c, at, leads) put = (
+  pub lead_of : (versions : List MetVersion) (p target : Option ℕ) → IsLed q state index o i d p
+      → IsPut index versions d.real_name p target
+      → IsLead q (LeadsTo q state) (owners_of index versions) o i d target
+  lead_of versions None None led put = led
+  lead_of versions None (Some n) led put = absurd put
+  lead_of versions (Some p) None led put = absurd put
+  lead_of versions (Some p) (Some n) (c, at, leads) put = (
     version_of d.real_name c.version,
     put
         ∙ ap Some (ap (owner_if d.real_name) at),
@@ -206,14 +206,14 @@ module _ (q : Problem) (state : Vertex → State) (index : CatalogueView) (o : O
       → AreThere index ds places
   led_there ds places h i d p got at = let (c, there, leads) = h.led i d (Some p) got at in (c, there)
 
-  pub leads_of : (stops : List Stop) (ds : List Dependency) (places targets : List (Option ℕ))
-      → AreLed q state index o ds places → ArePut index stops ds places targets
-      → AreLeads q (LeadsTo q state) (owners_of index stops) o ds targets
-  leads_of stops ds places targets led put = record {
+  pub leads_of : (versions : List MetVersion) (ds : List Dependency) (places targets : List (Option ℕ))
+      → AreLed q state index o ds places → ArePut index versions ds places targets
+      → AreLeads q (LeadsTo q state) (owners_of index versions) o ds targets
+  leads_of versions ds places targets led put = record {
     as_many = put.as_many;
     leads = λ i d target got at. (
         let lt = slice_get_within ds i d got in
         let many = led.as_many in
         let (p, there) = some_at places i (omega (arith, lt, many)) in
-        lead_of q state index o i d stops p target (led.led i d p got there) (put.put i d p target got there at));
+        lead_of q state index o i d versions p target (led.led i d p got there) (put.put i d p target got there at));
   }

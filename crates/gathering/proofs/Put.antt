@@ -6,8 +6,8 @@ use Rattle.std.proofs.lemmas.Option.{same_Some, none-some}
 use Rattle.model.specs.Summary.{Dependency}
 use Rattle.catalogue.specs.Stores.{CatalogueView}
 use Rattle.contents.specs.Contents.{Grows, IsCandidate, candidate_owner}
-use Rattle.contents.specs.declared.stop.Stop.{Stop}
-use Rattle.contents.proofs.Stops.{grows_on, owner_on, snoc_at, unchanged}
+use Rattle.contents.specs.declared.met.MetVersion.{MetVersion}
+use Rattle.contents.proofs.MetVersions.{grows_on, owner_on, snoc_at, unchanged}
 use Rattle.gathering.specs.Leads.{ArePut, AreThere, IsPut}
 
 module _ (index : CatalogueView) where
@@ -17,7 +17,7 @@ module _ (index : CatalogueView) where
       → (p : ℕ) → o ≡ Some p → IsCandidate index d.real_name p
   there_put ds places h i d o got at p e = let (c, there) = h i d p got (at ∙ ap Some e) in ap is_some there
 
-  put_on : (old new : List Stop) (name : List ℕ) (p target : Option ℕ) → Grows index old new
+  put_on : (old new : List MetVersion) (name : List ℕ) (p target : Option ℕ) → Grows index old new
       → IsPut index old name p target → IsPut index new name p target
   put_on old new name None None g h = h
   put_on old new name None (Some n) g h = h
@@ -25,14 +25,14 @@ module _ (index : CatalogueView) where
   put_on old new name (Some p) (Some n) g h = owner_on index old new g n (candidate_owner index name p) h
 
   -- the targets of the first n dependencies
-  pub record PutTo (old new : List Stop) (ds : List Dependency) (places : List (Option ℕ)) (n : ℕ)
+  pub record PutTo (old new : List MetVersion) (ds : List Dependency) (places : List (Option ℕ)) (n : ℕ)
       (targets : List (Option ℕ)) : Type 0 where
     pub grows : Grows index old new
     pub many : length targets ≡ n
     pub put : (i : ℕ) (d : Dependency) (p target : Option ℕ) → slice_get ds i ≡ Some d → slice_get places i ≡ Some p
         → slice_get targets i ≡ Some target → IsPut index new d.real_name p target
 
-  pub none_put : (old : List Stop) (ds : List Dependency) (places targets : List (Option ℕ)) → targets ≡ []
+  pub none_put : (old : List MetVersion) (ds : List Dependency) (places targets : List (Option ℕ)) → targets ≡ []
       → PutTo old old ds places 0 targets
   none_put old ds places targets e = record {
     grows = unchanged index old;
@@ -40,7 +40,7 @@ module _ (index : CatalogueView) where
     put = λ i d p target got there at. absurd (none-some target (sym (ap (λ l. slice_get l i) e) ∙ at));
   }
 
-  pub one_put : (old mid new : List Stop) (ds : List Dependency) (places : List (Option ℕ)) (n : ℕ)
+  pub one_put : (old mid new : List MetVersion) (ds : List Dependency) (places : List (Option ℕ)) (n : ℕ)
       (targets more : List (Option ℕ)) (d : Dependency) (p target : Option ℕ)
       → PutTo old mid ds places n targets → Grows index mid new → slice_get ds n ≡ Some d → slice_get places n ≡ Some p
       → IsPut index new d.real_name p target → more ≡ targets ++ target ∷ []
@@ -61,7 +61,7 @@ module _ (index : CatalogueView) where
         ];
       }
 
-  pub all_put : (old new : List Stop) (ds : List Dependency) (places : List (Option ℕ)) (n : ℕ)
+  pub all_put : (old new : List MetVersion) (ds : List Dependency) (places : List (Option ℕ)) (n : ℕ)
       (targets : List (Option ℕ)) → PutTo old new ds places n targets → n ≡ length ds
       → ArePut index new ds places targets
   all_put old new ds places n targets h e = record { as_many = h.many ∙ e; put = h.put }

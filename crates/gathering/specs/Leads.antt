@@ -11,7 +11,7 @@ use Rattle.model.specs.Vertices.{Owner, version_of, Vertex, State, absent, prese
 use Rattle.model.specs.Search.{IsUnbroken, LeadsTo}
 use Rattle.catalogue.specs.Stores.{CatalogueView, rows_by_name}
 use Rattle.contents.specs.Contents.{candidate_owner, owners_of}
-use Rattle.contents.specs.declared.stop.Stop.{Stop}
+use Rattle.contents.specs.declared.met.MetVersion.{MetVersion}
 use Rattle.encoding.specs.Assignments.{IsOf, state_of}
 use Rattle.encoding.specs.KnownProblem.{problem}
 use Rattle.encoding.specs.Numberings.{Numbering}
@@ -69,13 +69,13 @@ module _ (index : CatalogueView) where
   AreThere ds places = (i : ℕ) (d : Dependency) (p : ℕ) → slice_get ds i ≡ Some d → slice_get places i ≡ Some (Some p)
       → (c : Candidate) × (slice_get (candidates_of (rows_by_name index) d.real_name) p ≡ Some c)
 
-  module _ (stops : List Stop) where
+  module _ (versions : List MetVersion) where
     -- the candidate at a place of the name's is the version that was met there
     abbrev pub IsPut : List ℕ → Option ℕ → Option ℕ → Type 0
     IsPut name None None = Unit {0}
     IsPut name None (Some n) = ⊥
     IsPut name (Some p) None = ⊥
-    IsPut name (Some p) (Some n) = slice_get (owners_of index stops) n ≡ Some (candidate_owner index name p)
+    IsPut name (Some p) (Some n) = slice_get (owners_of index versions) n ≡ Some (candidate_owner index name p)
 
     pub record ArePut (ds : List Dependency) (places targets : List (Option ℕ)) : Type 0 where
       pub as_many : length targets ≡ length ds

@@ -8,13 +8,13 @@ ghost use Rattle.features.specs.Views.{dependency_view, dependency_views};
 ghost use Rattle.vertices.specs.RefViews.{owner_ref_view};
 ghost use Rattle.model.specs.Vertices.{Owner, dep, pkg};
 ghost use Rattle.encoding.specs.KnownProblem.{problem};
-ghost use Rattle.contents.specs.Contents.{AreStops, owners_of};
+ghost use Rattle.contents.specs.Contents.{AreMetVersions, owners_of};
 ghost use Rattle.gathering.specs.Leads.{AreLed, HasEnded, IsLed, class_if, ends, version_if};
 
 use crate::states::{class_if, state_of, version_if};
 use catalogue::{Catalogue, place_of};
 use classes::Class;
-use contents::Stop;
+use contents::MetVersion;
 use encoding::{KnownProblem, Table};
 use features::{Dependency, PackageName};
 use propagation::Trail;
@@ -26,97 +26,98 @@ use vertices::{OwnerRef, VertexRef};
 /// The class that a dependency has at the end, if it has one.
 fn class_at<'a, S: States + Drop>(
     alloc: Global,
-    inputs: &KnownProblem<'a>,
+    known: &KnownProblem<'a>,
     table: &Table<'a>,
     trail: &Trail<S>,
     owner: &OwnerRef<'a>,
     number: usize,
 ) -> Result<Option<Class>, AllocError>
     requires whole { length table.now ≤ length (trail_view S.tests trail.now).sets }
-    ensures { IfOk result (λ o. option_map class_view o ≡ class_if (ends inputs.now table.now
+    ensures { IfOk result (λ o. option_map class_view o ≡ class_if (ends known.now table.now
         (trail_view S.tests trail.now) (dep (owner_ref_view owner.now) number))) }
 {
     let vertex = VertexRef::Dependency(*owner, number);
-    let state = state_of(alloc, inputs, table, trail, &vertex)?;
+    let state = state_of(alloc, known, table, trail, &vertex)?;
     Ok(class_if(state))
 }
 
 /// The version that a name has in a class at the end, if it has one.
 fn version_at<'a, S: States + Drop>(
     alloc: Global,
-    inputs: &KnownProblem<'a>,
+    known: &KnownProblem<'a>,
     table: &Table<'a>,
     trail: &Trail<S>,
     name: &'a PackageName,
     class: Class,
 ) -> Result<Option<&'a Version>, AllocError>
     requires whole { length table.now ≤ length (trail_view S.tests trail.now).sets }
-    ensures { IfOk result (λ o. option_map (λ v. parts_of v.now) o ≡ version_if (ends inputs.now table.now
+    ensures { IfOk result (λ o. option_map (λ v. parts_of v.now) o ≡ version_if (ends known.now table.now
         (trail_view S.tests trail.now) (pkg name.entry.now (class_view class)))) }
 {
     let vertex = VertexRef::Package(name, class);
-    let state = state_of(alloc, inputs, table, trail, &vertex)?;
+    let state = state_of(alloc, known, table, trail, &vertex)?;
     Ok(version_if(state))
 }
 
 /// Where a dependency leads: the place of the version that its name has in the class that it has.
 fn led_to<'a, S: States + Drop>(
     alloc: Global,
-    inputs: &KnownProblem<'a>,
+    known: &KnownProblem<'a>,
     table: &Table<'a>,
     trail: &Trail<S>,
     owner: &OwnerRef<'a>,
     number: usize,
     dependency: &'a Dependency,
 ) -> Result<Option<usize>, AllocError>
-    requires { HasEnded inputs.now table.now (trail_view S.tests trail.now) }
-    ensures { IfOk result (λ o. IsLed (problem inputs.now) (ends inputs.now table.now (trail_view S.tests trail.now))
-        inputs.now.catalogue.now (owner_ref_view owner.now) number (dependency_view dependency.now) o) }
+    requires { HasEnded known.now table.now (trail_view S.tests trail.now) }
+    ensures { IfOk result (λ o. IsLed (problem known.now) (ends known.now table.now (trail_view S.tests trail.now))
+        known.now.catalogue.now (owner_ref_view owner.now) number (dependency_view dependency.now) o) }
 {
-    let Some(class) = class_at(alloc, inputs, table, trail, owner, number)? else {
+    let Some(class) = class_at(alloc, known, table, trail, owner, number)? else {
         return Ok(None);
     };
     let name = &dependency.real_name;
-    let Some(version) = version_at(alloc, inputs, table, trail, name, class)? else {
+    let Some(version) = version_at(alloc, known, table, trail, name, class)? else {
         return Ok(None);
     };
-    Ok(place_of(inputs.catalogue.versions(name), version))
+    Ok(place_of(known.catalogue.versions(name), version))
 }
 
 /// Where dependencies of an owner lead, by number.
 fn led_by<'a, S: States + Drop>(
     alloc: Global,
-    inputs: &KnownProblem<'a>,
+    known: &KnownProblem<'a>,
     table: &Table<'a>,
     trail: &Trail<S>,
     owner: &OwnerRef<'a>,
     dependencies: &'a [Dependency],
 ) -> Result<Vec<Option<usize>>, AllocError>
-    requires { HasEnded inputs.now table.now (trail_view S.tests trail.now) }
-    ensures { IfOk result (λ v. AreLed (problem inputs.now) (ends inputs.now table.now (trail_view S.tests trail.now))
-        inputs.now.catalogue.now (owner_ref_view owner.now) (dependency_views dependencies.now) v.items) }
+    requires { HasEnded known.now table.now (trail_view S.tests trail.now) }
+    ensures { IfOk result (λ v. AreLed (problem known.now) (ends known.now table.now (trail_view S.tests trail.now))
+        known.now.catalogue.now (owner_ref_view owner.now) (dependency_views dependencies.now) v.items) }
 {
     let mut places = Vec::new(alloc);
     'dependencies: for (number, dependency) in dependencies.iter().enumerate() {
-        let place = led_to(alloc, inputs, table, trail, owner, number, dependency)?;
+        let place = led_to(alloc, known, table, trail, owner, number, dependency)?;
         places.push(place)?;
     }
     Ok(places)
 }
 
 /// The owner that stands at a place.
-fn owner_at<'a>(catalogue: &'a Catalogue, stops: &'a [Stop], place: usize) -> OwnerRef<'a>
-    requires { AreStops catalogue.now stops.now }
-    ensures { (o : Owner) → slice_get (owners_of catalogue.now stops.now) place ≡ Some o → owner_ref_view result ≡ o }
+fn owner_at<'a>(catalogue: &'a Catalogue, versions: &'a [MetVersion], place: usize) -> OwnerRef<'a>
+    requires { AreMetVersions catalogue.now versions.now }
+    ensures { (o : Owner) → slice_get (owners_of catalogue.now versions.now) place ≡ Some o
+        → owner_ref_view result ≡ o }
 {
     if place == 0 {
         return OwnerRef::Root;
     }
-    let Some(stop) = stops.get(place - 1) else {
+    let Some(met) = versions.get(place - 1) else {
         return OwnerRef::Root;
     };
-    match catalogue.versions(&stop.name).get(stop.place) {
-        Some(version) => OwnerRef::Version(&stop.name, version),
+    match catalogue.versions(&met.name).get(met.place) {
+        Some(version) => OwnerRef::Version(&met.name, version),
         None => OwnerRef::Root,
     }
 }
@@ -124,19 +125,19 @@ fn owner_at<'a>(catalogue: &'a Catalogue, stops: &'a [Stop], place: usize) -> Ow
 /// Where the dependencies of what stands at a place lead.
 pub(crate) fn led_at<'a, S: States + Drop>(
     alloc: Global,
-    inputs: &KnownProblem<'a>,
+    known: &KnownProblem<'a>,
     table: &Table<'a>,
     trail: &Trail<S>,
-    stops: &[Stop],
+    versions: &[MetVersion],
     place: usize,
     dependencies: &'a [Dependency],
 ) -> Result<Vec<Option<usize>>, AllocError>
-    requires ended { HasEnded inputs.now table.now (trail_view S.tests trail.now) }
-    requires stops { AreStops inputs.now.catalogue.now stops.now }
-    ensures { IfOk result (λ v. (o : Owner) → slice_get (owners_of inputs.now.catalogue.now stops.now) place ≡ Some o
-        → AreLed (problem inputs.now) (ends inputs.now table.now (trail_view S.tests trail.now))
-        inputs.now.catalogue.now o (dependency_views dependencies.now) v.items) }
+    requires ended { HasEnded known.now table.now (trail_view S.tests trail.now) }
+    requires versions { AreMetVersions known.now.catalogue.now versions.now }
+    ensures { IfOk result (λ v. (o : Owner) → slice_get (owners_of known.now.catalogue.now versions.now) place ≡ Some o
+        → AreLed (problem known.now) (ends known.now table.now (trail_view S.tests trail.now))
+        known.now.catalogue.now o (dependency_views dependencies.now) v.items) }
 {
-    let owner = owner_at(inputs.catalogue, stops, place);
-    led_by(alloc, inputs, table, trail, &owner, dependencies)
+    let owner = owner_at(known.catalogue, versions, place);
+    led_by(alloc, known, table, trail, &owner, dependencies)
 }

@@ -6,12 +6,12 @@ ghost use Rattle.facts.specs.Graphs.{node_views};
 ghost use Rattle.model.specs.Search.{LeadsTo};
 ghost use Rattle.reaching.specs.Nodes.{AreMet};
 ghost use Rattle.encoding.specs.KnownProblem.{problem};
-ghost use Rattle.contents.specs.Contents.{AreStops, owners_of};
+ghost use Rattle.contents.specs.Contents.{AreMetVersions, owners_of};
 ghost use Rattle.gathering.specs.Leads.{HasEnded, ends};
 
 use crate::leading::led_at;
 use crate::targets::targets_of;
-use contents::{Stop, brings_at, store_holds};
+use contents::{Met, brings_at, store_holds};
 use encoding::{KnownProblem, Table};
 use facts::{Node, dependencies_of};
 use indexmap::IndexSet;
@@ -19,49 +19,40 @@ use propagation::Trail;
 use std::alloc::{AllocError, Global};
 use version_sets::States;
 
-/// The versions that are met, with what stands there.
-#[derive(Drop)]
-pub(crate) struct Met<'a> {
-    /// In the order in which they are met; the root is none of them.
-    pub(crate) stops: IndexSet<Stop>,
-    /// The root, then what stands at each stop.
-    pub(crate) nodes: Vec<Node<'a>>,
-}
-
 /// Follows where each dependency leads, enabled or not, and takes each version once.
 pub(crate) fn meet<'a, S: States + Drop>(
     alloc: Global,
-    inputs: &KnownProblem<'a>,
+    known: &KnownProblem<'a>,
     table: &Table<'a>,
     trail: &Trail<S>,
 ) -> Result<Met<'a>, AllocError>
-    requires { HasEnded inputs.now table.now (trail_view S.tests trail.now) }
-    ensures met { IfOk result (λ m. AreMet (problem inputs.now)
-        (LeadsTo (problem inputs.now) (ends inputs.now table.now (trail_view S.tests trail.now)))
-        (owners_of inputs.now.catalogue.now m.stops.keys) (node_views m.nodes.items)) }
-    ensures stops { IfOk result (λ m. AreStops inputs.now.catalogue.now m.stops.keys) }
+    requires { HasEnded known.now table.now (trail_view S.tests trail.now) }
+    ensures met { IfOk result (λ m. AreMet (problem known.now)
+        (LeadsTo (problem known.now) (ends known.now table.now (trail_view S.tests trail.now)))
+        (owners_of known.now.catalogue.now m.versions.keys) (node_views m.nodes.items)) }
+    ensures versions { IfOk result (λ m. AreMetVersions known.now.catalogue.now m.versions.keys) }
 {
-    store_holds(inputs.catalogue);
-    let mut stops = IndexSet::new(alloc);
+    store_holds(known.catalogue);
+    let mut versions = IndexSet::new(alloc);
     let mut nodes = Vec::new(alloc);
-    'stops: while nodes.len() <= stops.len() {
+    'versions: while nodes.len() <= versions.len() {
         let place = nodes.len();
-        let brings = brings_at(inputs.manifest, inputs.catalogue, stops.as_slice(), place);
+        let brings = brings_at(known.manifest, known.catalogue, versions.as_slice(), place);
         let dependencies = dependencies_of(brings);
         let places = led_at(
             alloc,
-            inputs,
+            known,
             table,
             trail,
-            stops.as_slice(),
+            versions.as_slice(),
             place,
             dependencies,
         )?;
-        let catalogue = inputs.catalogue;
+        let catalogue = known.catalogue;
         let targets = targets_of(
             alloc,
             catalogue,
-            &mut stops,
+            &mut versions,
             dependencies,
             places.as_slice(),
         )?;
@@ -71,5 +62,5 @@ pub(crate) fn meet<'a, S: States + Drop>(
             starts: place == 0,
         })?;
     }
-    Ok(Met { stops, nodes })
+    Ok(Met { versions, nodes })
 }

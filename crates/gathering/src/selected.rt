@@ -12,9 +12,9 @@ ghost use Rattle.reaching.specs.Built.{HasBareRoot};
 ghost use Rattle.reaching.specs.Followed.{IsBrought};
 ghost use Rattle.gathering.specs.Leads.{IsLeft};
 
-use crate::meeting::{Met, meet};
+use crate::meeting::meet;
 use catalogue::catalogues_are_well_formed;
-use contents::content_of;
+use contents::{Met, content_of};
 use encoding::{KnownProblem, Table};
 use facts::facts_of;
 use lockfile::LockContent;
@@ -32,32 +32,32 @@ use version_sets::States;
 /// The only error is want of memory.
 pub fn content<'a, S: States + Drop>(
     alloc: Global,
-    inputs: &KnownProblem<'a>,
+    known: &KnownProblem<'a>,
     table: &Table<'a>,
     trail: &Trail<S>,
 ) -> Result<LockContent, AllocError>
     requires whole { length table.now ≤ length (trail_view S.tests trail.now).sets }
-    requires unbroken { IsUnbroken (problem inputs.now)
-        (state_of (problem inputs.now) table.now (final_of (trail_view S.tests trail.now))) }
-    ensures selection { IfOk result (λ c. IsValidSelection (problem inputs.now) c) }
-    ensures root { IfOk result (λ c. HasBareRoot (problem inputs.now) c) }
-    ensures brought { IfOk result (λ c. IsBrought (problem inputs.now) c) }
-    ensures followed { IfOk result (λ c. (w : Content) → IsValidSelection (problem inputs.now) w
-        → HasBareRoot (problem inputs.now) w → IsBrought (problem inputs.now) w
-        → IsLeft (problem inputs.now) table.now w (trail_view S.tests trail.now) → c ≡ w) }
+    requires unbroken { IsUnbroken (problem known.now)
+        (state_of (problem known.now) table.now (final_of (trail_view S.tests trail.now))) }
+    ensures selection { IfOk result (λ c. IsValidSelection (problem known.now) c) }
+    ensures root { IfOk result (λ c. HasBareRoot (problem known.now) c) }
+    ensures brought { IfOk result (λ c. IsBrought (problem known.now) c) }
+    ensures followed { IfOk result (λ c. (w : Content) → IsValidSelection (problem known.now) w
+        → HasBareRoot (problem known.now) w → IsBrought (problem known.now) w
+        → IsLeft (problem known.now) table.now w (trail_view S.tests trail.now) → c ≡ w) }
 {
-    catalogues_are_well_formed(inputs.manifest, inputs.catalogue);
+    catalogues_are_well_formed(known.manifest, known.catalogue);
     packages_are_a_graph();
     built_contents_select();
     built_roots_have_no_checksum();
     built_contents_follow();
-    let Met { stops, nodes } = meet(alloc, inputs, table, trail)?;
+    let Met { versions, nodes } = meet(alloc, known, table, trail)?;
     let facts = facts_of(alloc, nodes.as_slice(), 0)?;
     content_of(
         alloc,
-        inputs.manifest,
-        inputs.catalogue,
-        stops.as_slice(),
+        known.manifest,
+        known.catalogue,
+        versions.as_slice(),
         nodes.as_slice(),
         &facts,
     )

@@ -31,19 +31,19 @@ fn first_in<S: States>(set: &S) -> u32
 /// The state that a vertex has at the end: absent without a number.
 pub(crate) fn state_of<'a, S: States + Drop>(
     alloc: Global,
-    inputs: &KnownProblem<'a>,
+    known: &KnownProblem<'a>,
     table: &Table<'a>,
     trail: &Trail<S>,
     vertex: &VertexRef<'a>,
 ) -> Result<StateRef<'a>, AllocError>
     requires whole { length table.now ≤ length (trail_view S.tests trail.now).sets }
     ensures { IfOk result (λ s. state_ref_view s
-        ≡ ends inputs.now table.now (trail_view S.tests trail.now) (vertex_ref_view vertex.now)) }
+        ≡ ends known.now table.now (trail_view S.tests trail.now) (vertex_ref_view vertex.now)) }
 {
     match table.number(vertex) {
         Some(number) => {
             let state = first_in(trail.states(number));
-            state_at(alloc, inputs, vertex, state as usize)
+            state_at(alloc, known, vertex, state as usize)
         }
         None => Ok(StateRef::Absent),
     }

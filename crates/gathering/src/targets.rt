@@ -6,7 +6,7 @@ ghost use Rattle.contents.specs.Contents.{Grows, IsCandidate};
 ghost use Rattle.gathering.specs.Leads.{ArePut, AreThere, IsPut};
 
 use catalogue::Catalogue;
-use contents::{Stop, put_stop};
+use contents::{MetVersion, put_met};
 use features::{Dependency, PackageName};
 use indexmap::IndexSet;
 use std::alloc::{AllocError, Global};
@@ -14,16 +14,16 @@ use std::alloc::{AllocError, Global};
 /// Where the candidate at a place of a name's stands among those that were met.
 fn target_of(
     catalogue: &Catalogue,
-    stops: &mut IndexSet<Stop>,
+    versions: &mut IndexSet<MetVersion>,
     name: &PackageName,
     place: Option<usize>,
 ) -> Result<Option<usize>, AllocError>
     requires { (p : ℕ) → place ≡ Some p → IsCandidate catalogue.now name.now p }
-    ensures grows { OnOk result (Grows catalogue.now stops.old.keys stops.new.keys) }
-    ensures put { IfOk result (λ o. IsPut catalogue.now stops.new.keys name.now place o) }
+    ensures grows { OnOk result (Grows catalogue.now versions.old.keys versions.new.keys) }
+    ensures put { IfOk result (λ o. IsPut catalogue.now versions.new.keys name.now place o) }
 {
     match place {
-        Some(place) => Ok(Some(put_stop(catalogue, stops, name, place)?)),
+        Some(place) => Ok(Some(put_met(catalogue, versions, name, place)?)),
         None => Ok(None),
     }
 }
@@ -32,19 +32,19 @@ fn target_of(
 pub(crate) fn targets_of(
     alloc: Global,
     catalogue: &Catalogue,
-    stops: &mut IndexSet<Stop>,
+    versions: &mut IndexSet<MetVersion>,
     dependencies: &[Dependency],
     places: &[Option<usize>],
 ) -> Result<Vec<Option<usize>>, AllocError>
     requires many { length places.now ≡ length dependencies.now }
     requires there { AreThere catalogue.now (dependency_views dependencies.now) places.now }
-    ensures grows { OnOk result (Grows catalogue.now stops.old.keys stops.new.keys) }
+    ensures grows { OnOk result (Grows catalogue.now versions.old.keys versions.new.keys) }
     ensures put { IfOk result
-        (λ v. ArePut catalogue.now stops.new.keys (dependency_views dependencies.now) places.now v.items) }
+        (λ v. ArePut catalogue.now versions.new.keys (dependency_views dependencies.now) places.now v.items) }
 {
     let mut targets = Vec::new(alloc);
     'dependencies: for (number, dependency) in dependencies.iter().enumerate() {
-        let target = target_of(catalogue, stops, &dependency.real_name, places[number])?;
+        let target = target_of(catalogue, versions, &dependency.real_name, places[number])?;
         targets.push(target)?;
     }
     Ok(targets)

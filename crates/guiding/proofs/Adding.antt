@@ -25,19 +25,19 @@ use Rattle.encoding.specs.Numberings.{Numbering, Says, members_at}
 use Rattle.encoding.specs.Pairs.{AreGiven, Given, IsGivenAt}
 use Rattle.encoding.proofs.Needing.{still_at}
 use Rattle.model.proofs.Lists.{in_cons, in_none, in_first, in_rest}
-use Rattle.searching.specs.Searching.{AreMore, HasSpaces, IsOfNew, IsOnly, IsSeen}
+use Rattle.searching.specs.Searching.{AreMore, HasSpaces, IsOfNew, IsSeen}
 use Rattle.searching.specs.Turning.{IsAdding}
-use Rattle.searching.specs.Walking as walking
+use Rattle.searching.specs.Following as following
 use Rattle.searching.proofs.Guides.{lone_one, spaces_wider}
 use Rattle.searching.proofs.Seen.{seen_wider}
 use Rattle.guiding.specs.Guides.{AreStored, EncodedView, GoesOn, IsAsking, IsOfInstance, IsPut, as_entry, asked_at}
-use Rattle.guiding.specs.Guides.{asked_of, known, late_with, left_with, with_given}
+use Rattle.guiding.specs.Guides.{asked_of, on_trail, late_with, left_with, with_given}
 use Rattle.vertices.specs.Kinds.{kind_number}
 use Rattle.guiding.specs.Remaining.{spaces_of}
 use Rattle.guiding.proofs.FirstTerms.{first_only}
 use Rattle.guiding.specs.Going.{added_grown, added_on, says_on}
 use Rattle.guiding.proofs.Marks.{marked_either, marked_lengths, marked_more, marked_now}
-use Rattle.guiding.proofs.Numbers.{asked_is, asked_stays, known_at, known_most, late_comes, there_at}
+use Rattle.guiding.proofs.Numbers.{asked_is, asked_stays, on_trail_at, on_trail_most, late_comes, there_at}
 use Rattle.guiding.proofs.Remaining.{open_lt}
 
 -- ---- what is given, at its places
@@ -105,7 +105,7 @@ lengths_at (s ∷ l) (suc k) = lengths_at l k
 
 -- an instance lies in the universes of the trail's vertices
 pub said_long : (q : Problem) (vs : Numbering) (asked : List Members) (wide : TrailView)
-    → map length asked ≡ spaces_of q (known vs asked) → length vs ≤ length asked → HasSpaces (map length asked) wide
+    → map length asked ≡ spaces_of q (on_trail vs asked) → length vs ≤ length asked → HasSpaces (map length asked) wide
     → (x : List TermView) (ts : List Term) → Says q vs x ts → (u : ℕ) (z : Members) → numbered.states_at x u ≡ Some z
     → length z ≡ space_of wide u
 said_long q vs asked wide spaces whole spaced x ts says u z e = by (slice_get vs u) refl
@@ -113,7 +113,7 @@ said_long q vs asked wide spaces whole spaced x ts says u z e = by (slice_get vs
     by : (o : Option Vertex) → slice_get vs u ≡ o → length z ≡ space_of wide u
     by None f = absurd (none-some z (sym (says.none u f) ∙ e))
     by (Some y) f =
-        let r = known_at q vs asked u spaces (let l = slice_get_within vs u y f in omega (arith, l, whole)) in
+        let r = on_trail_at q vs asked u spaces (let l = slice_get_within vs u y f in omega (arith, l, whole)) in
         let same : r.0 ≡ y = same_Some r.0 y (sym r.1 ∙ f) in
         let long : length z ≡ length (space q y) = kept_long (option_map (members_at q y) (states_at ts y)) z
         (length (space q y)) (sym (says.each u y f) ∙ e) (λ m h. mapped_long q y (states_at ts y) m h) in
@@ -134,7 +134,7 @@ module _ (v i : ℕ) (old new : EncodedView) (t wide : TrailView) (es more : Lis
 
   at_v : (w : Vertex) × (slice_get old.vertices v ≡ Some w)
       × (length (set_of old.asked v) ≡ length (space old.problem w))
-  at_v = known_at old.problem old.vertices old.asked v a.spaces inside
+  at_v = on_trail_at old.problem old.vertices old.asked v a.spaces inside
 
   is_given : IsGivenAt old.problem new.vertices (at_v.0, state_at old.problem at_v.0 i) a.given
   is_given = a.is at_v.0 at_v.1
@@ -234,7 +234,7 @@ module _ (v i : ℕ) (old new : EncodedView) (t wide : TrailView) (es more : Lis
     spaces = a.came;
     wider = a.wider;
     came = ap (λ p. Rattle.propagation.specs.Widening.sum_of a.came
-        + Rattle.guiding.specs.Remaining.late_of p (known new.vertices new.asked)) a.same
+        + Rattle.guiding.specs.Remaining.late_of p (on_trail new.vertices new.asked)) a.same
         ∙ late_comes old.problem old.vertices new.vertices old.asked new.asked a.came a.grown a.numbering a.spaces
         a.spaced a.whole lengths;
     lone = lone;
@@ -256,12 +256,12 @@ module _ (v i : ℕ) (old new : EncodedView) (t wide : TrailView) (es more : Lis
     problem = a.same;
     grown = a.grown;
     whole = λ h. (let w = a.whole in let e =
-        known_most old.problem new.vertices new.asked a.spaced in omega (arith, w, e));
+        on_trail_most old.problem new.vertices new.asked a.spaced in omega (arith, w, e));
     follows_is = a.follows_is;
   }
 
-  pub asked_given : walking.AreGiven (IsOfInstance old.problem old.vertices) es
-      → walking.AreGiven (IsOfInstance new.problem new.vertices) more
+  pub asked_given : following.AreGiven (IsOfInstance old.problem old.vertices) es
+      → following.AreGiven (IsOfInstance new.problem new.vertices) more
   asked_given was id within ax =
       subst (λ p. IsOfInstance p new.vertices (entry more id)) (sym a.same) (elim (cases_lt id (length es)) [
         | inl less ↦
@@ -329,7 +329,7 @@ module _ (v i : ℕ) (old new : EncodedView) (t wide : TrailView) (es more : Lis
                 (subst (λ x. IsPut old.problem new.vertices (es ++ map as_entry a.given)
                 (x, state_at old.problem x i)) same here)
             | inr r ↦
-                let o = known_at old.problem old.vertices old.asked n a.spaces r.0 in
+                let o = on_trail_at old.problem old.vertices old.asked n a.spaces r.0 in
                 let same : o.0 ≡ w =
                 same_Some o.0 w (sym (still_at old.vertices new.vertices n o.0 a.grown o.1) ∙ at) in
                 subst (λ x.

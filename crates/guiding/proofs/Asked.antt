@@ -20,10 +20,10 @@ use Rattle.encoding.specs.declared.known_problem.KnownProblem.{KnownProblem}
 use Rattle.searching.specs.Searching.{HasSpaces, IsOnly, IsSeen, Pairs}
 use Rattle.searching.specs.Searching as searching
 use Rattle.searching.proofs.Seen.{seen_all}
-use Rattle.guiding.specs.Guides.{EncodedView, IsAsking, IsCome, IsEncoding, encoded_view, known, marked, with_given}
+use Rattle.guiding.specs.Guides.{EncodedView, IsAsking, IsCome, IsEncoding, encoded_view, on_trail, marked, with_given}
 use Rattle.guiding.specs.Remaining.{spaces_of}
 use Rattle.guiding.proofs.Marks.{mark_lengths}
-use Rattle.guiding.proofs.Numbers.{known_at}
+use Rattle.guiding.proofs.Numbers.{on_trail_at}
 
 pub ok_by : {A E : Type 0} {P Q : Type 0} (r : Result A E) → (P → Q) → OnOk r P → OnOk r Q
 ok_by (Ok x) f h = f h
@@ -46,7 +46,7 @@ encoding_of i vs asked was default same = record {
   default = default;
   catalogue = subst IsCatalogue same was.catalogue;
   numbering = subst (λ q. IsNumbering q vs) same was.numbering;
-  spaces = subst (λ q. map length asked ≡ spaces_of q (known vs asked)) same was.spaces;
+  spaces = subst (λ q. map length asked ≡ spaces_of q (on_trail vs asked)) same was.spaces;
 }
 
 pub encoding_marked : {A E : Type 0} (r : Result A E) (i : KnownProblem) (vs : Numbering) (asked more : List Members)
@@ -63,10 +63,11 @@ pub state_below : (i : KnownProblem) (vs : Numbering) (asked : List Members) (ol
 state_below i vs asked old seen follows v s is view low lt w at =
     let low : v < length asked = subst (λ (o : EncodedView). v < length o.asked) (sym view) low in
     let lt : s < length (set_of asked v) = subst (λ (o : EncodedView). s < length (set_of o.asked v)) (sym view) lt in
-    let r = known_at (problem i) vs asked v is.spaces low in
+    let r = on_trail_at (problem i) vs asked v is.spaces low in
     subst (λ n. s < n) (r.2 ∙ ap (λ x. length (space (problem i) x)) (same_Some r.0 w (sym r.1 ∙ at))) lt
 
-pub asking_by : (i : KnownProblem) (vs new : Numbering) (asked mid last : List Members) (seen : ℕ) (follows : Option Content)
+pub asking_by : (i : KnownProblem) (vs new : Numbering) (asked mid last : List Members) (seen : ℕ)
+    (follows : Option Content)
     (v s : ℕ) (old : EncodedView) (t wide : TrailView) (es more : List EntryView) (given : List Given)
     → encoded_view (problem i) vs asked seen follows ≡ old → IsEncoding i vs asked → IsGrown vs new
     → IsEncoding i new mid → IsCome asked mid t wide → length new ≤ length mid → IsTrail es wide

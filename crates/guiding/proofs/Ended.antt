@@ -9,22 +9,22 @@ use Rattle.model.specs.Content.{Content, Problem}
 use Rattle.encoding.specs.Numberings.{IsNumbering}
 use Rattle.searching.specs.Searching.{AreTouching, HasSpaces, Pairs}
 use Rattle.searching.specs.Turning.{HasEnded}
-use Rattle.searching.specs.Walking as walking
-use Rattle.searching.specs.Walking.{IsSelection, IsWalked}
+use Rattle.searching.specs.Following as following
+use Rattle.searching.specs.Following.{IsLeft, IsSelection}
 use Rattle.searching.specs.declared.turns.Answer.{Answer}
 use Rattle.searching.specs.declared.turns.Answer.TheVariants.{Selection, Unsolvable}
 use Rattle.guiding.specs.Guides.{AreStored, EncodedView, Follows, GoesOn, HasBegun, HasFound, HasSearched, IsDone}
-use Rattle.guiding.specs.Guides.{IsOfInstance, asked_of, known}
+use Rattle.guiding.specs.Guides.{IsOfInstance, asked_of, on_trail}
 use Rattle.guiding.specs.Remaining.{spaces_of}
 use Rattle.guiding.proofs.Following.{followed_by}
 use Rattle.guiding.proofs.Settling.{unbroken}
 
 pub found_of : (q : Problem) (follows : Option Content) (old g : EncodedView) (t0 t : TrailView)
     (es0 es : List EntryView) (a : Answer) → HasBegun q follows old t0 es0 → GoesOn old g
-    → IsNumbering g.problem g.vertices → map length g.asked ≡ spaces_of g.problem (known g.vertices g.asked)
+    → IsNumbering g.problem g.vertices → map length g.asked ≡ spaces_of g.problem (on_trail g.vertices g.asked)
     → HasSpaces (map length g.asked) t → IsTrail es t → HasEnded (IsDone t) (asked_of g.asked) es t a
-    → (walking.AreGiven (IsOfInstance old.problem old.vertices) es0
-    → walking.AreGiven (IsOfInstance g.problem g.vertices) es)
+    → (following.AreGiven (IsOfInstance old.problem old.vertices) es0
+    → following.AreGiven (IsOfInstance g.problem g.vertices) es)
     → (AreStored old.problem old.vertices old.asked es0 → AreStored g.problem g.vertices g.asked es)
     → HasFound q g t es a
 found_of q follows old g t0 t es0 es Selection begun goes ok spaces spaced trail ended given stored =
@@ -41,14 +41,14 @@ done_of done asked es t (Unsolvable id) ended is = absurd is
 
 pub searched_of : (q : Problem) (follows : Option Content) (old g : EncodedView) (t0 t : TrailView)
     (es0 es : List EntryView) (a : Answer) → HasBegun q follows old t0 es0 → GoesOn old g
-    → IsNumbering g.problem g.vertices → map length g.asked ≡ spaces_of g.problem (known g.vertices g.asked)
+    → IsNumbering g.problem g.vertices → map length g.asked ≡ spaces_of g.problem (on_trail g.vertices g.asked)
     → HasSpaces (map length g.asked) t → IsTrail es t → HasEnded (IsDone t) (asked_of g.asked) es t a
-    → (walking.AreGiven (IsOfInstance old.problem old.vertices) es0
-    → walking.AreGiven (IsOfInstance g.problem g.vertices) es)
+    → (following.AreGiven (IsOfInstance old.problem old.vertices) es0
+    → following.AreGiven (IsOfInstance g.problem g.vertices) es)
     → (AreStored old.problem old.vertices old.asked es0 → AreStored g.problem g.vertices g.asked es)
     → (AreTouching es0 → AreTouching es)
-    → ((x : Assignment) → Follows g x → Follows old x × (IsWalked x es0 t0 → IsWalked x es t))
-    → ((x : Assignment) → Follows g x → IsWalked x es0 t0 → IsSelection a)
+    → ((x : Assignment) → Follows g x → Follows old x × (IsLeft x es0 t0 → IsLeft x es t))
+    → ((x : Assignment) → Follows g x → IsLeft x es0 t0 → IsSelection a)
     → HasSearched q g t es a
 searched_of q follows old g t0 t es0 es a begun goes ok spaces spaced trail ended given stored touching keeps selects =
     record {

@@ -31,15 +31,15 @@ use Rattle.encoding.proofs.Needing.{still_at}
 use Rattle.encoding.proofs.Places.{got_in}
 use Rattle.encoding.proofs.Sound.{breaks_none, has_assignment}
 use Rattle.searching.specs.Searching.{HasSpaces}
-use Rattle.searching.specs.Walking.{IsSelection, IsWalked, KeepsWalks}
+use Rattle.searching.specs.Following.{IsLeft, IsSelection, KeepsFollowed}
 use Rattle.searching.specs.declared.turns.Answer.{Answer}
 use Rattle.searching.specs.declared.turns.Answer.TheVariants.{Selection, Unsolvable}
 use Rattle.guiding.specs.Guides.{CanFollow, EncodedView, Follows, GoesOn, HasBegun, HasFollowed, IsAsking, IsFollowed}
-use Rattle.guiding.specs.Guides.{as_entry, known}
+use Rattle.guiding.specs.Guides.{as_entry, on_trail}
 use Rattle.guiding.specs.Remaining.{spaces_of}
 use Rattle.guiding.proofs.Adding.{asked_spaces, given_at, lengths_at, with_given_is}
 use Rattle.guiding.proofs.FirstTerms.{space_starts, state_is}
-use Rattle.guiding.proofs.Numbers.{known_at}
+use Rattle.guiding.proofs.Numbers.{on_trail_at}
 
 abbrev no_entry : EntryView
 no_entry = record { terms = []; origin = Axiom 0 }
@@ -59,15 +59,16 @@ has_each (n ∷ came) (suc k) i lt = has_each came k i lt
 
 module _ (q : Problem) (vs : Numbering) (content : Content) (x : Assignment) (of : IsOf q vs content x) where
   -- a state of a vertex is below the size of its universe
-  of_below : (asked : List Members) (wide : TrailView) → map length asked ≡ spaces_of q (known vs asked)
+  of_below : (asked : List Members) (wide : TrailView) → map length asked ≡ spaces_of q (on_trail vs asked)
       → HasSpaces (map length asked) wide → (u : ℕ) → u < length wide.sets → x u < space_of wide u
   of_below asked wide spaces spaced u lt =
-      let r = known_at q vs asked u spaces (omega (arith, lt, spaced.vertices, length-map asked length)) in
+      let r = on_trail_at q vs asked u spaces (omega (arith, lt, spaced.vertices, length-map asked length)) in
       subst (λ n. x u < n) (sym (spaced.each u ∙ lengths_at asked u ∙ r.2)) (of u r.0 r.1).0
 
   -- vertices that come have their full sets
   pub wider_agrees : (asked : List Members) (came : List ℕ) (t wide : TrailView) → map length asked ≡ spaces_of q
-      (known vs asked) → HasSpaces (map length asked) wide → IsWider came t wide → Agrees x t.sets → Agrees x wide.sets
+      (on_trail vs asked) → HasSpaces (map length asked) wide → IsWider came t wide
+      → Agrees x t.sets → Agrees x wide.sets
   wider_agrees asked came t wide spaces spaced wider agrees u lt = elim (cases_lt u (length t.sets)) [
     | inl less ↦ subst (λ s. has s (x u) ≡ true)
         (sym (ap (λ ss. set_of ss u) wider.sets ∙ get_or_append_left t.sets (map every came) [] u less)) (agrees u less)
@@ -116,24 +117,24 @@ module _ (v i : ℕ) (old new : EncodedView) (t wide : TrailView) (es more : Lis
         old.problem old.vertices new.vertices f.0 x a.grown (subst (λ q. IsOf q new.vertices f.0 x) a.same f.3),
   )
 
-  walked_on : (p : Pair) → IsGivenAt old.problem new.vertices p a.given → HasSpaces (map length new.asked) wide
-      → (x : Assignment) → Follows new x → IsWalked x es t → IsWalked x more wide
-  walked_on p is spaced x f walked =
+  left_on : (p : Pair) → IsGivenAt old.problem new.vertices p a.given → HasSpaces (map length new.asked) wide
+      → (x : Assignment) → Follows new x → IsLeft x es t → IsLeft x more wide
+  left_on p is spaced x f is_left =
       let of : IsOf old.problem new.vertices f.0 x = subst (λ q. IsOf q new.vertices f.0 x) a.same f.3 in
       let valid : IsValidSelection old.problem f.0 = subst (λ q. IsValidSelection q f.0) a.same f.2 in (
         more_unbroken old.problem new.vertices f.0 x of p es more a.given a.catalogue valid is
-            (a.stored ∙ with_given_is es a.given) walked.0,
-        wider_agrees old.problem new.vertices f.0 x of new.asked a.came t wide a.spaced spaced a.wider walked.1,
+            (a.stored ∙ with_given_is es a.given) is_left.0,
+        wider_agrees old.problem new.vertices f.0 x of new.asked a.came t wide a.spaced spaced a.wider is_left.1,
       )
 
-  pub asked_walks : HasSpaces (map length old.asked) t → IsTrail es t → v < length t.sets → 0 < i
+  pub asked_follows : HasSpaces (map length old.asked) t → IsTrail es t → v < length t.sets → 0 < i
       → has (set_of old.asked v) i ≡ false → i < length (set_of old.asked v)
-      → KeepsWalks (Follows old) es t (Follows new) more wide
-  asked_walks spaced trail low some fresh lt x f =
-      let at = known_at old.problem old.vertices old.asked v a.spaces
+      → KeepsFollowed (Follows old) es t (Follows new) more wide
+  asked_follows spaced trail low some fresh lt x f =
+      let at = on_trail_at old.problem old.vertices old.asked v a.spaces
       (omega (arith, low, spaced.vertices, length-map old.asked length)) in (
         follows_before x f,
-        walked_on (at.0, state_at old.problem at.0 i) (a.is at.0 at.1)
+        left_on (at.0, state_at old.problem at.0 i) (a.is at.0 at.1)
             (asked_spaces v i old new t wide es more a spaced trail low some fresh lt) x f,
       )
 
@@ -200,11 +201,11 @@ selects_by q vs content (Unsolvable id) valid each = has_assignment q vs content
 
 pub followed_by : (q : Problem) (follows : Option Content) (old g : EncodedView) (t0 t : TrailView)
     (es0 es : List EntryView) (a : Answer) → HasBegun q follows old t0 es0 → GoesOn old g
-    → ((x : Assignment) → Follows g x → Follows old x × (IsWalked x es0 t0 → IsWalked x es t))
-    → ((x : Assignment) → Follows g x → IsWalked x es0 t0 → IsSelection a) → HasFollowed g t a
+    → ((x : Assignment) → Follows g x → Follows old x × (IsLeft x es0 t0 → IsLeft x es t))
+    → ((x : Assignment) → Follows g x → IsLeft x es0 t0 → IsSelection a) → HasFollowed g t a
 followed_by q follows old g t0 t es0 es a begun goes keeps selects = record {
   selects = selected g.follows refl;
-  agrees = λ x f. let k = keeps x f in (k.1 (begun.walked x k.0)).1;
+  agrees = λ x f. let k = keeps x f in (k.1 (begun.is_left x k.0)).1;
 }
   where
     selected : (o : Option Content) → g.follows ≡ o → IsSome o → IsSelection a
@@ -214,4 +215,4 @@ followed_by q follows old g t0 t es0 es a begun goes keeps selects = record {
         subst (CanFollow g.problem) e (subst (λ p. CanFollow p g.follows) (sym goes.problem)
         (subst (CanFollow old.problem) (sym goes.follows_is) begun.can_follow)) in
         selects_by g.problem g.vertices content a valid
-        (λ x of. let f : Follows g x = (content, e, valid, of) in selects x f (begun.walked x (keeps x f).0))
+        (λ x of. let f : Follows g x = (content, e, valid, of) in selects x f (begun.is_left x (keeps x f).0))

@@ -14,7 +14,7 @@ use Rattle.encoding.proofs.Needing.{still_at}
 use Rattle.encoding.proofs.Places.{each_at, got_in, number_at, number_of}
 use Rattle.propagation.specs.Trails.{set_of}
 use Rattle.propagation.specs.Widening.{sum_of}
-use Rattle.guiding.specs.Guides.{asked_at, asked_if, known}
+use Rattle.guiding.specs.Guides.{asked_at, asked_if, on_trail}
 use Rattle.guiding.specs.Remaining.{late_of, spaces_of}
 use Rattle.guiding.proofs.Arrivals.{map_append}
 use Rattle.guiding.proofs.Remaining.{late_grown}
@@ -55,13 +55,13 @@ short (suc k) (x ∷ xs) = let r = short k xs in omega (arith, r)
 
 module _ (q : Problem) where
   -- the trail has no more vertices than have numbers
-  pub known_most : (vs : Numbering) (asked : List Members) → map length asked ≡ spaces_of q (known vs asked)
+  pub on_trail_most : (vs : Numbering) (asked : List Members) → map length asked ≡ spaces_of q (on_trail vs asked)
       → length asked ≤ length vs
-  known_most vs asked e = omega (
+  on_trail_most vs asked e = omega (
     arith,
     ap length e,
     length-map asked length,
-    length-map (known vs asked) (λ w. length (space q w)),
+    length-map (on_trail vs asked) (λ w. length (space q w)),
     short (length asked) vs,
   )
 
@@ -74,10 +74,10 @@ module _ (q : Problem) where
   space_at (w ∷ vs) (s ∷ asked) (suc n) e lt = space_at vs asked n (rest_is _ _ _ _ e) (omega (arith, lt))
 
   -- a vertex that the trail has, and how many states it has
-  pub known_at : (vs : Numbering) (asked : List Members) (n : ℕ) → map length asked ≡ spaces_of q (known vs asked)
+  pub on_trail_at : (vs : Numbering) (asked : List Members) (n : ℕ) → map length asked ≡ spaces_of q (on_trail vs asked)
       → n < length asked → (w : Vertex) × (slice_get vs n ≡ Some w) × (length (set_of asked n) ≡ length (space q w))
-  known_at vs asked n e lt = let r =
-      space_at (known vs asked) asked n e lt in (r.0, taken_at (length asked) vs n r.0 r.1, r.2)
+  on_trail_at vs asked n e lt = let r =
+      space_at (on_trail vs asked) asked n e lt in (r.0, taken_at (length asked) vs n r.0 r.1, r.2)
 
   pub there_at : (vs : Numbering) (n : ℕ) (w : Vertex) → IsNumbering q vs → slice_get vs n ≡ Some w → IsVertex q w
   there_at vs n w ok e = each_at (λ v. IsVertex q v) vs w ok.there (got_in vs n w e)
@@ -89,23 +89,24 @@ module _ (q : Problem) where
 
   -- where all that have numbers come onto the trail, what was late comes
   pub late_comes : (old new : Numbering) (asked more : List Members) (came : List ℕ) → IsGrown old new
-      → IsNumbering q new → map length asked ≡ spaces_of q (known old asked)
-      → map length more ≡ spaces_of q (known new more) → length new ≤ length more
+      → IsNumbering q new → map length asked ≡ spaces_of q (on_trail old asked)
+      → map length more ≡ spaces_of q (on_trail new more) → length new ≤ length more
       → map length more ≡ map length asked ++ came
-      → sum_of came + late_of q (known new more) ≡ late_of q (known old asked)
+      → sum_of came + late_of q (on_trail new more) ≡ late_of q (on_trail old asked)
   late_comes old new asked more came grown ok was now whole lengths =
       let rest : List Vertex = drop (length asked) old ++ grown.0 in
-      let all : known new more ≡ new = take_most (length more) new whole in
-      let parts : new ≡ known old asked ++ rest = grown.1 ∙ ap (λ l. l ++ grown.0) (sym (take_drop (length asked) old))
-      ∙ append_assoc (known old asked) (drop (length asked) old) grown.0 in
-      let spaced : map length asked ++ came ≡ spaces_of q (known old asked) ++ spaces_of q rest = sym lengths ∙ now
-      ∙ ap (spaces_of q) (all ∙ parts) ∙ map_append (λ v. length (space q v)) (known old asked) rest in
+      let all : on_trail new more ≡ new = take_most (length more) new whole in
+      let parts : new ≡ on_trail old asked ++ rest =
+      grown.1 ∙ ap (λ l. l ++ grown.0) (sym (take_drop (length asked) old))
+      ∙ append_assoc (on_trail old asked) (drop (length asked) old) grown.0 in
+      let spaced : map length asked ++ came ≡ spaces_of q (on_trail old asked) ++ spaces_of q rest = sym lengths ∙ now
+      ∙ ap (spaces_of q) (all ∙ parts) ∙ map_append (λ v. length (space q v)) (on_trail old asked) rest in
       let same : came ≡ spaces_of q rest =
-      front_off (map length asked) came (spaces_of q (known old asked)) (spaces_of q rest) was spaced in
-      let sum : sum_of (spaces_of q rest) + late_of q (known old asked ++ rest) ≡ late_of q (known old asked) =
-      late_grown q (known old asked) rest (subst (AllPairs (λ v w. v ≢ w)) parts ok.once)
-      (all_last (known old asked) rest (subst (AllByRecursion (λ v. IsVertex q v)) parts ok.there)) in
-      ap (λ l. sum_of l + late_of q (known new more)) same
+      front_off (map length asked) came (spaces_of q (on_trail old asked)) (spaces_of q rest) was spaced in
+      let sum : sum_of (spaces_of q rest) + late_of q (on_trail old asked ++ rest) ≡ late_of q (on_trail old asked) =
+      late_grown q (on_trail old asked) rest (subst (AllPairs (λ v w. v ≢ w)) parts ok.once)
+      (all_last (on_trail old asked) rest (subst (AllByRecursion (λ v. IsVertex q v)) parts ok.there)) in
+      ap (λ l. sum_of l + late_of q (on_trail new more)) same
       ∙ ap (λ l. sum_of (spaces_of q rest) + late_of q l) (all ∙ parts) ∙ sum
 
   -- a number stays

@@ -13,7 +13,6 @@ use Rattle.incompatibilities.specs.declared.origin.Origin.TheVariants.{Axiom, Co
 use Rattle.propagation.specs.Trails.{TrailView, set_of, space_of}
 use Rattle.propagation.specs.Promises.{IsTrail, IsProgress}
 use Rattle.propagation.specs.declared.propagating.Progress.TheVariants.{Fixpoint}
-use Rattle.propagation.specs.Satisfaction.{IsQuiet}
 use Rattle.propagation.proofs.Back.{sets_now}
 use Rattle.propagation.proofs.Places.{some_at}
 use Rattle.propagation.proofs.Vertices.{in_range}
@@ -30,11 +29,11 @@ use Rattle.encoding.proofs.Final.{breaks_not}
 use Rattle.encoding.proofs.Places.{number_at}
 use Rattle.encoding.proofs.Settled.{is_unbroken}
 use Rattle.searching.specs.Searching.{AllAsked, HasSpaces}
-use Rattle.searching.specs.Walking as walking
-use Rattle.guiding.specs.Guides.{first_in, AreStored, IsDone, IsOfInstance, IsPut, asked_of, known}
+use Rattle.searching.specs.Following as following
+use Rattle.guiding.specs.Guides.{first_in, AreStored, IsDone, IsOfInstance, IsPut, asked_of, on_trail}
 use Rattle.guiding.specs.Remaining.{spaces_of}
 use Rattle.guiding.proofs.Alone.{one_member}
-use Rattle.guiding.proofs.Numbers.{known_at}
+use Rattle.guiding.proofs.Numbers.{on_trail_at}
 
 first_has : (s : Members) → 0 < size s → has s (first_in s) ≡ true
 first_has [] some = absurd (omega (arith, some))
@@ -82,11 +81,11 @@ axioms_at (e ∷ es) zero lt = refl
 axioms_at (e ∷ es) (suc id) lt = axioms_at es id (omega (arith, lt))
 
 module _ (q : Problem) (vs : Numbering) (asked : List Members) (es : List EntryView) (t : TrailView)
-    (ok : IsNumbering q vs) (spaces : map length asked ≡ spaces_of q (known vs asked))
+    (ok : IsNumbering q vs) (spaces : map length asked ≡ spaces_of q (on_trail vs asked))
     (whole : length asked ≡ length vs) (spaced : HasSpaces (map length asked) t)
     (trail : IsTrail es t) (done : IsDone t) (all : AllAsked (asked_of asked) t.sets)
     (stops : IsProgress es t.sets Fixpoint) (stored : AreStored q vs asked es)
-    (given : walking.AreGiven (IsOfInstance q vs) es) where
+    (given : following.AreGiven (IsOfInstance q vs) es) where
   -- what each vertex takes
   abbrev chosen : Assignment
   chosen u = first_in (set_of t.sets u)
@@ -116,7 +115,7 @@ module _ (q : Problem) (vs : Numbering) (asked : List Members) (es : List EntryV
   space_is : (n : ℕ) (v : Vertex) → slice_get vs n ≡ Some v → space_of t n ≡ length (space q v)
   space_is n v e =
       let lt = slice_get_within vs n v e in
-      let r = known_at q vs asked n spaces (omega (arith, lt, whole)) in
+      let r = on_trail_at q vs asked n spaces (omega (arith, lt, whole)) in
       spaced.each n ∙ lengths_at asked n ∙ r.2 ∙ ap (λ w. length (space q w)) (same_Some r.0 v (sym r.1 ∙ e))
 
   spacious : (v : Vertex) → 0 < length (space q v)

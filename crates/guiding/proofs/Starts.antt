@@ -20,8 +20,8 @@ use Rattle.encoding.specs.Numberings.{Numbering}
 use Rattle.encoding.specs.Pairs.{Given, IsGivenAt}
 use Rattle.encoding.specs.declared.known_problem.KnownProblem.{KnownProblem}
 use Rattle.searching.specs.Searching.{AreTouching, HasSpaces, IsSeen}
-use Rattle.searching.specs.Walking as walking
-use Rattle.searching.specs.Walking.{IsWalked}
+use Rattle.searching.specs.Following as following
+use Rattle.searching.specs.Following.{IsLeft}
 use Rattle.searching.specs.Counting.{combinations}
 use Rattle.searching.proofs.Counts.{counts_axioms}
 use Rattle.searching.proofs.Guides.{spaces_wider}
@@ -31,7 +31,7 @@ use Rattle.guiding.specs.Guides.{asked_of, encoded_view, with_given}
 use Rattle.guiding.proofs.Adding.{given_at, given_of, said_long, with_given_is}
 use Rattle.guiding.proofs.Following.{more_unbroken, wider_agrees}
 use Rattle.guiding.proofs.Marks.{lengths_none, past_none}
-use Rattle.guiding.proofs.Numbers.{known_most}
+use Rattle.guiding.proofs.Numbers.{on_trail_most}
 
 bare_spaces : (t : TrailView) → length t.sets ≡ 0 → HasSpaces [] t
 bare_spaces t e = record { vertices = e; each = each t.sets e }
@@ -73,7 +73,7 @@ pub begun : (i : KnownProblem) (follows : Option Content) (put vs : Numbering) (
 begun i follows put vs n asked t wide more given encoding can at come whole bare steps trail is stored = subst
     (λ es. HasBegun (problem i) follows (encoded_view (problem i) vs asked 0 follows) wide es) (sym entries) (record {
       problem = refl;
-      whole = (let most = known_most (problem i) vs asked encoding.spaces in omega (arith, most, whole));
+      whole = (let most = on_trail_most (problem i) vs asked encoding.spaces in omega (arith, most, whole));
       spaces = spaced;
       trail = now;
       steps = come.wider.steps ∙ steps;
@@ -88,7 +88,7 @@ begun i follows put vs n asked t wide more given encoding can at come whole bare
       };
       follows_is = refl;
       can_follow = can;
-      walked = walks;
+      is_left = start_left;
     })
   where
     entries : more ≡ map as_entry given
@@ -110,7 +110,7 @@ begun i follows put vs n asked t wide more given encoding can at come whole bare
     now : IsTrail (map as_entry given) wide
     now = trail_grown [] (map as_entry given) wide trail lies
 
-    instances : walking.AreGiven (IsOfInstance (problem i) vs) (map as_entry given)
+    instances : following.AreGiven (IsOfInstance (problem i) vs) (map as_entry given)
     instances id lt ax =
         let g = given_at (problem i) vs root_given.causes given id root_given.given lt in
         let there = (root_given.are.listed g.cause).0 g.listed in
@@ -139,9 +139,9 @@ begun i follows put vs n asked t wide more given encoding can at come whole bare
     none_combined = let few = counts_axioms [] (map as_entry given) (map as_entry given) refl are_axioms 0 0
         (omega arith) in omega (arith, few)
 
-    walks : (x : Assignment) → Follows (encoded_view (problem i) vs asked 0 follows) x
-        → IsWalked x (map as_entry given) wide
-    walks x f = (
+    start_left : (x : Assignment) → Follows (encoded_view (problem i) vs asked 0 follows) x
+        → IsLeft x (map as_entry given) wide
+    start_left x f = (
       more_unbroken (problem i) vs f.0 x f.3 (root, absent) []
           (map as_entry given) given encoding.catalogue f.2 root_given refl (λ id lt broken. omega (arith, lt)),
       wider_agrees (problem i) vs f.0 x f.3 asked come.came t wide encoding.spaces spaced come.wider

@@ -28,7 +28,7 @@ use Rattle.searching.specs.Counting.{combinations}
 use Rattle.searching.specs.Searching.{AreTouching, HasSpaces, IsOnly, IsRefutation, IsSeen, Pairs}
 use Rattle.searching.specs.declared.turns.Answer.{Answer}
 use Rattle.searching.specs.declared.turns.Answer.TheVariants.{Selection, Unsolvable}
-use Rattle.searching.specs.Walking as walking
+use Rattle.searching.specs.Following as following
 use Rattle.guiding.specs.Remaining.{late_of, open_of, spaces_of}
 
 -- the problem, the vertices by their numbers, for each that the trail has the states that were asked for, of how many
@@ -45,15 +45,15 @@ encoded_view q vs asked seen follows =
     record { problem = q; vertices = vs; asked = asked; seen = seen; follows = follows }
 
 -- the vertices that the trail has
-abbrev pub known : Numbering → List Members → Numbering
-known vs asked = take (length asked) vs
+abbrev pub on_trail : Numbering → List Members → Numbering
+on_trail vs asked = take (length asked) vs
 
 -- each vertex that the trail has is asked for in its own states
 pub record IsEncoding (i : KnownProblem) (vs : Numbering) (asked : List Members) : Type 0 where
   pub default : KnowsDefault i
   pub catalogue : IsCatalogue (problem i)
   pub numbering : IsNumbering (problem i) vs
-  pub spaces : map length asked ≡ spaces_of (problem i) (known vs asked)
+  pub spaces : map length asked ≡ spaces_of (problem i) (on_trail vs asked)
 
 -- a content that is followed is a valid selection
 abbrev pub CanFollow : Problem → Option Content → Type 0
@@ -82,7 +82,7 @@ abbrev pub asked_at : Numbering → List Members → Vertex → ℕ → Bool
 asked_at vs asked v i = asked_if asked i (number_in vs v)
 
 abbrev pub late_with : EncodedView → ℕ
-late_with g = late_of g.problem (known g.vertices g.asked)
+late_with g = late_of g.problem (on_trail g.vertices g.asked)
 
 abbrev pub left_with : EncodedView → ℕ
 left_with g = open_of g.problem (asked_at g.vertices g.asked)
@@ -170,9 +170,9 @@ pub record IsAsking (v i : ℕ) (old new : EncodedView) (t wide : TrailView) (es
   pub grown : IsGrown old.vertices new.vertices
   pub was_numbering : IsNumbering old.problem old.vertices
   pub numbering : IsNumbering old.problem new.vertices
-  pub spaces : map length old.asked ≡ spaces_of old.problem (known old.vertices old.asked)
+  pub spaces : map length old.asked ≡ spaces_of old.problem (on_trail old.vertices old.asked)
   pub whole : length new.vertices ≤ length new.asked
-  pub spaced : map length new.asked ≡ spaces_of old.problem (known new.vertices new.asked)
+  pub spaced : map length new.asked ≡ spaces_of old.problem (on_trail new.vertices new.asked)
   pub came : List ℕ
   pub marks : new.asked ≡ marked (old.asked ++ map none came) v i
   pub wider : IsWider came t wide
@@ -191,13 +191,13 @@ pub record HasBegun (q : Problem) (follows : Option Content) (g : EncodedView) (
   pub trail : IsTrail es t
   pub steps : t.steps ≡ []
   pub seen : IsSeen g.seen (asked_of g.asked) t
-  pub given : walking.AreGiven (IsOfInstance g.problem g.vertices) es
+  pub given : following.AreGiven (IsOfInstance g.problem g.vertices) es
   pub touching : AreTouching es
   pub uncombined : combinations es ≡ 0
   pub stored : AreStored g.problem g.vertices g.asked es
   pub follows_is : g.follows ≡ follows
   pub can_follow : CanFollow g.problem g.follows
-  pub walked : (x : Assignment) → Follows g x → walking.IsWalked x es t
+  pub is_left : (x : Assignment) → Follows g x → following.IsLeft x es t
 
 -- ---- the end
 
@@ -214,11 +214,11 @@ final_of t u = first_in (set_of t.sets u)
 -- an assignment that breaks no instance; or an entry without terms, which follows from axioms that are instances
 abbrev pub HasFound : Problem → EncodedView → TrailView → List EntryView → Answer → Type 0
 HasFound q g t es Selection = IsUnbroken q (state_of q g.vertices (final_of t))
-HasFound q g t es (Unsolvable id) = IsRefutation es id × walking.AreGiven (IsOfInstance q g.vertices) es
+HasFound q g t es (Unsolvable id) = IsRefutation es id × following.AreGiven (IsOfInstance q g.vertices) es
 
 -- a search that follows a content ends with a selection, and the states of that content are left
 pub record HasFollowed (g : EncodedView) (t : TrailView) (a : Answer) : Type 0 where
-  pub selects : IsSome g.follows → walking.IsSelection a
+  pub selects : IsSome g.follows → following.IsSelection a
   pub agrees : (x : Assignment) → Follows g x → Agrees x t.sets
 
 -- the vertices have one number each and are all on the trail, each combination is at a vertex at which its first has a
@@ -228,5 +228,5 @@ pub record HasSearched (q : Problem) (g : EncodedView) (t : TrailView) (es : Lis
   pub whole : length g.vertices ≤ length t.sets
   pub touching : AreTouching es
   pub found : HasFound q g t es a
-  pub done : walking.IsSelection a → IsDone t
+  pub done : following.IsSelection a → IsDone t
   pub followed : HasFollowed g t a

@@ -15,22 +15,22 @@ use version_sets::States;
 /// Gives the trail the next vertex.
 fn come_next<S: States + Drop>(
     alloc: Global,
-    inputs: &KnownProblem<'_>,
+    known: &KnownProblem<'_>,
     table: &Table<'_>,
     asked: &mut Vec<S>,
     trail: &mut Trail<S>,
     store: &Store<S>,
 ) -> Result<(), AllocError>
-    requires encoding { IsEncoding inputs.now table.now (map S.tests asked.old.items) }
+    requires encoding { IsEncoding known.now table.now (map S.tests asked.old.items) }
     requires less { length asked.old.items < length table.now }
     requires trail { IsTrail (entries_view S.tests store.now) (trail_view S.tests trail.old) }
-    ensures encoding { IsEncoding inputs.now table.now (map S.tests asked.new.items) }
+    ensures encoding { IsEncoding known.now table.now (map S.tests asked.new.items) }
     ensures came { OnOk result (IsCome (map S.tests asked.old.items) (map S.tests asked.new.items)
         (trail_view S.tests trail.old) (trail_view S.tests trail.new)) }
     ensures longer { OnOk result (length asked.new.items ≡ length asked.old.items + 1) }
     ensures trail { IsTrail (entries_view S.tests store.now) (trail_view S.tests trail.new) }
 {
-    let space = space_at(alloc, inputs, table, asked.len())?;
+    let space = space_at(alloc, known, table, asked.len())?;
     let none = S::empty(alloc, space)?;
     // Room first, so that `asked` grows where the trail does.
     asked.reserve(1)?;
@@ -43,22 +43,22 @@ fn come_next<S: States + Drop>(
 /// Gives the trail the vertices that have numbers.
 pub(crate) fn come<S: States + Drop>(
     alloc: Global,
-    inputs: &KnownProblem<'_>,
+    known: &KnownProblem<'_>,
     table: &Table<'_>,
     asked: &mut Vec<S>,
     trail: &mut Trail<S>,
     store: &Store<S>,
 ) -> Result<(), AllocError>
-    requires encoding { IsEncoding inputs.now table.now (map S.tests asked.old.items) }
+    requires encoding { IsEncoding known.now table.now (map S.tests asked.old.items) }
     requires trail { IsTrail (entries_view S.tests store.now) (trail_view S.tests trail.old) }
-    ensures encoding { IsEncoding inputs.now table.now (map S.tests asked.new.items) }
+    ensures encoding { IsEncoding known.now table.now (map S.tests asked.new.items) }
     ensures came { OnOk result (IsCome (map S.tests asked.old.items) (map S.tests asked.new.items)
         (trail_view S.tests trail.old) (trail_view S.tests trail.new)) }
     ensures whole { OnOk result (length table.now ≤ length asked.new.items) }
     ensures trail { IsTrail (entries_view S.tests store.now) (trail_view S.tests trail.new) }
 {
     'vertices: while asked.len() < table.len() {
-        come_next(alloc, inputs, table, asked, trail, store)?;
+        come_next(alloc, known, table, asked, trail, store)?;
     }
     Ok(())
 }

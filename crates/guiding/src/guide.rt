@@ -11,7 +11,7 @@ ghost use Rattle.propagation.specs.Trails.{set_of, trail_view};
 ghost use Rattle.searching.specs.Searching.{CanDecide, HasSpaces};
 ghost use Rattle.version_sets.specs.Sets.{has, size};
 ghost use Rattle.vertices.specs.RefViews.{vertex_ref_view};
-ghost use Rattle.guiding.specs.Guides.{CanAsk, CanFollow, Follows, HasBegun, IsAsking, IsFollowed, IsUnasked, known};
+ghost use Rattle.guiding.specs.Guides.{CanAsk, CanFollow, Follows, HasBegun, IsAsking, IsFollowed, IsUnasked, on_trail};
 ghost use Rattle.guiding.specs.Remaining.{spaces_of};
 
 use crate::choosing::{greatest, is_undecided};
@@ -37,7 +37,7 @@ use vertices::VertexRef;
 #[derive(Drop)]
 pub struct Encoded<'a, S: States> {
     alloc: Global,
-    inputs: KnownProblem<'a>,
+    known: KnownProblem<'a>,
     table: Table<'a>,
     /// The valid selection that the search decides as; else it decides by preference.
     follows: Option<LockContent>,
@@ -59,10 +59,10 @@ impl<'a, S: States> Model for Encoded<'a, S> {
 
     ghost Value = { EncodedView };
 
-    ghost view = { λ g. encoded_view (problem g.inputs) g.table (map S.tests g.asked.items) g.seen g.follows };
+    ghost view = { λ g. encoded_view (problem g.known) g.table (map S.tests g.asked.items) g.seen g.follows };
 
-    ghost invariant = { λ g. IsEncoding g.inputs g.table (map S.tests g.asked.items)
-        × CanFollow (problem g.inputs) g.follows };
+    ghost invariant = { λ g. IsEncoding g.known g.table (map S.tests g.asked.items)
+        × CanFollow (problem g.known) g.follows };
 }
 
 impl<'a, S: States + Drop> Encoded<'a, S> {
@@ -70,31 +70,31 @@ impl<'a, S: States + Drop> Encoded<'a, S> {
     /// the trail, and the instance of its absence into the store.
     pub fn begin(
         alloc: Global,
-        inputs: KnownProblem<'a>,
+        known: KnownProblem<'a>,
         follows: Option<LockContent>,
         trail: &mut Trail<S>,
         store: &mut Store<S>,
     ) -> Result<Encoded<'a, S>, AllocError>
-        requires default { KnowsDefault inputs }
-        requires follows { CanFollow (problem inputs) follows }
+        requires default { KnowsDefault known }
+        requires follows { CanFollow (problem known) follows }
         requires trail { IsTrail (entries_view S.tests store.old) (trail_view S.tests trail.old) }
         requires bare { length (trail_view S.tests trail.old).sets ≡ 0 }
         requires steps { (trail_view S.tests trail.old).steps ≡ [] }
         requires store { entries_view S.tests store.old ≡ [] }
-        ensures { IfOk result (λ g. HasBegun (problem inputs.entry) follows g (trail_view S.tests trail.new)
+        ensures { IfOk result (λ g. HasBegun (problem known.entry) follows g (trail_view S.tests trail.new)
             (entries_view S.tests store.new)) }
     {
-        catalogues_are_well_formed(inputs.manifest, inputs.catalogue);
+        catalogues_are_well_formed(known.manifest, known.catalogue);
         let mut table = Table::new(alloc);
         let mut asked = Vec::new(alloc);
         // The one pair with absent that has an instance; others are asked for when they come to stand alone.
         let root = table.put(VertexRef::Root)?;
-        let given = axioms_at(alloc, &inputs, &mut table, root, 0)?;
-        come(alloc, &inputs, &table, &mut asked, trail, store)?;
+        let given = axioms_at(alloc, &known, &mut table, root, 0)?;
+        come(alloc, &known, &table, &mut asked, trail, store)?;
         put_given(store, given)?;
         Ok(Encoded {
             alloc,
-            inputs,
+            known,
             table,
             follows,
             asked,
@@ -106,10 +106,10 @@ impl<'a, S: States + Drop> Encoded<'a, S> {
     }
 
     /// What vertices and axioms are looked up in, with what was matched for them.
-    pub fn inputs(&self) -> &KnownProblem<'a>
+    pub fn known(&self) -> &KnownProblem<'a>
         ensures { problem result.now ≡ self.now.problem }
     {
-        &self.inputs
+        &self.known
     }
 
     /// The vertices by number.
@@ -137,7 +137,7 @@ impl<'a, S: States + Drop> Encoded<'a, S> {
     pub fn is_kept(&self)
         ensures numbering { IsNumbering self.now.problem self.now.vertices }
         ensures spaces { map length self.now.asked
-            ≡ spaces_of self.now.problem (known self.now.vertices self.now.asked) }
+            ≡ spaces_of self.now.problem (on_trail self.now.vertices self.now.asked) }
     {
         let _ = self.asked.len();
     }
@@ -157,15 +157,15 @@ impl<'a, S: States + Drop> Encoded<'a, S> {
             (trail_view S.tests trail.new) (entries_view S.tests store.old) (entries_view S.tests store.new)) }
     {
         let number = state as usize;
-        let inputs = &mut self.inputs;
-        inputs
+        let known = &mut self.known;
+        known
             .matched
             .keep_at(self.alloc, &self.table, vertex, number)?;
-        let given = axioms_at(self.alloc, &self.inputs, &mut self.table, vertex, number)?;
+        let given = axioms_at(self.alloc, &self.known, &mut self.table, vertex, number)?;
         // The vertices first: the store may speak only of those that the trail has.
         come(
             self.alloc,
-            &self.inputs,
+            &self.known,
             &self.table,
             &mut self.asked,
             trail,
@@ -184,7 +184,7 @@ impl<'a, S: States + Drop> Encoded<'a, S> {
         let Some(content) = &self.follows else {
             return Ok(None);
         };
-        match state_in(self.alloc, &self.inputs, content, vertex)? {
+        match state_in(self.alloc, &self.known, content, vertex)? {
             Some(state) if left.member(state) => Ok(Some(state)),
             _ => Ok(None),
         }
@@ -206,7 +206,7 @@ impl<'a, S: States + Drop> Encoded<'a, S> {
         if let Some(state) = self.followed_state(&vertex, left)? {
             return Ok(state);
         }
-        match preferred_state(self.alloc, &self.inputs, &vertex, left)? {
+        match preferred_state(self.alloc, &self.known, &vertex, left)? {
             Some(state) => Ok(state),
             None => Ok(greatest(left)),
         }
@@ -280,7 +280,7 @@ impl<'a, S: States + Drop> Guide<S> for Encoded<'a, S> {
 
     ghost stored_on = { λ g es more was. stored_on g es more was };
 
-    ghost walks = { λ g x. Follows g x };
+    ghost follows = { λ g x. Follows g x };
 
     ghost keeps = { λ old new. GoesOn old new };
 

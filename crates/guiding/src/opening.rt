@@ -2,7 +2,7 @@
 
 ghost use Rattle.std.specs.Prelude.{◌≡◌, ◌<◌, length, map};
 ghost use Rattle.propagation.specs.Promises.{IsSound};
-ghost use Rattle.propagation.specs.Trails.{set_of, trail_view};
+ghost use Rattle.propagation.specs.Trails.{trail_view};
 ghost use Rattle.searching.specs.Searching.{IsSeen};
 ghost use Rattle.guiding.specs.Guides.{IsNextOpen, IsOpenAt, IsUnless, asked_of};
 

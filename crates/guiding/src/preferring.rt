@@ -13,16 +13,16 @@ use vertices::{OwnerRef, VertexRef};
 /// The preferred state of a package or a dependency: `None` for other vertices.
 pub(crate) fn preferred_state<S: States>(
     alloc: Global,
-    inputs: &KnownProblem<'_>,
+    known: &KnownProblem<'_>,
     vertex: &VertexRef<'_>,
     left: &S,
 ) -> Result<Option<u32>, AllocError>
     ensures { IfOk result (λ o. IfSome o (λ n. has (S.tests left.now) n ≡ true)) }
 {
     match vertex {
-        VertexRef::Package(name, class) => preferred_version(inputs, name, *class, left),
+        VertexRef::Package(name, class) => preferred_version(known, name, *class, left),
         VertexRef::Dependency(owner, number) => {
-            preferred_class(alloc, inputs, owner, *number, left)
+            preferred_class(alloc, known, owner, *number, left)
         }
         _ => Ok(None),
     }
@@ -30,17 +30,17 @@ pub(crate) fn preferred_state<S: States>(
 
 /// The state of the most preferred version of a class that is left.
 fn preferred_version<S: States>(
-    inputs: &KnownProblem<'_>,
+    known: &KnownProblem<'_>,
     name: &PackageName,
     class: Class,
     left: &S,
 ) -> Result<Option<u32>, AllocError>
     ensures { IfOk result (λ o. IfSome o (λ n. has (S.tests left.now) n ≡ true)) }
 {
-    let versions = inputs.catalogue.versions(name);
+    let versions = known.catalogue.versions(name);
     // The versions of a class stand together, and are the states after absent.
     let first = versions.partition_point(|version| Class::of(version) < class);
-    let order = inputs.catalogue.prefer(name)?;
+    let order = known.catalogue.prefer(name)?;
     'places: for place in order.iter() {
         let place = *place as usize;
         if place >= first {
@@ -55,19 +55,19 @@ fn preferred_version<S: States>(
 /// The state of the class of the most preferred candidate that a dependency matches and whose class is left.
 fn preferred_class<S: States>(
     alloc: Global,
-    inputs: &KnownProblem<'_>,
+    known: &KnownProblem<'_>,
     owner: &OwnerRef<'_>,
     number: usize,
     left: &S,
 ) -> Result<Option<u32>, AllocError>
     ensures { IfOk result (λ o. IfSome o (λ n. has (S.tests left.now) n ≡ true)) }
 {
-    let Some(dependency) = dependency_at(inputs, owner, number) else {
+    let Some(dependency) = dependency_at(known, owner, number) else {
         return Ok(None);
     };
-    let classes = classes_of(alloc, inputs, dependency)?;
-    let versions = inputs.catalogue.versions(&dependency.real_name);
-    let order = inputs.catalogue.prefer(&dependency.real_name)?;
+    let classes = classes_of(alloc, known, dependency)?;
+    let versions = known.catalogue.versions(&dependency.real_name);
+    let order = known.catalogue.prefer(&dependency.real_name)?;
     'places: for place in order.iter() {
         if let Some(version) = versions.get(*place as usize) {
             if dependency.requirement.matches(version) {

@@ -34,14 +34,14 @@ pub struct Searched<'a, S: States> {
 /// (`HasFollowed`).
 pub fn search_over<'a, S: States + Drop>(
     alloc: Global,
-    inputs: KnownProblem<'a>,
+    known: KnownProblem<'a>,
     follows: Option<LockContent>,
 ) -> Result<Searched<'a, S>, AllocError>
-    requires default { KnowsDefault inputs }
-    requires follows { CanFollow (problem inputs) follows }
-    ensures problem { IfOk result (λ r. r.guide.problem ≡ problem inputs.entry) }
+    requires default { KnowsDefault known }
+    requires follows { CanFollow (problem known) follows }
+    ensures problem { IfOk result (λ r. r.guide.problem ≡ problem known.entry) }
     ensures follows { IfOk result (λ r. r.guide.follows ≡ follows) }
-    ensures searched { IfOk result (λ r. HasSearched (problem inputs.entry) r.guide (trail_view S.tests r.trail)
+    ensures searched { IfOk result (λ r. HasSearched (problem known.entry) r.guide (trail_view S.tests r.trail)
         (entries_view S.tests r.store) r.found.answer) }
     // There are at least as many steps as combinations.
     ensures counted { IfOk result
@@ -49,7 +49,7 @@ pub fn search_over<'a, S: States + Drop>(
 {
     let mut store = Store::new(alloc);
     let mut trail = Trail::new(alloc, &[])?;
-    let mut guide = Encoded::begin(alloc, inputs, follows, &mut trail, &mut store)?;
+    let mut guide = Encoded::begin(alloc, known, follows, &mut trail, &mut store)?;
     let found = search(alloc, &mut guide, &mut trail, &mut store)?;
     guide.is_kept();
     Ok(Searched {

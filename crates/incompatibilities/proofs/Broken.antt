@@ -65,69 +65,51 @@ one_is_broken v f g h each x a b broken = elim at_v [
     elsewhere u o = meet_holds (f u) (g u) (x u) (a u) (b u) (subst (λ o. HoldsOf o (x u)) (each u
         ∙ ap (λ t. unless_full (cond t (union_at (f u) (g u)) (meet_at (f u) (g u)))) (ne_eqb u v o)) (broken u))
 
+-- what is so of the states of a term is so of them where a full term is dropped
+kept_each : (P : Members → Type 0) (o : Option Members) (s : Members) → ((t : Members) → o ≡ Some t → P t)
+    → unless_full o ≡ Some s → P s
+kept_each P None s each q = cc
+kept_each P (Some y) s each q = kept (is_full y) q
+  where
+    kept : (b : Bool) → cond b None (Some y) ≡ Some s → P s
+    kept true q = cc
+    kept false q = each s q
+
+-- what is so of the sets of both, and passes to unions and to common states, is so of the sets of a combination
+combined_each : (P : Members → Type 0) (v u : ℕ) (f g h : Terms) → h u ≡ unless_full (combined_at v f g u)
+    → ((y z : Members) → P y → P z → P (join y z)) → ((y z : Members) → P y → P z → P (meet y z))
+    → ((t : Members) → f u ≡ Some t → P t) → ((t : Members) → g u ≡ Some t → P t)
+    → (s : Members) → h u ≡ Some s → P s
+combined_each P v u f g h each joined met a b s e = by (eqb u v) (f u) (g u) a b (sym each ∙ e)
+  where
+    by : (c : Bool) (o p : Option Members) → ((t : Members) → o ≡ Some t → P t) → ((t : Members) → p ≡ Some t → P t)
+        → unless_full (cond c (union_at o p) (meet_at o p)) ≡ Some s → P s
+    by true None p i j q = cc
+    by true (Some y) None i j q = cc
+    by true (Some y) (Some z) i j q = kept_each P (Some (join y z)) s
+        (λ t r. subst P (same_Some (join y z) t r) (joined y z (i y refl) (j z refl))) q
+    by false None p i j q = kept_each P p s j q
+    by false (Some y) None i j q = kept_each P (Some y) s i q
+    by false (Some y) (Some z) i j q = kept_each P (Some (meet y z)) s
+        (λ t r. subst P (same_Some (meet y z) t r) (met y z (i y refl) (j z refl))) q
+
 -- the sets of a combination hold what the sets of both hold
 pub within_combined : (v : ℕ) (f g h : Terms) → ((u : ℕ) → h u ≡ unless_full (combined_at v f g u)) → (x : Assignment)
     → IsWithin x f → IsWithin x g → IsWithin x h
-within_combined v f g h each x a b u s e = by (eqb u v) (f u) (g u) (a u) (b u) (sym (each u) ∙ e)
-  where
-    from_full : (o : Option Members) → Inside o (x u) → unless_full o ≡ Some s → x u < length s
-    from_full None i q = cc
-    from_full (Some y) i q = kept (is_full y) q
-      where
-        kept : (b : Bool) → cond b None (Some y) ≡ Some s → x u < length s
-        kept true q = cc
-        kept false q = i s q
-
-    by : (c : Bool) (o p : Option Members) → Inside o (x u) → Inside p (x u)
-        → unless_full (cond c (union_at o p) (meet_at o p)) ≡ Some s → x u < length s
-    by true None p i j q = cc
-    by true (Some y) None i j q = cc
-    by true (Some y) (Some z) i j q = from_full (Some (join y z))
-        (λ t r. subst (λ w. x u < length w) (same_Some (join y z) t r) (within_join y z (x u) (i y refl) (j z refl))) q
-    by false None p i j q = from_full p j q
-    by false (Some y) None i j q = from_full (Some y) i q
-    by false (Some y) (Some z) i j q = from_full (Some (meet y z))
-        (λ t r. subst (λ w. x u < length w) (same_Some (meet y z) t r) (within_meet y z (x u) (i y refl) (j z refl))) q
+within_combined v f g h each x a b u s e = combined_each (λ (t : Members). x u < length t) v u f g h (each u)
+    (λ y z p q. within_join y z (x u) p q) (λ y z p q. within_meet y z (x u) p q) (a u) (b u) s e
 
 -- the sets of a combination are of the universes of both
 pub lies_combined : (v : ℕ) (f g h : Terms) → ((u : ℕ) → h u ≡ unless_full (combined_at v f g u)) → (space : ℕ → ℕ)
     → LiesIn space f → LiesIn space g → LiesIn space h
-lies_combined v f g h each space a b u s e = by (eqb u v) (f u) (g u) (a u) (b u) (sym (each u) ∙ e)
-  where
-    from_full : (o : Option Members) → ((t : Members) → o ≡ Some t → length t ≡ space u)
-        → unless_full o ≡ Some s → length s ≡ space u
-    from_full None i q = cc
-    from_full (Some y) i q = kept (is_full y) q
-      where
-        kept : (b : Bool) → cond b None (Some y) ≡ Some s → length s ≡ space u
-        kept true q = cc
-        kept false q = i s q
-
-    by : (c : Bool) (o p : Option Members) → ((t : Members) → o ≡ Some t → length t ≡ space u)
-        → ((t : Members) → p ≡ Some t → length t ≡ space u)
-        → unless_full (cond c (union_at o p) (meet_at o p)) ≡ Some s → length s ≡ space u
-    by true None p i j q = cc
-    by true (Some y) None i j q = cc
-    by true (Some y) (Some z) i j q = from_full (Some (join y z))
-        (λ t r. ap length (sym (same_Some (join y z) t r)) ∙ length-join y z (i y refl ∙ sym (j z refl)) ∙ i y refl) q
-    by false None p i j q = from_full p j q
-    by false (Some y) None i j q = from_full (Some y) i q
-    by false (Some y) (Some z) i j q = from_full (Some (meet y z))
-        (λ t r. ap length (sym (same_Some (meet y z) t r)) ∙ length-meet y z (i y refl ∙ sym (j z refl)) ∙ i y refl) q
+lies_combined v f g h each space a b u s e = combined_each (λ (t : Members). length t ≡ space u) v u f g h (each u)
+    (λ y z p q. length-join y z (p ∙ sym q) ∙ p) (λ y z p q. length-meet y z (p ∙ sym q) ∙ p) (a u) (b u) s e
 
 -- the sets of the incompatibility of some terms are of their universes
 pub lies_made : (given made : List TermView) → IsMadeOf given made → (space : ℕ → ℕ) → LiesIn space (states_at given)
     → LiesIn space (states_at made)
-lies_made given made m space a u s e = from_full (states_at given u) (a u) (sym (m.each u) ∙ e)
-  where
-    from_full : (o : Option Members) → ((t : Members) → o ≡ Some t → length t ≡ space u)
-        → unless_full o ≡ Some s → length s ≡ space u
-    from_full None i q = cc
-    from_full (Some y) i q = kept (is_full y) q
-      where
-        kept : (b : Bool) → cond b None (Some y) ≡ Some s → length s ≡ space u
-        kept true q = cc
-        kept false q = i s q
+lies_made given made m space a u s e =
+    kept_each (λ (t : Members). length t ≡ space u) (states_at given u) s (a u) (sym (m.each u) ∙ e)
 
 -- sets of the same universes fit
 pub lies_fit : (space : ℕ → ℕ) (f g : Terms) → LiesIn space f → LiesIn space g → Fit f g

@@ -38,10 +38,6 @@ first_alone : (b : Bool) (x : Members) → is_full x ≡ false
 first_alone true x e = refl
 first_alone false x e = not_full x e
 
-whole_none : (b : Bool) → unless_full (cond b (union_at None None) (meet_at None None)) ≡ None
-whole_none true = refl
-whole_none false = refl
-
 -- one term alone
 lone_other : (v w : ℕ) (t : TermView) → t.vertex ≢ w → states_at (lone v t) w ≡ None
 lone_other v w t o =

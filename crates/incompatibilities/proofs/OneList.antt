@@ -4,7 +4,7 @@ use Rattle.std.proofs.lemmas.Bool.{cases_eq, cases_order}
 use Rattle.std.proofs.lemmas.Option.{none-some, same_Some}
 use Rattle.version_sets.specs.Sets.{Members}
 use Rattle.terms.specs.Terms.{TermView}
-use Rattle.incompatibilities.specs.Incompatibilities.{AllPast, IsCombination, IsMadeOf, IsRising, states_at}
+use Rattle.incompatibilities.specs.Incompatibilities.{AllPast, IsCombination, IsRising, states_at}
 use Rattle.incompatibilities.proofs.Lookups.{absent, at_first, at_later}
 
 same_term : (t u : TermView) → t.vertex ≡ u.vertex → t.states ≡ u.states → t ≡ u
@@ -44,6 +44,3 @@ one_list (t ∷ ts) (u ∷ us) a b same = elim (cases_order t.vertex u.vertex) [
 
 pub one_combination : (v : ℕ) (a b c d : List TermView) → IsCombination v a b c → IsCombination v a b d → c ≡ d
 one_combination v a b c d p q = one_list c d p.is.rising q.is.rising (λ w. p.each w ∙ sym (q.each w))
-
-pub one_made : (given c d : List TermView) → IsMadeOf given c → IsMadeOf given d → c ≡ d
-one_made given c d p q = one_list c d p.is.rising q.is.rising (λ w. p.each w ∙ sym (q.each w))

@@ -15,7 +15,7 @@ use Rattle.model.specs.Tables.{TableFault, table_of}
 use Rattle.model.proofs.Candidates.{precedence_total}
 use Rattle.model.proofs.Lists.{all_none, all_cons, pairs_none, pairs_one, pairs_all, pairs_rest}
 use Rattle.model.proofs.Tables.{built-knows}
-use Rattle.index_reader.specs.Lines.{Line, ShapeView, data_of_bytes, shape_of}
+use Rattle.index_reader.specs.Shapes.{Line, ShapeView, data_of_bytes, shape_of}
 use Rattle.index_reader.specs.Written.{written_of, dep_names_of, unless_faulty, features_of}
 use Rattle.index_reader.specs.Records.{RecordView, unless, semver_or, required, dependencies_read, is_of_index}
 use Rattle.index_reader.specs.Records.{is_checksum, unchecked_of_shape, unchecked_of_line}

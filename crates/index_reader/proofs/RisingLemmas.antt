@@ -22,12 +22,12 @@ use Rattle.model.specs.Tables.{Written, with_row}
 use Rattle.features.specs.Names.{is_feature_name}
 use Rattle.features.specs.Tables.{rows_of}
 use Rattle.features.specs.declared.entry.Entry.{Entry}
-use Rattle.index_reader.specs.Lines.{Line, FeatureView}
+use Rattle.index_reader.specs.Shapes.{Line, FeatureView}
 use Rattle.index_reader.specs.declared.fault.LineFault.TheVariants.{Skipped}
 use Rattle.index_reader.specs.declared.fault.SkipReason.TheVariants.{BadFeatures}
 use Rattle.index_reader.specs.Written.{entries_read, feature_read, features_read, joined, names_rise, with_features}
 use Rattle.index_reader.specs.Written.{with_more}
-use Rattle.index_reader.proofs.ReadLemmas.{with_front, with_front-next}
+use Rattle.model.proofs.Fronts.{with_front, with_front-next}
 
 -- ---- a row behind others
 

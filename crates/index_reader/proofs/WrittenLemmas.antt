@@ -5,33 +5,17 @@ use Rattle.std.specs.Map.{lookup, set_value}
 use Rattle.std.specs.Ordering.{nat_cmp, match_ordering}
 use Rattle.std.specs.declared.cmp.Ordering.{Ordering}
 use Rattle.std.specs.declared.cmp.Ordering.TheVariants.{Less, Equal, Greater}
-use Rattle.std.specs.Cmp.Lexicographic.{slice_cmp, texts_ties}
+use Rattle.std.specs.Cmp.Lexicographic.{slice_cmp}
 use Rattle.std.specs.BTreeMap.{is_at, insert_entry}
 use Rattle.std.specs.declared.alloc.Global.{Global}
 use Rattle.model.specs.Summary as model
-use Rattle.model.specs.Summary.{entries_at, same_text}
+use Rattle.model.specs.Summary.{same_text}
 use Rattle.model.specs.Order.{text_cmp}
 use Rattle.features.specs.Tables.{rows_of}
 use Rattle.features.specs.EntryViews.{entry_views}
 use Rattle.features.specs.declared.entry.Entry.{Entry}
+use Rattle.features.proofs.TableLemmas.{at_is, entries_at-rows_of}
 use Rattle.index_reader.specs.Written.{with_more, joined}
-
--- the test of a map's look-up is the comparison of names
-at_is : (name key : List ℕ) → is_at (slice_cmp nat_cmp name) key ≡ same_text name key
-at_is name key = sym (texts_ties name key)
-
-pub entries_at-rows : (name : List ℕ) (es : List (List ℕ × Vec Entry Global))
-    → entries_at name (rows_of es) ≡ option_map (λ v. entry_views v.items) (lookup (is_at (slice_cmp nat_cmp name)) es)
-entries_at-rows name [] = refl
-entries_at-rows name (e ∷ es) = ap (λ b. cond b (Some (entry_views e.1.items)) (entries_at name (rows_of es)))
-    (sym (at_is name e.0)) ∙ by (entries_at-rows name es) (is_at (slice_cmp nat_cmp name) e.0)
-  where
-    by : entries_at name (rows_of es)
-        ≡ option_map (λ v. entry_views v.items) (lookup (is_at (slice_cmp nat_cmp name)) es)
-        → (b : Bool) → cond b (Some (entry_views e.1.items)) (entries_at name (rows_of es))
-        ≡ option_map (λ v. entry_views v.items) (cond b (Some e.1) (lookup (is_at (slice_cmp nat_cmp name)) es))
-    by rest true = refl
-    by rest false = rest
 
 pub set-rows : (name : List ℕ) (es : List (List ℕ × Vec Entry Global)) (w : Vec Entry Global)
     → rows_of (set_value (is_at (slice_cmp nat_cmp name)) es w)
@@ -74,7 +58,7 @@ pub joined-set : (es : List (List ℕ × Vec Entry Global)) (name : List ℕ) (b
 joined-set es name before w more found same =
     set-rows name es w ∙ ap (set_value (same_text name) (rows_of es)) same
     ∙ sym (ap (λ o. with_more o (rows_of es) name more)
-    (entries_at-rows name es ∙ ap (option_map (λ v. entry_views v.items)) found))
+    (entries_at-rows_of name es ∙ ap (option_map (λ v. entry_views v.items)) found))
 
 -- the entries of a feature that a map lacks
 pub joined-insert : (es : List (List ℕ × Vec Entry Global)) (name : List ℕ) (v : Vec Entry Global)
@@ -82,4 +66,4 @@ pub joined-insert : (es : List (List ℕ × Vec Entry Global)) (name : List ℕ)
     → rows_of (insert_entry (slice_cmp nat_cmp) es name v) ≡ joined (rows_of es) (name, entry_views v.items)
 joined-insert es name v absent =
     insert-rows es name v ∙ sym (ap (λ o. with_more o (rows_of es) name (entry_views v.items))
-    (entries_at-rows name es ∙ ap (option_map (λ v. entry_views v.items)) absent))
+    (entries_at-rows_of name es ∙ ap (option_map (λ v. entry_views v.items)) absent))

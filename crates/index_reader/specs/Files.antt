@@ -7,7 +7,7 @@ use Rattle.std.specs.Ordering.{is_eq}
 use Rattle.semver.specs.Parse.{Parts}
 use Rattle.model.specs.Order.{precedence}
 use Rattle.trees.specs.Lines.{is_blank, is_line_end}
-use Rattle.index_reader.specs.Lines.{Line}
+use Rattle.index_reader.specs.Shapes.{Line}
 use Rattle.index_reader.specs.Records.{RecordView, is_checksum, unchecked_of_line}
 use Rattle.index_reader.specs.declared.fault.SkipReason.{SkipReason}
 use Rattle.index_reader.specs.declared.fault.SkipReason.TheVariants.{BadChecksum, Duplicate}

@@ -1,5 +1,5 @@
-pub mod Lines
 pub mod Shapes
+pub mod ShapeViews
 pub mod Written
 pub mod Made
 pub mod Records

@@ -4,7 +4,7 @@ use Rattle.std.specs.Bool.{beq}
 use Rattle.std.specs.Cmp.Lexicographic.{pointwise}
 use Rattle.model.specs.Summary.{Table, same_text}
 use Rattle.model.specs.Tables.{DepName}
-use Rattle.index_reader.specs.Lines.{FeatureView, ShapeView}
+use Rattle.index_reader.specs.Shapes.{FeatureView, ShapeView}
 use Rattle.index_reader.specs.Written.{dep_names_of, features_of}
 use Rattle.index_reader.specs.declared.made.FeatureText.{FeatureText}
 

@@ -8,7 +8,7 @@ use Rattle.model.specs.Outcome.{◌>>=◌, guard}
 use Rattle.model.specs.Summary as model
 use Rattle.model.specs.Summary.{same_text}
 use Rattle.features.specs.Names.{is_between}
-use Rattle.index_reader.specs.Lines.{Line, PartView, DependencyView, dev, part, ShapeView, data_of_bytes, shape_of}
+use Rattle.index_reader.specs.Shapes.{Line, PartView, DependencyView, dev, part, ShapeView, data_of_bytes, shape_of}
 use Rattle.index_reader.specs.Written.{feature_name_of, features_of}
 use Rattle.index_reader.specs.declared.fault.LineFault.TheVariants.{Skipped}
 use Rattle.index_reader.specs.declared.fault.SkipReason.{SkipReason}

@@ -11,7 +11,7 @@ use Rattle.model.specs.Summary.{Entry, Table, entries_at, same_text}
 use Rattle.model.specs.Tables.{DepName, TableFault, Written, table_of, with_row}
 use Rattle.features.specs.Entries.{entry_of}
 use Rattle.features.specs.Names.{is_feature_name}
-use Rattle.index_reader.specs.Lines.{Line, FeatureView, DependencyView, dev, part, ShapeView}
+use Rattle.index_reader.specs.Shapes.{Line, FeatureView, DependencyView, dev, part, ShapeView}
 use Rattle.features.specs.declared.table.FeatureFault.{FeatureFault}
 use Rattle.features.specs.declared.table.FeatureFault.TheVariants as feature
 use Rattle.index_reader.specs.declared.fault.LineFault.{LineFault}

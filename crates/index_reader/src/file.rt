@@ -6,7 +6,7 @@ ghost use Rattle.index_reader.specs.Files.{line_count, with_skip, with_line, wit
 ghost use Rattle.trees.specs.Lines.{is_line_end};
 ghost use Rattle.index_reader.specs.Views.{file_view, contents_view};
 
-use crate::fault::{LineFault, SkipReason};
+use crate::fault::LineFault;
 use crate::file_so_far::FileSoFar;
 use crate::line::read_unchecked;
 use crate::made::LineBefore;

@@ -8,8 +8,7 @@ ghost use Rattle.index_reader.specs.BareVersions.{bare, WithoutBuild, Agrees};
 ghost use Rattle.index_reader.specs.Views.{record_view, file_view};
 
 use crate::fault::SkipReason;
-use crate::line::is_checksum;
-use crate::record::{Record, Skip};
+use crate::record::{Record, Skip, is_checksum};
 use features::PackageName;
 use semver::{BuildMetadata, Version};
 use std::alloc::{AllocError, Global};

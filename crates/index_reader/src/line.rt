@@ -6,25 +6,31 @@ ghost use Rattle.semver.specs.Grammar.{IsValid};
 ghost use Rattle.semver.specs.Identifiers.{parts_of};
 ghost use Rattle.semver.specs.Parse.{memory_error, req_of, version_parts};
 ghost use Rattle.model.specs.Outcome.{Gives};
-ghost use Rattle.index_reader.specs.Lines.{wants_memory};
-ghost use Rattle.features.specs.Views.{requirement_view, dependency_view, dependency_views};
+ghost use Rattle.index_reader.specs.Shapes.{wants_memory};
+ghost use Rattle.features.specs.Views.{requirement_view, dependency_view, dependency_views, text_views};
 ghost use Rattle.index_reader.specs.Records.{unless, semver_or, required, feature_names, dependency_read};
-ghost use Rattle.index_reader.specs.Records.{dependencies_read, is_of_index, is_hexadecimal, is_checksum, checked};
+ghost use Rattle.index_reader.specs.Records.{dependencies_read, is_of_index, checked};
 ghost use Rattle.index_reader.specs.Records.{unchecked_of_shape, unchecked_of_line, record_of_line};
-ghost use Rattle.index_reader.specs.Shapes.{texts_view, line_dependency_view, line_dependency_views, shape_view};
-ghost use Rattle.index_reader.specs.Shapes.{required_view, required_views};
-ghost use Rattle.index_reader.specs.Views.{record_view};
+ghost use Rattle.index_reader.specs.ShapeViews.{line_dependency_view, line_dependency_views, shape_view};
+ghost use Rattle.index_reader.specs.Views.{record_view, required_view, required_views};
 
 use crate::fault::{LineFault, SkipReason};
 use crate::made::{LineBefore, features_after};
-use crate::record::Record;
-use crate::shape::{DependencyShape, LineShape, PartShape, Required, read_shape};
+use crate::record::{Record, is_checksum};
+use crate::shape::{DependencyShape, LineShape, PartShape, read_shape};
 use crate::values::read_json;
 use crate::written::feature_name;
 use features::{Dependency, FeatureName, PackageName, Summary};
 use json::Scratch;
 use semver::{Version, VersionReq};
 use std::alloc::{AllocError, Global};
+
+/// A dependency that takes part, with its requirement read.
+#[derive(Drop)]
+pub(crate) struct Required<'a> {
+    part: &'a PartShape<'a>,
+    requirement: VersionReq,
+}
 
 /// The record that a line of this package's file is, or why it is none (Cargo book, "Registry Index").
 ///
@@ -207,7 +213,7 @@ fn real_name(part: &PartShape<'_>) -> Result<PackageName, AllocError>
 /// The features that texts name: empty ones are left out.
 #[tactic(auto, unfolding(crate::specs::Records::feature_names))]
 fn feature_names(alloc: Global, texts: &[&str]) -> Result<Vec<FeatureName>, LineFault>
-    ensures { Gives wants_memory (λ v. v.items) result (feature_names (texts_view texts.now)) }
+    ensures { Gives wants_memory (λ v. v.items) result (feature_names (text_views texts.now)) }
 {
     let mut found = Vec::with_capacity(alloc, texts.len())?;
     'texts: for text in texts {
@@ -241,23 +247,4 @@ fn is_of_index(dependency: &DependencyShape<'_>) -> bool
         DependencyShape::Dev(_) => true,
         DependencyShape::Part(part) => part.registry.is_none(),
     }
-}
-
-pub(crate) fn is_checksum(text: &str) -> bool
-    ensures { result ≡ is_checksum text.now }
-{
-    text.len() == 64 && are_hexadecimal(text.as_bytes())
-}
-
-fn are_hexadecimal(text: &[u8]) -> bool
-    ensures { result ≡ list_all is_hexadecimal text.now }
-{
-    text.iter().all(|b| is_hexadecimal(*b))
-}
-
-/// A lower-case hexadecimal digit.
-fn is_hexadecimal(byte: u8) -> bool
-    ensures { result ≡ is_hexadecimal byte }
-{
-    matches!(byte, b'0'..=b'9' | b'a'..=b'f')
 }

@@ -6,9 +6,10 @@ ghost use Rattle.std.specs.List.{list_all, zip};
 ghost use Rattle.model.specs.Outcome.{Gives};
 ghost use Rattle.model.specs.Summary.{same_text};
 ghost use Rattle.features.specs.Tables.{dep_name_view, dep_names_view};
-ghost use Rattle.index_reader.specs.Lines.{wants_memory};
+ghost use Rattle.index_reader.specs.Shapes.{wants_memory};
 ghost use Rattle.index_reader.specs.Made.{feature_text_view, feature_text_views, same_name, same_feature, Makes};
-ghost use Rattle.index_reader.specs.Shapes.{texts_view, feature_view, feature_views, line_dependency_views, shape_view};
+ghost use Rattle.features.specs.Views.{text_views};
+ghost use Rattle.index_reader.specs.ShapeViews.{feature_view, feature_views, line_dependency_views, shape_view};
 ghost use Rattle.index_reader.specs.Written.{dep_names_of, features_of};
 
 use crate::fault::LineFault;
@@ -145,7 +146,7 @@ fn feature_text(alloc: Global, feature: &FeatureShape<'_>) -> Result<FeatureText
 }
 
 fn strings(alloc: Global, texts: &[&str]) -> Result<Vec<String>, AllocError>
-    ensures { IfOk result (λ v. map string_bytes v.items ≡ texts_view texts.now) }
+    ensures { IfOk result (λ v. map string_bytes v.items ≡ text_views texts.now) }
 {
     let mut found = Vec::with_capacity(alloc, texts.len())?;
     'texts: for text in texts {
@@ -200,7 +201,7 @@ fn is_feature(known: &FeatureText, feature: &FeatureShape<'_>) -> bool
 }
 
 fn are_texts(known: &[String], texts: &[&str]) -> bool
-    ensures { result ≡ pointwise same_text (map string_bytes known.now) (texts_view texts.now) }
+    ensures { result ≡ pointwise same_text (map string_bytes known.now) (text_views texts.now) }
 {
     known.len() == texts.len() && all_texts(known, texts)
 }

@@ -1,7 +1,10 @@
 //! What a line of an index file is.
 
+ghost use Rattle.std.specs.Prelude.{◌≡◌};
+ghost use Rattle.std.specs.List.{list_all};
 ghost use Rattle.semver.specs.Grammar.{IsValid};
 ghost use Rattle.semver.specs.Identifiers.{parts_of};
+ghost use Rattle.index_reader.specs.Records.{is_hexadecimal, is_checksum};
 
 use crate::fault::SkipReason;
 use classes::RustVersion;
@@ -30,4 +33,24 @@ pub struct Skip {
     /// Its number in the file, from 1.
     pub line: u64,
     pub reason: SkipReason,
+}
+
+/// Whether a text is the checksum of a file.
+pub(crate) fn is_checksum(text: &str) -> bool
+    ensures { result ≡ is_checksum text.now }
+{
+    text.len() == 64 && are_hexadecimal(text.as_bytes())
+}
+
+fn are_hexadecimal(text: &[u8]) -> bool
+    ensures { result ≡ list_all is_hexadecimal text.now }
+{
+    text.iter().all(|b| is_hexadecimal(*b))
+}
+
+/// A lower-case hexadecimal digit.
+fn is_hexadecimal(byte: u8) -> bool
+    ensures { result ≡ is_hexadecimal byte }
+{
+    matches!(byte, b'0'..=b'9' | b'a'..=b'f')
 }

@@ -2,21 +2,20 @@
 
 ghost use Rattle.std.specs.Prelude.{◌≡◌, Some, None, option_map};
 ghost use Rattle.model.specs.Outcome.{Gives};
-ghost use Rattle.index_reader.specs.Lines.{wants_memory, value_at, package_name_of, package_name_at};
-ghost use Rattle.index_reader.specs.Lines.{package_name_or_none, kind_of_text, kind_at, part_of, by_kind};
-ghost use Rattle.index_reader.specs.Lines.{dependency_of, dependencies_in, dependencies_at, features_in};
-ghost use Rattle.index_reader.specs.Lines.{features_or_none, rust_version_at, shape_of};
+ghost use Rattle.index_reader.specs.Shapes.{wants_memory, value_at, package_name_of, package_name_at};
+ghost use Rattle.index_reader.specs.Shapes.{package_name_or_none, kind_of_text, kind_at, part_of, by_kind};
+ghost use Rattle.index_reader.specs.Shapes.{dependency_of, dependencies_in, dependencies_at, features_in};
+ghost use Rattle.index_reader.specs.Shapes.{features_or_none, rust_version_at, shape_of};
 ghost use Rattle.classes.specs.RustVersions.{rust_version_view};
-ghost use Rattle.index_reader.specs.Shapes.{feature_views, part_view, line_dependency_view, line_dependency_views};
-ghost use Rattle.index_reader.specs.Shapes.{shape_view};
+ghost use Rattle.index_reader.specs.ShapeViews.{feature_views, part_view, line_dependency_view, line_dependency_views};
+ghost use Rattle.index_reader.specs.ShapeViews.{shape_view};
 ghost use Rattle.trees.specs.Trees.{tree_view, trees_view, entries_view, listed_view};
 
 use crate::fault::{LineFault, SkipReason};
 use crate::values::{flag, text, text_if_any, texts, texts_at, value, whole};
 use classes::RustVersion;
-use features::{NameFault, PackageName};
+use features::{DependencyKind, NameFault, PackageName};
 use json::Value;
-use semver::VersionReq;
 use std::alloc::Global;
 use trees::{Members, are_rising, as_list, as_members, as_text, by_key};
 
@@ -56,21 +55,6 @@ pub(crate) struct PartShape<'a> {
     pub registry: Option<&'a str>,
 }
 
-/// A dependency that takes part, with its requirement read.
-#[derive(Drop)]
-pub(crate) struct Required<'a> {
-    pub part: &'a PartShape<'a>,
-    pub requirement: VersionReq,
-}
-
-/// When a dependency is needed.
-#[derive(Clone, Copy, PartialEq, Eq)]
-pub(crate) enum DependencyKind {
-    Normal,
-    Build,
-    Dev,
-}
-
 /// What a line says of a feature.
 #[derive(Drop)]
 pub(crate) struct FeatureShape<'a> {
@@ -79,7 +63,7 @@ pub(crate) struct FeatureShape<'a> {
 }
 
 /// The shape of a line.
-#[tactic(auto, unfolding(crate::specs::Lines::shape_of))]
+#[tactic(auto, unfolding(crate::specs::Shapes::shape_of))]
 pub(crate) fn read_shape<'a>(alloc: Global, line: &Value<'a>) -> Result<LineShape<'a>, LineFault>
     ensures { Gives wants_memory shape_view result (shape_of (tree_view line.now)) }
 {
@@ -186,7 +170,7 @@ fn kind_at(dependency: &Value<'_>) -> Result<DependencyKind, LineFault>
     }
 }
 
-#[tactic(auto, unfolding(crate::specs::Lines::part_of))]
+#[tactic(auto, unfolding(crate::specs::Shapes::part_of))]
 fn part<'a>(
     alloc: Global,
     name: PackageName,
@@ -227,7 +211,7 @@ fn of_kind<'a>(
     }
 }
 
-#[tactic(auto, unfolding(crate::specs::Lines::dependency_of))]
+#[tactic(auto, unfolding(crate::specs::Shapes::dependency_of))]
 fn dependency<'a>(alloc: Global, value: &Value<'a>) -> Result<DependencyShape<'a>, LineFault>
     ensures { Gives wants_memory line_dependency_view result (dependency_of (tree_view value.now)) }
 {
@@ -236,7 +220,7 @@ fn dependency<'a>(alloc: Global, value: &Value<'a>) -> Result<DependencyShape<'a
     of_kind(alloc, name, kind, value)
 }
 
-#[tactic(auto, unfolding(crate::specs::Lines::dependencies_in))]
+#[tactic(auto, unfolding(crate::specs::Shapes::dependencies_in))]
 fn dependencies_in<'a>(
     alloc: Global,
     values: &Vec<Value<'a>>,
@@ -251,7 +235,7 @@ fn dependencies_in<'a>(
     Ok(found)
 }
 
-#[tactic(auto, unfolding(crate::specs::Lines::dependencies_at))]
+#[tactic(auto, unfolding(crate::specs::Shapes::dependencies_at))]
 fn dependencies<'a>(alloc: Global, line: &Value<'a>) -> Result<Vec<DependencyShape<'a>>, LineFault>
     ensures { Gives wants_memory (λ v. line_dependency_views v.items) result (dependencies_at (tree_view line.now)) }
 {
@@ -274,7 +258,7 @@ fn features_in<'a>(alloc: Global, members: &Members<'a>) -> Result<Vec<FeatureSh
 }
 
 /// The features of members in the order in which they are listed.
-#[tactic(auto, unfolding(crate::specs::Lines::features_in))]
+#[tactic(auto, unfolding(crate::specs::Shapes::features_in))]
 fn features_as_listed<'a>(
     alloc: Global,
     members: &Members<'a>,
@@ -291,7 +275,7 @@ fn features_as_listed<'a>(
 }
 
 /// The features of members in whatever order.
-#[tactic(auto, unfolding(crate::specs::Lines::features_in))]
+#[tactic(auto, unfolding(crate::specs::Shapes::features_in))]
 fn features_by_key<'a>(
     alloc: Global,
     members: &Members<'a>,

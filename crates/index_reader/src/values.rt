@@ -2,9 +2,9 @@
 
 ghost use Rattle.std.specs.Prelude.{◌≡◌, None, Some, option_map};
 ghost use Rattle.model.specs.Outcome.{Gives};
-ghost use Rattle.index_reader.specs.Lines.{wants_memory, data_of_bytes, value_at, text_at, text_of, flag_at, whole_at};
-ghost use Rattle.index_reader.specs.Lines.{optional, texts_in, texts_of, texts_or_none};
-ghost use Rattle.index_reader.specs.Shapes.{texts_view, text_view};
+ghost use Rattle.index_reader.specs.Shapes.{wants_memory, data_of_bytes, value_at, text_at, text_of, flag_at, whole_at};
+ghost use Rattle.index_reader.specs.Shapes.{optional, texts_in, texts_of, texts_or_none};
+ghost use Rattle.features.specs.Views.{text_views};
 ghost use Rattle.trees.specs.Trees.{tree_view, trees_view};
 
 use crate::fault::{LineFault, SkipReason};
@@ -52,7 +52,8 @@ pub(crate) fn text<'a>(object: &Value<'a>, key: &str) -> Result<&'a str, LineFau
 
 /// The text at a key, if it is there.
 pub(crate) fn text_if_any<'a>(object: &Value<'a>, key: &str) -> Result<Option<&'a str>, LineFault>
-    ensures { Gives wants_memory text_view result (optional None text_of (value_at key.now (tree_view object.now))) }
+    ensures { Gives wants_memory (option_map (λ s. s.now)) result
+        (optional None text_of (value_at key.now (tree_view object.now))) }
 {
     match value(object, key) {
         Some(found) => match as_text(found) {
@@ -90,9 +91,9 @@ pub(crate) fn whole(object: &Value<'_>, key: &str, absent: u64) -> Result<u64, L
 }
 
 /// The texts of a list.
-#[tactic(auto, unfolding(crate::specs::Lines::texts_in))]
+#[tactic(auto, unfolding(crate::specs::Shapes::texts_in))]
 fn texts_in<'a>(alloc: Global, values: &Vec<Value<'a>>) -> Result<Vec<&'a str>, LineFault>
-    ensures { Gives wants_memory (λ v. texts_view v.items) result (texts_in (trees_view values.now.items)) }
+    ensures { Gives wants_memory (λ v. text_views v.items) result (texts_in (trees_view values.now.items)) }
 {
     let mut found = Vec::with_capacity(alloc, values.len())?;
     'items: for value in values.iter() {
@@ -105,9 +106,9 @@ fn texts_in<'a>(alloc: Global, values: &Vec<Value<'a>>) -> Result<Vec<&'a str>, 
 }
 
 /// The texts of a value that has to be a list of them.
-#[tactic(auto, unfolding(crate::specs::Lines::texts_of))]
+#[tactic(auto, unfolding(crate::specs::Shapes::texts_of))]
 pub(crate) fn texts<'a>(alloc: Global, value: &Value<'a>) -> Result<Vec<&'a str>, LineFault>
-    ensures { Gives wants_memory (λ v. texts_view v.items) result (texts_of (tree_view value.now)) }
+    ensures { Gives wants_memory (λ v. text_views v.items) result (texts_of (tree_view value.now)) }
 {
     match as_list(value) {
         Some(values) => texts_in(alloc, values),
@@ -122,7 +123,7 @@ pub(crate) fn texts_at<'a>(
     key: &str,
 ) -> Result<Vec<&'a str>, LineFault>
     ensures { Gives wants_memory
-        (λ v. texts_view v.items) result (texts_or_none (value_at key.now (tree_view object.now))) }
+        (λ v. text_views v.items) result (texts_or_none (value_at key.now (tree_view object.now))) }
 {
     match value(object, key) {
         Some(found) => texts(alloc, found),

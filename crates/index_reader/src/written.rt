@@ -10,9 +10,10 @@ ghost use Rattle.model.specs.Tables.{table_of};
 ghost use Rattle.features.specs.Entries.{entry_of};
 ghost use Rattle.features.specs.EntryViews.{entry_view, entry_views};
 ghost use Rattle.features.specs.Tables.{built, dep_name_view, dep_names_view, rows_of, table_wants_memory};
-ghost use Rattle.index_reader.specs.Lines.{wants_memory};
-ghost use Rattle.index_reader.specs.Shapes.{texts_view, feature_view, feature_views, line_dependency_view};
-ghost use Rattle.index_reader.specs.Shapes.{line_dependency_views, shape_view};
+ghost use Rattle.index_reader.specs.Shapes.{wants_memory};
+ghost use Rattle.features.specs.Views.{text_views};
+ghost use Rattle.index_reader.specs.ShapeViews.{feature_view, feature_views, line_dependency_view};
+ghost use Rattle.index_reader.specs.ShapeViews.{line_dependency_views, shape_view};
 ghost use Rattle.index_reader.specs.Written.{feature_name_of, entry_read, entries_read, feature_read, features_read};
 ghost use Rattle.index_reader.specs.Written.{joined, names_rise, with_feature, with_features, written_of, dep_name_of};
 ghost use Rattle.index_reader.specs.Written.{dep_names_of, unless_faulty, features_of, skip_of};
@@ -175,7 +176,7 @@ fn with_entries(
 
 #[tactic(auto, unfolding(crate::specs::Written::entries_read))]
 fn entries(alloc: Global, texts: &[&str]) -> Result<Vec<Entry>, LineFault>
-    ensures { Gives wants_memory (λ v. entry_views v.items) result (entries_read (texts_view texts.now)) }
+    ensures { Gives wants_memory (λ v. entry_views v.items) result (entries_read (text_views texts.now)) }
 {
     let mut found = Vec::with_capacity(alloc, texts.len())?;
     'texts: for text in texts {

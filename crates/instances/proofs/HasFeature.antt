@@ -23,7 +23,7 @@ use Rattle.catalogue.specs.Problems.{problem_in}
 use Rattle.catalogue.specs.Stores.{CatalogueView, candidates_at, rows_by_name}
 use Rattle.looking_up.specs.Matching.{is_lacking}
 use Rattle.looking_up.specs.Ranges.{AreRising, is_of, versions_with}
-use Rattle.looking_up.proofs.Brought.{candidates_are}
+use Rattle.catalogue.proofs.Lookups.{candidates_are}
 use Rattle.looking_up.proofs.Classed.{with_classed}
 use Rattle.looking_up.proofs.Pieces.{parts_filtered}
 use Rattle.instances.proofs.Rising.{rising_parts}

@@ -21,7 +21,7 @@ use Rattle.catalogue.specs.Problems.{problem_in}
 use Rattle.catalogue.specs.Stores.{CatalogueView, candidates_at, rows_by_name}
 use Rattle.instances.specs.FullTerms.{classes_if, others, has_if_matched}
 use Rattle.looking_up.specs.Ranges.{is_of}
-use Rattle.looking_up.proofs.Brought.{candidates_are}
+use Rattle.catalogue.proofs.Lookups.{candidates_are}
 use Rattle.looking_up.proofs.Classed.{all_classed}
 use Rattle.looking_up.proofs.Versions.{all-map}
 

@@ -21,7 +21,7 @@ use looking_up::{Problem, is_lacking, of_class};
 use named_terms::{StateSet, Term};
 use semver::Version;
 use std::alloc::{AllocError, Global};
-use vertices::{OwnerRef, StateRef, VertexRef};
+use vertices::{StateRef, VertexRef};
 
 pub(crate) fn feature_terms<'a>(
     alloc: Global,

@@ -16,7 +16,7 @@ ghost use Rattle.named_terms.specs.Views.{term_views};
 use crate::has_feature::feature_terms;
 use crate::newest_listed::newest_terms;
 use crate::target::target_terms;
-use crate::terms::{chosen, holds, off_term, on_term, term};
+use crate::terms::{chosen, holds, led_term, off_term, on_term, term};
 use crate::wants_feature::{ask_terms, list_terms};
 use classes::Class;
 use features::{FeatureName, PackageName};
@@ -173,11 +173,7 @@ fn weak_terms<'a>(
             let mut terms = vec![in alloc;
                 chosen(alloc, name, version)?,
                 on_term(alloc, name, version, on)?,
-                term(
-                    alloc,
-                    VertexRef::Dependency(owner, number),
-                    StateRef::Class(class),
-                )?,
+                led_term(alloc, owner, number, class)?,
             ]?;
             terms.push(off_term(alloc, dependency, class, off)?)?;
             Ok(terms)

@@ -14,7 +14,7 @@ ghost use Rattle.looking_up.specs.Views.{problem_view};
 ghost use Rattle.named_terms.specs.Views.{term_view, term_views};
 ghost use Rattle.semver.specs.EvalViews.{matches_views};
 
-use crate::terms::term;
+use crate::terms::led_term;
 use classes::{Class, is_matched};
 use features::Dependency;
 use looking_up::{Problem, class_versions, dependency_at};
@@ -37,16 +37,8 @@ pub(crate) fn newest_terms<'a>(
 {
     match dependency_at(problem, &owner, number) {
         Some(dependency) => Ok(vec![in alloc;
-            term(
-                alloc,
-                VertexRef::Dependency(owner, number),
-                StateRef::Class(class),
-            )?,
-            term(
-                alloc,
-                VertexRef::Dependency(owner, other),
-                StateRef::Class(higher),
-            )?,
+            led_term(alloc, owner, number, class)?,
+            led_term(alloc, owner, other, higher)?,
             taken_term(alloc, problem, dependency, higher)?,
         ]?),
         None => Ok(Vec::new(alloc)),

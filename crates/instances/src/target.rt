@@ -14,7 +14,7 @@ ghost use Rattle.looking_up.specs.Views.{problem_view};
 ghost use Rattle.named_terms.specs.Views.{term_view, term_views};
 ghost use Rattle.looking_up.specs.Matching.{is_left};
 
-use crate::terms::term;
+use crate::terms::led_term;
 use classes::Class;
 use features::Dependency;
 use looking_up::{Problem, class_versions, dependency_at, is_left};
@@ -35,11 +35,7 @@ pub(crate) fn target_terms<'a>(
 {
     match dependency_at(problem, &owner, number) {
         Some(dependency) => Ok(vec![in alloc;
-            term(
-                alloc,
-                VertexRef::Dependency(owner, number),
-                StateRef::Class(class),
-            )?,
+            led_term(alloc, owner, number, class)?,
             left_term(alloc, problem, dependency, class)?,
         ]?),
         None => Ok(Vec::new(alloc)),

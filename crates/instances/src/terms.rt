@@ -8,7 +8,7 @@ ghost use Rattle.model.specs.Axioms.{at, owner_holds};
 ghost use Rattle.model.specs.Selection.{class_of};
 ghost use Rattle.model.specs.Vertices as model;
 ghost use Rattle.vertices.specs.RefViews.{state_ref_view, owner_ref_view, vertex_ref_view};
-ghost use Rattle.named_terms.specs.Views.{term_view, term_views};
+ghost use Rattle.named_terms.specs.Views.{term_view};
 
 use classes::Class;
 use features::{Dependency, FeatureName, PackageName};
@@ -52,6 +52,23 @@ pub(crate) fn chosen<'a>(
         alloc,
         VertexRef::Package(name, Class::of(version)),
         StateRef::Version(version),
+    )
+}
+
+/// The dependency leads to the class.
+pub(crate) fn led_term<'a>(
+    alloc: Global,
+    owner: OwnerRef<'a>,
+    number: usize,
+    class: Class,
+) -> Result<Term<'a>, AllocError>
+    ensures { IfOk result (λ t. term_view t
+        ≡ at (model.dep (owner_ref_view owner.entry) number) (model.in_class (class_view class) ∷ [])) }
+{
+    term(
+        alloc,
+        VertexRef::Dependency(owner, number),
+        StateRef::Class(class),
     )
 }
 

@@ -9,7 +9,7 @@ ghost use Rattle.vertices.specs.RefViews.{owner_ref_view};
 ghost use Rattle.looking_up.specs.Views.{problem_view};
 ghost use Rattle.named_terms.specs.Views.{term_views};
 
-use crate::terms::{off_term, term};
+use crate::terms::{led_term, off_term, term};
 use classes::Class;
 use features::{FeatureName, PackageName};
 use looking_up::{Problem, dependency_at};
@@ -31,11 +31,7 @@ pub(crate) fn list_terms<'a>(
 {
     match dependency_at(problem, &owner, number) {
         Some(dependency) => Ok(vec![in alloc;
-            term(
-                alloc,
-                VertexRef::Dependency(owner, number),
-                StateRef::Class(class),
-            )?,
+            led_term(alloc, owner, number, class)?,
             off_term(alloc, dependency, class, feature)?,
         ]?),
         None => Ok(Vec::new(alloc)),
@@ -62,11 +58,7 @@ pub(crate) fn ask_terms<'a>(
                 VertexRef::Ask(name, version, number, feature),
                 StateRef::Present,
             )?,
-            term(
-                alloc,
-                VertexRef::Dependency(owner, number),
-                StateRef::Class(class),
-            )?,
+            led_term(alloc, owner, number, class)?,
             off_term(alloc, dependency, class, feature)?,
         ]?),
         None => Ok(Vec::new(alloc)),

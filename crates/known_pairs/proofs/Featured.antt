@@ -19,7 +19,7 @@ use Rattle.catalogue.specs.Stores.{CatalogueView, IsStore, Row, candidates_at, r
 use Rattle.catalogue.proofs.LawsCatalogues.{store-catalogue}
 use Rattle.known_pairs.specs.Asking.{row_owners_ask, version_asks}
 use Rattle.known_pairs.proofs.Asked.{any-append}
-use Rattle.looking_up.proofs.Brought.{candidates_are}
+use Rattle.catalogue.proofs.Lookups.{candidates_are}
 use Rattle.looking_up.proofs.Versions.{any-map}
 
 -- ---- the loop over places

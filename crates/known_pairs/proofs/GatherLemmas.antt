@@ -25,7 +25,7 @@ use Rattle.known_pairs.specs.Gathered.{is_known_by, is_known_feature}
 use Rattle.known_pairs.specs.Pairs.{Adds, has_pair}
 use Rattle.known_pairs.specs.declared.pairs.Pairs.{Pairs}
 use Rattle.known_pairs.proofs.Asked.{any-append, owner_may_ask, rows_ask}
-use Rattle.looking_up.proofs.Brought.{candidates_are}
+use Rattle.catalogue.proofs.Lookups.{candidates_are}
 use Rattle.known_pairs.proofs.Featured.{any_end, any_here, any_later, rows_asked}
 use Rattle.known_pairs.proofs.PairLemmas.{or-none, text-flip}
 use Rattle.looking_up.proofs.Versions.{any-map, any_candidate}

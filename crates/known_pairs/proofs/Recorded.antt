@@ -7,7 +7,7 @@ use Rattle.model.specs.Candidates.{Record, as_candidate}
 use Rattle.refutations.specs.Causes.{passes}
 use Rattle.catalogue.specs.Stores.{CatalogueView, candidates_at, rows_by_name}
 use Rattle.catalogue.specs.Views.{Said, said}
-use Rattle.looking_up.proofs.Brought.{candidates_are}
+use Rattle.catalogue.proofs.Lookups.{candidates_are}
 
 none_passes : (t : Summary → Bool) (o : Option Record) → None ≡ option_map said o
     → false ≡ passes (λ (c : Candidate). t c.brings) (option_map as_candidate o)

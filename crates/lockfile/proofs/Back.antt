@@ -31,8 +31,8 @@ use Rattle.lockfile.specs.Written.{AreRead}
 use Rattle.lockfile.proofs.Means.{unlisted, text-means, means-unlisted}
 use Rattle.lockfile.proofs.PackageOrder.{package-eq, unlinked_total}
 use Rattle.lockfile.proofs.PlaceOrder.{repeats}
-use Rattle.lockfile.proofs.Sorting.{each-weaker, each-in_order, none-from_distinct, has_alike-agrees, in_order-sorted}
-use Rattle.lockfile.proofs.Sorting.{distinct-sorted}
+use Rattle.model.proofs.Sorting.{each-weaker, each-in_order, none-from_distinct, has_alike-agrees, in_order-sorted}
+use Rattle.model.proofs.Sorting.{distinct-sorted}
 use Rattle.lockfile.proofs.Stable.{in_order-map}
 use Rattle.lockfile.proofs.Writing.{strictly-sorted}
 

@@ -21,7 +21,7 @@ use Rattle.lockfile.specs.Search.{IsOrdered}
 use Rattle.lockfile.specs.declared.fault.LockFault.{LockFault}
 use Rattle.lockfile.specs.declared.fault.LockFault.TheVariants.{LockShape}
 use Rattle.lockfile.proofs.PlaceOrder.{repeats}
-use Rattle.lockfile.proofs.Sorting.{each-weaker, each-in_order, distinct-from_none, sorted-in_order}
+use Rattle.model.proofs.Sorting.{each-weaker, each-in_order, distinct-from_none, sorted-in_order}
 
 -- ---- the places of a list
 

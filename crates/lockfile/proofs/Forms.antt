@@ -17,9 +17,10 @@ use Rattle.model.specs.Order.{text_cmp, version_cmp, source_cmp}
 use Rattle.lockfile.specs.Locks.{version_form, source_form, is_source_form, is_form, is_form_without_source}
 use Rattle.lockfile.specs.Locks.{places_from, places, only, or_else, place_meant}
 use Rattle.lockfile.specs.Search.{IsRead, is_named, is_versioned, is_sourced}
-use Rattle.lockfile.proofs.PackageOrder.{then-eq, text-eq, source-eq, version-tie, version_total, same-tests, and-true}
+use Rattle.model.proofs.PackageOrder.{version_total}
+use Rattle.lockfile.proofs.PackageOrder.{then-eq, text-eq, source-eq, version-tie, same-tests, and-true}
 use Rattle.lockfile.proofs.PackageOrder.{true-and}
-use Rattle.lockfile.proofs.Sorting.{each-weaker}
+use Rattle.model.proofs.Sorting.{each-weaker}
 use Rattle.lockfile.proofs.Spaces.{Free, free-name, free-version, one-split, no-split}
 
 -- ---- the forms as facts

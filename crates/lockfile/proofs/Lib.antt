@@ -1,5 +1,4 @@
 pub mod ReadLemmas
-pub mod Sorting
 pub mod PlaceOrder
 pub mod PackageOrder
 pub mod Ranges

@@ -1,19 +1,18 @@
--- Package order: a total order, in which two packages that are read tie just where they are alike.
+-- Two packages that are read tie in package order just where they are alike.
 use Rattle.std.proofs.Common.{◌≡◌, ℕ, Bool, true, false, ◌&&◌, nat_eq, List, [], ◌∷◌, Option, Some, None, Ok, Err, refl}
 use Rattle.std.proofs.Common.{sym, ◌∙◌, ap, arith, Ordering}
 use Rattle.std.specs.Cmp.{IsTotalOrder}
 use Rattle.std.specs.Cmp.Lexicographic.{slice_cmp, pointwise}
 use Rattle.std.specs.List.{AllByRecursion, IsAllAdjacentAnswer}
 use Rattle.std.specs.List.Sorted.{IsPermutation, IsSortedBy, IsStrictlySortedBy}
-use Rattle.std.specs.Ordering.{nat_cmp, is_lt, is_eq, eq_by_cmp, ordering_then, ordering_reverse}
+use Rattle.std.specs.Ordering.{nat_cmp, is_lt, is_eq, eq_by_cmp, ordering_then}
 use Rattle.std.specs.declared.cmp.Ordering.TheVariants.{Less, Equal, Greater}
 use Rattle.std.proofs.lemmas.Bool.{eqb-true, eq-eqb}
 use Rattle.std.proofs.lemmas.Bool.Decides.{nat_tests}
-use Rattle.std.proofs.lemmas.Cmp.{nat_cmp_total, nat_list_cmp_total, nat_list_eq_equiv, on_total, then_total}
-use Rattle.std.proofs.lemmas.Cmp.{tied_itself}
+use Rattle.std.proofs.lemmas.Cmp.{nat_list_eq_equiv, on_total, tied_itself}
 use Rattle.semver.specs.Grammar.{IsValid}
 use Rattle.semver.specs.Identifiers.{parts_text}
-use Rattle.semver.specs.OrderLaws.{pre_total, same_text}
+use Rattle.semver.specs.OrderLaws.{same_text}
 use Rattle.semver.specs.Parse.{Parts, version_parts}
 use Rattle.semver.proofs.Grammar.{version_parts-complete}
 use Rattle.model.specs.Content.{Package, same_version, same_option}
@@ -23,48 +22,9 @@ use Rattle.model.specs.Sorting.{has_alike}
 use Rattle.lockfile.specs.Views.{unlinked_view, unlinked_views}
 use Rattle.lockfile.specs.declared.fault.LockFault.TheVariants.{LockShape}
 use Rattle.lockfile.specs.declared.packages.UnlinkedPackage.{UnlinkedPackage}
-use Rattle.lockfile.proofs.Sorting.{has_alike-agrees, ordered-run, alike-run}
+use Rattle.model.proofs.PackageOrder.{version_total, package_total}
+use Rattle.model.proofs.Sorting.{has_alike-agrees, ordered-run, alike-run}
 use Rattle.lockfile.specs.Search.{IsRead, IsOrdered}
-
--- ---- total orders
-
--- a source, where there is one, comes before none
-source_flips : (a b : Option (List ℕ)) → source_cmp a b ≡ ordering_reverse (source_cmp b a)
-source_flips None None = refl
-source_flips None (Some b) = refl
-source_flips (Some a) None = refl
-source_flips (Some a) (Some b) = nat_list_cmp_total.antisymm a b
-
-source_trans : (a b c : Option (List ℕ)) → source_cmp a b ≡ Less → source_cmp b c ≡ Less → source_cmp a c ≡ Less
-source_trans None None c h k = cc
-source_trans None (Some b) c h k = cc
-source_trans (Some a) None None h k = cc
-source_trans (Some a) None (Some c) h k = cc
-source_trans (Some a) (Some b) None h k = refl
-source_trans (Some a) (Some b) (Some c) h k = nat_list_cmp_total.trans a b c h k
-
-source_congr : (a b c : Option (List ℕ)) → source_cmp a b ≡ Equal → source_cmp a c ≡ source_cmp b c
-source_congr None None c h = refl
-source_congr None (Some b) c h = cc
-source_congr (Some a) None c h = cc
-source_congr (Some a) (Some b) None h = refl
-source_congr (Some a) (Some b) (Some c) h = nat_list_cmp_total.congr a b c h
-
-pub source_total : IsTotalOrder source_cmp
-source_total = record { antisymm = source_flips; trans = source_trans; congr = source_congr }
-
-pub precedence_total : IsTotalOrder precedence
-precedence_total =
-    then_total (on_total (λ (v : Parts). v.0) nat_cmp_total) (then_total (on_total (λ (v : Parts). v.1) nat_cmp_total)
-    (then_total (on_total (λ (v : Parts). v.2) nat_cmp_total) (on_total (λ (v : Parts). v.3) pre_total)))
-
-pub version_total : IsTotalOrder version_cmp
-version_total = then_total precedence_total (on_total parts_text nat_list_cmp_total)
-
-pub package_total : IsTotalOrder package_cmp
-package_total = then_total (on_total (λ (p : Package). p.name) nat_list_cmp_total)
-    (then_total (on_total (λ (p : Package). p.version) version_total)
-    (on_total (λ (p : Package). p.source) source_total))
 
 -- ---- where they tie
 

@@ -8,7 +8,7 @@ use Rattle.std.proofs.lemmas.Cmp.{nat_cmp_total}
 use Rattle.lockfile.specs.Locks.{ordered_places}
 use Rattle.model.specs.Sorting.{has_alike}
 use Rattle.lockfile.specs.declared.fault.LockFault.TheVariants.{LockShape}
-use Rattle.lockfile.proofs.Sorting.{has_alike-agrees, ordered-run, alike-run}
+use Rattle.model.proofs.Sorting.{has_alike-agrees, ordered-run, alike-run}
 
 same-list : (ns : List ℕ) → map (λ n. n) ns ≡ ns
 same-list [] = refl

@@ -23,7 +23,7 @@ use Rattle.lockfile.specs.Search.{IsOrdered, IsRead}
 use Rattle.lockfile.specs.declared.fault.LockFault.TheVariants.{LockShape, TooLarge}
 use Rattle.lockfile.proofs.Contents.{bind-ok, ok-same, linked-content}
 use Rattle.lockfile.proofs.PackageOrder.{package-eq, unlinked_total, locked-sorted}
-use Rattle.lockfile.proofs.Sorting.{has_alike-agrees, distinct-from_none, sorted-in_order}
+use Rattle.model.proofs.Sorting.{has_alike-agrees, distinct-from_none, sorted-in_order}
 
 -- ---- names and versions are what their texts read as
 

@@ -1,14 +1,11 @@
 -- What the TOML reader's clauses say of `table_of_bytes`.
-use Rattle.std.proofs.Common.{◌≡◌, ℕ, List, ◌++◌, Result, Bool, true, false, cond, Option, Some, None, Ok, Err, refl}
-use Rattle.std.proofs.Common.{ap, IsUtf8}
+use Rattle.std.proofs.Common.{◌≡◌, ℕ, List, Bool, true, false, cond, Option, Some, None, Ok, Err, refl, ap, IsUtf8}
 use Rattle.std.proofs.lemmas.Str.{is_utf8-from_IsUtf8, IsUtf8-from_is_utf8}
 use Rattle.std.specs.Str.{is_utf8}
 use Rattle.std.specs.Option.{ok_or}
 use Rattle.toml.specs.Data.{Members}
 use Rattle.toml.specs.Parse.{parse_document}
-use Rattle.model.specs.Outcome.{◌>>=◌}
 use Rattle.lockfile.specs.Locks.{table_of_bytes}
-use Rattle.lockfile.specs.declared.fault.LockFault.{LockFault}
 use Rattle.lockfile.specs.declared.fault.LockFault.TheVariants.{NotToml}
 
 pub table-read : (bytes : List ℕ) (t : Members) → IsUtf8 bytes → parse_document bytes ≡ Some t
@@ -22,7 +19,3 @@ none-where false o h = refl
 pub table-refused : (bytes : List ℕ) → (IsUtf8 bytes → parse_document bytes ≡ None) → table_of_bytes bytes ≡ Err NotToml
 table-refused bytes h =
     ap (λ o. ok_or o NotToml) (none-where (is_utf8 bytes) (parse_document bytes) (λ e. h (IsUtf8-from_is_utf8 bytes e)))
-
--- what is read, behind a front that was read before
-abbrev pub with_front : {A : Type 0} → List A → Result (List A) LockFault → Result (List A) LockFault
-with_front front read = read >>= λ rest. Ok (front ++ rest)

@@ -10,8 +10,8 @@ use Rattle.semver.specs.Parse.{Parts}
 use Rattle.features.specs.Names.{is_package_name}
 use Rattle.model.specs.Content.{Package, Content}
 use Rattle.model.specs.Order.{text_cmp, version_cmp, source_cmp, package_cmp}
-use Rattle.lockfile.specs.declared.search.Wanted.{Wanted}
-use Rattle.lockfile.specs.declared.search.Wanted.TheVariants.{Name, Version, Source}
+use Rattle.lockfile.specs.declared.meaning.Wanted.{Wanted}
+use Rattle.lockfile.specs.declared.meaning.Wanted.TheVariants.{Name, Version, Source}
 
 -- in package order, no two alike
 abbrev pub IsOrdered : Content → Type 0
@@ -55,7 +55,7 @@ wanted_cmp (Source name version source) p =
 abbrev pub is_wanted : Wanted → Package → Bool
 is_wanted w p = is_eq (wanted_cmp w p)
 
--- whether there is a package, and it passes
-abbrev pub passes : (Package → Bool) → Option Package → Bool
-passes test None = false
-passes test (Some p) = test p
+-- whether there is a package, and the test holds of it
+abbrev pub holds_at : (Package → Bool) → Option Package → Bool
+holds_at test None = false
+holds_at test (Some p) = test p

@@ -1,11 +1,11 @@
 -- What the packages of this crate stand for, without where they lie in memory.
 use Rattle.std.specs.Prelude.{ℕ, List, map, Vec, string_bytes, option_map}
-use Rattle.std.specs.Borrow.{Bor}
 use Rattle.std.specs.declared.alloc.Global.{Global}
 use Rattle.semver.specs.Identifiers.{parts_of}
 use Rattle.model.specs.Content as model
+use Rattle.features.specs.Views.{text_views}
 use Rattle.lockfile.specs.Locks.{Unlinked}
-use Rattle.lockfile.specs.declared.locked.Package.{Package}
+use Rattle.lockfile.specs.declared.package.Package.{Package}
 use Rattle.lockfile.specs.declared.packages.UnlinkedPackage.{UnlinkedPackage}
 
 abbrev pub package_view : Package → model.Package
@@ -20,10 +20,6 @@ package_view p = record {
 
 abbrev pub package_views : List Package → model.Content
 package_views ps = map package_view ps
-
--- the texts behind references
-abbrev pub text_views : List (Bor (List ℕ)) → List (List ℕ)
-text_views ts = map (λ t. t.now) ts
 
 abbrev pub unlinked_view : UnlinkedPackage → Unlinked
 unlinked_view p = record { locked = package_view p.locked; texts = text_views p.texts.items }

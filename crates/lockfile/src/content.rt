@@ -4,7 +4,7 @@ ghost use Rattle.std.specs.Prelude.{◌≡◌};
 ghost use Rattle.model.specs.WellFormed.{IsContent};
 ghost use Rattle.lockfile.specs.Views.{package_views};
 
-use crate::locked::Package;
+use crate::package::Package;
 use std::marker::Model;
 
 /// What a lock says: its packages in package order, no two alike in name, version and source.

@@ -2,10 +2,10 @@
 //!
 //! A lock names packages by the shortest text that tells them apart: the name, the name and the version, or these and
 //! the source. So what a dependency text means depends on all packages. Reading puts the packages into package order
-//! first; then those of a name stand next to one another, and each text is looked up by search (`search.rt`). Writing
+//! first; then those of a name stand next to one another, and each text is looked up by search (`meaning.rt`). Writing
 //! keeps for each package its version's text and the text by which lists name it: the two packages beside it decide
-//! which form that is (`entry.rt`), and each list is put in order by a stable sort. Both are n log n, with no search
-//! through all packages for one text.
+//! which form that is (`written_package.rt`), and each list is put in order by a stable sort. Both are n log n, with no
+//! search through all packages for one text.
 //!
 //! What is hard is that what is written is read as the same again. The laws (`laws.rt`) say so: the table that a
 //! content is spelled as says that content, and where TOML reads the spelling as this table, `read` gives the content
@@ -20,11 +20,11 @@ mod content;
 mod fault;
 mod laws;
 mod listed;
-mod locked;
+mod meaning;
 mod order;
+mod package;
 mod packages;
 mod reader;
-mod search;
 mod table;
 mod writer;
 mod written_package;
@@ -32,7 +32,7 @@ mod written_package;
 pub use content::LockContent;
 pub use fault::LockFault;
 pub use laws::{locks_say_contents, spellings_read_back, tables_say_their_contents};
-pub use locked::Package;
 pub use order::{package_order, source_order};
+pub use package::Package;
 pub use reader::read;
 pub use writer::write;

@@ -8,7 +8,7 @@ ghost use Rattle.lockfile.specs.Search.{IsOrdered};
 ghost use Rattle.lockfile.specs.Views.{package_view, unlinked_views};
 
 use crate::fault::LockFault;
-use crate::locked::Package;
+use crate::package::Package;
 use crate::packages::UnlinkedPackage;
 use classes::version_order;
 use std::cmp::Ordering;

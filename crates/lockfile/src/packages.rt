@@ -7,7 +7,7 @@ ghost use Rattle.lockfile.specs.Locks.{wants_memory, linked, unlinked_of, unlink
 ghost use Rattle.lockfile.specs.Views.{package_view, unlinked_view, unlinked_views};
 
 use crate::fault::LockFault;
-use crate::locked::Package;
+use crate::package::Package;
 use crate::table::{dependencies, member, package_name, plain_text, text, version};
 use std::alloc::Global;
 use toml::{Table, Value};

@@ -11,10 +11,10 @@ ghost use Rattle.lockfile.specs.Views.{package_view, package_views, unlinked_vie
 
 use crate::content::LockContent;
 use crate::fault::LockFault;
-use crate::locked::Package;
+use crate::meaning::lists;
 use crate::order::ordered;
+use crate::package::Package;
 use crate::packages::{UnlinkedPackage, packages};
-use crate::search::lists;
 use crate::table::{check_version, read_table};
 use std::alloc::{AllocError, Global};
 use toml::Table;

@@ -12,7 +12,7 @@ ghost use Rattle.model.specs.Outcome.{Gives, guard};
 ghost use Rattle.lockfile.specs.Locks.{wants_memory, table_of_bytes, is_known_version, version_known, text_at};
 ghost use Rattle.lockfile.specs.Locks.{checked_name, checked_version, is_plain_byte, checked_plain, plain_at, texts_in};
 ghost use Rattle.lockfile.specs.Locks.{dependencies_at};
-ghost use Rattle.lockfile.specs.Views.{text_views};
+ghost use Rattle.features.specs.Views.{text_views};
 
 use crate::fault::LockFault;
 use features::{NameFault, PackageName};

@@ -1,52 +1,16 @@
 -- What a candidate brings, in a loaded index, is what it brings where a selection is held against that index.
-use Rattle.std.proofs.Common.{◌≡◌, Bool, true, false, cond, List, [], ◌∷◌, map, Option, Some, None, option_map}
-use Rattle.std.proofs.Common.{unwrap_or, refl, sym, ap, ◌∙◌}
+use Rattle.std.proofs.Common.{◌≡◌, ℕ, List, Option, Some, None, option_map, refl, sym, ap, ◌∙◌}
 use Rattle.std.proofs.lemmas.Option.{none-some, same_Some}
 use Rattle.semver.specs.Parse.{Parts}
-use Rattle.model.specs.Summary.{nothing, same_text}
-use Rattle.model.specs.Content.{same_version, candidates_of, candidate_at, brings_of}
+use Rattle.model.specs.Summary.{nothing}
+use Rattle.model.specs.Content.{candidates_of, candidate_at, brings_of}
 use Rattle.model.specs.Candidates.{Record, as_candidate}
 use Rattle.model.specs.Vertices.{version_of, owner_brings}
 use Rattle.manifest.specs.Manifests.{ManifestView}
 use Rattle.catalogue.specs.Problems.{problem_in}
-use Rattle.catalogue.specs.Ranks.{records}
-use Rattle.catalogue.specs.Stores.{CatalogueView, Row, row_at, candidates_at, record_at, rows_by_name}
+use Rattle.catalogue.specs.Stores.{CatalogueView, candidates_at, record_at, rows_by_name}
 use Rattle.catalogue.specs.Views.{Said, said}
-use Rattle.std.specs.Prelude.{ℕ}
-
-rows_found : (rows : List Row) (name : List ℕ)
-    → candidates_of (map (λ row. (row.0, map as_candidate (records row.1))) rows) name
-    ≡ map as_candidate (records (unwrap_or (row_at rows name) []))
-rows_found [] name = refl
-rows_found (row ∷ rows) name = by (same_text name row.0) (rows_found rows name)
-  where
-    by : (b : Bool) → candidates_of (map (λ row. (row.0, map as_candidate (records row.1))) rows) name
-        ≡ map as_candidate (records (unwrap_or (row_at rows name) []))
-        → cond b (map as_candidate (records row.1))
-        (candidates_of (map (λ row. (row.0, map as_candidate (records row.1))) rows) name)
-        ≡ map as_candidate (records (unwrap_or (cond b (Some row.1) (row_at rows name)) []))
-    by true rest = refl
-    by false rest = rest
-
-version_found : (rs : List Record) (v : Parts)
-    → candidate_at (map as_candidate rs) v ≡ option_map as_candidate (record_at rs v)
-version_found [] v = refl
-version_found (r ∷ rs) v = by (same_version v r.version) (version_found rs v)
-  where
-    by : (b : Bool) → candidate_at (map as_candidate rs) v ≡ option_map as_candidate (record_at rs v)
-        → cond b (Some (as_candidate r)) (candidate_at (map as_candidate rs) v)
-        ≡ option_map as_candidate (cond b (Some r) (record_at rs v))
-    by true rest = refl
-    by false rest = rest
-
--- the candidates of a name
-pub candidates_are : (c : CatalogueView) (name : List ℕ)
-    → candidates_of (rows_by_name c) name ≡ map as_candidate (candidates_at c name)
-candidates_are c name = rows_found c.rows name
-
-candidate_found : (c : CatalogueView) (name : List ℕ) (v : Parts) → candidate_at (candidates_of (rows_by_name c) name) v
-    ≡ option_map as_candidate (record_at (candidates_at c name) v)
-candidate_found c name v = ap (λ cs. candidate_at cs v) (candidates_are c name) ∙ version_found (candidates_at c name) v
+use Rattle.catalogue.proofs.Lookups.{candidate_found}
 
 none_brings : (o : Option Record) → None ≡ option_map said o → nothing ≡ brings_of (option_map as_candidate o)
 none_brings None e = refl

@@ -14,7 +14,7 @@ use Rattle.manifest.specs.Manifests.{ManifestView}
 use Rattle.catalogue.specs.Problems.{problem_in}
 use Rattle.catalogue.specs.Stores.{CatalogueView, candidates_at}
 use Rattle.looking_up.specs.Ranges.{is_of, versions_with}
-use Rattle.looking_up.proofs.Brought.{candidates_are}
+use Rattle.catalogue.proofs.Lookups.{candidates_are}
 use Rattle.looking_up.proofs.Versions.{all-map, any-map}
 
 in_class : (k : Class) (rs : List Record) → filter (is_of k) (map (λ r. r.version) rs)

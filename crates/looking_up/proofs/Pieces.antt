@@ -51,7 +51,7 @@ lower_last k c d h l = by (is_lower k d) refl
     by true e = refl
     by false e = absurd (true≢false (sym (lower_first d k c e l) ∙ h))
 
-apart_below : (k c : Class) → is_lower c k ≡ true → same_class k c ≡ false
+pub apart_below : (k c : Class) → is_lower c k ≡ true → same_class k c ≡ false
 apart_below k c l = by (same_class k c) refl
   where
     by : (b : Bool) → same_class k c ≡ b → b ≡ false
@@ -65,7 +65,7 @@ apart_above k c l = by (same_class k c) refl
     by false e = refl
     by true e = absurd (not_lower_itself k (ap (is_lower k) (class-same k c e) ∙ l))
 
-neither : (k c : Class) → is_lower c k ≡ false → is_lower k c ≡ false → same_class k c ≡ true
+pub neither : (k c : Class) → is_lower c k ≡ false → is_lower k c ≡ false → same_class k c ≡ true
 neither (patch a) (patch b) h l = let x = ltb-false b a h in let y = ltb-false a b l in eq-eqb a b (omega arith)
 neither (patch a) (minor b) h l = absurd (true≢false l)
 neither (patch a) (major b) h l = absurd (true≢false l)
@@ -110,7 +110,8 @@ above_parted k = parted (λ v. not (is_above k v))
 -- ---- what lies between
 
 module _ {X : Type 0} (p : X → Bool) where
-  skipped : (xs : List X) (i : ℕ) → ((k : ℕ) (d : X) → k < i → k < length xs → p (get_or xs k d) ≡ false)
+  -- what fails at the front may be left out
+  pub skipped : (xs : List X) (i : ℕ) → ((k : ℕ) (d : X) → k < i → k < length xs → p (get_or xs k d) ≡ false)
       → filter p xs ≡ filter p (drop i xs)
   skipped [] zero h = refl
   skipped [] (suc i) h = refl
@@ -132,7 +133,7 @@ module _ {X : Type 0} (p : X → Bool) where
       ∙ ap (λ ys. x ∷ ys) (kept xs j (omega (arith, few)) (λ k d less. low (suc k) d (omega (arith, less)))
       (λ k d more within. high (suc k) d (omega (arith, more)) (omega (arith, within))))
 
-not_true : (b : Bool) → not b ≡ true → b ≡ false
+pub not_true : (b : Bool) → not b ≡ true → b ≡ false
 not_true false e = refl
 not_true true e = sym e
 

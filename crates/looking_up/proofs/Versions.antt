@@ -10,7 +10,7 @@ use Rattle.model.specs.Content.{Candidate, candidates_of}
 use Rattle.model.specs.Axioms.{matched}
 use Rattle.model.specs.Candidates.{Record, as_candidate}
 use Rattle.catalogue.specs.Stores.{CatalogueView, candidates_at, rows_by_name}
-use Rattle.looking_up.proofs.Brought.{candidates_are}
+use Rattle.catalogue.proofs.Lookups.{candidates_are}
 
 pub any-map : {X A : Type 0} (p : A → Bool) (view : X → A) (xs : List X)
     → list_any p (map view xs) ≡ list_any (λ x. p (view x)) xs

@@ -38,7 +38,8 @@ pub fn is_unmatched(problem: &Problem<'_>, dependency: &Dependency) -> bool
     )
 }
 
-fn some_matched(requirement: &VersionReq, versions: &[Version]) -> bool
+/// Whether some version is matched.
+pub fn some_matched(requirement: &VersionReq, versions: &[Version]) -> bool
     ensures { result ≡ list_any (λ v. matches_views (requirement_view requirement.now) (parts_of v)) versions.now }
 {
     versions

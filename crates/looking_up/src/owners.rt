@@ -5,7 +5,7 @@ ghost use Rattle.semver.specs.Identifiers.{parts_of};
 ghost use Rattle.features.specs.Views.{dependency_view, dependency_views, brings_view};
 ghost use Rattle.features.specs.EntryViews.{entry_views};
 ghost use Rattle.model.specs.Vertices.{owner_brings};
-ghost use Rattle.refutations.specs.Causes.{dependency_at, entries_of};
+ghost use Rattle.refutations.specs.Causes.{dependency_at, entries_of, is_needed};
 ghost use Rattle.looking_up.specs.Views.{problem_view};
 ghost use Rattle.vertices.specs.RefViews.{owner_ref_view};
 
@@ -63,5 +63,15 @@ pub fn entries_of<'a>(
     match brings(problem, &OwnerRef::Version(name, version)) {
         Some(owner) => owner.features.entries(feature),
         None => &[],
+    }
+}
+
+/// Whether the owner needs the dependency: the root each one, a version those that aren't optional.
+pub fn is_needed(owner: &OwnerRef<'_>, dependency: &Dependency) -> bool
+    ensures { result ≡ is_needed (owner_ref_view owner.now) (dependency_view dependency.now) }
+{
+    match owner {
+        OwnerRef::Root => true,
+        OwnerRef::Version(_, _) => !dependency.optional,
     }
 }

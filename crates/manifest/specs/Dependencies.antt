@@ -4,6 +4,8 @@ use Rattle.std.specs.Prelude.{Ok, Err, codes}
 use Rattle.toml.specs.Data.{Data, string, integer, float, boolean, datetime, array, table, as_array, get_member, Items}
 use Rattle.toml.specs.Data.{no_items, item, Members, no_members, member}
 use Rattle.model.specs.Outcome.{◌>>=◌, guard}
+use Rattle.features.specs.declared.dependency.DependencyKind.{DependencyKind}
+use Rattle.features.specs.declared.dependency.DependencyKind.TheVariants.{Normal, Dev, Build}
 use Rattle.manifest.specs.Values.{Shaped, wanted, if_there, or_absent, text_of, flag_of, table_of, has_key, either_at}
 use Rattle.manifest.specs.Values.{package_name_of, feature_name_of}
 use Rattle.manifest.specs.declared.fault.ManifestFault.TheVariants.{Shape}
@@ -11,8 +13,6 @@ use Rattle.manifest.specs.declared.fault.Part.{Part}
 use Rattle.manifest.specs.declared.fault.Part.TheVariants as part
 use Rattle.manifest.specs.declared.fault.Unsupported.{Unsupported}
 use Rattle.manifest.specs.declared.fault.Unsupported.TheVariants as source
-use Rattle.manifest.specs.declared.section.DependencyKind.{DependencyKind}
-use Rattle.manifest.specs.declared.section.DependencyKind.TheVariants.{Normal, Dev, Build}
 use Rattle.manifest.specs.declared.section.Place.{Place}
 use Rattle.manifest.specs.declared.section.Place.TheVariants.{Top, Target}
 

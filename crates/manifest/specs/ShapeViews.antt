@@ -9,7 +9,7 @@ use Rattle.manifest.specs.Shapes.{ShapeView}
 use Rattle.manifest.specs.declared.dependency.DependencySource.{DependencySource}
 use Rattle.manifest.specs.declared.dependency.DependencySource.TheVariants.{Registry, Unsupported}
 use Rattle.manifest.specs.declared.dependency.DependencyShape.{DependencyShape}
-use Rattle.manifest.specs.declared.shape.Package.{Package}
+use Rattle.manifest.specs.declared.package.Package.{Package}
 use Rattle.manifest.specs.declared.shape.Shape.{Shape}
 
 abbrev pub source_view : DependencySource → SourceView

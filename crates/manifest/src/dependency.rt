@@ -8,17 +8,17 @@ ghost use Rattle.manifest.specs.Faults.{wants_memory};
 ghost use Rattle.manifest.specs.Manifests.{is_from};
 ghost use Rattle.manifest.specs.Values.{or_absent};
 ghost use Rattle.manifest.specs.Dependencies.{bare, registry, unsupported_in, source_of, real_name_of, named_feature};
-ghost use Rattle.manifest.specs.Dependencies.{feature_names, feature_list, default_features_in, dependency_in};
+ghost use Rattle.manifest.specs.Dependencies.{may_be_optional, feature_names, feature_list, default_features_in};
+ghost use Rattle.manifest.specs.Dependencies.{dependency_in};
 ghost use Rattle.manifest.specs.Dependencies.{described, dependency_of, dependencies_in};
 ghost use Rattle.manifest.specs.ShapeViews.{source_view, dependency_view, dependency_views};
 
 use crate::check::check;
 use crate::fault::{ManifestFault, Part, Unsupported};
-use crate::section::DependencyKind;
 use crate::table::{
     either, feature_name, flag, has_key, list, member, package_name, text, text_at,
 };
-use features::{FeatureName, PackageName};
+use features::{DependencyKind, FeatureName, PackageName};
 use std::alloc::Global;
 use toml::value::{Array, Table, Value};
 
@@ -150,7 +150,7 @@ fn dependency_in<'a>(
     let real_name = real_name(alloc, &name, given, part)?;
     let optional = flag(member(table, "optional"), false, part)?;
     check(
-        !optional || kind.may_be_optional(),
+        !optional || may_be_optional(kind),
         ManifestFault::Shape(part),
     )?;
     let default_features = default_features(table, part)?;
@@ -163,6 +163,16 @@ fn dependency_in<'a>(
         default_features,
         features,
     })
+}
+
+/// Whether a dependency of this kind may be optional.
+fn may_be_optional(kind: DependencyKind) -> bool
+    ensures { result ≡ may_be_optional kind }
+{
+    match kind {
+        DependencyKind::Normal | DependencyKind::Build => true,
+        DependencyKind::Dev => false,
+    }
 }
 
 /// Whether a dependency asks for `default`: it does where it says nothing.

@@ -1,55 +1,20 @@
-//! The features that a manifest writes, and the table that they are.
+//! The features that a manifest writes.
 
-ghost use Rattle.std.specs.Prelude.{◌≡◌, IfOk, map};
+ghost use Rattle.std.specs.Prelude.{◌≡◌, IfOk};
 ghost use Rattle.toml.specs.View.{view, table_view, array_view};
 ghost use Rattle.model.specs.Outcome.{Gives};
 ghost use Rattle.features.specs.EntryViews.{entry_view, entry_views};
-ghost use Rattle.features.specs.Tables.{dep_name_view, dep_names_view, rows_of};
-ghost use Rattle.features.specs.Views.{dependency_view, dependency_views};
+ghost use Rattle.features.specs.Tables.{rows_of};
 ghost use Rattle.manifest.specs.Faults.{wants_memory};
 ghost use Rattle.manifest.specs.Values.{wanted};
-ghost use Rattle.manifest.specs.Manifests.{dep_name, features_with};
 ghost use Rattle.manifest.specs.Shapes.{strong, root_entry, entries_in, feature_of, features_in, features_of};
 
 use crate::fault::{ManifestFault, Part};
 use crate::table::{feature_name, list, member, table, text};
-use features::{DepName, Dependency, Entry, EntryFault, FeatureName, FeatureTable};
-use std::alloc::{AllocError, Global};
+use features::{Entry, EntryFault, FeatureName};
+use std::alloc::Global;
 use std::collections::BTreeMap;
 use toml::value::{Array, Table, Value};
-
-/// The feature table of the root: of all its dependencies, dev ones too, and of the features that it writes.
-pub(crate) fn root_features(
-    alloc: Global,
-    dependencies: &[Dependency],
-    written: BTreeMap<FeatureName, Vec<Entry>>,
-) -> Result<FeatureTable, ManifestFault>
-    ensures { Gives wants_memory
-        (λ t. t) result (features_with (dependency_views dependencies.now) (rows_of written.entries)) }
-{
-    let names = dep_names(alloc, dependencies)?;
-    Ok(FeatureTable::build(alloc, names.as_slice(), written)?)
-}
-
-/// What the dependencies are called, and which are optional.
-fn dep_names(alloc: Global, dependencies: &[Dependency]) -> Result<Vec<DepName>, AllocError>
-    ensures { IfOk result (λ v. dep_names_view v.items ≡ map dep_name (dependency_views dependencies.now)) }
-{
-    let mut names = Vec::new(alloc);
-    'dependencies: for dependency in dependencies {
-        names.push(dep_name(dependency)?)?;
-    }
-    Ok(names)
-}
-
-fn dep_name(dependency: &Dependency) -> Result<DepName, AllocError>
-    ensures { IfOk result (λ n. dep_name_view n ≡ dep_name (dependency_view dependency.now)) }
-{
-    Ok(DepName {
-        name: dependency.name.clone()?,
-        optional: dependency.optional,
-    })
-}
 
 /// The features of `[features]`.
 pub(crate) fn written_features(

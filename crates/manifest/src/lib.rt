@@ -17,12 +17,14 @@ mod check;
 mod dependency;
 mod fault;
 mod feature;
+mod package;
 mod package_table;
 mod reader;
-mod reading;
+mod root_features;
 mod section;
 mod shape;
 mod table;
+mod workspace;
 
 pub use fault::{ManifestFault, Part, TableFault, Unsupported};
 pub use reader::Manifest;

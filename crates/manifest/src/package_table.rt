@@ -1,4 +1,4 @@
-//! The package that a manifest is for, and the workspace that it may belong to.
+//! The table `[package]`.
 
 ghost use Rattle.std.specs.Prelude.{◌≡◌, option_map, IfOk, IfSome};
 ghost use Rattle.toml.specs.Data.{as_table};
@@ -10,12 +10,13 @@ ghost use Rattle.classes.specs.RustVersions.{rust_version_view};
 ghost use Rattle.model.specs.Outcome.{Gives};
 ghost use Rattle.manifest.specs.Faults.{wants_memory};
 ghost use Rattle.manifest.specs.Packages.{is_inherited, name_of, version_of_text, version_of, rust_version_in};
-ghost use Rattle.manifest.specs.Packages.{members_at, package_in, package_of, workspace_of};
+ghost use Rattle.manifest.specs.Packages.{package_in, package_of};
 ghost use Rattle.manifest.specs.ShapeViews.{package_view};
 
 use crate::fault::{ManifestFault, Part};
-use crate::shape::Package;
-use crate::table::{has_items, has_key, member, package_name, table, text};
+use crate::package::Package;
+use crate::table::{has_key, member, package_name, table, text};
+use crate::workspace::has_members;
 use classes::RustVersion;
 use features::PackageName;
 use semver::Version;
@@ -31,7 +32,7 @@ pub(crate) fn own_package(alloc: Global, top: &Table) -> Result<Option<Package>,
     match member(top, "package") {
         Some(value) => package_in(alloc, table(value, Part::Package)?),
         None => {
-            if workspace(top).unwrap_or(false) {
+            if has_members(top).unwrap_or(false) {
                 Ok(None)
             } else {
                 Err(ManifestFault::Shape(Part::Package))
@@ -116,30 +117,5 @@ fn is_inherited(value: &Value) -> bool
     match value.as_table() {
         Some(table) => has_key(table, "workspace"),
         None => false,
-    }
-}
-
-/// Whether `[workspace]` has members.
-pub(crate) fn workspace(top: &Table) -> Result<bool, ManifestFault>
-    ensures { result ≡ workspace_of (table_view top.now) }
-{
-    let Some(value) = member(top, "workspace") else {
-        return Ok(false);
-    };
-    match value.as_table() {
-        Some(workspace) => has_members(workspace),
-        None => Err(ManifestFault::Shape(Part::Workspace)),
-    }
-}
-
-fn has_members(workspace: &Table) -> Result<bool, ManifestFault>
-    ensures { result ≡ members_at (table_view workspace.now) }
-{
-    match member(workspace, "members") {
-        Some(value) => match value.as_array() {
-            Some(members) => Ok(has_items(members)),
-            None => Err(ManifestFault::Shape(Part::Workspace)),
-        },
-        None => Ok(false),
     }
 }

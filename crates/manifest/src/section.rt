@@ -3,7 +3,7 @@
 ghost use Rattle.std.specs.Prelude.{◌≡◌, option_map};
 ghost use Rattle.toml.specs.View.{table_view, view};
 ghost use Rattle.model.specs.Outcome.{Gives};
-ghost use Rattle.manifest.specs.Dependencies.{may_be_optional, part_of, section_at, section_of, sections_of};
+ghost use Rattle.manifest.specs.Dependencies.{part_of, section_at, section_of, sections_of};
 ghost use Rattle.manifest.specs.Dependencies.{targets_in, targets_of};
 ghost use Rattle.manifest.specs.Faults.{wants_memory};
 ghost use Rattle.manifest.specs.ShapeViews.{dependency_views};
@@ -11,16 +11,9 @@ ghost use Rattle.manifest.specs.ShapeViews.{dependency_views};
 use crate::dependency::{DependencyShape, dependencies_in};
 use crate::fault::{ManifestFault, Part};
 use crate::table::{either, member, table};
+use features::DependencyKind;
 use std::alloc::Global;
 use toml::value::{Table, Value};
-
-/// What a dependency is needed for.
-#[derive(Clone, Copy, Debug, PartialEq, Eq)]
-pub(crate) enum DependencyKind {
-    Normal,
-    Dev,
-    Build,
-}
 
 /// Where a table of dependencies stands.
 #[derive(Clone, Copy, Debug, PartialEq, Eq)]
@@ -29,18 +22,6 @@ pub(crate) enum Place {
     Top,
     /// In a table of `[target]`.
     Target,
-}
-
-impl DependencyKind {
-    /// Whether a dependency of this kind may be optional.
-    pub(crate) fn may_be_optional(self) -> bool
-        ensures { result ≡ may_be_optional self }
-    {
-        match self {
-            DependencyKind::Normal | DependencyKind::Build => true,
-            DependencyKind::Dev => false,
-        }
-    }
 }
 
 impl Place {

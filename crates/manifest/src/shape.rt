@@ -1,22 +1,23 @@
-//! The shape of a manifest: what its tables say before requirements are read.
+//! The shape of a manifest: what its tables say before requirements are read, part by part.
 
-ghost use Rattle.semver.specs.Grammar.{IsValid};
-ghost use Rattle.semver.specs.Identifiers.{parts_of};
+ghost use Rattle.toml.specs.View.{table_view};
+ghost use Rattle.model.specs.Outcome.{Gives};
+ghost use Rattle.manifest.specs.Faults.{wants_memory};
+ghost use Rattle.manifest.specs.Shapes.{all_dependencies, shape_of};
+ghost use Rattle.manifest.specs.ShapeViews.{dependency_views, shape_view};
 
 use crate::dependency::DependencyShape;
-use classes::RustVersion;
-use features::{Entry, FeatureName, PackageName};
-use semver::Version;
+use crate::fault::{ManifestFault, Part};
+use crate::feature::written_features;
+use crate::package::Package;
+use crate::package_table::own_package;
+use crate::section::{Place, sections, target_dependencies};
+use crate::table::is_written;
+use crate::workspace::has_members;
+use features::{Entry, FeatureName};
+use std::alloc::Global;
 use std::collections::BTreeMap;
-
-/// What `[package]` says.
-#[derive(Drop)]
-pub(crate) struct Package {
-    pub name: PackageName,
-    pub version: Version,
-    pub rust_version: Option<RustVersion>,
-    ghost valid: { IsValid (parts_of version) },
-}
+use toml::Table;
 
 /// What the tables of a manifest say.
 #[derive(Drop)]
@@ -33,4 +34,36 @@ pub(crate) struct Shape<'a> {
     pub patches: bool,
     /// Whether there are replacements.
     pub replaces: bool,
+}
+
+/// The shape of a manifest, or the first part that has another one.
+#[tactic(auto, unfolding(crate::specs::Shapes::shape_of))]
+pub(crate) fn read_shape(alloc: Global, top: &Table) -> Result<Shape<'_>, ManifestFault>
+    ensures { Gives wants_memory shape_view result (shape_of (table_view top.now)) }
+{
+    let own = own_package(alloc, top)?;
+    let dependencies = all_dependencies(alloc, top)?;
+    let features = written_features(alloc, top)?;
+    let has_members = has_members(top)?;
+    let patches = is_written(top, "patch", Part::Patch)?;
+    let replaces = is_written(top, "replace", Part::Replace)?;
+    Ok(Shape {
+        own,
+        dependencies,
+        features,
+        has_members,
+        patches,
+        replaces,
+    })
+}
+
+/// The dependencies by number: those at the top, then those of the targets.
+#[tactic(auto, unfolding(crate::specs::Shapes::all_dependencies))]
+fn all_dependencies(alloc: Global, top: &Table) -> Result<Vec<DependencyShape<'_>>, ManifestFault>
+    ensures { Gives wants_memory (λ v. dependency_views v.items) result (all_dependencies (table_view top.now)) }
+{
+    let mut found = sections(alloc, top, Place::Top)?;
+    let mut targets = target_dependencies(alloc, top)?;
+    found.append(&mut targets)?;
+    Ok(found)
 }

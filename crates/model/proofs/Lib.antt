@@ -1,5 +1,7 @@
 pub mod Same
 pub mod Lists
+pub mod Fronts
+pub mod Sorting
 pub mod Permuted
 pub mod Orders
 pub mod Contents

@@ -1,9 +1,14 @@
 //! What gives rise to an instance of an axiom, by names and numbers.
 
+ghost use Rattle.std.specs.Prelude.{◌≡◌};
+ghost use Rattle.refutations.specs.Causes.{kind_of};
+ghost use Rattle.vertices.specs.Kinds.{kind_view};
+ghost use Rattle.named_terms.specs.CauseViews.{cause_view};
+
 use classes::Class;
 use features::{Entry, FeatureName, PackageName};
 use semver::Version;
-use vertices::OwnerRef;
+use vertices::{Kind, OwnerRef};
 
 /// What an instance comes from.
 #[derive(Clone, Copy, PartialEq, Eq, Hash)]
@@ -29,4 +34,25 @@ pub enum Cause<'a> {
     Newest(OwnerRef<'a>, usize, usize, Class, Class),
     /// An entry `d?/g` of a version's feature f, a dependency called d, and a class that it may lead to.
     Weak(&'a PackageName, &'a Version, &'a FeatureName, &'a FeatureName, usize, Class),
+}
+
+impl Cause<'_> {
+    /// The kind of the instance.
+    pub fn kind(&self) -> Kind
+        ensures { kind_view result ≡ kind_of (cause_view self.now) }
+    {
+        match self {
+            Cause::Root => Kind::Root,
+            Cause::Need(_, _) => Kind::Needed,
+            Cause::Target(_, _, _) => Kind::Target,
+            Cause::Feature(_, _, _) => Kind::HasFeature,
+            Cause::List(_, _, _, _) => Kind::WantsFeature,
+            Cause::Ask(_, _, _, _, _) => Kind::WantsFeature,
+            Cause::Entry(_, _, _, _) => Kind::FeatureOnFeature,
+            Cause::Enabling(_, _, _, _, _) => Kind::FeatureOnDependency,
+            Cause::Asking(_, _, _, _, _) => Kind::FeatureAsks,
+            Cause::Newest(_, _, _, _, _) => Kind::NewestListed,
+            Cause::Weak(_, _, _, _, _, _) => Kind::WeakFeature,
+        }
+    }
 }

@@ -1,4 +1,4 @@
--- Where a combination is satisfied: with the cause of an assignment, before the assignment, if the first of the two is
+-- Where a combination is satisfied: with what forced an assignment, before the assignment, if the first of the two is
 -- satisfied after it; and then the first of the two is satisfied too, but for its term at the vertex.
 use Rattle.std.proofs.Common.{◌≡◌, ℕ, ◌<◌, Bool, true, false, cond, eq-eqb, List, [], ◌∷◌, length, Option, Some, None}
 use Rattle.std.proofs.Common.{refl, sym, ap, ◌∙◌, subst, arith, inl, inr}
@@ -36,7 +36,7 @@ inside_meet (true ∷ bs) (true ∷ xs) (false ∷ ys) hx hy = hy
 inside_meet (true ∷ bs) (false ∷ xs) (y ∷ ys) hx hy = hx
 inside_meet (false ∷ bs) (x ∷ xs) (y ∷ ys) hx hy = inside_meet bs xs ys hx hy
 
-meet_holds : (set : Members) (x y : Option Members) → HoldsAt set x → HoldsAt set y → HoldsAt set (meet_at x y)
+pub meet_holds : (set : Members) (x y : Option Members) → HoldsAt set x → HoldsAt set y → HoldsAt set (meet_at x y)
 meet_holds set None y hx hy = hy
 meet_holds set (Some x) None hx hy = hx
 meet_holds set (Some x) (Some y) hx hy = (hx.0, inside_meet set x y hx.1 hy.1)
@@ -47,7 +47,7 @@ union_holds b x None some fits ok h = tt
 union_holds b x (Some y) some fits ok h = (some, inside_join b x y fits (ok y refl) h.1)
 
 -- a full term is dropped
-kept_holds : (set : Members) (o : Option Members) → HoldsAt set o → HoldsAt set (unless_full o)
+pub kept_holds : (set : Members) (o : Option Members) → HoldsAt set o → HoldsAt set (unless_full o)
 kept_holds set None h = tt
 kept_holds set (Some x) h = by (is_full x)
   where
@@ -55,20 +55,20 @@ kept_holds set (Some x) h = by (is_full x)
     by true = tt
     by false = h
 
-pub combined_before : (sets after : List Members) (v : ℕ) (f cause made : Terms) (x : Members)
-    → IsForced sets after v cause x → Sat after f → ((z : Members) → f v ≡ Some z → length z ≡ length (set_of sets v))
-    → ((u : ℕ) → made u ≡ unless_full (combined_at v f cause u)) → Sat sets made
-combined_before sets after v f cause made x forced sat ok each u = subst (HoldsAt (set_of sets u)) (sym (each u))
-    (kept_holds (set_of sets u) (combined_at v f cause u) (elim (cases_eq u v) [
-      | inl e ↦ subst (λ w. HoldsAt (set_of sets w) (combined_at v f cause w)) (sym e)
+pub combined_before : (sets after : List Members) (v : ℕ) (f forcing made : Terms) (x : Members)
+    → IsForced sets after v forcing x → Sat after f → ((z : Members) → f v ≡ Some z → length z ≡ length (set_of sets v))
+    → ((u : ℕ) → made u ≡ unless_full (combined_at v f forcing u)) → Sat sets made
+combined_before sets after v f forcing made x forced sat ok each u = subst (HoldsAt (set_of sets u)) (sym (each u))
+    (kept_holds (set_of sets u) (combined_at v f forcing u) (elim (cases_eq u v) [
+      | inl e ↦ subst (λ w. HoldsAt (set_of sets w) (combined_at v f forcing w)) (sym e)
           (subst (HoldsAt (set_of sets v))
-          (sym (ap (λ b. cond b (union_at (f v) (cause v)) (meet_at (f v) (cause v))) (eq-eqb v v refl)))
+          (sym (ap (λ b. cond b (union_at (f v) (forcing v)) (meet_at (f v) (forcing v))) (eq-eqb v v refl)))
           (subst (λ o. HoldsAt (set_of sets v) (union_at (f v) o)) (sym forced.one.term)
           (union_holds (set_of sets v) x (f v) (meets_some (set_of sets v) x forced.one.common) forced.fits ok
           (subst (λ s. HoldsAt s (f v)) forced.here (sat v)))))
       | inr ne ↦ subst (HoldsAt (set_of sets u))
-          (sym (ap (λ b. cond b (union_at (f u) (cause u)) (meet_at (f u) (cause u))) (ne_eqb u v ne)))
-          (meet_holds (set_of sets u) (f u) (cause u)
+          (sym (ap (λ b. cond b (union_at (f u) (forcing u)) (meet_at (f u) (forcing u))) (ne_eqb u v ne)))
+          (meet_holds (set_of sets u) (f u) (forcing u)
           (subst (λ s. HoldsAt s (f u)) (forced.there u ne) (sat u)) (forced.one.others u ne))
     ]))
 

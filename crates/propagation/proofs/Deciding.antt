@@ -5,9 +5,9 @@ use Rattle.version_sets.specs.Sets.{Members, has, inside, only, size}
 use Rattle.version_sets.proofs.Laws.{length-only}
 use Rattle.incompatibilities.specs.Stores.{EntryView}
 use Rattle.propagation.specs.Trails.{StepView, TrailView, set_of, space_of, total}
-use Rattle.propagation.specs.Parts.{IsPut}
+use Rattle.propagation.specs.Parts.{IsPut, put_step}
 use Rattle.propagation.specs.Promises.{IsDecided, IsSound, IsTaken, IsTrail, SameSpaces}
-use Rattle.propagation.proofs.Back.{put_longer, put_step}
+use Rattle.propagation.proofs.Back.{put_longer}
 use Rattle.propagation.proofs.SetLemmas.{inside_only, size_only, total_set}
 use Rattle.propagation.proofs.Soundness.{longer_spaces, put_sound, put_trail}
 
@@ -47,7 +47,7 @@ module _ (v state : ℕ) (old new : TrailView) (d : IsDeciding v state old new) 
       level = d.put.level_is;
       steps = d.put.steps;
       vertex_is = refl;
-      no_cause = refl;
+      not_forced = refl;
       step_level = refl;
       sets = d.put.sets;
       back = (put_longer old new v one None (suc old.level) d.put).sets;

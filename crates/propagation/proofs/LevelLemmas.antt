@@ -15,16 +15,16 @@ next_high low level (Some c) n = omega (arith, n)
 
 pub levels_le : (low high : ℕ) (ss : List StepView) → Levels low ss high → low ≤ high
 levels_le low high [] l = omega (arith, l)
-levels_le low high (s ∷ ss) l = omega (arith, levels_le s.level high ss l.1, next_low low s.level s.cause l.0)
+levels_le low high (s ∷ ss) l = omega (arith, levels_le s.level high ss l.1, next_low low s.level s.forced_by l.0)
 
 -- no more levels than places
 pub levels_few : (low high : ℕ) (ss : List StepView) → Levels low ss high → high ≤ low + length ss
 levels_few low high [] l = omega (arith, l)
-levels_few low high (s ∷ ss) l = omega (arith, levels_few s.level high ss l.1, next_high low s.level s.cause l.0)
+levels_few low high (s ∷ ss) l = omega (arith, levels_few s.level high ss l.1, next_high low s.level s.forced_by l.0)
 
 pub levels_push : (low high : ℕ) (ss : List StepView) (s : StepView) → Levels low ss high
-    → NextLevel high s.level s.cause → Levels low (ss ++ s ∷ []) s.level
-levels_push low high [] s l n = (subst (λ m. NextLevel m s.level s.cause) (sym l) n, refl)
+    → NextLevel high s.level s.forced_by → Levels low (ss ++ s ∷ []) s.level
+levels_push low high [] s l n = (subst (λ m. NextLevel m s.level s.forced_by) (sym l) n, refl)
 levels_push low high (x ∷ ss) s l n = (l.0, levels_push x.level high ss s l.1 n)
 
 pub levels_parts : (low high : ℕ) (xs ys : List StepView) → Levels low (xs ++ ys) high
@@ -69,7 +69,7 @@ pub levels_cut : (l low high : ℕ) (ss gone : List StepView) → Levels low (ss
     → past l ss ≡ [] → low ≤ l → l ≤ high → Levels low ss l
 levels_cut l low high [] [] v above top first last = omega (arith, v, first, last)
 levels_cut l low high [] (g ∷ gone) v above top first last =
-    omega (arith, next_high low g.level g.cause v.0, above.0, first)
+    omega (arith, next_high low g.level g.forced_by v.0, above.0, first)
 levels_cut l low high (s ∷ ss) gone v above top first last = elim (cases_lt l s.level) [
   | inl lt ↦ not_none s ss _ (sym (past_out l s ss lt) ∙ top)
   | inr le ↦ (v.0, levels_cut l s.level high ss gone v.1 above (sym (past_in l s ss le) ∙ top) le last)

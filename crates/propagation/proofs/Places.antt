@@ -126,9 +126,9 @@ end_is_place t l = ap (λ ss. undo ss t.sets) (past_kept l t.steps)
 first_least : (l low high k : ℕ) (ss : List StepView) → Levels low ss high → k < length ss
     → (step_at ss k).level ≤ l → low ≤ l
 first_least l low high k [] r lt le = absurd (omega (arith, lt))
-first_least l low high zero (s ∷ ss) r lt le = omega (arith, next_low low s.level s.cause r.0, le)
+first_least l low high zero (s ∷ ss) r lt le = omega (arith, next_low low s.level s.forced_by r.0, le)
 first_least l low high (suc k) (s ∷ ss) r lt le =
-    omega (arith, next_low low s.level s.cause r.0, first_least l s.level high k ss r.1 (omega (arith, lt)) le)
+    omega (arith, next_low low s.level s.forced_by r.0, first_least l s.level high k ss r.1 (omega (arith, lt)) le)
 
 -- a place lies before the end of a level where its own level is at most that
 pub before_end : (l low high k : ℕ) (ss : List StepView) → Levels low ss high → k < length ss
@@ -157,7 +157,7 @@ level_from low ss zero = low
 level_from low ss (suc k) = (step_at ss k).level
 
 next_at : (low high k : ℕ) (ss : List StepView) → Levels low ss high → k < length ss
-    → NextLevel (level_from low ss k) (step_at ss k).level (step_at ss k).cause
+    → NextLevel (level_from low ss k) (step_at ss k).level (step_at ss k).forced_by
 unfolding level_from
 next_at low high k [] r lt = absurd (omega (arith, lt))
 next_at low high zero (s ∷ ss) r lt = r.0
@@ -170,9 +170,9 @@ from_start ss zero = refl
 from_start ss (suc k) = refl
 
 pub next_level : (high k : ℕ) (ss : List StepView) → Levels 0 ss high → k < length ss
-    → NextLevel (level_after ss k) (step_at ss k).level (step_at ss k).cause
+    → NextLevel (level_after ss k) (step_at ss k).level (step_at ss k).forced_by
 next_level high k ss r lt =
-    subst (λ n. NextLevel n (step_at ss k).level (step_at ss k).cause) (from_start ss k) (next_at 0 high k ss r lt)
+    subst (λ n. NextLevel n (step_at ss k).level (step_at ss k).forced_by) (from_start ss k) (next_at 0 high k ss r lt)
 
 levels_up : (high m j : ℕ) (ss : List StepView) → Levels 0 ss high → m + j ≤ length ss
     → level_after ss j ≤ level_after ss (m + j)
@@ -180,7 +180,7 @@ levels_up high zero j ss r le = let e : 0 + j ≡ j = omega arith in rw e (omega
 levels_up high (suc m) j ss r le =
     let e : suc m + j ≡ suc (m + j) = omega arith in
     let one = next_low (level_after ss (m + j))
-    (step_at ss (m + j)).level (step_at ss (m + j)).cause (next_level high (m + j) ss r (omega (arith, le))) in
+    (step_at ss (m + j)).level (step_at ss (m + j)).forced_by (next_level high (m + j) ss r (omega (arith, le))) in
     rw e (omega (arith, one, levels_up high m j ss r (omega (arith, le))))
 
 pub levels_rise : (high j k : ℕ) (ss : List StepView) → Levels 0 ss high → j ≤ k → k ≤ length ss

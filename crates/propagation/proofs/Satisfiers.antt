@@ -9,7 +9,7 @@ use Rattle.incompatibilities.specs.Stores.{EntryView, terms_of}
 use Rattle.propagation.specs.Trails.{TrailView, end_sets, level_after, set_of, sets_at, space_of, step_at}
 use Rattle.propagation.specs.Satisfaction.{OthersHold, Sat}
 use Rattle.propagation.specs.Units.{LiesOn, term_at}
-use Rattle.propagation.specs.Promises.{CauseFits, IsCause, IsSatisfied, IsSound, IsTrail, NextLevel, OpenFits}
+use Rattle.propagation.specs.Promises.{ForcedFits, IsForcedBy, IsSatisfied, IsSound, IsTrail, NextLevel, OpenFits}
 use Rattle.propagation.specs.Counting.{AreRanked}
 use Rattle.propagation.specs.declared.satisfying.Ranks.{Ranks}
 use Rattle.propagation.specs.declared.satisfying.Satisfier.{Satisfier}
@@ -33,7 +33,7 @@ pub record IsRead (t : TrailView) (ts : List TermView) (r : Ranks) (s : Satisfie
   pub place : suc s.place ≡ r.all
   pub vertex : s.vertex ≡ (step_at t.steps s.place).vertex
   pub level : s.level ≡ (step_at t.steps s.place).level
-  pub cause : s.cause ≡ (step_at t.steps s.place).cause
+  pub forced_by : s.forced_by ≡ (step_at t.steps s.place).forced_by
   pub before : s.before ≡ level_after t.steps r.others
 
 module _ (t : TrailView) (ts : List TermView) (r : Ranks) (s : Satisfier) (d : IsRead t ts r s) where
@@ -106,7 +106,7 @@ module _ (t : TrailView) (ts : List TermView) (r : Ranks) (s : Satisfier) (d : I
     first = all_before;
     vertex = d.vertex;
     level = d.level;
-    cause = d.cause;
+    forced_by = d.forced_by;
     before = (
       r.others,
       others_le,
@@ -122,9 +122,9 @@ module _ (t : TrailView) (ts : List TermView) (r : Ranks) (s : Satisfier) (d : I
   }
 
   -- levels
-  next : NextLevel (level_after t.steps s.place) s.level s.cause
-  next = subst (λ c. NextLevel (level_after t.steps s.place) s.level c) (sym d.cause)
-      (subst (λ n. NextLevel (level_after t.steps s.place) n (step_at t.steps s.place).cause) (sym d.level)
+  next : NextLevel (level_after t.steps s.place) s.level s.forced_by
+  next = subst (λ c. NextLevel (level_after t.steps s.place) s.level c) (sym d.forced_by)
+      (subst (λ n. NextLevel (level_after t.steps s.place) n (step_at t.steps s.place).forced_by) (sym d.level)
       (next_level t.level s.place t.steps d.sound.levels within))
 
   before_low : s.before ≤ level_after t.steps s.place
@@ -146,7 +146,7 @@ module _ (t : TrailView) (ts : List TermView) (r : Ranks) (s : Satisfier) (d : I
 
   pub opens_is : OpenFits t (states_at ts) s
   opens_is = record {
-    not_later = not_later_by s.cause next;
+    not_later = not_later_by s.forced_by next;
     held = λ e. subst (λ (ss : List Members). Sat ss f) (sym (end_is_place t s.level)) (all_after (kept s.level t.steps)
         (let p = d.place in let l = d.level in
         omega (arith, p, before_end s.level 0 t.level s.place t.steps d.sound.levels within (omega (arith, l))))
@@ -161,20 +161,20 @@ module _ (t : TrailView) (ts : List TermView) (r : Ranks) (s : Satisfier) (d : I
     here = same_space t d.sound s.place (let w = within in omega (arith, w)) s.vertex;
   }
 
-  cause_by : (es : List EntryView) → IsTrail es t → (o : Option ℕ) → (step_at t.steps s.place).cause ≡ o
-      → NextLevel (level_after t.steps s.place) s.level o → CauseFits es t ts s o
-  cause_by es trail None e n = let b = before_low in omega (arith, b, n)
-  cause_by es trail (Some c) e n =
-      let cause : IsCause es (sets_at t s.place) (sets_at t (suc s.place)) s.vertex c =
-      subst (λ v. IsCause es (sets_at t s.place) (sets_at t (suc s.place)) v c) (sym d.vertex)
-      (trail.caused s.place c within e) in (
-        cause,
+  forced_by_is : (es : List EntryView) → IsTrail es t → (o : Option ℕ) → (step_at t.steps s.place).forced_by ≡ o
+      → NextLevel (level_after t.steps s.place) s.level o → ForcedFits es t ts s o
+  forced_by_is es trail None e n = let b = before_low in omega (arith, b, n)
+  forced_by_is es trail (Some c) e n =
+      let forced_by : IsForcedBy es (sets_at t s.place) (sets_at t (suc s.place)) s.vertex c =
+      subst (λ v. IsForcedBy es (sets_at t s.place) (sets_at t (suc s.place)) v c) (sym d.vertex)
+      (trail.forced s.place c within e) in (
+        forced_by,
         λ made comb. combined_before (sets_at t s.place) (sets_at t (suc s.place)) s.vertex f (terms_of es c)
-            (states_at made) cause.states cause.forced
+            (states_at made) forced_by.states forced_by.forced
             (all_after (suc s.place) (let p = d.place in omega (arith, p)) within)
             (λ z is. d.lies.lies s.vertex z is
             ∙ sym (same_space t d.sound s.place (let w = within in omega (arith, w)) s.vertex)) comb.each,
       )
 
-  pub cause_is : (es : List EntryView) → IsTrail es t → CauseFits es t ts s s.cause
-  cause_is es trail = cause_by es trail s.cause (sym d.cause) next
+  pub forced_is : (es : List EntryView) → IsTrail es t → ForcedFits es t ts s s.forced_by
+  forced_is es trail = forced_by_is es trail s.forced_by (sym d.forced_by) next

@@ -1,7 +1,7 @@
 -- How sets stand to an incompatibility, vertex by vertex (Dart pub's `solver.md`, "Incompatibility" and "Unit
 -- Propagation").
 use Rattle.std.specs.Prelude.{◌≡◌, ◌≢◌, ℕ, ◌<◌, Bool, true, false, List, length, Option, Some, None}
-use Rattle.version_sets.specs.Sets.{Members, has, inside, meet, meets, rest, size}
+use Rattle.version_sets.specs.Sets.{Members, has, inside, meet, meets, rest}
 use Rattle.incompatibilities.specs.Incompatibilities.{Assignment, Breaks, HoldsAt, Terms}
 use Rattle.incompatibilities.specs.Stores.{EntryView, terms_of}
 use Rattle.propagation.specs.Trails.{set_of}

@@ -3,7 +3,7 @@
 ghost use Rattle.incompatibilities.specs.Incompatibilities.{LiesIn, states_at, HoldsAt};
 ghost use Rattle.incompatibilities.specs.Stores.{EntryView};
 ghost use Rattle.propagation.specs.Counting.{IsCount, Ranked, ranked};
-ghost use Rattle.propagation.specs.Promises.{CauseFits, IsSatisfied, IsSound, IsTrail, OpenFits};
+ghost use Rattle.propagation.specs.Promises.{ForcedFits, IsSatisfied, IsSound, IsTrail, OpenFits};
 ghost use Rattle.propagation.specs.Satisfaction.{Sat};
 ghost use Rattle.propagation.specs.Trails.{level_after, set_of, space_of, trail_view};
 ghost use Rattle.propagation.specs.Units.{LiesOn};
@@ -24,8 +24,8 @@ pub struct Satisfier {
     pub vertex: usize,
     /// Its level.
     pub level: usize,
-    /// The incompatibility that asked for it; none for a decision.
-    pub cause: Option<Id>,
+    /// The incompatibility that forced it; none for a decision.
+    pub forced_by: Option<Id>,
     /// The level of the first place after which all the other terms are satisfied, 0 if there are none.
     pub before: usize,
 }
@@ -71,8 +71,9 @@ impl<S: States + Drop> Trail<S> {
         requires some { 0 < length (terms_view S.tests incompatibility.now) }
         ensures satisfied { IsSatisfied (trail_view S.tests self.now)
             (states_at (terms_view S.tests incompatibility.now)) result }
-        ensures cause { (es : List EntryView) → IsTrail es (trail_view S.tests self.now)
-            → CauseFits es (trail_view S.tests self.now) (terms_view S.tests incompatibility.now) result result.cause }
+        ensures forced_by { (es : List EntryView) → IsTrail es (trail_view S.tests self.now)
+            → ForcedFits es (trail_view S.tests self.now)
+            (terms_view S.tests incompatibility.now) result result.forced_by }
         ensures opens { OpenFits (trail_view S.tests self.now)
             (states_at (terms_view S.tests incompatibility.now)) result }
     {
@@ -83,7 +84,7 @@ impl<S: States + Drop> Trail<S> {
             place,
             vertex: step.vertex,
             level: step.level,
-            cause: step.cause,
+            forced_by: step.forced_by,
             before: self.level_after(ranks.others),
         }
     }

@@ -14,17 +14,13 @@ use Rattle.incompatibilities.specs.declared.origin.Origin.TheVariants.{Axiom, Co
 use Rattle.model.specs.Content.{Problem}
 use Rattle.model.specs.WellFormed.{IsCatalogue}
 use Rattle.model.specs.Vertices.{Vertex}
-use Rattle.model.specs.Axioms.{IsInstance, Term}
 use Rattle.model.specs.Derivation.{IsAccepted, Step}
-use Rattle.encoding.specs.Numberings.{IsNumbering, Numbering, Says}
+use Rattle.encoding.specs.Numberings.{IsNumbering, Numbering}
 use Rattle.encoding.proofs.Places.{got_in}
 use Rattle.decoding.specs.Decoding.{IsOver}
 use Rattle.decoding.specs.Steps.{AreStepsOf, IsEncoded, IsNeeded, IsStepOf, steps_of}
-use Rattle.vertices.specs.Kinds.{kind_at}
-use Rattle.decoding.proofs.Accepting.{accepted, at_its_place, own_steps}
-use Rattle.decoding.proofs.Combining.{over_combined}
+use Rattle.decoding.proofs.Accepting.{accepted, at_its_place, needed_over, own_steps}
 use Rattle.decoding.proofs.Growth.{has_vertex}
-use Rattle.decoding.proofs.Unique.{says_over}
 use Rattle.searching.specs.Searching.{AreTouching}
 use Rattle.refusing.specs.Refusing.{AreInstances, AreThere, IsNext}
 
@@ -84,25 +80,8 @@ module _ (q : Problem) (vs : Numbering) (es : List EntryView) (place : ℕ → �
     axiom_is id c k e =
         subst (IsEncoded q vs (entry es id).terms) e (axioms id (within id c) (subst IsAxiom (sym e) tt))
 
-    over_below : (n id : ℕ) → id < n → Contains ids id → IsOver q vs (entry es id).terms
-    over_below zero id lt c = absurd (omega (arith, lt))
-    over_below (suc n) id lt c = by (entry es id).origin refl (λ i lt c. over_below n i lt c)
-      where
-        by : (o : Origin) → (entry es id).origin ≡ o
-            → ((i : ℕ) → i < n → Contains ids i → IsOver q vs (entry es i).terms) → IsOver q vs (entry es id).terms
-        by (Axiom k) e rest =
-            let r : (us : List Term) × IsInstance q (kind_at k) us
-            × Says q vs (entry es id).terms us = axiom_is id c k e in
-            says_over q vs known ok (entry es id).terms r.0 r.2
-        by (Combined i j m w) e rest =
-            let f : OriginFits es id (entry es id).terms (Combined i j m w) =
-            subst (OriginFits es id (entry es id).terms) e (needed.fits id c) in
-            let parts = needed.closed id i j m w c e in
-            over_combined q vs known ok m (entry es i).terms (entry es j).terms (entry es id).terms
-            (rest i (omega (arith, f.0, lt)) parts.0) (rest j (omega (arith, f.1, lt)) parts.1) f.2
-
     over : (id : ℕ) → Contains ids id → IsOver q vs (entry es id).terms
-    over id c = over_below (suc id) id (omega arith) c
+    over id c = needed_over q vs es place known ok last ids needed axiom_is id c
 
     -- the vertex of a combination has a number, since one of the two speaks of it
     vertex_of : (ts : List TermView) (n : ℕ) → IsOver q vs ts → touches n ts ≡ true

@@ -12,7 +12,7 @@ use Rattle.vertices.specs.Orders.{state_cmp}
 use Rattle.derivations.specs.Building.{ordered_term, ordered_terms}
 use Rattle.derivations.specs.Derivations.{term_cmp}
 use Rattle.model.specs.Sorting.{in_order, put_in}
-use Rattle.derivations.proofs.Sorting.{each-in_order}
+use Rattle.model.proofs.Sorting.{each-in_order}
 
 -- ---- states
 

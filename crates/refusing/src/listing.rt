@@ -79,24 +79,24 @@ fn by_text(alloc: Global, table: &Table<'_>, marks: &[bool]) -> Result<Vec<Texte
 /// Lists the vertices that entries speak of.
 pub(crate) fn list_by_text<'a, S: States + Drop>(
     alloc: Global,
-    inputs: &KnownProblem<'a>,
+    known: &KnownProblem<'a>,
     table: &Table<'a>,
     store: &Store<S>,
     ids: &[Id],
     spaces: &mut Spaces<'a>,
     steps: &mut Derivation,
 ) -> Result<(), AllocError>
-    requires listed { AreListed (problem inputs.now) table.now spaces.old }
+    requires listed { AreListed (problem known.now) table.now spaces.old }
     requires spelt { AreSpelt table.now spaces.old }
     requires valid { AreReadVertices table.now }
-    ensures listed { AreListed (problem inputs.now) table.now spaces.new }
+    ensures listed { AreListed (problem known.now) table.now spaces.new }
     ensures spelt { AreSpelt table.now spaces.new }
     ensures steps { steps.new ≡ steps.old }
 {
     let marks = marked(alloc, table, store, ids)?;
     let found = by_text(alloc, table, &marks)?;
     'vertices: for one in found.iter() {
-        spaces.list(alloc, inputs, table, steps, one.number)?;
+        spaces.list(alloc, known, table, steps, one.number)?;
     }
     Ok(())
 }

@@ -25,29 +25,29 @@ use version_sets::States;
 /// The steps of needed entries, in their order.
 fn steps_of<'a, S: States + Drop>(
     alloc: Global,
-    inputs: &KnownProblem<'a>,
+    known: &KnownProblem<'a>,
     table: &Table<'a>,
     store: &Store<S>,
     kept: &Kept,
 ) -> Result<Derivation, AllocError>
-    requires parts { HasValidParts (problem inputs.now) }
-    requires numbering { IsNumbering (problem inputs.now) table.now }
-    requires axioms { AreInstances (problem inputs.now) table.now (entries_view S.tests store.now) }
+    requires parts { HasValidParts (problem known.now) }
+    requires numbering { IsNumbering (problem known.now) table.now }
+    requires axioms { AreInstances (problem known.now) table.now (entries_view S.tests store.now) }
     requires touching { AreTouching (entries_view S.tests store.now) }
     requires needed { (last : ℕ) × (last < length (entries_view S.tests store.now))
         × IsNeeded (entries_view S.tests store.now) last kept.now.ids.items (place_in kept.now.places.items) }
-    ensures { IfOk result (λ d. AreStepsOf (problem inputs.now) table.now (entries_view S.tests store.now)
+    ensures { IfOk result (λ d. AreStepsOf (problem known.now) table.now (entries_view S.tests store.now)
         (place_in kept.now.places.items) kept.now.ids.items d) }
 {
-    catalogues_are_well_formed(inputs.manifest, inputs.catalogue);
+    catalogues_are_well_formed(known.manifest, known.catalogue);
     let mut spaces = Spaces::new(alloc);
     let mut steps = Derivation::new(alloc);
     let ids = kept.ids.as_slice();
-    list_by_text(alloc, inputs, table, store, ids, &mut spaces, &mut steps)?;
+    list_by_text(alloc, known, table, store, ids, &mut spaces, &mut steps)?;
     'entries: for id in kept.ids.iter() {
         push_step(
             alloc,
-            inputs,
+            known,
             table,
             store,
             &kept.places,
@@ -65,21 +65,21 @@ fn steps_of<'a, S: States + Drop>(
 /// It takes time and memory in proportion to the entry's place and to what those entries say.
 pub fn refusal<'a, S: States + Drop>(
     alloc: Global,
-    inputs: &KnownProblem<'a>,
+    known: &KnownProblem<'a>,
     table: &Table<'a>,
     store: &Store<S>,
     last: Id,
 ) -> Result<Derivation, AllocError>
-    requires parts { HasValidParts (problem inputs.now) }
-    requires numbering { IsNumbering (problem inputs.now) table.now }
-    requires axioms { AreInstances (problem inputs.now) table.now (entries_view S.tests store.now) }
+    requires parts { HasValidParts (problem known.now) }
+    requires numbering { IsNumbering (problem known.now) table.now }
+    requires axioms { AreInstances (problem known.now) table.now (entries_view S.tests store.now) }
     requires touching { AreTouching (entries_view S.tests store.now) }
     requires within { last < length (entries_view S.tests store.now) }
     requires none { (entry (entries_view S.tests store.now) last).terms ≡ [] }
-    ensures accepted { IfOk result (λ d. IsAccepted (problem inputs.now) d) }
+    ensures accepted { IfOk result (λ d. IsAccepted (problem known.now) d) }
     ensures once { IfOk result (λ d. HasNoMore (entries_view S.tests store.now) d) }
 {
-    catalogues_are_well_formed(inputs.manifest, inputs.catalogue);
+    catalogues_are_well_formed(known.manifest, known.catalogue);
     let kept = needed(alloc, store, last)?;
-    steps_of(alloc, inputs, table, store, &kept)
+    steps_of(alloc, known, table, store, &kept)
 }

@@ -54,22 +54,22 @@ impl<'a> Spaces<'a> {
     fn put(
         &mut self,
         alloc: Global,
-        inputs: &KnownProblem<'a>,
+        known: &KnownProblem<'a>,
         table: &Table<'a>,
         steps: &mut Derivation,
         number: usize,
         vertex: VertexRef<'a>,
     ) -> Result<(), AllocError>
-        requires listed { AreListed (problem inputs.now) table.now self.old }
+        requires listed { AreListed (problem known.now) table.now self.old }
         requires spelt { AreSpelt table.now self.old }
         requires there { slice_get table.now number ≡ Some (vertex_ref_view vertex) }
         requires valid { IsReadVertex (vertex_ref_view vertex) }
-        ensures listed { AreListed (problem inputs.now) table.now self.new }
+        ensures listed { AreListed (problem known.now) table.now self.new }
         ensures spelt { AreSpelt table.now self.new }
         ensures steps { steps.new ≡ steps.old }
     {
         let spelling = steps.spell(alloc, vertex)?;
-        let states = states_of(alloc, inputs, &vertex)?;
+        let states = states_of(alloc, known, &vertex)?;
         add_places(&mut self.listed, number)?;
         self.listed[number] = Some(Space { spelling, states });
         Ok(())
@@ -87,15 +87,15 @@ impl<'a> Spaces<'a> {
     pub(crate) fn list(
         &mut self,
         alloc: Global,
-        inputs: &KnownProblem<'a>,
+        known: &KnownProblem<'a>,
         table: &Table<'a>,
         steps: &mut Derivation,
         number: usize,
     ) -> Result<(), AllocError>
-        requires listed { AreListed (problem inputs.now) table.now self.old }
+        requires listed { AreListed (problem known.now) table.now self.old }
         requires spelt { AreSpelt table.now self.old }
         requires valid { AreReadVertices table.now }
-        ensures listed { AreListed (problem inputs.now) table.now self.new }
+        ensures listed { AreListed (problem known.now) table.now self.new }
         ensures spelt { AreSpelt table.now self.new }
         ensures steps { steps.new ≡ steps.old }
     {
@@ -103,7 +103,7 @@ impl<'a> Spaces<'a> {
             return Ok(());
         }
         match table.vertex(number) {
-            Some(vertex) => self.put(alloc, inputs, table, steps, number, vertex),
+            Some(vertex) => self.put(alloc, known, table, steps, number, vertex),
             None => Ok(()),
         }
     }
@@ -112,20 +112,20 @@ impl<'a> Spaces<'a> {
     pub(crate) fn list_each<S: States + Drop>(
         &mut self,
         alloc: Global,
-        inputs: &KnownProblem<'a>,
+        known: &KnownProblem<'a>,
         table: &Table<'a>,
         steps: &mut Derivation,
         terms: &[Term<S>],
     ) -> Result<(), AllocError>
-        requires listed { AreListed (problem inputs.now) table.now self.old }
+        requires listed { AreListed (problem known.now) table.now self.old }
         requires spelt { AreSpelt table.now self.old }
         requires valid { AreReadVertices table.now }
-        ensures listed { AreListed (problem inputs.now) table.now self.new }
+        ensures listed { AreListed (problem known.now) table.now self.new }
         ensures spelt { AreSpelt table.now self.new }
         ensures steps { steps.new ≡ steps.old }
     {
         'terms: for term in terms.iter() {
-            self.list(alloc, inputs, table, steps, term.vertex)?;
+            self.list(alloc, known, table, steps, term.vertex)?;
         }
         Ok(())
     }

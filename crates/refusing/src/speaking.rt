@@ -29,19 +29,19 @@ pub(crate) struct Spoken<'p, 'a> {
 /// A vertex with those of its states that a set has.
 fn speak<'p, 'a, S: States + Drop>(
     alloc: Global,
-    inputs: &KnownProblem<'a>,
+    known: &KnownProblem<'a>,
     table: &Table<'a>,
     spaces: &'p Spaces<'a>,
     number: usize,
     vertex: VertexRef<'a>,
     set: &S,
 ) -> Result<Spoken<'p, 'a>, AllocError>
-    requires listed { AreListed (problem inputs.now) table.now spaces.now }
+    requires listed { AreListed (problem known.now) table.now spaces.now }
     requires spelt { AreSpelt table.now spaces.now }
     requires there { slice_get table.now number ≡ Some (vertex_ref_view vertex) }
-    requires sized { length (S.tests set.now) ≡ length (space (problem inputs.now) (vertex_ref_view vertex)) }
+    requires sized { length (S.tests set.now) ≡ length (space (problem known.now) (vertex_ref_view vertex)) }
     ensures { IfOk result (λ t. spoken_view t ≡ at (vertex_ref_view vertex.entry)
-        (states_in (space (problem inputs.now) (vertex_ref_view vertex.entry)) (S.tests set.now))) }
+        (states_in (space (problem known.now) (vertex_ref_view vertex.entry)) (S.tests set.now))) }
 {
     let space = spaces.space(number)?;
     let states = chosen(alloc, &space.states, set)?;
@@ -54,23 +54,23 @@ fn speak<'p, 'a, S: States + Drop>(
 /// Puts one term at the end.
 fn push_spoken<'p, 'a, S: States + Drop>(
     alloc: Global,
-    inputs: &KnownProblem<'a>,
+    known: &KnownProblem<'a>,
     table: &Table<'a>,
     spaces: &'p Spaces<'a>,
     made: &mut Vec<Spoken<'p, 'a>>,
     term: &Term<S>,
 ) -> Result<(), AllocError>
-    requires listed { AreListed (problem inputs.now) table.now spaces.now }
+    requires listed { AreListed (problem known.now) table.now spaces.now }
     requires spelt { AreSpelt table.now spaces.now }
-    requires sized { length (S.tests term.now.states) ≡ sizes (problem inputs.now) table.now term.now.vertex }
+    requires sized { length (S.tests term.now.states) ≡ sizes (problem known.now) table.now term.now.vertex }
     ensures { OnOk result (spoken_views made.new.items ≡ spoken_views made.old.items
-        ++ with_term (problem inputs.now) (slice_get table.now term.now.vertex) (S.tests term.now.states) []) }
+        ++ with_term (problem known.now) (slice_get table.now term.now.vertex) (S.tests term.now.states) []) }
 {
     match table.vertex(term.vertex) {
         Some(vertex) => {
             let one = speak(
                 alloc,
-                inputs,
+                known,
                 table,
                 spaces,
                 term.vertex,
@@ -87,20 +87,20 @@ fn push_spoken<'p, 'a, S: States + Drop>(
 /// The terms of an incompatibility, in its order.
 pub(crate) fn spoken_terms<'p, 'a, S: States + Drop>(
     alloc: Global,
-    inputs: &KnownProblem<'a>,
+    known: &KnownProblem<'a>,
     table: &Table<'a>,
     spaces: &'p Spaces<'a>,
     terms: &[Term<S>],
 ) -> Result<Vec<Spoken<'p, 'a>>, AllocError>
-    requires listed { AreListed (problem inputs.now) table.now spaces.now }
+    requires listed { AreListed (problem known.now) table.now spaces.now }
     requires spelt { AreSpelt table.now spaces.now }
-    requires sized { AreSized (problem inputs.now) table.now (terms_view S.tests terms.now) }
+    requires sized { AreSized (problem known.now) table.now (terms_view S.tests terms.now) }
     ensures { IfOk result
-        (λ v. spoken_views v.items ≡ terms_of (problem inputs.now) table.now (terms_view S.tests terms.now)) }
+        (λ v. spoken_views v.items ≡ terms_of (problem known.now) table.now (terms_view S.tests terms.now)) }
 {
     let mut made = Vec::with_capacity(alloc, terms.len())?;
     'terms: for term in terms.iter() {
-        push_spoken(alloc, inputs, table, spaces, &mut made, term)?;
+        push_spoken(alloc, known, table, spaces, &mut made, term)?;
     }
     Ok(made)
 }

@@ -3,7 +3,6 @@
 ghost use Rattle.std.specs.Prelude.{◌≡◌, ◌++◌, ◌∷◌, [], OnOk, length};
 ghost use Rattle.incompatibilities.specs.Stores.{entries_view, entry};
 ghost use Rattle.model.specs.Derivation.{Step};
-ghost use Rattle.vertices.specs.Kinds.{kind_view, kind_at};
 ghost use Rattle.vertices.specs.Valid.{HasValidParts};
 ghost use Rattle.derivations.specs.Building.{AreNewTerms, ordered_terms};
 ghost use Rattle.derivations.specs.Named.{named_views};
@@ -69,7 +68,7 @@ fn push_by<'a>(
 /// Puts an entry's step at the end.
 pub(crate) fn push_step<'a, S: States + Drop>(
     alloc: Global,
-    inputs: &KnownProblem<'a>,
+    known: &KnownProblem<'a>,
     table: &Table<'a>,
     store: &Store<S>,
     places: &[usize],
@@ -77,21 +76,21 @@ pub(crate) fn push_step<'a, S: States + Drop>(
     steps: &mut Derivation,
     id: Id,
 ) -> Result<(), AllocError>
-    requires listed { AreListed (problem inputs.now) table.now spaces.old }
+    requires listed { AreListed (problem known.now) table.now spaces.old }
     requires spelt { AreSpelt table.now spaces.old }
-    requires parts { HasValidParts (problem inputs.now) }
-    requires numbering { IsNumbering (problem inputs.now) table.now }
-    requires next { IsNext (problem inputs.now) table.now (entries_view S.tests store.now)
+    requires parts { HasValidParts (problem known.now) }
+    requires numbering { IsNumbering (problem known.now) table.now }
+    requires next { IsNext (problem known.now) table.now (entries_view S.tests store.now)
         (place_in places.now) (length steps.old) id }
-    ensures listed { AreListed (problem inputs.now) table.now spaces.new }
+    ensures listed { AreListed (problem known.now) table.now spaces.new }
     ensures spelt { AreSpelt table.now spaces.new }
-    ensures step { OnOk result ((s : Step) × (steps.new ≡ steps.old ++ s ∷ []) × IsStepOf (problem inputs.now) table.now
+    ensures step { OnOk result ((s : Step) × (steps.new ≡ steps.old ++ s ∷ []) × IsStepOf (problem known.now) table.now
         (place_in places.now) (entry (entries_view S.tests store.now) id) s) }
 {
-    catalogues_are_well_formed(inputs.manifest, inputs.catalogue);
+    catalogues_are_well_formed(known.manifest, known.catalogue);
     let said = store.get(id).terms();
-    spaces.list_each(alloc, inputs, table, steps, said)?;
-    let terms = spoken_terms(alloc, inputs, table, spaces, said)?;
+    spaces.list_each(alloc, known, table, steps, said)?;
+    let terms = spoken_terms(alloc, known, table, spaces, said)?;
     let refs = named_terms(alloc, terms.as_slice())?;
     push_by(
         alloc,

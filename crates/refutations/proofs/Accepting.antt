@@ -2,6 +2,7 @@
 use Rattle.std.proofs.Common.{◌≡◌, ◌↔◌, ℕ, suc, List, [], ◌∷◌, ◌++◌, Bool, true, false, cond, Option, Some, None}
 use Rattle.std.proofs.Common.{slice_get, length, refl, sym, ap, ◌∙◌, subst, true≢false}
 use Rattle.std.specs.Option.{option_or}
+use Rattle.std.proofs.lemmas.List.{append-nil, append_assoc}
 use Rattle.std.proofs.lemmas.Option.{none-some}
 use Rattle.model.specs.Content.{Problem}
 use Rattle.model.specs.Axioms.{Term, AreApart}
@@ -12,7 +13,9 @@ use Rattle.refutations.proofs.Found.{instance-is}
 use Rattle.refutations.proofs.Sets.{is_combination-is}
 
 module _ (q : Problem) where
-  step-is : (earlier : List Step) (s : Step) → AreApart (terms_of s) → is_step q earlier s ≡ true → IsStep q earlier s
+  -- a step follows exactly where the test of it passes
+  pub step-is : (earlier : List Step) (s : Step) → AreApart (terms_of s) → is_step q earlier s ≡ true
+      → IsStep q earlier s
   step-is earlier (given k ts) apart h = (instance-is q k ts apart).0 h
   step-is earlier (combine i j v ts) apart h = by (slice_get earlier i) (slice_get earlier j) refl refl h
     where
@@ -22,25 +25,17 @@ module _ (q : Problem) where
       by (Some a) None e f h = absurd (true≢false (sym h))
       by None b e f h = absurd (true≢false (sym h))
 
-  to_step : (earlier : List Step) (s : Step) → AreApart (terms_of s) → IsStep q earlier s → is_step q earlier s ≡ true
+  pub to_step : (earlier : List Step) (s : Step) → AreApart (terms_of s) → IsStep q earlier s
+      → is_step q earlier s ≡ true
   to_step earlier (given k ts) apart h = (instance-is q k ts apart).1 h
   to_step earlier (combine i j v ts) apart (a, b, e, f, is) =
       (λ t. combines q v (e t) (f t) ts) ∙ (is_combination-is q v (terms_of a) (terms_of b) ts).1 is
 
   -- ---- the steps
 
-  append-one : (earlier : List Step) (s : Step) (steps : List Step)
-      → (earlier ++ s ∷ []) ++ steps ≡ earlier ++ s ∷ steps
-  append-one [] s steps = refl
-  append-one (e ∷ earlier) s steps = ap (λ l. e ∷ l) (append-one earlier s steps)
-
-  append-none : (earlier : List Step) → earlier ++ [] ≡ earlier
-  append-none [] = refl
-  append-none (e ∷ earlier) = ap (λ l. e ∷ l) (append-none earlier)
-
   steps-are : (earlier steps : List Step) → ArePlain steps → AreSteps q earlier → first_refused q earlier steps ≡ None
       → AreSteps q (earlier ++ steps)
-  steps-are earlier [] plain are e = subst (AreSteps q) (sym (append-none earlier)) are
+  steps-are earlier [] plain are e = subst (AreSteps q) (sym (append-nil earlier)) are
   steps-are earlier (s ∷ steps) plain are e =
       by (λ x f. steps-are (earlier ++ s ∷ []) steps plain.1 x f) (is_step q earlier s) refl e
     where
@@ -48,17 +43,17 @@ module _ (q : Problem) where
           → AreSteps q ((earlier ++ s ∷ []) ++ steps)) → (b : Bool) → is_step q earlier s ≡ b
           → cond b (first_refused q (earlier ++ s ∷ []) steps) (Some (length earlier, reason_of s)) ≡ None
           → AreSteps q (earlier ++ s ∷ steps)
-      by rest true t e = subst (AreSteps q) (append-one earlier s steps)
+      by rest true t e = subst (AreSteps q) (append_assoc earlier (s ∷ []) steps)
           (rest (one_more earlier s are (step-is earlier s plain.0 t)) e)
       by rest false t e = absurd (none-some (length earlier, reason_of s) (sym e))
 
   refused-snoc : (earlier before : List Step) (s : Step) → first_refused q earlier before ≡ None
       → is_step q (earlier ++ before) s ≡ true → first_refused q earlier (before ++ s ∷ []) ≡ None
   refused-snoc earlier [] s e h = let x : is_step q earlier s ≡ true =
-      subst (λ l. is_step q l s ≡ true) (append-none earlier) h in
+      subst (λ l. is_step q l s ≡ true) (append-nil earlier) h in
       ap (λ b. cond b None (Some (length earlier, reason_of s))) x
   refused-snoc earlier (b ∷ before) s e h = by (λ e. refused-snoc (earlier ++ b ∷ []) before s e
-      (subst (λ l. is_step q l s ≡ true) (sym (append-one earlier b before)) h)) (is_step q earlier b) e
+      (subst (λ l. is_step q l s ≡ true) (sym (append_assoc earlier (b ∷ []) before)) h)) (is_step q earlier b) e
     where
       by : (first_refused q (earlier ++ b ∷ []) before ≡ None
           → first_refused q (earlier ++ b ∷ []) (before ++ s ∷ []) ≡ None) → (t : Bool)

@@ -62,6 +62,62 @@ module _ (q : Problem) where
     | inr x ↦ inr (x.0, subst (HasEntry q name v f) x.1 h)
   ]
 
+  -- two dependencies, where a cause of `NewestListed` is there
+  pub record Overtaken (o : Owner) (i j : ℕ) (k m : Class) : Type 0 where
+    pub lesser : Dependency
+    pub greater : Dependency
+    pub lesser_there : dependency_at q o i ≡ Some lesser
+    pub greater_there : dependency_at q o j ≡ Some greater
+    pub apart : not (nat_eq i j) ≡ true
+    pub named : same_text lesser.real_name greater.real_name ≡ true
+    pub lesser_led : has_class q k lesser ≡ true
+    pub greater_led : has_class q m greater ≡ true
+    pub lower : is_lower k m ≡ true
+    pub higher : has_class q m lesser ≡ true
+
+  pub overtaken-there : (o : Owner) (i j : ℕ) (k m : Class) → is_cause q (of_newest o i j k m) ≡ true
+      → Overtaken o i j k m
+  overtaken-there o i j k m t =
+      let x = both (not (nat_eq i j))
+      (passes (λ d. passes (is_overtaken q k m d) (dependency_at q o j)) (dependency_at q o i)) t in
+      let r = passes-is (λ d. passes (is_overtaken q k m d) (dependency_at q o j)) (dependency_at q o i) x.1 in
+      let s = passes-is (is_overtaken q k m r.0) (dependency_at q o j) r.2 in
+      let a = both (same_text (r.0).real_name (s.0).real_name)
+      (has_class q k r.0 && (has_class q m s.0 && (is_lower k m && has_class q m r.0))) s.2 in
+      let b = both (has_class q k r.0) (has_class q m s.0 && (is_lower k m && has_class q m r.0)) a.1 in
+      let c = both (has_class q m s.0) (is_lower k m && has_class q m r.0) b.1 in
+      let e = both (is_lower k m) (has_class q m r.0) c.1 in
+      record {
+        lesser = r.0;
+        greater = s.0;
+        lesser_there = r.1;
+        greater_there = s.1;
+        apart = x.0;
+        named = a.0;
+        lesser_led = b.0;
+        greater_led = c.0;
+        lower = e.0;
+        higher = e.1;
+      }
+
+  -- the dependency, where a cause of `WeakFeature` is there
+  pub record Weakly (name : List ℕ) (v : Parts) (f g : List ℕ) (i : ℕ) (k : Class) : Type 0 where
+    pub called : Dependency
+    pub there : dependency_at q (version_of name v) i ≡ Some called
+    pub led : has_class q k called ≡ true
+    pub entry : has_entry q name v f (weak_feature called.name g) ≡ true
+    pub differs : not (same_vertex (feat name (class_of v) f) (feat called.real_name k g)) ≡ true
+
+  pub weakly-there : (name : List ℕ) (v : Parts) (f g : List ℕ) (i : ℕ) (k : Class)
+      → is_cause q (of_weak name v f g i k) ≡ true → Weakly name v f g i k
+  weakly-there name v f g i k t =
+      let r = passes-is (is_weak_on q name v f g k) (dependency_at q (version_of name v) i) t in
+      let a = both (has_class q k r.0) (has_entry q name v f (weak_feature (r.0).name g)
+      && not (same_vertex (feat name (class_of v) f) (feat (r.0).real_name k g))) r.2 in
+      let b = both (has_entry q name v f (weak_feature (r.0).name g))
+      (not (same_vertex (feat name (class_of v) f) (feat (r.0).real_name k g))) a.1 in
+      record { called = r.0; there = r.1; led = a.0; entry = b.0; differs = b.1 }
+
   -- A cause that is there gives rise to an instance of its kind.
   pub cause_instance : (c : Cause) → is_cause q c ≡ true → IsInstance q (kind_of c) (terms_of_cause q c)
   cause_instance of_root t = root_is
@@ -99,28 +155,17 @@ module _ (q : Problem) where
       feature_asks name v i r.0 f g (dep_owner q (version_of name v) i r.0 r.1)
       (has_entry-is q name v f (dependency_feature (r.0).name g) r.2)
   cause_instance (of_newest o i j k m) t =
-      let x = both (not (nat_eq i j))
-      (passes (λ d. passes (is_overtaken q k m d) (dependency_at q o j)) (dependency_at q o i)) t in
-      let r = passes-is (λ d. passes (is_overtaken q k m d) (dependency_at q o j)) (dependency_at q o i) x.1 in
-      let s = passes-is (is_overtaken q k m r.0) (dependency_at q o j) r.2 in
-      let a = both (same_text (r.0).real_name (s.0).real_name)
-      (has_class q k r.0 && (has_class q m s.0 && (is_lower k m && has_class q m r.0))) s.2 in
-      let b = both (has_class q k r.0) (has_class q m s.0 && (is_lower k m && has_class q m r.0)) a.1 in
-      let c = both (has_class q m s.0) (is_lower k m && has_class q m r.0) b.1 in
-      let e = both (is_lower k m) (has_class q m r.0) c.1 in
-      with_dep _ NewestListed o i r.0 r.1
-      (newest_listed o i j r.0 s.0 k m (nat-differs i j x.0) (dep_owner q o i r.0 r.1) (dep_owner q o j s.0 s.1)
-      (text-same (r.0).real_name (s.0).real_name a.0) (class-is q r.0 k b.0) (class-is q s.0 m c.0) e.0 e.1)
+      let p = overtaken-there o i j k m t in
+      with_dep _ NewestListed o i p.lesser p.lesser_there
+      (newest_listed o i j p.lesser p.greater k m (nat-differs i j p.apart) (dep_owner q o i p.lesser p.lesser_there)
+      (dep_owner q o j p.greater p.greater_there) (text-same (p.lesser).real_name (p.greater).real_name p.named)
+      (class-is q p.lesser k p.lesser_led) (class-is q p.greater m p.greater_led) p.lower p.higher)
   cause_instance (of_weak name v f g i k) t =
-      let r = passes-is (is_weak_on q name v f g k) (dependency_at q (version_of name v) i) t in
-      let a = both (has_class q k r.0) (has_entry q name v f (weak_feature (r.0).name g)
-      && not (same_vertex (feat name (class_of v) f) (feat (r.0).real_name k g))) r.2 in
-      let b = both (has_entry q name v f (weak_feature (r.0).name g))
-      (not (same_vertex (feat name (class_of v) f) (feat (r.0).real_name k g))) a.1 in
-      with_dep _ WeakFeature (version_of name v) i r.0 r.1
-      (weakly name v i r.0 k f g (dep_owner q (version_of name v) i r.0 r.1) (class-is q r.0 k a.0)
-      (has_entry-is q name v f (weak_feature (r.0).name g) b.0)
-      (vertex-differs (feat name (class_of v) f) (feat (r.0).real_name k g) b.1))
+      let p = weakly-there name v f g i k t in
+      with_dep _ WeakFeature (version_of name v) i p.called p.there
+      (weakly name v i p.called k f g (dep_owner q (version_of name v) i p.called p.there) (class-is q p.called k p.led)
+      (has_entry-is q name v f (weak_feature (p.called).name g) p.entry)
+      (vertex-differs (feat name (class_of v) f) (feat (p.called).real_name k g) p.differs))
 
   -- ---- the cause of each instance
 

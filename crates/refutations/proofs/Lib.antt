@@ -3,6 +3,9 @@ pub mod Sets
 pub mod Named
 pub mod CauseLaws
 pub mod Reading
+pub mod FoundTerms
+pub mod FoundNeeds
+pub mod FoundFeatures
 pub mod Found
 pub mod Accepting
 pub mod Listing

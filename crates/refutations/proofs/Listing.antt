@@ -11,9 +11,9 @@ use Rattle.model.specs.Summary.{Dependency, Entry, feature, dependency, dependen
 use Rattle.model.specs.Summary.{entries_at, has_feature, asked_of_target, same_text}
 use Rattle.model.specs.Content.{Problem, Candidate, candidates_of}
 use Rattle.model.specs.Selection.{Class, class_of}
-use Rattle.model.specs.Vertices.{Owner, the_root, version_of, feat, same_vertex, in_that_class, owner_brings}
+use Rattle.model.specs.Vertices.{Owner, the_root, version_of, in_that_class, owner_brings}
 use Rattle.model.specs.Vertices.{classes_of, class_candidates}
-use Rattle.model.specs.Axioms.{is_lower, IsOwner, HasEntry, HasFeatVertex, RootAsks}
+use Rattle.model.specs.Axioms.{IsOwner, HasEntry, HasFeatVertex, RootAsks}
 use Rattle.model.specs.Axioms.HasFeatVertex.{had, asked, by_entry}
 use Rattle.model.proofs.Gathered.{at_place}
 use Rattle.model.proofs.Lists.{in_none, in_cons, in_first, in_rest, in_filter, to_filter, to_map, any_of, all_none}
@@ -23,13 +23,14 @@ use Rattle.model.proofs.Same.{version-refl}
 use Rattle.model.proofs.Spaces.{class_in}
 use Rattle.refutations.specs.Causes.{Cause, of_root, of_need, of_target, of_feature, of_list, of_ask, of_entry}
 use Rattle.refutations.specs.Causes.{of_enabling, of_asking, of_newest, of_weak, same_entry, enables, passes, is_needed}
-use Rattle.refutations.specs.Causes.{dependency_at, has_class, has_entry, some_entry, lists_feature, is_overtaken}
-use Rattle.refutations.specs.Causes.{is_weak_on, entries_of, table_of_owner, owners, is_cause}
+use Rattle.refutations.specs.Causes.{dependency_at, has_class, has_entry, some_entry, lists_feature}
+use Rattle.refutations.specs.Causes.{entries_of, table_of_owner, owners, is_cause}
 use Rattle.refutations.specs.Listed.{once, same_cause, numbers, asked_by, names_in, numbers_of, classes_if, classes_at}
 use Rattle.refutations.specs.Listed.{asked_if, class_pool, dep_pool, entry_pool, turned_on, feature_pool, version_pool}
 use Rattle.refutations.specs.Listed.{owner_pool, entries_ask, asked_of_others, had_by, named_features, class_features}
 use Rattle.refutations.specs.Listed.{name_pool, causes}
 use Rattle.refutations.proofs.Bools.{in_append-left, in_append-right}
+use Rattle.refutations.proofs.CauseLaws.{overtaken-there, weakly-there}
 use Rattle.refutations.proofs.Named.{entry-same, passes-is, dep_owner, has_entry-is, some_entry-is, class-is, lists-is}
 use Rattle.refutations.proofs.Named.{feature-is, to_owners, to_entry, row_of, entry-refl}
 
@@ -371,32 +372,21 @@ module _ (q : Problem) where
       (of_asking name v f g i ∷ map (of_ask name v i g) (classes_at q (version_of name v) i))
       (in_first (of_asking name v f g i) (map (of_ask name v i g) (classes_at q (version_of name v) i))))
   pooled (of_newest o i j k m) t =
-      let x = both (not (nat_eq i j))
-      (passes (λ d. passes (is_overtaken q k m d) (dependency_at q o j)) (dependency_at q o i)) t in
-      let r = passes-is (λ d. passes (is_overtaken q k m d) (dependency_at q o j)) (dependency_at q o i) x.1 in
-      let s = passes-is (is_overtaken q k m r.0) (dependency_at q o j) r.2 in
-      let a = both (same_text (r.0).real_name (s.0).real_name)
-      (has_class q k r.0 && (has_class q m s.0 && (is_lower k m && has_class q m r.0))) s.2 in
-      let b = both (has_class q k r.0) (has_class q m s.0 && (is_lower k m && has_class q m r.0)) a.1 in
-      let c = both (has_class q m s.0) (is_lower k m && has_class q m r.0) b.1 in
-      of_class o i r.0 k (of_newest o i j k m) r.1 b.0
+      let p = overtaken-there q o i j k m t in
+      of_class o i p.lesser k (of_newest o i j k m) p.lesser_there p.lesser_led
       (in_rest (of_target o i k) (of_newest o i j k m) (map (of_list o i k) (asked_if q (dependency_at q o i))
       ++ flat_map (λ j. map (of_newest o i j k) (classes_at q o j)) (numbers_of q o))
       (in_append-right (map (of_list o i k) (asked_if q (dependency_at q o i)))
       (flat_map (λ j. map (of_newest o i j k) (classes_at q o j)) (numbers_of q o)) (of_newest o i j k m)
       (in_flat_map (λ j. map (of_newest o i j k) (classes_at q o j)) (numbers_of q o) j (of_newest o i j k m)
-      (in_numbers (owner_brings q o).dependencies j s.0 s.1)
-      (to_map (of_newest o i j k) (classes_at q o j) m (class_there o j s.0 m s.1 c.0)))))
+      (in_numbers (owner_brings q o).dependencies j p.greater p.greater_there)
+      (to_map (of_newest o i j k) (classes_at q o j) m (class_there o j p.greater m p.greater_there p.greater_led)))))
   pooled (of_weak name v f g i k) t =
-      let r = passes-is (is_weak_on q name v f g k) (dependency_at q (version_of name v) i) t in
-      let a = both (has_class q k r.0) (has_entry q name v f (weak_feature (r.0).name g)
-      && not (same_vertex (feat name (class_of v) f) (feat (r.0).real_name k g))) r.2 in
-      let b = both (has_entry q name v f (weak_feature (r.0).name g))
-      (not (same_vertex (feat name (class_of v) f) (feat (r.0).real_name k g))) a.1 in
-      of_entry_dep name v f (weak_feature (r.0).name g) i r.0 (of_weak name v f g i k)
-      (has_entry-is q name v f (weak_feature (r.0).name g) b.0) r.1
+      let p = weakly-there q name v f g i k t in
+      of_entry_dep name v f (weak_feature (p.called).name g) i p.called (of_weak name v f g i k)
+      (has_entry-is q name v f (weak_feature (p.called).name g) p.entry) p.there
       (to_map (of_weak name v f g i) (classes_at q (version_of name v) i) k
-      (class_there (version_of name v) i r.0 k r.1 a.0))
+      (class_there (version_of name v) i p.called k p.there p.led))
 
   -- A cause is listed exactly where it is there.
   pub listed-is : (c : Cause) → Contains (causes q) c ↔ (is_cause q c ≡ true)

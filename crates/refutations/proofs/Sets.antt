@@ -150,7 +150,8 @@ spoken-right a b w ss none e =
     (ap (λ o. not (is_some o)) none))) (vertex-refl w)
 
 module _ (q : Problem) (v : Vertex) (a b : List Term) where
-  silent : (w : Vertex) → states_at a w ≡ None → states_at b w ≡ None → combined_at q a b v w ≡ None
+  -- of a vertex of which neither speaks, it says nothing
+  pub silent : (w : Vertex) → states_at a w ≡ None → states_at b w ≡ None → combined_at q a b v w ≡ None
   silent w e f = by (same_vertex v w)
     where
       by : (t : Bool)

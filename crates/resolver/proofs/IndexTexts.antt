@@ -13,10 +13,10 @@ use Rattle.model.specs.Outcome.{◌>>=◌}
 use Rattle.model.specs.Summary as model
 use Rattle.model.specs.Summary.{same_text}
 use Rattle.features.specs.Names.{is_package_name}
-use Rattle.index_reader.specs.Lines.{Line, ShapeView, PartView, DependencyView, dev, part, data_of_bytes, needed}
-use Rattle.index_reader.specs.Lines.{value_at, text_at, text_of, flag_at, whole_at, texts_or_none, features_at}
-use Rattle.index_reader.specs.Lines.{optional, package_name_of, package_name_at, package_name_or_none, kind_at, is_dev}
-use Rattle.index_reader.specs.Lines.{part_of, dependency_of, dependencies_in, dependencies_at, shape_of}
+use Rattle.index_reader.specs.Shapes.{Line, ShapeView, PartView, DependencyView, dev, part, data_of_bytes, needed}
+use Rattle.index_reader.specs.Shapes.{value_at, text_at, text_of, flag_at, whole_at, texts_or_none, features_at}
+use Rattle.index_reader.specs.Shapes.{optional, package_name_of, package_name_at, package_name_or_none, kind_at, is_dev}
+use Rattle.index_reader.specs.Shapes.{part_of, dependency_of, dependencies_in, dependencies_at, shape_of}
 use Rattle.index_reader.specs.Records.{RecordView, unless, semver_or, required, dependency_read, dependencies_read}
 use Rattle.index_reader.specs.Records.{is_of_index, is_checksum, feature_names, unchecked_of_shape, unchecked_of_line}
 use Rattle.index_reader.specs.Written.{features_of}

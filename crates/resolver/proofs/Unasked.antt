@@ -1,14 +1,12 @@
 -- A folder with the same files for the names that a run asked for is read as that run's was.
-use Rattle.std.proofs.Common.{◌≡◌, ◌↔◌, ℕ, true, List, [], ◌∷◌, Contains, Option, Ok, refl, sym, ap, ◌∙◌, subst}
+use Rattle.std.proofs.Common.{◌≡◌, ℕ, true, List, [], ◌∷◌, Contains, Option, Ok, refl, sym, ap, ◌∙◌, subst}
 use Rattle.std.specs.List.{All}
 use Rattle.model.specs.Candidates.{RustVersion}
 use Rattle.model.proofs.Lists.{all_first, all_rest, to_map}
 use Rattle.index_reader.specs.Folders.{Files, MemoryCalls, file_at}
 use Rattle.index_reader.specs.Paths.{path_of}
 use Rattle.catalogue.specs.Loads.{IsLoaded, rust_for, store_of}
-use Rattle.catalogue.specs.Problems.{names_in}
 use Rattle.catalogue.specs.Runs.{Asked, Chain}
-use Rattle.catalogue.specs.Stores.{CatalogueView}
 use Rattle.catalogue.proofs.LawsIndexes.{chain-answers}
 use Rattle.catalogue.proofs.LawsLists.{all_in, at_in}
 use Rattle.vertices.proofs.Bound.{same-Ok}

@@ -5,11 +5,10 @@ use Rattle.model.specs.Content.{Content}
 use Rattle.model.specs.Outcome.{◌>>=◌}
 use Rattle.model.specs.Selection.{IsValidSelection}
 use Rattle.manifest.specs.Manifests.{ManifestView}
-use Rattle.index_reader.specs.Folders.{Files, MemoryCalls, file_at}
-use Rattle.index_reader.specs.Paths.{path_of}
+use Rattle.index_reader.specs.Folders.{Files, MemoryCalls}
 use Rattle.lockfile.specs.Locks.{content_of_bytes}
 use Rattle.catalogue.specs.Loads.{IsLoaded, rust_for}
-use Rattle.catalogue.specs.Problems.{IsRunOver, KeepsYanked, problem_in, problem_of as problem_of_run}
+use Rattle.catalogue.specs.Problems.{IsRunOver, KeepsYanked, problem_in}
 use Rattle.catalogue.specs.Stores.{CatalogueView}
 use Rattle.catalogue.specs.declared.store.Prefer.TheVariants.{Newest}
 use Rattle.catalogue.proofs.LawsIndexes.{run-over}

@@ -2,13 +2,12 @@
 
 ghost use Rattle.std.specs.Prelude.{◌≡◌, option_map};
 ghost use Rattle.std.specs.List.{list_all, zip};
-ghost use Rattle.semver.specs.Identifiers.{parts_of};
 ghost use Rattle.model.specs.Content.{same_version, same_option};
 ghost use Rattle.lockfile.specs.Views.{package_view, package_views};
 ghost use Rattle.resolver.specs.Same.{same_package, same_content};
 
+use classes::same_version;
 use lockfile::{LockContent, Package};
-use semver::Version;
 
 /// Whether two contents are the same.
 pub(crate) fn same_content(a: &LockContent, b: &LockContent) -> bool
@@ -38,12 +37,6 @@ fn same_package(a: &Package, b: &Package) -> bool
         && same_text(a.source(), b.source())
         && same_text(a.checksum(), b.checksum())
         && a.list.as_slice() == b.list.as_slice()
-}
-
-fn same_version(a: &Version, b: &Version) -> bool
-    ensures { result ≡ same_version (parts_of a.now) (parts_of b.now) }
-{
-    a == b
 }
 
 fn same_text(a: Option<&str>, b: Option<&str>) -> bool

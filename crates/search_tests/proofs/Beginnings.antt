@@ -13,7 +13,7 @@ use Rattle.propagation.proofs.SetLemmas.{has_some}
 use Rattle.propagation.proofs.Vertices.{in_range}
 use Rattle.searching.specs.Searching.{HasSpaces, Pairs}
 use Rattle.searching.specs.Turning.{HasEnded}
-use Rattle.searching.specs.Walking.{IsDecidedBut}
+use Rattle.searching.specs.Following.{IsDecidedBut}
 use Rattle.searching.specs.declared.turns.Answer.{Answer}
 use Rattle.searching.specs.declared.turns.Answer.TheVariants.{Selection, Unsolvable}
 use Rattle.searching.proofs.Selections.{not_broken}

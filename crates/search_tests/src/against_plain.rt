@@ -3,6 +3,7 @@
 
 ghost use Rattle.std.specs.Prelude.{◌≤◌};
 
+use crate::drawing::next;
 use crate::plain::{Bits, Found, Plain, open_term};
 use crate::trails::bits_at;
 use propagation::Progress;
@@ -10,11 +11,6 @@ use search_trials::Trial;
 use std::alloc::{AllocError, Global};
 use std::process::Abort;
 use version_sets::States;
-
-/// The next of a row of numbers that look random (a linear congruential generator).
-fn next(seed: u32) -> u32 {
-    seed.wrapping_mul(1_664_525).wrapping_add(1_013_904_223)
-}
 
 /// What is left to each vertex of a trail, as bits.
 fn left<S: States + Drop>(alloc: Global, trial: &Trial<S>) -> Result<Vec<u64>, AllocError> {

@@ -3,7 +3,6 @@
 
 ghost use Rattle.search_tests.specs.Demands.{AllFit, HasCome, HasOnly, IsAlone, IsPutOf};
 ghost use Rattle.search_tests.specs.Universes.{AreSmall, Refutes, universe_at};
-ghost use Rattle.incompatibilities.specs.Incompatibilities.{LiesIn, states_at};
 ghost use Rattle.incompatibilities.specs.Stores.{entries_view};
 ghost use Rattle.propagation.specs.Promises.{IsTrail};
 ghost use Rattle.propagation.specs.Trails.{set_of, trail_view};
@@ -246,7 +245,7 @@ impl<S: States + Drop> Guide<S> for Demanding<S> {
 
     ghost stored_on = { λ g es more was. was };
 
-    ghost walks = { λ g x. ⊥ };
+    ghost follows = { λ g x. ⊥ };
 
     ghost keeps = { λ old new. Unit {0} };
 

@@ -4,6 +4,7 @@ ghost use Rattle.incompatibilities.specs.Stores.{entries_view};
 ghost use Rattle.search_tests.specs.Universes.{AllLie, AreSmall};
 ghost use Rattle.std.specs.Prelude.{◌≤◌, IfOk, length};
 
+use crate::drawing::next;
 use crate::made_stores::{guide_of, put, written};
 use crate::preferring::search_from_full;
 use incompatibilities::{Id, Incompatibility, Store};
@@ -11,11 +12,6 @@ use searching::Answer;
 use std::alloc::{AllocError, Global};
 use std::test::Fail;
 use version_sets::{ListStates, States, WordStates};
-
-/// The next of a row of numbers that look random (a linear congruential generator).
-fn next(seed: u32) -> u32 {
-    seed.wrapping_mul(1_664_525).wrapping_add(1_013_904_223)
-}
 
 /// Puts one or two of three states of a vertex against those of a later one; a number draws them.
 fn put_drawn<S: States + Drop>(

@@ -13,6 +13,8 @@ mod deciding;
 #[cfg(test)]
 mod demanding;
 #[cfg(test)]
+mod drawing;
+#[cfg(test)]
 mod generated;
 #[cfg(test)]
 mod made_stores;

@@ -3,11 +3,11 @@
 
 ghost use Rattle.search_tests.specs.Universes.{AllDecided, AllLie, AreSmall, IsWithinAll, Prefers, Refutes, Selects};
 ghost use Rattle.incompatibilities.specs.Stores.{entries_view};
-ghost use Rattle.propagation.specs.Trails.{set_of, trail_view};
+ghost use Rattle.propagation.specs.Trails.{trail_view};
 ghost use Rattle.incompatibilities.specs.Incompatibilities.{Assignment};
 ghost use Rattle.propagation.specs.Satisfaction.{BreaksNone};
 ghost use Rattle.searching.specs.Counting.{combinations};
-ghost use Rattle.searching.specs.Walking.{IsSelection};
+ghost use Rattle.searching.specs.Following.{IsSelection};
 ghost use Rattle.std.specs.Prelude.{◌≡◌, ◌+◌, ◌<◌, ◌≤◌, IfOk, length, slice_index_or, true};
 ghost use Rattle.version_sets.specs.Sets.{has, size};
 
@@ -78,7 +78,7 @@ impl<S: States + Drop> Guide<S> for Preferring {
 
     ghost stored_on = { λ g es more was. was };
 
-    ghost walks = { λ g x. Prefers g.spaces.items g.states.items x };
+    ghost follows = { λ g x. Prefers g.spaces.items g.states.items x };
 
     ghost keeps = { λ old new. (new.spaces ≡ old.spaces) × (new.states ≡ old.states) };
 

@@ -2,6 +2,7 @@
 
 ghost use Rattle.std.specs.Prelude.{◌≡◌, ◌≤◌, IfOk, length};
 
+use search_trials::with_number;
 use std::alloc::{AllocError, Global};
 use std::process::Abort;
 use terms::{Relation, Term};
@@ -18,27 +19,9 @@ pub(crate) fn set_of<S: States + Drop>(
 {
     let mut set = S::empty(alloc, universe)?;
     'members: for member in members {
-        set = with_member(alloc, set, universe, *member)?;
+        set = with_number(alloc, set, universe, *member)?;
     }
     Ok(set)
-}
-
-/// The set with one number more, if that lies below the universe.
-fn with_member<S: States + Drop>(
-    alloc: Global,
-    set: S,
-    universe: u32,
-    member: u32,
-) -> Result<S, AllocError>
-    requires small { universe ≤ 65536 }
-    requires universe { length (S.tests set) ≡ universe }
-    ensures { IfOk result (λ s. length (S.tests s) ≡ universe) }
-{
-    if member >= universe {
-        return Ok(set);
-    }
-    let one = S::single(alloc, universe, member)?;
-    set.union(alloc, &one)
 }
 
 /// Writes down a set: its universe, how many numbers it has, and where its numbers begin and end. It is asked for the

@@ -3,7 +3,7 @@
 ghost use Rattle.incompatibilities.specs.Incompatibilities.{LiesIn, states_at};
 ghost use Rattle.incompatibilities.specs.declared.origin.Origin.TheVariants.{Combined};
 ghost use Rattle.search_tests.specs.Spaces.{space};
-ghost use Rattle.std.specs.Prelude.{◌≡◌, IfOk, length, true};
+ghost use Rattle.std.specs.Prelude.{◌≡◌, IfOk, true};
 ghost use Rattle.terms.specs.Terms.{terms_view};
 
 use crate::sets::{set_of, write_set};

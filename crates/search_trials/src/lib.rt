@@ -8,5 +8,5 @@
 mod terms_of;
 mod trial;
 
-pub use terms_of::of_bits;
+pub use terms_of::{of_bits, with_number};
 pub use trial::Trial;

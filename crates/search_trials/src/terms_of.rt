@@ -11,25 +11,21 @@ use std::alloc::{AllocError, Global};
 use terms::Term;
 use version_sets::States;
 
-/// A set with one number more, if that is asked for and lies below the universe.
-fn with_state<S: States + Drop>(
+/// A set with one number more, if that lies below the universe.
+pub fn with_number<S: States + Drop>(
     alloc: Global,
     set: S,
     universe: u32,
-    state: u32,
-    asked: bool,
+    number: u32,
 ) -> Result<S, AllocError>
     requires small { universe ≤ 65536 }
     requires universe { length (S.tests set) ≡ universe }
     ensures { IfOk result (λ s. length (S.tests s) ≡ universe) }
 {
-    if !asked {
+    if number >= universe {
         return Ok(set);
     }
-    if state >= universe {
-        return Ok(set);
-    }
-    let one = S::single(alloc, universe, state)?;
+    let one = S::single(alloc, universe, number)?;
     set.union(alloc, &one)
 }
 
@@ -40,7 +36,9 @@ pub fn of_bits<S: States + Drop>(alloc: Global, universe: u32, bits: u64) -> Res
 {
     let mut set = S::empty(alloc, universe)?;
     'states: for state in 0..universe {
-        set = with_state(alloc, set, universe, state, (bits >> (state % 64)) & 1 == 1)?;
+        if (bits >> (state % 64)) & 1 == 1 {
+            set = with_number(alloc, set, universe, state)?;
+        }
     }
     Ok(set)
 }

@@ -101,12 +101,12 @@ module _ (late : ℕ) (t : TrailView) (sound : IsSound t) where
 
   falling_at : (k : ℕ) → k ≤ length t.steps → IsFalling (start_of late t) late (up_to t k)
   falling_at zero le = record { first = omega arith; falls = λ l lt. absurd (omega (arith, lt)); top = refl }
-  falling_at (suc k) le = (step_by (start_of late t) k le (step_at t.steps k).cause
+  falling_at (suc k) le = (step_by (start_of late t) k le (step_at t.steps k).forced_by
       (next_level t.level k t.steps sound.levels le) (falling_at k (omega (arith, le)))).0
 
   pub each_falls : EachFalls late t
   each_falls k lt =
-      let fell = (step_by (start_of late t) k lt (step_at t.steps k).cause
+      let fell = (step_by (start_of late t) k lt (step_at t.steps k).forced_by
       (next_level t.level k t.steps sound.levels lt) (falling_at k (omega (arith, lt)))).1 in
       subst (λ n. space_in n late (up_to t (suc k)) < space late (up_to t k))
       (ap (λ (ss : List Members). total ss + late) (sym (start_at (suc k) lt)))

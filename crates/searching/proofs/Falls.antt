@@ -62,7 +62,7 @@ caught_same : (asked more : Pairs) (old new : TrailView) → new.level ≤ old.l
 caught_same asked more old new level same grows caught l lt v i within only =
     grows v i (subst (AllAsked asked) (sym (same l lt)) (caught l (omega (arith, lt, level))) v i within only)
 
--- AFTER A CONFLICT
+-- ---- after a conflict
 module _ (asked : Pairs) (left late : ℕ) (es : List EntryView) (old mid new : TrailView) (id back_to : ℕ)
     (l : IsLearned old es mid id back_to) (quiet : Quiet es old old.level) (next : Progress) (added : List StepView)
     (p : Propagated es mid new next added) where
@@ -156,7 +156,7 @@ turn_decide asked left fewer late es old mid new vertex state step next added wa
     ])
     (omega (arith, fell, few))
 
--- VERTICES AND AXIOMS COME
+-- ---- vertices and axioms come
 module _ (asked more : Pairs) (left fewer late later : ℕ) (old wide : TrailView) (old_es es : List EntryView)
     (went : Bool) (trail : IsTrail old_es old) (caught : IsCaught asked old)
     (a : IsAdding asked more left fewer late later old wide old_es es went) where
@@ -320,7 +320,7 @@ turn_axioms asked left fewer late es old new next added fall quiet caught less p
     (quiet_same es old new level same quiet) (caught_same asked asked old new level same (λ v i h. h) caught)
     (omega (arith, not_more, less))
 
--- THE START
+-- ---- the start: from a trail without assignments a propagation leads to a search
 pub first_turn : (late : ℕ) (es : List EntryView) (old new : TrailView) (next : Progress) (added : List StepView)
     (asked : Pairs) → IsTrail es old → old.steps ≡ [] → Propagated es old new next added → IsTrail es new
     → IsSearching late es new next × IsCaught asked new

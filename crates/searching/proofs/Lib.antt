@@ -3,7 +3,7 @@ pub mod Weights
 pub mod Ends
 pub mod Falls
 pub mod Seen
-pub mod Walks
+pub mod Following
 pub mod Selections
 pub mod Each
 pub mod Guides

@@ -9,7 +9,7 @@ use Rattle.propagation.specs.Satisfaction.{Agrees, IsQuiet, OthersHold}
 use Rattle.propagation.specs.Trails.{set_of}
 use Rattle.propagation.proofs.SetLemmas.{has_some, one_inside}
 use Rattle.propagation.proofs.Vertices.{in_range}
-use Rattle.searching.specs.Walking.{IsDecidedBut}
+use Rattle.searching.specs.Following.{IsDecidedBut}
 
 has_long : (s : Members) (i : ℕ) → has s i ≡ true → 0 < length s
 has_long [] i h = absurd (false≢true h)

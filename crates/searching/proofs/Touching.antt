@@ -2,12 +2,13 @@
 use Rattle.std.proofs.Common.{◌≡◌, ℕ, Bool, ◌<◌, ◌≤◌, ◌-◌, List, [], ◌++◌, length, true, true≢false, refl, sym, ap, ◌∙◌}
 use Rattle.std.proofs.Common.{subst, arith, inl, inr}
 use Rattle.std.proofs.lemmas.Bool.{cases_lt}
-use Rattle.std.proofs.lemmas.List.{get_or-append_right, get_or_append_left, get_or_past, length-append}
+use Rattle.std.proofs.lemmas.List.{get_or-append_right, get_or_past, length-append}
 use Rattle.incompatibilities.specs.Stores.{EntryView, IsAxiom, entry, touches}
 use Rattle.incompatibilities.specs.declared.origin.Origin.{Origin}
 use Rattle.incompatibilities.specs.declared.origin.Origin.TheVariants.{Axiom, Combined}
 use Rattle.propagation.specs.Trails.{TrailView}
 use Rattle.conflicts.specs.Resolving.{IsCombined, IsGained}
+use Rattle.conflicts.proofs.Growing.{entry_kept}
 use Rattle.searching.specs.Searching.{AreTouching}
 
 abbrev empty : EntryView
@@ -26,9 +27,6 @@ vertex_of (Combined i j v w) = v
 -- ---- what is gained
 
 module _ (old new gained : List EntryView) (grown : new ≡ old ++ gained) where
-  at_old : (id : ℕ) → id < length old → entry new id ≡ entry old id
-  at_old id lt = ap (λ (xs : List EntryView). entry xs id) grown ∙ get_or_append_left old gained empty id lt
-
   at_gained : (id : ℕ) → length old ≤ id → entry new id ≡ entry gained (id - length old)
   at_gained id ge =
       ap (λ (xs : List EntryView). entry xs id) grown ∙ get_or-append_right old gained (length old) id empty refl ge
@@ -44,8 +42,9 @@ module _ (old new gained : List EntryView) (grown : new ≡ old ++ gained) where
       ≡ Combined i j v w → touches v (entry new i).terms ≡ true) → AreTouching old → AreTouching new
   touching_more later was id i j v w within origin = elim (cases_lt id (length old)) [
     | inl lt ↦
-        let is = was id i j v w lt (sym (ap (λ (e : EntryView). e.origin) (at_old id lt)) ∙ origin) in
-        ap (λ (e : EntryView). touches v e.terms) (at_old i (is_there i v is)) ∙ is
+        let is = was id i j v w lt
+        (sym (ap (λ (e : EntryView). e.origin) (entry_kept old gained new grown id lt)) ∙ origin) in
+        ap (λ (e : EntryView). touches v e.terms) (entry_kept old gained new grown i (is_there i v is)) ∙ is
     | inr ge ↦ later id i j v w ge within origin
   ]
 

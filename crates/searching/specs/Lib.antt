@@ -2,4 +2,4 @@ pub mod Counting
 pub mod Measures
 pub mod Searching
 pub mod Turning
-pub mod Walking
+pub mod Following

@@ -15,7 +15,7 @@ pub trait Guide<S: States + Drop>: Sized {
     ghost use Rattle.propagation.specs.Trails.{TrailView, trail_view};
     ghost use Rattle.searching.specs.Searching.{AreMore, HasSpaces, IsCaught, IsSeen, Pairs};
     ghost use Rattle.searching.specs.Turning.{IsAdding, IsChosen};
-    ghost use Rattle.searching.specs.Walking.{AreGiven, KeepsWalks};
+    ghost use Rattle.searching.specs.Following.{AreGiven, KeepsFollowed};
     ghost use Rattle.std.specs.Prelude.{◌≡◌, ℕ, ◌<◌, ◌≤◌, ◌++◌, IfOk, IfSome, List, OnOk, length};
 
     /// How many states each vertex has that the trail has now.
@@ -46,7 +46,7 @@ pub trait Guide<S: States + Drop>: Sized {
     ghost stored_on: { (g : Self) (es more : List EntryView) → stored g es → stored g (es ++ more) };
 
     /// An assignment that breaks no axiom, and whose states are decided, as far as the vertices go that there are now.
-    ghost walks: { Self → Assignment → Type 0 };
+    ghost follows: { Self → Assignment → Type 0 };
 
     /// What a guide keeps of an earlier one, as the table to which its numbers belong.
     ghost keeps: { Self → Self → Type 0 };
@@ -76,21 +76,21 @@ pub trait Guide<S: States + Drop>: Sized {
             → AreGiven (given self.new) (entries_view S.tests store.new)) }
         ensures stored { IfOk result (λ added. stored self.old (entries_view S.tests store.old)
             → stored self.new (entries_view S.tests store.new)) }
-        ensures walks { IfOk result
-            (λ added. KeepsWalks (walks self.old) (entries_view S.tests store.old) (trail_view S.tests trail.old)
-            (walks self.new) (entries_view S.tests store.new) (trail_view S.tests trail.new)) };
+        ensures follows { IfOk result
+            (λ added. KeepsFollowed (follows self.old) (entries_view S.tests store.old) (trail_view S.tests trail.old)
+            (follows self.new) (entries_view S.tests store.new) (trail_view S.tests trail.new)) };
 
     /// A vertex to decide and its state, if there is one to be decided.
     fn choose(&self, trail: &Trail<S>) -> Result<Option<(usize, u32)>, AllocError>
         requires { HasSpaces (spaces self.now) (trail_view S.tests trail.now) }
         ensures chosen { IfOk result
             (λ o. IsChosen (done self.now (trail_view S.tests trail.now)) (trail_view S.tests trail.now) o) }
-        ensures walks { IfOk result (λ o. IfSome o (λ d. (x : Assignment) → walks self.now x
+        ensures follows { IfOk result (λ o. IfSome o (λ d. (x : Assignment) → follows self.now x
             → Agrees x (trail_view S.tests trail.now).sets → x d.0 ≡ d.1)) };
 
     /// Tells that a conflict was resolved, and the trail cut, before what was learned is propagated. `learned` is
-    /// `conflict` or the combination of an entry with a cause, or with what holds at level 0; that entry is again
-    /// `conflict` or such a combination.
+    /// `conflict` or the combination of an entry with what forced its satisfier, or with what holds at level 0; that
+    /// entry is again `conflict` or such a combination.
     ///
     /// What is kept of it may change what is chosen. The vertices stay, and so does how many pairs are left; fewer
     /// places may count as looked at.
@@ -115,5 +115,5 @@ pub trait Guide<S: States + Drop>: Sized {
         ensures keeps { OnOk result (keeps self.old self.new) }
         ensures given { OnOk result ((e : EntryView) → given self.old e → given self.new e) }
         ensures stored { OnOk result ((es : List EntryView) → stored self.old es → stored self.new es) }
-        ensures walks { OnOk result ((x : Assignment) → walks self.new x → walks self.old x) };
+        ensures follows { OnOk result ((x : Assignment) → follows self.new x → follows self.old x) };
 }

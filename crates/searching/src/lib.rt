@@ -14,8 +14,8 @@
 //! pair that stands alone asked for; or with an entry without terms, which follows from the axioms. What the guide
 //! knows of the axioms in the store (`given`, `stored`) holds at the end, since the store only grows, and each
 //! combination is at a vertex at which the first of its two entries has a term (`AreTouching`), so at one that has a
-//! number. Where the guide decides as an assignment that breaks no axiom does (`walks`), the search doesn't end with a
-//! refutation.
+//! number. Where the guide decides as an assignment that breaks no axiom does (`follows`), the search doesn't end with
+//! a refutation.
 #![tactic(auto)]
 
 mod guide;

@@ -8,7 +8,7 @@ ghost use Rattle.propagation.specs.declared.propagating.Progress.TheVariants.{Co
 ghost use Rattle.searching.specs.Counting.{CountsOn, IsCount};
 ghost use Rattle.searching.specs.Searching.{AreTouching, EachFalls, HasSpaces, IsCaught, IsSearching, IsSeen, space};
 ghost use Rattle.searching.specs.Turning.{HasEnded, HasTurned};
-ghost use Rattle.searching.specs.Walking.{AreGiven, IsSelection, IsWalked, KeepsWalks, TurnsOn};
+ghost use Rattle.searching.specs.Following.{AreGiven, IsLeft, IsSelection, KeepsFollowed, TurnsOn};
 ghost use Rattle.std.specs.Prelude.{◌≡◌, ℕ, ◌+◌, ◌<◌, ◌≤◌, ◌⊎◌, [], IfOk};
 
 use crate::guide::Guide;
@@ -92,11 +92,11 @@ fn turn_back<S: States + Drop, G: Guide<S>>(
         → G.stored guide.new (entries_view S.tests store.new)) }
     ensures touching { IfOk result
         (λ r. AreTouching (entries_view S.tests store.old) → AreTouching (entries_view S.tests store.new)) }
-    ensures walks { IfOk result
-        (λ r. KeepsWalks (G.walks guide.old) (entries_view S.tests store.old) (trail_view S.tests trail.old)
-        (G.walks guide.new) (entries_view S.tests store.new) (trail_view S.tests trail.new)) }
+    ensures follows { IfOk result
+        (λ r. KeepsFollowed (G.follows guide.old) (entries_view S.tests store.old) (trail_view S.tests trail.old)
+        (G.follows guide.new) (entries_view S.tests store.new) (trail_view S.tests trail.new)) }
     ensures turns { IfOk result
-        (λ r. TurnsOn (G.walks guide.new) (entries_view S.tests store.old) (trail_view S.tests trail.old) r) }
+        (λ r. TurnsOn (G.follows guide.new) (entries_view S.tests store.old) (trail_view S.tests trail.old) r) }
 {
     let before = store.len();
     let outcome = resolve_conflict(alloc, trail, store, table, id)?;
@@ -137,11 +137,11 @@ fn turn_on<S: States + Drop, G: Guide<S>>(
         → G.stored guide.new (entries_view S.tests store.new)) }
     ensures touching { IfOk result
         (λ r. AreTouching (entries_view S.tests store.old) → AreTouching (entries_view S.tests store.new)) }
-    ensures walks { IfOk result
-        (λ r. KeepsWalks (G.walks guide.old) (entries_view S.tests store.old) (trail_view S.tests trail.old)
-        (G.walks guide.new) (entries_view S.tests store.new) (trail_view S.tests trail.new)) }
+    ensures follows { IfOk result
+        (λ r. KeepsFollowed (G.follows guide.old) (entries_view S.tests store.old) (trail_view S.tests trail.old)
+        (G.follows guide.new) (entries_view S.tests store.new) (trail_view S.tests trail.new)) }
     ensures turns { IfOk result
-        (λ r. TurnsOn (G.walks guide.new) (entries_view S.tests store.old) (trail_view S.tests trail.old) r) }
+        (λ r. TurnsOn (G.follows guide.new) (entries_view S.tests store.old) (trail_view S.tests trail.old) r) }
 {
     // Axioms first: where none is left to ask for and nothing to decide, that is a selection.
     if guide.axioms(trail, store)? {
@@ -185,11 +185,11 @@ fn one_turn<S: States + Drop, G: Guide<S>>(
         → G.stored guide.new (entries_view S.tests store.new)) }
     ensures touching { IfOk result
         (λ r. AreTouching (entries_view S.tests store.old) → AreTouching (entries_view S.tests store.new)) }
-    ensures walks { IfOk result
-        (λ r. KeepsWalks (G.walks guide.old) (entries_view S.tests store.old) (trail_view S.tests trail.old)
-        (G.walks guide.new) (entries_view S.tests store.new) (trail_view S.tests trail.new)) }
+    ensures follows { IfOk result
+        (λ r. KeepsFollowed (G.follows guide.old) (entries_view S.tests store.old) (trail_view S.tests trail.old)
+        (G.follows guide.new) (entries_view S.tests store.new) (trail_view S.tests trail.new)) }
     ensures turns { IfOk result
-        (λ r. TurnsOn (G.walks guide.new) (entries_view S.tests store.old) (trail_view S.tests trail.old) r) }
+        (λ r. TurnsOn (G.follows guide.new) (entries_view S.tests store.old) (trail_view S.tests trail.old) r) }
 {
     match progress {
         Progress::Conflict(id) => turn_back(alloc, guide, trail, store, table, steps, id),
@@ -226,11 +226,11 @@ pub fn search<S: States + Drop, G: Guide<S>>(
         → G.stored guide.new (entries_view S.tests store.new)) }
     ensures touching { IfOk result
         (λ r. AreTouching (entries_view S.tests store.old) → AreTouching (entries_view S.tests store.new)) }
-    ensures walks { IfOk result
-        (λ r. KeepsWalks (G.walks guide.old) (entries_view S.tests store.old) (trail_view S.tests trail.old)
-        (G.walks guide.new) (entries_view S.tests store.new) (trail_view S.tests trail.new)) }
-    ensures selects { IfOk result (λ f. (x : Assignment) → G.walks guide.new x
-        → IsWalked x (entries_view S.tests store.old) (trail_view S.tests trail.old) → IsSelection f.answer) }
+    ensures follows { IfOk result
+        (λ r. KeepsFollowed (G.follows guide.old) (entries_view S.tests store.old) (trail_view S.tests trail.old)
+        (G.follows guide.new) (entries_view S.tests store.new) (trail_view S.tests trail.new)) }
+    ensures selects { IfOk result (λ f. (x : Assignment) → G.follows guide.new x
+        → IsLeft x (entries_view S.tests store.old) (trail_view S.tests trail.old) → IsSelection f.answer) }
 {
     let mut steps = 0;
     let mut table = StandIns::new(alloc);

@@ -16,7 +16,7 @@ use Rattle.selection.specs.Graphs.{targets_in, node_of, graph_of, is_known, are_
 use Rattle.selection.specs.Places.{AreMet, IsLedTo, IsChecked, Lacks, content_in, AreFindings}
 use Rattle.selection.specs.declared.findings.Findings.{Findings}
 use Rattle.lockfile.specs.Views.{package_view}
-use Rattle.lockfile.specs.declared.locked.Package as code
+use Rattle.lockfile.specs.declared.package.Package as code
 use Rattle.selection.specs.declared.checked.Checked.{Checked}
 
 both_ways : {A B C : Type 0} → A ↔ B → B ↔ C → A ↔ C

@@ -1,54 +1,20 @@
 -- The candidate that a package is, in a loaded index, is the one that is meant where a selection is held against that
 -- index.
-use Rattle.std.proofs.Common.{◌≡◌, ℕ, Bool, true, false, cond, ◌||◌, List, [], ◌∷◌, map, Option, Some, None, option_map}
-use Rattle.std.proofs.Common.{option_and_then, unwrap_or, is_some, refl, sym, ap, ◌∙◌, subst}
+use Rattle.std.proofs.Common.{◌≡◌, ℕ, Bool, true, false, cond, ◌||◌, List, Option, Some, None, option_map}
+use Rattle.std.proofs.Common.{option_and_then, is_some, refl, sym, ap, ◌∙◌, subst}
 use Rattle.std.specs.Borrow.{Bor}
 use Rattle.std.proofs.lemmas.Option.{none-some, same_Some}
-use Rattle.semver.specs.Parse.{Parts}
-use Rattle.model.specs.Summary.{same_text}
-use Rattle.model.specs.Content.{Candidate, Package, Problem, same_version, same_option, candidates_of, candidate_at}
+use Rattle.model.specs.Content.{Candidate, Package, Problem, same_option, candidates_of, candidate_at}
 use Rattle.model.specs.Content.{candidate_of, if_checksum, brings_of, is_root, summary_of}
 use Rattle.model.specs.Candidates.{Record, as_candidate}
 use Rattle.features.specs.Views.{summary_view, brings_view}
 use Rattle.features.specs.declared.dependency.Summary.{Summary}
 use Rattle.manifest.specs.Manifests.{ManifestView}
 use Rattle.catalogue.specs.Problems.{problem_in}
-use Rattle.catalogue.specs.Ranks.{records}
-use Rattle.catalogue.specs.Stores.{CatalogueView, Row, row_at, candidates_at, record_at, rows_by_name}
+use Rattle.catalogue.specs.Stores.{CatalogueView, candidates_at, record_at, rows_by_name}
 use Rattle.catalogue.specs.Views.{Said, said}
+use Rattle.catalogue.proofs.Lookups.{candidate_found}
 use Rattle.selection.specs.Graphs.{is_known}
-
--- the candidates of a name
-rows_found : (rows : List Row) (name : List ℕ)
-    → candidates_of (map (λ row. (row.0, map as_candidate (records row.1))) rows) name
-    ≡ map as_candidate (records (unwrap_or (row_at rows name) []))
-rows_found [] name = refl
-rows_found (row ∷ rows) name = by (same_text name row.0) (rows_found rows name)
-  where
-    by : (b : Bool) → candidates_of (map (λ row. (row.0, map as_candidate (records row.1))) rows) name
-        ≡ map as_candidate (records (unwrap_or (row_at rows name) []))
-        → cond b (map as_candidate (records row.1))
-        (candidates_of (map (λ row. (row.0, map as_candidate (records row.1))) rows) name)
-        ≡ map as_candidate (records (unwrap_or (cond b (Some row.1) (row_at rows name)) []))
-    by true rest = refl
-    by false rest = rest
-
--- the candidate of a version
-version_found : (rs : List Record) (v : Parts)
-    → candidate_at (map as_candidate rs) v ≡ option_map as_candidate (record_at rs v)
-version_found [] v = refl
-version_found (r ∷ rs) v = by (same_version v r.version) (version_found rs v)
-  where
-    by : (b : Bool) → candidate_at (map as_candidate rs) v ≡ option_map as_candidate (record_at rs v)
-        → cond b (Some (as_candidate r)) (candidate_at (map as_candidate rs) v)
-        ≡ option_map as_candidate (cond b (Some r) (record_at rs v))
-    by true rest = refl
-    by false rest = rest
-
-candidate_found : (c : CatalogueView) (name : List ℕ) (v : Parts) → candidate_at (candidates_of (rows_by_name c) name) v
-    ≡ option_map as_candidate (record_at (candidates_at c name) v)
-candidate_found c name v =
-    ap (λ cs. candidate_at cs v) (rows_found c.rows name) ∙ version_found (candidates_at c name) v
 
 -- of the run's source
 pub of_source : (c : CatalogueView) (m : ManifestView) (p : Package) → same_option p.source (Some c.source) ≡ true

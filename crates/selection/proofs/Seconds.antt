@@ -20,7 +20,7 @@ use Rattle.model.proofs.Lists.{pairs_get}
 use Rattle.model.proofs.Orders.{class_above}
 use Rattle.model.proofs.Same.{both, text-same, text-refl, class-same, class-refl}
 use Rattle.lockfile.specs.Views.{package_view, package_views}
-use Rattle.lockfile.specs.declared.locked.Package as code
+use Rattle.lockfile.specs.declared.package.Package as code
 use Rattle.selection.specs.Graphs.{IsOnlyRoot}
 use Rattle.selection.specs.Names.{is_like}
 

@@ -3,14 +3,12 @@
 ghost use Rattle.std.specs.Prelude.{◌≡◌, ◌↔◌, ◌<◌, ◌≤◌, ◌≢◌, ℕ, length, false, MatchOption};
 ghost use Rattle.model.specs.Content.{Problem};
 ghost use Rattle.model.specs.Verdict.{IsFreeOf, two_in_class};
-ghost use Rattle.model.specs.Vertices.{same_class};
 ghost use Rattle.model.specs.WellFormed.{IsContent};
 ghost use Rattle.lockfile.specs.Views.{package_view, package_views};
-ghost use Rattle.classes.specs.Classes.{class_view};
 ghost use Rattle.selection.specs.Graphs.{IsOnlyRoot};
 ghost use Rattle.selection.specs.Names.{is_like};
 
-use classes::Class;
+use classes::{Class, same_class};
 use lockfile::Package;
 
 /// Whether the package at a place isn't the root, and an earlier one other than the root has its name and class: in
@@ -50,11 +48,5 @@ pub fn place_before(root: usize, at: usize) -> Option<usize>
 pub fn is_like(a: &Package, b: &Package) -> bool
     ensures { result ≡ is_like (package_view a.now) (package_view b.now) }
 {
-    a.name == b.name && is_same_class(Class::of(&a.version), Class::of(&b.version))
-}
-
-fn is_same_class(a: Class, b: Class) -> bool
-    ensures { result ≡ same_class (class_view a) (class_view b) }
-{
-    a == b
+    a.name == b.name && same_class(&Class::of(&a.version), &Class::of(&b.version))
 }

@@ -1,33 +1,14 @@
 //! What the enabled dependencies of one package say.
 
-ghost use Rattle.std.specs.Prelude.{◌≡◌, ◌↔◌, ◌<◌, ℕ, true, map, slice_get, unwrap_or, [], IfOk, OnOk, Contains, ◌&&◌};
+ghost use Rattle.std.specs.Prelude.{◌≡◌, ◌↔◌, ◌<◌, ℕ, true, slice_get, IfOk, OnOk, Contains, ◌&&◌};
 ghost use Rattle.std.specs.BTreeSet.{contains};
 ghost use Rattle.std.specs.Ordering.{nat_cmp};
 ghost use Rattle.facts.specs.Graphs.{flag_at};
 ghost use Rattle.selection.specs.Places.{AreMet, IsLedTo, is_missing, enabled_target, with_target};
 
+use facts::flag;
 use std::alloc::{AllocError, Global};
 use std::collections::BTreeSet;
-
-/// Whether there is a flag at a place.
-pub fn flag(flags: &[bool], at: usize) -> bool
-    ensures { result ≡ flag_at flags.now at }
-{
-    match flags.get(at) {
-        Some(flag) => *flag,
-        None => false,
-    }
-}
-
-/// The flags at a place of lists of them.
-pub fn flags(lists: &[Vec<bool>], at: usize) -> &[bool]
-    ensures { result.now ≡ unwrap_or (slice_get (map (λ v. v.items) lists.now) at) [] }
-{
-    match lists.get(at) {
-        Some(list) => list.as_slice(),
-        None => &[],
-    }
-}
 
 /// Whether each enabled dependency has a target.
 pub(crate) fn are_met(enabled: &[bool], targets: &[Option<usize>]) -> bool

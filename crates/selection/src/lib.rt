@@ -10,14 +10,12 @@
 //!
 //! A layer above may rely on this: `verify` says `Valid` exactly where the content is a valid selection; else it gives
 //! the first package, in package order, with its lowest fault (`IsVerdict`, in `model`). `findings_of` gives what all
-//! of
-//! this goes by, for those who tell more than the first fault.
+//! of this goes by, for those who tell more than the first fault.
 #![tactic(auto)]
 
 mod checked;
 mod classes_once;
 mod enabled;
-mod faults;
 mod findings;
 mod nodes;
 mod reached;
@@ -28,8 +26,8 @@ mod verdict;
 mod verifying;
 
 pub use classes_once::{is_like, place_before};
-pub use enabled::{flag, flags, lacks_target, places_led_to};
-pub use findings::Findings;
+pub use enabled::{lacks_target, places_led_to};
+pub use findings::{Findings, findings_of};
 pub use targets::target;
 pub use verdict::{Verdict, VerdictFault};
-pub use verifying::{findings_of, verify};
+pub use verifying::verify;

@@ -12,7 +12,6 @@ use crate::summaries::summary_of;
 use crate::targets::targets;
 use catalogue::Catalogue;
 use facts::Node;
-use features::{Dependency, Summary};
 use lockfile::Package;
 use manifest::Manifest;
 use std::alloc::{AllocError, Global};

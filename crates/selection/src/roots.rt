@@ -1,10 +1,9 @@
 //! The place of the root.
 
-ghost use Rattle.std.specs.Prelude.{◌≡◌, ◌<◌, length, MatchOption, false};
-ghost use Rattle.std.specs.List.{All};
+ghost use Rattle.std.specs.Prelude.{◌<◌, length, MatchOption};
 ghost use Rattle.model.specs.Content.{is_root};
 ghost use Rattle.model.specs.WellFormed.{IsContent};
-ghost use Rattle.lockfile.specs.Views.{package_view, package_views};
+ghost use Rattle.lockfile.specs.Views.{package_views};
 ghost use Rattle.catalogue.specs.Problems.{problem_in};
 ghost use Rattle.catalogue.specs.Stores.{CatalogueView};
 ghost use Rattle.selection.specs.Graphs.{IsOnlyRoot, HasNoRoot};

@@ -1,8 +1,7 @@
 //! What each package of a lock brings.
 
 ghost use Rattle.std.specs.Prelude.{◌≡◌, Some, option_map, is_some};
-ghost use Rattle.semver.specs.Identifiers.{parts_of};
-ghost use Rattle.model.specs.Content.{is_root, candidate_of, summary_of, same_option, same_version};
+ghost use Rattle.model.specs.Content.{is_root, candidate_of, summary_of, same_option};
 ghost use Rattle.features.specs.Views.{summary_view, brings_view};
 ghost use Rattle.lockfile.specs.Views.{package_view};
 ghost use Rattle.manifest.specs.Manifests.{ManifestView};
@@ -11,10 +10,10 @@ ghost use Rattle.catalogue.specs.Stores.{CatalogueView};
 ghost use Rattle.selection.specs.Graphs.{is_known};
 
 use catalogue::Catalogue;
+use classes::same_version;
 use features::Summary;
 use lockfile::Package;
 use manifest::Manifest;
-use semver::Version;
 
 /// Whether a package is the root: the one without a source that has the manifest's name and version.
 pub(crate) fn is_root(manifest: &Manifest, locked: &Package) -> bool
@@ -22,14 +21,7 @@ pub(crate) fn is_root(manifest: &Manifest, locked: &Package) -> bool
 {
     locked.source.is_none()
         && *manifest.name() == locked.name
-        && is_same(manifest.version(), &locked.version)
-}
-
-/// Whether two versions are the same, by their whole texts.
-fn is_same(a: &Version, b: &Version) -> bool
-    ensures { result ≡ same_version (parts_of a.now) (parts_of b.now) }
-{
-    a == b
+        && same_version(manifest.version(), &locked.version)
 }
 
 /// What a package brings that is the root or a candidate.

@@ -12,7 +12,6 @@ ghost use Rattle.selection.specs.Names.{name_cmp};
 use classes::is_matched;
 use features::Dependency;
 use lockfile::Package;
-use semver::{Version, VersionReq};
 use std::alloc::{AllocError, Global};
 use std::cmp::Ordering;
 

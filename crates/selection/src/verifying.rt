@@ -1,21 +1,22 @@
 //! The verdict: the first package, in package order, with its lowest fault.
 
-ghost use Rattle.std.specs.Prelude.{◌≡◌, ◌↔◌, IfOk};
+ghost use Rattle.std.specs.Prelude.{◌≡◌, ◌↔◌, length, IfOk};
+ghost use Rattle.semver.specs.Identifiers.{parts_of};
+ghost use Rattle.model.specs.Content.{Problem};
 ghost use Rattle.model.specs.Selection.{IsValidSelection};
+ghost use Rattle.model.specs.WellFormed.{IsContent};
 ghost use Rattle.catalogue.specs.Problems.{problem_in};
-ghost use Rattle.selection.specs.Places.{AreFound};
-ghost use Rattle.selection.specs.Verdicts.{IsVerdictOn};
+ghost use Rattle.selection.specs.Places.{content_in, AreFindings};
+ghost use Rattle.selection.specs.Verdicts.{IsFaultOf, IsVerdictOn};
 
-use crate::faults::{invalid, verdict_by};
-use crate::findings::Findings;
-use crate::nodes::nodes;
-use crate::reached::reached;
-use crate::roots::root_of;
+use crate::checked::{checked_at, lowest};
+use crate::findings::{Findings, findings_of};
 use crate::verdict::{Verdict, VerdictFault};
 use catalogue::Catalogue;
-use facts::facts_of;
+use features::PackageName;
 use lockfile::LockContent;
 use manifest::Manifest;
+use semver::Version;
 use std::alloc::{AllocError, Global};
 
 /// Whether a content is a valid selection of the manifest and the candidates; if not, what is wrong first.
@@ -38,27 +39,34 @@ pub fn verify(
     }
 }
 
-/// What is found of a content, if it has a root package. The only error is want of memory.
-pub fn findings_of<'a>(
-    alloc: Global,
-    manifest: &'a Manifest,
-    catalogue: &'a Catalogue,
-    content: &'a LockContent,
-) -> Result<Option<Findings<'a>>, AllocError>
-    ensures { IfOk result (AreFound (problem_in manifest.entry.now catalogue.entry.now) content.entry.now) }
+/// The verdict, by what is found.
+fn verdict_by(alloc: Global, findings: &Findings<'_>) -> Result<Verdict, AllocError>
+    requires content { IsContent (content_in findings.now) }
+    requires beside { length findings.now.nodes.items ≡ length findings.now.content.now }
+    ensures { IfOk result
+        (λ v. (q : Problem) → AreFindings q findings.now → IsVerdictOn q (content_in findings.now) v) }
 {
-    let content = content.packages();
-    let Some(root) = root_of(manifest, content) else {
-        return Ok(None);
-    };
-    let nodes = nodes(alloc, manifest, catalogue, content)?;
-    let facts = facts_of(alloc, &nodes, root)?;
-    let reached = reached(alloc, content, root)?;
-    Ok(Some(Findings {
-        content,
-        root,
-        nodes,
-        facts,
-        reached,
-    }))
+    'places: for at in 0..findings.content.len() {
+        let checked = checked_at(alloc, findings, at)?;
+        if let Some(fault) = lowest(checked) {
+            let package = &findings.content[at];
+            return invalid(fault, &package.name, &package.version);
+        }
+    }
+    Ok(Verdict::Valid)
+}
+
+/// A fault at a package.
+fn invalid(
+    fault: VerdictFault,
+    name: &PackageName,
+    version: &Version,
+) -> Result<Verdict, AllocError>
+    ensures { IfOk result (IsFaultOf fault name.now (parts_of version.now)) }
+{
+    Ok(Verdict::Invalid {
+        fault,
+        name: name.clone()?,
+        version: version.clone()?,
+    })
 }

@@ -2,13 +2,11 @@
 use Rattle.std.proofs.Common.{◌≡◌, ℕ, List, [], Option, Some, None, IfSome, is_some, true, false, ap, sym, subst, inl}
 use Rattle.std.proofs.Common.{inr}
 use Rattle.model.specs.Content.{Candidate, Content, Problem}
-use Rattle.model.specs.Selection.{IsValidSelection}
 use Rattle.model.specs.Walk.{IsWalk}
 use Rattle.guiding.specs.Guides.{CanFollow}
 use Rattle.reaching.specs.Built.{HasBareRoot}
-use Rattle.reaching.specs.Followed.{IsBrought}
 use Rattle.walks.specs.Preferred.{Answers}
-use Rattle.solver.specs.Solving.{IsAnswer, IsFound, IsSelected, IsSolved, derivation_of}
+use Rattle.solver.specs.Solving.{IsAnswer, IsFound, IsSolved, derivation_of}
 use Rattle.solver.specs.declared.solving.Outcome.{Outcome}
 use Rattle.solver.specs.declared.solving.Outcome.TheVariants.{Selection, Unsolvable}
 

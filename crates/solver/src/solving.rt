@@ -9,7 +9,7 @@ ghost use Rattle.encoding.specs.Numberings.{IsNumbering};
 ghost use Rattle.propagation.specs.Trails.{trail_view};
 ghost use Rattle.refusing.specs.Refusing.{HasNoMore, axioms_of, combinations_of};
 ghost use Rattle.searching.specs.Searching.{AreTouching, IsRefutation};
-ghost use Rattle.searching.specs.Walking.{AreGiven};
+ghost use Rattle.searching.specs.Following.{AreGiven};
 ghost use Rattle.solver.specs.Solving.{IsAnswer, IsFound, IsSolved, IsUnsolvable, derivation_of};
 ghost use Rattle.walks.specs.Preferred.{preferred_in};
 
@@ -70,7 +70,7 @@ pub fn solve(
     ensures axioms { IfOk result (λ s. axioms_of (derivation_of s.outcome) ≤ s.axioms) }
 {
     let default = default_name(alloc)?;
-    let inputs = KnownProblem {
+    let known = KnownProblem {
         manifest,
         catalogue,
         default: &default,
@@ -79,7 +79,7 @@ pub fn solve(
     walks_are_unique();
     // Where there is one, the search decides as it says, and has nothing to go back from.
     let walk = preferred(alloc, manifest, catalogue)?;
-    let searched: Searched<'_, WordStates> = search_over(alloc, inputs, walk)?;
+    let searched: Searched<'_, WordStates> = search_over(alloc, known, walk)?;
     let steps = searched.found.steps;
     let axioms = axioms_in(&searched.store);
     let outcome = outcome_of(alloc, searched)?;
@@ -105,7 +105,7 @@ fn outcome_of<'a, S: States + Drop>(
     if searched.guide.is_following() {
         Ok(followed(searched.guide))
     } else {
-        found(alloc, searched.guide.inputs(), &searched)
+        found(alloc, searched.guide.known(), &searched)
     }
 }
 
@@ -123,22 +123,22 @@ fn followed<'a, S: States + Drop>(guide: Encoded<'a, S>) -> Outcome
 /// What a search found, as a content or a derivation.
 fn found<'a, S: States + Drop>(
     alloc: Global,
-    inputs: &KnownProblem<'a>,
+    known: &KnownProblem<'a>,
     searched: &Searched<'a, S>,
 ) -> Result<Outcome, AllocError>
-    requires { HasSearched (problem inputs.now) searched.now.guide (trail_view S.tests searched.now.trail)
+    requires { HasSearched (problem known.now) searched.now.guide (trail_view S.tests searched.now.trail)
         (entries_view S.tests searched.now.store) searched.now.found.answer }
-    ensures found { IfOk result (λ o. IsFound (problem inputs.now) o) }
+    ensures found { IfOk result (λ o. IsFound (problem known.now) o) }
     ensures once { IfOk result (λ o. HasNoMore (entries_view S.tests searched.now.store) (derivation_of o)) }
 {
     let table = searched.guide.table();
     match searched.found.answer {
         Answer::Selection => {
-            let selected = content(alloc, inputs, table, &searched.trail)?;
+            let selected = content(alloc, known, table, &searched.trail)?;
             Ok(Outcome::Selection(selected))
         }
         Answer::Unsolvable(last) => {
-            let derivation = why_unsolvable(alloc, inputs, table, &searched.store, last)?;
+            let derivation = why_unsolvable(alloc, known, table, &searched.store, last)?;
             Ok(Outcome::Unsolvable(derivation))
         }
     }
@@ -150,24 +150,24 @@ fn found<'a, S: States + Drop>(
 /// that is read is so large that a run gets there, so this has no error of its own.
 fn why_unsolvable<'a, S: States + Drop>(
     alloc: Global,
-    inputs: &KnownProblem<'a>,
+    known: &KnownProblem<'a>,
     table: &Table<'a>,
     store: &Store<S>,
     last: Id,
 ) -> Result<Derivation, AllocError>
-    requires numbering { IsNumbering (problem inputs.now) table.now }
+    requires numbering { IsNumbering (problem known.now) table.now }
     requires touching { AreTouching (entries_view S.tests store.now) }
     requires refutation { IsRefutation (entries_view S.tests store.now) last }
-    requires given { AreGiven (IsOfInstance (problem inputs.now) table.now) (entries_view S.tests store.now) }
-    ensures unsolvable { IfOk result (λ d. IsUnsolvable (problem inputs.now) d) }
+    requires given { AreGiven (IsOfInstance (problem known.now) table.now) (entries_view S.tests store.now) }
+    ensures unsolvable { IfOk result (λ d. IsUnsolvable (problem known.now) d) }
     ensures once { IfOk result (λ d. HasNoMore (entries_view S.tests store.now) d) }
 {
-    if !are_valid(inputs.manifest, inputs.catalogue) {
+    if !are_valid(known.manifest, known.catalogue) {
         return Err(AllocError);
     }
     instances_have_their_kinds();
-    accepted_derivations_refute(inputs.manifest, inputs.catalogue);
-    refusal(alloc, inputs, table, store, last)
+    accepted_derivations_refute(known.manifest, known.catalogue);
+    refusal(alloc, known, table, store, last)
 }
 
 /// The name of the feature `default`.

@@ -21,7 +21,7 @@ each-term : (t : TablesView) (terms : List Term) → AreTermsOf t terms → AllB
 each-term t [] h k = tt
 each-term t (x ∷ terms) h k = ((h.0, (k.0).order), each-term t terms h.1 k.1)
 
-terms-by : (t : TablesView) (c : Origin) (ts : List axioms.Term)
+terms-by : (t : TablesView) (c : Origin ℕ) (ts : List axioms.Term)
     → AreTerms (steps.terms_of (step_by_origin t c ts)) → AreTerms ts
 terms-by t (Axiom k) ts h = h
 terms-by t (Combination a b v) ts h = h
@@ -34,7 +34,7 @@ ordered-at t n (x ∷ ss) zero s h k e =
     rw (← same) (each-term t x.terms.items (h.0).1 (terms-by t x.origin (terms_at t x.terms.items) (k.0).1).0)
 ordered-at t n (x ∷ ss) (suc i) s h k e = ordered-at t (n + 1) ss i s h.1 k.1 e
 
-said-by-step : (t : TablesView) (c : Origin) (ts : List axioms.Term) → steps.terms_of (step_by_origin t c ts) ≡ ts
+said-by-step : (t : TablesView) (c : Origin ℕ) (ts : List axioms.Term) → steps.terms_of (step_by_origin t c ts) ≡ ts
 said-by-step t (Axiom k) ts = refl
 said-by-step t (Combination a b v) ts = refl
 

@@ -2,8 +2,8 @@
 //!
 //! A derivation has a step for each thing that was combined, and most of these say little. So a step gets a sentence of
 //! its own only where several need it, or where its reasons have become too many for one sentence; else its reasons
-//! stand for it (`outline.rt`, with `uses.rt`). What is hard is to be sure that nothing is lost by that. Which steps are
-//! told is a definition, and a law says of it that each sentence follows from its reasons, down to what axioms say.
+//! stand for it (`outline.rt`, with `uses.rt`). What is hard is to be sure that nothing is lost by that. Which steps
+//! are told is a definition, and a law says of it that each sentence follows from its reasons, down to what axioms say.
 //!
 //! What an axiom says is told by the cause that its terms can have, which `causes` finds (`axiom.rt`). What is said of
 //! several versions of a name is one fact (`facts.rt`), so that thirty versions that need the same are told at once.

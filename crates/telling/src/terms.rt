@@ -2,15 +2,13 @@
 
 ghost use Rattle.std.specs.Prelude.{◌≡◌, IfOk, slice_get};
 ghost use Rattle.std.specs.List.{AllByRecursion};
-ghost use Rattle.vertices.specs.RefViews.{state_ref_views};
 ghost use Rattle.named_terms.specs.Views.{term_view, term_views};
-ghost use Rattle.derivations.specs.Tables.{AreStatesOf, states_at, term_at, terms_at};
+ghost use Rattle.derivations.specs.Tables.{term_at, terms_at};
 ghost use Rattle.telling.specs.Terms.{IsOrderedTerm, terms_if};
 
-use derivations::{Derivation, Tables};
+use derivations::{Derivation, Tables, states_in};
 use named_terms::{StateSet, Term};
 use std::alloc::{AllocError, Global};
-use vertices::StateRef;
 
 /// The terms of the step of this number, if there is one.
 pub(crate) fn terms_of<'a>(
@@ -55,19 +53,4 @@ fn term_of<'a>(
         vertex: tables.vertex(term.vertex).borrowed(),
         states: StateSet::rising(states),
     })
-}
-
-fn states_in<'a>(
-    alloc: Global,
-    tables: &'a Tables,
-    numbers: &[usize],
-) -> Result<Vec<StateRef<'a>>, AllocError>
-    requires { AreStatesOf tables.now numbers.now }
-    ensures { IfOk result (λ v. state_ref_views v.items ≡ states_at tables.entry.now numbers.now) }
-{
-    let mut states = Vec::with_capacity(alloc, numbers.len())?;
-    'numbers: for number in numbers {
-        states.push(tables.state(*number).borrowed())?;
-    }
-    Ok(states)
 }

@@ -1,8 +1,8 @@
-//! The names in dependencies and in feature tables: each is one by its type, and the walk hands that on.
+//! The names in dependencies and in feature tables: each is one by its type, and a pass over the texts hands that on.
 
 ghost use Rattle.std.specs.List.{All};
 ghost use Rattle.features.specs.EntryViews.{entry_view, entry_views};
-ghost use Rattle.features.specs.Views.{dependency_view, dependency_views};
+ghost use Rattle.features.specs.Views.{dependency_views};
 ghost use Rattle.vertices.specs.Valid.{IsFeatureName, IsValidDependency, IsValidEntry, IsValidRow};
 
 use features::{Dependency, Entry, FeatureName, FeatureTable};

@@ -1,5 +1,5 @@
 -- The states that a vertex may have are valid, where the problem's parts are.
-use Rattle.std.proofs.Common.{List, [], ◌∷◌, map, Contains, Option, Some, None, slice_get, subst, inl, inr}
+use Rattle.std.proofs.Common.{[], ◌∷◌, map, Contains, Option, Some, None, slice_get, subst, inl, inr}
 use Rattle.model.specs.Summary.{Dependency}
 use Rattle.model.specs.Content.{Problem, Candidate, candidates_of}
 use Rattle.model.specs.Vertices.{Vertex, root, pkg, dep, feat, ask, State, absent, present, version, in_class}

@@ -3,9 +3,7 @@
 ghost use Rattle.std.specs.Prelude.{◌≡◌};
 ghost use Rattle.std.specs.Cmp.{on_equiv, partial_equiv_from_equiv};
 ghost use Rattle.std.specs.Ordering.{on};
-ghost use Rattle.model.specs.Content.{same_version};
-ghost use Rattle.model.specs.Vertices.{same_class, same_owner, same_vertex, same_state};
-ghost use Rattle.semver.specs.Identifiers.{parts_of};
+ghost use Rattle.model.specs.Vertices.{same_owner, same_vertex, same_state};
 ghost use Rattle.classes.specs.Classes.{class_view};
 ghost use Rattle.vertices.specs.Orders.{class_number};
 ghost use Rattle.vertices.specs.RefViews.{owner_ref_view, vertex_ref_view, state_ref_view};
@@ -15,8 +13,7 @@ ghost use Rattle.vertices.specs.Views.{owner_view, vertex_view, state_view};
 
 use crate::state::{State, StateRef};
 use crate::vertex::{Owner, OwnerRef, Vertex, VertexRef};
-use classes::Class;
-use semver::Version;
+use classes::{Class, same_class, same_version};
 use std::hash::{Hash, Hasher};
 
 impl<'a> PartialEq for VertexRef<'a> {
@@ -237,16 +234,4 @@ fn class_number(class: &Class) -> u64
     match class {
         Class::Patch(n) | Class::Minor(n) | Class::Major(n) => *n,
     }
-}
-
-fn same_class(a: &Class, b: &Class) -> bool
-    ensures { result ≡ same_class (class_view a.now) (class_view b.now) }
-{
-    a == b
-}
-
-fn same_version(a: &Version, b: &Version) -> bool
-    ensures { result ≡ same_version (parts_of a.now) (parts_of b.now) }
-{
-    a == b
 }

@@ -1,12 +1,11 @@
 -- The place that is picked is that of the first candidate, in the order of preference, that matches.
-use Rattle.std.proofs.Common.{◌≡◌, ℕ, zero, suc, ◌+◌, ◌<◌, ◌≤◌, Bool, true, false, cond, List, [], ◌∷◌, ◌++◌, map}
-use Rattle.std.proofs.Common.{filter, reverse, length, drop, take, get_or, Contains, Option, Some, None, option_map}
-use Rattle.std.proofs.Common.{slice_get, refl, sym, ap, ap₂, ◌∙◌, subst, inl, inr, arith, add-one}
+use Rattle.std.proofs.Common.{◌≡◌, ℕ, suc, ◌+◌, ◌<◌, Bool, true, false, cond, List, [], ◌∷◌, ◌++◌, map}
+use Rattle.std.proofs.Common.{filter, reverse, length, drop, get_or, Contains, Option, Some, None, option_map}
+use Rattle.std.proofs.Common.{slice_get, refl, sym, ap, ap₂, ◌∙◌, subst, inl, inr, arith}
 use Rattle.std.specs.List.{find}
 use Rattle.std.proofs.Math.Seq.{drop-cons}
-use Rattle.std.proofs.lemmas.List.{map-append, reverse-append, take_more, length-map, take_all}
-use Rattle.std.proofs.lemmas.List.Elements.{filter-append}
-use Rattle.std.proofs.lemmas.Option.{slice_get-map, slice_get-get_or, same_Some, none-some}
+use Rattle.std.proofs.lemmas.List.{map-append}
+use Rattle.std.proofs.lemmas.Option.{slice_get-map, same_Some, none-some}
 use Rattle.semver.specs.EvalViews.{matches_views}
 use Rattle.model.specs.Summary.{Dependency}
 use Rattle.model.specs.Content.{Candidate, candidates_of}
@@ -14,10 +13,11 @@ use Rattle.model.specs.Candidates.{as_candidate}
 use Rattle.model.specs.Walk.{first_match}
 use Rattle.model.proofs.Gathered.{at_place}
 use Rattle.model.proofs.Lists.{in_none, in_cons}
-use Rattle.catalogue.specs.Ranks.{Ranked, records, same_rank, places_down, is_ranked, places_of, places_by_rank}
+use Rattle.catalogue.specs.Ranks.{Ranked, records, same_rank, places_of, places_by_rank}
 use Rattle.catalogue.specs.Stores.{CatalogueView, ranked_at, rows_by_name}
 use Rattle.catalogue.specs.declared.candidate.Rank.{Rank}
 use Rattle.catalogue.specs.declared.candidate.Rank.TheVariants.{Locked, Fits, Rest}
+use Rattle.catalogue.proofs.Preferences.{at_rank, map-reverse}
 use Rattle.contents.proofs.Rows.{candidates_are, row_of, versions_are}
 use Rattle.walks.specs.Preferred.{of_rank, by_rank, preferred_in}
 use Rattle.walks.specs.Met.{is_matched, versions_at, place_picked}
@@ -39,65 +39,6 @@ find_no t xs i lt e = ap (find t) (drop-cons xs i 0 lt)
 
 -- ---- what lies at the places of a rank
 
-filter-same : {X : Type 0} (p q : X → Bool) (xs : List X) → ((x : X) → p x ≡ q x) → filter p xs ≡ filter q xs
-filter-same p q [] same = refl
-filter-same p q (x ∷ xs) same = ap₂ (λ b zs. cond b (x ∷ zs) zs) (same x) (filter-same p q xs same)
-
-map-reverse : {X Y : Type 0} (f : X → Y) (xs : List X) → map f (reverse xs) ≡ reverse (map f xs)
-map-reverse f [] = refl
-map-reverse f (x ∷ xs) = ap (map f) (reverse-append (x ∷ []) xs) ∙ map-append f (reverse xs) (x ∷ [])
-    ∙ ap (λ zs. zs ++ f x ∷ []) (map-reverse f xs) ∙ sym (reverse-append (f x ∷ []) (map f xs))
-
-nil-right : {Z : Type 0} (zs : List Z) → zs ++ [] ≡ zs
-nil-right [] = refl
-nil-right (z ∷ zs) = ap (λ l. z ∷ l) (nil-right zs)
-
-at_places : {X : Type 0} (xs : List X) (t : Option X → Bool) (n : ℕ) → n ≤ length xs
-    → map (slice_get xs) (filter (λ i. t (slice_get xs i)) (places_down n))
-    ≡ map Some (reverse (filter (λ x. t (Some x)) (take n xs)))
-at_places xs t zero le = refl
-at_places [] t (suc n) le = absurd (omega (arith, le))
-at_places (y ∷ ys) t (suc n) le =
-    let xs = y ∷ ys in
-    let x = get_or xs n y in
-    let here : slice_get xs n ≡ Some x = slice_get-get_or xs n y (omega (arith, le)) in
-    let more : take (suc n) xs ≡ take n xs ++ x ∷ [] = rw add-one at (take_more xs n y (omega (arith, le))) in
-    by x here (t (Some x)) (ap t here) refl (at_places xs t n (omega (arith, le)))
-    ∙ sym (ap (λ zs. map Some (reverse (filter (λ x. t (Some x)) zs))) more
-    ∙ ap (λ zs. map Some (reverse zs)) (filter-append (λ x. t (Some x)) (take n xs) (x ∷ [])))
-  where
-    by : (x : _) → slice_get (y ∷ ys) n ≡ Some x → (b : Bool) → t (slice_get (y ∷ ys) n) ≡ b → t (Some x) ≡ b
-        → map (slice_get (y ∷ ys)) (filter (λ i. t (slice_get (y ∷ ys) i)) (places_down n))
-        ≡ map Some (reverse (filter (λ x. t (Some x)) (take n (y ∷ ys))))
-        → map (slice_get (y ∷ ys)) (cond (t (slice_get (y ∷ ys) n)) (n ∷ filter (λ i. t (slice_get (y ∷ ys) i))
-        (places_down n)) (filter (λ i. t (slice_get (y ∷ ys) i)) (places_down n)))
-        ≡ map Some (reverse (filter (λ x. t (Some x)) (take n (y ∷ ys)) ++ cond (t (Some x)) (x ∷ []) []))
-    by x here true e f rest =
-        ap (λ c. map (slice_get (y ∷ ys)) (cond c (n ∷ filter (λ i. t (slice_get (y ∷ ys) i)) (places_down n))
-        (filter (λ i. t (slice_get (y ∷ ys) i)) (places_down n)))) e
-        ∙ ap₂ (λ o zs. o ∷ zs) here rest
-        ∙ sym (ap (λ c. map Some (reverse (filter (λ x. t (Some x)) (take n (y ∷ ys)) ++ cond c (x ∷ []) []))) f
-        ∙ ap (map Some) (reverse-append (filter (λ x. t (Some x)) (take n (y ∷ ys))) (x ∷ [])))
-    by x here false e f rest =
-        ap (λ c. map (slice_get (y ∷ ys)) (cond c (n ∷ filter (λ i. t (slice_get (y ∷ ys) i)) (places_down n))
-        (filter (λ i. t (slice_get (y ∷ ys) i)) (places_down n)))) e
-        ∙ rest
-        ∙ sym (ap (λ c. map Some (reverse (filter (λ x. t (Some x)) (take n (y ∷ ys)) ++ cond c (x ∷ []) []))) f
-        ∙ ap (λ zs. map Some (reverse zs)) (nil-right (filter (λ x. t (Some x)) (take n (y ∷ ys)))))
-
-rank_is : (cs : List Ranked) (rank : Rank)
-    → map (slice_get cs) (places_of rank (map (λ c. c.1) cs)) ≡ map Some (reverse (filter (λ c. same_rank c.1 rank) cs))
-rank_is cs rank =
-    ap (map (slice_get cs)) (ap (λ n. filter
-    (λ i. is_ranked rank (slice_get (map (λ (c : Ranked). c.1) cs) i)) (places_down n)) (rw length-map refl)
-    ∙ filter-same (λ i. is_ranked rank (slice_get (map (λ (c : Ranked). c.1) cs) i)) (λ i. ranked (slice_get cs i))
-    (places_down (length cs)) (λ i. ap (is_ranked rank) (slice_get-map (λ (c : Ranked). c.1) cs i)))
-    ∙ at_places cs ranked (length cs) (omega arith)
-    ∙ ap (λ zs. map Some (reverse (filter (λ c. same_rank c.1 rank) zs))) (take_all (length cs) cs (omega arith))
-  where
-    ranked : Option Ranked → Bool
-    ranked o = is_ranked rank (option_map (λ c. c.1) o)
-
 -- the candidate that a ranked record is
 abbrev pub candidate : Ranked → Candidate
 candidate c = as_candidate c.0
@@ -106,23 +47,12 @@ records-candidates : (cs : List Ranked) → map as_candidate (records cs) ≡ ma
 records-candidates [] = refl
 records-candidates (c ∷ cs) = ap (λ zs. candidate c ∷ zs) (records-candidates cs)
 
-get-mapped : (cs : List Ranked) (ns : List ℕ)
-    → map (slice_get (map candidate cs)) ns ≡ map (option_map candidate) (map (slice_get cs) ns)
-get-mapped cs [] = refl
-get-mapped cs (n ∷ ns) = ap₂ (λ o os. o ∷ os) (slice_get-map candidate cs n) (get-mapped cs ns)
-
-some-mapped : (zs : List Ranked) → map (option_map candidate) (map Some zs) ≡ map Some (map candidate zs)
-some-mapped [] = refl
-some-mapped (z ∷ zs) = ap (λ os. Some (candidate z) ∷ os) (some-mapped zs)
-
 rank_lies : (cs : List Ranked) (rank : Rank) → map (slice_get (map candidate cs)) (places_of rank (map (λ c. c.1) cs))
     ≡ map Some (map as_candidate (of_rank rank cs))
 rank_lies cs rank =
     let kept = filter (λ (c : Ranked). same_rank c.1 rank) cs in
-    get-mapped cs (places_of rank (map (λ c. c.1) cs)) ∙ ap (map (option_map candidate)) (rank_is cs rank)
-    ∙ some-mapped (reverse kept)
-    ∙ ap (map Some) (map-reverse candidate kept ∙ ap reverse (sym (records-candidates kept))
-    ∙ sym (map-reverse as_candidate (records kept)))
+    at_rank candidate cs rank
+    ∙ ap (map Some) (ap reverse (sym (records-candidates kept)) ∙ sym (map-reverse as_candidate (records kept)))
 
 two : {X Y Z : Type 0} (f : X → Z) (g : Y → Z) (xs xs' : List X) (ys ys' : List Y) → map f xs ≡ map g ys
     → map f xs' ≡ map g ys' → map f (xs ++ xs') ≡ map g (ys ++ ys')

@@ -10,8 +10,8 @@ use Rattle.model.specs.Walk.{Picks}
 use Rattle.catalogue.specs.Stores.{CatalogueView}
 use Rattle.reaching.specs.Nodes.{AreLeads, IsLead}
 use Rattle.contents.specs.Contents.{Grows, candidate_owner, owner_if, owners_of}
-use Rattle.contents.specs.declared.stop.Stop.{Stop}
-use Rattle.contents.proofs.Stops.{grows_on, owner_on, snoc_at, unchanged}
+use Rattle.contents.specs.declared.met.MetVersion.{MetVersion}
+use Rattle.contents.proofs.MetVersions.{grows_on, owner_on, snoc_at, unchanged}
 use Rattle.walks.specs.Preferred.{preferred_in}
 use Rattle.walks.specs.Met.{ArePicks, IsPick, place_picked}
 use Rattle.walks.proofs.Picks.{one_picked}
@@ -40,29 +40,30 @@ leads_of q preferred owners o ds targets h = record {
 -- ---- one pick
 
 module _ (index : CatalogueView) where
-  pick_on : (old new : List Stop) → Grows index old new → (d : Dependency) (target : Option ℕ)
+  pick_on : (old new : List MetVersion) → Grows index old new → (d : Dependency) (target : Option ℕ)
       → IsPick (preferred_in index) (owners_of index old) d target
       → IsPick (preferred_in index) (owners_of index new) d target
   pick_on old new g d None h = h
   pick_on old new g d (Some t) (c, e, at) = (c, e, owner_on index old new g t (version_of d.real_name c.version) at)
 
-  pub pick_put : (stops : List Stop) (d : Dependency) (place n : ℕ) → place_picked index d ≡ Some place
-      → slice_get (owners_of index stops) n ≡ Some (candidate_owner index d.real_name place)
-      → IsPick (preferred_in index) (owners_of index stops) d (Some n)
-  pick_put stops d place n p at =
+  pub pick_put : (versions : List MetVersion) (d : Dependency) (place n : ℕ) → place_picked index d ≡ Some place
+      → slice_get (owners_of index versions) n ≡ Some (candidate_owner index d.real_name place)
+      → IsPick (preferred_in index) (owners_of index versions) d (Some n)
+  pick_put versions d place n p at =
       let (c, is, there) = one_picked index d place p in
       (c, is, at ∙ ap Some (ap (owner_if d.real_name) there))
 
   -- ---- the picks of dependencies, one after another
 
   -- the targets of the first n dependencies
-  pub record TargetsTo (old new : List Stop) (ds : List Dependency) (n : ℕ) (targets : List (Option ℕ)) : Type 0 where
+  pub record TargetsTo (old new : List MetVersion) (ds : List Dependency) (n : ℕ)
+      (targets : List (Option ℕ)) : Type 0 where
     pub grows : Grows index old new
     pub many : length targets ≡ n
     pub picks : (i : ℕ) (d : Dependency) (target : Option ℕ) → slice_get ds i ≡ Some d
         → slice_get targets i ≡ Some target → IsPick (preferred_in index) (owners_of index new) d target
 
-  pub no_targets : (old : List Stop) (ds : List Dependency) (targets : List (Option ℕ)) → targets ≡ []
+  pub no_targets : (old : List MetVersion) (ds : List Dependency) (targets : List (Option ℕ)) → targets ≡ []
       → TargetsTo old old ds 0 targets
   no_targets old ds targets e = record {
     grows = unchanged index old;
@@ -70,7 +71,7 @@ module _ (index : CatalogueView) where
     picks = λ i d target got at. absurd (none-some target (sym (ap (λ ts. slice_get ts i) e) ∙ at));
   }
 
-  pub more_targets : (old mid new : List Stop) (ds : List Dependency) (n : ℕ) (targets more : List (Option ℕ))
+  pub more_targets : (old mid new : List MetVersion) (ds : List Dependency) (n : ℕ) (targets more : List (Option ℕ))
       (d : Dependency) (target : Option ℕ)
       → TargetsTo old mid ds n targets → Grows index mid new → slice_get ds n ≡ Some d
       → IsPick (preferred_in index) (owners_of index new) d target → more ≡ targets ++ target ∷ []
@@ -87,7 +88,7 @@ module _ (index : CatalogueView) where
         ];
       }
 
-  pub all_targets : (old new : List Stop) (ds : List Dependency) (n : ℕ) (targets : List (Option ℕ))
+  pub all_targets : (old new : List MetVersion) (ds : List Dependency) (n : ℕ) (targets : List (Option ℕ))
       → TargetsTo old new ds n targets → n ≡ length ds
       → ArePicks (preferred_in index) (owners_of index new) ds targets
   all_targets old new ds n targets h e = record { as_many = h.many ∙ e; picks = h.picks }

@@ -6,9 +6,9 @@ ghost use Rattle.reaching.specs.Built.{HasBareRoot};
 ghost use Rattle.walks.specs.Preferred.{Answers, preferred_in};
 ghost use Rattle.walks.specs.Met.{all_met, are_met};
 
-use crate::meeting::{Met, meet};
+use crate::meeting::meet;
 use catalogue::Catalogue;
-use contents::content_of;
+use contents::{Met, content_of};
 use facts::{Node, facts_of};
 use lockfile::LockContent;
 use manifest::Manifest;
@@ -30,7 +30,7 @@ pub fn preferred(
         (λ o. IfSome o (λ content. HasBareRoot (problem_in manifest.now catalogue.now) content)) }
 {
     built_contents_walk();
-    let Met { stops, nodes } = meet(alloc, manifest, catalogue)?;
+    let Met { versions, nodes } = meet(alloc, manifest, catalogue)?;
     let facts = facts_of(alloc, nodes.as_slice(), 0)?;
     if !is_complete(nodes.as_slice(), facts.enabled.as_slice()) {
         return Ok(None);
@@ -39,7 +39,7 @@ pub fn preferred(
         alloc,
         manifest,
         catalogue,
-        stops.as_slice(),
+        versions.as_slice(),
         nodes.as_slice(),
         &facts,
     )?;

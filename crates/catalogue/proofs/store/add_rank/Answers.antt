@@ -7,7 +7,8 @@ pub places-preserved-in-Continue-1 : goal.places-preserved-in-Continue-1
 places-preserved-in-Continue-1 c = record {
   within = omega (arith, c.places.invariant.within);
   told = rw c.in_ok-push.ensures.items
-      (with_place c.args.candidates.now c.args.rank c.places.place c.index-candidates-place.result c.places.order.items _
+      (with_place c.args.candidates.now c.args.rank c.places.place
+      c.index-candidates-place.result c.places.order.items _
       c.places-test.true c.places.invariant.within (sym c.index-candidates-place.is) (ap (λ r. same_rank r.rank
       c.args.rank) c.index-candidates-place.is ∙ sym c.is.ensures ∙ c.if-is.true) c.places.invariant.told);
 }
@@ -15,7 +16,8 @@ places-preserved-in-Continue-1 c = record {
 pub places-preserved : goal.places-preserved
 places-preserved c = record {
   within = omega (arith, c.places.invariant.within);
-  told = without_place c.args.candidates.now c.args.rank c.places.place c.index-candidates-place.result c.places.order.items _
+  told = without_place c.args.candidates.now c.args.rank c.places.place
+      c.index-candidates-place.result c.places.order.items _
       c.places-test.true c.places.invariant.within (sym c.index-candidates-place.is)
       (ap (λ r. same_rank r.rank c.args.rank) c.index-candidates-place.is ∙ sym c.is.ensures
       ∙ c.if-is.false) c.places.invariant.told;

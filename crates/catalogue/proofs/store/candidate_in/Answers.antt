@@ -21,5 +21,6 @@ returns c =
     let cs = c.args.candidates.now in
     let got = rw c.deref.ensures.value at
     (item_at said_by c.deref.result.now c.in_ok-place.place c.get.result c.get.ensures.lookup) in
-    got ∙ candidate_found cs.versions.items cs.candidates.items (parts_of c.args.version.now) c.in_ok-place.place cs.beside
+    got ∙ candidate_found cs.versions.items cs.candidates.items
+    (parts_of c.args.version.now) c.in_ok-place.place cs.beside
     cs.rising (rw c.as_slice.ensures.value at c.in_ok-place.ensures)

@@ -20,7 +20,8 @@ close-requires-2 c = record {
 
 pub returns : goal.returns
 returns c =
-    let ahead : c.as_slice.result.now ≡ rules_ahead c.args.pairs.now = c.as_slice.ensures.value ∙ c.in_ok-rules.ensures in
+    let ahead : c.as_slice.result.now ≡ rules_ahead c.args.pairs.now =
+    c.as_slice.ensures.value ∙ c.in_ok-rules.ensures in
     let back : c.as_slice-2.result.now ≡ rules_back c.args.pairs.now
     = c.as_slice-2.ensures.value ∙ c.in_ok-rules-2.ensures in
     let a = c.close.new.marked in

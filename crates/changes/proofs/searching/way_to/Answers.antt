@@ -44,7 +44,8 @@ visits-preserved c =
       count = rw pushed (omega (arith, nearer, was, longer));
       way = λ content begins ends led here ended.
           let w = c.visits.invariant.way content begins ends led here ended in
-          rw pushed (back content begins ends visits u v so_far led (omega (arith, deep)) w.0 c.visit_at-visit.ensures w.1);
+          rw pushed
+          (back content begins ends visits u v so_far led (omega (arith, deep)) w.0 c.visit_at-visit.ensures w.1);
     }
 
 pub returns-clause-way : goal.returns-clause-way
@@ -54,4 +55,5 @@ returns-clause-way c =
     let w = c.visits.invariant.way content begins ends led here ended in
     let pushed : c.push-2.new.self.items ≡ c.visits.places.items ++ u.place ∷ [] = search rules in
     ap (is_way content begins ends) (c.reverse.ensures.items ∙ ap reverse pushed)
-    ∙ way_back content begins ends c.args.visits.now u c.visits.places.items (omega (arith, c.visits-test.false)) w.0 w.1
+    ∙ way_back content begins ends c.args.visits.now u c.visits.places.items
+    (omega (arith, c.visits-test.false)) w.0 w.1

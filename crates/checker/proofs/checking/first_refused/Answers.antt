@@ -8,7 +8,7 @@ use Rattle.checker.proofs.checking.first_refused.Goals as goal
 
 pub returns-then-not-is_step : goal.returns-then-not-is_step
 returns-then-not-is_step c =
-    let t = tables_of c.args.decoded.now in
+    let t = tables_of c.args.names.now in
     let q = problem_of c.args.gathered.now in
     let step = c.index-steps-number.result in
     let no : c.is_step.result ≡ false = search rules in

@@ -9,7 +9,7 @@ use Rattle.checker.proofs.checking.first_refused.Given as goal
 abbrev pub invariant-steps : goal.invariant-steps
 invariant-steps l = record {
   same : problem_of l.gathered ≡ problem_of l.fn.gathered;
-  told : first_refused (problem_of l.fn.gathered) (steps_at (tables_of l.decoded) (take l.number l.steps))
-      (steps_at (tables_of l.decoded) (drop l.number l.steps))
-      ≡ first_refused (problem_of l.fn.gathered) [] (steps_at (tables_of l.decoded) l.steps);
+  told : first_refused (problem_of l.fn.gathered) (steps_at (tables_of l.names) (take l.number l.steps))
+      (steps_at (tables_of l.names) (drop l.number l.steps))
+      ≡ first_refused (problem_of l.fn.gathered) [] (steps_at (tables_of l.names) l.steps);
 }

@@ -9,7 +9,7 @@ use Rattle.checker.proofs.checking.is_step.Goals as goal
 
 pub returns-in-Some-Some : goal.returns-in-Some-Some
 returns-in-Some-Some c =
-    let t = tables_of c.args.decoded.now in
+    let t = tables_of c.args.names.now in
     let q = problem_of c.args.gathered.now in
     let v = vertex_at t c.in-Combination.vertex in
     let a = c.in-Some-Some.a.now.terms.items in

@@ -5,4 +5,4 @@ use Rattle.checker.specs.Ready.{tables_of}
 use Rattle.checker.proofs.preparing.terms_in.Given as goal
 
 abbrev pub invariant-terms : goal.invariant-terms
-invariant-terms l = term_views l.looked_up.items ≡ terms_at (tables_of l.decoded) (take l.term-index l.terms)
+invariant-terms l = term_views l.looked_up.items ≡ terms_at (tables_of l.names) (take l.term-index l.terms)

@@ -3,7 +3,7 @@ use Rattle.incompatibilities.specs.Stores.{EntryView, entries_view}
 use Rattle.propagation.specs.Trails.{trail_view}
 use Rattle.propagation.specs.declared.satisfying.Satisfier.{Satisfier}
 use Rattle.conflicts.specs.Resolving.{IsGained}
-use Rattle.conflicts.proofs.Steps.{IsResolving, IsStep, cause_of, few_is, gained_is, learned_is, level_low, made_sat}
+use Rattle.conflicts.proofs.Steps.{IsResolving, IsStep, forced_of, few_is, gained_is, learned_is, level_low, made_sat}
 use Rattle.conflicts.proofs.Steps.{nearer, places_left, sat_now, start_is, step_is, trail_new}
 use Rattle.conflicts.proofs.resolving.resolve.Given.{Over}
 use Rattle.conflicts.proofs.resolving.resolve.Goals as goal
@@ -61,15 +61,17 @@ returns-clause-few g c =
 -- one more combination
 step_of : (g : Over) (c : goal.In_ok-current g) → IsStep (entries_view g.S.States.tests c.args.store.now)
     (trail_view g.S.States.tests c.args.trail.now) (entries_view g.S.States.tests c.steps.store) c.steps.current
-    c.in-Some.satisfier c.in-Some-cause_at_level.cause c.in_ok-current.ensures.added.1 c.in_ok-current.ensures.added.4
-    c.in_ok-current.ensures.added.6 (entries_view g.S.States.tests c.add_with_cause.new.store) c.in_ok-current.current
+    c.in-Some.satisfier c.in-Some-forced_at_level.forced_by c.in_ok-current.ensures.added.1
+    c.in_ok-current.ensures.added.4
+    c.in_ok-current.ensures.added.6
+    (entries_view g.S.States.tests c.add_with_stand_in.new.store) c.in_ok-current.current
 step_of g c =
     let tests = g.S.States.tests in
     let more = c.in_ok-current.ensures.added in
     record {
       way = subst (IsResolving (entries_view tests c.args.store.now) (trail_view tests c.args.trail.now)
           (entries_view tests c.steps.store) c.steps.current) c.in-Some.is c.steps.invariant;
-      asked = c.in-Some-cause_at_level.ensures;
+      forced = c.in-Some-forced_at_level.ensures;
       id_is = more.0;
       stands = more.2;
       covers = more.3;
@@ -82,31 +84,32 @@ pub satisfier_of-found-requires-in-Some-clause-trail : goal.satisfier_of-found-r
 satisfier_of-found-requires-in-Some-clause-trail g c =
     let tests = g.S.States.tests in
     trail_new (entries_view tests c.args.store.now) (trail_view tests c.args.trail.now)
-    (entries_view tests c.steps.store) c.steps.current c.in-Some.satisfier c.in-Some-cause_at_level.cause
+    (entries_view tests c.steps.store) c.steps.current c.in-Some.satisfier c.in-Some-forced_at_level.forced_by
     c.in_ok-current.ensures.added.1 c.in_ok-current.ensures.added.4 c.in_ok-current.ensures.added.6
-    (entries_view tests c.add_with_cause.new.store) c.in_ok-current.current (step_of g c)
+    (entries_view tests c.add_with_stand_in.new.store) c.in_ok-current.current (step_of g c)
 
 pub satisfier_of-found-requires-in-Some-clause-satisfied : goal.satisfier_of-found-requires-in-Some-clause-satisfied
 satisfier_of-found-requires-in-Some-clause-satisfied g c =
     let tests = g.S.States.tests in
     sat_now (entries_view tests c.args.store.now) (trail_view tests c.args.trail.now)
-    (entries_view tests c.steps.store) c.steps.current c.in-Some.satisfier c.in-Some-cause_at_level.cause
+    (entries_view tests c.steps.store) c.steps.current c.in-Some.satisfier c.in-Some-forced_at_level.forced_by
     c.in_ok-current.ensures.added.1 c.in_ok-current.ensures.added.4 c.in_ok-current.ensures.added.6
-    (entries_view tests c.add_with_cause.new.store) c.in_ok-current.current (step_of g c)
+    (entries_view tests c.add_with_stand_in.new.store) c.in_ok-current.current (step_of g c)
 
 -- the same, once its satisfier is known
 step_found : (g : Over) (c : goal.After-satisfier_of-found-in-Some g)
     → IsStep (entries_view g.S.States.tests c.args.store.now) (trail_view g.S.States.tests c.args.trail.now)
-    (entries_view g.S.States.tests c.steps.store) c.steps.current c.in-Some.satisfier c.in-Some-cause_at_level.cause
+    (entries_view g.S.States.tests c.steps.store) c.steps.current c.in-Some.satisfier
+    c.in-Some-forced_at_level.forced_by
     c.in_ok-current.ensures.added.1 c.in_ok-current.ensures.added.4 c.in_ok-current.ensures.added.6
-    (entries_view g.S.States.tests c.add_with_cause.new.store) c.in_ok-current.current
+    (entries_view g.S.States.tests c.add_with_stand_in.new.store) c.in_ok-current.current
 step_found g c =
     let tests = g.S.States.tests in
     let more = c.in_ok-current.ensures.added in
     record {
       way = subst (IsResolving (entries_view tests c.args.store.now) (trail_view tests c.args.trail.now)
           (entries_view tests c.steps.store) c.steps.current) c.in-Some.is c.steps.invariant;
-      asked = c.in-Some-cause_at_level.ensures;
+      forced = c.in-Some-forced_at_level.ensures;
       id_is = more.0;
       stands = more.2;
       covers = more.3;
@@ -119,9 +122,9 @@ pub steps-smaller : goal.steps-smaller
 steps-smaller g c =
     let tests = g.S.States.tests in
     let less = nearer (entries_view tests c.args.store.now) (trail_view tests c.args.trail.now)
-    (entries_view tests c.steps.store) c.steps.current c.in-Some.satisfier c.in-Some-cause_at_level.cause
+    (entries_view tests c.steps.store) c.steps.current c.in-Some.satisfier c.in-Some-forced_at_level.forced_by
     c.in_ok-current.ensures.added.1 c.in_ok-current.ensures.added.4 c.in_ok-current.ensures.added.6
-    (entries_view tests c.add_with_cause.new.store) c.in_ok-current.current
+    (entries_view tests c.add_with_stand_in.new.store) c.in_ok-current.current
     (step_found g c) c.satisfier_of-found-in-Some.result c.satisfier_of-found-in-Some.ensures in
     subst (λ (o : Option Satisfier). places_left c.satisfier_of-found-in-Some.result < places_left o)
     (sym c.in-Some.is) (omega (arith, less))
@@ -130,29 +133,29 @@ pub steps-preserved : goal.steps-preserved
 steps-preserved g c =
     let tests = g.S.States.tests in
     step_is (entries_view tests c.args.store.now) (trail_view tests c.args.trail.now)
-    (entries_view tests c.steps.store) c.steps.current c.in-Some.satisfier c.in-Some-cause_at_level.cause
+    (entries_view tests c.steps.store) c.steps.current c.in-Some.satisfier c.in-Some-forced_at_level.forced_by
     c.in_ok-current.ensures.added.1 c.in_ok-current.ensures.added.4 c.in_ok-current.ensures.added.6
-    (entries_view tests c.add_with_cause.new.store) c.in_ok-current.current
+    (entries_view tests c.add_with_stand_in.new.store) c.in_ok-current.current
     (step_found g c) c.satisfier_of-found-in-Some.result c.satisfier_of-found-in-Some.ensures
 
-pub add_with_cause-requires-clause-cause : goal.add_with_cause-requires-clause-cause
-add_with_cause-requires-clause-cause g c =
+pub add_with_stand_in-requires-clause-forced_by : goal.add_with_stand_in-requires-clause-forced_by
+add_with_stand_in-requires-clause-forced_by g c =
     let tests = g.S.States.tests in
     let old = entries_view tests c.args.store.now in
     let t = trail_view tests c.args.trail.now in
     let es = entries_view tests c.steps.store in
     let way : IsResolving old t es c.steps.current (Some c.in-Some.satisfier) =
     subst (IsResolving old t es c.steps.current) c.in-Some.is c.steps.invariant in
-    (cause_of old t es c.steps.current c.in-Some.satisfier c.in-Some-cause_at_level.cause way
-    c.in-Some-cause_at_level.ensures).0.within
+    (forced_of old t es c.steps.current c.in-Some.satisfier c.in-Some-forced_at_level.forced_by way
+    c.in-Some-forced_at_level.ensures).0.within
 
-pub add_with_cause-requires-clause-satisfied : goal.add_with_cause-requires-clause-satisfied
-add_with_cause-requires-clause-satisfied g c second within covers made is =
+pub add_with_stand_in-requires-clause-satisfied : goal.add_with_stand_in-requires-clause-satisfied
+add_with_stand_in-requires-clause-satisfied g c second within covers made is =
     let tests = g.S.States.tests in
     let old = entries_view tests c.args.store.now in
     let t = trail_view tests c.args.trail.now in
     let es = entries_view tests c.steps.store in
     let way : IsResolving old t es c.steps.current (Some c.in-Some.satisfier) =
     subst (IsResolving old t es c.steps.current) c.in-Some.is c.steps.invariant in
-    made_sat old t es c.steps.current c.in-Some.satisfier c.in-Some-cause_at_level.cause second way
-    c.in-Some-cause_at_level.ensures within covers made is
+    made_sat old t es c.steps.current c.in-Some.satisfier c.in-Some-forced_at_level.forced_by second way
+    c.in-Some-forced_at_level.ensures within covers made is

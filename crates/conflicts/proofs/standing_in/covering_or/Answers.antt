@@ -4,7 +4,8 @@ use Rattle.terms.specs.Terms.{TermView, terms_view}
 use Rattle.incompatibilities.specs.Incompatibilities.{LiesIn, states_at}
 use Rattle.incompatibilities.specs.Stores.{entries_view, terms_of}
 use Rattle.conflicts.specs.Covering.{Covers}
-use Rattle.conflicts.proofs.Covered.{covers_itself, lies_fit}
+use Rattle.conflicts.proofs.Covered.{covers_itself}
+use Rattle.incompatibilities.proofs.Broken.{lies_fit}
 use Rattle.conflicts.proofs.standing_in.covering_or.Goals as goal
 
 pub covers-requires : goal.covers-requires

@@ -6,7 +6,7 @@ use Rattle.incompatibilities.specs.Incompatibilities.{IsCombination, LiesIn, sta
 use Rattle.incompatibilities.specs.Stores.{EntryView, entries_view, entry}
 use Rattle.incompatibilities.specs.declared.origin.Origin.TheVariants.{Combined}
 use Rattle.conflicts.specs.Resolving.{IsStrengthened}
-use Rattle.conflicts.proofs.Covered.{lies_fit}
+use Rattle.incompatibilities.proofs.Broken.{lies_fit}
 use Rattle.conflicts.proofs.Strengthened.{either_way, strengthened_none, strengthened_one, strengthened_same}
 use Rattle.conflicts.proofs.strengthening.add_unwatched.Goals as goal
 

@@ -1,6 +1,7 @@
 use Rattle.std.proofs.Common.{◌<◌, length, arith, rules}
 use Rattle.incompatibilities.specs.Stores.{entries_view}
-use Rattle.conflicts.proofs.Strengthened.{longer, somewhere_on, strengthened_again, strengthened_none}
+use Rattle.conflicts.proofs.Growing.{longer}
+use Rattle.conflicts.proofs.Strengthened.{somewhere_on, strengthened_again, strengthened_none}
 use Rattle.conflicts.proofs.strengthening.strengthen.Goals as goal
 
 pub returns-then-index-len : goal.returns-then-index-len

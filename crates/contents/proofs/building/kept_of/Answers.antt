@@ -6,6 +6,6 @@ use Rattle.contents.proofs.building.kept_of.Goals as goal
 
 pub places-preserved : goal.places-preserved
 places-preserved c =
-    more_kept (problem_in c.args.manifest.now c.args.catalogue.now) (owners_of c.args.catalogue.now c.args.stops.now)
+    more_kept (problem_in c.args.manifest.now c.args.catalogue.now) (owners_of c.args.catalogue.now c.args.versions.now)
     c.args.here.now c.places.place (placed_views c.places.kept.items) _ _ _
     c.places.invariant refl c.in_ok-found.ensures c.in_ok-keep.ensures

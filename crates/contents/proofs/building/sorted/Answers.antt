@@ -3,7 +3,7 @@ use Rattle.std.specs.Ordering.{is_lt}
 use Rattle.std.proofs.lemmas.List.Sorted.{answers_always, ranks_by, IsPermutation-map}
 use Rattle.model.specs.Order.{package_cmp}
 use Rattle.lockfile.specs.Views.{package_view}
-use Rattle.lockfile.proofs.PackageOrder.{package_total}
+use Rattle.model.proofs.PackageOrder.{package_total}
 use Rattle.contents.specs.Contents.{placed_view}
 use Rattle.contents.proofs.Ordered.{in_order}
 use Rattle.contents.proofs.building.sorted.Goals as goal

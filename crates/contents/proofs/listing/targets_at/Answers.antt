@@ -1,5 +1,5 @@
 use Rattle.std.proofs.Common.{◌∙◌, sym}
-use Rattle.contents.proofs.Stops.{got_item}
+use Rattle.contents.proofs.MetVersions.{got_item}
 use Rattle.contents.proofs.RankLists.{no_item, targets_got, targets_none}
 use Rattle.contents.proofs.listing.targets_at.Goals as goal
 

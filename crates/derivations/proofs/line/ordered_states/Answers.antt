@@ -5,7 +5,7 @@ use Rattle.std.proofs.lemmas.List.Sorted.{answers_always, IsPermutation-refl}
 use Rattle.vertices.specs.Orders.{state_cmp}
 use Rattle.vertices.specs.Views.{state_view}
 use Rattle.vertices.proofs.OrderLaws.{state_total}
-use Rattle.derivations.proofs.Sorting.{ordered-ok}
+use Rattle.derivations.proofs.Ordered.{ordered-ok}
 use Rattle.derivations.proofs.line.ordered_states.Goals as goal
 
 pub returns-then-is_sorted_by : goal.returns-then-is_sorted_by

@@ -5,7 +5,7 @@ use Rattle.std.proofs.lemmas.List.Sorted.{answers_always, IsPermutation-refl}
 use Rattle.derivations.specs.Steps.{written_cmp}
 use Rattle.derivations.specs.StepViews.{written_view}
 use Rattle.derivations.proofs.OrderLaws.{written_total}
-use Rattle.derivations.proofs.Sorting.{ordered-ok}
+use Rattle.derivations.proofs.Ordered.{ordered-ok}
 use Rattle.derivations.proofs.line.ordered_terms.Goals as goal
 
 pub returns-then-is_sorted_by-clause-same : goal.returns-then-is_sorted_by-clause-same

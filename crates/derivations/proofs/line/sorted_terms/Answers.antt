@@ -5,7 +5,7 @@ use Rattle.std.proofs.lemmas.List.Sorted.{answers_always, ranks_by}
 use Rattle.derivations.specs.Steps.{written_cmp}
 use Rattle.derivations.specs.StepViews.{written_view}
 use Rattle.derivations.proofs.OrderLaws.{written_total}
-use Rattle.derivations.proofs.Sorting.{ordered-ok, ordered-refused}
+use Rattle.derivations.proofs.Ordered.{ordered-ok, ordered-refused}
 use Rattle.derivations.proofs.line.sorted_terms.Goals as goal
 
 pub returns-then-is_sorted_by-clause-terms : goal.returns-then-is_sorted_by-clause-terms

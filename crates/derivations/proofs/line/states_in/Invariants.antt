@@ -2,7 +2,7 @@ use Rattle.std.proofs.Common.{◌≡◌, drop}
 use Rattle.trees.specs.Trees.{trees_view}
 use Rattle.derivations.specs.Steps.{states_in}
 use Rattle.vertices.specs.Views.{state_views, vertex_view}
-use Rattle.derivations.proofs.ReadLemmas.{with_front}
+use Rattle.model.proofs.Fronts.{with_front}
 use Rattle.derivations.proofs.line.states_in.Given as goal
 
 -- the states so far and those of what is left are those of all

@@ -4,7 +4,7 @@ use Rattle.trees.specs.Trees.{trees_view}
 use Rattle.model.specs.Outcome.{◌>>=◌}
 use Rattle.derivations.specs.Steps.{terms_in}
 use Rattle.derivations.specs.StepViews.{written_view, written_views}
-use Rattle.derivations.proofs.ReadLemmas.{with_front, with_front-next}
+use Rattle.model.proofs.Fronts.{with_front, with_front-next}
 use Rattle.derivations.proofs.TableLaws.{grown-trans}
 use Rattle.derivations.proofs.EarlierLaws.{earlier-kept, more-written}
 use Rattle.derivations.proofs.line.terms_in.Goals as goal

@@ -3,7 +3,7 @@ use Rattle.trees.specs.Trees.{trees_view}
 use Rattle.derivations.specs.Steps.{terms_in}
 use Rattle.derivations.specs.StepViews.{written_term, written_views}
 use Rattle.derivations.specs.Tables.{AreTermsOf, IsGrown}
-use Rattle.derivations.proofs.ReadLemmas.{with_front}
+use Rattle.model.proofs.Fronts.{with_front}
 use Rattle.derivations.proofs.line.terms_in.Given as goal
 
 -- the terms so far and those of what is left are those of all

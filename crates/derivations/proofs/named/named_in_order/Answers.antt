@@ -7,7 +7,7 @@ use Rattle.derivations.specs.Derivations.{term_cmp}
 use Rattle.derivations.specs.Named.{named_views, set_in_order_view, set_in_order_views}
 use Rattle.model.specs.Sorting.{in_order}
 use Rattle.derivations.proofs.BuildingLaws.{term_total, terms-apart}
-use Rattle.derivations.proofs.Sorting.{sorted-run}
+use Rattle.model.proofs.Sorting.{sorted-run}
 use Rattle.derivations.proofs.named.named_in_order.Goals as goal
 
 pub returns : goal.returns

@@ -5,7 +5,7 @@ use Rattle.std.proofs.lemmas.List.Sorted.{answers_always, ranks_by}
 use Rattle.vertices.specs.Orders.{state_cmp}
 use Rattle.vertices.specs.RefViews.{state_ref_view}
 use Rattle.vertices.proofs.OrderLaws.{state_total}
-use Rattle.derivations.proofs.Sorting.{sorted-run}
+use Rattle.model.proofs.Sorting.{sorted-run}
 use Rattle.derivations.proofs.named.sorted_states.Goals as goal
 
 pub returns : goal.returns

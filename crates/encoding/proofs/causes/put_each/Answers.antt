@@ -15,7 +15,7 @@ use Rattle.encoding.proofs.causes.put_each.Goals as goal
 
 pub returns-in-Some : goal.returns-in-Some
 returns-in-Some c =
-    let q = problem c.args.inputs.now in
+    let q = problem c.args.known.now in
     let name = c.args.own.name.now in
     let v = parts_of c.args.own.version.now in
     let f = c.args.own.feature.now in
@@ -33,7 +33,7 @@ returns-in-Some c =
 
 pub returns-in-None : goal.returns-in-None
 returns-in-None c =
-    let q = problem c.args.inputs.now in
+    let q = problem c.args.known.now in
     let name = c.args.own.name.now in
     let v = parts_of c.args.own.version.now in
     let cs = cause_views c.args.causes.now.items in

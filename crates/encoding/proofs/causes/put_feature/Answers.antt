@@ -12,7 +12,7 @@ use Rattle.encoding.proofs.causes.put_feature.Goals as goal
 
 pub entries-preserved : goal.entries-preserved
 entries-preserved c =
-    let f : model.Entry → List Cause = entry_causes (problem c.args.inputs.now) c.args.own.name.now
+    let f : model.Entry → List Cause = entry_causes (problem c.args.known.now) c.args.own.name.now
     (parts_of c.args.own.version.now) c.args.own.feature.now in
     let xs = c.args.entries.now in
     let i = c.entries.entry-index in

@@ -15,7 +15,7 @@ use Rattle.encoding.proofs.causes.put_rows.Goals as goal
 
 pub rows-preserved : goal.rows-preserved
 rows-preserved c =
-    let q = problem c.args.inputs.now in
+    let q = problem c.args.known.now in
     let name = c.args.name.now in
     let v = parts_of c.args.version.now in
     let row : List ℕ × Vec Entry Global = (c.in-Some.feature.now, c.in-Some.field-0-1.now) in

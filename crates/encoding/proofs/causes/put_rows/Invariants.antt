@@ -13,7 +13,7 @@ invariant-rows l = record {
   can : (goal.iterator-rows).can_next l.feature-iterator;
   finite : (goal.iterator-rows).is_finite l.feature-iterator;
   told : cause_views l.causes.items ++ flat_map (λ row.
-      feature_causes (problem l.inputs) l.name (parts_of l.version) row.0) (rows_of l.feature-iterator)
+      feature_causes (problem l.known) l.name (parts_of l.version) row.0) (rows_of l.feature-iterator)
       ≡ cause_views l.fn.causes.items
-      ++ flat_map (λ row. feature_causes (problem l.inputs) l.name (parts_of l.version) row.0) l.table;
+      ++ flat_map (λ row. feature_causes (problem l.known) l.name (parts_of l.version) row.0) l.table;
 }

@@ -11,7 +11,7 @@ use Rattle.encoding.proofs.causes.put_those.Given as goal
 -- the causes so far, with those of the dependencies that are left, are all
 abbrev pub invariant-those : goal.invariant-those
 invariant-those l =
-    cause_views l.causes.items ++ flat_map (λ p. entry_if (problem l.inputs) l.own.name.now (parts_of l.own.version.now)
+    cause_views l.causes.items ++ flat_map (λ p. entry_if (problem l.known) l.own.name.now (parts_of l.own.version.now)
     l.own.feature.now (entry_view l.entry) p.0 p.1) (numbered_views (drop l.one-index l.those))
-    ≡ cause_views l.fn.causes.items ++ flat_map (λ p. entry_if (problem l.inputs) l.own.name.now
+    ≡ cause_views l.fn.causes.items ++ flat_map (λ p. entry_if (problem l.known) l.own.name.now
     (parts_of l.own.version.now) l.own.feature.now (entry_view l.entry) p.0 p.1) (numbered_views l.those)

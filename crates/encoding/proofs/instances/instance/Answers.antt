@@ -13,14 +13,14 @@ use Rattle.encoding.proofs.instances.instance.Goals as goal
 
 pub put_all_tested-requires-clause-fit : goal.put_all_tested-requires-clause-fit
 put_all_tested-requires-clause-fit g c =
-    cause_fits c.args.inputs.now.manifest.now c.args.inputs.now.catalogue.now (cause_view c.args.cause.now)
+    cause_fits c.args.known.now.manifest.now c.args.known.now.catalogue.now (cause_view c.args.cause.now)
     (tested_views c.as_slice.result.now)
     c.names.ensures.store c.catalogues_are_well_formed.ensures c.requires.there
     (ap tested_views c.as_slice.ensures.value ∙ c.in_ok-tested_terms.ensures)
 
 pub made_of-requires : goal.made_of-requires
 made_of-requires g c =
-    let q = problem c.args.inputs.now in
+    let q = problem c.args.known.now in
     let ts = terms_of_cause q (cause_view c.args.cause.now) in
     let are = are_numbered q c.put_all_tested.new.table (terms_view g.S.States.tests c.in_ok-terms.terms.items) ts
     (subst (AreOfTested c.put_all_tested.new.table (terms_view g.S.States.tests c.in_ok-terms.terms.items))
@@ -32,7 +32,7 @@ made_of-requires g c =
 
 pub returns-clause-says : goal.returns-clause-says
 returns-clause-says g c =
-    let q = problem c.args.inputs.now in
+    let q = problem c.args.known.now in
     let ts = terms_of_cause q (cause_view c.args.cause.now) in
     let are = are_numbered q c.put_all_tested.new.table (terms_view g.S.States.tests c.in_ok-terms.terms.items) ts
     (subst (AreOfTested c.put_all_tested.new.table (terms_view g.S.States.tests c.in_ok-terms.terms.items))
@@ -41,12 +41,12 @@ returns-clause-says g c =
 
 pub returns-in_err-terms-clause-only : goal.returns-in_err-terms-clause-only
 returns-in_err-terms-clause-only g c =
-    cause_adds (problem c.args.inputs.now) (cause_view c.args.cause.now)
+    cause_adds (problem c.args.known.now) (cause_view c.args.cause.now)
     (tested_views c.as_slice.result.now) c.args.table.now c.put_all_tested.new.table
     (ap tested_views c.as_slice.ensures.value ∙ c.in_ok-tested_terms.ensures) c.put_all_tested.ensures.only
 
 pub returns-clause-only : goal.returns-clause-only
 returns-clause-only g c =
-    cause_adds (problem c.args.inputs.now) (cause_view c.args.cause.now)
+    cause_adds (problem c.args.known.now) (cause_view c.args.cause.now)
     (tested_views c.as_slice.result.now) c.args.table.now c.put_all_tested.new.table
     (ap tested_views c.as_slice.ensures.value ∙ c.in_ok-tested_terms.ensures) c.put_all_tested.ensures.only

@@ -9,7 +9,7 @@ use Rattle.encoding.proofs.instances.put_all_tested.Goals as goal
 
 pub put_tested-requires-clause-fit : goal.put_tested-requires-clause-fit
 put_tested-requires-clause-fit g c =
-    fit_at (IsFitting (problem c.args.inputs.now)) c.args.tested_terms.now c.tested_terms.tested_term-index
+    fit_at (IsFitting (problem c.args.known.now)) c.args.tested_terms.now c.tested_terms.tested_term-index
     c.tested_term-item.result c.requires.fit
     c.tested_terms-test.true c.tested_term-item.is
 

@@ -8,43 +8,43 @@ use Rattle.encoding.proofs.instances.put_tested.Goals as goal
 
 pub returns-in_err-states-clause-grown : goal.returns-in_err-states-clause-grown
 returns-in_err-states-clause-grown g c =
-    (vertex_put (problem c.args.inputs.now) c.args.table.now
+    (vertex_put (problem c.args.known.now) c.args.table.now
     (vertex_ref_view c.args.tested_term.now.vertex) c.put.new.self
     c.requires.numbering c.requires.fit.there c.in_ok-vertex.ensures.ok).1
 
 pub returns-in_err-states-clause-numbering : goal.returns-in_err-states-clause-numbering
 returns-in_err-states-clause-numbering g c =
-    (vertex_put (problem c.args.inputs.now) c.args.table.now
+    (vertex_put (problem c.args.known.now) c.args.table.now
     (vertex_ref_view c.args.tested_term.now.vertex) c.put.new.self
     c.requires.numbering c.requires.fit.there c.in_ok-vertex.ensures.ok).0
 
 pub returns-in_err-push-clause-grown : goal.returns-in_err-push-clause-grown
 returns-in_err-push-clause-grown g c =
-    (vertex_put (problem c.args.inputs.now) c.args.table.now
+    (vertex_put (problem c.args.known.now) c.args.table.now
     (vertex_ref_view c.args.tested_term.now.vertex) c.put.new.self
     c.requires.numbering c.requires.fit.there c.in_ok-vertex.ensures.ok).1
 
 pub returns-in_err-push-clause-numbering : goal.returns-in_err-push-clause-numbering
 returns-in_err-push-clause-numbering g c =
-    (vertex_put (problem c.args.inputs.now) c.args.table.now
+    (vertex_put (problem c.args.known.now) c.args.table.now
     (vertex_ref_view c.args.tested_term.now.vertex) c.put.new.self
     c.requires.numbering c.requires.fit.there c.in_ok-vertex.ensures.ok).0
 
 pub returns-clause-grown : goal.returns-clause-grown
 returns-clause-grown g c =
-    (vertex_put (problem c.args.inputs.now) c.args.table.now
+    (vertex_put (problem c.args.known.now) c.args.table.now
     (vertex_ref_view c.args.tested_term.now.vertex) c.put.new.self
     c.requires.numbering c.requires.fit.there c.in_ok-vertex.ensures.ok).1
 
 pub returns-clause-numbering : goal.returns-clause-numbering
 returns-clause-numbering g c =
-    (vertex_put (problem c.args.inputs.now) c.args.table.now
+    (vertex_put (problem c.args.known.now) c.args.table.now
     (vertex_ref_view c.args.tested_term.now.vertex) c.put.new.self
     c.requires.numbering c.requires.fit.there c.in_ok-vertex.ensures.ok).0
 
 pub returns-clause-terms : goal.returns-clause-terms
 returns-clause-terms g c = λ ps are.
-    let put = vertex_put (problem c.args.inputs.now) c.args.table.now (vertex_ref_view c.args.tested_term.now.vertex)
+    let put = vertex_put (problem c.args.known.now) c.args.table.now (vertex_ref_view c.args.tested_term.now.vertex)
     c.put.new.self c.requires.numbering c.requires.fit.there c.in_ok-vertex.ensures.ok in
     tested_put g.S.States.tests c.args.table.now c.put.new.self c.args.terms.now.items c.push.new.self.items
     (record { vertex = c.in_ok-vertex.vertex; states = c.in_ok-states.states }) (tested_view c.args.tested_term.now) ps

@@ -12,7 +12,7 @@ use Rattle.encoding.proofs.leading.put_lists.Goals as goal
 
 pub returns : goal.returns
 returns c =
-    let q = problem c.args.inputs.now in
+    let q = problem c.args.known.now in
     let o = owner_ref_view c.args.lead.owner in
     let d = dependency_view c.args.dependency.now in
     on_ok_weaker c.put_root_lists.result

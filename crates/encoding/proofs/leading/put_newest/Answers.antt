@@ -17,7 +17,7 @@ use Rattle.encoding.proofs.leading.put_newest.Goals as goal
 
 pub returns-in-Some : goal.returns-in-Some
 returns-in-Some c =
-    let q = problem c.args.inputs.now in
+    let q = problem c.args.known.now in
     let o = owner_ref_view c.args.lead.owner in
     let i = c.args.lead.number in
     let k = class_view c.args.lead.class in
@@ -30,5 +30,5 @@ returns-in-Some c =
       p,
       on_package d.real_name
           (numbered_from 0 (owner_brings p o).dependencies),
-    )) c.args.inputs.now.matched_there) ∙ ap (λ l. cs ++ l) (newest_on q o i k d (dep_classes q d)))
+    )) c.args.known.now.matched_there) ∙ ap (λ l. cs ++ l) (newest_on q o i k d (dep_classes q d)))
     c.put_newest_of.ensures

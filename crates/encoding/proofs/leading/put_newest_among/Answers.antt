@@ -17,7 +17,7 @@ use Rattle.encoding.proofs.leading.put_newest_among.Goals as goal
 
 pub returns-then-is_alone : goal.returns-then-is_alone
 returns-then-is_alone c =
-    let q = problem c.args.inputs.now in
+    let q = problem c.args.known.now in
     let lead = c.args.lead in
     let cs = cause_views c.args.causes.now.items in
     sym (ap (λ l. cs ++ l) (none_alone q (owner_ref_view lead.owner) lead.number (class_view lead.class)
@@ -26,7 +26,7 @@ returns-then-is_alone c =
 
 pub returns : goal.returns
 returns c =
-    let q = problem c.args.inputs.now in
+    let q = problem c.args.known.now in
     let o = owner_ref_view c.args.lead.owner in
     let i = c.args.lead.number in
     let k = class_view c.args.lead.class in
@@ -35,5 +35,5 @@ returns c =
     on_ok_weaker c.put_newest_of.result
     (λ e. e
     ∙ ap (λ (b : Problem × List (ℕ × Dependency)). cs ++ flat_map (newest_among b.0 o i k b.1) (dep_classes q d))
-    (c.in_ok-those.ensures ∙ ap (λ p. (p, numbered_views c.args.others.now)) c.args.inputs.now.matched_there))
+    (c.in_ok-those.ensures ∙ ap (λ p. (p, numbered_views c.args.others.now)) c.args.known.now.matched_there))
     c.put_newest_of.ensures

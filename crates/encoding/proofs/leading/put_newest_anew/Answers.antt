@@ -17,7 +17,7 @@ use Rattle.encoding.proofs.leading.put_newest_anew.Goals as goal
 
 pub returns-in-Some : goal.returns-in-Some
 returns-in-Some c =
-    let q = problem c.args.inputs.now in
+    let q = problem c.args.known.now in
     let o = owner_ref_view c.args.lead.owner in
     let i = c.args.lead.number in
     let k = class_view c.args.lead.class in
@@ -27,14 +27,14 @@ returns-in-Some c =
     on_ok_weaker c.put_newest_among.result
     (λ e. e ∙ ap (λ (ps : List (ℕ × Dependency)). cs ++ flat_map (newest_among q o i k ps) (dep_classes q d))
     (c.in-Some.ensures ∙ ap (λ (p : Problem). on_package c.as_str-name.result.now
-    (numbered_from 0 (owner_brings p o).dependencies)) c.args.inputs.now.matched_there
+    (numbered_from 0 (owner_brings p o).dependencies)) c.args.known.now.matched_there
     ∙ ap (λ x. on_package x (numbered_from 0 ds)) c.as_str-name.ensures.text)
     ∙ ap (λ l. cs ++ l) (newest_on q o i k d (dep_classes q d)))
     c.put_newest_among.ensures
 
 pub returns-in_ok-others-in-None : goal.returns-in_ok-others-in-None
 returns-in_ok-others-in-None c =
-    let q = problem c.args.inputs.now in
+    let q = problem c.args.known.now in
     let o = owner_ref_view c.args.lead.owner in
     let i = c.args.lead.number in
     let k = class_view c.args.lead.class in

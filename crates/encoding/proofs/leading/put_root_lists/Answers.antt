@@ -13,7 +13,7 @@ use Rattle.encoding.proofs.leading.put_root_lists.Goals as goal
 
 pub returns-in-Root : goal.returns-in-Root
 returns-in-Root c =
-    let q = problem c.args.inputs.now in
+    let q = problem c.args.known.now in
     let f = of_list (owner_ref_view c.args.lead.owner) c.args.lead.number (class_view c.args.lead.class) in
     let d = dependency_view c.args.dependency.now in
     let cs = cause_views c.args.causes.now.items in

@@ -13,5 +13,5 @@ returns c =
     let n = c.args.number in
     c.class_at.ensures ∙ ap (λ (ks : List Class).
     unwrap_or (slice_get (absent ∷ map (λ k. in_class (class_view k)) ks) n) absent) c.as_slice.ensures.value
-    ∙ classes_are_states (problem c.args.inputs.now)
+    ∙ classes_are_states (problem c.args.known.now)
     (owner_ref_view c.args.owner.now) c.args.dependency c.in_ok-classes.classes.items n c.in_ok-classes.ensures

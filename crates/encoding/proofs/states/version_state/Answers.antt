@@ -5,7 +5,7 @@ use Rattle.encoding.proofs.states.version_state.Goals as goal
 
 pub returns : goal.returns
 returns c =
-    let i = c.args.inputs.now in
+    let i = c.args.known.now in
     let name = c.args.name.now in
     let n = c.args.number in
     c.version_at.ensures

@@ -11,5 +11,5 @@ pub returns : goal.returns
 returns c =
     let o = owner_ref_view c.args.owner in
     ap (λ m. (dep o c.args.number, m)) (c.in_ok-tests.ensures ∙ ap (λ (ks : List Class). true
-    ∷ map (λ k. false) ks) c.as_slice.ensures.value ∙ no_class_is (problem c.args.inputs.now) o c.args.number
+    ∷ map (λ k. false) ks) c.as_slice.ensures.value ∙ no_class_is (problem c.args.known.now) o c.args.number
     c.in_ok-classes.classes.items c.in_ok-classes.ensures)

@@ -8,7 +8,7 @@ use Rattle.encoding.proofs.tested_terms.chosen.Goals as goal
 
 pub returns : goal.returns
 returns c =
-    let i = c.args.inputs.now in
+    let i = c.args.known.now in
     let v = parts_of c.args.version.now in
     ap₂ (λ k m. (pkg c.args.name.now k, m)) c.of-class.ensures
     (c.in_ok-tests.ensures

@@ -15,5 +15,5 @@ returns c =
     ap (λ m. (dep o c.args.number, m)) (c.in_ok-tests.ensures
     ∙ ap (λ (ks : List Class). false
     ∷ map (λ m. is_class (class_view c.args.class) (class_view m)) ks) c.as_slice.ensures.value
-    ∙ class_is (problem c.args.inputs.now) o c.args.number c.in_ok-classes.classes.items c.in_ok-classes.ensures
+    ∙ class_is (problem c.args.known.now) o c.args.number c.in_ok-classes.classes.items c.in_ok-classes.ensures
     (class_view c.args.class))

@@ -7,7 +7,7 @@ use Rattle.encoding.proofs.tested_terms.left.Goals as goal
 
 pub returns : goal.returns
 returns c =
-    let i = c.args.inputs.now in
+    let i = c.args.known.now in
     let d = dependency_view c.args.dependency.now in
     ap (λ m. (pkg d.real_name (class_view c.args.class), m))
     (c.in_ok-tests.ensures

@@ -1,7 +1,7 @@
 use Rattle.std.proofs.Common.{not, cond, nat_eq, None, map, unwrap_or, slice_get, [], get_or, ◌∙◌, sym, ap, arith}
 use Rattle.facts.specs.Graphs.{flag_at}
 use Rattle.lockfile.specs.Views.{package_view}
-use Rattle.lockfile.specs.declared.locked.Package as code
+use Rattle.lockfile.specs.declared.package.Package as code
 use Rattle.selection.proofs.Seconds.{view_at}
 use Rattle.flaws.specs.Reasons.{why_none}
 use Rattle.flaws.specs.declared.flawed.Flawed.{Flawed}

@@ -1,7 +1,7 @@
 use Rattle.std.proofs.Common.{◌≡◌, ◌∙◌, Bor, Some, None, option_map, ap}
 use Rattle.features.specs.Views.{dependency_view}
 use Rattle.lockfile.specs.Views.{package_view, package_views}
-use Rattle.lockfile.specs.declared.locked.Package.{Package}
+use Rattle.lockfile.specs.declared.package.Package.{Package}
 use Rattle.model.specs.Content.{last_serving}
 use Rattle.vertices.specs.RefViews.{owner_ref_view}
 use Rattle.following.proofs.Led.{no_owner, no_place, at_place, list_rises, list_within}

@@ -11,5 +11,5 @@ returns c =
     let content = c.args.content.now in
     c.first_sourceless.ensures ∙ ap (find (λ p. is_sourceless (package_view p))) (take_rest content c.lower.result)
     ∙ find_past (λ p. is_sourceless (package_view p)) content c.lower.result c.lower.ensures.few
-    (λ k e l u. lower_is_sourced (problem c.args.inputs.now) content c.requires k e
+    (λ k e l u. lower_is_sourced (problem c.args.known.now) content c.requires k e
     (omega (arith, u, c.lower.ensures.few)) (rw c.name.ensures at c.lower.ensures.place.0 k e l u))

@@ -6,7 +6,7 @@ use Rattle.following.proofs.numbers.version_number.Goals as goal
 
 pub returns-in_err-place : goal.returns-in_err-place
 returns-in_err-place c =
-    let i = c.args.inputs.now in
+    let i = c.args.known.now in
     λ state. absurd (not_missing (class_view c.args.class) c.versions-versions.result.now c.below.result
     c.versions-versions.ensures.rising c.below.ensures.place
     i.manifest.now i.catalogue.now c.args.name.now c.versions-versions.ensures.versions
@@ -26,7 +26,7 @@ overflow_add-result c =
 
 pub returns : goal.returns
 returns c =
-    let i = c.args.inputs.now in
+    let i = c.args.known.now in
     λ state. is_number (class_view c.args.class) c.versions-versions.result.now c.below.result
     c.versions-versions.ensures.rising c.below.ensures.place
     i.manifest.now i.catalogue.now c.args.name.now c.versions-versions.ensures.versions

@@ -10,13 +10,13 @@ use Rattle.following.proofs.states.class_in.Goals as goal
 
 pub returns-in_default-led_to : goal.returns-in_default-led_to
 returns-in_default-led_to c =
-    none_led (problem c.args.inputs.now) (package_views c.args.content.now) c.requires.valid
+    none_led (problem c.args.known.now) (package_views c.args.content.now) c.requires.valid
     (owner_ref_view c.args.owner.now) c.args.number
     (dependency_view c.in-Some.dependency.now) c.in-Some.ensures None c.in_default-led_to.ensures
 
 pub class_number-requires : goal.class_number-requires
 class_number-requires c =
-    let q = problem c.args.inputs.now in
+    let q = problem c.args.known.now in
     let o = owner_ref_view c.args.owner.now in
     let d = dependency_view c.in-Some.dependency.now in
     let are : map class_view c.as_slice.result.now ≡ dep_classes q d =
@@ -26,7 +26,7 @@ class_number-requires c =
 
 pub returns : goal.returns
 returns c =
-    let q = problem c.args.inputs.now in
+    let q = problem c.args.known.now in
     let o = owner_ref_view c.args.owner.now in
     let d = dependency_view c.in-Some.dependency.now in
     let are : map class_view c.as_slice.result.now ≡ dep_classes q d =

@@ -11,7 +11,7 @@ use Rattle.following.proofs.states.state_in.Goals as goal
 
 pub returns-in-Package : goal.returns-in-Package
 returns-in-Package c =
-    let q = problem c.args.inputs.now in
+    let q = problem c.args.known.now in
     let v = pkg c.in-Package.name.now (class_view c.in-Package.class) in
     let is : v ≡ vertex_ref_view c.args.vertex.now = ap vertex_ref_view (sym c.in-Package.is) in
     subst (λ (w : Vertex). IsStateIn q c.args.content.now w c.version_in.result) is
@@ -20,7 +20,7 @@ returns-in-Package c =
 
 pub returns-in-Dependency : goal.returns-in-Dependency
 returns-in-Dependency c =
-    let q = problem c.args.inputs.now in
+    let q = problem c.args.known.now in
     let v = dep (owner_ref_view c.in-Dependency.owner) c.in-Dependency.number in
     let is : v ≡ vertex_ref_view c.args.vertex.now = ap vertex_ref_view (sym c.in-Dependency.is) in
     IfOk-weaker c.class_in.result (IsStateIn q (package_views c.packages-packages.result.now) v)

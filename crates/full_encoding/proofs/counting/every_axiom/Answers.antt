@@ -14,7 +14,7 @@ returns-in_err-given-clause-grown g c =
     let same : length ss ≤ length ss = omega arith in
     taken_grows vs new (length ss) (length ss)
     (grows_on vs c.number_all.new.table new c.number_all.ensures.grown c.all_axioms.ensures.grown)
-    (spaces_few (problem c.args.inputs.now) vs ss (c.requires.encoding).spaces) same
+    (spaces_few (problem c.args.known.now) vs ss (c.requires.encoding).spaces) same
 
 pub returns-in_err-put_spaces-clause-grown : goal.returns-in_err-put_spaces-clause-grown
 returns-in_err-put_spaces-clause-grown g c =
@@ -23,7 +23,7 @@ returns-in_err-put_spaces-clause-grown g c =
     let new = c.all_axioms.new.table in
     taken_grows vs new (length ss) (length c.put_spaces.new.spaces.items)
     (grows_on vs c.number_all.new.table new c.number_all.ensures.grown c.all_axioms.ensures.grown)
-    (spaces_few (problem c.args.inputs.now) vs ss (c.requires.encoding).spaces) c.put_spaces.ensures.more
+    (spaces_few (problem c.args.known.now) vs ss (c.requires.encoding).spaces) c.put_spaces.ensures.more
 
 pub returns-clause-grown : goal.returns-clause-grown
 returns-clause-grown g c =
@@ -32,11 +32,11 @@ returns-clause-grown g c =
     let new = c.all_axioms.new.table in
     taken_grows vs new (length ss) (length c.put_spaces.new.spaces.items)
     (grows_on vs c.number_all.new.table new c.number_all.ensures.grown c.all_axioms.ensures.grown)
-    (spaces_few (problem c.args.inputs.now) vs ss (c.requires.encoding).spaces) c.put_spaces.ensures.more
+    (spaces_few (problem c.args.known.now) vs ss (c.requires.encoding).spaces) c.put_spaces.ensures.more
 
 pub returns-clause-whole : goal.returns-clause-whole
 returns-clause-whole g c =
-    let q = problem c.args.inputs.now in
+    let q = problem c.args.known.now in
     let new = c.all_axioms.new.table in
     subst (IsWhole q) (sym (take_all (length c.put_spaces.new.spaces.items) new c.in_ok-put_spaces.ensures.all))
     (λ v is. still_in c.number_all.new.table new v c.all_axioms.ensures.grown (c.in_ok-number_all.ensures.whole v is))

@@ -13,20 +13,20 @@ use Rattle.full_encoding.proofs.counting.pair_axioms.Goals as goal
 pub returns-in_err-put_spaces-clause-grown : goal.returns-in_err-put_spaces-clause-grown
 returns-in_err-put_spaces-clause-grown g c =
     let few =
-    spaces_few (problem c.args.inputs.now) c.args.table.now c.args.spaces.now.items (c.requires.encoding).spaces in
+    spaces_few (problem c.args.known.now) c.args.table.now c.args.spaces.now.items (c.requires.encoding).spaces in
     taken_grows c.args.table.now c.axioms_at.new.table (length c.args.spaces.now.items)
     (length c.put_spaces.new.spaces.items) c.axioms_at.ensures.grown few c.put_spaces.ensures.more
 
 pub returns-clause-grown : goal.returns-clause-grown
 returns-clause-grown g c =
     let few =
-    spaces_few (problem c.args.inputs.now) c.args.table.now c.args.spaces.now.items (c.requires.encoding).spaces in
+    spaces_few (problem c.args.known.now) c.args.table.now c.args.spaces.now.items (c.requires.encoding).spaces in
     taken_grows c.args.table.now c.axioms_at.new.table (length c.args.spaces.now.items)
     (length c.put_spaces.new.spaces.items) c.axioms_at.ensures.grown few c.put_spaces.ensures.more
 
 pub returns-clause-given : goal.returns-clause-given
 returns-clause-given g c =
-    let q = problem c.args.inputs.now in
+    let q = problem c.args.known.now in
     let vs = c.args.table.now in
     let few = length c.args.spaces.now.items in
     let seen = take few vs in
@@ -47,14 +47,14 @@ returns-clause-given g c =
 
 pub returns-then-not-has-clause-only : goal.returns-then-not-has-clause-only
 returns-then-not-has-clause-only g c =
-    let q = problem c.args.inputs.now in
+    let q = problem c.args.known.now in
     let vs = c.args.table.now in
     let few = length c.args.spaces.now.items in
     adds_same q (pair_in q (take few vs) c.args.vertex c.args.state) (take few vs ++ drop few vs)
 
 pub returns-in_err-given-clause-only : goal.returns-in_err-given-clause-only
 returns-in_err-given-clause-only g c =
-    let q = problem c.args.inputs.now in
+    let q = problem c.args.known.now in
     let vs = c.args.table.now in
     let few = length c.args.spaces.now.items in
     let n = c.args.vertex in
@@ -66,7 +66,7 @@ returns-in_err-given-clause-only g c =
 
 pub returns-in_err-put_spaces-clause-only : goal.returns-in_err-put_spaces-clause-only
 returns-in_err-put_spaces-clause-only g c =
-    let q = problem c.args.inputs.now in
+    let q = problem c.args.known.now in
     let vs = c.args.table.now in
     let few = length c.args.spaces.now.items in
     let n = c.args.vertex in
@@ -78,7 +78,7 @@ returns-in_err-put_spaces-clause-only g c =
 
 pub returns-clause-only : goal.returns-clause-only
 returns-clause-only g c =
-    let q = problem c.args.inputs.now in
+    let q = problem c.args.known.now in
     let vs = c.args.table.now in
     let few = length c.args.spaces.now.items in
     let n = c.args.vertex in

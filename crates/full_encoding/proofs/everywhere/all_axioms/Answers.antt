@@ -1,4 +1,4 @@
-use Rattle.std.proofs.Common.{◌≡◌, ◌<◌, ◌≤◌, ◌+◌, suc, length, take, take_all, Some, slice_get, refl, sym, ap, ◌∙◌}
+use Rattle.std.proofs.Common.{◌≡◌, ◌<◌, ◌≤◌, ◌+◌, suc, length, take, take_all, refl, sym}
 use Rattle.std.proofs.Common.{subst, arith}
 use Rattle.encoding.specs.GivenViews.{given_views}
 use Rattle.encoding.specs.KnownProblem.{problem}
@@ -11,7 +11,7 @@ use Rattle.full_encoding.proofs.everywhere.all_axioms.Goals as goal
 
 pub vertices-init : goal.vertices-init
 vertices-init g c =
-    let q = problem c.args.inputs.now in
+    let q = problem c.args.known.now in
     record {
       same = refl;
       grown = (put_none c.args.table.now Rattle.std.proofs.Common.[]).grown;
@@ -23,7 +23,7 @@ vertices-init g c =
 
 pub vertices-preserved : goal.vertices-preserved
 vertices-preserved g c =
-    let q = problem c.args.inputs.now in
+    let q = problem c.args.known.now in
     let n = c.vertices.number in
     let old = c.args.table.now in
     let new = c.put_vertex.new.table in
@@ -44,7 +44,7 @@ vertices-preserved g c =
 
 pub returns-clause-given : goal.returns-clause-given
 returns-clause-given g c =
-    let q = problem c.args.inputs.now in
+    let q = problem c.args.known.now in
     let old = c.args.table.now in
     let all : length old ≤ c.vertices.number =
     subst (λ k. k ≤ c.vertices.number) c.len-number-end.ensures (omega (arith, c.vertices-test.false)) in

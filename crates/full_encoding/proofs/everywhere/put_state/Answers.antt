@@ -14,7 +14,7 @@ use Rattle.full_encoding.proofs.everywhere.put_state.Goals as goal
 
 pub returns-clause-given : goal.returns-clause-given
 returns-clause-given g c = λ ps fresh old.
-    let q = problem c.args.inputs.now in
+    let q = problem c.args.known.now in
     let tests = g.S.States.tests in
     let p : Pair = (vertex_ref_view c.args.vertex, state_ref_view c.args.state) in
     let xs = given_views tests c.args.given.now.items in

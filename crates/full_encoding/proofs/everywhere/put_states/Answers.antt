@@ -14,7 +14,7 @@ use Rattle.full_encoding.proofs.everywhere.put_states.Goals as goal
 
 pub states-init : goal.states-init
 states-init g c =
-    let q = problem c.args.inputs.now in
+    let q = problem c.args.known.now in
     let v = vertex_ref_view c.args.vertex in
     record {
       same = refl;
@@ -26,7 +26,7 @@ states-init g c =
 
 pub put_state-requires-clause-state : goal.put_state-requires-clause-state
 put_state-requires-clause-state g c =
-    let q = problem c.args.inputs.now in
+    let q = problem c.args.known.now in
     let v = vertex_ref_view c.args.vertex in
     let x = c.state-item.result in
     let r =
@@ -36,7 +36,7 @@ put_state-requires-clause-state g c =
 
 pub states-preserved : goal.states-preserved
 states-preserved g c =
-    let q = problem c.args.inputs.now in
+    let q = problem c.args.known.now in
     let v = vertex_ref_view c.args.vertex in
     let n = c.states.state-index in
     let x = c.state-item.result in
@@ -60,7 +60,7 @@ states-preserved g c =
 
 pub returns-clause-given : goal.returns-clause-given
 returns-clause-given g c = λ ps fresh old.
-    let q = problem c.args.inputs.now in
+    let q = problem c.args.known.now in
     let v = vertex_ref_view c.args.vertex in
     let same : length c.args.states.now ≡ length (space q v) =
     sym (length-map c.args.states.now state_ref_view) ∙ ap length c.requires.states in

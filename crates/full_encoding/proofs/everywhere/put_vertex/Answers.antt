@@ -13,13 +13,13 @@ use Rattle.full_encoding.proofs.everywhere.put_vertex.Goals as goal
 
 pub put_each-requires-clause-vertex : goal.put_each-requires-clause-vertex
 put_each-requires-clause-vertex g c =
-    let q = problem c.args.inputs.now in
+    let q = problem c.args.known.now in
     vertex_there (λ v. IsVertex q v) c.args.table.now c.args.number (vertex_ref_view c.in-Some.vertex)
     c.requires.numbering.there (sym c.vertex.ensures ∙ ap (option_map vertex_ref_view) c.in-Some.is)
 
 pub returns-in-Some-clause-given : goal.returns-in-Some-clause-given
 returns-in-Some-clause-given g c =
-    let q = problem c.args.inputs.now in
+    let q = problem c.args.known.now in
     let w = vertex_ref_view c.in-Some.vertex in
     let old = given_views g.S.States.tests c.args.given.now.items in
     let new = given_views g.S.States.tests c.put_each.new.given.items in

@@ -11,7 +11,7 @@ use Rattle.full_encoding.proofs.naming.put_asked.Goals as goal
 
 pub returns-in-DependencyFeature : goal.returns-in-DependencyFeature
 returns-in-DependencyFeature c =
-    let f = asked_of (problem c.args.inputs.now) c.args.called.now in
+    let f = asked_of (problem c.args.known.now) c.args.called.now in
     let vs = vertex_views c.args.vertices.now.items in
     on_ok_weaker c.put_called.result
     (λ e. e ∙ ap (λ l. vs ++ l) (sym (append_none _))
@@ -20,7 +20,7 @@ returns-in-DependencyFeature c =
 
 pub returns-in-WeakFeature : goal.returns-in-WeakFeature
 returns-in-WeakFeature c =
-    let f = asked_of (problem c.args.inputs.now) c.args.called.now in
+    let f = asked_of (problem c.args.known.now) c.args.called.now in
     let vs = vertex_views c.args.vertices.now.items in
     on_ok_weaker c.put_called-in-WeakFeature.result
     (λ e. e ∙ ap (λ l. vs ++ l) (sym (append_none _))

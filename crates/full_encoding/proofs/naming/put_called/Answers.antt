@@ -12,7 +12,7 @@ use Rattle.full_encoding.proofs.naming.put_called.Goals as goal
 
 pub returns-in-Some : goal.returns-in-Some
 returns-in-Some c =
-    let q = problem c.args.inputs.now in
+    let q = problem c.args.known.now in
     let ds = c.args.called.now in
     let vs = vertex_views c.args.vertices.now.items in
     let g = c.args.asked.now in
@@ -26,7 +26,7 @@ returns-in-Some c =
 
 pub returns-in-None : goal.returns-in-None
 returns-in-None c =
-    let q = problem c.args.inputs.now in
+    let q = problem c.args.known.now in
     let ds = c.args.called.now in
     let vs = vertex_views c.args.vertices.now.items in
     let g = c.args.asked.now in

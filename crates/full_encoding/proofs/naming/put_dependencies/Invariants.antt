@@ -9,7 +9,7 @@ use Rattle.full_encoding.proofs.naming.put_dependencies.Given as goal
 -- the vertices so far, with those of the dependencies that are left, are all
 abbrev pub invariant-dependencies : goal.invariant-dependencies
 invariant-dependencies l =
-    vertex_views l.vertices.items ++ each_from (of_dependency (problem l.inputs) (owner_ref_view l.owner)) l.number
+    vertex_views l.vertices.items ++ each_from (of_dependency (problem l.known) (owner_ref_view l.owner)) l.number
     (dependency_views (drop l.number l.dependencies))
     ≡ vertex_views l.fn.vertices.items
-    ++ each_from (of_dependency (problem l.inputs) (owner_ref_view l.owner)) 0 (dependency_views l.dependencies)
+    ++ each_from (of_dependency (problem l.known) (owner_ref_view l.owner)) 0 (dependency_views l.dependencies)

@@ -11,7 +11,7 @@ use Rattle.full_encoding.proofs.naming.put_each_asked.Goals as goal
 
 pub those-preserved : goal.those-preserved
 those-preserved c =
-    let f : ℕ × Dependency → List Vertex = λ p. feature_of (problem c.args.inputs.now) p.1.real_name c.args.asked.now in
+    let f : ℕ × Dependency → List Vertex = λ p. feature_of (problem c.args.known.now) p.1.real_name c.args.asked.now in
     let xs = c.args.those.now in
     let i = c.those.one-index in
     let e = c.one-item.result in

@@ -9,7 +9,7 @@ use Rattle.full_encoding.proofs.naming.put_each_asked.Given as goal
 -- the vertices so far, with those of the dependencies that are left, are all
 abbrev pub invariant-those : goal.invariant-those
 invariant-those l =
-    vertex_views l.vertices.items ++ flat_map (λ p. feature_of (problem l.inputs) p.1.real_name l.asked)
+    vertex_views l.vertices.items ++ flat_map (λ p. feature_of (problem l.known) p.1.real_name l.asked)
     (numbered_views (drop l.one-index l.those))
     ≡ vertex_views l.fn.vertices.items
-    ++ flat_map (λ p. feature_of (problem l.inputs) p.1.real_name l.asked) (numbered_views l.those)
+    ++ flat_map (λ p. feature_of (problem l.known) p.1.real_name l.asked) (numbered_views l.those)

@@ -12,7 +12,7 @@ use Rattle.full_encoding.proofs.naming.put_entries.Goals as goal
 
 pub entries-preserved : goal.entries-preserved
 entries-preserved c =
-    let f : model.Entry → List Vertex = of_entry (problem c.args.inputs.now) c.args.release.name.now
+    let f : model.Entry → List Vertex = of_entry (problem c.args.known.now) c.args.release.name.now
     (parts_of c.args.release.version.now) c.args.called.now in
     let xs = c.args.entries.now in
     let i = c.entries.entry-index in

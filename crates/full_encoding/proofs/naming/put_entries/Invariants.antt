@@ -10,7 +10,7 @@ use Rattle.full_encoding.proofs.naming.put_entries.Given as goal
 -- the vertices so far, with those of the entries that are left, are all
 abbrev pub invariant-entries : goal.invariant-entries
 invariant-entries l =
-    vertex_views l.vertices.items ++ flat_map (of_entry (problem l.inputs) l.release.name.now
+    vertex_views l.vertices.items ++ flat_map (of_entry (problem l.known) l.release.name.now
     (parts_of l.release.version.now) l.called) (entry_views (drop l.entry-index l.entries))
-    ≡ vertex_views l.fn.vertices.items ++ flat_map (of_entry (problem l.inputs) l.release.name.now
+    ≡ vertex_views l.fn.vertices.items ++ flat_map (of_entry (problem l.known) l.release.name.now
     (parts_of l.release.version.now) l.called) (entry_views l.entries)

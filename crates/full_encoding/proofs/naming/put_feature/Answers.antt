@@ -15,7 +15,7 @@ use Rattle.full_encoding.proofs.naming.put_feature.Goals as goal
 
 pub returns : goal.returns
 returns c =
-    let q = problem c.args.inputs.now in
+    let q = problem c.args.known.now in
     let name = c.args.release.name.now in
     let v = parts_of c.args.release.version.now in
     let s = summary_view c.args.brings.now in

@@ -10,7 +10,7 @@ use Rattle.full_encoding.proofs.naming.put_listed.Goals as goal
 
 pub features-preserved : goal.features-preserved
 features-preserved c =
-    let f : List ℕ → List Vertex = feature_of (problem c.args.inputs.now) c.args.name.now in
+    let f : List ℕ → List Vertex = feature_of (problem c.args.known.now) c.args.name.now in
     let xs = c.args.features.now in
     let i = c.features.feature-index in
     let e = c.feature-item.result in

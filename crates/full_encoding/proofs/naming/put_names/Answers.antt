@@ -11,7 +11,7 @@ use Rattle.full_encoding.proofs.naming.put_names.Goals as goal
 
 pub names-preserved : goal.names-preserved
 names-preserved c =
-    let f : List ℕ → List Vertex = of_name (problem c.args.inputs.now) in
+    let f : List ℕ → List Vertex = of_name (problem c.args.known.now) in
     let xs = c.args.names.now in
     let i = c.names.name-index in
     let e = c.name-item.result in
@@ -19,8 +19,8 @@ names-preserved c =
     let here : drop i xs ≡ e ∷ left = drop_more xs i e c.names-test.true ∙ ap (λ y. y ∷ left) (sym c.name-item.is) in
     let all = vertex_views c.names.vertices.items in
     ap (λ l. l ++ flat_map f left) (c.in_ok-put_versions.ensures ∙ ap (λ vs. all
-    ++ flat_map (of_version (problem c.args.inputs.now) e) vs) (versions_are c.args.inputs.now.manifest.now
-    c.args.inputs.now.catalogue.now e c.versions.result.now c.versions.ensures.versions))
+    ++ flat_map (of_version (problem c.args.known.now) e) vs) (versions_are c.args.known.now.manifest.now
+    c.args.known.now.catalogue.now e c.versions.result.now c.versions.ensures.versions))
     ∙ append_assoc all (f e) (flat_map f left)
     ∙ ap (λ l. all ++ flat_map f l) (sym here)
     ∙ c.names.invariant

@@ -8,5 +8,5 @@ use Rattle.full_encoding.proofs.naming.put_names.Given as goal
 -- the vertices so far, with those of the names that are left, are all
 abbrev pub invariant-names : goal.invariant-names
 invariant-names l =
-    vertex_views l.vertices.items ++ flat_map (of_name (problem l.inputs)) (drop l.name-index l.names)
-    ≡ vertex_views l.fn.vertices.items ++ flat_map (of_name (problem l.inputs)) l.names
+    vertex_views l.vertices.items ++ flat_map (of_name (problem l.known)) (drop l.name-index l.names)
+    ≡ vertex_views l.fn.vertices.items ++ flat_map (of_name (problem l.known)) l.names

@@ -15,7 +15,7 @@ use Rattle.full_encoding.proofs.naming.put_root.Goals as goal
 
 pub returns : goal.returns
 returns c =
-    let q = problem c.args.inputs.now in
+    let q = problem c.args.known.now in
     let vs = vertex_views c.args.vertices.now.items in
     let ds = dependency_views c.dependencies-dependencies.result.now in
     let owned : List Dependency → List Vertex = λ l. each_from (of_dependency q the_root) 0 l in

@@ -13,7 +13,7 @@ use Rattle.full_encoding.proofs.naming.put_row.Goals as goal
 pub entries-preserved : goal.entries-preserved
 entries-preserved c =
     let f : model.Entry → List Vertex =
-    λ e. flat_map (asked_of (problem c.args.inputs.now) c.args.called.now) (asked_by e) in
+    λ e. flat_map (asked_of (problem c.args.known.now) c.args.called.now) (asked_by e) in
     let xs = c.args.entries.now in
     let i = c.entries.entry-index in
     let e = c.entry-item.result in

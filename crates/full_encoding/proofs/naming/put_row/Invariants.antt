@@ -10,7 +10,7 @@ use Rattle.full_encoding.proofs.naming.put_row.Given as goal
 -- the vertices so far, with those of the entries that are left, are all
 abbrev pub invariant-entries : goal.invariant-entries
 invariant-entries l =
-    vertex_views l.vertices.items ++ flat_map (λ e. flat_map (asked_of (problem l.inputs) l.called) (asked_by e))
+    vertex_views l.vertices.items ++ flat_map (λ e. flat_map (asked_of (problem l.known) l.called) (asked_by e))
     (entry_views (drop l.entry-index l.entries))
     ≡ vertex_views l.fn.vertices.items
-    ++ flat_map (λ e. flat_map (asked_of (problem l.inputs) l.called) (asked_by e)) (entry_views l.entries)
+    ++ flat_map (λ e. flat_map (asked_of (problem l.known) l.called) (asked_by e)) (entry_views l.entries)

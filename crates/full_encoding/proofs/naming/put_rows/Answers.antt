@@ -19,7 +19,7 @@ rows-preserved c =
     let rest : List (List ℕ × Vec Entry Global) = c.next.new.self in
     let steps : c.rows.entries-iterator ≡ row ∷ rest = search rules in
     let g : model.Entry → List Vertex =
-    λ e. flat_map (asked_of (problem c.args.inputs.now) c.args.called.now) (asked_by e) in
+    λ e. flat_map (asked_of (problem c.args.known.now) c.args.called.now) (asked_by e) in
     let f : List ℕ × List model.Entry → List Vertex = λ r. flat_map g r.1 in
     let first : List ℕ × List model.Entry = (row.0, entry_views row.1.items) in
     let vs = vertex_views c.rows.vertices.items in

@@ -13,7 +13,7 @@ invariant-rows l = record {
   can : (goal.iterator-rows).can_next l.entries-iterator;
   finite : (goal.iterator-rows).is_finite l.entries-iterator;
   told : vertex_views l.vertices.items ++ flat_map (λ row.
-      flat_map (λ e. flat_map (asked_of (problem l.inputs) l.called) (asked_by e)) row.1) (rows_of l.entries-iterator)
+      flat_map (λ e. flat_map (asked_of (problem l.known) l.called) (asked_by e)) row.1) (rows_of l.entries-iterator)
       ≡ vertex_views l.fn.vertices.items
-      ++ flat_map (λ row. flat_map (λ e. flat_map (asked_of (problem l.inputs) l.called) (asked_by e)) row.1) l.table;
+      ++ flat_map (λ row. flat_map (λ e. flat_map (asked_of (problem l.known) l.called) (asked_by e)) row.1) l.table;
 }

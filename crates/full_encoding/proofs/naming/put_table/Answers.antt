@@ -20,7 +20,7 @@ rows-preserved c =
     let rest : List (List ℕ × Vec Entry Global) = c.next.new.self in
     let steps : c.rows.feature-iterator ≡ row ∷ rest = search rules in
     let f : List ℕ × List model.Entry → List Vertex =
-    λ r. of_feature (problem c.args.inputs.now) c.args.release.name.now (parts_of c.args.release.version.now)
+    λ r. of_feature (problem c.args.known.now) c.args.release.name.now (parts_of c.args.release.version.now)
     (summary_view c.args.brings.now) r.0 in
     let first : List ℕ × List model.Entry = (row.0, entry_views row.1.items) in
     let vs = vertex_views c.rows.vertices.items in

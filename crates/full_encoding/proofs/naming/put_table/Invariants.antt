@@ -13,8 +13,8 @@ abbrev pub invariant-rows : goal.invariant-rows
 invariant-rows l = record {
   can : (goal.iterator-rows).can_next l.feature-iterator;
   finite : (goal.iterator-rows).is_finite l.feature-iterator;
-  told : vertex_views l.vertices.items ++ flat_map (λ row. of_feature (problem l.inputs) l.release.name.now
+  told : vertex_views l.vertices.items ++ flat_map (λ row. of_feature (problem l.known) l.release.name.now
       (parts_of l.release.version.now) (summary_view l.brings) row.0) (rows_of l.feature-iterator)
-      ≡ vertex_views l.fn.vertices.items ++ flat_map (λ row. of_feature (problem l.inputs) l.release.name.now
+      ≡ vertex_views l.fn.vertices.items ++ flat_map (λ row. of_feature (problem l.known) l.release.name.now
       (parts_of l.release.version.now) (summary_view l.brings) row.0) l.brings.features;
 }

@@ -17,7 +17,7 @@ use Rattle.full_encoding.proofs.naming.put_version.Goals as goal
 
 pub returns-in-Some : goal.returns-in-Some
 returns-in-Some c =
-    let k = c.args.inputs.now in
+    let k = c.args.known.now in
     let q = problem k in
     let name = c.args.release.name.now in
     let v = parts_of c.args.release.version.now in
@@ -37,7 +37,7 @@ returns-in-Some c =
 
 pub returns-in-None : goal.returns-in-None
 returns-in-None c =
-    let k = c.args.inputs.now in
+    let k = c.args.known.now in
     let q = problem k in
     let name = c.args.release.name.now in
     let v = parts_of c.args.release.version.now in

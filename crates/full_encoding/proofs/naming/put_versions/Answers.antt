@@ -11,7 +11,7 @@ use Rattle.full_encoding.proofs.naming.put_versions.Goals as goal
 
 pub versions-preserved : goal.versions-preserved
 versions-preserved c =
-    let f : Parts → List Vertex = of_version (problem c.args.inputs.now) c.args.name.now in
+    let f : Parts → List Vertex = of_version (problem c.args.known.now) c.args.name.now in
     let xs = c.args.versions.now in
     let i = c.versions.version-index in
     let e = c.version-item.result in

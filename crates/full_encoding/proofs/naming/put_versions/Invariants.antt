@@ -10,5 +10,5 @@ use Rattle.full_encoding.proofs.naming.put_versions.Given as goal
 abbrev pub invariant-versions : goal.invariant-versions
 invariant-versions l =
     vertex_views l.vertices.items
-    ++ flat_map (of_version (problem l.inputs) l.name) (map parts_of (drop l.version-index l.versions))
-    ≡ vertex_views l.fn.vertices.items ++ flat_map (of_version (problem l.inputs) l.name) (map parts_of l.versions)
+    ++ flat_map (of_version (problem l.known) l.name) (map parts_of (drop l.version-index l.versions))
+    ≡ vertex_views l.fn.vertices.items ++ flat_map (of_version (problem l.known) l.name) (map parts_of l.versions)

@@ -12,7 +12,7 @@ use Rattle.full_encoding.proofs.naming.put_wanted.Goals as goal
 pub returns : goal.returns
 returns c =
     let d = dependency_view c.args.dependency.now in
-    let f = feature_of (problem c.args.inputs.now) d.real_name in
+    let f = feature_of (problem c.args.known.now) d.real_name in
     let vs = vertex_views c.args.vertices.now.items in
     on_ok_weaker c.put_default.result
     (λ e. e ∙ ap (λ l. l ++ cond d.default_features (f (codes "default")) [])

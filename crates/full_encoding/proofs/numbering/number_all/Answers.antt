@@ -11,7 +11,7 @@ returns-in_err-put_all-clause-grown c = c.put_all.ensures.put.grown
 
 pub returns-in_err-put_all-clause-numbering : goal.returns-in_err-put_all-clause-numbering
 returns-in_err-put_all-clause-numbering c =
-    let q = problem c.args.inputs.now in
+    let q = problem c.args.known.now in
     c.put_all.ensures.put.numbering q c.requires.numbering (all_vertices q (vertex_views c.as_slice.result.now)
     (ap vertex_views c.as_slice.ensures.value ∙ c.in_ok-vertices.ensures))
 
@@ -21,14 +21,14 @@ returns-clause-grown c = grows_on c.args.table.now c.put_all.new.table c.widen.n
 
 pub returns-clause-numbering : goal.returns-clause-numbering
 returns-clause-numbering c =
-    let q = problem c.args.inputs.now in
+    let q = problem c.args.known.now in
     let first = c.put_all.ensures.put.numbering q c.requires.numbering (all_vertices q
     (vertex_views c.as_slice.result.now) (ap vertex_views c.as_slice.ensures.value ∙ c.in_ok-vertices.ensures)) in
     c.widen.ensures.put.numbering q first (widened_are q c.put_all.new.table first)
 
 pub returns-clause-whole : goal.returns-clause-whole
 returns-clause-whole c =
-    let q = problem c.args.inputs.now in
+    let q = problem c.args.known.now in
     on_ok_weaker c.widen.result
     (whole_after q c.put_all.new.table c.widen.new.table (vertex_views c.as_slice.result.now)
     c.catalogues_are_well_formed.ensures (ap vertex_views c.as_slice.ensures.value ∙ c.in_ok-vertices.ensures)

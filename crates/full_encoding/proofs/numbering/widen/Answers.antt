@@ -10,7 +10,7 @@ use Rattle.full_encoding.proofs.numbering.widen.Goals as goal
 
 pub returns-in_err-vertices-clause-put : goal.returns-in_err-vertices-clause-put
 returns-in_err-vertices-clause-put c =
-    put_none c.args.table.now (flat_map (in_classes (problem c.args.inputs.now)) c.args.table.now)
+    put_none c.args.table.now (flat_map (in_classes (problem c.args.known.now)) c.args.table.now)
 
 pub returns-clause-put : goal.returns-clause-put
 returns-clause-put c =

@@ -7,7 +7,7 @@ use Rattle.full_encoding.proofs.spaces.put_space.Goals as goal
 
 pub returns-clause-are : goal.returns-clause-are
 returns-clause-are c =
-    let q = problem c.args.inputs.now in
+    let q = problem c.args.known.now in
     let vs = c.args.table.now in
     let ss = c.args.spaces.now.items in
     let counted : vec_len c.args.spaces.now ≡ length ss = search rules in

@@ -5,7 +5,7 @@ use Rattle.full_encoding.proofs.spaces.put_spaces.Given as goal
 
 abbrev pub invariant-vertices : goal.invariant-vertices
 invariant-vertices l = record {
-  are : AreSpaces (problem l.inputs) l.table l.spaces.items;
+  are : AreSpaces (problem l.known) l.table l.spaces.items;
   more : length l.fn.spaces.items ≤ length l.spaces.items;
 }
 

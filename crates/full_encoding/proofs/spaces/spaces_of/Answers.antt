@@ -7,8 +7,8 @@ use Rattle.full_encoding.proofs.spaces.spaces_of.Goals as goal
 
 pub put_spaces-requires : goal.put_spaces-requires
 put_spaces-requires c = record {
-  are = subst (AreSpaces (problem c.args.inputs.now) c.args.table.now)
-      (sym c.new-spaces.ensures.items) (spaces_none (problem c.args.inputs.now) c.args.table.now);
+  are = subst (AreSpaces (problem c.args.known.now) c.args.table.now)
+      (sym c.new-spaces.ensures.items) (spaces_none (problem c.args.known.now) c.args.table.now);
 }
 
 pub returns-clause-all : goal.returns-clause-all

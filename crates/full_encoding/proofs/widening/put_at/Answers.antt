@@ -15,7 +15,7 @@ returns-in-Some c =
     let seen : slice_get c.args.table.now c.args.number ≡ Some w =
     sym c.vertex.ensures ∙ ap (option_map vertex_ref_view) c.in-Some.is in
     on_ok_weaker c.put_in_classes.result
-    (λ e v at. e ∙ ap (λ x. vs ++ in_classes (problem c.args.inputs.now) x) (same_Some w v (sym seen ∙ at)))
+    (λ e v at. e ∙ ap (λ x. vs ++ in_classes (problem c.args.known.now) x) (same_Some w v (sym seen ∙ at)))
     c.put_in_classes.ensures
 
 pub returns-in-None : goal.returns-in-None

@@ -15,7 +15,7 @@ returns-in-Feature c =
     on_ok_weaker c.put_each.result
     (λ e. e
     ∙ ap (λ ws. vs ++ each_feature name (class_view c.in-Feature.class) c.in-Feature.feature.now ws)
-    (versions_are c.args.inputs.now.manifest.now c.args.inputs.now.catalogue.now name c.versions.result.now
+    (versions_are c.args.known.now.manifest.now c.args.known.now.catalogue.now name c.versions.result.now
     c.versions.ensures.versions)
-    ∙ ap (λ x. vs ++ in_classes (problem c.args.inputs.now) (vertex_ref_view x)) (sym c.in-Feature.is))
+    ∙ ap (λ x. vs ++ in_classes (problem c.args.known.now) (vertex_ref_view x)) (sym c.in-Feature.is))
     c.put_each.ensures

@@ -9,7 +9,7 @@ use Rattle.full_encoding.proofs.widening.widened.Goals as goal
 
 pub numbers-preserved : goal.numbers-preserved
 numbers-preserved c =
-    let f = in_classes (problem c.args.inputs.now) in
+    let f = in_classes (problem c.args.known.now) in
     let n = c.numbers.number in
     let table = c.args.table.now in
     let r = get_below table n (subst (λ k. n < k) c.len-number-end.ensures c.numbers-test.true) in
@@ -19,7 +19,7 @@ numbers-preserved c =
 
 pub returns : goal.returns
 returns c =
-    let f = in_classes (problem c.args.inputs.now) in
+    let f = in_classes (problem c.args.known.now) in
     let table = c.args.table.now in
     let all : length table ≤ c.numbers.number =
     subst (λ k. k ≤ c.numbers.number) c.len-number-end.ensures (omega (arith, c.numbers-test.false)) in

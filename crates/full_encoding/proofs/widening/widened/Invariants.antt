@@ -7,5 +7,5 @@ use Rattle.full_encoding.proofs.widening.widened.Given as goal
 
 -- the vertices so far, with those of the numbers that are left, are all
 abbrev pub invariant-numbers : goal.invariant-numbers
-invariant-numbers l = vertex_views l.vertices.items ++ flat_map (in_classes (problem l.inputs)) (drop l.number l.table)
-    ≡ flat_map (in_classes (problem l.inputs)) l.table
+invariant-numbers l = vertex_views l.vertices.items ++ flat_map (in_classes (problem l.known)) (drop l.number l.table)
+    ≡ flat_map (in_classes (problem l.known)) l.table

@@ -11,7 +11,7 @@ use Rattle.gathering.proofs.leading.led_by.Goals as goal
 
 pub dependencies-preserved : goal.dependencies-preserved
 dependencies-preserved g c =
-    let i = c.args.inputs.now in
+    let i = c.args.known.now in
     let ds = c.args.dependencies.now in
     let n = c.dependencies.number in
     let d = c.index-dependencies-number.result in

@@ -12,7 +12,7 @@ use Rattle.gathering.proofs.leading.led_to.Goals as goal
 
 pub returns-in_default : goal.returns-in_default
 returns-in_default g c =
-    let i = c.args.inputs.now in
+    let i = c.args.known.now in
     let state = ends i c.args.table.now (trail_view g.S.States.tests c.args.trail.now) in
     let o = owner_ref_view c.args.owner.now in
     no_class (problem i) state i.catalogue.now o c.args.number (dependency_view c.args.dependency.now) (sym {b =
@@ -20,7 +20,7 @@ returns-in_default g c =
 
 pub returns-in_default-2 : goal.returns-in_default-2
 returns-in_default-2 g c =
-    let i = c.args.inputs.now in
+    let i = c.args.known.now in
     let state = ends i c.args.table.now (trail_view g.S.States.tests c.args.trail.now) in
     let o = owner_ref_view c.args.owner.now in
     let d = dependency_view c.args.dependency.now in
@@ -32,7 +32,7 @@ returns-in_default-2 g c =
 
 pub returns : goal.returns
 returns g c =
-    let i = c.args.inputs.now in
+    let i = c.args.known.now in
     let state = ends i c.args.table.now (trail_view g.S.States.tests c.args.trail.now) in
     let o = owner_ref_view c.args.owner.now in
     let d = dependency_view c.args.dependency.now in

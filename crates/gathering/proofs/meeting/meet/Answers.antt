@@ -13,79 +13,79 @@ use Rattle.gathering.specs.Leads.{AreThere, ends}
 use Rattle.gathering.proofs.Led.{led_there, leads_of}
 use Rattle.gathering.proofs.meeting.meet.Goals as goal
 
-pub stops-init : goal.stops-init
-stops-init g c =
-    let i = c.args.inputs.now in
+pub versions-init : goal.versions-init
+versions-init g c =
+    let i = c.args.known.now in
     let q = problem i in
     begun q (LeadsTo q (ends i c.args.table.now (trail_view g.S.States.tests c.args.trail.now))) i.catalogue.now _ _
-    c.new-stops.ensures.empty (ap node_views c.new-nodes.ensures.items)
+    c.new-versions.ensures.empty (ap node_views c.new-nodes.ensures.items)
 
 pub brings_at-brings-requires : goal.brings_at-brings-requires
-brings_at-brings-requires g c = rw c.as_slice.ensures.keys c.stops.invariant.are
+brings_at-brings-requires g c = rw c.as_slice.ensures.keys c.versions.invariant.are
 
-pub led_at-requires-clause-stops : goal.led_at-requires-clause-stops
-led_at-requires-clause-stops g c = rw c.as_slice-in-stops.ensures.keys c.stops.invariant.are
+pub led_at-requires-clause-versions : goal.led_at-requires-clause-versions
+led_at-requires-clause-versions g c = rw c.as_slice-in-versions.ensures.keys c.versions.invariant.are
 
 pub targets_of-requires-clause-many : goal.targets_of-requires-clause-many
 targets_of-requires-clause-many g c =
-    let i = c.args.inputs.now in
+    let i = c.args.known.now in
     let q = problem i in
     let st = ends i c.args.table.now (trail_view g.S.States.tests c.args.trail.now) in
     let ds = c.dependencies_of-dependencies.result.now in
-    let test = c.stops-test.true in
+    let test = c.versions-test.true in
     let len = c.len.ensures in
     let place = c.len-place.ensures in
-    let wide = c.len-in-stops.ensures.len in
+    let wide = c.len-in-versions.ensures.len in
     let (o, at) =
-    owner_next i.catalogue.now c.stops.stops.keys c.len-place.result (omega (arith, test, len, place, wide)) in
+    owner_next i.catalogue.now c.versions.versions.keys c.len-place.result (omega (arith, test, len, place, wide)) in
     let led = c.in_ok-places.ensures o (subst (λ ks. slice_get (owners_of i.catalogue.now ks) c.len-place.result
-    ≡ Some o) (sym c.as_slice-in-stops.ensures.keys) at) in
+    ≡ Some o) (sym c.as_slice-in-versions.ensures.keys) at) in
     let many : length c.in_ok-places.places.items ≡ length ds = rw length-map at led.as_many in
-    rw c.as_slice-in-stops-2.ensures.value many
+    rw c.as_slice-in-versions-2.ensures.value many
 
 pub targets_of-requires-clause-there : goal.targets_of-requires-clause-there
 targets_of-requires-clause-there g c =
-    let i = c.args.inputs.now in
+    let i = c.args.known.now in
     let q = problem i in
     let st = ends i c.args.table.now (trail_view g.S.States.tests c.args.trail.now) in
     let ds = c.dependencies_of-dependencies.result.now in
-    let test = c.stops-test.true in
+    let test = c.versions-test.true in
     let len = c.len.ensures in
     let place = c.len-place.ensures in
-    let wide = c.len-in-stops.ensures.len in
+    let wide = c.len-in-versions.ensures.len in
     let (o, at) =
-    owner_next i.catalogue.now c.stops.stops.keys c.len-place.result (omega (arith, test, len, place, wide)) in
+    owner_next i.catalogue.now c.versions.versions.keys c.len-place.result (omega (arith, test, len, place, wide)) in
     let led = c.in_ok-places.ensures o (subst (λ ks. slice_get (owners_of i.catalogue.now ks) c.len-place.result
-    ≡ Some o) (sym c.as_slice-in-stops.ensures.keys) at) in
-    subst (AreThere i.catalogue.now (dependency_views ds)) (sym c.as_slice-in-stops-2.ensures.value)
+    ≡ Some o) (sym c.as_slice-in-versions.ensures.keys) at) in
+    subst (AreThere i.catalogue.now (dependency_views ds)) (sym c.as_slice-in-versions-2.ensures.value)
     (led_there q st i.catalogue.now o (dependency_views ds) c.in_ok-places.places.items led)
 
-pub stops-smaller : goal.stops-smaller
-stops-smaller g c =
-    let count = ap length c.in_ok-push.ensures.items ∙ length-append c.stops.nodes.items (_ ∷ []) in
-    let test = c.stops-test.true in
+pub versions-smaller : goal.versions-smaller
+versions-smaller g c =
+    let count = ap length c.in_ok-push.ensures.items ∙ length-append c.versions.nodes.items (_ ∷ []) in
+    let test = c.versions-test.true in
     let len = c.len.ensures in
-    let wide = c.len-in-stops.ensures.len in
-    let small = c.len-in-stops.ensures.small in
+    let wide = c.len-in-versions.ensures.len in
+    let small = c.len-in-versions.ensures.small in
     omega (arith, count, test, len, wide, small)
 
-pub stops-preserved : goal.stops-preserved
-stops-preserved g c =
-    let i = c.args.inputs.now in
+pub versions-preserved : goal.versions-preserved
+versions-preserved g c =
+    let i = c.args.known.now in
     let index = i.catalogue.now in
     let q = problem i in
     let st = ends i c.args.table.now (trail_view g.S.States.tests c.args.trail.now) in
-    let old = c.stops.stops.keys in
-    let new = c.targets_of.new.stops.keys in
-    let nodes = c.stops.nodes.items in
+    let old = c.versions.versions.keys in
+    let new = c.targets_of.new.versions.keys in
+    let nodes = c.versions.nodes.items in
     let place = c.len-place.ensures in
     let even : c.len-place.result ≡ length (node_views nodes) = rw length-map (omega (arith, place)) in
-    let test = c.stops-test.true in
+    let test = c.versions-test.true in
     let len = c.len.ensures in
-    let wide = c.len-in-stops.ensures.len in
+    let wide = c.len-in-versions.ensures.len in
     let ds = dependency_views c.dependencies_of-dependencies.result.now in
-    let put = rw c.as_slice-in-stops-2.ensures.value at c.in_ok-targets.ensures.put in
-    one_more q (LeadsTo q st) index old new (node_views nodes) _ _ c.stops.invariant
+    let put = rw c.as_slice-in-versions-2.ensures.value at c.in_ok-targets.ensures.put in
+    one_more q (LeadsTo q st) index old new (node_views nodes) _ _ c.versions.invariant
     (rw length-map (omega (arith, test, len, wide))) c.in_ok-targets.ensures.grows
     (λ o at. c.brings_at-brings.ensures o (subst (λ ks. slice_get (owners_of index ks) c.len-place.result ≡ Some o)
     (sym c.as_slice.ensures.keys) (ap (slice_get (owners_of index old)) even ∙ at)))
@@ -94,19 +94,19 @@ stops-preserved g c =
     (owners_of index new) o ds c.in_ok-targets.targets.items) c.dependencies_of-dependencies.ensures
     (leads_of q st index o new ds c.in_ok-places.places.items c.in_ok-targets.targets.items
     (c.in_ok-places.ensures o (subst (λ ks. slice_get (owners_of index ks) c.len-place.result ≡ Some o)
-    (sym c.as_slice-in-stops.ensures.keys) (ap (slice_get (owners_of index old)) even ∙ at))) put))
+    (sym c.as_slice-in-versions.ensures.keys) (ap (slice_get (owners_of index old)) even ∙ at))) put))
     (ap node_views c.in_ok-push.ensures.items ∙ map-append node_view nodes (_ ∷ []))
 
 pub returns-clause-met : goal.returns-clause-met
 returns-clause-met g c =
-    let i = c.args.inputs.now in
+    let i = c.args.known.now in
     let q = problem i in
-    let test = c.stops-test.false in
+    let test = c.versions-test.false in
     let len = c.len.ensures in
-    let wide = c.len-in-stops.ensures.len in
+    let wide = c.len-in-versions.ensures.len in
     all_met q (LeadsTo q (ends i c.args.table.now (trail_view g.S.States.tests c.args.trail.now))) i.catalogue.now
-    c.stops.stops.keys (node_views c.stops.nodes.items) c.store_holds.ensures c.stops.invariant
+    c.versions.versions.keys (node_views c.versions.nodes.items) c.store_holds.ensures c.versions.invariant
     (rw length-map (omega (arith, test, len, wide)))
 
-pub returns-clause-stops : goal.returns-clause-stops
-returns-clause-stops g c = c.stops.invariant.are
+pub returns-clause-versions : goal.returns-clause-versions
+returns-clause-versions g c = c.versions.invariant.are

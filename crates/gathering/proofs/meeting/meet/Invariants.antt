@@ -8,10 +8,10 @@ use Rattle.contents.proofs.Nodes.{SoFar}
 use Rattle.gathering.proofs.meeting.meet.Given as goal
 
 -- each of those met so far is there once, and the first of them have their nodes
-abbrev pub invariant-stops : goal.invariant-stops
-invariant-stops g l =
-    SoFar (problem l.inputs) (LeadsTo (problem l.inputs) (ends l.inputs l.table (trail_view g.S.States.tests l.trail)))
-    l.inputs.catalogue.now l.stops.keys (node_views l.nodes.items)
+abbrev pub invariant-versions : goal.invariant-versions
+invariant-versions g l =
+    SoFar (problem l.known) (LeadsTo (problem l.known) (ends l.known l.table (trail_view g.S.States.tests l.trail)))
+    l.known.catalogue.now l.versions.keys (node_views l.nodes.items)
 
-abbrev pub decreases-stops : goal.decreases-stops
-decreases-stops g l = 2 ^ 64 - length l.nodes.items
+abbrev pub decreases-versions : goal.decreases-versions
+decreases-versions g l = 2 ^ 64 - length l.nodes.items

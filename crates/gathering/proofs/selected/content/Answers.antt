@@ -18,22 +18,22 @@ meet-requires g c = record { unbroken = c.requires.unbroken; whole = c.requires.
 
 pub facts_of-requires : goal.facts_of-requires
 facts_of-requires g c =
-    let i = c.args.inputs.now in
+    let i = c.args.known.now in
     record {
       graph = rw c.as_slice.ensures.value (c.packages_are_a_graph.ensures (problem i) (ends i c.args.table.now
-          (trail_view g.S.States.tests c.args.trail.now)) _ _ refl c.in_ok-stops.ensures.met);
+          (trail_view g.S.States.tests c.args.trail.now)) _ _ refl c.in_ok-versions.ensures.met);
     }
 
 pub returns-clause-selection : goal.returns-clause-selection
 returns-clause-selection g c =
-    let i = c.args.inputs.now in
+    let i = c.args.known.now in
     let q = problem i in
     let st = ends i c.args.table.now (trail_view g.S.States.tests c.args.trail.now) in
-    let nodes = node_views c.in_ok-stops.field-0.nodes.items in
-    let owners = owners_of i.catalogue.now c.in_ok-stops.field-0.stops.keys in
+    let nodes = node_views c.in_ok-versions.field-0.nodes.items in
+    let owners = owners_of i.catalogue.now c.in_ok-versions.field-0.versions.keys in
     let here = c.in_ok-facts.facts.here.items in
     let lists = map (λ v. v.items) c.in_ok-facts.facts.enabled.items in
-    let met : AreMet q (LeadsTo q st) owners nodes = c.in_ok-stops.ensures.met in
+    let met : AreMet q (LeadsTo q st) owners nodes = c.in_ok-versions.ensures.met in
     let flags : AreFlags nodes here lists =
     record {
       each_here = rw c.as_slice.ensures.value at c.in_ok-facts.ensures.here;
@@ -47,10 +47,10 @@ returns-clause-selection g c =
 
 pub returns-clause-root : goal.returns-clause-root
 returns-clause-root g c =
-    let i = c.args.inputs.now in
+    let i = c.args.known.now in
     let q = problem i in
-    let nodes = node_views c.in_ok-stops.field-0.nodes.items in
-    let owners = owners_of i.catalogue.now c.in_ok-stops.field-0.stops.keys in
+    let nodes = node_views c.in_ok-versions.field-0.nodes.items in
+    let owners = owners_of i.catalogue.now c.in_ok-versions.field-0.versions.keys in
     let here = c.in_ok-facts.facts.here.items in
     let lists = map (λ v. v.items) c.in_ok-facts.facts.enabled.items in
     IfOk-weaker c.content_of.result (λ x. IsBuilt owners nodes lists q here x) _
@@ -59,14 +59,14 @@ returns-clause-root g c =
 
 pub returns-clause-brought : goal.returns-clause-brought
 returns-clause-brought g c =
-    let i = c.args.inputs.now in
+    let i = c.args.known.now in
     let q = problem i in
     let st = ends i c.args.table.now (trail_view g.S.States.tests c.args.trail.now) in
-    let nodes = node_views c.in_ok-stops.field-0.nodes.items in
-    let owners = owners_of i.catalogue.now c.in_ok-stops.field-0.stops.keys in
+    let nodes = node_views c.in_ok-versions.field-0.nodes.items in
+    let owners = owners_of i.catalogue.now c.in_ok-versions.field-0.versions.keys in
     let here = c.in_ok-facts.facts.here.items in
     let lists = map (λ v. v.items) c.in_ok-facts.facts.enabled.items in
-    let met : AreMet q (LeadsTo q st) owners nodes = c.in_ok-stops.ensures.met in
+    let met : AreMet q (LeadsTo q st) owners nodes = c.in_ok-versions.ensures.met in
     let flags : AreFlags nodes here lists =
     record {
       each_here = rw c.as_slice.ensures.value at c.in_ok-facts.ensures.here;
@@ -80,16 +80,16 @@ returns-clause-brought g c =
 
 pub returns-clause-followed : goal.returns-clause-followed
 returns-clause-followed g c =
-    let i = c.args.inputs.now in
+    let i = c.args.known.now in
     let q = problem i in
     let vs = c.args.table.now in
     let t = trail_view g.S.States.tests c.args.trail.now in
     let st = ends i vs t in
-    let nodes = node_views c.in_ok-stops.field-0.nodes.items in
-    let owners = owners_of i.catalogue.now c.in_ok-stops.field-0.stops.keys in
+    let nodes = node_views c.in_ok-versions.field-0.nodes.items in
+    let owners = owners_of i.catalogue.now c.in_ok-versions.field-0.versions.keys in
     let here = c.in_ok-facts.facts.here.items in
     let lists = map (λ v. v.items) c.in_ok-facts.facts.enabled.items in
-    let met : AreMet q (LeadsTo q st) owners nodes = c.in_ok-stops.ensures.met in
+    let met : AreMet q (LeadsTo q st) owners nodes = c.in_ok-versions.ensures.met in
     let flags : AreFlags nodes here lists =
     record {
       each_here = rw c.as_slice.ensures.value at c.in_ok-facts.ensures.here;

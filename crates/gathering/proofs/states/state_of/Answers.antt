@@ -15,7 +15,7 @@ states-requires g c =
 
 pub returns-in-Some : goal.returns-in-Some
 returns-in-Some g c =
-    let q = problem c.args.inputs.now in
+    let q = problem c.args.known.now in
     let v = vertex_ref_view c.args.vertex.now in
     let x = final_of (trail_view g.S.States.tests c.args.trail.now) in
     let is : state_at q v c.first_in-state.result ≡ state_of q c.args.table.now x v
@@ -25,7 +25,7 @@ returns-in-Some g c =
 
 pub returns-in-None : goal.returns-in-None
 returns-in-None g c =
-    let q = problem c.args.inputs.now in
+    let q = problem c.args.known.now in
     let v = vertex_ref_view c.args.vertex.now in
     let x = final_of (trail_view g.S.States.tests c.args.trail.now) in
     ap (state_if q x v) (sym c.in-None.is ∙ c.number.ensures)

@@ -26,7 +26,7 @@ dependencies-preserved c =
     (slice_get-get_or ds n d c.dependencies-test.true ∙ ap Some (sym c.index-dependencies-number.is)) in
     let p = get_or c.args.places.now n None in
     let at = slice_get-get_or c.args.places.now n None (omega (arith, c.requires.many, c.dependencies-test.true)) in
-    one_put c.args.catalogue.now c.args.stops.now.keys c.dependencies.stops.keys c.target_of.new.stops.keys
+    one_put c.args.catalogue.now c.args.versions.now.keys c.dependencies.versions.keys c.target_of.new.versions.keys
     (dependency_views ds) c.args.places.now n c.dependencies.targets.items _
     (dependency_view d) p c.in_ok-target.target
     c.dependencies.invariant c.in_ok-target.ensures.grows there at c.in_ok-target.ensures.put c.in_ok-push.ensures.items

@@ -7,7 +7,7 @@ use Rattle.guiding.proofs.coming.come.Given as goal
 
 abbrev pub invariant-vertices : goal.invariant-vertices
 invariant-vertices g l = let tests = g.S.States.tests in record {
-  encoding : IsEncoding l.inputs l.table (map tests l.asked.items);
+  encoding : IsEncoding l.known l.table (map tests l.asked.items);
   came : IsCome (map tests l.fn.asked.items) (map tests l.asked.items) (trail_view tests l.fn.trail)
       (trail_view tests l.trail);
   trail : IsTrail (entries_view tests l.store) (trail_view tests l.trail);

@@ -16,11 +16,11 @@ returns-clause-encoding g c =
     let old = c.args.asked.now.items in
     let counted : vec_len c.args.asked.now ≡ length old = search rules in
     let long : c.len.result ≡ length (map tests old) = c.len.ensures ∙ counted ∙ sym (length-map old tests) in
-    encoding_next c.args.inputs.now c.args.table.now (map tests old)
+    encoding_next c.args.known.now c.args.table.now (map tests old)
     (map tests c.push_reserved.new.self.items) c.in_ok-space.space c.requires.encoding
     (subst (λ n. n < length c.args.table.now) (sym (length-map old tests)) c.requires.less)
     (subst (λ n. (v : Vertex) → slice_get c.args.table.now n ≡ Some v
-    → c.in_ok-space.space ≡ length (space (problem c.args.inputs.now) v)) long c.in_ok-space.ensures.space)
+    → c.in_ok-space.space ≡ length (space (problem c.args.known.now) v)) long c.in_ok-space.ensures.space)
     (ap (map tests) (c.push_reserved.ensures.items ∙ ap (λ xs. xs ++ c.in_ok-none.none ∷ []) c.reserve.ensures.items)
     ∙ map_append tests old (c.in_ok-none.none ∷ [])
     ∙ ap (λ (s : Members). map tests old ++ s ∷ []) c.in_ok-none.ensures)

@@ -23,11 +23,11 @@ pub returns-clause-searched : goal.returns-clause-searched
 returns-clause-searched g c =
     let tests = g.S.States.tests in
     let end = c.in_ok-found.ensures in
-    searched_of (problem c.args.inputs) c.args.follows c.in_ok-guide.guide c.search.new.guide
+    searched_of (problem c.args.known) c.args.follows c.in_ok-guide.guide c.search.new.guide
     (trail_view tests c.begin.new.trail) (trail_view tests c.search.new.trail)
     (entries_view tests c.begin.new.store) (entries_view tests c.search.new.store) c.in_ok-found.found.answer
     c.in_ok-guide.ensures end.keeps c.is_kept.ensures.numbering c.is_kept.ensures.spaces end.spaces end.trail end.ended
-    end.given end.stored end.touching end.walks end.selects
+    end.given end.stored end.touching end.follows end.selects
 
 pub returns-clause-counted : goal.returns-clause-counted
 returns-clause-counted g c =

@@ -3,7 +3,7 @@ use Rattle.std.proofs.lemmas.List.{map-append}
 use Rattle.std.specs.Vec.Iter.{into_iter_items, into_iter_len}
 use Rattle.features.specs.Views.{dependency_view, dependency_views}
 use Rattle.index_reader.specs.Records.{dependencies_read}
-use Rattle.index_reader.proofs.ReadLemmas.{with_front-next}
+use Rattle.model.proofs.Fronts.{with_front-next}
 use Rattle.index_reader.proofs.line.dependencies.Goals as goal
 
 pub parts-preserved : goal.parts-preserved

@@ -2,8 +2,8 @@ use Rattle.std.proofs.Common.{◌≡◌, length}
 use Rattle.std.specs.Vec.Iter.{into_iter_items, into_iter_len}
 use Rattle.features.specs.Views.{dependency_views}
 use Rattle.index_reader.specs.Records.{dependencies_read}
-use Rattle.index_reader.specs.Shapes.{required_views}
-use Rattle.index_reader.proofs.ReadLemmas.{with_front}
+use Rattle.index_reader.specs.Views.{required_views}
+use Rattle.model.proofs.Fronts.{with_front}
 use Rattle.index_reader.proofs.line.dependencies.Given as goal
 
 -- the dependencies so far and those of what is left are those of all

@@ -1,10 +1,10 @@
 use Rattle.std.proofs.Common.{◌≡◌, drop}
 use Rattle.index_reader.specs.Records.{feature_names}
-use Rattle.index_reader.specs.Shapes.{texts_view}
-use Rattle.index_reader.proofs.ReadLemmas.{with_front}
+use Rattle.features.specs.Views.{text_views}
+use Rattle.model.proofs.Fronts.{with_front}
 use Rattle.index_reader.proofs.line.feature_names.Given as goal
 
 -- the names so far and those of what is left are those of all
 abbrev pub invariant-texts : goal.invariant-texts
-invariant-texts l = with_front l.found.items (feature_names (texts_view (drop l.text-index l.texts)))
-    ≡ feature_names (texts_view l.texts)
+invariant-texts l = with_front l.found.items (feature_names (text_views (drop l.text-index l.texts)))
+    ≡ feature_names (text_views l.texts)

@@ -1,7 +1,8 @@
 use Rattle.std.proofs.Common.{◌≡◌, drop}
 use Rattle.index_reader.specs.Records.{required}
-use Rattle.index_reader.specs.Shapes.{line_dependency_views, required_views}
-use Rattle.index_reader.proofs.ReadLemmas.{with_front}
+use Rattle.index_reader.specs.ShapeViews.{line_dependency_views}
+use Rattle.index_reader.specs.Views.{required_views}
+use Rattle.model.proofs.Fronts.{with_front}
 use Rattle.index_reader.proofs.line.requirements.Given as goal
 
 -- the parts so far and those of what is left are those of all

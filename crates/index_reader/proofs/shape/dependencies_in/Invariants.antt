@@ -1,8 +1,8 @@
 use Rattle.std.proofs.Common.{◌≡◌, drop}
 use Rattle.trees.specs.Trees.{trees_view}
-use Rattle.index_reader.specs.Lines.{dependencies_in}
-use Rattle.index_reader.specs.Shapes.{line_dependency_views}
-use Rattle.index_reader.proofs.ReadLemmas.{with_front}
+use Rattle.index_reader.specs.Shapes.{dependencies_in}
+use Rattle.index_reader.specs.ShapeViews.{line_dependency_views}
+use Rattle.model.proofs.Fronts.{with_front}
 use Rattle.index_reader.proofs.shape.dependencies_in.Given as goal
 
 -- the dependencies so far and those of what is left are those of all

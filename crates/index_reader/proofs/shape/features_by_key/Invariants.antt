@@ -1,8 +1,8 @@
 use Rattle.std.proofs.Common.{◌≡◌}
-use Rattle.index_reader.specs.Lines.{features_in}
-use Rattle.index_reader.specs.Shapes.{feature_views}
+use Rattle.index_reader.specs.Shapes.{features_in}
+use Rattle.index_reader.specs.ShapeViews.{feature_views}
 use Rattle.trees.specs.Trees.{entries_view, sorted_view}
-use Rattle.index_reader.proofs.ReadLemmas.{with_front}
+use Rattle.model.proofs.Fronts.{with_front}
 use Rattle.index_reader.proofs.shape.features_by_key.Given as goal
 
 -- the features so far and those of what is left are those of all

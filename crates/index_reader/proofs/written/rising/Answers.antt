@@ -1,5 +1,5 @@
 use Rattle.std.proofs.Common.{rules}
-use Rattle.index_reader.specs.Shapes.{feature_views}
+use Rattle.index_reader.specs.ShapeViews.{feature_views}
 use Rattle.index_reader.proofs.RisingLemmas.{all-rising, map-rising}
 use Rattle.index_reader.proofs.written.rising.Goals as goal
 

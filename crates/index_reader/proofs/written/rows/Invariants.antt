@@ -1,8 +1,8 @@
 use Rattle.std.proofs.Common.{◌≡◌, drop}
 use Rattle.features.specs.Tables.{rows_of}
-use Rattle.index_reader.specs.Shapes.{feature_views}
+use Rattle.index_reader.specs.ShapeViews.{feature_views}
 use Rattle.index_reader.specs.Written.{features_read}
-use Rattle.index_reader.proofs.ReadLemmas.{with_front}
+use Rattle.model.proofs.Fronts.{with_front}
 use Rattle.index_reader.proofs.written.rows.Given as goal
 
 -- the rows so far and those of what is left are those of all

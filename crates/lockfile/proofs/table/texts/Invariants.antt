@@ -1,8 +1,8 @@
 use Rattle.std.proofs.Common.{◌≡◌, drop}
 use Rattle.toml.specs.View.{items_view}
 use Rattle.lockfile.specs.Locks.{texts_in}
-use Rattle.lockfile.specs.Views.{text_views}
-use Rattle.lockfile.proofs.ReadLemmas.{with_front}
+use Rattle.features.specs.Views.{text_views}
+use Rattle.model.proofs.Fronts.{with_front}
 use Rattle.lockfile.proofs.table.texts.Given as goal
 
 -- the texts so far and those of what is left are those of all

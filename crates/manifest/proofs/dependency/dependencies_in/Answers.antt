@@ -1,7 +1,7 @@
 use Rattle.std.proofs.Common.{rules}
 use Rattle.manifest.specs.Dependencies.{dependencies_in}
 use Rattle.manifest.specs.ShapeViews.{dependency_view}
-use Rattle.manifest.proofs.ReadLemmas.{pushed}
+use Rattle.model.proofs.Fronts.{pushed}
 use Rattle.manifest.proofs.dependency.dependencies_in.Goals as goal
 
 pub members-preserved : goal.members-preserved

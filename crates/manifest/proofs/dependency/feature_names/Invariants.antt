@@ -1,7 +1,7 @@
 use Rattle.std.proofs.Common.{◌≡◌, drop}
 use Rattle.toml.specs.View.{items_view}
 use Rattle.manifest.specs.Dependencies.{feature_names}
-use Rattle.manifest.proofs.ReadLemmas.{with_front}
+use Rattle.model.proofs.Fronts.{with_front}
 use Rattle.manifest.proofs.dependency.feature_names.Given as goal
 
 -- the names so far and those of what is left are those of all

@@ -2,7 +2,7 @@ use Rattle.features.specs.EntryViews.{entry_view}
 use Rattle.manifest.specs.Shapes.{entries_in}
 use Rattle.std.proofs.Common.{arith}
 use Rattle.std.proofs.lemmas.Grind.{common_steps}
-use Rattle.manifest.proofs.ReadLemmas.{pushed}
+use Rattle.model.proofs.Fronts.{pushed}
 use Rattle.manifest.proofs.feature.entries.Goals as goal
 
 pub items-preserved : goal.items-preserved

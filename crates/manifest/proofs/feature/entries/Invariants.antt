@@ -2,7 +2,7 @@ use Rattle.std.proofs.Common.{◌≡◌, drop}
 use Rattle.toml.specs.View.{items_view}
 use Rattle.features.specs.EntryViews.{entry_views}
 use Rattle.manifest.specs.Shapes.{entries_in}
-use Rattle.manifest.proofs.ReadLemmas.{with_front}
+use Rattle.model.proofs.Fronts.{with_front}
 use Rattle.manifest.proofs.feature.entries.Given as goal
 
 -- the entries so far and those of what is left are those of all

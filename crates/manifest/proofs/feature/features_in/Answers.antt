@@ -1,7 +1,7 @@
 use Rattle.std.proofs.Common.{rules}
 use Rattle.manifest.specs.Shapes.{features_in}
 use Rattle.manifest.proofs.FeatureLemmas.{row_view, key_texts, texts_rise, inserted}
-use Rattle.manifest.proofs.ReadLemmas.{pushed}
+use Rattle.model.proofs.Fronts.{pushed}
 use Rattle.manifest.proofs.feature.features_in.Goals as goal
 
 pub members-init : goal.members-init

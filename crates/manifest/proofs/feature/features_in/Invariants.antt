@@ -4,7 +4,7 @@ use Rattle.toml.specs.View.{members_view}
 use Rattle.features.specs.Tables.{rows_of}
 use Rattle.model.specs.Order.{text_cmp}
 use Rattle.manifest.specs.Shapes.{features_in}
-use Rattle.manifest.proofs.ReadLemmas.{with_front}
+use Rattle.model.proofs.Fronts.{with_front}
 use Rattle.manifest.proofs.FeatureLemmas.{key_texts, row_names}
 use Rattle.manifest.proofs.feature.features_in.Given as goal
 

@@ -1,7 +1,7 @@
 use Rattle.std.proofs.Common.{rules}
 use Rattle.features.specs.Views.{dependency_view}
 use Rattle.manifest.specs.Manifests.{dependencies_of}
-use Rattle.manifest.proofs.ReadLemmas.{pushed}
+use Rattle.model.proofs.Fronts.{pushed}
 use Rattle.manifest.proofs.reader.requirements.Goals as goal
 
 pub shapes-preserved : goal.shapes-preserved

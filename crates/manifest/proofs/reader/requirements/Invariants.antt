@@ -3,7 +3,7 @@ use Rattle.std.specs.Vec.Iter.{into_iter_items}
 use Rattle.features.specs.Views.{dependency_views}
 use Rattle.manifest.specs.Manifests.{dependencies_of}
 use Rattle.manifest.specs.ShapeViews as shaped
-use Rattle.manifest.proofs.ReadLemmas.{with_front}
+use Rattle.model.proofs.Fronts.{with_front}
 use Rattle.manifest.proofs.reader.requirements.Given as goal
 
 -- the dependencies so far and those of the shapes that are left are those of all

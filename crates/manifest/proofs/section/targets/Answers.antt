@@ -1,7 +1,7 @@
 use Rattle.std.proofs.Common.{rules}
 use Rattle.manifest.specs.Dependencies.{targets_in}
 use Rattle.manifest.specs.ShapeViews.{dependency_view}
-use Rattle.manifest.proofs.ReadLemmas.{appended}
+use Rattle.model.proofs.Fronts.{appended}
 use Rattle.manifest.proofs.section.targets.Goals as goal
 
 pub members-preserved : goal.members-preserved

@@ -2,7 +2,7 @@ use Rattle.std.proofs.Common.{◌≡◌}
 use Rattle.toml.specs.View.{members_view}
 use Rattle.manifest.specs.Dependencies.{targets_in}
 use Rattle.manifest.specs.ShapeViews.{dependency_views}
-use Rattle.manifest.proofs.ReadLemmas.{with_front}
+use Rattle.model.proofs.Fronts.{with_front}
 use Rattle.manifest.proofs.section.targets.Given as goal
 
 -- the dependencies so far and those of the targets that are left are those of all

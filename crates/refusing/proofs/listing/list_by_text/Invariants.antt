@@ -5,4 +5,4 @@ use Rattle.refusing.proofs.listing.list_by_text.Given as goal
 
 abbrev pub invariant-vertices : goal.invariant-vertices
 invariant-vertices g l =
-    AreListed (problem l.inputs) l.table l.spaces × AreSpelt l.table l.spaces × (l.steps ≡ l.fn.steps)
+    AreListed (problem l.known) l.table l.spaces × AreSpelt l.table l.spaces × (l.steps ≡ l.fn.steps)

@@ -14,7 +14,7 @@ steps_of-requires-clause-needed g c = (c.args.last, c.requires.within, c.in_ok-k
 
 pub returns-clause-accepted : goal.returns-clause-accepted
 returns-clause-accepted g c =
-    let q = problem c.args.inputs.now in
+    let q = problem c.args.known.now in
     let vs = c.args.table.now in
     let es = entries_view g.S.States.tests c.args.store.now in
     let place = place_in c.in_ok-kept.kept.places.items in
@@ -26,7 +26,7 @@ returns-clause-accepted g c =
 
 pub returns-clause-once : goal.returns-clause-once
 returns-clause-once g c =
-    let q = problem c.args.inputs.now in
+    let q = problem c.args.known.now in
     let vs = c.args.table.now in
     let es = entries_view g.S.States.tests c.args.store.now in
     let place = place_in c.in_ok-kept.kept.places.items in

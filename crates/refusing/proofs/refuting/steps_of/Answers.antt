@@ -13,23 +13,23 @@ pub entries-init : goal.entries-init
 entries-init g c = (
   c.list_by_text.ensures.listed,
   c.list_by_text.ensures.spelt,
-  subst (λ d. AreStepsOf (problem c.args.inputs.now) c.args.table.now (entries_view g.S.States.tests c.args.store.now)
+  subst (λ d. AreStepsOf (problem c.args.known.now) c.args.table.now (entries_view g.S.States.tests c.args.store.now)
       (place_in c.args.kept.now.places.items) [] d) (sym (c.list_by_text.ensures.steps ∙ c.new-steps.ensures)) tt,
 )
 
 pub list_by_text-requires-clause-listed : goal.list_by_text-requires-clause-listed
-list_by_text-requires-clause-listed g c = c.new-spaces.ensures.listed (problem c.args.inputs.now) c.args.table.now
+list_by_text-requires-clause-listed g c = c.new-spaces.ensures.listed (problem c.args.known.now) c.args.table.now
 
 pub list_by_text-requires-clause-spelt : goal.list_by_text-requires-clause-spelt
 list_by_text-requires-clause-spelt g c = c.new-spaces.ensures.spelt c.args.table.now
 
 pub list_by_text-requires-clause-valid : goal.list_by_text-requires-clause-valid
 list_by_text-requires-clause-valid g c =
-    vertices_read (problem c.args.inputs.now) c.requires.parts c.args.table.now c.requires.numbering.there
+    vertices_read (problem c.args.known.now) c.requires.parts c.args.table.now c.requires.numbering.there
 
 pub push_step-requires-clause-next : goal.push_step-requires-clause-next
 push_step-requires-clause-next g c =
-    let q = problem c.args.inputs.now in
+    let q = problem c.args.known.now in
     let es = entries_view g.S.States.tests c.args.store.now in
     let ids = c.args.kept.now.ids.items in
     let read = subst (λ (l : List ℕ). IsRead l c.entries.id-index c.id-item.result) c.deref-id-items.ensures.value
@@ -43,7 +43,7 @@ push_step-requires-clause-next g c =
 
 pub entries-preserved : goal.entries-preserved
 entries-preserved g c =
-    let q = problem c.args.inputs.now in
+    let q = problem c.args.known.now in
     let es = entries_view g.S.States.tests c.args.store.now in
     let read = subst (λ (l : List ℕ). IsRead l c.entries.id-index c.id-item.result) c.deref-id-items.ensures.value
     (c.entries-test.true, c.id-item.is) in (
@@ -66,6 +66,6 @@ pub returns : goal.returns
 returns g c =
     let long = subst (λ (l : List ℕ). length l ≤ c.entries.id-index) c.deref-id-items.ensures.value
     (omega (arith, c.entries-test.false)) in
-    all_at (problem c.args.inputs.now) c.args.table.now (entries_view g.S.States.tests c.args.store.now)
+    all_at (problem c.args.known.now) c.args.table.now (entries_view g.S.States.tests c.args.store.now)
     (place_in c.args.kept.now.places.items) c.args.kept.now.ids.items c.entries.id-index c.entries.steps
     long c.entries.invariant.2

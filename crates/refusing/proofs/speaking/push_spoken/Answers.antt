@@ -9,11 +9,11 @@ use Rattle.refusing.proofs.speaking.push_spoken.Goals as goal
 
 pub speak-requires-clause-sized : goal.speak-requires-clause-sized
 speak-requires-clause-sized g c = c.requires.sized
-    ∙ ap (size_of (problem c.args.inputs.now)) (sym c.vertex.ensures ∙ ap (option_map vertex_ref_view) c.in-Some.is)
+    ∙ ap (size_of (problem c.args.known.now)) (sym c.vertex.ensures ∙ ap (option_map vertex_ref_view) c.in-Some.is)
 
 pub returns-in_ok-push-in-Some : goal.returns-in_ok-push-in-Some
 returns-in_ok-push-in-Some g c =
-    let q = problem c.args.inputs.now in
+    let q = problem c.args.known.now in
     let m = g.S.States.tests c.args.term.now.states in
     let old = c.args.made.now.items in
     let seen : slice_get c.args.table.now c.args.term.now.vertex ≡ Some (vertex_ref_view c.in-Some.vertex) =
@@ -24,7 +24,7 @@ returns-in_ok-push-in-Some g c =
 
 pub returns-in-None : goal.returns-in-None
 returns-in-None g c =
-    let q = problem c.args.inputs.now in
+    let q = problem c.args.known.now in
     let m = g.S.States.tests c.args.term.now.states in
     let old = c.args.made.now.items in
     sym (append-nil (spoken_views old)) ∙ ap (λ o. spoken_views old ++ with_term q o m [])

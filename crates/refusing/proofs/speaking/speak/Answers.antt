@@ -13,7 +13,7 @@ returns g c =
     let v = vertex_ref_view c.args.vertex in
     let here = c.in_ok-space.space.now in
     let one : here.spelling ≡ v = c.requires.spelt c.args.number here c.in_ok-space.ensures v c.requires.there in
-    let known : state_ref_views here.states.items ≡ space (problem c.args.inputs.now) v =
+    let known : state_ref_views here.states.items ≡ space (problem c.args.known.now) v =
     c.requires.listed c.args.number here c.in_ok-space.ensures v c.requires.there in
     ap₂ at one (ap state_ref_views (c.in_ok-states.ensures ∙ ap (λ l. states_in l m) c.deref.ensures.value)
     ∙ map_chosen state_ref_view here.states.items m ∙ ap (λ l. states_in l m) known)

@@ -6,16 +6,16 @@ use Rattle.refusing.proofs.speaking.spoken_terms.Goals as goal
 
 pub push_spoken-requires-clause-sized : goal.push_spoken-requires-clause-sized
 push_spoken-requires-clause-sized g c =
-    sized_at g.S.States.tests (problem c.args.inputs.now) c.args.table.now c.args.terms.now c.terms.term-index
+    sized_at g.S.States.tests (problem c.args.known.now) c.args.table.now c.args.terms.now c.terms.term-index
     c.term-item.result c.requires.sized c.terms-test.true c.term-item.is
 
 pub terms-preserved : goal.terms-preserved
 terms-preserved g c =
-    spoken_more g.S.States.tests (problem c.args.inputs.now) c.args.table.now c.args.terms.now c.terms.term-index
+    spoken_more g.S.States.tests (problem c.args.known.now) c.args.table.now c.args.terms.now c.terms.term-index
     c.term-item.result (spoken_views c.terms.made.items) (spoken_views c.push_spoken.new.made.items)
     c.terms-test.true c.term-item.is c.terms.invariant c.in_ok-push_spoken.ensures
 
 pub returns : goal.returns
 returns g c =
-    all_spoken g.S.States.tests (problem c.args.inputs.now) c.args.table.now c.args.terms.now c.terms.term-index
+    all_spoken g.S.States.tests (problem c.args.known.now) c.args.table.now c.args.terms.now c.terms.term-index
     (spoken_views c.terms.made.items) (omega (arith, c.terms-test.false)) c.terms.invariant

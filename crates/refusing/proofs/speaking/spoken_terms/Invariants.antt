@@ -6,4 +6,4 @@ use Rattle.refusing.proofs.speaking.spoken_terms.Given as goal
 
 abbrev pub invariant-terms : goal.invariant-terms
 invariant-terms g l =
-    IsSpeaking (problem l.inputs) l.table (terms_view g.S.States.tests l.terms) l.term-index (spoken_views l.made.items)
+    IsSpeaking (problem l.known) l.table (terms_view g.S.States.tests l.terms) l.term-index (spoken_views l.made.items)

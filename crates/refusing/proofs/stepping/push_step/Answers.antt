@@ -15,7 +15,7 @@ use Rattle.refusing.proofs.stepping.push_step.Goals as goal
 
 pub spoken_terms-requires-clause-sized : goal.spoken_terms-requires-clause-sized
 spoken_terms-requires-clause-sized g c =
-    let q = problem c.args.inputs.now in
+    let q = problem c.args.known.now in
     let e = entry (entries_view g.S.States.tests c.args.store.now) c.args.id in
     let same : terms_view g.S.States.tests c.terms-said.result.now ≡ e.terms =
     ap (terms_view g.S.States.tests) c.terms-said.ensures.terms ∙ c.get.ensures.value in
@@ -23,11 +23,11 @@ spoken_terms-requires-clause-sized g c =
 
 pub list_each-requires-clause-valid : goal.list_each-requires-clause-valid
 list_each-requires-clause-valid g c =
-    vertices_read (problem c.args.inputs.now) c.requires.parts c.args.table.now c.requires.numbering.there
+    vertices_read (problem c.args.known.now) c.requires.parts c.args.table.now c.requires.numbering.there
 
 pub push_by-requires-clause-valid : goal.push_by-requires-clause-valid
 push_by-requires-clause-valid g c =
-    vertices_read (problem c.args.inputs.now) c.requires.parts c.args.table.now c.requires.numbering.there
+    vertices_read (problem c.args.known.now) c.requires.parts c.args.table.now c.requires.numbering.there
 
 pub push_by-requires-clause-there : goal.push_by-requires-clause-there
 push_by-requires-clause-there g c =
@@ -38,7 +38,7 @@ push_by-requires-clause-there g c =
 
 pub push_by-requires-clause-terms : goal.push_by-requires-clause-terms
 push_by-requires-clause-terms g c =
-    let q = problem c.args.inputs.now in
+    let q = problem c.args.known.now in
     let e = entry (entries_view g.S.States.tests c.args.store.now) c.args.id in
     let same : terms_view g.S.States.tests c.terms-said.result.now ≡ e.terms =
     ap (terms_view g.S.States.tests) c.terms-said.ensures.terms ∙ c.get.ensures.value in
@@ -50,7 +50,7 @@ push_by-requires-clause-terms g c =
 
 pub returns-clause-step : goal.returns-clause-step
 returns-clause-step g c =
-    let q = problem c.args.inputs.now in
+    let q = problem c.args.known.now in
     let e = entry (entries_view g.S.States.tests c.args.store.now) c.args.id in
     let same : terms_view g.S.States.tests c.terms-said.result.now ≡ e.terms =
     ap (terms_view g.S.States.tests) c.terms-said.ensures.terms ∙ c.get.ensures.value in

@@ -1,4 +1,4 @@
-use Rattle.std.proofs.Common.{◌≡◌, ap, arith, refl, subst, sym, true}
+use Rattle.std.proofs.Common.{ap, arith, refl, subst, sym, true}
 use Rattle.incompatibilities.specs.Stores.{entries_view}
 use Rattle.propagation.specs.Trails.{trail_view}
 use Rattle.propagation.specs.Promises.{IsNew}

@@ -4,7 +4,7 @@ use Rattle.propagation.specs.Trails.{trail_view}
 use Rattle.searching.specs.Counting.{combinations}
 use Rattle.searching.specs.Searching.{space}
 use Rattle.searching.specs.Turning.{HasGone, HasTurned}
-use Rattle.searching.specs.Walking.{RefutesNothing}
+use Rattle.searching.specs.Following.{RefutesNothing}
 use Rattle.searching.proofs.Each.{each_falls}
 use Rattle.searching.proofs.turns.search.Goals as goal
 
@@ -35,8 +35,8 @@ turns-preserved g c =
       stored = λ stored. turn.stored (was.stored stored);
       touching = λ touching. turn.touching (was.touching touching);
       counted = turn.counted (combinations (entries_view tests c.args.store.now)) was.counted;
-      walks = λ x is. let mid = turn.walks x is in let first =
-          was.walks x mid.0 in (first.0, λ walked. mid.1 (first.1 walked));
+      follows = λ x is. let mid = turn.follows x is in let first =
+          was.follows x mid.0 in (first.0, λ is_left. mid.1 (first.1 is_left));
     }
 
 pub returns-in-Ends-clause-given : goal.returns-in-Ends-clause-given
@@ -48,14 +48,14 @@ returns-in-Ends-clause-stored g c stored = c.in_ok-next.ensures.stored (c.turns.
 pub returns-in-Ends-clause-touching : goal.returns-in-Ends-clause-touching
 returns-in-Ends-clause-touching g c touching = c.in_ok-next.ensures.touching (c.turns.invariant.touching touching)
 
-pub returns-in-Ends-clause-walks : goal.returns-in-Ends-clause-walks
-returns-in-Ends-clause-walks g c x is = let mid = c.in_ok-next.ensures.walks x is in let first =
-    c.turns.invariant.walks x mid.0 in (first.0, λ walked. mid.1 (first.1 walked))
+pub returns-in-Ends-clause-follows : goal.returns-in-Ends-clause-follows
+returns-in-Ends-clause-follows g c x is = let mid = c.in_ok-next.ensures.follows x is in let first =
+    c.turns.invariant.follows x mid.0 in (first.0, λ is_left. mid.1 (first.1 is_left))
 
 pub returns-in-Ends-clause-selects : goal.returns-in-Ends-clause-selects
-returns-in-Ends-clause-selects g c x is walked =
-    let mid = c.in_ok-next.ensures.walks x is in
-    subst RefutesNothing c.in-Ends.is (c.in_ok-next.ensures.turns x is ((c.turns.invariant.walks x mid.0).1 walked))
+returns-in-Ends-clause-selects g c x is is_left =
+    let mid = c.in_ok-next.ensures.follows x is in
+    subst RefutesNothing c.in-Ends.is (c.in_ok-next.ensures.turns x is ((c.turns.invariant.follows x mid.0).1 is_left))
 
 pub returns-in-Ends-clause-each : goal.returns-in-Ends-clause-each
 returns-in-Ends-clause-each g c = each_falls (g.G.Guide.late c.one_turn.new.guide)

@@ -3,7 +3,7 @@ use Rattle.incompatibilities.specs.Stores.{entries_view}
 use Rattle.propagation.specs.Trails.{trail_view}
 use Rattle.searching.specs.Counting.{combinations}
 use Rattle.searching.specs.Searching.{AreTouching, HasSpaces, IsCaught, IsSearching, IsSeen, space}
-use Rattle.searching.specs.Walking.{AreGiven, KeepsWalks}
+use Rattle.searching.specs.Following.{AreGiven, KeepsFollowed}
 use Rattle.searching.proofs.turns.search.Given as goal
 
 abbrev pub invariant-turns : goal.invariant-turns
@@ -19,8 +19,8 @@ invariant-turns g l = let tests = g.S.States.tests in record {
   stored : g.G.Guide.stored l.fn.guide (entries_view tests l.fn.store)
       → g.G.Guide.stored l.guide (entries_view tests l.store);
   touching : AreTouching (entries_view tests l.fn.store) → AreTouching (entries_view tests l.store);
-  walks : KeepsWalks (g.G.Guide.walks l.fn.guide) (entries_view tests l.fn.store) (trail_view tests l.fn.trail)
-      (g.G.Guide.walks l.guide) (entries_view tests l.store) (trail_view tests l.trail);
+  follows : KeepsFollowed (g.G.Guide.follows l.fn.guide) (entries_view tests l.fn.store) (trail_view tests l.fn.trail)
+      (g.G.Guide.follows l.guide) (entries_view tests l.store) (trail_view tests l.trail);
 }
 
 abbrev pub decreases-turns : goal.decreases-turns

@@ -8,7 +8,7 @@ use Rattle.searching.proofs.Counts.{counts_gained}
 use Rattle.searching.proofs.Falls.{turn_jump, turn_noted}
 use Rattle.searching.proofs.Seen.{seen_cut, seen_longer}
 use Rattle.searching.proofs.Touching.{touching_gained}
-use Rattle.searching.proofs.Walks.{given_more, no_conflict, spaces_same}
+use Rattle.searching.proofs.Following.{given_more, no_conflict, spaces_same}
 use Rattle.searching.proofs.turns.turn_back.Goals as goal
 
 pub returns-in_ok-propagate-in-Learned-clause-turned : goal.returns-in_ok-propagate-in-Learned-clause-turned
@@ -39,24 +39,24 @@ returns-in_ok-propagate-in-Learned-clause-turned g c =
           c.in_ok-noted-in-Learned.ensures.seen c.in_ok-noted-in-Learned.ensures.within grows c.requires.seen);
     }
 
-pub returns-in_ok-propagate-in-Learned-clause-walks : goal.returns-in_ok-propagate-in-Learned-clause-walks
-returns-in_ok-propagate-in-Learned-clause-walks g c x is = (
-  c.in_ok-noted-in-Learned.ensures.walks x is,
-  λ walked. absurd (no_conflict x (entries_view g.S.States.tests c.args.store.now)
-      (trail_view g.S.States.tests c.args.trail.now) c.args.id c.requires.searching.stops walked),
+pub returns-in_ok-propagate-in-Learned-clause-follows : goal.returns-in_ok-propagate-in-Learned-clause-follows
+returns-in_ok-propagate-in-Learned-clause-follows g c x is = (
+  c.in_ok-noted-in-Learned.ensures.follows x is,
+  λ is_left. absurd (no_conflict x (entries_view g.S.States.tests c.args.store.now)
+      (trail_view g.S.States.tests c.args.trail.now) c.args.id c.requires.searching.stops is_left),
 )
 
-pub returns-in-Unsolvable-clause-walks : goal.returns-in-Unsolvable-clause-walks
-returns-in-Unsolvable-clause-walks g c x was = (
+pub returns-in-Unsolvable-clause-follows : goal.returns-in-Unsolvable-clause-follows
+returns-in-Unsolvable-clause-follows g c x was = (
   was,
-  λ walked. absurd (no_conflict x (entries_view g.S.States.tests c.args.store.now)
-      (trail_view g.S.States.tests c.args.trail.now) c.args.id c.requires.searching.stops walked),
+  λ is_left. absurd (no_conflict x (entries_view g.S.States.tests c.args.store.now)
+      (trail_view g.S.States.tests c.args.trail.now) c.args.id c.requires.searching.stops is_left),
 )
 
 pub returns-in-Unsolvable-clause-turns : goal.returns-in-Unsolvable-clause-turns
-returns-in-Unsolvable-clause-turns g c x was walked =
+returns-in-Unsolvable-clause-turns g c x was is_left =
     absurd (no_conflict x (entries_view g.S.States.tests c.args.store.now)
-    (trail_view g.S.States.tests c.args.trail.now) c.args.id c.requires.searching.stops walked)
+    (trail_view g.S.States.tests c.args.trail.now) c.args.id c.requires.searching.stops is_left)
 
 pub returns-in-Unsolvable-clause-keeps : goal.returns-in-Unsolvable-clause-keeps
 returns-in-Unsolvable-clause-keeps g c = g.G.Guide.keeps_same c.args.guide.now

@@ -7,7 +7,7 @@ use Rattle.searching.proofs.Falls.{adding_trail, turn_axioms, turn_decide, wide_
 use Rattle.searching.proofs.Falls.{wide_searching, wide_space}
 use Rattle.searching.proofs.Seen.{seen_longer}
 use Rattle.searching.proofs.Touching.{touching_axioms}
-use Rattle.searching.proofs.Walks.{decide_agrees, spaces_same, spread_agrees}
+use Rattle.searching.proofs.Following.{decide_agrees, spaces_same, spread_agrees}
 use Rattle.propagation.specs.Satisfaction.{Agrees}
 use Rattle.incompatibilities.specs.Incompatibilities.{Assignment}
 use Rattle.searching.proofs.turns.turn_on.Goals as goal
@@ -136,36 +136,36 @@ returns-in-None-clause-trail g c =
     (entries_view tests c.args.store.now) (entries_view tests c.axioms.new.store) c.in_ok-axioms.field-0
     c.requires.searching.trail c.requires.caught c.in_ok-axioms.ensures.adding
 
-pub returns-then-branch-clause-walks : goal.returns-then-branch-clause-walks
-returns-then-branch-clause-walks g c x is =
+pub returns-then-branch-clause-follows : goal.returns-then-branch-clause-follows
+returns-then-branch-clause-follows g c x is =
     let tests = g.S.States.tests in
     let es = entries_view tests c.axioms.new.store in
-    let more = c.in_ok-axioms.ensures.walks x is in
+    let more = c.in_ok-axioms.ensures.follows x is in
     let p = c.in_ok-propagate.ensures.propagated in (
       more.0,
-      λ walked. let mid = more.1 walked in spread_agrees x es (trail_view tests c.axioms.new.trail)
+      λ is_left. let mid = more.1 is_left in spread_agrees x es (trail_view tests c.axioms.new.trail)
           (trail_view tests c.propagate.new.self) c.in_ok-propagate.field-0 p.0 p.1 mid.0 mid.1,
     )
 
-pub returns-in_ok-propagate-in-Some-clause-walks : goal.returns-in_ok-propagate-in-Some-clause-walks
-returns-in_ok-propagate-in-Some-clause-walks g c x is =
+pub returns-in_ok-propagate-in-Some-clause-follows : goal.returns-in_ok-propagate-in-Some-clause-follows
+returns-in_ok-propagate-in-Some-clause-follows g c x is =
     let tests = g.S.States.tests in
     let es = entries_view tests c.axioms.new.store in
     let wide = trail_view tests c.axioms.new.trail in
     let mid = trail_view tests c.decide.new.self in
-    let more = c.in_ok-axioms.ensures.walks x is in
+    let more = c.in_ok-axioms.ensures.follows x is in
     let p = c.in_ok-propagate-in-Some.ensures.propagated in
     let d = c.in_ok-decide-in-Some.ensures.decided in
     let pair : ℕ × ℕ = (c.in-Some.vertex, c.in-Some.state) in
     let can : IsChosen (g.G.Guide.done c.axioms.new.self wide) wide (Some pair) =
     subst (IsChosen (g.G.Guide.done c.axioms.new.self wide) wide) c.in-Some.is c.in_ok-vertex.ensures.chosen in
-    let walks : IfSome (Some pair) (λ d. (y : Assignment) → g.G.Guide.walks c.axioms.new.self y → Agrees y wide.sets
-    → y d.0 ≡ d.1) = subst (λ o. IfSome o (λ d. (y : Assignment) → g.G.Guide.walks c.axioms.new.self y
-    → Agrees y wide.sets → y d.0 ≡ d.1)) c.in-Some.is c.in_ok-vertex.ensures.walks in (
+    let follows : IfSome (Some pair) (λ d. (y : Assignment) → g.G.Guide.follows c.axioms.new.self y → Agrees y wide.sets
+    → y d.0 ≡ d.1) = subst (λ o. IfSome o (λ d. (y : Assignment) → g.G.Guide.follows c.axioms.new.self y
+    → Agrees y wide.sets → y d.0 ≡ d.1)) c.in-Some.is c.in_ok-vertex.ensures.follows in (
       more.0,
-      λ walked. let there = more.1 walked in spread_agrees x es mid
+      λ is_left. let there = more.1 is_left in spread_agrees x es mid
           (trail_view tests c.propagate-in-Some.new.self) c.in_ok-propagate-in-Some.field-0 p.0 p.1 there.0
-          (decide_agrees x wide mid c.in-Some.vertex c.in-Some.state d.0 d.1 can (walks x is there.1) there.1),
+          (decide_agrees x wide mid c.in-Some.vertex c.in-Some.state d.0 d.1 can (follows x is there.1) there.1),
     )
 
 pub returns-then-branch-clause-spaces : goal.returns-then-branch-clause-spaces

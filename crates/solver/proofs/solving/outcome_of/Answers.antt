@@ -21,13 +21,13 @@ pub found-requires : goal.found-requires
 found-requires g c =
     let searched = c.args.searched in
     subst (λ q. HasSearched q searched.guide (trail_view g.S.States.tests searched.trail)
-    (entries_view g.S.States.tests searched.store) searched.found.answer) (sym c.inputs.ensures)
+    (entries_view g.S.States.tests searched.store) searched.found.answer) (sym c.known.ensures)
     c.requires
 
 pub returns-else-is_following-clause-answer : goal.returns-else-is_following-clause-answer
 returns-else-is_following-clause-answer g c =
     let follows = c.args.searched.guide.follows in
     let none : is_some follows ≡ false = search rules in
-    IfOk-weaker c.found.result (IsFound (problem c.inputs.result.now)) (IsAnswer c.args.searched.guide.problem follows)
+    IfOk-weaker c.found.result (IsFound (problem c.known.result.now)) (IsAnswer c.args.searched.guide.problem follows)
     (λ o found. found-answers c.args.searched.guide.problem follows o none
-    (subst (λ q. IsFound q o) c.inputs.ensures found)) c.found.ensures.found
+    (subst (λ q. IsFound q o) c.known.ensures found)) c.found.ensures.found

@@ -1,4 +1,4 @@
-use Rattle.std.proofs.Common.{◌≤◌, ◌∙◌, ap, sym, subst, arith}
+use Rattle.std.proofs.Common.{subst, arith}
 use Rattle.catalogue.specs.Problems.{problem_in}
 use Rattle.walks.specs.Preferred.{preferred_in}
 use Rattle.solver.specs.Solving.{IsAnswer}

@@ -7,9 +7,9 @@ use Rattle.walks.specs.Preferred.{preferred_in}
 use Rattle.walks.proofs.meeting.meet.Given as goal
 
 -- each of those met so far is there once, and the first of them have their nodes
-abbrev pub invariant-stops : goal.invariant-stops
-invariant-stops l = SoFar (problem_in l.manifest l.catalogue) (Picks (problem_in l.manifest l.catalogue)
-    (preferred_in l.catalogue)) l.catalogue l.stops.keys (node_views l.nodes.items)
+abbrev pub invariant-versions : goal.invariant-versions
+invariant-versions l = SoFar (problem_in l.manifest l.catalogue) (Picks (problem_in l.manifest l.catalogue)
+    (preferred_in l.catalogue)) l.catalogue l.versions.keys (node_views l.nodes.items)
 
-abbrev pub decreases-stops : goal.decreases-stops
-decreases-stops l = 2 ^ 64 - length l.nodes.items
+abbrev pub decreases-versions : goal.decreases-versions
+decreases-versions l = 2 ^ 64 - length l.nodes.items

@@ -12,7 +12,8 @@ dependencies-preserved c =
     let d = c.dependency-item.result in
     let there = map_at dependency_view ds i d
     (slice_get-get_or ds i d c.dependencies-test.true ∙ ap Some (sym c.dependency-item.is)) in
-    more_targets c.args.catalogue.now c.args.stops.now.keys c.dependencies.stops.keys c.target_of.new.stops.keys
+    more_targets c.args.catalogue.now c.args.versions.now.keys c.dependencies.versions.keys
+    c.target_of.new.versions.keys
     (dependency_views ds) i c.dependencies.targets.items _ (dependency_view d) c.in_ok-target_of.field-0
     c.dependencies.invariant c.in_ok-target_of.ensures.grows there c.in_ok-target_of.ensures.pick
     c.in_ok-push.ensures.items

@@ -4,5 +4,5 @@ use Rattle.walks.proofs.meeting.targets_of.Given as goal
 
 -- the targets of the dependencies so far
 abbrev pub invariant-dependencies : goal.invariant-dependencies
-invariant-dependencies l = TargetsTo l.catalogue l.fn.stops.keys l.stops.keys
+invariant-dependencies l = TargetsTo l.catalogue l.fn.versions.keys l.versions.keys
     (dependency_views l.dependencies) l.dependency-index l.targets.items

@@ -18,15 +18,15 @@ facts_of-requires c =
     let q = problem_in c.args.manifest.now c.args.catalogue.now in
     record {
       graph = rw c.as_slice.ensures.value
-          (is_graph q (Picks q (preferred_in c.args.catalogue.now)) _ _ c.in_ok-stops.ensures.met refl);
+          (is_graph q (Picks q (preferred_in c.args.catalogue.now)) _ _ c.in_ok-versions.ensures.met refl);
     }
 
 pub returns-then-not-is_complete-clause-answer : goal.returns-then-not-is_complete-clause-answer
 returns-then-not-is_complete-clause-answer c content it =
     let q = problem_in c.args.manifest.now c.args.catalogue.now in
     let rows = preferred_in c.args.catalogue.now in
-    let nodes = c.in_ok-stops.field-0.nodes.items in
-    let owners = owners_of c.args.catalogue.now c.in_ok-stops.field-0.stops.keys in
+    let nodes = c.in_ok-versions.field-0.nodes.items in
+    let owners = owners_of c.args.catalogue.now c.in_ok-versions.field-0.versions.keys in
     let lists = map (λ v. v.items) c.in_ok-facts.facts.enabled.items in
     let here = c.in_ok-facts.facts.here.items in
     let are : AreFlags (node_views nodes) here lists =
@@ -35,7 +35,7 @@ returns-then-not-is_complete-clause-answer c content it =
       each_enabled =
           rw c.as_slice.ensures.value at c.in_ok-facts.ensures.enabled;
     } in
-    let met : AreMet q (Picks q rows) owners (node_views nodes) = c.in_ok-stops.ensures.met in
+    let met : AreMet q (Picks q rows) owners (node_views nodes) = c.in_ok-versions.ensures.met in
     let all : AllMet (node_views nodes) lists =
     met_if_complete q rows owners (node_views nodes) met refl here lists are it.complete in
     let yes : all_met nodes c.in_ok-facts.facts.enabled.items ≡ true =
@@ -49,8 +49,8 @@ pub returns-in-Valid-clause-answer : goal.returns-in-Valid-clause-answer
 returns-in-Valid-clause-answer c =
     let q = problem_in c.args.manifest.now c.args.catalogue.now in
     let rows = preferred_in c.args.catalogue.now in
-    let nodes = c.in_ok-stops.field-0.nodes.items in
-    let owners = owners_of c.args.catalogue.now c.in_ok-stops.field-0.stops.keys in
+    let nodes = c.in_ok-versions.field-0.nodes.items in
+    let owners = owners_of c.args.catalogue.now c.in_ok-versions.field-0.versions.keys in
     let lists = map (λ v. v.items) c.in_ok-facts.facts.enabled.items in
     let here = c.in_ok-facts.facts.here.items in
     let are : AreFlags (node_views nodes) here lists =
@@ -59,7 +59,7 @@ returns-in-Valid-clause-answer c =
       each_enabled =
           rw c.as_slice.ensures.value at c.in_ok-facts.ensures.enabled;
     } in
-    let met : AreMet q (Picks q rows) owners (node_views nodes) = c.in_ok-stops.ensures.met in
+    let met : AreMet q (Picks q rows) owners (node_views nodes) = c.in_ok-versions.ensures.met in
     let built : IsBuilt owners (node_views nodes) lists q here c.in_ok-content.content
     = rw (c.as_slice-4.ensures.keys, c.as_slice-5.ensures.value) at c.in_ok-content.ensures in
     let test : c.is_complete.result ≡ all_met nodes c.in_ok-facts.facts.enabled.items =
@@ -80,8 +80,8 @@ pub returns-clause-answer : goal.returns-clause-answer
 returns-clause-answer c other it =
     let q = problem_in c.args.manifest.now c.args.catalogue.now in
     let rows = preferred_in c.args.catalogue.now in
-    let nodes = c.in_ok-stops.field-0.nodes.items in
-    let owners = owners_of c.args.catalogue.now c.in_ok-stops.field-0.stops.keys in
+    let nodes = c.in_ok-versions.field-0.nodes.items in
+    let owners = owners_of c.args.catalogue.now c.in_ok-versions.field-0.versions.keys in
     let lists = map (λ v. v.items) c.in_ok-facts.facts.enabled.items in
     let here = c.in_ok-facts.facts.here.items in
     let are : AreFlags (node_views nodes) here lists =
@@ -90,7 +90,7 @@ returns-clause-answer c other it =
       each_enabled =
           rw c.as_slice.ensures.value at c.in_ok-facts.ensures.enabled;
     } in
-    let met : AreMet q (Picks q rows) owners (node_views nodes) = c.in_ok-stops.ensures.met in
+    let met : AreMet q (Picks q rows) owners (node_views nodes) = c.in_ok-versions.ensures.met in
     let built : IsBuilt owners (node_views nodes) lists q here c.in_ok-content.content
     = rw (c.as_slice-4.ensures.keys, c.as_slice-5.ensures.value) at c.in_ok-content.ensures in
     let walk = c.built_contents_walk.ensures q rows owners

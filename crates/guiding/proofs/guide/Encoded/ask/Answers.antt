@@ -7,7 +7,7 @@ use Rattle.guiding.proofs.Asked.{asking_by, encoding_marked, encoding_of, ok_by,
 use Rattle.guiding.proofs.guide.Encoded.ask.Goals as goal
 
 pub axioms_at-requires-clause-state : goal.axioms_at-requires-clause-state
-axioms_at-requires-clause-state g c = state_below c.self.inside.inputs c.self.inside.table
+axioms_at-requires-clause-state g c = state_below c.self.inside.known c.self.inside.table
     (map g.S.States.tests c.self.inside.asked.items) c.args.self.now c.self.inside.seen c.self.inside.follows
     c.args.vertex c.args.state c.self.invariant.0 c.self.view_is c.requires.vertex c.requires.state
 
@@ -23,13 +23,13 @@ invariant_of-self-2 g c =
 pub returns : goal.returns
 returns g c =
     let tests = g.S.States.tests in
-    ok_by c.mark.result (λ is. asking_by c.self.inside.inputs c.self.inside.table c.axioms_at.new.table
+    ok_by c.mark.result (λ is. asking_by c.self.inside.known c.self.inside.table c.axioms_at.new.table
     (map tests c.self.inside.asked.items) (map tests c.come.new.asked.items) (map tests c.mark.new.asked.items)
     c.self.inside.seen c.self.inside.follows c.args.vertex c.args.state c.args.self.now
     (trail_view tests c.args.trail.now) (trail_view tests c.come.new.trail) (entries_view tests c.args.store.now)
     (entries_view tests c.put_given.new.store) (given_views tests c.in_ok-given.given.items)
     c.self.view_is c.self.invariant.0 c.axioms_at.ensures.grown
-    (encoding_of c.self.inside.inputs c.axioms_at.new.table (map tests c.come.new.asked.items) c.come.ensures.encoding
+    (encoding_of c.self.inside.known c.axioms_at.new.table (map tests c.come.new.asked.items) c.come.ensures.encoding
     c.self.invariant.0.default refl) c.in_ok-come.ensures.came
     (subst (λ n. length c.axioms_at.new.table ≤ n) (sym (length-map c.come.new.asked.items tests))
     c.in_ok-come.ensures.whole) c.come.ensures.trail c.in_ok-given.ensures.given c.in_ok-put_given.ensures is)

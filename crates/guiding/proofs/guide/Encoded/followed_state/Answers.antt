@@ -13,7 +13,7 @@ returns-in-Some-2-clause-followed g c =
     let left = g.S.States.tests c.args.left.now in
     let v = vertex_ref_view c.args.vertex.now in
     subst (λ (o : EncodedView). IsFollowed o.problem o.follows v left (Some c.in-Some-2.state)) c.self.view_is
-    (followed_at (problem c.self.inside.inputs) v c.self.invariant.0.catalogue c.self.inside.follows c.in-Some.content
+    (followed_at (problem c.self.inside.known) v c.self.invariant.0.catalogue c.self.inside.follows c.in-Some.content
     left c.in_ok-state.field-0 (Some c.in-Some-2.state) c.in-Some.is c.in_ok-state.ensures
     (λ i e here. sym c.in-Some-2.is ∙ e))
 
@@ -22,7 +22,7 @@ returns-in_default-2-clause-followed g c =
     let left = g.S.States.tests c.args.left.now in
     let v = vertex_ref_view c.args.vertex.now in
     subst (λ (o : EncodedView). IsFollowed o.problem o.follows v left None) c.self.view_is
-    (followed_at (problem c.self.inside.inputs) v c.self.invariant.0.catalogue c.self.inside.follows c.in-Some.content
+    (followed_at (problem c.self.inside.known) v c.self.invariant.0.catalogue c.self.inside.follows c.in-Some.content
     left c.in_ok-state.field-0 None c.in-Some.is c.in_ok-state.ensures
     (λ i e here.
     let same = same_Some c.in-Some-2.state i (sym c.in-Some-2.is ∙ e) in
@@ -33,6 +33,6 @@ returns-in_default-2-2-clause-followed g c =
     let left = g.S.States.tests c.args.left.now in
     let v = vertex_ref_view c.args.vertex.now in
     subst (λ (o : EncodedView). IsFollowed o.problem o.follows v left None) c.self.view_is
-    (followed_at (problem c.self.inside.inputs) v c.self.invariant.0.catalogue c.self.inside.follows c.in-Some.content
+    (followed_at (problem c.self.inside.known) v c.self.invariant.0.catalogue c.self.inside.follows c.in-Some.content
     left c.in_ok-state.field-0 None c.in-Some.is c.in_ok-state.ensures
     (λ i e here. absurd (none-some i (sym c.in_default-2.is ∙ e))))

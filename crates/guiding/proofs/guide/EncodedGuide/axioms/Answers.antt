@@ -5,14 +5,14 @@ use Rattle.propagation.specs.Trails.{trail_view}
 use Rattle.encoding.specs.KnownProblem.{problem}
 use Rattle.searching.specs.Searching.{HasSpaces, IsSeen}
 use Rattle.searching.specs.Turning.{IsAdding}
-use Rattle.searching.specs.Walking as walking
-use Rattle.searching.specs.Walking.{KeepsWalks}
+use Rattle.searching.specs.Following as following
+use Rattle.searching.specs.Following.{KeepsFollowed}
 use Rattle.searching.proofs.Guides.{adding_nothing}
 use Rattle.guiding.specs.Guides.{AreStored, CanAsk, EncodedView, Follows, IsNextOpen, IsOfInstance, asked_of}
 use Rattle.guiding.specs.Guides.{encoded_view, late_with, left_with}
 use Rattle.guiding.proofs.Adding.{asked_adding, asked_given, asked_seen, asked_spaces, asked_stored}
 use Rattle.guiding.proofs.Asked.{all_seen, only_below}
-use Rattle.guiding.proofs.Following.{asked_walks}
+use Rattle.guiding.proofs.Following.{asked_follows}
 use Rattle.guiding.proofs.guide.EncodedGuide.axioms.Goals as goal
 
 pub returns-in_ok-ask-in-Some-clause-adding : goal.returns-in_ok-ask-in-Some-clause-adding
@@ -25,7 +25,7 @@ returns-in_ok-ask-in-Some-clause-adding g c =
     let es = entries_view tests c.args.store.now in
     let more = entries_view tests c.ask.new.store in
     let new = c.ask.new.self in
-    let mid = encoded_view (problem f.inputs) f.table sets c.next_open.new.seen f.follows in
+    let mid = encoded_view (problem f.known) f.table sets c.next_open.new.seen f.follows in
     let spaced : HasSpaces (map length sets) t =
     subst (λ (o : EncodedView). HasSpaces (map length o.asked) t) (sym c.self.view_is) c.requires.spaces in
     let alone : IsNextOpen t sets c.next_open.new.seen (Some (c.in-Some.vertex, c.in-Some.state)) =
@@ -47,7 +47,7 @@ returns-in_ok-ask-in-Some-clause-spaces g c =
     let es = entries_view tests c.args.store.now in
     let more = entries_view tests c.ask.new.store in
     let new = c.ask.new.self in
-    let mid = encoded_view (problem f.inputs) f.table sets c.next_open.new.seen f.follows in
+    let mid = encoded_view (problem f.known) f.table sets c.next_open.new.seen f.follows in
     let spaced : HasSpaces (map length sets) t =
     subst (λ (o : EncodedView). HasSpaces (map length o.asked) t) (sym c.self.view_is) c.requires.spaces in
     let alone : IsNextOpen t sets c.next_open.new.seen (Some (c.in-Some.vertex, c.in-Some.state)) =
@@ -68,7 +68,7 @@ returns-in_ok-ask-in-Some-clause-seen g c =
     let more = entries_view tests c.ask.new.store in
     let new = c.ask.new.self in
     let seen = c.next_open.new.seen in
-    let mid = encoded_view (problem f.inputs) f.table sets seen f.follows in
+    let mid = encoded_view (problem f.known) f.table sets seen f.follows in
     let spaced : HasSpaces (map length sets) t =
     subst (λ (o : EncodedView). HasSpaces (map length o.asked) t) (sym c.self.view_is) c.requires.spaces in
     let alone : IsNextOpen t sets seen (Some (c.in-Some.vertex, c.in-Some.state)) = subst (λ l. IsNextOpen t
@@ -88,7 +88,7 @@ returns-in_ok-ask-in-Some-clause-given g c was =
     let es = entries_view tests c.args.store.now in
     let more = entries_view tests c.ask.new.store in
     let new = c.ask.new.self in
-    let mid = encoded_view (problem f.inputs) f.table sets c.next_open.new.seen f.follows in
+    let mid = encoded_view (problem f.known) f.table sets c.next_open.new.seen f.follows in
     let spaced : HasSpaces (map length sets) t =
     subst (λ (o : EncodedView). HasSpaces (map length o.asked) t) (sym c.self.view_is) c.requires.spaces in
     let alone : IsNextOpen t sets c.next_open.new.seen (Some (c.in-Some.vertex, c.in-Some.state)) =
@@ -97,7 +97,7 @@ returns-in_ok-ask-in-Some-clause-given g c was =
     asked_given c.in-Some.vertex c.in-Some.state mid new t wide es more c.in_ok-ask-in-Some.ensures spaced
     c.requires.trail alone.0 ((alone.1).1) ((alone.1).2)
     (only_below sets t c.in-Some.vertex c.in-Some.state spaced ((alone.1).0))
-    (subst (λ (o : EncodedView). walking.AreGiven (IsOfInstance o.problem o.vertices) es) (sym c.self.view_is) was)
+    (subst (λ (o : EncodedView). following.AreGiven (IsOfInstance o.problem o.vertices) es) (sym c.self.view_is) was)
 
 pub returns-in_ok-ask-in-Some-clause-stored : goal.returns-in_ok-ask-in-Some-clause-stored
 returns-in_ok-ask-in-Some-clause-stored g c was =
@@ -109,7 +109,7 @@ returns-in_ok-ask-in-Some-clause-stored g c was =
     let es = entries_view tests c.args.store.now in
     let more = entries_view tests c.ask.new.store in
     let new = c.ask.new.self in
-    let mid = encoded_view (problem f.inputs) f.table sets c.next_open.new.seen f.follows in
+    let mid = encoded_view (problem f.known) f.table sets c.next_open.new.seen f.follows in
     let spaced : HasSpaces (map length sets) t =
     subst (λ (o : EncodedView). HasSpaces (map length o.asked) t) (sym c.self.view_is) c.requires.spaces in
     let alone : IsNextOpen t sets c.next_open.new.seen (Some (c.in-Some.vertex, c.in-Some.state)) =
@@ -120,8 +120,8 @@ returns-in_ok-ask-in-Some-clause-stored g c was =
     (only_below sets t c.in-Some.vertex c.in-Some.state spaced ((alone.1).0))
     (subst (λ (o : EncodedView). AreStored o.problem o.vertices o.asked es) (sym c.self.view_is) was)
 
-pub returns-in_ok-ask-in-Some-clause-walks : goal.returns-in_ok-ask-in-Some-clause-walks
-returns-in_ok-ask-in-Some-clause-walks g c =
+pub returns-in_ok-ask-in-Some-clause-follows : goal.returns-in_ok-ask-in-Some-clause-follows
+returns-in_ok-ask-in-Some-clause-follows g c =
     let tests = g.S.States.tests in
     let f = c.self.inside in
     let sets = map tests f.asked.items in
@@ -130,14 +130,14 @@ returns-in_ok-ask-in-Some-clause-walks g c =
     let es = entries_view tests c.args.store.now in
     let more = entries_view tests c.ask.new.store in
     let new = c.ask.new.self in
-    let mid = encoded_view (problem f.inputs) f.table sets c.next_open.new.seen f.follows in
+    let mid = encoded_view (problem f.known) f.table sets c.next_open.new.seen f.follows in
     let spaced : HasSpaces (map length sets) t =
     subst (λ (o : EncodedView). HasSpaces (map length o.asked) t) (sym c.self.view_is) c.requires.spaces in
     let alone : IsNextOpen t sets c.next_open.new.seen (Some (c.in-Some.vertex, c.in-Some.state)) =
     subst (λ l. IsNextOpen t (map tests l) c.next_open.new.seen (Some (c.in-Some.vertex, c.in-Some.state)))
     c.deref.ensures.value c.in-Some.ensures.open in
-    subst (λ (o : EncodedView). KeepsWalks (Follows o) es t (Follows new) more wide) c.self.view_is
-    (asked_walks c.in-Some.vertex c.in-Some.state mid new t wide es more c.in_ok-ask-in-Some.ensures spaced
+    subst (λ (o : EncodedView). KeepsFollowed (Follows o) es t (Follows new) more wide) c.self.view_is
+    (asked_follows c.in-Some.vertex c.in-Some.state mid new t wide es more c.in_ok-ask-in-Some.ensures spaced
     c.requires.trail alone.0 ((alone.1).1) ((alone.1).2)
     (only_below sets t c.in-Some.vertex c.in-Some.state spaced ((alone.1).0)))
 
@@ -152,9 +152,9 @@ returns-in_ok-note-in-Some-2-clause-adding g c =
     let more = entries_view tests c.ask-in-Some-2.new.store in
     let new = c.ask-in-Some-2.new.self in
     let here = c.self-in-Some-2.inside in
-    let end = encoded_view (problem here.inputs) here.table (map tests here.asked.items) here.seen here.follows in
+    let end = encoded_view (problem here.known) here.table (map tests here.asked.items) here.seen here.follows in
     let seen = c.next_open.new.seen in
-    let mid = encoded_view (problem f.inputs) f.table sets seen f.follows in
+    let mid = encoded_view (problem f.known) f.table sets seen f.follows in
     let spaced : HasSpaces (map length sets) t =
     subst (λ (o : EncodedView). HasSpaces (map length o.asked) t) (sym c.self.view_is) c.requires.spaces in
     let can : CanAsk t sets c.in-Some-2.vertex c.in-Some-2.state =
@@ -177,9 +177,9 @@ returns-in_ok-note-in-Some-2-clause-seen g c =
     let more = entries_view tests c.ask-in-Some-2.new.store in
     let new = c.ask-in-Some-2.new.self in
     let here = c.self-in-Some-2.inside in
-    let end = encoded_view (problem here.inputs) here.table (map tests here.asked.items) here.seen here.follows in
+    let end = encoded_view (problem here.known) here.table (map tests here.asked.items) here.seen here.follows in
     let seen = c.next_open.new.seen in
-    let mid = encoded_view (problem f.inputs) f.table sets seen f.follows in
+    let mid = encoded_view (problem f.known) f.table sets seen f.follows in
     let spaced : HasSpaces (map length sets) t =
     subst (λ (o : EncodedView). HasSpaces (map length o.asked) t) (sym c.self.view_is) c.requires.spaces in
     let can : CanAsk t sets c.in-Some-2.vertex c.in-Some-2.state =
@@ -200,18 +200,18 @@ returns-in_ok-note-in-Some-2-clause-given g c was =
     let more = entries_view tests c.ask-in-Some-2.new.store in
     let new = c.ask-in-Some-2.new.self in
     let here = c.self-in-Some-2.inside in
-    let end = encoded_view (problem here.inputs) here.table (map tests here.asked.items) here.seen here.follows in
+    let end = encoded_view (problem here.known) here.table (map tests here.asked.items) here.seen here.follows in
     let seen = c.next_open.new.seen in
-    let mid = encoded_view (problem f.inputs) f.table sets seen f.follows in
+    let mid = encoded_view (problem f.known) f.table sets seen f.follows in
     let spaced : HasSpaces (map length sets) t =
     subst (λ (o : EncodedView). HasSpaces (map length o.asked) t) (sym c.self.view_is) c.requires.spaces in
     let can : CanAsk t sets c.in-Some-2.vertex c.in-Some-2.state =
     subst (λ o. IfSome o (λ d. CanAsk t sets d.0 d.1)) c.in-Some-2.is c.in_ok-vertex-in-None.ensures in
     subst
-    (λ (n : EncodedView). walking.AreGiven (IsOfInstance n.problem n.vertices) more) (sym c.self-in-Some-2.view_is)
+    (λ (n : EncodedView). following.AreGiven (IsOfInstance n.problem n.vertices) more) (sym c.self-in-Some-2.view_is)
     (asked_given c.in-Some-2.vertex c.in-Some-2.state mid new t wide es more c.in_ok-ask-in-Some-2.ensures spaced
     c.requires.trail can.0 can.1 can.2 can.3
-    (subst (λ (o : EncodedView). walking.AreGiven (IsOfInstance o.problem o.vertices) es) (sym c.self.view_is) was))
+    (subst (λ (o : EncodedView). following.AreGiven (IsOfInstance o.problem o.vertices) es) (sym c.self.view_is) was))
 
 pub returns-in_ok-note-in-Some-2-clause-stored : goal.returns-in_ok-note-in-Some-2-clause-stored
 returns-in_ok-note-in-Some-2-clause-stored g c was =
@@ -224,9 +224,9 @@ returns-in_ok-note-in-Some-2-clause-stored g c was =
     let more = entries_view tests c.ask-in-Some-2.new.store in
     let new = c.ask-in-Some-2.new.self in
     let here = c.self-in-Some-2.inside in
-    let end = encoded_view (problem here.inputs) here.table (map tests here.asked.items) here.seen here.follows in
+    let end = encoded_view (problem here.known) here.table (map tests here.asked.items) here.seen here.follows in
     let seen = c.next_open.new.seen in
-    let mid = encoded_view (problem f.inputs) f.table sets seen f.follows in
+    let mid = encoded_view (problem f.known) f.table sets seen f.follows in
     let spaced : HasSpaces (map length sets) t =
     subst (λ (o : EncodedView). HasSpaces (map length o.asked) t) (sym c.self.view_is) c.requires.spaces in
     let can : CanAsk t sets c.in-Some-2.vertex c.in-Some-2.state =
@@ -236,8 +236,8 @@ returns-in_ok-note-in-Some-2-clause-stored g c was =
     c.requires.trail can.0 can.1 can.2 can.3
     (subst (λ (o : EncodedView). AreStored o.problem o.vertices o.asked es) (sym c.self.view_is) was))
 
-pub returns-in_ok-note-in-Some-2-clause-walks : goal.returns-in_ok-note-in-Some-2-clause-walks
-returns-in_ok-note-in-Some-2-clause-walks g c =
+pub returns-in_ok-note-in-Some-2-clause-follows : goal.returns-in_ok-note-in-Some-2-clause-follows
+returns-in_ok-note-in-Some-2-clause-follows g c =
     let tests = g.S.States.tests in
     let f = c.self.inside in
     let sets = map tests f.asked.items in
@@ -247,16 +247,16 @@ returns-in_ok-note-in-Some-2-clause-walks g c =
     let more = entries_view tests c.ask-in-Some-2.new.store in
     let new = c.ask-in-Some-2.new.self in
     let here = c.self-in-Some-2.inside in
-    let end = encoded_view (problem here.inputs) here.table (map tests here.asked.items) here.seen here.follows in
+    let end = encoded_view (problem here.known) here.table (map tests here.asked.items) here.seen here.follows in
     let seen = c.next_open.new.seen in
-    let mid = encoded_view (problem f.inputs) f.table sets seen f.follows in
+    let mid = encoded_view (problem f.known) f.table sets seen f.follows in
     let spaced : HasSpaces (map length sets) t =
     subst (λ (o : EncodedView). HasSpaces (map length o.asked) t) (sym c.self.view_is) c.requires.spaces in
     let can : CanAsk t sets c.in-Some-2.vertex c.in-Some-2.state =
     subst (λ o. IfSome o (λ d. CanAsk t sets d.0 d.1)) c.in-Some-2.is c.in_ok-vertex-in-None.ensures in
-    subst (λ (o : EncodedView). KeepsWalks (Follows o) es t (Follows end) more wide) c.self.view_is
-    (subst (λ (n : EncodedView). KeepsWalks (Follows mid) es t (Follows n) more wide) (sym c.self-in-Some-2.view_is)
-    (asked_walks c.in-Some-2.vertex c.in-Some-2.state mid new t wide es more c.in_ok-ask-in-Some-2.ensures spaced
+    subst (λ (o : EncodedView). KeepsFollowed (Follows o) es t (Follows end) more wide) c.self.view_is
+    (subst (λ (n : EncodedView). KeepsFollowed (Follows mid) es t (Follows n) more wide) (sym c.self-in-Some-2.view_is)
+    (asked_follows c.in-Some-2.vertex c.in-Some-2.state mid new t wide es more c.in_ok-ask-in-Some-2.ensures spaced
     c.requires.trail can.0 can.1 can.2 can.3))
 
 pub returns-in-None-2-clause-adding : goal.returns-in-None-2-clause-adding
@@ -266,7 +266,7 @@ returns-in-None-2-clause-adding g c =
     let sets = map tests f.asked.items in
     let t = trail_view tests c.args.trail.now in
     let es = entries_view tests c.args.store.now in
-    let mid = encoded_view (problem f.inputs) f.table sets c.next_open.new.seen f.follows in
+    let mid = encoded_view (problem f.known) f.table sets c.next_open.new.seen f.follows in
     let seen : IsSeen c.next_open.new.seen (asked_of sets) t = subst
     (λ l. IsSeen c.next_open.new.seen (asked_of (map tests l)) t) c.deref.ensures.value c.next_open.ensures.seen in
     subst (λ (o : EncodedView). IsAdding (asked_of o.asked) (asked_of sets) (left_with o) (left_with mid) (late_with o)
@@ -274,8 +274,9 @@ returns-in-None-2-clause-adding g c =
     (adding_nothing (asked_of sets) (left_with mid) (late_with mid) t es c.requires.trail.lies
     (all_seen c.next_open.new.seen (asked_of sets) t seen c.in-None.ensures.open))
 
-pub returns-in-None-2-clause-walks : goal.returns-in-None-2-clause-walks
-returns-in-None-2-clause-walks g c x is = (subst (λ (o : EncodedView). Follows o x) c.self.view_is is, λ walked. walked)
+pub returns-in-None-2-clause-follows : goal.returns-in-None-2-clause-follows
+returns-in-None-2-clause-follows g c x is =
+    (subst (λ (o : EncodedView). Follows o x) c.self.view_is is, λ is_left. is_left)
 
 pub returns-in_ok-note-in-Some-2-clause-spaces : goal.returns-in_ok-note-in-Some-2-clause-spaces
 returns-in_ok-note-in-Some-2-clause-spaces g c =
@@ -288,9 +289,9 @@ returns-in_ok-note-in-Some-2-clause-spaces g c =
     let more = entries_view tests c.ask-in-Some-2.new.store in
     let new = c.ask-in-Some-2.new.self in
     let here = c.self-in-Some-2.inside in
-    let end = encoded_view (problem here.inputs) here.table (map tests here.asked.items) here.seen here.follows in
+    let end = encoded_view (problem here.known) here.table (map tests here.asked.items) here.seen here.follows in
     let seen = c.next_open.new.seen in
-    let mid = encoded_view (problem f.inputs) f.table sets seen f.follows in
+    let mid = encoded_view (problem f.known) f.table sets seen f.follows in
     let spaced : HasSpaces (map length sets) t =
     subst (λ (o : EncodedView). HasSpaces (map length o.asked) t) (sym c.self.view_is) c.requires.spaces in
     let can : CanAsk t sets c.in-Some-2.vertex c.in-Some-2.state =

@@ -14,8 +14,8 @@ returns-else-places-self-clause-late g c = ap late_with c.self.view_is
 pub returns-else-places-self-clause-left : goal.returns-else-places-self-clause-left
 returns-else-places-self-clause-left g c = ap left_with c.self.view_is
 
-pub returns-then-places-self-clause-walks : goal.returns-then-places-self-clause-walks
-returns-then-places-self-clause-walks g c x f = subst (λ (o : EncodedView). Follows o x) c.self.view_is f
+pub returns-then-places-self-clause-follows : goal.returns-then-places-self-clause-follows
+returns-then-places-self-clause-follows g c x f = subst (λ (o : EncodedView). Follows o x) c.self.view_is f
 
-pub returns-else-places-self-clause-walks : goal.returns-else-places-self-clause-walks
-returns-else-places-self-clause-walks g c x f = subst (λ (o : EncodedView). Follows o x) c.self.view_is f
+pub returns-else-places-self-clause-follows : goal.returns-else-places-self-clause-follows
+returns-else-places-self-clause-follows g c x f = subst (λ (o : EncodedView). Follows o x) c.self.view_is f

@@ -5,4 +5,5 @@ use Rattle.propagation.proofs.trail.Trail.propagate_next.Given as goal
 
 abbrev pub invariant-entries : goal.invariant-entries
 invariant-entries g l = let tests = g.S.States.tests in
-    IsPropagating l.place (numbers l.on) (entries_view tests l.store) (trail_view tests l.fn.self) (trail_view tests l.self)
+    IsPropagating l.place (numbers l.on) (entries_view tests l.store) (trail_view tests l.fn.self)
+    (trail_view tests l.self)

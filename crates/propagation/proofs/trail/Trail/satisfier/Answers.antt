@@ -6,7 +6,7 @@ use Rattle.propagation.specs.Counting.{AreRanked, Ranked}
 use Rattle.propagation.specs.Trails.{StepView, TrailView, no_step, step_at, step_view, steps_view, trail_view}
 use Rattle.propagation.specs.declared.satisfying.Ranks.{Ranks}
 use Rattle.propagation.specs.declared.trail.Step.{Step}
-use Rattle.propagation.proofs.Satisfiers.{IsRead, cause_is, opens_is, satisfied_is}
+use Rattle.propagation.proofs.Satisfiers.{IsRead, forced_is, opens_is, satisfied_is}
 use Rattle.propagation.proofs.trail.Trail.satisfier.Given.{Over}
 use Rattle.propagation.proofs.trail.Trail.satisfier.Goals as goal
 
@@ -26,7 +26,7 @@ is_read : (g : Over) (c : goal.After-level_after g) → IsRead (trail_view g.S.S
       vertex = c.index-step.result.now.vertex;
       level =
           c.index-step.result.now.level;
-      cause = c.index-step.result.now.cause;
+      forced_by = c.index-step.result.now.forced_by;
       before = c.level_after.result;
     })
 is_read g c =
@@ -47,15 +47,15 @@ is_read g c =
       place = place;
       vertex = ap (λ (s : StepView). s.vertex) (sym at);
       level = ap (λ (s : StepView). s.level) (sym at);
-      cause = ap (λ (s : StepView). s.cause) (sym at);
+      forced_by = ap (λ (s : StepView). s.forced_by) (sym at);
       before = c.level_after.ensures;
     }
 
 pub returns-clause-satisfied : goal.returns-clause-satisfied
 returns-clause-satisfied g c = satisfied_is _ _ _ _ (is_read g c)
 
-pub returns-clause-cause : goal.returns-clause-cause
-returns-clause-cause g c = cause_is _ _ _ _ (is_read g c)
+pub returns-clause-forced_by : goal.returns-clause-forced_by
+returns-clause-forced_by g c = forced_is _ _ _ _ (is_read g c)
 
 pub returns-clause-opens : goal.returns-clause-opens
 returns-clause-opens g c = opens_is _ _ _ _ (is_read g c)

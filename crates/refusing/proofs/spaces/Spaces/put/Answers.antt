@@ -8,7 +8,7 @@ use Rattle.refusing.proofs.spaces.Spaces.put.Goals as goal
 
 pub returns-clause-listed : goal.returns-clause-listed
 returns-clause-listed c =
-    let q = problem c.args.inputs.now in
+    let q = problem c.args.known.now in
     one_more (λ n s. (v : Vertex) → slice_get c.args.table.now n ≡ Some v
     → state_ref_views s.states.items ≡ space q v) c.add_places.new.listed.items c.args.number
     (record { spelling = c.in_ok-spelling.spelling; states = c.in_ok-states.states })

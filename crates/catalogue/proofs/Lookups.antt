@@ -1,0 +1,45 @@
+-- The candidates of a name, and the one of a version, in a loaded index: what a problem is made of has the same.
+use Rattle.std.proofs.Common.{◌≡◌, ℕ, Bool, true, false, cond, List, [], ◌∷◌, map, Some, option_map, unwrap_or}
+use Rattle.std.proofs.Common.{refl, ap, ◌∙◌}
+use Rattle.semver.specs.Parse.{Parts}
+use Rattle.model.specs.Summary.{same_text}
+use Rattle.model.specs.Content.{same_version, candidates_of, candidate_at}
+use Rattle.model.specs.Candidates.{Record, as_candidate}
+use Rattle.catalogue.specs.Ranks.{records}
+use Rattle.catalogue.specs.Stores.{CatalogueView, Row, row_at, candidates_at, record_at, rows_by_name}
+
+rows_found : (rows : List Row) (name : List ℕ)
+    → candidates_of (map (λ row. (row.0, map as_candidate (records row.1))) rows) name
+    ≡ map as_candidate (records (unwrap_or (row_at rows name) []))
+rows_found [] name = refl
+rows_found (row ∷ rows) name = by (same_text name row.0) (rows_found rows name)
+  where
+    by : (b : Bool) → candidates_of (map (λ row. (row.0, map as_candidate (records row.1))) rows) name
+        ≡ map as_candidate (records (unwrap_or (row_at rows name) []))
+        → cond b (map as_candidate (records row.1))
+        (candidates_of (map (λ row. (row.0, map as_candidate (records row.1))) rows) name)
+        ≡ map as_candidate (records (unwrap_or (cond b (Some row.1) (row_at rows name)) []))
+    by true rest = refl
+    by false rest = rest
+
+version_found : (rs : List Record) (v : Parts)
+    → candidate_at (map as_candidate rs) v ≡ option_map as_candidate (record_at rs v)
+version_found [] v = refl
+version_found (r ∷ rs) v = by (same_version v r.version) (version_found rs v)
+  where
+    by : (b : Bool) → candidate_at (map as_candidate rs) v ≡ option_map as_candidate (record_at rs v)
+        → cond b (Some (as_candidate r)) (candidate_at (map as_candidate rs) v)
+        ≡ option_map as_candidate (cond b (Some r) (record_at rs v))
+    by true rest = refl
+    by false rest = rest
+
+-- the candidates of a name
+pub candidates_are : (c : CatalogueView) (name : List ℕ)
+    → candidates_of (rows_by_name c) name ≡ map as_candidate (candidates_at c name)
+candidates_are c name = rows_found c.rows name
+
+-- the candidate of a version
+pub candidate_found : (c : CatalogueView) (name : List ℕ) (v : Parts)
+    → candidate_at (candidates_of (rows_by_name c) name) v
+    ≡ option_map as_candidate (record_at (candidates_at c name) v)
+candidate_found c name v = ap (λ cs. candidate_at cs v) (candidates_are c name) ∙ version_found (candidates_at c name) v

@@ -1,0 +1,12 @@
+use Rattle.std.proofs.Common.{◌∙◌, sym, ap, refl}
+use Rattle.refutations.specs.Terms.{same_states}
+use Rattle.refutations.proofs.Sets.{same_states-is}
+use Rattle.checker.specs.Names.{named_set}
+use Rattle.checker.specs.Ready.{tables_of}
+use Rattle.checker.proofs.names.Names.is_same_set.Goals as goal
+
+pub returns-then-a-b : goal.returns-then-a-b
+returns-then-a-b c =
+    let t = tables_of c.args.self.now in
+    sym ((same_states-is (named_set t c.args.a) (named_set t c.args.a)).1 (λ s. refl))
+    ∙ ap (λ n. same_states (named_set t c.args.a) (named_set t n)) c.if-a-b.true

@@ -1,0 +1,7 @@
+use Rattle.std.proofs.Common.{◌≡◌, take}
+use Rattle.derivations.specs.Tables.{states_at}
+use Rattle.vertices.specs.RefViews.{state_ref_views}
+use Rattle.derivations.proofs.states.states_in.Given as goal
+
+abbrev pub invariant-numbers : goal.invariant-numbers
+invariant-numbers l = state_ref_views l.states.items ≡ states_at l.tables (take l.number-index l.numbers)

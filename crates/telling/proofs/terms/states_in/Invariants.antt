@@ -1,7 +1,0 @@
-use Rattle.std.proofs.Common.{◌≡◌, take}
-use Rattle.derivations.specs.Tables.{states_at}
-use Rattle.vertices.specs.RefViews.{state_ref_views}
-use Rattle.telling.proofs.terms.states_in.Given as goal
-
-abbrev pub invariant-numbers : goal.invariant-numbers
-invariant-numbers l = state_ref_views l.states.items ≡ states_at l.tables (take l.number-index l.numbers)
