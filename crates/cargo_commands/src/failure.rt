@@ -1,14 +1,14 @@
 //! Why a run fails.
 
 use project_files::{ReadFault, WriteFault};
-use resolver::{Fault, TooLarge};
+use resolver::Fault;
 use std::alloc::AllocError;
-use std::fmt;
+use std::{fmt, io};
 
-/// Why a run ends before its answer: its line, and the status 2.
+/// Why a run ends before its answer, or can't hand it on: its line, and the status 2.
 #[derive(Drop)]
 pub(crate) enum Failure<'a> {
-    Fault(Fault),
+    OutOfMemory,
     Unread(ReadFault<'a>),
     Unwritten(WriteFault<'a>),
     /// Neither the words nor the environment name an index.
@@ -16,28 +16,26 @@ pub(crate) enum Failure<'a> {
     NoPackage(&'a str),
     /// The environment has no word of `--color` where it has one for that.
     NoColor(&'a str),
-    CannotWrite,
+    /// What the system says of standard output.
+    CannotWrite(io::Error),
 }
 
 impl Failure<'_> {
-    /// Whether the lock is there and doesn't read.
-    pub(crate) fn is_of_lock(&self) -> bool {
-        matches!(
-            self,
-            Failure::Fault(
-                Fault::LockNotToml
-                    | Fault::LockVersion
-                    | Fault::LockShape
-                    | Fault::TooLarge(TooLarge::Lock)
-            )
-        )
+    /// What kind of error it is, for programs.
+    pub(crate) fn kind(&self) -> &'static str {
+        match self {
+            Failure::OutOfMemory => "fault",
+            Failure::Unread(_) => "unread",
+            Failure::Unwritten(_) | Failure::CannotWrite(_) => "unwritten",
+            Failure::NoIndex | Failure::NoPackage(_) | Failure::NoColor(_) => "usage",
+        }
     }
 }
 
 impl fmt::Display for Failure<'_> {
     fn fmt<W: fmt::Write>(&self, f: &mut fmt::Formatter<W>) -> fmt::Result {
         match self {
-            Failure::Fault(fault) => write!(f, "{fault}"),
+            Failure::OutOfMemory => write!(f, "there isn't enough memory ({})", Fault::OutOfMemory),
             Failure::Unread(fault) => write!(f, "{fault}"),
             Failure::Unwritten(fault) => write!(f, "{fault}"),
             Failure::NoIndex => f.write_str(
@@ -48,27 +46,21 @@ impl fmt::Display for Failure<'_> {
                 f,
                 "CARGO_TERM_COLOR must be auto, always, or never, but is `{word}`"
             ),
-            Failure::CannotWrite => f.write_str("cannot write"),
+            Failure::CannotWrite(error) => write!(f, "cannot write to standard output: {error}"),
         }
     }
 }
 
 impl From<AllocError> for Failure<'_> {
-    fn from(e: AllocError) -> Self {
-        Failure::Fault(Fault::from(e))
-    }
-}
-
-impl From<Fault> for Failure<'_> {
-    fn from(fault: Fault) -> Self {
-        Failure::Fault(fault)
+    fn from(_e: AllocError) -> Self {
+        Failure::OutOfMemory
     }
 }
 
 impl<'a> From<ReadFault<'a>> for Failure<'a> {
     fn from(fault: ReadFault<'a>) -> Self {
         match fault {
-            ReadFault::OutOfMemory => Failure::from(AllocError),
+            ReadFault::OutOfMemory => Failure::OutOfMemory,
             fault => Failure::Unread(fault),
         }
     }
@@ -77,7 +69,7 @@ impl<'a> From<ReadFault<'a>> for Failure<'a> {
 impl<'a> From<WriteFault<'a>> for Failure<'a> {
     fn from(fault: WriteFault<'a>) -> Self {
         match fault {
-            WriteFault::OutOfMemory => Failure::from(AllocError),
+            WriteFault::OutOfMemory => Failure::OutOfMemory,
             fault => Failure::Unwritten(fault),
         }
     }

@@ -1,19 +1,17 @@
 //! One run of `cargo relock`: words in, files read, a status and two texts out.
 //!
-//! Each command reads its files first, so that one that isn't there is told before anything else, and then makes the
-//! calls of `resolver` and `reports` with their bytes. What it answers goes to one text, errors to the other; the
-//! status is 0 for a yes, 1 for a no and 2 for a fault.
+//! Each command reads its files first, so that one that isn't there is told before anything else, and hands their bytes
+//! and a folder to `outcomes`, which says how it ends (`asking`). The folder counts what it is asked for, which a
+//! terminal shows meanwhile; it is given up before anything is printed. Then what is told is printed, painted or not
+//! (`showing`), and last the lock is replaced (`running`).
 //!
 //! Nothing is stated of it: what is proved is what the calls promise, and `told_cases` plays whole runs.
 #![tactic(auto)]
 
-mod answers;
+mod asking;
 mod failure;
-mod repairing;
 mod running;
 mod showing;
-mod unread;
-mod verifying;
 
 pub use running::{run, without_arguments};
 pub use showing::Surroundings;

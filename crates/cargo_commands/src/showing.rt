@@ -1,12 +1,10 @@
 //! How what is told is shown: in colors or without, or errors alone.
 
 use crate::failure::Failure;
-use crate::running::{finish, run_words};
-use cargo_words::{Asked, Color, Manner, color_in};
+use cargo_words::{Color, Manner, MessageFormat, color_in};
 use colors::{Painter, Show};
 use std::alloc::Global;
 use std::io::Write;
-use std::rt::Files;
 
 /// What is around a run: what the environment says, and whether terminals show what it tells.
 #[derive(Clone, Copy, Debug)]
@@ -19,6 +17,8 @@ pub struct Surroundings<'a> {
     pub no_color: bool,
     pub out_is_terminal: bool,
     pub err_is_terminal: bool,
+    /// Whether a terminal is to show meanwhile how far the run has come.
+    pub is_watched: bool,
 }
 
 impl<'a> Surroundings<'a> {
@@ -30,6 +30,7 @@ impl<'a> Surroundings<'a> {
             no_color: false,
             out_is_terminal: false,
             err_is_terminal: false,
+            is_watched: false,
         }
     }
 
@@ -43,39 +44,34 @@ impl<'a> Surroundings<'a> {
     }
 }
 
-/// Does what is asked, and shows what is told of that as it is asked for.
-pub(crate) fn run_asked<R: Files + AllocGlobal + Clone + Drop, O: Write, E: Write>(
-    rt: &R,
-    asked: &Asked<'_>,
-    around: &Surroundings<'_>,
-    out: &mut O,
-    err: &mut E,
-) -> u8 {
-    let Manner { color, quiet } = asked.manner;
-    let color = match color_by(color, around) {
-        Ok(color) => color,
-        Err(failure) => return finish(Err(failure), err),
-    };
-    let show = if quiet {
+/// How the two texts of a run are shown.
+#[derive(Clone, Copy)]
+pub(crate) struct Shows {
+    pub(crate) out: Show,
+    pub(crate) err: Show,
+}
+
+/// How what is told is shown, as it is asked for. Messages for programs are never painted.
+pub(crate) fn shows_of<'a>(
+    manner: &Manner,
+    around: &Surroundings<'a>,
+) -> Result<Shows, Failure<'a>> {
+    if manner.format == MessageFormat::Json {
+        return Ok(Shows {
+            out: Show::Plain,
+            err: Show::Plain,
+        });
+    }
+    let color = color_by(manner.color, around)?;
+    let out = if manner.quiet {
         Show::Nothing
     } else {
         around.show(color, around.out_is_terminal)
     };
-    let mut out = Painter::new(rt.alloc(), out, show);
-    let show = around.show(color, around.err_is_terminal);
-    let mut err = Painter::new(rt.alloc(), err, show);
-    let status = run_words(rt, &asked.command, around.index, &mut out, &mut err);
-    shown(status, &mut out, &mut err)
-}
-
-/// The status, once everything is handed on.
-fn shown<O: Write, E: Write>(status: u8, out: &mut O, err: &mut E) -> u8 {
-    let status = match out.flush() {
-        Ok(()) => status,
-        Err(_) => finish(Err(Failure::CannotWrite), err),
-    };
-    let _ = err.flush();
-    status
+    Ok(Shows {
+        out,
+        err: around.show(color, around.err_is_terminal),
+    })
 }
 
 /// When colors are shown: as the words say, else as the environment does, else where a terminal shows them.

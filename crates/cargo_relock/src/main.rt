@@ -29,5 +29,6 @@ fn around<'a>(rt: &HostRuntime, asked: &'a Asked) -> Surroundings<'a> {
         no_color: asked.no_color,
         out_is_terminal: rt.stdout().is_terminal() && !asked.is_dumb,
         err_is_terminal: rt.stderr().is_terminal() && !asked.is_dumb,
+        is_watched: rt.stderr().is_terminal() && !asked.is_dumb,
     }
 }

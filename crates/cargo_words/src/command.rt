@@ -4,11 +4,16 @@ use crate::manner::with_manner;
 use clap::{Arg, ArgAction, Command};
 use std::alloc::{AllocError, Global};
 
-/// The whole program: one command is required.
+/// The version of the program.
+const VERSION: &str = "0.1.0";
+
+/// The whole program: one command is required. How it tells what it finds may be said before the command or after it.
 pub(crate) fn cargo_relock<'a>(alloc: Global) -> Result<Command<'a>, AllocError> {
     let program = Command::new(alloc, "cargo-relock")
         .about("Tells what relock answers, as Cargo does")
+        .version(VERSION)
         .subcommand_required(true);
+    let program = with_manner(alloc, program)?;
     let program = program.subcommand(resolve(alloc)?)?;
     let program = program.subcommand(verify(alloc)?)?;
     let program = program.subcommand(why(alloc)?)?;
@@ -38,13 +43,12 @@ fn skips<'a>(alloc: Global) -> Result<Command<'a>, AllocError> {
     with_option(command, all(alloc))
 }
 
-/// A command with the options that say where its files are, and how it tells what it finds.
+/// A command with the options that say where its files are.
 fn command<'a>(alloc: Global, name: &'a str, about: &'a str) -> Result<Command<'a>, AllocError> {
     let command = Command::new(alloc, name).about(about);
     let command = with_option(command, manifest(alloc))?;
     let command = with_option(command, lock(alloc))?;
-    let command = with_option(command, index(alloc))?;
-    with_manner(alloc, command)
+    with_option(command, index(alloc))
 }
 
 /// A command with another option.

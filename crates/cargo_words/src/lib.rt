@@ -11,6 +11,6 @@ mod command;
 mod manner;
 mod reading;
 
-pub use manner::{Color, Manner, color_in};
+pub use manner::{Color, Manner, MessageFormat, color_in};
 pub use reading::{Asked, CargoWords, Places, own_words, read_words};
 pub use words::WordsFault;

@@ -14,6 +14,13 @@ pub enum Color {
     Never,
 }
 
+/// For whom the answer is.
+#[derive(Clone, Copy, Debug, PartialEq, Eq)]
+pub enum MessageFormat {
+    Human,
+    Json,
+}
+
 /// How a command tells what it finds.
 #[derive(Clone, Copy, Debug)]
 pub struct Manner {
@@ -21,29 +28,46 @@ pub struct Manner {
     pub color: Option<Color>,
     /// Whether errors alone are told.
     pub quiet: bool,
+    pub format: MessageFormat,
 }
 
 /// Cargo's words for when colors are shown.
 static COLORS: [&str; 3] = ["auto", "always", "never"];
+
+/// Cargo's words for the form of what is told.
+static FORMATS: [&str; 2] = ["human", "json"];
 
 /// A command with the options that say how it tells what it finds.
 pub(crate) fn with_manner<'a>(
     alloc: Global,
     command: Command<'a>,
 ) -> Result<Command<'a>, AllocError> {
+    let command = with_option(command, message_format(alloc))?;
     let command = with_option(command, coloring(alloc))?;
     with_option(command, quiet(alloc))
+}
+
+fn message_format<'a>(alloc: Global) -> Arg<'a> {
+    option(alloc, "message-format")
+        .value_name("FMT")
+        .value_parser(ValueParser::Names(FORMATS.as_slice()))
+        .global(true)
+        .help("The form of what is told [default: human]")
 }
 
 fn coloring<'a>(alloc: Global) -> Arg<'a> {
     option(alloc, "color")
         .value_name("WHEN")
         .value_parser(ValueParser::Names(COLORS.as_slice()))
+        .global(true)
         .help("When colors are shown [default: what CARGO_TERM_COLOR says, else auto]")
 }
 
 fn quiet<'a>(alloc: Global) -> Arg<'a> {
-    flag(alloc, "quiet").short('q').help("Tells errors alone")
+    flag(alloc, "quiet")
+        .short('q')
+        .global(true)
+        .help("Tells errors alone")
 }
 
 /// How the words of a command ask it to tell what it finds.
@@ -51,11 +75,19 @@ pub(crate) fn manner_of(found: &ArgMatches<'_>) -> Manner {
     Manner {
         color: color_of(found),
         quiet: found.get_flag("quiet"),
+        format: format_of(found),
     }
 }
 
 fn color_of(found: &ArgMatches<'_>) -> Option<Color> {
     color_in(found.get_str("color")?)
+}
+
+fn format_of(found: &ArgMatches<'_>) -> MessageFormat {
+    match found.get_str("message-format") {
+        Some("json") => MessageFormat::Json,
+        _ => MessageFormat::Human,
+    }
 }
 
 /// When colors are shown by one of Cargo's words.

@@ -6,6 +6,7 @@ ghost use Rattle.catalogue.specs.Loads.{packages_of_old};
 ghost use Rattle.changes.specs.Changed.{is_one, lacking, sharing, those};
 ghost use Rattle.changes.specs.Views.{lent_views};
 
+use crate::relisting::{Relisting, relistings, roots};
 use catalogue::is_locked;
 use lockfile::{LockContent, Package};
 use std::alloc::{AllocError, Global};
@@ -19,6 +20,12 @@ pub struct Changes<'a> {
     pub came: Vec<&'a Package>,
     /// Those of the new lock that the old one has too.
     pub stayed: Vec<&'a Package>,
+    /// The same as the old lock has them.
+    pub stood: Vec<&'a Package>,
+    /// The package of the manifest in the old lock and in the new one.
+    pub roots: Option<(&'a Package, &'a Package)>,
+    /// What came onto lists and went from them, of packages that both locks have.
+    pub relistings: Vec<Relisting<'a>>,
 }
 
 /// What became of the packages of an index; a lock has a package where it has its name, version and source. Without an
@@ -31,11 +38,17 @@ pub fn changes_between<'a>(
     ensures gone { IfOk result (λ c. lent_views c.gone.items ≡ lacking new.entry.now (packages_of_old old.entry)) }
     ensures came { IfOk result (λ c. lent_views c.came.items ≡ lacking (packages_of_old old.entry) new.entry.now) }
     ensures stayed { IfOk result (λ c. lent_views c.stayed.items ≡ sharing (packages_of_old old.entry) new.entry.now) }
+    ensures stood { IfOk result (λ c. lent_views c.stood.items ≡ sharing new.entry.now (packages_of_old old.entry)) }
 {
+    let stayed = those(alloc, new.packages(), old, true)?;
+    let stood = those(alloc, packages_if(old), Some(new), true)?;
     Ok(Changes {
         gone: those(alloc, packages_if(old), Some(new), false)?,
         came: those(alloc, new.packages(), old, false)?,
-        stayed: those(alloc, new.packages(), old, true)?,
+        roots: roots(old, new),
+        relistings: relistings(alloc, old, new, &stood, &stayed)?,
+        stayed,
+        stood,
     })
 }
 
@@ -66,7 +79,7 @@ fn those<'a>(
 }
 
 /// Adds a package, if it is one of those.
-fn put<'a>(
+pub(crate) fn put<'a>(
     found: &mut Vec<&'a Package>,
     locked: &'a Package,
     others: Option<&LockContent>,

@@ -7,15 +7,18 @@
 //! none is found: the proof goes by what the search keeps (`specs/Searches`), that what visited packages list is
 //! visited too, and no visit is more than one list farther than the next that is followed.
 //!
+//! What is told is there as values too (`told_lines`, `steps_of`, `meaning`), for who tells it otherwise than in lines.
+//!
 //! A layer above may rely on this: what changed is exact, a way is a shortest one, and where it is said that there is
-//! no package or no way there is none. Which version is told as available, and all texts, are shown by cases and not
-//! stated.
+//! no package or no way there is none. Whose list changed, which version is told as available, and all texts are shown
+//! by cases and not stated.
 #![tactic(auto)]
 
 mod available;
 mod changing;
 mod on_ways;
 mod printing;
+mod relisting;
 mod searching;
 mod skips;
 mod steps;
@@ -23,7 +26,8 @@ mod ways;
 
 pub use changing::{Changes, changes_between};
 pub use on_ways::dependencies_to;
-pub use printing::tell_changes;
-pub use skips::tell_skips;
-pub use steps::{tell_dependencies, tell_way};
+pub use printing::{Line, ToldLine, tell_changes, told_lines};
+pub use relisting::Relisting;
+pub use skips::{REASONS, meaning, tell_skips};
+pub use steps::{Step, dependencies_between, steps_of, tell_dependencies, tell_way};
 pub use ways::{Why, reason_for};

@@ -2,6 +2,7 @@
 
 use crate::available::available;
 use crate::changing::Changes;
+use crate::relisting::Relisting;
 use catalogue::Catalogue;
 use classes::version_order;
 use features::PackageName;
@@ -11,9 +12,9 @@ use std::alloc::{AllocError, Global};
 use std::cmp::Ordering;
 use std::fmt;
 
-/// What is told of a package, or of two of one name and source; of these the first kind comes first.
+/// What became of a package, or of two of one name and source; of these the first kind comes first.
 #[derive(Clone, Copy)]
-enum Line<'a> {
+pub enum Line<'a> {
     Removing(&'a Package),
     /// The one that went, and the one that came, which is newer.
     Updating(&'a Package, &'a Package),
@@ -23,39 +24,67 @@ enum Line<'a> {
     Unchanged(&'a Package),
 }
 
-impl Line<'_> {
+/// What is told of a package.
+#[derive(Clone, Copy)]
+pub struct ToldLine<'a> {
+    pub line: Line<'a>,
+    /// The version that is told beside the package, if there is a newer one.
+    pub newer: Option<&'a Version>,
+}
+
+impl ToldLine<'_> {
     fn is_of_one_that_stays(&self) -> bool {
-        matches!(self, Line::Unchanged(_))
+        matches!(self.line, Line::Unchanged(_))
+    }
+
+    /// Whether it is of a package that stays although there is a newer version.
+    pub fn is_behind(&self) -> bool {
+        self.is_of_one_that_stays() && self.newer.is_some()
     }
 }
 
-/// How many packages are locked anew, and a line for each that came, went or changed its version; then how many others
-/// have a newer version, or a line for each of them if `all` are asked for.
-pub fn tell_changes(
+/// How many packages are locked anew, and a line for each that came, went or changed its version; then what else
+/// changes
+/// in the lock, and how many others have a newer version, or a line for each of them if `all` are asked for.
+pub fn tell_changes<'a>(
     alloc: Global,
-    catalogue: &Catalogue,
-    new: &LockContent,
-    changes: &Changes<'_>,
+    catalogue: &'a Catalogue,
+    new: &'a LockContent,
+    changes: &Changes<'a>,
     all: bool,
 ) -> Result<String, AllocError> {
     let mut text = String::new(alloc);
-    let direct = listed_by_root(alloc, new)?;
-    let known = Known {
-        catalogue,
-        direct: &direct,
-    };
-    let lines = lines(alloc, changes)?;
+    let lines = told_lines(alloc, catalogue, new, changes)?;
     let locked = Packages(changes.came.len());
     writeln!(text, "     Locking {locked}")?;
-    for line in lines.iter() {
-        if all || !line.is_of_one_that_stays() {
-            push_line(&mut text, known, *line)?;
+    for told in lines.iter() {
+        if all || !told.is_of_one_that_stays() {
+            push_line(&mut text, *told)?;
         }
     }
+    push_beside(&mut text, changes)?;
     if !all {
-        push_behind(&mut text, behind(known, changes.stayed.as_slice()))?;
+        let behind = lines.iter().filter(|told| told.is_behind()).count();
+        push_behind(&mut text, behind)?;
     }
     Ok(text)
+}
+
+/// What is told of each package, those that stay too: by name and source; of those of one name and source what went
+/// stands first, and what stayed last.
+pub fn told_lines<'a>(
+    alloc: Global,
+    catalogue: &'a Catalogue,
+    new: &'a LockContent,
+    changes: &Changes<'a>,
+) -> Result<Vec<ToldLine<'a>>, AllocError> {
+    let direct = listed_by_root(alloc, new)?;
+    let mut told = Vec::new(alloc);
+    for line in lines(alloc, changes)?.iter() {
+        let newer = newer(catalogue, &direct, of(*line));
+        told.push(ToldLine { line: *line, newer })?;
+    }
+    Ok(told)
 }
 
 /// So many packages.
@@ -73,19 +102,16 @@ impl fmt::Display for Packages {
     }
 }
 
-/// By what newer versions are looked for: the index, and the packages that the root lists, in package order.
-#[derive(Clone, Copy)]
-struct Known<'a> {
+/// The version to tell beside a package, if there is a newer one: in the index, for one that the root lists or not.
+fn newer<'a>(
     catalogue: &'a Catalogue,
-    direct: &'a [&'a Package],
-}
-
-/// The version to tell beside a package, if there is a newer one.
-fn newer<'a>(known: Known<'a>, package: &Package) -> Option<&'a Version> {
-    let is_direct = named(known.direct, &package.name)
+    direct: &[&Package],
+    package: &Package,
+) -> Option<&'a Version> {
+    let is_direct = named(direct, &package.name)
         .iter()
         .any(|other| other.version == package.version);
-    available(known.catalogue, package, is_direct)
+    available(catalogue, package, is_direct)
 }
 
 /// The packages that the root lists, which alone in a valid lock has no source.
@@ -106,12 +132,47 @@ fn listed_by_root<'a>(
     Ok(listed)
 }
 
-/// How many packages have a newer version.
-fn behind(known: Known<'_>, packages: &[&Package]) -> usize {
-    packages
-        .iter()
-        .filter(|package| newer(known, **package).is_some())
-        .count()
+/// What changes in a lock beside its packages of an index: the version of the manifest's package, lists, checksums.
+fn push_beside(text: &mut String, changes: &Changes<'_>) -> Result<(), AllocError> {
+    if let Some((before, after)) = changes.roots {
+        push_root(text, before, after)?;
+    }
+    for relisting in changes.relistings.iter() {
+        push_relisting(text, *relisting)?;
+    }
+    let stayed = changes.stood.iter().zip(changes.stayed.iter());
+    let summed = stayed
+        .filter(|pair| pair.0.checksum() != pair.1.checksum())
+        .count();
+    match summed {
+        0 => Ok(()),
+        1 => text.push_str("note: the checksum of 1 unchanged package changes\n"),
+        _ => writeln!(
+            text,
+            "note: the checksums of {summed} unchanged packages change"
+        ),
+    }
+}
+
+/// The line of the manifest's package, where it changed its version.
+fn push_root(text: &mut String, before: &Package, after: &Package) -> Result<(), AllocError> {
+    let Package { name, version, .. } = before;
+    let is_moved = before.name == after.name
+        && version_order(version, &after.version) != Ordering::Equal;
+    if is_moved {
+        let after = &after.version;
+        writeln!(text, "    Updating {name} v{version} -> v{after}")?;
+    }
+    Ok(())
+}
+
+/// `   Relisting a v1.0.0 with b v2.0.0`, or `without` it.
+fn push_relisting(text: &mut String, relisting: Relisting<'_>) -> Result<(), AllocError> {
+    let Package { name, version, .. } = relisting.package;
+    let word = if relisting.gained { "with" } else { "without" };
+    let listed = &relisting.listed.name;
+    let of = &relisting.listed.version;
+    writeln!(text, "   Relisting {name} v{version} {word} {listed} v{of}")
 }
 
 fn push_behind(text: &mut String, behind: usize) -> Result<(), AllocError> {
@@ -127,7 +188,7 @@ fn push_behind(text: &mut String, behind: usize) -> Result<(), AllocError> {
     }
 }
 
-/// The lines by name and source; of those of one name and source what went stands first, and what stayed last.
+/// The lines in their order.
 fn lines<'a>(alloc: Global, changes: &Changes<'a>) -> Result<Vec<Line<'a>>, AllocError> {
     let mut lines = Vec::new(alloc);
     for package in changes.gone.iter() {
@@ -218,8 +279,8 @@ fn rank(line: Line<'_>) -> u8 {
 }
 
 /// The line, but of what stays only where it has a newer version.
-fn push_line(text: &mut String, known: Known<'_>, line: Line<'_>) -> Result<(), AllocError> {
-    let newer = newer(known, of(line));
+fn push_line(text: &mut String, told: ToldLine<'_>) -> Result<(), AllocError> {
+    let ToldLine { line, newer } = told;
     let Package { name, version, .. } = of(line);
     let end = Available(newer);
     match line {

@@ -4,7 +4,7 @@ use index_reader::{Skip, SkipReason};
 use std::alloc::{AllocError, Global};
 
 /// The reasons to skip a line, in the order in which they are looked for.
-const REASONS: [SkipReason; 10] = [
+pub const REASONS: [SkipReason; 10] = [
     SkipReason::NotJson,
     SkipReason::Shape,
     SkipReason::NewerFormat,
@@ -61,7 +61,7 @@ fn push_lines(text: &mut String, skips: &[Skip], reason: SkipReason) -> Result<(
 }
 
 /// What a reason says.
-fn meaning(reason: SkipReason) -> &'static str {
+pub fn meaning(reason: SkipReason) -> &'static str {
     match reason {
         SkipReason::NotJson => "no JSON",
         SkipReason::Shape => "not of the form of an index line",

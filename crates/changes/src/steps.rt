@@ -8,6 +8,15 @@ use manifest::Manifest;
 use std::alloc::{AllocError, Global};
 use std::fmt;
 
+/// A step of a way.
+#[derive(Clone, Copy)]
+pub struct Step<'a> {
+    pub owner: &'a Package,
+    /// The first dependency of the owner that the next package fits, if there is one.
+    pub dependency: Option<&'a Dependency>,
+    pub target: &'a Package,
+}
+
 /// A line for each dependency on a way, which is given by the places of its packages, with the requirement that the one
 /// has for the next: those of the manifest at the first place, and of candidates at the others.
 pub fn tell_way(
@@ -18,17 +27,32 @@ pub fn tell_way(
     places: &[usize],
 ) -> Result<String, AllocError> {
     let mut text = String::new(alloc);
+    for step in steps_of(alloc, manifest, catalogue, content, places)?.iter() {
+        push_step(&mut text, *step)?;
+    }
+    Ok(text)
+}
+
+/// The steps of a way, which is given by the places of its packages.
+pub fn steps_of<'a>(
+    alloc: Global,
+    manifest: &'a Manifest,
+    catalogue: &'a Catalogue,
+    content: &'a LockContent,
+    places: &[usize],
+) -> Result<Vec<Step<'a>>, AllocError> {
+    let mut steps = Vec::new(alloc);
     let packages = content.packages();
     let mut dependencies = manifest.dependencies();
     for pair in places.windows(2) {
         if let [owner, target] = pair {
             if let (Some(owner), Some(target)) = (packages.get(*owner), packages.get(*target)) {
-                push_step(&mut text, owner, dependencies, target)?;
+                steps.push(step_to(owner, dependencies, target))?;
                 dependencies = dependencies_of(catalogue, target);
             }
         }
     }
-    Ok(text)
+    Ok(steps)
 }
 
 /// A line for each of some dependencies, which are given by the places of a package and of one that it lists.
@@ -40,6 +64,21 @@ pub fn tell_dependencies(
     pairs: &[(usize, usize)],
 ) -> Result<String, AllocError> {
     let mut text = String::new(alloc);
+    for step in dependencies_between(alloc, manifest, catalogue, content, pairs)?.iter() {
+        push_step(&mut text, *step)?;
+    }
+    Ok(text)
+}
+
+/// The dependencies that are given by the places of a package and of one that it lists.
+pub fn dependencies_between<'a>(
+    alloc: Global,
+    manifest: &'a Manifest,
+    catalogue: &'a Catalogue,
+    content: &'a LockContent,
+    pairs: &[(usize, usize)],
+) -> Result<Vec<Step<'a>>, AllocError> {
+    let mut steps = Vec::new(alloc);
     let packages = content.packages();
     for (owner, target) in pairs.iter() {
         if let (Some(owner), Some(target)) = (packages.get(*owner), packages.get(*target)) {
@@ -48,10 +87,22 @@ pub fn tell_dependencies(
             } else {
                 dependencies_of(catalogue, owner)
             };
-            push_step(&mut text, owner, dependencies, target)?;
+            steps.push(step_to(owner, dependencies, target))?;
         }
     }
-    Ok(text)
+    Ok(steps)
+}
+
+fn step_to<'a>(
+    owner: &'a Package,
+    dependencies: &'a [Dependency],
+    target: &'a Package,
+) -> Step<'a> {
+    Step {
+        owner,
+        dependency: dependencies.iter().find(|one| may_mean(one, target)),
+        target,
+    }
 }
 
 /// The dependencies of the candidate that a package is.
@@ -63,14 +114,9 @@ fn dependencies_of<'a>(catalogue: &'a Catalogue, package: &Package) -> &'a [Depe
 }
 
 /// `a 1.0.0 needs b ^1 with feature f: b 1.2.0`.
-fn push_step(
-    text: &mut String,
-    owner: &Package,
-    dependencies: &[Dependency],
-    target: &Package,
-) -> Result<(), AllocError> {
-    let need = Need(dependencies.iter().find(|one| may_mean(one, target)));
-    let (from, to) = (Named(owner), Named(target));
+fn push_step(text: &mut String, step: Step<'_>) -> Result<(), AllocError> {
+    let (from, to) = (Named(step.owner), Named(step.target));
+    let need = Need(step.dependency);
     writeln!(text, "{from} {need}: {to}")
 }
 

@@ -4,17 +4,21 @@ ghost use Rattle.std.specs.Prelude.{◌≡◌, ◌++◌, IfSome};
 
 use crate::paint::Style;
 
-/// The words at the front of a line that Cargo shows in a color, each with what has to come after it.
-const FRONTS: [(&str, &str, Style); 9] = [
+/// The words at the front of a line that Cargo shows in a color, and those of a verdict, each with what has to come
+/// after it.
+const FRONTS: [(&str, &str, Style); 12] = [
     ("     Locking", " ", Style::Green),
     ("    Updating", " ", Style::Green),
     ("      Adding", " ", Style::Green),
     (" Downgrading", " ", Style::Yellow),
     ("    Removing", " ", Style::Red),
+    ("   Relisting", " ", Style::Green),
     ("   Unchanged", " ", Style::Bold),
     ("error", ":", Style::Red),
     ("warning", ":", Style::Yellow),
     ("note", ":", Style::Green),
+    ("valid", "\n", Style::Green),
+    ("invalid", " V", Style::Red),
 ];
 
 /// What a newer version at the end of a line begins with.

@@ -7,6 +7,8 @@
 //! A lock whose checksums aren't those of the index has no verdict, and no index is loaded beside it. So that all else
 //! is told of such a lock too, an index is loaded beside its content without the checksums (`unsummed`).
 //!
+//! What is told is there as values too (`flaws_of`, `lacking_features`), for who tells it otherwise than in sentences.
+//!
 //! A layer above may rely on this: `flaws_of` gives just the packages at which a condition fails, in the order of the
 //! lock, each with just what is wrong there; none of them exactly where the lock is a valid selection. Of the sentences
 //! nothing is stated.
@@ -24,8 +26,11 @@ mod sentences;
 mod unsummed;
 mod versions;
 
+pub use feature_sentences::{Lacking, lacking_features};
 pub use flawed::Flawed;
 pub use judging::{Judged, flaws_of};
+pub use list_sentences::dependency_at;
+pub use naming::last_serving;
 pub use no_candidate::NoCandidate;
 pub use sentences::{has_metadata, tell_flaws};
 pub use unsummed::without_checksums;

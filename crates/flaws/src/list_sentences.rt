@@ -23,7 +23,8 @@ pub(crate) fn push_unmet(
     Ok(())
 }
 
-fn dependency_at<'a>(
+/// The dependency of a number of the package at a place.
+pub fn dependency_at<'a>(
     findings: &'a Findings<'_>,
     place: usize,
     number: usize,

@@ -43,10 +43,7 @@ pub(crate) fn may_serve(dependency: &Dependency, package: &Package) -> bool {
 }
 
 /// The last package that may serve a dependency.
-pub(crate) fn last_serving<'a>(
-    dependency: &Dependency,
-    packages: &'a [Package],
-) -> Option<&'a Package> {
+pub fn last_serving<'a>(dependency: &Dependency, packages: &'a [Package]) -> Option<&'a Package> {
     let mut found = None;
     for package in packages.iter() {
         if may_serve(dependency, package) {

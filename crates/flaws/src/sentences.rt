@@ -85,7 +85,7 @@ fn push_all<F: Folder>(
             if let Some(why) = flawed.no_candidate {
                 push_no_candidate(text, registry, package, why, folder)?;
             }
-            push_others(text, findings, package, flawed).map_err(out_of_memory)?;
+            push_others(text, registry.alloc, findings, package, flawed).map_err(out_of_memory)?;
             push_yanked(text, registry.catalogue, package).map_err(out_of_memory)?;
         }
     }
@@ -96,6 +96,7 @@ fn push_all<F: Folder>(
 /// its features and its list aren't told.
 fn push_others(
     text: &mut String,
+    alloc: Global,
     findings: &Findings<'_>,
     package: &Package,
     flawed: &Flawed,
@@ -104,7 +105,7 @@ fn push_others(
     if flawed.no_candidate.is_none() {
         push_unmet(text, findings, package, flawed)?;
         if flawed.lacks_feature {
-            push_lacking(text, findings, flawed.place)?;
+            push_lacking(text, alloc, findings, flawed.place)?;
         }
         push_surplus(text, findings, package, flawed)?;
     }

@@ -5,6 +5,8 @@
 //! no file, it is asked for names that differ in `-` and `_` alone (`missing`). A dependency that some candidate fits
 //! may only lack a feature.
 //!
+//! What is told is there as a value too (`look_for`, `reason_of`), for who tells it otherwise than in sentences.
+//!
 //! A layer above may rely on this: where no candidate is matched, the reason is the one that `specs/Lacks` gives for
 //! the lines of the file, and where one is matched, no other is told than a feature that is lacking. Of what the folder
 //! is asked and of the sentences nothing is stated.
@@ -12,7 +14,10 @@
 
 mod lack;
 mod missing;
+mod reason;
 mod sentences;
 
 pub use lack::{Lack, lack_of};
+pub use missing::{Missing, look_for};
+pub use reason::{Reason, reason_of};
 pub use sentences::tell_lacks;

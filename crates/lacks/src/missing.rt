@@ -11,7 +11,7 @@ const MOST_LINES: usize = 65_535;
 
 /// Why nothing fits a dependency, and what an index has of its name.
 #[derive(Drop)]
-pub(crate) struct Missing {
+pub struct Missing {
     pub(crate) lack: Lack,
     /// The lines of its file that can be used, if there is a file.
     pub(crate) file: Option<Vec<Record>>,
@@ -34,7 +34,7 @@ impl Missing {
 ///
 /// # Errors
 /// Want of memory, or the folder failed.
-pub(crate) fn look_for<F: Folder>(
+pub fn look_for<F: Folder>(
     alloc: Global,
     catalogue: &Catalogue,
     folder: &mut F,

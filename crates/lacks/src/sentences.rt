@@ -1,14 +1,14 @@
 //! The sentences that tell why nothing fits.
 
-use crate::lack::{Lack, has_feature, is_held_back, is_yanked, missing_feature};
-use crate::missing::{Missing, look_for, out_of_memory};
+use crate::lack::Lack;
+use crate::missing::{look_for, out_of_memory};
+use crate::reason::{Reason, reason_of};
 use catalogue::Catalogue;
-use features::{Dependency, FeatureName, PackageName};
-use index_reader::{Folder, FolderFault, Record};
+use features::{Dependency, PackageName};
+use index_reader::{Folder, FolderFault};
 use manifest::Manifest;
-use semver::{Version, VersionReq};
+use semver::Version;
 use std::alloc::{AllocError, Global};
-use std::cmp::Ordering;
 
 /// A sentence, a line, for each dependency of the manifest for which nothing fits; nothing where there is none.
 ///
@@ -23,7 +23,8 @@ pub fn tell_lacks<F: Folder>(
     let mut text = String::new(alloc);
     for dependency in manifest.dependencies() {
         if let Some(found) = look_for(alloc, catalogue, folder, dependency)? {
-            let told = push_lack(&mut text, manifest.name(), catalogue, dependency, &found);
+            let reason = reason_of(catalogue, dependency, &found);
+            let told = push_lack(&mut text, manifest.name(), dependency, reason);
             told.map_err(out_of_memory)?;
         }
     }
@@ -34,29 +35,28 @@ pub fn tell_lacks<F: Folder>(
 fn push_lack(
     text: &mut String,
     root: &PackageName,
-    catalogue: &Catalogue,
     dependency: &Dependency,
-    missing: &Missing,
+    reason: Reason<'_>,
 ) -> Result<(), AllocError> {
     let name = &dependency.real_name;
     let requirement = &dependency.requirement;
     write!(text, "{root} needs {name} {requirement}")?;
-    match missing.lack {
-        Lack::NoPackage => push_unknown(text, name, &missing.other)?,
+    match reason.lack {
+        Lack::NoPackage => push_unknown(text, name, reason.other)?,
         Lack::NoLine => write!(text, ", but no line of {name} in this index can be used")?,
         Lack::Yanked => {
             text.push_str(", but all versions that fit are yanked")?;
-            push_newest(text, newest(requirement, missing.records(), true))?;
+            push_newest(text, reason.newest)?;
         }
         Lack::PreReleases => {
             text.push_str(", but only pre-releases would fit")?;
-            push_newest(text, newest(requirement, missing.records(), false))?;
+            push_newest(text, reason.newest)?;
         }
         Lack::NoVersion => {
             write!(text, ", but no version of {name} fits")?;
-            push_newest(text, catalogue.versions(name).last())?;
+            push_newest(text, reason.newest)?;
         }
-        Lack::NoFeature => push_feature(text, catalogue, dependency)?,
+        Lack::NoFeature => push_feature(text, name, reason)?,
     }
     text.push_str(".\n")
 }
@@ -64,7 +64,7 @@ fn push_lack(
 fn push_unknown(
     text: &mut String,
     name: &PackageName,
-    other: &Option<PackageName>,
+    other: Option<&PackageName>,
 ) -> Result<(), AllocError> {
     write!(text, ", but there is no package {name} in this index")?;
     match other {
@@ -80,47 +80,16 @@ fn push_newest(text: &mut String, newest: Option<&Version>) -> Result<(), AllocE
     }
 }
 
-/// The newest of the yanked versions that a requirement matches, or of the pre-releases that it would match.
-fn newest<'a>(
-    requirement: &VersionReq,
-    records: &'a [Record],
-    yanked: bool,
-) -> Option<&'a Version> {
-    let mut newest: Option<&'a Version> = None;
-    for record in records.iter() {
-        if is_meant(requirement, record, yanked) && is_newer(&record.version, newest) {
-            newest = Some(&record.version);
-        }
-    }
-    newest
-}
-
-fn is_meant(requirement: &VersionReq, record: &Record, yanked: bool) -> bool {
-    if yanked {
-        is_yanked(requirement, record)
-    } else {
-        is_held_back(requirement, &record.version)
-    }
-}
-
-fn is_newer(version: &Version, than: Option<&Version>) -> bool {
-    match than {
-        Some(other) => version.cmp_precedence(other) == Ordering::Greater,
-        None => true,
-    }
-}
-
 /// The feature that no version has which fits, and the newest one that has it.
 fn push_feature(
     text: &mut String,
-    catalogue: &Catalogue,
-    dependency: &Dependency,
+    name: &PackageName,
+    reason: Reason<'_>,
 ) -> Result<(), AllocError> {
-    let Some(feature) = missing_feature(dependency, catalogue) else {
+    let Some(feature) = reason.feature else {
         return Ok(());
     };
-    let name = &dependency.real_name;
-    match newest_with(catalogue, name, feature) {
+    match reason.newest {
         Some(version) => write!(
             text,
             " with feature {feature}, which no version that fits has; {name} {version} has it"
@@ -130,19 +99,4 @@ fn push_feature(
             " with feature {feature}, which no version of {name} has"
         ),
     }
-}
-
-/// The newest candidate of a name that has a feature.
-fn newest_with<'a>(
-    catalogue: &'a Catalogue,
-    name: &PackageName,
-    feature: &FeatureName,
-) -> Option<&'a Version> {
-    let mut newest = None;
-    for (place, version) in catalogue.versions(name).iter().enumerate() {
-        if has_feature(catalogue, name, place, feature) {
-            newest = Some(version);
-        }
-    }
-    newest
 }

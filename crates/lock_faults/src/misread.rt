@@ -20,6 +20,7 @@ pub(crate) enum Misread<'t> {
 /// What in a package breaks a rule.
 #[derive(Drop)]
 pub(crate) enum Broken<'t> {
+    OutOfMemory,
     /// There is no text at this key.
     NoText(&'static str),
     /// The text at this key isn't what it has to be.
@@ -41,6 +42,7 @@ pub(crate) enum Broken<'t> {
 impl fmt::Display for Broken<'_> {
     fn fmt<W: fmt::Write>(&self, f: &mut fmt::Formatter<W>) -> fmt::Result {
         match self {
+            Broken::OutOfMemory => f.write_str("there was no memory to read it"),
             Broken::NoText(key) => write!(f, "a package has no text as its {key}"),
             Broken::BadText(key, text) => write!(f, "`{text}` can't be the {key} of a package"),
             Broken::NoList => f.write_str("the dependencies of a package are no array"),

@@ -1,8 +1,9 @@
 //! The first thing in a lock that breaks a rule of reading.
 
+use crate::called::{Called, Meant};
 use crate::misread::{Broken, Misread};
-use crate::section::{Section, section_of};
-use std::alloc::{AllocError, Global};
+use crate::section::{Listed, Section, listed_of};
+use std::alloc::Global;
 use toml::{Table, Value};
 
 /// The first thing in a table that breaks a rule, if the table is no lock.
@@ -14,9 +15,10 @@ pub(crate) fn misread_in(alloc: Global, table: &Table) -> Result<(), Misread<'_>
     let Some(values) = value.as_array() else {
         return Err(Misread::NoPackages);
     };
-    let sections = sections_in(alloc, values)?;
-    check_alike(sections.as_slice())?;
-    check_lists(alloc, sections.as_slice())
+    let packages = packages_in(alloc, values)?;
+    let called = Called::new(alloc, &packages)?;
+    check_alike(&packages, &called)?;
+    check_lists(alloc, &packages, &called)
 }
 
 /// `version` may be absent; else it is a whole number from 1 to 4.
@@ -31,84 +33,78 @@ fn check_format(table: &Table) -> Result<(), Misread<'_>> {
     }
 }
 
-fn sections_in(alloc: Global, values: &[Value]) -> Result<Vec<Section<'_>>, Misread<'_>> {
-    let mut sections = Vec::new(alloc);
+fn packages_in(alloc: Global, values: &[Value]) -> Result<Vec<Listed<'_>>, Misread<'_>> {
+    let mut packages = Vec::new(alloc);
     for (number, value) in values.iter().enumerate() {
-        match section_of(alloc, value) {
-            Ok(section) => sections.push(section)?,
+        match listed_of(alloc, value) {
+            Ok(package) => packages.push(package)?,
+            Err(Broken::OutOfMemory) => return Err(Misread::OutOfMemory),
             Err(broken) => return Err(Misread::Package(number, broken)),
         }
     }
-    Ok(sections)
+    Ok(packages)
 }
 
 /// No package is alike an earlier one.
-fn check_alike<'t>(sections: &[Section<'t>]) -> Result<(), Misread<'t>> {
-    for (number, section) in sections.iter().enumerate() {
-        if sections
-            .iter()
-            .take(number)
-            .any(|other| section.is_alike(other))
-        {
-            let twice = Broken::Twice(section.name, section.version);
-            return Err(Misread::Package(number, twice));
+fn check_alike<'t>(packages: &[Listed<'t>], called: &Called<'t>) -> Result<(), Misread<'t>> {
+    let Some(number) = called.first_repeated() else {
+        return Ok(());
+    };
+    match packages.get(number) {
+        Some(package) => {
+            let Section { name, version, .. } = package.section;
+            Err(Misread::Package(number, Broken::Twice(name, version)))
         }
+        None => Ok(()),
     }
-    Ok(())
 }
 
 /// Each text of a list is what just one package is called, each package once.
-fn check_lists<'t>(alloc: Global, sections: &[Section<'t>]) -> Result<(), Misread<'t>> {
-    for (number, section) in sections.iter().enumerate() {
-        if let Some(broken) = broken_list(alloc, sections, section)? {
+fn check_lists<'t>(
+    alloc: Global,
+    packages: &[Listed<'t>],
+    called: &Called<'t>,
+) -> Result<(), Misread<'t>> {
+    let mut listed_by = vec![in alloc; packages.len(); packages.len()]?;
+    for (number, package) in packages.iter().enumerate() {
+        if let Some(broken) = broken_list(called, package, number, &mut listed_by) {
             return Err(Misread::Package(number, broken));
         }
     }
     Ok(())
 }
 
-/// What is wrong with the list of a package.
+/// What is wrong with the list of the package of a number; `listed_by` has for each package the last one that lists it.
 fn broken_list<'t>(
-    alloc: Global,
-    sections: &[Section<'t>],
-    section: &Section<'t>,
-) -> Result<Option<Broken<'t>>, AllocError> {
-    let mut places = Vec::new(alloc);
-    for value in section.list.iter() {
+    called: &Called<'t>,
+    package: &Listed<'t>,
+    number: usize,
+    listed_by: &mut [usize],
+) -> Option<Broken<'t>> {
+    let name = package.section.name;
+    for value in package.list.iter() {
         let text = value.as_str().unwrap_or("");
-        match place_of(sections, text) {
-            Ok(place) => {
-                if places.contains(&place) {
-                    return Ok(Some(Broken::ListedTwice(section.name, text)));
+        match called.meant(text) {
+            Meant::One(meant) => {
+                if is_listed_again(listed_by, meant, number) {
+                    return Some(Broken::ListedTwice(name, text));
                 }
-                places.push(place)?;
             }
-            Err(true) => return Ok(Some(Broken::Several(section.name, text))),
-            Err(false) => return Ok(Some(Broken::Unknown(section.name, text))),
+            Meant::Several => return Some(Broken::Several(name, text)),
+            Meant::None => return Some(Broken::Unknown(name, text)),
         }
     }
-    Ok(None)
+    None
 }
 
-/// The place of the one package that is called so; else whether several are. `name version` of several is the one
-/// without a source.
-fn place_of(sections: &[Section<'_>], text: &str) -> Result<usize, bool> {
-    match only(sections, text, false) {
-        Err(true) if text.contains(' ') => only(sections, text, true),
-        found => found,
-    }
-}
-
-/// The place of the one package that is called so, with or without a source; else whether several are.
-fn only(sections: &[Section<'_>], text: &str, sourceless: bool) -> Result<usize, bool> {
-    let mut found = Err(false);
-    for (place, section) in sections.iter().enumerate() {
-        if section.is_called(text) && !(sourceless && section.source.is_some()) {
-            if found != Err(false) {
-                return Err(true);
-            }
-            found = Ok(place);
+/// Whether the package of a number was the last one that lists another; if not, it is from now on.
+fn is_listed_again(listed_by: &mut [usize], meant: usize, number: usize) -> bool {
+    match listed_by.get_mut(meant) {
+        Some(last) => {
+            let is_again = *last == number;
+            *last = number;
+            is_again
         }
+        None => false,
     }
-    found
 }

@@ -1,42 +1,85 @@
 //! One package of a lock, as it stands there.
 
 use crate::misread::Broken;
-use features::PackageName;
+use features::{NameFault, PackageName};
 use semver::Version;
-use std::alloc::Global;
+use std::alloc::{AllocError, Global};
+use std::cmp::Ordering;
 use toml::{Table, Value};
 
-/// A package with the texts of its list.
+/// What a section of a lock says of a package, but for its list.
 #[derive(Clone, Copy)]
 pub(crate) struct Section<'t> {
     pub(crate) name: &'t str,
     pub(crate) version: &'t str,
     pub(crate) source: Option<&'t str>,
+    pub(crate) checksum: Option<&'t str>,
+}
+
+/// A package with the texts of its list.
+#[derive(Clone, Copy)]
+pub(crate) struct Listed<'t> {
+    pub(crate) section: Section<'t>,
     pub(crate) list: &'t [Value],
 }
 
-/// A package, or what in it breaks a rule; that its list has texts alone isn't looked at.
-pub(crate) fn section_of(alloc: Global, value: &Value) -> Result<Section<'_>, Broken<'_>> {
+/// What a section says of a package, if a lock may say so; its list isn't looked at.
+pub(crate) fn readable_section(
+    alloc: Global,
+    table: &Table,
+) -> Result<Option<Section<'_>>, AllocError> {
+    match section_of(alloc, table) {
+        Ok(section) => Ok(Some(section)),
+        Err(Broken::OutOfMemory) => Err(AllocError),
+        Err(_) => Ok(None),
+    }
+}
+
+/// A package with its list, or what in it breaks a rule.
+pub(crate) fn listed_of(alloc: Global, value: &Value) -> Result<Listed<'_>, Broken<'_>> {
     let Some(table) = value.as_table() else {
         return Err(Broken::NoText("name"));
     };
-    let name = text_at(table, "name")?;
-    if PackageName::parse(alloc, name).is_err() {
-        return Err(Broken::BadText("name", name));
-    }
-    let version = text_at(table, "version")?;
-    if Version::parse(alloc, version).is_err() {
-        return Err(Broken::BadText("version", version));
-    }
-    let source = plain_at(table, "source")?;
-    plain_at(table, "checksum")?;
+    let section = section_of(alloc, table)?;
     let list = list_at(table)?;
+    Ok(Listed { section, list })
+}
+
+/// What a section says of a package, or what in it breaks a rule; its list isn't looked at.
+fn section_of(alloc: Global, table: &Table) -> Result<Section<'_>, Broken<'_>> {
+    let name = text_at(table, "name")?;
+    check_name(alloc, name)?;
+    let version = text_at(table, "version")?;
+    check_version(alloc, version)?;
+    let source = plain_at(table, "source")?;
+    let checksum = plain_at(table, "checksum")?;
     Ok(Section {
         name,
         version,
         source,
-        list,
+        checksum,
     })
+}
+
+fn check_name(alloc: Global, text: &str) -> Result<(), Broken<'_>> {
+    match PackageName::parse(alloc, text) {
+        Ok(_) => Ok(()),
+        Err(NameFault::NotAName) => Err(Broken::BadText("name", text)),
+        Err(NameFault::OutOfMemory) => Err(Broken::OutOfMemory),
+    }
+}
+
+fn check_version(alloc: Global, text: &str) -> Result<(), Broken<'_>> {
+    match Version::parse(alloc, text) {
+        Ok(_) => Ok(()),
+        Err(error) => {
+            if error == semver::Error::from(AllocError) {
+                Err(Broken::OutOfMemory)
+            } else {
+                Err(Broken::BadText("version", text))
+            }
+        }
+    }
 }
 
 /// The text at a key that has to be there.
@@ -66,7 +109,7 @@ fn is_plain(byte: u8) -> bool {
     matches!(byte, b' '..=b'~') && byte != b'"' && byte != b'\\'
 }
 
-/// The elements of its list, none where it has no list.
+/// The elements of the list of a section, none where it has no list.
 fn list_at(table: &Table) -> Result<&[Value], Broken<'_>> {
     let Some(value) = table.get("dependencies") else {
         return Ok(&[]);
@@ -82,33 +125,11 @@ fn list_at(table: &Table) -> Result<&[Value], Broken<'_>> {
 }
 
 impl Section<'_> {
-    /// Whether it is alike another one in name, version and source.
-    pub(crate) fn is_alike(&self, other: &Section<'_>) -> bool {
-        let has_name = self.name == other.name;
-        let has_version = self.version == other.version;
-        let has_source = self.source == other.source;
-        has_name & has_version & has_source
-    }
-
-    /// Whether a list may call it so: `name`, `name version` or `name version (source)`.
-    pub(crate) fn is_called(&self, text: &str) -> bool {
-        let Some((name, rest)) = text.split_once(' ') else {
-            return text == self.name;
-        };
-        if name != self.name {
-            return false;
-        }
-        match rest.split_once(' ') {
-            Some((version, source)) => version == self.version && self.is_from(source),
-            None => rest == self.version,
-        }
-    }
-
-    /// Whether it has the source that stands in parentheses.
-    fn is_from(&self, text: &str) -> bool {
-        let (Some(source), Some(inner)) = (self.source, text.strip_prefix('(')) else {
-            return false;
-        };
-        inner.strip_suffix(')') == Some(source)
+    /// By name, version and source, each by its bytes; a package without a source first.
+    pub(crate) fn compare(&self, other: &Section<'_>) -> Ordering {
+        self.name
+            .cmp(other.name)
+            .then_with(|| self.version.cmp(other.version))
+            .then_with(|| self.source.cmp(&other.source))
     }
 }

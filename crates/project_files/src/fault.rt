@@ -1,7 +1,8 @@
 //! Why a file can't be read or written, with what the system says.
 
 use std::alloc::AllocError;
-use std::{fmt, io};
+use std::fmt;
+use std::io::{self, ErrorKind};
 
 /// Why a file or folder can't be read.
 #[derive(Drop)]
@@ -37,7 +38,13 @@ impl fmt::Display for WriteFault<'_> {
     fn fmt<W: fmt::Write>(&self, f: &mut fmt::Formatter<W>) -> fmt::Result {
         match self {
             WriteFault::OutOfMemory => f.write_str("out of memory"),
-            WriteFault::CannotMake(path, error) => write!(f, "cannot make {path}: {error}"),
+            WriteFault::CannotMake(path, error) => {
+                write!(f, "cannot make {path}: {error}")?;
+                if error.kind() == ErrorKind::AlreadyExists {
+                    f.write_str("; remove it, unless another run is at work")?;
+                }
+                Ok(())
+            }
             WriteFault::CannotReplace(path, error) => write!(f, "cannot replace {path}: {error}"),
         }
     }

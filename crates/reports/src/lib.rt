@@ -8,17 +8,17 @@
 #![tactic(auto)]
 
 mod all_ways;
+mod part;
 mod refusing;
-mod repairing;
 mod reporting;
 mod verifying;
 mod wanted;
 mod whole_index;
 
 pub use all_ways::all_ways_there;
+pub use part::{Meant, Part, meant_by, part_in};
 pub use refusing::refusal_of;
-pub use repairing::{Readable, readable_part};
-pub use reporting::{Inputs, Told, changes_to, skips_of, why_there};
-pub use verifying::flaws_of_lock;
+pub use reporting::{Inputs, Told, changes_to, loaded, skips_of, why_there};
+pub use verifying::{flaws_of_lock, loaded_beside};
 pub use wanted::{Wanted, package_in};
-pub use whole_index::skips_of_all;
+pub use whole_index::{skips_at, skips_of_all};

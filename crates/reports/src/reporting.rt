@@ -10,7 +10,7 @@ use changes::{Why, changes_between, reason_for, tell_changes, tell_skips, tell_w
 use index_reader::Folder;
 use lockfile::LockContent;
 use manifest::Manifest;
-use std::alloc::Global;
+use std::alloc::{AllocError, Global};
 
 /// What a report is about, beside an index: a manifest, a lock if there is one, and the source of the index's packages.
 #[derive(Drop)]
@@ -21,7 +21,7 @@ pub struct Inputs {
 }
 
 /// What is loaded of an index for these, the newest versions preferred.
-pub(crate) fn loaded<F: Folder>(
+pub fn loaded<F: Folder>(
     alloc: Global,
     folder: &mut F,
     inputs: &Inputs,
@@ -45,8 +45,18 @@ pub fn changes_to<F: Folder>(
     all: bool,
 ) -> Result<String, LoadFault> {
     let catalogue = loaded(alloc, folder, inputs)?;
+    Ok(changes_told(alloc, &catalogue, inputs, new, all)?)
+}
+
+fn changes_told<'a>(
+    alloc: Global,
+    catalogue: &'a Catalogue,
+    inputs: &'a Inputs,
+    new: &'a LockContent,
+    all: bool,
+) -> Result<String, AllocError> {
     let changes = changes_between(alloc, inputs.lock.as_ref(), new)?;
-    Ok(tell_changes(alloc, &catalogue, new, &changes, all)?)
+    tell_changes(alloc, catalogue, new, &changes, all)
 }
 
 /// The lines of the index that were not used.

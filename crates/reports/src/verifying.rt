@@ -1,15 +1,14 @@
 //! The report on a lock: all that is wrong with it.
 
 use crate::reporting::Inputs;
-use catalogue::{LoadFault, Prefer, load};
+use catalogue::{Catalogue, LoadFault, Prefer, load};
 use flaws::{has_metadata, tell_flaws, without_checksums};
 use index_reader::{Folder, FolderFault};
+use lockfile::LockContent;
 use std::alloc::Global;
 
 /// All that is wrong with a lock, whose bytes these are; nothing where there is no lock, or the folder fails while it
 /// is asked once more for the files of versions that aren't there.
-///
-/// The index is loaded beside the lock without its checksums, so that those that changed are told with all else.
 pub fn flaws_of_lock<F: Folder>(
     alloc: Global,
     folder: &mut F,
@@ -19,24 +18,36 @@ pub fn flaws_of_lock<F: Folder>(
     let Some(lock) = &inputs.lock else {
         return Ok(String::new(alloc));
     };
-    let unsummed = without_checksums(alloc, lock)?;
-    let Inputs {
-        manifest,
-        source,
-        ..
-    } = inputs;
-    let catalogue = load(
-        alloc,
-        manifest,
-        folder,
-        Some(&unsummed),
-        source,
-        Prefer::Newest,
-    )?;
+    let catalogue = loaded_beside(alloc, folder, inputs, lock)?;
     let has_metadata = has_metadata(bytes);
-    match tell_flaws(alloc, manifest, &catalogue, lock, folder, has_metadata) {
+    match tell_flaws(
+        alloc,
+        &inputs.manifest,
+        &catalogue,
+        lock,
+        folder,
+        has_metadata,
+    ) {
         Ok(text) => Ok(text),
         Err(FolderFault::OutOfMemory) => Err(LoadFault::OutOfMemory),
         Err(FolderFault::Failed) => Ok(String::new(alloc)),
     }
+}
+
+/// What is loaded of an index beside a lock without its checksums, so that those that changed are told with all else.
+pub fn loaded_beside<F: Folder>(
+    alloc: Global,
+    folder: &mut F,
+    inputs: &Inputs,
+    lock: &LockContent,
+) -> Result<Catalogue, LoadFault> {
+    let unsummed = without_checksums(alloc, lock)?;
+    load(
+        alloc,
+        &inputs.manifest,
+        folder,
+        Some(&unsummed),
+        &inputs.source,
+        Prefer::Newest,
+    )
 }

@@ -19,7 +19,7 @@ pub struct Wanted {
 
 impl Wanted {
     /// The version that is asked for, if one is.
-    pub(crate) fn version(&self) -> Option<&Version>
+    pub fn version(&self) -> Option<&Version>
         ensures { option_map (λ v. parts_of v.now) result ≡ option_map parts_of self.now.version }
     {
         match &self.version {
@@ -74,7 +74,7 @@ fn with_version(alloc: Global, name: &str, text: &str) -> Result<Option<Wanted>,
     }
 }
 
-fn name_in(alloc: Global, text: &str) -> Result<Option<PackageName>, AllocError>
+pub(crate) fn name_in(alloc: Global, text: &str) -> Result<Option<PackageName>, AllocError>
     ensures { IfOk result (λ o. o ≡ name_of text.now) }
 {
     match PackageName::parse(alloc, text) {
@@ -84,7 +84,7 @@ fn name_in(alloc: Global, text: &str) -> Result<Option<PackageName>, AllocError>
     }
 }
 
-fn version_in(alloc: Global, text: &str) -> Result<Option<Version>, AllocError>
+pub(crate) fn version_in(alloc: Global, text: &str) -> Result<Option<Version>, AllocError>
     ensures { IfOk result (λ o. option_map parts_of o ≡ version_if (version_parts text.now)) }
 {
     match Version::parse(alloc, text) {

@@ -14,20 +14,30 @@ const MAX_BYTES: usize = 16_777_216;
 /// How many lines a file has at most.
 const MAX_LINES: usize = 65_535;
 
-/// The lines that were not used of the files at these paths, by the names of the files in order of their bytes. A file
-/// that isn't where the name of a package would be looked for is passed over.
+/// What is told of the lines that were not used of the files at these paths.
 pub fn skips_of_all<F: Folder>(
     alloc: Global,
     folder: &mut F,
     paths: &[String],
     all: bool,
 ) -> Result<String, LoadFault> {
+    let skips = skips_at(alloc, folder, paths)?;
+    Ok(tell_skips(alloc, &skips, all)?)
+}
+
+/// The lines that were not used of the files at these paths, by the names of the files in order of their bytes. A file
+/// that isn't where the name of a package would be looked for is passed over.
+pub fn skips_at<F: Folder>(
+    alloc: Global,
+    folder: &mut F,
+    paths: &[String],
+) -> Result<Vec<Skip>, LoadFault> {
     let mut skips = Vec::new(alloc);
     let mut scratch = Scratch::new(alloc);
     for name in names_at(alloc, paths)?.iter() {
         push_skips(alloc, folder, name, &mut scratch, &mut skips)?;
     }
-    Ok(tell_skips(alloc, &skips, all)?)
+    Ok(skips)
 }
 
 /// The names of the packages whose files are at these paths.

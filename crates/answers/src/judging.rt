@@ -1,0 +1,32 @@
+//! What is told of a lock that is looked at.
+
+use crate::asking::{inputs_in, lock_in};
+use crate::form::Form;
+use index_reader::Folder;
+use project_files::Bytes;
+use resolver::Fault;
+use selection::Verdict;
+use std::alloc::{AllocError, Global};
+
+/// A verdict, as `relock` tells it or for programs.
+pub fn verdict_in(alloc: Global, verdict: &Verdict, form: Form) -> Result<String, AllocError> {
+    match form {
+        Form::People => format!(in alloc; "{verdict}\n"),
+        Form::Programs => messages::verdict(alloc, verdict),
+    }
+}
+
+/// All that is wrong with the lock.
+pub fn flaws_in<F: Folder>(
+    alloc: Global,
+    folder: &mut F,
+    bytes: &Bytes,
+    form: Form,
+) -> Result<String, Fault> {
+    let inputs = inputs_in(alloc, bytes)?;
+    let text = match form {
+        Form::People => reports::flaws_of_lock(alloc, folder, &inputs, lock_in(bytes))?,
+        Form::Programs => messages::flaws_of_lock(alloc, folder, &inputs)?,
+    };
+    Ok(text)
+}

@@ -1,0 +1,63 @@
+//! Why a package is in the lock.
+
+use crate::asking::inputs_in;
+use crate::form::Form;
+use index_reader::Folder;
+use project_files::Bytes;
+use reports::{Inputs, Meant, Part, Told, Wanted, meant_by};
+use resolver::Fault;
+use std::alloc::Global;
+
+/// Which package of the lock a part of a version asks for.
+pub fn meant_in(alloc: Global, bytes: &Bytes, part: &Part) -> Result<Meant, Fault> {
+    let inputs = inputs_in(alloc, bytes)?;
+    match &inputs.lock {
+        Some(lock) => Ok(meant_by(alloc, part, lock)?),
+        None => Ok(Meant::Absent),
+    }
+}
+
+/// Why a package is in the lock: a shortest way to it, or each dependency that leads there.
+pub fn why_in<F: Folder>(
+    alloc: Global,
+    folder: &mut F,
+    bytes: &Bytes,
+    wanted: &Wanted,
+    form: Form,
+    all: bool,
+) -> Result<Told, Fault> {
+    let inputs = inputs_in(alloc, bytes)?;
+    if all {
+        all_ways_in(alloc, folder, &inputs, wanted, form)
+    } else {
+        way_in(alloc, folder, &inputs, wanted, form)
+    }
+}
+
+fn all_ways_in<F: Folder>(
+    alloc: Global,
+    folder: &mut F,
+    inputs: &Inputs,
+    wanted: &Wanted,
+    form: Form,
+) -> Result<Told, Fault> {
+    let told = match form {
+        Form::People => reports::all_ways_there(alloc, folder, inputs, wanted)?,
+        Form::Programs => messages::all_ways_there(alloc, folder, inputs, wanted)?,
+    };
+    Ok(told)
+}
+
+fn way_in<F: Folder>(
+    alloc: Global,
+    folder: &mut F,
+    inputs: &Inputs,
+    wanted: &Wanted,
+    form: Form,
+) -> Result<Told, Fault> {
+    let told = match form {
+        Form::People => reports::why_there(alloc, folder, inputs, wanted)?,
+        Form::Programs => messages::why_there(alloc, folder, inputs, wanted)?,
+    };
+    Ok(told)
+}

@@ -1,0 +1,95 @@
+//! What is told of a dependency for which nothing fits.
+
+use crate::lack::{Lack, has_feature, is_held_back, is_yanked, missing_feature};
+use crate::missing::Missing;
+use catalogue::Catalogue;
+use features::{Dependency, FeatureName, PackageName};
+use index_reader::Record;
+use semver::{Version, VersionReq};
+use std::cmp::Ordering;
+
+/// Why nothing fits a dependency, and what else is told of it.
+#[derive(Clone, Copy)]
+pub struct Reason<'a> {
+    pub lack: Lack,
+    /// The newest of the versions that are yanked, or pre-releases, or don't fit, or have the feature.
+    pub newest: Option<&'a Version>,
+    /// The feature that is lacking.
+    pub feature: Option<&'a FeatureName>,
+    /// A name that there is, where the name of the dependency isn't there.
+    pub other: Option<&'a PackageName>,
+}
+
+/// What is told of a dependency for which nothing fits, by what the index has of it.
+pub fn reason_of<'a>(
+    catalogue: &'a Catalogue,
+    dependency: &'a Dependency,
+    missing: &'a Missing,
+) -> Reason<'a> {
+    let name = &dependency.real_name;
+    let requirement = &dependency.requirement;
+    let lack = missing.lack;
+    let feature = match lack {
+        Lack::NoFeature => missing_feature(dependency, catalogue),
+        _ => None,
+    };
+    let version = match lack {
+        Lack::Yanked => newest(requirement, missing.records(), true),
+        Lack::PreReleases => newest(requirement, missing.records(), false),
+        Lack::NoVersion => catalogue.versions(name).last(),
+        Lack::NoFeature => newest_with(catalogue, name, feature),
+        Lack::NoPackage | Lack::NoLine => None,
+    };
+    Reason {
+        lack,
+        newest: version,
+        feature,
+        other: missing.other.as_ref(),
+    }
+}
+
+/// The newest of the yanked versions that a requirement matches, or of the pre-releases that it would match.
+fn newest<'a>(
+    requirement: &VersionReq,
+    records: &'a [Record],
+    yanked: bool,
+) -> Option<&'a Version> {
+    let mut newest: Option<&'a Version> = None;
+    for record in records.iter() {
+        if is_meant(requirement, record, yanked) && is_newer(&record.version, newest) {
+            newest = Some(&record.version);
+        }
+    }
+    newest
+}
+
+fn is_meant(requirement: &VersionReq, record: &Record, yanked: bool) -> bool {
+    if yanked {
+        is_yanked(requirement, record)
+    } else {
+        is_held_back(requirement, &record.version)
+    }
+}
+
+fn is_newer(version: &Version, than: Option<&Version>) -> bool {
+    match than {
+        Some(other) => version.cmp_precedence(other) == Ordering::Greater,
+        None => true,
+    }
+}
+
+/// The newest candidate of a name that has a feature.
+fn newest_with<'a>(
+    catalogue: &'a Catalogue,
+    name: &PackageName,
+    feature: Option<&FeatureName>,
+) -> Option<&'a Version> {
+    let feature = feature?;
+    let mut newest = None;
+    for (place, version) in catalogue.versions(name).iter().enumerate() {
+        if has_feature(catalogue, name, place, feature) {
+            newest = Some(version);
+        }
+    }
+    newest
+}

@@ -1,0 +1,9 @@
+use Rattle.std.proofs.Common.{rules}
+use Rattle.std.proofs.lemmas.Iterator.Consumers.{map_from_collect}
+use Rattle.std.proofs.lemmas.Iterator.Splits.{YieldsList-from_slice_split}
+use Rattle.lock_faults.specs.Sides.{ends_line}
+use Rattle.lock_faults.proofs.marks.lines_in.Goals as goal
+
+pub returns : goal.returns
+returns c = map_from_collect _ c.collect.ensures.ran (YieldsList-from_slice_split _ ends_line c.args.bytes.now
+    c.split.ensures.rest c.split.ensures.done c.split.ensures.closure (λ x b q called. search rules))

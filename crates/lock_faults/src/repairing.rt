@@ -1,0 +1,212 @@
+//! What can be read of a lock that can't be read as a whole.
+
+use crate::marks::{Side, first_mark, side_of};
+use crate::section::{Section, readable_section};
+use classes::{Class, version_order};
+use semver::Version;
+use std::alloc::{AllocError, Global};
+use std::cmp::Ordering;
+use toml::{Table, Value};
+
+/// A lock of the packages that could be read, each without its list, and how many these are.
+#[derive(Drop)]
+pub struct Readable {
+    pub lock: String,
+    pub packages: usize,
+}
+
+/// A package of an index, with its version.
+#[derive(Clone, Copy)]
+struct Entry<'a> {
+    section: Section<'a>,
+    version: &'a Version,
+}
+
+/// What can be read of a lock: each package that has a name, a version, a source and a checksum, and of those of one
+/// name, source and class the newest; of those that are alike in this too the first. Where the lock is no TOML, these
+/// are the packages of its sides, if it has the marks of a merge, ours first, and of a side that is no TOML those of
+/// its sections that are.
+pub fn readable_part(alloc: Global, bytes: &[u8]) -> Result<Readable, AllocError> {
+    let mut tables = Vec::new(alloc);
+    if !push_table(alloc, bytes, &mut tables)? {
+        push_sides(alloc, bytes, &mut tables)?;
+    }
+    part_of(alloc, &tables)
+}
+
+/// Adds the table that bytes are, and whether they are one.
+fn push_table(alloc: Global, bytes: &[u8], tables: &mut Vec<Table>) -> Result<bool, AllocError> {
+    match toml::table_from_slice(alloc, bytes) {
+        Ok(table) => {
+            tables.push(table)?;
+            Ok(true)
+        }
+        Err(error) => {
+            if error.is_memory() {
+                Err(AllocError)
+            } else {
+                Ok(false)
+            }
+        }
+    }
+}
+
+/// Adds the tables of both sides of a merge, else those of the sections of the lock.
+fn push_sides(alloc: Global, bytes: &[u8], tables: &mut Vec<Table>) -> Result<(), AllocError> {
+    if first_mark(bytes).is_none() {
+        return push_sections(alloc, bytes, tables);
+    }
+    push_side(alloc, bytes, Side::Ours, tables)?;
+    push_side(alloc, bytes, Side::Theirs, tables)
+}
+
+fn push_side(
+    alloc: Global,
+    bytes: &[u8],
+    side: Side,
+    tables: &mut Vec<Table>,
+) -> Result<(), AllocError> {
+    let text = side_of(alloc, bytes, side)?;
+    if push_table(alloc, &text, tables)? {
+        return Ok(());
+    }
+    push_sections(alloc, &text, tables)
+}
+
+/// Adds the tables of the sections that are TOML: a line with a header begins one.
+fn push_sections(alloc: Global, bytes: &[u8], tables: &mut Vec<Table>) -> Result<(), AllocError> {
+    let mut section = Vec::new(alloc);
+    for line in bytes.split(|byte| *byte == b'\n') {
+        if line.starts_with("[".as_bytes()) {
+            push_table(alloc, &section, tables)?;
+            section.clear();
+        }
+        section.extend_from_slice(line)?;
+        section.push(b'\n')?;
+    }
+    push_table(alloc, &section, tables)?;
+    Ok(())
+}
+
+fn part_of(alloc: Global, tables: &[Table]) -> Result<Readable, AllocError> {
+    let mut sections = Vec::new(alloc);
+    for table in tables.iter() {
+        push_packages(alloc, table, &mut sections)?;
+    }
+    let versions = versions_of(alloc, &sections)?;
+    let mut entries = entries_of(alloc, &sections, &versions)?;
+    entries.sort_by(|one, other| entry_order(one, other))?;
+    let kept = first_of_each(alloc, &entries)?;
+    lock_of(alloc, &kept)
+}
+
+/// Adds what the packages of a table say, as far as they are whole.
+fn push_packages<'a>(
+    alloc: Global,
+    table: &'a Table,
+    sections: &mut Vec<Section<'a>>,
+) -> Result<(), AllocError> {
+    let Some(packages) = table
+        .get("package")
+        .and_then(|value: &Value| value.as_array())
+    else {
+        return Ok(());
+    };
+    for value in packages.iter() {
+        if let Some(table) = value.as_table() {
+            push_package(alloc, table, sections)?;
+        }
+    }
+    Ok(())
+}
+
+/// Adds what a section says, if it is whole.
+fn push_package<'a>(
+    alloc: Global,
+    table: &'a Table,
+    sections: &mut Vec<Section<'a>>,
+) -> Result<(), AllocError> {
+    if let Some(section) = readable_section(alloc, table)? {
+        if section.source.is_some() && section.checksum.is_some() {
+            sections.push(section)?;
+        }
+    }
+    Ok(())
+}
+
+/// The versions of packages, which are there as texts.
+fn versions_of(alloc: Global, sections: &[Section<'_>]) -> Result<Vec<Version>, AllocError> {
+    let mut versions = Vec::new(alloc);
+    for section in sections.iter() {
+        match Version::parse(alloc, section.version) {
+            Ok(version) => versions.push(version)?,
+            Err(_) => return Err(AllocError),
+        }
+    }
+    Ok(versions)
+}
+
+fn entries_of<'a>(
+    alloc: Global,
+    sections: &[Section<'a>],
+    versions: &'a [Version],
+) -> Result<Vec<Entry<'a>>, AllocError> {
+    let mut entries = Vec::new(alloc);
+    for (section, version) in sections.iter().zip(versions.iter()) {
+        let section = *section;
+        entries.push(Entry { section, version })?;
+    }
+    Ok(entries)
+}
+
+/// By name, source and class, the newest first, so that those of one of each stand beside each other.
+fn entry_order(one: &Entry<'_>, other: &Entry<'_>) -> Ordering {
+    kind_order(one, other).then_with(|| version_order(other.version, one.version))
+}
+
+fn kind_order(one: &Entry<'_>, other: &Entry<'_>) -> Ordering {
+    one.section
+        .name
+        .cmp(other.section.name)
+        .then_with(|| one.section.source.cmp(&other.section.source))
+        .then_with(|| Class::of(one.version).cmp(&Class::of(other.version)))
+}
+
+/// Of those of one name, source and class the first; they stand beside each other.
+fn first_of_each<'a>(alloc: Global, entries: &[Entry<'a>]) -> Result<Vec<Entry<'a>>, AllocError> {
+    let mut kept = Vec::new(alloc);
+    for entry in entries.iter() {
+        if !is_like(kept.last(), entry) {
+            kept.push(*entry)?;
+        }
+    }
+    Ok(kept)
+}
+
+fn is_like(last: Option<&Entry<'_>>, entry: &Entry<'_>) -> bool {
+    match last {
+        Some(last) => kind_order(last, entry) == Ordering::Equal,
+        None => false,
+    }
+}
+
+/// The lock of these packages.
+fn lock_of(alloc: Global, entries: &[Entry<'_>]) -> Result<Readable, AllocError> {
+    let mut lock = String::from_str(alloc, "version = 4\n")?;
+    for entry in entries.iter() {
+        push_lines(&mut lock, entry.section)?;
+    }
+    let packages = entries.len();
+    Ok(Readable { lock, packages })
+}
+
+fn push_lines(lock: &mut String, section: Section<'_>) -> Result<(), AllocError> {
+    let Section { name, version, .. } = section;
+    let source = section.source.unwrap_or("");
+    let checksum = section.checksum.unwrap_or("");
+    write!(
+        lock,
+        "\n[[package]]\nname = \"{name}\"\nversion = \"{version}\"\n"
+    )?;
+    write!(lock, "source = \"{source}\"\nchecksum = \"{checksum}\"\n")
+}

@@ -1,0 +1,28 @@
+//! Where and why a manifest doesn't read, in a line for people.
+//!
+//! `manifest` says which fault a manifest has, and of few faults more than the part of it. Here the tables are gone
+//! through in the order in which they are read, and what seems to be at fault is held against the manifest's own
+//! definitions: only a part that has the fault is told (`is_blamed`, in `specs/Blame`). So how it is searched for
+//! needs no proof. The line is treated alike (`line.rt`): it is told where TOML itself says that what stands there
+//! begins on it.
+//!
+//! A layer above may rely on this: a part that is found has the fault that is given, and a line that is found is one on
+//! which the part begins. That something is found, and the words in which it is told, are only tested.
+#![tactic(auto)]
+
+mod called;
+mod due;
+mod entries;
+mod feature_finding;
+mod finding;
+mod line;
+mod meaning;
+mod place;
+mod sentences;
+mod shape;
+mod sought;
+mod telling;
+mod why;
+mod wrong;
+
+pub use telling::tell_manifest_fault;

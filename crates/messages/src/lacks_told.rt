@@ -1,0 +1,75 @@
+//! Why nothing fits a dependency of the manifest.
+
+use crate::message::{LackKind, Message, push_message};
+use crate::shown::Shown;
+use catalogue::{Catalogue, LoadFault};
+use features::{Dependency, PackageName};
+use index_reader::{Folder, FolderFault};
+use lacks::{Lack, Reason, look_for, reason_of};
+use reports::{Inputs, loaded};
+use std::alloc::Global;
+
+/// The dependencies of the manifest for which nothing fits; where there is none, or the folder fails while it is asked
+/// for these once more, nothing.
+pub fn lacks_of<F: Folder>(
+    alloc: Global,
+    folder: &mut F,
+    inputs: &Inputs,
+) -> Result<String, LoadFault> {
+    let catalogue = loaded(alloc, folder, inputs)?;
+    match lacks_in(alloc, folder, inputs, &catalogue) {
+        Ok(text) => Ok(text),
+        Err(FolderFault::OutOfMemory) => Err(LoadFault::OutOfMemory),
+        Err(FolderFault::Failed) => Ok(String::new(alloc)),
+    }
+}
+
+fn lacks_in<F: Folder>(
+    alloc: Global,
+    folder: &mut F,
+    inputs: &Inputs,
+    catalogue: &Catalogue,
+) -> Result<String, FolderFault> {
+    let mut text = String::new(alloc);
+    for dependency in inputs.manifest.dependencies() {
+        if let Some(found) = look_for(alloc, catalogue, folder, dependency)? {
+            let reason = reason_of(catalogue, dependency, &found);
+            let message = lack(inputs.manifest.name(), dependency, reason);
+            let told = push_message(&mut text, alloc, &message);
+            told.map_err(|_| FolderFault::OutOfMemory)?;
+        }
+    }
+    Ok(text)
+}
+
+fn lack<'a>(root: &'a PackageName, dependency: &'a Dependency, reason: Reason<'a>) -> Message<'a> {
+    Message::Lack {
+        package: root.as_str(),
+        dependency: dependency.real_name.as_str(),
+        requirement: Shown(&dependency.requirement),
+        lack: kind_of(reason.lack),
+        newest: match reason.newest {
+            Some(version) => Some(Shown(version)),
+            None => None,
+        },
+        feature: match reason.feature {
+            Some(feature) => Some(feature.as_str()),
+            None => None,
+        },
+        other: match reason.other {
+            Some(name) => Some(name.as_str()),
+            None => None,
+        },
+    }
+}
+
+fn kind_of(lack: Lack) -> LackKind {
+    match lack {
+        Lack::NoPackage => LackKind::NoPackage,
+        Lack::NoLine => LackKind::NoLine,
+        Lack::Yanked => LackKind::Yanked,
+        Lack::PreReleases => LackKind::PreReleases,
+        Lack::NoVersion => LackKind::NoVersion,
+        Lack::NoFeature => LackKind::NoFeature,
+    }
+}

@@ -1,0 +1,29 @@
+//! What `reports` tells people, told to programs: JSON, an object a line, each with its `reason` (docs/JSON.md).
+//!
+//! A program reads line by line, so no text may break a line, whatever a manifest, an index or the system puts into it:
+//! `serde_json` writes each object, and that its text is compact JSON is a fact of its own contract, from which
+//! `push_message` says what a line is. What is told comes as values from `changes`, `lacks` and `flaws`, and no printed
+//! text is read again; keys and reasons are written once, in the enums that are serialized.
+//!
+//! A layer above may rely on this: what `push_message` adds is one compact JSON text and a line end, and of why a
+//! package is there the same is said as by `reports`. Which keys an object has is shown by cases.
+#![tactic(auto)]
+
+mod all_ways_told;
+mod changes_told;
+mod lacks_told;
+mod message;
+mod run_told;
+mod shown;
+mod skips_told;
+mod verdicts_told;
+mod ways_told;
+
+pub use all_ways_told::all_ways_there;
+pub use changes_told::{NewLock, changes_to};
+pub use lacks_told::lacks_of;
+pub use message::refusal;
+pub use run_told::{error, index_read, misreading, repair, warning};
+pub use skips_told::{skips_of, skips_of_all};
+pub use verdicts_told::{flaws_of_lock, verdict};
+pub use ways_told::why_there;

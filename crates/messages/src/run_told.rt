@@ -1,0 +1,109 @@
+//! Messages of a run itself: what went wrong, and what of its files there is to say.
+
+use crate::message::push_message;
+use serde::Serialize;
+use std::alloc::{AllocError, Global};
+
+/// What is told of a run; `reason` says which of these it is.
+#[derive(Drop, Serialize)]
+#[serde(tag = "reason", rename_all = "kebab-case")]
+enum RunMessage<'a> {
+    /// What went wrong, or a no.
+    Error {
+        kind: &'a str,
+        message: &'a str,
+        /// The fault, as `relock` names it.
+        code: Option<&'a str>,
+    },
+    /// What a run goes on after.
+    Warning {
+        kind: &'a str,
+        message: &'a str,
+        code: Option<&'a str>,
+    },
+    /// Where and why a file doesn't read.
+    Misreading {
+        path: &'a str,
+        /// From 1.
+        line: Option<usize>,
+        message: &'a str,
+    },
+    /// How many packages of a lock that doesn't read could be.
+    Repair {
+        path: &'a str,
+        packages: usize,
+    },
+    /// How much of an index was read.
+    Index {
+        path: &'a str,
+        files: u64,
+        lines: u64,
+    },
+}
+
+/// The message of an error, by its kind; of a fault there is a code too, as `relock` names it.
+pub fn error<'a>(
+    alloc: Global,
+    kind: &'a str,
+    message: &'a str,
+    code: Option<&'a str>,
+) -> Result<String, AllocError> {
+    told(
+        alloc,
+        &RunMessage::Error {
+            kind,
+            message,
+            code,
+        },
+    )
+}
+
+/// The message of something after which a run goes on, in the same way.
+pub fn warning<'a>(
+    alloc: Global,
+    kind: &'a str,
+    message: &'a str,
+    code: Option<&'a str>,
+) -> Result<String, AllocError> {
+    told(
+        alloc,
+        &RunMessage::Warning {
+            kind,
+            message,
+            code,
+        },
+    )
+}
+
+/// The message of where and why a file doesn't read.
+pub fn misreading<'a>(
+    alloc: Global,
+    path: &'a str,
+    line: Option<usize>,
+    message: &'a str,
+) -> Result<String, AllocError> {
+    told(
+        alloc,
+        &RunMessage::Misreading {
+            path,
+            line,
+            message,
+        },
+    )
+}
+
+/// The message of how many packages of a lock that doesn't read could be.
+pub fn repair(alloc: Global, path: &str, packages: usize) -> Result<String, AllocError> {
+    told(alloc, &RunMessage::Repair { path, packages })
+}
+
+/// The message of how much of an index was read.
+pub fn index_read(alloc: Global, path: &str, files: u64, lines: u64) -> Result<String, AllocError> {
+    told(alloc, &RunMessage::Index { path, files, lines })
+}
+
+fn told(alloc: Global, message: &RunMessage<'_>) -> Result<String, AllocError> {
+    let mut text = String::new(alloc);
+    push_message(&mut text, alloc, message)?;
+    Ok(text)
+}

@@ -1,0 +1,32 @@
+//! What each command of `cargo relock` ends with: its status, what is told, and the lock that is to replace the old
+//! one.
+//!
+//! Nothing is printed here and nothing written: a command adds to two texts (`Said`), which are the same run's for
+//! people and for programs, and says what else is to be done (`Outcome`). So a layer above prints at the end alone,
+//! once the line that told how far the run had come is gone, and replaces the lock after that.
+//!
+//! To people a fault is told in a sentence, with the code of `relock` behind it (`faults.rt`); to programs both have
+//! their own keys.
+//!
+//! A layer above may rely on this: a lock is handed on only where `--write` was given and `--locked` wasn't, with the
+//! status 0 (`Outcome` of `with_new_lock`).
+#![tactic(auto)]
+
+mod faults;
+mod index;
+mod outcome;
+mod resolving;
+mod said;
+mod skipping;
+mod verifying;
+mod why;
+
+pub use answers::Form;
+pub use faults::told_fault;
+pub use index::{tell_read, warn_of_none};
+pub use outcome::{FAILED, Outcome};
+pub use resolving::{Wish, resolve_told};
+pub use said::Said;
+pub use skipping::{skips_told, skips_told_of_all};
+pub use verifying::verify_told;
+pub use why::{Question, question_in, why_told};

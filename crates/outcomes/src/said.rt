@@ -1,0 +1,122 @@
+//! What is told of a run, to people or to programs.
+
+use crate::faults::Sentence;
+use answers::Form;
+use resolver::Fault;
+use std::alloc::{AllocError, Global};
+
+/// What is told of a run: for people in two texts, for programs all in the first.
+#[derive(Drop)]
+pub struct Said {
+    alloc: Global,
+    form: Form,
+    /// Whether errors alone are told.
+    quiet: bool,
+    /// For standard output.
+    pub out: String,
+    /// For standard error.
+    pub err: String,
+}
+
+impl Said {
+    pub fn new(alloc: Global, form: Form, quiet: bool) -> Said {
+        Said {
+            alloc,
+            form,
+            quiet,
+            out: String::new(alloc),
+            err: String::new(alloc),
+        }
+    }
+
+    pub fn form(&self) -> Form {
+        self.form
+    }
+
+    /// Whether people are told errors alone.
+    pub(crate) fn is_quiet(&self) -> bool {
+        self.quiet && self.form == Form::People
+    }
+
+    /// Forgets what was told, once it is printed.
+    pub fn clear(&mut self) {
+        self.out.clear();
+        self.err.clear();
+    }
+
+    /// What was asked for.
+    pub(crate) fn answer(&mut self, text: &str) -> Result<(), AllocError> {
+        self.out.push_str(text)
+    }
+
+    /// What went wrong, or a no, by its kind; of a fault there is a code too.
+    pub fn error(
+        &mut self,
+        kind: &str,
+        message: &str,
+        code: Option<&str>,
+    ) -> Result<(), AllocError> {
+        match self.form {
+            Form::People => self.tell_people("error", message, code),
+            Form::Programs => {
+                let line = messages::error(self.alloc, kind, message, code)?;
+                self.out.push_str(line.as_str())
+            }
+        }
+    }
+
+    /// What the run goes on after; no error.
+    pub(crate) fn warning(
+        &mut self,
+        kind: &str,
+        message: &str,
+        code: Option<&str>,
+    ) -> Result<(), AllocError> {
+        match self.form {
+            Form::People => {
+                if self.quiet {
+                    Ok(())
+                } else {
+                    self.tell_people("warning", message, code)
+                }
+            }
+            Form::Programs => {
+                let line = messages::warning(self.alloc, kind, message, code)?;
+                self.out.push_str(line.as_str())
+            }
+        }
+    }
+
+    /// The sentence, and behind it the code of a fault.
+    fn tell_people(
+        &mut self,
+        word: &str,
+        message: &str,
+        code: Option<&str>,
+    ) -> Result<(), AllocError> {
+        match code {
+            Some(code) => writeln!(self.err, "{word}: {message} ({code})"),
+            None => writeln!(self.err, "{word}: {message}"),
+        }
+    }
+
+    /// A fault, as an error or as what the run goes on after.
+    pub(crate) fn fault(&mut self, fault: &Fault, is_error: bool) -> Result<(), AllocError> {
+        let sentence = Sentence(fault);
+        let message = format!(in self.alloc; "{sentence}")?;
+        let code = format!(in self.alloc; "{fault}")?;
+        if is_error {
+            self.error("fault", message.as_str(), Some(code.as_str()))
+        } else {
+            self.warning("fault", message.as_str(), Some(code.as_str()))
+        }
+    }
+
+    /// What belongs to an error or a warning and stands below it: lines for people, or messages.
+    pub(crate) fn below(&mut self, text: &str) -> Result<(), AllocError> {
+        match self.form {
+            Form::People => self.err.push_str(text),
+            Form::Programs => self.out.push_str(text),
+        }
+    }
+}
