@@ -1,10 +1,10 @@
 //! The sentences that tell why a package is no candidate: its source, its version or its checksum.
 
-use crate::index_file::{IndexFile, file_of, out_of_memory};
+use crate::index_file::out_of_memory;
+use crate::missing_version::{MissingVersion, why_missing};
 use crate::naming::Named;
 use crate::no_candidate::NoCandidate;
 use catalogue::Catalogue;
-use features::PackageName;
 use index_reader::{Folder, FolderFault};
 use lockfile::Package;
 use std::alloc::{AllocError, Global};
@@ -93,42 +93,29 @@ fn push_no_version<F: Folder>(
     package: &Package,
     folder: &mut F,
 ) -> Result<(), FolderFault> {
-    let name = &package.name;
-    if is_asked_for(registry.catalogue, name) {
-        let file = file_of(registry.alloc, folder, name)?;
-        push_no_line(text, registry.alloc, package, &file).map_err(out_of_memory)
-    } else {
-        let package = Named(package);
-        writeln!(text, "{package}: nothing depends on {name}").map_err(out_of_memory)
-    }
+    let why = why_missing(registry.alloc, registry.catalogue, package, folder)?;
+    push_missing(text, package, &why).map_err(out_of_memory)
 }
 
-/// Whether something that was loaded depends on a name.
-fn is_asked_for(catalogue: &Catalogue, name: &PackageName) -> bool {
-    catalogue.names().iter().any(|asked| asked == name)
-}
-
-/// Why the file of its name, if there is one, has no line of a version that can be used.
-fn push_no_line(
+/// `log 0.4.30: this index has no such version; the newest is 0.4.20`.
+fn push_missing(
     text: &mut String,
-    alloc: Global,
     package: &Package,
-    file: &Option<IndexFile>,
+    why: &MissingVersion,
 ) -> Result<(), AllocError> {
     let Package { name, version, .. } = package;
     write!(text, "{name} {version}: ")?;
-    let Some(file) = file else {
-        return writeln!(text, "there is no package {name} in this index");
-    };
-    if let Some((line, reason)) = file.skipped(alloc, version) {
-        return writeln!(
+    match why {
+        MissingVersion::Unasked => writeln!(text, "nothing depends on {name}"),
+        MissingVersion::NoPackage => writeln!(text, "there is no package {name} in this index"),
+        MissingVersion::Skipped(line, reason) => writeln!(
             text,
             "line {line} of {name} in this index is skipped ({reason})"
-        );
-    }
-    text.push_str("this index has no such version")?;
-    match file.newest() {
-        Some(newest) => writeln!(text, "; the newest is {newest}"),
-        None => text.push_str("\n"),
+        ),
+        MissingVersion::NoLine(Some(newest)) => writeln!(
+            text,
+            "this index has no such version; the newest is {newest}"
+        ),
+        MissingVersion::NoLine(None) => text.push_str("this index has no such version\n"),
     }
 }

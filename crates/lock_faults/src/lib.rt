@@ -1,4 +1,4 @@
-//! Where and why a lock doesn't read, in a line for people, and what can be read of it all the same.
+//! Where and why a lock doesn't read, and what can be read of it all the same.
 //!
 //! `lockfile` says which rule of reading a lock breaks by a number alone, as the answers of `relock` have it. Here the
 //! bytes are gone through once more, in the same order, for the first thing that breaks a rule: a place in the text
@@ -19,4 +19,4 @@ mod section;
 mod telling;
 
 pub use repairing::{Readable, readable_part};
-pub use telling::{Misreading, misreading_of, tell_lock_fault};
+pub use telling::misreading_of;

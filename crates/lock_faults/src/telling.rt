@@ -1,8 +1,9 @@
-//! Where and why a lock doesn't read, and the line that tells it.
+//! Where and why a lock doesn't read.
 
 use crate::marks::first_mark;
 use crate::misread::Misread;
 use crate::reading::misread_in;
+use misreadings::{Misreading, no_toml};
 use std::alloc::{AllocError, Global};
 use std::str::from_utf8;
 
@@ -12,31 +13,6 @@ const MOST_BYTES: usize = 67_108_864;
 /// What is told of a lock that a merge left unfinished.
 const MARKS: &str =
     "the marks of a merge begin here; `resolve --repair` keeps the packages of both sides";
-
-/// Where and why a lock doesn't read.
-#[derive(Drop)]
-pub struct Misreading {
-    /// The line, from 1; none of what is wrong with the lock as a whole.
-    pub line: Option<usize>,
-    pub why: String,
-}
-
-/// A line that says where and why the bytes of a lock don't read, the path of the lock first; nothing where they do.
-pub fn tell_lock_fault(alloc: Global, path: &str, bytes: &[u8]) -> Result<String, AllocError> {
-    match misreading_of(alloc, bytes)? {
-        Some(misreading) => told(alloc, path, &misreading),
-        None => Ok(String::new(alloc)),
-    }
-}
-
-/// `Cargo.lock line 3: expected newline`.
-fn told(alloc: Global, path: &str, misreading: &Misreading) -> Result<String, AllocError> {
-    let Misreading { line, why } = misreading;
-    match line {
-        Some(line) => format!(in alloc; "{path} line {line}: {why}\n"),
-        None => format!(in alloc; "{path}: {why}\n"),
-    }
-}
 
 /// Where and why the bytes of a lock don't read, if they don't.
 pub fn misreading_of(alloc: Global, bytes: &[u8]) -> Result<Option<Misreading>, AllocError> {
@@ -53,21 +29,24 @@ pub fn misreading_of(alloc: Global, bytes: &[u8]) -> Result<Option<Misreading>, 
     }
 }
 
-/// Bytes that are no TOML.
+/// Bytes that are no TOML, maybe since a merge left its marks.
 fn of_toml(alloc: Global, bytes: &[u8], error: &toml::de::Error) -> Result<Misreading, AllocError> {
-    let Some(span) = error.span() else {
-        return Err(AllocError);
-    };
-    let before = bytes.get(..span.start).unwrap_or(bytes);
-    let line = before.iter().filter(|byte| **byte == b'\n').count() + 1;
-    let (line, why) = match first_mark(bytes) {
-        Some(mark) if mark <= line => (mark, MARKS),
-        _ => (line, error.message()),
-    };
-    Ok(Misreading {
-        line: Some(line),
-        why: String::from_str(alloc, why)?,
-    })
+    let found = no_toml(alloc, bytes, error)?;
+    match first_mark(bytes) {
+        Some(mark) if is_before(mark, found.line) => Ok(Misreading {
+            line: Some(mark),
+            why: String::from_str(alloc, MARKS)?,
+        }),
+        _ => Ok(found),
+    }
+}
+
+/// Whether a line isn't behind another one.
+fn is_before(mark: usize, line: Option<usize>) -> bool {
+    match line {
+        Some(line) => mark <= line,
+        None => false,
+    }
 }
 
 /// A rule of reading that is broken; of a package by the line of its header.

@@ -1,18 +1,12 @@
 -- The line on which something stands in a manifest.
-use Rattle.std.specs.Prelude.{ℕ, suc, Bool, true, false, ◌==◌, if◌then◌else◌, List, ◌++◌, length, take, drop}
-use Rattle.std.specs.Prelude.{◌≡◌, filter, Some, codes, is_some, nat_eq}
+use Rattle.std.specs.Prelude.{ℕ, Bool, true, false, ◌==◌, if◌then◌else◌, List, ◌++◌, take, drop}
+use Rattle.std.specs.Prelude.{◌≡◌, Some, codes, is_some, nat_eq}
 use Rattle.std.specs.List.{before_first, list_any, starts_with}
+use Rattle.misreadings.specs.Lines.{line_after}
 use Rattle.toml.specs.Parse.{parse_document}
 use Rattle.toml.specs.Data.{Members}
 use Rattle.manifest_faults.specs.Places.{value_at}
 use Rattle.manifest_faults.specs.declared.place.Place.{Place}
-
-abbrev pub is_line_end : ℕ → Bool
-is_line_end b = b == 10
-
--- the number of the line that stands behind these bytes
-abbrev pub line_after : List ℕ → ℕ
-line_after before = suc (length (filter is_line_end before))
 
 -- the bytes are TOML, and have something at the place, or have nothing there
 abbrev pub Has : Bool → Place → List ℕ → Type 0

@@ -1,4 +1,4 @@
-//! Where and why a manifest doesn't read, in a line for people.
+//! Where and why a manifest doesn't read.
 //!
 //! `manifest` says which fault a manifest has, and of few faults more than the part of it. Here the tables are gone
 //! through in the order in which they are read, and what seems to be at fault is held against the manifest's own
@@ -25,4 +25,4 @@ mod telling;
 mod why;
 mod wrong;
 
-pub use telling::tell_manifest_fault;
+pub use telling::misreading_of;

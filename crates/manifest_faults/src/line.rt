@@ -4,11 +4,12 @@
 //! begin what is looked for, and the first of them is held against TOML itself: what stands before it has to be TOML
 //! that lacks it, and with the header, or the key and a 0, TOML that has it. Where that isn't so no line is told.
 
-ghost use Rattle.std.specs.Prelude.{◌≡◌, ◌≤◌, ◌++◌, IfOk, IfSome, filter, length, true};
-ghost use Rattle.manifest_faults.specs.Lines.{Begins, Has, IsLineOf, front_of, is_line_end, line_after, up_to};
+ghost use Rattle.std.specs.Prelude.{◌≡◌, ◌≤◌, ◌++◌, IfOk, IfSome, true};
+ghost use Rattle.manifest_faults.specs.Lines.{Begins, Has, IsLineOf, front_of, up_to};
 ghost use Rattle.manifest_faults.specs.Places.{value_at};
 
 use crate::place::{Place, member, named_value, value_at};
+use misreadings::line_after;
 use std::alloc::{AllocError, Global};
 use std::str::from_utf8;
 use toml::{Table, Value};
@@ -33,26 +34,6 @@ pub(crate) fn line_of(
     } else {
         Ok(None)
     }
-}
-
-/// The number of the line that stands behind these bytes.
-pub(crate) fn line_after(before: &[u8]) -> usize
-    ensures { result ≡ line_after before.now }
-{
-    line_ends(before) + 1
-}
-
-fn line_ends(bytes: &[u8]) -> usize
-    ensures count { result ≡ length (filter is_line_end bytes.now) }
-    ensures bound { result ≤ length bytes.now }
-{
-    bytes.iter().filter(|byte| is_line_end(**byte)).count()
-}
-
-fn is_line_end(byte: u8) -> bool
-    ensures { result ≡ is_line_end byte }
-{
-    byte == b'\n'
 }
 
 /// Whether what begins the rest puts something at the place.

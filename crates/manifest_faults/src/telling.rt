@@ -1,74 +1,53 @@
-//! The line that tells where and why a manifest doesn't read.
+//! Where and why a manifest doesn't read.
 
 use crate::finding::culprit_in;
-use crate::line::{line_after, line_of};
+use crate::line::line_of;
 use crate::place::value_at;
 use crate::sentences::push_sentence;
 use crate::sought::Sought;
 use crate::why::{Culprit, Why};
 use manifest::ManifestFault;
+use misreadings::{Misreading, no_toml};
 use std::alloc::{AllocError, Global};
 use toml::Table;
 
 /// The greatest number of bytes that a manifest may have: 1 MiB.
 const MOST_BYTES: usize = 1_048_576;
 
-/// A line that says where and why the bytes of a manifest have this fault, the path of the manifest first; nothing
-/// where no part is found that has it.
-pub fn tell_manifest_fault(
+/// Where and why the bytes of a manifest have this fault; nothing where no part is found that has it.
+pub fn misreading_of(
     alloc: Global,
-    path: &str,
     bytes: &[u8],
     fault: &ManifestFault,
-) -> Result<String, AllocError> {
-    let mut text = String::new(alloc);
+) -> Result<Option<Misreading>, AllocError> {
     if bytes.len() > MOST_BYTES {
-        writeln!(text, "{path}: it has more than 1 MiB")?;
-        return Ok(text);
+        let why = String::from_str(alloc, "it has more than 1 MiB")?;
+        return Ok(Some(Misreading { line: None, why }));
     }
     match toml::table_from_slice(alloc, bytes) {
         Ok(table) => {
             let sought = Sought { top: &table, fault };
-            if let Some(culprit) = culprit_in(alloc, sought)? {
-                push_culprit(alloc, &mut text, path, bytes, &table, &culprit)?;
+            match culprit_in(alloc, sought)? {
+                Some(culprit) => Ok(Some(of_culprit(alloc, bytes, &table, &culprit)?)),
+                None => Ok(None),
             }
         }
-        Err(error) => push_no_toml(&mut text, path, bytes, &error)?,
+        Err(error) => Ok(Some(no_toml(alloc, bytes, &error)?)),
     }
-    Ok(text)
 }
 
-/// `Cargo.toml line 3: expected newline`.
-fn push_no_toml(
-    text: &mut String,
-    path: &str,
-    bytes: &[u8],
-    error: &toml::de::Error,
-) -> Result<(), AllocError> {
-    let Some(span) = error.span() else {
-        return Err(AllocError);
-    };
-    let line = line_after(bytes.get(..span.start).unwrap_or(bytes));
-    let why = error.message();
-    writeln!(text, "{path} line {line}: {why}")
-}
-
-/// `Cargo.toml line 14: [dependencies] serde: ..`.
-fn push_culprit(
+/// `[dependencies] serde: ..`, and the line of that.
+fn of_culprit(
     alloc: Global,
-    text: &mut String,
-    path: &str,
     bytes: &[u8],
     top: &Table,
     culprit: &Culprit<'_>,
-) -> Result<(), AllocError> {
-    text.push_str(path)?;
-    if let Some(line) = line_for(alloc, bytes, culprit)? {
-        write!(text, " line {line}")?;
-    }
-    text.push_str(": ")?;
-    push_sentence(alloc, text, top, value_at(top, &culprit.place), culprit)?;
-    text.push('\n')
+) -> Result<Misreading, AllocError> {
+    let line = line_for(alloc, bytes, culprit)?;
+    let mut why = String::new(alloc);
+    let value = value_at(top, &culprit.place);
+    push_sentence(alloc, &mut why, top, value, culprit)?;
+    Ok(Misreading { line, why })
 }
 
 /// The line of a place, else of what it is a part of; of what is absent, that of where it has to be.

@@ -5,8 +5,11 @@ use crate::shown::Shown;
 use crate::ways_told::id_of;
 use catalogue::{Catalogue, LoadFault};
 use features::{Dependency, FeatureName};
-use flaws::{Flawed, NoCandidate, dependency_at, flaws_of, lacking_features, last_serving};
-use index_reader::Folder;
+use flaws::{
+    Flawed, MissingVersion, NoCandidate, dependency_at, flaws_of, lacking_features, last_serving,
+    why_missing,
+};
+use index_reader::{Folder, FolderFault, SkipReason};
 use lockfile::{LockContent, Package};
 use manifest::Manifest;
 use reports::{Inputs, loaded_beside};
@@ -40,7 +43,29 @@ enum LockMessage<'a> {
         /// What the lock has, and what it should have.
         found: Option<&'a str>,
         expected: Option<&'a str>,
+        /// Why the index has no candidate of its version.
+        missing: Option<Missing<'a>>,
     },
+}
+
+/// Why an index has no candidate of a version.
+#[derive(Drop, Serialize)]
+struct Missing<'a> {
+    why: MissingKind,
+    /// The line that is skipped, from 1, and why it is.
+    line: Option<u64>,
+    code: Option<Shown<'a, SkipReason>>,
+    /// The newest version that can be used.
+    newest: Option<Shown<'a, Version>>,
+}
+
+#[derive(Clone, Copy, Serialize)]
+#[serde(rename_all = "kebab-case")]
+enum MissingKind {
+    Unasked,
+    NoPackage,
+    Skipped,
+    NoLine,
 }
 
 /// What is wrong with a package.
@@ -70,6 +95,7 @@ struct More<'a> {
     other: Option<&'a Package>,
     found: Option<&'a str>,
     expected: Option<&'a str>,
+    missing: Option<&'a MissingVersion>,
 }
 
 impl<'a> More<'a> {
@@ -81,6 +107,7 @@ impl<'a> More<'a> {
             other: None,
             found: None,
             expected: None,
+            missing: None,
         }
     }
 
@@ -128,48 +155,84 @@ pub fn flaws_of_lock<F: Folder>(
         return Ok(String::new(alloc));
     };
     let catalogue = loaded_beside(alloc, folder, inputs, lock)?;
-    Ok(flaws_in(alloc, &inputs.manifest, &catalogue, lock)?)
+    match flaws_in(alloc, folder, &inputs.manifest, &catalogue, lock) {
+        Ok(text) => Ok(text),
+        Err(FolderFault::OutOfMemory) => Err(LoadFault::OutOfMemory),
+        Err(FolderFault::Failed) => Ok(String::new(alloc)),
+    }
 }
 
-fn flaws_in<'a>(
+fn flaws_in<'a, F: Folder>(
     alloc: Global,
+    folder: &mut F,
     manifest: &'a Manifest,
     catalogue: &'a Catalogue,
     lock: &'a LockContent,
-) -> Result<String, AllocError> {
+) -> Result<String, FolderFault> {
     let mut text = String::new(alloc);
-    match flaws_of(alloc, manifest, catalogue, lock)? {
+    match flaws_of(alloc, manifest, catalogue, lock).map_err(out_of_memory)? {
         Some(judged) => {
             for flawed in judged.flawed.iter() {
-                push_flawed(&mut text, alloc, catalogue, &judged.findings, flawed)?;
+                push_flawed(
+                    &mut text,
+                    alloc,
+                    folder,
+                    catalogue,
+                    &judged.findings,
+                    flawed,
+                )?;
             }
         }
-        None => {
-            let package = PackageId {
-                name: manifest.name().as_str(),
-                version: Shown(manifest.version()),
-            };
-            push_flaw(&mut text, alloc, package, FlawKind::NoRoot, More::none())?;
-        }
+        None => push_rootless(&mut text, alloc, manifest).map_err(out_of_memory)?,
     }
     Ok(text)
 }
 
-/// What is wrong with one package. Of one that is no candidate nobody knows what it needs, so that its features and its
-/// list aren't told.
-fn push_flawed<'a>(
+fn out_of_memory(_error: AllocError) -> FolderFault {
+    FolderFault::OutOfMemory
+}
+
+/// That the package of the manifest isn't in the lock.
+fn push_rootless(text: &mut String, alloc: Global, manifest: &Manifest) -> Result<(), AllocError> {
+    let package = PackageId {
+        name: manifest.name().as_str(),
+        version: Shown(manifest.version()),
+    };
+    push_flaw(text, alloc, package, FlawKind::NoRoot, More::none())
+}
+
+/// What is wrong with one package.
+fn push_flawed<'a, F: Folder>(
     text: &mut String,
     alloc: Global,
+    folder: &mut F,
     catalogue: &'a Catalogue,
     findings: &'a Findings<'a>,
     flawed: &Flawed,
-) -> Result<(), AllocError> {
+) -> Result<(), FolderFault> {
     let Some(package) = findings.content.get(flawed.place) else {
         return Ok(());
     };
     if let Some(why) = flawed.no_candidate {
-        push_no_candidate(text, alloc, catalogue, package, why)?;
+        push_no_candidate(text, alloc, folder, catalogue, package, why)?;
     }
+    push_others(text, alloc, findings, package, flawed).map_err(out_of_memory)?;
+    if is_yanked(catalogue, package) {
+        let told = push_flaw(text, alloc, id_of(package), FlawKind::Yanked, More::none());
+        told.map_err(out_of_memory)?;
+    }
+    Ok(())
+}
+
+/// What is wrong with a package beside that it is no candidate. Of one that is none nobody knows what it needs, so that
+/// its features and its list aren't told.
+fn push_others<'a>(
+    text: &mut String,
+    alloc: Global,
+    findings: &'a Findings<'a>,
+    package: &'a Package,
+    flawed: &Flawed,
+) -> Result<(), AllocError> {
     if let Some(twin) = flawed.twin {
         let more = More::of(findings.content.get(twin));
         push_flaw(text, alloc, id_of(package), FlawKind::Twin, more)?;
@@ -178,16 +241,8 @@ fn push_flawed<'a>(
         push_lists(text, alloc, findings, package, flawed)?;
     }
     if flawed.unreached {
-        push_flaw(
-            text,
-            alloc,
-            id_of(package),
-            FlawKind::Unreached,
-            More::none(),
-        )?;
-    }
-    if is_yanked(catalogue, package) {
-        push_flaw(text, alloc, id_of(package), FlawKind::Yanked, More::none())?;
+        let package = id_of(package);
+        push_flaw(text, alloc, package, FlawKind::Unreached, More::none())?;
     }
     Ok(())
 }
@@ -199,14 +254,15 @@ fn is_yanked(catalogue: &Catalogue, package: &Package) -> bool {
     }
 }
 
-/// Why a package is no candidate.
-fn push_no_candidate<'a>(
+/// Why a package is no candidate. The folder is asked for the file of a version that isn't there.
+fn push_no_candidate<'a, F: Folder>(
     text: &mut String,
     alloc: Global,
+    folder: &mut F,
     catalogue: &'a Catalogue,
     package: &'a Package,
     why: NoCandidate,
-) -> Result<(), AllocError> {
+) -> Result<(), FolderFault> {
     let mut more = More::none();
     let kind = match why {
         NoCandidate::NoSource => FlawKind::NoSource,
@@ -215,7 +271,7 @@ fn push_no_candidate<'a>(
             more.expected = Some(catalogue.source());
             FlawKind::OtherSource
         }
-        NoCandidate::NoVersion => FlawKind::NoVersion,
+        NoCandidate::NoVersion => return push_no_version(text, alloc, folder, catalogue, package),
         NoCandidate::NoChecksum => FlawKind::NoChecksum,
         NoCandidate::OtherChecksum => {
             more.found = package.checksum();
@@ -223,7 +279,47 @@ fn push_no_candidate<'a>(
             FlawKind::OtherChecksum
         }
     };
-    push_flaw(text, alloc, id_of(package), kind, more)
+    push_flaw(text, alloc, id_of(package), kind, more).map_err(out_of_memory)
+}
+
+/// Why the index has no candidate of a package's version.
+fn push_no_version<F: Folder>(
+    text: &mut String,
+    alloc: Global,
+    folder: &mut F,
+    catalogue: &Catalogue,
+    package: &Package,
+) -> Result<(), FolderFault> {
+    let missing = why_missing(alloc, catalogue, package, folder)?;
+    let mut more = More::none();
+    more.missing = Some(&missing);
+    push_flaw(text, alloc, id_of(package), FlawKind::NoVersion, more).map_err(out_of_memory)
+}
+
+fn missing_told<'a>(missing: &'a MissingVersion) -> Missing<'a> {
+    let mut told = Missing {
+        why: MissingKind::Unasked,
+        line: None,
+        code: None,
+        newest: None,
+    };
+    match missing {
+        MissingVersion::Unasked => {}
+        MissingVersion::NoPackage => told.why = MissingKind::NoPackage,
+        MissingVersion::Skipped(line, reason) => {
+            told.why = MissingKind::Skipped;
+            told.line = Some(*line);
+            told.code = Some(Shown(reason));
+        }
+        MissingVersion::NoLine(newest) => {
+            told.why = MissingKind::NoLine;
+            told.newest = match newest {
+                Some(version) => Some(Shown(version)),
+                None => None,
+            };
+        }
+    }
+    told
 }
 
 /// The checksum that the index has for a package.
@@ -302,6 +398,10 @@ fn push_flaw<'a>(
         },
         found: more.found,
         expected: more.expected,
+        missing: match more.missing {
+            Some(missing) => Some(missing_told(missing)),
+            None => None,
+        },
     };
     push_message(text, alloc, &message)
 }
