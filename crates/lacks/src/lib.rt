@@ -3,7 +3,7 @@
 //! A loaded index has candidates alone, neither yanked lines nor those that can't be used. So the folder is asked once
 //! more for the file of a dependency that no candidate fits, and what that has is the reason (`lack`); where there is
 //! no file, it is asked for names that differ in `-` and `_` alone (`missing`). A dependency that some candidate fits
-//! may only lack a feature.
+//! may only lack a feature, for which one of nearly the same name may be told (`similar`).
 //!
 //! What is told is there as a value too (`look_for`, `reason_of`), for who tells it otherwise than in sentences.
 //!
@@ -16,6 +16,7 @@ mod lack;
 mod missing;
 mod reason;
 mod sentences;
+mod similar;
 
 pub use lack::{Lack, lack_of};
 pub use missing::{Missing, look_for};

@@ -2,10 +2,12 @@
 
 use crate::lack::{Lack, has_feature, is_held_back, is_yanked, missing_feature};
 use crate::missing::Missing;
+use crate::similar::similar_feature;
 use catalogue::Catalogue;
 use features::{Dependency, FeatureName, PackageName};
 use index_reader::Record;
 use semver::{Version, VersionReq};
+use std::alloc::{AllocError, Global};
 use std::cmp::Ordering;
 
 /// Why nothing fits a dependency, and what else is told of it.
@@ -18,14 +20,17 @@ pub struct Reason<'a> {
     pub feature: Option<&'a FeatureName>,
     /// A name that there is, where the name of the dependency isn't there.
     pub other: Option<&'a PackageName>,
+    /// A feature of nearly the same name, where no version has the one that is lacking.
+    pub similar: Option<&'a FeatureName>,
 }
 
 /// What is told of a dependency for which nothing fits, by what the index has of it.
 pub fn reason_of<'a>(
+    alloc: Global,
     catalogue: &'a Catalogue,
     dependency: &'a Dependency,
     missing: &'a Missing,
-) -> Reason<'a> {
+) -> Result<Reason<'a>, AllocError> {
     let name = &dependency.real_name;
     let requirement = &dependency.requirement;
     let lack = missing.lack;
@@ -40,12 +45,17 @@ pub fn reason_of<'a>(
         Lack::NoFeature => newest_with(catalogue, name, feature),
         Lack::NoPackage | Lack::NoLine => None,
     };
-    Reason {
+    let similar = match (version, feature) {
+        (None, Some(feature)) => similar_feature(alloc, catalogue, dependency, feature)?,
+        _ => None,
+    };
+    Ok(Reason {
         lack,
         newest: version,
         feature,
         other: missing.other.as_ref(),
-    }
+        similar,
+    })
 }
 
 /// The newest of the yanked versions that a requirement matches, or of the pre-releases that it would match.

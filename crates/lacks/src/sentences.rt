@@ -4,7 +4,7 @@ use crate::lack::Lack;
 use crate::missing::{look_for, out_of_memory};
 use crate::reason::{Reason, reason_of};
 use catalogue::Catalogue;
-use features::{Dependency, PackageName};
+use features::{Dependency, FeatureName, PackageName};
 use index_reader::{Folder, FolderFault};
 use manifest::Manifest;
 use semver::Version;
@@ -23,7 +23,7 @@ pub fn tell_lacks<F: Folder>(
     let mut text = String::new(alloc);
     for dependency in manifest.dependencies() {
         if let Some(found) = look_for(alloc, catalogue, folder, dependency)? {
-            let reason = reason_of(catalogue, dependency, &found);
+            let reason = reason_of(alloc, catalogue, dependency, &found).map_err(out_of_memory)?;
             let told = push_lack(&mut text, manifest.name(), dependency, reason);
             told.map_err(out_of_memory)?;
         }
@@ -80,7 +80,7 @@ fn push_newest(text: &mut String, newest: Option<&Version>) -> Result<(), AllocE
     }
 }
 
-/// The feature that no version has which fits, and the newest one that has it.
+/// The feature that no version has which fits, and the newest one that has it, or a feature of nearly the same name.
 fn push_feature(
     text: &mut String,
     name: &PackageName,
@@ -94,9 +94,19 @@ fn push_feature(
             text,
             " with feature {feature}, which no version that fits has; {name} {version} has it"
         ),
-        None => write!(
-            text,
-            " with feature {feature}, which no version of {name} has"
-        ),
+        None => {
+            write!(
+                text,
+                " with feature {feature}, which no version of {name} has"
+            )?;
+            push_similar(text, reason.similar)
+        }
+    }
+}
+
+fn push_similar(text: &mut String, similar: Option<&FeatureName>) -> Result<(), AllocError> {
+    match similar {
+        Some(similar) => write!(text, "; there is {similar}"),
+        None => Ok(()),
     }
 }

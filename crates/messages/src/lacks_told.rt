@@ -33,7 +33,9 @@ fn lacks_in<F: Folder>(
     let mut text = String::new(alloc);
     for dependency in inputs.manifest.dependencies() {
         if let Some(found) = look_for(alloc, catalogue, folder, dependency)? {
-            let reason = reason_of(catalogue, dependency, &found);
+            let reason = reason_of(alloc, catalogue, dependency, &found).map_err(
+                |_| FolderFault::OutOfMemory,
+            )?;
             let message = lack(inputs.manifest.name(), dependency, reason);
             let told = push_message(&mut text, alloc, &message);
             told.map_err(|_| FolderFault::OutOfMemory)?;
@@ -58,6 +60,10 @@ fn lack<'a>(root: &'a PackageName, dependency: &'a Dependency, reason: Reason<'a
         },
         other: match reason.other {
             Some(name) => Some(name.as_str()),
+            None => None,
+        },
+        similar: match reason.similar {
+            Some(feature) => Some(feature.as_str()),
             None => None,
         },
     }

@@ -44,6 +44,7 @@ pub(crate) enum Message<'a> {
         newest: Option<Shown<'a, Version>>,
         feature: Option<&'a str>,
         other: Option<&'a str>,
+        similar: Option<&'a str>,
     },
     /// Why nothing fits all dependencies together: the lines of the explanation.
     Refusal {

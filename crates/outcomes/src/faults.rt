@@ -47,7 +47,7 @@ impl fmt::Display for Sentence<'_> {
     }
 }
 
-/// What a command ends with; of a fault that is told, and where and why a lock or a manifest doesn't read.
+/// What a command ends with; a fault is told, with what else there is to say of it.
 pub fn told_fault(
     alloc: Global,
     paths: &Paths<'_>,
@@ -59,15 +59,33 @@ pub fn told_fault(
         Ok(outcome) => Ok(outcome),
         Err(fault) => {
             said.fault(&fault, true)?;
-            if is_of_lock(&fault) {
-                tell_misreading(alloc, paths, bytes, said)?;
-            }
-            if is_of_manifest(&fault) {
-                tell_manifest_misreading(alloc, paths, bytes, said)?;
-            }
+            tell_more(alloc, paths, bytes, &fault, said)?;
             Ok(Outcome::failed())
         }
     }
+}
+
+/// Where and why a lock or a manifest doesn't read, or which command says more of a fault.
+fn tell_more(
+    alloc: Global,
+    paths: &Paths<'_>,
+    bytes: &Bytes,
+    fault: &Fault,
+    said: &mut Said,
+) -> Result<(), AllocError> {
+    if is_of_lock(fault) {
+        tell_misreading(alloc, paths, bytes, said)
+    } else if is_of_manifest(fault) {
+        tell_manifest_misreading(alloc, paths, bytes, said)
+    } else if is_of_checksum(fault) {
+        said.note("`cargo relock verify` tells both checksums")
+    } else {
+        Ok(())
+    }
+}
+
+fn is_of_checksum(fault: &Fault) -> bool {
+    matches!(fault, Fault::ChecksumChanged(_, _))
 }
 
 /// Whether the lock is there and doesn't read.

@@ -112,6 +112,14 @@ impl Said {
         }
     }
 
+    /// What people may want to do about an error.
+    pub(crate) fn note(&mut self, text: &str) -> Result<(), AllocError> {
+        match self.form {
+            Form::People => writeln!(self.err, "note: {text}"),
+            Form::Programs => Ok(()),
+        }
+    }
+
     /// What belongs to an error or a warning and stands below it: lines for people, or messages.
     pub(crate) fn below(&mut self, text: &str) -> Result<(), AllocError> {
         match self.form {
