@@ -21,4 +21,4 @@ mod similar;
 pub use lack::{Lack, lack_of};
 pub use missing::{Missing, look_for};
 pub use reason::{Reason, reason_of};
-pub use sentences::tell_lacks;
+pub use sentences::{note_lack, tell_lacks};

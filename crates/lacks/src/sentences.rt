@@ -7,7 +7,6 @@ use catalogue::Catalogue;
 use features::{Dependency, FeatureName, PackageName};
 use index_reader::{Folder, FolderFault};
 use manifest::Manifest;
-use semver::Version;
 use std::alloc::{AllocError, Global};
 
 /// A sentence, a line, for each dependency of the manifest for which nothing fits; nothing where there is none.
@@ -41,24 +40,62 @@ fn push_lack(
     let name = &dependency.real_name;
     let requirement = &dependency.requirement;
     write!(text, "{root} needs {name} {requirement}")?;
-    match reason.lack {
-        Lack::NoPackage => push_unknown(text, name, reason.other)?,
-        Lack::NoLine => write!(text, ", but no line of {name} in this index can be used")?,
-        Lack::Yanked => {
-            text.push_str(", but all versions that fit are yanked")?;
-            push_newest(text, reason.newest)?;
-        }
-        Lack::PreReleases => {
-            text.push_str(", but only pre-releases would fit")?;
-            push_newest(text, reason.newest)?;
-        }
-        Lack::NoVersion => {
-            write!(text, ", but no version of {name} fits")?;
-            push_newest(text, reason.newest)?;
-        }
-        Lack::NoFeature => push_feature(text, name, reason)?,
+    if reason.lack == Lack::NoFeature {
+        push_feature(text, name, reason)?;
+    } else {
+        text.push_str(", but ")?;
+        push_why(text, name, reason)?;
     }
     text.push_str(".\n")
+}
+
+/// Adds a note that tells why nothing fits a dependency, `note: nothing fits a ^2: there is no package a in this index`;
+/// none where there are versions and only none that fits, or where some fits.
+///
+/// # Errors
+/// As of `tell_lacks`.
+pub fn note_lack<F: Folder>(
+    text: &mut String,
+    alloc: Global,
+    catalogue: &Catalogue,
+    folder: &mut F,
+    dependency: &Dependency,
+) -> Result<(), FolderFault> {
+    let Some(found) = look_for(alloc, catalogue, folder, dependency)? else {
+        return Ok(());
+    };
+    let reason = reason_of(alloc, catalogue, dependency, &found).map_err(out_of_memory)?;
+    if matches!(reason.lack, Lack::NoVersion | Lack::NoFeature) {
+        return Ok(());
+    }
+    push_note(text, dependency, reason).map_err(out_of_memory)
+}
+
+fn push_note(
+    text: &mut String,
+    dependency: &Dependency,
+    reason: Reason<'_>,
+) -> Result<(), AllocError> {
+    let name = &dependency.real_name;
+    let requirement = &dependency.requirement;
+    write!(text, "note: nothing fits {name} {requirement}: ")?;
+    push_why(text, name, reason)?;
+    text.push('\n')
+}
+
+/// Why no version fits.
+fn push_why(text: &mut String, name: &PackageName, reason: Reason<'_>) -> Result<(), AllocError> {
+    match reason.lack {
+        Lack::NoPackage => return push_unknown(text, name, reason.other),
+        Lack::NoLine => write!(text, "no line of {name} in this index can be used")?,
+        Lack::Yanked => text.push_str("all versions that fit are yanked")?,
+        Lack::PreReleases => text.push_str("only pre-releases would fit")?,
+        Lack::NoVersion | Lack::NoFeature => write!(text, "no version of {name} fits")?,
+    }
+    match reason.newest {
+        Some(version) => write!(text, "; the newest is {version}"),
+        None => Ok(()),
+    }
 }
 
 fn push_unknown(
@@ -66,16 +103,9 @@ fn push_unknown(
     name: &PackageName,
     other: Option<&PackageName>,
 ) -> Result<(), AllocError> {
-    write!(text, ", but there is no package {name} in this index")?;
+    write!(text, "there is no package {name} in this index")?;
     match other {
         Some(other) => write!(text, "; there is {other}"),
-        None => Ok(()),
-    }
-}
-
-fn push_newest(text: &mut String, newest: Option<&Version>) -> Result<(), AllocError> {
-    match newest {
-        Some(version) => write!(text, "; the newest is {version}"),
         None => Ok(()),
     }
 }

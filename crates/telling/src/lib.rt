@@ -11,7 +11,7 @@
 //! them a term means (`marks.rt`).
 //!
 //! A layer above may rely on this: `sentences_of` loses no reason, and a range has exactly the versions that it is to
-//! have. Whether the derivation is right is for the checker to say: ask it first.
+//! have. Which dependencies no version fits is there for who knows why (`unmatched_in`). Whether the derivation is right is for the checker to say: ask it first.
 #![tactic(auto)]
 
 mod axiom;
@@ -25,9 +25,11 @@ mod ranges;
 mod spans;
 mod telling;
 mod terms;
+mod unmatched;
 mod uses;
 
 pub use outline::{Note, Reason, Sentence, sentences_of};
 pub use spans::{Span, spans_of};
 pub use telling::tell;
+pub use unmatched::unmatched_in;
 pub use uses::Uses;
