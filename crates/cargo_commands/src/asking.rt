@@ -8,10 +8,10 @@ use outcomes::{
     told_fault, verify_told, warn_of_none, why_told,
 };
 use progress::{Counted, Seen, Watch};
-use project_files::{Bytes, Paths, lock_at, paths_below, read_files};
+use project_files::{Bytes, Paths, ReadFault, lock_at, paths_below, read_files};
 use resolver::Fault;
 use std::alloc::{AllocError, Global};
-use std::io::Eprint;
+use std::io::{Eprint, ErrorKind};
 use std::rt::Files;
 use std::time::Clock;
 
@@ -79,7 +79,7 @@ pub(crate) fn verify_at<'a, R: Files + Clock + Eprint + AllocGlobal + Clone + Dr
     watch: Watch,
     said: &mut Said,
 ) -> Result<Outcome, Failure<'a>> {
-    let bytes = read_files(rt, paths, true)?;
+    let bytes = with_lock(rt, paths)?;
     let mut folder = counted(rt, paths.index, watch)?;
     let told = verify_told(rt.alloc(), &mut folder, paths, &bytes, said);
     Ok(ended(rt.alloc(), paths, &bytes, told, folder.seen(), said)?)
@@ -96,7 +96,7 @@ pub(crate) fn why_at<'a, R: Files + Clock + Eprint + AllocGlobal + Clone + Drop>
     let Some(question) = question_in(rt.alloc(), package)? else {
         return Err(Failure::NoPackage(package));
     };
-    let bytes = read_files(rt, paths, true)?;
+    let bytes = with_lock(rt, paths)?;
     let mut folder = counted(rt, paths.index, watch)?;
     let told = why_told(
         rt.alloc(),
@@ -109,6 +109,24 @@ pub(crate) fn why_at<'a, R: Files + Clock + Eprint + AllocGlobal + Clone + Drop>
         said,
     );
     Ok(ended(rt.alloc(), paths, &bytes, told, folder.seen(), said)?)
+}
+
+/// What the files say, with the lock, which has to be there.
+fn with_lock<'a, R: Files + AllocGlobal>(
+    rt: &R,
+    paths: &'a Paths<'a>,
+) -> Result<Bytes, Failure<'a>> {
+    match read_files(rt, paths, true) {
+        Ok(bytes) => Ok(bytes),
+        Err(ReadFault::CannotRead(path, error)) => {
+            if path == paths.lock.as_str() && error.kind() == ErrorKind::NotFound {
+                Err(Failure::NoLock(path, error))
+            } else {
+                Err(Failure::Unread(ReadFault::CannotRead(path, error)))
+            }
+        }
+        Err(fault) => Err(Failure::from(fault)),
+    }
 }
 
 pub(crate) fn skips_at<'a, R: Files + Clock + Eprint + AllocGlobal + Clone + Drop>(

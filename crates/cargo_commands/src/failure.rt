@@ -10,6 +10,8 @@ use std::{fmt, io};
 pub(crate) enum Failure<'a> {
     OutOfMemory,
     Unread(ReadFault<'a>),
+    /// There is no lock at this path, and one is needed; what the system says.
+    NoLock(&'a str, io::Error),
     Unwritten(WriteFault<'a>),
     /// Neither the words nor the environment name an index.
     NoIndex,
@@ -25,7 +27,7 @@ impl Failure<'_> {
     pub(crate) fn kind(&self) -> &'static str {
         match self {
             Failure::OutOfMemory => "fault",
-            Failure::Unread(_) => "unread",
+            Failure::Unread(_) | Failure::NoLock(_, _) => "unread",
             Failure::Unwritten(_) | Failure::CannotWrite(_) => "unwritten",
             Failure::NoIndex | Failure::NoPackage(_) | Failure::NoColor(_) => "usage",
         }
@@ -37,6 +39,7 @@ impl fmt::Display for Failure<'_> {
         match self {
             Failure::OutOfMemory => write!(f, "there isn't enough memory ({})", Fault::OutOfMemory),
             Failure::Unread(fault) => write!(f, "{fault}"),
+            Failure::NoLock(path, error) => write!(f, "cannot read {path}: {error}"),
             Failure::Unwritten(fault) => write!(f, "{fault}"),
             Failure::NoIndex => f.write_str(
                 "no index is named: give --index DIR, or set RELOCK_INDEX",

@@ -10,7 +10,9 @@ const VERSION: &str = "0.1.0";
 /// The whole program: one command is required. How it tells what it finds may be said before the command or after it.
 pub(crate) fn cargo_relock<'a>(alloc: Global) -> Result<Command<'a>, AllocError> {
     let program = Command::new(alloc, "cargo-relock")
-        .about("Tells what relock answers, as Cargo does")
+        .about(
+            "Resolves over an index in a folder, with answers that are proved right: what changes in a lock, and why",
+        )
         .version(VERSION)
         .subcommand_required(true);
     let program = with_manner(alloc, program)?;
@@ -21,26 +23,42 @@ pub(crate) fn cargo_relock<'a>(alloc: Global) -> Result<Command<'a>, AllocError>
 }
 
 fn resolve<'a>(alloc: Global) -> Result<Command<'a>, AllocError> {
-    let command = command(alloc, "resolve", "Tells what changes in the lock")?;
+    let command = command(
+        alloc,
+        "resolve",
+        "Tells how the lock would change, or why there is none",
+    )?;
     let command = with_option(command, locked(alloc))?;
     let command = with_option(command, write(alloc))?;
     let command = with_option(command, repair(alloc))?;
-    with_option(command, all(alloc))
+    let all = all(
+        alloc,
+        "Tells too what stays behind its newest version, and the whole of a long refusal",
+    );
+    with_option(command, all)
 }
 
 fn verify<'a>(alloc: Global) -> Result<Command<'a>, AllocError> {
-    command(alloc, "verify", "Tells what is wrong with the lock")
+    command(
+        alloc,
+        "verify",
+        "Tells whether the lock is valid, and all that is wrong with it",
+    )
 }
 
 fn why<'a>(alloc: Global) -> Result<Command<'a>, AllocError> {
     let command = command(alloc, "why", "Tells why a package is in the lock")?;
     let command = with_option(command, package(alloc))?;
-    with_option(command, all(alloc))
+    let all = all(
+        alloc,
+        "Tells each dependency that leads there, and not a shortest way alone",
+    );
+    with_option(command, all)
 }
 
 fn skips<'a>(alloc: Global) -> Result<Command<'a>, AllocError> {
     let command = command(alloc, "skips", "Tells which lines of the index aren't used")?;
-    with_option(command, all(alloc))
+    with_option(command, all(alloc, "Lists each of these lines"))
 }
 
 /// A command with the options that say where its files are.
@@ -89,17 +107,15 @@ fn locked<'a>(alloc: Global) -> Arg<'a> {
 }
 
 fn write<'a>(alloc: Global) -> Arg<'a> {
-    flag(alloc, "write").help("Replaces the Cargo.lock by the new one")
+    flag(alloc, "write").help("Replaces the Cargo.lock by the new one; else nothing is written")
 }
 
 fn repair<'a>(alloc: Global) -> Arg<'a> {
     flag(alloc, "repair").help("Goes on where the Cargo.lock can't be read, with what of it can be")
 }
 
-fn all<'a>(alloc: Global) -> Arg<'a> {
-    flag(alloc, "all").help(
-        "Tells more: what stays behind, all of a refusal, each dependency that leads there, each line skipped",
-    )
+fn all<'a>(alloc: Global, help: &'a str) -> Arg<'a> {
+    flag(alloc, "all").help(help)
 }
 
 /// An option that takes a value.

@@ -7,7 +7,8 @@
 //! A lock whose checksums aren't those of the index has no verdict, and no index is loaded beside it. So that all else
 //! is told of such a lock too, an index is loaded beside its content without the checksums (`unsummed`).
 //!
-//! What is told is there as values too (`flaws_of`, `lacking_features`, `why_missing`), for who tells it otherwise than in sentences.
+//! What is told is there as values too (`flaws_of`, `lacking_features`, `why_missing`), for who tells it otherwise than
+//! in sentences.
 //!
 //! A layer above may rely on this: `flaws_of` gives just the packages at which a condition fails, in the order of the
 //! lock, each with just what is wrong there; none of them exactly where the lock is a valid selection. Of the sentences

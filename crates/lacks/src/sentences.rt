@@ -7,6 +7,7 @@ use catalogue::Catalogue;
 use features::{Dependency, FeatureName, PackageName};
 use index_reader::{Folder, FolderFault};
 use manifest::Manifest;
+use semver::Version;
 use std::alloc::{AllocError, Global};
 
 /// A sentence, a line, for each dependency of the manifest for which nothing fits; nothing where there is none.
@@ -49,7 +50,8 @@ fn push_lack(
     text.push_str(".\n")
 }
 
-/// Adds a note that tells why nothing fits a dependency, `note: nothing fits a ^2: there is no package a in this index`;
+/// Adds a note that tells why nothing fits a dependency, `note: nothing fits a ^2: there is no package a in this
+/// index`;
 /// none where there are versions and only none that fits, or where some fits.
 ///
 /// # Errors
@@ -86,14 +88,26 @@ fn push_note(
 /// Why no version fits.
 fn push_why(text: &mut String, name: &PackageName, reason: Reason<'_>) -> Result<(), AllocError> {
     match reason.lack {
-        Lack::NoPackage => return push_unknown(text, name, reason.other),
-        Lack::NoLine => write!(text, "no line of {name} in this index can be used")?,
-        Lack::Yanked => text.push_str("all versions that fit are yanked")?,
-        Lack::PreReleases => text.push_str("only pre-releases would fit")?,
-        Lack::NoVersion | Lack::NoFeature => write!(text, "no version of {name} fits")?,
+        Lack::NoPackage => push_unknown(text, name, reason.other),
+        Lack::NoLine => write!(text, "no line of {name} in this index can be used"),
+        Lack::Yanked => {
+            text.push_str("all versions that fit are yanked")?;
+            push_newest(text, "the newest of them", reason.newest)
+        }
+        Lack::PreReleases => {
+            text.push_str("only pre-releases would fit")?;
+            push_newest(text, "the newest of them", reason.newest)
+        }
+        Lack::NoVersion | Lack::NoFeature => {
+            write!(text, "no version of {name} fits")?;
+            push_newest(text, "the newest", reason.newest)
+        }
     }
-    match reason.newest {
-        Some(version) => write!(text, "; the newest is {version}"),
+}
+
+fn push_newest(text: &mut String, which: &str, newest: Option<&Version>) -> Result<(), AllocError> {
+    match newest {
+        Some(version) => write!(text, "; {which} is {version}"),
         None => Ok(()),
     }
 }

@@ -11,8 +11,7 @@ use std::str::from_utf8;
 const MOST_BYTES: usize = 67_108_864;
 
 /// What is told of a lock that a merge left unfinished.
-const MARKS: &str =
-    "the marks of a merge begin here; `resolve --repair` keeps the packages of both sides";
+const MARKS: &str = "the marks of a merge begin here";
 
 /// Where and why the bytes of a lock don't read, if they don't.
 pub fn misreading_of(alloc: Global, bytes: &[u8]) -> Result<Option<Misreading>, AllocError> {

@@ -62,7 +62,6 @@ struct Missing<'a> {
 #[derive(Clone, Copy, Serialize)]
 #[serde(rename_all = "kebab-case")]
 enum MissingKind {
-    Unasked,
     NoPackage,
     Skipped,
     NoLine,
@@ -75,6 +74,7 @@ enum FlawKind {
     NoRoot,
     NoSource,
     OtherSource,
+    Unneeded,
     NoVersion,
     NoChecksum,
     OtherChecksum,
@@ -87,7 +87,7 @@ enum FlawKind {
 }
 
 /// What else is told of a flaw.
-#[derive(Clone, Copy)]
+#[derive(Drop)]
 struct More<'a> {
     dependency: Option<&'a Dependency>,
     feature: Option<&'a FeatureName>,
@@ -95,7 +95,7 @@ struct More<'a> {
     other: Option<&'a Package>,
     found: Option<&'a str>,
     expected: Option<&'a str>,
-    missing: Option<&'a MissingVersion>,
+    missing: Option<Missing<'a>>,
 }
 
 impl<'a> More<'a> {
@@ -292,20 +292,25 @@ fn push_no_version<F: Folder>(
 ) -> Result<(), FolderFault> {
     let missing = why_missing(alloc, catalogue, package, folder)?;
     let mut more = More::none();
-    more.missing = Some(&missing);
-    push_flaw(text, alloc, id_of(package), FlawKind::NoVersion, more).map_err(out_of_memory)
+    more.missing = missing_told(&missing);
+    let kind = match missing {
+        MissingVersion::Unasked => FlawKind::Unneeded,
+        _ => FlawKind::NoVersion,
+    };
+    push_flaw(text, alloc, id_of(package), kind, more).map_err(out_of_memory)
 }
 
-fn missing_told<'a>(missing: &'a MissingVersion) -> Missing<'a> {
+/// Why there is none of a version whose name is asked for.
+fn missing_told<'a>(missing: &'a MissingVersion) -> Option<Missing<'a>> {
     let mut told = Missing {
-        why: MissingKind::Unasked,
+        why: MissingKind::NoPackage,
         line: None,
         code: None,
         newest: None,
     };
     match missing {
-        MissingVersion::Unasked => {}
-        MissingVersion::NoPackage => told.why = MissingKind::NoPackage,
+        MissingVersion::Unasked => return None,
+        MissingVersion::NoPackage => {}
         MissingVersion::Skipped(line, reason) => {
             told.why = MissingKind::Skipped;
             told.line = Some(*line);
@@ -319,7 +324,7 @@ fn missing_told<'a>(missing: &'a MissingVersion) -> Missing<'a> {
             };
         }
     }
-    told
+    Some(told)
 }
 
 /// The checksum that the index has for a package.
@@ -379,29 +384,35 @@ fn push_flaw<'a>(
     flaw: FlawKind,
     more: More<'a>,
 ) -> Result<(), AllocError> {
+    let More {
+        dependency,
+        feature,
+        by,
+        other,
+        found,
+        expected,
+        missing,
+    } = more;
     let message = LockMessage::Flaw {
         package,
         flaw,
-        dependency: match more.dependency {
+        dependency: match dependency {
             Some(dependency) => Some(dependency.real_name.as_str()),
             None => None,
         },
-        requirement: match more.dependency {
+        requirement: match dependency {
             Some(dependency) => Some(Shown(&dependency.requirement)),
             None => None,
         },
-        feature: text_of(more.feature),
-        by: text_of(more.by),
-        other: match more.other {
+        feature: text_of(feature),
+        by: text_of(by),
+        other: match other {
             Some(other) => Some(id_of(other)),
             None => None,
         },
-        found: more.found,
-        expected: more.expected,
-        missing: match more.missing {
-            Some(missing) => Some(missing_told(missing)),
-            None => None,
-        },
+        found,
+        expected,
+        missing,
     };
     push_message(text, alloc, &message)
 }

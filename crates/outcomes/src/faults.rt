@@ -8,6 +8,14 @@ use resolver::{Fault, TooLarge};
 use std::alloc::{AllocError, Global};
 use std::fmt;
 
+/// What can be done about a lock that doesn't read.
+const REPAIR: &str =
+    "`cargo relock resolve --repair` keeps what can be read of it, of both sides of a merge too";
+
+/// What can be done about a checksum that changed.
+const CHECKSUMS: &str =
+    "`cargo relock verify` tells both checksums; which is right nothing here can say";
+
 /// What a fault says, without its code.
 #[derive(Clone, Copy)]
 pub(crate) struct Sentence<'a>(pub(crate) &'a Fault);
@@ -31,11 +39,11 @@ impl fmt::Display for Sentence<'_> {
                 write!(f, "the manifest's requirement of {name} doesn't read")
             }
             Fault::RootFeature(_, feature) => {
-                write!(f, "the manifest's feature {feature} isn't as features are")
+                write!(f, "the manifest's feature {feature} can't be used")
             }
             Fault::LockNotToml => f.write_str("the lock is no TOML"),
             Fault::LockVersion => f.write_str("the lock is of a format that isn't read"),
-            Fault::LockShape => f.write_str("the lock isn't of the form of a lock"),
+            Fault::LockShape => f.write_str("the lock isn't as Cargo writes locks"),
             Fault::FolderFailed(path) => write!(f, "the index can't be read at {path}"),
             Fault::TooLarge(_) => f.write_str("a limit is passed"),
             Fault::ChecksumChanged(name, version) => write!(
@@ -74,11 +82,12 @@ fn tell_more(
     said: &mut Said,
 ) -> Result<(), AllocError> {
     if is_of_lock(fault) {
-        tell_misreading(alloc, paths, bytes, said)
+        tell_misreading(alloc, paths, bytes, said)?;
+        said.note(REPAIR)
     } else if is_of_manifest(fault) {
         tell_manifest_misreading(alloc, paths, bytes, said)
     } else if is_of_checksum(fault) {
-        said.note("`cargo relock verify` tells both checksums")
+        said.note(CHECKSUMS)
     } else {
         Ok(())
     }

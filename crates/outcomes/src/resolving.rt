@@ -75,7 +75,8 @@ fn resolved<F: Folder>(
     }
 }
 
-/// What becomes of a lock that is another one than the old: `--locked` refuses it, `--write` hands it on.
+/// What becomes of a lock that is another one than the old: `--locked` refuses it, `--write` hands it on. Without these
+/// it is told that nothing is written.
 fn with_new_lock(
     alloc: Global,
     path: &str,
@@ -94,10 +95,11 @@ fn with_new_lock(
         return Ok(Outcome::no());
     }
     if wish.write {
-        Ok(Outcome::with_lock(copied(alloc, lock.bytes)?))
-    } else {
-        Ok(Outcome::yes())
+        return Ok(Outcome::with_lock(copied(alloc, lock.bytes)?));
     }
+    let text = format!(in alloc; "nothing is written; `--write` writes this to {path}")?;
+    said.advice(text.as_str())?;
+    Ok(Outcome::yes())
 }
 
 fn copied(alloc: Global, bytes: &[u8]) -> Result<Vec<u8>, AllocError>

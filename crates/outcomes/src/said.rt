@@ -112,12 +112,27 @@ impl Said {
         }
     }
 
-    /// What people may want to do about an error.
-    pub(crate) fn note(&mut self, text: &str) -> Result<(), AllocError> {
-        match self.form {
-            Form::People => writeln!(self.err, "note: {text}"),
-            Form::Programs => Ok(()),
+    /// What people may want to do about what was asked for.
+    pub(crate) fn advice(&mut self, text: &str) -> Result<(), AllocError> {
+        if self.is_advised() {
+            writeln!(self.out, "note: {text}")
+        } else {
+            Ok(())
         }
+    }
+
+    /// What people may want to do about an error.
+    pub fn note(&mut self, text: &str) -> Result<(), AllocError> {
+        if self.is_advised() {
+            writeln!(self.err, "note: {text}")
+        } else {
+            Ok(())
+        }
+    }
+
+    /// Whether more is told than answers and errors.
+    fn is_advised(&self) -> bool {
+        self.form == Form::People && !self.quiet
     }
 
     /// What belongs to an error or a warning and stands below it: lines for people, or messages.

@@ -47,6 +47,7 @@ fn judged<F: Folder>(
     if said.is_quiet() {
         tell_invalid(alloc, paths, verdict, said)?;
     }
+    said.advice("`cargo relock resolve` tells what a valid lock would change")?;
     Ok(Outcome::no())
 }
 

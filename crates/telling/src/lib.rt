@@ -11,7 +11,8 @@
 //! them a term means (`marks.rt`).
 //!
 //! A layer above may rely on this: `sentences_of` loses no reason, and a range has exactly the versions that it is to
-//! have. Which dependencies no version fits is there for who knows why (`unmatched_in`). Whether the derivation is right is for the checker to say: ask it first.
+//! have. Which dependencies no version fits is there for who knows why (`unmatched_in`). Whether the derivation is
+//! right is for the checker to say: ask it first.
 #![tactic(auto)]
 
 mod axiom;

@@ -12,7 +12,14 @@ use std::alloc::{AllocError, Global};
 /// How many lines are told at most, unless all are asked for.
 const MOST_LINES: usize = 40;
 
-/// What a derivation says, a sentence a line. Of more than 40 the last ones are told, unless `all` are asked for.
+/// How many clauses one sentence has at most that tells the whole derivation.
+const FEW_CLAUSES: usize = 3;
+
+/// Of how many facts it is seen at most whether they are so few clauses.
+const FEW_FACTS: usize = 16;
+
+/// What a derivation says, a sentence a line. Of more than 40 the last ones are told, unless `all` are asked for. Where
+/// all that axioms say of it is few clauses, one sentence has them all: the steps between would only restate them.
 ///
 /// Whether a step is right is for the checker to say.
 pub fn tell(
@@ -87,6 +94,11 @@ fn first_told(count: usize, all: bool) -> usize {
 impl Whole<'_, '_> {
     fn text(&self, alloc: Global, all: bool) -> Result<String, AllocError> {
         let mut text = String::new(alloc);
+        if let Some(sentence) = self.whole_sentence(alloc)? {
+            self.push_sentence(alloc, &mut text, &sentence, None)?;
+            text.push_str("\n")?;
+            return Ok(text);
+        }
         let from = first_told(self.sentences.len(), all);
         if from > 0 {
             writeln!(
@@ -104,6 +116,23 @@ impl Whole<'_, '_> {
             }
         }
         Ok(text)
+    }
+
+    /// The sentence that gives all facts as reasons of the last step, if these are few clauses.
+    fn whole_sentence(&self, alloc: Global) -> Result<Option<Sentence>, AllocError> {
+        let Some(last) = self.sentences.last() else {
+            return Ok(None);
+        };
+        let reasons = few_facts(alloc, self.sentences)?;
+        if reasons.is_empty() {
+            return Ok(None);
+        }
+        let clauses = clauses_of(alloc, self.facts, &reasons, None)?;
+        if clauses.len() > FEW_CLAUSES {
+            return Ok(None);
+        }
+        let step = last.step;
+        Ok(Some(Sentence { step, reasons }))
     }
 
     /// `Because .., and .., ...`, after the sentence at a place, if one is told before it.
@@ -159,6 +188,33 @@ impl Whole<'_, '_> {
         let terms = terms_of(alloc, self.derivation, number)?;
         push_claim(alloc, text, &self.problem, &terms)
     }
+}
+
+/// The facts among the reasons of all sentences, each once; none where they aren't few.
+fn few_facts(alloc: Global, sentences: &[Sentence]) -> Result<Vec<Reason>, AllocError> {
+    let mut facts = Vec::new(alloc);
+    for sentence in sentences.iter() {
+        put_facts(&mut facts, &sentence.reasons)?;
+        if facts.len() > FEW_FACTS {
+            return Ok(Vec::new(alloc));
+        }
+    }
+    Ok(facts)
+}
+
+fn put_facts(facts: &mut Vec<Reason>, reasons: &[Reason]) -> Result<(), AllocError> {
+    for reason in reasons.iter() {
+        if let Reason::Fact(number) = reason {
+            if !has_fact(facts, *number) {
+                facts.push(*reason)?;
+            }
+        }
+    }
+    Ok(())
+}
+
+fn has_fact(facts: &[Reason], number: usize) -> bool {
+    facts.iter().any(|fact| matches!(fact, Reason::Fact(other) if *other == number))
 }
 
 /// How a sentence begins that goes on from the one before it, or doesn't, and has so many clauses.
