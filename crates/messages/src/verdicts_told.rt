@@ -6,8 +6,8 @@ use crate::ways_told::id_of;
 use catalogue::{Catalogue, LoadFault};
 use features::{Dependency, FeatureName};
 use flaws::{
-    Flawed, MissingVersion, NoCandidate, dependency_at, flaws_of, lacking_features, last_serving,
-    why_missing,
+    Flawed, Judged, MissingVersion, NoCandidate, dependency_at, flaws_of, lacking_features,
+    last_serving, why_missing,
 };
 use index_reader::{Folder, FolderFault, SkipReason};
 use lockfile::{LockContent, Package};
@@ -100,22 +100,24 @@ struct More<'a> {
 
 impl<'a> More<'a> {
     fn none() -> More<'a> {
-        More {
-            dependency: None,
-            feature: None,
-            by: None,
-            other: None,
-            found: None,
-            expected: None,
-            missing: None,
-        }
+        More::about(None, None)
     }
 
     /// Another package.
     fn of(other: Option<&'a Package>) -> More<'a> {
-        let mut more = More::none();
-        more.other = other;
-        more
+        More::about(other, None)
+    }
+
+    fn about(other: Option<&'a Package>, missing: Option<Missing<'a>>) -> More<'a> {
+        More {
+            dependency: None,
+            feature: None,
+            by: None,
+            other,
+            found: None,
+            expected: None,
+            missing,
+        }
     }
 }
 
@@ -171,18 +173,7 @@ fn flaws_in<'a, F: Folder>(
 ) -> Result<String, FolderFault> {
     let mut text = String::new(alloc);
     match flaws_of(alloc, manifest, catalogue, lock).map_err(out_of_memory)? {
-        Some(judged) => {
-            for flawed in judged.flawed.iter() {
-                push_flawed(
-                    &mut text,
-                    alloc,
-                    folder,
-                    catalogue,
-                    &judged.findings,
-                    flawed,
-                )?;
-            }
-        }
+        Some(judged) => push_all(&mut text, alloc, folder, catalogue, &judged)?,
         None => push_rootless(&mut text, alloc, manifest).map_err(out_of_memory)?,
     }
     Ok(text)
@@ -201,13 +192,27 @@ fn push_rootless(text: &mut String, alloc: Global, manifest: &Manifest) -> Resul
     push_flaw(text, alloc, package, FlawKind::NoRoot, More::none())
 }
 
-/// What is wrong with one package.
-fn push_flawed<'a, F: Folder>(
+/// What is wrong with packages.
+fn push_all<F: Folder>(
     text: &mut String,
     alloc: Global,
     folder: &mut F,
-    catalogue: &'a Catalogue,
-    findings: &'a Findings<'a>,
+    catalogue: &Catalogue,
+    judged: &Judged<'_>,
+) -> Result<(), FolderFault> {
+    for flawed in judged.flawed.iter() {
+        push_flawed(text, alloc, folder, catalogue, &judged.findings, flawed)?;
+    }
+    Ok(())
+}
+
+/// What is wrong with one package.
+fn push_flawed<F: Folder>(
+    text: &mut String,
+    alloc: Global,
+    folder: &mut F,
+    catalogue: &Catalogue,
+    findings: &Findings<'_>,
     flawed: &Flawed,
 ) -> Result<(), FolderFault> {
     let Some(package) = findings.content.get(flawed.place) else {
@@ -291,9 +296,8 @@ fn push_no_version<F: Folder>(
     package: &Package,
 ) -> Result<(), FolderFault> {
     let missing = why_missing(alloc, catalogue, package, folder)?;
-    let mut more = More::none();
-    more.missing = missing_told(&missing);
-    let kind = match missing {
+    let more = More::about(None, missing_told(&missing));
+    let kind = match &missing {
         MissingVersion::Unasked => FlawKind::Unneeded,
         _ => FlawKind::NoVersion,
     };
