@@ -69,7 +69,7 @@ fn notes_on<F: Folder>(
         catalogue,
     };
     let mut text = String::new(alloc);
-    for dependency in unmatched_in(alloc, &problem, derivation, MOST_NOTES)?.iter() {
+    for dependency in unmatched_in(alloc, problem, derivation, MOST_NOTES)?.iter() {
         match note_lack(&mut text, alloc, catalogue, folder, *dependency) {
             Ok(()) => {}
             Err(FolderFault::OutOfMemory) => return Err(LoadFault::OutOfMemory),

@@ -94,7 +94,7 @@ fn said_by<'a>(
 }
 
 /// The kind of a step, if it is an axiom.
-fn kind_of(derivation: &Derivation, number: usize) -> Option<Kind> {
+pub(crate) fn kind_of(derivation: &Derivation, number: usize) -> Option<Kind> {
     let (_, steps) = derivation.parts();
     match &steps.get(number)?.origin {
         Origin::Axiom(kind) => Some(*kind),

@@ -1,49 +1,62 @@
-//! The dependencies that no version fits, of those that a derivation speaks of.
+//! The dependencies that no version fits, of those that the axioms of a derivation speak of.
 
+use crate::facts::kind_of;
 use crate::terms::terms_of;
+use causes::{Numbers, cause_in};
 use derivations::Derivation;
 use features::Dependency;
 use looking_up::{Problem, dependency_at, is_unmatched};
-use named_terms::Term;
+use named_terms::Cause;
 use std::alloc::{AllocError, Global};
-use vertices::VertexRef;
+use vertices::OwnerRef;
 
-/// The dependencies that no version fits, of those that a derivation speaks of: of each name the first, and of at most
-/// so many names.
+/// The dependencies that no version fits, of those that the axioms of a derivation speak of: of each name the first, and
+/// of at most so many names.
 pub fn unmatched_in<'a>(
     alloc: Global,
-    problem: &Problem<'a>,
+    problem: Problem<'a>,
     derivation: &'a Derivation,
     most: usize,
 ) -> Result<Vec<&'a Dependency>, AllocError> {
+    let mut numbers = Numbers::new(alloc, problem);
     let mut found = Vec::new(alloc);
     for number in 0..derivation.len() {
         if found.len() >= most {
             break;
         }
-        for term in terms_of(alloc, derivation, number)?.iter() {
-            put_unmatched(&mut found, problem, term)?;
+        if let Some(kind) = kind_of(derivation, number) {
+            let terms = terms_of(alloc, derivation, number)?;
+            if let Some(cause) = cause_in(alloc, &mut numbers, kind, &terms)? {
+                put_unmatched(&mut found, &problem, cause)?;
+            }
         }
     }
     Ok(found)
 }
 
-/// Adds the dependency that a term is about, if no version fits it and none of its name is there yet.
+/// Adds the dependency of a cause, if no version fits it and none of its name is there yet.
 fn put_unmatched<'a>(
     found: &mut Vec<&'a Dependency>,
     problem: &Problem<'a>,
-    term: &Term<'_>,
+    cause: Cause<'a>,
 ) -> Result<(), AllocError> {
-    let VertexRef::Dependency(owner, number) = &term.vertex else {
-        return Ok(());
-    };
-    let Some(dependency) = dependency_at(problem, owner, *number) else {
+    let Some(dependency) = needed_by(problem, cause) else {
         return Ok(());
     };
     if is_unmatched(problem, dependency) && !has_name(found, dependency) {
         found.push(dependency)?;
     }
     Ok(())
+}
+
+/// The dependency that an owner needs, or that a feature of it enables.
+fn needed_by<'a>(problem: &Problem<'a>, cause: Cause<'a>) -> Option<&'a Dependency> {
+    match cause {
+        Cause::Need(owner, number) => dependency_at(problem, &owner, number),
+        Cause::Enabling(name, version, _, _, number) | Cause::Asking(name, version, _, _, number) =>
+            { dependency_at(problem, &OwnerRef::Version(name, version), number) }
+        _ => None,
+    }
 }
 
 fn has_name(found: &[&Dependency], dependency: &Dependency) -> bool {
