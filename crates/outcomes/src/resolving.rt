@@ -7,6 +7,7 @@ use crate::faults::tell_misreading;
 use crate::outcome::Outcome;
 use crate::said::Said;
 use answers::{Form, NewLock, Repaired, changes_in, new_lock, readable_rest, refusal_in};
+use derivations::Derivation;
 use index_reader::Folder;
 use project_files::{Bytes, Paths};
 use resolver::{Answer, Fault};
@@ -54,25 +55,66 @@ fn resolved<F: Folder>(
             kept,
             ..
         } => {
-            let path = paths.lock.as_str();
             let lock = NewLock {
                 bytes: new,
                 kept: *kept,
             };
-            let text = changes_in(alloc, folder, bytes, path, lock, said.form(), wish.all)?;
-            said.answer(text.as_str())?;
-            Ok(with_new_lock(alloc, path, lock, wish, said)?)
+            changed(alloc, folder, paths, bytes, lock, wish, said)
         }
         Answer::Unsolvable {
             derivation,
             text,
             ..
-        } => {
-            let (form, all) = (said.form(), wish.all);
-            let why = refusal_in(alloc, folder, bytes, derivation, text.as_str(), form, all)?;
-            Ok(refused(alloc, paths, why.as_str(), said)?)
-        }
+        } => unsolvable(
+            alloc,
+            folder,
+            paths,
+            bytes,
+            derivation,
+            text.as_str(),
+            wish,
+            said,
+        ),
     }
+}
+
+/// What changes in the lock, and what becomes of it.
+fn changed<F: Folder>(
+    alloc: Global,
+    folder: &mut F,
+    paths: &Paths<'_>,
+    bytes: &Bytes,
+    lock: NewLock<'_>,
+    wish: Wish,
+    said: &mut Said,
+) -> Result<Outcome, Fault> {
+    let path = paths.lock.as_str();
+    let text = changes_in(alloc, folder, bytes, path, lock, said.form(), wish.all)?;
+    said.answer(text.as_str())?;
+    Ok(with_new_lock(alloc, path, lock, wish, said)?)
+}
+
+/// Why there is no lock, by a derivation, whose own text is given too.
+fn unsolvable<F: Folder>(
+    alloc: Global,
+    folder: &mut F,
+    paths: &Paths<'_>,
+    bytes: &Bytes,
+    derivation: &Derivation,
+    text: &str,
+    wish: Wish,
+    said: &mut Said,
+) -> Result<Outcome, Fault> {
+    let why = refusal_in(
+        alloc,
+        folder,
+        bytes,
+        derivation,
+        text,
+        said.form(),
+        wish.all,
+    )?;
+    Ok(refused(alloc, paths, why.as_str(), said)?)
 }
 
 /// What becomes of a lock that is another one than the old: `--locked` refuses it, `--write` hands it on. Without these
