@@ -88,13 +88,14 @@ pub(crate) fn verify_at<'a, R: Files + Clock + Eprint + AllocGlobal + Clone + Dr
 pub(crate) fn why_at<'a, R: Files + Clock + Eprint + AllocGlobal + Clone + Drop>(
     rt: &R,
     paths: &'a Paths<'a>,
-    package: &'a str,
+    package: &str,
     all: bool,
     watch: Watch,
     said: &mut Said,
 ) -> Result<Outcome, Failure<'a>> {
     let Some(question) = question_in(rt.alloc(), package)? else {
-        return Err(Failure::NoPackage(package));
+        let text = String::from_str(rt.alloc(), package)?;
+        return Err(Failure::NoPackage(text));
     };
     let bytes = with_lock(rt, paths)?;
     let mut folder = counted(rt, paths.index, watch)?;

@@ -15,7 +15,7 @@ pub(crate) enum Failure<'a> {
     Unwritten(WriteFault<'a>),
     /// Neither the words nor the environment name an index.
     NoIndex,
-    NoPackage(&'a str),
+    NoPackage(String),
     /// The environment has no word of `--color` where it has one for that.
     NoColor(&'a str),
     /// What the system says of standard output.

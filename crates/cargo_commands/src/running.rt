@@ -82,11 +82,37 @@ fn run_command<'a, R: Files + Clock + Eprint + AllocGlobal + Clone + Drop, O: Wr
     out: &mut O,
     err: &mut E,
 ) -> u8 {
-    let paths = match paths_of(rt.alloc(), command.places(), index) {
-        Ok(paths) => paths,
-        Err(failure) => return failed(rt.alloc(), &failure, said, out, err),
-    };
-    let outcome = match command {
+    match paths_of(rt.alloc(), command.places(), index) {
+        Ok(paths) => run_at(rt, command, &paths, watch, said, out, err),
+        Err(failure) => failed(rt.alloc(), &failure, said, out, err),
+    }
+}
+
+/// The same, once it is known where the files are.
+fn run_at<'p, R: Files + Clock + Eprint + AllocGlobal + Clone + Drop, O: Write, E: Write>(
+    rt: &R,
+    command: &CargoWords<'_>,
+    paths: &'p Paths<'p>,
+    watch: Watch,
+    said: &mut Said,
+    out: &mut O,
+    err: &mut E,
+) -> u8 {
+    match outcome_of(rt, command, paths, watch, said) {
+        Ok(outcome) => finish(rt, paths, &outcome, said, out, err),
+        Err(failure) => failed(rt.alloc(), &failure, said, out, err),
+    }
+}
+
+/// What a command ends with.
+fn outcome_of<'p, R: Files + Clock + Eprint + AllocGlobal + Clone + Drop>(
+    rt: &R,
+    command: &CargoWords<'_>,
+    paths: &'p Paths<'p>,
+    watch: Watch,
+    said: &mut Said,
+) -> Result<Outcome, Failure<'p>> {
+    match command {
         CargoWords::Resolve {
             locked,
             write,
@@ -100,23 +126,30 @@ fn run_command<'a, R: Files + Clock + Eprint + AllocGlobal + Clone + Drop, O: Wr
                 repair: *repair,
                 all: *all,
             };
-            resolve_at(rt, &paths, wish, watch, said)
+            resolve_at(rt, paths, wish, watch, said)
         }
-        CargoWords::Verify { .. } => verify_at(rt, &paths, watch, said),
-        CargoWords::Why { package, all, .. } => why_at(rt, &paths, package, *all, watch, said),
+        CargoWords::Verify { .. } => verify_at(rt, paths, watch, said),
+        CargoWords::Why { package, all, .. } => why_at(rt, paths, package, *all, watch, said),
         CargoWords::Skips { all, places } => {
             if places.manifest.is_none() && is_missing(rt, paths.manifest) {
-                skips_at_all(rt, &paths, *all, watch, said)
+                skips_at_all(rt, paths, *all, watch, said)
             } else {
-                skips_at(rt, &paths, *all, watch, said)
+                skips_at(rt, paths, *all, watch, said)
             }
         }
-    };
-    let status = match outcome {
-        Ok(outcome) => ended(rt, &paths, &outcome, said, out, err),
-        Err(failure) => Err(failure),
-    };
-    match status {
+    }
+}
+
+/// Prints what a command tells and replaces the lock, and answers the status; that one of these fails is told too.
+fn finish<'p, R: Files + AllocGlobal, O: Write, E: Write>(
+    rt: &R,
+    paths: &'p Paths<'p>,
+    outcome: &Outcome,
+    said: &mut Said,
+    out: &mut O,
+    err: &mut E,
+) -> u8 {
+    match ended(rt, paths, outcome, said, out, err) {
         Ok(status) => status,
         Err(failure) => failed(rt.alloc(), &failure, said, out, err),
     }
