@@ -4,7 +4,8 @@ ghost use Rattle.std.specs.Prelude.{◌≡◌};
 ghost use Rattle.semver.specs.Identifiers.{parts_of};
 ghost use Rattle.features.specs.EntryViews.{entry_view};
 ghost use Rattle.model.specs.Vertices.{version_of};
-ghost use Rattle.refutations.specs.Causes.{dependency_at, enables, is_cause, of_enabling, passes};
+ghost use Rattle.refutations.specs.Causes.{dependency_at, enables, is_cause, of_enabling};
+ghost use Rattle.model.specs.Optional.{passes};
 ghost use Rattle.looking_up.specs.Views.{problem_view};
 
 use crate::entries::has_same;

@@ -15,9 +15,9 @@ use Rattle.model.specs.Candidates.{is_locked}
 use Rattle.model.specs.Content as model
 use Rattle.model.specs.Content.{Content, same_version, same_option}
 use Rattle.model.specs.Order.{text_cmp, version_cmp, package_cmp}
-use Rattle.model.specs.Summary.{same_text}
 use Rattle.model.proofs.Lists.{to_any, to_map, all_first, all_rest}
-use Rattle.model.proofs.Same.{text-same, text-refl, version-same, version-refl}
+use Rattle.model.proofs.Same.{version-same, version-refl}
+use Rattle.model.proofs.Flips.{text-flips}
 use Rattle.lockfile.specs.Locks.{is_alike}
 use Rattle.lockfile.specs.Views.{package_view, package_views}
 use Rattle.lockfile.specs.declared.package.Package.{Package}
@@ -34,10 +34,6 @@ alike-eq p r h k =
     sym (then-eq (text_cmp p.name r.name) _ ∙ ap₂ (λ a b. a && b) (text-eq p.name r.name)
     (then-eq (version_cmp p.version r.version) _
     ∙ ap₂ (λ a b. a && b) (version-eq p.version r.version h k) (source-eq p.source r.source)))
-
-text-flips : (a b : List ℕ) → same_text a b ≡ same_text b a
-text-flips a b = same-tests _ _ (λ h. subst (λ x. same_text b x ≡ true) (sym (text-same a b h)) (text-refl b))
-    (λ h. subst (λ x. same_text a x ≡ true) (sym (text-same b a h)) (text-refl a))
 
 version-flips : (a b : Parts) → same_version a b ≡ same_version b a
 version-flips a b =

@@ -12,7 +12,8 @@ use Rattle.model.specs.Candidates.{Record, RustVersion, is_locked}
 use Rattle.model.specs.Content.{Content}
 use Rattle.model.specs.Summary.{Dependency, same_text}
 use Rattle.model.proofs.Lists.{all_none, all_cons, all_first, all_rest}
-use Rattle.model.proofs.Same.{text-same, text-refl}
+use Rattle.model.proofs.Same.{text-same}
+use Rattle.model.proofs.Flips.{text-flips}
 use Rattle.features.specs.Views.{dependency_views}
 use Rattle.index_reader.specs.Files.{SkipView}
 use Rattle.index_reader.specs.Paths.{path_of}
@@ -62,19 +63,8 @@ once-snoc [] x = refl
 once-snoc (y ∷ ys) x = ap (λ zs. y ∷ filter (λ z. not (same_text y z)) zs) (once-snoc ys x)
     ∙ by (list_any (same_text x) (once ys)) (same_text y x) refl refl
     ∙ sym (ap (λ b. cond b (y ∷ filter (λ z. not (same_text y z)) (once ys)) ((y ∷ filter (λ z. not (same_text y z))
-    (once ys)) ++ x ∷ [])) (ap₂ (λ a b. a || b) (flips x y) (any-others x y (once ys))))
+    (once ys)) ++ x ∷ [])) (ap₂ (λ a b. a || b) (text-flips x y) (any-others x y (once ys))))
   where
-    flips : (a b : List ℕ) → same_text a b ≡ same_text b a
-    flips a b = go (same_text a b) (same_text b a) refl refl
-      where
-        go : (s t : Bool) → same_text a b ≡ s → same_text b a ≡ t → s ≡ t
-        go true true e f = refl
-        go false false e f = refl
-        go true false e f =
-            absurd (true≢false (sym (subst (λ w. same_text w a ≡ true) (text-same a b e) (text-refl a)) ∙ f))
-        go false true e f =
-            absurd (true≢false (sym (subst (λ w. same_text w b ≡ true) (text-same b a f) (text-refl b)) ∙ e))
-
     by : (a b : Bool) → list_any (same_text x) (once ys) ≡ a → same_text y x ≡ b
         → y ∷ filter (λ z. not (same_text y z)) (cond a (once ys) (once ys ++ x ∷ []))
         ≡ cond (b || (not b && a)) (y ∷ filter (λ z. not (same_text y z)) (once ys))

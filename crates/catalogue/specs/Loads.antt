@@ -1,13 +1,15 @@
 -- How loading ends, by the calls of the folder (Cargo book, "Registry Index"; the limits, and the checksums that are
 -- held against an old lock, are our own).
 use Rattle.std.specs.Prelude.{◌≡◌, ◌<◌, ◌≤◌, ◌⊎◌, ℕ, Bool, false, not, ◌&&◌, if◌then◌else◌, List, [], ◌∷◌, ◌++◌, length}
-use Rattle.std.specs.Prelude.{map, flat_map, Option, Some, None, option_map, Result, Ok, Err, Vec, string_bytes}
+use Rattle.std.specs.Prelude.{map, flat_map, Option, Some, None, option_map, option_copied, Result, Ok, Err, Vec}
+use Rattle.std.specs.Prelude.{string_bytes}
 use Rattle.std.specs.Borrow.{Bor}
 use Rattle.std.specs.List.{All}
 use Rattle.std.specs.declared.alloc.Global.{Global}
 use Rattle.semver.specs.Parse.{Parts}
 use Rattle.semver.specs.Identifiers.{parts_of}
 use Rattle.model.specs.Content.{Content, Package, same_option}
+use Rattle.model.specs.Optional.{packages_if}
 use Rattle.model.specs.Candidates.{Record as ModelRecord, RustVersion, candidates_among, is_locked, preferred_rust}
 use Rattle.model.specs.Candidates.Prefer.{newest, rust_first}
 use Rattle.model.specs.Summary.{Dependency, same_text}
@@ -114,8 +116,7 @@ SaysOfFile name bytes (Err (fault.ChecksumChanged n v)) = ⊥
 
 -- the packages of the old lock: none where there is no old lock
 abbrev pub packages_of_old : Option (Bor Content) → Content
-packages_of_old None = []
-packages_of_old (Some content) = content.now
+packages_of_old old = packages_if (option_copied old)
 
 abbrev pub records_view : List Record → List ModelRecord
 records_view rs = map (λ r. as_record (record_view r)) rs

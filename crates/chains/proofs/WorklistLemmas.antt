@@ -53,14 +53,14 @@ is_there [] to lt = absurd (omega arith)
 is_there (b ∷ bs) zero lt = refl
 is_there (b ∷ bs) (suc to) lt = is_there bs to (omega arith)
 
-new_or_old : (s : List Bool) (to i : ℕ) → has (set s to true) i ≡ true → (to ≡ i) ⊎ (has s i ≡ true)
+pub new_or_old : (s : List Bool) (to i : ℕ) → has (set s to true) i ≡ true → (to ≡ i) ⊎ (has s i ≡ true)
 new_or_old [] to i h = inr h
 new_or_old (b ∷ bs) zero zero h = inl refl
 new_or_old (b ∷ bs) zero (suc i) h = inr h
 new_or_old (b ∷ bs) (suc to) zero h = inr h
 new_or_old (b ∷ bs) (suc to) (suc i) h = elim (new_or_old bs to i h) [ inl e ↦ inl (ap suc e) | inr m ↦ inr m ]
 
-one_fewer : (s : List Bool) (to : ℕ) → to < length s → has s to ≡ false → unmarked (set s to true) + 1 ≡ unmarked s
+pub one_fewer : (s : List Bool) (to : ℕ) → to < length s → has s to ≡ false → unmarked (set s to true) + 1 ≡ unmarked s
 one_fewer [] to lt h = absurd (omega arith)
 one_fewer (true ∷ bs) zero lt h = absurd (true≢false h)
 one_fewer (false ∷ bs) zero lt h = omega arith

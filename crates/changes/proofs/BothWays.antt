@@ -11,11 +11,11 @@ use Rattle.chains.specs.Chains.{AreBelow, IsGiven, has}
 use Rattle.chains.specs.Chains.IsGiven.{begins, follows}
 use Rattle.model.proofs.Lists.{in_cons, in_map, in_none, to_map}
 use Rattle.model.specs.Content.{Content, Package, list_if}
+use Rattle.model.specs.Optional.{passes}
 use Rattle.model.specs.WellFormed.{IsContent}
 use Rattle.changes.specs.OnWays.{AreBetween, AreOnWays, IsOnWay, all_pairs, are_both, pairs_at, pairs_below}
 use Rattle.changes.specs.OnWays.{rule, rules_ahead, rules_back}
 use Rattle.changes.specs.Searches.{is_in}
-use Rattle.lockfile.specs.Search.{holds_at}
 use Rattle.changes.specs.Ways.{is_way, leads, lists}
 use Rattle.changes.proofs.Searched.{list_within}
 use Rattle.changes.proofs.Visiting.{in_first, in_rest}
@@ -24,7 +24,7 @@ use Rattle.changes.proofs.Visiting.{in_first, in_rest}
 
 -- marks by a test
 marks_of : (test : Package → Bool) (content : Content) (i : ℕ)
-    → has (map test content) i ≡ holds_at test (slice_get content i)
+    → has (map test content) i ≡ passes test (slice_get content i)
 marks_of test [] i = refl
 marks_of test (p ∷ ps) zero = refl
 marks_of test (p ∷ ps) (suc i) = marks_of test ps i
@@ -130,7 +130,7 @@ module _ (content : Content) (starts ends : Package → Bool) where
   unfolding leads
   ahead_on i (begins j h) js on = (
     [],
-    and_from (holds_at starts (slice_get content i)) (leads content ends i js)
+    and_from (passes starts (slice_get content i)) (leads content ends i js)
         (sym (marks_of starts content i) ∙ h) on,
   )
   ahead_on i (follows r c f s) js on =
@@ -169,17 +169,17 @@ module _ (content : Content) (starts ends : Package → Bool) where
       let parts = and_parts (lists content i x) (leads content ends x (xs ++ j ∷ rest)) e in
       ahead_from x xs j rest (step_ahead i x parts.0 g) parts.1
 
-  begun : (i : ℕ) → holds_at starts (slice_get content i) ≡ true → IsAhead i
+  begun : (i : ℕ) → passes starts (slice_get content i) ≡ true → IsAhead i
   begun i e = begins i (marks_of starts content i ∙ e)
 
   way_ahead : (front : List ℕ) (i : ℕ) (rest : List ℕ) → is_way content starts ends (front ++ i ∷ rest) ≡ true
       → IsAhead i × (leads content ends i rest ≡ true)
   way_ahead [] i rest e =
-      let parts = and_parts (holds_at starts (slice_get content i)) (leads content ends i rest) e in
+      let parts = and_parts (passes starts (slice_get content i)) (leads content ends i rest) e in
       (begun i parts.0, parts.1)
   way_ahead (x ∷ xs) i rest e =
       let parts =
-      and_parts (holds_at starts (slice_get content x)) (leads content ends x (xs ++ i ∷ rest)) e in
+      and_parts (passes starts (slice_get content x)) (leads content ends x (xs ++ i ∷ rest)) e in
       ahead_from x xs i rest (begun x parts.0) parts.1
 
   back_from : (j : ℕ) (back : List ℕ) → leads content ends j back ≡ true → IsBack j

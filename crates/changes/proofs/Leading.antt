@@ -7,8 +7,8 @@ use Rattle.std.proofs.lemmas.Bool.{and_from, and_parts}
 use Rattle.std.proofs.lemmas.List.{reverse-append}
 use Rattle.std.proofs.lemmas.Option.{same_Some, slice_get_within}
 use Rattle.model.specs.Content.{Content, Package}
+use Rattle.model.specs.Optional.{passes}
 use Rattle.changes.specs.Searches.{AreBehind, AreLed, AreSorted, IsBehind, IsLed, IsSearched, IsVisited, is_end}
-use Rattle.lockfile.specs.Search.{holds_at}
 use Rattle.changes.specs.Ways.{HasNoWay, is_way, leads, lists}
 use Rattle.changes.specs.declared.searching.Visit.{Visit}
 
@@ -34,7 +34,7 @@ before_lists content begins visits place before (suc depth) deep (u, there, is, 
     subst (λ (v : Visit). lists content v.place place ≡ true) (sym (same_Some v u (sym at ∙ there))) listed
 
 begins_there : (content : Content) (begins : Package → Bool) (visits : List Visit) (place before depth : ℕ)
-    → depth ≤ 0 → IsLed content begins visits place before depth → holds_at begins (slice_get content place) ≡ true
+    → depth ≤ 0 → IsLed content begins visits place before depth → passes begins (slice_get content place) ≡ true
 begins_there content begins visits place before zero none led = led
 begins_there content begins visits place before (suc depth) none led = absurd (omega (arith, none))
 
@@ -64,7 +64,7 @@ pub way_back : (content : Content) (begins ends : Package → Bool) (visits : Li
     → is_way content begins ends (reverse (places ++ u.place ∷ [])) ≡ true
 way_back content begins ends visits u places none here on =
     ap (is_way content begins ends) (reverse-append places (u.place ∷ []))
-    ∙ and_from (holds_at begins (slice_get content u.place)) (leads content ends u.place (reverse places))
+    ∙ and_from (passes begins (slice_get content u.place)) (leads content ends u.place (reverse places))
     (begins_there content begins visits u.place u.before u.depth none here) on
 
 -- ---- what a search has in the end
@@ -81,7 +81,7 @@ module _ (content : Content) (begins ends : Package → Bool) (visits : List Vis
       → IsEnded content ends visits (depth + length js)
   unfolding leads
   led_on i [] depth (k, v, at, is, near) e =
-      (k, v, at, ap (λ i. holds_at ends (slice_get content i)) is ∙ e, omega (arith, near))
+      (k, v, at, ap (λ i. passes ends (slice_get content i)) is ∙ e, omega (arith, near))
   led_on i (j ∷ js) depth (k, v, at, is, near) e =
       let parts = and_parts (lists content i j) (leads content ends j js) e in
       let next = s.closed k v at j (ap (λ i. lists content i j) is ∙ parts.0) in
@@ -94,7 +94,7 @@ module _ (content : Content) (begins ends : Package → Bool) (visits : List Vis
       → (depth : ℕ) × (depth + 1 ≡ length places) × IsEnded content ends visits depth
   way_ends [] e = absurd (true≢false (sym e))
   way_ends (i ∷ is) e =
-      let parts = and_parts (holds_at begins (slice_get content i)) (leads content ends i is) e in (
+      let parts = and_parts (passes begins (slice_get content i)) (leads content ends i is) e in (
         length is,
         omega arith,
         subst (IsEnded content ends visits) (omega arith) (led_on i is 0 (s.begun i parts.0) parts.1),

@@ -13,10 +13,10 @@ use Rattle.chains.specs.Chains.{has}
 use Rattle.chains.specs.Worklists.{unmarked}
 use Rattle.chains.proofs.ListLemmas.{in_cons, in_none}
 use Rattle.model.specs.Content.{Content, Package, list_if}
+use Rattle.model.specs.Optional.{passes}
 use Rattle.model.specs.WellFormed.{IsContent}
 use Rattle.changes.specs.Searches.{AreBegun, IsSearched, IsSearching, IsVisited, is_end, is_in, places_below}
 use Rattle.changes.specs.Searches.{seen_with, visited}
-use Rattle.lockfile.specs.Search.{holds_at}
 use Rattle.changes.specs.Ways.{HasNoWay, IsShortest, is_way, lists}
 use Rattle.changes.specs.declared.searching.Visit.{Visit}
 use Rattle.changes.proofs.Leading.{way_ends}
@@ -67,45 +67,45 @@ of_cond true n i c = elim (in_cons n i [] c) [ inl e ↦ (refl, e) | inr c ↦ a
 of_cond false n i c = absurd (in_none i c)
 
 abbrev IsPlace : Content → (Package → Bool) → ℕ → ℕ → Type 0
-IsPlace content passes n i = (holds_at passes (slice_get content i) ≡ true) × (i < n)
+IsPlace content test n i = (passes test (slice_get content i) ≡ true) × (i < n)
 
-all_below : (content : Content) (passes : Package → Bool) (n i : ℕ) → i < n
-    → holds_at passes (slice_get content i) ≡ true → Contains (places_below content passes n) i
-all_below content passes zero i lt h = absurd (omega (arith, lt))
-all_below content passes (suc n) i lt h =
-    let last = cond (holds_at passes (slice_get content n)) (n ∷ []) [] in
+all_below : (content : Content) (test : Package → Bool) (n i : ℕ) → i < n
+    → passes test (slice_get content i) ≡ true → Contains (places_below content test n) i
+all_below content test zero i lt h = absurd (omega (arith, lt))
+all_below content test (suc n) i lt h =
+    let last = cond (passes test (slice_get content n)) (n ∷ []) [] in
     elim (cases_lt i n) [
-      | inl lt ↦ Contains-append_left (places_below content passes n) last i (all_below content passes n i lt h)
+      | inl lt ↦ Contains-append_left (places_below content test n) last i (all_below content test n i lt h)
       | inr ge ↦
           let here : n ≡ i = omega (arith, lt, ge) in
-          Contains-append_right (places_below content passes n) last i
+          Contains-append_right (places_below content test n) last i
           (subst (λ i. Contains last i) here
-          (in_cond (holds_at passes (slice_get content n)) n
-          (ap (λ i. holds_at passes (slice_get content i)) here ∙ h)))
+          (in_cond (passes test (slice_get content n)) n
+          (ap (λ i. passes test (slice_get content i)) here ∙ h)))
     ]
 
-only_below : (content : Content) (passes : Package → Bool) (n i : ℕ) → Contains (places_below content passes n) i
-    → IsPlace content passes n i
-only_below content passes zero i c = absurd (in_none i c)
-only_below content passes (suc n) i c =
-    let last = cond (holds_at passes (slice_get content n)) (n ∷ []) [] in
-    elim (Contains-append_cases (places_below content passes n) last i c) [
-      | inl c ↦ let p = only_below content passes n i c in (p.0, (let lt = p.1 in omega (arith, lt)))
+only_below : (content : Content) (test : Package → Bool) (n i : ℕ) → Contains (places_below content test n) i
+    → IsPlace content test n i
+only_below content test zero i c = absurd (in_none i c)
+only_below content test (suc n) i c =
+    let last = cond (passes test (slice_get content n)) (n ∷ []) [] in
+    elim (Contains-append_cases (places_below content test n) last i c) [
+      | inl c ↦ let p = only_below content test n i c in (p.0, (let lt = p.1 in omega (arith, lt)))
       | inr c ↦
-          let p = of_cond (holds_at passes (slice_get content n)) n i c in
-          (ap (λ i. holds_at passes (slice_get content i)) (sym p.1) ∙ p.0, (let here = p.1 in omega (arith, here)))
+          let p = of_cond (passes test (slice_get content n)) n i c in
+          (ap (λ i. passes test (slice_get content i)) (sym p.1) ∙ p.0, (let here = p.1 in omega (arith, here)))
     ]
 
-holds_below : (content : Content) (passes : Package → Bool) (i : ℕ) → holds_at passes (slice_get content i) ≡ true
+holds_below : (content : Content) (test : Package → Bool) (i : ℕ) → passes test (slice_get content i) ≡ true
     → i < length content
-holds_below [] passes i h = absurd (true≢false (sym h))
-holds_below (p ∷ ps) passes zero h = omega arith
-holds_below (p ∷ ps) passes (suc i) h = let lt = holds_below ps passes i h in omega (arith, lt)
+holds_below [] test i h = absurd (true≢false (sym h))
+holds_below (p ∷ ps) test zero h = omega arith
+holds_below (p ∷ ps) test (suc i) h = let lt = holds_below ps test i h in omega (arith, lt)
 
-pub roots_within : (content : Content) (passes : Package → Bool) (roots : List ℕ)
-    → roots ≡ places_below content passes (length content) → All (λ i. i < length content) roots
-roots_within content passes roots e k d lt =
-    (only_below content passes (length content) (get_or roots k d)
+pub roots_within : (content : Content) (test : Package → Bool) (roots : List ℕ)
+    → roots ≡ places_below content test (length content) → All (λ i. i < length content) roots
+roots_within content test roots e k d lt =
+    (only_below content test (length content) (get_or roots k d)
     (subst (λ js. Contains js (get_or roots k d)) e (Contains-get_or roots k d lt))).1
 
 -- ---- the beginning
@@ -270,7 +270,7 @@ module _ {X : Type 0} (p : X → Bool) where
   first_passes (z ∷ xs) x e = by (p z) refl e (λ e. first_passes xs x e) where
     by : (b : Bool) → p z ≡ b → cond b (Some z) (find p xs) ≡ Some x
         → (find p xs ≡ Some x → IsFirst xs x) → IsFirst (z ∷ xs) x
-    by true passes e rest = (zero, e, ap p (sym (same_Some z x e)) ∙ passes, λ l y at h. omega arith)
+    by true passed e rest = (zero, e, ap p (sym (same_Some z x e)) ∙ passed, λ l y at h. omega arith)
     by false fails e rest = let r = rest e in (suc r.0, r.1, r.2, later z xs r.0 fails r.3)
 
   pub none_passes : (xs : List X) → find p xs ≡ None
@@ -280,7 +280,7 @@ module _ {X : Type 0} (p : X → Bool) where
     by : (b : Bool) → p z ≡ b → cond b (Some z) (find p xs) ≡ None
         → (find p xs ≡ None → (k : ℕ) → slice_get xs k ≡ Some y → ⊥)
         → (l : ℕ) → slice_get (z ∷ xs) l ≡ Some y → ⊥
-    by true passes e rest l at = none-some z (sym e)
+    by true passed e rest l at = none-some z (sym e)
     by false fails e rest zero at = both_ways (p y) (ap p (sym (same_Some z y at)) ∙ fails) h
     by false fails e rest (suc l) at = rest e l at
 

@@ -1,5 +1,5 @@
 -- Visits by number, and what one more does to a search.
-use Rattle.std.proofs.Common.{◌≡◌, ◌<◌, ◌≤◌, ◌+◌, ◌⊎◌, ◌||◌, ℕ, zero, suc, nat_eq, Bool, true, false, List, [], ◌∷◌}
+use Rattle.std.proofs.Common.{◌≡◌, ◌<◌, ◌≤◌, ◌⊎◌, ◌||◌, ℕ, zero, suc, nat_eq, Bool, true, false, List, [], ◌∷◌}
 use Rattle.std.proofs.Common.{◌++◌, Some, length, set, refl, sym, ap, subst, subst₂, ◌∙◌, inl, inr, arith, true≢false}
 use Rattle.std.specs.Prelude.{if◌then◌else◌}
 use Rattle.std.specs.List.{slice_get}
@@ -7,7 +7,7 @@ use Rattle.std.proofs.lemmas.Bool.{cases_Bool, eq-eqb, eqb-true, or_cases}
 use Rattle.std.proofs.lemmas.List.{length-append}
 use Rattle.std.proofs.lemmas.Option.{none-some, same_Some, slice_get_within}
 use Rattle.chains.specs.Chains.{has}
-use Rattle.chains.specs.Worklists.{unmarked}
+use Rattle.chains.proofs.WorklistLemmas.{new_or_old, one_fewer}
 use Rattle.model.specs.Content.{Content, Package}
 use Rattle.changes.specs.Ways.{lists}
 use Rattle.changes.specs.Searches.{visit, visited, seen_with, is_in, IsLed, IsSeen, IsVisited, AreLed, AreSorted}
@@ -42,22 +42,6 @@ each_push P xs y old now k x at = elim (get_push_cases xs y k x at) [
 ]
 
 -- ---- what is seen
-
--- one more is seen
-seen_before : (s : List Bool) (to i : ℕ) → has (set s to true) i ≡ true → (to ≡ i) ⊎ (has s i ≡ true)
-seen_before [] to i h = inr h
-seen_before (b ∷ bs) zero zero h = inl refl
-seen_before (b ∷ bs) zero (suc i) h = inr h
-seen_before (b ∷ bs) (suc to) zero h = inr h
-seen_before (b ∷ bs) (suc to) (suc i) h =
-    elim (seen_before bs to i h) [ inl e ↦ inl (ap suc e) | inr m ↦ inr m ]
-
-one_fewer : (s : List Bool) (to : ℕ) → to < length s → has s to ≡ false → unmarked (set s to true) + 1 ≡ unmarked s
-one_fewer [] to lt h = absurd (omega arith)
-one_fewer (true ∷ bs) zero lt h = absurd (true≢false h)
-one_fewer (false ∷ bs) zero lt h = omega arith
-one_fewer (true ∷ bs) (suc to) lt h = one_fewer bs to (omega arith) h
-one_fewer (false ∷ bs) (suc to) lt h = let ih = one_fewer bs to (omega arith) h in omega arith
 
 length_set : (s : List Bool) (to : ℕ) → length (set s to true) ≡ length s
 length_set [] to = refl
@@ -160,7 +144,7 @@ module _ (content : Content) (begins : Package → Bool) (next : ℕ) (seen : Li
         within = omega (arith, s.within, longer);
         size = length_set seen place ∙ s.size;
         count = omega (arith, fewer, longer, s.count);
-        known = λ i h. elim (seen_before seen place i h) [
+        known = λ i h. elim (new_or_old seen place i h) [
           | inl is ↦ (length visits, new, get_push visits new, is)
           | inr h ↦ seen_more visits (new ∷ []) i (s.known i h)
         ];

@@ -6,7 +6,7 @@ use Rattle.std.specs.List.{list_any}
 use Rattle.chains.specs.Chains.{has}
 use Rattle.chains.specs.Worklists.{unmarked}
 use Rattle.model.specs.Content.{Content, Package}
-use Rattle.lockfile.specs.Search.{holds_at}
+use Rattle.model.specs.Optional.{passes}
 use Rattle.changes.specs.Ways.{lists}
 use Rattle.changes.specs.declared.searching.Visit.{Visit}
 
@@ -29,13 +29,13 @@ is_in js j = list_any (λ t. nat_eq t j) js
 
 -- the places of packages that pass
 abbrev pub places_below : Content → (Package → Bool) → ℕ → List ℕ
-places_below content passes zero = []
-places_below content passes (suc n) =
-    places_below content passes n ++ cond (holds_at passes (slice_get content n)) (n ∷ []) []
+places_below content test zero = []
+places_below content test (suc n) =
+    places_below content test n ++ cond (passes test (slice_get content n)) (n ∷ []) []
 
 -- a package at depth 0 begins; any other is listed by that of the visit before it, which is one nearer
 abbrev pub IsLed : Content → (Package → Bool) → List Visit → ℕ → ℕ → ℕ → Type 0
-IsLed content begins visits place before zero = holds_at begins (slice_get content place) ≡ true
+IsLed content begins visits place before zero = passes begins (slice_get content place) ≡ true
 IsLed content begins visits place before (suc depth) = (v : Visit) × (slice_get visits before ≡ Some v)
     × (v.depth ≡ depth) × (lists content v.place place ≡ true)
 
@@ -81,7 +81,7 @@ pub record IsSearching (content : Content) (begins : Package → Bool) (next : �
 
 -- all that begin were visited
 abbrev pub AreBegun : Content → (Package → Bool) → List Visit → Type 0
-AreBegun content begins visits = (i : ℕ) → holds_at begins (slice_get content i) ≡ true → IsVisited visits i 0
+AreBegun content begins visits = (i : ℕ) → passes begins (slice_get content i) ≡ true → IsVisited visits i 0
 
 -- what a search has in the end
 pub record IsSearched (content : Content) (begins : Package → Bool) (visits : List Visit) : Type 0 where
@@ -93,4 +93,4 @@ pub record IsSearched (content : Content) (begins : Package → Bool) (visits : 
 
 -- a visit to a package that passes
 abbrev pub is_end : Content → (Package → Bool) → Visit → Bool
-is_end content ends v = holds_at ends (slice_get content v.place)
+is_end content ends v = passes ends (slice_get content v.place)

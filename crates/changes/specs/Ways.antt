@@ -6,9 +6,9 @@ use Rattle.semver.specs.Parse.{Parts}
 use Rattle.manifest.specs.Manifests.{ManifestView}
 use Rattle.std.specs.Ordering.{is_eq}
 use Rattle.model.specs.Content.{Content, Package, list_if}
+use Rattle.model.specs.Optional.{passes}
 use Rattle.model.specs.Order.{version_cmp}
 use Rattle.model.specs.Summary.{same_text}
-use Rattle.lockfile.specs.Search.{holds_at}
 use Rattle.changes.specs.declared.ways.Why.{Why}
 use Rattle.changes.specs.declared.ways.Why.TheVariants.{Way, Absent, Unreached}
 
@@ -31,13 +31,13 @@ lists content i j = list_any (λ t. nat_eq t j) (list_if (slice_get content i))
 
 -- from the package at place i on each lists the next one, and the last one passes
 unfoldable pub leads : Content → (Package → Bool) → ℕ → List ℕ → Bool
-leads content passes i [] = holds_at passes (slice_get content i)
-leads content passes i (j ∷ js) = lists content i j && leads content passes j js
+leads content test i [] = passes test (slice_get content i)
+leads content test i (j ∷ js) = lists content i j && leads content test j js
 
 -- places of packages, from one that begins it to one that ends it, each listed by the one before
 abbrev pub is_way : Content → (Package → Bool) → (Package → Bool) → List ℕ → Bool
 is_way content begins ends [] = false
-is_way content begins ends (i ∷ is) = holds_at begins (slice_get content i) && leads content ends i is
+is_way content begins ends (i ∷ is) = passes begins (slice_get content i) && leads content ends i is
 
 -- a way that is no longer than any other
 abbrev pub IsShortest : Content → (Package → Bool) → (Package → Bool) → List ℕ → Type 0

@@ -6,12 +6,12 @@ ghost use Rattle.std.specs.List.{All, find};
 ghost use Rattle.semver.specs.Identifiers.{parts_of};
 ghost use Rattle.lockfile.specs.Views.{package_view, package_views};
 ghost use Rattle.model.specs.Content.{Content, list_if};
+ghost use Rattle.model.specs.Optional.{passes};
 ghost use Rattle.model.specs.Content as model;
 ghost use Rattle.model.specs.WellFormed.{IsContent};
 ghost use Rattle.chains.specs.Chains.{has};
 ghost use Rattle.changes.specs.Searches.{AreBehind, AreLed, IsBehind, IsLed, IsSearched, is_end, places_below};
 ghost use Rattle.changes.specs.Searches.{seen_with, visited};
-ghost use Rattle.lockfile.specs.Search.{holds_at};
 ghost use Rattle.changes.specs.Ways.{IsFound, is_meant, is_own, is_way};
 
 use crate::ways::{ends, is_own};
@@ -106,7 +106,7 @@ fn push_root(
     place: usize,
 ) -> Result<(), AllocError>
     ensures { OnOk result (found.new.items ≡ found.old.items
-        ++ cond (holds_at (is_own manifest.now) (slice_get (package_views packages.now) place)) (place ∷ []) []) }
+        ++ cond (passes (is_own manifest.now) (slice_get (package_views packages.now) place)) (place ∷ []) []) }
 {
     if begins(manifest, packages, place) {
         found.push(place)?;
@@ -116,7 +116,7 @@ fn push_root(
 
 /// Whether the root stands at a place.
 fn begins(manifest: &Manifest, packages: &[Package], place: usize) -> bool
-    ensures { result ≡ holds_at (is_own manifest.now) (slice_get (package_views packages.now) place) }
+    ensures { result ≡ passes (is_own manifest.now) (slice_get (package_views packages.now) place) }
 {
     match packages.get(place) {
         Some(package) => is_own(manifest, package),

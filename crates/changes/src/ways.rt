@@ -4,7 +4,7 @@ ghost use Rattle.std.specs.Prelude.{◌≡◌, ◌&&◌, nat_eq, IfOk, Some, opt
 ghost use Rattle.std.specs.List.{list_any};
 ghost use Rattle.semver.specs.Identifiers.{parts_of};
 ghost use Rattle.lockfile.specs.Views.{package_view, package_views};
-ghost use Rattle.lockfile.specs.Search.{holds_at};
+ghost use Rattle.model.specs.Optional.{passes};
 ghost use Rattle.changes.specs.Ways.{IsWhy, is_meant, is_own, is_version};
 
 use crate::searching::shortest_way;
@@ -94,7 +94,7 @@ pub(crate) fn ends(
     version: Option<&Version>,
     place: usize,
 ) -> bool
-    ensures { result ≡ holds_at (is_meant name.now (option_map (λ v. parts_of v.now) version.entry))
+    ensures { result ≡ passes (is_meant name.now (option_map (λ v. parts_of v.now) version.entry))
         (slice_get (package_views packages.now) place) }
 {
     match packages.get(place) {

@@ -1,8 +1,8 @@
 -- The last of the groups so far.
-use Rattle.std.proofs.Common.{◌≡◌, ℕ, ◌-◌, ◌<◌, ◌≤◌, zero, suc, List, [], ◌∷◌, ◌++◌, length, get_or, set, false, Some}
-use Rattle.std.proofs.Common.{None, Vec, slice_get, refl, sym, ap, ◌∙◌, inl, inr, arith}
+use Rattle.std.proofs.Common.{◌≡◌, ℕ, ◌-◌, ◌<◌, zero, suc, List, [], ◌∷◌, ◌++◌, length, get_or, set, Some}
+use Rattle.std.proofs.Common.{Vec, slice_get, sym, ap, ◌∙◌, arith}
 use Rattle.std.specs.declared.alloc.Global.{Global}
-use Rattle.std.proofs.lemmas.Option.{none-some, slice_get_cases, slice_get_within, get_or_from_slice_get}
+use Rattle.std.proofs.lemmas.Option.{slice_get_within, get_or_from_slice_get}
 use Rattle.model.specs.Selection as model
 use Rattle.model.specs.Vertices.{same_class}
 use Rattle.classes.specs.Classes.{class_view}
@@ -25,14 +25,6 @@ pub ends_in-some : (k : model.Class) (gs : List Held) (x : Held) → slice_get g
 ends_in-some k gs x h =
     let within : length gs - 1 < length gs = slice_get_within gs (length gs - 1) x h in
     ends_in-at k gs (length gs - 1) x (omega arith) (sym (get_or_from_slice_get gs (length gs - 1) x x h))
-
-pub ends_in-none : (k : model.Class) (gs : List Held) → slice_get gs (length gs - 1) ≡ None
-    → ends_in k (group_views gs) ≡ false
-ends_in-none k [] h = refl
-ends_in-none k (g ∷ gs) h = elim (slice_get_cases (g ∷ gs) (length (g ∷ gs) - 1)).1 [
-  | inl found ↦ absurd (none-some found.0 (sym h ∙ found.2))
-  | inr past ↦ (let over : length (g ∷ gs) ≤ length (g ∷ gs) - 1 = past.0 in absurd (omega arith))
-]
 
 last-set : (n : ℕ) (gs : List Held) (m : ℕ) (x : Held) (v : Vec ℕ Global) → suc m ≡ length gs → x ≡ get_or gs m x
     → v.items ≡ x.1.items ++ n ∷ []

@@ -1,6 +1,7 @@
 //! The versions that a requirement matches, class by class.
 
 ghost use Rattle.std.specs.Prelude.{◌≡◌, ◌≤◌, IfOk, OnOk, [], length, map};
+ghost use Rattle.std.specs.List.{list_any};
 ghost use Rattle.features.specs.Views.{requirement_view};
 ghost use Rattle.semver.specs.EvalViews.{matches_views};
 ghost use Rattle.semver.specs.Identifiers.{parts_of};
@@ -54,6 +55,15 @@ pub fn is_matched(requirement: &VersionReq, version: &Version) -> bool
     ensures { result ≡ matches_views (requirement_view requirement.now) (parts_of version.now) }
 {
     requirement.matches(version)
+}
+
+/// Whether the requirement matches some version.
+pub fn some_matched(requirement: &VersionReq, versions: &[Version]) -> bool
+    ensures { result ≡ list_any (λ v. matches_views (requirement_view requirement.now) (parts_of v)) versions.now }
+{
+    versions
+        .iter()
+        .any(|version| is_matched(requirement, version))
 }
 
 /// Puts a position to the last group if that is of its class, else to a new one.

@@ -19,7 +19,7 @@ mod rust_version;
 mod same;
 
 pub use class::Class;
-pub use grouping::{is_matched, matching};
+pub use grouping::{is_matched, matching, some_matched};
 pub use numbers::whole_number;
 pub use order::version_order;
 pub use rust_version::RustVersion;

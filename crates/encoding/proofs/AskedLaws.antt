@@ -12,7 +12,8 @@ use Rattle.encoding.specs.Asked.{Asks, asked_in, asked_so, feature_of}
 use Rattle.encoding.specs.CausesAt.{root_asked}
 use Rattle.encoding.specs.Lists.{Puts}
 use Rattle.encoding.specs.declared.asked.Wanted.{Wanted}
-use Rattle.encoding.proofs.ListLaws.{put_views, text-turned}
+use Rattle.encoding.proofs.ListLaws.{put_views}
+use Rattle.model.proofs.Flips.{text-flips}
 
 abbrev Pairs : Type 0
 Pairs = List (List ℕ × List ℕ)
@@ -51,7 +52,7 @@ module _ {S : Type 0} (m new : HashMap (Bor (List ℕ)) (Vec Wanted Global) S) w
 asked-alike : (x : List ℕ) (ps : Pairs)
     → asked_so x ps ≡ flat_map (λ (p : List ℕ × List ℕ). cond (same_text x p.0) (p.1 ∷ []) []) ps
 asked-alike x [] = refl
-asked-alike x (p ∷ ps) = ap₂ (λ b l. cond b (p.1 ∷ []) [] ++ l) (text-turned p.0 x) (asked-alike x ps)
+asked-alike x (p ∷ ps) = ap₂ (λ b l. cond b (p.1 ∷ []) [] ++ l) (text-flips p.0 x) (asked-alike x ps)
 
 pub root-asked : (q : Problem) (d : Dependency) → asked_so d.name q.root_asks ≡ root_asked q the_root d
 root-asked q d = asked-alike d.name q.root_asks

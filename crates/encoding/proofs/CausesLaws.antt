@@ -1,105 +1,47 @@
 -- The causes that are listed for a vertex and one of its states are those whose first term says so.
-use Rattle.std.proofs.Common.{◌≡◌, ◌≢◌, ◌↔◌, ◌+◌, ℕ, zero, suc, List, [], ◌∷◌, ◌++◌, map, Bool, true, false, not, cond}
-use Rattle.std.proofs.Common.{◌&&◌, ◌||◌, Contains, Option, Some, None, slice_get, nat_eq, refl, sym, ap, ◌∙◌, subst}
-use Rattle.std.proofs.Common.{inl, inr, arith, true≢false}
+use Rattle.std.proofs.Common.{◌≡◌, ◌≢◌, ◌↔◌, ◌+◌, ℕ, List, [], ◌∷◌, ◌++◌, map, Bool, true, false, not, cond}
+use Rattle.std.proofs.Common.{◌&&◌, ◌||◌, Contains, Option, Some, None, nat_eq, refl, sym, ap, ◌∙◌, subst}
+use Rattle.std.proofs.Common.{inl, inr, true≢false}
 use Rattle.std.specs.List.{list_any, flat_map}
 use Rattle.std.proofs.lemmas.Bool.{and_from}
-use Rattle.std.proofs.lemmas.Option.{none-some, same_Some}
 use Rattle.semver.specs.Parse.{Parts}
 use Rattle.model.specs.Summary.{Dependency, Entry, feature, dependency, dependency_feature, weak_feature}
 use Rattle.model.specs.Summary.{asked_of_target, same_text}
 use Rattle.model.specs.Content.{Problem, Candidate, candidates_of}
+use Rattle.model.specs.Optional.{passes}
 use Rattle.model.specs.Selection.{Class, class_of}
 use Rattle.model.specs.Vertices.{Owner, the_root, version_of, Vertex, root, pkg, dep, feat, ask, State, absent, present}
 use Rattle.model.specs.Vertices.{version, in_class, same_vertex, owner_brings, dep_classes, dep_space, class_candidates}
 use Rattle.model.specs.Vertices.{in_that_class, same_class, space}
 use Rattle.model.specs.Axioms.{is_lower, IsVertex, RootAsks}
+use Rattle.model.proofs.Flat.{in_flat, to_flat}
 use Rattle.model.proofs.Lists.{in_none, in_cons, in_first, in_rest, in_filter, in_map, to_map, any_of, to_any}
 use Rattle.model.proofs.Lists.{pairs_none}
 use Rattle.model.proofs.Same.{both, text-same, text-refl, class-same, class-refl}
 use Rattle.refutations.specs.Causes.{Cause, of_root, of_need, of_target, of_feature, of_list, of_ask, of_entry}
-use Rattle.refutations.specs.Causes.{of_enabling, of_asking, of_newest, of_weak, same_entry, enables, passes, is_needed}
+use Rattle.refutations.specs.Causes.{of_enabling, of_asking, of_newest, of_weak, same_entry, enables, is_needed}
 use Rattle.refutations.specs.Causes.{dependency_at, has_class, has_entry, some_entry, lists_feature, root_asks_for}
 use Rattle.refutations.specs.Causes.{same_pair, is_overtaken, is_weak_on, entries_of, table_of_owner, is_cause}
 use Rattle.refutations.specs.Listed.{classes_at, classes_if}
-use Rattle.refutations.proofs.Bools.{in_append-left, in_append-right, in_either}
+use Rattle.std.proofs.lemmas.List.Elements.{Contains-append_cases, Contains-append_right, Contains-append_left}
 use Rattle.refutations.proofs.Named.{entry-refl, passes-is, to_passes, has_entry-is, to_entry, row_of, class-is}
 use Rattle.refutations.proofs.Named.{to_class, to_lists, to_feature, to_some_entry}
 use Rattle.encoding.specs.Pairs.{Pair, owner_pair, first_pair, AreCausesAt}
 use Rattle.encoding.specs.CausesAt.{each_from, need_if, turned_if, weak_if, needs_of, entry_if, entry_causes}
 use Rattle.encoding.specs.CausesAt.{feature_causes, version_causes, root_asked, newest_above, newest_at, newest_if}
 use Rattle.encoding.specs.CausesAt.{lead_causes, causes_at, with_causes}
+use Rattle.encoding.proofs.Each.{from_if, in_all, only_one, to_all, to_if}
 use Rattle.encoding.proofs.SameCauses.{all_once, same_ones}
 
--- ---- lists
+-- ---- tests
 
-module _ {X : Type 0} where
-  in_flat : {Y : Type 0} (f : X → List Y) (xs : List X) (y : Y) → Contains (flat_map f xs) y
-      → (x : X) × Contains xs x × Contains (f x) y
-  in_flat f [] y c = absurd (in_none y c)
-  in_flat f (x ∷ xs) y c = elim (in_either (f x) (flat_map f xs) y c) [
-    | inl d ↦ (x, in_first x xs, d)
-    | inr d ↦ let r = in_flat f xs y d in (r.0, in_rest x r.0 xs r.1, r.2)
-  ]
-
-  to_flat : {Y : Type 0} (f : X → List Y) (xs : List X) (x : X) (y : Y) → Contains xs x → Contains (f x) y
-      → Contains (flat_map f xs) y
-  to_flat f [] x y c d = absurd (in_none x c)
-  to_flat f (z ∷ xs) x y c d = elim (in_cons z x xs c) [
-    | inl e ↦ in_append-left (f z) (flat_map f xs) y (subst (λ w. Contains (f w) y) (sym e) d)
-    | inr c ↦ in_append-right (f z) (flat_map f xs) y (to_flat f xs x y c d)
-  ]
-
-  -- what is given for an element of a list, at its number
-  pub in_each : (f : ℕ → X → List Cause) (n : ℕ) (xs : List X) (c : Cause) → Contains (each_from f n xs) c
-      → (i : ℕ) × (x : X) × (slice_get xs i ≡ Some x) × Contains (f (n + i) x) c
-  in_each f n [] c h = absurd (in_none c h)
-  in_each f n (x ∷ xs) c h = elim (in_either (f n x) (each_from f (n + 1) xs) c h) [
-    | inl d ↦ let z : n ≡ n + 0 = omega arith in (zero, x, refl, subst (λ k. Contains (f k x) c) z d)
-    | inr d ↦ let r = in_each f (n + 1) xs c d in let z : (n + 1) + r.0 ≡ n + suc r.0 =
-        omega arith in (suc r.0, r.1, r.2, subst (λ k. Contains (f k r.1) c) z r.3)
-  ]
-
-  pub to_each : (f : ℕ → X → List Cause) (n : ℕ) (xs : List X) (i : ℕ) (x : X) (c : Cause) → slice_get xs i ≡ Some x
-      → Contains (f (n + i) x) c → Contains (each_from f n xs) c
-  to_each f n [] i x c e h = absurd (none-some x e)
-  to_each f n (z ∷ xs) zero x c e h =
-      let k : n + 0 ≡ n = omega arith in
-      in_append-left (f n z) (each_from f (n + 1) xs) c
-      (subst (λ w. Contains (f n w) c) (sym (same_Some z x e)) (subst (λ m. Contains (f m x) c) k h))
-  to_each f n (z ∷ xs) (suc i) x c e h =
-      let k : n + suc i ≡ (n + 1) + i = omega arith in
-      in_append-right (f n z) (each_from f (n + 1) xs) c
-      (to_each f (n + 1) xs i x c e (subst (λ m. Contains (f m x) c) k h))
-
--- the same where the first has the number 0
-in_all : (f : ℕ → Dependency → List Cause) (ds : List Dependency) (c : Cause) → Contains (each_from f 0 ds) c
-    → (i : ℕ) × (d : Dependency) × (slice_get ds i ≡ Some d) × Contains (f i d) c
-in_all f ds c h = let r = in_each f 0 ds c h in let z : 0 + r.0 ≡ r.0 =
-    omega arith in (r.0, r.1, r.2, subst (λ k. Contains (f k r.1) c) z r.3)
-
-to_all : (f : ℕ → Dependency → List Cause) (ds : List Dependency) (i : ℕ) (d : Dependency) (c : Cause)
-    → slice_get ds i ≡ Some d → Contains (f i d) c → Contains (each_from f 0 ds) c
-to_all f ds i d c e h = let z : i ≡ 0 + i = omega arith in to_each f 0 ds i d c e (subst (λ k. Contains (f k d) c) z h)
-
--- what stands in a list only if a test passes, ..
-from_if : {X : Type 0} (b : Bool) (c : X) (cs : List X) → Contains (cond b cs []) c → (b ≡ true) × Contains cs c
-from_if true c cs h = (refl, h)
-from_if false c cs h = absurd (in_none c h)
-
-to_if : {X : Type 0} (b : Bool) (c : X) (cs : List X) → b ≡ true → Contains cs c → Contains (cond b cs []) c
-to_if b c cs e h = subst (λ x. Contains (cond x cs []) c) (sym e) h
-
--- .. or only if it doesn't
+-- what stands in a list only if a test doesn't pass
 from_unless : {X : Type 0} (b : Bool) (c : X) (cs : List X) → Contains (cond b [] cs) c → (b ≡ false) × Contains cs c
 from_unless true c cs h = absurd (in_none c h)
 from_unless false c cs h = (refl, h)
 
 to_unless : {X : Type 0} (b : Bool) (c : X) (cs : List X) → b ≡ false → Contains cs c → Contains (cond b [] cs) c
 to_unless b c cs e h = subst (λ x. Contains (cond x [] cs) c) (sym e) h
-
-only_one : {X : Type 0} (a c : X) → Contains (a ∷ []) c → c ≡ a
-only_one a c h = elim (in_cons a c [] h) [ inl e ↦ sym e | inr d ↦ absurd (in_none c d) ]
 
 not-true : (b : Bool) → not b ≡ true → b ≡ false
 not-true true h = sym h
@@ -124,7 +66,7 @@ module _ (q : Problem) where
   entry_there name v f e c t h =
       let r = has_entry-is q name v f e t in
       let row = row_of q (table_of_owner q (version_of name v)) f r.1 r.2 in
-      in_append-right (needs_of q (version_of name v))
+      Contains-append_right (needs_of q (version_of name v))
       (flat_map (λ row. feature_causes q name v row.0) (table_of_owner q (version_of name v))) c
       (to_flat (λ row. feature_causes q name v row.0) (table_of_owner q (version_of name v)) row.0 c row.1
       (subst (λ g. Contains (feature_causes q name v g) c) row.2
@@ -134,7 +76,7 @@ module _ (q : Problem) where
       → has_entry q name v f e ≡ true → dependency_at q (version_of name v) i ≡ Some d
       → Contains (entry_if q name v f e i d) c → Contains (version_causes q name v) c
   on_dep name v f e i d c t at h = entry_there name v f e c t
-      (in_append-right (turned_if name v f e)
+      (Contains-append_right (turned_if name v f e)
       (each_from (entry_if q name v f e) 0 (owner_brings q (version_of name v)).dependencies) c
       (to_all (entry_if q name v f e) (owner_brings q (version_of name v)).dependencies i d c at h))
 
@@ -169,9 +111,9 @@ module _ (q : Problem) where
     where
       by : (b : Bool) → list_any (same_text g) (asked_of_target d) ≡ b → (b || root_asks_for q o d g) ≡ true
           → Contains (asked_of_target d ++ root_asked q o d) g
-      by true e h = let r = any_of (same_text g) (asked_of_target d) e in in_append-left (asked_of_target d)
+      by true e h = let r = any_of (same_text g) (asked_of_target d) e in Contains-append_left (asked_of_target d)
           (root_asked q o d) g (subst (Contains (asked_of_target d)) (sym (text-same g r.0 r.2)) r.1)
-      by false e h = in_append-right (asked_of_target d) (root_asked q o d) g (root_asked_there o d g h)
+      by false e h = Contains-append_right (asked_of_target d) (root_asked q o d) g (root_asked_there o d g h)
 
   newest_there : (o : Owner) (i j : ℕ) (k m : Class) (d e : Dependency) → dependency_at q o j ≡ Some e
       → nat_eq i j ≡ false → is_overtaken q k m d e ≡ true
@@ -197,7 +139,7 @@ module _ (q : Problem) where
   is_listed of_root t = in_first of_root []
   is_listed (of_need the_root i) t = need_there the_root i t
   is_listed (of_need (version_of name v) i) t =
-      in_append-left (needs_of q (version_of name v)) (flat_map (λ row. feature_causes q name v row.0)
+      Contains-append_left (needs_of q (version_of name v)) (flat_map (λ row. feature_causes q name v row.0)
       (table_of_owner q (version_of name v))) (of_need (version_of name v) i) (need_there (version_of name v) i t)
   is_listed (of_target o i k) t = let r = passes-is (has_class q k) (dependency_at q o i) t in
       lead_there o i k r.0 (of_target o i k) r.1 (in_first (of_target o i k) _)
@@ -206,7 +148,7 @@ module _ (q : Problem) where
       let r = passes-is (λ d. has_class q k d && lists_feature q o d g) (dependency_at q o i) t in
       let a = both (has_class q k r.0) (lists_feature q o r.0 g) r.2 in
       lead_there o i k r.0 (of_list o i k g) r.1 (in_rest (of_target o i k) (of_list o i k g) _
-      (in_append-left (map (of_list o i k) (asked_of_target r.0 ++ root_asked q o r.0)) _ (of_list o i k g)
+      (Contains-append_left (map (of_list o i k) (asked_of_target r.0 ++ root_asked q o r.0)) _ (of_list o i k g)
       (to_map (of_list o i k) (asked_of_target r.0 ++ root_asked q o r.0) g (asked_there o r.0 g a.1))))
   is_listed (of_ask name v i g k) t =
       let r = passes-is (λ d. has_class q k d && some_entry q (same_entry (dependency_feature d.name g)) name v)
@@ -217,7 +159,8 @@ module _ (q : Problem) where
   is_listed (of_entry name v f g) t =
       let a = both (has_entry q name v f (feature g)) (not (same_text f g)) t in
       entry_there name v f (feature g) (of_entry name v f g) a.0
-      (in_append-left (turned_if name v f (feature g)) _ (of_entry name v f g) (to_unless (same_text f g) (of_entry name
+      (Contains-append_left (turned_if name v f (feature g)) _ (of_entry name v f g)
+      (to_unless (same_text f g) (of_entry name
       v f g) (of_entry name v f g ∷ []) (not-true (same_text f g) a.1) (in_first (of_entry name v f g) [])))
   is_listed (of_enabling name v f e i) t =
       let a =
@@ -237,7 +180,7 @@ module _ (q : Problem) where
       let r = passes-is (λ d. passes (is_overtaken q k m d) (dependency_at q o j)) (dependency_at q o i) x.1 in
       let s = passes-is (is_overtaken q k m r.0) (dependency_at q o j) r.2 in
       lead_there o i k r.0 (of_newest o i j k m) r.1 (in_rest (of_target o i k) (of_newest o i j k m) _
-      (in_append-right (map (of_list o i k) (asked_of_target r.0 ++ root_asked q o r.0)) _ (of_newest o i j k m)
+      (Contains-append_right (map (of_list o i k) (asked_of_target r.0 ++ root_asked q o r.0)) _ (of_newest o i j k m)
       (newest_there o i j k m r.0 s.0 s.1 (not-true (nat_eq i j) x.0) s.2)))
   is_listed (of_weak name v f g i k) t =
       let r = passes-is (is_weak_on q name v f g k) (dependency_at q (version_of name v) i) t in
@@ -352,7 +295,7 @@ module _ (q : Problem) where
         → Contains (entry_causes q name v f e) c → Here c
     entry_back e c i h =
         let t : has_entry q name v f e ≡ true = to_any (same_entry e) (entries_of q name v f) e i (entry-refl e) in
-        elim (in_either (turned_if name v f e)
+        elim (Contains-append_cases (turned_if name v f e)
         (each_from (entry_if q name v f e) 0 (owner_brings q (version_of name v)).dependencies) c h) [
           | inl a ↦ turned_back e c t a
           | inr b ↦ let r = in_all (entry_if q name v f e) (owner_brings q (version_of name v)).dependencies c b in
@@ -361,7 +304,7 @@ module _ (q : Problem) where
 
   version_back : (name : List ℕ) (v : Parts) (c : Cause) → Contains (version_causes q name v) c
       → Is (pkg name (class_of v)) (version v) c
-  version_back name v c h = elim (in_either (needs_of q (version_of name v))
+  version_back name v c h = elim (Contains-append_cases (needs_of q (version_of name v))
       (flat_map (λ row. feature_causes q name v row.0) (table_of_owner q (version_of name v))) c h) [
         | inl a ↦ need_back (version_of name v) c a
         | inr b ↦ let r = in_flat (λ row. feature_causes q name v row.0) (table_of_owner q (version_of name v)) c b in
@@ -389,7 +332,7 @@ module _ (q : Problem) where
         thus _ _ (of_list o i k g) c is
         (to_passes (λ d. has_class q k d && lists_feature q o d g) (dependency_at q o i) d at
         (and_from (has_class q k d) (lists_feature q o d g) has
-        (to_lists q o d g (elim (in_either (asked_of_target d) (root_asked q o d) g h)
+        (to_lists q o d g (elim (Contains-append_cases (asked_of_target d) (root_asked q o d) g h)
         [ inl a ↦ inl a | inr b ↦ inr (root_asked_back o d g b) ])))) refl
 
     newest_back : (m : Class) (j : ℕ) (e : Dependency) (c : Cause) → Contains (dep_classes q d) m
@@ -425,7 +368,7 @@ module _ (q : Problem) where
     lead_back c h = elim (in_cons (of_target o i k) c (map (of_list o i k) (asked_of_target d ++ root_asked q o d)
         ++ flat_map (newest_above q o i k d) (dep_classes q d)) h) [
           | inl e ↦ thus _ _ (of_target o i k) c (sym e) (to_passes (has_class q k) (dependency_at q o i) d at has) refl
-          | inr r ↦ elim (in_either (map (of_list o i k) (asked_of_target d ++ root_asked q o d))
+          | inr r ↦ elim (Contains-append_cases (map (of_list o i k) (asked_of_target d ++ root_asked q o d))
               (flat_map (newest_above q o i k d) (dep_classes q d)) c r) [
                 | inl a ↦ let m =
                     in_map (of_list o i k) (asked_of_target d ++ root_asked q o d) c a in list_back m.0 c m.1 (sym m.2)

@@ -3,13 +3,14 @@
 use Rattle.std.proofs.Common.{◌≡◌, List, [], ◌∷◌, Bool, true, ◌&&◌, not, Option, Some, None, nat_eq, sym, ◌∙◌, inl, inr}
 use Rattle.model.specs.Summary.{Dependency, dependency_feature}
 use Rattle.model.specs.Content.{Problem}
+use Rattle.model.specs.Optional.{passes}
 use Rattle.model.specs.Vertices.{Owner, the_root, version_of, Vertex, State}
 use Rattle.model.specs.Axioms.{Term, HasOneOf, IsBroken, owner_holds}
 use Rattle.model.proofs.Same.{both}
 use Rattle.model.proofs.Spaces.{state_from}
 use Rattle.model.proofs.Lists.{in_cons, in_none}
 use Rattle.refutations.specs.Causes.{Cause, of_root, of_need, of_target, of_feature, of_list, of_ask, of_entry}
-use Rattle.refutations.specs.Causes.{of_enabling, of_asking, of_newest, of_weak, same_entry, passes, dependency_at}
+use Rattle.refutations.specs.Causes.{of_enabling, of_asking, of_newest, of_weak, same_entry, dependency_at}
 use Rattle.refutations.specs.Causes.{has_class, some_entry, lists_feature, is_overtaken, is_weak_on, is_cause}
 use Rattle.refutations.specs.Causes.{terms_with, terms_of_cause}
 use Rattle.refutations.proofs.Named.{passes-is}

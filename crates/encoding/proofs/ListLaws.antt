@@ -1,13 +1,13 @@
 -- A value that is put behind those of its text is there, and no other text has it.
 use Rattle.std.proofs.Common.{◌≡◌, ℕ, List, [], ◌∷◌, ◌++◌, Bool, true, false, cond, Some, None, Vec, map, refl, sym, ap}
-use Rattle.std.proofs.Common.{◌∙◌, true≢false}
+use Rattle.std.proofs.Common.{◌∙◌}
 use Rattle.std.specs.Borrow.{Bor}
 use Rattle.std.specs.HashMap.{HashMap, get}
 use Rattle.std.specs.Map.{lookup}
 use Rattle.std.specs.declared.alloc.Global.{Global}
 use Rattle.std.proofs.lemmas.List.{append-nil, map-append}
 use Rattle.model.specs.Summary.{same_text}
-use Rattle.model.proofs.Same.{text-refl, text-same}
+use Rattle.model.proofs.Same.{text-same}
 use Rattle.encoding.specs.Lists.{Puts, if_some, listed_in, same_name}
 
 module _ {T S : Type 0} (m new : HashMap (Bor (List ℕ)) (Vec T Global) S) (text : Bor (List ℕ))
@@ -53,13 +53,3 @@ put_views view m new text value put x =
     by : (b : Bool) → map view (cond b (value ∷ []) []) ≡ cond b (view value ∷ []) []
     by true = refl
     by false = refl
-
--- it doesn't matter which text is asked for
-pub text-turned : (x y : List ℕ) → same_text x y ≡ same_text y x
-text-turned x y = by (same_text x y) (same_text y x) refl refl
-  where
-    by : (a b : Bool) → same_text x y ≡ a → same_text y x ≡ b → a ≡ b
-    by true true e f = refl
-    by false false e f = refl
-    by true false e f = absurd (true≢false (sym (text-refl y) ∙ ap (same_text y) (sym (text-same x y e)) ∙ f))
-    by false true e f = absurd (true≢false (sym (text-refl x) ∙ ap (same_text x) (sym (text-same y x f)) ∙ e))

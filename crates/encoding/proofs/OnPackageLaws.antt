@@ -10,6 +10,7 @@ use Rattle.model.specs.Selection.{Class}
 use Rattle.model.specs.Summary.{Dependency, same_text}
 use Rattle.model.specs.Vertices.{Owner, dep_classes}
 use Rattle.model.proofs.Same.{both}
+use Rattle.model.proofs.Flips.{text-flips}
 use Rattle.refutations.specs.Causes.{Cause}
 use Rattle.encoding.specs.Called.{numbered_from, numbered_view, numbered_views, those_views}
 use Rattle.encoding.specs.CausesAt.{each_from, newest_at, newest_if}
@@ -17,7 +18,7 @@ use Rattle.encoding.specs.Lists.{Puts}
 use Rattle.encoding.specs.OnPackage.{PutsOn, is_other, on_in, on_package, others_on}
 use Rattle.encoding.specs.declared.called.Numbered.{Numbered}
 use Rattle.encoding.proofs.CalledLaws.{each_in}
-use Rattle.encoding.proofs.ListLaws.{put_views, text-turned}
+use Rattle.encoding.proofs.ListLaws.{put_views}
 
 -- one that is put stands behind those that are on its package
 pub puts_on : {S : Type 0} (m new : HashMap (Bor (List ℕ)) (Vec Numbered Global) S) (name : Bor (List ℕ))
@@ -38,7 +39,7 @@ module _ (q : Problem) (o : Owner) (i : ℕ) (k : Class) (d : Dependency) (m : C
   none_if false false cs h = refl
 
   off_package : (j : ℕ) (e : Dependency) → same_text e.real_name d.real_name ≡ false → newest_if q o i k d m j e ≡ []
-  off_package j e h = by (nat_eq i j) (same_text d.real_name e.real_name) (text-turned d.real_name e.real_name ∙ h)
+  off_package j e h = by (nat_eq i j) (same_text d.real_name e.real_name) (text-flips d.real_name e.real_name ∙ h)
     where
       by : (a b : Bool) → b ≡ false → cond a [] (cond b (flat_map (newest_at o i j k m) (dep_classes q e)) []) ≡ []
       by true b f = refl
@@ -51,7 +52,7 @@ module _ (q : Problem) (o : Owner) (i : ℕ) (k : Class) (d : Dependency) (m : C
     pub each_on : (ds : List Dependency)
         → flat_map g (on_package d.real_name (numbered_from 0 ds)) ≡ each_from (newest_if q o i k d m) 0 ds
     each_on ds = each_in (newest_if q o i k d m) g (λ p. same_text p.1.real_name d.real_name) off_package
-        (λ j e t. on j e (text-turned d.real_name e.real_name ∙ t)) 0 ds
+        (λ j e t. on j e (text-flips d.real_name e.real_name ∙ t)) 0 ds
 
     -- .. and of these the others
     pub each_other : (ds : List Dependency)

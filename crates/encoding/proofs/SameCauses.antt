@@ -9,7 +9,7 @@ use Rattle.model.proofs.Lists.{in_first, in_rest, any_of, to_any}
 use Rattle.refutations.specs.Causes as model
 use Rattle.refutations.specs.Causes.{same_entry}
 use Rattle.refutations.specs.Listed.{same_cause}
-use Rattle.refutations.proofs.Bools.{in_append-left, in_append-right}
+use Rattle.std.proofs.lemmas.List.Elements.{Contains-append_right, Contains-append_left}
 use Rattle.refutations.proofs.Listing.{cause-same, cause-refl}
 use Rattle.encoding.specs.GivenViews.{cause_views}
 use Rattle.named_terms.specs.CauseViews.{cause_view}
@@ -230,8 +230,8 @@ to_one cs x c h = by (list_any (same_cause x) cs) refl h
     by : (b : Bool) → list_any (same_cause x) cs ≡ b → Contains cs c ⊎ (x ≡ c) → Contains (cond b cs (cs ++ x ∷ [])) c
     by true e (inl i) = i
     by true e (inr s) = let r = any_of (same_cause x) cs e in subst (Contains cs) (sym (cause-same x r.0 r.2) ∙ s) r.1
-    by false e (inl i) = in_append-left cs (x ∷ []) c i
-    by false e (inr s) = in_append-right cs (x ∷ []) c (subst (Contains (x ∷ [])) s (in_first x []))
+    by false e (inl i) = Contains-append_left cs (x ∷ []) c i
+    by false e (inr s) = Contains-append_right cs (x ∷ []) c (subst (Contains (x ∷ [])) s (in_first x []))
 
 from_all_causes : (cs xs : List model.Cause) (c : model.Cause) → Contains (with_causes cs xs) c
     → Contains cs c ⊎ Contains xs c

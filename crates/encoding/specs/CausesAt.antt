@@ -16,7 +16,7 @@ use Rattle.refutations.specs.Causes.{entries_of, table_of_owner}
 use Rattle.refutations.specs.Listed.{classes_at, same_cause}
 
 -- what each of a list gives, with its number; the first has the number n
-abbrev pub each_from : {X : Type 0} → (ℕ → X → List Cause) → ℕ → List X → List Cause
+abbrev pub each_from : {X Y : Type 0} → (ℕ → X → List Y) → ℕ → List X → List Y
 each_from f n [] = []
 each_from f n (x ∷ xs) = f n x ++ each_from f (n + 1) xs
 

@@ -12,7 +12,7 @@ ghost use Rattle.model.specs.Summary as model;
 ghost use Rattle.model.specs.Summary.{same_text};
 ghost use Rattle.model.specs.Vertices as model_vertices;
 ghost use Rattle.model.specs.Vertices.{feat, owner_brings, same_vertex};
-ghost use Rattle.refutations.specs.Causes.{is_needed, of_asking, of_enabling, table_of_owner};
+ghost use Rattle.refutations.specs.Causes.{of_asking, of_enabling, table_of_owner};
 ghost use Rattle.encoding.specs.Called.{AreOfVersion, called_so, named_by, numbered_from, numbered_views};
 ghost use Rattle.encoding.specs.GivenViews.{cause_views};
 ghost use Rattle.encoding.specs.CausesAt.{each_from, entry_causes, entry_if, feature_causes, need_if, turned_if};
@@ -27,6 +27,7 @@ use crate::possible_classes::classes_of;
 use classes::{Class, same_class};
 use features::{Dependency, Entry, FeatureName, FeatureTable, PackageName};
 use indexmap::IndexSet;
+use looking_up::is_needed;
 use named_terms::Cause;
 use semver::Version;
 use std::alloc::{AllocError, Global};
@@ -38,16 +39,6 @@ pub(crate) struct Own<'a> {
     pub(crate) name: &'a PackageName,
     pub(crate) version: &'a Version,
     pub(crate) feature: &'a FeatureName,
-}
-
-/// Whether the owner needs the dependency: the root each one, a version those that aren't optional.
-fn is_needed(owner: &OwnerRef<'_>, dependency: &Dependency) -> bool
-    ensures { result ≡ is_needed (owner_ref_view owner.now) (dependency_view dependency.now) }
-{
-    match owner {
-        OwnerRef::Root => true,
-        OwnerRef::Version(_, _) => !dependency.optional,
-    }
 }
 
 /// The dependencies that the owner needs.

@@ -87,6 +87,16 @@ fn two_states(
     Ok(TestedTerm { vertex, tests })
 }
 
+/// The versions of the package in the class that pass, and absent first.
+fn package_term<'a>(name: &'a PackageName, class: Class, tests: Vec<bool>) -> TestedTerm<'a>
+    ensures { tested_view result ≡ (model.pkg name.entry.now (class_view class), tests.items) }
+{
+    TestedTerm {
+        vertex: VertexRef::Package(name, class),
+        tests,
+    }
+}
+
 /// The owner counts.
 fn holds<'a>(
     alloc: Global,
@@ -115,10 +125,7 @@ fn chosen<'a>(
     let class = Class::of(version);
     let versions = class_versions(known.catalogue, name, class);
     let tests = chosen_tests(alloc, version, versions)?;
-    Ok(TestedTerm {
-        vertex: VertexRef::Package(name, class),
-        tests,
-    })
+    Ok(package_term(name, class, tests))
 }
 
 /// The feature of the version is on, or off.
@@ -302,10 +309,7 @@ fn left<'a>(
 {
     let versions = class_versions(known.catalogue, &dependency.real_name, class);
     let tests = left_tests(alloc, &dependency.requirement, versions)?;
-    Ok(TestedTerm {
-        vertex: VertexRef::Package(&dependency.real_name, class),
-        tests,
-    })
+    Ok(package_term(&dependency.real_name, class, tests))
 }
 
 /// The package has a version of the class that is matched.
@@ -323,10 +327,7 @@ fn taken<'a>(
 {
     let versions = class_versions(known.catalogue, &dependency.real_name, class);
     let tests = taken_tests(alloc, &dependency.requirement, versions)?;
-    Ok(TestedTerm {
-        vertex: VertexRef::Package(&dependency.real_name, class),
-        tests,
-    })
+    Ok(package_term(&dependency.real_name, class, tests))
 }
 
 /// The package is absent or has a version of the class that lacks the feature.
@@ -344,10 +345,7 @@ fn lacking<'a>(
     catalogues_are_well_formed(known.manifest, known.catalogue);
     let versions = class_versions(known.catalogue, name, class);
     let tests = lacking_tests(alloc, known, name, feature, versions)?;
-    Ok(TestedTerm {
-        vertex: VertexRef::Package(name, class),
-        tests,
-    })
+    Ok(package_term(name, class, tests))
 }
 
 fn feature_terms<'a>(

@@ -15,6 +15,7 @@ use Rattle.model.specs.Facts.Holds.{starts, arrives, root_needs, needs, asks, ro
 use Rattle.model.specs.Facts.Holds.{enables_for, wants, wants_weakly}
 use Rattle.model.proofs.Same.{text-refl}
 use Rattle.model.proofs.Lists.{in_none, in_first, in_rest, to_filter, all_get}
+use Rattle.model.proofs.Flat.{to_flat, in_flat}
 use Rattle.manifest.specs.Manifests.{root_asks, asked_by}
 use Rattle.facts.specs.Graphs.{NodeView, brings_if, starts_if, target_if, brings_at, target_at, IsFactOf, AreWithin}
 use Rattle.facts.specs.Graphs.{IsGraph}
@@ -22,7 +23,7 @@ use Rattle.facts.specs.FactNumbers.{LinkView, FactNumbersView}
 use Rattle.facts.specs.RuleLists.{one, both, number_on, package_at, ask, ask_features, arrive, is_needed, need}
 use Rattle.facts.specs.RuleLists.{enable_all, ask_all, entry_rules, root_rules, all_rules}
 use Rattle.facts.proofs.Numbers.{Mark, IsLink}
-use Rattle.facts.proofs.Members.{in_flat, to_flat, in_one, get_contains, to_link, to_entry, to_root}
+use Rattle.facts.proofs.Members.{in_one, get_contains, to_link, to_entry, to_root}
 use Rattle.facts.proofs.Sound.{IsTable, At}
 
 some_inner : {X : Type 0} (x y : X) → Some x ≡ Some y → x ≡ y

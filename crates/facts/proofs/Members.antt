@@ -8,25 +8,11 @@ use Rattle.chains.specs.declared.rule.Rule.{Rule}
 use Rattle.model.specs.Summary.{Entry, Table, entries_at, same_text}
 use Rattle.model.proofs.Same.{text-same}
 use Rattle.model.proofs.Lists.{in_none, in_cons, in_first, in_rest}
+use Rattle.model.proofs.Flat.{to_flat}
 use Rattle.facts.specs.FactNumbers.{LinkView, FactNumbersView}
 use Rattle.facts.specs.RuleLists.{number_on, link_rules, entry_rules, root_rules, root_entries, root_table}
 use Rattle.facts.specs.RuleLists.{entries_rules, feature_rules, features_rules, table_rules, package_rules, rules_from}
 use Rattle.facts.specs.RuleLists.{all_rules}
-
-module _ {X Y : Type 0} (f : X → List Y) where
-  pub in_flat : (xs : List X) (y : Y) → Contains (flat_map f xs) y → (x : X) × Contains xs x × Contains (f x) y
-  in_flat [] y c = absurd (in_none y c)
-  in_flat (x ∷ xs) y c = elim (Contains-append_cases (f x) (flat_map f xs) y c) [
-    | inl c ↦ (x, in_first x xs, c)
-    | inr c ↦ let r = in_flat xs y c in (r.0, in_rest x r.0 xs r.1, r.2)
-  ]
-
-  pub to_flat : (xs : List X) (x : X) (y : Y) → Contains xs x → Contains (f x) y → Contains (flat_map f xs) y
-  to_flat [] x y c e = absurd (in_none x c)
-  to_flat (z ∷ xs) x y c e = elim (in_cons z x xs c) [
-    | inl s ↦ Contains-append_left (f z) (flat_map f xs) y (subst (λ w. Contains (f w) y) (sym s) e)
-    | inr c ↦ Contains-append_right (f z) (flat_map f xs) y (to_flat xs x y c e)
-  ]
 
 module _ {X : Type 0} where
   pub in_one : (x y : X) → Contains (x ∷ []) y → x ≡ y

@@ -11,22 +11,16 @@ use Rattle.std.specs.declared.alloc.Global.{Global}
 use Rattle.std.proofs.lemmas.Map.Lookups.{exact_bytes}
 use Rattle.std.proofs.lemmas.List.{length-append, append_assoc, append-nil, map-append}
 use Rattle.features.specs.Tables.{rows_of}
+use Rattle.features.specs.Texts.{borrowed_cmp}
+use Rattle.features.specs.TextMaps.{at_text}
 use Rattle.features.specs.declared.entry.Entry.{Entry}
+use Rattle.features.proofs.TextMaps.{at_text-get}
 use Rattle.model.specs.Summary.{same_text}
 use Rattle.model.proofs.Same.{text-same}
 use Rattle.facts.specs.Graphs.{NodeView}
 use Rattle.facts.specs.declared.fact_numbers.Link.{Link}
-use Rattle.facts.specs.FactNumbers.{at_text, number_in, unmarked_for, link_view, link_views, links_if, links_called}
+use Rattle.facts.specs.FactNumbers.{number_in, unmarked_for, link_view, link_views, links_if, links_called}
 use Rattle.facts.specs.FactNumbers.{flags_of, flags_of_all, FactNumbersView, IsNumberedFrom, AreNumberedFrom}
-
-abbrev pub str_cmp : Bor (List ℕ) → Bor (List ℕ) → Ordering
-str_cmp x y = slice_cmp nat_cmp x.now y.now
-
--- a map's look-up is by text
-pub at_text-get : {X : Type 0} (f : List ℕ) (es : List (Bor (List ℕ) × X))
-    → lookup (is_at (λ k. slice_cmp nat_cmp f k.now)) es ≡ at_text es f
-at_text-get f [] = refl
-at_text-get f (e ∷ es) = ap₂ (λ b o. cond b (Some e.1) o) (sym (texts_ties f e.0.now)) (at_text-get f es)
 
 shadowed : {X : Type 0} (b : Bool) (v w : X) (o : Option X) → cond b (Some v) o ≡ cond b (Some v) (cond b (Some w) o)
 shadowed true v w o = refl
@@ -39,19 +33,19 @@ not_after f k e x y g =
 
 -- what is put into a map is found there, and what was there before at other texts
 pub at_text-insert : {X : Type 0} (f : List ℕ) (es : List (Bor (List ℕ) × X)) (k : Bor (List ℕ)) (v : X)
-    → at_text (insert_entry str_cmp es k v) f ≡ cond (same_text f k.now) (Some v) (at_text es f)
+    → at_text (insert_entry borrowed_cmp es k v) f ≡ cond (same_text f k.now) (Some v) (at_text es f)
 at_text-insert f [] k v = refl
-at_text-insert {X} f (e ∷ es) k v = by (str_cmp k e.0) refl (at_text-insert f es k v)
+at_text-insert {X} f (e ∷ es) k v = by (borrowed_cmp k e.0) refl (at_text-insert f es k v)
   where
-    swap : (a b : Bool) → same_text f k.now ≡ a → same_text f e.0.now ≡ b → str_cmp k e.0 ≡ Greater
+    swap : (a b : Bool) → same_text f k.now ≡ a → same_text f e.0.now ≡ b → borrowed_cmp k e.0 ≡ Greater
         → cond b (Some e.1) (cond a (Some v) (at_text es f)) ≡ cond a (Some v) (cond b (Some e.1) (at_text es f))
     swap true true x y g = absurd (not_after f k.now e.0.now x y g)
     swap true false x y g = refl
     swap false b x y g = refl
 
-    by : (o : Ordering) → str_cmp k e.0 ≡ o
-        → at_text (insert_entry str_cmp es k v) f ≡ cond (same_text f k.now) (Some v) (at_text es f)
-        → at_text (match_ordering o ((k, v) ∷ e ∷ es) ((e.0, v) ∷ es) (e ∷ insert_entry str_cmp es k v)) f
+    by : (o : Ordering) → borrowed_cmp k e.0 ≡ o
+        → at_text (insert_entry borrowed_cmp es k v) f ≡ cond (same_text f k.now) (Some v) (at_text es f)
+        → at_text (match_ordering o ((k, v) ∷ e ∷ es) ((e.0, v) ∷ es) (e ∷ insert_entry borrowed_cmp es k v)) f
         ≡ cond (same_text f k.now) (Some v) (at_text (e ∷ es) f)
     by Less x rest = refl
     by Equal x rest = subst (λ n. cond (same_text f e.0.now) (Some v) (at_text es f)
@@ -73,7 +67,7 @@ length_more marked more b is = ap length is ∙ length-append marked (b ∷ []) 
 -- one more feature has its number
 pub number_more : (f : List ℕ) (marked more : List Bool) (es fs : List (Bor (List ℕ) × ℕ)) (k : Bor (List ℕ))
     (row : List ℕ × Vec Entry Global) (rows : List (List ℕ × Vec Entry Global))
-    → more ≡ marked ++ false ∷ [] → fs ≡ insert_entry str_cmp es k (length marked) → k.now ≡ row.0
+    → more ≡ marked ++ false ∷ [] → fs ≡ insert_entry borrowed_cmp es k (length marked) → k.now ≡ row.0
     → number_in (length more) (at_text fs f) f (rows_of rows)
     ≡ number_in (length marked) (at_text es f) f (rows_of (row ∷ rows))
 number_more f marked more es fs k row rows is put named =
@@ -144,7 +138,7 @@ put_behind es new name l before w got is more named d =
 
 -- a dependency is the first that is called so
 pub put_first : (es new : List (Bor (List ℕ) × Vec Link Global)) (k : Bor (List ℕ)) (l : Link) (w : Vec Link Global)
-    → lookup (is_at (λ j. slice_cmp nat_cmp k.now j.now)) es ≡ None → new ≡ insert_entry str_cmp es k w
+    → lookup (is_at (λ j. slice_cmp nat_cmp k.now j.now)) es ≡ None → new ≡ insert_entry borrowed_cmp es k w
     → w.items ≡ l ∷ [] → k.now ≡ (link_view l).dependency.name → Puts new es l
 put_first es new k l w none is more named d =
     ap (λ m. links_if (at_text m d)) is ∙ ap links_if (at_text-insert d es k w) ∙ by (same_text d k.now) refl

@@ -14,6 +14,7 @@ use Rattle.model.specs.Facts.Holds.{arrives, root_needs, needs, asks, root_wants
 use Rattle.model.specs.Facts.Holds.{wants_weakly}
 use Rattle.model.proofs.Same.{text-same}
 use Rattle.model.proofs.Lists.{in_none, in_cons, in_first, in_filter}
+use Rattle.model.proofs.Flat.{to_flat, in_flat}
 use Rattle.manifest.specs.Manifests.{root_asks, asked_by}
 use Rattle.facts.specs.Graphs.{NodeView, brings_if, target_if, brings_at, target_at, IsFactOf, LacksFeature}
 use Rattle.facts.specs.FactNumbers.{LinkView, FactNumbersView}
@@ -21,7 +22,7 @@ use Rattle.facts.specs.RuleLists.{one, both, number_on, package_at, ask, ask_fea
 use Rattle.facts.specs.RuleLists.{enable_all, ask_all, entry_rules, root_rules, root_entries, root_table, entries_rules}
 use Rattle.facts.specs.RuleLists.{feature_rules, features_rules, table_rules, all_rules}
 use Rattle.facts.proofs.Numbers.{Mark, is_here, lacking, is_on, is_enabled, IsLink, IsNumbered}
-use Rattle.facts.proofs.Members.{in_flat, to_flat, in_one, contains_get, in_rules}
+use Rattle.facts.proofs.Members.{in_one, contains_get, in_rules}
 
 -- the packages and the numbers of their facts
 pub record IsTable (nodes : List NodeView) (ps : List FactNumbersView) (marks : List Mark) : Type 0 where

@@ -2,10 +2,9 @@
 use Rattle.std.specs.Prelude.{◌≡◌, ◌+◌, ℕ, suc, Bool, false, if◌then◌else◌, List, [], ◌∷◌, ◌++◌, map, length, Vec}
 use Rattle.std.specs.Prelude.{Option, None, Some, slice_get, option_and_then}
 use Rattle.std.specs.List.{filter, flat_map}
-use Rattle.std.specs.Map.{lookup}
-use Rattle.std.specs.Borrow.{Bor}
 use Rattle.std.specs.declared.alloc.Global.{Global}
 use Rattle.model.specs.Summary.{Summary, Dependency, Table, same_text}
+use Rattle.features.specs.TextMaps.{at_text}
 use Rattle.features.specs.Views.{dependency_view, brings_view}
 use Rattle.facts.specs.declared.fact_numbers.Link.{Link}
 use Rattle.facts.specs.declared.fact_numbers.FactNumbers.{FactNumbers}
@@ -22,10 +21,6 @@ link_view l = record { dependency = dependency_view l.dependency.now; enabled = 
 
 abbrev pub link_views : List Link → List LinkView
 link_views ls = map link_view ls
-
--- what a map has at a text
-abbrev pub at_text : {X : Type 0} → List (Bor (List ℕ) × X) → List ℕ → Option X
-at_text es f = lookup (λ k. same_text f k.now) es
 
 abbrev pub links_if : Option (Vec Link Global) → List LinkView
 links_if None = []

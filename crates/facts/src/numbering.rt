@@ -3,7 +3,8 @@
 ghost use Rattle.std.specs.Prelude.{◌≡◌, ◌++◌, ◌∷◌, [], ℕ, List, None, Some, length, map, OnOk, IfOk};
 ghost use Rattle.features.specs.Views.{dependency_views, brings_view};
 ghost use Rattle.facts.specs.Graphs.{node_view, node_views, target_if};
-ghost use Rattle.facts.specs.FactNumbers.{at_text, number_in, link_view, link_views, links_if, links_from};
+ghost use Rattle.facts.specs.FactNumbers.{number_in, link_view, link_views, links_if, links_from};
+ghost use Rattle.features.specs.TextMaps.{at_text};
 ghost use Rattle.facts.specs.FactNumbers.{links_called, unmarked_for, flags_of, flags_of_all, numbers_view};
 ghost use Rattle.facts.specs.FactNumbers.{numbers_views, IsNumberedFrom, AreNumberedFrom};
 

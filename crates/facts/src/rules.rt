@@ -1,10 +1,10 @@
 //! The rules of features, over the numbers of facts.
 
-ghost use Rattle.std.specs.Prelude.{◌≡◌, ◌++◌, ◌||◌, ◌∷◌, [], not, OnOk, IfOk, option_map};
+ghost use Rattle.std.specs.Prelude.{◌≡◌, ◌++◌, ◌||◌, ◌∷◌, [], not, OnOk, IfOk, option_copied, option_map};
 ghost use Rattle.std.specs.List.{flat_map};
 ghost use Rattle.features.specs.Views.{dependency_view};
 ghost use Rattle.features.specs.EntryViews.{entry_view, entry_views};
-ghost use Rattle.facts.specs.FactNumbers.{link_view, link_views, numbers_view, numbers_views};
+ghost use Rattle.facts.specs.FactNumbers.{link_view, link_views, links_if, numbers_view, numbers_views};
 ghost use Rattle.facts.specs.RuleLists.{one, both, number_on, package_at, ask, ask_features, arrive, need, is_needed};
 ghost use Rattle.facts.specs.RuleLists.{link_rules, enable_all, ask_all, ask_enabled, entry_rules, root_rules};
 ghost use Rattle.facts.specs.RuleLists.{root_entries, root_table, entries_rules, features_rules, table_rules};
@@ -249,6 +249,13 @@ fn root_rules(
     }
 }
 
+/// The dependencies called so, if there are any.
+fn called_so<'a, 'b>(node: &'a FactNumbers<'b>, name: &PackageName) -> Option<&'a Vec<Link<'b>>>
+    ensures { links_if (option_copied result) ≡ (numbers_view node.now).called name.now }
+{
+    node.called.get(name.as_str())
+}
+
 /// The fact enables each dependency called so.
 fn enable_called(
     rules: &mut Vec<Rule>,
@@ -259,7 +266,7 @@ fn enable_called(
     ensures { OnOk result
         (rules.new.items ≡ rules.old.items ++ enable_all fact ((numbers_view node.now).called name.now)) }
 {
-    match node.called.get(name.as_str()) {
+    match called_so(node, name) {
         Some(links) => enable_all(rules, fact, links.as_slice()),
         None => Ok(()),
     }
@@ -277,7 +284,7 @@ fn ask_called(
     ensures { OnOk result (rules.new.items ≡ rules.old.items
         ++ ask_all (numbers_views packages.now) fact ((numbers_view node.now).called name.now) feature.now) }
 {
-    match node.called.get(name.as_str()) {
+    match called_so(node, name) {
         Some(links) => ask_all(rules, packages, fact, links.as_slice(), feature.as_str()),
         None => Ok(()),
     }
@@ -295,7 +302,7 @@ fn ask_weakly(
     ensures { OnOk result (rules.new.items ≡ rules.old.items
         ++ ask_enabled (numbers_views packages.now) fact ((numbers_view node.now).called name.now) feature.now) }
 {
-    match node.called.get(name.as_str()) {
+    match called_so(node, name) {
         Some(links) => ask_enabled(rules, packages, fact, links.as_slice(), feature.as_str()),
         None => Ok(()),
     }

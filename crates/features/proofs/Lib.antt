@@ -4,3 +4,4 @@ pub mod TextLemmas
 pub mod BuildLemmas
 pub mod DraftLemmas
 pub mod NameLemmas
+pub mod TextMaps

@@ -9,3 +9,4 @@ pub mod Texts
 pub mod Drafts
 pub mod DraftViews
 pub mod Views
+pub mod TextMaps

@@ -23,9 +23,11 @@ mod name;
 mod name_text;
 mod table;
 mod texts;
+mod versioned;
 
 pub use dependency::{Dependency, DependencyKind, Summary};
 pub use entry::{Entry, EntryFault};
 pub use feature_name::FeatureName;
 pub use name::{NameFault, PackageName};
 pub use table::{DepName, FeatureFault, FeatureTable, Rows};
+pub use versioned::name_and_version;

@@ -1,9 +1,8 @@
 -- Just the vertices of a problem are named, each feature at least in the first class of its name.
-use Rattle.std.proofs.Common.{◌≡◌, ◌+◌, ℕ, zero, suc, List, [], ◌∷◌, ◌++◌, map, Bool, true, false, cond, Contains}
-use Rattle.std.proofs.Common.{Option, Some, None, is_some, slice_get, refl, sym, ap, ◌∙◌, subst, inl, inr, ◌⊎◌, arith}
+use Rattle.std.proofs.Common.{◌≡◌, ◌+◌, ℕ, List, [], ◌∷◌, ◌++◌, map, Bool, true, false, cond, Contains}
+use Rattle.std.proofs.Common.{Option, Some, None, is_some, refl, sym, ap, ◌∙◌, subst, inl, inr, ◌⊎◌}
 use Rattle.std.proofs.Common.{true≢false}
 use Rattle.std.specs.List.{flat_map, AllPairs}
-use Rattle.std.proofs.lemmas.Option.{none-some, same_Some}
 use Rattle.semver.specs.Parse.{Parts}
 use Rattle.model.specs.Summary.{Summary, Dependency, Entry, Table, feature, dependency, dependency_feature}
 use Rattle.model.specs.Summary.{weak_feature, asked_of_target, entries_at, has_feature, same_text}
@@ -14,6 +13,7 @@ use Rattle.model.specs.Vertices.{Owner, the_root, version_of, Vertex, root, pkg,
 use Rattle.model.specs.Vertices.{in_that_class, owner_brings, class_candidates}
 use Rattle.model.specs.Axioms.{IsOwner, HasDep, HasEntry, RootAsks, HasFeatVertex, IsVertex}
 use Rattle.model.specs.Axioms.HasFeatVertex.{had, asked, by_entry}
+use Rattle.model.proofs.Flat.{in_flat, to_flat}
 use Rattle.model.proofs.Lists.{in_none, in_cons, in_first, in_rest, in_filter, to_filter, in_map, to_map, pairs_first}
 use Rattle.model.proofs.Lists.{pairs_rest}
 use Rattle.model.proofs.Spaces.{class_in}
@@ -23,74 +23,18 @@ use Rattle.model.proofs.Same.{text-same, text-refl, class-same, class-refl, vers
 use Rattle.model.proofs.Gathered.{place_in, at_place}
 use Rattle.manifest.specs.Manifests.{asked_by}
 use Rattle.refutations.specs.Causes.{entries_of, table_of_owner}
-use Rattle.refutations.proofs.Bools.{in_append-left, in_append-right, in_either}
+use Rattle.std.proofs.lemmas.List.Elements.{Contains-append_cases, Contains-append_right, Contains-append_left}
 use Rattle.refutations.proofs.Named.{dep_owner, entry-is, to_entry, row_of}
+use Rattle.encoding.proofs.Each.{from_if, in_all, only_one, to_all, to_if}
 use Rattle.encoding.proofs.ClassOrder.{IsOlder}
 use Rattle.encoding.proofs.Distinct.{of_rows, older_differ}
 use Rattle.full_encoding.proofs.Runs.{candidates_classed}
-use Rattle.full_encoding.specs.Everything.{classes_in, each_from, versions, first_feature, each_feature, ask_if}
+use Rattle.full_encoding.specs.Everything.{classes_in, versions, first_feature, each_feature, ask_if}
+use Rattle.encoding.specs.CausesAt.{each_from}
 use Rattle.full_encoding.specs.Everything.{versions_of, feature_of, asked_if, asked_of, of_dependency, of_dependencies}
 use Rattle.full_encoding.specs.Everything.{of_entry, of_feature, of_version, of_name, of_root, named, in_classes}
 
 -- ---- lists
-
-module _ {X : Type 0} where
-  pub in_flat : {Y : Type 0} (f : X → List Y) (xs : List X) (y : Y) → Contains (flat_map f xs) y
-      → (x : X) × Contains xs x × Contains (f x) y
-  in_flat f [] y c = absurd (in_none y c)
-  in_flat f (x ∷ xs) y c = elim (in_either (f x) (flat_map f xs) y c) [
-    | inl d ↦ (x, in_first x xs, d)
-    | inr d ↦ let r = in_flat f xs y d in (r.0, in_rest x r.0 xs r.1, r.2)
-  ]
-
-  pub to_flat : {Y : Type 0} (f : X → List Y) (xs : List X) (x : X) (y : Y) → Contains xs x → Contains (f x) y
-      → Contains (flat_map f xs) y
-  to_flat f [] x y c d = absurd (in_none x c)
-  to_flat f (z ∷ xs) x y c d = elim (in_cons z x xs c) [
-    | inl e ↦ in_append-left (f z) (flat_map f xs) y (subst (λ w. Contains (f w) y) (sym e) d)
-    | inr c ↦ in_append-right (f z) (flat_map f xs) y (to_flat f xs x y c d)
-  ]
-
-  in_each : (f : ℕ → X → List Vertex) (n : ℕ) (xs : List X) (v : Vertex) → Contains (each_from f n xs) v
-      → (i : ℕ) × (x : X) × (slice_get xs i ≡ Some x) × Contains (f (n + i) x) v
-  in_each f n [] v h = absurd (in_none v h)
-  in_each f n (x ∷ xs) v h = elim (in_either (f n x) (each_from f (n + 1) xs) v h) [
-    | inl d ↦ let z : n ≡ n + 0 = omega arith in (zero, x, refl, subst (λ k. Contains (f k x) v) z d)
-    | inr d ↦ let r = in_each f (n + 1) xs v d in let z : (n + 1) + r.0 ≡ n + suc r.0 =
-        omega arith in (suc r.0, r.1, r.2, subst (λ k. Contains (f k r.1) v) z r.3)
-  ]
-
-  to_each : (f : ℕ → X → List Vertex) (n : ℕ) (xs : List X) (i : ℕ) (x : X) (v : Vertex) → slice_get xs i ≡ Some x
-      → Contains (f (n + i) x) v → Contains (each_from f n xs) v
-  to_each f n [] i x v e h = absurd (none-some x e)
-  to_each f n (z ∷ xs) zero x v e h =
-      let k : n + 0 ≡ n = omega arith in
-      in_append-left (f n z) (each_from f (n + 1) xs) v
-      (subst (λ w. Contains (f n w) v) (sym (same_Some z x e)) (subst (λ m. Contains (f m x) v) k h))
-  to_each f n (z ∷ xs) (suc i) x v e h =
-      let k : n + suc i ≡ (n + 1) + i = omega arith in
-      in_append-right (f n z) (each_from f (n + 1) xs) v
-      (to_each f (n + 1) xs i x v e (subst (λ m. Contains (f m x) v) k h))
-
-  from_if : (b : Bool) (x : X) (xs : List X) → Contains (cond b xs []) x → (b ≡ true) × Contains xs x
-  from_if true x xs h = (refl, h)
-  from_if false x xs h = absurd (in_none x h)
-
-  to_if : (b : Bool) (x : X) (xs : List X) → b ≡ true → Contains xs x → Contains (cond b xs []) x
-  to_if b x xs e h = subst (λ c. Contains (cond c xs []) x) (sym e) h
-
-  only_one : (a x : X) → Contains (a ∷ []) x → x ≡ a
-  only_one a x h = elim (in_cons a x [] h) [ inl e ↦ sym e | inr d ↦ absurd (in_none x d) ]
-
--- the same where the first has the number 0
-in_all : (f : ℕ → Dependency → List Vertex) (ds : List Dependency) (v : Vertex) → Contains (each_from f 0 ds) v
-    → (i : ℕ) × (d : Dependency) × (slice_get ds i ≡ Some d) × Contains (f i d) v
-in_all f ds v h = let r = in_each f 0 ds v h in let z : 0 + r.0 ≡ r.0 =
-    omega arith in (r.0, r.1, r.2, subst (λ k. Contains (f k r.1) v) z r.3)
-
-to_all : (f : ℕ → Dependency → List Vertex) (ds : List Dependency) (i : ℕ) (d : Dependency) (v : Vertex)
-    → slice_get ds i ≡ Some d → Contains (f i d) v → Contains (each_from f 0 ds) v
-to_all f ds i d v e h = let z : i ≡ 0 + i = omega arith in to_each f 0 ds i d v e (subst (λ k. Contains (f k d) v) z h)
 
 -- a row of a table is a feature of it
 row_feature : (table : Table) (row : List ℕ × List Entry) → Contains table row → has_feature table row.0 ≡ true
@@ -241,7 +185,7 @@ module _ (q : Problem) where
       → Contains (of_entry q name w (owner_brings q (version_of name w)).dependencies e) v → IsVertex q v
   entry_are name w f e v has h =
       let ds = (owner_brings q (version_of name w)).dependencies in
-      elim (in_either (each_from (ask_if name w e) 0 ds) (flat_map (asked_of q ds) (asked_by e)) v h) [
+      elim (Contains-append_cases (each_from (ask_if name w e) 0 ds) (flat_map (asked_of q ds) (asked_by e)) v h) [
         | inl a ↦ let r = in_all (ask_if name w e) ds v a in
             ask_vertex name w f e r.0 r.1 v has (dep_owner q (version_of name w) r.0 r.1 r.2) r.3
         | inr b ↦ let r = in_flat (asked_of q ds) (asked_by e) v b in
@@ -261,13 +205,13 @@ module _ (q : Problem) where
           own.0,
           subst (λ x. Contains (class_candidates q name (class_of x)) own.0) own.2 (in_class name own.0 own.1),
         )
-        | inr c ↦ elim (in_either (of_dependencies q (version_of name w))
+        | inr c ↦ elim (Contains-append_cases (of_dependencies q (version_of name w))
             (flat_map (λ row. of_feature q name w (owner_brings q (version_of name w)) row.0) table) v c) [
               | inl a ↦ dependencies_are (version_of name w) v a
               | inr b ↦ let r = in_flat (λ (row : List ℕ × List Entry).
                   of_feature q name w (owner_brings q (version_of name w)) row.0) table v b in
                   let f = (r.0).0 in
-                  elim (in_either (feature_of q name f) (flat_map (of_entry q name w
+                  elim (Contains-append_cases (feature_of q name f) (flat_map (of_entry q name w
                   (owner_brings q (version_of name w)).dependencies) (entries_of q name w f)) v r.2) [
                     | inl x ↦ own_feature name w r.0 v r.1 x
                     | inr y ↦ let s = in_flat (of_entry q name w (owner_brings q (version_of name w)).dependencies)
@@ -282,7 +226,7 @@ module _ (q : Problem) where
       let ds = (owner_brings q the_root).dependencies in
       elim (in_cons root v (of_dependencies q the_root ++ flat_map (asked_of q ds) q.root_asks) h) [
         | inl e ↦ subst (IsVertex q) e tt
-        | inr c ↦ elim (in_either (of_dependencies q the_root) (flat_map (asked_of q ds) q.root_asks) v c) [
+        | inr c ↦ elim (Contains-append_cases (of_dependencies q the_root) (flat_map (asked_of q ds) q.root_asks) v c) [
           | inl a ↦ dependencies_are the_root v a
           | inr b ↦ let r = in_flat (asked_of q ds) q.root_asks v b in
               let s = in_flat (asked_if q r.0) ds v r.2 in
@@ -296,12 +240,13 @@ module _ (q : Problem) where
       ]
 
   pub named_are : (v : Vertex) → Contains (named q) v → IsVertex q v
-  named_are v h = elim (in_either (of_root q) (flat_map (of_name q) (map (λ row. row.0) q.candidates)) v h) [
-    | inl a ↦ root_are v a
-    | inr b ↦ let r = in_flat (of_name q) (map (λ (row : List ℕ × List Candidate). row.0) q.candidates) v b in
-        let s = in_flat (of_version q r.0) (versions_of q r.0) v r.2 in
-        version_are r.0 s.0 v s.1 s.2
-  ]
+  named_are v h = elim
+      (Contains-append_cases (of_root q) (flat_map (of_name q) (map (λ row. row.0) q.candidates)) v h) [
+        | inl a ↦ root_are v a
+        | inr b ↦ let r = in_flat (of_name q) (map (λ (row : List ℕ × List Candidate). row.0) q.candidates) v b in
+            let s = in_flat (of_version q r.0) (versions_of q r.0) v r.2 in
+            version_are r.0 s.0 v s.1 s.2
+      ]
 
   -- ---- a feature in another class of its name
 
@@ -335,7 +280,7 @@ module _ (q : Problem) where
   owner_named : (name : List ℕ) (w : Parts) (v : Vertex) → IsOwner q (version_of name w)
       → Contains (of_version q name w) v → Contains (named q) v
   owner_named name w v (c, i, e) h =
-      in_append-right (of_root q) (flat_map (of_name q) (map (λ row. row.0) q.candidates)) v
+      Contains-append_right (of_root q) (flat_map (of_name q) (map (λ row. row.0) q.candidates)) v
       (to_flat (of_name q) (map (λ (row : List ℕ × List Candidate). row.0) q.candidates) name v
       (name_there q.candidates name c i)
       (to_flat (of_version q name) (versions_of q name) w v (subst (Contains (versions_of q name)) e
@@ -344,17 +289,17 @@ module _ (q : Problem) where
   dependency_named : (o : Owner) (i : ℕ) (d : Dependency) (v : Vertex) → HasDep q o i d
       → Contains (of_dependency q o i d) v → Contains (named q) v
   dependency_named the_root i d v has h =
-      in_append-left (of_root q) (flat_map (of_name q) (map (λ row. row.0) q.candidates)) v
+      Contains-append_left (of_root q) (flat_map (of_name q) (map (λ row. row.0) q.candidates)) v
       (in_rest root v
       (of_dependencies q the_root ++ flat_map (asked_of q (owner_brings q the_root).dependencies) q.root_asks)
-      (in_append-left (of_dependencies q the_root)
+      (Contains-append_left (of_dependencies q the_root)
       (flat_map (asked_of q (owner_brings q the_root).dependencies) q.root_asks) v
       (to_all (of_dependency q the_root) (owner_brings q the_root).dependencies i d v has.1 h)))
   dependency_named (version_of name w) i d v has h =
       owner_named name w v has.0
       (in_rest (pkg name (class_of w)) v (of_dependencies q (version_of name w) ++ flat_map (λ row.
       of_feature q name w (owner_brings q (version_of name w)) row.0) (table_of_owner q (version_of name w)))
-      (in_append-left (of_dependencies q (version_of name w)) (flat_map (λ row. of_feature q name w
+      (Contains-append_left (of_dependencies q (version_of name w)) (flat_map (λ row. of_feature q name w
       (owner_brings q (version_of name w)) row.0) (table_of_owner q (version_of name w))) v
       (to_all (of_dependency q (version_of name w)) (owner_brings q (version_of name w)).dependencies i d v has.1 h)))
 
@@ -367,7 +312,7 @@ module _ (q : Problem) where
       owner_named name w v own
       (in_rest (pkg name (class_of w)) v (of_dependencies q (version_of name w)
       ++ flat_map (λ row. of_feature q name w (owner_brings q (version_of name w)) row.0) table)
-      (in_append-right (of_dependencies q (version_of name w))
+      (Contains-append_right (of_dependencies q (version_of name w))
       (flat_map (λ row. of_feature q name w (owner_brings q (version_of name w)) row.0) table) v
       (to_flat (λ (row : List ℕ × List Entry).
       of_feature q name w (owner_brings q (version_of name w)) row.0) table row.0 v row.1
@@ -377,7 +322,7 @@ module _ (q : Problem) where
       → Contains (of_entry q name w (owner_brings q (version_of name w)).dependencies e) v → Contains (named q) v
   entry_named name w f e v has h =
       feature_named name w f has.1 v has.0 has.2
-      (in_append-right (feature_of q name f)
+      (Contains-append_right (feature_of q name f)
       (flat_map (of_entry q name w (owner_brings q (version_of name w)).dependencies) (entries_of q name w f)) v
       (to_flat (of_entry q name w (owner_brings q (version_of name w)).dependencies) (entries_of q name w f) e v
       (to_entry q name w f e has) h))
@@ -389,7 +334,7 @@ module _ (q : Problem) where
   pair_named name w f g e i d v has at c h =
       let ds = (owner_brings q (version_of name w)).dependencies in
       entry_named name w f e v has
-      (in_append-right (each_from (ask_if name w e) 0 ds) (flat_map (asked_of q ds) (asked_by e)) v
+      (Contains-append_right (each_from (ask_if name w e) 0 ds) (flat_map (asked_of q ds) (asked_by e)) v
       (to_flat (asked_of q ds) (asked_by e) (d.name, g) v c
       (to_flat (asked_if q (d.name, g)) ds d v (at_place ds i d at.1)
       (to_if (same_text d.name d.name) v (feature_of q d.real_name g) (text-refl d.name) h))))
@@ -402,9 +347,9 @@ module _ (q : Problem) where
       (to_flat (feature_of q d.real_name) (asked_of_target d) g v c h))
   asked_named the_root i d g v has (inr c) h =
       let ds = (owner_brings q the_root).dependencies in
-      in_append-left (of_root q) (flat_map (of_name q) (map (λ row. row.0) q.candidates)) v
+      Contains-append_left (of_root q) (flat_map (of_name q) (map (λ row. row.0) q.candidates)) v
       (in_rest root v (of_dependencies q the_root ++ flat_map (asked_of q ds) q.root_asks)
-      (in_append-right (of_dependencies q the_root) (flat_map (asked_of q ds) q.root_asks) v
+      (Contains-append_right (of_dependencies q the_root) (flat_map (asked_of q ds) q.root_asks) v
       (to_flat (asked_of q ds) q.root_asks (d.name, g) v c
       (to_flat (asked_if q (d.name, g)) ds d v (at_place ds i d has.1)
       (to_if (same_text d.name d.name) v (feature_of q d.real_name g) (text-refl d.name) h)))))
@@ -446,7 +391,7 @@ module _ (q : Problem) where
         let r = feature_row (table_of_owner q (version_of name c.version)) f
         (ap (λ (s : Summary). has_feature s.features f) (itself name c i) ∙ h) in
         feature_named name c.version f r.0 v own r.1
-        (in_append-left (feature_of q name f) (flat_map (of_entry q name c.version
+        (Contains-append_left (feature_of q name f) (flat_map (of_entry q name c.version
         (owner_brings q (version_of name c.version)).dependencies) (entries_of q name c.version f)) v there)
     feature_first name k f v (asked o i d _ _ e has j a) there = asked_named o i d f v has a there
     feature_first name k f v (by_entry n w i d _ g _ e has j (inl a)) there =
@@ -474,7 +419,8 @@ module _ (q : Problem) where
         let ds = (owner_brings q (version_of name w)).dependencies in
         let e = dependency_feature d.name g in
         inl (entry_named name w f e (ask name w i g) entry
-        (in_append-left (each_from (ask_if name w e) 0 ds) (flat_map (asked_of q ds) (asked_by e)) (ask name w i g)
+        (Contains-append_left (each_from (ask_if name w e) 0 ds) (flat_map (asked_of q ds) (asked_by e))
+        (ask name w i g)
         (to_all (ask_if name w e) ds i d (ask name w i g) has.1
         (to_if (same_text d.name d.name) (ask name w i g) (ask name w i g ∷ []) (text-refl d.name)
         (in_first (ask name w i g) [])))))

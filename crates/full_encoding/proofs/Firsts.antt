@@ -4,6 +4,7 @@ use Rattle.std.proofs.Common.{subst}
 use Rattle.semver.specs.Parse.{Parts}
 use Rattle.model.specs.Summary.{Dependency, Entry, dependency_feature, feature, same_text}
 use Rattle.model.specs.Content.{Candidate, Problem, candidates_of}
+use Rattle.model.specs.Optional.{passes}
 use Rattle.model.specs.Selection.{Class, class_of}
 use Rattle.model.specs.Vertices.{Owner, the_root, version_of, Vertex, dep, feat, ask, absent, present, version}
 use Rattle.model.specs.Vertices.{in_class, in_that_class, dep_classes, dep_space, class_candidates, space}
@@ -11,7 +12,7 @@ use Rattle.model.specs.Axioms.{HasEntry, IsOwner, IsVertex, is_lower}
 use Rattle.model.proofs.Lists.{in_first, in_rest, to_filter, to_map}
 use Rattle.model.proofs.Same.{both, class-refl}
 use Rattle.refutations.specs.Causes.{Cause, of_root, of_need, of_target, of_feature, of_list, of_ask, of_entry}
-use Rattle.refutations.specs.Causes.{of_enabling, of_asking, of_newest, of_weak, same_entry, enables, passes, is_needed}
+use Rattle.refutations.specs.Causes.{of_enabling, of_asking, of_newest, of_weak, same_entry, enables, is_needed}
 use Rattle.refutations.specs.Causes.{dependency_at, has_class, has_entry, some_entry, lists_feature, is_overtaken}
 use Rattle.refutations.specs.Causes.{is_weak_on, is_cause}
 use Rattle.refutations.proofs.Named.{entry-same, passes-is, dep_owner, has_entry-is, some_entry-is, class-is}

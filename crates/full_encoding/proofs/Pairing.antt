@@ -10,8 +10,9 @@ use Rattle.model.specs.WellFormed.{IsCatalogue}
 use Rattle.model.specs.Vertices.{State, Vertex, absent, space}
 use Rattle.model.proofs.Lists.{in_none, in_cons, in_first, in_rest, in_map, to_map, pairs_first, pairs_get, pairs_none}
 use Rattle.model.proofs.Lists.{pairs_rest}
+use Rattle.model.proofs.Flat.{to_flat, in_flat}
 use Rattle.refutations.specs.Causes.{Cause, is_cause}
-use Rattle.refutations.proofs.Bools.{in_append-left, in_append-right, in_either}
+use Rattle.std.proofs.lemmas.List.Elements.{Contains-append_cases, Contains-append_right, Contains-append_left}
 use Rattle.encoding.specs.Assignments.{state_at}
 use Rattle.encoding.specs.CausesAt.{causes_at, with_causes}
 use Rattle.encoding.specs.Numberings.{IsGrown, IsNumbering, IsWhole, Numbering}
@@ -23,7 +24,6 @@ use Rattle.encoding.proofs.Distinct.{states_once}
 use Rattle.encoding.proofs.Needing.{from_all, given_more, in_last}
 use Rattle.encoding.proofs.Places.{get_below}
 use Rattle.full_encoding.specs.Everywhere.{ComesOnce, IsGivenAll, IsGivenFor, all_pairs, pairs_of}
-use Rattle.full_encoding.proofs.Everything.{in_flat, to_flat}
 use Rattle.full_encoding.proofs.Firsts.{first_there}
 
 -- ---- lists
@@ -37,7 +37,10 @@ pairs_append {X} (x ∷ xs) ys a b apart =
   where
     first : (w : X) → Contains (xs ++ ys) w → x ≢ w
     first w c = elim
-        (in_either xs ys w c) [ inl d ↦ pairs_first (λ a b. a ≢ b) x w xs a d | inr d ↦ apart x w (in_first x xs) d ]
+        (Contains-append_cases xs ys w c) [
+          | inl d ↦ pairs_first (λ a b. a ≢ b) x w xs a d
+          | inr d ↦ apart x w (in_first x xs) d
+        ]
 
 given_append : (q : Problem) (vs : Numbering) (cs ds : List Cause) (xs ys : List Given) → AreGiven q vs cs xs
     → AreGiven q vs ds ys → AreGiven q vs (cs ++ ds) (xs ++ ys)
@@ -125,17 +128,19 @@ module _ (q : Problem) where
     where
       there : (c : Cause) → Contains (a.causes ++ b.causes) c
           → (is_cause q c ≡ true) × Contains (ps ++ p ∷ []) (first_pair c)
-      there c h = elim (in_either a.causes b.causes c h) [
-        | inl d ↦ let r = (a.listed c).0 d in (r.0, in_append-left ps (p ∷ []) (first_pair c) r.1)
-        | inr d ↦ let r = ((b.are).listed c).0 d in
-            (r.0, in_append-right ps (p ∷ []) (first_pair c) (subst (Contains (p ∷ [])) (sym r.1) (in_first p [])))
+      there c h = elim (Contains-append_cases a.causes b.causes c h) [
+        | inl d ↦ let r = (a.listed c).0 d in (r.0, Contains-append_left ps (p ∷ []) (first_pair c) r.1)
+        | inr d ↦ let r = ((b.are).listed c).0 d in (
+          r.0,
+          Contains-append_right ps (p ∷ []) (first_pair c) (subst (Contains (p ∷ [])) (sym r.1) (in_first p [])),
+        )
       ]
 
       back : (c : Cause) → (is_cause q c ≡ true) × Contains (ps ++ p ∷ []) (first_pair c)
           → Contains (a.causes ++ b.causes) c
       back c (t, h) = elim (in_last ps p (first_pair c) h) [
-        | inl d ↦ in_append-left a.causes b.causes c ((a.listed c).1 (t, d))
-        | inr e ↦ in_append-right a.causes b.causes c (((b.are).listed c).1 (t, sym e))
+        | inl d ↦ Contains-append_left a.causes b.causes c ((a.listed c).1 (t, d))
+        | inr e ↦ Contains-append_right a.causes b.causes c (((b.are).listed c).1 (t, sym e))
       ]
 
   -- ---- the states of a vertex, one after another
@@ -172,7 +177,7 @@ module _ (q : Problem) where
       → ((s : State) → Contains ps (v, s) → ⊥)
       → Contains (ps ++ map (λ s. (v, s)) (take n (space q v))) (v, state_at q v n) → ⊥
   state_fresh known v ps n lt fresh c =
-      elim (in_either ps (map (λ s. (v, s)) (take n (space q v))) (v, state_at q v n) c) [
+      elim (Contains-append_cases ps (map (λ s. (v, s)) (take n (space q v))) (v, state_at q v n) c) [
         | inl d ↦ fresh (state_at q v n) d
         | inr d ↦ let r = in_map (λ s. (v, s)) (take n (space q v)) (v, state_at q v n) d in
             let same : r.0 ≡ state_at q v n = ap (λ (p : Pair). p.1) r.2 in

@@ -10,7 +10,8 @@ use Rattle.model.specs.WellFormed.{IsCatalogue}
 use Rattle.model.specs.Vertices.{Vertex}
 use Rattle.model.specs.Axioms.{IsVertex}
 use Rattle.model.proofs.Lists.{in_none, to_map}
-use Rattle.refutations.proofs.Bools.{in_append-left}
+use Rattle.model.proofs.Flat.{to_flat, in_flat}
+use Rattle.std.proofs.lemmas.List.Elements.{Contains-append_left}
 use Rattle.vertices.specs.RefViews.{vertex_ref_view}
 use Rattle.vertices.specs.declared.vertex.VertexRef.{VertexRef}
 use Rattle.encoding.specs.Numberings.{IsGrown, IsNumbering, IsWhole, Numbering, with_vertex}
@@ -19,7 +20,7 @@ use Rattle.encoding.proofs.Places.{each_at, got_in}
 use Rattle.full_encoding.specs.Everything.{in_classes, named}
 use Rattle.full_encoding.specs.Putting.{AreIn, AreVertices, IsPut}
 use Rattle.full_encoding.specs.Views.{vertex_views}
-use Rattle.full_encoding.proofs.Everything.{all_named, classes_are, in_flat, named_are, to_flat}
+use Rattle.full_encoding.proofs.Everything.{all_named, classes_are, named_are}
 use Rattle.full_encoding.proofs.Steps.{append_none}
 
 pub put_none : (vs : Numbering) (ws : List Vertex) → IsPut vs vs ws
@@ -33,7 +34,7 @@ put_more old vs new ws v put there is = record {
 }
 
 pub still_in : (vs new : Numbering) (v : Vertex) → IsGrown vs new → Contains vs v → Contains new v
-still_in vs new v grown c = subst (λ w. Contains w v) (sym grown.1) (in_append-left vs grown.0 v c)
+still_in vs new v grown c = subst (λ w. Contains w v) (sym grown.1) (Contains-append_left vs grown.0 v c)
 
 -- ---- of a list
 

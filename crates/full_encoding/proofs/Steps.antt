@@ -20,7 +20,8 @@ use Rattle.catalogue.specs.Stores.{CatalogueView, Row, candidates_at}
 use Rattle.refutations.specs.Causes.{entries_or_none}
 use Rattle.catalogue.proofs.Lookups.{candidates_are}
 use Rattle.encoding.specs.Called.{called_so, numbered_from}
-use Rattle.full_encoding.specs.Everything.{ask_if, asked_of, classes_in, each_feature, each_from, feature_of}
+use Rattle.full_encoding.specs.Everything.{ask_if, asked_of, classes_in, each_feature, feature_of}
+use Rattle.encoding.specs.CausesAt.{each_from}
 use Rattle.full_encoding.specs.Everything.{first_feature, versions, versions_of}
 
 -- one more of a list

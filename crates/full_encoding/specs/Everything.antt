@@ -11,11 +11,7 @@ use Rattle.model.specs.Vertices.{Owner, the_root, version_of, Vertex, root, pkg,
 use Rattle.model.specs.Vertices.{owner_brings, same_class}
 use Rattle.manifest.specs.Manifests.{asked_by}
 use Rattle.refutations.specs.Causes.{entries_or_none}
-
--- what each of a list gives, with its number; the first has the number n
-abbrev pub each_from : {X : Type 0} → (ℕ → X → List Vertex) → ℕ → List X → List Vertex
-each_from f n [] = []
-each_from f n (x ∷ xs) = f n x ++ each_from f (n + 1) xs
+use Rattle.encoding.specs.CausesAt.{each_from}
 
 abbrev pub versions : List Candidate → List Parts
 versions cs = map (λ c. c.version) cs

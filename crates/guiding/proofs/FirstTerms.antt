@@ -12,6 +12,7 @@ use Rattle.incompatibilities.specs.Incompatibilities as numbered
 use Rattle.terms.specs.Terms.{TermView}
 use Rattle.model.specs.Summary.{Dependency, dependency_feature}
 use Rattle.model.specs.Content.{Problem}
+use Rattle.model.specs.Optional.{passes}
 use Rattle.model.specs.WellFormed.{IsCatalogue}
 use Rattle.model.specs.Vertices.{Owner, the_root, version_of, Vertex, root, pkg, dep, feat, ask, State, absent}
 use Rattle.model.specs.Vertices.{has_state, same_state, dep_space, space, owner_brings}
@@ -20,7 +21,7 @@ use Rattle.model.specs.Derivation.{states_at}
 use Rattle.model.proofs.Same.{both, state-same, state-refl, vertex-refl}
 use Rattle.model.proofs.Lists.{in_first, in_rest, pairs_first, pairs_rest}
 use Rattle.refutations.specs.Causes.{Cause, of_root, of_need, of_target, of_feature, of_list, of_ask, of_entry}
-use Rattle.refutations.specs.Causes.{of_enabling, of_asking, of_newest, of_weak, same_entry, passes, dependency_at}
+use Rattle.refutations.specs.Causes.{of_enabling, of_asking, of_newest, of_weak, same_entry, dependency_at}
 use Rattle.refutations.specs.Causes.{has_class, some_entry, lists_feature, is_overtaken, is_weak_on, is_cause}
 use Rattle.refutations.specs.Causes.{terms_with, terms_of_cause}
 use Rattle.refutations.proofs.Named.{passes-is}

@@ -14,11 +14,11 @@ ghost use Rattle.looking_up.specs.Views.{problem_view};
 ghost use Rattle.named_terms.specs.Views.{term_view, term_views};
 ghost use Rattle.looking_up.specs.Matching.{is_lacking};
 
-use crate::terms::term;
+use crate::terms::{package_term, term};
 use classes::Class;
 use features::{FeatureName, PackageName};
 use looking_up::{Problem, is_lacking, of_class};
-use named_terms::{StateSet, Term};
+use named_terms::Term;
 use semver::Version;
 use std::alloc::{AllocError, Global};
 use vertices::{StateRef, VertexRef};
@@ -58,10 +58,7 @@ fn lacking_term<'a>(
 {
     let versions = problem.catalogue.versions(name);
     let states = lacking_states(alloc, problem, name, feature, of_class(class, versions))?;
-    Ok(Term {
-        vertex: VertexRef::Package(name, class),
-        states: StateSet::rising(states),
-    })
+    Ok(package_term(name, class, states))
 }
 
 /// `absent`, and the versions that lack the feature.

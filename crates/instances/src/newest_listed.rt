@@ -14,14 +14,14 @@ ghost use Rattle.looking_up.specs.Views.{problem_view};
 ghost use Rattle.named_terms.specs.Views.{term_view, term_views};
 ghost use Rattle.semver.specs.EvalViews.{matches_views};
 
-use crate::terms::led_term;
+use crate::terms::{led_term, package_term};
 use classes::{Class, is_matched};
 use features::Dependency;
 use looking_up::{Problem, class_versions, dependency_at};
-use named_terms::{StateSet, Term};
+use named_terms::Term;
 use semver::{Version, VersionReq};
 use std::alloc::{AllocError, Global};
-use vertices::{OwnerRef, StateRef, VertexRef};
+use vertices::{OwnerRef, StateRef};
 
 pub(crate) fn newest_terms<'a>(
     alloc: Global,
@@ -59,10 +59,7 @@ fn taken_term<'a>(
 {
     let versions = class_versions(problem.catalogue, &dependency.real_name, class);
     let states = taken_states(alloc, &dependency.requirement, versions)?;
-    Ok(Term {
-        vertex: VertexRef::Package(&dependency.real_name, class),
-        states: StateSet::rising(states),
-    })
+    Ok(package_term(&dependency.real_name, class, states))
 }
 
 /// The versions that are matched.

@@ -14,14 +14,14 @@ ghost use Rattle.looking_up.specs.Views.{problem_view};
 ghost use Rattle.named_terms.specs.Views.{term_view, term_views};
 ghost use Rattle.looking_up.specs.Matching.{is_left};
 
-use crate::terms::led_term;
+use crate::terms::{led_term, package_term};
 use classes::Class;
 use features::Dependency;
 use looking_up::{Problem, class_versions, dependency_at, is_left};
-use named_terms::{StateSet, Term};
+use named_terms::Term;
 use semver::{Version, VersionReq};
 use std::alloc::{AllocError, Global};
-use vertices::{OwnerRef, StateRef, VertexRef};
+use vertices::{OwnerRef, StateRef};
 
 pub(crate) fn target_terms<'a>(
     alloc: Global,
@@ -56,10 +56,7 @@ fn left_term<'a>(
 {
     let versions = class_versions(problem.catalogue, &dependency.real_name, class);
     let states = left_states(alloc, &dependency.requirement, versions)?;
-    Ok(Term {
-        vertex: VertexRef::Package(&dependency.real_name, class),
-        states: StateSet::rising(states),
-    })
+    Ok(package_term(&dependency.real_name, class, states))
 }
 
 /// `absent`, and the versions that aren't matched.

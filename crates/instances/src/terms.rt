@@ -1,13 +1,15 @@
 //! Terms that several kinds have.
 
 ghost use Rattle.std.specs.Prelude.{◌≡◌, ◌∷◌, [], IfOk};
+ghost use Rattle.std.specs.List.Sorted.{IsStrictlySortedBy};
 ghost use Rattle.semver.specs.Identifiers.{parts_of};
 ghost use Rattle.classes.specs.Classes.{class_view};
 ghost use Rattle.features.specs.Views.{dependency_view};
 ghost use Rattle.model.specs.Axioms.{at, owner_holds};
 ghost use Rattle.model.specs.Selection.{class_of};
 ghost use Rattle.model.specs.Vertices as model;
-ghost use Rattle.vertices.specs.RefViews.{state_ref_view, owner_ref_view, vertex_ref_view};
+ghost use Rattle.vertices.specs.Orders.{state_cmp};
+ghost use Rattle.vertices.specs.RefViews.{state_ref_view, state_ref_views, owner_ref_view, vertex_ref_view};
 ghost use Rattle.named_terms.specs.Views.{term_view};
 
 use classes::Class;
@@ -53,6 +55,21 @@ pub(crate) fn chosen<'a>(
         VertexRef::Package(name, Class::of(version)),
         StateRef::Version(version),
     )
+}
+
+/// The package has one of these states in the class.
+pub(crate) fn package_term<'a>(
+    name: &'a PackageName,
+    class: Class,
+    states: Vec<StateRef<'a>>,
+) -> Term<'a>
+    requires { IsStrictlySortedBy state_cmp (state_ref_views states.items) }
+    ensures { term_view result ≡ at (model.pkg name.entry.now (class_view class)) (state_ref_views states.entry.items) }
+{
+    Term {
+        vertex: VertexRef::Package(name, class),
+        states: StateSet::rising(states),
+    }
 }
 
 /// The dependency leads to the class.

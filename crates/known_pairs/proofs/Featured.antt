@@ -7,12 +7,13 @@ use Rattle.semver.specs.Identifiers.{parts_of}
 use Rattle.semver.specs.declared.Version.{Version}
 use Rattle.model.specs.Summary.{same_text}
 use Rattle.model.specs.Content.{Candidate, candidates_of}
+use Rattle.model.specs.Optional.{passes}
 use Rattle.model.specs.Vertices.{Owner, version_of}
 use Rattle.model.specs.Candidates.{Record, as_candidate}
 use Rattle.model.proofs.Same.{text-same, text-refl}
 use Rattle.model.proofs.Lists.{all_first, all_rest, pairs_all, pairs_rest}
 use Rattle.manifest.specs.Manifests.{ManifestView}
-use Rattle.refutations.specs.Causes.{owner_asks, owners_in, passes}
+use Rattle.refutations.specs.Causes.{owner_asks, owners_in}
 use Rattle.catalogue.specs.Problems.{problem_in}
 use Rattle.catalogue.specs.Ranks.{records}
 use Rattle.catalogue.specs.Stores.{CatalogueView, IsStore, Row, candidates_at, rows_by_name}

@@ -10,11 +10,13 @@ use Rattle.semver.specs.declared.Version.{Version}
 use Rattle.features.specs.Texts.{has_text}
 use Rattle.model.specs.Summary.{Dependency, Entry, Table, nothing, asked_of_target, entries_at, has_feature, same_text}
 use Rattle.model.specs.Content.{Candidate, candidates_of}
+use Rattle.model.specs.Optional.{passes}
 use Rattle.model.specs.Vertices.{the_root, version_of}
 use Rattle.model.proofs.Same.{text-same}
+use Rattle.model.proofs.Flips.{text-flips}
 use Rattle.manifest.specs.Manifests.{ManifestView}
 use Rattle.manifest.specs.Manifests as manifest
-use Rattle.refutations.specs.Causes.{asks_for, entries_or_none, owner_asks, owners_in, passes, same_pair}
+use Rattle.refutations.specs.Causes.{asks_for, entries_or_none, owner_asks, owners_in, same_pair}
 use Rattle.catalogue.specs.Problems.{problem_in}
 use Rattle.catalogue.specs.Ranks.{records}
 use Rattle.model.specs.Candidates.{as_candidate}
@@ -27,7 +29,7 @@ use Rattle.known_pairs.specs.declared.pairs.Pairs.{Pairs}
 use Rattle.known_pairs.proofs.Asked.{any-append, owner_may_ask, rows_ask}
 use Rattle.catalogue.proofs.Lookups.{candidates_are}
 use Rattle.known_pairs.proofs.Featured.{any_end, any_here, any_later, rows_asked}
-use Rattle.known_pairs.proofs.PairLemmas.{or-none, text-flip}
+use Rattle.known_pairs.proofs.PairLemmas.{or-none}
 use Rattle.looking_up.proofs.Versions.{any-map, any_candidate}
 
 abbrev Test : Type 0
@@ -176,7 +178,7 @@ nothing_asks n f = refl
 
 root_asks_same : (m : ManifestView) (c : CatalogueView) (n f : List ℕ)
     → is_asked_by_root m.brings n f ≡ owner_asks (problem_in m c) n f the_root
-root_asks_same m c n f = any-same _ _ (λ d. ap₂ (λ a b. a && b) (text-flip n d.real_name)
+root_asks_same m c n f = any-same _ _ (λ d. ap₂ (λ a b. a && b) (text-flips n d.real_name)
     (ap (λ b. list_any (same_text f) (asked_of_target d) || b) (rows_ask d.name f m.brings.features)
     ∙ or-none (list_any (same_text f) (asked_of_target d)
     || list_any (same_pair (d.name, f)) (manifest.root_asks m.brings.features))))
@@ -187,7 +189,7 @@ version_asks_same : (m : ManifestView) (c : CatalogueView) (n f name : List ℕ)
 unfolding is_asked_by_version
 version_asks_same m c n f name v =
     let o = brings_in c name v in
-    any-same _ _ (λ d. ap₂ (λ a b. a && b) (text-flip n d.real_name)
+    any-same _ _ (λ d. ap₂ (λ a b. a && b) (text-flips n d.real_name)
     (ap₂ (λ a b. a || b) (or-none (list_any (same_text f) (asked_of_target d))) (owner_may_ask d.name f o o refl)))
     o.dependencies
 

@@ -3,8 +3,8 @@ use Rattle.std.proofs.Common.{◌≡◌, ℕ, Bool, false, List, Option, Some, N
 use Rattle.std.proofs.lemmas.Option.{none-some, same_Some, slice_get-map}
 use Rattle.model.specs.Summary.{Summary}
 use Rattle.model.specs.Content.{Candidate, candidates_of}
+use Rattle.model.specs.Optional.{passes}
 use Rattle.model.specs.Candidates.{Record, as_candidate}
-use Rattle.refutations.specs.Causes.{passes}
 use Rattle.catalogue.specs.Stores.{CatalogueView, candidates_at, rows_by_name}
 use Rattle.catalogue.specs.Views.{Said, said}
 use Rattle.catalogue.proofs.Lookups.{candidates_are}

@@ -2,21 +2,16 @@
 use Rattle.std.specs.Prelude.{◌≡◌, ◌||◌, ℕ, List, [], Bool, Option, None, Some}
 use Rattle.std.specs.Borrow.{Bor}
 use Rattle.std.specs.BTreeSet.{BTreeSet}
-use Rattle.std.specs.Map.{lookup}
-use Rattle.model.specs.Summary.{same_text}
 use Rattle.features.specs.Texts.{has_text}
+use Rattle.features.specs.TextMaps.{at_text}
 use Rattle.known_pairs.specs.declared.pairs.Pairs.{Pairs}
-
--- what a map has at a text
-abbrev pub text_at : {X : Type 0} → List (Bor (List ℕ) × X) → List ℕ → Option X
-text_at es n = lookup (λ k. same_text n k.now) es
 
 abbrev pub keys_if : Option (BTreeSet (Bor (List ℕ))) → List (Bor (List ℕ))
 keys_if None = []
 keys_if (Some s) = s.keys
 
 abbrev pub has_pair : Pairs → List ℕ → List ℕ → Bool
-has_pair p n f = has_text (keys_if (text_at p.features.entries n)) f
+has_pair p n f = has_text (keys_if (at_text p.features.entries n)) f
 
 -- the pairs are just those that pass the test
 abbrev pub HasThose : Pairs → (List ℕ → List ℕ → Bool) → Type 0

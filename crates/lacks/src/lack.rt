@@ -11,6 +11,7 @@ ghost use Rattle.lacks.specs.Lacks.{would_match};
 ghost use Rattle.lacks.specs.Views.{record_views};
 
 use catalogue::Catalogue;
+use classes::{is_matched, some_matched};
 use features::{Dependency, FeatureName, PackageName};
 use index_reader::Record;
 use semver::{Version, VersionReq};
@@ -70,14 +71,6 @@ pub(crate) fn is_met(dependency: &Dependency, catalogue: &Catalogue) -> bool
         &dependency.requirement,
         catalogue.versions(&dependency.real_name),
     )
-}
-
-fn some_matched(requirement: &VersionReq, versions: &[Version]) -> bool
-    ensures { result ≡ list_any (λ v. matches_views (requirement_view requirement.now) (parts_of v)) versions.now }
-{
-    versions
-        .iter()
-        .any(|version| is_matched(requirement, version))
 }
 
 /// The first feature that a dependency asks for, and that no candidate has which it matches.
@@ -199,10 +192,4 @@ fn release(version: &Version) -> Version
     ensures { parts_of result ≡ release (parts_of version.now) }
 {
     Version::new(version.major, version.minor, version.patch)
-}
-
-pub(crate) fn is_matched(requirement: &VersionReq, version: &Version) -> bool
-    ensures { result ≡ matches_views (requirement_view requirement.now) (parts_of version.now) }
-{
-    requirement.matches(version)
 }

@@ -1,6 +1,6 @@
 //! A feature whose name is nearly that of one that is lacking.
 
-use crate::lack::is_matched;
+use classes::is_matched;
 use catalogue::Catalogue;
 use features::{Dependency, FeatureName, FeatureTable};
 use std::alloc::{AllocError, Global};

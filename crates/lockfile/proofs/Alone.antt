@@ -12,9 +12,10 @@ use Rattle.std.proofs.lemmas.Option.{slice_get-map}
 use Rattle.semver.specs.Grammar.{IsValid}
 use Rattle.semver.specs.Parse.{Parts}
 use Rattle.model.specs.Content.{Package, Content, same_version}
+use Rattle.model.specs.Optional.{passes}
 use Rattle.model.specs.Order.{text_cmp, version_cmp}
 use Rattle.model.specs.Summary.{same_text}
-use Rattle.lockfile.specs.Search.{IsOrdered, IsRead, named_cmp, versioned_cmp, wanted_cmp, is_wanted, holds_at}
+use Rattle.lockfile.specs.Search.{IsOrdered, IsRead, named_cmp, versioned_cmp, wanted_cmp, is_wanted}
 use Rattle.lockfile.specs.Spelling.{named, versioned}
 use Rattle.lockfile.specs.Views.{package_view, package_views}
 use Rattle.lockfile.specs.Written.{AreRead}
@@ -43,7 +44,7 @@ filter-none : (test : Package → Bool) (ps : Content) → AllByRecursion (λ p.
 filter-none test [] h = refl
 filter-none test (p ∷ ps) h = rw h.0 (filter-none test ps h.1)
 
-pub some-pass : (test : Package → Bool) (ps : Content) (n : ℕ) → holds_at test (slice_get ps n) ≡ true
+pub some-pass : (test : Package → Bool) (ps : Content) (n : ℕ) → passes test (slice_get ps n) ≡ true
     → 1 ≤ length (filter test ps)
 some-pass test [] n h = cc
 some-pass test (p ∷ ps) zero h = rw h (omega arith)
@@ -56,7 +57,7 @@ more-than-one : (n : ℕ) → 1 ≤ n → (suc n == 1) ≡ false
 more-than-one n l = grind (arith, nat_tests)
 
 pub first-alone : (w : Wanted) (p : Package) (ps : Content) → IsOrdered (p ∷ ps) → is_wanted w p ≡ true
-    → not (holds_at (is_wanted w) (slice_get ps 0)) ≡ (length (filter (is_wanted w) (p ∷ ps)) == 1)
+    → not (passes (is_wanted w) (slice_get ps 0)) ≡ (length (filter (is_wanted w) (p ∷ ps)) == 1)
 unfolding IsStrictlySortedBy
 first-alone w p [] s h = rw h refl
 first-alone w p (r ∷ rs) s h = by_case (is_wanted w r) refl
@@ -69,7 +70,7 @@ first-alone w p (r ∷ rs) s h = by_case (is_wanted w r) refl
 
 -- the package before one that is wanted is, if an earlier one is
 near : (w : Wanted) (p : Package) (ps : Content) (n : ℕ) → IsOrdered (p ∷ ps) → is_wanted w p ≡ true
-    → holds_at (is_wanted w) (slice_get ps (suc n)) ≡ true → holds_at (is_wanted w) (slice_get ps n) ≡ true
+    → passes (is_wanted w) (slice_get ps (suc n)) ≡ true → passes (is_wanted w) (slice_get ps n) ≡ true
 unfolding IsStrictlySortedBy
 near w p [] n s h k = cc
 near w p (r ∷ []) n s h k = cc
@@ -78,25 +79,25 @@ near w p (r ∷ (q ∷ qs)) zero s h k = between (wanted_cmp w p) (wanted_cmp w 
 near w p (r ∷ (q ∷ qs)) (suc n) s h k = near w p (q ∷ qs) n (s.0.1, s.1.1) h k
 
 pub later-alone : (w : Wanted) (ps : Content) (n : ℕ) → IsOrdered ps
-    → holds_at (is_wanted w) (slice_get ps (suc n)) ≡ true
-    → (not (holds_at (is_wanted w) (slice_get ps (suc (suc n)))) && not (holds_at (is_wanted w) (slice_get ps n)))
+    → passes (is_wanted w) (slice_get ps (suc n)) ≡ true
+    → (not (passes (is_wanted w) (slice_get ps (suc (suc n)))) && not (passes (is_wanted w) (slice_get ps n)))
     ≡ (length (filter (is_wanted w) ps) == 1)
 unfolding IsStrictlySortedBy
 later-alone w [] n s h = cc
 later-alone w (p ∷ []) n s h = cc
 later-alone w (p ∷ (r ∷ rs)) zero s h = by_case (is_wanted w p) refl
   where
-    by_case : (b : Bool) → is_wanted w p ≡ b → (not (holds_at (is_wanted w) (slice_get rs 0)) && not (is_wanted w p))
+    by_case : (b : Bool) → is_wanted w p ≡ b → (not (passes (is_wanted w) (slice_get rs 0)) && not (is_wanted w p))
         ≡ (length (filter (is_wanted w) (p ∷ (r ∷ rs))) == 1)
     by_case true e = rw (e, h, more-than-one (suc (length (filter (is_wanted w) rs))) (omega arith))
-        (and-false (not (holds_at (is_wanted w) (slice_get rs 0))))
+        (and-false (not (passes (is_wanted w) (slice_get rs 0))))
       where
         and-false : (b : Bool) → (b && false) ≡ false
         and-false true = refl
         and-false false = refl
     by_case false e =
         let first = first-alone w r rs s.1 h in
-        rw e (and-true (not (holds_at (is_wanted w) (slice_get rs 0))) ∙ first)
+        rw e (and-true (not (passes (is_wanted w) (slice_get rs 0))) ∙ first)
       where
         and-true : (b : Bool) → (b && true) ≡ b
         and-true true = refl
@@ -104,16 +105,16 @@ later-alone w (p ∷ (r ∷ rs)) zero s h = by_case (is_wanted w p) refl
 later-alone w (p ∷ (r ∷ rs)) (suc n) s h = by_case (is_wanted w p) refl (later-alone w (r ∷ rs) n s.1 h)
   where
     by_case : (b : Bool) → is_wanted w p ≡ b
-        → (not (holds_at (is_wanted w) (slice_get (r ∷ rs) (suc (suc n))))
-        && not (holds_at (is_wanted w) (slice_get (r ∷ rs) n))) ≡ (length (filter (is_wanted w) (r ∷ rs)) == 1)
-        → (not (holds_at (is_wanted w) (slice_get (r ∷ rs) (suc (suc n))))
-        && not (holds_at (is_wanted w) (slice_get (r ∷ rs) n))) ≡ (length (filter (is_wanted w) (p ∷ (r ∷ rs))) == 1)
+        → (not (passes (is_wanted w) (slice_get (r ∷ rs) (suc (suc n))))
+        && not (passes (is_wanted w) (slice_get (r ∷ rs) n))) ≡ (length (filter (is_wanted w) (r ∷ rs)) == 1)
+        → (not (passes (is_wanted w) (slice_get (r ∷ rs) (suc (suc n))))
+        && not (passes (is_wanted w) (slice_get (r ∷ rs) n))) ≡ (length (filter (is_wanted w) (p ∷ (r ∷ rs))) == 1)
     by_case false e rest = rw e rest
     by_case true e rest =
-        let beside : holds_at (is_wanted w) (slice_get (r ∷ rs) n) ≡ true = near w p (r ∷ rs) n s e h in
+        let beside : passes (is_wanted w) (slice_get (r ∷ rs) n) ≡ true = near w p (r ∷ rs) n s e h in
         let more : (suc (length (filter (is_wanted w) (r ∷ rs))) == 1) ≡ false =
         more-than-one _ (some-pass (is_wanted w) (r ∷ rs) (suc n) h) in
-        rw (e, beside, more) (and-false (not (holds_at (is_wanted w) (slice_get (r ∷ rs) (suc (suc n))))))
+        rw (e, beside, more) (and-false (not (passes (is_wanted w) (slice_get (r ∷ rs) (suc (suc n))))))
       where
         and-false : (b : Bool) → (b && false) ≡ false
         and-false true = refl
@@ -124,18 +125,18 @@ later-alone w (p ∷ (r ∷ rs)) (suc n) s h = by_case (is_wanted w p) refl (lat
 -- what is known of a place other than the first, by the two places beside it
 abbrev Beside : Wanted → Content → ℕ → ℕ → Type 0
 Beside w ps after before =
-    (not (holds_at (is_wanted w) (slice_get ps after)) && not (holds_at (is_wanted w) (slice_get ps before)))
+    (not (passes (is_wanted w) (slice_get ps after)) && not (passes (is_wanted w) (slice_get ps before)))
     ≡ (length (filter (is_wanted w) ps) == 1)
 
 pub alone-first : (w : Wanted) (ps : Content) (n : ℕ) (b : Bool) → n ≡ 0 → IsOrdered ps
-    → holds_at (is_wanted w) (slice_get ps n) ≡ true → b ≡ holds_at (is_wanted w) (slice_get ps (n + 1))
+    → passes (is_wanted w) (slice_get ps n) ≡ true → b ≡ passes (is_wanted w) (slice_get ps (n + 1))
     → not b ≡ (length (filter (is_wanted w) ps) == 1)
 alone-first w [] n b z s h e = cc
 alone-first w (p ∷ ps) zero b z s h e = rw e (first-alone w p ps s h)
 alone-first w (p ∷ ps) (suc n) b z s h e = cc
 
 alone-other : (w : Wanted) (ps : Content) (n : ℕ) → (n ≡ 0 → ⊥) → IsOrdered ps
-    → holds_at (is_wanted w) (slice_get ps n) ≡ true → Beside w ps (n + 1) (n - 1)
+    → passes (is_wanted w) (slice_get ps n) ≡ true → Beside w ps (n + 1) (n - 1)
 alone-other w ps zero z s h = absurd (z refl)
 alone-other w ps (suc n) z s h =
     let next : suc n + 1 ≡ suc (suc n) = omega arith in
@@ -144,19 +145,19 @@ alone-other w ps (suc n) z s h =
 
 -- where the next isn't wanted, and where it is
 pub alone-last : (w : Wanted) (ps : Content) (n : ℕ) (a b : Bool) → (n ≡ 0 → ⊥) → IsOrdered ps
-    → holds_at (is_wanted w) (slice_get ps n) ≡ true → a ≡ holds_at (is_wanted w) (slice_get ps (n + 1))
-    → b ≡ holds_at (is_wanted w) (slice_get ps (n - 1)) → a ≡ false → not b ≡ (length (filter (is_wanted w) ps) == 1)
+    → passes (is_wanted w) (slice_get ps n) ≡ true → a ≡ passes (is_wanted w) (slice_get ps (n + 1))
+    → b ≡ passes (is_wanted w) (slice_get ps (n - 1)) → a ≡ false → not b ≡ (length (filter (is_wanted w) ps) == 1)
 alone-last w ps n a b z s h e f g =
     let both = alone-other w ps n z s h in
-    let after : holds_at (is_wanted w) (slice_get ps (n + 1)) ≡ false = sym e ∙ g in
+    let after : passes (is_wanted w) (slice_get ps (n + 1)) ≡ false = sym e ∙ g in
     rw f (rw after at both)
 
 pub alone-before : (w : Wanted) (ps : Content) (n : ℕ) (a : Bool) → (n ≡ 0 → ⊥) → IsOrdered ps
-    → holds_at (is_wanted w) (slice_get ps n) ≡ true → a ≡ holds_at (is_wanted w) (slice_get ps (n + 1)) → a ≡ true
+    → passes (is_wanted w) (slice_get ps n) ≡ true → a ≡ passes (is_wanted w) (slice_get ps (n + 1)) → a ≡ true
     → not a ≡ (length (filter (is_wanted w) ps) == 1)
 alone-before w ps n a z s h e g =
     let both = alone-other w ps n z s h in
-    let after : holds_at (is_wanted w) (slice_get ps (n + 1)) ≡ true = sym e ∙ g in
+    let after : passes (is_wanted w) (slice_get ps (n + 1)) ≡ true = sym e ∙ g in
     rw g (rw after at both)
 
 -- ---- of one name, of one name and version
@@ -177,7 +178,7 @@ are-read [] = tt
 are-read (p ∷ ps) = ((p.named, p.version_reads), are-read ps)
 
 pub holds-there : (w : Wanted) (ps : List Locked) (n : ℕ) (p : Locked) → slice_get ps n ≡ Some p
-    → is_wanted w (package_view p) ≡ true → holds_at (is_wanted w) (slice_get (package_views ps) n) ≡ true
+    → is_wanted w (package_view p) ≡ true → passes (is_wanted w) (slice_get (package_views ps) n) ≡ true
 holds-there w ps n p e h = rw (slice_get-map package_view ps n, e) h
 
 -- those that are wanted are those of the package's name, and those of its name and version

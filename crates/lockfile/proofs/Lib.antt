@@ -1,4 +1,3 @@
-pub mod ReadLemmas
 pub mod PlaceOrder
 pub mod PackageOrder
 pub mod Ranges

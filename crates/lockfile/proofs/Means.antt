@@ -10,11 +10,12 @@ use Rattle.std.proofs.lemmas.Cmp.{nat_list_cmp_total, tied_itself}
 use Rattle.semver.specs.Identifiers.{parts_text}
 use Rattle.semver.proofs.Grammar.{version_parts-complete}
 use Rattle.model.specs.Content.{Package, Content, same_version}
+use Rattle.model.specs.Optional.{passes}
 use Rattle.model.specs.Order.{text_cmp, version_cmp, package_cmp}
 use Rattle.model.specs.Summary.{same_text}
 use Rattle.lockfile.specs.Locks.{version_form, is_form, is_form_without_source, places_from, places, only, or_else}
 use Rattle.lockfile.specs.Locks.{place_meant}
-use Rattle.lockfile.specs.Search.{IsOrdered, IsRead, is_named, is_versioned, is_sourced, holds_at}
+use Rattle.lockfile.specs.Search.{IsOrdered, IsRead, is_named, is_versioned, is_sourced}
 use Rattle.lockfile.specs.Spelling.{named, versioned, longest_form, dependency_text}
 use Rattle.lockfile.specs.Written.{AreRead}
 use Rattle.lockfile.proofs.Alone.{both-ways, version-ways, filter-agree, some-pass}
@@ -36,7 +37,7 @@ no-places test m (p ∷ ps) h = by_case (test p) refl (no-places test (m + 1) ps
     by_case true e rest = let some : suc (length (filter test ps)) ≡ 0 = rw e at h in absurd (omega arith)
     by_case false e rest = rw e (rest (rw e at h))
 
-only-place : (test : Package → Bool) (m n : ℕ) (ps : Content) → holds_at test (slice_get ps n) ≡ true
+only-place : (test : Package → Bool) (m n : ℕ) (ps : Content) → passes test (slice_get ps n) ≡ true
     → length (filter test ps) ≡ 1 → only (places_from m test ps) ≡ Some (m + n)
 only-place test m n [] h k = cc
 only-place test m zero (p ∷ ps) h k =
@@ -113,7 +114,7 @@ sourced-place ps n q o s e is =
 -- ---- of its name, of its name and version
 
 pass-at : (test : Package → Bool) (ps : Content) (n : ℕ) (q : Package) → slice_get ps n ≡ Some q → test q ≡ true
-    → holds_at test (slice_get ps n) ≡ true
+    → passes test (slice_get ps n) ≡ true
 pass-at test ps n q e h = rw e h
 
 named-counts : (q : Package) (ps : Content) → length (filter (is_named q.name) ps) ≡ named ps q

@@ -7,9 +7,8 @@ use Rattle.std.specs.List.{AllByRecursion, IsAllAdjacentAnswer}
 use Rattle.std.specs.List.Sorted.{IsPermutation, IsSortedBy, IsStrictlySortedBy}
 use Rattle.std.specs.Ordering.{nat_cmp, is_lt, is_eq, eq_by_cmp, ordering_then}
 use Rattle.std.specs.declared.cmp.Ordering.TheVariants.{Less, Equal, Greater}
-use Rattle.std.proofs.lemmas.Bool.{eqb-true, eq-eqb}
 use Rattle.std.proofs.lemmas.Bool.Decides.{nat_tests}
-use Rattle.std.proofs.lemmas.Cmp.{nat_list_eq_equiv, on_total, tied_itself}
+use Rattle.std.proofs.lemmas.Cmp.{on_total, tied_itself}
 use Rattle.semver.specs.Grammar.{IsValid}
 use Rattle.semver.specs.Identifiers.{parts_text}
 use Rattle.semver.specs.OrderLaws.{same_text}
@@ -23,6 +22,7 @@ use Rattle.lockfile.specs.Views.{unlinked_view, unlinked_views}
 use Rattle.lockfile.specs.declared.fault.LockFault.TheVariants.{LockShape}
 use Rattle.lockfile.specs.declared.packages.UnlinkedPackage.{UnlinkedPackage}
 use Rattle.model.proofs.PackageOrder.{version_total, package_total}
+use Rattle.model.proofs.Same.{version-refl, version-same}
 use Rattle.model.proofs.Sorting.{has_alike-agrees, ordered-run, alike-run}
 use Rattle.lockfile.specs.Search.{IsRead, IsOrdered}
 
@@ -62,28 +62,6 @@ and-true false b h = cc
 pub true-and : (a b : Bool) → a ≡ true → b ≡ true → (a && b) ≡ true
 true-and a b h k = rw (h, k) refl
 
-same-parts : (a b c a' b' c' : ℕ) (d e d' e' : List ℕ) → a ≡ a' → b ≡ b' → c ≡ c' → d ≡ d' → e ≡ e' → let v : Parts =
-    (a, b, c, d, e) in let w : Parts = (a', b', c', d', e') in v ≡ w
-same-parts a b c a' b' c' d e d' e' p q r s t = cc
-
-same-version : (v w : Parts) → same_version v w ≡ true → v ≡ w
-same-version v w h =
-    let a = and-true _ _ h in
-    let b = and-true _ _ a.0 in
-    let d = and-true _ _ b.0 in
-    let e = and-true _ _ d.0 in
-    let major : v.0 ≡ w.0 = eqb-true v.0 w.0 e.0 in
-    let minor : v.1 ≡ w.1 = eqb-true v.1 w.1 e.1 in
-    let patch : v.2 ≡ w.2 = eqb-true v.2 w.2 d.1 in
-    let pre : v.3 ≡ w.3 = same_text (v.3) (w.3) b.1 in
-    let build : v.4 ≡ w.4 = same_text (v.4) (w.4) a.1 in
-    same-parts v.0 v.1 v.2 w.0 w.1 w.2 (v.3) (v.4) (w.3) (w.4) major minor patch pre build
-
-version-itself : (v : Parts) → same_version v v ≡ true
-version-itself v =
-    true-and _ _ (true-and _ _ (true-and _ _ (true-and _ _ (eq-eqb v.0 v.0 refl) (eq-eqb v.1 v.1 refl))
-    (eq-eqb v.2 v.2 refl)) (nat_list_eq_equiv.refl v.3)) (nat_list_eq_equiv.refl v.4)
-
 -- versions with one text are one
 pub text-version : (v w : Parts) → IsValid v → IsValid w → parts_text v ≡ parts_text w → v ≡ w
 text-version v w p q e =
@@ -100,8 +78,8 @@ version-tie v w p q h =
 
 pub version-eq : (v w : Parts) → IsValid v → IsValid w → is_eq (version_cmp v w) ≡ same_version v w
 version-eq v w p q =
-    same-tests _ _ (λ h. let e : v ≡ w = version-tie v w p q h in rw (← e) (version-itself v))
-    (λ h. let e : v ≡ w = same-version v w h in rw (← e, tied_itself version_total) refl)
+    same-tests _ _ (λ h. let e : v ≡ w = version-tie v w p q h in rw (← e) (version-refl v))
+    (λ h. let e : v ≡ w = version-same v w h in rw (← e, tied_itself version_total) refl)
 
 pub package-eq : (p r : Package) → IsRead p → IsRead r → is_alike p r ≡ is_eq (package_cmp p r)
 package-eq p r h k =

@@ -14,11 +14,12 @@ use Rattle.std.proofs.Math.ListN.{get_or-map}
 use Rattle.std.proofs.lemmas.Map.Keys.{Less-from_sorted}
 use Rattle.semver.specs.Identifiers.{parts_of}
 use Rattle.model.specs.Content.{Package, Content}
+use Rattle.model.specs.Optional.{passes}
 use Rattle.model.specs.Order.{text_cmp, version_cmp, source_cmp, package_cmp}
 use Rattle.lockfile.specs.Locks.{locked_packages, only, places, places_from}
 use Rattle.lockfile.specs.Views.{unlinked_views, locked_view, locked_views}
 use Rattle.lockfile.specs.declared.packages.UnlinkedPackage.{UnlinkedPackage}
-use Rattle.lockfile.specs.Search.{IsOrdered, wanted_cmp, is_wanted, holds_at}
+use Rattle.lockfile.specs.Search.{IsOrdered, wanted_cmp, is_wanted}
 use Rattle.lockfile.specs.declared.meaning.Wanted.{Wanted}
 use Rattle.lockfile.specs.declared.meaning.Wanted.TheVariants.{Name, Version, Source}
 use Rattle.model.proofs.PackageOrder.{version_total, source_total}
@@ -200,7 +201,7 @@ only_there place true true = None
 only_there place true false = Some place
 
 only-begin : (w : Wanted) (m : ℕ) (p : Package) (ps : Content) → IsOrdered (p ∷ ps) → is_wanted w p ≡ true
-    → only (places_from m (is_wanted w) (p ∷ ps)) ≡ only_there m true (holds_at (is_wanted w) (slice_get ps 0))
+    → only (places_from m (is_wanted w) (p ∷ ps)) ≡ only_there m true (passes (is_wanted w) (slice_get ps 0))
 unfolding IsStrictlySortedBy
 only-begin w m p [] s h = rw h refl
 only-begin w m p (r ∷ rs) s h = by_case (is_wanted w r) refl
@@ -214,16 +215,16 @@ only-begin w m p (r ∷ rs) s h = by_case (is_wanted w r) refl
 
 only-first : (w : Wanted) (m i : ℕ) (ps : Content) → IsOrdered ps → IsFirst w ps i
     → only (places_from m (is_wanted w) ps)
-    ≡ only_there (m + i) (holds_at (is_wanted w) (slice_get ps i)) (holds_at (is_wanted w) (slice_get ps (suc i)))
+    ≡ only_there (m + i) (passes (is_wanted w) (slice_get ps i)) (passes (is_wanted w) (slice_get ps (suc i)))
 unfolding IsStrictlySortedBy
 only-first w m i [] s h = refl
 only-first w m zero (p ∷ ps) s h = by_case (is_wanted w p) refl
   where
     by_case : (b : Bool) → is_wanted w p ≡ b → only (places_from m (is_wanted w) (p ∷ ps))
-        ≡ only_there (m + 0) (is_wanted w p) (holds_at (is_wanted w) (slice_get ps 0))
+        ≡ only_there (m + 0) (is_wanted w p) (passes (is_wanted w) (slice_get ps 0))
     by_case true e =
         let place : m ≡ m + 0 = omega arith in
-        let next = holds_at (is_wanted w) (slice_get ps 0) in
+        let next = passes (is_wanted w) (slice_get ps 0) in
         only-begin w m p ps s e ∙ ap (λ n. only_there n true next) place ∙ ap (λ b. only_there (m + 0) b next) (sym e)
     by_case false e =
         rw (e, none-from (is_wanted w) (m + 1) ps (none-later w p ps s (higher (wanted_cmp w p) h e))) refl
@@ -235,8 +236,8 @@ only-first w m (suc i) (p ∷ ps) s h =
 
 -- the place that a search found, and whether the package there and the next one are wanted
 abbrev pub Told : Wanted → List UnlinkedPackage → ℕ → Bool → Bool → Type 0
-Told w ps first here next = (here ≡ holds_at (is_wanted w) (slice_get (locked_views ps) first))
-    × (next ≡ holds_at (is_wanted w) (slice_get (locked_views ps) (first + 1)))
+Told w ps first here next = (here ≡ passes (is_wanted w) (slice_get (locked_views ps) first))
+    × (next ≡ passes (is_wanted w) (slice_get (locked_views ps) (first + 1)))
 
 only-told : (w : Wanted) (ps : List UnlinkedPackage) (first : ℕ) (here next : Bool)
     → IsOrdered (locked_packages (unlinked_views ps))

@@ -6,7 +6,6 @@ use Rattle.std.specs.Prelude.{Err, codes, option_and_then}
 use Rattle.std.specs.List.{list_all, zip}
 use Rattle.std.specs.Option.{ok_or}
 use Rattle.std.specs.Ordering.{nat_cmp}
-use Rattle.std.specs.Str.{is_utf8}
 use Rattle.std.specs.declared.cmp.Ordering.{Ordering}
 use Rattle.toml.specs.Data.{Data, as_str, as_integer, as_array, as_table, get_member, Items, no_items, item, Members}
 use Rattle.toml.specs.Parse.{parse_document}
@@ -14,6 +13,7 @@ use Rattle.semver.specs.Identifiers.{parts_text}
 use Rattle.semver.specs.Parse.{Parts, version_parts}
 use Rattle.semver.specs.declared.error.Error.{Error}
 use Rattle.model.specs.Outcome.{◌>>=◌, guard}
+use Rattle.model.specs.Optional.{of_utf8}
 use Rattle.model.specs.Summary.{same_text}
 use Rattle.model.specs.Content.{Package, Content, same_version, same_option}
 use Rattle.model.specs.Order.{package_cmp}
@@ -33,7 +33,7 @@ wants_memory TooLarge = false
 
 -- the table that the bytes are
 abbrev pub table_of_bytes : List ℕ → Result Members LockFault
-table_of_bytes bytes = ok_or (if is_utf8 bytes then parse_document bytes else None) NotToml
+table_of_bytes bytes = ok_or (of_utf8 parse_document bytes) NotToml
 
 -- the versions of the format that are read: 1 to 4
 abbrev pub is_known_version : ℤ → Bool

@@ -1,6 +1,5 @@
 -- How a dependency text is looked up among packages in order: what its parts ask for, and which packages that fits.
-use Rattle.std.specs.Prelude.{◌≡◌, ◌≢◌, ℕ, ◌<◌, Bool, true, false, List, length, slice_index, Option, Some, None}
-use Rattle.std.specs.Prelude.{option_map}
+use Rattle.std.specs.Prelude.{◌≡◌, ◌≢◌, ℕ, ◌<◌, Bool, true, List, length, slice_index, Option, option_map}
 use Rattle.std.specs.List.Sorted.{IsStrictlySortedBy}
 use Rattle.std.specs.Ordering.{ordering_then, is_eq}
 use Rattle.std.specs.declared.cmp.Ordering.{Ordering}
@@ -54,8 +53,3 @@ wanted_cmp (Source name version source) p =
 
 abbrev pub is_wanted : Wanted → Package → Bool
 is_wanted w p = is_eq (wanted_cmp w p)
-
--- whether there is a package, and the test holds of it
-abbrev pub holds_at : (Package → Bool) → Option Package → Bool
-holds_at test None = false
-holds_at test (Some p) = test p

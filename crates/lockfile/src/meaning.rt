@@ -9,7 +9,8 @@ ghost use Rattle.model.specs.Content as model;
 ghost use Rattle.model.specs.Outcome.{Gives};
 ghost use Rattle.lockfile.specs.Locks.{wants_memory, place_meant, places_meant, list_of, lists_of, only, places};
 ghost use Rattle.lockfile.specs.Locks.{locked_packages};
-ghost use Rattle.lockfile.specs.Search.{named_cmp, versioned_cmp, wanted_cmp, is_wanted, holds_at, IsOrdered};
+ghost use Rattle.lockfile.specs.Search.{named_cmp, versioned_cmp, wanted_cmp, is_wanted, IsOrdered};
+ghost use Rattle.model.specs.Optional.{passes};
 ghost use Rattle.lockfile.specs.Search.{HasNoSpace};
 ghost use Rattle.features.specs.Views.{text_views};
 ghost use Rattle.lockfile.specs.Views.{package_view, unlinked_views, locked_views, list_views};
@@ -81,7 +82,7 @@ fn compare_versions(locked: &Package, name: &str, version: &Version) -> Ordering
 
 /// Whether there is a package at a place, and it is wanted.
 fn is_wanted_at(packages: &[UnlinkedPackage], place: usize, wanted: Wanted) -> bool
-    ensures { result ≡ holds_at (is_wanted wanted.entry) (slice_get (locked_views packages.now) place) }
+    ensures { result ≡ passes (is_wanted wanted.entry) (slice_get (locked_views packages.now) place) }
 {
     match packages.get(place) {
         Some(package) => wanted.compare(&package.locked) == Ordering::Equal,

@@ -4,7 +4,8 @@ ghost use Rattle.std.specs.Prelude.{◌≡◌, ◌==◌, ◌<◌, ◌++◌, ◌�
 ghost use Rattle.std.specs.Prelude.{string_bytes};
 ghost use Rattle.std.specs.List.{filter};
 ghost use Rattle.semver.specs.Identifiers.{parts_of, parts_text};
-ghost use Rattle.lockfile.specs.Search.{IsOrdered, is_wanted, holds_at};
+ghost use Rattle.lockfile.specs.Search.{IsOrdered, is_wanted};
+ghost use Rattle.model.specs.Optional.{passes};
 ghost use Rattle.lockfile.specs.Spelling.{named, versioned, longest_form, dependency_text};
 ghost use Rattle.lockfile.specs.Views.{package_view, package_views};
 ghost use Rattle.lockfile.specs.Written.{written_of, entry_view, entry_views, listed_view};
@@ -46,7 +47,7 @@ impl WrittenPackage<'_> {
 
 /// Whether there is a package at a place, and it is wanted.
 fn is_wanted_at(packages: &[Package], place: usize, wanted: Wanted) -> bool
-    ensures { result ≡ holds_at (is_wanted wanted.entry) (slice_get (package_views packages.now) place) }
+    ensures { result ≡ passes (is_wanted wanted.entry) (slice_get (package_views packages.now) place) }
 {
     match packages.get(place) {
         Some(package) => wanted.compare(package) == Ordering::Equal,
@@ -58,7 +59,7 @@ fn is_wanted_at(packages: &[Package], place: usize, wanted: Wanted) -> bool
 fn is_alone(packages: &[Package], place: usize, wanted: Wanted) -> bool
     requires ordered { IsOrdered (package_views packages.now) }
     requires place { place < length packages.now }
-    requires wanted { holds_at (is_wanted wanted) (slice_get (package_views packages.now) place) ≡ true }
+    requires wanted { passes (is_wanted wanted) (slice_get (package_views packages.now) place) ≡ true }
     ensures { result ≡ (length (filter (is_wanted wanted.entry) (package_views packages.now)) == 1) }
 {
     let follows = is_wanted_at(packages, place + 1, wanted);

@@ -14,7 +14,7 @@ mod owners;
 mod problem;
 mod ranges;
 
-pub use matching::{has_class, is_lacking, is_left, is_unmatched, some_matched};
+pub use matching::{has_class, is_lacking, is_left, is_unmatched};
 pub use owners::{brings, dependencies_of, dependency_at, entries_of, is_needed};
 pub use problem::Problem;
 pub use ranges::{below, class_versions, of_class};

@@ -1,8 +1,6 @@
 //! Which candidates requirements match, and which lack a feature.
 
 ghost use Rattle.std.specs.Prelude.{◌≡◌};
-ghost use Rattle.std.specs.List.{list_any};
-ghost use Rattle.semver.specs.EvalViews.{matches_views};
 ghost use Rattle.semver.specs.Identifiers.{parts_of};
 ghost use Rattle.features.specs.Views.{dependency_view, requirement_view};
 ghost use Rattle.classes.specs.Classes.{class_view};
@@ -13,7 +11,7 @@ ghost use Rattle.looking_up.specs.Views.{problem_view};
 use crate::owners::brings;
 use crate::problem::Problem;
 use crate::ranges::class_versions;
-use classes::{Class, is_matched};
+use classes::{Class, is_matched, some_matched};
 use features::{Dependency, FeatureName, PackageName};
 use semver::{Version, VersionReq};
 use vertices::OwnerRef;
@@ -36,15 +34,6 @@ pub fn is_unmatched(problem: &Problem<'_>, dependency: &Dependency) -> bool
         &dependency.requirement,
         problem.catalogue.versions(&dependency.real_name),
     )
-}
-
-/// Whether some version is matched.
-pub fn some_matched(requirement: &VersionReq, versions: &[Version]) -> bool
-    ensures { result ≡ list_any (λ v. matches_views (requirement_view requirement.now) (parts_of v)) versions.now }
-{
-    versions
-        .iter()
-        .any(|version| is_matched(requirement, version))
 }
 
 /// Whether the requirement doesn't match the version.

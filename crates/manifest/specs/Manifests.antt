@@ -1,15 +1,15 @@
 -- What a manifest says: a function of its bytes, or the first fault (Cargo book, "The Manifest Format", "Specifying
 -- Dependencies" and "Features").
-use Rattle.std.specs.Prelude.{ℕ, Bool, true, false, not, ◌||◌, if◌then◌else◌, List, [], ◌∷◌, map, Option, None, Result}
+use Rattle.std.specs.Prelude.{ℕ, Bool, true, false, not, ◌||◌, List, [], ◌∷◌, map, Option, Result}
 use Rattle.std.specs.Prelude.{Ok, Err, length, nat_le, is_none}
 use Rattle.std.specs.List.{list_any, flat_map}
 use Rattle.std.specs.Option.{ok_or}
-use Rattle.std.specs.Str.{is_utf8}
 use Rattle.toml.specs.Data.{Members}
 use Rattle.toml.specs.Parse.{parse_document}
 use Rattle.semver.specs.Parse.{Parts, Held, req_of}
 use Rattle.semver.specs.declared.error.Error.{Error}
 use Rattle.model.specs.Outcome.{◌>>=◌, guard}
+use Rattle.model.specs.Optional.{of_utf8}
 use Rattle.model.specs.Summary.{Dependency, Summary, Entry, feature, dependency, dependency_feature, weak_feature}
 use Rattle.model.specs.Summary.{Table}
 use Rattle.model.specs.Tables.{DepName, TableFault, no_such_feature, no_such_dependency, not_optional, table_of}
@@ -129,7 +129,7 @@ root_asks table = flat_map (λ row. flat_map asked_by row.1) table
 
 -- the table that the bytes are
 abbrev pub table_of_bytes : List ℕ → Result Members ManifestFault
-table_of_bytes bytes = ok_or (if is_utf8 bytes then parse_document bytes else None) NotToml
+table_of_bytes bytes = ok_or (of_utf8 parse_document bytes) NotToml
 
 -- what a table says as a manifest
 unfoldable pub manifest_of : Members → Result ManifestView ManifestFault

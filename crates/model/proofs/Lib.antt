@@ -28,3 +28,6 @@ pub mod Closed
 pub mod AllKept
 pub mod Choices
 pub mod Verdicts
+pub mod Utf8
+pub mod Flat
+pub mod Flips

@@ -64,6 +64,22 @@ module _ (q : Problem) (state : Vertex → State) (ok : IsUnbroken q state) wher
       let is : (r.0).version ≡ v = version-inner (r.0).version v r.2 in
       (r.0, f.0, is, sym (class-same k (class_of (r.0).version) f.1 ∙ ap class_of is))
 
+  -- and what is found there
+  found_version : (name : List ℕ) (v : Parts) → IsPresent q state (version_of name v)
+      → (c : Candidate) × (candidate_at (candidates_of q.candidates name) v ≡ Some c)
+      × Contains (candidates_of q.candidates name) c × Contains (class_candidates q name (class_of v)) c
+      × (v ≡ c.version)
+  found_version name v h =
+      let c = chosen_version name (class_of v) v h in
+      let e = candidate_at-there (candidates_of q.candidates name) c.0 c.1 in
+      let at_v : candidate_at (candidates_of q.candidates name) v ≡ Some e.0 =
+      subst (λ w. candidate_at (candidates_of q.candidates name) w ≡ Some e.0) c.2 e.1 in
+      let r = candidate_at-is (candidates_of q.candidates name) v e.0 at_v in
+      let in_it : Contains (class_candidates q name (class_of v)) e.0 =
+      to_filter (in_that_class (class_of v)) (candidates_of q.candidates name) e.0 r.0
+      (subst (λ w. same_class (class_of v) (class_of w) ≡ true) r.1 (class-refl (class_of v))) in
+      (e.0, at_v, r.0, in_it, r.1)
+
   is_owner : (n : Owner) → IsPresent q state n → IsOwner q n
   is_owner the_root h = tt
   is_owner (version_of name v) h = let c = chosen_version name (class_of v) v h in (c.0, c.1, c.2)
@@ -373,17 +389,10 @@ module _ (q : Problem) (state : Vertex → State) (ok : IsUnbroken q state) wher
       → Lists (owner_brings q) n f (feature g) → HasVertexAt n g
   vertex_turned known the_root f g h l = absurd h
   vertex_turned known (version_of name v) f g (h, p) l =
-      let c = chosen_version name (class_of v) v h in
-      let e = candidate_at-there (candidates_of q.candidates name) c.0 c.1 in
-      let at_v : candidate_at (candidates_of q.candidates name) v ≡ Some e.0 =
-      subst (λ w. candidate_at (candidates_of q.candidates name) w ≡ Some e.0) c.2 e.1 in
-      let r = candidate_at-is (candidates_of q.candidates name) v e.0 at_v in
-      let in_it : Contains (class_candidates q name (class_of v)) e.0 =
-      to_filter (in_that_class (class_of v)) (candidates_of q.candidates name) e.0 r.0
-      (subst (λ w. same_class (class_of v) (class_of w) ≡ true) r.1 (class-refl (class_of v))) in
-      let entries : entries_at f ((e.0).brings).features ≡ Some l.0 =
-      subst (λ o. entries_at f (brings_of o).features ≡ Some l.0) at_v l.1 in
-      had name (class_of v) g e.0 e.0 r.0 in_it (feature_known q known name e.0 r.0 f g l.0 entries l.2)
+      let c = found_version name v h in
+      let entries : entries_at f ((c.0).brings).features ≡ Some l.0 =
+      subst (λ o. entries_at f (brings_of o).features ≡ Some l.0) c.1 l.1 in
+      had name (class_of v) g c.0 c.0 c.2 c.3 (feature_known q known name c.0 c.2 f g l.0 entries l.2)
 
   -- each feature that is on has a vertex
   pub reached_vertex : IsCatalogue q → (f : Fact Owner) → IsReachedFact q state f → HasVertex f
@@ -408,16 +417,8 @@ module _ (q : Problem) (state : Vertex → State) (ok : IsUnbroken q state) wher
       → HasFeatVertex q name (class_of v) f
       → has_feature (owner_brings q (version_of name v)).features f ≡ true
   reached_exists name v f (h, p) vertex =
-      let c = chosen_version name (class_of v) v h in
-      let e = candidate_at-there (candidates_of q.candidates name) c.0 c.1 in
-      let at_v : candidate_at (candidates_of q.candidates name) v ≡ Some e.0 =
-      subst (λ w. candidate_at (candidates_of q.candidates name) w ≡ Some e.0) c.2 e.1 in
-      let r = candidate_at-is (candidates_of q.candidates name) v e.0 at_v in
-      let in_it : Contains (class_candidates q name (class_of v)) e.0 =
-      to_filter (in_that_class (class_of v)) (candidates_of q.candidates name) e.0 r.0
-      (subst (λ w. same_class (class_of v) (class_of w) ≡ true) r.1 (class-refl (class_of v))) in
-      ap (λ o. has_feature (brings_of o).features f) at_v
-      ∙ by e.0 in_it r.1 (has_feature ((e.0).brings).features f) refl
+      let c = found_version name v h in
+      ap (λ o. has_feature (brings_of o).features f) c.1 ∙ by c.0 c.3 c.4 (has_feature ((c.0).brings).features f) refl
     where
       by : (e : Candidate) → Contains (class_candidates q name (class_of v)) e → v ≡ e.version → (b : Bool)
           → has_feature (e.brings).features f ≡ b → b ≡ true

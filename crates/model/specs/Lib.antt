@@ -17,3 +17,4 @@ pub mod Derivation
 pub mod Assignment
 pub mod Search
 pub mod ContentOf
+pub mod Optional

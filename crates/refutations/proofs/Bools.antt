@@ -1,10 +1,10 @@
 -- Tests over lists: when each element passes, which is the first, and what two tests that imply each other give.
-use Rattle.std.proofs.Common.{◌≡◌, ℕ, zero, suc, List, [], ◌∷◌, ◌++◌, filter, inl, inr, ◌⊎◌, Bool, true, false, cond}
-use Rattle.std.proofs.Common.{◌||◌, Contains, Some, option_map, slice_get, refl, sym, ap, ◌∙◌, subst, true≢false}
+use Rattle.std.proofs.Common.{◌≡◌, ℕ, zero, suc, List, [], ◌∷◌, filter, Bool, true, false, cond, ◌||◌, Contains, Some}
+use Rattle.std.proofs.Common.{option_map, slice_get, refl, sym, ap, ◌∙◌, true≢false}
 use Rattle.std.specs.List.{list_all, list_any, find}
 use Rattle.std.proofs.lemmas.Bool.{and_from, or_parts}
 use Rattle.std.proofs.lemmas.Option.{none-some, same_Some}
-use Rattle.model.proofs.Lists.{in_none, in_cons, in_first, in_rest}
+use Rattle.model.proofs.Lists.{in_first, in_rest}
 use Rattle.refutations.specs.Instances.{first_place}
 
 -- a test that each element passes
@@ -12,18 +12,6 @@ pub all_pass : {X : Type 0} (p : X → Bool) (xs : List X) → ((x : X) → Cont
 all_pass p [] h = refl
 all_pass p (x ∷ xs) h =
     and_from (p x) (list_all p xs) (h x (in_first x xs)) (all_pass p xs (λ y c. h y (in_rest x y xs c)))
-
--- what is in one of two lists is in both together
-pub in_append-left : {X : Type 0} (xs ys : List X) (x : X) → Contains xs x → Contains (xs ++ ys) x
-in_append-left [] ys x c = absurd (in_none x c)
-in_append-left (z ∷ xs) ys x c = elim (in_cons z x xs c) [
-  | inl e ↦ subst (Contains (z ∷ xs ++ ys)) e (in_first z (xs ++ ys))
-  | inr c ↦ in_rest z x (xs ++ ys) (in_append-left xs ys x c)
-]
-
-pub in_append-right : {X : Type 0} (xs ys : List X) (x : X) → Contains ys x → Contains (xs ++ ys) x
-in_append-right [] ys x c = c
-in_append-right (z ∷ xs) ys x c = in_rest z x (xs ++ ys) (in_append-right xs ys x c)
 
 -- two tests that imply each other are one
 pub one_test : (s t : Bool) → (s ≡ true → t ≡ true) → (t ≡ true → s ≡ true) → s ≡ t
@@ -61,11 +49,3 @@ place-there {X = X} p (z ∷ xs) i x e h = by (λ k e. place-there p xs k x e h)
     by rest i e true f = (0, z, refl, refl, f)
     by rest zero e false f = absurd (true≢false (sym h ∙ ap p (sym (same_Some z x e)) ∙ f))
     by rest (suc k) e false f = let r = rest k e in (suc r.0, r.1, ap (option_map suc) r.2, r.3, r.4)
-
--- what is in two lists together is in one of them
-pub in_either : {X : Type 0} (xs ys : List X) (x : X) → Contains (xs ++ ys) x → Contains xs x ⊎ Contains ys x
-in_either [] ys x c = inr c
-in_either (z ∷ xs) ys x c = elim (in_cons z x (xs ++ ys) c) [
-  | inl e ↦ inl (subst (Contains (z ∷ xs)) e (in_first z xs))
-  | inr c ↦ elim (in_either xs ys x c) [ inl c ↦ inl (in_rest z x xs c) | inr c ↦ inr c ]
-]

@@ -7,6 +7,7 @@ use Rattle.semver.specs.Parse.{Parts}
 use Rattle.model.specs.Summary.{Dependency, Entry, feature, dependency, dependency_feature, weak_feature}
 use Rattle.model.specs.Summary.{asked_of_target, same_text}
 use Rattle.model.specs.Content.{Problem}
+use Rattle.model.specs.Optional.{passes}
 use Rattle.model.specs.Selection.{Class, class_of}
 use Rattle.model.specs.Vertices.{Owner, version_of, Vertex, feat, same_vertex, class_candidates}
 use Rattle.model.specs.Axioms.{Term, Kind, Target, WantsFeature, NewestListed, WeakFeature, is_lower, matched, IsNeeded}
@@ -15,7 +16,7 @@ use Rattle.model.specs.Axioms.IsInstance.{root_is, needed, has_target, has_its_f
 use Rattle.model.specs.Axioms.IsInstance.{feature_on, dependency_on, feature_asks, newest_listed, weakly}
 use Rattle.model.proofs.Same.{both, text-same, text-refl, vertex-same, vertex-refl}
 use Rattle.refutations.specs.Causes.{Cause, of_root, of_need, of_target, of_feature, of_list, of_ask, of_entry}
-use Rattle.refutations.specs.Causes.{of_enabling, of_asking, of_newest, of_weak, kind_of, same_entry, enables, passes}
+use Rattle.refutations.specs.Causes.{of_enabling, of_asking, of_newest, of_weak, kind_of, same_entry, enables}
 use Rattle.refutations.specs.Causes.{is_needed, dependency_at, has_class, has_entry, some_entry, lists_feature}
 use Rattle.refutations.specs.Causes.{is_overtaken, is_weak_on, is_cause, terms_with, terms_of_cause}
 use Rattle.refutations.proofs.Named.{entry-same, entry-refl, enables-is, passes-is, to_passes, needed-is, to_needed}

@@ -10,11 +10,13 @@ use Rattle.semver.specs.Parse.{Parts}
 use Rattle.model.specs.Summary.{Dependency, Entry, feature, dependency, dependency_feature, weak_feature, Table}
 use Rattle.model.specs.Summary.{entries_at, has_feature, asked_of_target, same_text}
 use Rattle.model.specs.Content.{Problem, Candidate, candidates_of}
+use Rattle.model.specs.Optional.{passes}
 use Rattle.model.specs.Selection.{Class, class_of}
 use Rattle.model.specs.Vertices.{Owner, the_root, version_of, in_that_class, owner_brings}
 use Rattle.model.specs.Vertices.{classes_of, class_candidates}
 use Rattle.model.specs.Axioms.{IsOwner, HasEntry, HasFeatVertex, RootAsks}
 use Rattle.model.specs.Axioms.HasFeatVertex.{had, asked, by_entry}
+use Rattle.model.proofs.Flat.{to_flat}
 use Rattle.model.proofs.Gathered.{at_place}
 use Rattle.model.proofs.Lists.{in_none, in_cons, in_first, in_rest, in_filter, to_filter, to_map, any_of, all_none}
 use Rattle.model.proofs.Lists.{all_cons, pairs_none, to_any}
@@ -22,36 +24,28 @@ use Rattle.model.proofs.Same.{both, text-same, version-same, class-same, owner-s
 use Rattle.model.proofs.Same.{version-refl}
 use Rattle.model.proofs.Spaces.{class_in}
 use Rattle.refutations.specs.Causes.{Cause, of_root, of_need, of_target, of_feature, of_list, of_ask, of_entry}
-use Rattle.refutations.specs.Causes.{of_enabling, of_asking, of_newest, of_weak, same_entry, enables, passes, is_needed}
+use Rattle.refutations.specs.Causes.{of_enabling, of_asking, of_newest, of_weak, same_entry, enables, is_needed}
 use Rattle.refutations.specs.Causes.{dependency_at, has_class, has_entry, some_entry, lists_feature}
 use Rattle.refutations.specs.Causes.{entries_of, table_of_owner, owners, is_cause}
 use Rattle.refutations.specs.Listed.{once, same_cause, numbers, asked_by, names_in, numbers_of, classes_if, classes_at}
 use Rattle.refutations.specs.Listed.{asked_if, class_pool, dep_pool, entry_pool, turned_on, feature_pool, version_pool}
 use Rattle.refutations.specs.Listed.{owner_pool, entries_ask, asked_of_others, had_by, named_features, class_features}
 use Rattle.refutations.specs.Listed.{name_pool, causes}
-use Rattle.refutations.proofs.Bools.{in_append-left, in_append-right}
+use Rattle.std.proofs.lemmas.List.Elements.{Contains-append_right, Contains-append_left}
 use Rattle.refutations.proofs.CauseLaws.{overtaken-there, weakly-there}
 use Rattle.refutations.proofs.Named.{entry-same, passes-is, dep_owner, has_entry-is, some_entry-is, class-is, lists-is}
 use Rattle.refutations.proofs.Named.{feature-is, to_owners, to_entry, row_of, entry-refl}
 
 -- ---- lists
 
-in_flat_map : {X Y : Type 0} (f : X → List Y) (xs : List X) (x : X) (y : Y) → Contains xs x → Contains (f x) y
-    → Contains (flat_map f xs) y
-in_flat_map f [] x y c d = absurd (in_none x c)
-in_flat_map f (z ∷ xs) x y c d = elim (in_cons z x xs c) [
-  | inl e ↦ in_append-left (f z) (flat_map f xs) y (subst (λ w. Contains (f w) y) (sym e) d)
-  | inr c ↦ in_append-right (f z) (flat_map f xs) y (in_flat_map f xs x y c d)
-]
-
-in_numbers : {X : Type 0} (xs : List X) (i : ℕ) (x : X) → slice_get xs i ≡ Some x → Contains (numbers xs) i
+pub in_numbers : {X : Type 0} (xs : List X) (i : ℕ) (x : X) → slice_get xs i ≡ Some x → Contains (numbers xs) i
 in_numbers [] i x e = absurd (none-some x e)
 in_numbers (y ∷ xs) zero x e = in_first 0 (map suc (numbers xs))
 in_numbers (y ∷ xs) (suc i) x e =
     in_rest 0 (suc i) (map suc (numbers xs)) (to_map suc (numbers xs) i (in_numbers xs i x e))
 
 module _ {X : Type 0} (same : X → X → Bool) (sure : (x y : X) → same x y ≡ true → x ≡ y) where
-  to_once : (xs : List X) (x : X) → Contains xs x → Contains (once same xs) x
+  pub to_once : (xs : List X) (x : X) → Contains xs x → Contains (once same xs) x
   to_once [] x c = absurd (in_none x c)
   to_once (y ∷ xs) x c = by (λ c. to_once xs x c) (list_any (same y) xs) refl (in_cons y x xs c)
     where
@@ -62,7 +56,7 @@ module _ {X : Type 0} (same : X → X → Bool) (sure : (x y : X) → same x y �
       by rest false e (inl s) = subst (Contains (y ∷ once same xs)) s (in_first y (once same xs))
       by rest false e (inr c) = in_rest y x (once same xs) (rest c)
 
-  from_once : (xs : List X) (x : X) → Contains (once same xs) x → Contains xs x
+  pub from_once : (xs : List X) (x : X) → Contains (once same xs) x → Contains xs x
   from_once [] x c = c
   from_once (y ∷ xs) x c = by (λ c. from_once xs x c) (list_any (same y) xs) c
     where
@@ -77,7 +71,7 @@ module _ {X : Type 0} (same : X → X → Bool) (sure : (x y : X) → same x y �
   all_each P (x ∷ xs) h = all_cons P x xs (h x (in_first x xs)) (all_each P xs (λ y c. h y (in_rest x y xs c)))
 
   -- no two of them are the same
-  once_distinct : ((x : X) → same x x ≡ true) → (xs : List X) → AllPairs (λ x y. x ≢ y) (once same xs)
+  pub once_distinct : ((x : X) → same x x ≡ true) → (xs : List X) → AllPairs (λ x y. x ≢ y) (once same xs)
   once_distinct itself [] = pairs_none (λ x y. x ≢ y)
   once_distinct itself (x ∷ xs) = by (list_any (same x) xs) refl (once_distinct itself xs)
     where
@@ -87,6 +81,19 @@ module _ {X : Type 0} (same : X → X → Bool) (sure : (x y : X) → same x y �
       by false e rest = AllPairs-cons (λ x y. x ≢ y) x (once same xs) (all_each (λ y. x ≢ y) (once same xs)
           (λ y c is. true≢false
           (sym (to_any (same x) xs y (from_once xs y c) (subst (λ z. same x z ≡ true) is (itself x))) ∙ e))) rest
+
+-- a candidate's name has a row
+pub name_there : (rows : List (List ℕ × List Candidate)) (name : List ℕ) (c : Candidate)
+    → Contains (candidates_of rows name) c → (row : List ℕ × List Candidate) × Contains rows row × (name ≡ row.0)
+name_there [] name c i = absurd (in_none c i)
+name_there (row ∷ rows) name c i = by (λ i. name_there rows name c i) (same_text name row.0) refl i
+  where
+    by : (Contains (candidates_of rows name) c → (r : List ℕ × List Candidate) × Contains rows r × (name ≡ r.0))
+        → (b : Bool) → same_text name row.0 ≡ b
+        → Contains (cond b row.1 (candidates_of rows name)) c
+        → (r : List ℕ × List Candidate) × Contains (row ∷ rows) r × (name ≡ r.0)
+    by rest true s i = (row, in_first row rows, text-same name row.0 s)
+    by rest false s i = let r = rest i in (r.0, in_rest row r.0 rows r.1, r.2)
 
 -- ---- equal causes
 
@@ -164,14 +171,14 @@ module _ (q : Problem) where
   of_owner : (o : Owner) (c : Cause) → IsOwner q o → Contains (owner_pool q o) c → Contains pool c
   unfolding pool
   of_owner o c h i = in_rest of_root c (flat_map (owner_pool q) (owners q) ++ flat_map (name_pool q) q.candidates)
-      (in_append-left (flat_map (owner_pool q) (owners q)) (flat_map (name_pool q) q.candidates) c
-      (in_flat_map (owner_pool q) (owners q) o c (to_owners q o h) i))
+      (Contains-append_left (flat_map (owner_pool q) (owners q)) (flat_map (name_pool q) q.candidates) c
+      (to_flat (owner_pool q) (owners q) o c (to_owners q o h) i))
 
   of_dep : (o : Owner) (i : ℕ) (d : Dependency) (c : Cause) → dependency_at q o i ≡ Some d
       → Contains (dep_pool q o i) c → Contains pool c
   of_dep o i d c e h = of_owner o c (dep_owner q o i d e).0
-      (in_append-left (flat_map (dep_pool q o) (numbers_of q o)) (version_pool q o) c
-      (in_flat_map (dep_pool q o) (numbers_of q o) i c (in_numbers (owner_brings q o).dependencies i d e) h))
+      (Contains-append_left (flat_map (dep_pool q o) (numbers_of q o)) (version_pool q o) c
+      (to_flat (dep_pool q o) (numbers_of q o) i c (in_numbers (owner_brings q o).dependencies i d e) h))
 
   class_there : (o : Owner) (i : ℕ) (d : Dependency) (k : Class) → dependency_at q o i ≡ Some d → has_class q k d ≡ true
       → Contains (classes_at q o i) k
@@ -180,7 +187,7 @@ module _ (q : Problem) where
   of_class : (o : Owner) (i : ℕ) (d : Dependency) (k : Class) (c : Cause) → dependency_at q o i ≡ Some d
       → has_class q k d ≡ true → Contains (class_pool q o i k) c → Contains pool c
   of_class o i d k c e h m = of_dep o i d c e (in_rest (of_need o i) c (flat_map (class_pool q o i) (classes_at q o i))
-      (in_flat_map (class_pool q o i) (classes_at q o i) k c (class_there o i d k e h) m))
+      (to_flat (class_pool q o i) (classes_at q o i) k c (class_there o i d k e h) m))
 
   -- ---- by an entry of a version
 
@@ -192,18 +199,19 @@ module _ (q : Problem) where
       let f_in : Contains (names_in (table_of_owner q (version_of name v))) f =
       subst (Contains (names_in (table_of_owner q (version_of name v)))) (sym r.2)
       (to_map (λ (row : List ℕ × List Entry). row.0) (table_of_owner q (version_of name v)) r.0 r.1) in
-      of_owner (version_of name v) c h.0 (in_append-right (flat_map (dep_pool q (version_of name v))
+      of_owner (version_of name v) c h.0 (Contains-append_right (flat_map (dep_pool q (version_of name v))
       (numbers_of q (version_of name v))) (version_pool q (version_of name v)) c
-      (in_flat_map (feature_pool q name v) (names_in (table_of_owner q (version_of name v))) f c f_in
-      (in_flat_map (λ e. turned_on name v f e ++ flat_map (entry_pool q name v f e) (numbers_of q (version_of name v)))
+      (to_flat (feature_pool q name v) (names_in (table_of_owner q (version_of name v))) f c f_in
+      (to_flat (λ e. turned_on name v f e ++ flat_map (entry_pool q name v f e) (numbers_of q (version_of name v)))
       (entries_of q name v f) e c (to_entry q name v f e h) m)))
 
   of_entry_dep : (name : List ℕ) (v : Parts) (f : List ℕ) (e : Entry) (i : ℕ) (d : Dependency) (c : Cause)
       → HasEntry q name v f e → dependency_at q (version_of name v) i ≡ Some d
       → Contains (entry_pool q name v f e i) c → Contains pool c
   of_entry_dep name v f e i d c h at m = of_an_entry name v f e c h
-      (in_append-right (turned_on name v f e) (flat_map (entry_pool q name v f e) (numbers_of q (version_of name v))) c
-      (in_flat_map (entry_pool q name v f e) (numbers_of q (version_of name v)) i c
+      (Contains-append_right (turned_on name v f e)
+      (flat_map (entry_pool q name v f e) (numbers_of q (version_of name v))) c
+      (to_flat (entry_pool q name v f e) (numbers_of q (version_of name v)) i c
       (in_numbers (owner_brings q (version_of name v)).dependencies i d at) m))
 
   enabled_in : (name : List ℕ) (v : Parts) (f d : List ℕ) (e : Entry) (i : ℕ) → enables d e ≡ true
@@ -216,19 +224,6 @@ module _ (q : Problem) where
   enabled_in name v f d (weak_feature x g) i h = absurd (true≢false (sym h))
 
   -- ---- the features of classes
-
-  -- a candidate's name has a row
-  name_there : (rows : List (List ℕ × List Candidate)) (name : List ℕ) (c : Candidate)
-      → Contains (candidates_of rows name) c → (row : List ℕ × List Candidate) × Contains rows row × (name ≡ row.0)
-  name_there [] name c i = absurd (in_none c i)
-  name_there (row ∷ rows) name c i = by (λ i. name_there rows name c i) (same_text name row.0) refl i
-    where
-      by : (Contains (candidates_of rows name) c → (r : List ℕ × List Candidate) × Contains rows r × (name ≡ r.0))
-          → (b : Bool) → same_text name row.0 ≡ b
-          → Contains (cond b row.1 (candidates_of rows name)) c
-          → (r : List ℕ × List Candidate) × Contains (row ∷ rows) r × (name ≡ r.0)
-      by rest true s i = (row, in_first row rows, text-same name row.0 s)
-      by rest false s i = let r = rest i in (r.0, in_rest row r.0 rows r.1, r.2)
 
   feature_name : (table : Table) (f : List ℕ) → has_feature table f ≡ true → Contains (names_in table) f
   feature_name table f h = by (entries_at f table) refl h
@@ -243,10 +238,10 @@ module _ (q : Problem) where
 
   asked_named : (o : Owner) (f : List ℕ) → IsOwner q o → Contains (asked_of_others q o) f → Contains Names f
   unfolding Names
-  asked_named o f h c = in_append-right (map (λ p. p.1) q.root_asks)
+  asked_named o f h c = Contains-append_right (map (λ p. p.1) q.root_asks)
       (flat_map (asked_of_others q) (owners q) ++ flat_map (had_by q) q.candidates) f
-      (in_append-left (flat_map (asked_of_others q) (owners q)) (flat_map (had_by q) q.candidates) f
-      (in_flat_map (asked_of_others q) (owners q) o f (to_owners q o h) c))
+      (Contains-append_left (flat_map (asked_of_others q) (owners q)) (flat_map (had_by q) q.candidates) f
+      (to_flat (asked_of_others q) (owners q) o f (to_owners q o h) c))
 
   entry_named : (name : List ℕ) (v : Parts) (f g : List ℕ) (e : Entry) → HasEntry q name v f e
       → Contains (asked_by e) g → Contains Names g
@@ -255,28 +250,28 @@ module _ (q : Problem) where
       let f_in : Contains (names_in (table_of_owner q (version_of name v))) f =
       subst (Contains (names_in (table_of_owner q (version_of name v)))) (sym r.2)
       (to_map (λ (row : List ℕ × List Entry). row.0) (table_of_owner q (version_of name v)) r.0 r.1) in
-      asked_named (version_of name v) g h.0 (in_append-right (flat_map asked_of_target
+      asked_named (version_of name v) g h.0 (Contains-append_right (flat_map asked_of_target
       (owner_brings q (version_of name v)).dependencies) (entries_ask q (version_of name v)) g
-      (in_flat_map (λ f. flat_map asked_by (entries_of q name v f))
+      (to_flat (λ f. flat_map asked_by (entries_of q name v f))
       (names_in (table_of_owner q (version_of name v))) f g f_in
-      (in_flat_map asked_by (entries_of q name v f) e g (to_entry q name v f e h) c)))
+      (to_flat asked_by (entries_of q name v f) e g (to_entry q name v f e h) c)))
 
   feature_named : (name : List ℕ) (k : Class) (f : List ℕ) → HasFeatVertex q name k f → Contains Names f
   unfolding Names
   feature_named name k f (had _ _ _ c e i j h) =
       let r = name_there q.candidates name c i in
-      in_append-right (map (λ p. p.1) q.root_asks)
+      Contains-append_right (map (λ p. p.1) q.root_asks)
       (flat_map (asked_of_others q) (owners q) ++ flat_map (had_by q) q.candidates) f
-      (in_append-right (flat_map (asked_of_others q) (owners q)) (flat_map (had_by q) q.candidates) f
-      (in_flat_map (had_by q) q.candidates r.0 f r.1
-      (in_flat_map (λ (c : Candidate). names_in c.brings.features) (candidates_of q.candidates (r.0).0) c f
+      (Contains-append_right (flat_map (asked_of_others q) (owners q)) (flat_map (had_by q) q.candidates) f
+      (to_flat (had_by q) q.candidates r.0 f r.1
+      (to_flat (λ (c : Candidate). names_in c.brings.features) (candidates_of q.candidates (r.0).0) c f
       (subst (λ n. Contains (candidates_of q.candidates n) c) r.2 i) (feature_name c.brings.features f h))))
   feature_named name k f (asked o i d _ _ e h c (inl a)) = asked_named o f h.0
-      (in_append-left (flat_map asked_of_target (owner_brings q o).dependencies) (entries_ask q o) f
-      (in_flat_map asked_of_target (owner_brings q o).dependencies d f
+      (Contains-append_left (flat_map asked_of_target (owner_brings q o).dependencies) (entries_ask q o) f
+      (to_flat asked_of_target (owner_brings q o).dependencies d f
       (at_place (owner_brings q o).dependencies i d h.1) a))
   feature_named name k f (asked the_root i d _ _ e h c (inr a)) =
-      in_append-left (map (λ p. p.1) q.root_asks) (flat_map (asked_of_others q) (owners q)
+      Contains-append_left (map (λ p. p.1) q.root_asks) (flat_map (asked_of_others q) (owners q)
       ++ flat_map (had_by q) q.candidates) f (to_map (λ (p : List ℕ × List ℕ). p.1) q.root_asks (d.name, f) a)
   feature_named name k f (asked (version_of m v) i d _ _ e h c (inr a)) = absurd a
   feature_named name k f (by_entry m v i d _ g _ e h c (inl a)) =
@@ -302,11 +297,12 @@ module _ (q : Problem) where
       (class_in (candidates_of q.candidates name) c.0 x.0) in
       let f_in : Contains (named_features q) f = to_once same_text text-same Names f (feature_named name k f h) in
       in_rest of_root (of_feature name k f) (flat_map (owner_pool q) (owners q) ++ flat_map (name_pool q) q.candidates)
-      (in_append-right (flat_map (owner_pool q) (owners q)) (flat_map (name_pool q) q.candidates) (of_feature name k f)
-      (in_flat_map (name_pool q) q.candidates r.0 (of_feature name k f) r.1
+      (Contains-append_right (flat_map (owner_pool q) (owners q)) (flat_map (name_pool q) q.candidates)
+      (of_feature name k f)
+      (to_flat (name_pool q) q.candidates r.0 (of_feature name k f) r.1
       (subst (λ n. Contains (flat_map (class_features q n) (classes_of (candidates_of q.candidates n)))
       (of_feature name k f)) r.2
-      (in_flat_map (class_features q name) (classes_of (candidates_of q.candidates name)) k (of_feature name k f) k_in
+      (to_flat (class_features q name) (classes_of (candidates_of q.candidates name)) k (of_feature name k f) k_in
       (to_map (of_feature name k) (named_features q) f f_in)))))
 
   -- ---- each cause
@@ -329,15 +325,15 @@ module _ (q : Problem) where
       of_class o i r.0 k (of_list o i k g) r.1 e.0
       (in_rest (of_target o i k) (of_list o i k g) (map (of_list o i k) (asked_if q (dependency_at q o i))
       ++ flat_map (λ j. map (of_newest o i j k) (classes_at q o j)) (numbers_of q o))
-      (in_append-left (map (of_list o i k) (asked_if q (dependency_at q o i)))
+      (Contains-append_left (map (of_list o i k) (asked_if q (dependency_at q o i)))
       (flat_map (λ j. map (of_newest o i j k) (classes_at q o j)) (numbers_of q o)) (of_list o i k g)
       (to_map (of_list o i k) (asked_if q (dependency_at q o i)) g
       (subst (λ x. Contains (asked_if q x) g) (sym r.1) g_in))))
     where
       listed : (o : Owner) (d : Dependency) (g : List ℕ) → Contains (asked_of_target d) g ⊎ RootAsks q o d g
           → Contains (asked_of_target d ++ map (λ p. p.1) q.root_asks) g
-      listed o d g (inl a) = in_append-left (asked_of_target d) (map (λ p. p.1) q.root_asks) g a
-      listed the_root d g (inr a) = in_append-right (asked_of_target d) (map (λ p. p.1) q.root_asks) g
+      listed o d g (inl a) = Contains-append_left (asked_of_target d) (map (λ p. p.1) q.root_asks) g a
+      listed the_root d g (inr a) = Contains-append_right (asked_of_target d) (map (λ p. p.1) q.root_asks) g
           (to_map (λ (p : List ℕ × List ℕ). p.1) q.root_asks (d.name, g) a)
       listed (version_of m v) d g (inr a) = absurd a
   pooled (of_ask name v i g k) t =
@@ -376,9 +372,9 @@ module _ (q : Problem) where
       of_class o i p.lesser k (of_newest o i j k m) p.lesser_there p.lesser_led
       (in_rest (of_target o i k) (of_newest o i j k m) (map (of_list o i k) (asked_if q (dependency_at q o i))
       ++ flat_map (λ j. map (of_newest o i j k) (classes_at q o j)) (numbers_of q o))
-      (in_append-right (map (of_list o i k) (asked_if q (dependency_at q o i)))
+      (Contains-append_right (map (of_list o i k) (asked_if q (dependency_at q o i)))
       (flat_map (λ j. map (of_newest o i j k) (classes_at q o j)) (numbers_of q o)) (of_newest o i j k m)
-      (in_flat_map (λ j. map (of_newest o i j k) (classes_at q o j)) (numbers_of q o) j (of_newest o i j k m)
+      (to_flat (λ j. map (of_newest o i j k) (classes_at q o j)) (numbers_of q o) j (of_newest o i j k m)
       (in_numbers (owner_brings q o).dependencies j p.greater p.greater_there)
       (to_map (of_newest o i j k) (classes_at q o j) m (class_there o j p.greater m p.greater_there p.greater_led)))))
   pooled (of_weak name v f g i k) t =

@@ -8,6 +8,7 @@ use Rattle.semver.specs.Parse.{Parts}
 use Rattle.model.specs.Summary.{Dependency, Entry, feature, dependency, dependency_feature, weak_feature, Table}
 use Rattle.model.specs.Summary.{entries_at, has_feature, asked_of_target, same_text}
 use Rattle.model.specs.Content.{Candidate, Problem, candidates_of, candidate_at, brings_of}
+use Rattle.model.specs.Optional.{passes}
 use Rattle.model.specs.Selection.{Class, class_of}
 use Rattle.model.specs.Vertices.{Owner, the_root, version_of, same_class, in_that_class, owner_brings, matching}
 use Rattle.model.specs.Vertices.{dep_classes, class_candidates}
@@ -18,11 +19,11 @@ use Rattle.model.proofs.Lists.{in_none, in_first, in_rest, in_filter, to_filter,
 use Rattle.model.proofs.Owners.{candidate_at-is}
 use Rattle.model.proofs.Spaces.{class_in}
 use Rattle.model.proofs.Vertices.{class_from}
-use Rattle.refutations.specs.Causes.{same_entry, enables, asks_for, entries_or_none, passes, is_needed, same_pair}
+use Rattle.refutations.specs.Causes.{same_entry, enables, asks_for, entries_or_none, is_needed, same_pair}
 use Rattle.refutations.specs.Causes.{dependency_at, has_class, table_of_owner, entries_of, has_entry, some_entry}
 use Rattle.refutations.specs.Causes.{root_asks_for, lists_feature, entry_asks, owners_in, owners, owner_asks}
 use Rattle.refutations.specs.Causes.{has_feature_vertex}
-use Rattle.refutations.proofs.Bools.{in_append-left, in_append-right}
+use Rattle.std.proofs.lemmas.List.Elements.{Contains-append_right, Contains-append_left}
 use Rattle.model.proofs.Gathered.{place_in, at_place}
 
 -- ---- entries
@@ -228,11 +229,12 @@ module _ (q : Problem) where
           → Contains (cond b row.1 (candidates_of rows name)) c
           → Contains (map (λ x. version_of row.0 x.version) row.1 ++ owners_in rows) (version_of name c.version)
       by rest true s i =
-          in_append-left (map (λ x. version_of row.0 x.version) row.1) (owners_in rows) (version_of name c.version)
+          Contains-append_left (map (λ x. version_of row.0 x.version) row.1) (owners_in rows)
+          (version_of name c.version)
           (subst (λ n. Contains (map (λ (x : Candidate). version_of row.0 x.version) row.1) (version_of n c.version))
           (sym (text-same name row.0 s))
           (to_map (λ (x : Candidate). version_of row.0 x.version) row.1 c i))
-      by rest false s i = in_append-right (map (λ x. version_of row.0 x.version) row.1) (owners_in rows)
+      by rest false s i = Contains-append_right (map (λ x. version_of row.0 x.version) row.1) (owners_in rows)
           (version_of name c.version) (rest i)
 
   pub to_owners : (o : Owner) → IsOwner q o → Contains (owners q) o

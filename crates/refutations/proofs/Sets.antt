@@ -13,7 +13,8 @@ use Rattle.model.proofs.Lists.{in_none, in_cons, in_first, in_rest, to_filter, t
 use Rattle.model.proofs.Spaces.{state_in, state_from}
 use Rattle.refutations.specs.Terms.{is_within, same_states, same_at, agree, same_terms, speaks_of, vertices_of}
 use Rattle.refutations.specs.Terms.{with_term, terms_at, combination, is_combination}
-use Rattle.refutations.proofs.Bools.{all_pass, in_append-left, in_append-right, one_test}
+use Rattle.refutations.proofs.Bools.{all_pass, one_test}
+use Rattle.std.proofs.lemmas.List.Elements.{Contains-append_right, Contains-append_left}
 
 -- ---- sets of states
 
@@ -135,7 +136,7 @@ spoken-left : (a b : List Term) (w : Vertex) (ss : List State) → states_at a w
 spoken-left a b w ss e =
     let r = term_at a w ss e in
     to_any (same_vertex w) (vertices_of a b) w
-    (in_append-left (map (λ t. t.vertex) a) (filter (λ v. not (speaks_of a v)) (map (λ t. t.vertex) b)) w
+    (Contains-append_left (map (λ t. t.vertex) a) (filter (λ v. not (speaks_of a v)) (map (λ t. t.vertex) b)) w
     (subst (Contains (map (λ (t : Term). t.vertex) a)) (sym r.2) (to_map (λ (t : Term). t.vertex) a r.0 r.1)))
     (vertex-refl w)
 
@@ -144,7 +145,7 @@ spoken-right : (a b : List Term) (w : Vertex) (ss : List State) → states_at a 
 spoken-right a b w ss none e =
     let r = term_at b w ss e in
     to_any (same_vertex w) (vertices_of a b) w
-    (in_append-right (map (λ t. t.vertex) a) (filter (λ v. not (speaks_of a v)) (map (λ t. t.vertex) b)) w
+    (Contains-append_right (map (λ t. t.vertex) a) (filter (λ v. not (speaks_of a v)) (map (λ t. t.vertex) b)) w
     (to_filter (λ v. not (speaks_of a v)) (map (λ (t : Term). t.vertex) b) w
     (subst (Contains (map (λ (t : Term). t.vertex) b)) (sym r.2) (to_map (λ (t : Term). t.vertex) b r.0 r.1))
     (ap (λ o. not (is_some o)) none))) (vertex-refl w)

@@ -4,7 +4,7 @@ use Rattle.std.proofs.Common.{◌≡◌, List, [], ◌∷◌, ◌++◌, map, fil
 use Rattle.std.proofs.Common.{Some, None, refl, sym, ap, ◌∙◌, subst, inl, inr, true≢false}
 use Rattle.std.specs.List.{All, AllPairs, AllByRecursion}
 use Rattle.std.specs.List.Sorted.{IsPermutation}
-use Rattle.std.proofs.lemmas.List.Elements.{All-from_recursion}
+use Rattle.std.proofs.lemmas.List.Elements.{All-from_recursion, Contains-append_cases}
 use Rattle.std.proofs.lemmas.List.Kept.{AllPairs-cons}
 use Rattle.std.proofs.lemmas.List.Sorted.{IsPermutation-sym, Contains-permutation}
 use Rattle.model.specs.Content.{Problem}
@@ -16,7 +16,6 @@ use Rattle.model.proofs.Lists.{pairs_none, pairs_rest}
 use Rattle.model.proofs.Permuted.{pairs-permutation}
 use Rattle.model.proofs.Same.{vertex-refl, vertex-other}
 use Rattle.refutations.specs.Terms.{speaks_of, vertices_of, with_term, terms_at, combination}
-use Rattle.refutations.proofs.Bools.{in_either}
 use Rattle.refutations.proofs.Reading.{all_in, states_own}
 use Rattle.refutations.proofs.Sets.{term_at, said_at}
 
@@ -127,7 +126,7 @@ once-append : (vs ws : List Vertex) → AreOnce vs → AreOnce ws
     → ((v w : Vertex) → Contains vs v → Contains ws w → same_vertex v w ≡ false) → AreOnce (vs ++ ws)
 once-append [] ws h k apart = k
 once-append (v ∷ vs) ws h k apart = (
-  all_each (λ w. same_vertex v w ≡ false) (vs ++ ws) (λ w c. elim (in_either vs ws w c) [
+  all_each (λ w. same_vertex v w ≡ false) (vs ++ ws) (λ w c. elim (Contains-append_cases vs ws w c) [
     | inl c ↦ all_in (λ w. same_vertex v w ≡ false) vs w h.0 c
     | inr c ↦ apart v w (in_first v vs) c
   ]),

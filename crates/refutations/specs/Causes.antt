@@ -7,6 +7,7 @@ use Rattle.semver.specs.Parse.{Parts}
 use Rattle.model.specs.Summary.{Dependency, Entry, feature, dependency, dependency_feature, weak_feature, Table}
 use Rattle.model.specs.Summary.{entries_at, has_feature, asked_of_target, same_text}
 use Rattle.model.specs.Content.{Candidate, Problem, candidates_of}
+use Rattle.model.specs.Optional.{passes}
 use Rattle.model.specs.Selection.{Class, class_of}
 use Rattle.model.specs.Vertices.{Owner, the_root, version_of, root, pkg, dep, feat, ask, absent, present, version}
 use Rattle.model.specs.Vertices.{in_class, same_vertex, owner_brings, class_candidates}
@@ -76,11 +77,6 @@ asks_for d g (weak_feature e h) = same_text d e && same_text g h
 abbrev pub entries_or_none : Option (List Entry) → List Entry
 entries_or_none None = []
 entries_or_none (Some es) = es
-
--- there is one, and it passes
-abbrev pub passes : {X : Type 0} → (X → Bool) → Option X → Bool
-passes test None = false
-passes test (Some x) = test x
 
 -- whether the owner needs the dependency
 abbrev pub is_needed : Owner → Dependency → Bool

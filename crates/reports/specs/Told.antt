@@ -1,5 +1,5 @@
 -- What is told of why a package is in a lock.
-use Rattle.std.specs.Prelude.{◌≡◌, ℕ, List, [], Bool, true, false, Option, Some, None, option_map}
+use Rattle.std.specs.Prelude.{◌≡◌, ℕ, List, Bool, true, false, option_map}
 use Rattle.std.specs.List.{list_any}
 use Rattle.semver.specs.Identifiers.{parts_of}
 use Rattle.model.specs.Content.{Content, Package}
@@ -7,11 +7,6 @@ use Rattle.changes.specs.Ways.{HasNoWay, IsShortest, is_meant}
 use Rattle.reports.specs.declared.reporting.Told.{Told}
 use Rattle.reports.specs.declared.reporting.Told.TheVariants.{Way, Absent, Unreached}
 use Rattle.reports.specs.declared.wanted.Wanted.{Wanted}
-
--- the packages of a lock, if there is one
-abbrev pub packages_if : Option Content → Content
-packages_if None = []
-packages_if (Some content) = content
 
 -- whether a package is asked for
 abbrev pub asks_for : Wanted → Package → Bool

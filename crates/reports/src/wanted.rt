@@ -3,10 +3,9 @@
 ghost use Rattle.std.specs.Prelude.{◌≡◌, IfOk, option_map};
 ghost use Rattle.semver.specs.Identifiers.{parts_of};
 ghost use Rattle.semver.specs.Parse.{version_parts};
-ghost use Rattle.features.specs.Entries.{around};
 ghost use Rattle.reports.specs.Asked.{asked, asked_view, name_of, version_if, with_none, with_version};
 
-use features::{NameFault, PackageName};
+use features::{NameFault, PackageName, name_and_version};
 use semver::Version;
 use std::alloc::{AllocError, Global};
 
@@ -33,17 +32,10 @@ impl Wanted {
 pub fn package_in(alloc: Global, text: &str) -> Result<Option<Wanted>, AllocError>
     ensures { IfOk result (λ o. option_map asked_view o ≡ asked text.now) }
 {
-    match first_at(text) {
+    match name_and_version(text) {
         Some((name, version)) => with_version(alloc, name, version),
         None => with_none(alloc, text),
     }
-}
-
-/// What stands before and after the first `@`.
-fn first_at(text: &str) -> Option<(&str, &str)>
-    ensures { option_map (λ p. (p.0.now, p.1.now)) result ≡ around 64 text.now }
-{
-    text.split_once('@')
 }
 
 fn with_none(alloc: Global, text: &str) -> Result<Option<Wanted>, AllocError>

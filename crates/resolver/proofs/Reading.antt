@@ -6,6 +6,7 @@ use Rattle.catalogue.specs.Loads.{Loads, packages_of_old, rust_for}
 use Rattle.catalogue.specs.Problems.{names_in}
 use Rattle.catalogue.specs.Stores.{CatalogueView}
 use Rattle.model.specs.Content.{Content}
+use Rattle.model.specs.Optional.{packages_if}
 use Rattle.manifest.specs.Manifests.{ManifestView, manifest_of_bytes}
 use Rattle.manifest.specs.Faults as manifests
 use Rattle.manifest.specs.declared.fault.ManifestFault.{ManifestFault}
@@ -18,12 +19,12 @@ use Rattle.catalogue.specs.declared.fault.LoadFault.{LoadFault}
 use Rattle.catalogue.specs.declared.fault.LoadFault.TheVariants as load
 use Rattle.model.specs.Outcome.{Faults}
 use Rattle.resolver.specs.Faults.{of_manifest, of_lock, of_load}
-use Rattle.resolver.specs.Inputs.{RequestView, IsCutShort, ReadsInputs, LoadsFor, old_of_bytes, old_packages}
+use Rattle.resolver.specs.Inputs.{RequestView, IsCutShort, ReadsInputs, LoadsFor, old_of_bytes}
 use Rattle.resolver.specs.Inputs.IsInputFault.{by_manifest, by_lock, by_index}
 use Rattle.resolver.specs.Inputs.IsCutShort.{before_loading, while_loading, while_asking}
 
 -- the packages behind a reference to the old lock
-packages_behind : (old : Option (Bor Content)) → packages_of_old old ≡ old_packages (option_map (λ c. c.now) old)
+packages_behind : (old : Option (Bor Content)) → packages_of_old old ≡ packages_if (option_map (λ c. c.now) old)
 packages_behind None = refl
 packages_behind (Some c) = refl
 
@@ -75,4 +76,4 @@ module _ {S : Type 0} (calls : Calls S) (failed : S → ℕ) (request : RequestV
       failed before r after → LoadsFor calls failed request before m old r after
   loads_with m o old r after same l = subst
       (λ c. Loads c request.source (rust_for request.prefer m.rust_version) m.brings.dependencies calls failed before
-      r after) (packages_behind o ∙ ap old_packages same) l
+      r after) (packages_behind o ∙ ap packages_if same) l

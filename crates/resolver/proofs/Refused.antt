@@ -4,6 +4,7 @@ use Rattle.std.proofs.Common.{subst}
 use Rattle.std.specs.declared.alloc.Global.{Global}
 use Rattle.model.specs.Candidates.{RustVersion}
 use Rattle.model.specs.Content.{Content}
+use Rattle.model.specs.Optional.{packages_if}
 use Rattle.model.specs.Derivation.{IsAccepted, Step}
 use Rattle.manifest.specs.Manifests.{ManifestView, manifest_of_bytes}
 use Rattle.index_reader.specs.Folders.{Files, MemoryCalls}
@@ -18,7 +19,7 @@ use Rattle.derivations.specs.Files.{derivation_of_bytes}
 use Rattle.checker.specs.declared.outcome.Check.{Check}
 use Rattle.vertices.proofs.Bound.{same-Ok}
 use Rattle.resolver.specs.Faults.{input_wants_memory}
-use Rattle.resolver.specs.Inputs.{RequestView, AreRead, IsInputFault, LoadsFor, EndsWith, old_of_bytes, old_packages}
+use Rattle.resolver.specs.Inputs.{RequestView, AreRead, IsInputFault, LoadsFor, EndsWith, old_of_bytes}
 use Rattle.resolver.specs.Inputs.{problem_of}
 use Rattle.resolver.specs.Inputs.IsInputFault.{by_manifest, by_lock, by_index}
 use Rattle.resolver.specs.Answers.{IsAnswer, Resolves}
@@ -62,7 +63,7 @@ module _ (failed : Files → ℕ) (folder : Files) (request : RequestView) (inpu
       let held : other.old ≡ inputs.old = same-Ok other.old inputs.old (sym read.lock_says ∙ first.lock_says) in
       let loads = loads-same other.manifest other.old (Ok other.catalogue) later is held read.loads in
       ap (λ m. problem_in m other.catalogue) is
-      ∙ same-problem folder manifest (old_packages inputs.old) request.source (rust request.prefer)
+      ∙ same-problem folder manifest (packages_if inputs.old) request.source (rust request.prefer)
       (rust prefer) inputs.catalogue after first.loads.0 other.catalogue later loads.0
 
   -- and no fault of an input is left
@@ -72,7 +73,7 @@ module _ (failed : Files → ℕ) (folder : Files) (request : RequestView) (inpu
       absurd (ok-err (manifest_of_bytes request.manifest) manifest e first.manifest_says h)
   unrefused f later (by_lock m e h k) = absurd (ok-err (old_of_bytes request.old) inputs.old e first.lock_says k)
   unrefused f later (by_index m old e end h k l) =
-      no_other_fault folder manifest (old_packages inputs.old) request.source (rust request.prefer)
+      no_other_fault folder manifest (packages_if inputs.old) request.source (rust request.prefer)
       (rust prefer) inputs.catalogue after first.loads.0 failed first.loads.1 e end
       (loads-same m old (Err e) end (same-Ok m manifest (sym h ∙ first.manifest_says))
       (same-Ok old inputs.old (sym k ∙ first.lock_says)) l)

@@ -6,6 +6,7 @@ use Rattle.std.proofs.lemmas.List.Elements.{Contains-push_cases}
 use Rattle.model.specs.Outcome.{◌>>=◌}
 use Rattle.model.specs.Candidates.{RustVersion}
 use Rattle.model.specs.Content.{Content}
+use Rattle.model.specs.Optional.{packages_if}
 use Rattle.model.specs.Selection.{IsValidSelection}
 use Rattle.model.proofs.Lists.{in_none}
 use Rattle.manifest.specs.Manifests.{ManifestView, manifest_of_bytes}
@@ -22,7 +23,7 @@ use Rattle.selection.specs.declared.verdict.Verdict.{Verdict}
 use Rattle.vertices.proofs.Bound.{same-Ok, same-Some}
 use Rattle.resolver.specs.Faults.{input_wants_memory}
 use Rattle.resolver.specs.Inputs.{RequestView, AreRead, IsInputFault, IsCutShort, IsSoFarFor, LoadsFor, EndsWith}
-use Rattle.resolver.specs.Inputs.{names_of, old_of_bytes, old_packages, problem_of}
+use Rattle.resolver.specs.Inputs.{names_of, old_of_bytes, problem_of}
 use Rattle.resolver.specs.Inputs.IsInputFault.{by_manifest, by_lock, by_index}
 use Rattle.resolver.specs.Inputs.IsCutShort.{before_loading, while_loading, while_asking, after_loading}
 use Rattle.resolver.specs.Answers.{CanKeep, IsAnswer, IsAnswered, IsUnanswered, MeansSelection, Resolves, Verifies}
@@ -91,7 +92,7 @@ module _ (failed : Files → ℕ) (folder : Files) (request : RequestView) (byte
       valid-again : IsValidSelection (problem_of inputs) one.content
       valid-again = subst (λ n. IsValidSelection (problem_in n inputs.catalogue) one.content) (sym manifest-is)
           (still-valid folder failed manifest request.source (rust_for request.prefer manifest.rust_version)
-          (old_packages (first.inputs).old)
+          (packages_if (first.inputs).old)
           one.content
           (first.inputs).catalogue after first.read.loads.0 one.valid rust inputs.catalogue later loads-is.0)
 
@@ -100,7 +101,7 @@ module _ (failed : Files → ℕ) (folder : Files) (request : RequestView) (byte
 
       no-more : (name : List ℕ) → Contains (names_of inputs) name → Contains (names_of first.inputs) name
       no-more = unasked-more folder failed manifest request.source (rust_for request.prefer manifest.rust_version)
-          (old_packages (first.inputs).old)
+          (packages_if (first.inputs).old)
           one.content (first.inputs).catalogue after first.read.loads.0 one.valid rust inputs.catalogue later loads-is.0
 
     -- no fault of an input is left
@@ -111,7 +112,7 @@ module _ (failed : Files → ℕ) (folder : Files) (request : RequestView) (byte
     refused f later (by_lock m e h k) = absurd (ok-err (old_of_bytes again.old) (Some one.content) e old-is k)
     refused f later (by_index m old e end h k l) =
         no_other_fault folder failed manifest request.source (rust_for request.prefer manifest.rust_version)
-        (old_packages (first.inputs).old)
+        (packages_if (first.inputs).old)
         one.content (first.inputs).catalogue after first.read.loads.0 one.valid rust e end
         (loads-same m old (Err e) end (same-Ok m manifest (sym h ∙ first.read.manifest_says))
         (same-Ok old (Some one.content) (sym k ∙ old-is)) l)
@@ -129,13 +130,13 @@ module _ (failed : Files → ℕ) (folder : Files) (request : RequestView) (byte
         (so_far : IsSoFarFor MemoryCalls failed again folder manifest (Some one.content) asked mid) where
       so-far-no-more : (name : List ℕ) → Contains (names_in asked) name → Contains (names_of first.inputs) name
       so-far-no-more name c = so-far-asked folder failed manifest request.source
-          (rust_for request.prefer manifest.rust_version) (old_packages (first.inputs).old)
+          (rust_for request.prefer manifest.rust_version) (packages_if (first.inputs).old)
           one.content (first.inputs).catalogue after first.read.loads.0 one.valid rust asked mid so_far name c
 
       next-no-more : (name : List ℕ) → next_name one.content request.source manifest.brings.dependencies asked
           ≡ Some name → Contains (names_of first.inputs) name
       next-no-more name next = next-asked folder failed manifest request.source
-          (rust_for request.prefer manifest.rust_version) (old_packages (first.inputs).old)
+          (rust_for request.prefer manifest.rust_version) (packages_if (first.inputs).old)
           one.content (first.inputs).catalogue after first.read.loads.0 one.valid rust asked mid so_far name next
 
     cut-no-more : (names : List (List ℕ)) (later : Files) → IsCutShort MemoryCalls failed again folder names later
@@ -153,7 +154,7 @@ module _ (failed : Files → ℕ) (folder : Files) (request : RequestView) (byte
         elim (Contains-push_cases (names_in asked) next-one name c) [
           | inl i ↦ so-far-no-more asked mid before name i
           | inr s ↦ next-no-more asked mid before name
-              (ap₂ (λ (n : ManifestView) o. next_name (old_packages o) request.source n.brings.dependencies asked)
+              (ap₂ (λ (n : ManifestView) o. next_name (packages_if o) request.source n.brings.dependencies asked)
               (sym is) (sym held) ∙ next ∙ ap Some s)
         ]
     cut-no-more names later (after_loading inputs end read) name c = no-more inputs end read name c

@@ -2,6 +2,7 @@
 use Rattle.std.proofs.Common.{◌≡◌, ◌⊎◌, ℕ, Bool, true, false, List, [], ◌∷◌, Option, Result, Ok, Err, inl, inr, refl}
 use Rattle.std.proofs.Common.{◌∙◌}
 use Rattle.model.specs.Content.{Content}
+use Rattle.model.specs.Optional.{packages_if}
 use Rattle.model.specs.Candidates.{RustVersion}
 use Rattle.model.specs.Summary.{Dependency}
 use Rattle.manifest.specs.Manifests.{ManifestView}
@@ -18,7 +19,7 @@ use Rattle.catalogue.specs.declared.fault.Limit.TheVariants as limit
 use Rattle.selection.specs.declared.verdict.Verdict.{Verdict}
 use Rattle.checker.specs.declared.outcome.Check.{Check}
 use Rattle.resolver.specs.Faults.{input_wants_memory}
-use Rattle.resolver.specs.Inputs.{RequestView, AreRead, IsInputFault, IsCutShort, EndsWith, LoadsFor, old_packages}
+use Rattle.resolver.specs.Inputs.{RequestView, AreRead, IsInputFault, IsCutShort, EndsWith, LoadsFor}
 use Rattle.resolver.specs.Inputs.IsInputFault.{by_manifest, by_lock, by_index}
 use Rattle.resolver.specs.Inputs.IsCutShort.{before_loading, while_loading, while_asking, after_loading}
 use Rattle.resolver.specs.Answers.{IsUnanswered, Resolves, Verifies}
@@ -75,7 +76,7 @@ module _ (old : Content) (source : List ℕ) (rust : Option RustVersion) (root :
 module _ (failed : Files → ℕ) (request : RequestView) (before : Files) where
   loads-stays : (m : ManifestView) (old : Option Content) (r : Result CatalogueView LoadFault) (after : Files)
       → LoadsFor MemoryCalls failed request before m old r after → after ≡ before
-  loads-stays m old r after l = load-stays (old_packages old) request.source
+  loads-stays m old r after l = load-stays (packages_if old) request.source
       (rust_for request.prefer m.rust_version) m.brings.dependencies failed before after r l
 
   read-stays : (inputs : Inputs) (after : Files)

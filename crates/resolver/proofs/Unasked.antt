@@ -11,7 +11,8 @@ use Rattle.catalogue.proofs.LawsIndexes.{chain-answers}
 use Rattle.catalogue.proofs.LawsLists.{all_in, at_in}
 use Rattle.vertices.proofs.Bound.{same-Ok}
 use Rattle.resolver.specs.Faults.{input_wants_memory}
-use Rattle.resolver.specs.Inputs.{RequestView, AreRead, IsInputFault, names_of, old_packages}
+use Rattle.resolver.specs.Inputs.{RequestView, AreRead, IsInputFault, names_of}
+use Rattle.model.specs.Optional.{packages_if}
 use Rattle.resolver.specs.Answers.{IsAnswer, IsAnswered}
 use Rattle.resolver.specs.Returning.{AreAlike}
 use Rattle.resolver.specs.declared.inputs.Inputs.{Inputs}
@@ -37,13 +38,13 @@ module _ (failed : Files → ℕ) (folder other : Files) (request : RequestView)
   abbrev rust : Option RustVersion
   rust = rust_for request.prefer (inputs.manifest).rust_version
 
-  abbrev loaded : IsLoaded (old_packages inputs.old) request.source rust
+  abbrev loaded : IsLoaded (packages_if inputs.old) request.source rust
       (inputs.manifest).brings.dependencies MemoryCalls folder inputs.catalogue after
   loaded = read.loads.0
 
   -- what was asked for stands among the names
   named : (a : Asked) → Contains loaded.asked a → Contains (names_of inputs) a.0
-  named a c = subst (λ ns. Contains ns a.0) (sym (rows-names (old_packages inputs.old) request.source rust
+  named a c = subst (λ ns. Contains ns a.0) (sym (rows-names (packages_if inputs.old) request.source rust
       inputs.manifest folder inputs.catalogue after loaded))
       (to_map (λ (a : Asked). a.0) loaded.asked a c)
 
@@ -86,15 +87,15 @@ module _ (failed : Files → ℕ) (folder other : Files) (request : RequestView)
       old-is : again.old ≡ inputs.old
       old-is = same-Ok again.old inputs.old (sym second.lock_says ∙ read.lock_says)
 
-      there : IsLoaded (old_packages inputs.old) request.source rust
+      there : IsLoaded (packages_if inputs.old) request.source rust
           (inputs.manifest).brings.dependencies MemoryCalls other again.catalogue later
       there = (loads-same failed other request inputs other read-there request.prefer again.manifest again.old
           (Ok again.catalogue) later manifest-is old-is second.loads).0
 
       catalogue-is : again.catalogue ≡ inputs.catalogue
       catalogue-is = there.is
-          ∙ ap (store_of (old_packages inputs.old) request.source rust (inputs.manifest).brings.dependencies)
-          (asked-same other inputs.manifest (old_packages inputs.old) request.source rust rust inputs.catalogue other
+          ∙ ap (store_of (packages_if inputs.old) request.source rust (inputs.manifest).brings.dependencies)
+          (asked-same other inputs.manifest (packages_if inputs.old) request.source rust rust inputs.catalogue other
           read-there.loads.0 again.catalogue later there)
           ∙ sym loaded.is
 

@@ -3,6 +3,7 @@ use Rattle.std.proofs.Common.{◌≡◌, ◌≢◌, ℕ, Bool, true, false, nat_
 use Rattle.std.specs.List.{All}
 use Rattle.std.proofs.lemmas.Bool.{leb-true, leb-false}
 use Rattle.model.specs.Content.{Content, Problem}
+use Rattle.model.specs.Optional.{packages_if}
 use Rattle.model.specs.Selection.{IsValidSelection}
 use Rattle.lockfile.specs.Locks.{content_of_bytes, most_bytes}
 use Rattle.lockfile.specs.Spelling.{spelling}
@@ -12,7 +13,7 @@ use Rattle.catalogue.specs.Problems.{IsProblemOfRun}
 use Rattle.catalogue.specs.Runs.{Calls}
 use Rattle.catalogue.specs.Sources.{is_source}
 use Rattle.reaching.specs.Built.{HasBareRoot}
-use Rattle.resolver.specs.Inputs.{RequestView, AreRead, old_packages, problem_of}
+use Rattle.resolver.specs.Inputs.{RequestView, AreRead, problem_of}
 use Rattle.resolver.specs.Answers.{IsChosen, IsUnreadable}
 use Rattle.resolver.specs.declared.inputs.Inputs.{Inputs}
 use Rattle.resolver.proofs.Loaded.{loaded-run}
@@ -22,12 +23,12 @@ use Rattle.resolver.proofs.Writable.{all-writable}
 module _ {S : Type 0} (calls : Calls S) (failed : S → ℕ) (request : RequestView) (before : S) (inputs : Inputs)
     (after : S) (address : is_source request.source ≡ true)
     (read : AreRead calls failed request before inputs after) where
-  run : IsProblemOfRun calls before inputs.manifest (old_packages inputs.old) request.source (problem_of inputs) after
+  run : IsProblemOfRun calls before inputs.manifest (packages_if inputs.old) request.source (problem_of inputs) after
   run = loaded-run calls failed request before inputs after read
 
   pub chosen-writable : (content : Content) → IsChosen inputs content → All IsWritable content
   chosen-writable content chosen =
-      all-writable inputs.manifest (old_packages inputs.old) request.source run.asked
+      all-writable inputs.manifest (packages_if inputs.old) request.source run.asked
       (manifest-texts request.manifest inputs.manifest read.manifest_says) address
       run.run.in_turn content (subst (λ (q : Problem). IsValidSelection q content) run.is chosen.valid)
       (subst (λ (q : Problem). HasBareRoot q content) run.is chosen.bare_root)

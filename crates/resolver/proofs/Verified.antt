@@ -2,6 +2,7 @@
 use Rattle.std.proofs.Common.{◌≡◌, ℕ, List, Option, Some, Ok, refl, sym, ap, ◌∙◌, subst}
 use Rattle.model.specs.Candidates.{RustVersion}
 use Rattle.model.specs.Content.{Content}
+use Rattle.model.specs.Optional.{packages_if}
 use Rattle.model.specs.Outcome.{◌>>=◌}
 use Rattle.model.specs.Selection.{IsValidSelection}
 use Rattle.manifest.specs.Manifests.{ManifestView}
@@ -16,7 +17,7 @@ use Rattle.catalogue.proofs.LawsSelections.{holds_still}
 use Rattle.selection.specs.declared.verdict.Verdict.TheVariants.{Valid}
 use Rattle.vertices.proofs.Bound.{same-Ok, same-Some}
 use Rattle.resolver.specs.Answers.{IsAnswered, IsVerdictFor}
-use Rattle.resolver.specs.Inputs.{RequestView, old_of_bytes, old_packages, problem_of}
+use Rattle.resolver.specs.Inputs.{RequestView, old_of_bytes, problem_of}
 use Rattle.resolver.specs.Returning.{IsSomeLock, files_of, to_verify}
 use Rattle.resolver.specs.declared.resolving.Answer.{Answer}
 use Rattle.resolver.proofs.Again.{problem-is}
@@ -48,7 +49,7 @@ module _ (failed : Files → ℕ) (folder : Files) (request : RequestView) (lock
     (first : IsVerdictFor MemoryCalls failed (to_verify request lock) folder Valid after)
     (second : IsAnswered MemoryCalls failed request folder answer later)
     (reads : content_of_bytes lock ≡ Ok content) (old_says : old_of_bytes request.old ≡ Ok old)
-    (keeps : KeepsYanked (files_of folder) request.source content (old_packages old)) where
+    (keeps : KeepsYanked (files_of folder) request.source content (packages_if old)) where
   abbrev manifest : ManifestView
   manifest = (second.inputs).manifest
 
@@ -68,15 +69,15 @@ module _ (failed : Files → ℕ) (folder : Files) (request : RequestView) (lock
       (first.selects.0 refl))
 
   is-valid : IsValidSelection (problem_of second.inputs) content
-  is-valid = stays-valid folder manifest request.source (old_packages (first.inputs).old)
+  is-valid = stays-valid folder manifest request.source (packages_if (first.inputs).old)
       (rust_for Newest manifest.rust_version) (first.inputs).catalogue after
-      (subst (λ (n : ManifestView). IsLoaded (old_packages (first.inputs).old) request.source
+      (subst (λ (n : ManifestView). IsLoaded (packages_if (first.inputs).old) request.source
       (rust_for Newest n.rust_version) n.brings.dependencies MemoryCalls folder (first.inputs).catalogue after)
       manifest-is first.read.loads.0)
-      (old_packages (second.inputs).old) (rust_for request.prefer manifest.rust_version)
+      (packages_if (second.inputs).old) (rust_for request.prefer manifest.rust_version)
       (second.inputs).catalogue later second.read.loads.0
       content was-valid
-      (subst (λ o. KeepsYanked (files_of folder) request.source content (old_packages o)) old-is keeps)
+      (subst (λ o. KeepsYanked (files_of folder) request.source content (packages_if o)) old-is keeps)
 
   pub gives-lock : IsSomeLock answer
   gives-lock = (locks_selected request.old second.inputs answer second.is).1 (content, is-valid)

@@ -4,6 +4,7 @@ use Rattle.std.specs.Prelude.{◌≡◌, ◌<◌, Bool, true, false, List, [], �
 use Rattle.std.specs.Prelude.{option_copied, Result, Ok, Err}
 use Rattle.model.specs.Outcome.{◌>>=◌}
 use Rattle.model.specs.Content.{Content, Problem}
+use Rattle.model.specs.Optional.{packages_if}
 use Rattle.manifest.specs.Manifests.{ManifestView, manifest_of_bytes}
 use Rattle.manifest.specs.declared.fault.ManifestFault.{ManifestFault}
 use Rattle.lockfile.specs.Locks.{content_of_bytes}
@@ -35,11 +36,6 @@ abbrev pub old_of_bytes : Option (List ℕ) → Result (Option Content) LockFaul
 old_of_bytes None = Ok None
 old_of_bytes (Some bytes) = content_of_bytes bytes >>= λ content. Ok (Some content)
 
--- the packages of the old lock: none where there is no old lock
-abbrev pub old_packages : Option Content → Content
-old_packages None = []
-old_packages (Some content) = content
-
 -- what a selection is held against
 abbrev pub problem_of : Inputs → Problem
 problem_of inputs = problem_in inputs.manifest inputs.catalogue
@@ -51,12 +47,12 @@ names_of inputs = map (λ row. row.0) (inputs.catalogue).rows
 module _ {S : Type 0} (calls : Calls S) (failed : S → ℕ) (request : RequestView) (before : S) where
   -- how loading ends for this manifest and this old lock
   abbrev pub LoadsFor : ManifestView → Option Content → Result CatalogueView LoadFault → S → Type 0
-  LoadsFor m old = Loads (old_packages old) request.source
+  LoadsFor m old = Loads (packages_if old) request.source
       (rust_for request.prefer m.rust_version) m.brings.dependencies calls failed before
 
   -- the folder was asked for these names so far, in order
   abbrev pub IsSoFarFor : ManifestView → Option Content → List Asked → S → Type 0
-  IsSoFarFor m old = IsSoFar (old_packages old) request.source
+  IsSoFarFor m old = IsSoFar (packages_if old) request.source
       (rust_for request.prefer m.rust_version) m.brings.dependencies calls before
 
   -- the manifest and the old lock say this, and the folder's answers give this index
@@ -86,7 +82,7 @@ module _ {S : Type 0} (calls : Calls S) (failed : S → ℕ) (request : RequestV
     while_asking : (m : ManifestView) (old : Option Content) (asked : List Asked) (mid : S) (name : List ℕ) (after : S)
         → manifest_of_bytes request.manifest ≡ Ok m
         → old_of_bytes request.old ≡ Ok old → IsSoFarFor m old asked mid
-        → next_name (old_packages old) request.source m.brings.dependencies asked ≡ Some name
+        → next_name (packages_if old) request.source m.brings.dependencies asked ≡ Some name
         → length asked < most_names → IsAskedAtMost calls mid name after
         → IsCutShort (names_in asked ++ name ∷ []) after
     -- it was asked for all

@@ -4,6 +4,7 @@ ghost use Rattle.std.specs.Prelude.{◌≡◌, ◌↔◌, ℕ, Bool, List, Optio
 ghost use Rattle.std.specs.List.{All};
 ghost use Rattle.std.specs.declared.alloc.Global.{Global};
 ghost use Rattle.model.specs.Content.{Content};
+ghost use Rattle.model.specs.Optional.{packages_if};
 ghost use Rattle.model.specs.Derivation.{Step};
 ghost use Rattle.model.specs.Selection.{IsValidSelection};
 ghost use Rattle.model.specs.WellFormed.{IsCatalogue};
@@ -20,7 +21,7 @@ ghost use Rattle.checker.specs.declared.outcome.Check.{Check};
 ghost use Rattle.resolver.specs.CheckedProofs.{Checks};
 ghost use Rattle.resolver.specs.Faults.{input_wants_memory};
 ghost use Rattle.resolver.specs.Inputs.{RequestView, AreRead, IsCutShort, IsInputFault, names_of, old_of_bytes};
-ghost use Rattle.resolver.specs.Inputs.{old_packages, problem_of};
+ghost use Rattle.resolver.specs.Inputs.{problem_of};
 ghost use Rattle.resolver.specs.Answers.{Resolves, Verifies, IsAnswer, IsAnswered, IsChosen};
 ghost use Rattle.resolver.specs.Returning.{handed_in, to_verify, to_check, AreAlike, ComesBack, FindsValid, FindsProof};
 ghost use Rattle.resolver.specs.Returning.{IsSomeLock, files_of};
@@ -94,7 +95,7 @@ pub fn verified_locks_exclude_refusals()
         → Verifies MemoryCalls failed (to_verify request lock) folder (Ok Valid) after
         → Resolves MemoryCalls failed request folder (Ok answer) later
         → content_of_bytes lock ≡ Ok content → old_of_bytes request.old ≡ Ok old
-        → KeepsYanked (files_of folder) request.source content (old_packages old) → IsSomeLock answer }
+        → KeepsYanked (files_of folder) request.source content (packages_if old) → IsSomeLock answer }
 {}
 
 /// Over one map of files, a derivation that `resolve` gave proves for `check_bytes`, with the same old lock and
@@ -117,7 +118,7 @@ pub fn loaded_inputs_make_a_catalogue<F: Folder>()
         → IsCatalogue (problem_of inputs) }
     ensures run { (request : RequestView) (before : F) (inputs : Inputs) (after : F)
         → AreRead F.calls F.failed request before inputs after
-        → IsProblemOfRun F.calls before inputs.manifest (old_packages inputs.old) request.source
+        → IsProblemOfRun F.calls before inputs.manifest (packages_if inputs.old) request.source
         (problem_of inputs) after }
 {}
 

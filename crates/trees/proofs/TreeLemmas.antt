@@ -12,11 +12,11 @@ use Rattle.json.specs.Find as find
 use Rattle.json.specs.Value.{value_view}
 use Rattle.json.specs.declared.value.Value.{Value}
 use Rattle.serde_json.specs.Data.{Num, Data, number, array, object, Items, item, Members, no_members, put}
-use Rattle.serde_json.specs.Find.{get, get_member, get_item, at, as_str, as_bool, as_number}
+use Rattle.serde_json.specs.Find.{get, get_member, get_item, at}
 use Rattle.serde_json.specs.Read.{number_of, of_json, of_items, of_members, read}
 use Rattle.serde_json.proofs.Views.{get_member-put, get_member-put_other}
 use Rattle.trees.specs.declared.fault.TreeFault.{TreeFault}
-use Rattle.trees.specs.Trees.{json_of_text, numbers_fit, items_fit, members_fit, num_of, data_of, items_of, members_of}
+use Rattle.trees.specs.Trees.{json_of_text, numbers_fit, items_fit, members_fit, data_of, items_of, members_of}
 use Rattle.trees.specs.Trees.{tree_view, sorted_view}
 
 -- ---- reading
@@ -124,30 +124,6 @@ at-data_of n (json.number s) = refl
 at-data_of n (json.string s) = refl
 at-data_of n (json.array js) = items-at n js
 at-data_of n (json.object ms) = refl
-
-pub as_str-data_of : (j : json.Json) → as_str (data_of j) ≡ find.as_str j
-as_str-data_of json.null = refl
-as_str-data_of (json.boolean b) = refl
-as_str-data_of (json.number s) = refl
-as_str-data_of (json.string s) = refl
-as_str-data_of (json.array js) = refl
-as_str-data_of (json.object ms) = refl
-
-pub as_bool-data_of : (j : json.Json) → as_bool (data_of j) ≡ find.as_bool j
-as_bool-data_of json.null = refl
-as_bool-data_of (json.boolean b) = refl
-as_bool-data_of (json.number s) = refl
-as_bool-data_of (json.string s) = refl
-as_bool-data_of (json.array js) = refl
-as_bool-data_of (json.object ms) = refl
-
-pub as_number-data_of : (j : json.Json) → as_number (data_of j) ≡ option_map num_of (find.as_number j)
-as_number-data_of json.null = refl
-as_number-data_of (json.boolean b) = refl
-as_number-data_of (json.number s) = refl
-as_number-data_of (json.string s) = refl
-as_number-data_of (json.array js) = refl
-as_number-data_of (json.object ms) = refl
 
 -- a value that is found is seen as what it stands for
 pub through : (r : Option (Bor (Value Global)))

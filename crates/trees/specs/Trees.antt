@@ -1,11 +1,10 @@
 -- What a tree of JSON that borrows its texts stands for: the value that `serde_json` reads, where of a key that comes
 -- twice the last stays.
-use Rattle.std.specs.Prelude.{ℕ, Bool, true, false, if◌then◌else◌, ◌&&◌, negsuc, List, [], ◌∷◌, Option, None, is_some}
+use Rattle.std.specs.Prelude.{ℕ, Bool, true, false, ◌&&◌, negsuc, List, [], ◌∷◌, Option, is_some}
 use Rattle.std.specs.Prelude.{unwrap_or, option_and_then}
 use Rattle.std.specs.Borrow.{Bor}
 use Rattle.std.specs.Ordering.{is_lt, nat_cmp}
 use Rattle.std.specs.Cmp.Lexicographic.{slice_cmp}
-use Rattle.std.specs.Str.{is_utf8}
 use Rattle.std.specs.declared.alloc.Global.{Global}
 use Rattle.json.specs.Json as json
 use Rattle.json.specs.Lex.{tokens}
@@ -15,6 +14,7 @@ use Rattle.json.specs.declared.value.Value.{Value}
 use Rattle.serde_json.specs.Data.{Num, negative, Data, null, boolean, number, string, array, object, Items, no_items}
 use Rattle.serde_json.specs.Data.{item, Members, no_members, member, put}
 use Rattle.serde_json.specs.Read.{number_of, max_depth, read}
+use Rattle.model.specs.Optional.{of_utf8}
 use Rattle.trees.specs.declared.fault.TreeFault.{TreeFault}
 use Rattle.trees.specs.declared.fault.TreeFault.TheVariants.{OutOfMemory, NotJson}
 
@@ -24,7 +24,7 @@ wants_memory NotJson = false
 
 -- the value that `serde_json` reads off bytes
 abbrev pub data_of_bytes : List ℕ → Option Data
-data_of_bytes bytes = if is_utf8 bytes then read bytes else None
+data_of_bytes bytes = of_utf8 read bytes
 
 -- the JSON that a text is, whatever its numbers are
 abbrev pub json_of_text : List ℕ → Option json.Json

@@ -12,7 +12,7 @@ ghost use Rattle.vertices.specs.Texts.{class_of_text, lesser_class, above_zero, 
 
 use crate::fault::TextFault;
 use classes::{Class, whole_number};
-use features::{FeatureName, NameFault, PackageName};
+use features::{FeatureName, NameFault, PackageName, name_and_version};
 use semver::Version;
 use std::alloc::{AllocError, Global};
 
@@ -30,7 +30,7 @@ pub(crate) fn around_space(text: &str) -> Result<(&str, &str), TextFault>
 pub(crate) fn around_at(text: &str) -> Result<(&str, &str), TextFault>
     ensures { Gives wants_memory (λ p. (p.0.now, p.1.now)) result (parted 64 text.now) }
 {
-    match first_at(text) {
+    match name_and_version(text) {
         Some((left, right)) => Ok((left, right)),
         None => Err(TextFault::NotAText),
     }
@@ -40,12 +40,6 @@ fn first_space(text: &str) -> Option<(&str, &str)>
     ensures { option_map (λ p. (p.0.now, p.1.now)) result ≡ around 32 text.now }
 {
     text.split_once(' ')
-}
-
-fn first_at(text: &str) -> Option<(&str, &str)>
-    ensures { option_map (λ p. (p.0.now, p.1.now)) result ≡ around 64 text.now }
-{
-    text.split_once('@')
 }
 
 pub(crate) fn package_name(alloc: Global, text: &str) -> Result<PackageName, TextFault>

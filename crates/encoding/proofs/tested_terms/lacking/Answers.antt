@@ -7,7 +7,7 @@ use Rattle.encoding.proofs.tested_terms.lacking.Goals as goal
 pub returns : goal.returns
 returns c =
     let i = c.args.known.now in
-    ap (λ m. (pkg c.args.name.now (class_view c.args.class), m))
+    c.package_term.ensures ∙ ap (λ m. (pkg c.args.name.now (class_view c.args.class), m))
     (c.in_ok-tests.ensures ∙ lacking_at i.manifest.now i.catalogue.now c.args.name.now (class_view c.args.class)
     (class_view c.args.class) c.args.feature.now c.class_versions-versions.result.now
     c.catalogues_are_well_formed.ensures refl c.class_versions-versions.ensures.versions)

@@ -1,5 +1,6 @@
 use Rattle.std.proofs.Common.{◌≡◌, ℕ, List, take}
-use Rattle.facts.specs.FactNumbers.{at_text, link_views, links_if, links_called}
+use Rattle.facts.specs.FactNumbers.{link_views, links_if, links_called}
+use Rattle.features.specs.TextMaps.{at_text}
 use Rattle.facts.proofs.numbering.by_name.Given as goal
 
 abbrev pub invariant-links : goal.invariant-links

@@ -4,8 +4,10 @@ use Rattle.std.specs.declared.alloc.Global.{Global}
 use Rattle.features.specs.EntryViews.{entry_views}
 use Rattle.features.specs.Tables.{rows_of}
 use Rattle.features.specs.declared.entry.Entry.{Entry}
-use Rattle.facts.specs.FactNumbers.{at_text, number_in, unmarked_for}
-use Rattle.facts.proofs.NumbersLemmas.{str_cmp, flag_more, number_more}
+use Rattle.facts.specs.FactNumbers.{number_in, unmarked_for}
+use Rattle.features.specs.Texts.{borrowed_cmp}
+use Rattle.features.specs.TextMaps.{at_text}
+use Rattle.facts.proofs.NumbersLemmas.{flag_more, number_more}
 use Rattle.facts.proofs.numbering.table_numbers.Goals as goal
 
 pub rows-preserved : goal.rows-preserved
@@ -24,7 +26,7 @@ rows-preserved c =
           number_more f c.rows.marked.items c.push.new.self.items c.rows.numbers.entries
           c.insert.new.self.entries c.as_str.result row rest
           c.in_ok-push.ensures.items
-          (c.in_ok-insert.ensures.entries ∙ ap (insert_entry str_cmp c.rows.numbers.entries c.as_str.result)
+          (c.in_ok-insert.ensures.entries ∙ ap (insert_entry borrowed_cmp c.rows.numbers.entries c.as_str.result)
           (c.len.ensures ∙ c.rows.marked.ok.0)) c.as_str.ensures.text
           ∙ sym (ap (λ es. number_in (length c.rows.marked.items) (at_text c.rows.numbers.entries f) f (rows_of es))
           steps) ∙ c.rows.invariant.numbers f;

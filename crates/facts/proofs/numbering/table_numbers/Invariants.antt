@@ -1,6 +1,7 @@
 use Rattle.std.proofs.Common.{◌≡◌, ◌++◌, ℕ, List, None, length}
 use Rattle.features.specs.Tables.{rows_of}
-use Rattle.facts.specs.FactNumbers.{at_text, number_in, unmarked_for}
+use Rattle.facts.specs.FactNumbers.{number_in, unmarked_for}
+use Rattle.features.specs.TextMaps.{at_text}
 use Rattle.facts.proofs.numbering.table_numbers.Given as goal
 
 abbrev pub invariant-rows : goal.invariant-rows

@@ -1,23 +1,16 @@
-use Rattle.std.proofs.Common.{rules, ◌≡◌, ◌++◌, Some, None, sym, ap, ◌∙◌}
+use Rattle.std.proofs.Common.{rules, ◌≡◌, ◌++◌, sym, ap, ◌∙◌}
 use Rattle.std.proofs.lemmas.List.{append-nil}
-use Rattle.facts.specs.FactNumbers.{numbers_views, link_views, links_if, at_text}
+use Rattle.facts.specs.FactNumbers.{numbers_views, numbers_view, link_views}
 use Rattle.facts.specs.RuleLists.{ask_enabled}
-use Rattle.facts.proofs.NumbersLemmas.{at_text-get}
 use Rattle.facts.proofs.rules.ask_weakly.Goals as goal
 
 pub returns-in-Some : goal.returns-in-Some
 returns-in-Some c =
-    let es = c.args.node.now.called.entries in
-    let found : Some c.in-Some.links.now ≡ at_text es c.args.name.now =
-    c.in-Some.ensures.value ∙ at_text-get c.as_str.result.now es ∙ ap (at_text es) c.as_str.ensures.text in
-    let same : link_views c.as_slice.result.now ≡ links_if (at_text es c.args.name.now) =
-    ap link_views c.as_slice.ensures.value ∙ ap links_if found in
+    let same : link_views c.as_slice.result.now ≡ (numbers_view c.args.node.now).called c.args.name.now =
+    ap link_views c.as_slice.ensures.value ∙ c.in-Some.ensures in
     rw (← same) (search rules)
 
 pub returns-in-None : goal.returns-in-None
-returns-in-None c =
-    let es = c.args.node.now.called.entries in
-    let found : None ≡ at_text es c.args.name.now =
-    c.in-None.ensures.value ∙ at_text-get c.as_str.result.now es ∙ ap (at_text es) c.as_str.ensures.text in
-    sym (append-nil c.args.rules.now.items) ∙ ap (λ o. c.args.rules.now.items
-    ++ ask_enabled (numbers_views c.args.packages.now) c.args.fact (links_if o) c.args.feature.now) found
+returns-in-None c = sym (append-nil c.args.rules.now.items)
+    ∙ ap (λ ls. c.args.rules.now.items
+    ++ ask_enabled (numbers_views c.args.packages.now) c.args.fact ls c.args.feature.now) c.in-None.ensures

@@ -1,6 +1,6 @@
 use Rattle.std.proofs.Common.{ap, ◌∙◌}
 use Rattle.std.specs.Option.{unwrap_or}
-use Rattle.facts.proofs.NumbersLemmas.{at_text-get}
+use Rattle.features.proofs.TextMaps.{at_text-get}
 use Rattle.facts.proofs.rules.number_on.Goals as goal
 
 pub returns-in-Some : goal.returns-in-Some

@@ -3,7 +3,8 @@ use Rattle.std.proofs.lemmas.Result.{on_ok_weaker}
 use Rattle.semver.specs.Identifiers.{parts_of}
 use Rattle.features.specs.EntryViews.{entry_view}
 use Rattle.model.specs.Summary.{dependency, feature, weak_feature}
-use Rattle.full_encoding.specs.Everything.{ask_if, each_from}
+use Rattle.full_encoding.specs.Everything.{ask_if}
+use Rattle.encoding.specs.CausesAt.{each_from}
 use Rattle.full_encoding.specs.Views.{vertex_views}
 use Rattle.full_encoding.proofs.Steps.{asks_called, asks_none}
 use Rattle.full_encoding.proofs.naming.put_asks.Goals as goal

@@ -5,7 +5,8 @@ use Rattle.semver.specs.Identifiers.{parts_of}
 use Rattle.features.specs.Views.{dependency_views, summary_view}
 use Rattle.model.specs.Vertices.{version_of}
 use Rattle.encoding.specs.KnownProblem.{problem}
-use Rattle.full_encoding.specs.Everything.{each_from, of_dependency, of_table}
+use Rattle.full_encoding.specs.Everything.{of_dependency, of_table}
+use Rattle.encoding.specs.CausesAt.{each_from}
 use Rattle.full_encoding.specs.Views.{vertex_views}
 use Rattle.full_encoding.proofs.naming.put_brought.Goals as goal
 

@@ -1,7 +1,8 @@
 use Rattle.std.proofs.Common.{◌≡◌, ◌++◌, drop}
 use Rattle.encoding.specs.KnownProblem.{problem}
 use Rattle.vertices.specs.RefViews.{owner_ref_view}
-use Rattle.full_encoding.specs.Everything.{each_from, of_dependency}
+use Rattle.full_encoding.specs.Everything.{of_dependency}
+use Rattle.encoding.specs.CausesAt.{each_from}
 use Rattle.features.specs.Views.{dependency_views}
 use Rattle.full_encoding.specs.Views.{vertex_views}
 use Rattle.full_encoding.proofs.naming.put_dependencies.Given as goal

@@ -8,7 +8,8 @@ use Rattle.model.specs.Summary.{Dependency, Table}
 use Rattle.model.specs.Vertices.{Vertex, root, the_root}
 use Rattle.encoding.specs.KnownProblem.{problem}
 use Rattle.vertices.specs.RefViews.{vertex_ref_view}
-use Rattle.full_encoding.specs.Everything.{asked_of, each_from, of_dependency}
+use Rattle.full_encoding.specs.Everything.{asked_of, of_dependency}
+use Rattle.encoding.specs.CausesAt.{each_from}
 use Rattle.full_encoding.specs.Views.{vertex_views}
 use Rattle.full_encoding.proofs.Steps.{rows_ask, three}
 use Rattle.full_encoding.proofs.naming.put_root.Goals as goal

@@ -11,7 +11,8 @@ use Rattle.catalogue.specs.declared.candidate.Candidate.{Candidate}
 use Rattle.encoding.specs.KnownProblem.{problem}
 use Rattle.looking_up.proofs.Brought.{is_there, not_there}
 use Rattle.vertices.specs.RefViews.{vertex_ref_view}
-use Rattle.full_encoding.specs.Everything.{each_from, of_dependency, of_table}
+use Rattle.full_encoding.specs.Everything.{of_dependency, of_table}
+use Rattle.encoding.specs.CausesAt.{each_from}
 use Rattle.full_encoding.specs.Views.{vertex_views}
 use Rattle.full_encoding.proofs.naming.put_version.Goals as goal
 

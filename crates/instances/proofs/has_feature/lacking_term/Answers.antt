@@ -15,8 +15,8 @@ use Rattle.instances.proofs.HasFeature.{lacking_is}
 use Rattle.instances.proofs.Rising.{absent_first}
 use Rattle.instances.proofs.has_feature.lacking_term.Goals as goal
 
-pub rising-requires : goal.rising-requires
-rising-requires c =
+pub package_term-requires : goal.package_term-requires
+package_term-requires c =
     let those = subst AreRising (sym c.of_class.ensures)
     (AllPairs-filter (λ v w. precedence_cmp v w ≡ Less) (λ v. is_of (class_view c.args.class) (parts_of v))
     c.versions-versions.result.now c.versions-versions.ensures.rising) in
@@ -27,8 +27,7 @@ pub returns : goal.returns
 returns c =
     let k = c.args.problem.now in
     let name = c.args.name.now in
-    ap (at (pkg name (class_view c.args.class)))
-    (c.rising.ensures ∙ c.in_ok-states.ensures
-    ∙ ap (λ ss. absent ∷ ss) (lacking_is k.manifest.now k.catalogue.now name
+    c.package_term.ensures ∙ ap (at (pkg name (class_view c.args.class)))
+    (c.in_ok-states.ensures ∙ ap (λ ss. absent ∷ ss) (lacking_is k.manifest.now k.catalogue.now name
     (class_view c.args.class) c.args.feature.now c.versions-versions.result.now c.of_class.result.now
     c.versions-versions.ensures.versions c.versions-versions.ensures.rising c.of_class.ensures))

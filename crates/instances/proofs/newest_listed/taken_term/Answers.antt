@@ -10,8 +10,8 @@ use Rattle.instances.proofs.Rising.{those_rise}
 use Rattle.instances.proofs.Matched.{taken_is}
 use Rattle.instances.proofs.newest_listed.taken_term.Goals as goal
 
-pub rising-requires : goal.rising-requires
-rising-requires c =
+pub package_term-requires : goal.package_term-requires
+package_term-requires c =
     subst (IsStrictlySortedBy state_cmp) (sym c.in_ok-states.ensures)
     (those_rise (matches_views (requirement_view c.args.dependency.now.requirement))
     c.class_versions-versions.result.now c.class_versions-versions.ensures.rising)
@@ -20,6 +20,6 @@ pub returns : goal.returns
 returns c =
     let k = c.args.problem.now in
     let d = dependency_view c.args.dependency.now in
-    ap (at (pkg d.real_name (class_view c.args.class)))
-    (c.rising.ensures ∙ c.in_ok-states.ensures ∙ (taken_is k.manifest.now k.catalogue.now d
+    c.package_term.ensures ∙ ap (at (pkg d.real_name (class_view c.args.class)))
+    (c.in_ok-states.ensures ∙ (taken_is k.manifest.now k.catalogue.now d
     (class_view c.args.class) c.class_versions-versions.result.now c.class_versions-versions.ensures.versions))

@@ -1,11 +1,15 @@
-use Rattle.std.proofs.Common.{◌≡◌, true}
-use Rattle.lockfile.proofs.ReadLemmas.{table-read, table-refused}
+use Rattle.std.proofs.Common.{◌≡◌, true, ap}
+use Rattle.std.specs.Option.{ok_or}
+use Rattle.toml.specs.Parse.{parse_document}
+use Rattle.model.proofs.Utf8.{utf8-read, utf8-refused}
+use Rattle.lockfile.specs.declared.fault.LockFault.TheVariants.{NotToml}
 use Rattle.lockfile.proofs.table.read_table.Goals as goal
 
 pub returns-in-Ok : goal.returns-in-Ok
-returns-in-Ok c = table-read _ _ c.in-Ok.ensures.ok.0 c.in-Ok.ensures.ok.1
+returns-in-Ok c =
+    ap (λ o. ok_or o NotToml) (utf8-read parse_document c.args.bytes.now _ c.in-Ok.ensures.ok.0 c.in-Ok.ensures.ok.1)
 
 pub returns-else-is_memory : goal.returns-else-is_memory
 returns-else-is_memory c =
-    table-refused c.args.bytes.now
-    (c.in-Err.ensures.refused (λ m. let yes : c.is_memory.result ≡ true = c.is_memory.ensures.1 m in cc))
+    ap (λ o. ok_or o NotToml) (utf8-refused parse_document c.args.bytes.now
+    (c.in-Err.ensures.refused (λ m. let yes : c.is_memory.result ≡ true = c.is_memory.ensures.1 m in cc)))

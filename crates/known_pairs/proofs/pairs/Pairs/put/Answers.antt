@@ -1,7 +1,8 @@
 use Rattle.std.proofs.Common.{Some, None, IsSome, refl, sym, ap, ◌∙◌, subst}
 use Rattle.std.specs.BTreeMap.{Updates}
 use Rattle.std.specs.BTreeSet.{insert_key}
-use Rattle.known_pairs.proofs.PairLemmas.{put_pair, str_cmp}
+use Rattle.known_pairs.proofs.PairLemmas.{put_pair}
+use Rattle.features.specs.Texts.{borrowed_cmp}
 use Rattle.known_pairs.proofs.pairs.Pairs.put.Goals as goal
 
 pub returns-in-Some : goal.returns-in-Some
@@ -13,6 +14,6 @@ returns-in-Some c =
 
 pub returns : goal.returns
 returns c = put_pair c.args.self.now.features c.insert-3.new.self c.args.name c.args.feature None c.insert-2.new.self
-    (sym c.in_default.ensures.value) (subst (λ m. Updates str_cmp m c.insert-3.new.self c.args.name
+    (sym c.in_default.ensures.value) (subst (λ m. Updates borrowed_cmp m c.insert-3.new.self c.args.name
     (Some c.insert-2.new.self)) c.get_mut.follows.holds-at-none c.in_ok-insert-3.ensures.updates)
-    (c.in_ok-insert-2.ensures.keys ∙ ap (λ ks. insert_key str_cmp ks c.args.feature) c.new-features.ensures.empty)
+    (c.in_ok-insert-2.ensures.keys ∙ ap (λ ks. insert_key borrowed_cmp ks c.args.feature) c.new-features.ensures.empty)
