@@ -4,7 +4,9 @@ ghost use Rattle.catalogue.specs.Loads.{Reads, SaysOfFile};
 
 use crate::fault::{Limit, LoadFault};
 use features::PackageName;
-use index_reader::{Folder, FolderFault, Record, Skip, index_path, lines, read_file_in};
+use index_reader::{
+    Folder, FolderFault, KnownDependencies, Record, Skip, index_path, lines, read_file_in,
+};
 use json::Scratch;
 use std::alloc::Global;
 
@@ -20,12 +22,13 @@ pub(crate) fn read_name<F: Folder>(
     folder: &mut F,
     name: &PackageName,
     scratch: &mut Scratch,
+    known: &mut KnownDependencies,
 ) -> Result<(Vec<Record>, Vec<Skip>), LoadFault>
     ensures { Reads F.calls F.failed folder.old name.now result folder.new }
 {
     let path = index_path(alloc, name)?;
     match folder.file(path.as_str()) {
-        Ok(Some(bytes)) => read_bytes(alloc, name, bytes.as_slice(), scratch),
+        Ok(Some(bytes)) => read_bytes(alloc, name, bytes.as_slice(), scratch, known),
         Ok(None) => Ok((Vec::new(alloc), Vec::new(alloc))),
         Err(FolderFault::OutOfMemory) => Err(LoadFault::OutOfMemory),
         Err(FolderFault::Failed) => Err(LoadFault::FolderFailed(path)),
@@ -38,6 +41,7 @@ fn read_bytes(
     name: &PackageName,
     bytes: &[u8],
     scratch: &mut Scratch,
+    known: &mut KnownDependencies,
 ) -> Result<(Vec<Record>, Vec<Skip>), LoadFault>
     ensures { SaysOfFile name.now bytes.now result }
 {
@@ -47,5 +51,5 @@ fn read_bytes(
     if lines(bytes) > MAX_LINES {
         return Err(LoadFault::TooLarge(Limit::Lines(name.clone()?)));
     }
-    Ok(read_file_in(alloc, name, bytes, scratch)?)
+    Ok(read_file_in(alloc, name, bytes, scratch, known)?)
 }

@@ -24,7 +24,7 @@ use crate::source::Source;
 use crate::store::{Catalogue, Prefer};
 use classes::RustVersion;
 use features::{Dependency, PackageName};
-use index_reader::{Folder, Skip};
+use index_reader::{Folder, KnownDependencies, Skip};
 use indexmap::IndexSet;
 use json::Scratch;
 use lockfile::{LockContent, Package};
@@ -87,6 +87,7 @@ fn ask_all<F: Folder>(
     let mut candidates = Vec::new(alloc);
     let mut skips = Vec::new(alloc);
     let mut scratch = Scratch::new(alloc);
+    let mut known = KnownDependencies::none(alloc);
     let source = String::from_str(alloc, run.source.as_str())?;
     add_names(&mut names, dependencies)?;
     'names: while candidates.len() < names.len() {
@@ -100,6 +101,7 @@ fn ask_all<F: Folder>(
             run,
             &mut skips,
             &mut scratch,
+            &mut known,
         )?;
         add_needed(&mut names, found.candidates.as_slice())?;
         candidates.push(found)?;
@@ -121,12 +123,13 @@ fn ask<F: Folder>(
     run: &Run<'_>,
     skips: &mut Vec<Skip>,
     scratch: &mut Scratch,
+    known: &mut KnownDependencies,
 ) -> Result<Candidates, LoadFault>
     ensures { Asks F.calls F.failed (packages_of_old run.now.old) run.now.source.now
         (option_map rust_version_view run.now.rust_version) folder.old name.now
         (map skip_view skips.old.items) result folder.new (map skip_view skips.new.items) }
 {
-    let (records, mut skipped) = read_name(alloc, folder, name, scratch)?;
+    let (records, mut skipped) = read_name(alloc, folder, name, scratch, known)?;
     skips.append(&mut skipped)?;
     Ok(candidates_of(alloc, name, records, run)?)
 }

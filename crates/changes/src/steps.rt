@@ -140,14 +140,11 @@ impl fmt::Display for Need<'_> {
         let Some(dependency) = self.0 else {
             return f.write_str("lists it");
         };
-        let Dependency {
-            name,
-            real_name,
-            requirement,
-            ..
-        } = dependency;
+        let name = &dependency.name;
+        let real_name = &dependency.real_name;
+        let requirement = &dependency.requirement;
         write!(f, "needs {real_name} {requirement}")?;
-        if dependency.name != dependency.real_name {
+        if name != real_name {
             write!(f, " as {name}")?;
         }
         let mut word = "with";

@@ -5,7 +5,7 @@ use Rattle.semver.specs.Identifiers.{comparator_view}
 use Rattle.semver.specs.Parse.{Held}
 use Rattle.semver.specs.declared.VersionReq.{VersionReq}
 use Rattle.model.specs.Summary as model
-use Rattle.features.specs.declared.dependency.Dependency.{Dependency}
+use Rattle.features.specs.declared.dependency.DependencyParts.{DependencyParts}
 use Rattle.features.specs.declared.dependency.Summary.{Summary}
 use Rattle.features.specs.declared.entry.EntryFault.{EntryFault}
 use Rattle.features.specs.declared.entry.EntryFault.TheVariants.{OutOfMemory, NotAnEntry}
@@ -28,7 +28,7 @@ text_views ts = map (λ t. t.now) ts
 abbrev pub requirement_view : VersionReq → List Held
 requirement_view r = map comparator_view r.comparators.items
 
-abbrev pub dependency_view : Dependency → model.Dependency
+abbrev pub dependency_view : DependencyParts → model.Dependency
 dependency_view d = record {
   name = d.name;
   real_name = d.real_name;
@@ -38,7 +38,7 @@ dependency_view d = record {
   features = d.features.items;
 }
 
-abbrev pub dependency_views : List Dependency → List model.Dependency
+abbrev pub dependency_views : List DependencyParts → List model.Dependency
 dependency_views ds = map dependency_view ds
 
 abbrev pub summary_view : Summary → model.Summary

@@ -8,7 +8,7 @@
 //! `dep:d` names and no feature is called by, and adds `default`; and an entry may name what isn't there.
 //! `FeatureTable::build` is just that function (`table_of`), with the lowest fault at the first feature that has it.
 //! What entries name is looked up among texts of which the first few lie in a row (`texts.rt`). A built table is a row
-//! that takes no more room than its features, and a clone shares it.
+//! that takes no more room than its features, and a clone shares it. So does a dependency with its parts.
 //!
 //! A layer above may rely on this: `parse` takes exactly the texts that are names or entries. A table has exactly the
 //! features that are meant, in the order of their bytes, and each entry that names a feature names one of the same
@@ -25,7 +25,7 @@ mod table;
 mod texts;
 mod versioned;
 
-pub use dependency::{Dependency, DependencyKind, Summary};
+pub use dependency::{Dependency, DependencyKind, DependencyParts, Summary};
 pub use entry::{Entry, EntryFault};
 pub use feature_name::FeatureName;
 pub use name::{NameFault, PackageName};

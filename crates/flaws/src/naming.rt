@@ -21,12 +21,9 @@ pub(crate) struct Needed<'a>(pub(crate) &'a Dependency);
 
 impl fmt::Display for Needed<'_> {
     fn fmt<W: fmt::Write>(&self, f: &mut fmt::Formatter<W>) -> fmt::Result {
-        let Dependency {
-            name,
-            real_name,
-            requirement,
-            ..
-        } = self.0;
+        let name = &self.0.name;
+        let real_name = &self.0.real_name;
+        let requirement = &self.0.requirement;
         write!(f, "{real_name} {requirement}")?;
         if name != real_name {
             write!(f, " as {name}")?;

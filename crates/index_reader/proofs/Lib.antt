@@ -2,6 +2,7 @@ pub mod ReadLemmas
 pub mod PathLemmas
 pub mod WrittenLemmas
 pub mod MadeLemmas
+pub mod KnownLemmas
 pub mod RisingLemmas
 pub mod FileLaws
 pub mod KeptLemmas

@@ -1,5 +1,5 @@
 -- What is kept of a line is what a line says, where it tests as the same; then both lines have the same table.
-use Rattle.std.proofs.Common.{◌≡◌, suc, List, [], ◌∷◌, Bool, true, ◌&&◌, length, map, Ok, refl, sym, ap, ap₂, ◌∙◌}
+use Rattle.std.proofs.Common.{◌≡◌, ℕ, suc, List, [], ◌∷◌, Bool, true, ◌&&◌, length, map, Ok, refl, sym, ap, ap₂, ◌∙◌}
 use Rattle.std.proofs.Common.{arith, true≢false}
 use Rattle.std.specs.Bool.{beq}
 use Rattle.std.specs.Cmp.{booleans_Decides}
@@ -48,6 +48,9 @@ feature-same a b h =
   where
     built : a.name ≡ b.name → a.entries ≡ b.entries → a ≡ b
     built n e = λ i. record { name = n i; entries = e i }
+
+pub texts-same : (xs ys : List (List ℕ)) → pointwise same_text xs ys ≡ true → xs ≡ ys
+texts-same = lists-same same_text text-same
 
 pub features-same : (fs gs : List FeatureView) → pointwise same_feature fs gs ≡ true → fs ≡ gs
 features-same = lists-same same_feature feature-same

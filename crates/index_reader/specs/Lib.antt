@@ -3,6 +3,7 @@ pub mod ShapeViews
 pub mod Written
 pub mod Made
 pub mod Records
+pub mod Known
 pub mod Reasons
 pub mod Files
 pub mod Views

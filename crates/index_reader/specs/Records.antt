@@ -31,14 +31,18 @@ abbrev pub semver_or : {A : Type 0} → SkipReason → Result A Error → Line A
 semver_or why (Ok p) = Ok p
 semver_or why (Err e) = Err (Skipped why)
 
--- the dependencies that take part, in the line's order, each with the requirement that its text is
+-- a dependency with the requirement that its text is
+abbrev pub required_part : PartView → Line (PartView × List Held)
+required_part p = semver_or reason.BadRequirement (req_of p.requirement) >>= λ requirement. Ok (p, requirement)
+
+-- the dependencies that take part, in the line's order, each with its requirement
 unfoldable pub required : List DependencyView → Line (List (PartView × List Held))
 required [] = Ok []
 required (dev name ∷ ds) = required ds
 required (part p ∷ ds) = do
-  requirement ← semver_or reason.BadRequirement (req_of p.requirement)
+  first ← required_part p
   others ← required ds
-  Ok ((p, requirement) ∷ others)
+  Ok (first ∷ others)
 
 abbrev pub is_empty_text : List ℕ → Bool
 is_empty_text text = length text == 0

@@ -10,12 +10,14 @@ use Rattle.index_reader.specs.ShapeViews.{part_view}
 use Rattle.index_reader.specs.Records.{RecordView}
 use Rattle.index_reader.specs.Files.{SkipView, FileView}
 use Rattle.index_reader.specs.declared.line.Required.{Required}
+use Rattle.index_reader.specs.declared.line.Required.TheVariants.{Again, Read}
 use Rattle.index_reader.specs.declared.record.Record.{Record}
 use Rattle.index_reader.specs.declared.record.Skip.{Skip}
 
 -- a dependency that takes part, with its requirement
 abbrev pub required_view : Required → PartView × List Held
-required_view r = (part_view r.part.now, requirement_view r.requirement)
+required_view (Again a) = (part_view a.part.now, requirement_view a.dependency.requirement)
+required_view (Read r) = (part_view r.part.now, requirement_view r.requirement)
 
 abbrev pub required_views : List Required → List (PartView × List Held)
 required_views rs = map required_view rs

@@ -8,6 +8,7 @@ ghost use Rattle.index_reader.specs.Views.{file_view, contents_view};
 
 use crate::fault::LineFault;
 use crate::file_so_far::FileSoFar;
+use crate::known::KnownDependencies;
 use crate::line::read_unchecked;
 use crate::made::LineBefore;
 use crate::record::{Record, Skip};
@@ -39,21 +40,29 @@ pub fn read_file(
     requires { line_count bytes.now ≤ 65535 }
     ensures { IfOk result (λ c. contents_view c ≡ records_of_file name.now bytes.now) }
 {
-    read_file_in(alloc, name, bytes, &mut Scratch::new(alloc))
+    read_file_in(
+        alloc,
+        name,
+        bytes,
+        &mut Scratch::new(alloc),
+        &mut KnownDependencies::none(alloc),
+    )
 }
 
-/// The same in room that is kept from file to file: to clear it for each would cost more than most files do.
+/// The same in room that is kept from file to file, for to clear it for each would cost more than most files do, and
+/// with dependencies that are kept so.
 pub fn read_file_in(
     alloc: Global,
     name: &PackageName,
     bytes: &[u8],
     scratch: &mut Scratch,
+    known: &mut KnownDependencies,
 ) -> Result<(Vec<Record>, Vec<Skip>), AllocError>
     requires { line_count bytes.now ≤ 65535 }
     ensures { IfOk result (λ c. contents_view c ≡ records_of_file name.now bytes.now) }
 {
     let texts = texts_in(alloc, bytes)?;
-    let file = read_texts(alloc, name, &texts, scratch)?;
+    let file = read_texts(alloc, name, &texts, scratch, known)?;
     Ok((file.records, file.skips))
 }
 
@@ -78,6 +87,7 @@ fn read_texts(
     name: &PackageName,
     texts: &[&[u8]],
     scratch: &mut Scratch,
+    known: &mut KnownDependencies,
 ) -> Result<FileSoFar, AllocError>
     ensures { IfOk result
         (λ f. file_view f.records.items f.skips.items ≡ with_lines name.now 1 (map (λ x. x.now) texts.now) no_lines) }
@@ -86,7 +96,7 @@ fn read_texts(
     let mut before = LineBefore::none(texts.len());
     'texts: for (index, text) in texts.iter().enumerate() {
         let number = index as u64 + 1;
-        file = with_line(alloc, name, number, text, file, scratch, &mut before)?;
+        file = with_line(alloc, name, number, text, file, scratch, known, &mut before)?;
     }
     Ok(file)
 }
@@ -99,6 +109,7 @@ fn with_line(
     text: &[u8],
     file: FileSoFar,
     scratch: &mut Scratch,
+    known: &mut KnownDependencies,
     before: &mut LineBefore,
 ) -> Result<FileSoFar, AllocError>
     ensures { IfOk result (λ f. file_view f.records.items f.skips.items
@@ -107,7 +118,7 @@ fn with_line(
     if is_blank(text) {
         return Ok(file);
     }
-    match read_unchecked(alloc, name, text, scratch, before) {
+    match read_unchecked(alloc, name, text, scratch, known, before) {
         Ok(record) => file.with_found(name, number, record),
         Err(LineFault::Skipped(reason)) => file.with_skip(name, number, reason),
         Err(LineFault::OutOfMemory) => Err(AllocError),

@@ -7,9 +7,10 @@
 //!
 //! It is to be fast too: a line is a tree that borrows its texts (`trees`), in room that is kept from line to line;
 //! line ends are found by `memchr`; each vector of a record takes the room that it needs, and a requirement no more
-//! than its comparators take; neighbouring lines that write the same features share one table (`made.rt`). A folder is
-//! a trait (`Folder`) with a relation of its own, so that what stands on it is proved over every folder; `DiskFolder`
-//! is exact over anything that opens files (`Opens`), and of the system's call alone nothing is promised.
+//! than its comparators take; neighbouring lines that write the same features share one table (`made.rt`), and
+//! dependencies that stand word for word in several lines are read once and shared (`known.rt`). A folder is a trait
+//! (`Folder`) with a relation of its own, so that what stands on it is proved over every folder; `DiskFolder` is exact
+//! over anything that opens files (`Opens`), and of the system's call alone nothing is promised.
 //!
 //! A layer above may rely on this: `read_line` and `read_file` give what the definitions give for the bytes, unless
 //! memory was wanting. No two records of a file have equal precedence, and each feature table knows its features.
@@ -21,6 +22,7 @@ mod fault;
 mod file;
 mod file_so_far;
 mod folder;
+mod known;
 mod laws;
 mod line;
 mod made;
@@ -36,6 +38,7 @@ pub use fail_at::FailAt;
 pub use fault::{LineFault, SkipReason};
 pub use file::{lines, read_file, read_file_in};
 pub use folder::{Folder, FolderFault, MemoryFolder};
+pub use known::KnownDependencies;
 pub use laws::{records_are_apart, records_know_their_features};
 pub use line::read_line;
 pub use opened::{FileFault, Fronted, Opens, read_at};

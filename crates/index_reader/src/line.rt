@@ -8,28 +8,31 @@ ghost use Rattle.semver.specs.Parse.{memory_error, req_of, version_parts};
 ghost use Rattle.model.specs.Outcome.{Gives};
 ghost use Rattle.index_reader.specs.Shapes.{wants_memory};
 ghost use Rattle.features.specs.Views.{requirement_view, dependency_view, dependency_views, text_views};
-ghost use Rattle.index_reader.specs.Records.{unless, semver_or, required, feature_names, dependency_read};
+ghost use Rattle.index_reader.specs.Records.{unless, semver_or, required, required_part, feature_names};
+ghost use Rattle.index_reader.specs.Records.{dependency_read};
 ghost use Rattle.index_reader.specs.Records.{dependencies_read, is_of_index, checked};
 ghost use Rattle.index_reader.specs.Records.{unchecked_of_shape, unchecked_of_line, record_of_line};
-ghost use Rattle.index_reader.specs.ShapeViews.{line_dependency_view, line_dependency_views, shape_view};
+ghost use Rattle.index_reader.specs.ShapeViews.{line_dependency_view, line_dependency_views, part_view, shape_view};
 ghost use Rattle.index_reader.specs.Views.{record_view, required_view, required_views};
 
 use crate::fault::{LineFault, SkipReason};
+use crate::known::{KnownDependencies, PartAgain, RequirementRead};
 use crate::made::{LineBefore, features_after};
 use crate::record::{Record, is_checksum};
 use crate::shape::{DependencyShape, LineShape, PartShape, read_shape};
 use crate::values::read_json;
 use crate::written::feature_name;
-use features::{Dependency, FeatureName, PackageName, Summary};
+use features::{Dependency, DependencyParts, FeatureName, PackageName, Summary};
 use json::Scratch;
 use semver::{Version, VersionReq};
 use std::alloc::{AllocError, Global};
 
-/// A dependency that takes part, with its requirement read.
+/// A dependency that takes part, with its requirement.
 #[derive(Drop)]
-pub(crate) struct Required<'a> {
-    part: &'a PartShape<'a>,
-    requirement: VersionReq,
+pub(crate) enum Required<'a> {
+    /// One that was read before.
+    Again(PartAgain<'a>),
+    Read(RequirementRead<'a>),
 }
 
 /// The record that a line of this package's file is, or why it is none (Cargo book, "Registry Index").
@@ -45,6 +48,7 @@ pub fn read_line(alloc: Global, name: &PackageName, line: &[u8]) -> Result<Recor
         name,
         line,
         &mut Scratch::new(alloc),
+        &mut KnownDependencies::none(alloc),
         &mut LineBefore::none(1),
     )?;
     check(
@@ -61,13 +65,14 @@ pub(crate) fn read_unchecked(
     name: &PackageName,
     line: &[u8],
     scratch: &mut Scratch,
+    known: &mut KnownDependencies,
     before: &mut LineBefore,
 ) -> Result<Record, LineFault>
     ensures { Gives wants_memory record_view result (unchecked_of_line name.now line.now) }
 {
     let tree = read_json(alloc, line, scratch)?;
     let shape = read_shape(alloc, &tree)?;
-    record_in(alloc, name, &shape, before)
+    record_in(alloc, name, &shape, known, before)
 }
 
 #[tactic(auto, unfolding(crate::specs::Records::unchecked_of_shape))]
@@ -75,6 +80,7 @@ fn record_in(
     alloc: Global,
     name: &PackageName,
     shape: &LineShape<'_>,
+    known: &mut KnownDependencies,
     before: &mut LineBefore,
 ) -> Result<Record, LineFault>
     ensures { Gives wants_memory record_view result (unchecked_of_shape name.now (shape_view shape.now)) }
@@ -85,8 +91,8 @@ fn record_in(
     )?;
     check(shape.name == name.as_str(), SkipReason::OtherName)?;
     let version = version(alloc, shape.version)?;
-    let parts = requirements(alloc, &shape.dependencies)?;
-    let dependencies = dependencies(alloc, parts)?;
+    let parts = requirements(alloc, &shape.dependencies, known)?;
+    let dependencies = dependencies(alloc, parts, known)?;
     let features = features_after(alloc, shape, before)?;
     check_registries(&shape.dependencies)?;
     Ok(Record {
@@ -151,11 +157,12 @@ fn fault_of(e: semver::Error, why: SkipReason) -> LineFault
     }
 }
 
-/// The dependencies that take part, with their requirements read.
+/// The dependencies that take part, with their requirements.
 #[tactic(auto, unfolding(crate::specs::Records::required))]
 fn requirements<'a>(
     alloc: Global,
     shapes: &'a [DependencyShape<'a>],
+    known: &KnownDependencies,
 ) -> Result<Vec<Required<'a>>, LineFault>
     ensures { Gives wants_memory (λ v. required_views v.items) result (required (line_dependency_views shapes.now)) }
 {
@@ -163,41 +170,83 @@ fn requirements<'a>(
     'shapes: for shape in shapes {
         match shape {
             DependencyShape::Dev(_) => {}
-            DependencyShape::Part(part) => {
-                let requirement = requirement(alloc, part.requirement)?;
-                found.push(Required { part, requirement })?;
-            }
+            DependencyShape::Part(part) => found.push(part_required(alloc, part, known)?)?,
         }
     }
     Ok(found)
 }
 
+/// A dependency that takes part, with its requirement: one that was read before, where it says the same.
+fn part_required<'a>(
+    alloc: Global,
+    part: &'a PartShape<'a>,
+    known: &KnownDependencies,
+) -> Result<Required<'a>, LineFault>
+    ensures { Gives wants_memory required_view result (required_part (part_view part.entry.now)) }
+{
+    match known.find(part)? {
+        Some(again) => Ok(Required::Again(again)),
+        None => Ok(Required::Read(RequirementRead {
+            part,
+            requirement: requirement(alloc, part.requirement)?,
+        })),
+    }
+}
+
+/// The dependencies, of which those that weren't known are now.
 #[tactic(auto, unfolding(crate::specs::Records::dependencies_read))]
-fn dependencies(alloc: Global, parts: Vec<Required<'_>>) -> Result<Vec<Dependency>, LineFault>
+fn dependencies(
+    alloc: Global,
+    parts: Vec<Required<'_>>,
+    known: &mut KnownDependencies,
+) -> Result<Vec<Dependency>, LineFault>
     ensures { Gives wants_memory
         (λ v. dependency_views v.items) result (dependencies_read (required_views parts.entry.items)) }
 {
     let mut found = Vec::with_capacity(alloc, parts.len())?;
     'parts: for part in parts {
-        found.push(dependency(alloc, part)?)?;
+        found.push(dependency(alloc, part, known)?)?;
     }
     Ok(found)
 }
 
-#[tactic(auto, unfolding(crate::specs::Records::dependency_read))]
-fn dependency(alloc: Global, required: Required<'_>) -> Result<Dependency, LineFault>
+fn dependency(
+    alloc: Global,
+    required: Required<'_>,
+    known: &mut KnownDependencies,
+) -> Result<Dependency, LineFault>
     ensures { Gives wants_memory dependency_view result (dependency_read (required_view required.entry)) }
+{
+    match required {
+        Required::Again(again) => Ok(again.dependency),
+        Required::Read(part) => read_dependency(alloc, part, known),
+    }
+}
+
+#[tactic(auto, unfolding(crate::specs::Records::dependency_read))]
+fn read_dependency(
+    alloc: Global,
+    required: RequirementRead<'_>,
+    known: &mut KnownDependencies,
+) -> Result<Dependency, LineFault>
+    ensures { Gives wants_memory dependency_view result
+        (dependency_read (part_view required.entry.part.now, requirement_view required.entry.requirement)) }
 {
     let part = required.part;
     let features = feature_names(alloc, &part.features)?;
-    Ok(Dependency {
-        name: part.name.clone()?,
-        real_name: real_name(part)?,
-        requirement: required.requirement,
-        optional: part.optional,
-        default_features: part.default_features,
-        features,
-    })
+    let dependency = Dependency::new(
+        alloc,
+        DependencyParts {
+            name: part.name.clone()?,
+            real_name: real_name(part)?,
+            requirement: required.requirement,
+            optional: part.optional,
+            default_features: part.default_features,
+            features,
+        },
+    )?;
+    known.keep(alloc, part, &dependency)?;
+    Ok(dependency)
 }
 
 /// The name of the package that a dependency means.

@@ -145,7 +145,7 @@ fn feature_text(alloc: Global, feature: &FeatureShape<'_>) -> Result<FeatureText
     })
 }
 
-fn strings(alloc: Global, texts: &[&str]) -> Result<Vec<String>, AllocError>
+pub(crate) fn strings(alloc: Global, texts: &[&str]) -> Result<Vec<String>, AllocError>
     ensures { IfOk result (λ v. map string_bytes v.items ≡ text_views texts.now) }
 {
     let mut found = Vec::with_capacity(alloc, texts.len())?;
@@ -200,7 +200,7 @@ fn is_feature(known: &FeatureText, feature: &FeatureShape<'_>) -> bool
     known.name.as_str() == feature.name && are_texts(&known.entries, &feature.entries)
 }
 
-fn are_texts(known: &[String], texts: &[&str]) -> bool
+pub(crate) fn are_texts(known: &[String], texts: &[&str]) -> bool
     ensures { result ≡ pointwise same_text (map string_bytes known.now) (text_views texts.now) }
 {
     known.len() == texts.len() && all_texts(known, texts)

@@ -20,7 +20,7 @@ use crate::root_features::root_features;
 use crate::shape::{Shape, read_shape};
 use crate::table::read_table;
 use classes::RustVersion;
-use features::{Dependency, FeatureTable, PackageName, Summary};
+use features::{Dependency, DependencyParts, FeatureTable, PackageName, Summary};
 use semver::{Version, VersionReq};
 use std::alloc::{AllocError, Global};
 use std::marker::Model;
@@ -211,14 +211,17 @@ fn with_requirement(alloc: Global, shape: DependencyShape<'_>) -> Result<Depende
         )),
     };
     match VersionReq::parse(alloc, text) {
-        Ok(requirement) => Ok(Dependency {
-            name: shape.name,
-            real_name: shape.real_name,
-            requirement,
-            optional: shape.optional,
-            default_features: shape.default_features,
-            features: shape.features,
-        }),
+        Ok(requirement) => Ok(Dependency::new(
+            alloc,
+            DependencyParts {
+                name: shape.name,
+                real_name: shape.real_name,
+                requirement,
+                optional: shape.optional,
+                default_features: shape.default_features,
+                features: shape.features,
+            },
+        )?),
         Err(e) => Err(requirement_fault(e, shape.name)),
     }
 }

@@ -17,7 +17,8 @@ use Rattle.index_reader.specs.Shapes.{Line, ShapeView, PartView, DependencyView,
 use Rattle.index_reader.specs.Shapes.{value_at, text_at, text_of, flag_at, whole_at, texts_or_none, features_at}
 use Rattle.index_reader.specs.Shapes.{optional, package_name_of, package_name_at, package_name_or_none, kind_at, is_dev}
 use Rattle.index_reader.specs.Shapes.{part_of, dependency_of, dependencies_in, dependencies_at, shape_of}
-use Rattle.index_reader.specs.Records.{RecordView, unless, semver_or, required, dependency_read, dependencies_read}
+use Rattle.index_reader.specs.Records.{RecordView, unless, semver_or, required_part, required, dependency_read}
+use Rattle.index_reader.specs.Records.{dependencies_read}
 use Rattle.index_reader.specs.Records.{is_of_index, is_checksum, feature_names, unchecked_of_shape, unchecked_of_line}
 use Rattle.index_reader.specs.Written.{features_of}
 use Rattle.index_reader.specs.Files.{FileView, has_version, no_lines, with_skip, with_record, with_found, with_read}
@@ -104,9 +105,10 @@ unfolding required
 required-named [] h = tt
 required-named (dev name ∷ ds) h = required-named ds h.1
 required-named (part p ∷ ds) h =
-    any (AllByRecursion IsPartRead) (semver_or BadRequirement (req_of p.requirement)) _ (λ requirement.
+    next IsPartRead (AllByRecursion IsPartRead) (required_part p) _
+    (any IsPartRead (semver_or BadRequirement (req_of p.requirement)) _ (λ requirement. h.0)) (λ first is.
     next (AllByRecursion IsPartRead) (AllByRecursion IsPartRead) (required ds) _ (required-named ds h.1)
-    (λ others are. (h.0, are)))
+    (λ others are. (is, are)))
 
 real-named : (o : Option (List ℕ)) (name : List ℕ) → IfSome IsName o → IsName name → IsName (unwrap_or o name)
 real-named None name h is = is

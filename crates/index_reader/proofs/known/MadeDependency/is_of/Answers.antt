@@ -1,0 +1,19 @@
+use Rattle.std.proofs.Common.{◌≡◌, true, map, string_bytes, sym, ◌∙◌}
+use Rattle.index_reader.specs.Known.{same_parts}
+use Rattle.index_reader.specs.ShapeViews.{part_view}
+use Rattle.model.proofs.Same.{text-same}
+use Rattle.index_reader.proofs.KnownLemmas.{says}
+use Rattle.index_reader.proofs.MadeLemmas.{texts-same}
+use Rattle.index_reader.proofs.known.MadeDependency.is_of.Goals as goal
+
+pub returns : goal.returns
+returns c h =
+    let made = c.args.self.now in
+    let p = part_view c.args.part.now in
+    let same : same_parts made.dependency p ≡ true = sym c.has_parts.ensures ∙ c.if-not-has_parts.false in
+    let requirement : string_bytes made.requirement ≡ p.requirement =
+    text-same _ _ (sym (rw c.as_str.ensures.value at c.is_text.ensures) ∙ c.if-not-is_text.false) in
+    let features : map string_bytes made.features.items ≡ p.features =
+    texts-same _ _ (sym (rw (c.deref.ensures.value, c.deref-2.ensures.value) at c.are_texts.ensures) ∙ h) in
+    says p made.dependency (string_bytes made.requirement) (map string_bytes made.features.items) made.made same
+    requirement features

@@ -1,0 +1,173 @@
+//! The dependencies that were read, so that those that lines write alike are read and kept once.
+
+ghost use Rattle.std.specs.Prelude.{◌≡◌, IfOk, IfSome, IsTrue, map, string_bytes, unwrap_or};
+ghost use Rattle.model.specs.Summary.{same_text};
+ghost use Rattle.features.specs.Views.{text_views};
+ghost use Rattle.index_reader.specs.Known.{IsMadeOf, IsRequirement, Says, same_flags, same_names, same_parts};
+ghost use Rattle.index_reader.specs.ShapeViews.{part_view};
+
+use crate::made::{are_texts, strings};
+use crate::shape::PartShape;
+use features::{Dependency, PackageName};
+use semver::VersionReq;
+use std::alloc::{AllocError, Global};
+use std::hash::{FoldHasher, Hash, Hasher};
+use std::rc::Rc;
+
+/// How many dependencies are kept at once: those of the lines before, and those that many packages have.
+const SLOTS: usize = 8_192;
+
+/// A dependency, with the texts that were read for it, so that they outlive their line.
+#[derive(Drop)]
+struct MadeDependency {
+    requirement: String,
+    features: Vec<String>,
+    dependency: Dependency,
+    ghost made: { IsMadeOf (string_bytes requirement) (map string_bytes features.items) dependency },
+}
+
+/// A part of a line, with the requirement that its text is.
+#[derive(Drop)]
+pub(crate) struct RequirementRead<'a> {
+    pub part: &'a PartShape<'a>,
+    pub requirement: VersionReq,
+    ghost read: { IsRequirement part.now.requirement.now requirement },
+}
+
+/// A part of a line that says just what was read before.
+#[derive(Drop)]
+pub(crate) struct PartAgain<'a> {
+    pub part: &'a PartShape<'a>,
+    pub dependency: Dependency,
+    ghost says: { Says (part_view part.now) dependency },
+}
+
+/// Dependencies that were read. Each has a place by its name and its requirement, and the next one that has this place
+/// takes it, so that no more are kept than are of use.
+#[derive(Drop)]
+pub struct KnownDependencies {
+    slots: Vec<Option<Rc<MadeDependency>>>,
+}
+
+impl KnownDependencies {
+    /// None yet.
+    pub fn none(alloc: Global) -> KnownDependencies {
+        KnownDependencies {
+            slots: Vec::new(alloc),
+        }
+    }
+
+    /// The dependency that says what this part says, if it is kept.
+    pub(crate) fn find<'a>(
+        &self,
+        part: &'a PartShape<'a>,
+    ) -> Result<Option<PartAgain<'a>>, AllocError>
+        ensures { IfOk result (λ o. IfSome o (λ a. part_view a.part.now ≡ part_view part.entry.now)) }
+    {
+        let Some(slot) = self.slots.get(slot_of(part)) else {
+            return Ok(None);
+        };
+        let Some(made) = slot else {
+            return Ok(None);
+        };
+        if !made.is_of(part) {
+            return Ok(None);
+        }
+        let again = PartAgain {
+            part,
+            dependency: made.dependency.clone()?,
+        };
+        Ok(Some(again))
+    }
+
+    /// Keeps a dependency that was made of this part.
+    pub(crate) fn keep(
+        &mut self,
+        alloc: Global,
+        part: &PartShape<'_>,
+        dependency: &Dependency,
+    ) -> Result<(), AllocError>
+        requires { IsMadeOf part.now.requirement.now (text_views part.now.features.items) dependency.now }
+    {
+        if self.slots.is_empty() {
+            self.slots = no_dependencies(alloc)?;
+        }
+        let made = MadeDependency {
+            requirement: String::from_str(alloc, part.requirement)?,
+            features: strings(alloc, &part.features)?,
+            dependency: dependency.clone()?,
+        };
+        let shared = Rc::new(alloc, made)?;
+        if let Some(slot) = self.slots.get_mut(slot_of(part)) {
+            *slot = Some(shared);
+        }
+        Ok(())
+    }
+}
+
+/// As many places as there are, all of them empty.
+fn no_dependencies(alloc: Global) -> Result<Vec<Option<Rc<MadeDependency>>>, AllocError> {
+    let mut slots = Vec::with_capacity(alloc, SLOTS)?;
+    'slots: for _ in 0..SLOTS {
+        slots.push(None)?;
+    }
+    Ok(slots)
+}
+
+/// The place of a dependency.
+fn slot_of(part: &PartShape<'_>) -> usize {
+    let mut hasher = FoldHasher::default();
+    part.name.hash(&mut hasher);
+    part.requirement.hash(&mut hasher);
+    (hasher.finish() % SLOTS as u64) as usize
+}
+
+impl MadeDependency {
+    /// Whether a part says just this.
+    fn is_of(&self, part: &PartShape<'_>) -> bool
+        ensures { IsTrue result → Says (part_view part.now) self.now.dependency }
+    {
+        if !has_parts(&self.dependency, part) {
+            return false;
+        }
+        if !is_text(self.requirement.as_str(), part.requirement) {
+            return false;
+        }
+        are_texts(&self.features, &part.features)
+    }
+}
+
+fn is_text(own: &str, text: &str) -> bool
+    ensures { result ≡ same_text own.now text.now }
+{
+    own == text
+}
+
+/// Whether a dependency has what a part says, but for its requirement and its features.
+fn has_parts(dependency: &Dependency, part: &PartShape<'_>) -> bool
+    ensures { result ≡ same_parts dependency.now (part_view part.now) }
+{
+    is_called(dependency, part) && has_flags(dependency, part)
+}
+
+fn is_called(dependency: &Dependency, part: &PartShape<'_>) -> bool
+    ensures { result ≡ same_names dependency.now (part_view part.now) }
+{
+    dependency.name == part.name && is_real_name(&dependency.real_name, part)
+}
+
+/// Whether a part means the package of this name.
+fn is_real_name(name: &PackageName, part: &PartShape<'_>) -> bool
+    ensures { result ≡ same_text name.now (unwrap_or part.now.real_name part.now.name) }
+{
+    match &part.real_name {
+        Some(real_name) => name == real_name,
+        None => *name == part.name,
+    }
+}
+
+fn has_flags(dependency: &Dependency, part: &PartShape<'_>) -> bool
+    ensures { result ≡ same_flags dependency.now (part_view part.now) }
+{
+    dependency.optional == part.optional && dependency.default_features == part.default_features
+}
