@@ -1,7 +1,7 @@
 //! A feature whose name is nearly that of one that is lacking.
 
-use classes::is_matched;
 use catalogue::Catalogue;
+use classes::is_matched;
 use features::{Dependency, FeatureName, FeatureTable};
 use std::alloc::{AllocError, Global};
 use strsim::levenshtein;
