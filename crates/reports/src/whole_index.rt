@@ -3,7 +3,7 @@
 use catalogue::{Limit, LoadFault};
 use changes::tell_skips;
 use features::{NameFault, PackageName};
-use index_reader::{Folder, FolderFault, Skip, index_path, lines, read_file_in};
+use index_reader::{Folder, FolderFault, KnownDependencies, Skip, index_path, lines, read_file_in};
 use json::Scratch;
 use std::alloc::{AllocError, Global};
 use trees::{TreeFault, as_text, member, read_tree};
@@ -34,8 +34,9 @@ pub fn skips_at<F: Folder>(
 ) -> Result<Vec<Skip>, LoadFault> {
     let mut skips = Vec::new(alloc);
     let mut scratch = Scratch::new(alloc);
+    let mut known = KnownDependencies::none(alloc);
     for name in names_at(alloc, paths)?.iter() {
-        push_skips(alloc, folder, name, &mut scratch, &mut skips)?;
+        push_skips(alloc, folder, name, &mut scratch, &mut known, &mut skips)?;
     }
     Ok(skips)
 }
@@ -74,6 +75,7 @@ fn push_skips<F: Folder>(
     folder: &mut F,
     name: &PackageName,
     scratch: &mut Scratch,
+    known: &mut KnownDependencies,
     skips: &mut Vec<Skip>,
 ) -> Result<(), LoadFault> {
     let path = index_path(alloc, name)?;
@@ -94,7 +96,7 @@ fn push_skips<F: Folder>(
         Some(spelt) => spelt,
         None => name,
     };
-    let (_, found) = read_file_in(alloc, name, &bytes, scratch)?;
+    let (_, found) = read_file_in(alloc, name, &bytes, scratch, known)?;
     for skip in found.into_iter() {
         skips.push(skip)?;
     }
