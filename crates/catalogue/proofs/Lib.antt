@@ -1,5 +1,6 @@
 pub mod Rows
 pub mod Lookups
+pub mod NameLaws
 pub mod Preferences
 pub mod Found
 pub mod Alike

@@ -25,7 +25,7 @@ item_at f xs i None h = sym (ap (option_map f) (slice_get_past xs i h.3))
 item_at f xs i (Some b) h =
     ap (λ x. Some (f x)) (h.3.1 b.now) ∙ sym (ap (option_map f) (slice_get-get_or xs i b.now h.3.0))
 
-position-cons : {X : Type 0} (p : X → Bool) (x : X) (xs : List X)
+pub position-cons : {X : Type 0} (p : X → Bool) (x : X) (xs : List X)
     → position p (x ∷ xs) ≡ cond (p x) (Some 0) (option_map suc (position p xs))
 position-cons {X = X} p x xs = position_from-zero p (x ∷ xs) ∙ (by (p x)
     ∙ sym (ap (λ o. cond (p x) (Some 0) (option_map suc o)) (position_from-zero p xs)))

@@ -1,4 +1,5 @@
 pub mod Sources
+pub mod Names
 pub mod Faults
 pub mod Ranks
 pub mod Views

@@ -22,6 +22,7 @@ mod fault;
 mod file;
 mod laws;
 mod loading;
+mod names;
 mod old_lock;
 mod places;
 mod source;

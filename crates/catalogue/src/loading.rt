@@ -3,11 +3,11 @@
 ghost use Rattle.std.specs.Prelude.{◌≡◌, IfOk, OnOk, Some, map, option_map};
 ghost use Rattle.classes.specs.RustVersions.{rust_version_view};
 ghost use Rattle.index_reader.specs.Views.{skip_view};
-ghost use Rattle.indexmap.specs.IndexSet.{insert_key, insert_all};
 ghost use Rattle.model.specs.Summary.{same_text};
 ghost use Rattle.features.specs.Views.{dependency_views};
 ghost use Rattle.catalogue.specs.Loads.{packages_of_old, needs_of, Asks, AsksAll, differs, has_changed, Checks};
 ghost use Rattle.catalogue.specs.Loads.{rust_for, Loads};
+ghost use Rattle.catalogue.specs.Names.{insert_key, insert_all};
 ghost use Rattle.catalogue.specs.Problems.{IsProblemOfRun, problem_in};
 ghost use Rattle.catalogue.specs.Stores.{candidates_at, record_at};
 ghost use Rattle.catalogue.specs.Views.{said};
@@ -20,12 +20,12 @@ use crate::candidates::Candidates;
 use crate::choosing::{Run, candidates_of};
 use crate::fault::{Limit, LoadFault};
 use crate::file::read_name;
+use crate::names::Names;
 use crate::source::Source;
 use crate::store::{Catalogue, Prefer};
 use classes::RustVersion;
 use features::{Dependency, PackageName};
 use index_reader::{Folder, KnownDependencies, Skip};
-use indexmap::IndexSet;
 use json::Scratch;
 use lockfile::{LockContent, Package};
 use manifest::Manifest;
@@ -83,7 +83,7 @@ fn ask_all<F: Folder>(
     ensures { AsksAll (packages_of_old run.now.old) run.now.source.now (option_map rust_version_view
         run.now.rust_version) (dependency_views dependencies.now) F.calls F.failed folder.old result folder.new }
 {
-    let mut names = IndexSet::new(alloc);
+    let mut names = Names::new(alloc);
     let mut candidates = Vec::new(alloc);
     let mut skips = Vec::new(alloc);
     let mut scratch = Scratch::new(alloc);
@@ -135,7 +135,7 @@ fn ask<F: Folder>(
 }
 
 /// Adds the names of the packages that these candidates need, each once.
-fn add_needed(names: &mut IndexSet<PackageName>, candidates: &[Candidate]) -> Result<(), AllocError>
+fn add_needed(names: &mut Names, candidates: &[Candidate]) -> Result<(), AllocError>
     ensures { OnOk result (names.new.keys ≡ insert_all same_text names.old.keys (needs_of candidates.now)) }
 {
     'candidates: for candidate in candidates.iter() {
@@ -145,10 +145,7 @@ fn add_needed(names: &mut IndexSet<PackageName>, candidates: &[Candidate]) -> Re
 }
 
 /// Adds the names of the packages that these dependencies mean, each once.
-fn add_names(
-    names: &mut IndexSet<PackageName>,
-    dependencies: &[Dependency],
-) -> Result<(), AllocError>
+fn add_names(names: &mut Names, dependencies: &[Dependency]) -> Result<(), AllocError>
     ensures { OnOk result
         (names.new.keys ≡ insert_all same_text names.old.keys (meant_by (dependency_views dependencies.now))) }
 {
@@ -159,7 +156,7 @@ fn add_names(
 }
 
 /// Adds a name, unless it is there.
-fn add_name(names: &mut IndexSet<PackageName>, name: &PackageName) -> Result<(), AllocError>
+fn add_name(names: &mut Names, name: &PackageName) -> Result<(), AllocError>
     ensures { OnOk result (names.new.keys ≡ insert_key same_text names.old.keys name.now) }
 {
     if !names.contains(name) {

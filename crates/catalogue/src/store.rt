@@ -16,10 +16,10 @@ ghost use Rattle.catalogue.specs.Stores.{row_at, ranked_at, candidates_at, recor
 
 use crate::candidate::{Candidate, Rank};
 use crate::candidates::Candidates;
+use crate::names::Names;
 use crate::places::place_of;
 use features::PackageName;
 use index_reader::Skip;
-use indexmap::IndexSet;
 use semver::Version;
 use std::alloc::{AllocError, Global};
 use std::marker::Model;
@@ -37,7 +37,7 @@ pub enum Prefer {
 #[derive(Drop)]
 pub struct Catalogue {
     pub(crate) alloc: Global,
-    pub(crate) names: IndexSet<PackageName>,
+    pub(crate) names: Names,
     /// At the place of each name, its candidates.
     pub(crate) candidates: Vec<Candidates>,
     pub(crate) skips: Vec<Skip>,
@@ -45,10 +45,10 @@ pub struct Catalogue {
 }
 
 impl Model for Catalogue {
-    ghost use Rattle.std.specs.Prelude.{◌≡◌, map, length, string_bytes, nat_eq};
-    ghost use Rattle.std.specs.Cmp.Lexicographic.{pointwise};
+    ghost use Rattle.std.specs.Prelude.{◌≡◌, map, length, string_bytes};
     ghost use Rattle.index_reader.specs.Views.{skip_view};
-    ghost use Rattle.indexmap.specs.IndexSet.{IsUnique};
+    ghost use Rattle.std.specs.List.{IsDistinct};
+    ghost use Rattle.model.specs.Summary.{same_text};
     ghost use Rattle.catalogue.specs.Stores.{CatalogueView, rows_view, IsStore};
 
     ghost Value = { CatalogueView };
@@ -60,7 +60,7 @@ impl Model for Catalogue {
       source = string_bytes c.source;
     } };
 
-    ghost invariant = { λ c. (length c.names.keys ≡ length c.candidates.items) × IsUnique (pointwise nat_eq) c.names };
+    ghost invariant = { λ c. (length c.names.keys ≡ length c.candidates.items) × IsDistinct same_text c.names.keys };
 }
 
 impl Catalogue {

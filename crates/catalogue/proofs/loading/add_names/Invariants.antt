@@ -1,5 +1,5 @@
 use Rattle.std.proofs.Common.{◌≡◌, drop}
-use Rattle.indexmap.specs.IndexSet.{insert_all}
+use Rattle.catalogue.specs.Names.{insert_all}
 use Rattle.model.specs.Summary.{same_text}
 use Rattle.features.specs.Views.{dependency_views}
 use Rattle.catalogue.specs.Runs.{meant_by}

@@ -1,5 +1,5 @@
 use Rattle.std.proofs.Common.{◌≡◌, drop}
-use Rattle.indexmap.specs.IndexSet.{insert_all}
+use Rattle.catalogue.specs.Names.{insert_all}
 use Rattle.model.specs.Summary.{same_text}
 use Rattle.catalogue.specs.Loads.{needs_of}
 use Rattle.catalogue.proofs.loading.add_needed.Given as goal
