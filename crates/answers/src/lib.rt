@@ -7,7 +7,7 @@
 //! A run has one folder, which each of these is handed: the index is loaded once for the answer, and once more for what
 //! is told of it, since `resolve` keeps what it loads to itself.
 //!
-//! Nothing is stated of it: what is proved is what the calls promise, and `told_cases` plays whole runs.
+//! Nothing is stated of it: what is proved is what the calls promise, and `worked_cases` plays whole runs.
 #![tactic(auto)]
 
 mod asking;

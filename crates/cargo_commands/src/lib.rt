@@ -5,7 +5,7 @@
 //! terminal shows meanwhile; it is given up before anything is printed. Then what is told is printed, painted or not
 //! (`showing`), and last the lock is replaced (`running`).
 //!
-//! Nothing is stated of it: what is proved is what the calls promise, and `told_cases` plays whole runs.
+//! Nothing is stated of it: what is proved is what the calls promise, and `worked_cases` plays whole runs.
 #![tactic(auto)]
 
 mod asking;

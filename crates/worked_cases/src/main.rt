@@ -1,32 +1,66 @@
-//! `worked_cases FOLDER`: plays the cases of a folder through runs of `relock`, and says which commands end otherwise
-//! than told.
+//! `worked_cases FOLDER`: plays the cases of a folder through runs of `relock` and of `cargo-relock`, and says which
+//! commands end otherwise than told. One program plays both, since each has to load all that stands below it.
 #![tactic(auto)]
 
+use cargo_commands::{Surroundings, run as tell};
 use cases::{Programs, play_cases};
 use commands::run;
 use std::io::{self, Write};
 use std::process::ExitCode;
 
 fn main(rt: HostRuntime) -> io::Result<ExitCode> {
-    play_cases(&rt, &Relock { rt: &rt })
+    play_cases(&rt, &Both { rt: &rt })
 }
 
-/// `relock` alone.
+/// `relock`, and `cargo-relock`, before whose name may stand what is around it.
 #[derive(Clone, Copy)]
-struct Relock<'a> {
+struct Both<'a> {
     rt: &'a HostRuntime,
 }
 
-impl Programs for Relock<'_> {
+impl Programs for Both<'_> {
     fn run<O: Write, E: Write>(
         &self,
         words: &[String],
         out: &mut O,
         err: &mut E,
     ) -> io::Result<Option<u8>> {
-        match words.first().map(|word| word.as_str()) {
-            Some("relock") => Ok(Some(run(&mut self.rt.clone()?, words, out, err))),
-            _ => Ok(None),
-        }
+        let rt = self.rt;
+        let (around, words) = around(words);
+        let status = match words.first().map(|word| word.as_str()) {
+            Some("relock") => run(&mut rt.clone()?, words, out, err),
+            Some("cargo-relock") => tell(rt, words, &around, out, err),
+            _ => return Ok(None),
+        };
+        Ok(Some(status))
     }
+}
+
+/// What the first words say of what is around a run, and the words after these.
+fn around(words: &[String]) -> (Surroundings<'_>, &[String]) {
+    let mut around = Surroundings::bare(None);
+    for (place, word) in words.iter().enumerate() {
+        let Some(more) = with_word(around, word.as_str()) else {
+            return (around, &words[place..]);
+        };
+        around = more;
+    }
+    (around, &[])
+}
+
+/// What is around a run with what a word `NAME=VALUE` says of it; `None` for any other word.
+fn with_word<'a>(around: Surroundings<'a>, word: &'a str) -> Option<Surroundings<'a>> {
+    let (name, value) = word.split_once('=')?;
+    let mut around = around;
+    match name {
+        "RELOCK_INDEX" => around.index = Some(value),
+        "CARGO_TERM_COLOR" => around.color = Some(value),
+        "NO_COLOR" => around.no_color = true,
+        "TERM" => {
+            around.out_is_terminal = true;
+            around.err_is_terminal = true;
+        }
+        _ => return None,
+    }
+    Some(around)
 }
