@@ -1,8 +1,8 @@
 //! Why a run has no answer, in sentences.
 
+use crate::answers::{lock_in, manifest_misreading_in, misreading_in};
 use crate::outcome::Outcome;
 use crate::said::Said;
-use answers::{lock_in, manifest_misreading_in, misreading_in};
 use project_files::{Bytes, Paths};
 use resolver::{Fault, TooLarge};
 use std::alloc::{AllocError, Global};

@@ -1,7 +1,7 @@
 //! How much of an index was read.
 
+use crate::answers::Form;
 use crate::said::Said;
-use answers::Form;
 use std::alloc::{AllocError, Global};
 
 /// How many files of an index were read, and how many lines these have.

@@ -12,6 +12,7 @@
 //! status 0 (`Outcome` of `with_new_lock`).
 #![tactic(auto)]
 
+mod answers;
 mod faults;
 mod index;
 mod outcome;

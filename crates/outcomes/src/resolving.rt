@@ -3,10 +3,10 @@
 ghost use Rattle.std.specs.Prelude.{◌≡◌, IfOk};
 ghost use Rattle.outcomes.specs.Outcomes.{ending_of, ending_view};
 
+use crate::answers::{Form, NewLock, Repaired, changes_in, new_lock, readable_rest, refusal_in};
 use crate::faults::tell_misreading;
 use crate::outcome::Outcome;
 use crate::said::Said;
-use answers::{Form, NewLock, Repaired, changes_in, new_lock, readable_rest, refusal_in};
 use derivations::Derivation;
 use index_reader::Folder;
 use project_files::{Bytes, Paths};

@@ -1,7 +1,7 @@
 //! What is told of a run, to people or to programs.
 
+use crate::answers::Form;
 use crate::faults::Sentence;
-use answers::Form;
 use resolver::Fault;
 use std::alloc::{AllocError, Global};
 

@@ -1,8 +1,8 @@
 //! What `skips` ends with.
 
+use crate::answers::{skips_in, skips_in_all};
 use crate::outcome::Outcome;
 use crate::said::Said;
-use answers::{skips_in, skips_in_all};
 use index_reader::Folder;
 use project_files::Bytes;
 use resolver::Fault;

@@ -1,8 +1,8 @@
 //! What `verify` ends with.
 
+use crate::answers::{flaws_in, verdict_in, verdict_on};
 use crate::outcome::Outcome;
 use crate::said::Said;
-use answers::{flaws_in, verdict_in, verdict_on};
 use index_reader::Folder;
 use project_files::{Bytes, Paths};
 use resolver::Fault;

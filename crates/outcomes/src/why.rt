@@ -1,8 +1,8 @@
 //! What `why` ends with.
 
+use crate::answers::{Form, meant_in, why_in};
 use crate::outcome::Outcome;
 use crate::said::Said;
-use answers::{Form, meant_in, why_in};
 use index_reader::Folder;
 use project_files::{Bytes, Paths};
 use reports::{Meant, Part, Told, Wanted, package_in, part_in};

@@ -1,7 +1,7 @@
 //! What changes in a lock, or why there is none.
 
-use crate::asking::inputs_in;
-use crate::form::Form;
+use crate::answers::asking::inputs_in;
+use crate::answers::form::Form;
 use derivations::Derivation;
 use index_reader::Folder;
 use project_files::Bytes;
@@ -11,14 +11,14 @@ use std::alloc::Global;
 
 /// A lock that `resolve` gives.
 #[derive(Clone, Copy)]
-pub struct NewLock<'a> {
+pub(crate) struct NewLock<'a> {
     pub bytes: &'a [u8],
     /// Whether these are the old one's own bytes.
     pub kept: bool,
 }
 
 /// What changes from the lock, which is at a path, to a new one.
-pub fn changes_in<F: Folder>(
+pub(crate) fn changes_in<F: Folder>(
     alloc: Global,
     folder: &mut F,
     bytes: &Bytes,
@@ -44,7 +44,7 @@ pub fn changes_in<F: Folder>(
 
 /// Why there is no lock: the dependencies of the manifest for which nothing fits, or else what the derivation says, in
 /// sentences if it can be told so, or in its own text.
-pub fn refusal_in<F: Folder>(
+pub(crate) fn refusal_in<F: Folder>(
     alloc: Global,
     folder: &mut F,
     bytes: &Bytes,

@@ -1,7 +1,7 @@
 //! What is told of a lock that is looked at.
 
-use crate::asking::{inputs_in, lock_in};
-use crate::form::Form;
+use crate::answers::asking::{inputs_in, lock_in};
+use crate::answers::form::Form;
 use index_reader::Folder;
 use project_files::Bytes;
 use resolver::Fault;
@@ -9,7 +9,11 @@ use selection::Verdict;
 use std::alloc::{AllocError, Global};
 
 /// A verdict, as `relock` tells it or for programs.
-pub fn verdict_in(alloc: Global, verdict: &Verdict, form: Form) -> Result<String, AllocError> {
+pub(crate) fn verdict_in(
+    alloc: Global,
+    verdict: &Verdict,
+    form: Form,
+) -> Result<String, AllocError> {
     match form {
         Form::People => format!(in alloc; "{verdict}\n"),
         Form::Programs => messages::verdict(alloc, verdict),
@@ -17,7 +21,7 @@ pub fn verdict_in(alloc: Global, verdict: &Verdict, form: Form) -> Result<String
 }
 
 /// All that is wrong with the lock.
-pub fn flaws_in<F: Folder>(
+pub(crate) fn flaws_in<F: Folder>(
     alloc: Global,
     folder: &mut F,
     bytes: &Bytes,

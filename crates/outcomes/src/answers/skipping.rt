@@ -1,14 +1,14 @@
 //! Which lines of the index aren't used.
 
-use crate::asking::inputs_in;
-use crate::form::Form;
+use crate::answers::asking::inputs_in;
+use crate::answers::form::Form;
 use index_reader::Folder;
 use project_files::Bytes;
 use resolver::Fault;
 use std::alloc::Global;
 
 /// The lines that were not used of what the manifest comes to.
-pub fn skips_in<F: Folder>(
+pub(crate) fn skips_in<F: Folder>(
     alloc: Global,
     folder: &mut F,
     bytes: &Bytes,
@@ -24,7 +24,7 @@ pub fn skips_in<F: Folder>(
 }
 
 /// The lines that were not used of the files of an index at these paths.
-pub fn skips_in_all<F: Folder>(
+pub(crate) fn skips_in_all<F: Folder>(
     alloc: Global,
     folder: &mut F,
     paths: &[String],

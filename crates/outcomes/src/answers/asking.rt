@@ -17,7 +17,11 @@ fn own_source(alloc: Global) -> Result<Source, AllocError> {
 }
 
 /// What `resolve` answers, the newest versions preferred.
-pub fn new_lock<F: Folder>(alloc: Global, folder: &mut F, bytes: &Bytes) -> Result<Answer, Fault> {
+pub(crate) fn new_lock<F: Folder>(
+    alloc: Global,
+    folder: &mut F,
+    bytes: &Bytes,
+) -> Result<Answer, Fault> {
     let source = own_source(alloc)?;
     let lock = match &bytes.lock {
         Some(lock) => Some(lock.as_slice()),
@@ -34,7 +38,7 @@ pub fn new_lock<F: Folder>(alloc: Global, folder: &mut F, bytes: &Bytes) -> Resu
 }
 
 /// Whether the lock is valid.
-pub fn verdict_on<F: Folder>(
+pub(crate) fn verdict_on<F: Folder>(
     alloc: Global,
     folder: &mut F,
     bytes: &Bytes,
@@ -44,7 +48,7 @@ pub fn verdict_on<F: Folder>(
 }
 
 /// The bytes of the lock; none where there is no lock.
-pub fn lock_in(bytes: &Bytes) -> &[u8] {
+pub(crate) fn lock_in(bytes: &Bytes) -> &[u8] {
     match &bytes.lock {
         Some(lock) => lock.as_slice(),
         None => &[],

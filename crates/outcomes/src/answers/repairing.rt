@@ -8,7 +8,7 @@ use std::alloc::{AllocError, Global};
 
 /// What is left of the files where the lock can't be read as a whole.
 #[derive(Drop)]
-pub struct Repaired {
+pub(crate) struct Repaired {
     /// Why the lock can't be read.
     pub fault: Fault,
     /// How many packages of it could be.
@@ -18,7 +18,7 @@ pub struct Repaired {
 }
 
 /// What is left of the files, if there is a lock that can't be read.
-pub fn readable_rest(alloc: Global, bytes: &Bytes) -> Result<Option<Repaired>, Fault> {
+pub(crate) fn readable_rest(alloc: Global, bytes: &Bytes) -> Result<Option<Repaired>, Fault> {
     let Some(lock) = &bytes.lock else {
         return Ok(None);
     };

@@ -1,12 +1,12 @@
 //! Where and why a lock or a manifest doesn't read.
 
-use crate::form::Form;
+use crate::answers::form::Form;
 use manifest::Manifest;
 use misreadings::Misreading;
 use std::alloc::{AllocError, Global};
 
 /// Where and why the bytes of a lock don't read; nothing where they do.
-pub fn misreading_in(
+pub(crate) fn misreading_in(
     alloc: Global,
     path: &str,
     lock: &[u8],
@@ -19,7 +19,7 @@ pub fn misreading_in(
 }
 
 /// Where and why the bytes of a manifest don't read; nothing where they do.
-pub fn manifest_misreading_in(
+pub(crate) fn manifest_misreading_in(
     alloc: Global,
     path: &str,
     manifest: &[u8],

@@ -6,9 +6,6 @@
 //!
 //! A run has one folder, which each of these is handed: the index is loaded once for the answer, and once more for what
 //! is told of it, since `resolve` keeps what it loads to itself.
-//!
-//! Nothing is stated of it: what is proved is what the calls promise, and `worked_cases` plays whole runs.
-#![tactic(auto)]
 
 mod asking;
 mod changing;
@@ -19,11 +16,11 @@ mod repairing;
 mod skipping;
 mod why;
 
-pub use asking::{lock_in, new_lock, verdict_on};
-pub use changing::{NewLock, changes_in, refusal_in};
+pub(crate) use asking::{lock_in, new_lock, verdict_on};
+pub(crate) use changing::{NewLock, changes_in, refusal_in};
 pub use form::Form;
-pub use judging::{flaws_in, verdict_in};
-pub use misread::{manifest_misreading_in, misreading_in};
-pub use repairing::{Repaired, readable_rest};
-pub use skipping::{skips_in, skips_in_all};
-pub use why::{meant_in, why_in};
+pub(crate) use judging::{flaws_in, verdict_in};
+pub(crate) use misread::{manifest_misreading_in, misreading_in};
+pub(crate) use repairing::{Repaired, readable_rest};
+pub(crate) use skipping::{skips_in, skips_in_all};
+pub(crate) use why::{meant_in, why_in};

@@ -1,7 +1,7 @@
 //! Why a package is in the lock.
 
-use crate::asking::inputs_in;
-use crate::form::Form;
+use crate::answers::asking::inputs_in;
+use crate::answers::form::Form;
 use index_reader::Folder;
 use project_files::Bytes;
 use reports::{Inputs, Meant, Part, Told, Wanted, meant_by};
@@ -9,7 +9,7 @@ use resolver::Fault;
 use std::alloc::Global;
 
 /// Which package of the lock a part of a version asks for.
-pub fn meant_in(alloc: Global, bytes: &Bytes, part: &Part) -> Result<Meant, Fault> {
+pub(crate) fn meant_in(alloc: Global, bytes: &Bytes, part: &Part) -> Result<Meant, Fault> {
     let inputs = inputs_in(alloc, bytes)?;
     match &inputs.lock {
         Some(lock) => Ok(meant_by(alloc, part, lock)?),
@@ -18,7 +18,7 @@ pub fn meant_in(alloc: Global, bytes: &Bytes, part: &Part) -> Result<Meant, Faul
 }
 
 /// Why a package is in the lock: a shortest way to it, or each dependency that leads there.
-pub fn why_in<F: Folder>(
+pub(crate) fn why_in<F: Folder>(
     alloc: Global,
     folder: &mut F,
     bytes: &Bytes,
