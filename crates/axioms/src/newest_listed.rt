@@ -9,7 +9,7 @@ ghost use Rattle.vertices.specs.RefViews.{owner_ref_view};
 ghost use Rattle.looking_up.specs.Views.{problem_view};
 
 use classes::Class;
-use features::Dependency;
+use features::DependencyParts;
 use looking_up::{Problem, dependency_at, has_class};
 use vertices::OwnerRef;
 
@@ -48,7 +48,7 @@ fn are_newest(
 fn overtakes(
     problem: &Problem<'_>,
     owner: &OwnerRef<'_>,
-    dependency: &Dependency,
+    dependency: &DependencyParts,
     other: usize,
     class: Class,
     higher: Class,
@@ -68,8 +68,8 @@ fn is_overtaken(
     problem: &Problem<'_>,
     class: Class,
     higher: Class,
-    dependency: &Dependency,
-    other: &Dependency,
+    dependency: &DependencyParts,
+    other: &DependencyParts,
 ) -> bool
     ensures { result ≡ is_overtaken (problem_view problem.now) (class_view class) (class_view higher)
         (dependency_view dependency.now) (dependency_view other.now) }

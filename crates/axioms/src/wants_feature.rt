@@ -17,7 +17,7 @@ ghost use Rattle.axioms.specs.WantsFeature.{row_asks};
 
 use crate::entries::{asks_for, has_asking};
 use classes::Class;
-use features::{Dependency, Entry, FeatureName, FeatureTable, PackageName};
+use features::{DependencyParts, Entry, FeatureName, FeatureTable, PackageName};
 use looking_up::{Problem, brings, dependency_at, has_class};
 use semver::Version;
 use vertices::OwnerRef;
@@ -45,7 +45,7 @@ pub(crate) fn is_list(
 fn lists_feature(
     problem: &Problem<'_>,
     owner: &OwnerRef<'_>,
-    dependency: &Dependency,
+    dependency: &DependencyParts,
     feature: &FeatureName,
 ) -> bool
     ensures { result ≡ lists_feature (problem_view problem.now) (owner_ref_view owner.now)
@@ -55,7 +55,7 @@ fn lists_feature(
 }
 
 /// Whether a dependency asks for the feature by its list.
-fn is_listed(dependency: &Dependency, feature: &FeatureName) -> bool
+fn is_listed(dependency: &DependencyParts, feature: &FeatureName) -> bool
     ensures { result ≡ list_any (same_text feature.now) (asked_of_target (dependency_view dependency.now)) }
 {
     has_name(feature, dependency.features.as_slice()) || is_default(dependency, feature)
@@ -67,7 +67,7 @@ fn has_name(feature: &FeatureName, features: &[FeatureName]) -> bool
     features.iter().any(|found| feature == found)
 }
 
-fn is_default(dependency: &Dependency, feature: &FeatureName) -> bool
+fn is_default(dependency: &DependencyParts, feature: &FeatureName) -> bool
     ensures { result ≡ ((dependency_view dependency.now).default_features && same_text feature.now (codes "default")) }
 {
     dependency.default_features && feature.as_str() == "default"
@@ -77,7 +77,7 @@ fn is_default(dependency: &Dependency, feature: &FeatureName) -> bool
 fn root_asks_for(
     problem: &Problem<'_>,
     owner: &OwnerRef<'_>,
-    dependency: &Dependency,
+    dependency: &DependencyParts,
     feature: &FeatureName,
 ) -> bool
     ensures { result ≡ root_asks_for (problem_view problem.now) (owner_ref_view owner.now)

@@ -10,7 +10,7 @@ ghost use Rattle.looking_up.specs.Views.{problem_view};
 
 use crate::entries::has_weak;
 use classes::{Class, same_class};
-use features::{Dependency, FeatureName, PackageName};
+use features::{DependencyParts, FeatureName, PackageName};
 use looking_up::{Problem, dependency_at, entries_of, has_class};
 use semver::Version;
 use vertices::OwnerRef;
@@ -41,7 +41,7 @@ fn is_weak_on(
     on: &FeatureName,
     off: &FeatureName,
     class: Class,
-    dependency: &Dependency,
+    dependency: &DependencyParts,
 ) -> bool
     ensures { result ≡ is_weak_on (problem_view problem.now) name.now (parts_of version.now) on.now off.now
         (class_view class) (dependency_view dependency.now) }

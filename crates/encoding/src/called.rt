@@ -5,7 +5,7 @@ ghost use Rattle.features.specs.Views.{dependency_views};
 ghost use Rattle.encoding.specs.Called.{IsByName, PutsCalled, called_so, numbered_from, those_views};
 
 use crate::lists::put;
-use features::Dependency;
+use features::{Dependency, DependencyParts};
 use std::alloc::{AllocError, Global};
 use std::collections::HashMap;
 use std::marker::Model;
@@ -14,7 +14,7 @@ use std::marker::Model;
 #[derive(Clone, Copy)]
 pub struct Numbered<'a> {
     pub number: usize,
-    pub dependency: &'a Dependency,
+    pub dependency: &'a DependencyParts,
 }
 
 /// The dependencies of an owner, found by the name that they are called by.

@@ -25,7 +25,7 @@ use crate::known_problem::KnownProblem;
 use crate::lookups::{brings, dependencies_of, entries_of};
 use crate::possible_classes::classes_of;
 use classes::{Class, same_class};
-use features::{Dependency, Entry, FeatureName, FeatureTable, PackageName};
+use features::{Dependency, DependencyParts, Entry, FeatureName, FeatureTable, PackageName};
 use indexmap::IndexSet;
 use looking_up::is_needed;
 use named_terms::Cause;
@@ -60,7 +60,7 @@ fn put_need<'a>(
     causes: &mut Vec<Cause<'a>>,
     owner: OwnerRef<'a>,
     number: usize,
-    dependency: &Dependency,
+    dependency: &DependencyParts,
 ) -> Result<(), AllocError>
     ensures { OnOk result (cause_views causes.new.items ≡ cause_views causes.old.items
         ++ need_if (owner_ref_view owner.entry) number (dependency_view dependency.now)) }
@@ -220,7 +220,7 @@ fn put_on<'a>(
     own: Own<'a>,
     entry: &'a Entry,
     number: usize,
-    dependency: &'a Dependency,
+    dependency: &'a DependencyParts,
 ) -> Result<(), AllocError>
     ensures { OnOk result (cause_views causes.new.items ≡ cause_views causes.old.items
         ++ entry_if (problem known.now) own.entry.name.now (parts_of own.entry.version.now) own.entry.feature.now
@@ -245,7 +245,7 @@ fn put_enabled<'a>(
     entry: &'a Entry,
     called: &PackageName,
     number: usize,
-    dependency: &Dependency,
+    dependency: &DependencyParts,
 ) -> Result<(), AllocError>
     ensures { OnOk result (cause_views causes.new.items ≡ cause_views causes.old.items
         ++ (if same_text (dependency_view dependency.now).name called.now then of_enabling own.entry.name.now
@@ -265,7 +265,7 @@ fn put_asked<'a>(
     called: &PackageName,
     asked: &'a FeatureName,
     number: usize,
-    dependency: &Dependency,
+    dependency: &DependencyParts,
 ) -> Result<(), AllocError>
     ensures { OnOk result (cause_views causes.new.items
         ≡ cause_views causes.old.items ++ (if same_text (dependency_view dependency.now).name called.now then
@@ -289,7 +289,7 @@ fn put_weak<'a>(
     called: &'a PackageName,
     asked: &'a FeatureName,
     number: usize,
-    dependency: &'a Dependency,
+    dependency: &'a DependencyParts,
 ) -> Result<(), AllocError>
     ensures { OnOk result (cause_views causes.new.items ≡ cause_views causes.old.items
         ++ entry_if (problem known.now) own.entry.name.now (parts_of own.entry.version.now) own.entry.feature.now
@@ -307,7 +307,7 @@ fn put_weak_in<'a>(
     own: Own<'a>,
     asked: &'a FeatureName,
     number: usize,
-    dependency: &Dependency,
+    dependency: &DependencyParts,
     classes: &[Class],
 ) -> Result<(), AllocError>
     ensures { OnOk result (cause_views causes.new.items ≡ cause_views causes.old.items
@@ -326,7 +326,7 @@ fn put_weak_at<'a>(
     own: Own<'a>,
     asked: &'a FeatureName,
     number: usize,
-    dependency: &Dependency,
+    dependency: &DependencyParts,
     class: Class,
 ) -> Result<(), AllocError>
     ensures { OnOk result (cause_views causes.new.items ≡ cause_views causes.old.items
@@ -341,7 +341,7 @@ fn put_weak_at<'a>(
 }
 
 /// Whether the feature of the dependency's package in the class is the feature itself.
-fn is_itself(own: &Own<'_>, asked: &FeatureName, dependency: &Dependency, class: Class) -> bool
+fn is_itself(own: &Own<'_>, asked: &FeatureName, dependency: &DependencyParts, class: Class) -> bool
     ensures { result ≡ same_vertex (feat own.now.name.now (class_of (parts_of own.now.version.now)) own.now.feature.now)
         (feat (dependency_view dependency.now).real_name (class_view class) asked.now) }
 {

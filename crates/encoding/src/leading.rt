@@ -23,7 +23,7 @@ use crate::known_problem::KnownProblem;
 use crate::lookups::{dependencies_of, dependency_at};
 use crate::possible_classes::classes_of;
 use classes::Class;
-use features::{Dependency, FeatureName, PackageName};
+use features::{Dependency, DependencyParts, FeatureName, PackageName};
 use named_terms::Cause;
 use std::alloc::{AllocError, Global};
 use vertices::OwnerRef;
@@ -61,7 +61,7 @@ fn put_leading<'a>(
     known: &KnownProblem<'a>,
     causes: &mut Vec<Cause<'a>>,
     lead: Lead<'a>,
-    dependency: &'a Dependency,
+    dependency: &'a DependencyParts,
 ) -> Result<(), AllocError>
     requires default { KnowsDefault known.now }
     ensures { OnOk result (cause_views causes.new.items ≡ cause_views causes.old.items
@@ -79,7 +79,7 @@ fn put_lists<'a>(
     known: &KnownProblem<'a>,
     causes: &mut Vec<Cause<'a>>,
     lead: Lead<'a>,
-    dependency: &'a Dependency,
+    dependency: &'a DependencyParts,
 ) -> Result<(), AllocError>
     requires default { KnowsDefault known.now }
     ensures { OnOk result (cause_views causes.new.items ≡ cause_views causes.old.items
@@ -96,7 +96,7 @@ fn put_own_list<'a>(
     known: &KnownProblem<'a>,
     causes: &mut Vec<Cause<'a>>,
     lead: Lead<'a>,
-    dependency: &'a Dependency,
+    dependency: &'a DependencyParts,
 ) -> Result<(), AllocError>
     requires default { KnowsDefault known.now }
     ensures { OnOk result (cause_views causes.new.items ≡ cause_views causes.old.items
@@ -111,7 +111,7 @@ fn put_default<'a>(
     known: &KnownProblem<'a>,
     causes: &mut Vec<Cause<'a>>,
     lead: Lead<'a>,
-    dependency: &Dependency,
+    dependency: &DependencyParts,
 ) -> Result<(), AllocError>
     requires default { KnowsDefault known.now }
     ensures { OnOk result (cause_views causes.new.items ≡ cause_views causes.old.items
@@ -144,7 +144,7 @@ fn put_root_lists<'a>(
     known: &KnownProblem<'a>,
     causes: &mut Vec<Cause<'a>>,
     lead: Lead<'a>,
-    dependency: &'a Dependency,
+    dependency: &'a DependencyParts,
 ) -> Result<(), AllocError>
     ensures { OnOk result (cause_views causes.new.items ≡ cause_views causes.old.items
         ++ map (of_list (owner_ref_view lead.entry.owner) lead.entry.number (class_view lead.entry.class))
@@ -215,7 +215,7 @@ fn put_newest<'a>(
     known: &KnownProblem<'a>,
     causes: &mut Vec<Cause<'a>>,
     lead: Lead<'a>,
-    dependency: &'a Dependency,
+    dependency: &'a DependencyParts,
 ) -> Result<(), AllocError>
     ensures { OnOk result (cause_views causes.new.items ≡ cause_views causes.old.items
         ++ flat_map (newest_above (problem known.now) (owner_ref_view lead.entry.owner) lead.entry.number
@@ -234,7 +234,7 @@ fn put_newest_anew<'a>(
     known: &KnownProblem<'a>,
     causes: &mut Vec<Cause<'a>>,
     lead: Lead<'a>,
-    dependency: &'a Dependency,
+    dependency: &'a DependencyParts,
 ) -> Result<(), AllocError>
     ensures { OnOk result (cause_views causes.new.items ≡ cause_views causes.old.items
         ++ flat_map (newest_above (problem known.now) (owner_ref_view lead.entry.owner) lead.entry.number
@@ -258,7 +258,7 @@ fn put_newest_among<'a>(
     known: &KnownProblem<'a>,
     causes: &mut Vec<Cause<'a>>,
     lead: Lead<'a>,
-    dependency: &'a Dependency,
+    dependency: &'a DependencyParts,
     others: &[Numbered<'a>],
 ) -> Result<(), AllocError>
     ensures { OnOk result (cause_views causes.new.items ≡ cause_views causes.old.items
@@ -317,7 +317,7 @@ fn put_if_other<'a>(
 }
 
 /// Whether a dependency is another one than that of the number, on the same package.
-fn is_other(number: usize, name: &PackageName, place: usize, other: &Dependency) -> bool
+fn is_other(number: usize, name: &PackageName, place: usize, other: &DependencyParts) -> bool
     ensures { result ≡ is_other number name.now place (dependency_view other.now) }
 {
     number != place && *name == other.real_name
@@ -329,7 +329,7 @@ fn put_newest_of<'a>(
     known: &KnownProblem<'a>,
     causes: &mut Vec<Cause<'a>>,
     lead: Lead<'a>,
-    dependency: &'a Dependency,
+    dependency: &'a DependencyParts,
     those: &ByClass<'a>,
 ) -> Result<(), AllocError>
     ensures { OnOk result (cause_views causes.new.items ≡ cause_views causes.old.items

@@ -10,7 +10,7 @@ ghost use Rattle.encoding.specs.KnownProblem.{problem};
 ghost use Rattle.vertices.specs.RefViews.{owner_ref_view};
 
 use crate::known_problem::KnownProblem;
-use features::{Dependency, Entry, FeatureName, PackageName, Summary};
+use features::{Dependency, DependencyParts, Entry, FeatureName, PackageName, Summary};
 use semver::Version;
 use vertices::OwnerRef;
 
@@ -39,7 +39,7 @@ pub fn dependency_at<'a>(
     known: &KnownProblem<'a>,
     owner: &OwnerRef<'_>,
     number: usize,
-) -> Option<&'a Dependency>
+) -> Option<&'a DependencyParts>
     ensures { option_map (λ d. dependency_view d.now) result
         ≡ dependency_at (problem known.now) (owner_ref_view owner.now) number }
 {

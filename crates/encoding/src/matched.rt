@@ -20,7 +20,7 @@ use crate::narrowing::within;
 use crate::table::Table;
 use catalogue::{Catalogue, catalogues_are_well_formed};
 use classes::{Class, matching};
-use features::{Dependency, PackageName};
+use features::{Dependency, DependencyParts, PackageName};
 use looking_up::{Problem, class_versions, dependencies_of};
 use manifest::Manifest;
 use semver::VersionReq;
@@ -63,7 +63,7 @@ impl<'a> Matched<'a> {
     }
 
     /// The classes to which a dependency may lead, lowest first, if they are kept.
-    pub(crate) fn classes(&self, dependency: &'a Dependency) -> Option<&[Class]>
+    pub(crate) fn classes(&self, dependency: &'a DependencyParts) -> Option<&[Class]>
         ensures { IfSome result
             (λ ks. map class_view ks.now ≡ dep_classes (problem_of self.now) (dependency_view dependency.now)) }
     {
@@ -78,7 +78,7 @@ impl<'a> Matched<'a> {
     pub(crate) fn classes_of(
         &self,
         alloc: Global,
-        dependency: &'a Dependency,
+        dependency: &'a DependencyParts,
     ) -> Result<Vec<Class>, AllocError>
         ensures { IfOk result
             (λ ks. map class_view ks.items ≡ dep_classes (problem_of self.now) (dependency_view dependency.now)) }
@@ -226,7 +226,7 @@ impl<'a> Matched<'a> {
         Ok(())
     }
 
-    fn keep(&mut self, alloc: Global, dependency: &'a Dependency) -> Result<(), AllocError>
+    fn keep(&mut self, alloc: Global, dependency: &'a DependencyParts) -> Result<(), AllocError>
         ensures { problem_of self.new ≡ problem_of self.old }
     {
         if self.classes(dependency).is_some() {
@@ -263,7 +263,7 @@ fn owner_at<'a>(
 pub(crate) fn match_anew(
     alloc: Global,
     problem: &Problem<'_>,
-    dependency: &Dependency,
+    dependency: &DependencyParts,
 ) -> Result<Vec<Class>, AllocError>
     ensures { IfOk result
         (λ ks. map class_view ks.items ≡ dep_classes (problem_view problem.now) (dependency_view dependency.now)) }

@@ -11,7 +11,7 @@ ghost use Rattle.vertices.specs.RefViews.{owner_ref_view};
 use crate::known_problem::KnownProblem;
 use crate::lookups::dependency_at;
 use classes::Class;
-use features::Dependency;
+use features::DependencyParts;
 use std::alloc::{AllocError, Global};
 use vertices::OwnerRef;
 
@@ -35,7 +35,7 @@ pub(crate) fn classes_at(
 pub fn classes_of<'a>(
     alloc: Global,
     known: &KnownProblem<'a>,
-    dependency: &'a Dependency,
+    dependency: &'a DependencyParts,
 ) -> Result<Vec<Class>, AllocError>
     ensures { IfOk result
         (λ ks. map class_view ks.items ≡ dep_classes (problem known.now) (dependency_view dependency.now)) }

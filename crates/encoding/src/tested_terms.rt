@@ -23,7 +23,7 @@ use crate::space_tests::{
 };
 use catalogue::catalogues_are_well_formed;
 use classes::Class;
-use features::{Dependency, FeatureName, PackageName};
+use features::{DependencyParts, FeatureName, PackageName};
 use looking_up::class_versions;
 use named_terms::Cause;
 use semver::Version;
@@ -149,7 +149,7 @@ fn own_feature<'a>(
 /// The feature is off in the class.
 fn off_there<'a>(
     alloc: Global,
-    dependency: &'a Dependency,
+    dependency: &'a DependencyParts,
     class: Class,
     feature: &'a FeatureName,
 ) -> Result<TestedTerm<'a>, AllocError>
@@ -299,7 +299,7 @@ fn target_terms<'a>(
 fn left<'a>(
     alloc: Global,
     known: &KnownProblem<'a>,
-    dependency: &'a Dependency,
+    dependency: &'a DependencyParts,
     class: Class,
 ) -> Result<TestedTerm<'a>, AllocError>
     ensures { IfOk result (λ p. tested_view p ≡ tested (problem known.now)
@@ -316,7 +316,7 @@ fn left<'a>(
 fn taken<'a>(
     alloc: Global,
     known: &KnownProblem<'a>,
-    dependency: &'a Dependency,
+    dependency: &'a DependencyParts,
     class: Class,
 ) -> Result<TestedTerm<'a>, AllocError>
     ensures { IfOk result

@@ -16,7 +16,7 @@ ghost use Rattle.following.specs.Found.{is_locked, is_owner, is_sourceless, led_
 
 use classes::{Class, same_class};
 use encoding::KnownProblem;
-use features::{Dependency, PackageName};
+use features::{DependencyParts, PackageName};
 use lockfile::Package;
 use selection::target;
 use std::cmp::Ordering;
@@ -114,7 +114,7 @@ pub(crate) fn led_to<'a>(
     known: &KnownProblem<'_>,
     content: &'a [Package],
     owner: &OwnerRef<'_>,
-    dependency: &Dependency,
+    dependency: &DependencyParts,
 ) -> Option<&'a Package>
     requires { IsValidSelection (problem known.now) (package_views content.now) }
     ensures { option_map (λ p. package_view p.now) result

@@ -19,7 +19,9 @@ ghost use Rattle.full_encoding.specs.Views.{vertex_views};
 
 use classes::Class;
 use encoding::{ByName, KnownProblem, Numbered};
-use features::{Dependency, Entry, FeatureName, FeatureTable, PackageName, Summary};
+use features::{
+    Dependency, DependencyParts, Entry, FeatureName, FeatureTable, PackageName, Summary,
+};
 use semver::Version;
 use std::alloc::{AllocError, Global};
 use vertices::{OwnerRef, VertexRef};
@@ -364,7 +366,7 @@ fn put_dependency<'a>(
     vertices: &mut Vec<VertexRef<'a>>,
     owner: OwnerRef<'a>,
     number: usize,
-    dependency: &'a Dependency,
+    dependency: &'a DependencyParts,
 ) -> Result<(), AllocError>
     requires default { KnowsDefault known.now }
     ensures { OnOk result (vertex_views vertices.new.items ≡ vertex_views vertices.old.items ++ of_dependency
@@ -378,7 +380,7 @@ fn put_dependency<'a>(
 fn put_wanted<'a>(
     known: &KnownProblem<'a>,
     vertices: &mut Vec<VertexRef<'a>>,
-    dependency: &'a Dependency,
+    dependency: &'a DependencyParts,
 ) -> Result<(), AllocError>
     requires default { KnowsDefault known.now }
     ensures { OnOk result (vertex_views vertices.new.items ≡ vertex_views vertices.old.items
@@ -412,7 +414,7 @@ fn put_listed<'a>(
 fn put_default<'a>(
     known: &KnownProblem<'a>,
     vertices: &mut Vec<VertexRef<'a>>,
-    dependency: &'a Dependency,
+    dependency: &'a DependencyParts,
 ) -> Result<(), AllocError>
     requires default { KnowsDefault known.now }
     ensures { OnOk result (vertex_views vertices.new.items ≡ vertex_views vertices.old.items

@@ -16,7 +16,7 @@ use catalogue::{Catalogue, place_of};
 use classes::Class;
 use contents::MetVersion;
 use encoding::{KnownProblem, Table};
-use features::{Dependency, PackageName};
+use features::{Dependency, DependencyParts, PackageName};
 use propagation::Trail;
 use semver::Version;
 use std::alloc::{AllocError, Global};
@@ -67,7 +67,7 @@ fn led_to<'a, S: States + Drop>(
     trail: &Trail<S>,
     owner: &OwnerRef<'a>,
     number: usize,
-    dependency: &'a Dependency,
+    dependency: &'a DependencyParts,
 ) -> Result<Option<usize>, AllocError>
     requires { HasEnded known.now table.now (trail_view S.tests trail.now) }
     ensures { IfOk result (λ o. IsLed (problem known.now) (ends known.now table.now (trail_view S.tests trail.now))

@@ -15,7 +15,7 @@ ghost use Rattle.named_terms.specs.Views.{term_view, term_views};
 ghost use Rattle.vertices.specs.RefViews.{owner_ref_view, vertex_ref_view};
 
 use classes::{Class, is_matched};
-use features::{Dependency, PackageName};
+use features::{DependencyParts, PackageName};
 use looking_up::{Problem, class_versions, dependency_at};
 use named_terms::{StateSet, Term};
 use semver::{Version, VersionReq};
@@ -112,7 +112,11 @@ fn has_classes(
     }
 }
 
-fn has_classes_of(problem: &Problem<'_>, dependency: &Dependency, states: &StateSet<'_>) -> bool
+fn has_classes_of(
+    problem: &Problem<'_>,
+    dependency: &DependencyParts,
+    states: &StateSet<'_>,
+) -> bool
     ensures { result ≡ list_all (has_state states.now)
         (map model.in_class (dep_classes (problem_view problem.now) (dependency_view dependency.now))) }
 {

@@ -16,7 +16,7 @@ ghost use Rattle.semver.specs.EvalViews.{matches_views};
 
 use crate::terms::{led_term, package_term};
 use classes::{Class, is_matched};
-use features::Dependency;
+use features::DependencyParts;
 use looking_up::{Problem, class_versions, dependency_at};
 use named_terms::Term;
 use semver::{Version, VersionReq};
@@ -49,7 +49,7 @@ pub(crate) fn newest_terms<'a>(
 fn taken_term<'a>(
     alloc: Global,
     problem: &Problem<'a>,
-    dependency: &'a Dependency,
+    dependency: &'a DependencyParts,
     class: Class,
 ) -> Result<Term<'a>, AllocError>
     ensures { IfOk result

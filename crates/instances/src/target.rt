@@ -16,7 +16,7 @@ ghost use Rattle.looking_up.specs.Matching.{is_left};
 
 use crate::terms::{led_term, package_term};
 use classes::Class;
-use features::Dependency;
+use features::DependencyParts;
 use looking_up::{Problem, class_versions, dependency_at, is_left};
 use named_terms::Term;
 use semver::{Version, VersionReq};
@@ -46,7 +46,7 @@ pub(crate) fn target_terms<'a>(
 fn left_term<'a>(
     alloc: Global,
     problem: &Problem<'a>,
-    dependency: &'a Dependency,
+    dependency: &'a DependencyParts,
     class: Class,
 ) -> Result<Term<'a>, AllocError>
     ensures { IfOk result

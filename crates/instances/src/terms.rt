@@ -13,7 +13,7 @@ ghost use Rattle.vertices.specs.RefViews.{state_ref_view, state_ref_views, owner
 ghost use Rattle.named_terms.specs.Views.{term_view};
 
 use classes::Class;
-use features::{Dependency, FeatureName, PackageName};
+use features::{DependencyParts, FeatureName, PackageName};
 use named_terms::{StateSet, Term};
 use semver::Version;
 use std::alloc::{AllocError, Global};
@@ -109,7 +109,7 @@ pub(crate) fn on_term<'a>(
 /// The feature is off in the class.
 pub(crate) fn off_term<'a>(
     alloc: Global,
-    dependency: &'a Dependency,
+    dependency: &'a DependencyParts,
     class: Class,
     feature: &'a FeatureName,
 ) -> Result<Term<'a>, AllocError>

@@ -18,7 +18,9 @@ ghost use Rattle.known_pairs.specs.Pairs.{Adds, HasThose, has_pair};
 
 use crate::pairs::Pairs;
 use catalogue::Catalogue;
-use features::{Dependency, Entry, FeatureName, FeatureTable, PackageName, Summary};
+use features::{
+    Dependency, DependencyParts, Entry, FeatureName, FeatureTable, PackageName, Summary,
+};
 use manifest::Manifest;
 use semver::Version;
 use std::alloc::{AllocError, Global};
@@ -189,7 +191,7 @@ fn put_dependencies<'a>(
 fn put_dependency<'a>(
     known: &mut Pairs<'a>,
     asked: &Pairs<'a>,
-    dependency: &'a Dependency,
+    dependency: &'a DependencyParts,
 ) -> Result<(), AllocError>
     ensures { OnOk result (Adds known.old known.new (asks_by (has_pair asked.now) (dependency_view dependency.now))) }
 {
@@ -202,7 +204,7 @@ fn put_dependency<'a>(
 fn put_list<'a>(
     known: &mut Pairs<'a>,
     name: &'a str,
-    dependency: &'a Dependency,
+    dependency: &'a DependencyParts,
 ) -> Result<(), AllocError>
     ensures { OnOk result (Adds known.old known.new
         (λ n f. same_text n name.now && list_any (same_text f) (asked_of_target (dependency_view dependency.now)))) }

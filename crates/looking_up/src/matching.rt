@@ -12,12 +12,12 @@ use crate::owners::brings;
 use crate::problem::Problem;
 use crate::ranges::class_versions;
 use classes::{Class, is_matched, some_matched};
-use features::{Dependency, FeatureName, PackageName};
+use features::{DependencyParts, FeatureName, PackageName};
 use semver::{Version, VersionReq};
 use vertices::OwnerRef;
 
 /// Whether some candidate of the class is matched.
-pub fn has_class(problem: &Problem<'_>, class: Class, dependency: &Dependency) -> bool
+pub fn has_class(problem: &Problem<'_>, class: Class, dependency: &DependencyParts) -> bool
     ensures { result ≡ has_class (problem_view problem.now) (class_view class) (dependency_view dependency.now) }
 {
     some_matched(
@@ -27,7 +27,7 @@ pub fn has_class(problem: &Problem<'_>, class: Class, dependency: &Dependency) -
 }
 
 /// Whether no candidate is matched.
-pub fn is_unmatched(problem: &Problem<'_>, dependency: &Dependency) -> bool
+pub fn is_unmatched(problem: &Problem<'_>, dependency: &DependencyParts) -> bool
     ensures { result ≡ is_unmatched (problem_view problem.now) (dependency_view dependency.now) }
 {
     !some_matched(

@@ -10,7 +10,7 @@ ghost use Rattle.looking_up.specs.Views.{problem_view};
 ghost use Rattle.vertices.specs.RefViews.{owner_ref_view};
 
 use crate::problem::Problem;
-use features::{Dependency, Entry, FeatureName, PackageName, Summary};
+use features::{Dependency, DependencyParts, Entry, FeatureName, PackageName, Summary};
 use semver::Version;
 use vertices::OwnerRef;
 
@@ -43,11 +43,11 @@ pub fn dependency_at<'a>(
     problem: &Problem<'a>,
     owner: &OwnerRef<'_>,
     number: usize,
-) -> Option<&'a Dependency>
+) -> Option<&'a DependencyParts>
     ensures { option_map (λ d. dependency_view d.now) result
         ≡ dependency_at (problem_view problem.now) (owner_ref_view owner.now) number }
 {
-    dependencies_of(problem, owner).get(number)
+    Some(dependencies_of(problem, owner).get(number)?)
 }
 
 /// The entries of a feature of a version.
@@ -67,7 +67,7 @@ pub fn entries_of<'a>(
 }
 
 /// Whether the owner needs the dependency: the root each one, a version those that aren't optional.
-pub fn is_needed(owner: &OwnerRef<'_>, dependency: &Dependency) -> bool
+pub fn is_needed(owner: &OwnerRef<'_>, dependency: &DependencyParts) -> bool
     ensures { result ≡ is_needed (owner_ref_view owner.now) (dependency_view dependency.now) }
 {
     match owner {

@@ -10,7 +10,7 @@ ghost use Rattle.selection.specs.Graphs.{targets_in};
 ghost use Rattle.selection.specs.Names.{name_cmp};
 
 use classes::is_matched;
-use features::Dependency;
+use features::{Dependency, DependencyParts};
 use lockfile::Package;
 use std::alloc::{AllocError, Global};
 use std::cmp::Ordering;
@@ -38,7 +38,7 @@ pub(crate) fn targets(
 /// The target of a dependency: the place of the last package of the list that serves it, if one does.
 ///
 /// Those of its real name stand side by side: log of the list, and as many packages as have that name.
-pub fn target(content: &[Package], list: &[usize], dependency: &Dependency) -> Option<usize>
+pub fn target(content: &[Package], list: &[usize], dependency: &DependencyParts) -> Option<usize>
     requires content { IsContent (package_views content.now) }
     requires within { All (λ t. t < length content.now) list.now }
     requires rising { AllPairs (λ i j. i < j) list.now }
@@ -51,7 +51,7 @@ pub fn target(content: &[Package], list: &[usize], dependency: &Dependency) -> O
 }
 
 /// Where the name of the package at a place stands beside the real name of a dependency.
-fn name_order(content: &[Package], at: usize, dependency: &Dependency) -> Ordering
+fn name_order(content: &[Package], at: usize, dependency: &DependencyParts) -> Ordering
     ensures { result ≡ name_cmp (dependency_view dependency.now) (slice_get (package_views content.now) at) }
 {
     match content.get(at) {
@@ -67,7 +67,7 @@ fn search(
     list: &[usize],
     first: usize,
     after: usize,
-    dependency: &Dependency,
+    dependency: &DependencyParts,
 ) -> Option<usize>
     requires before { AllWithin (λ i. serves_if (dependency_view dependency.now)
         (slice_get (package_views content.now) i) ≡ false) list.now 0 first }
@@ -88,7 +88,7 @@ fn search(
     None
 }
 
-fn serves_at(content: &[Package], at: usize, dependency: &Dependency) -> bool
+fn serves_at(content: &[Package], at: usize, dependency: &DependencyParts) -> bool
     ensures { result ≡ serves_if (dependency_view dependency.now) (slice_get (package_views content.now) at) }
 {
     match content.get(at) {
@@ -98,7 +98,7 @@ fn serves_at(content: &[Package], at: usize, dependency: &Dependency) -> bool
 }
 
 /// Whether a package has a source, the dependency's real name and a version that its requirement matches.
-fn serves(locked: &Package, dependency: &Dependency) -> bool
+fn serves(locked: &Package, dependency: &DependencyParts) -> bool
     ensures { result ≡ serves (dependency_view dependency.now) (package_view locked.now) }
 {
     locked.source.is_some()

@@ -14,7 +14,7 @@ use crate::picking::pick;
 use catalogue::Catalogue;
 use contents::{Met, MetVersion, brings_at, put_met, store_holds};
 use facts::{Node, dependencies_of};
-use features::Dependency;
+use features::{Dependency, DependencyParts};
 use indexmap::IndexSet;
 use manifest::Manifest;
 use std::alloc::{AllocError, Global};
@@ -68,7 +68,7 @@ fn targets_of(
 fn target_of(
     catalogue: &Catalogue,
     versions: &mut IndexSet<MetVersion>,
-    dependency: &Dependency,
+    dependency: &DependencyParts,
 ) -> Result<Option<usize>, AllocError>
     ensures grows { OnOk result (Grows catalogue.now versions.old.keys versions.new.keys) }
     ensures pick { IfOk result (λ o. IsPick (preferred_in catalogue.now) (owners_of catalogue.now versions.new.keys)

@@ -7,14 +7,14 @@ ghost use Rattle.features.specs.Views.{dependency_view, requirement_view};
 ghost use Rattle.walks.specs.Met.{is_matched, place_picked};
 
 use catalogue::Catalogue;
-use features::Dependency;
+use features::DependencyParts;
 use semver::{Version, VersionReq};
 use std::alloc::AllocError;
 
 /// The place of the first candidate, in the order of preference, that a dependency matches.
 pub(crate) fn pick(
     catalogue: &Catalogue,
-    dependency: &Dependency,
+    dependency: &DependencyParts,
 ) -> Result<Option<usize>, AllocError>
     ensures { IfOk result (λ o. o ≡ place_picked catalogue.now (dependency_view dependency.now)) }
 {
