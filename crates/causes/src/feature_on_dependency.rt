@@ -19,7 +19,7 @@ ghost use Rattle.causes.specs.Needs.{enabling_by, is_enabled_unmatched, place_fr
 
 use crate::named_by_terms::{first_dependency, first_on, first_version};
 use crate::numbers::Numbers;
-use features::{Dependency, DependencyParts, Entry, FeatureName, PackageName};
+use features::{Dependency, Entry, FeatureName, PackageName};
 use looking_up::{Problem, dependencies_of, dependency_at, entries_of, is_unmatched};
 use named_terms::{Cause, Term};
 use semver::Version;
@@ -182,7 +182,7 @@ fn first_enabled(
 #[tactic(auto, unfolding(crate::specs::Needs::is_enabled_unmatched))]
 fn is_enabled_unmatched(
     problem: &Problem<'_>,
-    dependency: &DependencyParts,
+    dependency: &Dependency,
     names: &BTreeSet<&str>,
 ) -> bool
     ensures { result

@@ -13,7 +13,7 @@ ghost use Rattle.causes.specs.Needs.{is_needed_unmatched, place_from};
 
 use crate::named_by_terms::{first_dependency, first_owner};
 use crate::numbers::Numbers;
-use features::{Dependency, DependencyParts};
+use features::Dependency;
 use looking_up::{Problem, dependencies_of, is_needed, is_unmatched};
 use named_terms::{Cause, Term};
 use std::alloc::AllocError;
@@ -88,11 +88,7 @@ fn first_needed(
 }
 
 #[tactic(auto, unfolding(crate::specs::Needs::is_needed_unmatched))]
-fn is_needed_unmatched(
-    problem: &Problem<'_>,
-    owner: &OwnerRef<'_>,
-    dependency: &DependencyParts,
-) -> bool
+fn is_needed_unmatched(problem: &Problem<'_>, owner: &OwnerRef<'_>, dependency: &Dependency) -> bool
     ensures { result
         ≡ is_needed_unmatched (problem_view problem.now) (owner_ref_view owner.now) (dependency_view dependency.now) }
 {

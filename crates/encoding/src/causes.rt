@@ -60,7 +60,7 @@ fn put_need<'a>(
     causes: &mut Vec<Cause<'a>>,
     owner: OwnerRef<'a>,
     number: usize,
-    dependency: &DependencyParts,
+    dependency: &Dependency,
 ) -> Result<(), AllocError>
     ensures { OnOk result (cause_views causes.new.items ≡ cause_views causes.old.items
         ++ need_if (owner_ref_view owner.entry) number (dependency_view dependency.now)) }

@@ -366,7 +366,7 @@ fn put_dependency<'a>(
     vertices: &mut Vec<VertexRef<'a>>,
     owner: OwnerRef<'a>,
     number: usize,
-    dependency: &'a DependencyParts,
+    dependency: &'a Dependency,
 ) -> Result<(), AllocError>
     requires default { KnowsDefault known.now }
     ensures { OnOk result (vertex_views vertices.new.items ≡ vertex_views vertices.old.items ++ of_dependency

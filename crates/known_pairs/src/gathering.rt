@@ -191,7 +191,7 @@ fn put_dependencies<'a>(
 fn put_dependency<'a>(
     known: &mut Pairs<'a>,
     asked: &Pairs<'a>,
-    dependency: &'a DependencyParts,
+    dependency: &'a Dependency,
 ) -> Result<(), AllocError>
     ensures { OnOk result (Adds known.old known.new (asks_by (has_pair asked.now) (dependency_view dependency.now))) }
 {

@@ -12,7 +12,7 @@ ghost use Rattle.lacks.specs.Views.{record_views};
 
 use catalogue::Catalogue;
 use classes::{is_matched, some_matched};
-use features::{Dependency, FeatureName, PackageName};
+use features::{Dependency, DependencyParts, FeatureName, PackageName};
 use index_reader::Record;
 use semver::{Version, VersionReq};
 
@@ -63,7 +63,7 @@ fn lack_of_features(dependency: &Dependency, catalogue: &Catalogue) -> Option<La
 }
 
 /// Whether a requirement matches some candidate.
-pub(crate) fn is_met(dependency: &Dependency, catalogue: &Catalogue) -> bool
+pub(crate) fn is_met(dependency: &DependencyParts, catalogue: &Catalogue) -> bool
     ensures { result
         ≡ is_met (requirement_view dependency.now.requirement) (candidates_at catalogue.now dependency.now.real_name) }
 {

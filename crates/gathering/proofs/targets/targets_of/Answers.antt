@@ -9,9 +9,10 @@ pub target_of-requires : goal.target_of-requires
 target_of-requires c =
     let ds = c.args.dependencies.now in
     let n = c.dependencies.number in
-    let d = c.index-dependencies-number.result in
+    let d = c.deref.result.now in
     let there = map_at dependency_view ds n d
-    (slice_get-get_or ds n d c.dependencies-test.true ∙ ap Some (sym c.index-dependencies-number.is)) in
+    (slice_get-get_or ds n c.index-dependencies-number.result c.dependencies-test.true
+    ∙ ap Some (sym (c.deref.ensures ∙ c.index-dependencies-number.is))) in
     let p = get_or c.args.places.now n None in
     let at = slice_get-get_or c.args.places.now n None (omega (arith, c.requires.many, c.dependencies-test.true)) in
     there_put c.args.catalogue.now (dependency_views ds) c.args.places.now c.requires.there n
@@ -21,9 +22,10 @@ pub dependencies-preserved : goal.dependencies-preserved
 dependencies-preserved c =
     let ds = c.args.dependencies.now in
     let n = c.dependencies.number in
-    let d = c.index-dependencies-number.result in
+    let d = c.deref.result.now in
     let there = map_at dependency_view ds n d
-    (slice_get-get_or ds n d c.dependencies-test.true ∙ ap Some (sym c.index-dependencies-number.is)) in
+    (slice_get-get_or ds n c.index-dependencies-number.result c.dependencies-test.true
+    ∙ ap Some (sym (c.deref.ensures ∙ c.index-dependencies-number.is))) in
     let p = get_or c.args.places.now n None in
     let at = slice_get-get_or c.args.places.now n None (omega (arith, c.requires.many, c.dependencies-test.true)) in
     one_put c.args.catalogue.now c.args.versions.now.keys c.dependencies.versions.keys c.target_of.new.versions.keys

@@ -9,9 +9,10 @@ pub dependencies-preserved : goal.dependencies-preserved
 dependencies-preserved c =
     let ds = c.args.dependencies.now in
     let i = c.dependencies.dependency-index in
-    let d = c.dependency-item.result in
+    let d = c.deref.result.now in
     let there = map_at dependency_view ds i d
-    (slice_get-get_or ds i d c.dependencies-test.true ∙ ap Some (sym c.dependency-item.is)) in
+    (slice_get-get_or ds i c.dependency-item.result c.dependencies-test.true
+    ∙ ap Some (sym (c.deref.ensures ∙ c.dependency-item.is))) in
     more_targets c.args.catalogue.now c.args.versions.now.keys c.dependencies.versions.keys
     c.target_of.new.versions.keys
     (dependency_views ds) i c.dependencies.targets.items _ (dependency_view d) c.in_ok-target_of.field-0
