@@ -12,7 +12,7 @@ ghost use Rattle.lacks.specs.Views.{record_views};
 
 use catalogue::Catalogue;
 use classes::{is_matched, some_matched};
-use features::{Dependency, DependencyParts, FeatureName, PackageName};
+use features::{DependencyParts, FeatureName, PackageName};
 use index_reader::Record;
 use semver::{Version, VersionReq};
 
@@ -35,7 +35,7 @@ pub enum Lack {
 
 /// Why no candidate fits, if none does: `file` has the lines of the package that can be used, if there is a file.
 pub fn lack_of(
-    dependency: &Dependency,
+    dependency: &DependencyParts,
     catalogue: &Catalogue,
     file: Option<&[Record]>,
 ) -> Option<Lack>
@@ -53,7 +53,7 @@ pub fn lack_of(
 }
 
 /// That a feature is lacking, if one is.
-fn lack_of_features(dependency: &Dependency, catalogue: &Catalogue) -> Option<Lack>
+fn lack_of_features(dependency: &DependencyParts, catalogue: &Catalogue) -> Option<Lack>
     ensures { (result ≡ None) ⊎ (result ≡ Some Lack.NoFeature) }
 {
     match missing_feature(dependency, catalogue) {
@@ -75,7 +75,7 @@ pub(crate) fn is_met(dependency: &DependencyParts, catalogue: &Catalogue) -> boo
 
 /// The first feature that a dependency asks for, and that no candidate has which it matches.
 pub(crate) fn missing_feature<'a>(
-    dependency: &'a Dependency,
+    dependency: &'a DependencyParts,
     catalogue: &Catalogue,
 ) -> Option<&'a FeatureName> {
     for feature in dependency.features.iter() {
@@ -87,7 +87,7 @@ pub(crate) fn missing_feature<'a>(
 }
 
 /// Whether some candidate that a dependency matches has a feature.
-fn is_offered(dependency: &Dependency, feature: &FeatureName, catalogue: &Catalogue) -> bool {
+fn is_offered(dependency: &DependencyParts, feature: &FeatureName, catalogue: &Catalogue) -> bool {
     let name = &dependency.real_name;
     for (place, version) in catalogue.versions(name).iter().enumerate() {
         if is_matched(&dependency.requirement, version)

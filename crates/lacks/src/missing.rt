@@ -2,7 +2,7 @@
 
 use crate::lack::{Lack, lack_of};
 use catalogue::Catalogue;
-use features::{Dependency, PackageName};
+use features::{DependencyParts, PackageName};
 use index_reader::{Folder, FolderFault, Record, index_path, lines, read_file};
 use std::alloc::{AllocError, Global};
 
@@ -38,7 +38,7 @@ pub fn look_for<F: Folder>(
     alloc: Global,
     catalogue: &Catalogue,
     folder: &mut F,
-    dependency: &Dependency,
+    dependency: &DependencyParts,
 ) -> Result<Option<Missing>, FolderFault> {
     if lack_of(dependency, catalogue, None).is_none() {
         return Ok(None);

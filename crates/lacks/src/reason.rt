@@ -4,7 +4,7 @@ use crate::lack::{Lack, has_feature, is_held_back, is_yanked, missing_feature};
 use crate::missing::Missing;
 use crate::similar::similar_feature;
 use catalogue::Catalogue;
-use features::{Dependency, FeatureName, PackageName};
+use features::{DependencyParts, FeatureName, PackageName};
 use index_reader::Record;
 use semver::{Version, VersionReq};
 use std::alloc::{AllocError, Global};
@@ -28,7 +28,7 @@ pub struct Reason<'a> {
 pub fn reason_of<'a>(
     alloc: Global,
     catalogue: &'a Catalogue,
-    dependency: &'a Dependency,
+    dependency: &'a DependencyParts,
     missing: &'a Missing,
 ) -> Result<Reason<'a>, AllocError> {
     let name = &dependency.real_name;

@@ -4,7 +4,7 @@ use crate::lack::Lack;
 use crate::missing::{look_for, out_of_memory};
 use crate::reason::{Reason, reason_of};
 use catalogue::Catalogue;
-use features::{Dependency, FeatureName, PackageName};
+use features::{DependencyParts, FeatureName, PackageName};
 use index_reader::{Folder, FolderFault};
 use manifest::Manifest;
 use semver::Version;
@@ -35,7 +35,7 @@ pub fn tell_lacks<F: Folder>(
 fn push_lack(
     text: &mut String,
     root: &PackageName,
-    dependency: &Dependency,
+    dependency: &DependencyParts,
     reason: Reason<'_>,
 ) -> Result<(), AllocError> {
     let name = &dependency.real_name;
@@ -61,7 +61,7 @@ pub fn note_lack<F: Folder>(
     alloc: Global,
     catalogue: &Catalogue,
     folder: &mut F,
-    dependency: &Dependency,
+    dependency: &DependencyParts,
 ) -> Result<(), FolderFault> {
     let Some(found) = look_for(alloc, catalogue, folder, dependency)? else {
         return Ok(());
@@ -75,7 +75,7 @@ pub fn note_lack<F: Folder>(
 
 fn push_note(
     text: &mut String,
-    dependency: &Dependency,
+    dependency: &DependencyParts,
     reason: Reason<'_>,
 ) -> Result<(), AllocError> {
     let name = &dependency.real_name;

@@ -2,7 +2,7 @@
 
 use catalogue::Catalogue;
 use classes::is_matched;
-use features::{Dependency, FeatureName, FeatureTable};
+use features::{DependencyParts, FeatureName, FeatureTable};
 use std::alloc::{AllocError, Global};
 use strsim::levenshtein;
 
@@ -10,7 +10,7 @@ use strsim::levenshtein;
 pub(crate) fn similar_feature<'a>(
     alloc: Global,
     catalogue: &'a Catalogue,
-    dependency: &Dependency,
+    dependency: &DependencyParts,
     feature: &FeatureName,
 ) -> Result<Option<&'a FeatureName>, AllocError> {
     match newest_table(catalogue, dependency) {
@@ -20,7 +20,10 @@ pub(crate) fn similar_feature<'a>(
 }
 
 /// The features of the newest candidate that a dependency matches.
-fn newest_table<'a>(catalogue: &'a Catalogue, dependency: &Dependency) -> Option<&'a FeatureTable> {
+fn newest_table<'a>(
+    catalogue: &'a Catalogue,
+    dependency: &DependencyParts,
+) -> Option<&'a FeatureTable> {
     let name = &dependency.real_name;
     let mut newest = None;
     for (place, version) in catalogue.versions(name).iter().enumerate() {

@@ -2,7 +2,8 @@
 
 ghost use Rattle.std.specs.Prelude.{IfOk};
 ghost use Rattle.changes.specs.Ways.{is_own};
-ghost use Rattle.reports.specs.Told.{IsTold, asks_for, packages_if};
+ghost use Rattle.model.specs.Optional.{packages_if};
+ghost use Rattle.reports.specs.Told.{IsTold, asks_for};
 
 use crate::message::{Message, PackageId, Step, push_message};
 use crate::shown::Shown;

@@ -1,6 +1,6 @@
 //! How the owners and dependencies that a derivation speaks of are called.
 
-use features::Dependency;
+use features::DependencyParts;
 use looking_up::{Problem, dependency_at, is_unmatched};
 use std::alloc::AllocError;
 use vertices::OwnerRef;
@@ -36,7 +36,7 @@ pub(crate) fn push_dependency(
 fn push_wish(
     text: &mut String,
     problem: &Problem<'_>,
-    dependency: &Dependency,
+    dependency: &DependencyParts,
 ) -> Result<(), AllocError> {
     let name = &dependency.real_name;
     let requirement = &dependency.requirement;
@@ -56,7 +56,7 @@ fn push_wish(
 fn push_unmatched(
     text: &mut String,
     problem: &Problem<'_>,
-    dependency: &Dependency,
+    dependency: &DependencyParts,
 ) -> Result<(), AllocError> {
     let versions = problem.catalogue.versions(&dependency.real_name);
     match versions.last() {

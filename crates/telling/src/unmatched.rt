@@ -4,7 +4,7 @@ use crate::facts::kind_of;
 use crate::terms::terms_of;
 use causes::{Numbers, cause_in};
 use derivations::Derivation;
-use features::Dependency;
+use features::DependencyParts;
 use looking_up::{Problem, dependency_at, is_unmatched};
 use named_terms::Cause;
 use std::alloc::{AllocError, Global};
@@ -17,7 +17,7 @@ pub fn unmatched_in<'a>(
     problem: Problem<'a>,
     derivation: &'a Derivation,
     most: usize,
-) -> Result<Vec<&'a Dependency>, AllocError> {
+) -> Result<Vec<&'a DependencyParts>, AllocError> {
     let mut numbers = Numbers::new(alloc, problem);
     let mut found = Vec::new(alloc);
     for number in 0..derivation.len() {
@@ -36,7 +36,7 @@ pub fn unmatched_in<'a>(
 
 /// Adds the dependency of a cause, if no version fits it and none of its name is there yet.
 fn put_unmatched<'a>(
-    found: &mut Vec<&'a Dependency>,
+    found: &mut Vec<&'a DependencyParts>,
     problem: &Problem<'a>,
     cause: Cause<'a>,
 ) -> Result<(), AllocError> {
@@ -50,7 +50,7 @@ fn put_unmatched<'a>(
 }
 
 /// The dependency that an owner needs, or that a feature of it enables.
-fn needed_by<'a>(problem: &Problem<'a>, cause: Cause<'a>) -> Option<&'a Dependency> {
+fn needed_by<'a>(problem: &Problem<'a>, cause: Cause<'a>) -> Option<&'a DependencyParts> {
     match cause {
         Cause::Need(owner, number) => dependency_at(problem, &owner, number),
         Cause::Enabling(name, version, _, _, number) | Cause::Asking(name, version, _, _, number) =>
@@ -59,7 +59,7 @@ fn needed_by<'a>(problem: &Problem<'a>, cause: Cause<'a>) -> Option<&'a Dependen
     }
 }
 
-fn has_name(found: &[&Dependency], dependency: &Dependency) -> bool {
+fn has_name(found: &[&DependencyParts], dependency: &DependencyParts) -> bool {
     found
         .iter()
         .any(|other| other.real_name == dependency.real_name)
