@@ -4,7 +4,7 @@ use crate::answers::asking::inputs_in;
 use crate::answers::form::Form;
 use index_reader::Folder;
 use project_files::Bytes;
-use reports::{Inputs, Meant, Part, Told, Wanted, meant_by};
+use reports::{Meant, Part, Told, Wanted, meant_by};
 use resolver::Fault;
 use std::alloc::Global;
 
@@ -27,37 +27,11 @@ pub(crate) fn why_in<F: Folder>(
     all: bool,
 ) -> Result<Told, Fault> {
     let inputs = inputs_in(alloc, bytes)?;
-    if all {
-        all_ways_in(alloc, folder, &inputs, wanted, form)
-    } else {
-        way_in(alloc, folder, &inputs, wanted, form)
-    }
-}
-
-fn all_ways_in<F: Folder>(
-    alloc: Global,
-    folder: &mut F,
-    inputs: &Inputs,
-    wanted: &Wanted,
-    form: Form,
-) -> Result<Told, Fault> {
-    let told = match form {
-        Form::People => reports::all_ways_there(alloc, folder, inputs, wanted)?,
-        Form::Programs => messages::all_ways_there(alloc, folder, inputs, wanted)?,
-    };
-    Ok(told)
-}
-
-fn way_in<F: Folder>(
-    alloc: Global,
-    folder: &mut F,
-    inputs: &Inputs,
-    wanted: &Wanted,
-    form: Form,
-) -> Result<Told, Fault> {
-    let told = match form {
-        Form::People => reports::why_there(alloc, folder, inputs, wanted)?,
-        Form::Programs => messages::why_there(alloc, folder, inputs, wanted)?,
+    let told = match (form, all) {
+        (Form::People, false) => reports::why_there(alloc, folder, &inputs, wanted)?,
+        (Form::People, true) => reports::all_ways_there(alloc, folder, &inputs, wanted)?,
+        (Form::Programs, false) => messages::why_there(alloc, folder, &inputs, wanted)?,
+        (Form::Programs, true) => messages::all_ways_there(alloc, folder, &inputs, wanted)?,
     };
     Ok(told)
 }
