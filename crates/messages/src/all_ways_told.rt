@@ -5,7 +5,7 @@ ghost use Rattle.changes.specs.Ways.{is_own};
 ghost use Rattle.model.specs.Optional.{packages_if};
 ghost use Rattle.reports.specs.Told.{IsTold, asks_for};
 
-use crate::message::{Message, Step, push_message};
+use crate::message::{Message, push_message};
 use crate::ways_told::step_of;
 use catalogue::{Catalogue, LoadFault};
 use changes::{Why, dependencies_between, dependencies_to, reason_for};
@@ -51,20 +51,7 @@ fn dependencies(
 ) -> Result<String, AllocError> {
     let mut text = String::new(alloc);
     for step in dependencies_between(alloc, manifest, catalogue, lock, pairs)?.iter() {
-        let Step {
-            from,
-            requirement,
-            renamed,
-            features,
-            to,
-        } = step_of(alloc, *step)?;
-        let message = Message::Dependency {
-            from,
-            requirement,
-            renamed,
-            features,
-            to,
-        };
+        let message = Message::Dependency(step_of(alloc, *step)?);
         push_message(&mut text, alloc, &message)?;
     }
     Ok(text)

@@ -1,6 +1,6 @@
 //! What changed in a lock.
 
-use crate::message::{Change, Message, push_message};
+use crate::message::{Change, Message, PackageChange, push_message};
 use crate::shown::Shown;
 use catalogue::{Catalogue, LoadFault};
 use changes::{Line, ToldLine, changes_between, told_lines};
@@ -96,7 +96,7 @@ fn changed<'a>(
     before: Option<&'a Package>,
     told: ToldLine<'a>,
 ) -> Message<'a> {
-    Message::PackageChange {
+    Message::PackageChange(PackageChange {
         change,
         name: package.name.as_str(),
         version: Shown(&package.version),
@@ -109,5 +109,5 @@ fn changed<'a>(
             (Change::Removed, _) | (_, None) => None,
             (_, Some(version)) => Some(Shown(version)),
         },
-    }
+    })
 }

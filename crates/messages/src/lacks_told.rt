@@ -1,6 +1,6 @@
 //! Why nothing fits a dependency of the manifest.
 
-use crate::message::{LackKind, Message, push_message};
+use crate::message::{LackKind, LackOf, Message, push_message};
 use crate::shown::Shown;
 use catalogue::{Catalogue, LoadFault};
 use features::{Dependency, PackageName};
@@ -45,7 +45,7 @@ fn lacks_in<F: Folder>(
 }
 
 fn lack<'a>(root: &'a PackageName, dependency: &'a Dependency, reason: Reason<'a>) -> Message<'a> {
-    Message::Lack {
+    Message::Lack(LackOf {
         package: root.as_str(),
         dependency: dependency.real_name.as_str(),
         requirement: Shown(&dependency.requirement),
@@ -66,7 +66,7 @@ fn lack<'a>(root: &'a PackageName, dependency: &'a Dependency, reason: Reason<'a
             Some(feature) => Some(feature.as_str()),
             None => None,
         },
-    }
+    })
 }
 
 fn kind_of(lack: Lack) -> LackKind {

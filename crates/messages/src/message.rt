@@ -10,21 +10,13 @@ use semver::{Version, VersionReq};
 use serde::Serialize;
 use std::alloc::{AllocError, Global};
 
-/// What is told; `reason` says which of these it is.
+/// What is told; `reason` says which of these it is. What has many keys is a struct of its own, since what is proved of a
+/// message takes the time of all keys in one.
 #[derive(Drop, Serialize)]
 #[serde(tag = "reason", rename_all = "kebab-case")]
 pub(crate) enum Message<'a> {
     /// What became of a package of the lock.
-    PackageChange {
-        change: Change,
-        name: &'a str,
-        version: Shown<'a, Version>,
-        /// The version that it had before, where it changed.
-        old_version: Option<Shown<'a, Version>>,
-        source: Option<&'a str>,
-        /// A newer version that it could have.
-        available: Option<Shown<'a, Version>>,
-    },
+    PackageChange(PackageChange<'a>),
     /// A lock, after what became of its packages.
     Lock {
         path: &'a str,
@@ -36,16 +28,7 @@ pub(crate) enum Message<'a> {
         behind: usize,
     },
     /// A dependency of the manifest for which nothing fits.
-    Lack {
-        package: &'a str,
-        dependency: &'a str,
-        requirement: Shown<'a, VersionReq>,
-        lack: LackKind,
-        newest: Option<Shown<'a, Version>>,
-        feature: Option<&'a str>,
-        other: Option<&'a str>,
-        similar: Option<&'a str>,
-    },
+    Lack(LackOf<'a>),
     /// Why nothing fits all dependencies together: the lines of the explanation.
     Refusal {
         lines: Vec<&'a str>,
@@ -67,13 +50,20 @@ pub(crate) enum Message<'a> {
         line: u64,
     },
     /// A dependency that leads on to a package.
-    Dependency {
-        from: PackageId<'a>,
-        requirement: Option<Shown<'a, VersionReq>>,
-        renamed: Option<&'a str>,
-        features: Vec<&'a str>,
-        to: PackageId<'a>,
-    },
+    Dependency(Step<'a>),
+}
+
+/// What became of a package, and where it is from.
+#[derive(Drop, Serialize)]
+pub(crate) struct PackageChange<'a> {
+    pub(crate) change: Change,
+    pub(crate) name: &'a str,
+    pub(crate) version: Shown<'a, Version>,
+    /// The version that it had before, where it changed.
+    pub(crate) old_version: Option<Shown<'a, Version>>,
+    pub(crate) source: Option<&'a str>,
+    /// A newer version that it could have.
+    pub(crate) available: Option<Shown<'a, Version>>,
 }
 
 /// What became of a package.
@@ -85,6 +75,19 @@ pub(crate) enum Change {
     Updated,
     Downgraded,
     Unchanged,
+}
+
+/// A dependency for which nothing fits, and what is there in its place.
+#[derive(Drop, Serialize)]
+pub(crate) struct LackOf<'a> {
+    pub(crate) package: &'a str,
+    pub(crate) dependency: &'a str,
+    pub(crate) requirement: Shown<'a, VersionReq>,
+    pub(crate) lack: LackKind,
+    pub(crate) newest: Option<Shown<'a, Version>>,
+    pub(crate) feature: Option<&'a str>,
+    pub(crate) other: Option<&'a str>,
+    pub(crate) similar: Option<&'a str>,
 }
 
 /// Why nothing fits a dependency.

@@ -29,23 +29,27 @@ enum LockMessage<'a> {
         package: Option<PackageId<'a>>,
     },
     /// What is wrong with a package.
-    Flaw {
-        package: PackageId<'a>,
-        flaw: FlawKind,
-        /// The dependency that is meant.
-        dependency: Option<&'a str>,
-        requirement: Option<Shown<'a, VersionReq>>,
-        /// The feature that is lacking, and the one whose entry asks for it.
-        feature: Option<&'a str>,
-        by: Option<&'a str>,
-        /// The other package that is meant.
-        other: Option<PackageId<'a>>,
-        /// What the lock has, and what it should have.
-        found: Option<&'a str>,
-        expected: Option<&'a str>,
-        /// Why the index has no candidate of its version.
-        missing: Option<Missing<'a>>,
-    },
+    Flaw(Flaw<'a>),
+}
+
+/// What is wrong with a package.
+#[derive(Drop, Serialize)]
+struct Flaw<'a> {
+    package: PackageId<'a>,
+    flaw: FlawKind,
+    /// The dependency that is meant.
+    dependency: Option<&'a str>,
+    requirement: Option<Shown<'a, VersionReq>>,
+    /// The feature that is lacking, and the one whose entry asks for it.
+    feature: Option<&'a str>,
+    by: Option<&'a str>,
+    /// The other package that is meant.
+    other: Option<PackageId<'a>>,
+    /// What the lock has, and what it should have.
+    found: Option<&'a str>,
+    expected: Option<&'a str>,
+    /// Why the index has no candidate of its version.
+    missing: Option<Missing<'a>>,
 }
 
 /// Why an index has no candidate of a version.
@@ -397,7 +401,7 @@ fn push_flaw<'a>(
         expected,
         missing,
     } = more;
-    let message = LockMessage::Flaw {
+    let message = LockMessage::Flaw(Flaw {
         package,
         flaw,
         dependency: match dependency {
@@ -417,7 +421,7 @@ fn push_flaw<'a>(
         found,
         expected,
         missing,
-    };
+    });
     push_message(text, alloc, &message)
 }
 
