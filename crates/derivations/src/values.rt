@@ -2,33 +2,33 @@
 
 ghost use Rattle.std.specs.Prelude.{◌≡◌};
 ghost use Rattle.serde_json.specs.Find as json;
-ghost use Rattle.trees.specs.Trees.{tree_view, trees_view};
+ghost use Rattle.trees.specs.Trees.{tokens_view, tree_view, trees_view};
 ghost use Rattle.model.specs.Outcome.{Gives};
 ghost use Rattle.derivations.specs.Steps.{data_of_bytes, text_of, whole_of, item_at, none_at, two_of};
 ghost use Rattle.derivations.specs.Lines.{line_wants_memory, needed};
 ghost use Rattle.derivations.specs.StepViews.{two_view};
 
 use crate::fault::LineFault;
-use json::{Scratch, Value};
+use json::{Scratch, Tape};
 use std::alloc::Global;
-use trees::{TreeFault, as_list, as_text, as_whole, read_tree};
+use trees::{Tree, TreeFault, as_list, as_text, as_whole, read_tape};
 
-/// The JSON value that the bytes are. The room is kept from line to line.
+/// The JSON value that the bytes are, as its tokens. The room is kept from line to line.
 pub(crate) fn read_json<'a>(
     alloc: Global,
     bytes: &'a [u8],
     scratch: &'a mut Scratch,
-) -> Result<Value<'a>, LineFault>
-    ensures { Gives line_wants_memory tree_view result (data_of_bytes bytes.entry.now) }
+) -> Result<Tape<'a>, LineFault>
+    ensures { Gives line_wants_memory tokens_view result (data_of_bytes bytes.entry.now) }
 {
-    match read_tree(alloc, bytes, scratch) {
-        Ok(tree) => Ok(tree),
+    match read_tape(alloc, bytes, scratch) {
+        Ok(tape) => Ok(tape),
         Err(TreeFault::OutOfMemory) => Err(LineFault::OutOfMemory),
         Err(TreeFault::NotJson) => Err(LineFault::NotALine),
     }
 }
 
-pub(crate) fn text<'a>(value: &Value<'a>) -> Result<&'a str, LineFault>
+pub(crate) fn text<'a>(value: &Tree<'_, 'a>) -> Result<&'a str, LineFault>
     ensures { Gives line_wants_memory (λ s. s.now) result (text_of (tree_view value.now)) }
 {
     match as_text(value) {
@@ -38,7 +38,7 @@ pub(crate) fn text<'a>(value: &Value<'a>) -> Result<&'a str, LineFault>
 }
 
 /// A whole number of 64 bits without sign.
-pub(crate) fn whole(value: &Value<'_>) -> Result<u64, LineFault>
+pub(crate) fn whole(value: &Tree<'_, '_>) -> Result<u64, LineFault>
     ensures { Gives line_wants_memory (λ n. n) result (whole_of (tree_view value.now)) }
 {
     match as_whole(value) {
@@ -47,19 +47,22 @@ pub(crate) fn whole(value: &Value<'_>) -> Result<u64, LineFault>
     }
 }
 
-pub(crate) fn array<'v, 'a>(value: &'v Value<'a>) -> Result<&'v Vec<Value<'a>>, LineFault>
+pub(crate) fn array<'t, 'a>(
+    alloc: Global,
+    value: &Tree<'t, 'a>,
+) -> Result<Vec<Tree<'t, 'a>>, LineFault>
     ensures { Gives line_wants_memory
-        (λ v. trees_view v.now.items) result (needed (json.as_array (tree_view value.now))) }
+        (λ v. trees_view v.items) result (needed (json.as_array (tree_view value.now))) }
 {
-    match as_list(value) {
+    match as_list(alloc, value)? {
         Some(values) => Ok(values),
         None => Err(LineFault::NotALine),
     }
 }
 
 /// An item of an array.
-pub(crate) fn item<'v, 'a>(value: &'v Value<'a>, index: usize) -> Result<&'v Value<'a>, LineFault>
-    ensures { Gives line_wants_memory (λ v. tree_view v.now) result (item_at index (tree_view value.now)) }
+pub(crate) fn item<'t, 'a>(value: &Tree<'t, 'a>, index: usize) -> Result<Tree<'t, 'a>, LineFault>
+    ensures { Gives line_wants_memory tree_view result (item_at index (tree_view value.now)) }
 {
     match trees::item(value, index) {
         Some(found) => Ok(found),
@@ -68,7 +71,7 @@ pub(crate) fn item<'v, 'a>(value: &'v Value<'a>, index: usize) -> Result<&'v Val
 }
 
 /// Passes where there is no such item.
-pub(crate) fn no_item(value: &Value<'_>, index: usize) -> Result<(), LineFault>
+pub(crate) fn no_item(value: &Tree<'_, '_>, index: usize) -> Result<(), LineFault>
     ensures { Gives line_wants_memory (λ u. u) result (none_at index (tree_view value.now)) }
 {
     match trees::item(value, index) {
@@ -79,7 +82,7 @@ pub(crate) fn no_item(value: &Value<'_>, index: usize) -> Result<(), LineFault>
 
 /// The items of an array of two.
 #[tactic(auto, unfolding(crate::specs::Steps::two_of))]
-pub(crate) fn two<'v, 'a>(value: &'v Value<'a>) -> Result<(&'v Value<'a>, &'v Value<'a>), LineFault>
+pub(crate) fn two<'t, 'a>(value: &Tree<'t, 'a>) -> Result<(Tree<'t, 'a>, Tree<'t, 'a>), LineFault>
     ensures { Gives line_wants_memory two_view result (two_of (tree_view value.now)) }
 {
     let first = item(value, 0)?;

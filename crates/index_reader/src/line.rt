@@ -26,6 +26,7 @@ use features::{Dependency, DependencyParts, FeatureName, PackageName, Summary};
 use json::Scratch;
 use semver::{Version, VersionReq};
 use std::alloc::{AllocError, Global};
+use trees::root;
 
 /// A dependency that takes part, with its requirement.
 #[derive(Drop)]
@@ -70,8 +71,8 @@ pub(crate) fn read_unchecked(
 ) -> Result<Record, LineFault>
     ensures { Gives wants_memory record_view result (unchecked_of_line name.now line.now) }
 {
-    let tree = read_json(alloc, line, scratch)?;
-    let shape = read_shape(alloc, &tree)?;
+    let tape = read_json(alloc, line, scratch)?;
+    let shape = read_shape(alloc, &root(&tape))?;
     record_in(alloc, name, &shape, known, before)
 }
 

@@ -15,9 +15,8 @@ use crate::fault::{LineFault, SkipReason};
 use crate::values::{flag, text, text_if_any, texts, texts_at, value, whole};
 use classes::RustVersion;
 use features::{DependencyKind, NameFault, PackageName};
-use json::Value;
 use std::alloc::Global;
-use trees::{Members, are_rising, as_list, as_members, as_text, by_key};
+use trees::{Members, Tree, are_rising, as_list, as_members, as_text, by_key};
 
 /// What a line says, with its texts as they stand there.
 #[derive(Drop)]
@@ -64,7 +63,7 @@ pub(crate) struct FeatureShape<'a> {
 
 /// The shape of a line.
 #[tactic(auto, unfolding(crate::specs::Shapes::shape_of))]
-pub(crate) fn read_shape<'a>(alloc: Global, line: &Value<'a>) -> Result<LineShape<'a>, LineFault>
+pub(crate) fn read_shape<'a>(alloc: Global, line: &Tree<'_, 'a>) -> Result<LineShape<'a>, LineFault>
     ensures { Gives wants_memory shape_view result (shape_of (tree_view line.now)) }
 {
     let name = text(line, "name")?;
@@ -89,11 +88,11 @@ pub(crate) fn read_shape<'a>(alloc: Global, line: &Value<'a>) -> Result<LineShap
 }
 
 /// The Rust version of a line: whatever is none counts as absent.
-fn rust_version(line: &Value<'_>) -> Option<RustVersion>
+fn rust_version(line: &Tree<'_, '_>) -> Option<RustVersion>
     ensures { option_map rust_version_view result ≡ rust_version_at (tree_view line.now) }
 {
     match value(line, "rust_version") {
-        Some(found) => match as_text(found) {
+        Some(found) => match as_text(&found) {
             Some(text) => RustVersion::parse(text),
             None => None,
         },
@@ -102,7 +101,7 @@ fn rust_version(line: &Value<'_>) -> Option<RustVersion>
 }
 
 /// The package name that a value has to be.
-fn package_name(alloc: Global, value: &Value<'_>) -> Result<PackageName, LineFault>
+fn package_name(alloc: Global, value: &Tree<'_, '_>) -> Result<PackageName, LineFault>
     ensures { Gives wants_memory (λ n. n) result (package_name_of (tree_view value.now)) }
 {
     let Some(text) = as_text(value) else {
@@ -116,11 +115,11 @@ fn package_name(alloc: Global, value: &Value<'_>) -> Result<PackageName, LineFau
 }
 
 /// The package name at a key that has to be there.
-fn package_name_at(alloc: Global, object: &Value<'_>, key: &str) -> Result<PackageName, LineFault>
+fn package_name_at(alloc: Global, object: &Tree<'_, '_>, key: &str) -> Result<PackageName, LineFault>
     ensures { Gives wants_memory (λ n. n) result (package_name_at key.now (tree_view object.now)) }
 {
     match value(object, key) {
-        Some(found) => package_name(alloc, found),
+        Some(found) => package_name(alloc, &found),
         None => Err(LineFault::Skipped(SkipReason::Shape)),
     }
 }
@@ -128,13 +127,13 @@ fn package_name_at(alloc: Global, object: &Value<'_>, key: &str) -> Result<Packa
 /// The package name at a key, if it is there.
 fn package_name_if_any(
     alloc: Global,
-    object: &Value<'_>,
+    object: &Tree<'_, '_>,
     key: &str,
 ) -> Result<Option<PackageName>, LineFault>
     ensures { Gives wants_memory (λ n. n) result (package_name_or_none (value_at key.now (tree_view object.now))) }
 {
     match value(object, key) {
-        Some(found) => Ok(Some(package_name(alloc, found)?)),
+        Some(found) => Ok(Some(package_name(alloc, &found)?)),
         None => Ok(None),
     }
 }
@@ -155,13 +154,13 @@ fn kind_of_text(text: &str) -> Option<DependencyKind>
 }
 
 /// The kind of a dependency: normal where it says none.
-fn kind_at(dependency: &Value<'_>) -> Result<DependencyKind, LineFault>
+fn kind_at(dependency: &Tree<'_, '_>) -> Result<DependencyKind, LineFault>
     ensures { Gives wants_memory (λ k. k) result (kind_at (tree_view dependency.now)) }
 {
     let Some(found) = value(dependency, "kind") else {
         return Ok(DependencyKind::Normal);
     };
-    let Some(text) = as_text(found) else {
+    let Some(text) = as_text(&found) else {
         return Err(LineFault::Skipped(SkipReason::Shape));
     };
     match kind_of_text(text) {
@@ -174,7 +173,7 @@ fn kind_at(dependency: &Value<'_>) -> Result<DependencyKind, LineFault>
 fn part<'a>(
     alloc: Global,
     name: PackageName,
-    dependency: &Value<'a>,
+    dependency: &Tree<'_, 'a>,
 ) -> Result<PartShape<'a>, LineFault>
     ensures { Gives wants_memory part_view result (part_of name (tree_view dependency.now)) }
 {
@@ -199,7 +198,7 @@ fn of_kind<'a>(
     alloc: Global,
     name: PackageName,
     kind: DependencyKind,
-    dependency: &Value<'a>,
+    dependency: &Tree<'_, 'a>,
 ) -> Result<DependencyShape<'a>, LineFault>
     ensures { Gives wants_memory line_dependency_view result (by_kind name kind (tree_view dependency.now)) }
 {
@@ -212,7 +211,7 @@ fn of_kind<'a>(
 }
 
 #[tactic(auto, unfolding(crate::specs::Shapes::dependency_of))]
-fn dependency<'a>(alloc: Global, value: &Value<'a>) -> Result<DependencyShape<'a>, LineFault>
+fn dependency<'a>(alloc: Global, value: &Tree<'_, 'a>) -> Result<DependencyShape<'a>, LineFault>
     ensures { Gives wants_memory line_dependency_view result (dependency_of (tree_view value.now)) }
 {
     let name = package_name_at(alloc, value, "name")?;
@@ -223,7 +222,7 @@ fn dependency<'a>(alloc: Global, value: &Value<'a>) -> Result<DependencyShape<'a
 #[tactic(auto, unfolding(crate::specs::Shapes::dependencies_in))]
 fn dependencies_in<'a>(
     alloc: Global,
-    values: &Vec<Value<'a>>,
+    values: &Vec<Tree<'_, 'a>>,
 ) -> Result<Vec<DependencyShape<'a>>, LineFault>
     ensures { Gives wants_memory
         (λ v. line_dependency_views v.items) result (dependencies_in (trees_view values.now.items)) }
@@ -236,19 +235,19 @@ fn dependencies_in<'a>(
 }
 
 #[tactic(auto, unfolding(crate::specs::Shapes::dependencies_at))]
-fn dependencies<'a>(alloc: Global, line: &Value<'a>) -> Result<Vec<DependencyShape<'a>>, LineFault>
+fn dependencies<'a>(alloc: Global, line: &Tree<'_, 'a>) -> Result<Vec<DependencyShape<'a>>, LineFault>
     ensures { Gives wants_memory (λ v. line_dependency_views v.items) result (dependencies_at (tree_view line.now)) }
 {
     match value(line, "deps") {
-        Some(found) => match as_list(found) {
-            Some(values) => dependencies_in(alloc, values),
+        Some(found) => match as_list(alloc, &found)? {
+            Some(values) => dependencies_in(alloc, &values),
             None => Err(LineFault::Skipped(SkipReason::Shape)),
         },
         None => Err(LineFault::Skipped(SkipReason::Shape)),
     }
 }
 
-fn features_in<'a>(alloc: Global, members: &Members<'a>) -> Result<Vec<FeatureShape<'a>>, LineFault>
+fn features_in<'a>(alloc: Global, members: &Members<'_, 'a>) -> Result<Vec<FeatureShape<'a>>, LineFault>
     ensures { Gives wants_memory (λ v. feature_views v.items) result (features_in (entries_view members.now.items)) }
 {
     if are_rising(members) {
@@ -261,7 +260,7 @@ fn features_in<'a>(alloc: Global, members: &Members<'a>) -> Result<Vec<FeatureSh
 #[tactic(auto, unfolding(crate::specs::Shapes::features_in))]
 fn features_as_listed<'a>(
     alloc: Global,
-    members: &Members<'a>,
+    members: &Members<'_, 'a>,
 ) -> Result<Vec<FeatureShape<'a>>, LineFault>
     ensures { Gives wants_memory (λ v. feature_views v.items) result (features_in (listed_view members.now.items)) }
 {
@@ -278,7 +277,7 @@ fn features_as_listed<'a>(
 #[tactic(auto, unfolding(crate::specs::Shapes::features_in))]
 fn features_by_key<'a>(
     alloc: Global,
-    members: &Members<'a>,
+    members: &Members<'_, 'a>,
 ) -> Result<Vec<FeatureShape<'a>>, LineFault>
     ensures { Gives wants_memory (λ v. feature_views v.items) result (features_in (entries_view members.now.items)) }
 {
@@ -294,15 +293,15 @@ fn features_by_key<'a>(
 /// The features at a key: none where it is absent.
 fn features_at<'a>(
     alloc: Global,
-    line: &Value<'a>,
+    line: &Tree<'_, 'a>,
     key: &str,
 ) -> Result<Vec<FeatureShape<'a>>, LineFault>
     ensures { Gives wants_memory
         (λ v. feature_views v.items) result (features_or_none (value_at key.now (tree_view line.now))) }
 {
     match value(line, key) {
-        Some(found) => match as_members(found) {
-            Some(members) => features_in(alloc, members),
+        Some(found) => match as_members(alloc, &found)? {
+            Some(members) => features_in(alloc, &members),
             None => Err(LineFault::Skipped(SkipReason::Shape)),
         },
         None => Ok(Vec::new(alloc)),

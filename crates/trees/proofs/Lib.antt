@@ -1,3 +1,4 @@
 pub mod ReadLemmas
+pub mod TokenLemmas
 pub mod TreeLemmas
 pub mod RisingLemmas

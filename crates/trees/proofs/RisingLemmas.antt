@@ -1,12 +1,11 @@
 -- Members whose keys rise stay as they are listed when they are put one after another.
-use Rattle.std.proofs.Common.{◌≡◌, ℕ, List, [], ◌∷◌, Bool, true, false, ◌&&◌, Global, Ordering, Less, Equal, Greater}
+use Rattle.std.proofs.Common.{◌≡◌, ℕ, List, [], ◌∷◌, Bool, true, false, ◌&&◌, Ordering, Less, Equal, Greater}
 use Rattle.std.proofs.Common.{Bor, refl, sym, ap, ◌∙◌}
 use Rattle.std.specs.Ordering.{nat_cmp, ordering_reverse, is_lt}
 use Rattle.std.specs.Cmp.Lexicographic.{slice_cmp, nat_list_cmp_total}
-use Rattle.json.specs.Value.{members_view}
-use Rattle.json.specs.declared.value.Value.{Value}
 use Rattle.serde_json.specs.Data.{Data, Members, no_members, member, put}
-use Rattle.trees.specs.Trees.{members_of, entries_view, listed_view, rise_after, tree_view}
+use Rattle.trees.specs.Trees.{put_all, entries_view, listed_view, rise_after, tree_view}
+use Rattle.trees.specs.declared.tree.Tree.{Tree}
 
 -- the keys of all these come before this one
 abbrev Below : Members → List ℕ → Type 0
@@ -48,16 +47,16 @@ both true b e = (refl, e)
 both false b e = cc
 
 abbrev Member : Type 0
-Member = Bor (List ℕ) × Value Global
+Member = Bor (List ℕ) × Tree
 
 put-listed : (found : Members) (k : List ℕ) (ms : List Member)
     → ((l : List ℕ) → slice_cmp nat_cmp k l ≡ Less → Below found l) → rise_after k ms ≡ true
-    → members_of (members_view ms) found ≡ behind found (listed_view ms)
+    → put_all ms found ≡ behind found (listed_view ms)
 put-listed found k [] below rise = sym (behind-none found)
 put-listed found k (m ∷ ms) below rise =
     let rises = both (is_lt (slice_cmp nat_cmp k m.0.now)) (rise_after m.0.now ms) rise in
     let here = below m.0.now (is_less (slice_cmp nat_cmp k m.0.now) rises.0) in
-    ap (members_of (members_view ms)) (put-last found m.0.now (tree_view m.1) here)
+    ap (put_all ms) (put-last found m.0.now (tree_view m.1) here)
     ∙ put-listed (behind found (member m.0.now (tree_view m.1) no_members)) m.0.now ms
     (λ l less. below-next found m.0.now l (tree_view m.1) here less) rises.1
     ∙ behind-one found m.0.now (tree_view m.1) (listed_view ms)

@@ -1,23 +1,25 @@
 -- What is looked up in a tree is what the value that it stands for has there.
 use Rattle.std.proofs.Common.{◌≡◌, ℕ, zero, suc, List, [], ◌∷◌, Bool, true, false, cond, ◌&&◌, Option, Some, None}
-use Rattle.std.proofs.Common.{is_some, unwrap_or, Ok, option_map, option_and_then, Global, Ordering, Less, Equal}
+use Rattle.std.proofs.Common.{◌++◌, is_some, unwrap_or, Ok, option_map, option_and_then, Ordering, Less, Equal}
 use Rattle.std.proofs.Common.{Greater, bytes_eq, Bor, refl, sym, ap, ◌∙◌, true≢false, subst}
 use Rattle.std.proofs.lemmas.Slice.Eq.{bytes_eq-Decides}
 use Rattle.std.specs.Option.{ok_or}
 use Rattle.std.specs.BTreeMap.{insert_entry}
 use Rattle.std.specs.Ordering.{nat_cmp, match_ordering}
 use Rattle.std.specs.Cmp.Lexicographic.{slice_cmp}
+use Rattle.json.specs.Token.{Token}
 use Rattle.json.specs.Json as json
 use Rattle.json.specs.Find as find
-use Rattle.json.specs.Value.{value_view}
-use Rattle.json.specs.declared.value.Value.{Value}
-use Rattle.serde_json.specs.Data.{Num, Data, number, array, object, Items, item, Members, no_members, put}
-use Rattle.serde_json.specs.Find.{get, get_member, get_item, at}
+use Rattle.serde_json.specs.Data.{Num, Data, number, array, object, Items, no_items, item, Members, no_members, put}
+use Rattle.serde_json.specs.Find.{get, get_member, get_item, at, as_str, as_bool, as_array, as_object, as_number, as_u64}
 use Rattle.serde_json.specs.Read.{number_of, of_json, of_items, of_members, read}
 use Rattle.serde_json.proofs.Views.{get_member-put, get_member-put_other}
 use Rattle.trees.specs.declared.fault.TreeFault.{TreeFault}
 use Rattle.trees.specs.Trees.{json_of_text, numbers_fit, items_fit, members_fit, data_of, items_of, members_of}
-use Rattle.trees.specs.Trees.{tree_view, sorted_view}
+use Rattle.trees.specs.Trees.{num_of, is_null, tokens_view, tree_view, trees_view, put_all, sorted_view}
+use Rattle.trees.specs.Tokens.{begins}
+use Rattle.trees.specs.declared.tree.Tree.{Tree}
+use Rattle.trees.proofs.TokenLemmas.{begins-read, json_from-read}
 
 -- ---- reading
 
@@ -125,27 +127,107 @@ at-data_of n (json.string s) = refl
 at-data_of n (json.array js) = items-at n js
 at-data_of n (json.object ms) = refl
 
--- a value that is found is seen as what it stands for
-pub through : (r : Option (Bor (Value Global)))
-    → option_map (λ v. tree_view v.now) r ≡ option_map data_of (option_map (λ v. value_view v.now) r)
-through None = refl
-through (Some v) = refl
+pub as_str-data_of : (j : json.Json) → find.as_str j ≡ as_str (data_of j)
+as_str-data_of json.null = refl
+as_str-data_of (json.boolean b) = refl
+as_str-data_of (json.number s) = refl
+as_str-data_of (json.string s) = refl
+as_str-data_of (json.array js) = refl
+as_str-data_of (json.object ms) = refl
+
+pub as_bool-data_of : (j : json.Json) → find.as_bool j ≡ as_bool (data_of j)
+as_bool-data_of json.null = refl
+as_bool-data_of (json.boolean b) = refl
+as_bool-data_of (json.number s) = refl
+as_bool-data_of (json.string s) = refl
+as_bool-data_of (json.array js) = refl
+as_bool-data_of (json.object ms) = refl
+
+pub is_null-data_of : (j : json.Json) → find.is_null j ≡ is_null (data_of j)
+is_null-data_of json.null = refl
+is_null-data_of (json.boolean b) = refl
+is_null-data_of (json.number s) = refl
+is_null-data_of (json.string s) = refl
+is_null-data_of (json.array js) = refl
+is_null-data_of (json.object ms) = refl
+
+pub as_number-data_of : (j : json.Json) → as_number (data_of j) ≡ option_map num_of (find.as_number j)
+as_number-data_of json.null = refl
+as_number-data_of (json.boolean b) = refl
+as_number-data_of (json.number s) = refl
+as_number-data_of (json.string s) = refl
+as_number-data_of (json.array js) = refl
+as_number-data_of (json.object ms) = refl
+
+pub whole-data_of : (j : json.Json) (s : List ℕ) → Some s ≡ find.as_number j
+    → option_and_then as_u64 (as_number (data_of j)) ≡ as_u64 (num_of s)
+whole-data_of j s is = ap (option_and_then as_u64) (as_number-data_of j ∙ ap (option_map num_of) (sym is))
+
+pub as_array-data_of : (j : json.Json) → as_array (data_of j) ≡ option_map items_of (find.as_array j)
+as_array-data_of json.null = refl
+as_array-data_of (json.boolean b) = refl
+as_array-data_of (json.number s) = refl
+as_array-data_of (json.string s) = refl
+as_array-data_of (json.array js) = refl
+as_array-data_of (json.object ms) = refl
+
+pub as_object-data_of : (j : json.Json)
+    → as_object (data_of j) ≡ option_map (λ ms. members_of ms no_members) (find.as_object j)
+as_object-data_of json.null = refl
+as_object-data_of (json.boolean b) = refl
+as_object-data_of (json.number s) = refl
+as_object-data_of (json.string s) = refl
+as_object-data_of (json.array js) = refl
+as_object-data_of (json.object ms) = refl
+
+-- ---- what is found in a tree is a tree
+
+pub some-found : (ts : List Token) (o : Option json.Json) → find.Finds (Some ts) o
+    → Some (tokens_view ts) ≡ option_map data_of o
+some-found ts o (j, is, here) =
+    ap (λ i. Some (data_of i)) (json_from-read ts j here) ∙ sym (ap (option_map data_of) is)
+
+pub found-begins : (ts : List Token) (o : Option json.Json) → find.Finds (Some ts) o → begins ts ≡ true
+found-begins ts o (j, is, here) = begins-read ts j here
+
+-- ---- trees one after another
+
+abbrev pub before : List Tree → Items → Items
+before [] rest = rest
+before (t ∷ ts) rest = item (tree_view t) (before ts rest)
+
+pub before-push : (ts : List Tree) (t : Tree) (rest : Items)
+    → before (ts ++ t ∷ []) rest ≡ before ts (item (tree_view t) rest)
+before-push [] t rest = refl
+before-push (u ∷ ts) t rest = ap (item (tree_view u)) (before-push ts t rest)
+
+pub before-none : (ts : List Tree) → before ts no_items ≡ trees_view ts
+before-none [] = refl
+before-none (t ∷ ts) = ap (item (tree_view t)) (before-none ts)
+
+abbrev Listed : Type 0
+Listed = Bor (List ℕ) × Tree
+
+pub put_all-push : (ms : List Listed) (m : Listed) (found : Members)
+    → put_all (ms ++ m ∷ []) found ≡ put m.0.now (tree_view m.1) (put_all ms found)
+put_all-push [] m found = refl
+put_all-push (n ∷ ms) m found = put_all-push ms m (put n.0.now (tree_view n.1) found)
 
 -- ---- members by their keys
 
-abbrev Member : Type 0
-Member = Bor (List ℕ) × Bor (Value Global)
+abbrev Keyed : Type 0
+Keyed = Bor (List ℕ) × Bor Tree
 
 abbrev str_cmp : Bor (List ℕ) → Bor (List ℕ) → Ordering
 str_cmp x y = slice_cmp nat_cmp x.now y.now
 
-by_order : (o : Ordering) (a b c : List Member)
+by_order : (o : Ordering) (a b c : List Keyed)
     → sorted_view (match_ordering o a b c) ≡ match_ordering o (sorted_view a) (sorted_view b) (sorted_view c)
 by_order Less a b c = refl
 by_order Equal a b c = refl
 by_order Greater a b c = refl
 
-pub sorted_view-insert_entry : (es : List Member) (k : Bor (List ℕ)) (v : Bor (Value Global))
+pub sorted_view-insert_entry : (es : List Keyed) (k : Bor (List ℕ)) (v : Bor Tree)
     → sorted_view (insert_entry str_cmp es k v) ≡ put k.now (tree_view v.now) (sorted_view es)
 sorted_view-insert_entry [] k v = refl
 sorted_view-insert_entry (e ∷ es) k v = by_order (str_cmp k e.0) _ _ _ ∙ rw (sorted_view-insert_entry es k v) refl

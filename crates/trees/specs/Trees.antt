@@ -1,22 +1,21 @@
--- What a tree of JSON that borrows its texts stands for: the value that `serde_json` reads, where of a key that comes
--- twice the last stays.
+-- What a value in a text of JSON stands for: the value that `serde_json` reads there, where of a key that comes twice the
+-- last stays.
 use Rattle.std.specs.Prelude.{ℕ, Bool, true, false, ◌&&◌, negsuc, List, [], ◌∷◌, Option, is_some}
 use Rattle.std.specs.Prelude.{unwrap_or, option_and_then}
 use Rattle.std.specs.Borrow.{Bor}
 use Rattle.std.specs.Ordering.{is_lt, nat_cmp}
 use Rattle.std.specs.Cmp.Lexicographic.{slice_cmp}
-use Rattle.std.specs.declared.alloc.Global.{Global}
 use Rattle.json.specs.Json as json
+use Rattle.json.specs.Token.{Token}
 use Rattle.json.specs.Lex.{tokens}
-use Rattle.json.specs.Value.{value_view}
-use Rattle.json.specs.Value as view
-use Rattle.json.specs.declared.value.Value.{Value}
 use Rattle.serde_json.specs.Data.{Num, negative, Data, null, boolean, number, string, array, object, Items, no_items}
 use Rattle.serde_json.specs.Data.{item, Members, no_members, member, put}
 use Rattle.serde_json.specs.Read.{number_of, max_depth, read}
 use Rattle.model.specs.Optional.{of_utf8}
+use Rattle.trees.specs.Tokens.{json_from}
 use Rattle.trees.specs.declared.fault.TreeFault.{TreeFault}
 use Rattle.trees.specs.declared.fault.TreeFault.TheVariants.{OutOfMemory, NotJson}
+use Rattle.trees.specs.declared.tree.Tree.{Tree}
 
 abbrev pub wants_memory : TreeFault → Bool
 wants_memory OutOfMemory = true
@@ -70,26 +69,44 @@ abbrev mutual
   members_of json.no_members found = found
   members_of (json.member k j ms) found = members_of ms (put k (data_of j) found)
 
-abbrev pub tree_view : Value Global → Data
-tree_view tree = data_of (value_view tree)
+abbrev pub is_null : Data → Bool
+is_null null = true
+is_null (boolean b) = false
+is_null (number n) = false
+is_null (string s) = false
+is_null (array ds) = false
+is_null (object ms) = false
 
-abbrev pub trees_view : List (Value Global) → Items
-trees_view trees = items_of (view.items_view trees)
+-- the value that a text's tokens are
+abbrev pub tokens_view : List Token → Data
+tokens_view ts = data_of (json_from ts)
 
-abbrev pub entries_view : List (Bor (List ℕ) × Value Global) → Members
-entries_view entries = members_of (view.members_view entries) no_members
+abbrev pub tree_view : Tree → Data
+tree_view tree = tokens_view tree.element
+
+abbrev pub trees_view : List Tree → Items
+trees_view [] = no_items
+trees_view (t ∷ ts) = item (tree_view t) (trees_view ts)
+
+-- members as they are listed, put to those
+abbrev pub put_all : List (Bor (List ℕ) × Tree) → Members → Members
+put_all [] found = found
+put_all (m ∷ ms) found = put_all ms (put m.0.now (tree_view m.1) found)
+
+abbrev pub entries_view : List (Bor (List ℕ) × Tree) → Members
+entries_view entries = put_all entries no_members
 
 -- members by their keys
-abbrev pub sorted_view : List (Bor (List ℕ) × Bor (Value Global)) → Members
+abbrev pub sorted_view : List (Bor (List ℕ) × Bor Tree) → Members
 sorted_view [] = no_members
 sorted_view (e ∷ es) = member e.0.now (tree_view e.1.now) (sorted_view es)
 
 -- members as they are listed
-abbrev pub listed_view : List (Bor (List ℕ) × Value Global) → Members
+abbrev pub listed_view : List (Bor (List ℕ) × Tree) → Members
 listed_view [] = no_members
 listed_view (m ∷ ms) = member m.0.now (tree_view m.1) (listed_view ms)
 
 -- each key comes after the one before it, and the first after this one
-abbrev pub rise_after : List ℕ → List (Bor (List ℕ) × Value Global) → Bool
+abbrev pub rise_after : List ℕ → List (Bor (List ℕ) × Tree) → Bool
 rise_after key [] = true
 rise_after key (m ∷ ms) = is_lt (slice_cmp nat_cmp key m.0.now) && rise_after m.0.now ms

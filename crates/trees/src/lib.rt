@@ -1,26 +1,30 @@
-//! JSON as trees that borrow the texts in it, which stand for the values that `serde_json` reads.
+//! JSON whose texts are borrowed, which stands for the values that `serde_json` reads.
 //!
 //! An index has many lines with many texts, and so has a long derivation. The definition of a line goes by the value
-//! that `serde_json` reads; to make that value would copy each text and sort each object's keys. So `read_tree` gives
-//! the tree of the crate `json`, whose texts are borrowed from the line and whose members stand as in the text, and
-//! keeps its room from line to line.
+//! that `serde_json` reads; to make that value would copy each text and sort each object's keys. So `read_tape` gives
+//! the tokens of a line in a row, by the crate `json`, whose texts are borrowed from the line; a `Tree` is a value among
+//! them, which is looked into where it lies, and members stand as in the text.
 //!
 //! What is hard is that both mean the same: how deep a text may nest, which numbers fit, and that of a key which comes
 //! twice the last one counts. That is proved here once (`tree_view`), and readers go on to speak of `serde_json`'s
 //! value alone.
 //!
-//! A layer above may rely on this: a tree stands for exactly that value, or there is none (`NotJson`) just where
+//! A layer above may rely on this: a tape stands for exactly that value, or there is none (`NotJson`) just where
 //! `serde_json` reads none; `member`, `item` and the like give what that value has there.
 #![tactic(auto)]
 
 mod blank;
 mod fault;
+mod looking;
 mod number;
+mod reading;
 mod tree;
 
 pub use blank::is_blank;
 pub use fault::TreeFault;
-pub use tree::{
-    Members, are_rising, as_flag, as_list, as_members, as_text, as_whole, by_key, item, member,
-    read_tree,
+pub use looking::{
+    Members, are_rising, as_flag, as_list, as_members, as_text, as_whole, by_key, is_null, item,
+    member,
 };
+pub use reading::{read_tape, root};
+pub use tree::Tree;

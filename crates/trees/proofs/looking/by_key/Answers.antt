@@ -1,9 +1,8 @@
 use Rattle.std.proofs.Common.{◌≡◌, ◌+◌, ◌∷◌, drop, sym, ap, ◌∙◌, arith}
 use Rattle.std.proofs.lemmas.List.{drop_more}
-use Rattle.json.specs.Value.{members_view}
-use Rattle.trees.specs.Trees.{members_of, sorted_view}
+use Rattle.trees.specs.Trees.{put_all, sorted_view}
 use Rattle.trees.proofs.TreeLemmas.{sorted_view-insert_entry}
-use Rattle.trees.proofs.tree.by_key.Goals as goal
+use Rattle.trees.proofs.looking.by_key.Goals as goal
 
 pub members-preserved : goal.members-preserved
 members-preserved c =
@@ -14,6 +13,6 @@ members-preserved c =
     drop_more all c.members.member-index m (omega arith) ∙ ap (λ x. x ∷ left) (sym c.member-item.is) in
     let put_there =
     ap sorted_view c.in_ok-insert.ensures.entries ∙ sorted_view-insert_entry c.members.sorted.entries _ _ in
-    ap (members_of (members_view left)) put_there
-    ∙ sym (ap (λ ms. members_of (members_view ms) (sorted_view c.members.sorted.entries)) here)
+    ap (put_all left) put_there
+    ∙ sym (ap (λ ms. put_all ms (sorted_view c.members.sorted.entries)) here)
     ∙ c.members.invariant

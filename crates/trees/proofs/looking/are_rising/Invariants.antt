@@ -2,7 +2,7 @@ use Rattle.std.proofs.Common.{◌≡◌, [], drop}
 use denote.Shadow.{shadow}
 use denote.Text.{Utf8}
 use Rattle.trees.specs.Trees.{rise_after}
-use Rattle.trees.proofs.tree.are_rising.Given as goal
+use Rattle.trees.proofs.looking.are_rising.Given as goal
 
 -- all rise where those that are left rise after the one before
 abbrev pub invariant-members : goal.invariant-members

@@ -1,0 +1,304 @@
+-- What is read of tokens, and what the tokens of a value are.
+use Rattle.std.proofs.Common.{◌≡◌, ℕ, zero, suc, ◌≤◌, max, List, [], ◌∷◌, ◌++◌, length, Bool, true, false, ◌&&◌}
+use Rattle.std.proofs.Common.{Option, Some, None, is_some, option_map, option_and_then, unwrap_or}
+use Rattle.std.proofs.Common.{refl, sym, ap, ◌∙◌, subst, arith, append_assoc, length-append}
+use Rattle.std.specs.List.{list_all}
+use Rattle.json.specs.Token.{Token}
+use Rattle.json.specs.Json.{Json, null, boolean, number, string, array, object, Items, no_items, item, Members}
+use Rattle.json.specs.Json.{no_members, member, Parse, parse_map, after_end_array, read_key, items_step, members_step}
+use Rattle.json.specs.Json.{items, members, value_with, value}
+use Rattle.json.specs.Find.{BeginsWith}
+use Rattle.json.specs.Tree.{json_tokens, items_tokens, members_tokens, depth, items_depth, members_depth}
+use Rattle.json.proofs.Grammar.{closed_array, read_key_is}
+use Rattle.json.proofs.Printed.Trees.{value-json_tokens}
+use Rattle.trees.specs.Tokens.{first_value, begins, json_from, is_kept, nest_within}
+use Rattle.trees.specs.Trees.{numbers_fit, items_fit, members_fit}
+
+-- ---- what is read is what the tokens spell
+
+abbrev IsSpelt : {A : Type 0} → (A → List Token) → List Token → Option (A × List Token) → Type 0
+IsSpelt spell ts None = Unit {0}
+IsSpelt spell ts (Some p) = ts ≡ spell p.0 ++ p.1
+
+abbrev Spells : {A : Type 0} → (A → List Token) → Parse A → Type 0
+Spells spell p = (ts : List Token) → IsSpelt spell ts (p ts)
+
+and_more : {B : Type 0} (spell : B → List Token) (h : Json → B → B) (ts : List Token)
+    → ((j : Json) (b : B) → spell (h j b) ≡ json_tokens j ++ spell b) → (more : Parse B) → Spells spell more
+    → (o : Option (Json × List Token)) → IsSpelt json_tokens ts o
+    → IsSpelt spell ts (option_and_then (λ q. parse_map (h q.0) (more q.1)) o)
+and_more spell h ts is more again None x = tt
+and_more {B} spell h ts is more again (Some q) x = go (more q.1) (again q.1)
+  where
+    go : (o : Option (B × List Token)) → IsSpelt spell q.1 o → IsSpelt spell ts (parse_map (h q.0) o)
+    go None y = tt
+    go (Some r) y = x ∙ ap (λ l. json_tokens q.0 ++ l) y ∙ sym (append_assoc (json_tokens q.0) (spell r.0) r.1)
+        ∙ ap (λ l. l ++ r.1) (sym (is q.0 r.0))
+
+module _ (p : Parse Json) (spells : Spells json_tokens p) where
+  item_turn : (more : Parse Items) → Spells items_tokens more → (ts : List Token) (o : Option (List Token))
+      → after_end_array ts ≡ o → IsSpelt items_tokens ts (items_step p more ts o)
+  item_turn more again ts (Some r) e = closed_array ts r e
+  item_turn more again ts None e = and_more items_tokens item ts (λ j b. refl) more again (p ts) (spells ts)
+
+  Spells-items : (n : ℕ) → Spells items_tokens (items p n)
+  unfolding items
+  Spells-items zero ts = tt
+  Spells-items (suc n) ts = item_turn (items p n) (Spells-items n) ts (after_end_array ts) refl
+
+  -- the members behind a key, with the key's token before them
+  behind_key : (k : List ℕ) (s : List Token) (more : Parse Members) → Spells members_tokens more
+      → (o : Option (Json × List Token)) → IsSpelt json_tokens s o
+      → IsSpelt members_tokens (Token.key k ∷ s) (option_and_then (λ q. parse_map (member k q.0) (more q.1)) o)
+  behind_key k s more again None x = tt
+  behind_key k s more again (Some q) x = go (more q.1) (again q.1)
+    where
+      go : (o : Option (Members × List Token)) → IsSpelt members_tokens q.1 o
+          → IsSpelt members_tokens (Token.key k ∷ s) (parse_map (member k q.0) o)
+      go None y = tt
+      go (Some r) y = ap (λ l. Token.key k ∷ l)
+          (x ∙ ap (λ l. json_tokens q.0 ++ l) y ∙ sym (append_assoc (json_tokens q.0) (members_tokens r.0) r.1))
+
+  member_turn : (more : Parse Members) → Spells members_tokens more → (ts : List Token)
+      (o : Option (Option (List ℕ) × List Token)) → read_key ts ≡ o
+      → IsSpelt members_tokens ts (option_and_then (λ q. members_step p more q.0 q.1) o)
+  member_turn more again ts None e = tt
+  member_turn more again ts (Some (None, s)) e = read_key_is ts None s e
+  member_turn more again ts (Some (Some k, s)) e =
+      subst (λ l. IsSpelt members_tokens l (members_step p more (Some k) s)) (sym (read_key_is ts (Some k) s e))
+      (behind_key k s more again (p s) (spells s))
+
+  Spells-members : (n : ℕ) → Spells members_tokens (members p n)
+  unfolding members
+  Spells-members zero ts = tt
+  Spells-members (suc n) ts = member_turn (members p n) (Spells-members n) ts (read_key ts) refl
+
+opened_array : (ts : List Token) (o : Option (Items × List Token)) → IsSpelt items_tokens ts o
+    → IsSpelt json_tokens (Token.begin_array ∷ ts) (parse_map array o)
+opened_array ts None x = tt
+opened_array ts (Some p) x = ap (λ l. Token.begin_array ∷ l) x
+
+opened_object : (ts : List Token) (o : Option (Members × List Token)) → IsSpelt members_tokens ts o
+    → IsSpelt json_tokens (Token.begin_object ∷ ts) (parse_map object o)
+opened_object ts None x = tt
+opened_object ts (Some p) x = ap (λ l. Token.begin_object ∷ l) x
+
+Spells-value_with : (a : Parse Items) (o : Parse Members) → Spells items_tokens a → Spells members_tokens o
+    → Spells json_tokens (value_with a o)
+Spells-value_with a o x y [] = tt
+Spells-value_with a o x y (Token.begin_object ∷ ts) = opened_object ts (o ts) (y ts)
+Spells-value_with a o x y (Token.end_object ∷ ts) = tt
+Spells-value_with a o x y (Token.begin_array ∷ ts) = opened_array ts (a ts) (x ts)
+Spells-value_with a o x y (Token.end_array ∷ ts) = tt
+Spells-value_with a o x y (Token.key s ∷ ts) = tt
+Spells-value_with a o x y (Token.string s ∷ ts) = refl
+Spells-value_with a o x y (Token.number s ∷ ts) = refl
+Spells-value_with a o x y (Token.boolean b ∷ ts) = refl
+Spells-value_with a o x y (Token.null ∷ ts) = refl
+Spells-value_with a o x y (Token.bad ∷ ts) = tt
+
+Spells-value : (d : ℕ) → Spells json_tokens (value d)
+unfolding value
+Spells-value zero = Spells-value_with (λ ts. None) (λ ts. None) (λ ts. tt) (λ ts. tt)
+Spells-value (suc d) =
+    Spells-value_with (λ ts. items (value d) (length ts) ts) (λ ts. members (value d) (length ts) ts)
+    (λ ts. Spells-items (value d) (Spells-value d) (length ts) ts)
+    (λ ts. Spells-members (value d) (Spells-value d) (length ts) ts)
+
+-- the tokens that a value is read off
+pub value-spelt : (d : ℕ) (ts r : List Token) (j : Json) → value d ts ≡ Some (j, r) → ts ≡ json_tokens j ++ r
+value-spelt d ts r j e = subst (IsSpelt json_tokens ts) e (Spells-value d ts)
+
+-- ---- the value that tokens begin with
+
+mutual
+  depth-tokens : (j : Json) → depth j ≤ length (json_tokens j)
+  depth-tokens null = omega arith
+  depth-tokens (boolean b) = omega arith
+  depth-tokens (number s) = omega arith
+  depth-tokens (string s) = omega arith
+  depth-tokens (array js) = omega (arith, depth-items js)
+  depth-tokens (object ms) = omega (arith, depth-members ms)
+
+  depth-items : (js : Items) → items_depth js ≤ length (items_tokens js)
+  depth-items no_items = omega arith
+  depth-items (item j js) =
+      omega (arith, depth-tokens j, depth-items js, length-append (json_tokens j) (items_tokens js))
+
+  depth-members : (ms : Members) → members_depth ms ≤ length (members_tokens ms)
+  depth-members no_members = omega arith
+  depth-members (member k j ms) =
+      omega (arith, depth-tokens j, depth-members ms, length-append (json_tokens j) (members_tokens ms))
+
+-- a value that is read at any depth is the one that the tokens begin with
+pub first-read : (d : ℕ) (ts r : List Token) (j : Json) → value d ts ≡ Some (j, r) → first_value ts ≡ Some (j, r)
+first-read d ts r j e =
+    let spelt = value-spelt d ts r j e in
+    ap (value (length ts)) spelt ∙ value-json_tokens j (length ts) r
+    (omega (arith, depth-tokens j, ap length spelt, length-append (json_tokens j) r))
+
+pub begins-read : (ts : List Token) (j : Json) → BeginsWith ts j → begins ts ≡ true
+begins-read ts j (d, r, e) = ap is_some (first-read d ts r j e)
+
+pub json_from-read : (ts : List Token) (j : Json) → BeginsWith ts j → json_from ts ≡ j
+json_from-read ts j (d, r, e) = ap (λ o. unwrap_or (option_map (λ p. p.0) o) null) (first-read d ts r j e)
+
+pub begun : (ts : List Token) → begins ts ≡ true → BeginsWith ts (json_from ts)
+begun ts is = go (first_value ts) refl is
+  where
+    go : (o : Option (Json × List Token)) → first_value ts ≡ o → is_some o ≡ true
+        → BeginsWith ts (unwrap_or (option_map (λ p. p.0) o) null)
+    go None e b = cc
+    go (Some p) e b = (length ts, p.1, e)
+
+-- ---- how deep tokens nest
+
+abbrev mutual
+  shallow : Json → ℕ → Bool
+  shallow null n = true
+  shallow (boolean b) n = true
+  shallow (number s) n = true
+  shallow (string s) n = true
+  shallow (array js) zero = false
+  shallow (array js) (suc n) = items_shallow js n
+  shallow (object ms) zero = false
+  shallow (object ms) (suc n) = members_shallow ms n
+
+  items_shallow : Items → ℕ → Bool
+  items_shallow no_items n = true
+  items_shallow (item j js) n = shallow j n && items_shallow js n
+
+  members_shallow : Members → ℕ → Bool
+  members_shallow no_members n = true
+  members_shallow (member k j ms) n = shallow j n && members_shallow ms n
+
+and_assoc : (a b c : Bool) → (a && (b && c)) ≡ ((a && b) && c)
+and_assoc true b c = refl
+and_assoc false b c = refl
+
+both : (a b : Bool) → (a && b) ≡ true → (a ≡ true) × (b ≡ true)
+both true b e = (refl, e)
+both false b e = cc
+
+and_true : (a b : Bool) → a ≡ true → b ≡ true → (a && b) ≡ true
+and_true true b x y = y
+and_true false b x y = cc
+
+mutual
+  unfolding nest_within
+
+  nest-json : (j : Json) (n : ℕ) (ts : List Token)
+      → nest_within n (json_tokens j ++ ts) ≡ (shallow j n && nest_within n ts)
+  nest-json null n ts = refl
+  nest-json (boolean b) n ts = refl
+  nest-json (number s) n ts = refl
+  nest-json (string s) n ts = refl
+  nest-json (array js) zero ts = refl
+  nest-json (array js) (suc n) ts = nest-items js n ts
+  nest-json (object ms) zero ts = refl
+  nest-json (object ms) (suc n) ts = nest-members ms n ts
+
+  nest-items : (js : Items) (n : ℕ) (ts : List Token)
+      → nest_within n (items_tokens js ++ ts) ≡ (items_shallow js n && nest_within (suc n) ts)
+  nest-items no_items n ts = refl
+  nest-items (item j js) n ts =
+      ap (nest_within n) (append_assoc (json_tokens j) (items_tokens js) ts)
+      ∙ nest-json j n (items_tokens js ++ ts) ∙ ap (λ b. shallow j n && b) (nest-items js n ts)
+      ∙ and_assoc (shallow j n) (items_shallow js n) (nest_within (suc n) ts)
+
+  nest-members : (ms : Members) (n : ℕ) (ts : List Token)
+      → nest_within n (members_tokens ms ++ ts) ≡ (members_shallow ms n && nest_within (suc n) ts)
+  nest-members no_members n ts = refl
+  nest-members (member k j ms) n ts =
+      ap (nest_within n) (append_assoc (json_tokens j) (members_tokens ms) ts)
+      ∙ nest-json j n (members_tokens ms ++ ts) ∙ ap (λ b. shallow j n && b) (nest-members ms n ts)
+      ∙ and_assoc (shallow j n) (members_shallow ms n) (nest_within (suc n) ts)
+
+mutual
+  shallow-depth : (j : Json) (n : ℕ) → shallow j n ≡ true → depth j ≤ n
+  shallow-depth null n h = omega arith
+  shallow-depth (boolean b) n h = omega arith
+  shallow-depth (number s) n h = omega arith
+  shallow-depth (string s) n h = omega arith
+  shallow-depth (array js) zero h = cc
+  shallow-depth (array js) (suc n) h = omega (arith, items-depth js n h)
+  shallow-depth (object ms) zero h = cc
+  shallow-depth (object ms) (suc n) h = omega (arith, members-depth ms n h)
+
+  items-depth : (js : Items) (n : ℕ) → items_shallow js n ≡ true → items_depth js ≤ n
+  items-depth no_items n h = omega arith
+  items-depth (item j js) n h =
+      let parts = both (shallow j n) (items_shallow js n) h in
+      omega (arith, shallow-depth j n parts.0, items-depth js n parts.1)
+
+  members-depth : (ms : Members) (n : ℕ) → members_shallow ms n ≡ true → members_depth ms ≤ n
+  members-depth no_members n h = omega arith
+  members-depth (member k j ms) n h =
+      let parts = both (shallow j n) (members_shallow ms n) h in
+      omega (arith, shallow-depth j n parts.0, members-depth ms n parts.1)
+
+mutual
+  depth-shallow : (j : Json) (n : ℕ) → depth j ≤ n → shallow j n ≡ true
+  depth-shallow null n h = refl
+  depth-shallow (boolean b) n h = refl
+  depth-shallow (number s) n h = refl
+  depth-shallow (string s) n h = refl
+  depth-shallow (array js) zero h = absurd (omega (arith, h))
+  depth-shallow (array js) (suc n) h = depth-items_shallow js n (omega (arith, h))
+  depth-shallow (object ms) zero h = absurd (omega (arith, h))
+  depth-shallow (object ms) (suc n) h = depth-members_shallow ms n (omega (arith, h))
+
+  depth-items_shallow : (js : Items) (n : ℕ) → items_depth js ≤ n → items_shallow js n ≡ true
+  depth-items_shallow no_items n h = refl
+  depth-items_shallow (item j js) n h = and_true (shallow j n) (items_shallow js n)
+      (depth-shallow j n (omega (arith, h))) (depth-items_shallow js n (omega (arith, h)))
+
+  depth-members_shallow : (ms : Members) (n : ℕ) → members_depth ms ≤ n → members_shallow ms n ≡ true
+  depth-members_shallow no_members n h = refl
+  depth-members_shallow (member k j ms) n h = and_true (shallow j n) (members_shallow ms n)
+      (depth-shallow j n (omega (arith, h))) (depth-members_shallow ms n (omega (arith, h)))
+
+and-true : (b : Bool) → (b && true) ≡ b
+and-true true = refl
+and-true false = refl
+
+-- the tokens of a value nest so far just where the value does
+pub nest-depth : (j : Json) (n : ℕ) → nest_within n (json_tokens j ++ []) ≡ true → depth j ≤ n
+unfolding nest_within
+nest-depth j n h = shallow-depth j n (sym (nest-json j n [] ∙ and-true (shallow j n)) ∙ h)
+
+pub depth-nest : (j : Json) (n : ℕ) → depth j ≤ n → nest_within n (json_tokens j ++ []) ≡ true
+unfolding nest_within
+depth-nest j n h = nest-json j n [] ∙ and-true (shallow j n) ∙ depth-shallow j n h
+
+-- ---- which numbers are kept
+
+mutual
+  kept-json : (j : Json) (ts : List Token)
+      → list_all is_kept (json_tokens j ++ ts) ≡ (numbers_fit j && list_all is_kept ts)
+  kept-json null ts = refl
+  kept-json (boolean b) ts = refl
+  kept-json (number s) ts = refl
+  kept-json (string s) ts = refl
+  kept-json (array js) ts = kept-items js ts
+  kept-json (object ms) ts = kept-members ms ts
+
+  kept-items : (js : Items) (ts : List Token)
+      → list_all is_kept (items_tokens js ++ ts) ≡ (items_fit js && list_all is_kept ts)
+  kept-items no_items ts = refl
+  kept-items (item j js) ts =
+      ap (list_all is_kept) (append_assoc (json_tokens j) (items_tokens js) ts)
+      ∙ kept-json j (items_tokens js ++ ts) ∙ ap (λ b. numbers_fit j && b) (kept-items js ts)
+      ∙ and_assoc (numbers_fit j) (items_fit js) (list_all is_kept ts)
+
+  kept-members : (ms : Members) (ts : List Token)
+      → list_all is_kept (members_tokens ms ++ ts) ≡ (members_fit ms && list_all is_kept ts)
+  kept-members no_members ts = refl
+  kept-members (member k j ms) ts =
+      ap (list_all is_kept) (append_assoc (json_tokens j) (members_tokens ms) ts)
+      ∙ kept-json j (members_tokens ms ++ ts) ∙ ap (λ b. numbers_fit j && b) (kept-members ms ts)
+      ∙ and_assoc (numbers_fit j) (members_fit ms) (list_all is_kept ts)
+
+-- the numbers of a value's tokens are kept just where its numbers fit
+pub kept-fit : (j : Json) → list_all is_kept (json_tokens j ++ []) ≡ numbers_fit j
+kept-fit j = kept-json j [] ∙ and-true (numbers_fit j)
