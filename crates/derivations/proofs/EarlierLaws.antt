@@ -1,14 +1,13 @@
 -- Terms that are known by their texts, and steps and terms that stay what they are under tables that grow.
 use Rattle.std.proofs.Common.{◌≡◌, ℕ, Bool, true, false, not, ◌+◌, ◌<◌, List, [], ◌∷◌, ◌++◌, map, drop, take, length}
 use Rattle.std.proofs.Common.{get_or, slice_get, Some, Ok, Err, refl, sym, ap, ap₂, ◌∙◌, subst}
-use Rattle.std.specs.declared.alloc.Global.{Global}
 use Rattle.std.specs.List.{AllByRecursion}
 use Rattle.std.proofs.lemmas.List.{drop_more, map-append, map_more}
 use Rattle.std.specs.List.Sorted.{IsPermutation}
 use Rattle.std.proofs.lemmas.List.Elements.{All-from_recursion, All-get_or, recursion_from_All}
 use Rattle.std.proofs.lemmas.List.Sorted.{All-permutation, IsPermutation-map}
 use Rattle.std.proofs.lemmas.Option.{slice_get_within, get_or_from_slice_get}
-use Rattle.json.specs.declared.value.Value.{Value}
+use Rattle.trees.specs.declared.tree.Tree.{Tree}
 use Rattle.serde_json.specs.Data.{Data, Items, no_items, item}
 use Rattle.serde_json.specs.Find as json
 use Rattle.trees.specs.Trees.{tree_view, trees_view}
@@ -193,7 +192,7 @@ term-split d p text two first = rw (two, first) (by (vertex_in_line text))
     by (Err e) = refl
 
 -- one more text
-pub have-next : (t : TablesView) (vs : List (Value Global)) (ns : List ℕ) (i : ℕ) (v : Value Global) (n : ℕ)
+pub have-next : (t : TablesView) (vs : List Tree) (ns : List ℕ) (i : ℕ) (v : Tree) (n : ℕ)
     → i < length vs → i < length ns → v ≡ get_or vs i v → n ≡ get_or ns i n
     → json.as_str (tree_view v) ≡ Some (state_text (state_at t n)) → HaveTexts (trees_view (drop (i + 1) vs))
     (states_at t (drop (i + 1) ns)) → HaveTexts (trees_view (drop i vs)) (states_at t (drop i ns))

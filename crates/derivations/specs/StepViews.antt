@@ -1,10 +1,8 @@
 -- What the pieces of a line stand for while it is read.
 use Rattle.std.specs.Prelude.{List, map}
-use Rattle.std.specs.Borrow.{Bor}
 use Rattle.serde_json.specs.Data.{Data}
-use Rattle.std.specs.declared.alloc.Global.{Global}
-use Rattle.json.specs.declared.value.Value.{Value}
 use Rattle.trees.specs.Trees.{tree_view}
+use Rattle.trees.specs.declared.tree.Tree.{Tree}
 use Rattle.model.specs.Vertices.{Vertex}
 use Rattle.vertices.specs.Kinds.{kind_view}
 use Rattle.derivations.specs.Steps.{Written, Origin, by_axiom, by_combination}
@@ -14,8 +12,8 @@ use Rattle.derivations.specs.declared.step.Term.{Term}
 use Rattle.derivations.specs.declared.step.Origin as own
 use Rattle.derivations.specs.declared.step.Origin.TheVariants.{Axiom, Combination}
 
-abbrev pub two_view : Bor (Value Global) × Bor (Value Global) → Data × Data
-two_view p = (tree_view p.0.now, tree_view p.1.now)
+abbrev pub two_view : Tree × Tree → Data × Data
+two_view p = (tree_view p.0, tree_view p.1)
 
 abbrev pub written_term : WrittenTerm → Term
 written_term w = w.term

@@ -15,8 +15,8 @@ ghost use Rattle.derivations.specs.Tables.{vertex_at};
 use crate::named::SetInOrder;
 use crate::step::{Step, Term};
 use crate::tables::Tables;
-use json::Value;
-use trees::{as_list, as_text};
+use std::alloc::Global;
+use trees::{Tree, as_list, as_text};
 use vertices::StateRef;
 
 /// The terms of the two steps that a step combines: most of its own are among them.
@@ -63,18 +63,19 @@ impl<'s> Earlier<'s> {
     /// The term among them that a text of a vertex and a tree of states are, if it is found.
     pub(crate) fn find(
         &self,
+        alloc: Global,
         tables: &Tables,
         places: &mut Places,
         text: &str,
-        states: &Value<'_>,
+        states: &Tree<'_, '_>,
     ) -> Option<Term>
         requires { AreEarlier tables.now self.now }
         ensures within { IfSome result (IsTermOf tables.now) }
         ensures term { IfSome result (λ t. term_from text.now (tree_view states.now) ≡ Ok (term_at tables.now t)) }
     {
-        match find_among(tables, self.first, &mut places.first, text, states) {
+        match find_among(alloc, tables, self.first, &mut places.first, text, states) {
             Some(term) => Some(term),
-            None => find_among(tables, self.second, &mut places.second, text, states),
+            None => find_among(alloc, tables, self.second, &mut places.second, text, states),
         }
     }
 
@@ -151,11 +152,12 @@ fn is_before(tables: &Tables, terms: &[Term], place: usize, text: &str) -> bool 
 
 /// The same among the terms of one step.
 fn find_among(
+    alloc: Global,
     tables: &Tables,
     terms: &[Term],
     from: &mut usize,
     text: &str,
-    states: &Value<'_>,
+    states: &Tree<'_, '_>,
 ) -> Option<Term>
     requires { AreTermsBefore tables.now terms.now }
     ensures within { IfSome result (IsTermOf tables.now) }
@@ -165,7 +167,7 @@ fn find_among(
     let Some(term) = terms.get(place) else {
         return None;
     };
-    let found = known(tables, term, text, states);
+    let found = known(alloc, tables, term, text, states);
     if found.is_some() {
         *from = place.wrapping_add(1);
     }
@@ -173,7 +175,13 @@ fn find_among(
 }
 
 /// The term, if it is the one of these texts.
-fn known(tables: &Tables, term: &Term, text: &str, states: &Value<'_>) -> Option<Term>
+fn known(
+    alloc: Global,
+    tables: &Tables,
+    term: &Term,
+    text: &str,
+    states: &Tree<'_, '_>,
+) -> Option<Term>
     requires within { IsTermOf tables.now term.now }
     requires reads { IsTerm (term_at tables.now term.now) }
     ensures within { IfSome result (IsTermOf tables.now) }
@@ -182,29 +190,29 @@ fn known(tables: &Tables, term: &Term, text: &str, states: &Value<'_>) -> Option
     if tables.vertex_text(term.vertex) != text {
         return None;
     }
-    if are_written(tables, tables.set(term.states), states) {
+    if are_written(alloc, tables, tables.set(term.states), states) {
         Some(*term)
     } else {
         None
     }
 }
 
-/// Whether the states of these numbers are written so.
-fn are_written(tables: &Tables, numbers: &[usize], states: &Value<'_>) -> bool
+/// Whether the states of these numbers are written so; not where memory is wanting for a list of what is written.
+fn are_written(alloc: Global, tables: &Tables, numbers: &[usize], states: &Tree<'_, '_>) -> bool
     requires { AreStatesOf tables.now numbers.now }
     ensures { IsTrue result → AreWritten (tree_view states.now) (states_at tables.now numbers.now) }
 {
-    let Some(values) = as_list(states) else {
+    let Ok(Some(values)) = as_list(alloc, states) else {
         return false;
     };
     if values.len() != numbers.len() {
         return false;
     }
-    have_texts(tables, numbers, values)
+    have_texts(tables, numbers, &values)
 }
 
 /// Whether the states of these numbers have these texts.
-fn have_texts(tables: &Tables, numbers: &[usize], values: &Vec<Value<'_>>) -> bool
+fn have_texts(tables: &Tables, numbers: &[usize], values: &Vec<Tree<'_, '_>>) -> bool
     requires states { AreStatesOf tables.now numbers.now }
     requires len { length values.now.items ≡ length numbers.now }
     ensures { IsTrue result → HaveTexts (trees_view values.now.items) (states_at tables.now numbers.now) }
@@ -218,7 +226,7 @@ fn have_texts(tables: &Tables, numbers: &[usize], values: &Vec<Value<'_>>) -> bo
 }
 
 /// Whether the state of this number has this text.
-fn has_text(tables: &Tables, number: usize, value: &Value<'_>) -> bool
+fn has_text(tables: &Tables, number: usize, value: &Tree<'_, '_>) -> bool
     requires { number < length tables.now.states }
     ensures { IsTrue result → json.as_str (tree_view value.now) ≡ Some (state_text (state_at tables.now number)) }
 {

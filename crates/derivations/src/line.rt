@@ -25,10 +25,10 @@ use crate::step::{Origin, Step, Term};
 use crate::tables::Tables;
 use crate::texts::{read_state, read_vertex};
 use crate::values::{array, item, no_item, read_json, text, two, whole};
-use json::{Scratch, Value};
+use json::Scratch;
 use std::alloc::{AllocError, Global};
 use std::cmp::Ordering;
-use trees::member;
+use trees::{Tree, member, root};
 use vertices::{Kind, State, Vertex, state_order};
 
 /// A term and the text of its vertex.
@@ -52,8 +52,8 @@ pub(crate) fn read_step(
     ensures within { IfOk result (IsStepOf tables.new) }
     ensures step { Gives line_wants_memory (step_at tables.new) result (step_of_line (length steps.now) line.now) }
 {
-    let value = read_json(alloc, line, scratch)?;
-    step(alloc, tables, steps, &value)
+    let tape = read_json(alloc, line, scratch)?;
+    step(alloc, tables, steps, &root(&tape))
 }
 
 #[tactic(auto, unfolding(crate::specs::Steps::step_of))]
@@ -61,7 +61,7 @@ fn step(
     alloc: Global,
     tables: &mut Tables,
     steps: &[Step],
-    value: &Value<'_>,
+    value: &Tree<'_, '_>,
 ) -> Result<Step, LineFault>
     requires { IsReading tables.old steps.now }
     ensures grown { OnOk result (IsGrown tables.old tables.new) }
@@ -100,18 +100,18 @@ fn is_backward(number: usize, origin: &Origin<SpeltVertex>) -> bool
 }
 
 /// What `axiom` or `combine` says: just one of them is there.
-fn origin(alloc: Global, value: &Value<'_>) -> Result<Origin<SpeltVertex>, LineFault>
+fn origin(alloc: Global, value: &Tree<'_, '_>) -> Result<Origin<SpeltVertex>, LineFault>
     ensures { Gives line_wants_memory origin_view result (origin_of (tree_view value.now)) }
 {
     match (member(value, "axiom"), member(value, "combine")) {
-        (Some(kind), None) => axiom(kind),
-        (None, Some(parts)) => combination(alloc, parts),
+        (Some(kind), None) => axiom(&kind),
+        (None, Some(parts)) => combination(alloc, &parts),
         _ => Err(LineFault::NotALine),
     }
 }
 
 #[tactic(auto, unfolding(crate::specs::Steps::axiom_of))]
-fn axiom(value: &Value<'_>) -> Result<Origin<SpeltVertex>, LineFault>
+fn axiom(value: &Tree<'_, '_>) -> Result<Origin<SpeltVertex>, LineFault>
     ensures { Gives line_wants_memory origin_view result (axiom_of (tree_view value.now)) }
 {
     match Kind::of_code(text(value)?) {
@@ -122,12 +122,12 @@ fn axiom(value: &Value<'_>) -> Result<Origin<SpeltVertex>, LineFault>
 
 /// `[A,B,"VERTEX"]`
 #[tactic(auto, unfolding(crate::specs::Steps::combination_of))]
-fn combination(alloc: Global, value: &Value<'_>) -> Result<Origin<SpeltVertex>, LineFault>
+fn combination(alloc: Global, value: &Tree<'_, '_>) -> Result<Origin<SpeltVertex>, LineFault>
     ensures { Gives line_wants_memory origin_view result (combination_of (tree_view value.now)) }
 {
-    let first = whole(item(value, 0)?)?;
-    let second = whole(item(value, 1)?)?;
-    let vertex = read_vertex(alloc, text(item(value, 2)?)?)?;
+    let first = whole(&item(value, 0)?)?;
+    let second = whole(&item(value, 1)?)?;
+    let vertex = read_vertex(alloc, text(&item(value, 2)?)?)?;
     no_item(value, 3)?;
     Ok(Origin::Combination(first, second, vertex))
 }
@@ -138,7 +138,7 @@ fn terms(
     alloc: Global,
     tables: &mut Tables,
     earlier: Earlier<'_>,
-    value: &Value<'_>,
+    value: &Tree<'_, '_>,
 ) -> Result<Vec<Term>, LineFault>
     requires { AreEarlier tables.old earlier }
     ensures grown { OnOk result (IsGrown tables.old tables.new) }
@@ -148,7 +148,7 @@ fn terms(
     let Some(found) = member(value, "terms") else {
         return Err(LineFault::NotALine);
     };
-    let written = terms_in(alloc, tables, earlier, array(found)?)?;
+    let written = terms_in(alloc, tables, earlier, &array(alloc, &found)?)?;
     let sorted = ordered_terms(written)?;
     Ok(without_texts(alloc, &sorted)?)
 }
@@ -158,7 +158,7 @@ fn terms_in<'a>(
     alloc: Global,
     tables: &mut Tables,
     earlier: Earlier<'_>,
-    values: &Vec<Value<'a>>,
+    values: &Vec<Tree<'_, 'a>>,
 ) -> Result<Vec<WrittenTerm<'a>>, LineFault>
     requires { AreEarlier tables.old earlier }
     ensures grown { OnOk result (IsGrown tables.old tables.new) }
@@ -181,7 +181,7 @@ fn term<'a>(
     tables: &mut Tables,
     earlier: Earlier<'_>,
     places: &mut Places,
-    value: &Value<'a>,
+    value: &Tree<'_, 'a>,
 ) -> Result<WrittenTerm<'a>, LineFault>
     requires { AreEarlier tables.old earlier }
     ensures grown { OnOk result (IsGrown tables.old tables.new) }
@@ -189,8 +189,8 @@ fn term<'a>(
     ensures term { Gives line_wants_memory (written_view tables.new) result (term_of (tree_view value.now)) }
 {
     let (vertex, states) = two(value)?;
-    let text = text(vertex)?;
-    let term = found_or_new(alloc, tables, earlier, places, text, states)?;
+    let text = text(&vertex)?;
+    let term = found_or_new(alloc, tables, earlier, places, text, &states)?;
     Ok(WrittenTerm { text, term })
 }
 
@@ -201,14 +201,14 @@ fn found_or_new(
     earlier: Earlier<'_>,
     places: &mut Places,
     text: &str,
-    states: &Value<'_>,
+    states: &Tree<'_, '_>,
 ) -> Result<Term, LineFault>
     requires { AreEarlier tables.old earlier }
     ensures grown { OnOk result (IsGrown tables.old tables.new) }
     ensures within { IfOk result (IsTermOf tables.new) }
     ensures term { Gives line_wants_memory (term_at tables.new) result (term_from text.now (tree_view states.now)) }
 {
-    if let Some(term) = earlier.find(tables, places, text, states) {
+    if let Some(term) = earlier.find(alloc, tables, places, text, states) {
         return Ok(term);
     }
     let whole = whole_term(alloc, text, states)?;
@@ -216,7 +216,7 @@ fn found_or_new(
 }
 
 #[tactic(auto, unfolding(crate::specs::Earlier::term_from))]
-fn whole_term(alloc: Global, text: &str, value: &Value<'_>) -> Result<WholeTerm, LineFault>
+fn whole_term(alloc: Global, text: &str, value: &Tree<'_, '_>) -> Result<WholeTerm, LineFault>
     ensures { Gives line_wants_memory term_view result (term_from text.now (tree_view value.now)) }
 {
     let vertex = read_vertex(alloc, text)?;
@@ -262,11 +262,11 @@ fn without_texts(alloc: Global, written: &[WrittenTerm<'_>]) -> Result<Vec<Term>
 
 /// The states in order, none twice.
 #[tactic(auto, unfolding(crate::specs::Steps::states_of))]
-fn states(alloc: Global, vertex: &Vertex, value: &Value<'_>) -> Result<Vec<State>, LineFault>
+fn states(alloc: Global, vertex: &Vertex, value: &Tree<'_, '_>) -> Result<Vec<State>, LineFault>
     ensures { Gives line_wants_memory
         (λ v. state_views v.items) result (states_of (vertex_view vertex.now) (tree_view value.now)) }
 {
-    let written = states_in(alloc, vertex, array(value)?)?;
+    let written = states_in(alloc, vertex, &array(alloc, value)?)?;
     ordered_states(written)
 }
 
@@ -274,7 +274,7 @@ fn states(alloc: Global, vertex: &Vertex, value: &Value<'_>) -> Result<Vec<State
 fn states_in(
     alloc: Global,
     vertex: &Vertex,
-    values: &Vec<Value<'_>>,
+    values: &Vec<Tree<'_, '_>>,
 ) -> Result<Vec<State>, LineFault>
     ensures { Gives line_wants_memory
         (λ v. state_views v.items) result (states_in (vertex_view vertex.now) (trees_view values.now.items)) }

@@ -115,7 +115,11 @@ fn package_name(alloc: Global, value: &Tree<'_, '_>) -> Result<PackageName, Line
 }
 
 /// The package name at a key that has to be there.
-fn package_name_at(alloc: Global, object: &Tree<'_, '_>, key: &str) -> Result<PackageName, LineFault>
+fn package_name_at(
+    alloc: Global,
+    object: &Tree<'_, '_>,
+    key: &str,
+) -> Result<PackageName, LineFault>
     ensures { Gives wants_memory (λ n. n) result (package_name_at key.now (tree_view object.now)) }
 {
     match value(object, key) {
@@ -235,7 +239,10 @@ fn dependencies_in<'a>(
 }
 
 #[tactic(auto, unfolding(crate::specs::Shapes::dependencies_at))]
-fn dependencies<'a>(alloc: Global, line: &Tree<'_, 'a>) -> Result<Vec<DependencyShape<'a>>, LineFault>
+fn dependencies<'a>(
+    alloc: Global,
+    line: &Tree<'_, 'a>,
+) -> Result<Vec<DependencyShape<'a>>, LineFault>
     ensures { Gives wants_memory (λ v. line_dependency_views v.items) result (dependencies_at (tree_view line.now)) }
 {
     match value(line, "deps") {
@@ -247,7 +254,10 @@ fn dependencies<'a>(alloc: Global, line: &Tree<'_, 'a>) -> Result<Vec<Dependency
     }
 }
 
-fn features_in<'a>(alloc: Global, members: &Members<'_, 'a>) -> Result<Vec<FeatureShape<'a>>, LineFault>
+fn features_in<'a>(
+    alloc: Global,
+    members: &Members<'_, 'a>,
+) -> Result<Vec<FeatureShape<'a>>, LineFault>
     ensures { Gives wants_memory (λ v. feature_views v.items) result (features_in (entries_view members.now.items)) }
 {
     if are_rising(members) {

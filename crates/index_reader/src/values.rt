@@ -54,7 +54,10 @@ pub(crate) fn text<'a>(object: &Tree<'_, 'a>, key: &str) -> Result<&'a str, Line
 }
 
 /// The text at a key, if it is there.
-pub(crate) fn text_if_any<'a>(object: &Tree<'_, 'a>, key: &str) -> Result<Option<&'a str>, LineFault>
+pub(crate) fn text_if_any<'a>(
+    object: &Tree<'_, 'a>,
+    key: &str,
+) -> Result<Option<&'a str>, LineFault>
     ensures { Gives wants_memory (option_map (λ s. s.now)) result
         (optional None text_of (value_at key.now (tree_view object.now))) }
 {

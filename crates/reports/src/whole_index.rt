@@ -6,7 +6,7 @@ use features::{NameFault, PackageName};
 use index_reader::{Folder, FolderFault, KnownDependencies, Skip, index_path, lines, read_file_in};
 use json::Scratch;
 use std::alloc::{AllocError, Global};
-use trees::{TreeFault, as_text, member, read_tree};
+use trees::{TreeFault, as_text, member, read_tape, root};
 
 /// How many bytes a file has at most.
 const MAX_BYTES: usize = 16_777_216;
@@ -128,15 +128,15 @@ fn name_in(
     line: &[u8],
     scratch: &mut Scratch,
 ) -> Result<Option<PackageName>, AllocError> {
-    let tree = match read_tree(alloc, line, scratch) {
-        Ok(tree) => tree,
+    let tape = match read_tape(alloc, line, scratch) {
+        Ok(tape) => tape,
         Err(TreeFault::OutOfMemory) => return Err(AllocError),
         Err(TreeFault::NotJson) => return Ok(None),
     };
-    let Some(value) = member(&tree, "name") else {
+    let Some(value) = member(&root(&tape), "name") else {
         return Ok(None);
     };
-    let Some(text) = as_text(value) else {
+    let Some(text) = as_text(&value) else {
         return Ok(None);
     };
     name_of(alloc, text)
