@@ -1,17 +1,18 @@
 -- What is read of tokens, and what the tokens of a value are.
 use Rattle.std.proofs.Common.{◌≡◌, ℕ, zero, suc, ◌≤◌, max, List, [], ◌∷◌, ◌++◌, length, Bool, true, false, ◌&&◌}
 use Rattle.std.proofs.Common.{Option, Some, None, is_some, option_map, option_and_then, unwrap_or}
-use Rattle.std.proofs.Common.{refl, sym, ap, ◌∙◌, subst, arith, append_assoc, length-append}
+use Rattle.std.specs.Prelude.{IfNone}
+use Rattle.std.proofs.Common.{Bor, refl, sym, ap, ◌∙◌, subst, arith, append_assoc, length-append}
 use Rattle.std.specs.List.{list_all}
 use Rattle.json.specs.Token.{Token}
 use Rattle.json.specs.Json.{Json, null, boolean, number, string, array, object, Items, no_items, item, Members}
 use Rattle.json.specs.Json.{no_members, member, Parse, parse_map, after_end_array, read_key, items_step, members_step}
 use Rattle.json.specs.Json.{items, members, value_with, value}
-use Rattle.json.specs.Find.{BeginsWith}
+use Rattle.json.specs.Find.{BeginsWith, InMembers, NextMember}
 use Rattle.json.specs.Tree.{json_tokens, items_tokens, members_tokens, depth, items_depth, members_depth}
 use Rattle.json.proofs.Grammar.{closed_array, read_key_is}
 use Rattle.json.proofs.Printed.Trees.{value-json_tokens}
-use Rattle.trees.specs.Tokens.{first_value, begins, json_from, is_kept, nest_within}
+use Rattle.trees.specs.Tokens.{first_members, has_members, members_from, first_value, begins, json_from, is_kept, nest_within}
 use Rattle.trees.specs.Trees.{numbers_fit, items_fit, members_fit}
 
 -- ---- what is read is what the tokens spell
@@ -150,6 +151,59 @@ begun ts is = go (first_value ts) refl is
         → BeginsWith ts (unwrap_or (option_map (λ p. p.0) o) null)
     go None e b = cc
     go (Some p) e b = (length ts, p.1, e)
+
+-- ---- the members that tokens begin with
+
+object_members : Json → Members
+object_members null = no_members
+object_members (boolean b) = no_members
+object_members (number s) = no_members
+object_members (string s) = no_members
+object_members (array js) = no_members
+object_members (object ms) = ms
+
+in_object : (o : Option (Members × List Token)) (ms : Members) (r : List Token)
+    → parse_map object o ≡ Some (object ms, r) → o ≡ Some (ms, r)
+unfolding object_members
+in_object None ms r e = cc
+in_object (Some p) ms r e = ap (option_map (λ q. (object_members q.0, q.1))) e
+
+-- members that are read at any depth, in any number of turns, are those that the tokens begin with
+pub first-members : (ts : List Token) (ms : Members) → InMembers ts ms
+    → (r : List Token) × (first_members ts ≡ Some (ms, r))
+unfolding value
+first-members ts ms (d, n, r, e) =
+    let spelt : ts ≡ members_tokens ms ++ r =
+    subst (IsSpelt members_tokens ts) e (Spells-members (value d) (Spells-value d) n ts) in
+    let deep : depth (object ms) ≤ suc (length ts) =
+    omega (arith, depth-members ms, ap length spelt, length-append (members_tokens ms) r) in (
+      r,
+      in_object (first_members ts) ms r (ap (λ l. value (suc (length ts)) (Token.begin_object ∷ l)) spelt
+          ∙ value-json_tokens (object ms) (suc (length ts)) r deep),
+    )
+
+pub has-members : (ts : List Token) (ms : Members) → InMembers ts ms → has_members ts ≡ true
+has-members ts ms inside = ap is_some (first-members ts ms inside).1
+
+pub members_from-read : (ts : List Token) (ms : Members) → InMembers ts ms → members_from ts ≡ ms
+members_from-read ts ms inside =
+    ap (λ o. unwrap_or (option_map (λ p. p.0) o) no_members) (first-members ts ms inside).1
+
+pub in_members : (ts : List Token) → has_members ts ≡ true → InMembers ts (members_from ts)
+in_members ts is = go (first_members ts) refl is
+  where
+    go : (o : Option (Members × List Token)) → first_members ts ≡ o → is_some o ≡ true
+        → InMembers ts (unwrap_or (option_map (λ p. p.0) o) no_members)
+    go None e b = cc
+    go (Some p) e b = (length ts, length ts, p.1, e)
+
+-- there are members left behind the next one too
+pub members-left : (old new : List Token) (r : Option (Bor (List ℕ) × List Token)) → has_members old ≡ true
+    → NextMember old (option_map (λ m. (m.0.now, m.1)) r) new → IfNone r (new ≡ old) → has_members new ≡ true
+members-left old new None is next stays = ap has_members stays ∙ is
+members-left old new (Some m) is next stays =
+    let behind = next (members_from old) (in_members old is) in
+    has-members new behind.1 behind.4
 
 -- ---- how deep tokens nest
 

@@ -213,6 +213,12 @@ pub put_all-push : (ms : List Listed) (m : Listed) (found : Members)
 put_all-push [] m found = refl
 put_all-push (n ∷ ms) m found = put_all-push ms m (put n.0.now (tree_view n.1) found)
 
+-- ---- the members that are left
+
+abbrev pub count : json.Members → ℕ
+count json.no_members = 0
+count (json.member k j ms) = suc (count ms)
+
 -- ---- members by their keys
 
 abbrev Keyed : Type 0

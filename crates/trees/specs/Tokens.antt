@@ -2,7 +2,7 @@
 use Rattle.std.specs.Prelude.{ℕ, zero, suc, length, Bool, true, List, [], ◌∷◌}
 use Rattle.std.specs.Prelude.{Option, Some, None, is_some, option_map, unwrap_or}
 use Rattle.json.specs.Token.{Token}
-use Rattle.json.specs.Json.{Json, null, value}
+use Rattle.json.specs.Json.{Json, null, Members, no_members, members, value}
 use Rattle.serde_json.specs.Read.{number_of}
 use Rattle.model.specs.Optional.{passes}
 
@@ -15,6 +15,16 @@ begins ts = is_some (first_value ts)
 
 abbrev pub json_from : List Token → Json
 json_from ts = unwrap_or (option_map (λ p. p.0) (first_value ts)) null
+
+-- the members that tokens begin with, up to the end of their object
+abbrev pub first_members : List Token → Option (Members × List Token)
+first_members ts = members (value (length ts)) (length ts) ts
+
+abbrev pub has_members : List Token → Bool
+has_members ts = is_some (first_members ts)
+
+abbrev pub members_from : List Token → Members
+members_from ts = unwrap_or (option_map (λ p. p.0) (first_members ts)) no_members
 
 -- a number is kept unless it is beyond the floats
 abbrev pub is_kept : Token → Bool

@@ -1,6 +1,6 @@
 -- What a value in a text of JSON stands for: the value that `serde_json` reads there, where of a key that comes twice the
 -- last stays.
-use Rattle.std.specs.Prelude.{ℕ, Bool, true, false, ◌&&◌, negsuc, List, [], ◌∷◌, Option, is_some}
+use Rattle.std.specs.Prelude.{◌≡◌, ℕ, Bool, true, false, ◌&&◌, negsuc, List, [], ◌∷◌, Option, Some, None, is_some}
 use Rattle.std.specs.Prelude.{unwrap_or, option_and_then}
 use Rattle.std.specs.Borrow.{Bor}
 use Rattle.std.specs.Ordering.{is_lt, nat_cmp}
@@ -12,10 +12,11 @@ use Rattle.serde_json.specs.Data.{Num, negative, Data, null, boolean, number, st
 use Rattle.serde_json.specs.Data.{item, Members, no_members, member, put}
 use Rattle.serde_json.specs.Read.{number_of, max_depth, read}
 use Rattle.model.specs.Optional.{of_utf8}
-use Rattle.trees.specs.Tokens.{json_from}
+use Rattle.trees.specs.Tokens.{json_from, members_from}
 use Rattle.trees.specs.declared.fault.TreeFault.{TreeFault}
 use Rattle.trees.specs.declared.fault.TreeFault.TheVariants.{OutOfMemory, NotJson}
 use Rattle.trees.specs.declared.tree.Tree.{Tree}
+use Rattle.trees.specs.declared.tree.Entries.{Entries}
 
 abbrev pub wants_memory : TreeFault → Bool
 wants_memory OutOfMemory = true
@@ -83,6 +84,14 @@ tokens_view ts = data_of (json_from ts)
 
 abbrev pub tree_view : Tree → Data
 tree_view tree = tokens_view tree.element
+
+-- the members that are left, and the first of them with those behind it
+abbrev pub left : Entries → json.Members
+left entries = members_from entries.members
+
+abbrev pub IsNext : json.Members → Option (List ℕ × Data) → json.Members → Type 0
+IsNext old None new = old ≡ json.no_members
+IsNext old (Some m) new = (j : json.Json) × (old ≡ json.member m.0 j new) × (m.1 ≡ data_of j)
 
 abbrev pub trees_view : List Tree → Items
 trees_view [] = no_items

@@ -15,6 +15,7 @@
 
 mod blank;
 mod fault;
+mod listing;
 mod looking;
 mod number;
 mod reading;
@@ -22,9 +23,10 @@ mod tree;
 
 pub use blank::is_blank;
 pub use fault::TreeFault;
+pub use listing::{entries, next_entry};
 pub use looking::{
     Members, are_rising, as_flag, as_list, as_members, as_text, as_whole, by_key, is_null, item,
     member,
 };
 pub use reading::{read_tape, root};
-pub use tree::Tree;
+pub use tree::{Entries, Tree};

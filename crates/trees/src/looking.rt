@@ -6,6 +6,7 @@ ghost use Rattle.std.specs.Ordering.{is_lt, nat_cmp};
 ghost use Rattle.serde_json.specs.Find.{get, at, as_str, as_bool, as_array, as_object, as_number, as_u64};
 ghost use Rattle.trees.specs.Trees.{is_null, tree_view, trees_view, entries_view, rise_after, sorted_view};
 
+use crate::listing::{entries, next_entry};
 use crate::number::number_of;
 use crate::tree::Tree;
 use std::alloc::{AllocError, Global};
@@ -92,12 +93,12 @@ pub fn as_members<'t, 'a>(
 ) -> Result<Option<Members<'t, 'a>>, AllocError>
     ensures { IfOk result (λ o. option_map (λ v. entries_view v.items) o ≡ as_object (tree_view tree.now)) }
 {
-    let Some(mut members) = tree.element.members() else {
+    let Some(mut entries) = entries(tree) else {
         return Ok(None);
     };
     let mut found = Vec::new(alloc);
-    'members: while let Some((key, element)) = members.next() {
-        found.push((key, Tree { element }))?;
+    'members: while let Some(entry) = next_entry(&mut entries) {
+        found.push(entry)?;
     }
     Ok(Some(found))
 }

@@ -1,15 +1,14 @@
-use Rattle.std.proofs.Common.{◌≡◌, Some, length}
-use Rattle.json.specs.Json as json
-use Rattle.json.specs.Find.{InMembers}
+use Rattle.std.proofs.Common.{◌≡◌, Some}
 use Rattle.serde_json.specs.Data.{no_members}
 use Rattle.serde_json.specs.Find.{as_object}
-use Rattle.trees.specs.Trees.{members_of, put_all, tree_view}
+use Rattle.trees.specs.Trees.{left, members_of, put_all, tree_view}
+use Rattle.trees.proofs.TreeLemmas.{count}
 use Rattle.trees.proofs.looking.as_members.Given as goal
 
 -- the members that are left, put to those so far, are all
 abbrev pub invariant-members : goal.invariant-members
-invariant-members l = (rest : json.Members) × InMembers l.members rest
-    × (Some (members_of rest (put_all l.found.items no_members)) ≡ as_object (tree_view l.tree))
+invariant-members l =
+    Some (members_of (left l.entries) (put_all l.found.items no_members)) ≡ as_object (tree_view l.tree)
 
 abbrev pub decreases-members : goal.decreases-members
-decreases-members l = length l.members
+decreases-members l = count (left l.entries)
