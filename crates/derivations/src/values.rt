@@ -1,4 +1,4 @@
-//! Parts of JSON values, as trees that borrow their texts.
+//! Parts of JSON values, whose texts are borrowed.
 
 ghost use Rattle.std.specs.Prelude.{◌≡◌};
 ghost use Rattle.serde_json.specs.Find as json;

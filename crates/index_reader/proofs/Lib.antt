@@ -1,4 +1,5 @@
 pub mod ReadLemmas
+pub mod PartLemmas
 pub mod PathLemmas
 pub mod WrittenLemmas
 pub mod MadeLemmas

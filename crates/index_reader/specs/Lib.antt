@@ -1,4 +1,5 @@
 pub mod Shapes
+pub mod PartMembers
 pub mod ShapeViews
 pub mod Written
 pub mod Made

@@ -2,7 +2,9 @@
 use Rattle.std.specs.Prelude.{List, option_map, map}
 use Rattle.classes.specs.RustVersions.{rust_version_view}
 use Rattle.features.specs.Views.{text_views}
-use Rattle.index_reader.specs.Shapes.{FeatureView, PartView, DependencyView, dev, part, ShapeView}
+use Rattle.index_reader.specs.Shapes.{FeatureView, PartValues, PartView, DependencyView, dev, part, ShapeView}
+use Rattle.trees.specs.Trees.{tree_view}
+use Rattle.index_reader.specs.declared.parts.Values.{Values}
 use Rattle.index_reader.specs.declared.shape.FeatureShape.{FeatureShape}
 use Rattle.index_reader.specs.declared.shape.PartShape.{PartShape}
 use Rattle.index_reader.specs.declared.shape.DependencyShape.{DependencyShape}
@@ -44,4 +46,16 @@ shape_view s = record {
   yanked = s.yanked;
   format = s.format;
   rust_version = option_map rust_version_view s.rust_version;
+}
+
+abbrev pub values_view : Values → PartValues
+values_view v = record {
+  name_value = option_map tree_view v.name;
+  kind_value = option_map tree_view v.kind;
+  package_value = option_map tree_view v.package;
+  requirement_value = option_map tree_view v.requirement;
+  optional_value = option_map tree_view v.optional;
+  default_features_value = option_map tree_view v.default_features;
+  features_value = option_map tree_view v.features;
+  registry_value = option_map tree_view v.registry;
 }

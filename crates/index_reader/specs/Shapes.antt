@@ -106,8 +106,11 @@ features_at key d = features_or_none (value_at key d)
 abbrev pub package_name_of : Data → Line (List ℕ)
 package_name_of d = needed (as_str d) >>= λ text. if is_package_name text then Ok text else Err (Skipped reason.Shape)
 
+abbrev pub needed_name : Option Data → Line (List ℕ)
+needed_name o = needed o >>= package_name_of
+
 abbrev pub package_name_at : List ℕ → Data → Line (List ℕ)
-package_name_at key d = needed (value_at key d) >>= package_name_of
+package_name_at key d = needed_name (value_at key d)
 
 abbrev pub package_name_or_none : Option Data → Line (Option (List ℕ))
 package_name_or_none None = Ok None
@@ -145,14 +148,37 @@ pub data DependencyView : Type 0 where
   dev : List ℕ → DependencyView
   part : PartView → DependencyView
 
-unfoldable pub part_of : List ℕ → Data → Line PartView
-part_of name d = do
-  real_name ← package_name_or_none (value_at (codes "package") d)
-  requirement ← text_at (codes "req") d
-  optional_flag ← flag_at (codes "optional") false d
-  default_flag ← flag_at (codes "default_features") true d
-  features ← texts_or_none (value_at (codes "features") d)
-  registry ← optional None text_of (value_at (codes "registry") d)
+-- what stands at the keys of a dependency
+pub record PartValues : Type 0 where
+  pub name_value : Option Data
+  pub kind_value : Option Data
+  pub package_value : Option Data
+  pub requirement_value : Option Data
+  pub optional_value : Option Data
+  pub default_features_value : Option Data
+  pub features_value : Option Data
+  pub registry_value : Option Data
+
+abbrev pub values_of : Data → PartValues
+values_of d = record {
+  name_value = value_at (codes "name") d;
+  kind_value = value_at (codes "kind") d;
+  package_value = value_at (codes "package") d;
+  requirement_value = value_at (codes "req") d;
+  optional_value = value_at (codes "optional") d;
+  default_features_value = value_at (codes "default_features") d;
+  features_value = value_at (codes "features") d;
+  registry_value = value_at (codes "registry") d;
+}
+
+unfoldable pub part_with : List ℕ → PartValues → Line PartView
+part_with name values = do
+  real_name ← package_name_or_none values.package_value
+  requirement ← needed (option_and_then as_str values.requirement_value)
+  optional_flag ← optional false as_bool values.optional_value
+  default_flag ← optional true as_bool values.default_features_value
+  features ← texts_or_none values.features_value
+  registry ← optional None text_of values.registry_value
   Ok (record {
     name = name;
     real_name = real_name;
@@ -164,14 +190,14 @@ part_of name d = do
     registry = registry;
   })
 
-abbrev pub by_kind : List ℕ → DependencyKind → Data → Line DependencyView
-by_kind name kind d = if is_dev kind then Ok (dev name) else (part_of name d >>= λ p. Ok (part p))
+abbrev pub by_kind : List ℕ → DependencyKind → PartValues → Line DependencyView
+by_kind name kind values = if is_dev kind then Ok (dev name) else (part_with name values >>= λ p. Ok (part p))
 
 unfoldable pub dependency_of : Data → Line DependencyView
 dependency_of d = do
   name ← package_name_at (codes "name") d
   kind ← kind_at d
-  by_kind name kind d
+  by_kind name kind (values_of d)
 
 unfoldable pub dependencies_in : Items → Line (List DependencyView)
 dependencies_in no_items = Ok []

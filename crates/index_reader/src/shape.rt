@@ -2,17 +2,19 @@
 
 ghost use Rattle.std.specs.Prelude.{◌≡◌, Some, None, option_map};
 ghost use Rattle.model.specs.Outcome.{Gives};
-ghost use Rattle.index_reader.specs.Shapes.{wants_memory, value_at, package_name_of, package_name_at};
-ghost use Rattle.index_reader.specs.Shapes.{package_name_or_none, kind_of_text, kind_at, part_of, by_kind};
+ghost use Rattle.features.specs.declared.dependency.DependencyKind.TheVariants.{Normal};
+ghost use Rattle.index_reader.specs.Shapes.{wants_memory, optional, value_at, package_name_of, needed_name};
+ghost use Rattle.index_reader.specs.Shapes.{package_name_or_none, kind_of, kind_of_text, part_with, by_kind};
 ghost use Rattle.index_reader.specs.Shapes.{dependency_of, dependencies_in, dependencies_at, features_in};
 ghost use Rattle.index_reader.specs.Shapes.{features_or_none, rust_version_at, shape_of};
 ghost use Rattle.classes.specs.RustVersions.{rust_version_view};
 ghost use Rattle.index_reader.specs.ShapeViews.{feature_views, part_view, line_dependency_view, line_dependency_views};
-ghost use Rattle.index_reader.specs.ShapeViews.{shape_view};
+ghost use Rattle.index_reader.specs.ShapeViews.{shape_view, values_view};
 ghost use Rattle.trees.specs.Trees.{tree_view, trees_view, entries_view, listed_view};
 
 use crate::fault::{LineFault, SkipReason};
-use crate::values::{flag, text, text_if_any, texts, texts_at, value, whole};
+use crate::parts::{Values, values_of};
+use crate::values::{flag, needed_text, text, text_if_any, texts, texts_if_any, value, whole};
 use classes::RustVersion;
 use features::{DependencyKind, NameFault, PackageName};
 use std::alloc::Global;
@@ -72,7 +74,7 @@ pub(crate) fn read_shape<'a>(alloc: Global, line: &Tree<'_, 'a>) -> Result<LineS
     let dependencies = dependencies(alloc, line)?;
     let features = features_at(alloc, line, "features")?;
     let features2 = features_at(alloc, line, "features2")?;
-    let yanked = flag(line, "yanked", false)?;
+    let yanked = flag(&value(line, "yanked"), false)?;
     let format = whole(line, "v", 1)?;
     Ok(LineShape {
         name,
@@ -114,30 +116,25 @@ fn package_name(alloc: Global, value: &Tree<'_, '_>) -> Result<PackageName, Line
     }
 }
 
-/// The package name at a key that has to be there.
-fn package_name_at(
-    alloc: Global,
-    object: &Tree<'_, '_>,
-    key: &str,
-) -> Result<PackageName, LineFault>
-    ensures { Gives wants_memory (λ n. n) result (package_name_at key.now (tree_view object.now)) }
+/// A package name that has to be there.
+fn needed_name(alloc: Global, found: &Option<Tree<'_, '_>>) -> Result<PackageName, LineFault>
+    ensures { Gives wants_memory (λ n. n) result (needed_name (option_map tree_view found.now)) }
 {
-    match value(object, key) {
-        Some(found) => package_name(alloc, &found),
+    match found {
+        Some(found) => package_name(alloc, found),
         None => Err(LineFault::Skipped(SkipReason::Shape)),
     }
 }
 
-/// The package name at a key, if it is there.
-fn package_name_if_any(
+/// A package name, if it is there.
+fn name_if_any(
     alloc: Global,
-    object: &Tree<'_, '_>,
-    key: &str,
+    found: &Option<Tree<'_, '_>>,
 ) -> Result<Option<PackageName>, LineFault>
-    ensures { Gives wants_memory (λ n. n) result (package_name_or_none (value_at key.now (tree_view object.now))) }
+    ensures { Gives wants_memory (λ n. n) result (package_name_or_none (option_map tree_view found.now)) }
 {
-    match value(object, key) {
-        Some(found) => Ok(Some(package_name(alloc, &found)?)),
+    match found {
+        Some(found) => Ok(Some(package_name(alloc, found)?)),
         None => Ok(None),
     }
 }
@@ -158,13 +155,13 @@ fn kind_of_text(text: &str) -> Option<DependencyKind>
 }
 
 /// The kind of a dependency: normal where it says none.
-fn kind_at(dependency: &Tree<'_, '_>) -> Result<DependencyKind, LineFault>
-    ensures { Gives wants_memory (λ k. k) result (kind_at (tree_view dependency.now)) }
+fn kind(found: &Option<Tree<'_, '_>>) -> Result<DependencyKind, LineFault>
+    ensures { Gives wants_memory (λ k. k) result (optional Normal kind_of (option_map tree_view found.now)) }
 {
-    let Some(found) = value(dependency, "kind") else {
+    let Some(found) = found else {
         return Ok(DependencyKind::Normal);
     };
-    let Some(text) = as_text(&found) else {
+    let Some(text) = as_text(found) else {
         return Err(LineFault::Skipped(SkipReason::Shape));
     };
     match kind_of_text(text) {
@@ -173,20 +170,20 @@ fn kind_at(dependency: &Tree<'_, '_>) -> Result<DependencyKind, LineFault>
     }
 }
 
-#[tactic(auto, unfolding(crate::specs::Shapes::part_of))]
+#[tactic(auto, unfolding(crate::specs::Shapes::part_with))]
 fn part<'a>(
     alloc: Global,
     name: PackageName,
-    dependency: &Tree<'_, 'a>,
+    values: &Values<'_, 'a>,
 ) -> Result<PartShape<'a>, LineFault>
-    ensures { Gives wants_memory part_view result (part_of name (tree_view dependency.now)) }
+    ensures { Gives wants_memory part_view result (part_with name (values_view values.now)) }
 {
-    let real_name = package_name_if_any(alloc, dependency, "package")?;
-    let requirement = text(dependency, "req")?;
-    let optional = flag(dependency, "optional", false)?;
-    let default_features = flag(dependency, "default_features", true)?;
-    let features = texts_at(alloc, dependency, "features")?;
-    let registry = text_if_any(dependency, "registry")?;
+    let real_name = name_if_any(alloc, &values.package)?;
+    let requirement = needed_text(&values.requirement)?;
+    let optional = flag(&values.optional, false)?;
+    let default_features = flag(&values.default_features, true)?;
+    let features = texts_if_any(alloc, &values.features)?;
+    let registry = text_if_any(&values.registry)?;
     Ok(PartShape {
         name,
         real_name,
@@ -202,15 +199,15 @@ fn of_kind<'a>(
     alloc: Global,
     name: PackageName,
     kind: DependencyKind,
-    dependency: &Tree<'_, 'a>,
+    values: &Values<'_, 'a>,
 ) -> Result<DependencyShape<'a>, LineFault>
-    ensures { Gives wants_memory line_dependency_view result (by_kind name kind (tree_view dependency.now)) }
+    ensures { Gives wants_memory line_dependency_view result (by_kind name kind (values_view values.now)) }
 {
     match kind {
         DependencyKind::Dev => Ok(DependencyShape::Dev(name)),
-        DependencyKind::Normal | DependencyKind::Build => Ok(DependencyShape::Part(part(
-            alloc, name, dependency,
-        )?)),
+        DependencyKind::Normal | DependencyKind::Build => {
+            Ok(DependencyShape::Part(part(alloc, name, values)?))
+        }
     }
 }
 
@@ -218,9 +215,10 @@ fn of_kind<'a>(
 fn dependency<'a>(alloc: Global, value: &Tree<'_, 'a>) -> Result<DependencyShape<'a>, LineFault>
     ensures { Gives wants_memory line_dependency_view result (dependency_of (tree_view value.now)) }
 {
-    let name = package_name_at(alloc, value, "name")?;
-    let kind = kind_at(value)?;
-    of_kind(alloc, name, kind, value)
+    let values = values_of(value);
+    let name = needed_name(alloc, &values.name)?;
+    let kind = kind(&values.kind)?;
+    of_kind(alloc, name, kind, &values)
 }
 
 #[tactic(auto, unfolding(crate::specs::Shapes::dependencies_in))]

@@ -1,16 +1,18 @@
 //! Values at the keys of a JSON object.
 
-ghost use Rattle.std.specs.Prelude.{◌≡◌, None, Some, option_map};
+ghost use Rattle.std.specs.Prelude.{◌≡◌, None, Some, option_and_then, option_map};
+ghost use Rattle.serde_json.specs.Find.{as_bool, as_str};
 ghost use Rattle.model.specs.Outcome.{Gives};
-ghost use Rattle.index_reader.specs.Shapes.{wants_memory, data_of_bytes, value_at, text_at, text_of, flag_at, whole_at};
+ghost use Rattle.index_reader.specs.Shapes.{wants_memory, data_of_bytes, needed, value_at, text_at, text_of, whole_at};
 ghost use Rattle.index_reader.specs.Shapes.{optional, texts_in, texts_of, texts_or_none};
 ghost use Rattle.features.specs.Views.{text_views};
 ghost use Rattle.trees.specs.Trees.{tokens_view, tree_view, trees_view};
 
 use crate::fault::{LineFault, SkipReason};
+use crate::parts::unless_null;
 use json::{Scratch, Tape};
 use std::alloc::Global;
-use trees::{Tree, TreeFault, as_flag, as_list, as_text, as_whole, is_null, member, read_tape};
+use trees::{Tree, TreeFault, as_flag, as_list, as_text, as_whole, member, read_tape};
 
 /// The JSON value that the bytes are, as its tokens.
 pub(crate) fn read_json<'a>(
@@ -31,21 +33,26 @@ pub(crate) fn read_json<'a>(
 pub(crate) fn value<'t, 'a>(object: &Tree<'t, 'a>, key: &str) -> Option<Tree<'t, 'a>>
     ensures { option_map tree_view result ≡ value_at key.now (tree_view object.now) }
 {
-    let Some(found) = member(object, key) else {
-        return None;
-    };
-    if is_null(&found) {
-        return None;
+    match member(object, key) {
+        Some(found) => unless_null(found),
+        None => None,
     }
-    Some(found)
 }
 
 /// The text at a key that has to be there.
 pub(crate) fn text<'a>(object: &Tree<'_, 'a>, key: &str) -> Result<&'a str, LineFault>
     ensures { Gives wants_memory (λ s. s.now) result (text_at key.now (tree_view object.now)) }
 {
-    match value(object, key) {
-        Some(found) => match as_text(&found) {
+    needed_text(&value(object, key))
+}
+
+/// A text that has to be there.
+pub(crate) fn needed_text<'a>(found: &Option<Tree<'_, 'a>>) -> Result<&'a str, LineFault>
+    ensures { Gives wants_memory (λ s. s.now) result
+        (needed (option_and_then as_str (option_map tree_view found.now))) }
+{
+    match found {
+        Some(found) => match as_text(found) {
             Some(text) => Ok(text),
             None => Err(LineFault::Skipped(SkipReason::Shape)),
         },
@@ -53,16 +60,13 @@ pub(crate) fn text<'a>(object: &Tree<'_, 'a>, key: &str) -> Result<&'a str, Line
     }
 }
 
-/// The text at a key, if it is there.
-pub(crate) fn text_if_any<'a>(
-    object: &Tree<'_, 'a>,
-    key: &str,
-) -> Result<Option<&'a str>, LineFault>
+/// A text, if it is there.
+pub(crate) fn text_if_any<'a>(found: &Option<Tree<'_, 'a>>) -> Result<Option<&'a str>, LineFault>
     ensures { Gives wants_memory (option_map (λ s. s.now)) result
-        (optional None text_of (value_at key.now (tree_view object.now))) }
+        (optional None text_of (option_map tree_view found.now)) }
 {
-    match value(object, key) {
-        Some(found) => match as_text(&found) {
+    match found {
+        Some(found) => match as_text(found) {
             Some(text) => Ok(Some(text)),
             None => Err(LineFault::Skipped(SkipReason::Shape)),
         },
@@ -70,12 +74,12 @@ pub(crate) fn text_if_any<'a>(
     }
 }
 
-/// The flag at a key, or what it is where the key is absent.
-pub(crate) fn flag(object: &Tree<'_, '_>, key: &str, absent: bool) -> Result<bool, LineFault>
-    ensures { Gives wants_memory (λ b. b) result (flag_at key.now absent (tree_view object.now)) }
+/// A flag, or what it is where it is absent.
+pub(crate) fn flag(found: &Option<Tree<'_, '_>>, absent: bool) -> Result<bool, LineFault>
+    ensures { Gives wants_memory (λ b. b) result (optional absent as_bool (option_map tree_view found.now)) }
 {
-    match value(object, key) {
-        Some(found) => match as_flag(&found) {
+    match found {
+        Some(found) => match as_flag(found) {
             Some(flag) => Ok(flag),
             None => Err(LineFault::Skipped(SkipReason::Shape)),
         },
@@ -122,17 +126,15 @@ pub(crate) fn texts<'a>(alloc: Global, value: &Tree<'_, 'a>) -> Result<Vec<&'a s
     }
 }
 
-/// The texts at a key: none where it is absent.
-pub(crate) fn texts_at<'a>(
+/// Texts: none where they are absent.
+pub(crate) fn texts_if_any<'a>(
     alloc: Global,
-    object: &Tree<'_, 'a>,
-    key: &str,
+    found: &Option<Tree<'_, 'a>>,
 ) -> Result<Vec<&'a str>, LineFault>
-    ensures { Gives wants_memory
-        (λ v. text_views v.items) result (texts_or_none (value_at key.now (tree_view object.now))) }
+    ensures { Gives wants_memory (λ v. text_views v.items) result (texts_or_none (option_map tree_view found.now)) }
 {
-    match value(object, key) {
-        Some(found) => texts(alloc, &found),
+    match found {
+        Some(found) => texts(alloc, found),
         None => Ok(Vec::new(alloc)),
     }
 }

@@ -4,7 +4,7 @@ use Rattle.std.proofs.Common.{unwrap_or, option_and_then, Result, Ok, Err, codes
 use Rattle.std.specs.Bool.{⊤}
 use Rattle.std.specs.List.{AllByRecursion, list_all, slice_split}
 use Rattle.serde_json.specs.Data.{Data, Items, no_items, item}
-use Rattle.serde_json.specs.Find.{as_str, as_array}
+use Rattle.serde_json.specs.Find.{as_str, as_bool, as_array}
 use Rattle.semver.specs.Grammar.{IsValid}
 use Rattle.semver.specs.Parse.{Parts, Held, version_parts, req_of}
 use Rattle.semver.specs.declared.error.Error.{Error}
@@ -16,7 +16,8 @@ use Rattle.features.specs.Names.{is_package_name}
 use Rattle.index_reader.specs.Shapes.{Line, ShapeView, PartView, DependencyView, dev, part, data_of_bytes, needed}
 use Rattle.index_reader.specs.Shapes.{value_at, text_at, text_of, flag_at, whole_at, texts_or_none, features_at}
 use Rattle.index_reader.specs.Shapes.{optional, package_name_of, package_name_at, package_name_or_none, kind_at, is_dev}
-use Rattle.index_reader.specs.Shapes.{part_of, dependency_of, dependencies_in, dependencies_at, shape_of}
+use Rattle.index_reader.specs.Shapes.{PartValues, values_of, part_with, dependency_of, dependencies_in}
+use Rattle.index_reader.specs.Shapes.{dependencies_at, shape_of}
 use Rattle.index_reader.specs.Records.{RecordView, unless, semver_or, required_part, required, dependency_read}
 use Rattle.index_reader.specs.Records.{dependencies_read}
 use Rattle.index_reader.specs.Records.{is_of_index, is_checksum, feature_names, unchecked_of_shape, unchecked_of_line}
@@ -50,23 +51,24 @@ name-or-none : (o : Option Data) → Given (IfSome IsName) (package_name_or_none
 name-or-none None = tt
 name-or-none (Some d) = next IsName (IfSome IsName) (package_name_of d) _ (name-of d) (λ name is. is)
 
-part-named : (name : List ℕ) (d : Data) → IsName name → Given IsPart (part_of name d)
-unfolding part_of
-part-named name d is = next (IfSome IsName) IsPart (package_name_or_none (value_at (codes "package") d)) _
-    (name-or-none (value_at (codes "package") d)) (λ real real_is.
-    any IsPart (text_at (codes "req") d) _
-    (λ requirement. any IsPart (flag_at (codes "optional") false d) _ (λ may_lack.
-    any IsPart (flag_at (codes "default_features") true d) _
-    (λ default. any IsPart (texts_or_none (value_at (codes "features") d)) _ (λ features.
-    any IsPart (optional None text_of (value_at (codes "registry") d)) _ (λ registry. (is, real_is)))))))
+part-named : (name : List ℕ) (values : PartValues) → IsName name → Given IsPart (part_with name values)
+unfolding part_with
+part-named name values is = next (IfSome IsName) IsPart (package_name_or_none values.package_value) _
+    (name-or-none values.package_value) (λ real real_is.
+    any IsPart (needed (option_and_then as_str values.requirement_value)) _
+    (λ requirement. any IsPart (optional false as_bool values.optional_value) _ (λ may_lack.
+    any IsPart (optional true as_bool values.default_features_value) _
+    (λ default. any IsPart (texts_or_none values.features_value) _ (λ features.
+    any IsPart (optional None text_of values.registry_value) _ (λ registry. (is, real_is)))))))
 
 dependency-named : (d : Data) → Given IsNamed (dependency_of d)
 unfolding dependency_of
 dependency-named d = next IsName IsNamed (package_name_at (codes "name") d) _
     (any IsName (needed (value_at (codes "name") d)) package_name_of name-of) (λ name is.
     any IsNamed (kind_at d) _
-    (λ kind. either IsNamed (is_dev kind) (Ok (dev name)) (part_of name d >>= λ p. Ok (part p)) tt
-    (next IsPart IsNamed (part_of name d) (λ p. Ok (part p)) (part-named name d is) (λ p named. named))))
+    (λ kind. either IsNamed (is_dev kind) (Ok (dev name)) (part_with name (values_of d) >>= λ p. Ok (part p)) tt
+    (next IsPart IsNamed (part_with name (values_of d)) (λ p. Ok (part p)) (part-named name (values_of d) is)
+    (λ p named. named))))
 
 dependencies-named : (ds : Items) → Given (AllByRecursion IsNamed) (dependencies_in ds)
 unfolding dependencies_in

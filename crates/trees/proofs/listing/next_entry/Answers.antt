@@ -20,9 +20,11 @@ invariant_of-result c =
 pub returns-in-Some : goal.returns-in-Some
 returns-in-Some c =
     let ts = c.args.entries.now.members in
-    let next = c.in-Some.ensures.value (members_from ts) (in_members ts c.args.entries.now.has_members) in
-    (next.0, next.2 ∙ sym (ap (member c.in-Some.key.now next.0) (members_from-read c.next.new.self next.1 next.4)),
-    ap data_of (json_from-read c.in-Some.element next.0 next.3))
+    let next = c.in-Some.ensures.value (members_from ts) (in_members ts c.args.entries.now.has_members) in (
+      next.0,
+      next.2 ∙ sym (ap (member c.in-Some.key.now next.0) (members_from-read c.next.new.self next.1 next.4)),
+      ap data_of (json_from-read c.in-Some.element next.0 next.3),
+    )
 
 pub returns-in-None : goal.returns-in-None
 returns-in-None c =
