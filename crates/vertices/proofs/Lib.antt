@@ -1,4 +1,5 @@
 pub mod Bound
+pub mod MadeOf
 pub mod OrderLaws
 pub mod TextLaws
 pub mod PlainTexts

@@ -9,7 +9,7 @@ use Rattle.semver.proofs.Grammar.{version_parts-sound}
 use Rattle.model.specs.Outcome.{◌>>=◌}
 use Rattle.model.specs.Summary.{same_text}
 use Rattle.model.specs.Selection.{Class, patch, minor, major}
-use Rattle.model.specs.Vertices.{Owner, the_root, version_of, Vertex, root, pkg, dep, feat, ask}
+use Rattle.model.specs.Vertices.{Owner, the_root, version_of, Vertex, root}
 use Rattle.features.specs.Entries.{after_text}
 use Rattle.features.specs.Names.{is_package_name, is_feature_name}
 use Rattle.classes.specs.Numbers.{is_plain_number, number_of}
@@ -18,6 +18,7 @@ use Rattle.vertices.specs.Texts.{lesser_class, class_or, class_of_text, index_of
 use Rattle.vertices.specs.Texts.{package_of_text, dependency_of_text, feature_of_text, ask_of_text, kinded_vertex}
 use Rattle.vertices.specs.Texts.{vertex_of_text}
 use Rattle.vertices.proofs.Bound.{steps, same-Ok, same-Some, some, chosen}
+use Rattle.vertices.proofs.MadeOf.{named_version, package_made, dependency_made, feature_made, ask_made}
 use Rattle.vertices.proofs.TextLaws.{version-or}
 use Rattle.vertices.specs.Valid.{IsPackageName, IsFeatureName, IsValidClass, IsIndex, IsValidOwner, IsValidVertex}
 
@@ -75,14 +76,10 @@ feature-fits : (text f : List ℕ) → feature_name_of text ≡ Ok f → IsFeatu
 feature-fits text f h = let c = chosen (is_feature_name text) text f _ h in subst (λ m. IsFeatureName m) c.1 c.0
 
 named-fits : (text : List ℕ) (p : List ℕ × Parts) → named_version_of_text text ≡ Ok p → IsPackageName p.0 × IsValid p.1
-unfolding named_version_of_text
 named-fits text p h =
-    let s = steps (parted 64 text) _ p h in
-    let t = steps (package_name_of s.at.0) _ p s.then in
-    let u = steps (version_of_text s.at.1) _ p t.then in
-    let same : (t.at, u.at) ≡ p = same-Ok _ _ u.then in
-    subst (λ (r : List ℕ × Parts). IsPackageName r.0 × IsValid r.1) same
-    (name-fits s.at.0 t.at t.first, version-fits s.at.1 u.at u.first)
+    let m = named_version text p h in
+    subst (λ (r : List ℕ × Parts). IsPackageName r.0 × IsValid r.1) m.is
+    (name-fits m.parts.0 m.name m.named, version-fits m.parts.1 m.of_version m.versioned)
 
 owner-fits : (text : List ℕ) (o : Owner) → owner_of_text text ≡ Ok o → IsValidOwner o
 owner-fits text o h =
@@ -92,46 +89,32 @@ owner-fits text o h =
     subst (λ x. IsValidOwner x) (same-Ok _ _ s.then) (named-fits text s.at s.first)) h
 
 package-fits : (text : List ℕ) (v : Vertex) → package_of_text text ≡ Ok v → IsValidVertex v
-unfolding package_of_text
 package-fits text v h =
-    let s = steps (parted 32 text) _ v h in
-    let t = steps (package_name_of s.at.0) _ v s.then in
-    let u = steps (class_of_text s.at.1) _ v t.then in
-    let same : pkg t.at u.at ≡ v = same-Ok _ _ u.then in
-    subst (λ x. IsValidVertex x) same (name-fits s.at.0 t.at t.first, class-fits s.at.1 u.at u.first)
+    let m = package_made text v h in
+    subst (λ x. IsValidVertex x) m.is
+    (name-fits m.parts.0 m.name m.named, class-fits m.parts.1 m.of_class m.classed)
 
 dependency-fits : (text : List ℕ) (v : Vertex) → dependency_of_text text ≡ Ok v → IsValidVertex v
-unfolding dependency_of_text
 dependency-fits text v h =
-    let s = steps (parted 32 text) _ v h in
-    let t = steps (owner_of_text s.at.0) _ v s.then in
-    let u = steps (index_of s.at.1) _ v t.then in
-    let same : dep t.at u.at ≡ v = same-Ok _ _ u.then in
-    subst (λ x. IsValidVertex x) same (owner-fits s.at.0 t.at t.first, index-fits s.at.1 u.at u.first)
+    let m = dependency_made text v h in
+    subst (λ x. IsValidVertex x) m.is
+    (owner-fits m.parts.0 m.owner m.owned, index-fits m.parts.1 m.index m.indexed)
 
 asked-fits : (text : List ℕ) (v : Vertex) → feature_of_text text ≡ Ok v → IsValidVertex v
-unfolding feature_of_text
 asked-fits text v h =
-    let s = steps (parted 32 text) _ v h in
-    let m = steps (parted 32 s.at.1) _ v s.then in
-    let t = steps (package_name_of s.at.0) _ v m.then in
-    let u = steps (class_of_text m.at.0) _ v t.then in
-    let w = steps (feature_name_of m.at.1) _ v u.then in
-    let same : feat t.at u.at w.at ≡ v = same-Ok _ _ w.then in
-    subst (λ x. IsValidVertex x) same
-    (name-fits s.at.0 t.at t.first, class-fits m.at.0 u.at u.first, feature-fits m.at.1 w.at w.first)
+    let m = feature_made text v h in
+    subst (λ x. IsValidVertex x) m.is (
+      name-fits m.parts.0 m.name m.named,
+      class-fits m.more.0 m.of_class m.classed,
+      feature-fits m.more.1 m.feature m.featured,
+    )
 
 ask-fits : (text : List ℕ) (v : Vertex) → ask_of_text text ≡ Ok v → IsValidVertex v
-unfolding ask_of_text
 ask-fits text v h =
-    let s = steps (parted 32 text) _ v h in
-    let m = steps (parted 32 s.at.1) _ v s.then in
-    let t = steps (named_version_of_text s.at.0) _ v m.then in
-    let u = steps (index_of m.at.0) _ v t.then in
-    let w = steps (feature_name_of m.at.1) _ v u.then in
-    let same : ask t.at.0 t.at.1 u.at w.at ≡ v = same-Ok _ _ w.then in
-    let both = named-fits s.at.0 t.at t.first in
-    subst (λ x. IsValidVertex x) same (both.0, both.1, index-fits m.at.0 u.at u.first, feature-fits m.at.1 w.at w.first)
+    let m = ask_made text v h in
+    let both = named-fits m.parts.0 m.owner m.owned in
+    subst (λ x. IsValidVertex x) m.is
+    (both.0, both.1, index-fits m.more.0 m.index m.indexed, feature-fits m.more.1 m.feature m.featured)
 
 kinded-fits : (word rest : List ℕ) (v : Vertex) → kinded_vertex word rest ≡ Ok v → IsValidVertex v
 kinded-fits word rest v h =

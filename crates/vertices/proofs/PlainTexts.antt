@@ -31,6 +31,7 @@ use Rattle.vertices.specs.Texts.{package_of_text, dependency_of_text, feature_of
 use Rattle.vertices.specs.Texts.{vertex_of_text, present_of_text, value_of_text, state_of_text}
 use Rattle.vertices.specs.declared.fault.TextFault.TheVariants.{NotAText}
 use Rattle.vertices.proofs.Bound.{steps, some, chosen}
+use Rattle.vertices.proofs.MadeOf.{named_version, package_made, dependency_made, feature_made, ask_made}
 use Rattle.vertices.proofs.TextLaws.{front-joins, parted-joins, version-or}
 
 -- a printable ASCII byte other than `"` and `\`
@@ -222,12 +223,9 @@ joined byte plain text p is h k =
     subst IsPlain (sym (parted-joins byte text p is)) (plain-append p.0 (byte ∷ p.1) h (plain, k))
 
 named-plain : (text : List ℕ) (p : List ℕ × Parts) → named_version_of_text text ≡ Ok p → IsPlain text
-unfolding named_version_of_text
 named-plain text p h =
-    let s = steps (parted 64 text) _ p h in
-    let t = steps (package_name_of s.at.0) _ p s.then in
-    let u = steps (version_of_text s.at.1) _ p t.then in
-    joined 64 (literal-is 64 refl) text s.at s.first (name-plain _ _ t.first) (version-plain _ _ u.first)
+    let m = named_version text p h in
+    joined 64 (literal-is 64 refl) text m.parts m.cut (name-plain _ _ m.named) (version-plain _ _ m.versioned)
 
 -- a text that is this literal
 is-literal : (text word : List ℕ) → same_bytes text word ≡ true → IsPlain word → IsPlain text
@@ -243,42 +241,28 @@ owner-plain text o h = by (same_bytes text (codes "root")) refl h
         steps (named_version_of_text text) (λ p. Ok (version_of p.0 p.1)) o h in named-plain text s.at s.first
 
 package-plain : (text : List ℕ) (v : Vertex) → package_of_text text ≡ Ok v → IsPlain text
-unfolding package_of_text
 package-plain text v h =
-    let s = steps (parted 32 text) _ v h in
-    let t = steps (package_name_of s.at.0) _ v s.then in
-    let u = steps (class_of_text s.at.1) _ v t.then in
-    joined 32 (literal-is 32 refl) text s.at s.first (name-plain _ _ t.first) (class-plain _ _ u.first)
+    let m = package_made text v h in
+    joined 32 (literal-is 32 refl) text m.parts m.cut (name-plain _ _ m.named) (class-plain _ _ m.classed)
 
 dependency-plain : (text : List ℕ) (v : Vertex) → dependency_of_text text ≡ Ok v → IsPlain text
-unfolding dependency_of_text
 dependency-plain text v h =
-    let s = steps (parted 32 text) _ v h in
-    let t = steps (owner_of_text s.at.0) _ v s.then in
-    let u = steps (index_of s.at.1) _ v t.then in
-    joined 32 (literal-is 32 refl) text s.at s.first (owner-plain _ _ t.first) (index-plain _ _ u.first)
+    let m = dependency_made text v h in
+    joined 32 (literal-is 32 refl) text m.parts m.cut (owner-plain _ _ m.owned) (index-plain _ _ m.indexed)
 
 asked-plain : (text : List ℕ) (v : Vertex) → feature_of_text text ≡ Ok v → IsPlain text
-unfolding feature_of_text
 asked-plain text v h =
-    let s = steps (parted 32 text) _ v h in
-    let m = steps (parted 32 s.at.1) _ v s.then in
-    let t = steps (package_name_of s.at.0) _ v m.then in
-    let u = steps (class_of_text m.at.0) _ v t.then in
-    let w = steps (feature_name_of m.at.1) _ v u.then in
-    joined 32 (literal-is 32 refl) text s.at s.first (name-plain _ _ t.first)
-    (joined 32 (literal-is 32 refl) s.at.1 m.at m.first (class-plain _ _ u.first) (feature-plain _ _ w.first))
+    let m = feature_made text v h in
+    joined 32 (literal-is 32 refl) text m.parts m.cut (name-plain _ _ m.named)
+    (joined 32 (literal-is 32 refl) m.parts.1 m.more m.cut_again (class-plain _ _ m.classed)
+    (feature-plain _ _ m.featured))
 
 ask-plain : (text : List ℕ) (v : Vertex) → ask_of_text text ≡ Ok v → IsPlain text
-unfolding ask_of_text
 ask-plain text v h =
-    let s = steps (parted 32 text) _ v h in
-    let m = steps (parted 32 s.at.1) _ v s.then in
-    let t = steps (named_version_of_text s.at.0) _ v m.then in
-    let u = steps (index_of m.at.0) _ v t.then in
-    let w = steps (feature_name_of m.at.1) _ v u.then in
-    joined 32 (literal-is 32 refl) text s.at s.first (named-plain _ _ t.first)
-    (joined 32 (literal-is 32 refl) s.at.1 m.at m.first (index-plain _ _ u.first) (feature-plain _ _ w.first))
+    let m = ask_made text v h in
+    joined 32 (literal-is 32 refl) text m.parts m.cut (named-plain _ _ m.owned)
+    (joined 32 (literal-is 32 refl) m.parts.1 m.more m.cut_again (index-plain _ _ m.indexed)
+    (feature-plain _ _ m.featured))
 
 abbrev Both : List ℕ → List ℕ → Type 0
 Both word rest = IsPlain word × IsPlain rest

@@ -33,6 +33,7 @@ use Rattle.vertices.specs.Texts.{feature_of_text, ask_of_text, kinded_vertex, ve
 use Rattle.vertices.specs.Texts.{present_of_text, value_of_text, state_of_text}
 use Rattle.vertices.specs.declared.fault.TextFault.TheVariants.{NotAText}
 use Rattle.vertices.proofs.Bound.{steps, same-Ok, same-Some, some, chosen}
+use Rattle.vertices.proofs.MadeOf.{named_version, package_made, dependency_made, feature_made, ask_made}
 
 -- ---- parts of texts
 
@@ -177,15 +178,12 @@ joined byte a b c d p q = cc
 
 named-text : (text : List ℕ) (p : List ℕ × Parts) → named_version_of_text text ≡ Ok p
     → p.0 ++ (64 ∷ parts_text p.1) ≡ text
-unfolding named_version_of_text
 named-text text p h =
-    let s = steps (parted 64 text) _ p h in
-    let t = steps (package_name_of s.at.0) _ p s.then in
-    let u = steps (version_of_text s.at.1) _ p t.then in
-    let same : (t.at, u.at) ≡ p = same-Ok _ _ u.then in
-    ap (λ (q : List ℕ × Parts). q.0 ++ (64 ∷ parts_text q.1)) (sym same)
-    ∙ joined 64 t.at (parts_text u.at) s.at.0 s.at.1 (sym (name-is _ _ t.first)) (version-reads _ _ u.first)
-    ∙ sym (parted-joins 64 text s.at s.first)
+    let m = named_version text p h in
+    ap (λ (q : List ℕ × Parts). q.0 ++ (64 ∷ parts_text q.1)) (sym m.is)
+    ∙ joined 64 m.name (parts_text m.of_version) m.parts.0 m.parts.1
+    (sym (name-is _ _ m.named)) (version-reads _ _ m.versioned)
+    ∙ sym (parted-joins 64 text m.parts m.cut)
 
 owner-text : (text : List ℕ) (o : Owner) → owner_of_text text ≡ Ok o → owner_text o ≡ text
 owner-text text o h = by (same_bytes text (codes "root")) refl h
@@ -198,56 +196,41 @@ owner-text text o h = by (same_bytes text (codes "root")) refl h
         ap owner_text (sym (same-Ok _ _ s.then)) ∙ named-text text s.at s.first
 
 package-text : (text : List ℕ) (v : Vertex) → package_of_text text ≡ Ok v → vertex_text v ≡ codes "pkg " ++ text
-unfolding package_of_text
 package-text text v h =
-    let s = steps (parted 32 text) _ v h in
-    let t = steps (package_name_of s.at.0) _ v s.then in
-    let u = steps (class_of_text s.at.1) _ v t.then in
-    let same : pkg t.at u.at ≡ v = same-Ok _ _ u.then in
-    ap vertex_text (sym same) ∙ ap (λ r. codes "pkg " ++ r) (joined 32 t.at (class_text u.at) s.at.0 s.at.1
-    (sym (name-is _ _ t.first)) (class-reads _ _ u.first) ∙ sym (parted-joins 32 text s.at s.first))
+    let m = package_made text v h in
+    ap vertex_text (sym m.is)
+    ∙ ap (λ r. codes "pkg " ++ r) (joined 32 m.name (class_text m.of_class) m.parts.0 m.parts.1
+    (sym (name-is _ _ m.named)) (class-reads _ _ m.classed) ∙ sym (parted-joins 32 text m.parts m.cut))
 
 dependency-text : (text : List ℕ) (v : Vertex) → dependency_of_text text ≡ Ok v → vertex_text v ≡ codes "dep " ++ text
-unfolding dependency_of_text
 dependency-text text v h =
-    let s = steps (parted 32 text) _ v h in
-    let t = steps (owner_of_text s.at.0) _ v s.then in
-    let u = steps (index_of s.at.1) _ v t.then in
-    let same : dep t.at u.at ≡ v = same-Ok _ _ u.then in
-    ap vertex_text (sym same) ∙ ap (λ r. codes "dep " ++ r) (joined 32 (owner_text t.at) (decimal u.at) s.at.0 s.at.1
-    (owner-text _ _ t.first) (index-text _ _ u.first) ∙ sym (parted-joins 32 text s.at s.first))
+    let m = dependency_made text v h in
+    ap vertex_text (sym m.is)
+    ∙ ap (λ r. codes "dep " ++ r) (joined 32 (owner_text m.owner) (decimal m.index) m.parts.0 m.parts.1
+    (owner-text _ _ m.owned) (index-text _ _ m.indexed) ∙ sym (parted-joins 32 text m.parts m.cut))
 
 feature-text : (text : List ℕ) (v : Vertex) → feature_of_text text ≡ Ok v → vertex_text v ≡ codes "feat " ++ text
-unfolding feature_of_text
 feature-text text v h =
-    let s = steps (parted 32 text) _ v h in
-    let m = steps (parted 32 s.at.1) _ v s.then in
-    let t = steps (package_name_of s.at.0) _ v m.then in
-    let u = steps (class_of_text m.at.0) _ v t.then in
-    let w = steps (feature_name_of m.at.1) _ v u.then in
-    let same : feat t.at u.at w.at ≡ v = same-Ok _ _ w.then in
-    let more : class_text u.at ++ (32 ∷ w.at) ≡ s.at.1 = joined 32 (class_text u.at) w.at m.at.0 m.at.1
-    (class-reads _ _ u.first) (sym (feature-is _ _ w.first)) ∙ sym (parted-joins 32 s.at.1 m.at m.first) in
-    ap vertex_text (sym same) ∙ ap (λ r. codes "feat " ++ r) (joined 32 t.at (class_text u.at
-    ++ (32 ∷ w.at)) s.at.0 s.at.1 (sym (name-is _ _ t.first)) more ∙ sym (parted-joins 32 text s.at s.first))
+    let m = feature_made text v h in
+    let more : class_text m.of_class ++ (32 ∷ m.feature) ≡ m.parts.1 =
+    joined 32 (class_text m.of_class) m.feature m.more.0 m.more.1 (class-reads _ _ m.classed)
+    (sym (feature-is _ _ m.featured)) ∙ sym (parted-joins 32 m.parts.1 m.more m.cut_again) in
+    ap vertex_text (sym m.is)
+    ∙ ap (λ r. codes "feat " ++ r) (joined 32 m.name (class_text m.of_class ++ (32 ∷ m.feature)) m.parts.0 m.parts.1
+    (sym (name-is _ _ m.named)) more ∙ sym (parted-joins 32 text m.parts m.cut))
 
 ask-text : (text : List ℕ) (v : Vertex) → ask_of_text text ≡ Ok v → vertex_text v ≡ codes "ask " ++ text
-unfolding ask_of_text
 ask-text text v h =
-    let s = steps (parted 32 text) _ v h in
-    let m = steps (parted 32 s.at.1) _ v s.then in
-    let t = steps (named_version_of_text s.at.0) _ v m.then in
-    let u = steps (index_of m.at.0) _ v t.then in
-    let w = steps (feature_name_of m.at.1) _ v u.then in
-    let same : ask t.at.0 t.at.1 u.at w.at ≡ v = same-Ok _ _ w.then in
-    let more : decimal u.at ++ (32 ∷ w.at) ≡ s.at.1 = joined 32 (decimal u.at) w.at m.at.0 m.at.1
-    (index-text _ _ u.first) (sym (feature-is _ _ w.first)) ∙ sym (parted-joins 32 s.at.1 m.at m.first) in
-    let owner : t.at.0 ++ (64 ∷ parts_text t.at.1) ≡ s.at.0 = named-text _ _ t.first in
-    ap vertex_text (sym same)
+    let m = ask_made text v h in
+    let owner : m.owner.0 ++ (64 ∷ parts_text m.owner.1) ≡ m.parts.0 = named-text _ _ m.owned in
+    let more : decimal m.index ++ (32 ∷ m.feature) ≡ m.parts.1 =
+    joined 32 (decimal m.index) m.feature m.more.0 m.more.1 (index-text _ _ m.indexed)
+    (sym (feature-is _ _ m.featured)) ∙ sym (parted-joins 32 m.parts.1 m.more m.cut_again) in
+    ap vertex_text (sym m.is)
     ∙ ap (λ r. codes "ask " ++ r)
-    (sym (append_assoc t.at.0 (64 ∷ parts_text t.at.1) (32 ∷ (decimal u.at ++ (32 ∷ w.at))))
-    ∙ joined 32 (t.at.0 ++ (64 ∷ parts_text t.at.1)) (decimal u.at ++ (32 ∷ w.at)) s.at.0 s.at.1 owner more
-    ∙ sym (parted-joins 32 text s.at s.first))
+    (sym (append_assoc m.owner.0 (64 ∷ parts_text m.owner.1) (32 ∷ (decimal m.index ++ (32 ∷ m.feature))))
+    ∙ joined 32 (m.owner.0 ++ (64 ∷ parts_text m.owner.1)) (decimal m.index ++ (32 ∷ m.feature)) m.parts.0 m.parts.1
+    owner more ∙ sym (parted-joins 32 text m.parts m.cut))
 
 kinded-text : (word rest : List ℕ) (v : Vertex) → kinded_vertex word rest ≡ Ok v → vertex_text v ≡ word ++ (32 ∷ rest)
 kinded-text word rest v h = pkg_or (same_bytes word (codes "pkg")) refl h
