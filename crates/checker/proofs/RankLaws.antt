@@ -35,21 +35,32 @@ count_is p (x ∷ xs) (suc i) within parted =
 
 -- ---- the texts that are less
 
+-- one text more is less than none more
+no_fewer : (z : List ℕ) (xs : List (List ℕ)) (y : List ℕ) → rank_of xs y ≤ rank_of (z ∷ xs) y
+no_fewer z xs y = by (is_lt (text_cmp z y))
+  where
+    by : (b : Bool) → rank_of xs y
+        ≤ length (cond b (z ∷ filter (λ t. is_lt (text_cmp t y)) xs) (filter (λ t. is_lt (text_cmp t y)) xs))
+    by true = omega arith
+    by false = omega arith
+
+-- a text that is less than one is less than a greater one too
+one_more : (z : List ℕ) (xs : List (List ℕ)) (x y : List ℕ) (k : ℕ) → text_cmp x y ≡ Less
+    → rank_of xs x + k ≤ rank_of xs y → rank_of (z ∷ xs) x + k ≤ rank_of (z ∷ xs) y
+one_more z xs x y k lt rest = by (text_cmp z x) refl
+  where
+    by : (a : Ordering) → text_cmp z x ≡ a → rank_of (z ∷ xs) x + k ≤ rank_of (z ∷ xs) y
+    by Less e = let f : text_cmp z y ≡ Less = nat_list_cmp_total.trans z x y e lt in rw (e, f) (omega (arith, rest))
+    by Equal e = rw e (omega (arith, rest, no_fewer z xs y))
+    by Greater e = rw e (omega (arith, rest, no_fewer z xs y))
+
 -- those that are less than one are less than a greater one too, and it is one of them
 less_more : (xs : List (List ℕ)) (x y : List ℕ) → text_cmp x y ≡ Less → rank_of xs x ≤ rank_of xs y
 less_more [] x y lt = omega arith
-less_more (z ∷ xs) x y lt = by (less_more xs x y lt) (text_cmp z x) (text_cmp z y) refl refl
-  where
-    by : rank_of xs x ≤ rank_of xs y → (a b : Ordering) → text_cmp z x ≡ a → text_cmp z y ≡ b
-        → rank_of (z ∷ xs) x ≤ rank_of (z ∷ xs) y
-    by rest Less b e f = let g : text_cmp z y ≡ Less =
-        nat_list_cmp_total.trans z x y e lt in rw (e, g) (omega (arith, rest))
-    by rest Equal Less e f = rw (e, f) (omega (arith, rest))
-    by rest Equal Equal e f = rw (e, f) rest
-    by rest Equal Greater e f = rw (e, f) rest
-    by rest Greater Less e f = rw (e, f) (omega (arith, rest))
-    by rest Greater Equal e f = rw (e, f) rest
-    by rest Greater Greater e f = rw (e, f) rest
+less_more (z ∷ xs) x y lt =
+    let rest = less_more xs x y lt in
+    let more = one_more z xs x y 0 lt (omega (arith, rest)) in
+    omega (arith, more)
 
 less_rank : (xs : List (List ℕ)) (x y : List ℕ) → text_cmp x y ≡ Less → Contains xs x → rank_of xs x < rank_of xs y
 less_rank [] x y lt c = absurd (in_none x c)
@@ -59,19 +70,11 @@ less_rank (z ∷ xs) x y lt c = elim (in_cons z x xs c) [
       let there : text_cmp z y ≡ Less = ap (λ w. text_cmp w y) same ∙ lt in
       let rest = less_more xs x y lt in
       rw (here, there) (omega (arith, rest))
-  | inr later ↦ by (less_rank xs x y lt later) (text_cmp z x) (text_cmp z y) refl refl
+  | inr later ↦
+      let rest = less_rank xs x y lt later in
+      let more = one_more z xs x y 1 lt (omega (arith, rest)) in
+      omega (arith, more)
 ]
-  where
-    by : rank_of xs x < rank_of xs y → (a b : Ordering) → text_cmp z x ≡ a → text_cmp z y ≡ b
-        → rank_of (z ∷ xs) x < rank_of (z ∷ xs) y
-    by rest Less b e f = let g : text_cmp z y ≡ Less =
-        nat_list_cmp_total.trans z x y e lt in rw (e, g) (omega (arith, rest))
-    by rest Equal Less e f = rw (e, f) (omega (arith, rest))
-    by rest Equal Equal e f = rw (e, f) rest
-    by rest Equal Greater e f = rw (e, f) rest
-    by rest Greater Less e f = rw (e, f) (omega (arith, rest))
-    by rest Greater Equal e f = rw (e, f) rest
-    by rest Greater Greater e f = rw (e, f) rest
 
 pub ranks_compare : (xs : List (List ℕ)) (x y : List ℕ) → Contains xs x → Contains xs y
     → nat_cmp (rank_of xs x) (rank_of xs y) ≡ text_cmp x y
