@@ -28,20 +28,20 @@ met_if (Some x) b h = refl
 met_if None true h = h refl
 met_if None false h = refl
 
-each_met : (ts : List (Option ℕ)) (bs : List Bool) → are_met ts bs ≡ true → (i : ℕ) (t : Option ℕ)
+each_met : (ts : List (Option ℕ)) (bs : List Bool) → are_met bs ts ≡ true → (i : ℕ) (t : Option ℕ)
     → slice_get ts i ≡ Some t → flag_at bs i ≡ true → is_some t ≡ true
 each_met [] bs h i t got flag = absurd (none-some t got)
 each_met (u ∷ ts) [] h i t got flag = absurd (true≢false (sym flag))
 each_met (u ∷ ts) (b ∷ bs) h zero t got flag =
-    subst (λ o. is_some o ≡ true) (same_Some u t got) (is_met u b (both (is_some u || not b) (are_met ts bs) h).0 flag)
+    subst (λ o. is_some o ≡ true) (same_Some u t got) (is_met u b (both (is_some u || not b) (are_met bs ts) h).0 flag)
 each_met (u ∷ ts) (b ∷ bs) h (suc i) t got flag =
-    each_met ts bs (both (is_some u || not b) (are_met ts bs) h).1 i t got flag
+    each_met ts bs (both (is_some u || not b) (are_met bs ts) h).1 i t got flag
 
 if_each_met : (ts : List (Option ℕ)) (bs : List Bool)
-    → ((i : ℕ) (t : Option ℕ) → slice_get ts i ≡ Some t → flag_at bs i ≡ true → is_some t ≡ true) → are_met ts bs ≡ true
+    → ((i : ℕ) (t : Option ℕ) → slice_get ts i ≡ Some t → flag_at bs i ≡ true → is_some t ≡ true) → are_met bs ts ≡ true
 if_each_met [] bs h = refl
 if_each_met (u ∷ ts) [] h = refl
-if_each_met (u ∷ ts) (b ∷ bs) h = and_from (is_some u || not b) (are_met ts bs) (met_if u b (h 0 u refl))
+if_each_met (u ∷ ts) (b ∷ bs) h = and_from (is_some u || not b) (are_met bs ts) (met_if u b (h 0 u refl))
     (if_each_met ts bs (λ i t got flag. h (suc i) t got flag))
 
 abbrev lists_of : List (Vec Bool Global) → List (List Bool)
@@ -57,16 +57,16 @@ pub all_met_says : (nodes : List Node) (vs : List (Vec Bool Global)) → all_met
 all_met_says [] vs h n i v target got at flag = absurd (none-some v got)
 all_met_says (m ∷ nodes) [] h n i v target got at flag = absurd (true≢false (sym flag))
 all_met_says (m ∷ nodes) (w ∷ vs) h zero i v target got at flag =
-    each_met m.targets.items w.items (both (are_met m.targets.items w.items) (all_met nodes vs) h).0 i target
+    each_met m.targets.items w.items (both (are_met w.items m.targets.items) (all_met nodes vs) h).0 i target
     (subst (λ (x : NodeView). slice_get x.targets i ≡ Some target) (sym (same_Some (node_view m) v got)) at) flag
 all_met_says (m ∷ nodes) (w ∷ vs) h (suc n) i v target got at flag =
-    all_met_says nodes vs (both (are_met m.targets.items w.items) (all_met nodes vs) h).1 n i v target got at flag
+    all_met_says nodes vs (both (are_met w.items m.targets.items) (all_met nodes vs) h).1 n i v target got at flag
 
 pub if_all_met : (nodes : List Node) (vs : List (Vec Bool Global)) → AllMet (node_views nodes) (lists_of vs)
     → all_met nodes vs ≡ true
 if_all_met [] vs h = refl
 if_all_met (m ∷ nodes) [] h = refl
-if_all_met (m ∷ nodes) (w ∷ vs) h = and_from (are_met m.targets.items w.items) (all_met nodes vs)
+if_all_met (m ∷ nodes) (w ∷ vs) h = and_from (are_met w.items m.targets.items) (all_met nodes vs)
     (if_each_met m.targets.items w.items (λ i t got flag. h 0 i (node_view m) t refl got flag))
     (if_all_met nodes vs (λ n i v target got at flag. h (suc n) i v target got at flag))
 

@@ -47,8 +47,8 @@ module _ (preferred : List (List ℕ × List Candidate)) (owners : List Owner) w
 -- ---- completeness
 
 -- by number, each dependency that is enabled has a target
-abbrev pub are_met : List (Option ℕ) → List Bool → Bool
-are_met targets enabled = list_all (λ p. is_some p.0 || not p.1) (zip targets enabled)
+abbrev pub are_met : List Bool → List (Option ℕ) → Bool
+are_met enabled targets = list_all (λ p. is_some p.0 || not p.1) (zip targets enabled)
 
 abbrev pub all_met : List Node → List (Vec Bool Global) → Bool
-all_met nodes enabled = list_all (λ p. are_met (p.0).targets.items (p.1).items) (zip nodes enabled)
+all_met nodes enabled = list_all (λ p. are_met (p.1).items (p.0).targets.items) (zip nodes enabled)

@@ -54,13 +54,13 @@ fn is_complete(nodes: &[Node<'_>], enabled: &[Vec<bool>]) -> bool
     ensures { result ≡ all_met nodes.now enabled.now }
 {
     nodes.iter().zip(enabled).all(|(node, enabled)| are_met(
-        node.targets.as_slice(),
         enabled.as_slice(),
+        node.targets.as_slice(),
     ))
 }
 
-fn are_met(targets: &[Option<usize>], enabled: &[bool]) -> bool
-    ensures { result ≡ are_met targets.now enabled.now }
+fn are_met(enabled: &[bool], targets: &[Option<usize>]) -> bool
+    ensures { result ≡ are_met enabled.now targets.now }
 {
     targets
         .iter()
