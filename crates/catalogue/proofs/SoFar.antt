@@ -1,7 +1,7 @@
 -- A run, one name after another.
 use Rattle.std.proofs.Common.{◌≡◌, ℕ, ◌<◌, ◌≤◌, Bool, true, false, not, ◌&&◌, ◌||◌, cond, List, [], ◌∷◌, ◌++◌, map}
 use Rattle.std.proofs.Common.{filter, flat_map, length, slice_get, Option, Some, Ok, refl, sym, ap, ap₂, ◌∙◌, subst}
-use Rattle.std.proofs.Common.{arith, true≢false, inl, inr}
+use Rattle.std.proofs.Common.{arith, true≢false, inr}
 use Rattle.std.specs.List.{All, list_any}
 use Rattle.std.proofs.lemmas.List.{append-nil, append_assoc, map-append, length-map, length-append}
 use Rattle.std.proofs.lemmas.List.Elements.{filter-append}
@@ -318,15 +318,7 @@ module _ (old : Content) (source : List ℕ) (rust : Option RustVersion) (root :
       by (fault.TooLarge (limit.Lines n)) f = here (fault.TooLarge (limit.Lines n)) f
       by (fault.ChecksumChanged n v) f = absurd f
 
-  -- where memory was wanting before the first call
-  pub unasked : IsCutShort old source rust root calls failed before before
-  unasked = inl (record {
-    asked = [];
-    so_far =
-        record { chain = refl; in_turn = tt; within = all_none (λ (a : Asked). IsWithin a.1); few = omega arith };
-  })
-
-  -- where it was wanting after the call for the next name
+  -- where memory was wanting after the call for the next name
   pub cut_after : (names : List (List ℕ)) (found : List Candidates) (skips skips' : List SkipView) (mid after : S)
       (name : List ℕ) (ranked : List Ranked)
       → SoFar old source rust root calls before names found skips mid → slice_get names (length found) ≡ Some name
@@ -335,8 +327,3 @@ module _ (old : Content) (source : List ℕ) (rust : Option RustVersion) (root :
       → IsCutShort old source rust root calls failed before after
   cut_after names found skips skips' mid after name ranked s at less asked =
       stopped names found skips mid after name fault.OutOfMemory s at less (inr (Ok asked.answer, asked.call))
-
-  -- where it was wanting after the last call
-  pub cut_loaded : (index : CatalogueView) (after : S) → IsLoaded old source rust root calls before index after
-      → IsCutShort old source rust root calls failed before after
-  cut_loaded index after loaded = inl (record { asked = loaded.asked; so_far = loaded.so_far })
