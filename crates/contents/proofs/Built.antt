@@ -17,7 +17,7 @@ use Rattle.model.specs.Content.{Candidate, Package, Content, Problem, candidates
 use Rattle.model.specs.WellFormed.{IsContent}
 use Rattle.model.specs.Order.{package_cmp, precedence, text_cmp, version_cmp, source_cmp}
 use Rattle.model.specs.Vertices.{Owner, the_root, version_of}
-use Rattle.model.proofs.Lists.{all_get, in_none, pairs_get, pairs_none, all_none}
+use Rattle.model.proofs.Lists.{all_get, pairs_get}
 use Rattle.model.proofs.Permuted.{pairs-permutation}
 use Rattle.model.proofs.Candidates.{precedence_total}
 use Rattle.lockfile.proofs.PackageOrder.{text-eq}
@@ -42,13 +42,6 @@ of_itself q the_root = refl
 of_itself q (version_of n v) = refl
 
 module _ (q : Problem) (owners : List Owner) (here : List Bool) where
-  pub none_kept : (ks : List Placed) → ks ≡ [] → AreKept q owners here 0 ks
-  none_kept ks e = subst (AreKept q owners here 0) (sym e) (record {
-    members = λ m. ((λ c. absurd (in_none m c)), (λ (lt, f, x). absurd (omega (arith, lt))));
-    packages = all_none (IsPackage q owners);
-    distinct = pairs_none (λ k m. k.1 ≢ m.1);
-  })
-
   same_kept : (n : ℕ) (ks : List Placed) → AreKept q owners here n ks
       → ((flag_at here n ≡ true) × IsPlace q owners n → ⊥) → AreKept q owners here (n + 1) ks
   same_kept n ks h not_this = record {

@@ -148,11 +148,6 @@ ranks_are places count n ranks h le t r = (
   (λ at. let lt = slice_get_within places r t at in (h.are t r).1 (omega (arith, lt, le), at)),
 )
 
-pub no_ranks : (places : List ℕ) (count : ℕ) (ranks : List (Option ℕ)) → length ranks ≡ count
-    → ((t : ℕ) (r : ℕ) → slice_get ranks t ≡ Some (Some r) → ⊥) → RanksTo places count 0 ranks
-no_ranks places count ranks e none =
-    record { many = e; are = λ t r. ((λ got. absurd (none t r got)), (λ (lt, at). absurd (omega (arith, lt)))) }
-
 pub one_rank : (places : List ℕ) (count n p : ℕ) (ranks : List (Option ℕ)) → AllPairs (λ a b. a ≢ b) places
     → slice_get places n ≡ Some p → p < count → RanksTo places count n ranks
     → RanksTo places count (n + 1) (set ranks p (Some n))

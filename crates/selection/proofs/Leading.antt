@@ -24,9 +24,6 @@ module _ (flags : List Bool) (targets : List (Option ℕ)) where
   abbrev pub IsLedBelow : ℕ → ℕ → Type 0
   IsLedBelow n t = (i : ℕ) × (i < n) × (flag_at flags i ≡ true) × (slice_get targets i ≡ Some (Some t))
 
-  pub led_none : (t : ℕ) → (false ≡ true) ↔ IsLedBelow 0 t
-  led_none t = (λ e. absurd (true≢false (sym e)), λ h. absurd (omega (arith, h.1)))
-
   target_some : (n x : ℕ) → enabled_target flags targets n ≡ Some x
       → (flag_at flags n ≡ true) × (slice_get targets n ≡ Some (Some x))
   target_some n x e = by (flag_at flags n) refl e

@@ -11,7 +11,7 @@ use Rattle.catalogue.specs.Stores.{CatalogueView}
 use Rattle.reaching.specs.Nodes.{AreLeads, IsLead}
 use Rattle.contents.specs.Contents.{Grows, candidate_owner, owner_if, owners_of}
 use Rattle.contents.specs.declared.met.MetVersion.{MetVersion}
-use Rattle.contents.proofs.MetVersions.{grows_on, owner_on, snoc_at, unchanged}
+use Rattle.contents.proofs.MetVersions.{grows_on, owner_on, snoc_at}
 use Rattle.walks.specs.Preferred.{preferred_in}
 use Rattle.walks.specs.Met.{ArePicks, IsPick, place_picked}
 use Rattle.walks.proofs.Picks.{one_picked}
@@ -63,14 +63,6 @@ module _ (index : CatalogueView) where
     pub picks : (i : ℕ) (d : Dependency) (target : Option ℕ) → slice_get ds i ≡ Some d
         → slice_get targets i ≡ Some target → IsPick (preferred_in index) (owners_of index new) d target
 
-  pub no_targets : (old : List MetVersion) (ds : List Dependency) (targets : List (Option ℕ)) → targets ≡ []
-      → TargetsTo old old ds 0 targets
-  no_targets old ds targets e = record {
-    grows = unchanged index old;
-    many = ap length e;
-    picks = λ i d target got at. absurd (none-some target (sym (ap (λ ts. slice_get ts i) e) ∙ at));
-  }
-
   pub more_targets : (old mid new : List MetVersion) (ds : List Dependency) (n : ℕ) (targets more : List (Option ℕ))
       (d : Dependency) (target : Option ℕ)
       → TargetsTo old mid ds n targets → Grows index mid new → slice_get ds n ≡ Some d
@@ -87,8 +79,3 @@ module _ (index : CatalogueView) where
               (same_Some d d' (sym there ∙ sym (ap (slice_get ds) (last.0 ∙ many)) ∙ got)) last.1 p
         ];
       }
-
-  pub all_targets : (old new : List MetVersion) (ds : List Dependency) (n : ℕ) (targets : List (Option ℕ))
-      → TargetsTo old new ds n targets → n ≡ length ds
-      → ArePicks (preferred_in index) (owners_of index new) ds targets
-  all_targets old new ds n targets h e = record { as_many = h.many ∙ e; picks = h.picks }
