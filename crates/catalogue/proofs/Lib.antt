@@ -16,7 +16,6 @@ pub mod LawsCandidates
 pub mod LawsPackages
 pub mod LawsFewer
 pub mod LawsReruns
-pub mod LawsSelected
 pub mod LawsSelections
 pub mod LawsCatalogues
 pub mod LawsIndexes
