@@ -5,6 +5,7 @@ pub mod Preferences
 pub mod Found
 pub mod Alike
 pub mod Chosen
+pub mod Digits
 pub mod LineFacts
 pub mod FileFacts
 pub mod SoFar

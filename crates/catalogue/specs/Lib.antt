@@ -2,6 +2,7 @@ pub mod Sources
 pub mod Names
 pub mod Faults
 pub mod Ranks
+pub mod Checksums
 pub mod Views
 pub mod Stores
 pub mod Runs

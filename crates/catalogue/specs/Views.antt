@@ -1,5 +1,5 @@
 -- What candidates stand for, without where they lie in memory.
-use Rattle.std.specs.Prelude.{ℕ, Bool, List, map, option_map, Option, string_bytes}
+use Rattle.std.specs.Prelude.{ℕ, Bool, List, map, option_map, Option}
 use Rattle.std.specs.List.{All, AllPairs, zip}
 use Rattle.semver.specs.Identifiers.{parts_of}
 use Rattle.semver.specs.Grammar.{IsValid}
@@ -16,7 +16,7 @@ use Rattle.catalogue.specs.declared.candidate.Candidate.{Candidate}
 abbrev pub record_of : Version → Candidate → Record
 record_of v c = record {
   version = parts_of v;
-  checksum = string_bytes c.checksum;
+  checksum = c.checksum;
   yanked = c.yanked;
   rust_version = option_map rust_version_view c.rust_version;
   brings = summary_view c.brings;
@@ -41,7 +41,7 @@ said r = record { checksum = r.checksum; yanked = r.yanked; rust_version = r.rus
 
 abbrev pub said_by : Candidate → Said
 said_by c = record {
-  checksum = string_bytes c.checksum;
+  checksum = c.checksum;
   yanked = c.yanked;
   rust_version =
       option_map rust_version_view c.rust_version;

@@ -3,6 +3,7 @@
 ghost use Rattle.std.specs.Prelude.{◌≡◌};
 ghost use Rattle.catalogue.specs.Ranks.{same_rank};
 
+use crate::checksum::Checksum;
 use classes::RustVersion;
 use features::Summary;
 
@@ -31,8 +32,7 @@ impl Rank {
 /// What the index says of a candidate, beside its version.
 #[derive(Drop)]
 pub struct Candidate {
-    /// 64 lower-case hexadecimal digits.
-    pub checksum: String,
+    pub checksum: Checksum,
     /// A yanked candidate is there because it is locked.
     pub yanked: bool,
     /// The Rust version that it needs, if it names one.

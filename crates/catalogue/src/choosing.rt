@@ -11,6 +11,7 @@ ghost use Rattle.catalogue.specs.Views.{KnowFeatures, most_candidates};
 
 use crate::candidate::{Candidate, Rank};
 use crate::candidates::Candidates;
+use crate::checksum::Checksum;
 use crate::old_lock::is_locked;
 use crate::source::Source;
 use classes::RustVersion;
@@ -75,7 +76,7 @@ fn kept(
             } = record;
             versions.push(version)?;
             kept.push(Candidate {
-                checksum,
+                checksum: Checksum::of(checksum),
                 yanked,
                 rust_version,
                 brings,

@@ -17,6 +17,7 @@
 
 mod candidate;
 mod candidates;
+mod checksum;
 mod choosing;
 mod fault;
 mod file;
@@ -29,6 +30,7 @@ mod source;
 mod store;
 
 pub use candidate::Candidate;
+pub use checksum::Checksum;
 pub use fault::{Limit, LoadFault};
 pub use laws::{
     catalogues_are_well_formed, memory_folders_have_one_index, runs_make_catalogues,

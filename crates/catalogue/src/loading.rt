@@ -202,7 +202,7 @@ fn differs(locked: &Package, catalogue: &Catalogue) -> bool
         return false;
     };
     match catalogue.candidate(&locked.name, &locked.version) {
-        Some(candidate) => candidate.checksum.as_str() != checksum.as_str(),
+        Some(candidate) => !candidate.checksum.is(checksum.as_str()),
         None => false,
     }
 }

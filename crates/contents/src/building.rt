@@ -163,7 +163,7 @@ fn met_package(
         name: met.name.clone()?,
         version: version.clone()?,
         source: Some(String::from_str(alloc, catalogue.source())?),
-        checksum: Some(candidate.checksum.clone()?),
+        checksum: Some(candidate.checksum.to_text(alloc)?),
         list: Vec::new(alloc),
     }))
 }

@@ -6,7 +6,7 @@ ghost use Rattle.catalogue.specs.Stores.{candidates_at, record_at};
 ghost use Rattle.lockfile.specs.Views.{package_view};
 ghost use Rattle.flaws.specs.Reasons.{why_none, why_record, why_sum};
 
-use catalogue::Catalogue;
+use catalogue::{Catalogue, Checksum};
 use lockfile::Package;
 
 /// Why a package that isn't the root is no candidate.
@@ -56,18 +56,18 @@ fn why_no_version(catalogue: &Catalogue, locked: &Package) -> Option<NoCandidate
         (parts_of locked.now.version)) (package_view locked.now).checksum }
 {
     match catalogue.candidate(&locked.name, &locked.version) {
-        Some(candidate) => why_sum(locked.checksum(), candidate.checksum.as_str()),
+        Some(candidate) => why_sum(locked.checksum(), &candidate.checksum),
         None => Some(NoCandidate::NoVersion),
     }
 }
 
 /// The same of one whose name and version a candidate with this checksum has.
-fn why_sum(locked: Option<&str>, checksum: &str) -> Option<NoCandidate>
+fn why_sum(locked: Option<&str>, checksum: &Checksum) -> Option<NoCandidate>
     ensures { result ≡ why_sum (option_map (λ s. s.now) locked.entry) checksum.now }
 {
     match locked {
         Some(locked) => {
-            if locked == checksum {
+            if checksum.is(locked) {
                 None
             } else {
                 Some(NoCandidate::OtherChecksum)

@@ -30,7 +30,7 @@ pub(crate) fn push_no_candidate<F: Folder>(
         NoCandidate::OtherSource => push_other_source(text, registry.catalogue, package),
         NoCandidate::NoVersion => return push_no_version(text, registry, package, folder),
         NoCandidate::NoChecksum => push_no_checksum(text, package, registry.has_metadata),
-        NoCandidate::OtherChecksum => push_other_checksum(text, registry.catalogue, package),
+        NoCandidate::OtherChecksum => push_other_checksum(text, registry, package),
     };
     told.map_err(out_of_memory)
 }
@@ -70,13 +70,17 @@ fn push_no_checksum(
 
 fn push_other_checksum(
     text: &mut String,
-    catalogue: &Catalogue,
+    registry: Registry<'_>,
     package: &Package,
 ) -> Result<(), AllocError> {
     let locked = package.checksum().unwrap_or("");
-    match catalogue.candidate(&package.name, &package.version) {
+    match registry
+        .catalogue
+        .candidate(&package.name, &package.version)
+    {
         Some(candidate) => {
-            let (package, own) = (Named(package), candidate.checksum.as_str());
+            let own = candidate.checksum.to_text(registry.alloc)?;
+            let package = Named(package);
             writeln!(
                 text,
                 "{package}: its checksum is {locked} in the lock, and {own} in this index"

@@ -283,9 +283,7 @@ fn push_no_candidate<'a, F: Folder>(
         NoCandidate::NoVersion => return push_no_version(text, alloc, folder, catalogue, package),
         NoCandidate::NoChecksum => FlawKind::NoChecksum,
         NoCandidate::OtherChecksum => {
-            more.found = package.checksum();
-            more.expected = checksum_of(catalogue, package);
-            FlawKind::OtherChecksum
+            return push_other_checksum(text, alloc, catalogue, package).map_err(out_of_memory);
         }
     };
     push_flaw(text, alloc, id_of(package), kind, more).map_err(out_of_memory)
@@ -335,12 +333,24 @@ fn missing_told<'a>(missing: &'a MissingVersion) -> Option<Missing<'a>> {
     Some(told)
 }
 
-/// The checksum that the index has for a package.
-fn checksum_of<'a>(catalogue: &'a Catalogue, package: &Package) -> Option<&'a str> {
-    match catalogue.candidate(&package.name, &package.version) {
-        Some(candidate) => Some(candidate.checksum.as_str()),
+/// The checksum of a package, and the one that the index has for it.
+fn push_other_checksum(
+    text: &mut String,
+    alloc: Global,
+    catalogue: &Catalogue,
+    package: &Package,
+) -> Result<(), AllocError> {
+    let own = match catalogue.candidate(&package.name, &package.version) {
+        Some(candidate) => Some(candidate.checksum.to_text(alloc)?),
         None => None,
-    }
+    };
+    let mut more = More::none();
+    more.found = package.checksum();
+    more.expected = match &own {
+        Some(own) => Some(own.as_str()),
+        None => None,
+    };
+    push_flaw(text, alloc, id_of(package), FlawKind::OtherChecksum, more)
 }
 
 /// What the list of a package lacks, which features are asked of it that it lacks, and what is too much in its list.

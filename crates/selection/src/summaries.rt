@@ -9,7 +9,7 @@ ghost use Rattle.catalogue.specs.Problems.{problem_in};
 ghost use Rattle.catalogue.specs.Stores.{CatalogueView};
 ghost use Rattle.selection.specs.Graphs.{is_known};
 
-use catalogue::Catalogue;
+use catalogue::{Catalogue, Checksum};
 use classes::same_version;
 use features::Summary;
 use lockfile::Package;
@@ -51,10 +51,20 @@ fn candidate_of<'a>(catalogue: &'a Catalogue, locked: &Package) -> Option<&'a Su
         return None;
     }
     let candidate = catalogue.candidate(&locked.name, &locked.version)?;
-    if is_text(locked.checksum(), candidate.checksum.as_str()) {
+    if has_checksum(locked.checksum(), &candidate.checksum) {
         Some(&candidate.brings)
     } else {
         None
+    }
+}
+
+/// Whether there is a text, and it is this checksum.
+fn has_checksum(found: Option<&str>, checksum: &Checksum) -> bool
+    ensures { result ≡ same_option (option_map (λ s. s.now) found.entry) (Some checksum.now) }
+{
+    match found {
+        Some(found) => checksum.is(found),
+        None => false,
     }
 }
 

@@ -1,4 +1,4 @@
-use Rattle.std.proofs.Common.{◌≡◌, ◌+◌, ◌||◌, not, [], ◌∷◌, length, option_map, arith, sym, ap, ◌∙◌, subst}
+use Rattle.std.proofs.Common.{◌≡◌, ◌+◌, ◌||◌, not, [], ◌∷◌, length, option_map, arith, sym, ap, ap₂, ◌∙◌, subst}
 use Rattle.std.proofs.lemmas.List.{length-append}
 use Rattle.std.specs.Vec.Iter.{into_iter_items, into_iter_len}
 use Rattle.classes.specs.RustVersions.{rust_version_view}
@@ -45,7 +45,8 @@ records-preserved-in-Continue-branch-4 c =
       few = rw (c.in_ok-push-2.ensures.items, length-append) (omega (arith, few, count));
       told = rw (c.in_ok-push.ensures.items, c.in_ok-push-2.ensures.items)
           (chosen-yes locked rust c.records.versions.items c.records.kept.items _ _ c.in-Some.record
-          (into_iter_items c.next.new.self) c.args.records.items beside may (ap (λ k. (r, k)) rank)
+          (into_iter_items c.next.new.self) c.args.records.items beside may
+          (ap₂ (λ s k. (record r { checksum = s }, k)) c.of.ensures rank)
           (rw here at c.records.invariant.told));
     }
 

@@ -26,12 +26,12 @@ returns c =
     let v : parts_of c.in_ok-clone-2.field-0 ≡ parts_of c.in-Some.version.now = search rules in
     let name : c.in_ok-clone.field-0 ≡ s.name = search rules in
     let source : string_bytes c.in_ok-from_str.field-0 ≡ c.args.catalogue.now.source = search rules in
-    let sum : string_bytes c.in_ok-clone-3.field-0
-    ≡ string_bytes c.in-Some-candidate_at.candidate.now.checksum = search rules in
+    let sum : string_bytes c.in_ok-to_text.field-0
+    ≡ c.in-Some-candidate_at.candidate.now.checksum = search rules in
     ap Some (met_package_is c.args.manifest.now c.args.catalogue.now s (said_by c.in-Some-candidate_at.candidate.now)
     (map parts_of vs) (parts_of c.in_ok-clone-2.field-0) c.in_ok-clone.field-0
     (string_bytes c.in_ok-from_str.field-0)
-    (string_bytes c.in_ok-clone-3.field-0) c.new.result.items c.store_holds.ensures c.in-Some-candidate_at.ensures
+    (string_bytes c.in_ok-to_text.field-0) c.new.result.items c.store_holds.ensures c.in-Some-candidate_at.ensures
     c.versions.ensures.versions
     (map_at parts_of vs s.place c.in-Some.version.now (got_item vs s.place c.get.result c.in-Some.version
     c.get.ensures.lookup c.in-Some.is) ∙ ap Some (sym v)) name source sum c.new.ensures.items)

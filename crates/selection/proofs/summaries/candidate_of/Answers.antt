@@ -10,16 +10,16 @@ returns-in_err-candidate c =
     λ m. rw c.from_residual.ensures (not_found c.args.catalogue.now m (package_view c.args.locked.now)
     (sym source ∙ c.if-not-is_text.false) c.in_err-candidate.ensures)
 
-pub returns-then-is_text : goal.returns-then-is_text
-returns-then-is_text c =
+pub returns-then-has_checksum : goal.returns-then-has_checksum
+returns-then-has_checksum c =
     let source = rw (c.source.ensures, c.source-2.ensures) at c.is_text.ensures in
-    let checksum = rw (c.checksum.ensures, c.as_str.ensures.value) at c.is_text-2.ensures in
+    let checksum = rw c.checksum.ensures at c.has_checksum.ensures in
     λ m. is_found c.args.catalogue.now m (package_view c.args.locked.now) (said_by c.in_ok-candidate.candidate.now)
-    (sym source ∙ c.if-not-is_text.false) c.in_ok-candidate.ensures true (sym checksum ∙ c.if-is_text.true)
+    (sym source ∙ c.if-not-is_text.false) c.in_ok-candidate.ensures true (sym checksum ∙ c.if-has_checksum.true)
 
-pub returns-else-is_text : goal.returns-else-is_text
-returns-else-is_text c =
+pub returns-else-has_checksum : goal.returns-else-has_checksum
+returns-else-has_checksum c =
     let source = rw (c.source.ensures, c.source-2.ensures) at c.is_text.ensures in
-    let checksum = rw (c.checksum.ensures, c.as_str.ensures.value) at c.is_text-2.ensures in
+    let checksum = rw c.checksum.ensures at c.has_checksum.ensures in
     λ m. is_found c.args.catalogue.now m (package_view c.args.locked.now) (said_by c.in_ok-candidate.candidate.now)
-    (sym source ∙ c.if-not-is_text.false) c.in_ok-candidate.ensures false (sym checksum ∙ c.if-is_text.false)
+    (sym source ∙ c.if-not-is_text.false) c.in_ok-candidate.ensures false (sym checksum ∙ c.if-has_checksum.false)
