@@ -340,16 +340,25 @@ fn push_other_checksum(
     catalogue: &Catalogue,
     package: &Package,
 ) -> Result<(), AllocError> {
-    let own = match catalogue.candidate(&package.name, &package.version) {
-        Some(candidate) => Some(candidate.checksum.to_text(alloc)?),
-        None => None,
-    };
+    match catalogue.candidate(&package.name, &package.version) {
+        Some(candidate) => {
+            let own = candidate.checksum.to_text(alloc)?;
+            push_checksums(text, alloc, package, Some(own.as_str()))
+        }
+        None => push_checksums(text, alloc, package, None),
+    }
+}
+
+/// The checksum of a package, and the one that it should have.
+fn push_checksums<'a>(
+    text: &mut String,
+    alloc: Global,
+    package: &'a Package,
+    expected: Option<&'a str>,
+) -> Result<(), AllocError> {
     let mut more = More::none();
     more.found = package.checksum();
-    more.expected = match &own {
-        Some(own) => Some(own.as_str()),
-        None => None,
-    };
+    more.expected = expected;
     push_flaw(text, alloc, id_of(package), FlawKind::OtherChecksum, more)
 }
 
