@@ -8,14 +8,13 @@ ghost use Rattle.manifest_faults.specs.Finding.{IsFound};
 use crate::called::is_optional;
 use crate::entries::{dependency_in, entry_in, feature_in, is_written, named_in};
 use crate::finding::{TABLES, first_item};
-use crate::place::{Place, member, value_at};
-use crate::sought::{Sought, blamed};
+use crate::place::{Place, items_at, member, table_at};
+use crate::sought::{Sought, blamed, first_blamed};
 use crate::why::{Culprit, Kind, Sort, Why};
 use features::{Entry, FeatureName};
 use manifest::TableFault;
 use std::alloc::{AllocError, Global};
 use std::collections::BTreeMap;
-use toml::value::Array;
 use toml::{Table, Value};
 
 /// What is wrong with the shape of `[features]`.
@@ -29,15 +28,16 @@ pub(crate) fn feature_culprit<'t>(
     if let Some(found) = blamed(alloc, sought, features, Why::NoSuch(Kind::Table))? {
         return Ok(Some(found));
     }
-    let Some(table) = table_at(sought.top, "features") else {
+    let Some(table) = table_at(sought.top, &features) else {
         return Ok(None);
     };
     for (name, _) in table.iter() {
         let own = features.at_name(name.as_str());
-        if let Some(found) = blamed(alloc, sought, own, Why::NoKey(Sort::FeatureName))? {
-            return Ok(Some(found));
-        }
-        if let Some(found) = blamed(alloc, sought, own, Why::NoSuch(Kind::List))? {
+        let tried = [
+            (own, Why::NoKey(Sort::FeatureName)),
+            (own, Why::NoSuch(Kind::List)),
+        ];
+        if let Some(found) = first_blamed(alloc, sought, &tried)? {
             return Ok(Some(found));
         }
         if let Some(found) = first_item(alloc, sought, own, Sort::Entry)? {
@@ -45,10 +45,6 @@ pub(crate) fn feature_culprit<'t>(
         }
     }
     Ok(None)
-}
-
-pub(crate) fn table_at<'t>(top: &'t Table, key: &str) -> Option<&'t Table> {
-    member(top, key)?.as_table()
 }
 
 /// The first entry of a feature that leads nowhere.
@@ -75,10 +71,6 @@ pub(crate) fn entry_culprit<'t>(
     Ok(None)
 }
 
-fn items_at<'t>(top: &'t Table, place: &Place<'_>) -> Option<&'t Array> {
-    value_at(top, place)?.as_array()
-}
-
 /// What the manifest calls dependencies, and where entries `dep:d` are.
 #[derive(Drop)]
 struct Named<'t> {
@@ -94,14 +86,14 @@ fn names_in(alloc: Global, top: &Table) -> Result<Named<'_>, AllocError> {
         by_entry: BTreeMap::new(alloc),
     };
     name_dependencies(&mut named, top)?;
-    if let Some(targets) = table_at(top, "target") {
+    if let Some(targets) = table_in(top, "target") {
         for (_, target) in targets.iter() {
             if let Some(table) = target.as_table() {
                 name_dependencies(&mut named, table)?;
             }
         }
     }
-    if let Some(features) = table_at(top, "features") {
+    if let Some(features) = table_in(top, "features") {
         for (feature, value) in features.iter() {
             name_by_entries(&mut named, feature.as_str(), value)?;
         }
@@ -109,10 +101,14 @@ fn names_in(alloc: Global, top: &Table) -> Result<Named<'_>, AllocError> {
     Ok(named)
 }
 
+fn table_in<'t>(table: &'t Table, key: &str) -> Option<&'t Table> {
+    member(table, key)?.as_table()
+}
+
 /// Notes the dependencies of the tables that stand in one.
 fn name_dependencies<'t>(named: &mut Named<'t>, table: &'t Table) -> Result<(), AllocError> {
     for section in TABLES {
-        if let Some(dependencies) = table_at(table, section) {
+        if let Some(dependencies) = table_in(table, section) {
             note_names(&mut named.called, dependencies)?;
         }
     }

@@ -3,27 +3,11 @@
 ghost use Rattle.manifest_faults.specs.Finding.{IsFound};
 
 use crate::feature_finding::{entry_culprit, feature_culprit};
-use crate::place::{Place, member, value_at};
-use crate::sought::{Sought, blamed};
+use crate::place::{Place, items_at, table_at};
+use crate::sought::{Sought, blamed, first_blamed};
 use crate::why::{Culprit, Kind, Sort, Why};
 use manifest::{ManifestFault, Part, Unsupported};
 use std::alloc::{AllocError, Global};
-
-/// What may be wrong with a dependency, and at which of its keys, in the order in which it is read.
-const OF_DEPENDENCY: [(Option<&str>, Why<'static>); 12] = [
-    (None, Why::NoKey(Sort::PackageName)),
-    (None, Why::NoSuch(Kind::Dependency)),
-    (Some("version"), Why::NoSuch(Kind::Text)),
-    (None, Why::NoSuch(Kind::Sourced)),
-    (Some("package"), Why::NoSuch(Kind::Text)),
-    (Some("package"), Why::NoText(Sort::PackageName)),
-    (Some("optional"), Why::NoSuch(Kind::Flag)),
-    (Some("optional"), Why::DevOptional),
-    (Some("default-features"), Why::Twice),
-    (Some("default-features"), Why::NoSuch(Kind::Flag)),
-    (Some("default_features"), Why::NoSuch(Kind::Flag)),
-    (Some("features"), Why::NoSuch(Kind::List)),
-];
 
 /// The tables of dependencies in the order in which they are read, in both spellings.
 pub(crate) const TABLES: [&str; 5] = [
@@ -65,29 +49,27 @@ fn shape_culprit<'t>(
 ) -> Result<Option<Culprit<'t>>, AllocError>
     ensures { IsFound sought.entry result }
 {
+    let top = Place::of("");
     match part {
         Part::Package => package_culprit(alloc, sought),
-        Part::Dependencies => of_table(alloc, sought, Place::of("dependencies"), Aim::Shape),
-        Part::DevDependencies => of_two(alloc, sought, "dev-dependencies", "dev_dependencies"),
-        Part::BuildDependencies => of_two(
-            alloc,
-            sought,
-            "build-dependencies",
-            "build_dependencies",
-        ),
+        Part::Dependencies => of_tables(alloc, sought, top, &["dependencies"], Aim::Shape),
+        Part::DevDependencies => {
+            let tables = ["dev-dependencies", "dev_dependencies"];
+            of_tables(alloc, sought, top, &tables, Aim::Shape)
+        }
+        Part::BuildDependencies => {
+            let tables = ["build-dependencies", "build_dependencies"];
+            of_tables(alloc, sought, top, &tables, Aim::Shape)
+        }
         Part::Target => of_targets(alloc, sought, Aim::Shape),
         Part::Features => feature_culprit(alloc, sought),
         Part::Workspace => {
             let workspace = Place::of("workspace");
-            if let Some(found) = blamed(alloc, sought, workspace, Why::NoSuch(Kind::Table))? {
-                return Ok(Some(found));
-            }
-            blamed(
-                alloc,
-                sought,
-                workspace.at_name("members"),
-                Why::NoSuch(Kind::List),
-            )
+            let tried = [
+                (workspace, Why::NoSuch(Kind::Table)),
+                (workspace.at_name("members"), Why::NoSuch(Kind::List)),
+            ];
+            first_blamed(alloc, sought, &tried)
         }
         Part::Patch => blamed(alloc, sought, Place::of("patch"), Why::NoSuch(Kind::Table)),
         Part::Replace => blamed(
@@ -99,31 +81,23 @@ fn shape_culprit<'t>(
     }
 }
 
-/// What may be wrong with `[package]`, and at which of its keys.
-const OF_PACKAGE: [(Option<&str>, Why<'static>); 7] = [
-    (None, Why::Absent),
-    (None, Why::NoSuch(Kind::Table)),
-    (Some("name"), Why::Absent),
-    (Some("name"), Why::NoSuch(Kind::OwnText)),
-    (Some("name"), Why::NoText(Sort::PackageName)),
-    (Some("version"), Why::NoSuch(Kind::OwnText)),
-    (Some("version"), Why::NoText(Sort::Version)),
-];
-
+/// What is wrong with `[package]`.
 fn package_culprit<'t>(alloc: Global, sought: Sought<'t>) -> Result<Option<Culprit<'t>>, AllocError>
     ensures { IsFound sought.entry result }
 {
     let package = Place::of("package");
-    for (name, why) in OF_PACKAGE {
-        let place = match name {
-            Some(name) => package.at_name(name),
-            None => package,
-        };
-        if let Some(found) = blamed(alloc, sought, place, why)? {
-            return Ok(Some(found));
-        }
-    }
-    Ok(None)
+    let name = package.at_name("name");
+    let version = package.at_name("version");
+    let tried = [
+        (package, Why::Absent),
+        (package, Why::NoSuch(Kind::Table)),
+        (name, Why::Absent),
+        (name, Why::NoSuch(Kind::OwnText)),
+        (name, Why::NoText(Sort::PackageName)),
+        (version, Why::NoSuch(Kind::OwnText)),
+        (version, Why::NoText(Sort::Version)),
+    ];
+    first_blamed(alloc, sought, &tried)
 }
 
 /// The first part that is from a source.
@@ -150,36 +124,16 @@ fn workspace_culprit<'t>(
 ) -> Result<Option<Culprit<'t>>, AllocError>
     ensures { IsFound sought.entry result }
 {
-    let members = Place::of("workspace").at_name("members");
-    if let Some(found) = blamed(alloc, sought, members, Why::HasItems)? {
-        return Ok(Some(found));
-    }
     let package = Place::of("package");
-    if let Some(found) = blamed(alloc, sought, package.at_name("name"), Why::Inherited)? {
-        return Ok(Some(found));
-    }
-    if let Some(found) = blamed(alloc, sought, package.at_name("version"), Why::Inherited)? {
+    let tried = [
+        (Place::of("workspace").at_name("members"), Why::HasItems),
+        (package.at_name("name"), Why::Inherited),
+        (package.at_name("version"), Why::Inherited),
+    ];
+    if let Some(found) = first_blamed(alloc, sought, &tried)? {
         return Ok(Some(found));
     }
     of_dependencies(alloc, sought, Aim::Source(Unsupported::Workspace))
-}
-
-/// Two spellings of a table of dependencies.
-fn of_two<'t>(
-    alloc: Global,
-    sought: Sought<'t>,
-    dashed: &'static str,
-    underscored: &'static str,
-) -> Result<Option<Culprit<'t>>, AllocError>
-    ensures { IsFound sought.entry result }
-{
-    if let Some(found) = blamed(alloc, sought, Place::of(dashed), Why::Twice)? {
-        return Ok(Some(found));
-    }
-    if let Some(found) = of_table(alloc, sought, Place::of(dashed), Aim::Shape)? {
-        return Ok(Some(found));
-    }
-    of_table(alloc, sought, Place::of(underscored), Aim::Shape)
 }
 
 /// The first dependency that has what is looked for: of those at the top, then of those of the targets.
@@ -190,7 +144,7 @@ fn of_dependencies<'t>(
 ) -> Result<Option<Culprit<'t>>, AllocError>
     ensures { IsFound sought.entry result }
 {
-    if let Some(found) = of_tables(alloc, sought, Place::of(""), aim)? {
+    if let Some(found) = of_tables(alloc, sought, Place::of(""), &TABLES, aim)? {
         return Ok(Some(found));
     }
     of_targets(alloc, sought, aim)
@@ -207,10 +161,7 @@ fn of_targets<'t>(
     if let Some(found) = blamed(alloc, sought, target, Why::NoSuch(Kind::Table))? {
         return Ok(Some(found));
     }
-    let Some(value) = member(sought.top, "target") else {
-        return Ok(None);
-    };
-    let Some(targets) = value.as_table() else {
+    let Some(targets) = table_at(sought.top, &target) else {
         return Ok(None);
     };
     for (name, _) in targets.iter() {
@@ -218,24 +169,26 @@ fn of_targets<'t>(
         if let Some(found) = blamed(alloc, sought, own, Why::NoSuch(Kind::Table))? {
             return Ok(Some(found));
         }
-        if let Some(found) = of_tables(alloc, sought, Place::of_target(name.as_str()), aim)? {
+        let beside = Place::of_target(name.as_str());
+        if let Some(found) = of_tables(alloc, sought, beside, &TABLES, aim)? {
             return Ok(Some(found));
         }
     }
     Ok(None)
 }
 
-/// The first dependency that has what is looked for, of the tables that stand where a place does.
+/// The first dependency that has what is looked for, of these tables where a place stands.
 fn of_tables<'t>(
     alloc: Global,
     sought: Sought<'t>,
     beside: Place<'t>,
+    tables: &[&'static str],
     aim: Aim,
 ) -> Result<Option<Culprit<'t>>, AllocError>
     ensures { IsFound sought.entry result }
 {
-    for table in TABLES {
-        let place = beside.at_section(table);
+    for table in tables.iter() {
+        let place = beside.at_section(*table);
         if let Some(found) = blamed(alloc, sought, place, Why::Twice)? {
             return Ok(Some(found));
         }
@@ -258,10 +211,7 @@ fn of_table<'t>(
     if let Some(found) = blamed(alloc, sought, place, Why::NoSuch(Kind::Table))? {
         return Ok(Some(found));
     }
-    let Some(value) = value_at(sought.top, &place) else {
-        return Ok(None);
-    };
-    let Some(table) = value.as_table() else {
+    let Some(table) = table_at(sought.top, &place) else {
         return Ok(None);
     };
     for (name, _) in table.iter() {
@@ -287,15 +237,13 @@ fn of_dependency<'t>(
         Aim::Source(source) => blamed(alloc, sought, place, Why::Foreign(source)),
         Aim::Requirement => {
             let why = Why::NoText(Sort::Requirement);
-            if let Some(found) = blamed(alloc, sought, place, why)? {
-                return Ok(Some(found));
-            }
-            blamed(alloc, sought, place.at_key(Some("version")), why)
+            let tried = [(place, why), (place.at_key(Some("version")), why)];
+            first_blamed(alloc, sought, &tried)
         }
     }
 }
 
-/// What is wrong with the shape of a dependency.
+/// What is wrong with the shape of a dependency, in the order in which it is read.
 fn misshapen<'t>(
     alloc: Global,
     sought: Sought<'t>,
@@ -303,17 +251,31 @@ fn misshapen<'t>(
 ) -> Result<Option<Culprit<'t>>, AllocError>
     ensures { IsFound sought.entry result }
 {
-    for (key, why) in OF_DEPENDENCY {
-        if let Some(found) = blamed(alloc, sought, place.at_key(key), why)? {
-            return Ok(Some(found));
-        }
+    let real_name = place.at_key(Some("package"));
+    let optional = place.at_key(Some("optional"));
+    let defaults = place.at_key(Some("default-features"));
+    let features = place.at_key(Some("features"));
+    let tried = [
+        (place, Why::NoKey(Sort::PackageName)),
+        (place, Why::NoSuch(Kind::Dependency)),
+        (place.at_key(Some("version")), Why::NoSuch(Kind::Text)),
+        (place, Why::NoSuch(Kind::Sourced)),
+        (real_name, Why::NoSuch(Kind::Text)),
+        (real_name, Why::NoText(Sort::PackageName)),
+        (optional, Why::NoSuch(Kind::Flag)),
+        (optional, Why::DevOptional),
+        (defaults, Why::Twice),
+        (defaults, Why::NoSuch(Kind::Flag)),
+        (
+            place.at_key(Some("default_features")),
+            Why::NoSuch(Kind::Flag),
+        ),
+        (features, Why::NoSuch(Kind::List)),
+    ];
+    if let Some(found) = first_blamed(alloc, sought, &tried)? {
+        return Ok(Some(found));
     }
-    first_item(
-        alloc,
-        sought,
-        place.at_key(Some("features")),
-        Sort::AskedFeature,
-    )
+    first_item(alloc, sought, features, Sort::AskedFeature)
 }
 
 /// The first element of a list that isn't a text of this sort.
@@ -325,18 +287,13 @@ pub(crate) fn first_item<'t>(
 ) -> Result<Option<Culprit<'t>>, AllocError>
     ensures { IsFound sought.entry result }
 {
-    let Some(value) = value_at(sought.top, &list) else {
-        return Ok(None);
-    };
-    let Some(items) = value.as_array() else {
+    let Some(items) = items_at(sought.top, &list) else {
         return Ok(None);
     };
     for (number, _) in items.iter().enumerate() {
         let item = list.at_item(number);
-        if let Some(found) = blamed(alloc, sought, item, Why::NoSuch(Kind::Text))? {
-            return Ok(Some(found));
-        }
-        if let Some(found) = blamed(alloc, sought, item, Why::NoText(sort))? {
+        let tried = [(item, Why::NoSuch(Kind::Text)), (item, Why::NoText(sort))];
+        if let Some(found) = first_blamed(alloc, sought, &tried)? {
             return Ok(Some(found));
         }
     }

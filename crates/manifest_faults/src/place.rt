@@ -6,6 +6,7 @@ ghost use Rattle.toml.specs.View.{table_view, view};
 ghost use Rattle.manifest_faults.specs.Places.{below, numbered, section_value, named_value, value_at, underscored};
 ghost use Rattle.manifest_faults.specs.Places.{twin_at};
 
+use toml::value::Array;
 use toml::{Table, Value};
 
 /// Where something stands, as `version` at `serde` in `[target.'cfg(unix)'.dependencies]`.
@@ -95,6 +96,16 @@ pub(crate) fn value_at<'t>(top: &'t Table, place: &Place<'_>) -> Option<&'t Valu
         Some(number) => value?.get(number),
         None => value,
     }
+}
+
+/// The table that stands at a place.
+pub(crate) fn table_at<'t>(top: &'t Table, place: &Place<'_>) -> Option<&'t Table> {
+    value_at(top, place)?.as_table()
+}
+
+/// The list that stands at a place.
+pub(crate) fn items_at<'t>(top: &'t Table, place: &Place<'_>) -> Option<&'t Array> {
+    value_at(top, place)?.as_array()
 }
 
 /// What stands at the other spelling of the last key of a place.

@@ -1,6 +1,6 @@
 //! Whether values and texts are what they have to be.
 
-ghost use Rattle.std.specs.Prelude.{◌≡◌, IfOk, is_none, not, option_and_then, option_map};
+ghost use Rattle.std.specs.Prelude.{◌≡◌, ◌≢◌, true, IfOk, is_none, not, option_and_then, option_map};
 ghost use Rattle.features.specs.Entries.{entry_of};
 ghost use Rattle.features.specs.Names.{is_feature_name, is_package_name};
 ghost use Rattle.toml.specs.Data.{as_table};
@@ -9,7 +9,7 @@ ghost use Rattle.manifest.specs.Dependencies.{unsupported_in};
 ghost use Rattle.manifest.specs.Packages.{is_inherited};
 ghost use Rattle.manifest.specs.Values.{has_key};
 ghost use Rattle.manifest_faults.specs.Reasons.{is_foreign, is_no, is_not, is_refused, lacks_source};
-ghost use Rattle.semver.specs.Parse.{version_parts, req_of};
+ghost use Rattle.semver.specs.Parse.{memory_error, req_of, version_parts};
 
 use crate::entries::entry_of;
 use crate::place::member;
@@ -157,13 +157,7 @@ fn is_no_version(alloc: Global, text: &str) -> Result<bool, AllocError>
 {
     match Version::parse(alloc, text) {
         Ok(_) => Ok(false),
-        Err(e) => {
-            if e == semver::Error::from(AllocError) {
-                Err(AllocError)
-            } else {
-                Ok(true)
-            }
-        }
+        Err(e) => refused(e),
     }
 }
 
@@ -172,13 +166,18 @@ fn is_no_requirement(alloc: Global, text: &str) -> Result<bool, AllocError>
 {
     match VersionReq::parse(alloc, text) {
         Ok(_) => Ok(false),
-        Err(e) => {
-            if e == semver::Error::from(AllocError) {
-                Err(AllocError)
-            } else {
-                Ok(true)
-            }
-        }
+        Err(e) => refused(e),
+    }
+}
+
+/// That a text was refused, unless memory was wanting.
+fn refused(e: semver::Error) -> Result<bool, AllocError>
+    ensures { IfOk result (λ b. (b ≡ true) × (e ≢ memory_error)) }
+{
+    if e == semver::Error::from(AllocError) {
+        Err(AllocError)
+    } else {
+        Ok(true)
     }
 }
 

@@ -40,6 +40,22 @@ pub(crate) fn blamed<'t>(
     }
 }
 
+/// The first of these parts that has the fault, for the reason beside it.
+pub(crate) fn first_blamed<'t>(
+    alloc: Global,
+    sought: Sought<'t>,
+    tried: &[(Place<'t>, Why<'t>)],
+) -> Result<Option<Culprit<'t>>, AllocError>
+    ensures { IsFound sought.entry result }
+{
+    for (place, why) in tried.iter() {
+        if let Some(found) = blamed(alloc, sought, *place, *why)? {
+            return Ok(Some(found));
+        }
+    }
+    Ok(None)
+}
+
 fn is_blamed(
     alloc: Global,
     sought: Sought<'_>,
