@@ -1,9 +1,10 @@
 //! Why an index has no candidate of a version.
 
-use crate::index_file::{IndexFile, file_of, out_of_memory};
+use crate::index_file::{newest_in, skipped_in};
 use catalogue::Catalogue;
 use features::PackageName;
 use index_reader::{Folder, FolderFault, SkipReason};
+use lacks::{IndexFile, file_of, out_of_memory};
 use lockfile::Package;
 use semver::Version;
 use std::alloc::{AllocError, Global};
@@ -48,10 +49,10 @@ fn why_no_line(
     package: &Package,
     file: &IndexFile,
 ) -> Result<MissingVersion, AllocError> {
-    if let Some((line, reason)) = file.skipped(alloc, &package.version) {
+    if let Some((line, reason)) = skipped_in(alloc, file, &package.version) {
         return Ok(MissingVersion::Skipped(line, reason));
     }
-    match file.newest() {
+    match newest_in(file) {
         Some(newest) => Ok(MissingVersion::NoLine(Some(newest.clone()?))),
         None => Ok(MissingVersion::NoLine(None)),
     }

@@ -2,13 +2,13 @@
 
 use crate::feature_sentences::push_lacking;
 use crate::flawed::Flawed;
-use crate::index_file::out_of_memory;
 use crate::judging::flaws_of;
 use crate::list_sentences::{push_surplus, push_unmet};
 use crate::naming::Named;
 use crate::versions::{Registry, push_no_candidate};
 use catalogue::Catalogue;
 use index_reader::{Folder, FolderFault};
+use lacks::out_of_memory;
 use lockfile::{LockContent, Package};
 use manifest::Manifest;
 use selection::Findings;

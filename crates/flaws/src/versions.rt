@@ -1,11 +1,11 @@
 //! The sentences that tell why a package is no candidate: its source, its version or its checksum.
 
-use crate::index_file::out_of_memory;
 use crate::missing_version::{MissingVersion, why_missing};
 use crate::naming::Named;
 use crate::no_candidate::NoCandidate;
 use catalogue::Catalogue;
 use index_reader::{Folder, FolderFault};
+use lacks::out_of_memory;
 use lockfile::Package;
 use std::alloc::{AllocError, Global};
 

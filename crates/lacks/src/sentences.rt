@@ -1,7 +1,8 @@
 //! The sentences that tell why nothing fits.
 
+use crate::index_file::out_of_memory;
 use crate::lack::Lack;
-use crate::missing::{look_for, out_of_memory};
+use crate::missing::look_for;
 use crate::reason::{Reason, reason_of};
 use catalogue::Catalogue;
 use features::{DependencyParts, FeatureName, PackageName};
@@ -51,8 +52,7 @@ fn push_lack(
 }
 
 /// Adds a note that tells why nothing fits a dependency, `note: nothing fits a ^2: there is no package a in this
-/// index`;
-/// none where there are versions and only none that fits, or where some fits.
+/// index`; none where there are versions and only none that fits, or where some fits.
 ///
 /// # Errors
 /// As of `tell_lacks`.
