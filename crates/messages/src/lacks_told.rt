@@ -5,8 +5,8 @@ use crate::shown::Shown;
 use catalogue::{Catalogue, LoadFault};
 use features::{Dependency, PackageName};
 use index_reader::{Folder, FolderFault};
-use lacks::{Lack, Reason, look_for, reason_of};
-use reports::{Inputs, loaded};
+use lacks::{Lack, Reason, look_for, out_of_memory, reason_of};
+use reports::{Inputs, loaded, unless_failed};
 use std::alloc::Global;
 
 /// The dependencies of the manifest for which nothing fits; where there is none, or the folder fails while it is asked
@@ -17,11 +17,8 @@ pub fn lacks_of<F: Folder>(
     inputs: &Inputs,
 ) -> Result<String, LoadFault> {
     let catalogue = loaded(alloc, folder, inputs)?;
-    match lacks_in(alloc, folder, inputs, &catalogue) {
-        Ok(text) => Ok(text),
-        Err(FolderFault::OutOfMemory) => Err(LoadFault::OutOfMemory),
-        Err(FolderFault::Failed) => Ok(String::new(alloc)),
-    }
+    let lacks = lacks_in(alloc, folder, inputs, &catalogue);
+    unless_failed(alloc, lacks)
 }
 
 fn lacks_in<F: Folder>(
@@ -33,12 +30,9 @@ fn lacks_in<F: Folder>(
     let mut text = String::new(alloc);
     for dependency in inputs.manifest.dependencies() {
         if let Some(found) = look_for(alloc, catalogue, folder, dependency)? {
-            let reason = reason_of(alloc, catalogue, dependency, &found).map_err(
-                |_| FolderFault::OutOfMemory,
-            )?;
+            let reason = reason_of(alloc, catalogue, dependency, &found).map_err(out_of_memory)?;
             let message = lack(inputs.manifest.name(), dependency, reason);
-            let told = push_message(&mut text, alloc, &message);
-            told.map_err(|_| FolderFault::OutOfMemory)?;
+            push_message(&mut text, alloc, &message).map_err(out_of_memory)?;
         }
     }
     Ok(text)

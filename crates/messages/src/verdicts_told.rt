@@ -10,9 +10,10 @@ use flaws::{
     last_serving, why_missing,
 };
 use index_reader::{Folder, FolderFault, SkipReason};
+use lacks::out_of_memory;
 use lockfile::{LockContent, Package};
 use manifest::Manifest;
-use reports::{Inputs, loaded_beside};
+use reports::{Inputs, loaded_beside, unless_failed};
 use selection::{Findings, Verdict, VerdictFault};
 use semver::{Version, VersionReq};
 use serde::Serialize;
@@ -161,11 +162,8 @@ pub fn flaws_of_lock<F: Folder>(
         return Ok(String::new(alloc));
     };
     let catalogue = loaded_beside(alloc, folder, inputs, lock)?;
-    match flaws_in(alloc, folder, &inputs.manifest, &catalogue, lock) {
-        Ok(text) => Ok(text),
-        Err(FolderFault::OutOfMemory) => Err(LoadFault::OutOfMemory),
-        Err(FolderFault::Failed) => Ok(String::new(alloc)),
-    }
+    let flaws = flaws_in(alloc, folder, &inputs.manifest, &catalogue, lock);
+    unless_failed(alloc, flaws)
 }
 
 fn flaws_in<'a, F: Folder>(
@@ -181,10 +179,6 @@ fn flaws_in<'a, F: Folder>(
         None => push_rootless(&mut text, alloc, manifest).map_err(out_of_memory)?,
     }
     Ok(text)
-}
-
-fn out_of_memory(_error: AllocError) -> FolderFault {
-    FolderFault::OutOfMemory
 }
 
 /// That the package of the manifest isn't in the lock.

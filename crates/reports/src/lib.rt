@@ -18,7 +18,7 @@ mod whole_index;
 pub use all_ways::all_ways_there;
 pub use part::{Meant, Part, meant_by, part_in};
 pub use refusing::refusal_of;
-pub use reporting::{Inputs, Told, changes_to, loaded, skips_of, why_there};
+pub use reporting::{Inputs, Told, changes_to, loaded, skips_of, unless_failed, why_there};
 pub use verifying::{flaws_of_lock, loaded_beside};
 pub use wanted::{Wanted, package_in};
 pub use whole_index::{skips_at, skips_of_all};

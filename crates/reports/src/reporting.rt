@@ -8,7 +8,7 @@ ghost use Rattle.model.specs.Optional.{packages_if};
 use crate::wanted::Wanted;
 use catalogue::{Catalogue, LoadFault, Prefer, Source, load};
 use changes::{Why, changes_between, reason_for, tell_changes, tell_skips, tell_way};
-use index_reader::Folder;
+use index_reader::{Folder, FolderFault};
 use lockfile::LockContent;
 use manifest::Manifest;
 use std::alloc::{AllocError, Global};
@@ -103,5 +103,17 @@ pub fn why_there<F: Folder>(
             let text = tell_way(alloc, &inputs.manifest, &catalogue, lock, &places)?;
             Ok(Told::Way(text))
         }
+    }
+}
+
+/// What is told after the index was asked once more: nothing where its folder fails.
+pub fn unless_failed(
+    alloc: Global,
+    told: Result<String, FolderFault>,
+) -> Result<String, LoadFault> {
+    match told {
+        Ok(text) => Ok(text),
+        Err(FolderFault::OutOfMemory) => Err(LoadFault::OutOfMemory),
+        Err(FolderFault::Failed) => Ok(String::new(alloc)),
     }
 }

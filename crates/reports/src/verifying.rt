@@ -1,9 +1,9 @@
 //! The report on a lock: all that is wrong with it.
 
-use crate::reporting::Inputs;
+use crate::reporting::{Inputs, unless_failed};
 use catalogue::{Catalogue, LoadFault, Prefer, load};
 use flaws::{has_metadata, tell_flaws, without_checksums};
-use index_reader::{Folder, FolderFault};
+use index_reader::Folder;
 use lockfile::LockContent;
 use std::alloc::Global;
 
@@ -20,18 +20,15 @@ pub fn flaws_of_lock<F: Folder>(
     };
     let catalogue = loaded_beside(alloc, folder, inputs, lock)?;
     let has_metadata = has_metadata(bytes);
-    match tell_flaws(
+    let flaws = tell_flaws(
         alloc,
         &inputs.manifest,
         &catalogue,
         lock,
         folder,
         has_metadata,
-    ) {
-        Ok(text) => Ok(text),
-        Err(FolderFault::OutOfMemory) => Err(LoadFault::OutOfMemory),
-        Err(FolderFault::Failed) => Ok(String::new(alloc)),
-    }
+    );
+    unless_failed(alloc, flaws)
 }
 
 /// What is loaded of an index beside a lock without its checksums, so that those that changed are told with all else.
