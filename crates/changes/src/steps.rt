@@ -17,23 +17,17 @@ pub struct Step<'a> {
     pub target: &'a Package,
 }
 
-/// A line for each dependency on a way, which is given by the places of its packages, with the requirement that the one
-/// has for the next: those of the manifest at the first place, and of candidates at the others.
-pub fn tell_way(
-    alloc: Global,
-    manifest: &Manifest,
-    catalogue: &Catalogue,
-    content: &LockContent,
-    places: &[usize],
-) -> Result<String, AllocError> {
+/// A line for each step, with the requirement that the one package has for the other.
+pub fn tell_steps(alloc: Global, steps: &[Step<'_>]) -> Result<String, AllocError> {
     let mut text = String::new(alloc);
-    for step in steps_of(alloc, manifest, catalogue, content, places)?.iter() {
+    for step in steps.iter() {
         push_step(&mut text, *step)?;
     }
     Ok(text)
 }
 
-/// The steps of a way, which is given by the places of its packages.
+/// The steps of a way, which is given by the places of its packages: the dependencies are those of the manifest at the
+/// first place, and those of candidates at the others.
 pub fn steps_of<'a>(
     alloc: Global,
     manifest: &'a Manifest,
@@ -53,21 +47,6 @@ pub fn steps_of<'a>(
         }
     }
     Ok(steps)
-}
-
-/// A line for each of some dependencies, which are given by the places of a package and of one that it lists.
-pub fn tell_dependencies(
-    alloc: Global,
-    manifest: &Manifest,
-    catalogue: &Catalogue,
-    content: &LockContent,
-    pairs: &[(usize, usize)],
-) -> Result<String, AllocError> {
-    let mut text = String::new(alloc);
-    for step in dependencies_between(alloc, manifest, catalogue, content, pairs)?.iter() {
-        push_step(&mut text, *step)?;
-    }
-    Ok(text)
 }
 
 /// The dependencies that are given by the places of a package and of one that it lists.

@@ -5,11 +5,10 @@
 //! `push_message` says what a line is. What is told comes as values from `changes`, `lacks` and `flaws`, and no printed
 //! text is read again; keys and reasons are written once, in the enums that are serialized.
 //!
-//! A layer above may rely on this: what `push_message` adds is one compact JSON text and a line end, and of why a
-//! package is there the same is said as by `reports`. Which keys an object has is shown by cases.
+//! A layer above may rely on this: what `push_message` adds is one compact JSON text and a line end. Which keys an
+//! object has is shown by cases.
 #![tactic(auto)]
 
-mod all_ways_told;
 mod changes_told;
 mod lacks_told;
 mod message;
@@ -19,11 +18,10 @@ mod skips_told;
 mod verdicts_told;
 mod ways_told;
 
-pub use all_ways_told::all_ways_there;
 pub use changes_told::{NewLock, changes_to};
 pub use lacks_told::lacks_of;
 pub use message::refusal;
 pub use run_told::{error, index_read, misreading, repair, warning};
 pub use skips_told::{skips_of, skips_of_all};
 pub use verdicts_told::{flaws_of_lock, verdict};
-pub use ways_told::why_there;
+pub use ways_told::{dependencies, way};

@@ -16,11 +16,11 @@ mod repairing;
 mod skipping;
 mod why;
 
-pub(crate) use asking::{lock_in, new_lock, verdict_on};
+pub(crate) use asking::{inputs_in, lock_in, new_lock, verdict_on};
 pub(crate) use changing::{NewLock, changes_in, refusal_in};
 pub use form::Form;
 pub(crate) use judging::{flaws_in, verdict_in};
 pub(crate) use misread::{manifest_misreading_in, misreading_in};
 pub(crate) use repairing::{Repaired, readable_rest};
 pub(crate) use skipping::{skips_in, skips_in_all};
-pub(crate) use why::{meant_in, why_in};
+pub(crate) use why::{meant_in, way_in};

@@ -1,11 +1,11 @@
 //! What `why` ends with.
 
-use crate::answers::{Form, meant_in, why_in};
+use crate::answers::{Form, inputs_in, meant_in, way_in};
 use crate::outcome::Outcome;
 use crate::said::Said;
 use index_reader::Folder;
 use project_files::{Bytes, Paths};
-use reports::{Meant, Part, Told, Wanted, package_in, part_in};
+use reports::{Inputs, Meant, Part, Wanted, WhyThere, package_in, part_in, why_there};
 use resolver::Fault;
 use std::alloc::{AllocError, Global};
 
@@ -17,6 +17,15 @@ const IS_ROOT: &str = "it is the package of the manifest\n";
 pub enum Question {
     Whole(Wanted),
     Part(Part),
+}
+
+/// Why there is no way to tell.
+#[derive(Clone, Copy)]
+enum NoWay {
+    Absent,
+    Unreached,
+    /// Several packages have the part of a version.
+    Several,
 }
 
 /// What a text asks for, if it is `NAME`, `NAME@VERSION`, or has a part of a version there.
@@ -41,58 +50,67 @@ pub fn why_told<F: Folder>(
     all: bool,
     said: &mut Said,
 ) -> Result<Outcome, Fault> {
-    let told = match question {
-        Question::Whole(wanted) => why_in(alloc, folder, bytes, wanted, said.form(), all)?,
-        Question::Part(part) => match meant_in(alloc, bytes, part)? {
-            Meant::One(wanted) => why_in(alloc, folder, bytes, &wanted, said.form(), all)?,
-            Meant::Absent => Told::Absent,
-            Meant::Several => return Ok(several(alloc, paths, words, said)?),
+    let inputs = inputs_in(alloc, bytes)?;
+    match question {
+        Question::Whole(wanted) => {
+            answered(alloc, folder, paths, &inputs, words, wanted, all, said)
+        }
+        Question::Part(part) => match meant_in(alloc, &inputs, part)? {
+            Meant::One(wanted) => {
+                answered(alloc, folder, paths, &inputs, words, &wanted, all, said)
+            }
+            Meant::Absent => Ok(refused(alloc, paths, words, NoWay::Absent, said)?),
+            Meant::Several => Ok(refused(alloc, paths, words, NoWay::Several, said)?),
         },
-    };
-    Ok(answered(alloc, paths, words, &told, said)?)
+    }
 }
 
-/// Of several packages none is meant; Cargo takes that for an error too.
-fn several(
+/// Why a package is in the lock.
+fn answered<F: Folder>(
     alloc: Global,
+    folder: &mut F,
     paths: &Paths<'_>,
-    package: &str,
+    inputs: &Inputs,
+    words: &str,
+    wanted: &Wanted,
+    all: bool,
     said: &mut Said,
-) -> Result<Outcome, AllocError> {
-    let lock = paths.lock.as_str();
-    let text = format!(in alloc;
-        "several packages of {lock} are {package}; give the whole version"
-    )?;
-    said.error("usage", text.as_str(), None)?;
-    Ok(Outcome::failed())
-}
-
-fn answered(
-    alloc: Global,
-    paths: &Paths<'_>,
-    package: &str,
-    told: &Told,
-    said: &mut Said,
-) -> Result<Outcome, AllocError> {
-    let lock = paths.lock.as_str();
-    match told {
-        Told::Way(text) => {
+) -> Result<Outcome, Fault> {
+    match why_there(alloc, folder, inputs, wanted)? {
+        WhyThere::Way(way) => {
+            let text = way_in(alloc, &way, said.form(), all)?;
             let is_root = text.is_empty() && said.form() == Form::People;
             said.answer(if is_root { IS_ROOT } else { text.as_str() })?;
             Ok(Outcome::yes())
         }
-        Told::Absent => {
-            let text = format!(in alloc; "{package} isn't in {lock}")?;
-            no(said, "absent", text.as_str())
-        }
-        Told::Unreached => {
-            let text = format!(in alloc; "no list leads to {package} in {lock}")?;
-            no(said, "unreached", text.as_str())
-        }
+        WhyThere::Absent => Ok(refused(alloc, paths, words, NoWay::Absent, said)?),
+        WhyThere::Unreached => Ok(refused(alloc, paths, words, NoWay::Unreached, said)?),
     }
 }
 
-fn no(said: &mut Said, kind: &str, message: &str) -> Result<Outcome, AllocError> {
-    said.error(kind, message, None)?;
-    Ok(Outcome::no())
+/// That there is no way to tell; of several packages none is meant, which Cargo takes for an error too.
+fn refused(
+    alloc: Global,
+    paths: &Paths<'_>,
+    words: &str,
+    why: NoWay,
+    said: &mut Said,
+) -> Result<Outcome, AllocError> {
+    let lock = paths.lock.as_str();
+    let (kind, text) = match why {
+        NoWay::Absent => ("absent", format!(in alloc; "{words} isn't in {lock}")?),
+        NoWay::Unreached => (
+            "unreached",
+            format!(in alloc; "no list leads to {words} in {lock}")?,
+        ),
+        NoWay::Several => (
+            "usage",
+            format!(in alloc; "several packages of {lock} are {words}; give the whole version")?,
+        ),
+    };
+    said.error(kind, text.as_str(), None)?;
+    Ok(match why {
+        NoWay::Absent | NoWay::Unreached => Outcome::no(),
+        NoWay::Several => Outcome::failed(),
+    })
 }

@@ -1,13 +1,7 @@
 //! The reports: each loads what it needs of the index, and gives its text.
 
-ghost use Rattle.std.specs.Prelude.{IfOk};
-ghost use Rattle.changes.specs.Ways.{is_own};
-ghost use Rattle.reports.specs.Told.{IsTold, asks_for};
-ghost use Rattle.model.specs.Optional.{packages_if};
-
-use crate::wanted::Wanted;
 use catalogue::{Catalogue, LoadFault, Prefer, Source, load};
-use changes::{Why, changes_between, reason_for, tell_changes, tell_skips, tell_way};
+use changes::{changes_between, tell_changes, tell_skips};
 use index_reader::{Folder, FolderFault};
 use lockfile::LockContent;
 use manifest::Manifest;
@@ -69,41 +63,6 @@ pub fn skips_of<F: Folder>(
 ) -> Result<String, LoadFault> {
     let catalogue = loaded(alloc, folder, inputs)?;
     Ok(tell_skips(alloc, catalogue.skips(), all)?)
-}
-
-/// Why a package is in the lock.
-#[derive(Drop)]
-pub enum Told {
-    /// The lines of a way to it; of the root there is none.
-    Way(String),
-    /// There is no such package in the lock, or no lock.
-    Absent,
-    /// No list leads there.
-    Unreached,
-}
-
-/// Why a package is in the lock. The index is loaded only where there is a way to tell.
-pub fn why_there<F: Folder>(
-    alloc: Global,
-    folder: &mut F,
-    inputs: &Inputs,
-    wanted: &Wanted,
-) -> Result<Told, LoadFault>
-    ensures { IfOk result (IsTold (packages_if inputs.now.lock) (is_own inputs.now.manifest) (asks_for wanted.now)) }
-{
-    let Some(lock) = &inputs.lock else {
-        return Ok(Told::Absent);
-    };
-    let version = wanted.version();
-    match reason_for(alloc, &inputs.manifest, lock, &wanted.name, version)? {
-        Why::Absent => Ok(Told::Absent),
-        Why::Unreached => Ok(Told::Unreached),
-        Why::Way(places) => {
-            let catalogue = loaded(alloc, folder, inputs)?;
-            let text = tell_way(alloc, &inputs.manifest, &catalogue, lock, &places)?;
-            Ok(Told::Way(text))
-        }
-    }
 }
 
 /// What is told after the index was asked once more: nothing where its folder fails.

@@ -1,37 +1,33 @@
 //! Why a package is in the lock.
 
-use crate::answers::asking::inputs_in;
 use crate::answers::form::Form;
-use index_reader::Folder;
-use project_files::Bytes;
-use reports::{Meant, Part, Told, Wanted, meant_by};
-use resolver::Fault;
-use std::alloc::Global;
+use changes::tell_steps;
+use reports::{Inputs, Meant, Part, Way, meant_by};
+use std::alloc::{AllocError, Global};
 
 /// Which package of the lock a part of a version asks for.
-pub(crate) fn meant_in(alloc: Global, bytes: &Bytes, part: &Part) -> Result<Meant, Fault> {
-    let inputs = inputs_in(alloc, bytes)?;
+pub(crate) fn meant_in(alloc: Global, inputs: &Inputs, part: &Part) -> Result<Meant, AllocError> {
     match &inputs.lock {
-        Some(lock) => Ok(meant_by(alloc, part, lock)?),
+        Some(lock) => meant_by(alloc, part, lock),
         None => Ok(Meant::Absent),
     }
 }
 
-/// Why a package is in the lock: a shortest way to it, or each dependency that leads there.
-pub(crate) fn why_in<F: Folder>(
+/// A shortest way to a package, or each dependency that leads there.
+pub(crate) fn way_in(
     alloc: Global,
-    folder: &mut F,
-    bytes: &Bytes,
-    wanted: &Wanted,
+    way: &Way<'_>,
     form: Form,
     all: bool,
-) -> Result<Told, Fault> {
-    let inputs = inputs_in(alloc, bytes)?;
-    let told = match (form, all) {
-        (Form::People, false) => reports::why_there(alloc, folder, &inputs, wanted)?,
-        (Form::People, true) => reports::all_ways_there(alloc, folder, &inputs, wanted)?,
-        (Form::Programs, false) => messages::why_there(alloc, folder, &inputs, wanted)?,
-        (Form::Programs, true) => messages::all_ways_there(alloc, folder, &inputs, wanted)?,
+) -> Result<String, AllocError> {
+    let steps = if all {
+        way.all_steps(alloc)?
+    } else {
+        way.steps(alloc)?
     };
-    Ok(told)
+    match form {
+        Form::People => tell_steps(alloc, &steps),
+        Form::Programs if all => messages::dependencies(alloc, &steps),
+        Form::Programs => messages::way(alloc, &steps),
+    }
 }
