@@ -2,35 +2,12 @@
 
 use crate::message::{Message, push_message};
 use crate::shown::Shown;
-use catalogue::LoadFault;
 use changes::{REASONS, meaning};
-use index_reader::{Folder, Skip, SkipReason};
-use reports::{Inputs, loaded, skips_at};
+use index_reader::{Skip, SkipReason};
 use std::alloc::{AllocError, Global};
 
 /// The lines of the index that were not used: how many for each reason that there is, and with `all` each of them.
-pub fn skips_of<F: Folder>(
-    alloc: Global,
-    folder: &mut F,
-    inputs: &Inputs,
-    all: bool,
-) -> Result<String, LoadFault> {
-    let catalogue = loaded(alloc, folder, inputs)?;
-    Ok(skips_told(alloc, catalogue.skips(), all)?)
-}
-
-/// The same of the files of an index at these paths.
-pub fn skips_of_all<F: Folder>(
-    alloc: Global,
-    folder: &mut F,
-    paths: &[String],
-    all: bool,
-) -> Result<String, LoadFault> {
-    let skips = skips_at(alloc, folder, paths)?;
-    Ok(skips_told(alloc, &skips, all)?)
-}
-
-fn skips_told(alloc: Global, skips: &[Skip], all: bool) -> Result<String, AllocError> {
+pub fn skips(alloc: Global, skips: &[Skip], all: bool) -> Result<String, AllocError> {
     let mut text = String::new(alloc);
     for reason in REASONS.iter() {
         push_reason(&mut text, alloc, skips, reason, all)?;

@@ -17,8 +17,8 @@ mod whole_index;
 
 pub use part::{Meant, Part, meant_by, part_in};
 pub use refusing::refusal_of;
-pub use reporting::{Inputs, changes_to, loaded, skips_of, unless_failed};
+pub use reporting::{Inputs, changes_to, loaded, unless_failed};
 pub use verifying::{flaws_of_lock, loaded_beside};
 pub use wanted::{Wanted, package_in};
 pub use ways::{Way, WhyThere, why_there};
-pub use whole_index::{skips_at, skips_of_all};
+pub use whole_index::skips_at;

@@ -1,7 +1,7 @@
 //! The reports: each loads what it needs of the index, and gives its text.
 
 use catalogue::{Catalogue, LoadFault, Prefer, Source, load};
-use changes::{changes_between, tell_changes, tell_skips};
+use changes::{changes_between, tell_changes};
 use index_reader::{Folder, FolderFault};
 use lockfile::LockContent;
 use manifest::Manifest;
@@ -52,17 +52,6 @@ fn changes_told<'a>(
 ) -> Result<String, AllocError> {
     let changes = changes_between(alloc, inputs.lock.as_ref(), new)?;
     tell_changes(alloc, catalogue, new, &changes, all)
-}
-
-/// The lines of the index that were not used.
-pub fn skips_of<F: Folder>(
-    alloc: Global,
-    folder: &mut F,
-    inputs: &Inputs,
-    all: bool,
-) -> Result<String, LoadFault> {
-    let catalogue = loaded(alloc, folder, inputs)?;
-    Ok(tell_skips(alloc, catalogue.skips(), all)?)
 }
 
 /// What is told after the index was asked once more: nothing where its folder fails.

@@ -1,7 +1,6 @@
 //! The lines of all files of an index.
 
 use catalogue::{Limit, LoadFault};
-use changes::tell_skips;
 use features::{NameFault, PackageName};
 use index_reader::{Folder, FolderFault, KnownDependencies, Skip, index_path, lines, read_file_in};
 use json::Scratch;
@@ -13,17 +12,6 @@ const MAX_BYTES: usize = 16_777_216;
 
 /// How many lines a file has at most.
 const MAX_LINES: usize = 65_535;
-
-/// What is told of the lines that were not used of the files at these paths.
-pub fn skips_of_all<F: Folder>(
-    alloc: Global,
-    folder: &mut F,
-    paths: &[String],
-    all: bool,
-) -> Result<String, LoadFault> {
-    let skips = skips_at(alloc, folder, paths)?;
-    Ok(tell_skips(alloc, &skips, all)?)
-}
 
 /// The lines that were not used of the files at these paths, by the names of the files in order of their bytes. A file
 /// that isn't where the name of a package would be looked for is passed over.

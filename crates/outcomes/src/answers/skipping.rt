@@ -2,10 +2,12 @@
 
 use crate::answers::asking::inputs_in;
 use crate::answers::form::Form;
-use index_reader::Folder;
+use changes::tell_skips;
+use index_reader::{Folder, Skip};
 use project_files::Bytes;
+use reports::{loaded, skips_at};
 use resolver::Fault;
-use std::alloc::Global;
+use std::alloc::{AllocError, Global};
 
 /// The lines that were not used of what the manifest comes to.
 pub(crate) fn skips_in<F: Folder>(
@@ -16,11 +18,8 @@ pub(crate) fn skips_in<F: Folder>(
     all: bool,
 ) -> Result<String, Fault> {
     let inputs = inputs_in(alloc, bytes)?;
-    let text = match form {
-        Form::People => reports::skips_of(alloc, folder, &inputs, all)?,
-        Form::Programs => messages::skips_of(alloc, folder, &inputs, all)?,
-    };
-    Ok(text)
+    let catalogue = loaded(alloc, folder, &inputs)?;
+    Ok(told(alloc, catalogue.skips(), form, all)?)
 }
 
 /// The lines that were not used of the files of an index at these paths.
@@ -31,9 +30,13 @@ pub(crate) fn skips_in_all<F: Folder>(
     form: Form,
     all: bool,
 ) -> Result<String, Fault> {
-    let text = match form {
-        Form::People => reports::skips_of_all(alloc, folder, paths, all)?,
-        Form::Programs => messages::skips_of_all(alloc, folder, paths, all)?,
-    };
-    Ok(text)
+    let skips = skips_at(alloc, folder, paths)?;
+    Ok(told(alloc, &skips, form, all)?)
+}
+
+fn told(alloc: Global, skips: &[Skip], form: Form, all: bool) -> Result<String, AllocError> {
+    match form {
+        Form::People => tell_skips(alloc, skips, all),
+        Form::Programs => messages::skips(alloc, skips, all),
+    }
 }
