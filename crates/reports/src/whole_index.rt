@@ -1,7 +1,8 @@
 //! The lines of all files of an index.
 
+use crate::wanted::name_in;
 use catalogue::{Limit, LoadFault};
-use features::{NameFault, PackageName};
+use features::PackageName;
 use index_reader::{Folder, FolderFault, KnownDependencies, Skip, index_path, lines, read_file_in};
 use json::Scratch;
 use std::alloc::{AllocError, Global};
@@ -46,7 +47,7 @@ fn name_at(alloc: Global, path: &str) -> Result<Option<PackageName>, AllocError>
         Some((_, text)) => text,
         None => path,
     };
-    let Some(name) = name_of(alloc, text)? else {
+    let Some(name) = name_in(alloc, text)? else {
         return Ok(None);
     };
     let own = index_path(alloc, &name)?;
@@ -100,7 +101,7 @@ fn spelt_in(
     scratch: &mut Scratch,
 ) -> Result<Option<PackageName>, AllocError> {
     for line in bytes.split(|byte| *byte == b'\n') {
-        if let Some(spelt) = name_in(alloc, line, scratch)? {
+        if let Some(spelt) = name_said(alloc, line, scratch)? {
             let lower = spelt.as_str().to_ascii_lowercase(alloc)?;
             if lower.as_str() == name.as_str() {
                 return Ok(Some(spelt));
@@ -111,7 +112,7 @@ fn spelt_in(
 }
 
 /// The name that a line says.
-fn name_in(
+fn name_said(
     alloc: Global,
     line: &[u8],
     scratch: &mut Scratch,
@@ -127,14 +128,5 @@ fn name_in(
     let Some(text) = as_text(&value) else {
         return Ok(None);
     };
-    name_of(alloc, text)
-}
-
-/// The package name that a text is, if it is one.
-fn name_of(alloc: Global, text: &str) -> Result<Option<PackageName>, AllocError> {
-    match PackageName::parse(alloc, text) {
-        Ok(name) => Ok(Some(name)),
-        Err(NameFault::OutOfMemory) => Err(AllocError),
-        Err(NameFault::NotAName) => Ok(None),
-    }
+    name_in(alloc, text)
 }
