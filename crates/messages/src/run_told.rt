@@ -4,23 +4,21 @@ use crate::message::push_message;
 use serde::Serialize;
 use std::alloc::{AllocError, Global};
 
+/// Whether a run goes on.
+#[derive(Clone, Copy, Debug, PartialEq, Eq)]
+pub enum Severity {
+    /// What went wrong, or a no.
+    Error,
+    /// What a run goes on after.
+    Warning,
+}
+
 /// What is told of a run; `reason` says which of these it is.
 #[derive(Drop, Serialize)]
 #[serde(tag = "reason", rename_all = "kebab-case")]
 enum RunMessage<'a> {
-    /// What went wrong, or a no.
-    Error {
-        kind: &'a str,
-        message: &'a str,
-        /// The fault, as `relock` names it.
-        code: Option<&'a str>,
-    },
-    /// What a run goes on after.
-    Warning {
-        kind: &'a str,
-        message: &'a str,
-        code: Option<&'a str>,
-    },
+    Error(Trouble<'a>),
+    Warning(Trouble<'a>),
     /// Where and why a file doesn't read.
     Misreading {
         path: &'a str,
@@ -41,38 +39,33 @@ enum RunMessage<'a> {
     },
 }
 
-/// The message of an error, by its kind; of a fault there is a code too, as `relock` names it.
-pub fn error<'a>(
-    alloc: Global,
+/// What went wrong, or may have.
+#[derive(Drop, Serialize)]
+struct Trouble<'a> {
     kind: &'a str,
     message: &'a str,
+    /// The fault, as `relock` names it.
     code: Option<&'a str>,
-) -> Result<String, AllocError> {
-    told(
-        alloc,
-        &RunMessage::Error {
-            kind,
-            message,
-            code,
-        },
-    )
 }
 
-/// The message of something after which a run goes on, in the same way.
-pub fn warning<'a>(
+/// The message of an error or a warning, by its kind; of a fault there is a code too, as `relock` names it.
+pub fn diagnostic<'a>(
     alloc: Global,
+    severity: Severity,
     kind: &'a str,
     message: &'a str,
     code: Option<&'a str>,
 ) -> Result<String, AllocError> {
-    told(
-        alloc,
-        &RunMessage::Warning {
-            kind,
-            message,
-            code,
-        },
-    )
+    let trouble = Trouble {
+        kind,
+        message,
+        code,
+    };
+    let message = match severity {
+        Severity::Error => RunMessage::Error(trouble),
+        Severity::Warning => RunMessage::Warning(trouble),
+    };
+    told(alloc, &message)
 }
 
 /// The message of where and why a file doesn't read.

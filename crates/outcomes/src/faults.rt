@@ -3,6 +3,7 @@
 use crate::answers::{lock_in, manifest_misreading_in, misreading_in};
 use crate::outcome::Outcome;
 use crate::said::Said;
+use messages::Severity;
 use project_files::{Bytes, Paths};
 use resolver::{Fault, TooLarge};
 use std::alloc::{AllocError, Global};
@@ -66,7 +67,7 @@ pub fn told_fault(
     match ended {
         Ok(outcome) => Ok(outcome),
         Err(fault) => {
-            said.fault(&fault, true)?;
+            said.fault(&fault, Severity::Error)?;
             tell_more(alloc, paths, bytes, &fault, said)?;
             Ok(Outcome::failed())
         }

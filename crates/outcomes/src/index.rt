@@ -32,5 +32,5 @@ fn read(alloc: Global, files: u64, lines: u64) -> Result<String, AllocError> {
 /// That a folder has no file of an index: it may be empty, or lie above or below the index itself.
 pub fn warn_of_none(alloc: Global, index: &str, said: &mut Said) -> Result<(), AllocError> {
     let message = format!(in alloc; "{index} has no file of an index, such as se/rd/serde")?;
-    said.warning("no-index", message.as_str(), None)
+    said.warning("no-index", message.as_str())
 }

@@ -9,6 +9,7 @@ use crate::outcome::Outcome;
 use crate::said::Said;
 use derivations::Derivation;
 use index_reader::Folder;
+use messages::Severity;
 use project_files::{Bytes, Paths};
 use resolver::{Answer, Fault};
 use std::alloc::{AllocError, Global};
@@ -133,7 +134,7 @@ fn with_new_lock(
     }
     if wish.locked {
         let text = format!(in alloc; "{path} would change, and --locked was given")?;
-        said.error("would-change", text.as_str(), None)?;
+        said.error("would-change", text.as_str())?;
         return Ok(Outcome::no());
     }
     if wish.write {
@@ -161,7 +162,7 @@ fn refused(
 ) -> Result<Outcome, AllocError> {
     let manifest = paths.manifest;
     let text = format!(in alloc; "no lock is possible for {manifest}")?;
-    said.error("no-lock", text.as_str(), None)?;
+    said.error("no-lock", text.as_str())?;
     said.below(why)?;
     Ok(Outcome::no())
 }
@@ -174,7 +175,7 @@ fn tell_repair(
     repaired: &Repaired,
     said: &mut Said,
 ) -> Result<(), AllocError> {
-    said.fault(&repaired.fault, false)?;
+    said.fault(&repaired.fault, Severity::Warning)?;
     if said.is_quiet() {
         return Ok(());
     }

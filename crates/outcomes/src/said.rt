@@ -2,6 +2,7 @@
 
 use crate::answers::Form;
 use crate::faults::Sentence;
+use messages::Severity;
 use resolver::Fault;
 use std::alloc::{AllocError, Global};
 
@@ -49,39 +50,39 @@ impl Said {
         self.out.push_str(text)
     }
 
-    /// What went wrong, or a no, by its kind; of a fault there is a code too.
-    pub fn error(
-        &mut self,
-        kind: &str,
-        message: &str,
-        code: Option<&str>,
-    ) -> Result<(), AllocError> {
-        match self.form {
-            Form::People => self.tell_people("error", message, code),
-            Form::Programs => {
-                let line = messages::error(self.alloc, kind, message, code)?;
-                self.out.push_str(line.as_str())
-            }
-        }
+    /// What went wrong, or a no, by its kind.
+    pub fn error(&mut self, kind: &str, message: &str) -> Result<(), AllocError> {
+        self.tell(Severity::Error, kind, message, None)
     }
 
     /// What the run goes on after; no error.
-    pub(crate) fn warning(
+    pub(crate) fn warning(&mut self, kind: &str, message: &str) -> Result<(), AllocError> {
+        self.tell(Severity::Warning, kind, message, None)
+    }
+
+    /// A fault, as an error or as what the run goes on after.
+    pub(crate) fn fault(&mut self, fault: &Fault, severity: Severity) -> Result<(), AllocError> {
+        let sentence = Sentence(fault);
+        let message = format!(in self.alloc; "{sentence}")?;
+        let code = format!(in self.alloc; "{fault}")?;
+        self.tell(severity, "fault", message.as_str(), Some(code.as_str()))
+    }
+
+    /// An error, or a warning unless errors alone are told; of a fault there is a code too.
+    fn tell(
         &mut self,
+        severity: Severity,
         kind: &str,
         message: &str,
         code: Option<&str>,
     ) -> Result<(), AllocError> {
+        if severity == Severity::Warning && self.is_quiet() {
+            return Ok(());
+        }
         match self.form {
-            Form::People => {
-                if self.quiet {
-                    Ok(())
-                } else {
-                    self.tell_people("warning", message, code)
-                }
-            }
+            Form::People => self.tell_people(severity, message, code),
             Form::Programs => {
-                let line = messages::warning(self.alloc, kind, message, code)?;
+                let line = messages::diagnostic(self.alloc, severity, kind, message, code)?;
                 self.out.push_str(line.as_str())
             }
         }
@@ -90,25 +91,17 @@ impl Said {
     /// The sentence, and behind it the code of a fault.
     fn tell_people(
         &mut self,
-        word: &str,
+        severity: Severity,
         message: &str,
         code: Option<&str>,
     ) -> Result<(), AllocError> {
+        let word = match severity {
+            Severity::Error => "error",
+            Severity::Warning => "warning",
+        };
         match code {
             Some(code) => writeln!(self.err, "{word}: {message} ({code})"),
             None => writeln!(self.err, "{word}: {message}"),
-        }
-    }
-
-    /// A fault, as an error or as what the run goes on after.
-    pub(crate) fn fault(&mut self, fault: &Fault, is_error: bool) -> Result<(), AllocError> {
-        let sentence = Sentence(fault);
-        let message = format!(in self.alloc; "{sentence}")?;
-        let code = format!(in self.alloc; "{fault}")?;
-        if is_error {
-            self.error("fault", message.as_str(), Some(code.as_str()))
-        } else {
-            self.warning("fault", message.as_str(), Some(code.as_str()))
         }
     }
 

@@ -4,6 +4,7 @@ use crate::answers::{flaws_in, verdict_in, verdict_on};
 use crate::outcome::Outcome;
 use crate::said::Said;
 use index_reader::Folder;
+use messages::Severity;
 use project_files::{Bytes, Paths};
 use resolver::Fault;
 use selection::Verdict;
@@ -60,7 +61,7 @@ fn tell_invalid(
 ) -> Result<(), AllocError> {
     let lock = paths.lock.as_str();
     let message = format!(in alloc; "{lock} is {verdict}")?;
-    said.error("invalid", message.as_str(), None)
+    said.error("invalid", message.as_str())
 }
 
 /// Of a lock with another checksum than the index's there is no verdict; what is wrong with it is told all the same.
@@ -72,7 +73,7 @@ fn changed<F: Folder>(
     said: &mut Said,
 ) -> Result<Outcome, Fault> {
     let flaws = flaws_in(alloc, folder, bytes, said.form())?;
-    said.fault(fault, true)?;
+    said.fault(fault, Severity::Error)?;
     said.below(flaws.as_str())?;
     Ok(Outcome::failed())
 }

@@ -108,7 +108,7 @@ fn refused(
             format!(in alloc; "several packages of {lock} are {words}; give the whole version")?,
         ),
     };
-    said.error(kind, text.as_str(), None)?;
+    said.error(kind, text.as_str())?;
     Ok(match why {
         NoWay::Absent | NoWay::Unreached => Outcome::no(),
         NoWay::Several => Outcome::failed(),
