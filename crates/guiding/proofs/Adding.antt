@@ -1,12 +1,13 @@
 -- A guide that asks for a pair does what the search wants of it.
 use Rattle.std.proofs.Common.{◌≡◌, ℕ, zero, suc, ◌+◌, ◌-◌, ◌<◌, ◌≤◌, ◌==◌, ◌||◌, Bool, true, false, List, [], ◌∷◌, ◌++◌}
-use Rattle.std.proofs.Common.{length, map, get_or, append_assoc, Contains, Option, Some, None, slice_get, refl, sym, ap}
+use Rattle.std.proofs.Common.{length, map, append_assoc, Contains, Option, Some, None, slice_get, refl, sym, ap}
 use Rattle.std.proofs.Common.{ap₂, ◌∙◌, subst, inl, inr, arith}
 use Rattle.std.specs.Prelude.{if◌then◌else◌, option_map}
 use Rattle.std.proofs.lemmas.Bool.{cases_lt, false≢true, ne_eqb}
 use Rattle.std.proofs.lemmas.List.{get_or_append_left, get_or-append_right, length-append, length-map}
 use Rattle.std.proofs.lemmas.Option.{none-some, same_Some, slice_get_within}
 use Rattle.version_sets.specs.Sets.{Members, has, is_full}
+use Rattle.version_sets.proofs.Laws.{has_below}
 use Rattle.terms.specs.Terms.{TermView}
 use Rattle.incompatibilities.specs.Incompatibilities as numbered
 use Rattle.incompatibilities.specs.Incompatibilities.{unless_full}
@@ -36,7 +37,7 @@ use Rattle.vertices.specs.Kinds.{kind_number}
 use Rattle.guiding.specs.Remaining.{spaces_of}
 use Rattle.guiding.proofs.FirstTerms.{first_only}
 use Rattle.guiding.specs.Going.{added_grown, added_on, says_on}
-use Rattle.guiding.proofs.Marks.{marked_either, marked_lengths, marked_more, marked_now}
+use Rattle.guiding.proofs.Marks.{lengths_at, marked_either, marked_lengths, marked_more, marked_now}
 use Rattle.guiding.proofs.Numbers.{asked_is, asked_stays, on_trail_at, on_trail_most, late_comes, there_at}
 use Rattle.guiding.proofs.Remaining.{open_lt}
 
@@ -96,12 +97,6 @@ mapped_long : (q : Problem) (w : Vertex) (o : Option (List State)) (x : Members)
 mapped_long q w None x e = absurd (none-some x e)
 mapped_long q w (Some ss) x e = ap length (sym (same_Some (members_at q w ss) x e))
     ∙ length-map (space q w) (Rattle.model.specs.Vertices.has_state ss)
-
-pub lengths_at : (l : List Members) (k : ℕ) → get_or (map length l) k 0 ≡ length (set_of l k)
-lengths_at [] zero = refl
-lengths_at [] (suc k) = refl
-lengths_at (s ∷ l) zero = refl
-lengths_at (s ∷ l) (suc k) = lengths_at l k
 
 -- an instance lies in the universes of the trail's vertices
 pub said_long : (q : Problem) (vs : Numbering) (asked : List Members) (wide : TrailView)
@@ -169,11 +164,6 @@ module _ (v i : ℕ) (old new : EncodedView) (t wide : TrailView) (es more : Lis
 
   zero_asked : (j u : ℕ) → j ≡ 0 → asked_of new.asked u j ≡ true
   zero_asked j u e = subst (λ k. asked_of new.asked u k ≡ true) (sym e) refl
-
-  has_below : (s : Members) (j : ℕ) → has s j ≡ true → j < length s
-  has_below [] j h = absurd (false≢true h)
-  has_below (b ∷ s) zero h = omega arith
-  has_below (b ∷ s) (suc j) h = let r = has_below s j h in omega (arith, r)
 
   pub lone : Rattle.searching.specs.Searching.LoneAsked (length t.sets) (asked_of new.asked) wide.sets
   lone u j ge within only =

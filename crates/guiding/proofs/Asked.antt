@@ -1,11 +1,11 @@
 -- A guide as its fields are, before and after it asks for a pair.
-use Rattle.std.proofs.Common.{◌≡◌, ℕ, ◌<◌, ◌≤◌, true, List, length, map, get_or, [], ◌∷◌, zero, suc, take, Result, Ok}
+use Rattle.std.proofs.Common.{◌≡◌, ℕ, ◌<◌, ◌≤◌, true, List, length, map, take, Result, Ok}
 use Rattle.std.proofs.Common.{Err, Option, Some, slice_get, refl, sym, ap, ◌∙◌, subst, arith}
 use Rattle.std.specs.Prelude.{OnErr, OnOk}
-use Rattle.std.proofs.lemmas.Bool.{false≢true}
 use Rattle.std.proofs.lemmas.List.{length-map}
 use Rattle.std.proofs.lemmas.Option.{same_Some}
 use Rattle.version_sets.specs.Sets.{Members, has}
+use Rattle.version_sets.proofs.Laws.{has_below}
 use Rattle.incompatibilities.specs.Stores.{EntryView}
 use Rattle.propagation.specs.Trails.{TrailView, set_of}
 use Rattle.propagation.specs.Promises.{IsTrail}
@@ -22,7 +22,7 @@ use Rattle.searching.specs.Searching as searching
 use Rattle.searching.proofs.Seen.{seen_all}
 use Rattle.guiding.specs.Guides.{EncodedView, IsAsking, IsCome, IsEncoding, encoded_view, on_trail, marked, with_given}
 use Rattle.guiding.specs.Remaining.{spaces_of}
-use Rattle.guiding.proofs.Marks.{mark_lengths}
+use Rattle.guiding.proofs.Marks.{lengths_at, mark_lengths}
 use Rattle.guiding.proofs.Numbers.{on_trail_at}
 
 pub ok_by : {A E : Type 0} {P Q : Type 0} (r : Result A E) → (P → Q) → OnOk r P → OnOk r Q
@@ -98,17 +98,6 @@ asking_by i vs new asked mid last seen follows v s old t wide es more given view
       is = is;
       stored = stored;
     })
-
-has_below : (s : Members) (j : ℕ) → has s j ≡ true → j < length s
-has_below [] j h = absurd (false≢true h)
-has_below (b ∷ s) zero h = omega arith
-has_below (b ∷ s) (suc j) h = let r = has_below s j h in omega (arith, r)
-
-lengths_at : (l : List Members) (k : ℕ) → get_or (map length l) k 0 ≡ length (set_of l k)
-lengths_at [] zero = refl
-lengths_at [] (suc k) = refl
-lengths_at (s ∷ l) zero = refl
-lengths_at (s ∷ l) (suc k) = lengths_at l k
 
 -- what is left to a vertex is a state of it
 pub left_below : (asked : List Members) (t : TrailView) (v s : ℕ) → HasSpaces (map length asked) t

@@ -37,8 +37,9 @@ use Rattle.searching.specs.declared.turns.Answer.TheVariants.{Selection, Unsolva
 use Rattle.guiding.specs.Guides.{CanFollow, EncodedView, Follows, GoesOn, HasBegun, HasFollowed, IsAsking, IsFollowed}
 use Rattle.guiding.specs.Guides.{as_entry, on_trail}
 use Rattle.guiding.specs.Remaining.{spaces_of}
-use Rattle.guiding.proofs.Adding.{asked_spaces, given_at, lengths_at, with_given_is}
+use Rattle.guiding.proofs.Adding.{asked_spaces, given_at, with_given_is}
 use Rattle.guiding.proofs.FirstTerms.{space_starts, state_is}
+use Rattle.guiding.proofs.Marks.{lengths_at}
 use Rattle.guiding.proofs.Numbers.{on_trail_at}
 
 abbrev no_entry : EntryView

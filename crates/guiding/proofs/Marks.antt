@@ -1,6 +1,6 @@
 -- Which pairs were asked for once one more is marked, and vertices have come that weren't.
 use Rattle.std.proofs.Common.{◌≡◌, ◌≢◌, ℕ, zero, suc, ◌<◌, ◌≤◌, ◌||◌, Bool, true, false, List, [], ◌∷◌, ◌++◌, length}
-use Rattle.std.proofs.Common.{map, set, refl, sym, ap, ap₂, ◌∙◌, subst, inl, inr, ◌⊎◌, arith}
+use Rattle.std.proofs.Common.{map, get_or, set, refl, sym, ap, ap₂, ◌∙◌, subst, inl, inr, ◌⊎◌, arith}
 use Rattle.std.proofs.lemmas.Bool.{cases_eq, cases_lt, false≢true}
 use Rattle.std.proofs.lemmas.List.{get_or-append_right, get_or-set_other, get_or-set_same, get_or_append_left}
 use Rattle.std.proofs.lemmas.List.{length-append, length-replicate, length-set}
@@ -76,6 +76,12 @@ lengths_set : (xs : List Members) (v : ℕ) (x : Members) → length x ≡ lengt
 lengths_set [] v x e = refl
 lengths_set (y ∷ xs) zero x e = ap (λ n. n ∷ map length xs) e
 lengths_set (y ∷ xs) (suc v) x e = ap (λ l. length y ∷ l) (lengths_set xs v x e)
+
+pub lengths_at : (l : List Members) (k : ℕ) → get_or (map length l) k 0 ≡ length (set_of l k)
+lengths_at [] zero = refl
+lengths_at [] (suc k) = refl
+lengths_at (s ∷ l) zero = refl
+lengths_at (s ∷ l) (suc k) = lengths_at l k
 
 pub mark_lengths : (asked : List Members) (v i : ℕ) → map length (marked asked v i) ≡ map length asked
 mark_lengths asked v i = lengths_set asked v _

@@ -1,11 +1,12 @@
 -- At the end of a search that found a selection: each vertex takes absent where it may, else its one state, and no
 -- instance is broken.
-use Rattle.std.proofs.Common.{◌≡◌, ◌≢◌, ℕ, zero, suc, ◌<◌, ◌||◌, true, false, List, [], ◌∷◌, length, map, get_or}
+use Rattle.std.proofs.Common.{◌≡◌, ◌≢◌, ℕ, zero, suc, ◌<◌, ◌||◌, true, false, List, [], ◌∷◌, length, map}
 use Rattle.std.proofs.Common.{Option, Some, None, slice_get, refl, sym, ap, ◌∙◌, subst, arith}
 use Rattle.std.proofs.lemmas.Bool.{false≢true, ne_eqb}
 use Rattle.std.proofs.lemmas.List.{length-map}
 use Rattle.std.proofs.lemmas.Option.{same_Some, slice_get_within}
 use Rattle.version_sets.specs.Sets.{Members, has, size}
+use Rattle.version_sets.proofs.Laws.{has_below}
 use Rattle.incompatibilities.specs.Incompatibilities.{Assignment, Breaks}
 use Rattle.incompatibilities.specs.Stores.{EntryView, IsAxiom, entry, terms_of, watched}
 use Rattle.incompatibilities.specs.declared.origin.Origin.{Origin}
@@ -33,6 +34,7 @@ use Rattle.searching.specs.Following as following
 use Rattle.guiding.specs.Guides.{first_in, AreStored, IsDone, IsOfInstance, IsPut, asked_of, on_trail}
 use Rattle.guiding.specs.Remaining.{spaces_of}
 use Rattle.guiding.proofs.Alone.{one_member}
+use Rattle.guiding.proofs.Marks.{lengths_at}
 use Rattle.guiding.proofs.Numbers.{on_trail_at}
 
 first_has : (s : Members) → 0 < size s → has s (first_in s) ≡ true
@@ -49,11 +51,6 @@ not_zero : (s : Members) → first_in s ≢ 0 → has s 0 ≡ false
 not_zero [] ne = refl
 not_zero (true ∷ s) ne = absurd (ne refl)
 not_zero (false ∷ s) ne = refl
-
-has_below : (s : Members) (j : ℕ) → has s j ≡ true → j < length s
-has_below [] j h = absurd (false≢true h)
-has_below (b ∷ s) zero h = omega arith
-has_below (b ∷ s) (suc j) h = let r = has_below s j h in omega (arith, r)
 
 -- the combinations of a store put aside, so that only its axioms can be broken
 abbrev nothing : EntryView
@@ -105,12 +102,6 @@ module _ (q : Problem) (vs : Numbering) (asked : List Members) (es : List EntryV
         one_member (set_of t.sets u) j (first_in (set_of t.sets u)) (omega (arith, few, many)) h
         (first_has (set_of t.sets u) many);
   }
-
-  lengths_at : (l : List Members) (k : ℕ) → get_or (map length l) k 0 ≡ length (set_of l k)
-  lengths_at [] zero = refl
-  lengths_at [] (suc k) = refl
-  lengths_at (s ∷ l) zero = refl
-  lengths_at (s ∷ l) (suc k) = lengths_at l k
 
   space_is : (n : ℕ) (v : Vertex) → slice_get vs n ≡ Some v → space_of t n ≡ length (space q v)
   space_is n v e =

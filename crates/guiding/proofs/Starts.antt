@@ -4,6 +4,7 @@ use Rattle.std.proofs.Common.{slice_get, refl, sym, ap, ◌∙◌, subst, arith}
 use Rattle.std.proofs.lemmas.Bool.{false≢true}
 use Rattle.std.proofs.lemmas.List.{length-replicate}
 use Rattle.version_sets.specs.Sets.{Members, has, size}
+use Rattle.version_sets.proofs.Laws.{has_below}
 use Rattle.incompatibilities.specs.Incompatibilities.{Assignment}
 use Rattle.incompatibilities.specs.Stores.{EntryView, IsAxiom, entry}
 use Rattle.propagation.specs.Trails.{TrailView, set_of, sets_at, space_of}
@@ -40,11 +41,6 @@ bare_spaces t e = record { vertices = e; each = each t.sets e }
     each [] e zero = refl
     each [] e (suc u) = refl
     each (s ∷ sets) e u = absurd (omega (arith, e))
-
-has_below : (s : Members) (j : ℕ) → has s j ≡ true → j < length s
-has_below [] j h = absurd (false≢true h)
-has_below (b ∷ s) zero h = omega arith
-has_below (b ∷ s) (suc j) h = let r = has_below s j h in omega (arith, r)
 
 -- before any place only absent stands alone
 seen_first : (asked : List Members) (es : List EntryView) (t : TrailView) → IsTrail es t → IsSeen 0 (asked_of asked) t
