@@ -31,8 +31,8 @@ use Rattle.searching.specs.Turning.{IsAdding}
 use Rattle.searching.specs.Following as following
 use Rattle.searching.proofs.Guides.{lone_one, spaces_wider}
 use Rattle.searching.proofs.Seen.{seen_wider}
-use Rattle.guiding.specs.Guides.{AreStored, EncodedView, GoesOn, IsAsking, IsOfInstance, IsPut, as_entry, asked_at}
-use Rattle.guiding.specs.Guides.{asked_of, on_trail, late_with, left_with, with_given}
+use Rattle.guiding.specs.Guides.{AreStored, CanAsk, EncodedView, GoesOn, IsAsking, IsOfInstance, IsPut, as_entry}
+use Rattle.guiding.specs.Guides.{asked_at, asked_of, on_trail, late_with, left_with, with_given}
 use Rattle.vertices.specs.Kinds.{kind_number}
 use Rattle.guiding.specs.Remaining.{spaces_of}
 use Rattle.guiding.proofs.FirstTerms.{first_only}
@@ -114,12 +114,32 @@ said_long q vs asked wide spaces whole spaced x ts says u z e = by (slice_get vs
         (length (space q y)) (sym (says.each u y f) ∙ e) (λ m h. mapped_long q y (states_at ts y) m h) in
         long ∙ ap (λ w. length (space q w)) (sym same) ∙ sym r.2 ∙ sym (lengths_at asked u) ∙ sym (spaced.each u)
 
-module _ (v i : ℕ) (old new : EncodedView) (t wide : TrailView) (es more : List EntryView)
-    (a : IsAsking v i old new t wide es more) (spaced : HasSpaces (map length old.asked) t) (trail : IsTrail es t)
-    (low : v < length t.sets) (some : 0 < i) (fresh : has (set_of old.asked v) i ≡ false)
-    (lt : i < length (set_of old.asked v)) where
-  q : Problem
-  q = old.problem
+-- what comes where a pair is asked for that may be
+pub record IsAsked (v i : ℕ) (old new : EncodedView) (t wide : TrailView) (es more : List EntryView) : Type 0 where
+  pub asking : IsAsking v i old new t wide es more
+  pub spaced : HasSpaces (map length old.asked) t
+  pub trail : IsTrail es t
+  pub can : CanAsk t old.asked v i
+
+module _ {v i : ℕ} {old new : EncodedView} {t wide : TrailView} {es more : List EntryView}
+    (is : IsAsked v i old new t wide es more) where
+  abbrev a : IsAsking v i old new t wide es more
+  a = is.asking
+
+  abbrev spaced : HasSpaces (map length old.asked) t
+  spaced = is.spaced
+
+  abbrev low : v < length t.sets
+  low = is.can.0
+
+  abbrev some : 0 < i
+  some = is.can.1
+
+  abbrev fresh : has (set_of old.asked v) i ≡ false
+  fresh = is.can.2
+
+  abbrev lt : i < length (set_of old.asked v)
+  lt = is.can.3
 
   entries : more ≡ es ++ map as_entry a.given
   entries = a.stored ∙ with_given_is es a.given
@@ -239,7 +259,8 @@ module _ (v i : ℕ) (old new : EncodedView) (t wide : TrailView) (es more : Lis
 
   pub asked_seen : IsSeen old.seen (asked_of old.asked) t → IsSeen new.seen (asked_of new.asked) wide
   asked_seen seen = subst (λ n. IsSeen n (asked_of new.asked) wide) (sym a.seen_is)
-      (seen_wider old.seen (asked_of old.asked) (asked_of new.asked) a.came t wide trail.sound a.wider grows lone seen)
+      (seen_wider old.seen (asked_of old.asked) (asked_of new.asked) a.came t wide is.trail.sound a.wider grows lone
+      seen)
 
   pub asked_goes : GoesOn old new
   asked_goes = record {

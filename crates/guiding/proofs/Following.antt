@@ -11,7 +11,6 @@ use Rattle.version_sets.specs.Sets.{Members, every, has}
 use Rattle.incompatibilities.specs.Incompatibilities.{Assignment, Breaks, states_at}
 use Rattle.incompatibilities.specs.Stores.{EntryView, entry}
 use Rattle.incompatibilities.specs.declared.origin.Origin.TheVariants.{Axiom}
-use Rattle.propagation.specs.Promises.{IsTrail}
 use Rattle.propagation.specs.Satisfaction.{Agrees, BreaksNone}
 use Rattle.propagation.specs.Trails.{TrailView, set_of, space_of}
 use Rattle.propagation.specs.Widening.{IsWider}
@@ -37,7 +36,7 @@ use Rattle.searching.specs.declared.turns.Answer.TheVariants.{Selection, Unsolva
 use Rattle.guiding.specs.Guides.{CanFollow, EncodedView, Follows, GoesOn, HasBegun, HasFollowed, IsAsking, IsFollowed}
 use Rattle.guiding.specs.Guides.{as_entry, on_trail}
 use Rattle.guiding.specs.Remaining.{spaces_of}
-use Rattle.guiding.proofs.Adding.{asked_spaces, given_at, with_given_is}
+use Rattle.guiding.proofs.Adding.{IsAsked, asked_spaces, given_at, with_given_is}
 use Rattle.guiding.proofs.FirstTerms.{space_starts, state_is}
 use Rattle.guiding.proofs.Marks.{lengths_at}
 use Rattle.guiding.proofs.Numbers.{on_trail_at}
@@ -107,7 +106,7 @@ of_before : (q : Problem) (old new : Numbering) (content : Content) (x : Assignm
     → IsOf q new content x → IsOf q old content x
 of_before q old new content x grown of n v at = of n v (still_at old new n v grown at)
 
-module _ (v i : ℕ) (old new : EncodedView) (t wide : TrailView) (es more : List EntryView)
+module _ {v i : ℕ} {old new : EncodedView} {t wide : TrailView} {es more : List EntryView}
     (a : IsAsking v i old new t wide es more) where
   follows_before : (x : Assignment) → Follows new x → Follows old x
   follows_before x f = (
@@ -128,16 +127,14 @@ module _ (v i : ℕ) (old new : EncodedView) (t wide : TrailView) (es more : Lis
         wider_agrees old.problem new.vertices f.0 x of new.asked a.came t wide a.spaced spaced a.wider is_left.1,
       )
 
-  pub asked_follows : HasSpaces (map length old.asked) t → IsTrail es t → v < length t.sets → 0 < i
-      → has (set_of old.asked v) i ≡ false → i < length (set_of old.asked v)
-      → KeepsFollowed (Follows old) es t (Follows new) more wide
-  asked_follows spaced trail low some fresh lt x f =
-      let at = on_trail_at old.problem old.vertices old.asked v a.spaces
-      (omega (arith, low, spaced.vertices, length-map old.asked length)) in (
-        follows_before x f,
-        left_on (at.0, state_at old.problem at.0 i) (a.is at.0 at.1)
-            (asked_spaces v i old new t wide es more a spaced trail low some fresh lt) x f,
-      )
+pub asked_follows : {v i : ℕ} {old new : EncodedView} {t wide : TrailView} {es more : List EntryView}
+    → IsAsked v i old new t wide es more → KeepsFollowed (Follows old) es t (Follows new) more wide
+asked_follows {v = v} {i = i} {old = old} is x f =
+    let at = on_trail_at old.problem old.vertices old.asked v is.asking.spaces
+    (omega (arith, is.can.0, is.spaced.vertices, length-map old.asked length)) in (
+      follows_before is.asking x f,
+      left_on is.asking (at.0, state_at old.problem at.0 i) (is.asking.is at.0 at.1) (asked_spaces is) x f,
+    )
 
 -- ---- what is decided
 
