@@ -10,7 +10,7 @@ ghost use Rattle.index_reader.specs.Shapes.{features_or_none, rust_version_at, s
 ghost use Rattle.classes.specs.RustVersions.{rust_version_view};
 ghost use Rattle.index_reader.specs.ShapeViews.{feature_views, part_view, line_dependency_view, line_dependency_views};
 ghost use Rattle.index_reader.specs.ShapeViews.{shape_view, values_view};
-ghost use Rattle.trees.specs.Trees.{tree_view, trees_view, entries_view, listed_view};
+ghost use Rattle.trees.specs.Trees.{items_of, left_items, tree_view, entries_view, listed_view};
 
 use crate::fault::{LineFault, SkipReason};
 use crate::parts::{Values, values_of};
@@ -18,7 +18,9 @@ use crate::values::{flag, needed_text, text, text_if_any, texts, texts_if_any, v
 use classes::RustVersion;
 use features::{DependencyKind, NameFault, PackageName};
 use std::alloc::Global;
-use trees::{Members, Tree, are_rising, as_list, as_members, as_text, by_key};
+use trees::{
+    Elements, Members, Tree, are_rising, as_members, as_text, by_key, elements, next_element,
+};
 
 /// What a line says, with its texts as they stand there.
 #[derive(Drop)]
@@ -224,14 +226,14 @@ fn dependency<'a>(alloc: Global, value: &Tree<'_, 'a>) -> Result<DependencyShape
 #[tactic(auto, unfolding(crate::specs::Shapes::dependencies_in))]
 fn dependencies_in<'a>(
     alloc: Global,
-    values: &Vec<Tree<'_, 'a>>,
+    mut items: Elements<'_, 'a>,
 ) -> Result<Vec<DependencyShape<'a>>, LineFault>
     ensures { Gives wants_memory
-        (λ v. line_dependency_views v.items) result (dependencies_in (trees_view values.now.items)) }
+        (λ v. line_dependency_views v.items) result (dependencies_in (items_of (left_items items.entry))) }
 {
-    let mut found = Vec::with_capacity(alloc, values.len())?;
-    'items: for value in values.iter() {
-        found.push(dependency(alloc, value)?)?;
+    let mut found = Vec::new(alloc);
+    'items: while let Some(item) = next_element(&mut items) {
+        found.push(dependency(alloc, &item)?)?;
     }
     Ok(found)
 }
@@ -244,8 +246,8 @@ fn dependencies<'a>(
     ensures { Gives wants_memory (λ v. line_dependency_views v.items) result (dependencies_at (tree_view line.now)) }
 {
     match value(line, "deps") {
-        Some(found) => match as_list(alloc, &found)? {
-            Some(values) => dependencies_in(alloc, &values),
+        Some(found) => match elements(&found) {
+            Some(items) => dependencies_in(alloc, items),
             None => Err(LineFault::Skipped(SkipReason::Shape)),
         },
         None => Err(LineFault::Skipped(SkipReason::Shape)),

@@ -6,13 +6,15 @@ ghost use Rattle.model.specs.Outcome.{Gives};
 ghost use Rattle.index_reader.specs.Shapes.{wants_memory, data_of_bytes, needed, value_at, text_at, text_of, whole_at};
 ghost use Rattle.index_reader.specs.Shapes.{optional, texts_in, texts_of, texts_or_none};
 ghost use Rattle.features.specs.Views.{text_views};
-ghost use Rattle.trees.specs.Trees.{tokens_view, tree_view, trees_view};
+ghost use Rattle.trees.specs.Trees.{items_of, left_items, tokens_view, tree_view};
 
 use crate::fault::{LineFault, SkipReason};
 use crate::parts::unless_null;
 use json::{Scratch, Tape};
 use std::alloc::Global;
-use trees::{Tree, TreeFault, as_flag, as_list, as_text, as_whole, member, read_tape};
+use trees::{
+    Elements, Tree, TreeFault, as_flag, as_text, as_whole, elements, member, next_element, read_tape,
+};
 
 /// The JSON value that the bytes are, as its tokens.
 pub(crate) fn read_json<'a>(
@@ -100,14 +102,14 @@ pub(crate) fn whole(object: &Tree<'_, '_>, key: &str, absent: u64) -> Result<u64
     }
 }
 
-/// The texts of a list.
+/// The texts of the items of a list.
 #[tactic(auto, unfolding(crate::specs::Shapes::texts_in))]
-fn texts_in<'a>(alloc: Global, values: &Vec<Tree<'_, 'a>>) -> Result<Vec<&'a str>, LineFault>
-    ensures { Gives wants_memory (λ v. text_views v.items) result (texts_in (trees_view values.now.items)) }
+fn texts_in<'a>(alloc: Global, mut items: Elements<'_, 'a>) -> Result<Vec<&'a str>, LineFault>
+    ensures { Gives wants_memory (λ v. text_views v.items) result (texts_in (items_of (left_items items.entry))) }
 {
-    let mut found = Vec::with_capacity(alloc, values.len())?;
-    'items: for value in values.iter() {
-        match as_text(value) {
+    let mut found = Vec::new(alloc);
+    'items: while let Some(item) = next_element(&mut items) {
+        match as_text(&item) {
             Some(text) => found.push(text)?,
             None => return Err(LineFault::Skipped(SkipReason::Shape)),
         }
@@ -120,8 +122,8 @@ fn texts_in<'a>(alloc: Global, values: &Vec<Tree<'_, 'a>>) -> Result<Vec<&'a str
 pub(crate) fn texts<'a>(alloc: Global, value: &Tree<'_, 'a>) -> Result<Vec<&'a str>, LineFault>
     ensures { Gives wants_memory (λ v. text_views v.items) result (texts_of (tree_view value.now)) }
 {
-    match as_list(alloc, value)? {
-        Some(values) => texts_in(alloc, &values),
+    match elements(value) {
+        Some(items) => texts_in(alloc, items),
         None => Err(LineFault::Skipped(SkipReason::Shape)),
     }
 }

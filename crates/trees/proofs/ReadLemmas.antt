@@ -1,23 +1,27 @@
 -- What the JSON reader's clauses say of `data_of_bytes`.
-use Rattle.std.proofs.Common.{◌≡◌, ℕ, ◌≤◌, List, [], ◌∷◌, ◌++◌, Bool, true, false, Option, Some, None, option_map}
-use Rattle.std.proofs.Common.{option_and_then, Ok, Err, refl, sym, ap, ◌∙◌, true≢false, arith, IsUtf8}
+use Rattle.std.proofs.Common.{◌≡◌, ℕ, ◌≤◌, List, [], ◌∷◌, ◌++◌, Bool, true, false, Option, Some, None, option_map, map, drop, ◌+◌, ◌<◌, length, ◌⊎◌, inl, inr}
+use Rattle.std.proofs.Common.{option_and_then, is_some, Ok, Err, refl, sym, ap, ◌∙◌, arith, IsUtf8}
+use Rattle.std.proofs.Math.ListN.{get_or}
+use Rattle.std.proofs.lemmas.List.{at_drop_more, drop_all}
 use Rattle.std.specs.Prelude.{IsSome}
-use Rattle.std.specs.List.{list_all}
 use Rattle.std.specs.Option.{ok_or}
 use Rattle.serde_json.specs.Data.{Data}
 use Rattle.serde_json.specs.Read.{read, of_json, max_depth}
 use Rattle.json.specs.Token.{Token}
 use Rattle.json.specs.Lex.{tokens}
+use Rattle.json.specs.Tape.{node_token}
+use Rattle.json.specs.declared.tape.Node.{Node}
+use Rattle.json.specs.declared.tape.Node.TheVariants.{Object, Array}
 use Rattle.json.specs.Json.{Json, value, if_last, document}
 use Rattle.json.specs.Json as json
-use Rattle.json.specs.Tree.{json_tokens, depth}
+use Rattle.json.specs.Tree.{depth}
 use Rattle.json.proofs.Nesting.{value-depth}
 use Rattle.json.proofs.Printed.Trees.{value-json_tokens}
+use Rattle.model.specs.Optional.{passes}
 use Rattle.model.proofs.Utf8.{utf8-read, utf8-refused}
-use Rattle.trees.specs.Tokens.{is_kept, nest_within}
 use Rattle.trees.specs.Trees.{data_of_bytes, json_of_text, numbers_fit, data_of, tokens_view}
 use Rattle.trees.specs.declared.fault.TreeFault.TheVariants.{NotJson}
-use Rattle.trees.proofs.TokenLemmas.{value-spelt, json_from-read, nest-depth, depth-nest, kept-fit}
+use Rattle.trees.proofs.TokenLemmas.{value-spelt, json_from-read, left_after, fit_within, fit-depth, depth-fit}
 use Rattle.trees.proofs.TreeLemmas.{if_fits, of_json-fits}
 
 pub data-read : (bytes : List ℕ) (d : Data) → IsUtf8 bytes → read bytes ≡ Some d
@@ -55,48 +59,95 @@ read-invalid text none = go (json_of_text text) refl
         ap whole (deep_enough max_depth json.max_depth (tokens text) j shallow (omega (arith, few))) in
         cc
 
-pub read-deep : (text : List ℕ) → nest_within max_depth (tokens text) ≡ false → read text ≡ None
-read-deep text deep = go (json_of_text text) refl
+-- where `json` reads a text, `serde_json` does so too just where the tokens fit, and reads what they are
+read-fits : (text : List ℕ) → IsSome (document text)
+    → read text ≡ if_fits (fit_within max_depth (tokens text)) (tokens_view (tokens text))
+read-fits text there = go (json_of_text text) refl
   where
-    go : (o : Option Json) → json_of_text text ≡ o → option_and_then of_json o ≡ None
-    go None e = refl
-    go (Some j) e =
-        let shallow = whole-is (value max_depth (tokens text)) j e in
+    shallow_text : (j : Json) → value max_depth (tokens text) ≡ Some (j, []) → option_and_then of_json (Some j)
+        ≡ if_fits (fit_within max_depth (tokens text)) (tokens_view (tokens text))
+    shallow_text j shallow =
         let few = value-depth max_depth (tokens text) [] j shallow in
-        let within : nest_within max_depth (tokens text) ≡ true =
-        ap (nest_within max_depth) (value-spelt max_depth (tokens text) [] j shallow) ∙ depth-nest j max_depth few in
-        absurd (true≢false (sym within ∙ deep))
+        let fit : fit_within max_depth (tokens text) ≡ numbers_fit j =
+        ap (fit_within max_depth) (value-spelt max_depth (tokens text) [] j shallow) ∙ depth-fit j max_depth few in
+        let view : tokens_view (tokens text) ≡ data_of j =
+        ap data_of (json_from-read (tokens text) j (max_depth, [], shallow)) in
+        of_json-fits j ∙ ap (λ b. if_fits b (data_of j)) (sym fit)
+        ∙ ap (if_fits (fit_within max_depth (tokens text))) (sym view)
 
--- the JSON that a text is, which nests no deeper than is allowed
-pub record IsText (text : List ℕ) : Type 0 where
-  pub json : Json
-  pub read_as : read text ≡ if_fits (numbers_fit json) (data_of json)
-  pub spelt : tokens text ≡ json_tokens json ++ []
-  pub view : tokens_view (tokens text) ≡ data_of json
-
-pub text-read : (text : List ℕ) → IsSome (document text) → nest_within max_depth (tokens text) ≡ true → IsText text
-text-read text there within = go (document text) refl there
-  where
-    go : (o : Option Json) → document text ≡ o → IsSome o → IsText text
-    go None e some = cc
-    go (Some j) e some =
+    deep_text : (o : Option Json) → document text ≡ o → IsSome o → json_of_text text ≡ None → (b : Bool)
+        → fit_within max_depth (tokens text) ≡ b → None ≡ if_fits b (tokens_view (tokens text))
+    deep_text None e some none b fit = cc
+    deep_text (Some j) e some none false fit = refl
+    deep_text (Some j) e some none true fit =
         let deep = whole-is (value json.max_depth (tokens text)) j e in
         let spelt = value-spelt json.max_depth (tokens text) [] j deep in
-        let few = nest-depth j max_depth (sym (ap (nest_within max_depth) spelt) ∙ within) in
+        let few = fit-depth j max_depth (sym (ap (fit_within max_depth) spelt) ∙ fit) in
         let shallow : json_of_text text ≡ Some j =
         ap whole (deep_enough json.max_depth max_depth (tokens text) j deep few) in
-        record {
-          json = j;
-          read_as = ap (option_and_then of_json) shallow ∙ of_json-fits j;
-          spelt = spelt;
-          view = ap data_of (json_from-read (tokens text) j (json.max_depth, [], deep));
-        }
+        cc
 
-pub read-unkept : (text : List ℕ) → IsText text → list_all is_kept (tokens text) ≡ false → read text ≡ None
-read-unkept text is unkept = is.read_as ∙ ap (λ b. if_fits b (data_of is.json))
-    (sym (kept-fit is.json) ∙ sym (ap (list_all is_kept) is.spelt) ∙ unkept)
+    go : (o : Option Json) → json_of_text text ≡ o → option_and_then of_json o
+        ≡ if_fits (fit_within max_depth (tokens text)) (tokens_view (tokens text))
+    go None e = deep_text (document text) refl there e (fit_within max_depth (tokens text)) refl
+    go (Some j) e = shallow_text j (whole-is (value max_depth (tokens text)) j e)
 
-pub read-kept : (text : List ℕ) → IsText text → list_all is_kept (tokens text) ≡ true
+is_some-if_fits : (b : Bool) (d : Data) → is_some (if_fits b d) ≡ b
+is_some-if_fits true d = refl
+is_some-if_fits false d = refl
+
+pub fit-read : (text : List ℕ) → IsSome (document text)
+    → fit_within max_depth (tokens text) ≡ is_some (read text)
+fit-read text there = sym (ap is_some (read-fits text there) ∙ is_some-if_fits (fit_within max_depth (tokens text)) _)
+
+pub read-whole : (text : List ℕ) → IsSome (document text) → is_some (read text) ≡ true
     → read text ≡ Some (tokens_view (tokens text))
-read-kept text is kept = is.read_as ∙ ap (λ b. if_fits b (data_of is.json))
-    (sym (kept-fit is.json) ∙ sym (ap (list_all is_kept) is.spelt) ∙ kept) ∙ ap Some (sym is.view)
+read-whole text there is = read-fits text there
+    ∙ ap (λ b. if_fits b (tokens_view (tokens text))) (fit-read text there ∙ is)
+
+pub read-none : (o : Option Data) → is_some o ≡ false → o ≡ None
+read-none None is = refl
+read-none (Some d) is = cc
+
+-- what a loop over the tokens finds where it stands: the first node that is left doesn't fit, or none is left
+first-stops : (left : ℕ) (t : Token) (ts : List Token) → left_after left t ≡ None → fit_within left (t ∷ ts) ≡ false
+unfolding fit_within
+first-stops left t ts none = ap (passes (λ n. fit_within n ts)) none
+
+stops : (left i : ℕ) (nodes : List Node) (d : Node) → i < length nodes
+    → left_after left (node_token (get_or nodes i d)) ≡ None
+    → fit_within left (map node_token (drop i nodes)) ≡ false
+stops left i nodes d more none = at_drop_more (λ l. fit_within left (map node_token l)) nodes i d more
+    ∙ first-stops left _ (map node_token (drop (i + 1) nodes)) none
+
+pub is_some-map : {A B : Type 0} (f : A → B) (o : Option A) → is_some (option_map f o) ≡ is_some o
+is_some-map f None = refl
+is_some-map f (Some a) = refl
+
+pub opens : (left : ℕ) (node : Node) → left ≡ 0
+    → ((x : ℕ) × (node ≡ Object x)) ⊎ ((x : ℕ) × (node ≡ Array x)) → left_after left (node_token node) ≡ None
+opens left node none (inl (x, is)) = ap (λ n. left_after n (node_token node)) none ∙ ap (λ n. left_after 0 (node_token n)) is
+opens left node none (inr (x, is)) = ap (λ n. left_after n (node_token node)) none ∙ ap (λ n. left_after 0 (node_token n)) is
+
+ends : (left i : ℕ) (nodes : List Node) → length nodes ≤ i → fit_within left (map node_token (drop i nodes)) ≡ true
+unfolding fit_within
+ends left i nodes end = ap (λ l. fit_within left (map node_token l)) (drop_all i nodes end)
+
+told : (left i : ℕ) (nodes : List Node) (b : Bool)
+    → fit_within left (map node_token (drop i nodes)) ≡ fit_within max_depth (map node_token nodes)
+    → fit_within left (map node_token (drop i nodes)) ≡ b
+    → (text : List ℕ) → map node_token nodes ≡ tokens text → IsSome (document text) → b ≡ is_some (read text)
+told left i nodes b same_fit is text same there =
+    sym is ∙ same_fit ∙ ap (fit_within max_depth) same ∙ fit-read text there
+
+pub told-stops : (left i : ℕ) (nodes : List Node) (d : Node)
+    → fit_within left (map node_token (drop i nodes)) ≡ fit_within max_depth (map node_token nodes)
+    → i < length nodes → left_after left (node_token (get_or nodes i d)) ≡ None
+    → (text : List ℕ) → map node_token nodes ≡ tokens text → IsSome (document text) → false ≡ is_some (read text)
+told-stops left i nodes d same_fit more none = told left i nodes false same_fit (stops left i nodes d more none)
+
+pub told-ends : (left i : ℕ) (nodes : List Node)
+    → fit_within left (map node_token (drop i nodes)) ≡ fit_within max_depth (map node_token nodes)
+    → length nodes ≤ i
+    → (text : List ℕ) → map node_token nodes ≡ tokens text → IsSome (document text) → true ≡ is_some (read text)
+told-ends left i nodes same_fit end = told left i nodes true same_fit (ends left i nodes end)

@@ -1,18 +1,20 @@
 -- What is read of tokens, and what the tokens of a value are.
-use Rattle.std.proofs.Common.{◌≡◌, ℕ, zero, suc, ◌≤◌, max, List, [], ◌∷◌, ◌++◌, length, Bool, true, false, ◌&&◌}
+use Rattle.std.proofs.Common.{◌≡◌, ℕ, zero, suc, ◌≤◌, max, List, [], ◌∷◌, ◌++◌, length, Bool, true, false, ◌&&◌, cond}
 use Rattle.std.proofs.Common.{Option, Some, None, is_some, option_map, option_and_then, unwrap_or}
 use Rattle.std.specs.Prelude.{IfNone}
 use Rattle.std.proofs.Common.{Bor, refl, sym, ap, ◌∙◌, subst, arith, append_assoc, length-append}
-use Rattle.std.specs.List.{list_all}
 use Rattle.json.specs.Token.{Token}
 use Rattle.json.specs.Json.{Json, null, boolean, number, string, array, object, Items, no_items, item, Members}
 use Rattle.json.specs.Json.{no_members, member, Parse, parse_map, after_end_array, read_key, items_step, members_step}
 use Rattle.json.specs.Json.{items, members, value_with, value}
-use Rattle.json.specs.Find.{BeginsWith, InMembers, NextMember}
+use Rattle.json.specs.Find.{BeginsWith, InItems, InMembers, NextItem, NextMember}
 use Rattle.json.specs.Tree.{json_tokens, items_tokens, members_tokens, depth, items_depth, members_depth}
 use Rattle.json.proofs.Grammar.{closed_array, read_key_is}
 use Rattle.json.proofs.Printed.Trees.{value-json_tokens}
-use Rattle.trees.specs.Tokens.{first_members, has_members, members_from, first_value, begins, json_from, is_kept, nest_within}
+use Rattle.serde_json.specs.Read.{number_of}
+use Rattle.model.specs.Optional.{passes}
+use Rattle.trees.specs.Tokens.{first_items, has_items, items_from, first_members, has_members, members_from}
+use Rattle.trees.specs.Tokens.{first_value, begins, json_from}
 use Rattle.trees.specs.Trees.{numbers_fit, items_fit, members_fit}
 
 -- ---- what is read is what the tokens spell
@@ -152,7 +154,58 @@ begun ts is = go (first_value ts) refl is
     go None e b = cc
     go (Some p) e b = (length ts, p.1, e)
 
--- ---- the members that tokens begin with
+-- ---- the items and the members that tokens begin with
+
+array_items : Json → Items
+array_items null = no_items
+array_items (boolean b) = no_items
+array_items (number s) = no_items
+array_items (string s) = no_items
+array_items (array js) = js
+array_items (object ms) = no_items
+
+in_array : (o : Option (Items × List Token)) (js : Items) (r : List Token)
+    → parse_map array o ≡ Some (array js, r) → o ≡ Some (js, r)
+unfolding array_items
+in_array None js r e = cc
+in_array (Some p) js r e = ap (option_map (λ q. (array_items q.0, q.1))) e
+
+-- items that are read at any depth, in any number of turns, are those that the tokens begin with
+pub first-items : (ts : List Token) (js : Items) → InItems ts js
+    → (r : List Token) × (first_items ts ≡ Some (js, r))
+unfolding value
+first-items ts js (d, n, r, e) =
+    let spelt : ts ≡ items_tokens js ++ r =
+    subst (IsSpelt items_tokens ts) e (Spells-items (value d) (Spells-value d) n ts) in
+    let deep : depth (array js) ≤ suc (length ts) =
+    omega (arith, depth-items js, ap length spelt, length-append (items_tokens js) r) in (
+      r,
+      in_array (first_items ts) js r (ap (λ l. value (suc (length ts)) (Token.begin_array ∷ l)) spelt
+          ∙ value-json_tokens (array js) (suc (length ts)) r deep),
+    )
+
+pub has-items : (ts : List Token) (js : Items) → InItems ts js → has_items ts ≡ true
+has-items ts js inside = ap is_some (first-items ts js inside).1
+
+pub items_from-read : (ts : List Token) (js : Items) → InItems ts js → items_from ts ≡ js
+items_from-read ts js inside =
+    ap (λ o. unwrap_or (option_map (λ p. p.0) o) no_items) (first-items ts js inside).1
+
+pub in_items : (ts : List Token) → has_items ts ≡ true → InItems ts (items_from ts)
+in_items ts is = go (first_items ts) refl is
+  where
+    go : (o : Option (Items × List Token)) → first_items ts ≡ o → is_some o ≡ true
+        → InItems ts (unwrap_or (option_map (λ p. p.0) o) no_items)
+    go None e b = cc
+    go (Some p) e b = (length ts, length ts, p.1, e)
+
+-- there are items left behind the next one too
+pub items-left : (old new : List Token) (r : Option (List Token)) → has_items old ≡ true
+    → NextItem old r new → IfNone r (new ≡ old) → has_items new ≡ true
+items-left old new None is next stays = ap has_items stays ∙ is
+items-left old new (Some ts) is next stays =
+    let behind = next (items_from old) (in_items old is) in
+    has-items new behind.1 behind.4
 
 object_members : Json → Members
 object_members null = no_members
@@ -205,26 +258,48 @@ members-left old new (Some m) is next stays =
     let behind = next (members_from old) (in_members old is) in
     has-members new behind.1 behind.4
 
--- ---- how deep tokens nest
+-- ---- how deep tokens nest, and which numbers are kept
+
+-- how many more arrays and objects may open, after a token: none where one too many opens, or a number is beyond floats
+abbrev one_less : ℕ → Option ℕ
+one_less zero = None
+one_less (suc n) = Some n
+
+abbrev pub left_after : ℕ → Token → Option ℕ
+left_after n Token.begin_object = one_less n
+left_after n Token.end_object = Some (suc n)
+left_after n Token.begin_array = one_less n
+left_after n Token.end_array = Some (suc n)
+left_after n (Token.key s) = Some n
+left_after n (Token.string s) = Some n
+left_after n (Token.number s) = cond (is_some (number_of s)) (Some n) None
+left_after n (Token.boolean b) = Some n
+left_after n Token.null = Some n
+left_after n Token.bad = Some n
+
+-- no more than this many arrays and objects are open at once, and each number is kept
+unfoldable pub fit_within : ℕ → List Token → Bool
+fit_within n [] = true
+fit_within n (t ∷ ts) = passes (λ left. fit_within left ts) (left_after n t)
 
 abbrev mutual
-  shallow : Json → ℕ → Bool
-  shallow null n = true
-  shallow (boolean b) n = true
-  shallow (number s) n = true
-  shallow (string s) n = true
-  shallow (array js) zero = false
-  shallow (array js) (suc n) = items_shallow js n
-  shallow (object ms) zero = false
-  shallow (object ms) (suc n) = members_shallow ms n
+  fits : Json → ℕ → Bool
+  fits null n = true
+  fits (boolean b) n = true
+  fits (number s) n = is_some (number_of s)
+  fits (string s) n = true
+  fits (array js) zero = false
+  fits (array js) (suc n) = items_fit_in js n
+  fits (object ms) zero = false
+  fits (object ms) (suc n) = members_fit_in ms n
 
-  items_shallow : Items → ℕ → Bool
-  items_shallow no_items n = true
-  items_shallow (item j js) n = shallow j n && items_shallow js n
+  items_fit_in : Items → ℕ → Bool
+  items_fit_in no_items n = true
+  items_fit_in (item j js) n = fits j n && items_fit_in js n
 
-  members_shallow : Members → ℕ → Bool
-  members_shallow no_members n = true
-  members_shallow (member k j ms) n = shallow j n && members_shallow ms n
+  members_fit_in : Members → ℕ → Bool
+  members_fit_in no_members n = true
+  members_fit_in (member k j ms) n = fits j n && members_fit_in ms n
 
 and_assoc : (a b c : Bool) → (a && (b && c)) ≡ ((a && b) && c)
 and_assoc true b c = refl
@@ -234,125 +309,99 @@ both : (a b : Bool) → (a && b) ≡ true → (a ≡ true) × (b ≡ true)
 both true b e = (refl, e)
 both false b e = cc
 
-and_true : (a b : Bool) → a ≡ true → b ≡ true → (a && b) ≡ true
-and_true true b x y = y
-and_true false b x y = cc
+if_kept : (b : Bool) (n : ℕ) (ts : List Token)
+    → passes (λ left. fit_within left ts) (cond b (Some n) None) ≡ (b && fit_within n ts)
+if_kept true n ts = refl
+if_kept false n ts = refl
 
 mutual
-  unfolding nest_within
+  unfolding fit_within
 
-  nest-json : (j : Json) (n : ℕ) (ts : List Token)
-      → nest_within n (json_tokens j ++ ts) ≡ (shallow j n && nest_within n ts)
-  nest-json null n ts = refl
-  nest-json (boolean b) n ts = refl
-  nest-json (number s) n ts = refl
-  nest-json (string s) n ts = refl
-  nest-json (array js) zero ts = refl
-  nest-json (array js) (suc n) ts = nest-items js n ts
-  nest-json (object ms) zero ts = refl
-  nest-json (object ms) (suc n) ts = nest-members ms n ts
+  fit-json : (j : Json) (n : ℕ) (ts : List Token)
+      → fit_within n (json_tokens j ++ ts) ≡ (fits j n && fit_within n ts)
+  fit-json null n ts = refl
+  fit-json (boolean b) n ts = refl
+  fit-json (number s) n ts = if_kept (is_some (number_of s)) n ts
+  fit-json (string s) n ts = refl
+  fit-json (array js) zero ts = refl
+  fit-json (array js) (suc n) ts = fit-items js n ts
+  fit-json (object ms) zero ts = refl
+  fit-json (object ms) (suc n) ts = fit-members ms n ts
 
-  nest-items : (js : Items) (n : ℕ) (ts : List Token)
-      → nest_within n (items_tokens js ++ ts) ≡ (items_shallow js n && nest_within (suc n) ts)
-  nest-items no_items n ts = refl
-  nest-items (item j js) n ts =
-      ap (nest_within n) (append_assoc (json_tokens j) (items_tokens js) ts)
-      ∙ nest-json j n (items_tokens js ++ ts) ∙ ap (λ b. shallow j n && b) (nest-items js n ts)
-      ∙ and_assoc (shallow j n) (items_shallow js n) (nest_within (suc n) ts)
+  fit-items : (js : Items) (n : ℕ) (ts : List Token)
+      → fit_within n (items_tokens js ++ ts) ≡ (items_fit_in js n && fit_within (suc n) ts)
+  fit-items no_items n ts = refl
+  fit-items (item j js) n ts =
+      ap (fit_within n) (append_assoc (json_tokens j) (items_tokens js) ts)
+      ∙ fit-json j n (items_tokens js ++ ts) ∙ ap (λ b. fits j n && b) (fit-items js n ts)
+      ∙ and_assoc (fits j n) (items_fit_in js n) (fit_within (suc n) ts)
 
-  nest-members : (ms : Members) (n : ℕ) (ts : List Token)
-      → nest_within n (members_tokens ms ++ ts) ≡ (members_shallow ms n && nest_within (suc n) ts)
-  nest-members no_members n ts = refl
-  nest-members (member k j ms) n ts =
-      ap (nest_within n) (append_assoc (json_tokens j) (members_tokens ms) ts)
-      ∙ nest-json j n (members_tokens ms ++ ts) ∙ ap (λ b. shallow j n && b) (nest-members ms n ts)
-      ∙ and_assoc (shallow j n) (members_shallow ms n) (nest_within (suc n) ts)
-
-mutual
-  shallow-depth : (j : Json) (n : ℕ) → shallow j n ≡ true → depth j ≤ n
-  shallow-depth null n h = omega arith
-  shallow-depth (boolean b) n h = omega arith
-  shallow-depth (number s) n h = omega arith
-  shallow-depth (string s) n h = omega arith
-  shallow-depth (array js) zero h = cc
-  shallow-depth (array js) (suc n) h = omega (arith, items-depth js n h)
-  shallow-depth (object ms) zero h = cc
-  shallow-depth (object ms) (suc n) h = omega (arith, members-depth ms n h)
-
-  items-depth : (js : Items) (n : ℕ) → items_shallow js n ≡ true → items_depth js ≤ n
-  items-depth no_items n h = omega arith
-  items-depth (item j js) n h =
-      let parts = both (shallow j n) (items_shallow js n) h in
-      omega (arith, shallow-depth j n parts.0, items-depth js n parts.1)
-
-  members-depth : (ms : Members) (n : ℕ) → members_shallow ms n ≡ true → members_depth ms ≤ n
-  members-depth no_members n h = omega arith
-  members-depth (member k j ms) n h =
-      let parts = both (shallow j n) (members_shallow ms n) h in
-      omega (arith, shallow-depth j n parts.0, members-depth ms n parts.1)
+  fit-members : (ms : Members) (n : ℕ) (ts : List Token)
+      → fit_within n (members_tokens ms ++ ts) ≡ (members_fit_in ms n && fit_within (suc n) ts)
+  fit-members no_members n ts = refl
+  fit-members (member k j ms) n ts =
+      ap (fit_within n) (append_assoc (json_tokens j) (members_tokens ms) ts)
+      ∙ fit-json j n (members_tokens ms ++ ts) ∙ ap (λ b. fits j n && b) (fit-members ms n ts)
+      ∙ and_assoc (fits j n) (members_fit_in ms n) (fit_within (suc n) ts)
 
 mutual
-  depth-shallow : (j : Json) (n : ℕ) → depth j ≤ n → shallow j n ≡ true
-  depth-shallow null n h = refl
-  depth-shallow (boolean b) n h = refl
-  depth-shallow (number s) n h = refl
-  depth-shallow (string s) n h = refl
-  depth-shallow (array js) zero h = absurd (omega (arith, h))
-  depth-shallow (array js) (suc n) h = depth-items_shallow js n (omega (arith, h))
-  depth-shallow (object ms) zero h = absurd (omega (arith, h))
-  depth-shallow (object ms) (suc n) h = depth-members_shallow ms n (omega (arith, h))
+  fits-depth : (j : Json) (n : ℕ) → fits j n ≡ true → depth j ≤ n
+  fits-depth null n h = omega arith
+  fits-depth (boolean b) n h = omega arith
+  fits-depth (number s) n h = omega arith
+  fits-depth (string s) n h = omega arith
+  fits-depth (array js) zero h = cc
+  fits-depth (array js) (suc n) h = omega (arith, items_fit_in-depth js n h)
+  fits-depth (object ms) zero h = cc
+  fits-depth (object ms) (suc n) h = omega (arith, members_fit_in-depth ms n h)
 
-  depth-items_shallow : (js : Items) (n : ℕ) → items_depth js ≤ n → items_shallow js n ≡ true
-  depth-items_shallow no_items n h = refl
-  depth-items_shallow (item j js) n h = and_true (shallow j n) (items_shallow js n)
-      (depth-shallow j n (omega (arith, h))) (depth-items_shallow js n (omega (arith, h)))
+  items_fit_in-depth : (js : Items) (n : ℕ) → items_fit_in js n ≡ true → items_depth js ≤ n
+  items_fit_in-depth no_items n h = omega arith
+  items_fit_in-depth (item j js) n h =
+      let parts = both (fits j n) (items_fit_in js n) h in
+      omega (arith, fits-depth j n parts.0, items_fit_in-depth js n parts.1)
 
-  depth-members_shallow : (ms : Members) (n : ℕ) → members_depth ms ≤ n → members_shallow ms n ≡ true
-  depth-members_shallow no_members n h = refl
-  depth-members_shallow (member k j ms) n h = and_true (shallow j n) (members_shallow ms n)
-      (depth-shallow j n (omega (arith, h))) (depth-members_shallow ms n (omega (arith, h)))
+  members_fit_in-depth : (ms : Members) (n : ℕ) → members_fit_in ms n ≡ true → members_depth ms ≤ n
+  members_fit_in-depth no_members n h = omega arith
+  members_fit_in-depth (member k j ms) n h =
+      let parts = both (fits j n) (members_fit_in ms n) h in
+      omega (arith, fits-depth j n parts.0, members_fit_in-depth ms n parts.1)
+
+and_same : (a b c d : Bool) → a ≡ c → b ≡ d → (a && b) ≡ (c && d)
+and_same a b c d x y = ap (λ b. a && b) y ∙ ap (λ a. a && d) x
+
+mutual
+  depth-fits : (j : Json) (n : ℕ) → depth j ≤ n → fits j n ≡ numbers_fit j
+  depth-fits null n h = refl
+  depth-fits (boolean b) n h = refl
+  depth-fits (number s) n h = refl
+  depth-fits (string s) n h = refl
+  depth-fits (array js) zero h = absurd (omega (arith, h))
+  depth-fits (array js) (suc n) h = depth-items_fit js n (omega (arith, h))
+  depth-fits (object ms) zero h = absurd (omega (arith, h))
+  depth-fits (object ms) (suc n) h = depth-members_fit ms n (omega (arith, h))
+
+  depth-items_fit : (js : Items) (n : ℕ) → items_depth js ≤ n → items_fit_in js n ≡ items_fit js
+  depth-items_fit no_items n h = refl
+  depth-items_fit (item j js) n h = and_same (fits j n) (items_fit_in js n) (numbers_fit j) (items_fit js)
+      (depth-fits j n (omega (arith, h))) (depth-items_fit js n (omega (arith, h)))
+
+  depth-members_fit : (ms : Members) (n : ℕ) → members_depth ms ≤ n → members_fit_in ms n ≡ members_fit ms
+  depth-members_fit no_members n h = refl
+  depth-members_fit (member k j ms) n h = and_same (fits j n) (members_fit_in ms n) (numbers_fit j) (members_fit ms)
+      (depth-fits j n (omega (arith, h))) (depth-members_fit ms n (omega (arith, h)))
 
 and-true : (b : Bool) → (b && true) ≡ b
 and-true true = refl
 and-true false = refl
 
--- the tokens of a value nest so far just where the value does
-pub nest-depth : (j : Json) (n : ℕ) → nest_within n (json_tokens j ++ []) ≡ true → depth j ≤ n
-unfolding nest_within
-nest-depth j n h = shallow-depth j n (sym (nest-json j n [] ∙ and-true (shallow j n)) ∙ h)
+fit-whole : (j : Json) (n : ℕ) → fit_within n (json_tokens j ++ []) ≡ fits j n
+unfolding fit_within
+fit-whole j n = fit-json j n [] ∙ and-true (fits j n)
 
-pub depth-nest : (j : Json) (n : ℕ) → depth j ≤ n → nest_within n (json_tokens j ++ []) ≡ true
-unfolding nest_within
-depth-nest j n h = nest-json j n [] ∙ and-true (shallow j n) ∙ depth-shallow j n h
+-- a value whose tokens fit nests so deep at most, and where it does they fit just where its numbers do
+pub fit-depth : (j : Json) (n : ℕ) → fit_within n (json_tokens j ++ []) ≡ true → depth j ≤ n
+fit-depth j n h = fits-depth j n (sym (fit-whole j n) ∙ h)
 
--- ---- which numbers are kept
-
-mutual
-  kept-json : (j : Json) (ts : List Token)
-      → list_all is_kept (json_tokens j ++ ts) ≡ (numbers_fit j && list_all is_kept ts)
-  kept-json null ts = refl
-  kept-json (boolean b) ts = refl
-  kept-json (number s) ts = refl
-  kept-json (string s) ts = refl
-  kept-json (array js) ts = kept-items js ts
-  kept-json (object ms) ts = kept-members ms ts
-
-  kept-items : (js : Items) (ts : List Token)
-      → list_all is_kept (items_tokens js ++ ts) ≡ (items_fit js && list_all is_kept ts)
-  kept-items no_items ts = refl
-  kept-items (item j js) ts =
-      ap (list_all is_kept) (append_assoc (json_tokens j) (items_tokens js) ts)
-      ∙ kept-json j (items_tokens js ++ ts) ∙ ap (λ b. numbers_fit j && b) (kept-items js ts)
-      ∙ and_assoc (numbers_fit j) (items_fit js) (list_all is_kept ts)
-
-  kept-members : (ms : Members) (ts : List Token)
-      → list_all is_kept (members_tokens ms ++ ts) ≡ (members_fit ms && list_all is_kept ts)
-  kept-members no_members ts = refl
-  kept-members (member k j ms) ts =
-      ap (list_all is_kept) (append_assoc (json_tokens j) (members_tokens ms) ts)
-      ∙ kept-json j (members_tokens ms ++ ts) ∙ ap (λ b. numbers_fit j && b) (kept-members ms ts)
-      ∙ and_assoc (numbers_fit j) (members_fit ms) (list_all is_kept ts)
-
--- the numbers of a value's tokens are kept just where its numbers fit
-pub kept-fit : (j : Json) → list_all is_kept (json_tokens j ++ []) ≡ numbers_fit j
-kept-fit j = kept-json j [] ∙ and-true (numbers_fit j)
+pub depth-fit : (j : Json) (n : ℕ) → depth j ≤ n → fit_within n (json_tokens j ++ []) ≡ numbers_fit j
+depth-fit j n h = fit-whole j n ∙ depth-fits j n h

@@ -213,7 +213,11 @@ pub put_all-push : (ms : List Listed) (m : Listed) (found : Members)
 put_all-push [] m found = refl
 put_all-push (n ∷ ms) m found = put_all-push ms m (put n.0.now (tree_view n.1) found)
 
--- ---- the members that are left
+-- ---- the items and the members that are left
+
+abbrev pub item_count : json.Items → ℕ
+item_count json.no_items = 0
+item_count (json.item j js) = suc (item_count js)
 
 abbrev pub count : json.Members → ℕ
 count json.no_members = 0

@@ -12,10 +12,11 @@ use Rattle.serde_json.specs.Data.{Num, negative, Data, null, boolean, number, st
 use Rattle.serde_json.specs.Data.{item, Members, no_members, member, put}
 use Rattle.serde_json.specs.Read.{number_of, max_depth, read}
 use Rattle.model.specs.Optional.{of_utf8}
-use Rattle.trees.specs.Tokens.{json_from, members_from}
+use Rattle.trees.specs.Tokens.{json_from, items_from, members_from}
 use Rattle.trees.specs.declared.fault.TreeFault.{TreeFault}
 use Rattle.trees.specs.declared.fault.TreeFault.TheVariants.{OutOfMemory, NotJson}
 use Rattle.trees.specs.declared.tree.Tree.{Tree}
+use Rattle.trees.specs.declared.tree.Elements.{Elements}
 use Rattle.trees.specs.declared.tree.Entries.{Entries}
 
 abbrev pub wants_memory : TreeFault → Bool
@@ -84,6 +85,14 @@ tokens_view ts = data_of (json_from ts)
 
 abbrev pub tree_view : Tree → Data
 tree_view tree = tokens_view tree.element
+
+-- the items that are left, and the first of them with those behind it
+abbrev pub left_items : Elements → json.Items
+left_items elements = items_from elements.items
+
+abbrev pub IsNextItem : json.Items → Option Data → json.Items → Type 0
+IsNextItem old None new = old ≡ json.no_items
+IsNextItem old (Some d) new = (j : json.Json) × (old ≡ json.item j new) × (d ≡ data_of j)
 
 -- the members that are left, and the first of them with those behind it
 abbrev pub left : Entries → json.Members

@@ -23,10 +23,10 @@ mod tree;
 
 pub use blank::is_blank;
 pub use fault::TreeFault;
-pub use listing::{entries, next_entry};
+pub use listing::{elements, entries, next_element, next_entry};
 pub use looking::{
     Members, are_rising, as_flag, as_list, as_members, as_text, as_whole, by_key, is_null, item,
     member,
 };
 pub use reading::{read_tape, root};
-pub use tree::{Entries, Tree};
+pub use tree::{Elements, Entries, Tree};

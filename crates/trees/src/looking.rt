@@ -6,7 +6,7 @@ ghost use Rattle.std.specs.Ordering.{is_lt, nat_cmp};
 ghost use Rattle.serde_json.specs.Find.{get, at, as_str, as_bool, as_array, as_object, as_number, as_u64};
 ghost use Rattle.trees.specs.Trees.{is_null, tree_view, trees_view, entries_view, rise_after, sorted_view};
 
-use crate::listing::{entries, next_entry};
+use crate::listing::{elements, entries, next_element, next_entry};
 use crate::number::number_of;
 use crate::tree::Tree;
 use std::alloc::{AllocError, Global};
@@ -76,12 +76,12 @@ pub fn as_list<'t, 'a>(
 ) -> Result<Option<Vec<Tree<'t, 'a>>>, AllocError>
     ensures { IfOk result (λ o. option_map (λ v. trees_view v.items) o ≡ as_array (tree_view tree.now)) }
 {
-    let Some(mut items) = tree.element.items() else {
+    let Some(mut elements) = elements(tree) else {
         return Ok(None);
     };
     let mut found = Vec::new(alloc);
-    'items: while let Some(element) = items.next() {
-        found.push(Tree { element })?;
+    'items: while let Some(item) = next_element(&mut elements) {
+        found.push(item)?;
     }
     Ok(Some(found))
 }

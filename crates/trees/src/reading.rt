@@ -1,12 +1,12 @@
 //! Reading a text of JSON into a flat list of its tokens.
 
-ghost use Rattle.std.specs.Prelude.{◌≡◌, ◌≤◌, length, map, is_some};
-ghost use Rattle.std.specs.List.{list_all};
+ghost use Rattle.std.specs.Prelude.{◌≡◌, ℕ, List, map, is_some, IsSome};
 ghost use Rattle.std.specs.Option.{ok_or};
+ghost use Rattle.json.specs.Json.{document};
+ghost use Rattle.json.specs.Lex.{tokens};
 ghost use Rattle.json.specs.Tape.{node_token};
-ghost use Rattle.serde_json.specs.Read.{number_of, max_depth};
+ghost use Rattle.serde_json.specs.Read.{read};
 ghost use Rattle.model.specs.Outcome.{Gives};
-ghost use Rattle.trees.specs.Tokens.{is_kept, left_after, nest_within};
 ghost use Rattle.trees.specs.Trees.{wants_memory, data_of_bytes, tokens_view, tree_view};
 
 use crate::fault::TreeFault;
@@ -38,10 +38,7 @@ pub fn read_tape<'a>(
         Err(Error::Invalid) => return Err(TreeFault::NotJson),
         Err(_) => return Err(TreeFault::OutOfMemory),
     };
-    if !nest_within(tape.nodes()) {
-        return Err(TreeFault::NotJson);
-    }
-    if !are_kept(tape.nodes()) {
+    if !are_read(tape.nodes()) {
         return Err(TreeFault::NotJson);
     }
     Ok(tape)
@@ -56,52 +53,30 @@ pub fn root<'t, 'a>(tape: &'t Tape<'a>) -> Tree<'t, 'a>
     }
 }
 
-/// Whether no more than `MAX_DEPTH` arrays and objects are open at once.
-#[tactic(auto, unfolding(crate::specs::Tokens::nest_within))]
-fn nest_within(nodes: &[Node<'_>]) -> bool
-    ensures { result ≡ nest_within max_depth (map node_token nodes.now) }
+/// Whether `serde_json` reads a text with these tokens, which `json` reads: no more than `MAX_DEPTH` arrays and objects
+/// are open at once, and each number is one that can be kept.
+#[tactic(auto, unfolding(crate::proofs::TokenLemmas::fit_within))]
+fn are_read(nodes: &[Node<'_>]) -> bool
+    ensures { (text : List ℕ) → map node_token nodes.now ≡ tokens text → IsSome (document text)
+        → result ≡ is_some (read text) }
 {
     let mut left = MAX_DEPTH;
     'nodes: for node in nodes {
-        let Some(fewer) = left_after(left, node) else {
-            return false;
-        };
-        left = fewer;
+        match node {
+            Node::Object(_) | Node::Array(_) => {
+                if left == 0 {
+                    return false;
+                }
+                left -= 1;
+            }
+            Node::EndObject | Node::EndArray => left += 1,
+            Node::Number(text) => {
+                if number_of(text).is_none() {
+                    return false;
+                }
+            }
+            Node::Key(_) | Node::String(_) | Node::Bool(_) | Node::Null => {}
+        }
     }
     true
-}
-
-/// How many more may open, after a node.
-fn left_after(left: usize, node: &Node<'_>) -> Option<usize>
-    requires { left ≤ 9223372036854775807 }
-    ensures { result ≡ left_after left (node_token node.now) }
-{
-    match node {
-        Node::Object(_) | Node::Array(_) => left.checked_sub(1),
-        Node::EndObject | Node::EndArray => Some(left + 1),
-        Node::Key(_) | Node::String(_) | Node::Number(_) | Node::Bool(_) | Node::Null => Some(left),
-    }
-}
-
-/// Whether each number is one that can be kept.
-fn are_kept(nodes: &[Node<'_>]) -> bool
-    ensures { result ≡ list_all (λ n. is_kept (node_token n)) nodes.now }
-{
-    nodes.iter().all(|node| is_kept(node))
-}
-
-fn is_kept(node: &Node<'_>) -> bool
-    ensures { result ≡ is_kept (node_token node.now) }
-{
-    match node {
-        Node::Number(text) => number_of(text).is_some(),
-        Node::Object(_)
-        | Node::EndObject
-        | Node::Array(_)
-        | Node::EndArray
-        | Node::Key(_)
-        | Node::String(_)
-        | Node::Bool(_)
-        | Node::Null => true,
-    }
 }
