@@ -13,7 +13,8 @@ use crate::parts::unless_null;
 use json::{Scratch, Tape};
 use std::alloc::Global;
 use trees::{
-    Elements, Tree, TreeFault, as_flag, as_text, as_whole, elements, member, next_element, read_tape,
+    Elements, Tree, TreeFault, as_flag, as_text, as_whole, elements, member, next_element,
+    read_tape,
 };
 
 /// The JSON value that the bytes are, as its tokens.

@@ -1,5 +1,5 @@
 -- What the JSON reader's clauses say of `data_of_bytes`.
-use Rattle.std.proofs.Common.{◌≡◌, ℕ, ◌≤◌, List, [], ◌∷◌, ◌++◌, Bool, true, false, Option, Some, None, option_map, map, drop, ◌+◌, ◌<◌, length, ◌⊎◌, inl, inr}
+use Rattle.std.proofs.Common.{◌≡◌, ℕ, ◌≤◌, List, [], ◌∷◌, Bool, true, false, Option, Some, None, option_map, map, drop, ◌+◌, ◌<◌, length, ◌⊎◌, inl, inr}
 use Rattle.std.proofs.Common.{option_and_then, is_some, Ok, Err, refl, sym, ap, ◌∙◌, arith, IsUtf8}
 use Rattle.std.proofs.Math.ListN.{get_or}
 use Rattle.std.proofs.lemmas.List.{at_drop_more, drop_all}

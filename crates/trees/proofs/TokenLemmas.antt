@@ -1,5 +1,5 @@
 -- What is read of tokens, and what the tokens of a value are.
-use Rattle.std.proofs.Common.{◌≡◌, ℕ, zero, suc, ◌≤◌, max, List, [], ◌∷◌, ◌++◌, length, Bool, true, false, ◌&&◌, cond}
+use Rattle.std.proofs.Common.{◌≡◌, ℕ, zero, suc, ◌≤◌, List, [], ◌∷◌, ◌++◌, length, Bool, true, false, ◌&&◌, cond}
 use Rattle.std.proofs.Common.{Option, Some, None, is_some, option_map, option_and_then, unwrap_or}
 use Rattle.std.specs.Prelude.{IfNone}
 use Rattle.std.proofs.Common.{Bor, refl, sym, ap, ◌∙◌, subst, arith, append_assoc, length-append}

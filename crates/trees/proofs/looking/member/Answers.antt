@@ -1,4 +1,4 @@
-use Rattle.std.proofs.Common.{None, option_map, sym, ap, ◌∙◌}
+use Rattle.std.proofs.Common.{option_map, sym, ap, ◌∙◌}
 use Rattle.json.specs.Find as find
 use Rattle.trees.specs.Tokens.{json_from}
 use Rattle.trees.specs.Trees.{data_of}

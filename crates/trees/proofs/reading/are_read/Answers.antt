@@ -1,4 +1,4 @@
-use Rattle.std.proofs.Common.{◌≡◌, not, Some, None, is_some, false, refl, sym, ap, ◌∙◌, cond}
+use Rattle.std.proofs.Common.{◌≡◌, not, Some, None, is_some, false, sym, ap, ◌∙◌, cond}
 use Rattle.json.specs.Tape.{node_token}
 use Rattle.serde_json.specs.Read.{number_of}
 use Rattle.serde_json.specs.View.{number_view}
