@@ -101,16 +101,24 @@ abbrev pub Reads : {S : Type 0} → Calls S → (S → ℕ) → S → List ℕ
 Reads calls failed before name (Ok contents) after = IsRead calls before name (contents_view contents) after
 Reads calls failed before name (Err e) after = Fails calls failed before name e after
 
+-- which fault a file that is past the limits is
+abbrev pub IsPast : List ℕ → List ℕ → LoadFault → Type 0
+IsPast name bytes fault.OutOfMemory = Unit {0}
+IsPast name bytes (fault.FolderFailed path) = ⊥
+IsPast name bytes (fault.TooLarge limit.Names) = ⊥
+IsPast name bytes (fault.TooLarge (limit.File n)) = (n ≡ name) × (most_bytes < length bytes)
+IsPast name bytes (fault.TooLarge (limit.Lines n)) =
+    (n ≡ name) × (length bytes ≤ most_bytes) × (most_lines < line_count bytes)
+IsPast name bytes (fault.ChecksumChanged n v) = ⊥
+
+abbrev pub SaysOfLimits : List ℕ → List ℕ → Result (Unit {0}) LoadFault → Type 0
+SaysOfLimits name bytes (Ok u) = IsWithin (Some bytes)
+SaysOfLimits name bytes (Err e) = IsPast name bytes e
+
 -- how reading a file within the limits, or not within them, ends
 abbrev pub SaysOfFile : List ℕ → List ℕ → Result (Vec Record Global × Vec Skip Global) LoadFault → Type 0
 SaysOfFile name bytes (Ok contents) = IsWithin (Some bytes) × (records_of_file name bytes ≡ contents_view contents)
-SaysOfFile name bytes (Err fault.OutOfMemory) = Unit {0}
-SaysOfFile name bytes (Err (fault.FolderFailed path)) = ⊥
-SaysOfFile name bytes (Err (fault.TooLarge limit.Names)) = ⊥
-SaysOfFile name bytes (Err (fault.TooLarge (limit.File n))) = (n ≡ name) × (most_bytes < length bytes)
-SaysOfFile name bytes (Err (fault.TooLarge (limit.Lines n))) =
-    (n ≡ name) × (length bytes ≤ most_bytes) × (most_lines < line_count bytes)
-SaysOfFile name bytes (Err (fault.ChecksumChanged n v)) = ⊥
+SaysOfFile name bytes (Err e) = IsPast name bytes e
 
 -- ---- the candidates of a name
 

@@ -1,20 +1,18 @@
 //! Asking a folder for the file of a name.
 
-ghost use Rattle.catalogue.specs.Loads.{Reads, SaysOfFile};
+ghost use Rattle.catalogue.specs.Loads.{Reads, SaysOfFile, SaysOfLimits};
 
 use crate::fault::{Limit, LoadFault};
 use features::PackageName;
 use index_reader::{
-    Folder, FolderFault, KnownDependencies, Record, Skip, index_path, lines, read_file_in,
+    Folder, FolderFault, KnownDependencies, MAX_LINES, Record, Skip, index_path, lines,
+    read_file_in,
 };
 use json::Scratch;
 use std::alloc::Global;
 
 /// How many bytes a file has at most.
 const MAX_BYTES: usize = 16_777_216;
-
-/// How many lines a file has at most.
-const MAX_LINES: usize = 65_535;
 
 /// The records and skips of a name, by one call of the folder.
 pub(crate) fn read_name<F: Folder>(
@@ -45,11 +43,22 @@ fn read_bytes(
 ) -> Result<(Vec<Record>, Vec<Skip>), LoadFault>
     ensures { SaysOfFile name.now bytes.now result }
 {
+    check_file(name, bytes)?;
+    Ok(read_file_in(alloc, name, bytes, scratch, known)?)
+}
+
+/// A file past the limits isn't read.
+///
+/// # Errors
+/// `TooLarge` where it has more bytes than `MAX_BYTES`, or else more lines than are read.
+pub fn check_file(name: &PackageName, bytes: &[u8]) -> Result<(), LoadFault>
+    ensures { SaysOfLimits name.now bytes.now result }
+{
     if bytes.len() > MAX_BYTES {
         return Err(LoadFault::TooLarge(Limit::File(name.clone()?)));
     }
     if lines(bytes) > MAX_LINES {
         return Err(LoadFault::TooLarge(Limit::Lines(name.clone()?)));
     }
-    Ok(read_file_in(alloc, name, bytes, scratch, known)?)
+    Ok(())
 }

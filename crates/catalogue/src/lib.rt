@@ -32,6 +32,7 @@ mod store;
 pub use candidate::Candidate;
 pub use checksum::Checksum;
 pub use fault::{Limit, LoadFault};
+pub use file::check_file;
 pub use laws::{
     catalogues_are_well_formed, memory_folders_have_one_index, runs_make_catalogues,
     selected_names_are_asked_for, selections_ask_for_no_more, selections_have_their_checksums,

@@ -1,6 +1,7 @@
 -- The list of a fact has just the rules that need it.
-use Rattle.std.proofs.Common.{◌≡◌, ℕ, zero, suc, ◌<◌, List, [], ◌∷◌, ◌++◌, Vec, length, get_or, set, take, Contains}
+use Rattle.std.proofs.Common.{◌≡◌, ℕ, zero, suc, ◌<◌, List, [], ◌∷◌, ◌++◌, Vec, length, get_or, set, take, Contains, Bool, true, false}
 use Rattle.std.proofs.Common.{refl, sym, ap, ◌∙◌, subst, inl, inr, ◌⊎◌, arith}
+use Rattle.std.specs.Prelude.{◌==◌, if◌then◌else◌}
 use Rattle.std.specs.declared.alloc.Global.{Global}
 use Rattle.std.proofs.lemmas.List.Elements.{Contains-append_left, Contains-push, Contains-push_cases}
 use Rattle.chains.specs.declared.rule.Rule.{Rule}
@@ -50,8 +51,19 @@ length-put_at [] i r = refl
 length-put_at (l ∷ ls) zero r = refl
 length-put_at (l ∷ ls) (suc i) r = ap suc (length-put_at ls i r)
 
+-- what holds where a rule is put into both lists, and where it is put into one for both
+by_facts : (P : List (List Rule) → Type 0) (ls : List (List Rule)) (r : Rule)
+    → (r.first ≡ r.second → P (put_at ls r.first r)) → P (put_at (put_at ls r.first r) r.second r) → P (put_both ls r)
+by_facts P ls r one two = go (r.first == r.second) refl
+  where
+    go : (b : Bool) → (r.first == r.second) ≡ b
+        → P (if b then put_at ls r.first r else put_at (put_at ls r.first r) r.second r)
+    go true e = one (nat_eq-same r.first r.second e)
+    go false e = two
+
 pub length-put_both : (ls : List (List Rule)) (r : Rule) → length (put_both ls r) ≡ length ls
-length-put_both ls r = length-put_at (put_at ls r.first r) r.second r ∙ length-put_at ls r.first r
+length-put_both ls r = by_facts (λ l. length l ≡ length ls) ls r (λ e. length-put_at ls r.first r)
+    (length-put_at (put_at ls r.first r) r.second r ∙ length-put_at ls r.first r)
 
 pub length-no_lists : (n : ℕ) → length (no_lists n) ≡ n
 length-no_lists zero = refl
@@ -78,20 +90,42 @@ put_only (l ∷ ls) zero r (suc j) x c = inl c
 put_only (l ∷ ls) (suc i) r zero x c = inl c
 put_only (l ∷ ls) (suc i) r (suc j) x c = put_only ls i r j x c
 
+both_keep : (ls : List (List Rule)) (r : Rule) (j : ℕ) (x : Rule) → Contains (rules_at ls j) x
+    → Contains (rules_at (put_both ls r) j) x
+both_keep ls r j x c = by_facts (λ l. Contains (rules_at l j) x) ls r (λ e. put_keeps ls r.first r j x c)
+    (put_keeps (put_at ls r.first r) r.second r j x (put_keeps ls r.first r j x c))
+
+both_only : (ls : List (List Rule)) (r : Rule) (j : ℕ) (x : Rule) → Contains (rules_at (put_both ls r) j) x
+    → Contains (rules_at ls j) x ⊎ (r ≡ x)
+both_only ls r j x = by_facts (λ l. Contains (rules_at l j) x → Contains (rules_at ls j) x ⊎ (r ≡ x)) ls r
+    (λ e. put_only ls r.first r j x)
+    (λ c. elim (put_only (put_at ls r.first r) r.second r j x c) [
+      | inl c ↦ put_only ls r.first r j x c
+      | inr e ↦ inr e
+    ])
+
+both_there : (ls : List (List Rule)) (r : Rule) → IsBelow (length ls) r
+    → Contains (rules_at (put_both ls r) r.first) r × Contains (rules_at (put_both ls r) r.second) r
+both_there ls r below =
+    by_facts (λ l. Contains (rules_at l r.first) r × Contains (rules_at l r.second) r) ls r
+    (λ e. let first = put_there ls r.first r below.0 in
+    (first, subst (λ i. Contains (rules_at (put_at ls r.first r) i) r) e first))
+    (
+      put_keeps (put_at ls r.first r) r.second r r.first r (put_there ls r.first r below.0),
+      put_there (put_at ls r.first r) r.second r
+          (subst (λ n. r.second < n) (sym (length-put_at ls r.first r)) below.1),
+    )
+
 all_keep : (ls : List (List Rule)) (rs : List Rule) (j : ℕ) (x : Rule) → Contains (rules_at ls j) x
     → Contains (rules_at (put_all ls rs) j) x
 all_keep ls [] j x c = c
-all_keep ls (r ∷ rs) j x c =
-    all_keep (put_both ls r) rs j x (put_keeps (put_at ls r.first r) r.second r j x (put_keeps ls r.first r j x c))
+all_keep ls (r ∷ rs) j x c = all_keep (put_both ls r) rs j x (both_keep ls r j x c)
 
 all_only : (ls : List (List Rule)) (rs : List Rule) (j : ℕ) (x : Rule) → Contains (rules_at (put_all ls rs) j) x
     → Contains (rules_at ls j) x ⊎ Contains rs x
 all_only ls [] j x c = inl c
 all_only ls (r ∷ rs) j x c = elim (all_only (put_both ls r) rs j x c) [
-  | inl c ↦ elim (put_only (put_at ls r.first r) r.second r j x c) [
-    | inl c ↦ elim (put_only ls r.first r j x c) [ inl c ↦ inl c | inr e ↦ inr (zero, omega arith, e) ]
-    | inr e ↦ inr (zero, omega arith, e)
-  ]
+  | inl c ↦ elim (both_only ls r j x c) [ inl c ↦ inl c | inr e ↦ inr (zero, omega arith, e) ]
   | inr c ↦ inr (suc c.0, omega (arith, c.1), c.2)
 ]
 
@@ -103,14 +137,11 @@ all_there : (ls : List (List Rule)) (rs : List Rule) (x : Rule) → AreBelow (le
 all_there ls [] x below c = absurd (in_none x c)
 all_there ls (r ∷ rs) x below c = elim (in_cons r x rs c) [
   | inl e ↦
-      let b : IsBelow (length ls) r = below zero r (omega arith) in
-      let second : r.second < length (put_at ls r.first r) =
-      subst (λ n. r.second < n) (sym (length-put_at ls r.first r)) b.1 in
+      let there = both_there ls r (below zero r (omega arith)) in
       subst (λ x. Contains (rules_at (put_all (put_both ls r) rs) x.first) x
       × Contains (rules_at (put_all (put_both ls r) rs) x.second) x) e (
-        all_keep (put_both ls r) rs r.first r
-            (put_keeps (put_at ls r.first r) r.second r r.first r (put_there ls r.first r b.0)),
-        all_keep (put_both ls r) rs r.second r (put_there (put_at ls r.first r) r.second r second),
+        all_keep (put_both ls r) rs r.first r there.0,
+        all_keep (put_both ls r) rs r.second r there.1,
       )
   | inr c ↦ all_there (put_both ls r) rs x
       (subst (λ n. AreBelow n rs) (sym (length-put_both ls r)) (rest_below (length ls) r rs below)) c

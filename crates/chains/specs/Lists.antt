@@ -1,5 +1,5 @@
 -- The rules by the facts that they need: for each fact a list.
-use Rattle.std.specs.Prelude.{ℕ, zero, suc, List, [], ◌∷◌, ◌++◌, map, Vec, slice_get, unwrap_or}
+use Rattle.std.specs.Prelude.{ℕ, zero, suc, ◌==◌, if◌then◌else◌, List, [], ◌∷◌, ◌++◌, map, Vec, slice_get, unwrap_or}
 use Rattle.std.specs.declared.alloc.Global.{Global}
 use Rattle.chains.specs.declared.rule.Rule.{Rule}
 
@@ -20,8 +20,10 @@ put_at [] i r = []
 put_at (l ∷ ls) zero r = (l ++ r ∷ []) ∷ ls
 put_at (l ∷ ls) (suc i) r = l ∷ put_at ls i r
 
+-- with one more rule in the lists of both of its facts: once where it needs one alone
 abbrev pub put_both : List (List Rule) → Rule → List (List Rule)
-put_both lists r = put_at (put_at lists r.first r) r.second r
+put_both lists r =
+    if r.first == r.second then put_at lists r.first r else put_at (put_at lists r.first r) r.second r
 
 -- the lists with these rules too, one after another
 abbrev pub put_all : List (List Rule) → List Rule → List (List Rule)

@@ -44,13 +44,16 @@ fn no_lists(alloc: Global, facts: usize) -> Result<Vec<Vec<Rule>>, AllocError>
     Ok(lists)
 }
 
-/// With the rule in the lists of both of its facts.
+/// With the rule in the lists of both of its facts: once where it needs one alone, as most do.
 fn put_both(lists: &mut Vec<Vec<Rule>>, rule: &Rule) -> Result<(), AllocError>
     requires below { IsBelow (length lists.old.items) rule.now }
     ensures length { length lists.new.items ≡ length lists.old.items }
     ensures put { OnOk result (rule_lists lists.new.items ≡ put_both (rule_lists lists.old.items) rule.now) }
 {
     put(lists, rule.first, rule)?;
+    if rule.first == rule.second {
+        return Ok(());
+    }
     put(lists, rule.second, rule)
 }
 

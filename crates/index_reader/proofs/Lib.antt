@@ -8,4 +8,3 @@ pub mod RisingLemmas
 pub mod FileLaws
 pub mod KeptLemmas
 pub mod SplitLemmas
-pub mod CountLemmas

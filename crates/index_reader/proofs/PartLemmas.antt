@@ -1,4 +1,4 @@
--- What stands at the keys of a dependency is found member after member.
+-- What stands at the keys of an object is found member after member.
 use Rattle.std.proofs.Common.{◌≡◌, ℕ, List, Bool, true, false, Some, None, unwrap_or, codes, refl, sym}
 use Rattle.std.proofs.Common.{ap, ◌∙◌, subst, true≢false}
 use Rattle.std.specs.Prelude.{if◌then◌else◌}
@@ -7,8 +7,8 @@ use Rattle.serde_json.specs.Find.{get_member, as_object}
 use Rattle.serde_json.proofs.Views.{get_member-put, get_member-put_other}
 use Rattle.model.specs.Summary.{same_text}
 use Rattle.model.proofs.Same.{text-same, text-refl}
-use Rattle.index_reader.specs.Shapes.{unless_null, values_of}
-use Rattle.index_reader.specs.PartMembers.{values_in, with_value}
+use Rattle.index_reader.specs.Shapes.{unless_null, values_by, values_of}
+use Rattle.index_reader.specs.PartMembers.{value_put, values_in}
 
 -- a member with another key changes nothing of this one
 at_other : (key k : List ℕ) (d : Data) (ms : Members) → same_text k key ≡ false
@@ -33,16 +33,23 @@ at_key key k d ms = go (same_text k key) refl
 
 -- with one member more
 pub values_in-put : (k : List ℕ) (d : Data) (ms : Members)
-    → with_value k (unless_null (Some d)) (values_in ms) ≡ values_in (put k d ms)
+    → values_by (value_put k (unless_null (Some d)) (λ key. unless_null (get_member key ms))) ≡ values_in (put k d ms)
 values_in-put k d ms =
     rw (
       at_key (codes "name") k d ms,
+      at_key (codes "vers") k d ms,
+      at_key (codes "cksum") k d ms,
+      at_key (codes "deps") k d ms,
+      at_key (codes "features") k d ms,
+      at_key (codes "features2") k d ms,
+      at_key (codes "yanked") k d ms,
+      at_key (codes "v") k d ms,
+      at_key (codes "rust_version") k d ms,
       at_key (codes "kind") k d ms,
       at_key (codes "package") k d ms,
       at_key (codes "req") k d ms,
       at_key (codes "optional") k d ms,
       at_key (codes "default_features") k d ms,
-      at_key (codes "features") k d ms,
       at_key (codes "registry") k d ms,
     )
     refl

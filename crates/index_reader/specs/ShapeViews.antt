@@ -2,7 +2,7 @@
 use Rattle.std.specs.Prelude.{List, option_map, map}
 use Rattle.classes.specs.RustVersions.{rust_version_view}
 use Rattle.features.specs.Views.{text_views}
-use Rattle.index_reader.specs.Shapes.{FeatureView, PartValues, PartView, DependencyView, dev, part, ShapeView}
+use Rattle.index_reader.specs.Shapes.{FeatureView, ValuesView, PartView, DependencyView, dev, part, ShapeView}
 use Rattle.trees.specs.Trees.{tree_view}
 use Rattle.index_reader.specs.declared.parts.Values.{Values}
 use Rattle.index_reader.specs.declared.shape.FeatureShape.{FeatureShape}
@@ -48,14 +48,21 @@ shape_view s = record {
   rust_version = option_map rust_version_view s.rust_version;
 }
 
-abbrev pub values_view : Values → PartValues
+abbrev pub values_view : Values → ValuesView
 values_view v = record {
   name_value = option_map tree_view v.name;
+  version_value = option_map tree_view v.version;
+  checksum_value = option_map tree_view v.checksum;
+  dependencies_value = option_map tree_view v.dependencies;
+  features_value = option_map tree_view v.features;
+  features2_value = option_map tree_view v.features2;
+  yanked_value = option_map tree_view v.yanked;
+  format_value = option_map tree_view v.format;
+  rust_version_value = option_map tree_view v.rust_version;
   kind_value = option_map tree_view v.kind;
   package_value = option_map tree_view v.package;
   requirement_value = option_map tree_view v.requirement;
   optional_value = option_map tree_view v.optional;
   default_features_value = option_map tree_view v.default_features;
-  features_value = option_map tree_view v.features;
   registry_value = option_map tree_view v.registry;
 }

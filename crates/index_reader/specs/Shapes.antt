@@ -148,30 +148,47 @@ pub data DependencyView : Type 0 where
   dev : List ℕ → DependencyView
   part : PartView → DependencyView
 
--- what stands at the keys of a dependency
-pub record PartValues : Type 0 where
+-- what stands at the keys of a line and of its dependencies
+pub record ValuesView : Type 0 where
   pub name_value : Option Data
+  pub version_value : Option Data
+  pub checksum_value : Option Data
+  pub dependencies_value : Option Data
+  pub features_value : Option Data
+  pub features2_value : Option Data
+  pub yanked_value : Option Data
+  pub format_value : Option Data
+  pub rust_version_value : Option Data
   pub kind_value : Option Data
   pub package_value : Option Data
   pub requirement_value : Option Data
   pub optional_value : Option Data
   pub default_features_value : Option Data
-  pub features_value : Option Data
   pub registry_value : Option Data
 
-abbrev pub values_of : Data → PartValues
-values_of d = record {
-  name_value = value_at (codes "name") d;
-  kind_value = value_at (codes "kind") d;
-  package_value = value_at (codes "package") d;
-  requirement_value = value_at (codes "req") d;
-  optional_value = value_at (codes "optional") d;
-  default_features_value = value_at (codes "default_features") d;
-  features_value = value_at (codes "features") d;
-  registry_value = value_at (codes "registry") d;
+abbrev pub values_by : (List ℕ → Option Data) → ValuesView
+values_by at = record {
+  name_value = at (codes "name");
+  version_value = at (codes "vers");
+  checksum_value = at (codes "cksum");
+  dependencies_value = at (codes "deps");
+  features_value = at (codes "features");
+  features2_value = at (codes "features2");
+  yanked_value = at (codes "yanked");
+  format_value = at (codes "v");
+  rust_version_value = at (codes "rust_version");
+  kind_value = at (codes "kind");
+  package_value = at (codes "package");
+  requirement_value = at (codes "req");
+  optional_value = at (codes "optional");
+  default_features_value = at (codes "default_features");
+  registry_value = at (codes "registry");
 }
 
-unfoldable pub part_with : List ℕ → PartValues → Line PartView
+abbrev pub values_of : Data → ValuesView
+values_of d = values_by (λ key. value_at key d)
+
+unfoldable pub part_with : List ℕ → ValuesView → Line PartView
 part_with name values = do
   real_name ← package_name_or_none values.package_value
   requirement ← needed (option_and_then as_str values.requirement_value)
@@ -190,7 +207,7 @@ part_with name values = do
     registry = registry;
   })
 
-abbrev pub by_kind : List ℕ → DependencyKind → PartValues → Line DependencyView
+abbrev pub by_kind : List ℕ → DependencyKind → ValuesView → Line DependencyView
 by_kind name kind values = if is_dev kind then Ok (dev name) else (part_with name values >>= λ p. Ok (part p))
 
 unfoldable pub dependency_of : Data → Line DependencyView
@@ -206,10 +223,11 @@ dependencies_in (item d ds) = do
   others ← dependencies_in ds
   Ok (first ∷ others)
 
+abbrev pub needed_dependencies : Option Data → Line (List DependencyView)
+needed_dependencies o = needed (option_and_then as_array o) >>= dependencies_in
+
 unfoldable pub dependencies_at : Data → Line (List DependencyView)
-dependencies_at d = do
-  ds ← needed (option_and_then as_array (value_at (codes "deps") d))
-  dependencies_in ds
+dependencies_at d = needed_dependencies (value_at (codes "deps") d)
 
 -- a whole line, with its texts as they stand
 pub record ShapeView : Type 0 where
@@ -224,8 +242,11 @@ pub record ShapeView : Type 0 where
   pub rust_version : Option (ℕ × ℕ × ℕ)
 
 -- whatever is no Rust version counts as absent
+abbrev pub rust_version_in : Option Data → Option (ℕ × ℕ × ℕ)
+rust_version_in o = option_and_then rust_version_of (option_and_then as_str o)
+
 abbrev pub rust_version_at : Data → Option (ℕ × ℕ × ℕ)
-rust_version_at d = option_and_then rust_version_of (option_and_then as_str (value_at (codes "rust_version") d))
+rust_version_at d = rust_version_in (value_at (codes "rust_version") d)
 
 unfoldable pub shape_of : Data → Line ShapeView
 shape_of d = do

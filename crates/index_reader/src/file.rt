@@ -1,6 +1,6 @@
 //! Reading a file of an index.
 
-ghost use Rattle.std.specs.Prelude.{◌≡◌, ◌+◌, ◌≤◌, IfOk, map};
+ghost use Rattle.std.specs.Prelude.{◌≡◌, ◌≤◌, IfOk, count_by, map};
 ghost use Rattle.std.specs.List.{slice_split};
 ghost use Rattle.index_reader.specs.Files.{line_count, with_skip, with_line, with_lines, no_lines, records_of_file};
 ghost use Rattle.trees.specs.Lines.{is_line_end};
@@ -14,20 +14,36 @@ use crate::made::LineBefore;
 use crate::record::{Record, Skip};
 use features::PackageName;
 use json::Scratch;
-use memchr::{memchr, memchr_iter};
+use memchr::memchr;
 use std::alloc::{AllocError, Global};
 use trees::is_blank;
+
+/// How many lines a file has at most that is read.
+pub const MAX_LINES: usize = 65_535;
 
 /// How many lines bytes have: the number of `\n`, and one more where bytes follow the last of them.
 pub fn lines(bytes: &[u8]) -> usize
     ensures { result ≡ line_count bytes.now }
 {
-    let ended = memchr_iter(b'\n', bytes).count();
+    let ended = line_ends(bytes);
     match bytes.last() {
         None => ended,
         Some(b'\n') => ended,
         Some(_) => ended + 1,
     }
+}
+
+/// The number of `\n`. `memchr` passes over many bytes at a time, where to count by its iterator looks at each.
+fn line_ends(bytes: &[u8]) -> usize
+    ensures { result ≡ count_by is_line_end bytes.now }
+{
+    let mut count = 0;
+    let mut rest = bytes;
+    'ends: while let Some(end) = memchr(b'\n', rest) {
+        count += 1;
+        rest = &rest[end + 1..];
+    }
+    count
 }
 
 /// The records of the file of a name, in the order of its lines, and the lines that are skipped (Cargo book, "Registry

@@ -38,7 +38,7 @@ mod written;
 pub use disk::DiskFolder;
 pub use fail_at::FailAt;
 pub use fault::{LineFault, SkipReason};
-pub use file::{lines, read_file, read_file_in};
+pub use file::{MAX_LINES, lines, read_file, read_file_in};
 pub use folder::{Folder, FolderFault, MemoryFolder};
 pub use known::KnownDependencies;
 pub use laws::{records_are_apart, records_know_their_features};

@@ -1,38 +1,45 @@
-//! What stands at the keys of a dependency, found in one pass over its members.
+//! What stands at the keys of a line or of a dependency, found in one pass over its members.
 
-ghost use Rattle.std.specs.Prelude.{◌≡◌, Some, option_map};
-ghost use Rattle.serde_json.specs.Data.{no_members};
+ghost use Rattle.std.specs.Prelude.{◌≡◌, ℕ, List, Option, Some, option_map};
+ghost use Rattle.serde_json.specs.Data.{Data, no_members};
 ghost use Rattle.trees.specs.Trees.{left, members_of, tree_view};
-ghost use Rattle.index_reader.specs.PartMembers.{values_in, with_value};
-ghost use Rattle.index_reader.specs.Shapes.{unless_null, values_of};
+ghost use Rattle.index_reader.specs.PartMembers.{value_put, values_in};
+ghost use Rattle.index_reader.specs.Shapes.{unless_null, values_by, values_of};
 ghost use Rattle.index_reader.specs.ShapeViews.{values_view};
 
 use trees::{Entries, Tree, entries, is_null, next_entry};
 
-/// The values of a dependency: null counts as absent.
+/// The values of a line or of a dependency: null counts as absent.
 #[derive(Drop)]
 pub(crate) struct Values<'t, 'a> {
     pub name: Option<Tree<'t, 'a>>,
+    pub version: Option<Tree<'t, 'a>>,
+    pub checksum: Option<Tree<'t, 'a>>,
+    pub dependencies: Option<Tree<'t, 'a>>,
+    pub features: Option<Tree<'t, 'a>>,
+    pub features2: Option<Tree<'t, 'a>>,
+    pub yanked: Option<Tree<'t, 'a>>,
+    pub format: Option<Tree<'t, 'a>>,
+    pub rust_version: Option<Tree<'t, 'a>>,
     pub kind: Option<Tree<'t, 'a>>,
     pub package: Option<Tree<'t, 'a>>,
     pub requirement: Option<Tree<'t, 'a>>,
     pub optional: Option<Tree<'t, 'a>>,
     pub default_features: Option<Tree<'t, 'a>>,
-    pub features: Option<Tree<'t, 'a>>,
     pub registry: Option<Tree<'t, 'a>>,
 }
 
-/// The values of a dependency: to look for one key after another would go over its members for each.
-pub(crate) fn values_of<'t, 'a>(dependency: &Tree<'t, 'a>) -> Values<'t, 'a>
-    ensures { values_view result ≡ values_of (tree_view dependency.now) }
+/// The values of an object: to look for one key after another would go over its members for each.
+pub(crate) fn values_of<'t, 'a>(object: &Tree<'t, 'a>) -> Values<'t, 'a>
+    ensures { values_view result ≡ values_of (tree_view object.now) }
 {
-    let Some(members) = entries(dependency) else {
+    let Some(members) = entries(object) else {
         return no_values();
     };
     values_among(members)
 }
 
-/// The values among the members of a dependency.
+/// The values among the members of an object.
 fn values_among<'t, 'a>(mut members: Entries<'t, 'a>) -> Values<'t, 'a>
     ensures { values_view result ≡ values_in (members_of (left members.entry) no_members) }
 {
@@ -48,12 +55,19 @@ fn no_values<'t, 'a>() -> Values<'t, 'a>
 {
     Values {
         name: None,
+        version: None,
+        checksum: None,
+        dependencies: None,
+        features: None,
+        features2: None,
+        yanked: None,
+        format: None,
+        rust_version: None,
         kind: None,
         package: None,
         requirement: None,
         optional: None,
         default_features: None,
-        features: None,
         registry: None,
     }
 }
@@ -67,10 +81,27 @@ pub(crate) fn unless_null<'t, 'a>(value: Tree<'t, 'a>) -> Option<Tree<'t, 'a>>
 
 /// Puts a value to those at its key.
 fn put<'t, 'a>(values: &mut Values<'t, 'a>, key: &str, value: Option<Tree<'t, 'a>>)
-    ensures { values_view values.new ≡ with_value key.now (option_map tree_view value.entry) (values_view values.old) }
+    ensures { (at : List ℕ → Option Data) → values_view values.old ≡ values_by at
+        → values_view values.new ≡ values_by (value_put key.now (option_map tree_view value.entry) at) }
 {
     if key == "name" {
         values.name = value;
+    } else if key == "vers" {
+        values.version = value;
+    } else if key == "cksum" {
+        values.checksum = value;
+    } else if key == "deps" {
+        values.dependencies = value;
+    } else if key == "features" {
+        values.features = value;
+    } else if key == "features2" {
+        values.features2 = value;
+    } else if key == "yanked" {
+        values.yanked = value;
+    } else if key == "v" {
+        values.format = value;
+    } else if key == "rust_version" {
+        values.rust_version = value;
     } else if key == "kind" {
         values.kind = value;
     } else if key == "package" {
@@ -81,8 +112,6 @@ fn put<'t, 'a>(values: &mut Values<'t, 'a>, key: &str, value: Option<Tree<'t, 'a
         values.optional = value;
     } else if key == "default_features" {
         values.default_features = value;
-    } else if key == "features" {
-        values.features = value;
     } else if key == "registry" {
         values.registry = value;
     }

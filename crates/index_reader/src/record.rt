@@ -42,10 +42,15 @@ pub(crate) fn is_checksum(text: &str) -> bool
     text.len() == 64 && are_hexadecimal(text.as_bytes())
 }
 
+/// Without an end at the first that is none, so that many are looked at at a time.
 fn are_hexadecimal(text: &[u8]) -> bool
     ensures { result ≡ list_all is_hexadecimal text.now }
 {
-    text.iter().all(|b| is_hexadecimal(*b))
+    let mut all = true;
+    'bytes: for byte in text {
+        all &= is_hexadecimal(*byte);
+    }
+    all
 }
 
 /// A lower-case hexadecimal digit.

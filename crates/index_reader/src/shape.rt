@@ -3,10 +3,10 @@
 ghost use Rattle.std.specs.Prelude.{◌≡◌, Some, None, option_map};
 ghost use Rattle.model.specs.Outcome.{Gives};
 ghost use Rattle.features.specs.declared.dependency.DependencyKind.TheVariants.{Normal};
-ghost use Rattle.index_reader.specs.Shapes.{wants_memory, optional, value_at, package_name_of, needed_name};
+ghost use Rattle.index_reader.specs.Shapes.{wants_memory, optional, package_name_of, needed_name};
 ghost use Rattle.index_reader.specs.Shapes.{package_name_or_none, kind_of, kind_of_text, part_with, by_kind};
-ghost use Rattle.index_reader.specs.Shapes.{dependency_of, dependencies_in, dependencies_at, features_in};
-ghost use Rattle.index_reader.specs.Shapes.{features_or_none, rust_version_at, shape_of};
+ghost use Rattle.index_reader.specs.Shapes.{dependency_of, dependencies_in, needed_dependencies, features_in};
+ghost use Rattle.index_reader.specs.Shapes.{features_or_none, rust_version_in, shape_of};
 ghost use Rattle.classes.specs.RustVersions.{rust_version_view};
 ghost use Rattle.index_reader.specs.ShapeViews.{feature_views, part_view, line_dependency_view, line_dependency_views};
 ghost use Rattle.index_reader.specs.ShapeViews.{shape_view, values_view};
@@ -14,7 +14,7 @@ ghost use Rattle.trees.specs.Trees.{items_of, left_items, tree_view, entries_vie
 
 use crate::fault::{LineFault, SkipReason};
 use crate::parts::{Values, values_of};
-use crate::values::{flag, needed_text, text, text_if_any, texts, texts_if_any, value, whole};
+use crate::values::{flag, needed_text, text_if_any, texts, texts_if_any, whole};
 use classes::RustVersion;
 use features::{DependencyKind, NameFault, PackageName};
 use std::alloc::Global;
@@ -66,18 +66,19 @@ pub(crate) struct FeatureShape<'a> {
 }
 
 /// The shape of a line.
-#[tactic(auto, unfolding(crate::specs::Shapes::shape_of))]
+#[tactic(auto, unfolding(crate::specs::Shapes::shape_of, crate::specs::Shapes::dependencies_at))]
 pub(crate) fn read_shape<'a>(alloc: Global, line: &Tree<'_, 'a>) -> Result<LineShape<'a>, LineFault>
     ensures { Gives wants_memory shape_view result (shape_of (tree_view line.now)) }
 {
-    let name = text(line, "name")?;
-    let version = text(line, "vers")?;
-    let checksum = text(line, "cksum")?;
-    let dependencies = dependencies(alloc, line)?;
-    let features = features_at(alloc, line, "features")?;
-    let features2 = features_at(alloc, line, "features2")?;
-    let yanked = flag(&value(line, "yanked"), false)?;
-    let format = whole(line, "v", 1)?;
+    let values = values_of(line);
+    let name = needed_text(&values.name)?;
+    let version = needed_text(&values.version)?;
+    let checksum = needed_text(&values.checksum)?;
+    let dependencies = dependencies(alloc, &values.dependencies)?;
+    let features = features_if_any(alloc, &values.features)?;
+    let features2 = features_if_any(alloc, &values.features2)?;
+    let yanked = flag(&values.yanked, false)?;
+    let format = whole(&values.format, 1)?;
     Ok(LineShape {
         name,
         version,
@@ -87,16 +88,16 @@ pub(crate) fn read_shape<'a>(alloc: Global, line: &Tree<'_, 'a>) -> Result<LineS
         features2,
         yanked,
         format,
-        rust_version: rust_version(line),
+        rust_version: rust_version(&values.rust_version),
     })
 }
 
 /// The Rust version of a line: whatever is none counts as absent.
-fn rust_version(line: &Tree<'_, '_>) -> Option<RustVersion>
-    ensures { option_map rust_version_view result ≡ rust_version_at (tree_view line.now) }
+fn rust_version(found: &Option<Tree<'_, '_>>) -> Option<RustVersion>
+    ensures { option_map rust_version_view result ≡ rust_version_in (option_map tree_view found.now) }
 {
-    match value(line, "rust_version") {
-        Some(found) => match as_text(&found) {
+    match found {
+        Some(found) => match as_text(found) {
             Some(text) => RustVersion::parse(text),
             None => None,
         },
@@ -238,15 +239,15 @@ fn dependencies_in<'a>(
     Ok(found)
 }
 
-#[tactic(auto, unfolding(crate::specs::Shapes::dependencies_at))]
 fn dependencies<'a>(
     alloc: Global,
-    line: &Tree<'_, 'a>,
+    found: &Option<Tree<'_, 'a>>,
 ) -> Result<Vec<DependencyShape<'a>>, LineFault>
-    ensures { Gives wants_memory (λ v. line_dependency_views v.items) result (dependencies_at (tree_view line.now)) }
+    ensures { Gives wants_memory (λ v. line_dependency_views v.items) result
+        (needed_dependencies (option_map tree_view found.now)) }
 {
-    match value(line, "deps") {
-        Some(found) => match elements(&found) {
+    match found {
+        Some(found) => match elements(found) {
             Some(items) => dependencies_in(alloc, items),
             None => Err(LineFault::Skipped(SkipReason::Shape)),
         },
@@ -300,17 +301,16 @@ fn features_by_key<'a>(
     Ok(found)
 }
 
-/// The features at a key: none where it is absent.
-fn features_at<'a>(
+/// Features: none where they are absent.
+fn features_if_any<'a>(
     alloc: Global,
-    line: &Tree<'_, 'a>,
-    key: &str,
+    found: &Option<Tree<'_, 'a>>,
 ) -> Result<Vec<FeatureShape<'a>>, LineFault>
     ensures { Gives wants_memory
-        (λ v. feature_views v.items) result (features_or_none (value_at key.now (tree_view line.now))) }
+        (λ v. feature_views v.items) result (features_or_none (option_map tree_view found.now)) }
 {
-    match value(line, key) {
-        Some(found) => match as_members(alloc, &found)? {
+    match found {
+        Some(found) => match as_members(alloc, found)? {
             Some(members) => features_in(alloc, &members),
             None => Err(LineFault::Skipped(SkipReason::Shape)),
         },

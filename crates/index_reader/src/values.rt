@@ -1,20 +1,18 @@
-//! Values at the keys of a JSON object.
+//! What values of JSON have to be.
 
-ghost use Rattle.std.specs.Prelude.{◌≡◌, None, Some, option_and_then, option_map};
+ghost use Rattle.std.specs.Prelude.{None, option_and_then, option_map};
 ghost use Rattle.serde_json.specs.Find.{as_bool, as_str};
 ghost use Rattle.model.specs.Outcome.{Gives};
-ghost use Rattle.index_reader.specs.Shapes.{wants_memory, data_of_bytes, needed, value_at, text_at, text_of, whole_at};
+ghost use Rattle.index_reader.specs.Shapes.{wants_memory, as_whole, data_of_bytes, needed, text_of};
 ghost use Rattle.index_reader.specs.Shapes.{optional, texts_in, texts_of, texts_or_none};
 ghost use Rattle.features.specs.Views.{text_views};
 ghost use Rattle.trees.specs.Trees.{items_of, left_items, tokens_view, tree_view};
 
 use crate::fault::{LineFault, SkipReason};
-use crate::parts::unless_null;
 use json::{Scratch, Tape};
 use std::alloc::Global;
 use trees::{
-    Elements, Tree, TreeFault, as_flag, as_text, as_whole, elements, member, next_element,
-    read_tape,
+    Elements, Tree, TreeFault, as_flag, as_text, as_whole, elements, next_element, read_tape,
 };
 
 /// The JSON value that the bytes are, as its tokens.
@@ -30,23 +28,6 @@ pub(crate) fn read_json<'a>(
         Err(TreeFault::OutOfMemory) => Err(LineFault::OutOfMemory),
         Err(TreeFault::NotJson) => Err(LineFault::Skipped(SkipReason::NotJson)),
     }
-}
-
-/// The value at a key: null counts as absent.
-pub(crate) fn value<'t, 'a>(object: &Tree<'t, 'a>, key: &str) -> Option<Tree<'t, 'a>>
-    ensures { option_map tree_view result ≡ value_at key.now (tree_view object.now) }
-{
-    match member(object, key) {
-        Some(found) => unless_null(found),
-        None => None,
-    }
-}
-
-/// The text at a key that has to be there.
-pub(crate) fn text<'a>(object: &Tree<'_, 'a>, key: &str) -> Result<&'a str, LineFault>
-    ensures { Gives wants_memory (λ s. s.now) result (text_at key.now (tree_view object.now)) }
-{
-    needed_text(&value(object, key))
 }
 
 /// A text that has to be there.
@@ -90,12 +71,12 @@ pub(crate) fn flag(found: &Option<Tree<'_, '_>>, absent: bool) -> Result<bool, L
     }
 }
 
-/// The whole number at a key, or what it is where the key is absent.
-pub(crate) fn whole(object: &Tree<'_, '_>, key: &str, absent: u64) -> Result<u64, LineFault>
-    ensures { Gives wants_memory (λ n. n) result (whole_at key.now absent (tree_view object.now)) }
+/// A whole number, or what it is where it is absent.
+pub(crate) fn whole(found: &Option<Tree<'_, '_>>, absent: u64) -> Result<u64, LineFault>
+    ensures { Gives wants_memory (λ n. n) result (optional absent as_whole (option_map tree_view found.now)) }
 {
-    match value(object, key) {
-        Some(found) => match as_whole(&found) {
+    match found {
+        Some(found) => match as_whole(found) {
             Some(number) => Ok(number),
             None => Err(LineFault::Skipped(SkipReason::Shape)),
         },

@@ -1,11 +1,10 @@
 //! What the index has of a name, to tell why something isn't there.
 
 use features::PackageName;
-use index_reader::{Folder, FolderFault, Record, Skip, index_path, lines, read_file};
+use index_reader::{
+    Folder, FolderFault, MAX_LINES, Record, Skip, index_path, lines, read_file,
+};
 use std::alloc::{AllocError, Global};
-
-/// How many lines a file has at most that is read.
-const MOST_LINES: usize = 65_535;
 
 /// The file of a name: its lines that can be used, and those that are skipped.
 #[derive(Drop)]
@@ -28,7 +27,7 @@ pub fn file_of<F: Folder>(
     let Some(bytes) = folder.file(path.as_str())? else {
         return Ok(None);
     };
-    let (records, skips) = if lines(&bytes) > MOST_LINES {
+    let (records, skips) = if lines(&bytes) > MAX_LINES {
         (Vec::new(alloc), Vec::new(alloc))
     } else {
         read_file(alloc, name, &bytes).map_err(out_of_memory)?

@@ -1,18 +1,12 @@
 //! The lines of all files of an index.
 
 use crate::wanted::name_in;
-use catalogue::{Limit, LoadFault};
+use catalogue::{LoadFault, check_file};
 use features::PackageName;
-use index_reader::{Folder, FolderFault, KnownDependencies, Skip, index_path, lines, read_file_in};
+use index_reader::{Folder, FolderFault, KnownDependencies, Skip, index_path, read_file_in};
 use json::Scratch;
 use std::alloc::{AllocError, Global};
 use trees::{TreeFault, as_text, member, read_tape, root};
-
-/// How many bytes a file has at most.
-const MAX_BYTES: usize = 16_777_216;
-
-/// How many lines a file has at most.
-const MAX_LINES: usize = 65_535;
 
 /// The lines that were not used of the files at these paths, by the names of the files in order of their bytes. A file
 /// that isn't where the name of a package would be looked for is passed over.
@@ -74,12 +68,7 @@ fn push_skips<F: Folder>(
         Err(FolderFault::OutOfMemory) => return Err(LoadFault::OutOfMemory),
         Err(FolderFault::Failed) => return Err(LoadFault::FolderFailed(path)),
     };
-    if bytes.len() > MAX_BYTES {
-        return Err(LoadFault::TooLarge(Limit::File(name.clone()?)));
-    }
-    if lines(&bytes) > MAX_LINES {
-        return Err(LoadFault::TooLarge(Limit::Lines(name.clone()?)));
-    }
+    check_file(name, &bytes)?;
     let spelt = spelt_in(alloc, name, &bytes, scratch)?;
     let name = match &spelt {
         Some(spelt) => spelt,

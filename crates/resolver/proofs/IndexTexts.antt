@@ -16,7 +16,7 @@ use Rattle.features.specs.Names.{is_package_name}
 use Rattle.index_reader.specs.Shapes.{Line, ShapeView, PartView, DependencyView, dev, part, data_of_bytes, needed}
 use Rattle.index_reader.specs.Shapes.{value_at, text_at, text_of, flag_at, whole_at, texts_or_none, features_at}
 use Rattle.index_reader.specs.Shapes.{optional, package_name_of, package_name_at, package_name_or_none, kind_at, is_dev}
-use Rattle.index_reader.specs.Shapes.{PartValues, values_of, part_with, dependency_of, dependencies_in}
+use Rattle.index_reader.specs.Shapes.{ValuesView, values_of, part_with, dependency_of, dependencies_in}
 use Rattle.index_reader.specs.Shapes.{dependencies_at, shape_of}
 use Rattle.index_reader.specs.Records.{RecordView, unless, semver_or, required_part, required, dependency_read}
 use Rattle.index_reader.specs.Records.{dependencies_read}
@@ -51,7 +51,7 @@ name-or-none : (o : Option Data) → Given (IfSome IsName) (package_name_or_none
 name-or-none None = tt
 name-or-none (Some d) = next IsName (IfSome IsName) (package_name_of d) _ (name-of d) (λ name is. is)
 
-part-named : (name : List ℕ) (values : PartValues) → IsName name → Given IsPart (part_with name values)
+part-named : (name : List ℕ) (values : ValuesView) → IsName name → Given IsPart (part_with name values)
 unfolding part_with
 part-named name values is = next (IfSome IsName) IsPart (package_name_or_none values.package_value) _
     (name-or-none values.package_value) (λ real real_is.

@@ -1,9 +1,9 @@
-use Rattle.std.proofs.Common.{Some, sym, ap, ◌∙◌}
+use Rattle.std.proofs.Common.{sym, ap, ◌∙◌}
 use Rattle.serde_json.specs.Data.{put}
 use Rattle.trees.specs.Trees.{left, members_of, tree_view}
-use Rattle.index_reader.specs.Shapes.{unless_null}
-use Rattle.index_reader.specs.PartMembers.{with_value}
-use Rattle.index_reader.specs.ShapeViews.{values_view}
+use Rattle.serde_json.specs.Find.{get_member}
+use Rattle.index_reader.specs.Shapes.{unless_null, values_by}
+use Rattle.index_reader.specs.PartMembers.{value_put}
 use Rattle.index_reader.proofs.PartLemmas.{values_in-put}
 use Rattle.index_reader.proofs.parts.values_among.Goals as goal
 
@@ -17,6 +17,7 @@ members-preserved c =
       put key d so_far,
       ap (λ e. members_of rest (put key e so_far)) next.2 ∙ ap (λ ms. members_of ms so_far) (sym next.1)
           ∙ c.members.invariant.1,
-      c.put.ensures ∙ ap (λ v. with_value key v (values_view c.members.values)) c.unless_null.ensures
-          ∙ ap (with_value key (unless_null (Some d))) c.members.invariant.2 ∙ values_in-put key d so_far,
+      c.put.ensures (λ k. unless_null (get_member k so_far)) c.members.invariant.2
+          ∙ ap (λ v. values_by (value_put key v (λ k. unless_null (get_member k so_far)))) c.unless_null.ensures
+          ∙ values_in-put key d so_far,
     )
