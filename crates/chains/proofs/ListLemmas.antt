@@ -1,6 +1,6 @@
 -- The list of a fact has just the rules that need it.
 use Rattle.std.proofs.Common.{◌≡◌, ℕ, zero, suc, ◌<◌, List, [], ◌∷◌, ◌++◌, Vec, length, get_or, set, take, Contains, Bool, true, false}
-use Rattle.std.proofs.Common.{refl, sym, ap, ◌∙◌, subst, inl, inr, ◌⊎◌, arith}
+use Rattle.std.proofs.Common.{refl, sym, ap, ◌∙◌, subst, inl, inr, ◌⊎◌, arith, eqb-true}
 use Rattle.std.specs.Prelude.{◌==◌, if◌then◌else◌}
 use Rattle.std.specs.declared.alloc.Global.{Global}
 use Rattle.std.proofs.lemmas.List.Elements.{Contains-append_left, Contains-push, Contains-push_cases}
@@ -58,7 +58,7 @@ by_facts P ls r one two = go (r.first == r.second) refl
   where
     go : (b : Bool) → (r.first == r.second) ≡ b
         → P (if b then put_at ls r.first r else put_at (put_at ls r.first r) r.second r)
-    go true e = one (nat_eq-same r.first r.second e)
+    go true e = one (eqb-true r.first r.second e)
     go false e = two
 
 pub length-put_both : (ls : List (List Rule)) (r : Rule) → length (put_both ls r) ≡ length ls
@@ -109,8 +109,7 @@ both_there : (ls : List (List Rule)) (r : Rule) → IsBelow (length ls) r
 both_there ls r below =
     by_facts (λ l. Contains (rules_at l r.first) r × Contains (rules_at l r.second) r) ls r
     (λ e. let first = put_there ls r.first r below.0 in
-    (first, subst (λ i. Contains (rules_at (put_at ls r.first r) i) r) e first))
-    (
+    (first, subst (λ i. Contains (rules_at (put_at ls r.first r) i) r) e first)) (
       put_keeps (put_at ls r.first r) r.second r r.first r (put_there ls r.first r below.0),
       put_there (put_at ls r.first r) r.second r
           (subst (λ n. r.second < n) (sym (length-put_at ls r.first r)) below.1),
