@@ -1,5 +1,9 @@
 pub mod Same
 pub mod Lists
+pub mod Places
+pub mod Members
+pub mod Mapped
+pub mod Tests
 pub mod Fronts
 pub mod Sorting
 pub mod Permuted
