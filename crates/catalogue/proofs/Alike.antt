@@ -22,7 +22,8 @@ use Rattle.lockfile.specs.Locks.{is_alike}
 use Rattle.lockfile.specs.Views.{package_view, package_views}
 use Rattle.lockfile.specs.declared.package.Package.{Package}
 use Rattle.model.proofs.PackageOrder.{package_total}
-use Rattle.lockfile.proofs.PackageOrder.{then-eq, text-eq, version-eq, source-eq, same-tests}
+use Rattle.model.proofs.Tests.{one_test}
+use Rattle.lockfile.proofs.PackageOrder.{then-eq, text-eq, version-eq, source-eq}
 use Rattle.catalogue.proofs.Found.{beside, less-other, greater-other}
 
 -- the package that is asked for
@@ -37,7 +38,7 @@ alike-eq p r h k =
 
 version-flips : (a b : Parts) → same_version a b ≡ same_version b a
 version-flips a b =
-    same-tests _ _ (λ h. subst (λ x. same_version b x ≡ true) (sym (version-same a b h)) (version-refl b))
+    one_test _ _ (λ h. subst (λ x. same_version b x ≡ true) (sym (version-same a b h)) (version-refl b))
     (λ h. subst (λ x. same_version a x ≡ true) (sym (version-same b a h)) (version-refl a))
 
 -- a package is locked where one that is alike is there

@@ -9,8 +9,9 @@ use Rattle.model.specs.Axioms.{Term}
 use Rattle.model.specs.Derivation.{states_at, SameAt, union_at, meet_at, combined_at, IsCombined}
 use Rattle.model.proofs.Lists.{all_at}
 use Rattle.model.proofs.Same.{both, vertex-same}
+use Rattle.model.proofs.Tests.{one_test}
 use Rattle.refutations.specs.Terms.{same_at, is_combination, speaks_of}
-use Rattle.refutations.proofs.Bools.{all_pass, one_test}
+use Rattle.refutations.proofs.Bools.{all_pass}
 use Rattle.refutations.proofs.Sets.{same_at-is, silent, term_at, is_combination-is}
 use Rattle.checker.specs.Combinations.{fits, fits_or_said, all_fit}
 

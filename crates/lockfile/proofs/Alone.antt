@@ -9,6 +9,7 @@ use Rattle.std.specs.declared.cmp.Ordering.TheVariants.{Less, Equal, Greater}
 use Rattle.std.proofs.lemmas.Bool.Decides.{nat_tests}
 use Rattle.std.proofs.lemmas.Cmp.{nat_list_eq_equiv, eq_by_cmp_equiv, tied_itself, nat_list_cmp_total}
 use Rattle.std.proofs.lemmas.Option.{slice_get-map}
+use Rattle.std.proofs.lemmas.Bool.{and_from}
 use Rattle.semver.specs.Grammar.{IsValid}
 use Rattle.semver.specs.Parse.{Parts}
 use Rattle.model.specs.Content.{Package, Content, same_version}
@@ -22,7 +23,7 @@ use Rattle.lockfile.specs.Written.{AreRead}
 use Rattle.lockfile.specs.declared.package.Package.{Package as Locked}
 use Rattle.lockfile.specs.declared.meaning.Wanted.{Wanted}
 use Rattle.model.proofs.PackageOrder.{version_total}
-use Rattle.lockfile.proofs.PackageOrder.{text-eq, version-eq, then-eq, true-and}
+use Rattle.lockfile.proofs.PackageOrder.{text-eq, version-eq, then-eq}
 use Rattle.lockfile.proofs.Ranges.{wanted-rises, above, none-later}
 use Rattle.model.proofs.Sorting.{each-weaker}
 
@@ -203,7 +204,7 @@ name-itself w p e = ap is_eq (e p) ∙ ap is_eq (tied_itself nat_list_cmp_total 
 
 pub version-itself : (w : Wanted) (p : Package) → IsByVersion w p → is_wanted w p ≡ true
 version-itself w p e = ap is_eq (e p) ∙ then-eq (text_cmp p.name p.name) (version_cmp p.version p.version)
-    ∙ true-and _ _ (ap is_eq (tied_itself nat_list_cmp_total p.name)) (ap is_eq (tied_itself version_total p.version))
+    ∙ and_from _ _ (ap is_eq (tied_itself nat_list_cmp_total p.name)) (ap is_eq (tied_itself version_total p.version))
 
 pub own-name : (w : Wanted) (p : Package) (ps : Content) → AreRead ps → IsByName w p
     → (length (filter (is_wanted w) ps) == 1) ≡ (named ps p == 1)

@@ -1,11 +1,12 @@
 -- Which packages a dependency text is a form of, and which it means.
-use Rattle.std.proofs.Common.{◌≡◌, ℕ, ◌+◌, Bool, true, false, not, ◌||◌, nat_eq, List, [], ◌∷◌, ◌++◌, Option, Some}
+use Rattle.std.proofs.Common.{◌≡◌, ℕ, ◌+◌, Bool, true, false, not, nat_eq, List, [], ◌∷◌, ◌++◌, Option, Some}
 use Rattle.std.proofs.Common.{None, is_some, Ok, Err, Ordering, ◌⊎◌, inl, inr, refl, sym, ◌∙◌, ap}
 use Rattle.std.specs.Cmp.Lexicographic.{pointwise}
 use Rattle.std.specs.List.{AllByRecursion}
 use Rattle.std.specs.Ordering.{is_eq, ordering_then}
 use Rattle.std.proofs.lemmas.Cmp.{nat_list_eq_equiv, tied_itself}
 use Rattle.std.proofs.lemmas.List.{append_cancel_right}
+use Rattle.std.proofs.lemmas.Bool.{and_parts, or_right, or_left, false_from_ne_true, or_cases, and_from}
 use Rattle.semver.specs.Grammar.{IsValid}
 use Rattle.semver.specs.Identifiers.{parts_text}
 use Rattle.semver.specs.OrderLaws.{same_text}
@@ -18,9 +19,9 @@ use Rattle.lockfile.specs.Locks.{version_form, source_form, is_source_form, is_f
 use Rattle.lockfile.specs.Locks.{places_from, places, only, or_else, place_meant}
 use Rattle.lockfile.specs.Search.{IsRead, is_named, is_versioned, is_sourced}
 use Rattle.model.proofs.PackageOrder.{version_total}
-use Rattle.lockfile.proofs.PackageOrder.{then-eq, text-eq, source-eq, version-tie, same-tests, and-true}
-use Rattle.lockfile.proofs.PackageOrder.{true-and}
+use Rattle.lockfile.proofs.PackageOrder.{then-eq, text-eq, source-eq, version-tie}
 use Rattle.model.proofs.Sorting.{each-weaker}
+use Rattle.model.proofs.Tests.{one_test}
 use Rattle.lockfile.proofs.Spaces.{Free, free-name, free-version, one-split, no-split}
 
 -- ---- the forms as facts
@@ -28,17 +29,6 @@ use Rattle.lockfile.proofs.Spaces.{Free, free-name, free-version, one-split, no-
 abbrev Form : List ℕ → Package → Type 0
 Form text p = (text ≡ p.name)
     ⊎ ((text ≡ version_form p) ⊎ ((source : List ℕ) × (p.source ≡ Some source) × (text ≡ source_form p source)))
-
-or-true : (a b : Bool) → (a || b) ≡ true → (a ≡ true) ⊎ (b ≡ true)
-or-true true b h = inl refl
-or-true false b h = inr h
-
-or-first : (a b : Bool) → a ≡ true → (a || b) ≡ true
-or-first a b h = rw h refl
-
-or-second : (a b : Bool) → b ≡ true → (a || b) ≡ true
-or-second true b h = refl
-or-second false b h = h
 
 text-same : (a b : List ℕ) → a ≡ b → pointwise nat_eq a b ≡ true
 text-same a b e = rw e (nat_list_eq_equiv.refl b)
@@ -49,29 +39,29 @@ source-means text p None h = cc
 source-means text p (Some source) h = (source, refl, same_text text (source_form p source) h)
 
 form-from : (text : List ℕ) (p : Package) → is_form text p ≡ true → Form text p
-form-from text p h = elim (or-true _ _ h) [
+form-from text p h = elim (or_cases _ _ h) [
   | inl name ↦ inl (same_text text p.name name)
-  | inr more ↦ elim (or-true _ _ more) [
+  | inr more ↦ elim (or_cases _ _ more) [
     | inl version ↦ inr (inl (same_text text (version_form p) version))
     | inr source ↦ inr (inr (source-means text p p.source source))
   ]
 ]
 
 form-by_name : (text : List ℕ) (p : Package) → text ≡ p.name → is_form text p ≡ true
-form-by_name text p e = or-first _ _ (text-same text p.name e)
+form-by_name text p e = or_left _ _ (text-same text p.name e)
 
 form-by_version : (text : List ℕ) (p : Package) → text ≡ version_form p → is_form text p ≡ true
-form-by_version text p e = or-second _ _ (or-first _ _ (text-same text (version_form p) e))
+form-by_version text p e = or_right _ _ (or_left _ _ (text-same text (version_form p) e))
 
 form-by_source : (text : List ℕ) (p : Package) (source : List ℕ) → p.source ≡ Some source
     → text ≡ source_form p source → is_form text p ≡ true
 form-by_source text p source s e =
     let third : is_source_form text p p.source ≡ true = rw s (text-same text (source_form p source) e) in
-    or-second _ _ (or-second _ _ third)
+    or_right _ _ (or_right _ _ third)
 
 without-from : (text : List ℕ) (p : Package) → is_form_without_source text p ≡ true
     → (p.source ≡ None) × (text ≡ version_form p)
-without-from text p h = let both = and-true _ _ h in (none p.source both.0, same_text text (version_form p) both.1)
+without-from text p h = let both = and_parts _ _ h in (none p.source both.0, same_text text (version_form p) both.1)
   where
     none : (o : Option (List ℕ)) → not (is_some o) ≡ true → o ≡ None
     none None n = refl
@@ -81,7 +71,7 @@ without-by : (text : List ℕ) (p : Package) → p.source ≡ None → text ≡ 
     → is_form_without_source text p ≡ true
 without-by text p s e =
     let first : not (is_some p.source) ≡ true = rw s refl in
-    true-and _ _ first (text-same text (version_form p) e)
+    and_from _ _ first (text-same text (version_form p) e)
 
 -- ---- the wanted as facts
 
@@ -108,22 +98,18 @@ source-ties : (a b : Option (List ℕ)) → a ≡ b → is_eq (source_cmp a b) �
 source-ties a b e = source-eq a b ∙ rw e (option-itself b)
 
 then-ties : (r s : Ordering) → is_eq r ≡ true → is_eq s ≡ true → is_eq (ordering_then r s) ≡ true
-then-ties r s h k = then-eq r s ∙ true-and _ _ h k
+then-ties r s h k = then-eq r s ∙ and_from _ _ h k
 
 then-tie : (r s : Ordering) → is_eq (ordering_then r s) ≡ true → (is_eq r ≡ true) × (is_eq s ≡ true)
-then-tie r s h = and-true _ _ (sym (then-eq r s) ∙ h)
+then-tie r s h = and_parts _ _ (sym (then-eq r s) ∙ h)
 
 version-ties : (v w : Parts) → v ≡ w → is_eq (version_cmp v w) ≡ true
 version-ties v w e = rw (e, tied_itself version_total) refl
 
-not-true : (b : Bool) → (b ≡ true → ⊥) → b ≡ false
-not-true true h = absurd (h refl)
-not-true false h = refl
-
 -- ---- a text of one word
 
 name-form : (n : List ℕ) (p : Package) → IsRead p → Free n → is_form n p ≡ is_named n p
-name-form n p r f = same-tests _ _
+name-form n p r f = one_test _ _
     (λ h. elim (form-from n p h) [
       | inl e ↦ text-ties p.name n (sym e)
       | inr more ↦ elim more [ inl e ↦ absurd (no-split n p.name _ f e) | inr s ↦ absurd (no-split n p.name _ f s.2) ]
@@ -131,7 +117,7 @@ name-form n p r f = same-tests _ _
     (λ h. form-by_name n p (sym (text-tie p.name n h)))
 
 name-without : (text : List ℕ) (p : Package) → Free text → is_form_without_source text p ≡ false
-name-without text p f = not-true _ (λ h. no-split text p.name _ f (without-from text p h).1)
+name-without text p f = false_from_ne_true _ (λ h. no-split text p.name _ f (without-from text p h).1)
 
 -- ---- a text of two words
 
@@ -170,7 +156,7 @@ words-of name text v p is valid e h =
 
 version-form : (n : List ℕ) (v : Parts) (text : List ℕ) (p : Package) → IsRead p → Free n → Free text
     → version_parts text ≡ Ok v → is_form (n ++ (32 ∷ text)) p ≡ is_versioned n v p
-version-form n v text p r f g is = same-tests _ _
+version-form n v text p r f g is = one_test _ _
     (λ h. let split = two-forms n text p r f g h in
     then-ties _ _ (text-ties p.name n (sym split.0))
     (version-ties p.version v (read-as text p.version v r.1 split.1 is)))
@@ -181,7 +167,7 @@ version-form n v text p r f g is = same-tests _ _
 
 version-without : (n : List ℕ) (v : Parts) (text : List ℕ) (p : Package) → IsRead p → Free n → version_parts text ≡ Ok v
     → is_form_without_source (n ++ (32 ∷ text)) p ≡ is_sourced n v None p
-version-without n v text p r f is = same-tests _ _
+version-without n v text p r f is = one_test _ _
     (λ h. let both = without-from (n ++ (32 ∷ text)) p h in
     let split = one-split n p.name text (parts_text p.version) f (free-name p.name r.0) both.1 in
     then-ties _ _ (text-ties p.name n (sym split.0)) (then-ties _ _
@@ -196,11 +182,11 @@ version-without n v text p r f is = same-tests _ _
 no-version-form : (name text : List ℕ) (e : Error) (p : Package) → IsRead p → Free name → Free text
     → version_parts text ≡ Err e → is_form (name ++ (32 ∷ text)) p ≡ false
 no-version-form name text e p r f g is =
-    not-true _ (λ h. unread text p.version e r.1 (two-forms name text p r f g h).1 is)
+    false_from_ne_true _ (λ h. unread text p.version e r.1 (two-forms name text p r f g h).1 is)
 
 no-version-without : (name text : List ℕ) (e : Error) (p : Package) → IsRead p → Free name → version_parts text ≡ Err e
     → is_form_without_source (name ++ (32 ∷ text)) p ≡ false
-no-version-without name text e p r f is = not-true _ (λ h.
+no-version-without name text e p r f is = false_from_ne_true _ (λ h.
     unread text p.version e r.1 (one-split name p.name text (parts_text p.version) f (free-name p.name r.0)
     (without-from (name ++ (32 ∷ text)) p h).1).1 is)
 
@@ -228,7 +214,7 @@ long-forms name text end p r f g h = elim (form-from (long name text end) p h) [
 
 long-without : (name text end : List ℕ) (p : Package) → IsRead p → Free name
     → is_form_without_source (long name text end) p ≡ false
-long-without name text end p r f = not-true _ (λ h.
+long-without name text end p r f = false_from_ne_true _ (λ h.
     no-split (parts_text p.version) text end (free-version p.version r.1) (sym (one-split name p.name _
     (parts_text p.version) f (free-name p.name r.0) (without-from (long name text end) p h).1).1))
 
@@ -239,7 +225,7 @@ long-words a b x y s e h end k = rw (e, h, k) refl
 source-form : (n : List ℕ) (v : Parts) (s : List ℕ) (text end : List ℕ) (p : Package) → IsRead p → Free n → Free text
     → version_parts text ≡ Ok v → end ≡ 40 ∷ (s ++ (41 ∷ []))
     → is_form (long n text end) p ≡ is_sourced n v (Some s) p
-source-form n v s text end p r f g is e = same-tests _ _
+source-form n v s text end p r f g is e = one_test _ _
     (λ h. let parts = long-forms n text end p r f g h in
     let inner : parts.0 ++ (41 ∷ []) ≡ s ++ (41 ∷ []) = same-tail _ _ (sym parts.4 ∙ e) in
     let source : parts.0 ≡ s = append_cancel_right parts.0 s (41 ∷ []) inner in
@@ -260,12 +246,12 @@ source-form n v s text end p r f g is e = same-tests _ _
 no-source-form : (name text end : List ℕ) (e : Error) (p : Package) → IsRead p → Free name → Free text
     → version_parts text ≡ Err e → is_form (long name text end) p ≡ false
 no-source-form name text end e p r f g is =
-    not-true _ (λ h. unread text p.version e r.1 (long-forms name text end p r f g h).3 is)
+    false_from_ne_true _ (λ h. unread text p.version e r.1 (long-forms name text end p r f g h).3 is)
 
 bare-form : (name text end : List ℕ) (p : Package) → IsRead p → Free name → Free text
     → ((s : List ℕ) → end ≡ 40 ∷ (s ++ (41 ∷ [])) → ⊥) → is_form (long name text end) p ≡ false
 bare-form name text end p r f g never =
-    not-true _ (λ h. let parts = long-forms name text end p r f g h in never parts.0 parts.4)
+    false_from_ne_true _ (λ h. let parts = long-forms name text end p r f g h in never parts.0 parts.4)
 
 -- ---- what a text means
 

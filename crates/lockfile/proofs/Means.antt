@@ -5,7 +5,7 @@ use Rattle.std.specs.List.{AllByRecursion}
 use Rattle.std.specs.List.Sorted.{IsStrictlySortedBy}
 use Rattle.std.specs.Ordering.{is_eq}
 use Rattle.std.specs.declared.cmp.Ordering.TheVariants.{Less}
-use Rattle.std.proofs.lemmas.Bool.{eqb-true}
+use Rattle.std.proofs.lemmas.Bool.{eqb-true, and_from}
 use Rattle.std.proofs.lemmas.Cmp.{nat_list_cmp_total, tied_itself}
 use Rattle.semver.specs.Identifiers.{parts_text}
 use Rattle.semver.proofs.Grammar.{version_parts-complete}
@@ -21,7 +21,7 @@ use Rattle.lockfile.specs.Written.{AreRead}
 use Rattle.lockfile.proofs.Alone.{both-ways, version-ways, filter-agree, some-pass}
 use Rattle.lockfile.proofs.Forms.{meant-name, meant-version, meant-source, none}
 use Rattle.model.proofs.PackageOrder.{package_total, version_total}
-use Rattle.lockfile.proofs.PackageOrder.{then-eq, true-and}
+use Rattle.lockfile.proofs.PackageOrder.{then-eq}
 use Rattle.lockfile.proofs.Ranges.{places-map}
 use Rattle.model.proofs.Sorting.{each-weaker}
 use Rattle.lockfile.proofs.Spaces.{free-name, free-version}
@@ -139,7 +139,7 @@ named-itself q = ap is_eq (tied_itself nat_list_cmp_total q.name)
 
 versioned-itself : (q : Package) → is_versioned q.name q.version q ≡ true
 versioned-itself q = then-eq (text_cmp q.name q.name) (version_cmp q.version q.version)
-    ∙ true-and _ _ (ap is_eq (tied_itself nat_list_cmp_total q.name)) (ap is_eq (tied_itself version_total q.version))
+    ∙ and_from _ _ (ap is_eq (tied_itself nat_list_cmp_total q.name)) (ap is_eq (tied_itself version_total q.version))
 
 -- ---- the text of a package
 

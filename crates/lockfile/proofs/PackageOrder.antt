@@ -9,6 +9,7 @@ use Rattle.std.specs.Ordering.{nat_cmp, is_lt, is_eq, eq_by_cmp, ordering_then}
 use Rattle.std.specs.declared.cmp.Ordering.TheVariants.{Less, Equal, Greater}
 use Rattle.std.proofs.lemmas.Bool.Decides.{nat_tests}
 use Rattle.std.proofs.lemmas.Cmp.{on_total, tied_itself}
+use Rattle.std.proofs.lemmas.Bool.{and_parts}
 use Rattle.semver.specs.Grammar.{IsValid}
 use Rattle.semver.specs.Identifiers.{parts_text}
 use Rattle.semver.specs.OrderLaws.{same_text}
@@ -24,6 +25,7 @@ use Rattle.lockfile.specs.declared.packages.UnlinkedPackage.{UnlinkedPackage}
 use Rattle.model.proofs.PackageOrder.{version_total, package_total}
 use Rattle.model.proofs.Same.{version-refl, version-same}
 use Rattle.model.proofs.Sorting.{has_alike-agrees, ordered-run, alike-run}
+use Rattle.model.proofs.Tests.{one_test}
 use Rattle.lockfile.specs.Search.{IsRead, IsOrdered}
 
 -- ---- where they tie
@@ -35,12 +37,6 @@ then-eq Greater s = refl
 
 and-same : (a b c d : Bool) → a ≡ c → b ≡ d → (a && b) ≡ (c && d)
 and-same a b c d p q = cc
-
--- two tests are one if each passes where the other does
-pub same-tests : (a b : Bool) → (a ≡ true → b ≡ true) → (b ≡ true → a ≡ true) → a ≡ b
-same-tests true b f g = sym (f refl)
-same-tests false true f g = g refl
-same-tests false false f g = refl
 
 pub text-eq : (a b : List ℕ) → is_eq (text_cmp a b) ≡ pointwise nat_eq a b
 text-eq [] [] = refl
@@ -55,13 +51,6 @@ source-eq None (Some b) = refl
 source-eq (Some a) None = refl
 source-eq (Some a) (Some b) = text-eq a b
 
-pub and-true : (a b : Bool) → (a && b) ≡ true → (a ≡ true) × (b ≡ true)
-and-true true b h = (refl, h)
-and-true false b h = cc
-
-pub true-and : (a b : Bool) → a ≡ true → b ≡ true → (a && b) ≡ true
-true-and a b h k = rw (h, k) refl
-
 -- versions with one text are one
 pub text-version : (v w : Parts) → IsValid v → IsValid w → parts_text v ≡ parts_text w → v ≡ w
 text-version v w p q e =
@@ -72,13 +61,13 @@ text-version v w p q e =
 
 pub version-tie : (v w : Parts) → IsValid v → IsValid w → is_eq (version_cmp v w) ≡ true → v ≡ w
 version-tie v w p q h =
-    let tie = and-true (is_eq (precedence v w)) _
+    let tie = and_parts (is_eq (precedence v w)) _
     (sym (then-eq (precedence v w) (text_cmp (parts_text v) (parts_text w))) ∙ h) in
     text-version v w p q (same_text (parts_text v) (parts_text w) (sym (text-eq (parts_text v) (parts_text w)) ∙ tie.1))
 
 pub version-eq : (v w : Parts) → IsValid v → IsValid w → is_eq (version_cmp v w) ≡ same_version v w
 version-eq v w p q =
-    same-tests _ _ (λ h. let e : v ≡ w = version-tie v w p q h in rw (← e) (version-refl v))
+    one_test _ _ (λ h. let e : v ≡ w = version-tie v w p q h in rw (← e) (version-refl v))
     (λ h. let e : v ≡ w = version-same v w h in rw (← e, tied_itself version_total) refl)
 
 pub package-eq : (p r : Package) → IsRead p → IsRead r → is_alike p r ≡ is_eq (package_cmp p r)

@@ -24,13 +24,9 @@ use Rattle.lockfile.specs.declared.meaning.Wanted.{Wanted}
 use Rattle.lockfile.specs.declared.meaning.Wanted.TheVariants.{Name, Version, Source}
 use Rattle.model.proofs.PackageOrder.{version_total, source_total}
 use Rattle.model.proofs.Sorting.{each-weaker}
+use Rattle.model.proofs.Tests.{then-equal, below-less, beside, index-most}
 
 -- ---- an answer that rises along an order
-
-index-most : (r : Ordering) → ordering_index r ≤ 2
-index-most Less = omega arith
-index-most Equal = omega arith
-index-most Greater = omega arith
 
 -- a comparison in two parts rises if its second part does where the first ties: o compares two elements, u and v are
 -- where they stand beside a third
@@ -63,17 +59,6 @@ then-assoc Less s t = refl
 then-assoc Equal s t = refl
 then-assoc Greater s t = refl
 
-then-equal : (r : Ordering) → ordering_then r Equal ≡ r
-then-equal Less = refl
-then-equal Equal = refl
-then-equal Greater = refl
-
-rises-one : {A : Type 0} {R : A → A → Ordering} (o : IsTotalOrder R) (a b c : A) → R a b ≡ Less
-    → ordering_index (R a c) ≤ ordering_index (R b c)
-rises-one {R = R} o a b c e =
-    let rises = rises-then o a b c Equal Equal Equal (λ h. omega arith) (then-equal (R a b) ∙ e) in
-    rw (then-equal (R a c), then-equal (R b c)) at rises
-
 -- by name
 rises-name : (a b c : List ℕ) (q x y : Ordering) → (q ≡ Less → ordering_index x ≤ ordering_index y)
     → ordering_then (text_cmp a b) q ≡ Less
@@ -94,7 +79,7 @@ wanted-rises (Source n v s) p r e =
     let wanted = parts_of v.now in
     rises-name p.name r.name n.now _ _ _ (λ h.
     rises-then version_total p.version r.version wanted (source_cmp p.source r.source) _ _
-    (rises-one source_total p.source r.source (option_map (λ t. t.now) s)) h) e
+    (beside source_total p.source r.source (option_map (λ t. t.now) s)) h) e
 
 same-packages : (ps : List UnlinkedPackage) → locked_packages (unlinked_views ps) ≡ locked_views ps
 same-packages [] = refl
@@ -116,15 +101,6 @@ order_to-rises w ps s i j d l k = elim (cases_lt i j) [
       (rw (get_or-map locked_view ps i d, get_or-map locked_view ps j d) at below)
   | inr back ↦ let e : i ≡ j = omega arith in rw e (omega arith)
 ]
-
-below-less : (r s : Ordering) → ordering_index r ≤ ordering_index s → is_lt s ≡ true → is_lt r ≡ true
-below-less Less s l h = refl
-below-less Equal Less l h = absurd (omega arith)
-below-less Greater Less l h = absurd (omega arith)
-below-less Equal Equal l h = cc
-below-less Equal Greater l h = cc
-below-less Greater Equal l h = cc
-below-less Greater Greater l h = cc
 
 pub less-partitioned : (w : Wanted) (ps : List UnlinkedPackage) → IsOrdered (locked_packages (unlinked_views ps))
     → IsPartitionedBy (λ p. is_lt (order_to w p)) ps

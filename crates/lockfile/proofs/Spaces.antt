@@ -1,9 +1,10 @@
 -- Names and versions have no space, so that a dependency text falls apart at its spaces in one way.
-use Rattle.std.proofs.Common.{◌≡◌, ℕ, suc, ◌+◌, ◌%◌, ◌^◌, ◌<◌, Bool, true, false, ◌&&◌, List, [], ◌∷◌, ◌++◌, refl}
+use Rattle.std.proofs.Common.{◌≡◌, ℕ, suc, ◌+◌, ◌%◌, ◌^◌, ◌<◌, Bool, true, List, [], ◌∷◌, ◌++◌, refl}
 use Rattle.std.proofs.Common.{subst, arith}
 use Rattle.std.specs.Fmt.{decimal}
 use Rattle.std.specs.List.{list_all}
 use Rattle.std.proofs.lemmas.Fmt.{decimal_by_steps}
+use Rattle.std.proofs.lemmas.Bool.{and_parts}
 use Rattle.semver.specs.Grammar.{IsValid, is_identifier_byte, is_build_identifier, is_pre_identifier, is_pre_release}
 use Rattle.semver.specs.Grammar.{is_build}
 use Rattle.semver.specs.Identifiers.{parts_text, marked}
@@ -26,10 +27,6 @@ free-append : (a b : List ℕ) → Free a → Free b → Free (a ++ b)
 free-append [] b h k = k
 free-append (x ∷ a) b h k = (h.0, free-append a b h.1 k)
 
-and-both : (a b : Bool) → (a && b) ≡ true → (a ≡ true) × (b ≡ true)
-and-both true b h = (refl, h)
-and-both false b h = cc
-
 -- ---- names
 
 package-byte : (b : ℕ) → is_package_byte b ≡ true → b ≡ 32 → ⊥
@@ -38,10 +35,10 @@ package-byte b h e = let no : is_package_byte 32 ≡ true = rw e at h in cc
 package-bytes : (text : List ℕ) → list_all is_package_byte text ≡ true → Free text
 package-bytes [] h = tt
 package-bytes (b ∷ bs) h = let both =
-    and-both (is_package_byte b) _ h in (package-byte b both.0, package-bytes bs both.1)
+    and_parts (is_package_byte b) _ h in (package-byte b both.0, package-bytes bs both.1)
 
 pub free-name : (name : List ℕ) → is_package_name name ≡ true → Free name
-free-name name h = package-bytes name (and-both _ (list_all is_package_byte name) (and-both _ _ h).1).1
+free-name name h = package-bytes name (and_parts _ (list_all is_package_byte name) (and_parts _ _ h).1).1
 
 -- ---- versions
 
@@ -55,21 +52,21 @@ identifier-byte b h e = let no : is_identifier_byte 32 ≡ true = rw e at h in c
 identifier-bytes : (text : List ℕ) → list_all is_identifier_byte text ≡ true → Free text
 identifier-bytes [] h = tt
 identifier-bytes (b ∷ bs) h = let both =
-    and-both (is_identifier_byte b) _ h in (identifier-byte b both.0, identifier-bytes bs both.1)
+    and_parts (is_identifier_byte b) _ h in (identifier-byte b both.0, identifier-bytes bs both.1)
 
 build-part : (part : List ℕ) → is_build_identifier part ≡ true → Free part
-build-part part h = identifier-bytes part (and-both _ _ h).1
+build-part part h = identifier-bytes part (and_parts _ _ h).1
 
 pre-part : (part : List ℕ) → is_pre_identifier part ≡ true → Free part
-pre-part part h = build-part part (and-both _ _ h).0
+pre-part part h = build-part part (and_parts _ _ h).0
 
 free-dots : (test : List ℕ → Bool) → ((part : List ℕ) → test part ≡ true → Free part) → (ps : List (List ℕ))
     → list_all test ps ≡ true → Free (join_dots ps)
 unfolding join_dots
 free-dots test free [] h = tt
-free-dots test free (p ∷ []) h = free p (and-both (test p) _ h).0
+free-dots test free (p ∷ []) h = free p (and_parts (test p) _ h).0
 free-dots test free (p ∷ (q ∷ ps)) h =
-    let both = and-both (test p) _ h in
+    let both = and_parts (test p) _ h in
     free-append p (46 ∷ join_dots (q ∷ ps)) (free p both.0) (λ e. omega arith, free-dots test free (q ∷ ps) both.1)
 
 free-parts : (test : List ℕ → Bool) → ((part : List ℕ) → test part ≡ true → Free part) → (text : List ℕ)

@@ -7,6 +7,7 @@ use Rattle.std.specs.List.Sorted.{IsSortedBy, IsStableBy}
 use Rattle.std.specs.Ordering.{is_eq, is_gt, is_lt, ordering_reverse}
 use Rattle.std.specs.declared.cmp.Ordering.TheVariants.{Less, Equal, Greater}
 use Rattle.std.proofs.lemmas.Cmp.{tied_itself, alike_right, on_total}
+use Rattle.std.proofs.lemmas.List.Elements.{filter_agree}
 use Rattle.model.specs.Sorting.{put_in, in_order}
 use Rattle.model.proofs.Sorting.{each-put, each-weaker}
 
@@ -99,10 +100,6 @@ tie-test {R = R} o x y = by_case (R x y) (R y x) (o.antisymm x y)
     by_case Greater Less e = refl
     by_case Greater Equal e = cc
     by_case Greater Greater e = cc
-
-filter-same : {X : Type 0} (s t : X → Bool) → ((x : X) → s x ≡ t x) → (xs : List X) → filter s xs ≡ filter t xs
-filter-same s t h [] = refl
-filter-same s t h (x ∷ xs) = rw (h x, filter-same s t h xs) refl
 
 not-both : {X : Type 0} {R : X → X → Ordering} (o : IsTotalOrder R) (x y z : X) → is_gt (R x y) ≡ true
     → is_eq (R z x) ≡ true → is_eq (R z y) ≡ true → ⊥
@@ -220,7 +217,7 @@ in_order-stable {X = X} {R = R} o v xs ys s t =
     let S : X → X → Ordering = λ a b. R (v a) (v b) in
     let same : in_order S xs ≡ ys =
     same-rising on (in_order S xs) ys (rises-in_order on xs) (rises-sorted on ys (λ k d l. s k d (omega arith) l))
-    (λ z. tying-in_order on z xs ∙ sym (filter-same (λ x. not (is_lt (S z x)) && not (is_lt (S x z)))
+    (λ z. tying-in_order on z xs ∙ sym (filter_agree (λ x. not (is_lt (S z x)) && not (is_lt (S x z)))
     (λ x. is_eq (S z x)) (tie-test on z) xs) ∙ sym (t z)
-    ∙ filter-same (λ x. not (is_lt (S z x)) && not (is_lt (S x z))) (λ x. is_eq (S z x)) (tie-test on z) ys) in
+    ∙ filter_agree (λ x. not (is_lt (S z x)) && not (is_lt (S x z))) (λ x. is_eq (S z x)) (tie-test on z) ys) in
     in_order-map R v xs ∙ ap (map v) same

@@ -1,7 +1,8 @@
 -- What holds of each that is in a list holds of all of it, and back.
-use Rattle.std.proofs.Common.{List, [], ◌∷◌, Contains, subst, inl, inr}
+use Rattle.std.proofs.Common.{◌≡◌, ℕ, List, [], ◌∷◌, Contains, Some, slice_get, subst, inl, inr}
 use Rattle.std.specs.List.{All, AllByRecursion}
-use Rattle.model.proofs.Lists.{in_none, in_cons, in_first, in_rest, all_none, all_cons}
+use Rattle.std.proofs.lemmas.List.Elements.{All-from_recursion}
+use Rattle.model.proofs.Lists.{in_none, in_cons, in_first, in_rest, all_none, all_cons, all_get}
 
 module _ {X : Type 0} (P : X → Type 0) where
   -- what holds of all that is in the list
@@ -18,3 +19,7 @@ module _ {X : Type 0} (P : X → Type 0) where
   pub each_at : (xs : List X) (x : X) → AllByRecursion P xs → Contains xs x → P x
   each_at [] x h c = absurd (in_none x c)
   each_at (y ∷ xs) x h c = elim (in_cons y x xs c) [ inl e ↦ subst P e h.0 | inr d ↦ each_at xs x h.1 d ]
+
+  -- .. and of the one at a place
+  pub element : (xs : List X) (n : ℕ) (x : X) → AllByRecursion P xs → slice_get xs n ≡ Some x → P x
+  element xs n x h got = all_get P xs n x (All-from_recursion P xs h) got

@@ -17,6 +17,12 @@ then-equal Less = refl
 then-equal Equal = refl
 then-equal Greater = refl
 
+-- nothing is more than greater
+pub index-most : (r : Ordering) → ordering_index r ≤ 2
+index-most Less = omega arith
+index-most Equal = omega arith
+index-most Greater = omega arith
+
 -- what stands below less is less
 pub below-less : (r s : Ordering) → ordering_index r ≤ ordering_index s → is_lt s ≡ true → is_lt r ≡ true
 below-less Less s l h = refl

@@ -13,12 +13,6 @@ all_pass p [] h = refl
 all_pass p (x ∷ xs) h =
     and_from (p x) (list_all p xs) (h x (in_first x xs)) (all_pass p xs (λ y c. h y (in_rest x y xs c)))
 
--- two tests that imply each other are one
-pub one_test : (s t : Bool) → (s ≡ true → t ≡ true) → (t ≡ true → s ≡ true) → s ≡ t
-one_test true t to from = sym (to refl)
-one_test false true to from = from refl
-one_test false false to from = refl
-
 -- a list of which no element passes has nothing left
 pub filter-none : {X : Type 0} (p : X → Bool) (xs : List X) → list_any p xs ≡ false → filter p xs ≡ []
 filter-none p [] h = refl

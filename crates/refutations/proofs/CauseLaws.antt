@@ -1,8 +1,8 @@
 -- A cause that is there gives rise to an instance of its kind, and each instance has a cause.
-use Rattle.std.proofs.Common.{◌≡◌, ◌≢◌, ℕ, List, Bool, true, false, not, ◌&&◌, Contains, Some, nat_eq, refl, sym, ap}
+use Rattle.std.proofs.Common.{◌≡◌, ◌≢◌, ℕ, List, true, not, ◌&&◌, Contains, Some, nat_eq, refl, sym, ap}
 use Rattle.std.proofs.Common.{◌∙◌, subst, inl, inr, ◌⊎◌, true≢false}
 use Rattle.std.specs.List.{list_any}
-use Rattle.std.proofs.lemmas.Bool.{and_from, eqb-true, eq-eqb, false_from_ne_true}
+use Rattle.std.proofs.lemmas.Bool.{and_from, eqb-true, eq-eqb, false_from_ne_true, not-true}
 use Rattle.semver.specs.Parse.{Parts}
 use Rattle.model.specs.Summary.{Dependency, Entry, feature, dependency, dependency_feature, weak_feature}
 use Rattle.model.specs.Summary.{asked_of_target, same_text}
@@ -23,27 +23,22 @@ use Rattle.refutations.proofs.Named.{entry-same, entry-refl, enables-is, passes-
 use Rattle.refutations.proofs.Named.{dep_owner, has_entry-is, to_has_entry, some_entry-is, to_some_entry, class-is}
 use Rattle.refutations.proofs.Named.{to_class, lists-is, to_lists, feature-is, to_feature}
 
--- a test that fails
-not_true : (b : Bool) → not b ≡ true → b ≡ false
-not_true true h = sym h
-not_true false h = refl
-
 -- tests that fail where the things differ
 text-differs : (f g : List ℕ) → not (same_text f g) ≡ true → f ≢ g
-text-differs f g h e = true≢false (sym (subst (λ x. same_text f x ≡ true) e (text-refl f)) ∙ not_true (same_text f g) h)
+text-differs f g h e = true≢false (sym (subst (λ x. same_text f x ≡ true) e (text-refl f)) ∙ not-true (same_text f g) h)
 
 to_text-differs : (f g : List ℕ) → f ≢ g → not (same_text f g) ≡ true
 to_text-differs f g n = ap not (false_from_ne_true (same_text f g) (λ t. n (text-same f g t)))
 
 nat-differs : (i j : ℕ) → not (nat_eq i j) ≡ true → i ≢ j
-nat-differs i j h e = true≢false (sym (eq-eqb i j e) ∙ not_true (nat_eq i j) h)
+nat-differs i j h e = true≢false (sym (eq-eqb i j e) ∙ not-true (nat_eq i j) h)
 
 to_nat-differs : (i j : ℕ) → i ≢ j → not (nat_eq i j) ≡ true
 to_nat-differs i j n = ap not (false_from_ne_true (nat_eq i j) (λ t. n (eqb-true i j t)))
 
 vertex-differs : (v w : Vertex) → not (same_vertex v w) ≡ true → v ≢ w
 vertex-differs v w h e =
-    true≢false (sym (subst (λ x. same_vertex v x ≡ true) e (vertex-refl v)) ∙ not_true (same_vertex v w) h)
+    true≢false (sym (subst (λ x. same_vertex v x ≡ true) e (vertex-refl v)) ∙ not-true (same_vertex v w) h)
 
 to_vertex-differs : (v w : Vertex) → v ≢ w → not (same_vertex v w) ≡ true
 to_vertex-differs v w n = ap not (false_from_ne_true (same_vertex v w) (λ t. n (vertex-same v w t)))

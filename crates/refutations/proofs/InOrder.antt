@@ -13,8 +13,9 @@ use Rattle.model.proofs.Lists.{all_first, all_rest, pairs_all, pairs_none, pairs
 use Rattle.model.proofs.Permuted.{rising-same}
 use Rattle.model.proofs.Same.{vertex-other}
 use Rattle.model.proofs.Spaces.{state_in, state_from}
+use Rattle.model.proofs.Members.{each_at}
 use Rattle.refutations.specs.Terms.{IsInOrder}
-use Rattle.refutations.proofs.Reading.{Alike, alike, all_in}
+use Rattle.refutations.proofs.Reading.{Alike, alike}
 
 -- what comes before another doesn't come after it
 once_before : {X : Type 0} (cmp : X → X → Ordering) → ((x y : X) → cmp x y ≡ ordering_reverse (cmp y x)) → (x y : X)
@@ -69,9 +70,9 @@ module _ (by_vertex : Vertex → Vertex → Ordering) (by_state : State → Stat
   term-in a b h k al t c =
       let r = al.forth t c in
       let states : t.states ≡ (r.0).states = states-one t.states (r.0).states (sorted_pairs by_state t.states
-      (all_in (λ (t : Term). IsStrictlySortedBy by_state t.states) a t h.states c))
+      (each_at (λ (t : Term). IsStrictlySortedBy by_state t.states) a t h.states c))
       (sorted_pairs by_state
-      (r.0).states (all_in (λ (t : Term). IsStrictlySortedBy by_state t.states) b r.0 k.states r.1)) r.3 in
+      (r.0).states (each_at (λ (t : Term). IsStrictlySortedBy by_state t.states) b r.0 k.states r.1)) r.3 in
       let is : t ≡ r.0 = λ i. record { vertex = r.2 i; states = states i } in
       subst (Contains b) (sym is) r.1
 

@@ -12,12 +12,9 @@ use Rattle.model.specs.Derivation.{states_at, SameStates, SameAt, SameTerms}
 use Rattle.model.proofs.Same.{vertex-same, vertex-refl}
 use Rattle.model.proofs.Lists.{in_none, in_cons, in_first, in_rest, all_at}
 use Rattle.model.proofs.Spaces.{state_in, state_from, absent_in_space}
+use Rattle.model.proofs.Members.{each_at}
 use Rattle.refutations.specs.Instances.{first_of, read_term, first_read}
 use Rattle.refutations.proofs.Sets.{term_at}
-
-pub all_in : {X : Type 0} (P : X → Type 0) (xs : List X) (x : X) → AllByRecursion P xs → Contains xs x → P x
-all_in P [] x h c = absurd (in_none x c)
-all_in P (y ∷ xs) x h c = elim (in_cons y x xs c) [ inl e ↦ subst P e h.0 | inr c ↦ all_in P xs x h.1 c ]
 
 -- where no vertex stands twice each term is the one that is read at its vertex
 pub states_own : (ts : List Term) (t : Term) → AreApart ts → Contains ts t → states_at ts t.vertex ≡ Some t.states
@@ -26,7 +23,7 @@ states_own (u ∷ ts) t apart c = elim (in_cons u t ts c) [
   | inl e ↦ subst (λ (x : Term). states_at (u ∷ ts) x.vertex ≡ Some x.states) e
       (ap (λ b. cond b (Some u.states) (states_at ts u.vertex)) (vertex-refl u.vertex))
   | inr c ↦ ap (λ b. cond b (Some u.states) (states_at ts t.vertex))
-      (other (all_in (λ (w : Term). same_vertex u.vertex w.vertex ≡ false) ts t apart.0 c)) ∙ states_own ts t apart.1 c
+      (other (each_at (λ (w : Term). same_vertex u.vertex w.vertex ≡ false) ts t apart.0 c)) ∙ states_own ts t apart.1 c
 ]
   where
     other : same_vertex u.vertex t.vertex ≡ false → same_vertex t.vertex u.vertex ≡ false
@@ -176,23 +173,23 @@ module _ {A : Type 0} (read : Vertex → Option State → Option A) where
     read_same a e =
         let u = some_reading ws a e in
         let t = same.back u.0 u.1 in
-        read_is ts a t.t t.there (all_in Steady ws u.0 steady u.1 t.t t.vertex t.states ∙ u.2)
+        read_is ts a t.t t.there (each_at Steady ws u.0 steady u.1 t.t t.vertex t.states ∙ u.2)
         (λ t c b h. let u =
-        same.forth t c in one_reading ws a e u.0 u.1 b (sym (all_in Steady ws u.0 steady u.1 t u.2 u.3) ∙ h))
+        same.forth t c in one_reading ws a e u.0 u.1 b (sym (each_at Steady ws u.0 steady u.1 t u.2 u.3) ∙ h))
 
     -- .. where some do, one of those is read ..
     pub read_some : (u : Term) → Contains ws u → (a : A) → read_term read u ≡ Some a
         → (b : A) × (first_read read ts ≡ Some b) × (w : Term) × Contains ws w × (read_term read w ≡ Some b)
     read_some u c a e =
         let t = same.back u c in
-        let r = read_first ts a t.t t.there (all_in Steady ws u steady c t.t t.vertex t.states ∙ e) in
+        let r = read_first ts a t.t t.there (each_at Steady ws u steady c t.t t.vertex t.states ∙ e) in
         let w = same.forth r.2 r.3 in
-        (r.0, r.1, w.0, w.1, sym (all_in Steady ws w.0 steady w.1 r.2 w.2 w.3) ∙ r.4)
+        (r.0, r.1, w.0, w.1, sym (each_at Steady ws w.0 steady w.1 r.2 w.2 w.3) ∙ r.4)
 
     -- .. and where none does, none does
     pub read_nothing : filter_map (read_term read) ws ≡ [] → first_read read ts ≡ None
     read_nothing e = read_none ts
-        (λ t c. let u = same.forth t c in all_in Steady ws u.0 steady u.1 t u.2 u.3 ∙ no_reading ws e u.0 u.1)
+        (λ t c. let u = same.forth t c in each_at Steady ws u.0 steady u.1 t u.2 u.3 ∙ no_reading ws e u.0 u.1)
 
 -- ---- full terms
 

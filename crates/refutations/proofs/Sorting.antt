@@ -15,8 +15,9 @@ use Rattle.model.proofs.Lists.{in_none, in_cons, in_first, in_rest, in_map, in_f
 use Rattle.model.proofs.Lists.{pairs_none, pairs_rest}
 use Rattle.model.proofs.Permuted.{pairs-permutation}
 use Rattle.model.proofs.Same.{vertex-refl, vertex-other}
+use Rattle.model.proofs.Members.{all_each, each_at}
 use Rattle.refutations.specs.Terms.{speaks_of, vertices_of, with_term, terms_at, combination}
-use Rattle.refutations.proofs.Reading.{all_in, states_own}
+use Rattle.refutations.proofs.Reading.{states_own}
 use Rattle.refutations.proofs.Sets.{term_at, said_at}
 
 abbrev Differ : Term → Term → Type 0
@@ -73,10 +74,6 @@ abbrev AreOnce : List Vertex → Type 0
 AreOnce [] = ⊤
 AreOnce (v ∷ vs) = AllByRecursion (λ w. same_vertex v w ≡ false) vs × AreOnce vs
 
-all_each : {X : Type 0} (P : X → Type 0) (xs : List X) → ((x : X) → Contains xs x → P x) → AllByRecursion P xs
-all_each P [] h = tt
-all_each P (x ∷ xs) h = (h x (in_first x xs), all_each P xs (λ y c. h y (in_rest x y xs c)))
-
 vertex-in : (said : Vertex → Option (List State)) (vs : List Vertex) (t : Term)
     → Contains (terms_at said vs) t → Contains vs t.vertex
 vertex-in said [] t c = absurd (in_none t c)
@@ -98,7 +95,7 @@ apart-terms said (v ∷ vs) h = by (said v) (apart-terms said vs h.1)
     by None rest = rest
     by (Some ss) rest = (
       all_each (λ (u : Term). same_vertex v u.vertex ≡ false) (terms_at said vs)
-          (λ t c. all_in (λ w. same_vertex v w ≡ false) vs t.vertex h.0 (vertex-in said vs t c)),
+          (λ t c. each_at (λ w. same_vertex v w ≡ false) vs t.vertex h.0 (vertex-in said vs t c)),
       rest,
     )
 
@@ -107,7 +104,7 @@ once-map [] h = tt
 once-map (t ∷ ts) h = (
   all_each (λ w. same_vertex t.vertex w ≡ false) (map (λ (u : Term). u.vertex) ts)
       (λ w c. let r = in_map (λ (u : Term). u.vertex) ts w c in subst (λ x. same_vertex t.vertex x ≡ false) r.2
-      (all_in (λ (u : Term). same_vertex t.vertex u.vertex ≡ false) ts r.0 h.0 r.1)),
+      (each_at (λ (u : Term). same_vertex t.vertex u.vertex ≡ false) ts r.0 h.0 r.1)),
   once-map ts h.1,
 )
 
@@ -116,7 +113,7 @@ once-filter p [] h = tt
 once-filter p (v ∷ vs) h = elim (p v) as (λ b. AreOnce (cond b (v ∷ filter p vs) (filter p vs))) [
   | true ↦ (
     all_each (λ w. same_vertex v w ≡ false) (filter p vs)
-        (λ w c. all_in (λ w. same_vertex v w ≡ false) vs w h.0 (in_filter p vs w c).0),
+        (λ w c. each_at (λ w. same_vertex v w ≡ false) vs w h.0 (in_filter p vs w c).0),
     once-filter p vs h.1,
   )
   | false ↦ once-filter p vs h.1
@@ -127,7 +124,7 @@ once-append : (vs ws : List Vertex) → AreOnce vs → AreOnce ws
 once-append [] ws h k apart = k
 once-append (v ∷ vs) ws h k apart = (
   all_each (λ w. same_vertex v w ≡ false) (vs ++ ws) (λ w c. elim (Contains-append_cases vs ws w c) [
-    | inl c ↦ all_in (λ w. same_vertex v w ≡ false) vs w h.0 c
+    | inl c ↦ each_at (λ w. same_vertex v w ≡ false) vs w h.0 c
     | inr c ↦ apart v w (in_first v vs) c
   ]),
   once-append vs ws h.1 k (λ x w c d. apart x w (in_rest v x vs c) d),

@@ -1,7 +1,7 @@
 -- A text is split at the byte that joins it, where what stands before has none.
 use Rattle.std.proofs.Common.{◌≡◌, ℕ, suc, ◌+◌, List, [], ◌∷◌, ◌++◌, length, take, drop, Bool, true, false, not, cond}
-use Rattle.std.proofs.Common.{◌&&◌, ◌||◌, ◌==◌, Some, None, Ok, refl, ap, ap₂, ◌∙◌, arith}
-use Rattle.std.proofs.lemmas.Bool.{eq-eqb}
+use Rattle.std.proofs.Common.{◌||◌, ◌==◌, Some, None, Ok, refl, ap, ap₂, ◌∙◌, arith}
+use Rattle.std.proofs.lemmas.Bool.{eq-eqb, and_parts, or_parts}
 use Rattle.std.proofs.lemmas.List.Folds.{list_any-append}
 use Rattle.std.specs.List.{list_any, list_all, position_or_len, before_first, after_first}
 use Rattle.features.specs.Entries.{around}
@@ -14,20 +14,12 @@ Lacks byte text = list_any (λ b. b == byte) text ≡ false
 pub lacks-append : (byte : ℕ) (a b : List ℕ) → Lacks byte a → Lacks byte b → Lacks byte (a ++ b)
 lacks-append byte a b h k = list_any-append (λ x. x == byte) a b ∙ ap₂ (λ x y. x || y) h k
 
-either-false : (a b : Bool) → (a || b) ≡ false → (a ≡ false) × (b ≡ false)
-either-false true b h = cc
-either-false false b h = (refl, h)
-
-both-true : (a b : Bool) → (a && b) ≡ true → (a ≡ true) × (b ≡ true)
-both-true true b h = (refl, h)
-both-true false b h = cc
-
 -- of a test that the byte fails
 pub lacks-all : (test : ℕ → Bool) (byte : ℕ) → ((b : ℕ) → test b ≡ true → (b == byte) ≡ false) → (text : List ℕ)
     → list_all test text ≡ true → Lacks byte text
 lacks-all test byte other [] h = refl
 lacks-all test byte other (b ∷ bs) h =
-    let p = both-true (test b) (list_all test bs) h in
+    let p = and_parts (test b) (list_all test bs) h in
     ap₂ (λ x y. x || y) (other b p.0) (lacks-all test byte other bs p.1)
 
 one-more : (n : ℕ) → 1 + n ≡ suc n
@@ -37,7 +29,7 @@ one-more n = omega arith
 first-place : (byte : ℕ) (a b : List ℕ) → Lacks byte a → position_or_len (λ x. x == byte) (a ++ (byte ∷ b)) ≡ length a
 first-place byte [] b h = ap (λ t. cond (not t) (1 + position_or_len (λ x. x == byte) b) 0) (eq-eqb byte byte refl)
 first-place byte (x ∷ a) b h =
-    let p = either-false (x == byte) (list_any (λ y. y == byte) a) h in
+    let p = or_parts (x == byte) (list_any (λ y. y == byte) a) h in
     ap (λ t. cond (not t) (1 + position_or_len (λ y. y == byte) (a ++ (byte ∷ b))) 0) p.0
     ∙ ap (λ n. 1 + n) (first-place byte a b p.1) ∙ one-more (length a)
 

@@ -1,9 +1,10 @@
 -- Names, numbers, classes and versions have no space, and names no `@`.
-use Rattle.std.proofs.Common.{◌≡◌, ℕ, ◌<◌, ◌^◌, List, [], ◌∷◌, Bool, true, false, ◌&&◌, ◌||◌, ◌==◌, decimal, refl, ap}
+use Rattle.std.proofs.Common.{◌≡◌, ℕ, ◌<◌, ◌^◌, List, [], ◌∷◌, Bool, true, false, ◌||◌, ◌==◌, decimal, refl, ap}
 use Rattle.std.proofs.Common.{◌∙◌, subst, arith}
 use Rattle.std.specs.Char.{is_ascii_digit}
 use Rattle.std.specs.List.{list_all, list_any}
 use Rattle.std.proofs.lemmas.Bool.Decides.{nat_tests}
+use Rattle.std.proofs.lemmas.Bool.{and_parts}
 use Rattle.semver.specs.Grammar.{IsValid, is_identifier_byte, is_build_identifier, is_pre_identifier, is_pre_release}
 use Rattle.semver.specs.Grammar.{is_build}
 use Rattle.semver.specs.Identifiers.{parts_text, marked}
@@ -17,10 +18,6 @@ use Rattle.vertices.specs.Valid.{IsPackageName, IsValidClass}
 use Rattle.vertices.proofs.Around.{Lacks, lacks-append, lacks-all}
 use Rattle.vertices.proofs.Numbers.{decimal-digits}
 
-and-both : (a b : Bool) → (a && b) ≡ true → (a ≡ true) × (b ≡ true)
-and-both true b h = (refl, h)
-and-both false b h = cc
-
 -- a byte that passes a test which another fails is not that other
 pub not-byte : (test : ℕ → Bool) (byte : ℕ) → test byte ≡ false → (b : ℕ) → test b ≡ true → (b == byte) ≡ false
 not-byte test byte fails b h = by (b == byte) refl
@@ -32,7 +29,7 @@ not-byte test byte fails b h = by (b == byte) refl
 
 pub name-lacks : (byte : ℕ) → is_package_byte byte ≡ false → (n : List ℕ) → IsPackageName n → Lacks byte n
 name-lacks byte fails n h = lacks-all is_package_byte byte (not-byte is_package_byte byte fails) n
-    (and-both _ (list_all is_package_byte n) (and-both _ _ h).1).1
+    (and_parts _ (list_all is_package_byte n) (and_parts _ _ h).1).1
 
 pub decimal-dense : (n : ℕ) → n < 2 ^ 64 → Lacks 32 (decimal n)
 decimal-dense n h = lacks-all is_ascii_digit 32 (not-byte is_ascii_digit 32 refl) (decimal n) (decimal-digits n h)
@@ -44,18 +41,18 @@ class-dense (patch n) h = decimal-dense n h
 
 build-part : (part : List ℕ) → is_build_identifier part ≡ true → Lacks 32 part
 build-part part h = lacks-all is_identifier_byte 32 (not-byte is_identifier_byte 32 refl) part
-    (and-both _ (list_all is_identifier_byte part) h).1
+    (and_parts _ (list_all is_identifier_byte part) h).1
 
 pre-part : (part : List ℕ) → is_pre_identifier part ≡ true → Lacks 32 part
-pre-part part h = build-part part (and-both (is_build_identifier part) _ h).0
+pre-part part h = build-part part (and_parts (is_build_identifier part) _ h).0
 
 dots : (test : List ℕ → Bool) → ((part : List ℕ) → test part ≡ true → Lacks 32 part) → (ps : List (List ℕ))
     → list_all test ps ≡ true → Lacks 32 (join_dots ps)
 unfolding join_dots
 dots test dense [] h = refl
-dots test dense (p ∷ []) h = dense p (and-both (test p) _ h).0
+dots test dense (p ∷ []) h = dense p (and_parts (test p) _ h).0
 dots test dense (p ∷ (q ∷ ps)) h =
-    let both = and-both (test p) (list_all test (q ∷ ps)) h in
+    let both = and_parts (test p) (list_all test (q ∷ ps)) h in
     lacks-append 32 p (46 ∷ join_dots (q ∷ ps)) (dense p both.0) (dots test dense (q ∷ ps) both.1)
 
 dotted : (test : List ℕ → Bool) → ((part : List ℕ) → test part ≡ true → Lacks 32 part) → (text : List ℕ)

@@ -1,23 +1,15 @@
 -- The written order of states is total.
-use Rattle.std.proofs.Common.{◌≡◌, [], refl, ap, ◌∙◌, Ordering, Less, Equal, Greater}
+use Rattle.std.proofs.Common.{◌≡◌, [], refl, ap, ◌∙◌, Ordering}
 use Rattle.std.specs.Cmp.{IsTotalOrder}
 use Rattle.std.specs.Ordering.{nat_cmp, ordering_then}
-use Rattle.std.proofs.lemmas.Cmp.{nat_cmp_total, nat_list_cmp_total, on_total, then_total, tied_itself}
-use Rattle.semver.specs.Identifiers.{parts_text}
-use Rattle.semver.specs.OrderLaws.{pre_total}
+use Rattle.std.proofs.lemmas.Cmp.{nat_cmp_total, on_total, then_total, tied_itself}
 use Rattle.semver.specs.Parse.{Parts}
-use Rattle.model.specs.Order.{precedence, version_cmp}
+use Rattle.model.specs.Order.{version_cmp}
 use Rattle.model.specs.Selection.{Class, patch}
 use Rattle.model.specs.Vertices.{State, absent, present, version, in_class}
+use Rattle.model.proofs.PackageOrder.{version_total}
+use Rattle.model.proofs.Tests.{then-equal}
 use Rattle.vertices.specs.Orders.{class_rank, class_number, class_cmp, state_rank, state_cmp}
-
-precedence_total : IsTotalOrder precedence
-precedence_total =
-    then_total (on_total (λ (v : Parts). v.0) nat_cmp_total) (then_total (on_total (λ (v : Parts). v.1) nat_cmp_total)
-    (then_total (on_total (λ (v : Parts). v.2) nat_cmp_total) (on_total (λ (v : Parts). v.3) pre_total)))
-
-version_total : IsTotalOrder version_cmp
-version_total = then_total precedence_total (on_total parts_text nat_list_cmp_total)
 
 class_total : IsTotalOrder class_cmp
 class_total = then_total (on_total class_rank nat_cmp_total) (on_total class_number nat_cmp_total)
@@ -43,11 +35,6 @@ by_steps s t = ordering_then (nat_cmp (state_rank s) (state_rank t))
 by_steps_total : IsTotalOrder by_steps
 by_steps_total = then_total (on_total state_rank nat_cmp_total)
     (then_total (on_total class_in class_total) (on_total version_in version_total))
-
-then-equal : (r : Ordering) → ordering_then r Equal ≡ r
-then-equal Less = refl
-then-equal Equal = refl
-then-equal Greater = refl
 
 same : (s t : State) → by_steps s t ≡ state_cmp s t
 same absent absent = tied_itself version_total (0, 0, 0, [], [])

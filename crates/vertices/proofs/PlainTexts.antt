@@ -7,6 +7,7 @@ use Rattle.std.specs.List.{list_all}
 use Rattle.std.specs.Str.Parse.{digits_value}
 use Rattle.std.proofs.lemmas.Bool.Decides.{nat_tests}
 use Rattle.std.proofs.lemmas.Fmt.{decimal_by_steps}
+use Rattle.std.proofs.lemmas.Bool.{and_parts}
 use Rattle.semver.specs.Grammar.{IsValid, is_identifier_byte, is_build_identifier, is_pre_identifier, is_pre_release}
 use Rattle.semver.specs.Grammar.{is_build}
 use Rattle.semver.specs.Identifiers.{parts_text, marked}
@@ -46,16 +47,12 @@ pub plain-append : (a b : List ℕ) → IsPlain a → IsPlain b → IsPlain (a +
 plain-append [] b h k = k
 plain-append (x ∷ a) b h k = (h.0, plain-append a b h.1 k)
 
-and-both : (a b : Bool) → (a && b) ≡ true → (a ≡ true) × (b ≡ true)
-and-both true b h = (refl, h)
-and-both false b h = cc
-
 -- texts of which a test of each byte says so
 plain-bytes : (test : ℕ → Bool) → ((b : ℕ) → test b ≡ true → IsPlainByte b) → (text : List ℕ)
     → list_all test text ≡ true → IsPlain text
 plain-bytes test plain [] h = tt
 plain-bytes test plain (b ∷ bs) h = let both =
-    and-both (test b) (list_all test bs) h in (plain b both.0, plain-bytes test plain bs both.1)
+    and_parts (test b) (list_all test bs) h in (plain b both.0, plain-bytes test plain bs both.1)
 
 package-byte : (b : ℕ) → is_package_byte b ≡ true → IsPlainByte b
 package-byte b h = (
@@ -111,12 +108,12 @@ literal text h = plain-bytes literal-byte literal-is text h
 -- ---- names and numbers
 
 name-plain : (text n : List ℕ) → package_name_of text ≡ Ok n → IsPlain text
-name-plain text n h = plain-bytes is_package_byte package-byte text
-    (and-both _ (list_all is_package_byte text) (and-both _ _ (chosen (is_package_name text) text n NotAText h).0).1).1
+name-plain text n h = plain-bytes is_package_byte package-byte text (and_parts _ (list_all is_package_byte text)
+    (and_parts _ _ (chosen (is_package_name text) text n NotAText h).0).1).1
 
 feature-plain : (text f : List ℕ) → feature_name_of text ≡ Ok f → IsPlain text
-feature-plain text f h = plain-bytes is_feature_byte feature-byte text
-    (and-both _ (list_all is_feature_byte text) (and-both _ _ (chosen (is_feature_name text) text f NotAText h).0).1).1
+feature-plain text f h = plain-bytes is_feature_byte feature-byte text (and_parts _ (list_all is_feature_byte text)
+    (and_parts _ _ (chosen (is_feature_name text) text f NotAText h).0).1).1
 
 number-plain : (text : List ℕ) (n : ℕ) → number_of text ≡ Some n → IsPlain text
 number-plain text n h = by (is_plain_number text && nat_lt (digits_value 10 text) (2 ^ 64)) refl h
@@ -124,7 +121,7 @@ number-plain text n h = by (is_plain_number text && nat_lt (digits_value 10 text
     by : (b : Bool) → (is_plain_number text && nat_lt (digits_value 10 text) (2 ^ 64)) ≡ b
         → cond b (Some (digits_value 10 text)) None ≡ Some n → IsPlain text
     by true is h = plain-bytes is_ascii_digit digit-byte text
-        (and-both (list_all is_ascii_digit text) _ (and-both _ _ (and-both _ _ is).0).1).0
+        (and_parts (list_all is_ascii_digit text) _ (and_parts _ _ (and_parts _ _ is).0).1).0
     by false is h = cc
 
 needed-plain : (text : List ℕ) (n : ℕ) → needed (number_of text) ≡ Ok n → IsPlain text
@@ -169,18 +166,18 @@ class-plain text c h = class-by text (after_text (codes "0.") text) c refl h
 
 build-part : (part : List ℕ) → is_build_identifier part ≡ true → IsPlain part
 build-part part h =
-    plain-bytes is_identifier_byte identifier-byte part (and-both _ (list_all is_identifier_byte part) h).1
+    plain-bytes is_identifier_byte identifier-byte part (and_parts _ (list_all is_identifier_byte part) h).1
 
 pre-part : (part : List ℕ) → is_pre_identifier part ≡ true → IsPlain part
-pre-part part h = build-part part (and-both (is_build_identifier part) _ h).0
+pre-part part h = build-part part (and_parts (is_build_identifier part) _ h).0
 
 dots : (test : List ℕ → Bool) → ((part : List ℕ) → test part ≡ true → IsPlain part) → (ps : List (List ℕ))
     → list_all test ps ≡ true → IsPlain (join_dots ps)
 unfolding join_dots
 dots test plain [] h = tt
-dots test plain (p ∷ []) h = plain p (and-both (test p) _ h).0
+dots test plain (p ∷ []) h = plain p (and_parts (test p) _ h).0
 dots test plain (p ∷ (q ∷ ps)) h =
-    let both = and-both (test p) (list_all test (q ∷ ps)) h in
+    let both = and_parts (test p) (list_all test (q ∷ ps)) h in
     plain-append p (46 ∷ join_dots (q ∷ ps)) (plain p both.0) (literal-is 46 refl, dots test plain (q ∷ ps) both.1)
 
 dotted : (test : List ℕ → Bool) → ((part : List ℕ) → test part ≡ true → IsPlain part) → (text : List ℕ)

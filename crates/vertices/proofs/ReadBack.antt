@@ -2,6 +2,7 @@
 use Rattle.std.proofs.Common.{◌≡◌, ℕ, List, [], ◌∷◌, ◌++◌, Bool, true, false, cond, ◌||◌, ◌==◌, Result, Ok, Err, codes}
 use Rattle.std.proofs.Common.{decimal, refl, sym, ap, ◌∙◌, arith, append_assoc, true≢false}
 use Rattle.std.specs.List.{list_any}
+use Rattle.std.proofs.lemmas.Bool.{false_from_ne_true}
 use Rattle.semver.specs.Grammar.{IsValid}
 use Rattle.semver.specs.Identifiers.{parts_text}
 use Rattle.semver.specs.Parse.{Parts}
@@ -33,10 +34,6 @@ taken : {A E : Type 0} (test : Bool) (x : A) (e : E) → test ≡ true
     → ◌≡◌ {A = Result A E} (cond test (Ok x) (Err e)) (Ok x)
 taken true x e h = refl
 taken false x e h = cc
-
-not-true : (test : Bool) → (test ≡ true → ⊥) → test ≡ false
-not-true true h = absurd (h refl)
-not-true false h = refl
 
 -- ---- names and versions
 
@@ -75,7 +72,7 @@ has-at (x ∷ n) t = or-true (x == 64) _ (has-at n t)
     or-true false t e = e
 
 not-root : (n t : List ℕ) → same_text (n ++ (64 ∷ t)) (codes "root") ≡ false
-not-root n t = not-true _
+not-root n t = false_from_ne_true _
     (λ e. true≢false (sym (has-at n t) ∙ ap (list_any (λ b. b == 64)) (text-same (n ++ (64 ∷ t)) (codes "root") e)))
 
 owner-reads : (o : Owner) → IsValidOwner o → owner_of_text (owner_text o) ≡ Ok o
@@ -147,13 +144,13 @@ ends-well (Err e) = false
 
 class-not-absent : (c : Class) → IsValidClass c → same_text (class_text c) (codes "absent") ≡ false
 unfolding above_zero
-class-not-absent c h = not-true _ (λ e.
+class-not-absent c h = false_from_ne_true _ (λ e.
     let no : false ≡ true = ap ends-well (sym (ap class_of_text (text-same (class_text c) (codes "absent") e))
     ∙ class-is-read c h) in true≢false (sym no))
 
 version-not-absent : (v : Parts) → IsValid v → same_text (parts_text v) (codes "absent") ≡ false
 unfolding semver_on_literals
-version-not-absent v h = not-true _ (λ e.
+version-not-absent v h = false_from_ne_true _ (λ e.
     let no : false ≡ true = ap ends-well (sym (ap version_of_text (text-same (parts_text v) (codes "absent") e))
     ∙ version-is-read v h) in true≢false (sym no))
 

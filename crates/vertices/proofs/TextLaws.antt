@@ -7,7 +7,7 @@ use Rattle.std.specs.Char.{is_ascii_digit}
 use Rattle.std.specs.List.{list_all, list_any, position_or_len, before_first, after_first, starts_with}
 use Rattle.std.specs.Str.{all_ascii_digits}
 use Rattle.std.specs.Str.Parse.{digits_value}
-use Rattle.std.proofs.lemmas.Bool.{eqb-true, ltb-true, leb-true}
+use Rattle.std.proofs.lemmas.Bool.{eqb-true, ltb-true, leb-true, and_parts}
 use Rattle.std.proofs.lemmas.Fmt.{decimal-digits_value}
 use Rattle.std.proofs.lemmas.List.{take-append-drop}
 use Rattle.std.proofs.lemmas.List.Sums.{passes_at_first, split_at_first}
@@ -75,19 +75,16 @@ front-joins front text rest h = by (starts_with nat_eq text front) refl h
 
 -- ---- numbers
 
-both : (a b : Bool) → (a && b) ≡ true → (a ≡ true) × (b ≡ true)
-both true b e = (refl, e)
-both false b e = cc
-
 digits : (text : List ℕ) → list_all is_ascii_digit text ≡ true → all_ascii_digits text ≡ true
 digits [] e = refl
-digits (c ∷ text) e = let p = both (is_ascii_digit c) (list_all is_ascii_digit text) e in rw (p.0, digits text p.1) refl
+digits (c ∷ text) e =
+    let p = and_parts (is_ascii_digit c) (list_all is_ascii_digit text) e in rw (p.0, digits text p.1) refl
 
 plain-text : (text : List ℕ) → is_plain_number text ≡ true → digits_value 10 text < 2 ^ 64
     → decimal (digits_value 10 text) ≡ text
 plain-text text plain lt =
-    let some_digit = both _ _ plain in
-    let rest = both _ _ some_digit.1 in
+    let some_digit = and_parts _ _ plain in
+    let rest = and_parts _ _ some_digit.1 in
     decimal-digits_value (numerals_by_value (λ ds. all_ascii_digits ds ≡ true) tells_all_ascii_digits) text
     (digits text rest.0) (leb-true _ _ some_digit.0)
     (λ zero_first. one_digit text zero_first some_digit.0 rest.1) lt
@@ -105,7 +102,7 @@ number-text text n h = by (is_plain_number text && nat_lt (digits_value 10 text)
   where
     by : (b : Bool) → (is_plain_number text && nat_lt (digits_value 10 text) (2 ^ 64)) ≡ b
         → cond b (Some (digits_value 10 text)) None ≡ Some n → decimal n ≡ text
-    by true is h = let p = both _ _ is in let same : digits_value 10 text ≡ n =
+    by true is h = let p = and_parts _ _ is in let same : digits_value 10 text ≡ n =
         same-Some h in ap decimal (sym same) ∙ plain-text text p.0 (ltb-true _ _ p.1)
     by false is h = cc
 

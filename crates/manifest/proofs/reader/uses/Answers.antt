@@ -1,14 +1,14 @@
 use Rattle.std.proofs.Common.{rules}
 use Rattle.std.proofs.lemmas.Iterator.{YieldsList-from_slice}
 use Rattle.std.proofs.lemmas.Iterator.Search.{any_from_yields_List}
+use Rattle.model.proofs.Mapped.{any-map}
 use borrow.Author.Tests.{tests}
 use Rattle.manifest.specs.Manifests.{is_from}
 use Rattle.manifest.specs.ShapeViews.{source_view}
 use Rattle.manifest.specs.declared.dependency.DependencyShape.{DependencyShape}
-use Rattle.manifest.proofs.ReadLemmas.{list_any-map}
 use Rattle.manifest.proofs.reader.uses.Goals as goal
 
 pub returns : goal.returns
 returns c =
-    rw list_any-map (any_from_yields_List (λ (d : DependencyShape). is_from c.args.source (source_view d.source)) _ _ _
+    rw any-map (any_from_yields_List (λ (d : DependencyShape). is_from c.args.source (source_view d.source)) _ _ _
     c.any.ensures.ran (YieldsList-from_slice c.args.dependencies.now cc) (λ x b q k. search (rules, tests)))
