@@ -22,9 +22,9 @@ use Rattle.lockfile.specs.Locks.{is_alike}
 use Rattle.lockfile.specs.Views.{package_view, package_views}
 use Rattle.lockfile.specs.declared.package.Package.{Package}
 use Rattle.model.proofs.PackageOrder.{package_total}
-use Rattle.model.proofs.Tests.{one_test}
+use Rattle.model.proofs.Tests.{one_test, beside}
 use Rattle.lockfile.proofs.PackageOrder.{then-eq, text-eq, version-eq, source-eq}
-use Rattle.catalogue.proofs.Found.{beside, less-other, greater-other}
+use Rattle.catalogue.proofs.Found.{less-other, greater-other}
 
 -- the package that is asked for
 abbrev pub wanted : List ℕ → Parts → List ℕ → model.Package

@@ -10,6 +10,7 @@ use Rattle.std.proofs.lemmas.List.{append-nil, append_assoc, length-map}
 use Rattle.std.proofs.lemmas.List.Kept.{AllPairs-filter}
 use Rattle.std.proofs.lemmas.List.Sorted.{IsPermutation-sym, Contains-permutation, sorted_far, ranks_by}
 use Rattle.std.proofs.lemmas.Option.{slice_get-map, slice_get-get_or, get_or_from_slice_get}
+use Rattle.std.proofs.lemmas.List.Elements.{All-contains}
 use Rattle.semver.specs.OrderLaws.{precedence_total}
 use Rattle.semver.specs.Eval.{precedence_cmp}
 use Rattle.semver.specs.Grammar.{IsValid}
@@ -22,8 +23,8 @@ use Rattle.model.specs.Summary.{KnowsFeatures}
 use Rattle.model.proofs.Candidates as model
 use Rattle.model.proofs.Candidates.{oldest_first-permutes, oldest_first-rises, sorted_is_oldest_first}
 use Rattle.model.proofs.Lists.{in_filter, to_filter, all_none, all_cons, all_first, all_rest}
-use Rattle.catalogue.proofs.LawsLists.{all_in, at_in}
 use Rattle.model.proofs.Permuted.{rising-same}
+use Rattle.model.proofs.Members.{all_in}
 use Rattle.index_reader.specs.Views.{record_view}
 use Rattle.index_reader.specs.declared.record.Record as reader
 use Rattle.catalogue.specs.Loads.{records_view, with_ranks}
@@ -89,7 +90,7 @@ module _ (locked : Parts → Bool) (rust : Option RustVersion) where
       let kept : List Record = filter (may_be_locked locked) (records_view all) in
       subst KnowFeatures (sym (records-ranked kept))
       (all_in Knows kept
-      (λ r c. at_in Knows (records_view all) r h (in_filter (may_be_locked locked) (records_view all) r c).0))
+      (λ r c. All-contains Knows (records_view all) r h (in_filter (may_be_locked locked) (records_view all) r c).0))
 
 -- one more version that is read
 pub read-snoc : (vs : List Version) (v : Version) → AreRead vs → IsValid (parts_of v) → AreRead (vs ++ v ∷ [])
@@ -102,7 +103,7 @@ read-snoc (w ∷ ws) v h k = all_cons
 -- records that are moved still know their features
 pub moved-known : (rs ys : List Record) → IsPermutation rs ys → KnowFeatures rs → KnowFeatures ys
 moved-known rs ys moved h =
-    all_in Knows ys (λ r c. at_in Knows rs r h (Contains-permutation ys rs r (IsPermutation-sym rs ys moved) c))
+    all_in Knows ys (λ r c. All-contains Knows rs r h (Contains-permutation ys rs r (IsPermutation-sym rs ys moved) c))
 
 -- ---- sorted records
 

@@ -1,8 +1,7 @@
 -- A candidate is found by its place and by its version.
-use Rattle.std.proofs.Common.{◌≡◌, ◌≢◌, ℕ, zero, suc, ◌<◌, ◌≤◌, Bool, true, false, cond, List, [], ◌∷◌, map}
+use Rattle.std.proofs.Common.{◌≡◌, ◌≢◌, ℕ, zero, suc, ◌<◌, Bool, true, false, cond, List, [], ◌∷◌, map}
 use Rattle.std.proofs.Common.{length, get_or, Some, None, Ok, Err, option_map, slice_get, refl, sym, ap, ◌∙◌, subst}
 use Rattle.std.proofs.Common.{arith, Ordering, inl, inr, ◌⊎◌}
-use Rattle.std.specs.Cmp.{IsTotalOrder}
 use Rattle.std.specs.List.{All, AllPairs}
 use Rattle.std.specs.List.Sorted.{IsBinarySearchResult, IsNonDecreasingBy}
 use Rattle.std.specs.Ordering.{ordering_index, ordering_reverse}
@@ -22,6 +21,7 @@ use Rattle.model.specs.Order.{precedence}
 use Rattle.model.proofs.Candidates as model
 use Rattle.model.proofs.Lists.{all_none, all_cons, all_first, all_rest, pairs_none, pairs_all, pairs_rest}
 use Rattle.model.proofs.Same.{version-same, version-refl}
+use Rattle.model.proofs.Tests.{beside}
 use Rattle.catalogue.specs.Ranks.{records}
 use Rattle.catalogue.specs.Views.{said, record_of, said_by, ranked_view, AreRising}
 use Rattle.catalogue.specs.Stores.{record_at}
@@ -118,22 +118,6 @@ one_found (v ∷ vs) (c ∷ cs) p (suc i) same h at =
         let clash : Less ≡ Equal = sym less ∙ equal in cc
 
 -- ---- the search
-
--- what rises along an order stands beside another in rising order
-module _ {K : Type 0} {R : K → K → Ordering} (o : IsTotalOrder R) where
-  pub beside : (v w x : K) → R v w ≡ Less → ordering_index (R v x) ≤ ordering_index (R w x)
-  beside v w x lt = by (R v x) (R w x) refl refl
-    where
-      by : (a b : Ordering) → R v x ≡ a → R w x ≡ b → ordering_index a ≤ ordering_index b
-      by Less b e f = omega arith
-      by Equal Less e f = let k : Less ≡ Equal = sym (o.trans v w x lt f) ∙ e in cc
-      by Equal Equal e f = omega arith
-      by Equal Greater e f = omega arith
-      by Greater Less e f = let k : Less ≡ Greater = sym (o.trans v w x lt f) ∙ e in cc
-      by Greater Equal e f =
-          let g : R v x ≡ Less = sym (alike_right o w x v f) ∙ lt in
-          let k : Less ≡ Greater = sym g ∙ e in cc
-      by Greater Greater e f = omega arith
 
 pub search_rises : (vs : List Version) (x : Version) → AreOlder vs
     → IsNonDecreasingBy (λ v. ordering_index (precedence_cmp v x)) vs

@@ -3,6 +3,7 @@ use Rattle.std.proofs.Common.{◌≡◌, ℕ, List, [], ◌∷◌, map, filter, 
 use Rattle.std.proofs.Common.{ap, ◌∙◌, subst, inl, inr, true≢false}
 use Rattle.std.specs.List.{All}
 use Rattle.std.proofs.lemmas.List.Sorted.{IsPermutation-sym, Contains-permutation}
+use Rattle.std.proofs.lemmas.List.Elements.{All-contains}
 use Rattle.model.specs.Summary.{same_text}
 use Rattle.model.specs.Content.{Candidate, Content, candidates_of}
 use Rattle.model.specs.Candidates.{Record, as_candidate, is_locked, may_be_locked, oldest_first}
@@ -12,7 +13,6 @@ use Rattle.model.proofs.Lists.{all_rest}
 use Rattle.model.proofs.Candidates.{oldest_first-permutes}
 use Rattle.catalogue.specs.Runs.{Asked, records_of, candidates_in}
 use Rattle.catalogue.specs.Problems.{names_in, candidates_by_name}
-use Rattle.catalogue.proofs.LawsLists.{at_in}
 
 abbrev pub file_of : (List ℕ → Option (List ℕ)) → List ℕ → Asked
 file_of files name = (name, files name)
@@ -23,7 +23,7 @@ pub with_file : (files : List ℕ → Option (List ℕ)) (asked : List Asked) (n
 with_file files asked name h c =
     let i = in_map (λ (x : Asked). x.0) asked name c in
     let is : i.0 ≡ (name, files name) =
-    λ k. (i.2 k, (at_in (λ (a : Asked). a.1 ≡ files a.0) asked i.0 h i.1 ∙ ap files i.2) k) in
+    λ k. (i.2 k, (All-contains (λ (a : Asked). a.1 ≡ files a.0) asked i.0 h i.1 ∙ ap files i.2) k) in
     subst (λ x. Contains asked x) is i.1
 
 module _ (old : Content) (source : List ℕ) where

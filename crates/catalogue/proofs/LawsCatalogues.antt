@@ -3,12 +3,15 @@ use Rattle.std.proofs.Common.{◌≡◌, ◌≢◌, ℕ, List, [], ◌∷◌, ma
 use Rattle.std.specs.List.{All, AllPairs}
 use Rattle.std.specs.declared.cmp.Ordering.TheVariants.{Less}
 use Rattle.std.proofs.lemmas.List.Kept.{AllPairs-filter}
+use Rattle.std.proofs.lemmas.List.Elements.{All-contains, All-map}
 use Rattle.model.specs.Summary.{KnowsFeatures}
 use Rattle.model.specs.Content.{Candidate, Content, Problem}
 use Rattle.model.specs.Order.{precedence}
 use Rattle.model.specs.Candidates.{Record, RustVersion, IsApart, as_candidate, is_locked, may_be_locked}
 use Rattle.model.specs.WellFormed.{IsCatalogue}
 use Rattle.model.proofs.Candidates.{oldest_first-rises}
+use Rattle.model.proofs.Mapped.{pairs_map}
+use Rattle.model.proofs.Members.{all_in}
 use Rattle.manifest.specs.Manifests.{ManifestView, root_asks}
 use Rattle.catalogue.specs.Runs.{Asked, Calls, records_of, candidates_in, AreNext}
 use Rattle.catalogue.specs.Loads.{IsLoaded, store_of, ranked_in}
@@ -18,7 +21,7 @@ use Rattle.catalogue.specs.Stores.{CatalogueView, Row, IsStore}
 use Rattle.catalogue.specs.Views.{AreRising, AreKnown}
 use Rattle.catalogue.proofs.Chosen.{records-ranked}
 use Rattle.catalogue.proofs.LawsCandidates.{in_candidates}
-use Rattle.catalogue.proofs.LawsLists.{all_in, at_in, all_map, pairs_map, pairs_mapped}
+use Rattle.catalogue.proofs.LawsLists.{pairs_mapped}
 use Rattle.catalogue.proofs.LawsNames.{asked-distinct}
 use Rattle.catalogue.proofs.LawsRecords.{records-sound}
 
@@ -37,9 +40,9 @@ module _ (old : Content) (source : List ℕ) where
   known : (a : Asked) → All (λ c. KnowsFeatures c.brings.features) (map as_candidate (candidates_in old source a))
   known a =
       let Knows = λ (r : Record). KnowsFeatures (r.brings).features in
-      all_map as_candidate (λ c. KnowsFeatures c.brings.features) (candidates_in old source a)
+      All-map (λ c. KnowsFeatures c.brings.features) as_candidate (candidates_in old source a)
       (all_in Knows (candidates_in old source a)
-      (λ r c. at_in Knows (records_of a) r (records-sound a).known (in_candidates old source a r c).0))
+      (λ r c. All-contains Knows (records_of a) r (records-sound a).known (in_candidates old source a r c).0))
 
   pub run-catalogue : (manifest : ManifestView) (asked : List Asked)
       → AreNext old source manifest.brings.dependencies [] asked → IsCatalogue (problem_of manifest old source asked)
@@ -47,10 +50,10 @@ module _ (old : Content) (source : List ℕ) where
     names_distinct = pairs_map row_of (λ a b. a.0 ≢ b.0) asked
         (pairs_mapped (λ (a : Asked). a.0)
         (λ x y. x ≢ y) asked (asked-distinct old source manifest.brings.dependencies asked in_turn));
-    versions_rise = all_map row_of
-        (λ row. AllPairs (λ c e. precedence c.version e.version ≡ Less) row.1) asked (all_in _ asked (λ a c. rise a));
-    features_known = all_map row_of
-        (λ row. All (λ c. KnowsFeatures c.brings.features) row.1) asked (all_in _ asked (λ a c. known a));
+    versions_rise = All-map (λ row. AllPairs (λ c e. precedence c.version e.version ≡ Less) row.1)
+        row_of asked (all_in _ asked (λ a c. rise a));
+    features_known = All-map (λ row. All (λ c. KnowsFeatures c.brings.features) row.1)
+        row_of asked (all_in _ asked (λ a c. known a));
   }
 
 -- ---- a loaded index
@@ -61,12 +64,12 @@ by_name row = (row.0, map as_candidate (records row.1))
 pub store-catalogue : (manifest : ManifestView) (c : CatalogueView) → IsStore c → IsCatalogue (problem_in manifest c)
 store-catalogue manifest c s = record {
   names_distinct = pairs_map by_name (λ a b. a.0 ≢ b.0) c.rows s.names_distinct;
-  versions_rise = all_map by_name (λ row. AllPairs (λ c e. precedence c.version e.version ≡ Less) row.1) c.rows
+  versions_rise = All-map (λ row. AllPairs (λ c e. precedence c.version e.version ≡ Less) row.1) by_name c.rows
       (all_in _ c.rows (λ row i. pairs_map as_candidate (λ c e. precedence c.version e.version ≡ Less) (records row.1)
-      (at_in (λ (row : Row). AreRising row.1) c.rows row s.versions_rise i)));
-  features_known = all_map by_name (λ row. All (λ c. KnowsFeatures c.brings.features) row.1) c.rows
-      (all_in _ c.rows (λ row i. all_map as_candidate (λ c. KnowsFeatures c.brings.features) (records row.1)
-      (at_in (λ (row : Row). AreKnown row.1) c.rows row s.features_known i)));
+      (All-contains (λ (row : Row). AreRising row.1) c.rows row s.versions_rise i)));
+  features_known = All-map (λ row. All (λ c. KnowsFeatures c.brings.features) row.1) by_name c.rows
+      (all_in _ c.rows (λ row i. All-map (λ c. KnowsFeatures c.brings.features) as_candidate (records row.1)
+      (All-contains (λ (row : Row). AreKnown row.1) c.rows row s.features_known i)));
 }
 
 module _ (old : Content) (source : List ℕ) (rust : Option RustVersion) where

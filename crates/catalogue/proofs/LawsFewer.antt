@@ -3,7 +3,7 @@ use Rattle.std.proofs.Common.{◌≡◌, ℕ, List, [], ◌∷◌, ◌++◌, Boo
 use Rattle.std.proofs.Common.{is_some, refl, sym, ap, ◌∙◌, subst, inl, inr}
 use Rattle.std.specs.List.{All}
 use Rattle.std.proofs.lemmas.Bool.{or_left}
-use Rattle.std.proofs.lemmas.List.Elements.{Contains-push_cases}
+use Rattle.std.proofs.lemmas.List.Elements.{Contains-push_cases, All-contains}
 use Rattle.semver.specs.Parse.{Parts}
 use Rattle.model.specs.Summary.{Dependency}
 use Rattle.model.specs.Content.{Candidate, Content, Package, Problem, candidates_of, is_root}
@@ -11,11 +11,11 @@ use Rattle.model.specs.Candidates.{Record, is_locked}
 use Rattle.model.specs.Selection.{IsValidSelection}
 use Rattle.model.proofs.Lists.{in_none, in_cons, all_first, all_rest}
 use Rattle.model.proofs.Owners.{candidate_at-is, is_candidate, not_root}
+use Rattle.model.proofs.Flat.{in_flat, to_flat}
 use Rattle.manifest.specs.Manifests.{ManifestView}
 use Rattle.catalogue.specs.Runs.{Asked, records_of, candidates_in, meant_by, needed_by, next_name, AreNext}
 use Rattle.catalogue.specs.Problems.{IsRunOver, names_in, problem_of}
 use Rattle.catalogue.proofs.LawsCandidates.{file_of, with_file, in_candidates, to_candidates, in_index}
-use Rattle.catalogue.proofs.LawsLists.{at_in, in_flat, to_flat}
 use Rattle.catalogue.proofs.LawsNames.{needed-root, needed-asked, needed-cases, next-needed, all_asked}
 use Rattle.catalogue.proofs.LawsPackages.{from_locked}
 use Rattle.catalogue.proofs.LawsRecords.{each_record_once}
@@ -83,7 +83,7 @@ module _ (files : List ℕ → Option (List ℕ)) (manifest : ManifestView) (old
         | inr (a, i, c) ↦
             let had = known a i in
             needed-asked old source needs asked a name had
-            (fewer_needed a name (at_in (λ (a : Asked). a.1 ≡ files a.0) asked a run.answers had) c)
+            (fewer_needed a name (All-contains (λ (a : Asked). a.1 ≡ files a.0) asked a run.answers had) c)
       ])
 
   pub known_more : (so_far : List Asked) (name : List ℕ) → ((a : Asked) → Contains so_far a → Contains asked a)

@@ -7,9 +7,11 @@ use Rattle.std.proofs.lemmas.List.{append-nil, append_assoc, map-append}
 use Rattle.std.proofs.lemmas.List.Elements.{Contains-append_cases, Contains-append_left, Contains-append_right}
 use Rattle.model.specs.Summary.{Dependency}
 use Rattle.model.specs.Content.{Content}
+use Rattle.model.proofs.Places.{got_in}
+use Rattle.model.proofs.Flat.{in_flat, to_flat}
 use Rattle.catalogue.specs.Runs.{Asked, once, meant_by, needed_by, names_after, next_name, AreNext}
 use Rattle.catalogue.specs.Problems.{names_in}
-use Rattle.catalogue.proofs.LawsLists.{got_in, in_flat, to_flat, pairs_front}
+use Rattle.catalogue.proofs.LawsLists.{pairs_front}
 use Rattle.catalogue.proofs.LawsOnce.{to_once, in_once, once-more, once-distinct}
 
 -- each of the names so far stands at the front

@@ -7,8 +7,8 @@ use Rattle.std.proofs.lemmas.List.Kept.{AllPairs-cons, AllPairs-filter}
 use Rattle.model.specs.Summary.{same_text}
 use Rattle.model.proofs.Same.{text-same, text-refl}
 use Rattle.model.proofs.Lists.{in_none, in_cons, in_first, in_rest, in_filter, to_filter, pairs_none}
+use Rattle.model.proofs.Members.{all_in}
 use Rattle.catalogue.specs.Runs.{once}
-use Rattle.catalogue.proofs.LawsLists.{all_in}
 
 -- a text of the list is there once
 pub to_once : (xs : List (List ℕ)) (x : List ℕ) → Contains xs x → Contains (once xs) x

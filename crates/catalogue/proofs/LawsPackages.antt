@@ -10,7 +10,7 @@ use Rattle.model.specs.Content.{if_checksum, same_option, same_version, serves, 
 use Rattle.model.specs.Candidates.{is_locked}
 use Rattle.model.proofs.Lists.{any_of, to_any}
 use Rattle.model.proofs.Same.{both, text-same, text-refl, version-same, version-refl}
-use Rattle.catalogue.proofs.LawsLists.{got_in, get_in}
+use Rattle.model.proofs.Places.{place_of, got_in}
 
 pub text_option : (o : Option (List ℕ)) (x : List ℕ) → same_option o (Some x) ≡ true → o ≡ Some x
 text_option None x h = absurd (true≢false (sym h))
@@ -27,7 +27,7 @@ from_locked content source name v h =
     let e =
     both (same_text name (r.0).name) (same_version v (r.0).version && same_option (r.0).source (Some source)) r.2 in
     let f = both (same_version v (r.0).version) (same_option (r.0).source (Some source)) e.1 in
-    let at = get_in content r.0 r.1 in (
+    let at = place_of content r.0 r.1 in (
       at.0,
       r.0,
       at.1,

@@ -1,14 +1,15 @@
 -- What holds of the records of a name: each version is there once, and each record knows its features.
 use Rattle.std.proofs.Common.{◌≡◌, List, [], ◌∷◌, Contains, Some, None, sym, ap, ◌∙◌, inl, inr}
 use Rattle.std.specs.List.{All, AllPairs}
+use Rattle.std.proofs.lemmas.List.Elements.{All-map}
 use Rattle.model.specs.Summary.{KnowsFeatures}
 use Rattle.model.specs.Candidates.{Record, IsApart}
 use Rattle.model.proofs.Contents.{precedence-equal}
 use Rattle.model.proofs.Lists.{in_none, in_cons, all_none, pairs_none, pairs_first, pairs_rest}
+use Rattle.model.proofs.Mapped.{pairs_map}
 use Rattle.index_reader.specs.Files.{records_of_file}
 use Rattle.index_reader.proofs.FileLaws.{file-kept}
 use Rattle.catalogue.specs.Runs.{Asked, as_record, records_of}
-use Rattle.catalogue.proofs.LawsLists.{all_map, pairs_map}
 
 -- what holds of the records of a name
 pub record AreSound (records : List Record) : Type 0 where
@@ -20,8 +21,8 @@ records-sound (name, None) =
     record { apart = pairs_none IsApart; known = all_none (λ r. KnowsFeatures (r.brings).features) }
 records-sound (name, Some bytes) = record {
   apart = pairs_map as_record IsApart (records_of_file name bytes).records (file-kept name bytes).apart;
-  known = all_map as_record
-      (λ r. KnowsFeatures (r.brings).features) (records_of_file name bytes).records (file-kept name bytes).known;
+  known = All-map (λ r. KnowsFeatures (r.brings).features) as_record
+      (records_of_file name bytes).records (file-kept name bytes).known;
 }
 
 once-apart : (rs : List Record) (r e : Record) → AllPairs IsApart rs → Contains rs r → Contains rs e

@@ -15,11 +15,12 @@ use Rattle.model.proofs.Kept.{kept}
 use Rattle.model.proofs.Lists.{to_map}
 use Rattle.model.proofs.Owners.{candidate_at-is, is_candidate, target_is, serves_parts, candidate_at-there}
 use Rattle.model.proofs.Same.{text-refl}
+use Rattle.model.proofs.Places.{place_of, got_in}
+use Rattle.model.proofs.Flat.{to_flat}
 use Rattle.manifest.specs.Manifests.{ManifestView}
 use Rattle.catalogue.specs.Runs.{Asked, candidates_in, meant_by}
 use Rattle.catalogue.specs.Problems.{IsRunOver, KeepsYanked, names_in, problem_of}
 use Rattle.catalogue.proofs.LawsCandidates.{file_of, with_file, in_candidates, to_candidates, in_index, to_index}
-use Rattle.catalogue.proofs.LawsLists.{got_in, to_flat, get_in}
 use Rattle.catalogue.proofs.LawsNames.{needed, needed-root, needed-asked, all_asked}
 use Rattle.catalogue.proofs.LawsPackages.{text_option, of_source, serving_is, to_locked}
 use Rattle.catalogue.proofs.LawsRecords.{each_record_once}
@@ -145,7 +146,7 @@ module _ (files : List ℕ → Option (List ℕ)) (manifest : ManifestView) (old
 keeps-itself : (files : List ℕ → Option (List ℕ)) (source : List ℕ) (content : Content)
     → KeepsYanked files source content content
 keeps-itself files source content p r c from i same y =
-    let at = get_in content p c in
+    let at = place_of content p c in
     to_locked content source at.0 p at.1 (ap (λ o. same_option o (Some source)) from ∙ text-refl source)
 
 pub holds_again : (files : List ℕ → Option (List ℕ)) (manifest : ManifestView) (old : Content) (source : List ℕ)

@@ -4,6 +4,7 @@ use Rattle.std.specs.HashMap.{HashMap, IsEmpty, IsUnchanged, Updates, get}
 use Rattle.std.specs.List.{AllByRecursion, IsDistinct, list_any, position}
 use Rattle.std.specs.Map.{lookup}
 use Rattle.std.specs.Option.{option_or}
+use Rattle.std.proofs.lemmas.Bool.{or_parts}
 use Rattle.model.specs.Summary.{same_text}
 use Rattle.model.proofs.Same.{text-same, text-refl}
 use Rattle.catalogue.specs.Names.{ArePlaces}
@@ -57,10 +58,6 @@ differs a b h = by (same_text b a) refl
     by true e = absurd (true≢false (sym (subst (λ t. same_text a t ≡ true) (sym (text-same b a e)) (text-refl a)) ∙ h))
     by false e = refl
 
-neither : (a b : Bool) → (a || b) ≡ false → (a ≡ false) × (b ≡ false)
-neither true b h = absurd (true≢false h)
-neither false b h = (refl, h)
-
 distinct-none : IsDistinct same_text []
 unfolding IsDistinct
 distinct-none = tt
@@ -69,7 +66,7 @@ distinct-snoc : (names : List (List ℕ)) (name : List ℕ) → IsDistinct same_
 unfolding IsDistinct
 distinct-snoc [] name d h = (tt, tt)
 distinct-snoc (n ∷ ns) name d h =
-    let p = neither (same_text name n) (list_any (same_text name) ns) h in
+    let p = or_parts (same_text name n) (list_any (same_text name) ns) h in
     (others ns d.0 (differs name n p.0), distinct-snoc ns name d.1 p.1)
   where
     others : (ms : List (List ℕ)) → AllByRecursion (λ y. same_text n y ≡ false) ms → same_text n name ≡ false → AllByRecursion (λ y. same_text n y ≡ false) (ms ++ name ∷ [])

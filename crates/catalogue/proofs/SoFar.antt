@@ -2,18 +2,19 @@
 use Rattle.std.proofs.Common.{◌≡◌, ℕ, ◌<◌, ◌≤◌, Bool, true, false, not, ◌&&◌, ◌||◌, cond, List, [], ◌∷◌, ◌++◌, map}
 use Rattle.std.proofs.Common.{filter, flat_map, length, slice_get, Option, Some, Ok, refl, sym, ap, ap₂, ◌∙◌, subst}
 use Rattle.std.proofs.Common.{arith, true≢false, inr}
-use Rattle.std.specs.List.{All, list_any}
+use Rattle.std.specs.List.{list_any}
 use Rattle.std.proofs.lemmas.List.{append-nil, append_assoc, map-append, length-map, length-append}
-use Rattle.std.proofs.lemmas.List.Elements.{filter-append}
+use Rattle.std.proofs.lemmas.List.Elements.{filter-append, All-push}
 use Rattle.std.proofs.lemmas.Option.{slice_get_past}
 use Rattle.catalogue.specs.Names.{insert_key, insert_all}
 use Rattle.semver.specs.declared.Version.{Version}
 use Rattle.model.specs.Candidates.{Record, RustVersion, is_locked}
 use Rattle.model.specs.Content.{Content}
 use Rattle.model.specs.Summary.{Dependency, same_text}
-use Rattle.model.proofs.Lists.{all_none, all_cons, all_first, all_rest}
+use Rattle.model.proofs.Lists.{all_none}
 use Rattle.model.proofs.Same.{text-same}
 use Rattle.model.proofs.Flips.{text-flips}
+use Rattle.model.proofs.Mapped.{flat_last}
 use Rattle.features.specs.Views.{dependency_views}
 use Rattle.index_reader.specs.Files.{SkipView}
 use Rattle.index_reader.specs.Paths.{path_of}
@@ -104,14 +105,6 @@ chain-snoc : {S : Type 0} (calls : Calls S) (old mid new : S) (asked : List Aske
 chain-snoc calls old mid new [] name o same call = (new, subst (λ s. calls s (path_of name) (Ok o) new) same call, refl)
 chain-snoc calls old mid new (a ∷ later) name o (next, first, rest) call =
     (next, first, chain-snoc calls next mid new later name o rest call)
-
-all-snoc : {X : Type 0} (P : X → Type 0) (xs : List X) (x : X) → All P xs → P x → All P (xs ++ x ∷ [])
-all-snoc P [] x h p = all_cons P x [] p (all_none P)
-all-snoc P (y ∷ ys) x h p = all_cons P y (ys ++ x ∷ []) (all_first P y ys h) (all-snoc P ys x (all_rest P y ys h) p)
-
-flat-snoc : {X Y : Type 0} (f : X → List Y) (xs : List X) (x : X) → flat_map f (xs ++ x ∷ []) ≡ flat_map f xs ++ f x
-flat-snoc f [] x = append-nil (f x)
-flat-snoc f (y ∷ ys) x = ap (λ zs. f y ++ zs) (flat-snoc f ys x) ∙ sym (append_assoc (f y) (flat_map f ys) (f x))
 
 -- what is there after those that are asked for
 rest-next : (front rest : List (List ℕ)) (name : List ℕ) → slice_get (front ++ rest) (length front) ≡ Some name
@@ -214,13 +207,13 @@ module _ (old : Content) (source : List ℕ) (rust : Option RustVersion) (root :
           so_far = record {
             chain = chain-snoc calls before mid after s.asked name got.answer s.so_far.chain got.call;
             in_turn = next-snoc [] s.asked a s.so_far.in_turn next;
-            within = all-snoc (λ (a : Asked). IsWithin a.1) s.asked a s.so_far.within got.within;
+            within = All-push (λ (a : Asked). IsWithin a.1) s.asked a s.so_far.within got.within;
             few = rw length-append (omega (arith, less, long));
           };
           known = added ∙ ap₂ (insert_all same_text) s.known needs
               ∙ added-once (meant_by root ++ flat_map (needed_by old source) s.asked) (needed_by old source a)
               ∙ ap once (append_assoc (meant_by root) (flat_map (needed_by old source) s.asked) (needed_by old source a)
-              ∙ ap (λ zs. meant_by root ++ zs) (sym (flat-snoc (needed_by old source) s.asked a)));
+              ∙ ap (λ zs. meant_by root ++ zs) (sym (flat_last (needed_by old source) s.asked a)));
           split = added ∙ after_them.1
               ∙ ap (λ zs. zs ++ after_them.0) (s.split ∙ ap (λ zs. map (λ (a : Asked). a.0) s.asked ++ zs) here.1)
               ∙ append_assoc (map (λ (a : Asked). a.0) s.asked) (name ∷ here.0) after_them.0
@@ -228,7 +221,7 @@ module _ (old : Content) (source : List ℕ) (rust : Option RustVersion) (root :
               ∙ sym (ap (λ zs. zs ++ (here.0 ++ after_them.0)) (map-append (λ (a : Asked). a.0) s.asked (a ∷ [])));
           found_are = map-append candidates_view found (c ∷ []) ∙ ap₂ (λ xs x. xs ++ x ∷ []) s.found_are got.ranked
               ∙ sym (map-append (ranked_in old source rust) s.asked (a ∷ []));
-          skips_are = got.added ∙ ap (λ zs. zs ++ skips_of a) s.skips_are ∙ sym (flat-snoc skips_of s.asked a);
+          skips_are = got.added ∙ ap (λ zs. zs ++ skips_of a) s.skips_are ∙ sym (flat_last skips_of s.asked a);
         }
 
     rows_are : (asked : List Asked) (found : List Candidates)

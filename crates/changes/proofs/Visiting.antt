@@ -1,37 +1,21 @@
 -- Visits by number, and what one more does to a search.
-use Rattle.std.proofs.Common.{◌≡◌, ◌<◌, ◌≤◌, ◌⊎◌, ◌||◌, ℕ, zero, suc, nat_eq, Bool, true, false, List, [], ◌∷◌}
+use Rattle.std.proofs.Common.{◌≡◌, ◌<◌, ◌≤◌, ◌||◌, ℕ, zero, suc, nat_eq, Bool, true, false, List, [], ◌∷◌}
 use Rattle.std.proofs.Common.{◌++◌, Some, length, set, refl, sym, ap, subst, subst₂, ◌∙◌, inl, inr, arith, true≢false}
 use Rattle.std.specs.Prelude.{if◌then◌else◌}
 use Rattle.std.specs.List.{slice_get}
 use Rattle.std.proofs.lemmas.Bool.{cases_Bool, eq-eqb, eqb-true, or_cases}
 use Rattle.std.proofs.lemmas.List.{length-append}
-use Rattle.std.proofs.lemmas.Option.{none-some, same_Some, slice_get_within}
+use Rattle.std.proofs.lemmas.Option.{slice_get_within}
 use Rattle.chains.specs.Chains.{has}
 use Rattle.chains.proofs.WorklistLemmas.{new_or_old, one_fewer}
 use Rattle.model.specs.Content.{Content, Package}
+use Rattle.model.proofs.Places.{get_more, get_push, get_push_cases}
 use Rattle.changes.specs.Ways.{lists}
 use Rattle.changes.specs.Searches.{visit, visited, seen_with, is_in, IsLed, IsSeen, IsVisited, AreLed, AreSorted}
 use Rattle.changes.specs.Searches.{IsSearching}
 use Rattle.changes.specs.declared.searching.Visit.{Visit}
 
 -- ---- elements by number
-
-pub get_more : {X : Type 0} (xs ys : List X) (k : ℕ) (x : X) → slice_get xs k ≡ Some x → slice_get (xs ++ ys) k ≡ Some x
-get_more [] ys k x e = absurd (none-some x e)
-get_more (z ∷ xs) ys zero x e = e
-get_more (z ∷ xs) ys (suc k) x e = get_more xs ys k x e
-
-pub get_push : {X : Type 0} (xs : List X) (y : X) → slice_get (xs ++ y ∷ []) (length xs) ≡ Some y
-get_push [] y = refl
-get_push (z ∷ xs) y = get_push xs y
-
-pub get_push_cases : {X : Type 0} (xs : List X) (y : X) (k : ℕ) (x : X) → slice_get (xs ++ y ∷ []) k ≡ Some x
-    → (slice_get xs k ≡ Some x) ⊎ ((k ≡ length xs) × (y ≡ x))
-get_push_cases [] y zero x e = inr (refl, same_Some y x e)
-get_push_cases [] y (suc k) x e = absurd (none-some x e)
-get_push_cases (z ∷ xs) y zero x e = inl e
-get_push_cases (z ∷ xs) y (suc k) x e =
-    elim (get_push_cases xs y k x e) [ inl e ↦ inl e | inr p ↦ inr (ap suc p.0, p.1) ]
 
 pub each_push : {X : Type 0} (P : ℕ → X → Type 0) (xs : List X) (y : X)
     → ((k : ℕ) (x : X) → slice_get xs k ≡ Some x → P k x) → P (length xs) y

@@ -1,8 +1,8 @@
 -- Terms that fit at each vertex that is spoken of are the combination.
-use Rattle.std.proofs.Common.{◌≡◌, List, Bool, true, false, cond, ◌&&◌, ◌||◌, is_some, Option, Some, None, refl, sym}
+use Rattle.std.proofs.Common.{◌≡◌, List, true, false, cond, ◌&&◌, ◌||◌, is_some, Option, Some, None, refl, sym}
 use Rattle.std.proofs.Common.{ap, ◌∙◌, subst}
 use Rattle.std.specs.List.{list_all}
-use Rattle.std.proofs.lemmas.Bool.{and_from}
+use Rattle.std.proofs.lemmas.Bool.{and_from, or_right}
 use Rattle.model.specs.Content.{Problem}
 use Rattle.model.specs.Vertices.{Vertex, State, same_vertex}
 use Rattle.model.specs.Axioms.{Term}
@@ -14,10 +14,6 @@ use Rattle.refutations.specs.Terms.{same_at, is_combination, speaks_of}
 use Rattle.refutations.proofs.Bools.{all_pass}
 use Rattle.refutations.proofs.Sets.{same_at-is, silent, term_at, is_combination-is}
 use Rattle.checker.specs.Combinations.{fits, fits_or_said, all_fit}
-
-second_passes : (a b : Bool) → b ≡ true → (a || b) ≡ true
-second_passes true b h = refl
-second_passes false b h = h
 
 module _ (q : Problem) (v : Vertex) (a b ts : List Term) where
   -- at the vertex of the combination
@@ -74,7 +70,7 @@ module _ (q : Problem) (v : Vertex) (a b ts : List Term) where
   from : IsCombined q v a b ts → all_fit q v a b ts ≡ true
   from h =
       let each = λ (t : Term). (same_at-is (states_at ts t.vertex) (combined_at q a b v t.vertex)).1 (h t.vertex) in
-      let others = λ (t : Term). second_passes (speaks_of ts t.vertex) (fits q v a b ts t) (each t) in
+      let others = λ (t : Term). or_right (speaks_of ts t.vertex) (fits q v a b ts t) (each t) in
       and_from (list_all (fits q v a b ts) ts) (list_all (fits_or_said q v a b ts) a
       && list_all (fits_or_said q v a b ts) b) (all_pass (fits q v a b ts) ts (λ t c. each t))
       (and_from (list_all (fits_or_said q v a b ts) a) (list_all (fits_or_said q v a b ts) b)

@@ -4,6 +4,7 @@ use Rattle.std.proofs.Common.{subst, arith}
 use Rattle.std.proofs.Math.Seq.{take-suc}
 use Rattle.std.specs.List.{AllByRecursion}
 use Rattle.model.proofs.Accepted.{all-push}
+use Rattle.model.proofs.Sorting.{each-weaker}
 use Rattle.derivations.specs.Tables.{TablesView}
 use Rattle.derivations.specs.declared.step.Term.{Term}
 use Rattle.derivations.specs.declared.step.Step.{Step}
@@ -14,18 +15,13 @@ use Rattle.checker.specs.Steps.{AreOrderedSteps, IsOrderedStep}
 use Rattle.checker.specs.declared.names.Names.{Names}
 use Rattle.checker.specs.declared.naming.Naming.{Naming}
 
-each_weaker : {X : Type 0} (P Q : X → Type 0) → ((x : X) → P x → Q x) → (xs : List X)
-    → AllByRecursion P xs → AllByRecursion Q xs
-each_weaker P Q f [] h = tt
-each_weaker P Q f (x ∷ xs) h = (f x h.0, each_weaker P Q f xs h.1)
-
 -- one more of a list, where what held before still holds
 each_more : {X : Type 0} (P Q : X → Type 0) → ((x : X) → P x → Q x) → (xs : List X) (i : ℕ) (d : X) → i < length xs
     → AllByRecursion P (take i xs) → Q (get_or xs i d) → AllByRecursion Q (take (i + 1) xs)
 each_more P Q f xs i d lt so_far here =
     let next : suc i ≡ i + 1 = omega arith in
     subst (λ n. AllByRecursion Q (take n xs)) next (subst (AllByRecursion Q) (sym (take-suc xs i d lt))
-    (all-push Q (take i xs) (get_or xs i d) (each_weaker P Q f (take i xs) so_far) here))
+    (all-push Q (take i xs) (get_or xs i d) (each-weaker P Q f (take i xs) so_far) here))
 
 grown_more : (t u : TablesView) (first old new : Naming) → u ≡ t → IsGrown t first old
     → IsGrown u old new → IsGrown t first new
@@ -48,7 +44,7 @@ pub named_steps_more : (t u : TablesView) (old new : Naming) (steps : List Step)
     → IsGrown u old new → AreNamed u new (get_or steps i d).terms.items → AreNamedSteps t new (take (i + 1) steps)
 named_steps_more t u old new steps i d e lt so_far h here =
     each_more (λ s. AreNamed t old s.terms.items) (λ s. AreNamed t new s.terms.items)
-    (λ s. each_weaker (IsNamed t old) (IsNamed t new) (subst (λ t. IsGrown t old new) e h).stays s.terms.items)
+    (λ s. each-weaker (IsNamed t old) (IsNamed t new) (subst (λ t. IsGrown t old new) e h).stays s.terms.items)
     steps i d lt so_far (subst (λ t. AreNamed t new (get_or steps i d).terms.items) e here)
 
 -- ---- what is at hand in the end
@@ -65,7 +61,7 @@ module _ (t : TablesView) (g : Naming) (d : Names) (same : tables_of d ≡ t)
   steps_ready [] ordered named = tt
   steps_ready (s ∷ steps) ordered named =
       let this : IsOrderedStep (tables_of d) s = subst (λ t. IsOrderedStep t s) (sym same) ordered.0 in (
-        (this.0, (each_weaker (IsNamed t g) (IsReady d) term_ready s.terms.items named.0, (this.1).1)),
+        (this.0, (each-weaker (IsNamed t g) (IsReady d) term_ready s.terms.items named.0, (this.1).1)),
         steps_ready steps ordered.1 named.1,
       )
 

@@ -3,7 +3,7 @@ use Rattle.std.proofs.Common.{◌≡◌, ℕ, zero, suc, ◌+◌, ◌<◌, ◌�
 use Rattle.std.proofs.Common.{length, get_or, Contains, Ordering, inl, inr, refl, sym, ap, ap₂, ◌∙◌, subst, arith, Less}
 use Rattle.std.proofs.Common.{Equal, Greater}
 use Rattle.std.specs.List.Sorted.{IsPartitionedBy, IsPartitionPoint, IsPermutation, IsSorted}
-use Rattle.std.specs.Ordering.{is_lt, nat_cmp, ordering_index, ordering_reverse}
+use Rattle.std.specs.Ordering.{is_lt, nat_cmp, ordering_reverse}
 use Rattle.std.specs.Cmp.{nat_cmp_is}
 use Rattle.std.proofs.lemmas.Cmp.{nat_list_cmp_total, tied_itself}
 use Rattle.std.proofs.lemmas.List.{length-map, get_or_default}
@@ -12,6 +12,7 @@ use Rattle.std.proofs.lemmas.List.Sorted.{Contains-permutation, searchable_from_
 use Rattle.model.specs.Order.{text_cmp}
 use Rattle.model.proofs.Lists.{in_none, in_cons, in_first, in_rest}
 use Rattle.model.proofs.Ordered.{text-tie}
+use Rattle.model.proofs.Tests.{below-less}
 use Rattle.checker.specs.Names.{rank_of, rank_at, text_at, AreRanks}
 
 -- ---- a place that parts those that pass from the others is how many pass
@@ -123,16 +124,7 @@ parts_sorted : (sorted : List (List ℕ)) (x : List ℕ) → IsSorted text_cmp s
     → IsPartitionedBy (λ y. is_lt (text_cmp y x)) sorted
 parts_sorted sorted x up i j d le lt h =
     let rises = searchable_from_sorted nat_list_cmp_total (λ (t : List ℕ). t) sorted x up i j d le lt in
-    lower (text_cmp (get_or sorted i d) x) (text_cmp (get_or sorted j d) x) rises h
-  where
-    lower : (a b : Ordering) → ordering_index a ≤ ordering_index b → is_lt b ≡ true → is_lt a ≡ true
-    lower Less b le h = refl
-    lower Equal Less le h = absurd (omega (arith, le))
-    lower Equal Equal le h = h
-    lower Equal Greater le h = h
-    lower Greater Less le h = absurd (omega (arith, le))
-    lower Greater Equal le h = h
-    lower Greater Greater le h = h
+    below-less (text_cmp (get_or sorted i d) x) (text_cmp (get_or sorted j d) x) rises h
 
 -- ---- the same of what has texts
 

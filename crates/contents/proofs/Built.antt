@@ -8,9 +8,10 @@ use Rattle.std.specs.Ordering.{is_eq, ordering_reverse, ordering_then}
 use Rattle.std.specs.declared.cmp.Ordering.TheVariants.{Less, Equal, Greater}
 use Rattle.std.proofs.lemmas.Bool.{cases_order}
 use Rattle.std.proofs.lemmas.List.{length-map, map-append}
-use Rattle.std.proofs.lemmas.List.Elements.{Contains-push}
+use Rattle.std.proofs.lemmas.List.Elements.{Contains-push, All-push}
 use Rattle.std.proofs.lemmas.List.Sorted.{All-permutation, Contains-permutation, IsPermutation-map, IsPermutation-sym}
 use Rattle.std.proofs.lemmas.Option.{slice_get_within, slice_get-map, slice_get-get_or, same_Some, none-some}
+use Rattle.std.proofs.lemmas.List.Quantifiers.{all_pairs_push}
 use Rattle.semver.specs.Parse.{Parts}
 use Rattle.semver.specs.Identifiers.{parts_text}
 use Rattle.model.specs.Content.{Candidate, Package, Content, Problem, candidates_of}
@@ -22,6 +23,8 @@ use Rattle.model.proofs.Permuted.{pairs-permutation}
 use Rattle.model.proofs.Candidates.{precedence_total}
 use Rattle.lockfile.proofs.PackageOrder.{text-eq}
 use Rattle.model.proofs.Same.{text-same}
+use Rattle.model.proofs.Places.{some_at, place_of, got_in, get_more, get_push_cases, map_at}
+use Rattle.model.proofs.Mapped.{pairs_map}
 use Rattle.manifest.specs.Manifests.{ManifestView}
 use Rattle.catalogue.specs.Problems.{problem_in}
 use Rattle.catalogue.specs.Stores.{CatalogueView, IsStore, rows_by_name}
@@ -31,8 +34,7 @@ use Rattle.contents.specs.Contents.{AreInOrder, AreKept, AreListed, IsPackage, I
 use Rattle.contents.specs.Contents.{IsThere, owner_if, owners_of, met_owner, Placed, kept_with, package_if, places_in}
 use Rattle.model.specs.ContentOf.{package_of}
 use Rattle.reaching.specs.Built.{IsBuilt}
-use Rattle.contents.proofs.Lists.{place_of, there_at, some_at, still_at, map_at, pairs-map}
-use Rattle.contents.proofs.MetVersions.{all-snoc, pairs-snoc, snoc_at, once_at, rising_of, owners_once}
+use Rattle.contents.proofs.MetVersions.{once_at, rising_of, owners_once}
 use Rattle.contents.proofs.MetVersions.{some_is, name_in, version_in}
 
 -- ---- one place more
@@ -62,9 +64,9 @@ module _ (q : Problem) (owners : List Owner) (here : List Bool) where
       → AreKept q owners here (n + 1) (ks ++ (package_of q o [], n) ∷ [])
   one_kept n ks o h flag at = record {
     members = λ m. (to m, from m);
-    packages = all-snoc (IsPackage q owners) ks (package_of q o [], n) h.packages (o, at, of_itself q o);
-    distinct = pairs-snoc (λ k m. k.1 ≢ m.1) ks (package_of q o [], n) h.distinct (λ k d lt e.
-        let c = there_at (places_in ks) k (get_or ks k d).1
+    packages = All-push (IsPackage q owners) ks (package_of q o [], n) h.packages (o, at, of_itself q o);
+    distinct = all_pairs_push (λ k m. k.1 ≢ m.1) ks (package_of q o [], n) h.distinct (λ k d lt e.
+        let c = got_in (places_in ks) k (get_or ks k d).1
         (map_at (λ (k : Placed). k.1) ks k (get_or ks k d) (slice_get-get_or ks k d lt)) in
         let below = ((h.members (get_or ks k d).1).0 c).0 in
         omega (arith, below, e));
@@ -77,8 +79,8 @@ module _ (q : Problem) (owners : List Owner) (here : List Bool) where
           → (m < n + 1) × (flag_at here m ≡ true) × IsPlace q owners m
       to m c =
           let (k, got) = place_of (places_in (ks ++ (package_of q o [], n) ∷ [])) m c in
-          elim (snoc_at (places_in ks) n k m (ap (λ l. slice_get l k) (sym is) ∙ got)) [
-            | inl e ↦ let (lt, f, p) = (h.members m).0 (there_at (places_in ks) k m e) in (omega (arith, lt), f, p)
+          elim (get_push_cases (places_in ks) n k m (ap (λ l. slice_get l k) (sym is) ∙ got)) [
+            | inl e ↦ let (lt, f, p) = (h.members m).0 (got_in (places_in ks) k m e) in (omega (arith, lt), f, p)
             | inr e ↦ let last = e.1 in (
               omega (arith, last),
               subst (λ k. flag_at here k ≡ true) last flag,
@@ -101,7 +103,7 @@ module _ (q : Problem) (owners : List Owner) (here : List Bool) where
           last_in xs = Contains-push xs n
 
           early_in : (xs : List ℕ) → Contains xs m → Contains (xs ++ n ∷ []) m
-          early_in xs c = let (k, got) = place_of xs m c in there_at (xs ++ n ∷ []) k m (still_at xs (n ∷ []) k m got)
+          early_in xs c = let (k, got) = place_of xs m c in got_in (xs ++ n ∷ []) k m (get_more xs (n ∷ []) k m got)
 
   pub more_kept : (n : ℕ) (ks more : List Placed) (b : Bool) (found : Option Package) → AreKept q owners here n ks
       → flag_at here n ≡ b → found ≡ package_if q b (slice_get owners n) → more ≡ kept_with ks found n
@@ -218,12 +220,12 @@ flag_within (b ∷ bs) (suc n) h = let lt = flag_within bs n h in omega (arith, 
 module _ (q : Problem) (owners : List Owner) (here : List Bool) (first ks : List Placed)
     (kept : AreKept q owners here (length here) first) (moved : IsPermutation first ks) where
   pub places_apart : AllPairs (λ m n. m ≢ n) (places_in ks)
-  places_apart = pairs-map (λ (k : Placed). k.1) (λ m n. m ≢ n) ks
+  places_apart = pairs_map (λ (k : Placed). k.1) (λ m n. m ≢ n) ks
       (pairs-permutation (λ (k m : Placed). k.1 ≢ m.1) (λ k m n e. n (sym e)) first ks moved kept.distinct)
 
   pub places_within : (count : ℕ) → count ≡ length owners → All (λ n. n < count) (places_in ks)
   places_within count e = λ k d lt.
-      let c = there_at (places_in ks) k (get_or (places_in ks) k d) (slice_get-get_or (places_in ks) k d lt) in
+      let c = got_in (places_in ks) k (get_or (places_in ks) k d) (slice_get-get_or (places_in ks) k d lt) in
       let (below, f, (o, at)) = (kept.members (get_or (places_in ks) k d)).0 (Contains-permutation (places_in ks)
       (places_in first) (get_or (places_in ks) k d) (IsPermutation-sym (places_in first) (places_in ks)
       (IsPermutation-map (λ (k : Placed). k.1) first ks moved)) c) in
@@ -267,7 +269,7 @@ module _ (q : Problem) (owners : List Owner) (nodes : List NodeView) (enabled : 
           → Contains p.list r ↔ ((s : ℕ) × LeadsFrom nodes enabled k.1 s × (slice_get (places_in ks) r ≡ Some s)))
           → All (λ t. t < length ps) p.list
       within_list p k h n e lt =
-          let c = there_at p.list n (get_or p.list n e) (slice_get-get_or p.list n e lt) in
+          let c = got_in p.list n (get_or p.list n e) (slice_get-get_or p.list n e lt) in
           let (s, leads, place) = (h (get_or p.list n e)).0 c in
           let below = slice_get_within (places_in ks) (get_or p.list n e) s place in
           let many = listed.as_many in

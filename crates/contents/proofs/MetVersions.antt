@@ -1,15 +1,17 @@
 -- Versions that are met, one after another, the owners that they are, and what is read of them in a catalogue.
 use Rattle.std.proofs.Common.{◌≡◌, ◌≢◌, ℕ, zero, suc, ◌+◌, ◌-◌, ◌<◌, Bool, true, false, cond, List, [], ◌∷◌, ◌++◌, map}
 use Rattle.std.proofs.Common.{length, Contains, Bor, Option, Some, None, IsSome, option_map, nat_eq, slice_get, get_or}
-use Rattle.std.proofs.Common.{is_some, unwrap_or, refl, sym, ap, ap₂, ◌∙◌, subst, subst₂, inl, inr, ◌⊎◌, arith}
+use Rattle.std.proofs.Common.{is_some, unwrap_or, refl, sym, ap, ap₂, ◌∙◌, subst, subst₂, inl, inr, arith}
 use Rattle.std.proofs.Common.{true≢false, Ordering}
 use Rattle.std.specs.List.{All, AllPairs, list_any}
 use Rattle.std.specs.Slice.{IsItemAt}
 use Rattle.std.specs.declared.cmp.Ordering.TheVariants.{Less, Equal}
 use Rattle.std.proofs.lemmas.Bool.{cases_order, eqb-true, eq-eqb}
-use Rattle.std.proofs.lemmas.List.{append_assoc, map-append, length-map}
+use Rattle.std.proofs.lemmas.List.{append_assoc, map-append, length-map, append-nil}
 use Rattle.std.proofs.lemmas.List.Kept.{AllPairs-cons}
 use Rattle.std.proofs.lemmas.Option.{slice_get-get_or, slice_get-map, same_Some, none-some}
+use Rattle.std.proofs.lemmas.List.Quantifiers.{all_pairs_push}
+use Rattle.std.proofs.lemmas.List.Elements.{All-push, All-map}
 use Rattle.indexmap.specs.IndexSet.{insert_key}
 use Rattle.semver.specs.Parse.{Parts}
 use Rattle.model.specs.Summary.{same_text}
@@ -19,10 +21,13 @@ use Rattle.model.specs.Candidates.{IsOlder, Record, as_candidate}
 use Rattle.model.specs.Order.{precedence}
 use Rattle.model.specs.Vertices.{Owner, the_root, version_of, owner_brings}
 use Rattle.model.proofs.Contents.{precedence-equal}
-use Rattle.model.proofs.Lists.{all_cons, all_get, all_none, all_first, all_rest, pairs_all, pairs_get, pairs_none}
-use Rattle.model.proofs.Lists.{pairs_one, pairs_rest, to_any}
+use Rattle.model.proofs.Lists.{all_get, all_first, all_rest, pairs_get, pairs_none}
+use Rattle.model.proofs.Lists.{to_any}
 use Rattle.model.proofs.Owners.{candidate_at-is, candidate_at-there}
 use Rattle.model.proofs.Same.{both, text-refl, text-same}
+use Rattle.model.proofs.Places.{place_of, got_in, get_more, map_at}
+use Rattle.model.proofs.Mapped.{pairs_map}
+use Rattle.catalogue.proofs.Lookups.{candidates_are}
 use Rattle.manifest.specs.Manifests.{ManifestView}
 use Rattle.catalogue.specs.Problems.{problem_in}
 use Rattle.catalogue.specs.Stores.{CatalogueView, IsStore, Row, candidates_at, row_at, rows_by_name}
@@ -31,25 +36,9 @@ use Rattle.catalogue.proofs.Rows.{item_at}
 use Rattle.contents.specs.Contents.{AreMetVersions, Grows, IsCandidate, IsThere, candidate_owner, owner_if, owners_of}
 use Rattle.contents.specs.Contents.{same_met, met_owner}
 use Rattle.contents.specs.declared.met.MetVersion.{MetVersion}
-use Rattle.contents.proofs.Lists.{place_of, there_at, still_at, all-map, pairs-map, map_at}
-use Rattle.contents.proofs.Rows.{candidates_are, versions_are}
+use Rattle.contents.proofs.Rows.{versions_are}
 
 -- ---- one version more
-
-pub all-snoc : {X : Type 0} (P : X → Type 0) (xs : List X) (x : X) → All P xs → P x → All P (xs ++ x ∷ [])
-all-snoc P [] x h p = all_cons P x [] p (all_none P)
-all-snoc P (y ∷ ys) x h p = all_cons P y (ys ++ x ∷ []) (all_first P y ys h) (all-snoc P ys x (all_rest P y ys h) p)
-
-pub pairs-snoc : {X : Type 0} (R : X → X → Type 0) (xs : List X) (x : X) → AllPairs R xs → All (λ y. R y x) xs
-    → AllPairs R (xs ++ x ∷ [])
-pairs-snoc R [] x h k = pairs_one R x
-pairs-snoc R (y ∷ ys) x h k =
-    AllPairs-cons R y (ys ++ x ∷ []) (all-snoc (R y) ys x (pairs_all R y ys h) (all_first (λ y. R y x) y ys k))
-    (pairs-snoc R ys x (pairs_rest R y ys h) (all_rest (λ y. R y x) y ys k))
-
-nil-right : {Z : Type 0} (zs : List Z) → zs ++ [] ≡ zs
-nil-right [] = refl
-nil-right (z ∷ zs) = ap (λ l. z ∷ l) (nil-right zs)
 
 abbrev pub met_with : List ℕ → ℕ → MetVersion
 met_with n p = record { name = n; place = p }
@@ -71,7 +60,7 @@ differ s ts none k d lt e =
         same_Some (get_or ts k e) (get_or ts k d) (sym (slice_get-get_or ts k e lt) ∙ slice_get-get_or ts k d lt)
 
 pub unchanged : (index : CatalogueView) (versions : List MetVersion) → Grows index versions versions
-unchanged index versions = record { more = []; is = sym (nil-right versions); still = λ h. h }
+unchanged index versions = record { more = []; is = sym (append-nil versions); still = λ h. h }
 
 pub grown : (index : CatalogueView) (versions new : List MetVersion) (s : MetVersion) → IsThere index s
     → new ≡ insert_key same_met versions s → Grows index versions new
@@ -86,8 +75,8 @@ grown index versions new s there e = by (list_any (same_met s) versions) refl
           more = s ∷ [];
           is = is;
           still = λ h'. subst (AreMetVersions index) (sym is) (record {
-            distinct = pairs-snoc (λ s t. s ≢ t) versions s h'.distinct (differ s versions h);
-            there = all-snoc (IsThere index) versions s h'.there there;
+            distinct = all_pairs_push (λ s t. s ≢ t) versions s h'.distinct (differ s versions h);
+            there = All-push (IsThere index) versions s h'.there there;
           });
         }
 
@@ -106,14 +95,7 @@ owner_on index a b g n o at = subst (λ ks. slice_get (owners_of index ks) n ≡
     longer : (n : ℕ) → slice_get (owners_of index a) n ≡ Some o → slice_get (owners_of index (a ++ g.more)) n ≡ Some o
     longer zero at = at
     longer (suc n) at = ap (λ xs. slice_get xs n) (map-append (met_owner index) a g.more)
-        ∙ still_at (map (met_owner index) a) (map (met_owner index) g.more) n o at
-
-pub snoc_at : {X : Type 0} (xs : List X) (x : X) (n : ℕ) (y : X) → slice_get (xs ++ x ∷ []) n ≡ Some y
-    → (slice_get xs n ≡ Some y) ⊎ ((n ≡ length xs) × (x ≡ y))
-snoc_at [] x zero y e = inr (refl, same_Some x y e)
-snoc_at [] x (suc n) y e = absurd (none-some y e)
-snoc_at (z ∷ zs) x zero y e = inl e
-snoc_at (z ∷ zs) x (suc n) y e = elim (snoc_at zs x n y e) [ inl h ↦ inl h | inr h ↦ inr (ap suc h.0, h.1) ]
+        ∙ get_more (map (met_owner index) a) (map (met_owner index) g.more) n o at
 
 -- ---- candidates in a store
 
@@ -132,7 +114,7 @@ Rising cs = AllPairs (λ c e. precedence c.version e.version ≡ Less) cs
 pub rising_of : (index : CatalogueView) (name : List ℕ) → IsStore index
     → Rising (candidates_of (rows_by_name index) name)
 rising_of index name s =
-    subst Rising (sym (candidates_are index name)) (pairs-map as_candidate (λ c e. precedence c.version e.version
+    subst Rising (sym (candidates_are index name)) (pairs_map as_candidate (λ c e. precedence c.version e.version
     ≡ Less) (candidates_at index name) (rising_at index.rows name s.versions_rise))
 
 less-equal : (o : Ordering) → o ≡ Less → o ≡ Equal → ⊥
@@ -154,7 +136,7 @@ once_at cs h n m c e got had same back = elim (cases_order n m) [
 found_at : (cs : List Candidate) → Rising cs → (n : ℕ) (c : Candidate) → slice_get cs n ≡ Some c
     → candidate_at cs c.version ≡ Some c
 found_at cs h n c got =
-    let (e, is) = candidate_at-there cs c (there_at cs n c got) in
+    let (e, is) = candidate_at-there cs c (got_in cs n c got) in
     let (k, same) = candidate_at-is cs c.version e is in
     let (m, had) = place_of cs e k in
     let places = once_at cs h n m c e got had (precedence-equal c.version e.version same)
@@ -330,9 +312,9 @@ module _ (index : CatalogueView) (store : IsStore index) where
   pub owners_once : (versions : List MetVersion) → AreMetVersions index versions
       → AllPairs (λ a b. a ≢ b) (owners_of index versions)
   owners_once versions h = AllPairs-cons (λ (a b : Owner). a ≢ b) the_root (map (met_owner index) versions)
-      (all-map (met_owner index) (λ b. the_root ≢ b) versions
+      (All-map (λ b. the_root ≢ b) (met_owner index) versions
       (λ k d lt. not_root (get_or versions k d) (h.there k d lt)))
-      (pairs-map (met_owner index) (λ a b. a ≢ b) versions
+      (pairs_map (met_owner index) (λ a b. a ≢ b) versions
       (λ i j d lt within. apart (get_or versions i d) (get_or versions j d)
       (h.there i d (omega (arith, lt, within))) (h.there j d within) (h.distinct i j d lt within)))
 

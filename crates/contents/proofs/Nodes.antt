@@ -7,13 +7,13 @@ use Rattle.model.specs.Summary.{Dependency}
 use Rattle.model.specs.Content.{Problem}
 use Rattle.model.specs.Vertices.{Owner, owner_brings}
 use Rattle.model.proofs.Lists.{all_none, pairs_none}
+use Rattle.model.proofs.Places.{some_at, get_push_cases}
 use Rattle.facts.specs.Graphs.{NodeView}
 use Rattle.catalogue.specs.Stores.{CatalogueView, IsStore}
 use Rattle.reaching.specs.Nodes.{AreLeads, AreMet, IsLead, IsNode}
 use Rattle.contents.specs.Contents.{AreMetVersions, Grows, IsThere, owners_of}
 use Rattle.contents.specs.declared.met.MetVersion.{MetVersion}
-use Rattle.contents.proofs.Lists.{some_at}
-use Rattle.contents.proofs.MetVersions.{many_owners, owner_on, owners_once, snoc_at}
+use Rattle.contents.proofs.MetVersions.{many_owners, owner_on, owners_once}
 
 -- an owner stands where the next node goes
 pub owner_next : (index : CatalogueView) (versions : List MetVersion) (n : ℕ) → n ≤ length versions
@@ -65,7 +65,7 @@ module _ (q : Problem) (LeadsTo : Owner → ℕ → Dependency → Owner → Typ
         let count = ap length e ∙ length-append nodes (v ∷ []) in
         let longer = ap length g.is ∙ length-append old g.more in
         omega (arith, count, longer, lt);
-    each = λ n o w at got. elim (snoc_at nodes v n w (sym (ap (λ ns. slice_get ns n) e) ∙ got)) [
+    each = λ n o w at got. elim (get_push_cases nodes v n w (sym (ap (λ ns. slice_get ns n) e) ∙ got)) [
       | inl before ↦ earlier n o w at before
       | inr last ↦ later n o w at last.0 last.1
     ];

@@ -13,9 +13,9 @@ use Rattle.model.specs.Order.{package_cmp}
 use Rattle.model.proofs.Permuted.{pairs-permutation}
 use Rattle.lockfile.specs.Views.{package_view}
 use Rattle.model.proofs.PackageOrder.{package_total}
+use Rattle.model.proofs.Places.{map_at}
 use Rattle.contents.specs.Contents.{AreInOrder, Placed, placed_view, placed_views}
 use Rattle.contents.specs.declared.placed.PlacedPackage.{PlacedPackage}
-use Rattle.contents.proofs.Lists.{map_at}
 
 less : (o p : Ordering) → o ≡ ordering_reverse p → is_lt p ≡ false → o ≢ Equal → o ≡ Less
 less Less p e h n = refl

@@ -25,14 +25,13 @@ use Rattle.std.proofs.lemmas.Map.Keys.{IsStrictlyIncreasing-dedup}
 use Rattle.std.proofs.lemmas.Option.{slice_get_within, slice_get_past, slice_get-map, slice_get-get_or, same_Some}
 use Rattle.std.proofs.lemmas.Option.{none-some}
 use Rattle.model.proofs.Lists.{in_none, in_cons, in_first, in_rest, pairs_get}
+use Rattle.model.proofs.Places.{get_push_cases, map_at}
 use Rattle.catalogue.proofs.Rows.{item_at}
 use Rattle.facts.specs.Graphs.{NodeView, flag_at, node_view, node_views, target_at, target_if}
 use Rattle.facts.specs.declared.node.Node.{Node}
 use Rattle.contents.specs.Contents.{AreBeside, AreListed, AreRanks, HaveLists, Placed, places_in, IsListed, IsRising}
 use Rattle.contents.specs.Contents.{after, targets_at, targets_if, rank_if, ranks_from, with_rank}
 use Rattle.model.specs.Content.{Content}
-use Rattle.contents.proofs.MetVersions.{snoc_at}
-use Rattle.contents.proofs.Lists.{map_at}
 
 -- ---- the ranks of enabled targets
 
@@ -254,12 +253,12 @@ beside_more R xs ys x y h r =
     let many = h.as_many in
     record {
       as_many = length-append xs (x ∷ []) ∙ omega (arith, many) ∙ sym (length-append ys (y ∷ []));
-      each = λ n a b got had. elim (snoc_at xs x n a got) [
-        | inl e ↦ elim (snoc_at ys y n b had) [
+      each = λ n a b got had. elim (get_push_cases xs x n a got) [
+        | inl e ↦ elim (get_push_cases ys y n b had) [
           | inl f ↦ h.each n a b e f
           | inr f ↦ let lt = slice_get_within xs n a e in let last = f.0 in absurd (omega (arith, lt, last, many))
         ]
-        | inr e ↦ elim (snoc_at ys y n b had) [
+        | inr e ↦ elim (get_push_cases ys y n b had) [
           | inl f ↦ let lt = slice_get_within ys n b f in let last = e.0 in absurd (omega (arith, lt, last, many))
           | inr f ↦ subst₂ R e.1 f.1 r
         ]

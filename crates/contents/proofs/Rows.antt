@@ -3,8 +3,8 @@ use Rattle.std.proofs.Common.{◌≡◌, ℕ, true, false, cond, List, [], ◌�
 use Rattle.model.specs.Summary.{same_text}
 use Rattle.model.specs.Content.{Candidate, candidates_of}
 use Rattle.model.specs.Candidates.{Record, as_candidate}
-use Rattle.catalogue.specs.Ranks.{Ranked, records}
-use Rattle.catalogue.specs.Stores.{CatalogueView, Row, row_at, candidates_at, rows_by_name}
+use Rattle.catalogue.specs.Ranks.{Ranked}
+use Rattle.catalogue.specs.Stores.{Row, row_at}
 
 -- the candidates of a name where those of each row are put in an order
 pub row_of : (f : List Ranked → List Record) → f [] ≡ [] → (rows : List Row) (name : List ℕ)
@@ -18,11 +18,6 @@ row_of f none (row ∷ rows) name =
       | true ↦ refl
       | false ↦ row_of f none rows name
     ]
-
--- the candidates of a name
-pub candidates_are : (index : CatalogueView) (name : List ℕ)
-    → candidates_of (rows_by_name index) name ≡ map as_candidate (candidates_at index name)
-candidates_are index name = row_of records refl index.rows name
 
 pub versions_are : (rs : List Record)
     → map (λ (r : Record). r.version) rs ≡ map (λ (c : Candidate). c.version) (map as_candidate rs)

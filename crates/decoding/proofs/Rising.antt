@@ -21,7 +21,7 @@ use Rattle.model.proofs.Same.{class-refl}
 use Rattle.model.proofs.Orders.{class_above}
 use Rattle.model.proofs.Vertices.{class_from}
 use Rattle.model.proofs.Lists.{in_first, in_rest, to_any, pairs_first, pairs_rest, pairs_none}
-use Rattle.encoding.proofs.Needing.{from_all}
+use Rattle.model.proofs.Members.{all_in}
 use Rattle.encoding.proofs.ClassOrder.{IsOlder, pairs_filter}
 use Rattle.encoding.proofs.Distinct.{of_rows}
 use Rattle.decoding.specs.Decoding.{IsStateOrder}
@@ -107,7 +107,7 @@ classes_rise (c ∷ cs) h =
         → AllPairs (λ k m. is_lower k m ≡ true) (cond b (classes_of cs) (class_of c.version ∷ classes_of cs))
     by rest true e = rest
     by rest false e = AllPairs-cons (λ k m. is_lower k m ≡ true) (class_of c.version) (classes_of cs)
-        (from_all (λ m. is_lower (class_of c.version) m ≡ true) (classes_of cs) (first_is e)) rest
+        (all_in (λ m. is_lower (class_of c.version) m ≡ true) (classes_of cs) (first_is e)) rest
 
 -- ---- spaces
 

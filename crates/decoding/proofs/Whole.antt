@@ -21,12 +21,12 @@ use Rattle.model.specs.Vertices.{Vertex, State, same_vertex}
 use Rattle.model.specs.Axioms.{AreApart}
 use Rattle.model.specs.Derivation.{AreSteps, IsAccepted, none_yet}
 use Rattle.model.proofs.Lists.{in_none, in_cons, in_first, in_rest, pairs_none}
+use Rattle.model.proofs.Members.{all_in as from_each}
 use Rattle.encoding.specs.Numberings.{Numbering, IsNumbering}
 use Rattle.decoding.specs.Decoding.{states_in, with_term, terms_of}
 use Rattle.decoding.specs.Steps.{IsEncoded, IsNeeded, AreStepsOf, steps_of}
 use Rattle.decoding.proofs.Decoded.{same_number}
 use Rattle.decoding.proofs.Accepting.{are_steps, accepted, own_steps}
-use Rattle.decoding.proofs.Marks.{from_each}
 
 -- ---- the numbers below one
 

@@ -4,9 +4,8 @@ use Rattle.std.proofs.Common.{get_or, slice_get, Some, Ok, Err, refl, sym, ap, a
 use Rattle.std.specs.List.{AllByRecursion}
 use Rattle.std.proofs.lemmas.List.{drop_more, map-append, map_more}
 use Rattle.std.specs.List.Sorted.{IsPermutation}
-use Rattle.std.proofs.lemmas.List.Elements.{All-from_recursion, All-get_or, recursion_from_All}
+use Rattle.std.proofs.lemmas.List.Elements.{All-from_recursion, recursion_from_All}
 use Rattle.std.proofs.lemmas.List.Sorted.{All-permutation, IsPermutation-map}
-use Rattle.std.proofs.lemmas.Option.{slice_get_within, get_or_from_slice_get}
 use Rattle.trees.specs.declared.tree.Tree.{Tree}
 use Rattle.serde_json.specs.Data.{Data, Items, no_items, item}
 use Rattle.serde_json.specs.Find as json
@@ -15,6 +14,8 @@ use Rattle.model.specs.Outcome.{◌>>=◌, Faults}
 use Rattle.model.specs.Vertices.{Vertex, State}
 use Rattle.model.specs.Axioms as axioms
 use Rattle.model.specs.Derivation.{terms_of}
+use Rattle.model.proofs.Members.{element}
+use Rattle.model.proofs.Accepted.{all-push}
 use Rattle.model.specs.Derivation as steps
 use Rattle.vertices.specs.RefViews.{state_ref_view, state_ref_views}
 use Rattle.vertices.specs.Texts.{vertex_text, state_text, IsReadState}
@@ -36,7 +37,7 @@ use Rattle.derivations.specs.declared.step.Origin.{Origin}
 use Rattle.derivations.specs.declared.step.Origin.TheVariants.{Axiom, Combination}
 use Rattle.derivations.specs.declared.step.Step.{Step}
 use Rattle.derivations.specs.declared.step.Term.{Term}
-use Rattle.derivations.proofs.TableLaws.{kept-steps, kept-term, kept-terms, with-last}
+use Rattle.derivations.proofs.TableLaws.{kept-steps, kept-term, kept-terms}
 use Rattle.derivations.proofs.WriteLaws.{ordered-same}
 
 -- ---- tables that grow
@@ -67,7 +68,7 @@ module _ (s t : TablesView) (g : IsGrown s t) where
   more-written ws w x h in_t is =
       let before = written-kept ws h in (
         subst (AreTermsOf t) (sym (map-append written_term ws (w ∷ [])))
-            (with-last (IsTermOf t) (map written_term ws) w.term before.0 in_t),
+            (all-push (IsTermOf t) (map written_term ws) w.term before.0 in_t),
         map-append (written_view t) ws (w ∷ []) ∙ ap₂ (λ xs y. xs ++ y ∷ []) before.1 is,
       )
 
@@ -124,11 +125,6 @@ each-step t m (s ∷ ss) within h = (
   (within.0.1, subst (λ xs. AllByRecursion IsTerm xs) (own-terms t s.origin (terms_at t s.terms.items)) h.0.1.0),
   each-step t (m + 1) ss within.1 h.1,
 )
-
-element : {X : Type 0} (P : X → Type 0) (xs : List X) (n : ℕ) (x : X) → AllByRecursion P xs
-    → slice_get xs n ≡ Some x → P x
-element P xs n x h is = subst P (get_or_from_slice_get xs n x x is)
-    (All-get_or P xs n x (slice_get_within xs n x is) (All-from_recursion P xs h))
 
 pub terms-before : (t : TablesView) (ss : List Step) (n : ℕ) (x : Step) → IsReading t ss → slice_get ss n ≡ Some x
     → AreTermsBefore t x.terms.items

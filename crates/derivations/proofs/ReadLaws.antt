@@ -1,12 +1,12 @@
 -- What is read keeps what each derivation keeps.
-use Rattle.std.proofs.Common.{◌≡◌, ℕ, ◌+◌, List, [], ◌∷◌, ◌++◌, length, Bool, true, false, cond, ◌&&◌, Option, Some}
+use Rattle.std.proofs.Common.{◌≡◌, ℕ, ◌+◌, List, [], ◌∷◌, ◌++◌, length, Bool, true, false, cond, Option, Some}
 use Rattle.std.proofs.Common.{None, Ok, Err, option_and_then, refl, sym, ap, ap₂, ◌∙◌, subst, arith, Ordering, Less}
 use Rattle.std.proofs.Common.{codes}
 use Rattle.std.specs.Cmp.{IsTotalOrder}
 use Rattle.std.specs.List.{AllByRecursion}
 use Rattle.std.specs.List.Sorted.{IsStrictlySortedBy}
 use Rattle.std.specs.Ordering.{eq_by_cmp}
-use Rattle.std.proofs.lemmas.Bool.{ltb-true}
+use Rattle.std.proofs.lemmas.Bool.{ltb-true, and_parts}
 use Rattle.serde_json.specs.Data.{Data, Items, no_items, item}
 use Rattle.serde_json.specs.Find as json
 use Rattle.model.specs.Order.{text_cmp}
@@ -162,14 +162,10 @@ origin-is None (Some d) r h = combination-is d r h
 origin-is None None r h = cc
 origin-is (Some d) (Some e) r h = cc
 
-and-true : (a b : Bool) → (a && b) ≡ true → (a ≡ true) × (b ≡ true)
-and-true true b h = (refl, h)
-and-true false b h = cc
-
 back : (n : ℕ) (r : Origin) (ts : List Term) → IsOrigin r → AreTerms ts → is_backward n r ≡ true
     → IsStepAt n (step_by r ts)
 back n (by_axiom k) ts r t h = (tt, t)
-back n (by_combination a b v) ts r t h = let p = and-true _ _ h in ((ltb-true _ _ p.0, ltb-true _ _ p.1, r), t)
+back n (by_combination a b v) ts r t h = let p = and_parts _ _ h in ((ltb-true _ _ p.0, ltb-true _ _ p.1, r), t)
 
 step-is : (n : ℕ) (d : Data) (s : Step) → step_of n d ≡ Ok s → IsStepAt n s
 unfolding step_of

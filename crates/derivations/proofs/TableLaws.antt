@@ -12,6 +12,7 @@ use Rattle.model.specs.Vertices.{Vertex, State, root, absent}
 use Rattle.model.specs.Axioms as axioms
 use Rattle.model.specs.Axioms.{at}
 use Rattle.model.specs.Derivation.{combine}
+use Rattle.model.proofs.Accepted.{all-push}
 use Rattle.model.specs.Derivation as steps
 use Rattle.derivations.specs.Tables.{vertex_at, set_at, TablesView, state_at, states_at, term_at, terms_at}
 use Rattle.derivations.specs.Tables.{step_by_origin, step_at, steps_at, AreStatesOf, IsTermOf, AreTermsOf, IsOriginOf}
@@ -155,11 +156,6 @@ module _ (s t : TablesView) (g : IsGrown s t) where
       let rest = kept-steps xs h.1 in
       ((here.0, rest.0), ap₂ (λ y ys. y ∷ ys) here.1 rest.1)
 
-pub with-last : {X : Type 0} (P : X → Type 0) (xs : List X) (x : X) → AllByRecursion P xs → P x
-    → AllByRecursion P (xs ++ x ∷ [])
-with-last P [] x h p = (p, tt)
-with-last P (y ∷ ys) x h p = (h.0, with-last P ys x h.1 p)
-
 -- ---- sets of numbers
 
 -- so many states, and then no fewer
@@ -179,7 +175,7 @@ each-key eq view P ks k h p = by (list_any (eq k) ks)
   where
     by : (b : Bool) → AllByRecursion P (map view (cond b ks (ks ++ k ∷ [])))
     by true = h
-    by false = rw (map-append view ks (k ∷ [])) (with-last P (map view ks) (view k) h p)
+    by false = rw (map-append view ks (k ∷ [])) (all-push P (map view ks) (view k) h p)
 
 -- no fewer elements after a key is put in
 pub no-fewer : {K V : Type 0} (eq : K → K → Bool) (view : K → V) (ks : List K) (k : K)
@@ -200,7 +196,7 @@ pub more-states : (s t : TablesView) (ns : List ℕ) (n : ℕ) (x : State) (rest
     → AreStatesOf t (ns ++ n ∷ []) × (states_at t (ns ++ n ∷ []) ++ rest ≡ all)
 more-states s t ns n x rest all g h lt is told =
     let before = kept-states s t g ns h in (
-      with-last (λ n. n < length t.states) ns n before.0 lt,
+      all-push (λ n. n < length t.states) ns n before.0 lt,
       ap (λ xs. xs ++ rest) (map-append (state_at t) ns (n ∷ []) ∙ ap₂ (λ xs y. xs ++ y ∷ []) before.1 is)
           ∙ append_assoc (states_at s ns) (x ∷ []) rest ∙ told,
     )
@@ -210,7 +206,7 @@ pub more-terms : (s t : TablesView) (ns : List Term) (n : Term) (x : axioms.Term
     → AreTermsOf t (ns ++ n ∷ []) × (terms_at t (ns ++ n ∷ []) ++ rest ≡ all)
 more-terms s t ns n x rest all g h in_t is told =
     let before = kept-terms s t g ns h in (
-      with-last (IsTermOf t) ns n before.0 in_t,
+      all-push (IsTermOf t) ns n before.0 in_t,
       ap (λ xs. xs ++ rest) (map-append (term_at t) ns (n ∷ []) ∙ ap₂ (λ xs y. xs ++ y ∷ []) before.1 is)
           ∙ append_assoc (terms_at s ns) (x ∷ []) rest ∙ told,
     )
@@ -221,7 +217,7 @@ pub more-steps : (s t : TablesView) (ss : List Step) (x : Step) (step : steps.St
     → AreStepsOf t (ss ++ x ∷ []) × (steps_at t (ss ++ x ∷ []) ≡ steps_at s ss ++ step ∷ [])
 more-steps s t ss x step g h in_t is =
     let before = kept-steps s t g ss h in (
-      with-last (IsStepOf t) ss x before.0 in_t,
+      all-push (IsStepOf t) ss x before.0 in_t,
       map-append (step_at t) ss (x ∷ []) ∙ ap₂ (λ xs y. xs ++ y ∷ []) before.1 is,
     )
 

@@ -5,7 +5,7 @@ use Rattle.std.proofs.Common.{append_assoc, append-nil, IsUtf8, length-append, O
 use Rattle.std.specs.Cmp.{IsTotalOrder}
 use Rattle.std.specs.List.{AllByRecursion, list_all, slice_split}
 use Rattle.std.specs.List.Sorted.{IsStrictlySortedBy}
-use Rattle.std.proofs.lemmas.Bool.{lt-ltb}
+use Rattle.std.proofs.lemmas.Bool.{lt-ltb, and_parts}
 use Rattle.std.proofs.lemmas.Bool.Decides.{nat_tests}
 use Rattle.std.proofs.lemmas.List.Elements.{All-from_recursion}
 use Rattle.std.proofs.lemmas.List.Sorted.{IsPermutation-refl}
@@ -270,13 +270,9 @@ line-append (x ∷ a) b h k = (h.0, line-append a b h.1 k)
 abbrev printable : ℕ → Bool
 printable b = nat_le 32 b && nat_lt b 127
 
-and-both : (a b : Bool) → (a && b) ≡ true → (a ≡ true) × (b ≡ true)
-and-both true b h = (refl, h)
-and-both false b h = cc
-
 line-literal : (text : List ℕ) → list_all printable text ≡ true → IsLine text
 line-literal [] h = tt
-line-literal (b ∷ bs) h = let both = and-both (printable b) (list_all printable bs) h in let test =
+line-literal (b ∷ bs) h = let both = and_parts (printable b) (list_all printable bs) h in let test =
     both.0 in ((grind (arith, nat_tests), grind (arith, nat_tests)), line-literal bs both.1)
 
 line-commas : {X : Type 0} (f : X → List ℕ) (xs : List X) → AllByRecursion (λ x. IsLine (f x)) xs

@@ -1,10 +1,9 @@
 -- The instances of a pair, put one after another.
 use Rattle.std.proofs.Common.{◌≡◌, ◌≢◌, ℕ, zero, suc, ◌<◌, ◌≤◌, ◌+◌, get_or, take, take_all, List, [], ◌∷◌, ◌++◌}
-use Rattle.std.proofs.Common.{length, true, Contains, Some, slice_get, sym, ap, ◌∙◌, subst, arith}
+use Rattle.std.proofs.Common.{length, true, Contains, slice_get, sym, ap, ◌∙◌, subst, arith}
 use Rattle.std.specs.Prelude.{unwrap_or}
 use Rattle.std.specs.List.{AllByRecursion, AllPairs}
 use Rattle.std.proofs.lemmas.List.{map-append}
-use Rattle.std.proofs.lemmas.Option.{none-some, same_Some}
 use Rattle.std.proofs.Math.Seq.{take-suc}
 use Rattle.version_sets.specs.Sets.{Members}
 use Rattle.terms.specs.Terms.{terms_view}
@@ -12,6 +11,7 @@ use Rattle.terms.specs.declared.term.Term as Numbered
 use Rattle.model.specs.Content.{Problem}
 use Rattle.model.specs.Vertices.{Vertex, State, absent, space}
 use Rattle.model.proofs.Lists.{in_first, in_rest}
+use Rattle.model.proofs.Members.{all_each}
 use Rattle.refutations.specs.Causes.{Cause, is_cause, kind_of, terms_of_cause}
 use Rattle.vertices.specs.Kinds.{kind_view}
 use Rattle.vertices.specs.declared.kind.Kind.{Kind}
@@ -56,13 +56,9 @@ cause_there P (y ∷ all) (suc i) x h lt is = cause_there P all i x h.1 (omega (
 
 -- ---- those of a pair
 
-all_from : {X : Type 0} (P : X → Type 0) (xs : List X) → ((x : X) → Contains xs x → P x) → AllByRecursion P xs
-all_from P [] h = tt
-all_from P (x ∷ xs) h = (h x (in_first x xs), all_from P xs (λ y c. h y (in_rest x y xs c)))
-
 pub causes_there : (q : Problem) (p : Pair) (cs : List Cause) → AreCausesAt q p cs
     → AllByRecursion (λ c. is_cause q c ≡ true) cs
-causes_there q p cs are = all_from (λ c. is_cause q c ≡ true) cs (λ c i. ((are.listed c).0 i).0)
+causes_there q p cs are = all_each (λ c. is_cause q c ≡ true) cs (λ c i. ((are.listed c).0 i).0)
 
 found : {X : Type 0} (xs : List X) (n : ℕ) (d : X) → n < length xs → Contains xs (unwrap_or (slice_get xs n) d)
 found [] n d lt = absurd (omega (arith, lt))
@@ -73,9 +69,3 @@ found (x ∷ xs) (suc n) d lt = in_rest x (unwrap_or (slice_get xs n) d) xs (fou
 pub state_in : (q : Problem) (v : Vertex) (n : ℕ) (s : State) → n < length (space q v)
     → s ≡ state_at q v n → Contains (space q v) s
 state_in q v n s lt is = subst (Contains (space q v)) (sym is) (found (space q v) n absent lt)
-
-pub vertex_there : {X : Type 0} (P : X → Type 0) (xs : List X) (n : ℕ) (x : X) → AllByRecursion P xs
-    → slice_get xs n ≡ Some x → P x
-vertex_there P [] n x h e = absurd (none-some x e)
-vertex_there P (y ∷ xs) zero x h e = subst P (same_Some y x e) h.0
-vertex_there P (y ∷ xs) (suc n) x h e = vertex_there P xs n x h.1 e

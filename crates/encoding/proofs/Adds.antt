@@ -3,10 +3,12 @@ use Rattle.std.proofs.Common.{◌≡◌, ◌⊎◌, ◌<◌, ℕ, get_or, List, 
 use Rattle.std.proofs.Common.{Contains, refl, ap, ◌∙◌, subst, inl, inr}
 use Rattle.std.specs.List.{list_any}
 use Rattle.std.proofs.lemmas.Option.{slice_get_read}
+use Rattle.std.proofs.lemmas.List.Elements.{Contains-push_cases}
 use Rattle.model.specs.Content.{Problem}
 use Rattle.model.specs.Vertices.{Vertex, same_vertex}
 use Rattle.model.specs.Axioms.{Term}
 use Rattle.model.proofs.Lists.{to_map}
+use Rattle.model.proofs.Places.{got_in}
 use Rattle.refutations.specs.Causes.{Cause, terms_of_cause}
 use Rattle.encoding.specs.GivenViews.{cause_views}
 use Rattle.named_terms.specs.CauseViews.{cause_view}
@@ -15,8 +17,6 @@ use Rattle.encoding.specs.Pairs.{AreCausesAt, IsCauseAt, IsSpokenOf, Pair, spoke
 use Rattle.encoding.specs.TestedTerms.{TestedTerm, tested_view, tested_views, all_tested, vertices_of}
 use Rattle.named_terms.specs.declared.cause.Cause as cause
 use Rattle.encoding.specs.declared.tested_terms.TestedTerm as tested_term
-use Rattle.encoding.proofs.Needing.{in_last}
-use Rattle.encoding.proofs.Places.{got_in}
 
 pub adds_none : (Is : Vertex → Type 0) (vs : Numbering) → AddsOnly Is vs vs
 adds_none Is vs = λ v c. inl c
@@ -33,7 +33,7 @@ adds_put vs new w e = λ v i. by (list_any (same_vertex w) vs) v (subst (λ l. C
   where
     by : (b : Bool) (v : Vertex) → Contains (cond b vs (vs ++ w ∷ [])) v → Contains vs v ⊎ (w ≡ v)
     by true v d = inl d
-    by false v d = in_last vs w v d
+    by false v d = Contains-push_cases vs w v d
 
 -- ---- of tested terms, and of a cause's instance
 

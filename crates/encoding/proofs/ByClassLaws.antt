@@ -6,6 +6,7 @@ use Rattle.std.specs.List.{flat_map, list_all}
 use Rattle.std.specs.declared.alloc.Global.{Global}
 use Rattle.std.proofs.lemmas.Bool.{eqb-true}
 use Rattle.std.proofs.lemmas.List.{append-nil, append_assoc, drop_more}
+use Rattle.std.proofs.lemmas.List.Concat.{flat_map-append}
 use Rattle.classes.specs.Classes.{class_view}
 use Rattle.classes.specs.declared.class.Class as code
 use Rattle.classes.specs.declared.class.Class.TheVariants as class
@@ -15,6 +16,7 @@ use Rattle.model.specs.Selection.{Class}
 use Rattle.model.specs.Summary.{Dependency, same_text}
 use Rattle.model.specs.Vertices.{Owner, dep_classes, owner_brings, same_class}
 use Rattle.model.proofs.Same.{both}
+use Rattle.model.proofs.Mapped.{flat_flat}
 use Rattle.refutations.specs.Causes.{Cause, of_newest}
 use Rattle.encoding.specs.ByClass.{PutsLeading, leading_to, newest_among, newest_with, number_if, numbers_in, same_key}
 use Rattle.encoding.specs.Called.{numbered_from}
@@ -92,18 +94,6 @@ leading_more q m new p ps x all puts had =
 
 -- ---- what they give
 
-flat-append : {X Y : Type 0} (f : X → List Y) (xs ys : List X)
-    → flat_map f (xs ++ ys) ≡ flat_map f xs ++ flat_map f ys
-flat-append f [] ys = refl
-flat-append f (x ∷ xs) ys =
-    ap (λ l. f x ++ l) (flat-append f xs ys) ∙ sym (append_assoc (f x) (flat_map f xs) (flat_map f ys))
-
-flat-flat : {X Y Z : Type 0} (f : Y → List Z) (g : X → List Y) (xs : List X)
-    → flat_map f (flat_map g xs) ≡ flat_map (λ x. flat_map f (g x)) xs
-flat-flat f g [] = refl
-flat-flat f g (x ∷ xs) =
-    flat-append f (g x) (flat_map g xs) ∙ ap (λ l. flat_map f (g x) ++ l) (flat-flat f g xs)
-
 flat_same : {X Y : Type 0} (f g : X → List Y) → ((x : X) → f x ≡ g x) → (xs : List X) → flat_map f xs ≡ flat_map g xs
 flat_same f g e [] = refl
 flat_same f g e (x ∷ xs) = ap₂ (λ a b. a ++ b) (e x) (flat_same f g e xs)
@@ -138,7 +128,7 @@ module _ (q : Problem) (o : Owner) (i : ℕ) (k : Class) where
         ≡ cond (nat_eq i j) [] (flat_map (newest_at o i j k m) ks)
     by_classes j [] = none_both (nat_eq i j) [] refl
     by_classes j (n ∷ ks) =
-        flat-append (newest_with o i k m) (number_if m j n) (flat_map (number_if m j) ks)
+        flat_map-append (newest_with o i k m) (number_if m j n) (flat_map (number_if m j) ks)
         ∙ ap (λ l. l ++ flat_map (newest_with o i k m) (flat_map (number_if m j) ks)) (if_one j (same_class n m))
         ∙ one_more (same_class n m) (nat_eq i j) (of_newest o i j k m)
         (flat_map (newest_with o i k m) (flat_map (number_if m j) ks)) (flat_map (newest_at o i j k m) ks)
@@ -165,7 +155,7 @@ module _ (q : Problem) (o : Owner) (i : ℕ) (k : Class) where
       → flat_map (newest_among q o i k ps) ks ≡ []
   none_alone ps h = flat_none (newest_among q o i k ps) (λ m.
       ap (λ cs. cond (is_lower k m) cs [])
-      (flat-flat (newest_with o i k m) (λ p. flat_map (number_if m p.0) (dep_classes q p.1)) ps ∙ alone m ps h)
+      (flat_flat (newest_with o i k m) (λ p. flat_map (number_if m p.0) (dep_classes q p.1)) ps ∙ alone m ps h)
       ∙ none_if (is_lower k m) [] refl)
 
   module _ (d : Dependency) where
@@ -176,7 +166,7 @@ module _ (q : Problem) (o : Owner) (i : ℕ) (k : Class) where
     newest_on = let ds = (owner_brings q o).dependencies in
         flat_same (newest_among q o i k (on_package d.real_name (numbered_from 0 ds))) (newest_above q o i k d)
         (λ m. ap (λ cs. cond (is_lower k m) cs [])
-        (flat-flat (newest_with o i k m) (λ p. flat_map (number_if m p.0) (dep_classes q p.1))
+        (flat_flat (newest_with o i k m) (λ p. flat_map (number_if m p.0) (dep_classes q p.1))
         (on_package d.real_name (numbered_from 0 ds)) ∙ each_on q o i k d m (with_one m) (there m d) ds))
 
     -- .. and of these the others
@@ -186,5 +176,5 @@ module _ (q : Problem) (o : Owner) (i : ℕ) (k : Class) where
     newest_others = let ds = (owner_brings q o).dependencies in
         flat_same (newest_among q o i k (others_on i d.real_name (numbered_from 0 ds))) (newest_above q o i k d)
         (λ m. ap (λ cs. cond (is_lower k m) cs [])
-        (flat-flat (newest_with o i k m) (λ p. flat_map (number_if m p.0) (dep_classes q p.1))
+        (flat_flat (newest_with o i k m) (λ p. flat_map (number_if m p.0) (dep_classes q p.1))
         (others_on i d.real_name (numbered_from 0 ds)) ∙ each_other q o i k d m (with_one m) (there m d) ds))

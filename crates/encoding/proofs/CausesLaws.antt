@@ -3,7 +3,7 @@ use Rattle.std.proofs.Common.{◌≡◌, ◌≢◌, ◌↔◌, ◌+◌, ℕ, Lis
 use Rattle.std.proofs.Common.{◌&&◌, ◌||◌, Contains, Option, Some, None, nat_eq, refl, sym, ap, ◌∙◌, subst}
 use Rattle.std.proofs.Common.{inl, inr, true≢false}
 use Rattle.std.specs.List.{list_any, flat_map}
-use Rattle.std.proofs.lemmas.Bool.{and_from}
+use Rattle.std.proofs.lemmas.Bool.{and_from, not-true}
 use Rattle.semver.specs.Parse.{Parts}
 use Rattle.model.specs.Summary.{Dependency, Entry, feature, dependency, dependency_feature, weak_feature}
 use Rattle.model.specs.Summary.{asked_of_target, same_text}
@@ -42,10 +42,6 @@ from_unless false c cs h = (refl, h)
 
 to_unless : {X : Type 0} (b : Bool) (c : X) (cs : List X) → b ≡ false → Contains cs c → Contains (cond b [] cs) c
 to_unless b c cs e h = subst (λ x. Contains (cond x [] cs) c) (sym e) h
-
-not-true : (b : Bool) → not b ≡ true → b ≡ false
-not-true true h = sym h
-not-true false h = refl
 
 -- ---- each cause is listed
 

@@ -17,8 +17,8 @@ use Rattle.model.proofs.Same.{class-same, class-refl}
 use Rattle.model.proofs.Orders.{class_above}
 use Rattle.model.proofs.Lists.{any_of, pairs_first, pairs_rest, in_rest, in_first, in_cons, in_none, in_map, in_filter}
 use Rattle.model.proofs.Lists.{pairs_none}
+use Rattle.model.proofs.Members.{all_in}
 use Rattle.std.proofs.lemmas.List.Kept.{AllPairs-cons}
-use Rattle.encoding.proofs.Needing.{from_all}
 use Rattle.classes.specs.Groups.{each_once, classes_matched}
 
 -- the second class isn't lower
@@ -136,7 +136,7 @@ comes c e less = by (is_lower (class_of e.version) (class_of c.version)) refl
 pairs_comes : (cs : List Candidate) → AllPairs IsOlder cs → AllPairs Comes (map class_at cs)
 pairs_comes [] h = pairs_none Comes
 pairs_comes (c ∷ cs) h = AllPairs-cons Comes (class_at c) (map class_at cs)
-    (from_all (Comes (class_at c)) (map class_at cs) (λ k i. let r = in_map class_at cs k i in
+    (all_in (Comes (class_at c)) (map class_at cs) (λ k i. let r = in_map class_at cs k i in
     subst (Comes (class_at c)) r.2 (comes c r.0 (pairs_first IsOlder c r.0 cs h r.1))))
     (pairs_comes cs (pairs_rest IsOlder c cs h))
 
@@ -146,7 +146,7 @@ pairs_filter p (c ∷ cs) h = by (pairs_filter p cs (pairs_rest IsOlder c cs h))
   where
     by : AllPairs IsOlder (filter p cs) → (b : Bool) → AllPairs IsOlder (cond b (c ∷ filter p cs) (filter p cs))
     by rest true = AllPairs-cons IsOlder c (filter p cs)
-        (from_all (IsOlder c) (filter p cs) (λ e i. pairs_first IsOlder c e cs h (in_filter p cs e i).0)) rest
+        (all_in (IsOlder c) (filter p cs) (λ e i. pairs_first IsOlder c e cs h (in_filter p cs e i).0)) rest
     by rest false = rest
 
 classes_folded : (cs : List Candidate) → classes_of cs ≡ folded (map class_at cs)

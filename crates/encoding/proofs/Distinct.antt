@@ -14,22 +14,16 @@ use Rattle.model.specs.Vertices.{same_class, classes_of, matching, dep_classes, 
 use Rattle.model.specs.Vertices.{class_candidates, space}
 use Rattle.model.proofs.Same.{class-refl}
 use Rattle.model.proofs.Contents.{precedence-equal}
-use Rattle.model.proofs.Lists.{in_map, to_any, pairs_first, pairs_rest, pairs_none, pairs_two, all_first, all_rest}
-use Rattle.encoding.proofs.Needing.{from_all}
+use Rattle.model.proofs.Lists.{in_map, to_any, pairs_none, pairs_two, all_first, all_rest}
+use Rattle.model.proofs.Members.{all_in}
+use Rattle.model.proofs.Gathered.{pairs_map}
 use Rattle.encoding.proofs.ClassOrder.{IsOlder, pairs_filter}
-
-pub pairs_map : {X Y : Type 0} (f : X → Y) (R : X → X → Type 0) (S : Y → Y → Type 0)
-    → ((x y : X) → R x y → S (f x) (f y)) → (xs : List X) → AllPairs R xs → AllPairs S (map f xs)
-pairs_map f R S h [] a = pairs_none S
-pairs_map f R S h (x ∷ xs) a = AllPairs-cons S (f x) (map f xs)
-    (from_all (S (f x)) (map f xs) (λ y i. let r = in_map f xs y i in
-    subst (S (f x)) r.2 (h x r.0 (pairs_first R x r.0 xs a r.1)))) (pairs_map f R S h xs (pairs_rest R x xs a))
 
 -- absent is no other state
 absent_first : {X : Type 0} (f : X → State) (xs : List X) → ((x : X) → absent ≢ f x)
     → AllPairs (λ s r. s ≢ r) (map f xs) → AllPairs (λ s r. s ≢ r) (absent ∷ map f xs)
 absent_first f xs n h = AllPairs-cons (λ s r. s ≢ r) absent (map f xs)
-    (from_all (λ r. absent ≢ r) (map f xs) (λ s i. let r = in_map f xs s i in λ e. n r.0 (e ∙ sym r.2))) h
+    (all_in (λ r. absent ≢ r) (map f xs) (λ s i. let r = in_map f xs s i in λ e. n r.0 (e ∙ sym r.2))) h
 
 pub older_differ : (c e : Candidate) → IsOlder c e → version c.version ≢ version e.version
 older_differ c e less same =
@@ -53,7 +47,7 @@ classes_once (c ∷ cs) = by (classes_once cs) (list_any (same_class (class_of c
         (classes_of cs) ≡ b → AllPairs (λ k m. k ≢ m) (cond b (classes_of cs) (class_of c.version ∷ classes_of cs))
     by rest true e = rest
     by rest false e = AllPairs-cons (λ k m. k ≢ m) (class_of c.version) (classes_of cs)
-        (from_all (λ m. class_of c.version ≢ m) (classes_of cs)
+        (all_in (λ m. class_of c.version ≢ m) (classes_of cs)
         (λ m i same. true≢false (sym (to_any (same_class (class_of c.version)) (classes_of cs) m i (subst (λ x.
         same_class (class_of c.version) x ≡ true) same (class-refl (class_of c.version)))) ∙ e)))
         rest

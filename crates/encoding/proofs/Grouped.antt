@@ -13,6 +13,7 @@ use Rattle.model.specs.Selection as model
 use Rattle.model.specs.Selection.{class_of}
 use Rattle.model.specs.WellFormed.{IsCatalogue}
 use Rattle.model.specs.Vertices.{dep_classes}
+use Rattle.model.proofs.Gathered.{pairs_map}
 use Rattle.manifest.specs.Manifests.{ManifestView}
 use Rattle.catalogue.specs.Problems.{problem_in}
 use Rattle.catalogue.specs.Stores.{CatalogueView, candidates_at}
@@ -23,7 +24,7 @@ use Rattle.classes.specs.declared.class.Class.{Class}
 use Rattle.looking_up.specs.Ranges.{AreRising}
 use Rattle.encoding.proofs.ClassOrder.{matched_classes}
 use Rattle.looking_up.proofs.Classed.{versions_are}
-use Rattle.encoding.proofs.Distinct.{of_rows, pairs_map}
+use Rattle.encoding.proofs.Distinct.{of_rows}
 
 older : (v w : Version) → precedence_cmp v w ≡ Less
     → is_gt (precedence (parts_of v) (parts_of w)) ≡ Rattle.std.specs.Prelude.false

@@ -1,10 +1,12 @@
 -- As more vertices get numbers, and lists with one more at the end.
-use Rattle.std.proofs.Common.{◌≡◌, ◌≢◌, ◌⊎◌, ℕ, zero, suc, List, [], ◌∷◌, ◌++◌, Bool, true, false, cond, Contains}
+use Rattle.std.proofs.Common.{◌≡◌, ◌≢◌, ℕ, List, [], ◌∷◌, ◌++◌, Bool, true, false, cond, Contains}
 use Rattle.std.proofs.Common.{Option, Some, None, slice_get, refl, sym, ap, ◌∙◌, subst, inl, inr}
 use Rattle.std.specs.Prelude.{option_map}
-use Rattle.std.specs.List.{All, AllPairs, AllByRecursion, list_any}
+use Rattle.std.specs.List.{AllPairs, AllByRecursion, list_any}
 use Rattle.std.proofs.lemmas.Option.{none-some, same_Some}
 use Rattle.std.proofs.lemmas.List.Kept.{AllPairs-cons}
+use Rattle.std.proofs.lemmas.List.{append-nil}
+use Rattle.std.proofs.lemmas.List.Elements.{Contains-append_left, Contains-push_cases}
 use Rattle.terms.specs.Terms.{TermView}
 use Rattle.incompatibilities.specs.Incompatibilities as numbered
 use Rattle.incompatibilities.specs.Incompatibilities.{unless_full}
@@ -13,29 +15,23 @@ use Rattle.model.specs.Vertices.{Vertex, State, same_vertex}
 use Rattle.model.specs.Axioms.{Term, IsVertex}
 use Rattle.model.specs.Derivation as model
 use Rattle.model.proofs.Same.{vertex-refl}
-use Rattle.model.proofs.Lists.{pairs_first, pairs_rest, pairs_one, all_cons, all_none, in_first, in_rest, in_cons}
-use Rattle.model.proofs.Lists.{in_none, to_any}
+use Rattle.model.proofs.Lists.{pairs_first, pairs_rest, pairs_one, in_first, in_rest}
+use Rattle.model.proofs.Lists.{to_any}
+use Rattle.model.proofs.Places.{place_of, get_more}
+use Rattle.model.proofs.Members.{all_in}
+use Rattle.model.proofs.Accepted.{all-push}
 use Rattle.refutations.specs.Causes.{Cause, kind_of, terms_of_cause}
 use Rattle.encoding.specs.Numberings.{Numbering, IsNumbering, IsGrown, members_at, Says, with_vertex}
 use Rattle.encoding.specs.Pairs.{Given, AreGiven}
-use Rattle.encoding.proofs.Places.{got_in, place_of}
 use Rattle.encoding.proofs.Saying.{one_place}
 use Rattle.encoding.proofs.Sound.{spoken}
 
 -- ---- as more vertices get numbers
 
-get_more : {X : Type 0} (xs ys : List X) (n : ℕ) (x : X) → slice_get xs n ≡ Some x → slice_get (xs ++ ys) n ≡ Some x
-get_more [] ys n x e = absurd (none-some x e)
-get_more (z ∷ xs) ys zero x e = e
-get_more (z ∷ xs) ys (suc n) x e = get_more xs ys n x e
-
-contains_more : {X : Type 0} (xs ys : List X) (x : X) → Contains xs x → Contains (xs ++ ys) x
-contains_more xs ys x c = let r = place_of xs x c in got_in (xs ++ ys) r.0 x (get_more xs ys r.0 x r.1)
-
 numbers_more : (vs more : Numbering) (ts : List Term) → AllByRecursion (λ t. Contains vs t.vertex) ts
     → AllByRecursion (λ t. Contains (vs ++ more) t.vertex) ts
 numbers_more vs more [] h = tt
-numbers_more vs more (t ∷ ts) h = (contains_more vs more t.vertex h.0, numbers_more vs more ts h.1)
+numbers_more vs more (t ∷ ts) h = (Contains-append_left vs more t.vertex h.0, numbers_more vs more ts h.1)
 
 -- what is said of a vertex is said of one that has a number
 spoken_of : (vs : Numbering) (ts : List Term) → AllByRecursion (λ t. Contains vs t.vertex) ts
@@ -44,39 +40,19 @@ spoken_of vs ts h v ss e = spoken (λ w. Contains vs w) ts h v ss e
 
 -- ---- lists with one more at the end
 
-append_none : {X : Type 0} (xs : List X) → xs ++ [] ≡ xs
-append_none [] = refl
-append_none (x ∷ xs) = ap (λ l. x ∷ l) (append_none xs)
-
 append_more : {X : Type 0} (a b c : List X) → (a ++ b) ++ c ≡ a ++ (b ++ c)
 append_more [] b c = refl
 append_more (x ∷ a) b c = ap (λ l. x ∷ l) (append_more a b c)
-
-all_last : {X : Type 0} (P : X → Type 0) (xs : List X) (x : X) → AllByRecursion P xs → P x
-    → AllByRecursion P (xs ++ x ∷ [])
-all_last P [] x h p = (p, tt)
-all_last P (y ∷ xs) x h p = (h.0, all_last P xs x h.1 p)
-
-pub in_last : {X : Type 0} (xs : List X) (x y : X) → Contains (xs ++ x ∷ []) y → Contains xs y ⊎ (x ≡ y)
-in_last [] x y c = elim (in_cons x y [] c) [ inl e ↦ inr e | inr d ↦ absurd (in_none y d) ]
-in_last (z ∷ xs) x y c = elim (in_cons z y (xs ++ x ∷ []) c) [
-  | inl e ↦ inl (subst (λ w. Contains (z ∷ xs) w) e (in_first z xs))
-  | inr d ↦ elim (in_last xs x y d) [ inl f ↦ inl (in_rest z y xs f) | inr f ↦ inr f ]
-]
-
-pub from_all : {X : Type 0} (P : X → Type 0) (xs : List X) → ((x : X) → Contains xs x → P x) → All P xs
-from_all P [] h = all_none P
-from_all P (x ∷ xs) h = all_cons P x xs (h x (in_first x xs)) (from_all P xs (λ y c. h y (in_rest x y xs c)))
 
 pub apart_last : {X : Type 0} (xs : List X) (x : X) → AllPairs (λ v w. v ≢ w) xs → ((y : X) → Contains xs y → y ≢ x)
     → AllPairs (λ v w. v ≢ w) (xs ++ x ∷ [])
 apart_last {X} [] x h n = pairs_one (λ v w. v ≢ w) x
 apart_last {X} (y ∷ xs) x h n =
-    AllPairs-cons (λ v w. v ≢ w) y (xs ++ x ∷ []) (from_all (λ w. y ≢ w) (xs ++ x ∷ []) first)
+    AllPairs-cons (λ v w. v ≢ w) y (xs ++ x ∷ []) (all_in (λ w. y ≢ w) (xs ++ x ∷ []) first)
     (apart_last xs x (pairs_rest (λ v w. v ≢ w) y xs h) (λ z c. n z (in_rest y z xs c)))
   where
     first : (w : X) → Contains (xs ++ x ∷ []) w → y ≢ w
-    first w c = elim (in_last xs x w c) [
+    first w c = elim (Contains-push_cases xs x w c) [
       | inl d ↦ pairs_first (λ v w. v ≢ w) y w xs h d
       | inr e ↦ λ s.
           n y (in_first y xs) (s ∙ sym e)
@@ -141,13 +117,13 @@ numbering_put q vs v ok is = by (list_any (same_vertex v) vs) refl
     by : (b : Bool) → list_any (same_vertex v) vs ≡ b → IsNumbering q (cond b vs (vs ++ v ∷ []))
     by true e = ok
     by false e =
-        record { once = apart_last vs v ok.once (not_in vs v e); there = all_last (λ w. IsVertex q w) vs v ok.there is }
+        record { once = apart_last vs v ok.once (not_in vs v e); there = all-push (λ w. IsVertex q w) vs v ok.there is }
 
 pub put_grows : (vs : Numbering) (v : Vertex) → IsGrown vs (with_vertex vs v)
 put_grows vs v = by (list_any (same_vertex v) vs)
   where
     by : (b : Bool) → IsGrown vs (cond b vs (vs ++ v ∷ []))
-    by true = ([], sym (append_none vs))
+    by true = ([], sym (append-nil vs))
     by false = (v ∷ [], refl)
 
 pub grows_on : (a b c : Numbering) → IsGrown a b → IsGrown b c → IsGrown a c

@@ -1,33 +1,17 @@
 -- Places of lists: numbers of vertices, and sets of states as tests of a space.
-use Rattle.std.proofs.Common.{◌≡◌, ◌≢◌, ℕ, ◌<◌, zero, suc, length, List, [], ◌∷◌, map, Bool, true, false, cond}
-use Rattle.std.proofs.Common.{Contains, Option, Some, None, slice_get, refl, sym, ap, ◌∙◌, subst, inl, inr, arith}
+use Rattle.std.proofs.Common.{◌≡◌, ◌≢◌, ℕ, zero, suc, List, [], ◌∷◌, map, Bool, true, false, cond}
+use Rattle.std.proofs.Common.{Option, Some, None, slice_get, refl, sym, ap, ◌∙◌, subst}
 use Rattle.std.specs.Prelude.{option_map}
-use Rattle.std.specs.List.{AllPairs, list_all, AllByRecursion}
+use Rattle.std.specs.List.{AllPairs, list_all}
 use Rattle.std.proofs.lemmas.Option.{none-some, same_Some}
 use Rattle.version_sets.specs.Sets.{has}
 use Rattle.model.specs.Vertices.{Vertex, same_vertex}
 use Rattle.model.proofs.Same.{both, vertex-same, vertex-refl, vertex-other}
-use Rattle.model.proofs.Lists.{in_none, in_cons, in_first, in_rest, pairs_first, pairs_rest}
+use Rattle.model.proofs.Lists.{pairs_first, pairs_rest}
+use Rattle.model.proofs.Places.{got_in}
 use Rattle.encoding.specs.Numberings.{Numbering, number_in}
 
 module _ {X : Type 0} where
-  pub get_below : (xs : List X) (i : ℕ) → i < length xs → (x : X) × (slice_get xs i ≡ Some x)
-  get_below [] i lt = absurd (omega (arith, lt))
-  get_below (x ∷ xs) zero lt = (x, refl)
-  get_below (x ∷ xs) (suc i) lt = get_below xs i (omega (arith, lt))
-
-  pub got_in : (xs : List X) (i : ℕ) (x : X) → slice_get xs i ≡ Some x → Contains xs x
-  got_in [] i x e = absurd (none-some x e)
-  got_in (y ∷ xs) zero x e = subst (λ z. Contains (y ∷ xs) z) (same_Some y x e) (in_first y xs)
-  got_in (y ∷ xs) (suc i) x e = in_rest y x xs (got_in xs i x e)
-
-  pub place_of : (xs : List X) (x : X) → Contains xs x → (i : ℕ) × (slice_get xs i ≡ Some x)
-  place_of [] x c = absurd (in_none x c)
-  place_of (y ∷ xs) x c = elim (in_cons y x xs c) [
-    | inl e ↦ (zero, ap Some e)
-    | inr d ↦ let r = place_of xs x d in (suc r.0, r.1)
-  ]
-
   pub has_map : (f : X → Bool) (xs : List X) (i : ℕ) (x : X) → slice_get xs i ≡ Some x → has (map f xs) i ≡ f x
   has_map f [] i x e = absurd (none-some x e)
   has_map f (y ∷ xs) zero x e = ap f (same_Some y x e)
@@ -38,10 +22,6 @@ module _ {X : Type 0} where
   full_at f [] i x h e = absurd (none-some x e)
   full_at f (y ∷ xs) zero x h e = ap f (sym (same_Some y x e)) ∙ (both (f y) (list_all (λ b. b) (map f xs)) h).0
   full_at f (y ∷ xs) (suc i) x h e = full_at f xs i x (both (f y) (list_all (λ b. b) (map f xs)) h).1 e
-
-  pub each_at : (P : X → Type 0) (xs : List X) (x : X) → AllByRecursion P xs → Contains xs x → P x
-  each_at P [] x h c = absurd (in_none x c)
-  each_at P (y ∷ xs) x h c = elim (in_cons y x xs c) [ inl e ↦ subst P e h.0 | inr d ↦ each_at P xs x h.1 d ]
 
 -- a number is that of the vertex at its place
 pub number_at : (vs : Numbering) (v : Vertex) (n : ℕ) → number_in vs v ≡ Some n → slice_get vs n ≡ Some v

@@ -1,6 +1,6 @@
 -- Tested terms of an instance as terms over numbers.
 use Rattle.std.proofs.Common.{◌≡◌, ℕ, zero, suc, ◌<◌, ◌≤◌, ◌+◌, get_or, take, take_all, List, [], ◌∷◌, ◌++◌, map}
-use Rattle.std.proofs.Common.{filter, length, Bool, true, false, cond, Option, Some, None, slice_get, refl, sym, ap}
+use Rattle.std.proofs.Common.{filter, length, Bool, true, false, cond, Option, Some, None, slice_get, sym, ap}
 use Rattle.std.proofs.Common.{◌∙◌, subst, arith}
 use Rattle.std.specs.List.{AllByRecursion, All}
 use Rattle.terms.specs.Terms.{TermView, term_view, terms_view}
@@ -22,7 +22,7 @@ use Rattle.encoding.specs.Numberings.{Numbering, IsGrown}
 use Rattle.encoding.specs.Numbered.{AreNumbered}
 use Rattle.encoding.specs.TestedTerms.{TestedTerm, IsOfTested, AreOfTested, IsFitting, all_tested}
 use Rattle.encoding.proofs.Needing.{still_at, numbering_put, put_grows}
-use Rattle.std.proofs.lemmas.List.{map-append}
+use Rattle.std.proofs.lemmas.List.{map-append, length-map}
 use Rattle.std.proofs.Math.Seq.{take-suc}
 use Rattle.version_sets.specs.Sets.{Members}
 use Rattle.terms.specs.declared.term.Term as Numbered
@@ -70,10 +70,6 @@ module _ {X : Type 0} where
       by true h = omega (arith, h)
       by false h = omega (arith, h)
 
-  map_length : {Y : Type 0} (f : X → Y) (xs : List X) → length (map f xs) ≡ length xs
-  map_length f [] = refl
-  map_length f (x ∷ xs) = ap suc (map_length f xs)
-
 classes_less : (cs : List Candidate) → length (classes_of cs) ≤ length cs
 classes_less [] = omega arith
 classes_less (c ∷ cs) =
@@ -97,7 +93,7 @@ rows_few (row ∷ rows) h name =
     by : (b : Bool) → length (candidates_of (map (λ row. (row.0, map as_candidate (records row.1))) rows) name) ≤ 65535
         → length (cond b (map as_candidate (records row.1))
         (candidates_of (map (λ row. (row.0, map as_candidate (records row.1))) rows) name)) ≤ 65535
-    by true rest = subst (λ n. n ≤ 65535) (sym (map_length as_candidate (records row.1) ∙ map_length _ row.1)) here
+    by true rest = subst (λ n. n ≤ 65535) (sym (length-map (records row.1) as_candidate ∙ length-map row.1 _)) here
     by false rest = rest
 
 module _ (m : ManifestView) (c : CatalogueView) (store : IsStore c) where
@@ -110,7 +106,7 @@ module _ (m : ManifestView) (c : CatalogueView) (store : IsStore c) where
       let f = few_candidates name in
       let g =
       filter_less (Rattle.model.specs.Vertices.in_that_class k) (candidates_of (problem_in m c).candidates name) in
-      let h = map_length (λ (e : Candidate). version e.version) (class_candidates (problem_in m c) name k) in
+      let h = length-map (class_candidates (problem_in m c) name k) (λ (e : Candidate). version e.version) in
       omega (arith, f, g, h)
   spaces_few (dep o i) = by (slice_get (owner_brings (problem_in m c) o).dependencies i)
     where
@@ -121,7 +117,7 @@ module _ (m : ManifestView) (c : CatalogueView) (store : IsStore c) where
           let g = filter_less (λ (e : Candidate). Rattle.semver.specs.EvalViews.matches_views d.requirement e.version)
           (candidates_of (problem_in m c).candidates d.real_name) in
           let h = classes_less (matching (problem_in m c) d) in
-          let k = map_length in_class (dep_classes (problem_in m c) d) in
+          let k = length-map (dep_classes (problem_in m c) d) in_class in
           omega (arith, f, g, h, k)
   spaces_few (feat name k f) = omega arith
   spaces_few (ask name v i g) = omega arith
@@ -133,7 +129,7 @@ module _ (m : ManifestView) (c : CatalogueView) (store : IsStore c) where
   fitting (t ∷ ms) h = (
     record {
       there = h.0;
-      few = subst (λ n. n ≤ 65536) (sym (map_length _ (space (problem_in m c) t.vertex))) (spaces_few t.vertex);
+      few = subst (λ n. n ≤ 65536) (sym (length-map (space (problem_in m c) t.vertex) _)) (spaces_few t.vertex);
     },
     fitting ms h.1,
   )

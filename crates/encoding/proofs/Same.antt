@@ -1,11 +1,12 @@
 -- Two vertices are equal exactly where they stand for one.
-use Rattle.std.proofs.Common.{◌≡◌, ℕ, zero, suc, ◌+◌, not, length, List, [], ◌∷◌, ◌++◌, map, Bool, true, false, cond}
-use Rattle.std.proofs.Common.{◌&&◌, ◌||◌, nat_eq, nat_lt, Some, None, slice_get, refl, sym, ap, ap₂, ◌∙◌, arith}
+use Rattle.std.proofs.Common.{◌≡◌, ℕ, zero, suc, List, [], ◌∷◌, ◌++◌, map, Bool, true, false, cond}
+use Rattle.std.proofs.Common.{◌&&◌, ◌||◌, nat_eq, Some, slice_get, refl, sym, ap, ap₂, ◌∙◌}
 use Rattle.std.specs.Prelude.{option_map, position}
-use Rattle.std.specs.List.{list_any, position_or_len}
+use Rattle.std.specs.List.{list_any}
 use Rattle.indexmap.specs.IndexSet.{insert_key}
 use Rattle.std.proofs.lemmas.Option.{none-some, same_Some}
 use Rattle.model.proofs.Same.{vertex-same}
+use Rattle.catalogue.proofs.Rows.{position-cons}
 use Rattle.encoding.specs.Numberings.{number_in, with_vertex}
 use Rattle.std.specs.Cmp.Lexicographic.{pointwise}
 use Rattle.semver.specs.declared.Version.{Version}
@@ -55,34 +56,11 @@ vertex_same v w = refl
 
 -- ---- vertices that a table keeps, and what they stand for
 
-moved : (b : Bool) (n : ℕ) → cond b (Some (1 + n)) None ≡ option_map suc (cond b (Some n) None)
-moved true n = ap Some (omega arith)
-moved false n = refl
-
-some : (n : ℕ) → nat_lt 0 (suc n) ≡ true
-some n = grind arith
-
-less : (a b : ℕ) → nat_lt (1 + a) (suc b) ≡ nat_lt a b
-less a b = grind arith
-
-position_cons : {X : Type 0} (p : X → Bool) (x : X) (xs : List X)
-    → position p (x ∷ xs) ≡ cond (p x) (Some 0) (option_map suc (position p xs))
-position_cons p x xs = by (p x) refl
-  where
-    by : (b : Bool) → p x ≡ b → position p (x ∷ xs) ≡ cond b (Some 0) (option_map suc (position p xs))
-    by true e = ap (λ t. cond (nat_lt (cond (not t) (1 + position_or_len p xs) 0) (suc (length xs)))
-        (Some (cond (not t) (1 + position_or_len p xs) 0)) None) e
-        ∙ ap (λ t. cond t (Some 0) None) (some (length xs))
-    by false e = ap (λ t. cond (nat_lt (cond (not t) (1 + position_or_len p xs) 0) (suc (length xs)))
-        (Some (cond (not t) (1 + position_or_len p xs) 0)) None) e
-        ∙ ap (λ t. cond t (Some (1 + position_or_len p xs)) None) (less (position_or_len p xs) (length xs))
-        ∙ moved (nat_lt (position_or_len p xs) (length xs)) (position_or_len p xs)
-
 -- the place of a vertex is the number of what it stands for
 pub number_kept : (v : VertexRef) (ks : List VertexRef)
     → position ((vertex_eq.eq-value).it v) ks ≡ number_in (map vertex_ref_view ks) (vertex_ref_view v)
 number_kept v [] = refl
-number_kept v (k ∷ ks) = position_cons ((vertex_eq.eq-value).it v) k ks
+number_kept v (k ∷ ks) = position-cons ((vertex_eq.eq-value).it v) k ks
     ∙ ap₂ (λ b o. cond b (Some 0) (option_map suc o)) (vertex_same v k) (number_kept v ks)
 
 any_kept : (v : VertexRef) (ks : List VertexRef)

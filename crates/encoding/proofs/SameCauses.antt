@@ -9,7 +9,7 @@ use Rattle.model.proofs.Lists.{in_first, in_rest, any_of, to_any}
 use Rattle.refutations.specs.Causes as model
 use Rattle.refutations.specs.Causes.{same_entry}
 use Rattle.refutations.specs.Listed.{same_cause}
-use Rattle.std.proofs.lemmas.List.Elements.{Contains-append_right, Contains-append_left}
+use Rattle.std.proofs.lemmas.List.Elements.{Contains-append_right, Contains-append_left, Contains-push_cases}
 use Rattle.refutations.proofs.Listing.{cause-same, cause-refl}
 use Rattle.encoding.specs.GivenViews.{cause_views}
 use Rattle.named_terms.specs.CauseViews.{cause_view}
@@ -22,7 +22,7 @@ use Rattle.named_terms.specs.contracts.cause.CausePartialEq.TheImpl as cause_eq
 use Rattle.features.specs.EntryViews.{entry_view}
 use Rattle.features.specs.contracts.entry.EntryPartialEq.TheImpl as entry_eq
 use Rattle.encoding.proofs.Same.{class_same, owner_same, version_same}
-use Rattle.encoding.proofs.Needing.{apart_last, in_last}
+use Rattle.encoding.proofs.Needing.{apart_last}
 
 entry_same : (a b : Entry) → (entry_eq.eq-value).it a b ≡ same_entry (entry_view a) (entry_view b)
 entry_same (entry.Feature d) (entry.Feature e) = refl
@@ -222,7 +222,7 @@ in_one cs x c = by (list_any (same_cause x) cs)
   where
     by : (b : Bool) → Contains (cond b cs (cs ++ x ∷ [])) c → Contains cs c ⊎ (x ≡ c)
     by true h = inl h
-    by false h = in_last cs x c h
+    by false h = Contains-push_cases cs x c h
 
 to_one : (cs : List model.Cause) (x c : model.Cause) → Contains cs c ⊎ (x ≡ c) → Contains (with_cause cs x) c
 to_one cs x c h = by (list_any (same_cause x) cs) refl h

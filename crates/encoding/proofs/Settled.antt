@@ -15,12 +15,13 @@ use Rattle.model.specs.Derivation as model
 use Rattle.model.specs.Search.{IsUnbroken}
 use Rattle.model.proofs.Same.{vertex-same}
 use Rattle.model.proofs.Spaces.{state_in, absent_in_space}
+use Rattle.model.proofs.Places.{some_at, got_in}
 use Rattle.refutations.specs.Causes.{terms_of_cause}
 use Rattle.refutations.proofs.CauseLaws.{instance_cause}
 use Rattle.encoding.specs.Numberings.{Numbering, IsNumbering, number_in, members_at, Says}
 use Rattle.encoding.specs.Pairs.{first_pair}
 use Rattle.encoding.specs.Assignments.{state_if, state_of, IsSettled}
-use Rattle.encoding.proofs.Places.{get_below, got_in, has_map, number_at, number_of}
+use Rattle.encoding.proofs.Places.{has_map, number_at, number_of}
 use Rattle.encoding.proofs.Firsts.{first_holds}
 
 -- what breaks a list of terms has a state of each of them
@@ -44,7 +45,7 @@ module _ (q : Problem) (vs : Numbering) (es : List EntryView) (x : Assignment) (
   at_number : (n : ℕ) (v : Vertex) → slice_get vs n ≡ Some v
       → (s : State) × (slice_get (space q v) (x n) ≡ Some s) × (state_of q vs x v ≡ s)
   at_number n v e =
-      let r = get_below (space q v) (x n) (settled.within n v e) in
+      let r = some_at (space q v) (x n) (settled.within n v e) in
       (r.0, r.1, ap (state_if q x v) (number_of vs v n ok.once e) ∙ ap (λ o. unwrap_or o absent) r.1)
 
   within : (v : Vertex) → has_state (space q v) (state_of q vs x v) ≡ true
@@ -53,7 +54,7 @@ module _ (q : Problem) (vs : Numbering) (es : List EntryView) (x : Assignment) (
       by : (o : Option ℕ) → number_in vs v ≡ o → has_state (space q v) (state_if q x v o) ≡ true
       by None e = absent_in_space q v
       by (Some n) e =
-          let r = get_below (space q v) (x n) (settled.within n v (number_at vs v n e)) in
+          let r = some_at (space q v) (x n) (settled.within n v (number_at vs v n e)) in
           ap (λ s. has_state (space q v) s) (ap (λ o. unwrap_or o absent) r.1)
           ∙ state_in (space q v) r.0 (got_in (space q v) (x n) r.0 r.1)
 

@@ -1,10 +1,11 @@
 -- All facts are given by the rules.
-use Rattle.std.proofs.Common.{◌≡◌, ℕ, zero, suc, ◌<◌, List, [], ◌∷◌, length, Bool, true, false, not, ◌||◌, cond, nat_eq}
+use Rattle.std.proofs.Common.{◌≡◌, ℕ, ◌<◌, List, [], ◌∷◌, length, Bool, true, false, not, ◌||◌, cond, nat_eq}
 use Rattle.std.proofs.Common.{Option, Some, None, slice_get, option_and_then, Contains, refl, sym, ap, ◌∙◌, subst}
-use Rattle.std.proofs.Common.{arith, true≢false}
+use Rattle.std.proofs.Common.{true≢false}
 use Rattle.std.specs.List.{flat_map}
 use Rattle.std.proofs.lemmas.Bool.{eq-eqb}
 use Rattle.std.proofs.lemmas.List.Elements.{Contains-append_left, Contains-append_right}
+use Rattle.std.proofs.lemmas.Option.{same_Some}
 use Rattle.chains.specs.declared.rule.Rule.{Rule}
 use Rattle.chains.specs.Chains.{has, IsGiven}
 use Rattle.chains.specs.Chains.IsGiven.{begins, follows}
@@ -16,6 +17,7 @@ use Rattle.model.specs.Facts.Holds.{enables_for, wants, wants_weakly}
 use Rattle.model.proofs.Same.{text-refl}
 use Rattle.model.proofs.Lists.{in_none, in_first, in_rest, to_filter, all_get}
 use Rattle.model.proofs.Flat.{to_flat, in_flat}
+use Rattle.model.proofs.Places.{some_at, got_in}
 use Rattle.manifest.specs.Manifests.{root_asks, asked_by}
 use Rattle.facts.specs.Graphs.{NodeView, brings_if, starts_if, target_if, brings_at, target_at, IsFactOf, AreWithin}
 use Rattle.facts.specs.Graphs.{IsGraph}
@@ -23,19 +25,11 @@ use Rattle.facts.specs.FactNumbers.{LinkView, FactNumbersView}
 use Rattle.facts.specs.RuleLists.{one, both, number_on, package_at, ask, ask_features, arrive, is_needed, need}
 use Rattle.facts.specs.RuleLists.{enable_all, ask_all, entry_rules, root_rules, all_rules}
 use Rattle.facts.proofs.Numbers.{Mark, IsLink}
-use Rattle.facts.proofs.Members.{in_one, get_contains, to_link, to_entry, to_root}
+use Rattle.facts.proofs.Members.{in_one, to_link, to_entry, to_root}
 use Rattle.facts.proofs.Sound.{IsTable, At}
-
-some_inner : {X : Type 0} (x y : X) → Some x ≡ Some y → x ≡ y
-some_inner x y e = cc
 
 eq-refl : (n : ℕ) → nat_eq n n ≡ true
 eq-refl n = eq-eqb n n refl
-
-get_within : {X : Type 0} (xs : List X) (n : ℕ) → n < length xs → (x : X) × (slice_get xs n ≡ Some x)
-get_within [] n lt = absurd (omega arith)
-get_within (x ∷ xs) zero lt = (x, refl)
-get_within (x ∷ xs) (suc n) lt = get_within xs n (omega arith)
 
 module _ (nodes : List NodeView) (root : ℕ) (ps : List FactNumbersView) (marks : List Mark)
     (t : IsTable nodes ps marks) (graph : IsGraph nodes)
@@ -65,7 +59,7 @@ module _ (nodes : List NodeView) (root : ℕ) (ps : List FactNumbersView) (marks
   brings_is n x p h = ap brings_if h.got
 
   same_numbers : (n : ℕ) (x y : NodeView) (p q : FactNumbersView) → IsAt n x p → IsAt n y q → p ≡ q
-  same_numbers n x y p q a b = some_inner p q (sym a.had ∙ b.had)
+  same_numbers n x y p q a b = same_Some p q (sym a.had ∙ b.had)
 
   -- the dependency with its number
   record Dep (n : ℕ) (x : NodeView) (p : FactNumbersView) (i : ℕ) (d : Dependency) : Type 0 where
@@ -85,7 +79,7 @@ module _ (nodes : List NodeView) (root : ℕ) (ps : List FactNumbersView) (marks
   enabled_given n x p i d h k got =
       let s : got.p ≡ p = same_numbers n got.x x got.p p got.at h in
       let e : (got.is).0 ≡ k.l =
-      some_inner (got.is).0 k.l (sym (got.is).1 ∙ ap (λ (q : FactNumbersView). slice_get q.links i) s ∙ k.had) in
+      same_Some (got.is).0 k.l (sym (got.is).1 ∙ ap (λ (q : FactNumbersView). slice_get q.links i) s ∙ k.had) in
       subst G (sym (got.is).2 ∙ ap (λ (l : LinkView). l.enabled) e) got.given
 
   here_given : (n : ℕ) → (got : Got (here n)) → G (got.p).here
@@ -117,7 +111,7 @@ module _ (nodes : List NodeView) (root : ℕ) (ps : List FactNumbersView) (marks
       let within = all_get (λ (x : NodeView). AreWithin (length nodes) x.targets) nodes n x graph h.got in
       let lt = all_get (λ o. (t : ℕ) → o ≡ Some t → t < length nodes) x.targets i (Some u) within
       (inner_some x.targets i u e2) u refl in
-      let y = get_within nodes u lt in
+      let y = some_at nodes u lt in
       let q = t.numbers u y.0 y.1 in
       record {
         y = y.0;
@@ -157,7 +151,7 @@ module _ (nodes : List NodeView) (root : ℕ) (ps : List FactNumbersView) (marks
   called : (n : ℕ) (x : NodeView) (p : FactNumbersView) (i : ℕ) (d : Dependency) → IsAt n x p → (k : Dep n x p i d)
       → Contains (p.called d.name) k.l
   called n x p i d h k = subst (λ ls. Contains ls k.l) (sym (h.is.called d.name))
-      (to_filter (λ (l : LinkView). same_text d.name l.dependency.name) p.links k.l (get_contains p.links i k.l k.had)
+      (to_filter (λ (l : LinkView). same_text d.name l.dependency.name) p.links k.l (got_in p.links i k.l k.had)
       (ap (λ (e : Dependency). same_text d.name e.name) (k.is).dependency ∙ text-refl d.name))
 
   -- a rule of an entry of a feature of the package

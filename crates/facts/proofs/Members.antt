@@ -1,14 +1,14 @@
 -- What is in the list of rules.
 use Rattle.std.proofs.Common.{◌≡◌, ℕ, zero, suc, ◌+◌, List, [], ◌∷◌, Bool, true, false, cond, nat_eq, Some, None}
-use Rattle.std.proofs.Common.{slice_get, unwrap_or, Contains, refl, sym, ap, ◌∙◌, subst, inl, inr, arith}
+use Rattle.std.proofs.Common.{slice_get, unwrap_or, Contains, refl, sym, subst, inl, inr, arith}
 use Rattle.std.specs.List.{flat_map}
 use Rattle.std.proofs.lemmas.List.Elements.{Contains-append_cases, Contains-append_left, Contains-append_right}
-use Rattle.std.proofs.lemmas.Option.{slice_get-get_or, slice_get_within, get_or_from_slice_get}
 use Rattle.chains.specs.declared.rule.Rule.{Rule}
 use Rattle.model.specs.Summary.{Entry, Table, entries_at, same_text}
 use Rattle.model.proofs.Same.{text-same}
 use Rattle.model.proofs.Lists.{in_none, in_cons, in_first, in_rest}
 use Rattle.model.proofs.Flat.{to_flat}
+use Rattle.model.proofs.Places.{got_in}
 use Rattle.facts.specs.FactNumbers.{LinkView, FactNumbersView}
 use Rattle.facts.specs.RuleLists.{number_on, link_rules, entry_rules, root_rules, root_entries, root_table}
 use Rattle.facts.specs.RuleLists.{entries_rules, feature_rules, features_rules, table_rules, package_rules, rules_from}
@@ -17,12 +17,6 @@ use Rattle.facts.specs.RuleLists.{all_rules}
 module _ {X : Type 0} where
   pub in_one : (x y : X) → Contains (x ∷ []) y → x ≡ y
   in_one x y c = elim (in_cons x y [] c) [ inl e ↦ e | inr c ↦ absurd (in_none y c) ]
-
-  pub contains_get : (xs : List X) (x : X) → Contains xs x → (i : ℕ) × (slice_get xs i ≡ Some x)
-  contains_get xs x c = (c.0, slice_get-get_or xs c.0 x c.1 ∙ ap Some c.2)
-
-  pub get_contains : (xs : List X) (i : ℕ) (x : X) → slice_get xs i ≡ Some x → Contains xs x
-  get_contains xs i x e = (i, slice_get_within xs i x e, get_or_from_slice_get xs i x x e)
 
 -- the entries of a feature stand in a row of its name
 pub row_of : (f : List ℕ) (rows : Table) (es : List Entry) → entries_at f rows ≡ Some es
@@ -96,7 +90,7 @@ module _ (ps : List FactNumbersView) (root : ℕ) where
       → Contains (link_rules ps (nat_eq n root) p.here l) r → Contains (all_rules root ps) r
   to_link n p i l r got at c = to_rules n p r got
       (Contains-append_left (all_links (nat_eq n root) p) (table_rules ps (nat_eq n root) p p.brings.features) r
-      (to_flat (link_rules ps (nat_eq n root) p.here) p.links l r (get_contains p.links i l at) c))
+      (to_flat (link_rules ps (nat_eq n root) p.here) p.links l r (got_in p.links i l at) c))
 
   abbrev root_part : Bool → FactNumbersView → List Rule
   root_part b p = cond b (root_table ps p p.brings.features) []

@@ -4,6 +4,7 @@ use Rattle.std.proofs.Common.{slice_get, is_some, unwrap_or, Contains, refl, sym
 use Rattle.std.specs.List.{flat_map}
 use Rattle.std.proofs.lemmas.List.Elements.{Contains-append_cases}
 use Rattle.std.proofs.lemmas.Bool.{eqb-true}
+use Rattle.std.proofs.lemmas.Option.{same_Some}
 use Rattle.chains.specs.declared.rule.Rule.{Rule}
 use Rattle.chains.specs.Chains.{has, IsGiven}
 use Rattle.chains.specs.Chains.IsGiven.{begins, follows}
@@ -15,6 +16,7 @@ use Rattle.model.specs.Facts.Holds.{wants_weakly}
 use Rattle.model.proofs.Same.{text-same}
 use Rattle.model.proofs.Lists.{in_none, in_cons, in_first, in_filter}
 use Rattle.model.proofs.Flat.{to_flat, in_flat}
+use Rattle.model.proofs.Places.{place_of}
 use Rattle.manifest.specs.Manifests.{root_asks, asked_by}
 use Rattle.facts.specs.Graphs.{NodeView, brings_if, target_if, brings_at, target_at, IsFactOf, LacksFeature}
 use Rattle.facts.specs.FactNumbers.{LinkView, FactNumbersView}
@@ -22,7 +24,7 @@ use Rattle.facts.specs.RuleLists.{one, both, number_on, package_at, ask, ask_fea
 use Rattle.facts.specs.RuleLists.{enable_all, ask_all, entry_rules, root_rules, root_entries, root_table, entries_rules}
 use Rattle.facts.specs.RuleLists.{feature_rules, features_rules, table_rules, all_rules}
 use Rattle.facts.proofs.Numbers.{Mark, is_here, lacking, is_on, is_enabled, IsLink, IsNumbered}
-use Rattle.facts.proofs.Members.{in_one, contains_get, in_rules}
+use Rattle.facts.proofs.Members.{in_one, in_rules}
 
 -- the packages and the numbers of their facts
 pub record IsTable (nodes : List NodeView) (ps : List FactNumbersView) (marks : List Mark) : Type 0 where
@@ -37,9 +39,6 @@ pub record At (nodes : List NodeView) (ps : List FactNumbersView) (marks : List 
   pub got : slice_get nodes n ≡ Some x
   pub had : slice_get ps n ≡ Some p
   pub is : IsNumbered marks n x p
-
-some_inner : {X : Type 0} (x y : X) → Some x ≡ Some y → x ≡ y
-some_inner x y e = cc
 
 none_some : {X : Type 0} (x : X) → None ≡ Some x → ⊥
 none_some x e = cc
@@ -88,11 +87,11 @@ module _ (nodes : List NodeView) (root : ℕ) (ps : List FactNumbersView) (marks
   dep_at n x p i l h e =
       let b = h.is.back i l e in
       let r = h.is.link i b.0 b.1 in
-      let same : r.0 ≡ l = some_inner r.0 l (sym r.1 ∙ e) in
+      let same : r.0 ≡ l = same_Some r.0 l (sym r.1 ∙ e) in
       record { i = i; d = b.0; brings = b.1; is = subst (λ k. IsLink marks n x.targets i b.0 k) same r.2 }
 
   dep_in : (n : ℕ) (x : NodeView) (p : FactNumbersView) (l : LinkView) → IsAt n x p → Contains p.links l → Dep n x l
-  dep_in n x p l h c = let r = contains_get p.links l c in dep_at n x p r.0 l h r.1
+  dep_in n x p l h c = let r = place_of p.links l c in dep_at n x p r.0 l h r.1
 
   -- a dependency that is called so
   dep_called : (n : ℕ) (x : NodeView) (p : FactNumbersView) (l : LinkView) (name : List ℕ) → IsAt n x p
@@ -377,6 +376,6 @@ module _ (nodes : List NodeView) (root : ℕ) (ps : List FactNumbersView) (marks
       let step = rule_step r c in
       let (a, ia, ha) = sound flags start r.first f in
       let (b, ib, hb) = sound flags start r.second s in
-      let sa : a ≡ step.a = some_inner a step.a (sym ia ∙ step.first) in
-      let sb : b ≡ step.b = some_inner b step.b (sym ib ∙ step.second) in
+      let sa : a ≡ step.a = same_Some a step.a (sym ia ∙ step.first) in
+      let sb : b ≡ step.b = same_Some b step.b (sym ib ∙ step.second) in
       (step.c, step.gives, step.step (subst HoldsMark sa ha) (subst HoldsMark sb hb))

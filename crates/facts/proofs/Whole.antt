@@ -1,10 +1,11 @@
 -- The answers: what is marked in the end is what holds.
 use Rattle.std.proofs.Common.{◌≡◌, ◌↔◌, ℕ, zero, suc, ◌<◌, ◌+◌, List, [], ◌∷◌, ◌++◌, map, length, Bool, true, false}
 use Rattle.std.proofs.Common.{Option, Some, None, slice_get, get_or, unwrap_or, refl, sym, ap, ap₂, ◌∙◌, subst, subst₂}
-use Rattle.std.proofs.Common.{arith, true≢false, Result, Ok, Err, IfOk}
-use Rattle.std.proofs.lemmas.List.{length-append, append_assoc, map-append}
+use Rattle.std.proofs.Common.{arith, true≢false, Result, IfOk}
+use Rattle.std.proofs.lemmas.List.{length-append, append_assoc, map-append, length-map}
 use Rattle.std.proofs.lemmas.List.Elements.{Contains-get_or}
-use Rattle.std.proofs.lemmas.Option.{slice_get_within}
+use Rattle.std.proofs.lemmas.Option.{slice_get_within, same_Some}
+use Rattle.std.proofs.lemmas.Result.{IfOk-weaker}
 use Rattle.chains.specs.declared.rule.Rule.{Rule}
 use Rattle.chains.specs.Chains.{has, IsGiven, AreBelow}
 use Rattle.model.specs.Summary.{Summary, Dependency, Table, has_feature}
@@ -143,13 +144,6 @@ lists-back f [] n i h = absurd (true≢false (sym h))
 lists-back f (y ∷ ys) zero i h = (y, refl, h)
 lists-back f (y ∷ ys) (suc n) i h = lists-back f ys n i h
 
-length-mapped : {X Y : Type 0} (f : X → Y) (xs : List X) → length (map f xs) ≡ length xs
-length-mapped f [] = refl
-length-mapped f (x ∷ xs) = ap suc (length-mapped f xs)
-
-some_inner : {X : Type 0} (x y : X) → Some x ≡ Some y → x ≡ y
-some_inner x y e = cc
-
 -- ---- the answers
 
 module _ (nodes : List NodeView) (root : ℕ) (ps : List FactNumbersView) (a : AreNumberedFrom 0 nodes ps) where
@@ -163,7 +157,7 @@ module _ (nodes : List NodeView) (root : ℕ) (ps : List FactNumbersView) (a : A
   below k m e =
       let lt = slice_get_within (marks_from 0 nodes) k m e in
       let long : length (flags_of_all nodes) ≡ length (marks_from 0 nodes) =
-      ap length flags_is ∙ length-mapped (flag nodes) (marks_from 0 nodes) in
+      ap length flags_is ∙ length-map (marks_from 0 nodes) (flag nodes) in
       omega (arith, lt, long)
 
   -- the numbers of the rules are those of facts
@@ -198,7 +192,7 @@ module _ (nodes : List NodeView) (root : ℕ) (ps : List FactNumbersView) (a : A
     holds k m e h =
         let s =
         sound nodes root ps (marks_from 0 nodes) (table nodes ps a) (flags_of_all nodes) begin k ((given k).0 h) in
-        subst (HoldsMark nodes root ps (marks_from 0 nodes) (table nodes ps a)) (some_inner s.0 m (sym s.1 ∙ e)) s.2
+        subst (HoldsMark nodes root ps (marks_from 0 nodes) (table nodes ps a)) (same_Some s.0 m (sym s.1 ∙ e)) s.2
 
     gets : (w : Fact ℕ) → IsFactOf nodes root w
         → Got nodes root ps (marks_from 0 nodes) (table nodes ps a) graph (flags_of_all nodes) begun w
@@ -245,7 +239,7 @@ module _ (nodes : List NodeView) (root : ℕ) (ps : List FactNumbersView) (a : A
           let d = q.1.is.back i l.0 l.1 in
           let k = q.1.is.link i d.0 d.1 in
           let same : (k.0).enabled ≡ (l.0).enabled =
-          ap (λ (l : LinkView). l.enabled) (some_inner k.0 l.0 (sym k.1 ∙ l.1)) in
+          ap (λ (l : LinkView). l.enabled) (same_Some k.0 l.0 (sym k.1 ∙ l.1)) in
           holds (l.0).enabled (is_enabled n i) (ap (slice_get (marks_from 0 nodes)) (sym same) ∙ k.2.enabled) l.2),
       λ h. (
           let g = gets (enabled n i) h in
@@ -301,10 +295,6 @@ module _ (nodes : List NodeView) (root : ℕ) (ps : List FactNumbersView) (set :
   enabled_shown fs e n i = subst (λ fs. (flag_in fs n i ≡ true) ↔ IsFactOf nodes root (enabled n i)) (sym e)
       (enabled_holds nodes root ps k.packages k.graph set k.given n i)
 
-if_ok : {X E : Type 0} (P Q : X → Type 0) (r : Result X E) → ((x : X) → P x → Q x) → IfOk r P → IfOk r Q
-if_ok P Q (Ok x) h p = h x p
-if_ok P Q (Err e) h p = tt
-
 -- what the answers say, where the rules and the start are those of the packages
 module _ {E : Type 0} (nodes : List NodeView) (root : ℕ) (ps qs : List FactNumbersView) (none flags : List Bool)
     (rs : List Rule) (r : Result Facts E) (e : none ≡ [])
@@ -316,19 +306,21 @@ module _ {E : Type 0} (nodes : List NodeView) (root : ℕ) (ps qs : List FactNum
 
   pub here_made : IfOk r (λ f. (n : ℕ) → (flag_at f.here.items n ≡ true) ↔ IsFactOf nodes root (here n))
   here_made =
-      if_ok (AreGivenBy rs flags qs) (λ f. (n : ℕ) → (flag_at f.here.items n ≡ true) ↔ IsFactOf nodes root (here n)) r
+      IfOk-weaker r (AreGivenBy rs flags qs)
+      (λ f. (n : ℕ) → (flag_at f.here.items n ≡ true) ↔ IsFactOf nodes root (here n))
       (λ f g. let s = shown f g in here_shown nodes root ps s.set
       (closed_made nodes root ps none flags s.set rs e a fs is graph s.given) f.here.items s.here) shows
 
   pub enabled_made : IfOk r
       (λ f. (n i : ℕ) → (flag_in (map (λ v. v.items) f.enabled.items) n i ≡ true) ↔ IsFactOf nodes root (enabled n i))
-  enabled_made = if_ok (AreGivenBy rs flags qs)
-      (λ f. (n i : ℕ) → (flag_in (map (λ v. v.items) f.enabled.items) n i ≡ true) ↔ IsFactOf nodes root (enabled n i)) r
+  enabled_made = IfOk-weaker r (AreGivenBy rs flags qs)
+      (λ f. (n i : ℕ) → (flag_in (map (λ v. v.items) f.enabled.items) n i ≡ true) ↔ IsFactOf nodes root (enabled n i))
       (λ f g. let s = shown f g in enabled_shown nodes root ps s.set (closed_made nodes root ps none flags s.set rs e
       a fs is graph s.given) (map (λ v. v.items) f.enabled.items) s.enabled) shows
 
   pub lacks_made : IfOk r (λ f. (n : ℕ) → (flag_at f.lacks.items n ≡ true) ↔ LacksFeature nodes root n)
   lacks_made =
-      if_ok (AreGivenBy rs flags qs) (λ f. (n : ℕ) → (flag_at f.lacks.items n ≡ true) ↔ LacksFeature nodes root n) r
+      IfOk-weaker r (AreGivenBy rs flags qs)
+      (λ f. (n : ℕ) → (flag_at f.lacks.items n ≡ true) ↔ LacksFeature nodes root n)
       (λ f g. let s = shown f g in lacks_shown nodes root ps s.set
       (closed_made nodes root ps none flags s.set rs e a fs is graph s.given) f.lacks.items s.lacks) shows

@@ -2,7 +2,7 @@
 use Rattle.std.proofs.Common.{◌≡◌, ◌↔◌, ◌<◌, ◌==◌, ℕ, Bool, true, false, not, ◌&&◌, cond, List, [], ◌∷◌, length, Option}
 use Rattle.std.proofs.Common.{Some, None, slice_get, Contains, MatchOption, is_some, refl, sym, ap, ◌∙◌, subst, inl}
 use Rattle.std.proofs.Common.{inr, arith, true≢false}
-use Rattle.std.proofs.lemmas.Bool.{and_from, eqb-true}
+use Rattle.std.proofs.lemmas.Bool.{and_from, eqb-true, not-true, not_from_false}
 use Rattle.std.proofs.lemmas.Option.{none-some, same_Some}
 use Rattle.model.specs.Summary.{Dependency}
 use Rattle.model.specs.Content.{Package, Content, Problem, is_root, candidate_of, last_serving, list_if, target_of}
@@ -12,11 +12,11 @@ use Rattle.model.specs.Verdict.{IsFreeOf, IsFaultless}
 use Rattle.model.proofs.Lists.{in_none, in_first}
 use Rattle.model.proofs.Orders.{last_is}
 use Rattle.model.proofs.Same.{both}
+use Rattle.model.proofs.Places.{some_at}
 use Rattle.manifest.specs.Manifests.{ManifestView}
 use Rattle.catalogue.specs.Problems.{problem_in}
 use Rattle.catalogue.specs.Stores.{CatalogueView}
-use Rattle.selection.proofs.Holding.{there}
-use Rattle.selection.proofs.Judging.{negate, negated, featured_is}
+use Rattle.selection.proofs.Judging.{featured_is}
 use Rattle.flaws.specs.Reasons.{why_none}
 use Rattle.flaws.specs.Flaws.{is_flawless, why_at, IsUnmet, IsSurplus, IsTwin, AreFlaws}
 use Rattle.flaws.specs.declared.flawed.Flawed.{Flawed}
@@ -24,7 +24,7 @@ use Rattle.flaws.specs.declared.no_candidate.NoCandidate.{NoCandidate}
 use Rattle.flaws.proofs.Reasons.{why_decides}
 
 negated_some : {X : Type 0} (o : Option X) → not (is_some o) ≡ true → is_some o ≡ false
-negated_some o e = negated (is_some o) e
+negated_some o e = not-true (is_some o) e
 
 -- a list without elements
 no_elements : (xs : List ℕ) → length xs == 0 ≡ true → (x : ℕ) → Contains xs x → ⊥
@@ -45,7 +45,7 @@ module _ (m : ManifestView) (index : CatalogueView) (content : Content) (f : Fla
 
   -- what stands there
   here : (p : Package) × (slice_get content n ≡ Some p)
-  here = there content n told.is_there
+  here = some_at content n told.is_there
 
   -- a candidate
   reason_is : (b : Bool) → is_root q here.0 ≡ b → f.no_candidate ≡ cond b None (why_none index here.0)
@@ -146,7 +146,7 @@ module _ (m : ManifestView) (index : CatalogueView) (content : Content) (f : Fla
       each a b c d e g unmet = unmet_free c
       each a b c d e g no_feature = features_are.0 d
       each a b c d e g wrong_list = surplus_free e
-      each a b c d e g unreached = told.reached_is.0 (negated f.unreached g)
+      each a b c d e g unreached = told.reached_is.0 (not-true f.unreached g)
 
   pub free_flawless : IsFaultless q content n → is_flawless f ≡ true
   free_flawless free =
@@ -159,4 +159,4 @@ module _ (m : ManifestView) (index : CatalogueView) (content : Content) (f : Fla
       (free_unmet (free unmet)))
       (features_are.1 (free no_feature)))
       (free_surplus (free wrong_list)))
-      (negate f.unreached (told.reached_is.1 (free unreached)))
+      (not_from_false f.unreached (told.reached_is.1 (free unreached)))

@@ -2,7 +2,7 @@
 use Rattle.std.proofs.Common.{◌≡◌, ◌↔◌, ◌⊎◌, ℕ, Bool, true, false, not, ◌&&◌, List, length, Option, Some, None}
 use Rattle.std.proofs.Common.{option_map, slice_get, Contains, is_some, refl, sym, ap, ◌∙◌, inl, inr, subst, true≢false}
 use Rattle.std.specs.List.{filter, range_with_len}
-use Rattle.std.proofs.lemmas.Bool.{and_from}
+use Rattle.std.proofs.lemmas.Bool.{and_from, not-true, not_from_false}
 use Rattle.std.proofs.lemmas.Option.{slice_get_within}
 use Rattle.model.specs.Facts.{enabled}
 use Rattle.model.specs.Content.{Package, Content, Problem, summary_of, last_serving, list_if}
@@ -12,7 +12,7 @@ use Rattle.model.proofs.Same.{both}
 use Rattle.facts.specs.Graphs.{flag_at}
 use Rattle.selection.specs.Graphs.{targets_in}
 use Rattle.selection.specs.Places.{is_missing, IsLedTo}
-use Rattle.selection.proofs.Judging.{negate, negated, its_target, its_dependency, target_here, led_to_target}
+use Rattle.selection.proofs.Judging.{its_target, its_dependency, target_here, led_to_target}
 use Rattle.selection.proofs.Judging.{target_led_to}
 use Rattle.flaws.specs.Flaws.{IsUnmet, IsSurplus}
 use Rattle.flaws.proofs.Elements.{in_range}
@@ -63,13 +63,13 @@ module _ (q : Problem) (content : Content) (n : ℕ) (p : Package) (got : slice_
               subst (λ o. Contains (list_if o) t) (sym got) kept.0,
               λ h. true≢false
                   (sym ((led_is t).1 (target_led_to q content n p got flags targets flags_are targets_is t h))
-                  ∙ negated (led t) kept.1),
+                  ∙ not-true (led t) kept.1),
             )
 
         by : (b : Bool) → led t ≡ b → IsSurplus q content n t → Contains (filter (λ t. not (led t)) p.list) t
         by true e h =
             absurd (h.1 (led_to_target q content n p got flags targets flags_are targets_is t ((led_is t).0 e)))
-        by false e h = to_filter (λ t. not (led t)) p.list t (listed_here t h.0) (negate (led t) e)
+        by false e h = to_filter (λ t. not (led t)) p.list t (listed_here t h.0) (not_from_false (led t) e)
 
         from : IsSurplus q content n t → Contains (filter (λ t. not (led t)) p.list) t
         from h = by (led t) refl h
@@ -80,4 +80,4 @@ module _ (q : Problem) (content : Content) (n : ℕ) (p : Package) (got : slice_
       where
         by : (b : Bool) → led t ≡ b → Contains (filter (λ t. not (led t)) p.list) t ⊎ IsTarget q content n t
         by true e = inr (led_to_target q content n p got flags targets flags_are targets_is t ((led_is t).0 e))
-        by false e = inl (to_filter (λ t. not (led t)) p.list t (listed_here t c) (negate (led t) e))
+        by false e = inl (to_filter (λ t. not (led t)) p.list t (listed_here t c) (not_from_false (led t) e))

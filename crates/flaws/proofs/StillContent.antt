@@ -7,7 +7,7 @@ use Rattle.std.proofs.lemmas.List.Elements.{All-map}
 use Rattle.model.specs.Content.{Content}
 use Rattle.model.specs.Order.{package_cmp}
 use Rattle.model.specs.WellFormed.{IsContent}
-use Rattle.catalogue.proofs.LawsLists.{pairs_map}
+use Rattle.model.proofs.Mapped.{pairs_map}
 use Rattle.flaws.specs.Unsummed.{without_checksum}
 
 pub still_content : (content : Content) → IsContent content → IsContent (map without_checksum content)

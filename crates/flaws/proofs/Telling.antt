@@ -5,7 +5,8 @@ use Rattle.std.proofs.Common.{true≢false}
 use Rattle.std.specs.List.{All, AllPairs}
 use Rattle.std.proofs.lemmas.Bool.{cases_lt}
 use Rattle.std.proofs.lemmas.List.{append-nil}
-use Rattle.std.proofs.lemmas.List.Elements.{All-nil, Contains-append_left, Contains-append_right}
+use Rattle.std.proofs.lemmas.List.Elements.{All-nil, Contains-append_left, Contains-append_right, All-push}
+use Rattle.std.proofs.lemmas.List.Quantifiers.{all_pairs_push}
 use Rattle.model.specs.Content.{Content, Problem}
 use Rattle.model.specs.Selection.{IsPlace, IsValidSelection}
 use Rattle.model.specs.Verdict.{HasRoot, IsFaultless}
@@ -18,7 +19,6 @@ use Rattle.catalogue.specs.Stores.{CatalogueView}
 use Rattle.flaws.specs.Flaws.{is_flawless, AreFlaws, IsToldBelow, AreToldBelow, AreTold}
 use Rattle.flaws.specs.declared.flawed.Flawed.{Flawed}
 use Rattle.flaws.proofs.Conditions.{flawless_free, free_flawless}
-use Rattle.flaws.proofs.Elements.{all-snoc, pairs-snoc}
 
 module _ (m : ManifestView) (index : CatalogueView) (content : Content) where
   abbrev q : Problem
@@ -59,11 +59,11 @@ module _ (m : ManifestView) (index : CatalogueView) (content : Content) where
     -- .. or with which something is
     more_told : is_flawless g ≡ false → AreToldBelow m index content (n + 1) (fs ++ g ∷ [])
     more_told e = record {
-      each = all-snoc (IsToldBelow m index content (n + 1)) fs g (further n (n + 1) (omega arith) fs told.each)
+      each = All-push (IsToldBelow m index content (n + 1)) fs g (further n (n + 1) (omega arith) fs told.each)
           (flaws, omega (arith, place), λ free. true≢false (sym (free_flawless m index content g flaws free) ∙ e));
       every = every;
       in_order =
-          pairs-snoc (λ (f h : Flawed). f.place < h.place) fs g told.in_order (places_below n g place fs told.each);
+          all_pairs_push (λ (f h : Flawed). f.place < h.place) fs g told.in_order (places_below n g place fs told.each);
     }
       where
         kept : (k : ℕ) → IsFaultless q content k ⊎ ((f : Flawed) × Contains fs f × (f.place ≡ k))

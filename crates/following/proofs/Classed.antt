@@ -5,7 +5,7 @@ use Rattle.std.proofs.Common.{refl, sym, ap, ◌∙◌, subst, arith, inl, inr, 
 use Rattle.std.specs.List.{All}
 use Rattle.std.specs.List.Sorted.{IsPartitionPoint}
 use Rattle.std.specs.Prelude.{unwrap_or}
-use Rattle.std.proofs.lemmas.Bool.{cases_lt}
+use Rattle.std.proofs.lemmas.Bool.{cases_lt, not-true}
 use Rattle.std.proofs.lemmas.List.{get_or-drop, length-drop, length-map, take_rest}
 use Rattle.std.proofs.lemmas.Option.{none-some, same_Some, slice_get-map, slice_get_within, get_or_from_slice_get}
 use Rattle.semver.specs.Identifiers.{parts_of}
@@ -23,7 +23,7 @@ use Rattle.manifest.specs.Manifests.{ManifestView}
 use Rattle.catalogue.specs.Problems.{problem_in}
 use Rattle.catalogue.specs.Stores.{CatalogueView, candidates_at}
 use Rattle.looking_up.specs.Ranges.{AreRising, is_above, is_below, is_of}
-use Rattle.looking_up.proofs.Pieces.{above_parted, apart_below, neither, not_true, parts_filtered, skipped}
+use Rattle.looking_up.proofs.Pieces.{above_parted, apart_below, neither, parts_filtered, skipped}
 use Rattle.encoding.proofs.Stated.{versions_counted, versions_space}
 use Rattle.encoding.proofs.Tested.{states_here}
 use Rattle.following.specs.Found.{IsNumberOf}
@@ -74,7 +74,7 @@ module _ (k : Class) (vs : List Version) (i : ℕ) (rising : AreRising vs)
       let last : not (is_above k (parts_of (get_or vs (i + j) d))) ≡ true =
       ap (λ v. not (is_above k (parts_of v))) here ∙ ap not (not_above k (class_of (parts_of x)) is) in
       let low = first.1 (i + n) d (omega arith) (omega (arith, le, within, long)) in
-      let high = not_true (is_above k (parts_of (get_or vs (i + n) d)))
+      let high = not-true (is_above k (parts_of (get_or vs (i + n) d)))
       (above_parted k vs rising (i + n) (i + j) d (omega (arith, le)) (omega (arith, within, long)) last) in
       ap (λ v. is_of k (parts_of v)) (get_or-drop i vs n d)
       ∙ neither k (class_of (parts_of (get_or vs (i + n) d))) low high

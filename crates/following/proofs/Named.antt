@@ -21,7 +21,8 @@ use Rattle.model.specs.WellFormed.{IsContent}
 use Rattle.model.proofs.Contents.{text-equal}
 use Rattle.model.proofs.Owners.{root_parts}
 use Rattle.model.proofs.Same.{text-same}
-use Rattle.selection.proofs.NameOrder.{below_less, names_rise}
+use Rattle.model.proofs.Tests.{below-less}
+use Rattle.selection.proofs.NameOrder.{names_rise}
 use Rattle.lockfile.specs.Search.{named_cmp}
 use Rattle.following.specs.Found.{is_locked, is_sourceless}
 use Rattle.following.proofs.Owners.{sourceless_root}
@@ -50,7 +51,7 @@ module _ (name : List ℕ) where
         subst (λ r. package_cmp (package_view (get_or ps i d)) r ≡ Less) (view_at ps j d)
         (subst (λ p. package_cmp p (get_or (package_views ps) j (package_view d)) ≡ Less) (view_at ps i d)
         (formed.in_order i j (package_view d) less (omega (arith, lt, length-map ps package_view)))) in
-        below_less (named_cmp name (package_view (get_or ps i d))) (named_cmp name (package_view (get_or ps j d)))
+        below-less (named_cmp name (package_view (get_or ps i d))) (named_cmp name (package_view (get_or ps j d)))
         (names_rise name (package_view (get_or ps i d)) (package_view (get_or ps j d)) before) h
     | inr ge ↦ let same : j ≡ i =
         omega (arith, le, ge) in subst (λ k. is_lt (named_cmp name (package_view (get_or ps k d))) ≡ true) same h

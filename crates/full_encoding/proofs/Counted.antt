@@ -4,18 +4,19 @@ use Rattle.std.proofs.Common.{true, false, cond, nat_lt, is_some, Option, Some, 
 use Rattle.std.proofs.Common.{subst, arith}
 use Rattle.std.specs.Prelude.{option_and_then, option_map}
 use Rattle.std.specs.List.{AllByRecursion, AllPairs}
-use Rattle.std.proofs.lemmas.List.{map-append, take-append-drop, take-append-le}
+use Rattle.std.proofs.lemmas.List.{map-append, take-append-drop, take-append-le, length-map}
 use Rattle.std.proofs.lemmas.Option.{none-some, same_Some, slice_get_past, slice_get_within}
 use Rattle.model.specs.Content.{Problem}
 use Rattle.model.specs.Vertices.{State, Vertex, absent, same_vertex, space}
 use Rattle.model.specs.Axioms.{IsVertex}
 use Rattle.model.proofs.Lists.{pairs_first, pairs_none, pairs_rest}
+use Rattle.model.proofs.Places.{some_at, got_in}
+use Rattle.model.proofs.Members.{all_in}
 use Rattle.encoding.specs.Assignments.{state_at}
 use Rattle.encoding.specs.Numberings.{AddsOnly, IsGrown, IsNumbering, Numbering, number_in}
 use Rattle.encoding.specs.Pairs.{IsCauseAt, IsSpokenOf, Pair}
 use Rattle.encoding.proofs.Adds.{adds_none}
-use Rattle.encoding.proofs.Needing.{from_all, still_at}
-use Rattle.encoding.proofs.Places.{get_below, got_in}
+use Rattle.encoding.proofs.Needing.{still_at}
 use Rattle.full_encoding.specs.Encodings.{AddsFor, AreSpaces, below, beside, pair_of}
 use Rattle.full_encoding.proofs.Pairing.{taken_at, taken_next}
 use Rattle.std.proofs.lemmas.List.Kept.{AllPairs-cons}
@@ -60,7 +61,7 @@ module _ {X : Type 0} where
   pairs_taken [] (suc n) h = h
   pairs_taken (x ∷ xs) zero h = pairs_none (λ a b. a ≢ b)
   pairs_taken (x ∷ xs) (suc n) h = AllPairs-cons (λ a b. a ≢ b) x (take n xs)
-      (from_all (λ w. x ≢ w) (take n xs) (λ w c. let r = taken_at xs n w c in pairs_first
+      (all_in (λ w. x ≢ w) (take n xs) (λ w c. let r = taken_at xs n w c in pairs_first
       (λ a b. a ≢ b) x w xs h (got_in xs r.0 w r.2))) (pairs_taken xs n (pairs_rest (λ a b. a ≢ b) x xs h))
 
   all_taken : (P : X → Type 0) (xs : List X) (n : ℕ) → AllByRecursion P xs → AllByRecursion P (take n xs)
@@ -68,10 +69,6 @@ module _ {X : Type 0} where
   all_taken P [] (suc n) h = h
   all_taken P (x ∷ xs) zero h = tt
   all_taken P (x ∷ xs) (suc n) h = (h.0, all_taken P xs n h.1)
-
-  map_length : {Y : Type 0} (f : X → Y) (xs : List X) → length (map f xs) ≡ length xs
-  map_length f [] = refl
-  map_length f (x ∷ xs) = ap suc (map_length f xs)
 
   map_get : {Y : Type 0} (f : X → Y) (xs : List X) (i : ℕ) → slice_get (map f xs) i ≡ option_map f (slice_get xs i)
   map_get f [] i = refl
@@ -117,7 +114,7 @@ module _ (q : Problem) where
   pub spaces_few : (vs : Numbering) (ss : List ℕ) → AreSpaces q vs ss → length ss ≤ length vs
   spaces_few vs ss are =
       let e : length ss ≡ length (take (length ss) vs) =
-      ap length are ∙ map_length (λ v. length (space q v)) (take (length ss) vs) in
+      ap length are ∙ length-map (take (length ss) vs) (λ v. length (space q v)) in
       let h = take_few vs (length ss) in
       omega (arith, e, h)
 
@@ -147,7 +144,7 @@ module _ (q : Problem) where
       more (x ∷ xs) = ap suc (more xs)
 
   pub spaces_counted : (vs : Numbering) (ss : List ℕ) → AreSpaces q vs ss → length ss ≡ length (take (length ss) vs)
-  spaces_counted vs ss are = ap length are ∙ map_length (λ v. length (space q v)) (take (length ss) vs)
+  spaces_counted vs ss are = ap length are ∙ length-map (take (length ss) vs) (λ v. length (space q v))
 
   -- the size at a number
   pub size_at : (vs : Numbering) (ss : List ℕ) (n : ℕ) → AreSpaces q vs ss
@@ -174,7 +171,7 @@ module _ (q : Problem) where
   pub pair_there : (vs : Numbering) (n s : ℕ) (v : Vertex) → slice_get vs n ≡ Some v → s < length (space q v)
       → pair_in vs n s ≡ Some (v, state_at q v s)
   pair_there vs n s v at lt =
-      let r = get_below (space q v) s lt in
+      let r = some_at (space q v) s lt in
       ap (λ o. option_and_then (λ v. pair_of q v s) o) at
       ∙ ap (option_map (beside v)) r.1
       ∙ ap (λ t. Some (beside v t)) (ap (λ o. Rattle.std.specs.Prelude.unwrap_or o absent) (sym r.1))

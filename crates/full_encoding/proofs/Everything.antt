@@ -20,7 +20,7 @@ use Rattle.model.proofs.Spaces.{class_in}
 use Rattle.model.proofs.Vertices.{class_from}
 use Rattle.model.proofs.Owners.{candidate_at-is}
 use Rattle.model.proofs.Same.{text-same, text-refl, class-same, class-refl, version-same, version-refl}
-use Rattle.model.proofs.Gathered.{place_in, at_place}
+use Rattle.model.proofs.Places.{place_of, got_in}
 use Rattle.manifest.specs.Manifests.{asked_by}
 use Rattle.refutations.specs.Causes.{entries_of, table_of_owner}
 use Rattle.std.proofs.lemmas.List.Elements.{Contains-append_cases, Contains-append_right, Contains-append_left}
@@ -190,7 +190,7 @@ module _ (q : Problem) where
             ask_vertex name w f e r.0 r.1 v has (dep_owner q (version_of name w) r.0 r.1 r.2) r.3
         | inr b ↦ let r = in_flat (asked_of q ds) (asked_by e) v b in
             let s = in_flat (asked_if q r.0) ds v r.2 in
-            let p = place_in ds s.0 s.1 in
+            let p = place_of ds s.0 s.1 in
             pair_vertex name w f e p.0 s.0 r.0 v has (dep_owner q (version_of name w) p.0 s.0 p.1) r.1 s.2
       ]
 
@@ -230,7 +230,7 @@ module _ (q : Problem) where
           | inl a ↦ dependencies_are the_root v a
           | inr b ↦ let r = in_flat (asked_of q ds) q.root_asks v b in
               let s = in_flat (asked_if q r.0) ds v r.2 in
-              let p = place_in ds s.0 s.1 in
+              let p = place_of ds s.0 s.1 in
               let t = from_if (same_text (s.0).name (r.0).0) v (feature_of q (s.0).real_name (r.0).1) s.2 in
               let e : (r.0).0 ≡ (s.0).name = sym (text-same (s.0).name (r.0).0 t.0) in
               let same : r.0 ≡ ((s.0).name, (r.0).1) = λ i. (e i, (r.0).1) in
@@ -336,7 +336,7 @@ module _ (q : Problem) where
       entry_named name w f e v has
       (Contains-append_right (each_from (ask_if name w e) 0 ds) (flat_map (asked_of q ds) (asked_by e)) v
       (to_flat (asked_of q ds) (asked_by e) (d.name, g) v c
-      (to_flat (asked_if q (d.name, g)) ds d v (at_place ds i d at.1)
+      (to_flat (asked_if q (d.name, g)) ds d v (got_in ds i d at.1)
       (to_if (same_text d.name d.name) v (feature_of q d.real_name g) (text-refl d.name) h))))
 
   asked_named : (o : Owner) (i : ℕ) (d : Dependency) (g : List ℕ) (v : Vertex) → HasDep q o i d
@@ -351,7 +351,7 @@ module _ (q : Problem) where
       (in_rest root v (of_dependencies q the_root ++ flat_map (asked_of q ds) q.root_asks)
       (Contains-append_right (of_dependencies q the_root) (flat_map (asked_of q ds) q.root_asks) v
       (to_flat (asked_of q ds) q.root_asks (d.name, g) v c
-      (to_flat (asked_if q (d.name, g)) ds d v (at_place ds i d has.1)
+      (to_flat (asked_if q (d.name, g)) ds d v (got_in ds i d has.1)
       (to_if (same_text d.name d.name) v (feature_of q d.real_name g) (text-refl d.name) h)))))
   asked_named (version_of name w) i d g v has (inr c) h = absurd c
 

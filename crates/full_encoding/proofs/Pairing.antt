@@ -2,7 +2,7 @@
 use Rattle.std.proofs.Common.{◌≡◌, ◌≢◌, ◌<◌, ℕ, zero, suc, get_or, List, [], ◌∷◌, ◌++◌, length, map, take, true}
 use Rattle.std.proofs.Common.{Contains, Some, slice_get, refl, sym, ap, ◌∙◌, subst, inl, inr, arith}
 use Rattle.std.specs.List.{AllPairs, flat_map}
-use Rattle.std.proofs.lemmas.List.{append_assoc, map-append}
+use Rattle.std.proofs.lemmas.List.{append_assoc, map-append, append-nil}
 use Rattle.std.proofs.lemmas.List.Kept.{AllPairs-cons}
 use Rattle.std.proofs.lemmas.Option.{none-some, same_Some, slice_get_read, slice_get_within}
 use Rattle.model.specs.Content.{Problem}
@@ -11,8 +11,12 @@ use Rattle.model.specs.Vertices.{State, Vertex, absent, space}
 use Rattle.model.proofs.Lists.{in_none, in_cons, in_first, in_rest, in_map, to_map, pairs_first, pairs_get, pairs_none}
 use Rattle.model.proofs.Lists.{pairs_rest}
 use Rattle.model.proofs.Flat.{to_flat, in_flat}
+use Rattle.model.proofs.Mapped.{flat_last}
+use Rattle.model.proofs.Places.{some_at, map_at}
+use Rattle.model.proofs.Members.{all_in}
 use Rattle.refutations.specs.Causes.{Cause, is_cause}
 use Rattle.std.proofs.lemmas.List.Elements.{Contains-append_cases, Contains-append_right, Contains-append_left}
+use Rattle.std.proofs.lemmas.List.Elements.{Contains-push_cases}
 use Rattle.encoding.specs.Assignments.{state_at}
 use Rattle.encoding.specs.CausesAt.{causes_at, with_causes}
 use Rattle.encoding.specs.Numberings.{IsGrown, IsNumbering, IsWhole, Numbering}
@@ -21,8 +25,7 @@ use Rattle.vertices.specs.RefViews.{state_ref_view, state_ref_views}
 use Rattle.vertices.specs.declared.state.StateRef.{StateRef}
 use Rattle.encoding.proofs.CausesLaws.{at_exact}
 use Rattle.encoding.proofs.Distinct.{states_once}
-use Rattle.encoding.proofs.Needing.{from_all, given_more, in_last}
-use Rattle.encoding.proofs.Places.{get_below}
+use Rattle.encoding.proofs.Needing.{given_more}
 use Rattle.full_encoding.specs.Everywhere.{ComesOnce, IsGivenAll, IsGivenFor, all_pairs, pairs_of}
 use Rattle.full_encoding.proofs.Firsts.{first_there}
 
@@ -32,7 +35,7 @@ pairs_append : {X : Type 0} (xs ys : List X) → AllPairs (λ a b. a ≢ b) xs �
     → ((x y : X) → Contains xs x → Contains ys y → x ≢ y) → AllPairs (λ a b. a ≢ b) (xs ++ ys)
 pairs_append [] ys a b apart = b
 pairs_append {X} (x ∷ xs) ys a b apart =
-    AllPairs-cons (λ a b. a ≢ b) x (xs ++ ys) (from_all (λ w. x ≢ w) (xs ++ ys) first)
+    AllPairs-cons (λ a b. a ≢ b) x (xs ++ ys) (all_in (λ w. x ≢ w) (xs ++ ys) first)
     (pairs_append xs ys (pairs_rest (λ a b. a ≢ b) x xs a) b (λ z y c d. apart z y (in_rest x z xs c) d))
   where
     first : (w : X) → Contains (xs ++ ys) w → x ≢ w
@@ -64,10 +67,6 @@ pub take_none : {X : Type 0} (xs : List X) → take 0 xs ≡ []
 take_none [] = refl
 take_none (x ∷ xs) = refl
 
-append_none : {X : Type 0} (xs : List X) → xs ++ [] ≡ xs
-append_none [] = refl
-append_none (x ∷ xs) = ap (λ l. x ∷ l) (append_none xs)
-
 -- in a list where each stands once, none of the first is that which comes next
 pub not_before : {X : Type 0} (xs : List X) (n : ℕ) (x : X) → AllPairs (λ a b. a ≢ b) xs → slice_get xs n ≡ Some x
     → Contains (take n xs) x → ⊥
@@ -78,16 +77,6 @@ pub taken_next : {X : Type 0} (xs : List X) (n : ℕ) (x : X) → slice_get xs n
 taken_next [] n x e = absurd (none-some x e)
 taken_next (y ∷ xs) zero x e = ap (λ z. z ∷ []) (same_Some y x e)
 taken_next (y ∷ xs) (suc n) x e = ap (λ l. y ∷ l) (taken_next xs n x e)
-
-flat_last : {X Y : Type 0} (f : X → List Y) (xs : List X) (x : X) → flat_map f (xs ++ x ∷ []) ≡ flat_map f xs ++ f x
-flat_last f [] x = append_none (f x)
-flat_last f (y ∷ xs) x = ap (λ l. f y ++ l) (flat_last f xs x) ∙ sym (append_assoc (f y) (flat_map f xs) (f x))
-
-mapped_at : {X Y : Type 0} (f : X → Y) (xs : List X) (n : ℕ) (x : X) → slice_get xs n ≡ Some x
-    → slice_get (map f xs) n ≡ Some (f x)
-mapped_at f [] n x e = absurd (none-some x e)
-mapped_at f (y ∷ xs) zero x e = ap (λ z. Some (f z)) (same_Some y x e)
-mapped_at f (y ∷ xs) (suc n) x e = mapped_at f xs n x e
 
 module _ (q : Problem) where
   -- ---- nothing is given for no pairs
@@ -138,7 +127,7 @@ module _ (q : Problem) where
 
       back : (c : Cause) → (is_cause q c ≡ true) × Contains (ps ++ p ∷ []) (first_pair c)
           → Contains (a.causes ++ b.causes) c
-      back c (t, h) = elim (in_last ps p (first_pair c) h) [
+      back c (t, h) = elim (Contains-push_cases ps p (first_pair c) h) [
         | inl d ↦ Contains-append_left a.causes b.causes c ((a.listed c).1 (t, d))
         | inr e ↦ Contains-append_right a.causes b.causes c (((b.are).listed c).1 (t, sym e))
       ]
@@ -146,11 +135,11 @@ module _ (q : Problem) where
   -- ---- the states of a vertex, one after another
 
   pub states_none : (v : Vertex) (ps : List Pair) → ps ++ map (λ s. (v, s)) (take 0 (space q v)) ≡ ps
-  states_none v ps = ap (λ l. ps ++ map (λ s. (v, s)) l) (take_none (space q v)) ∙ append_none ps
+  states_none v ps = ap (λ l. ps ++ map (λ s. (v, s)) l) (take_none (space q v)) ∙ append-nil ps
 
   pub state_next : (v : Vertex) (n : ℕ) → n < length (space q v) → slice_get (space q v) n ≡ Some (state_at q v n)
   state_next v n lt = let r =
-      get_below (space q v) n lt in r.1 ∙ ap (λ o. Some (Rattle.std.specs.Prelude.unwrap_or o absent)) (sym r.1)
+      some_at (space q v) n lt in r.1 ∙ ap (λ o. Some (Rattle.std.specs.Prelude.unwrap_or o absent)) (sym r.1)
 
   pub states_next : (v : Vertex) (ps : List Pair) (n : ℕ) → n < length (space q v)
       → (ps ++ map (λ s. (v, s)) (take n (space q v))) ++ (v, state_at q v n) ∷ []
@@ -169,7 +158,7 @@ module _ (q : Problem) where
   state_listed v xs n x same lt is =
       let at : slice_get (space q v) n ≡ Some (state_ref_view x)
       = ap (λ l. slice_get l n) (sym same)
-      ∙ mapped_at state_ref_view xs n x (slice_get_read xs (length xs) n x refl lt is) in
+      ∙ map_at state_ref_view xs n x (slice_get_read xs (length xs) n x refl lt is) in
       let below : n < length (space q v) = slice_get_within (space q v) n (state_ref_view x) at in
       (below, same_Some (state_ref_view x) (state_at q v n) (sym at ∙ state_next v n below))
 

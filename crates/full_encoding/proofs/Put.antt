@@ -2,7 +2,7 @@
 use Rattle.std.proofs.Common.{◌≡◌, ◌<◌, ◌≤◌, ◌+◌, ℕ, suc, get_or, take, take_all, List, [], ◌∷◌, ◌++◌, length, Contains}
 use Rattle.std.proofs.Common.{Some, slice_get, refl, sym, ap, ◌∙◌, subst, inl, inr, arith}
 use Rattle.std.specs.List.{flat_map}
-use Rattle.std.proofs.lemmas.List.{map-append}
+use Rattle.std.proofs.lemmas.List.{map-append, append-nil}
 use Rattle.std.proofs.lemmas.Option.{slice_get_read}
 use Rattle.std.proofs.Math.Seq.{take-suc}
 use Rattle.model.specs.Content.{Problem}
@@ -11,20 +11,20 @@ use Rattle.model.specs.Vertices.{Vertex}
 use Rattle.model.specs.Axioms.{IsVertex}
 use Rattle.model.proofs.Lists.{in_none, to_map}
 use Rattle.model.proofs.Flat.{to_flat, in_flat}
-use Rattle.std.proofs.lemmas.List.Elements.{Contains-append_left}
+use Rattle.model.proofs.Places.{got_in}
+use Rattle.model.proofs.Members.{each_at}
+use Rattle.std.proofs.lemmas.List.Elements.{Contains-append_left, Contains-push_cases}
 use Rattle.vertices.specs.RefViews.{vertex_ref_view}
 use Rattle.vertices.specs.declared.vertex.VertexRef.{VertexRef}
 use Rattle.encoding.specs.Numberings.{IsGrown, IsNumbering, IsWhole, Numbering, with_vertex}
-use Rattle.encoding.proofs.Needing.{grows_on, in_last, numbering_put, put_grows}
-use Rattle.encoding.proofs.Places.{each_at, got_in}
+use Rattle.encoding.proofs.Needing.{grows_on, numbering_put, put_grows}
 use Rattle.full_encoding.specs.Everything.{in_classes, named}
 use Rattle.full_encoding.specs.Putting.{AreIn, AreVertices, IsPut}
 use Rattle.full_encoding.specs.Views.{vertex_views}
 use Rattle.full_encoding.proofs.Everything.{all_named, classes_are, named_are}
-use Rattle.full_encoding.proofs.Steps.{append_none}
 
 pub put_none : (vs : Numbering) (ws : List Vertex) → IsPut vs vs ws
-put_none vs ws = record { grown = ([], sym (append_none vs)); numbering = λ q ok are. ok }
+put_none vs ws = record { grown = ([], sym (append-nil vs)); numbering = λ q ok are. ok }
 
 pub put_more : (old vs new : Numbering) (ws : List Vertex) (v : Vertex) → IsPut old vs ws → Contains ws v
     → new ≡ with_vertex vs v → IsPut old new ws
@@ -50,7 +50,8 @@ in_next vs new xs i n x lt is put at are =
     let next : vertex_views (take (i + 1) xs) ≡ vertex_views (take i xs) ++ vertex_ref_view x ∷ []
     = ap (λ k. vertex_views (take k xs)) e ∙ ap vertex_views (take-suc xs i x lt
     ∙ ap (λ y. take i xs ++ y ∷ []) (sym is)) ∙ map-append vertex_ref_view (take i xs) (x ∷ []) in
-    λ v c. elim (in_last (vertex_views (take i xs)) (vertex_ref_view x) v (subst (λ l. Contains l v) next c)) [
+    λ v c. elim (Contains-push_cases
+    (vertex_views (take i xs)) (vertex_ref_view x) v (subst (λ l. Contains l v) next c)) [
       | inl d ↦ still_in vs new v (subst (IsGrown vs) (sym put) (put_grows vs (vertex_ref_view x))) (are v d)
       | inr f ↦ subst (Contains new) f (got_in new n (vertex_ref_view x) at)
     ]

@@ -18,9 +18,9 @@ use Rattle.model.specs.Vertices.{add_class, classes_of, same_class}
 use Rattle.model.proofs.Lists.{any_of, in_first, in_rest, pairs_rest}
 use Rattle.model.proofs.Orders.{class_above}
 use Rattle.model.proofs.Same.{class-refl, class-same}
+use Rattle.model.proofs.Gathered.{pairs_map}
 use Rattle.looking_up.specs.Ranges.{AreRising, is_of}
 use Rattle.encoding.proofs.ClassOrder.{Comes, folded, folded_in, next_same}
-use Rattle.encoding.proofs.Distinct.{pairs_map}
 use Rattle.encoding.proofs.Grouped.{oldest_first}
 use Rattle.full_encoding.specs.Everything.{classes_in, versions}
 use Rattle.full_encoding.specs.Runs.{IsRun}

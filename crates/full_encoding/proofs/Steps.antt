@@ -3,8 +3,9 @@ use Rattle.std.proofs.Common.{◌≡◌, ◌≤◌, ◌+◌, zero, suc, drop, le
 use Rattle.std.proofs.Common.{false, cond, Option, Some, None, slice_get, refl, sym, ap, ap₂, ◌∙◌, ℕ}
 use Rattle.std.specs.Prelude.{codes, unwrap_or}
 use Rattle.std.specs.List.{flat_map}
-use Rattle.std.proofs.lemmas.List.{append_assoc}
+use Rattle.std.proofs.lemmas.List.{append_assoc, append-nil}
 use Rattle.std.proofs.lemmas.Option.{none-some, same_Some}
+use Rattle.std.proofs.lemmas.List.Concat.{flat_map-append}
 use Rattle.semver.specs.Identifiers.{parts_of}
 use Rattle.semver.specs.declared.Version.{Version}
 use Rattle.model.specs.Candidates.{Record, as_candidate}
@@ -13,6 +14,7 @@ use Rattle.model.specs.Content.{Candidate, Problem}
 use Rattle.model.specs.Summary.{Dependency, Entry, Table, asked_of_target, dependency_feature, same_text}
 use Rattle.model.specs.Selection.{Class, class_of}
 use Rattle.model.specs.Vertices.{Vertex, ask, feat, same_class}
+use Rattle.model.proofs.Mapped.{flat_flat}
 use Rattle.manifest.specs.Manifests.{ManifestView, asked_by, root_asks}
 use Rattle.catalogue.specs.Problems.{problem_in}
 use Rattle.catalogue.specs.Ranks.{records}
@@ -29,27 +31,12 @@ pub rest_more : {X : Type 0} (f : X → List Vertex) (vs new all : List Vertex) 
     → vs ++ flat_map f (x ∷ xs) ≡ all → new ≡ vs ++ f x → new ++ flat_map f xs ≡ all
 rest_more f vs new all x xs told step = ap (λ l. l ++ flat_map f xs) step ∙ append_assoc vs (f x) (flat_map f xs) ∙ told
 
-pub append_none : {X : Type 0} (xs : List X) → xs ++ [] ≡ xs
-append_none [] = refl
-append_none (x ∷ xs) = ap (λ l. x ∷ l) (append_none xs)
-
-pub flat_append : {X Y : Type 0} (f : X → List Y) (xs ys : List X)
-    → flat_map f (xs ++ ys) ≡ flat_map f xs ++ flat_map f ys
-flat_append f [] ys = refl
-flat_append f (x ∷ xs) ys =
-    ap (λ l. f x ++ l) (flat_append f xs ys) ∙ sym (append_assoc (f x) (flat_map f xs) (flat_map f ys))
-
-flat_flat : {X Y Z : Type 0} (f : Y → List Z) (g : X → List Y) (xs : List X)
-    → flat_map f (flat_map g xs) ≡ flat_map (λ x. flat_map f (g x)) xs
-flat_flat f g [] = refl
-flat_flat f g (x ∷ xs) = flat_append f (g x) (flat_map g xs) ∙ ap (λ l. flat_map f (g x) ++ l) (flat_flat f g xs)
-
 -- what the entries of the root ask for
 pub rows_ask : (f : List ℕ × List ℕ → List Vertex) (rows : Table)
     → flat_map (λ row. flat_map (λ e. flat_map f (asked_by e)) row.1) rows ≡ flat_map f (root_asks rows)
 rows_ask f [] = refl
 rows_ask f (row ∷ rows) = ap₂ (λ a b. a ++ b) (sym (flat_flat f asked_by row.1)) (rows_ask f rows)
-    ∙ sym (flat_append f (flat_map asked_by row.1) (root_asks rows))
+    ∙ sym (flat_map-append f (flat_map asked_by row.1) (root_asks rows))
 
 -- the features of a dependency's own list, and `default`
 pub own_list : (f : List ℕ → List Vertex) (d : Dependency)
@@ -58,9 +45,9 @@ own_list f d = by d.default_features
   where
     by : (b : Bool) → flat_map f d.features ++ cond b (f (codes "default")) []
         ≡ flat_map f (cond b (d.features ++ codes "default" ∷ []) d.features)
-    by true = ap (λ l. flat_map f d.features ++ l) (sym (append_none (f (codes "default"))))
-        ∙ sym (flat_append f d.features (codes "default" ∷ []))
-    by false = append_none (flat_map f d.features)
+    by true = ap (λ l. flat_map f d.features ++ l) (sym (append-nil (f (codes "default"))))
+        ∙ sym (flat_map-append f d.features (codes "default" ∷ []))
+    by false = append-nil (flat_map f d.features)
 
 -- ---- the versions of a name
 
@@ -152,7 +139,7 @@ asks_called name v x g n (d ∷ ds) = by (same_text d.name x) (asks_called name 
 
 pub asks_none : (vs : List Vertex) (f : ℕ → Dependency → List Vertex) → ((i : ℕ) (d : Dependency) → f i d ≡ [])
     → (n : ℕ) (ds : List Dependency) → vs ≡ vs ++ each_from f n ds
-asks_none vs f none n [] = sym (append_none vs)
+asks_none vs f none n [] = sym (append-nil vs)
 asks_none vs f none n (d ∷ ds) =
     asks_none vs f none (n + 1) ds ∙ ap (λ l. vs ++ (l ++ each_from f (n + 1) ds)) (sym (none n d))
 

@@ -6,6 +6,7 @@ use Rattle.std.specs.Option.{MatchOption}
 use Rattle.std.specs.List.{All, list_any}
 use Rattle.std.proofs.lemmas.List.{length-append}
 use Rattle.std.proofs.lemmas.Option.{slice_get_within, slice_get-map, same_Some, none-some}
+use Rattle.std.proofs.lemmas.Bool.{or_right}
 use Rattle.semver.specs.Parse.{Parts}
 use Rattle.semver.specs.Identifiers.{parts_of}
 use Rattle.semver.specs.declared.Version.{Version}
@@ -17,13 +18,13 @@ use Rattle.model.specs.Vertices.{Owner, version_of, Vertex, pkg, dep, State, abs
 use Rattle.model.specs.Vertices.{has_state, in_that_class, same_state, space}
 use Rattle.model.specs.Search.{IsUnbroken, LeadsTo}
 use Rattle.model.proofs.Lists.{all_first, all_rest}
+use Rattle.model.proofs.Places.{some_at, get_push_cases}
+use Rattle.catalogue.proofs.Lookups.{candidates_are}
 use Rattle.catalogue.specs.Stores.{CatalogueView, candidates_at, rows_by_name}
 use Rattle.reaching.specs.Nodes.{AreLeads, IsLead}
 use Rattle.contents.specs.Contents.{owner_if, owners_of, met_owner}
 use Rattle.contents.specs.declared.met.MetVersion.{MetVersion}
-use Rattle.contents.proofs.Lists.{some_at}
-use Rattle.contents.proofs.Rows.{candidates_are, versions_are}
-use Rattle.contents.proofs.MetVersions.{snoc_at}
+use Rattle.contents.proofs.Rows.{versions_are}
 use Rattle.gathering.specs.Leads.{AreLed, ArePut, AreThere, IsLed, IsPut, class_if, version_if}
 
 -- ---- states
@@ -69,10 +70,6 @@ owner_is index s vs v e got =
     (versions_same index s.name vs e) got in
     ap (version_of s.name) (sym is) ∙ sym (ap (owner_if s.name) at)
 
-or_true : (a b : Bool) → b ≡ true → (a || b) ≡ true
-or_true true b e = refl
-or_true false b e = e
-
 keep_or : (a b r : Bool) → (b ≡ true → r ≡ true) → (a || b) ≡ true → (a || r) ≡ true
 keep_or true b r f h = refl
 keep_or false b r f h = f h
@@ -93,7 +90,7 @@ any_version k v (c ∷ cs) h = by (in_that_class k c) (any_version k v cs) h
         (list_any (same_state (version v)) (map (λ (c : Candidate). version c.version) (filter (in_that_class k) cs)))
         (list_any (same_version v) (map (λ (c : Candidate). c.version) cs)) rest h
     by false rest h =
-        or_true (same_version v c.version) (list_any (same_version v) (map (λ (c : Candidate). c.version) cs)) (rest h)
+        or_right (same_version v c.version) (list_any (same_version v) (map (λ (c : Candidate). c.version) cs)) (rest h)
 
 no_version_same : (v : Parts) (vs : List Version) → All (λ w. same_version v (parts_of w) ≡ false) vs
     → list_any (same_version v) (map parts_of vs) ≡ false
@@ -187,7 +184,7 @@ module _ (q : Problem) (state : Vertex → State) (index : CatalogueView) (o : O
       let many = h.many in
       record {
         many = ap length e ∙ length-append places (p ∷ []) ∙ omega (arith, many);
-        led = λ i d' p' got at. elim (snoc_at places p i p' (sym (ap (λ l. slice_get l i) e) ∙ at)) [
+        led = λ i d' p' got at. elim (get_push_cases places p i p' (sym (ap (λ l. slice_get l i) e) ∙ at)) [
           | inl before ↦ h.led i d' p' got before
           | inr last ↦
               let here : n ≡ i = sym (last.0 ∙ many) in

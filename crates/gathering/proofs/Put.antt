@@ -4,10 +4,11 @@ use Rattle.std.proofs.Common.{◌∙◌, subst, inl, inr, arith}
 use Rattle.std.proofs.lemmas.List.{length-append}
 use Rattle.std.proofs.lemmas.Option.{same_Some, none-some}
 use Rattle.model.specs.Summary.{Dependency}
+use Rattle.model.proofs.Places.{get_push_cases}
 use Rattle.catalogue.specs.Stores.{CatalogueView}
 use Rattle.contents.specs.Contents.{Grows, IsCandidate, candidate_owner}
 use Rattle.contents.specs.declared.met.MetVersion.{MetVersion}
-use Rattle.contents.proofs.MetVersions.{grows_on, owner_on, snoc_at, unchanged}
+use Rattle.contents.proofs.MetVersions.{grows_on, owner_on, unchanged}
 use Rattle.gathering.specs.Leads.{ArePut, AreThere, IsPut}
 
 module _ (index : CatalogueView) where
@@ -50,15 +51,16 @@ module _ (index : CatalogueView) where
       record {
         grows = grows_on index old mid new h.grows g;
         many = ap length e ∙ length-append targets (target ∷ []) ∙ omega (arith, many);
-        put = λ i d' p' t' got' there' at. elim (snoc_at targets target i t' (sym (ap (λ l. slice_get l i) e) ∙ at)) [
-          | inl before ↦ put_on mid new d'.real_name p' t' g (h.put i d' p' t' got' there' before)
-          | inr last ↦
-              let here : n ≡ i = sym (last.0 ∙ many) in
-              let same : d ≡ d' = same_Some d d' (sym got ∙ ap (slice_get ds) here ∙ got') in
-              let beside : p ≡ p' = same_Some p p' (sym there ∙ ap (slice_get places) here ∙ there') in
-              subst (λ (x : Dependency). IsPut index new x.real_name p' t') same (subst (λ x.
-              IsPut index new d.real_name x t') beside (subst (IsPut index new d.real_name p) last.1 is))
-        ];
+        put = λ i d' p' t' got' there' at. elim (get_push_cases targets target i t'
+            (sym (ap (λ l. slice_get l i) e) ∙ at)) [
+              | inl before ↦ put_on mid new d'.real_name p' t' g (h.put i d' p' t' got' there' before)
+              | inr last ↦
+                  let here : n ≡ i = sym (last.0 ∙ many) in
+                  let same : d ≡ d' = same_Some d d' (sym got ∙ ap (slice_get ds) here ∙ got') in
+                  let beside : p ≡ p' = same_Some p p' (sym there ∙ ap (slice_get places) here ∙ there') in
+                  subst (λ (x : Dependency). IsPut index new x.real_name p' t') same (subst (λ x.
+                  IsPut index new d.real_name x t') beside (subst (IsPut index new d.real_name p) last.1 is))
+            ];
       }
 
   pub all_put : (old new : List MetVersion) (ds : List Dependency) (places : List (Option ℕ)) (n : ℕ)

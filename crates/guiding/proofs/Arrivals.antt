@@ -5,10 +5,10 @@ use Rattle.std.proofs.lemmas.List.{length-append, length-replicate}
 use Rattle.std.proofs.lemmas.Option.{none-some, same_Some}
 use Rattle.version_sets.specs.Sets.{Members, none}
 use Rattle.model.specs.Vertices.{Vertex, space}
+use Rattle.model.proofs.Places.{some_at}
 use Rattle.encoding.specs.KnownProblem.{problem}
 use Rattle.encoding.specs.Numberings.{Numbering}
 use Rattle.encoding.specs.declared.known_problem.KnownProblem.{KnownProblem}
-use Rattle.encoding.proofs.Places.{get_below}
 use Rattle.propagation.specs.Trails.{TrailView}
 use Rattle.propagation.proofs.Widened.{wider_again, wider_none}
 use Rattle.guiding.specs.Guides.{IsCome, IsEncoding}
@@ -36,7 +36,7 @@ encoding_next i vs asked more n was less is e = record {
 }
   where
     next : (v : Vertex) × (slice_get vs (length asked) ≡ Some v)
-    next = get_below vs (length asked) less
+    next = some_at vs (length asked) less
 
     longer : length (asked ++ none n ∷ []) ≡ suc (length asked)
     longer = length-append asked (none n ∷ []) ∙ omega arith

@@ -20,6 +20,7 @@ use Rattle.model.specs.Axioms.{Term, at, owner_holds}
 use Rattle.model.specs.Derivation.{states_at}
 use Rattle.model.proofs.Same.{both, state-same, state-refl, vertex-refl}
 use Rattle.model.proofs.Lists.{in_first, in_rest, pairs_first, pairs_rest}
+use Rattle.model.proofs.Places.{some_at, got_in}
 use Rattle.refutations.specs.Causes.{Cause, of_root, of_need, of_target, of_feature, of_list, of_ask, of_entry}
 use Rattle.refutations.specs.Causes.{of_enabling, of_asking, of_newest, of_weak, same_entry, dependency_at}
 use Rattle.refutations.specs.Causes.{has_class, some_entry, lists_feature, is_overtaken, is_weak_on, is_cause}
@@ -29,7 +30,6 @@ use Rattle.encoding.specs.Numberings.{Numbering, Says, members_at}
 use Rattle.encoding.specs.Pairs.{Pair, first_pair, owner_pair}
 use Rattle.encoding.specs.Assignments.{state_at}
 use Rattle.encoding.proofs.Distinct.{states_once}
-use Rattle.encoding.proofs.Places.{get_below, got_in}
 use Rattle.searching.specs.Searching.{IsOnly}
 
 -- ---- the first of a cause's terms
@@ -148,7 +148,7 @@ one_kept ss i s starts once some e =
 -- the state with a number
 pub state_is : (q : Problem) (v : Vertex) (i : ℕ) → i < length (space q v)
     → slice_get (space q v) i ≡ Some (state_at q v i)
-state_is q v i lt = let r = get_below (space q v) i lt in r.1 ∙ ap Some (sym (ap (λ o. unwrap_or o absent) r.1))
+state_is q v i lt = let r = some_at (space q v) i lt in r.1 ∙ ap Some (sym (ap (λ o. unwrap_or o absent) r.1))
 
 -- an instance has at its first vertex the one state of its pair
 pub first_only : (q : Problem) (vs : Numbering) (made : List TermView) (c : Cause) (n i : ℕ) (v : Vertex)

@@ -20,6 +20,7 @@ use Rattle.model.specs.Selection.{IsValidSelection}
 use Rattle.model.specs.Vertices.{State, Vertex, absent, space}
 use Rattle.model.specs.WellFormed.{IsCatalogue}
 use Rattle.model.proofs.Lists.{pairs_first, pairs_rest}
+use Rattle.model.proofs.Places.{got_in}
 use Rattle.refutations.specs.Causes.{kind_of, terms_of_cause}
 use Rattle.refutations.proofs.CauseLaws.{cause_instance}
 use Rattle.encoding.specs.Assignments.{IsOf, state_at}
@@ -27,7 +28,6 @@ use Rattle.encoding.specs.Numberings.{IsGrown, Numbering}
 use Rattle.encoding.specs.Pairs.{Given, IsGivenAt, Pair}
 use Rattle.encoding.proofs.Distinct.{states_once}
 use Rattle.encoding.proofs.Needing.{still_at}
-use Rattle.encoding.proofs.Places.{got_in}
 use Rattle.encoding.proofs.Sound.{breaks_none, has_assignment}
 use Rattle.searching.specs.Searching.{HasSpaces}
 use Rattle.searching.specs.Following.{IsLeft, IsSelection, KeepsFollowed}

@@ -1,7 +1,7 @@
 -- Which pairs were asked for once one more is marked, and vertices have come that weren't.
-use Rattle.std.proofs.Common.{◌≡◌, ◌≢◌, ℕ, zero, suc, ◌<◌, ◌≤◌, ◌||◌, Bool, true, false, List, [], ◌∷◌, ◌++◌, length}
+use Rattle.std.proofs.Common.{◌≡◌, ◌≢◌, ℕ, zero, suc, ◌<◌, ◌≤◌, true, false, List, [], ◌∷◌, ◌++◌, length}
 use Rattle.std.proofs.Common.{map, get_or, set, refl, sym, ap, ap₂, ◌∙◌, subst, inl, inr, ◌⊎◌, arith}
-use Rattle.std.proofs.lemmas.Bool.{cases_eq, cases_lt, false≢true}
+use Rattle.std.proofs.lemmas.Bool.{cases_eq, cases_lt, false≢true, or_left, or_right, or_cases}
 use Rattle.std.proofs.lemmas.List.{get_or-append_right, get_or-set_other, get_or-set_same, get_or_append_left}
 use Rattle.std.proofs.lemmas.List.{length-append, length-replicate, length-set}
 use Rattle.version_sets.specs.Sets.{Members, has, join, none, only}
@@ -14,34 +14,23 @@ join_long [] y e = refl
 join_long (b ∷ x) [] e = absurd (omega (arith, e))
 join_long (b ∷ x) (c ∷ y) e = ap suc (join_long x y (omega (arith, e)))
 
-or_true : (a b : Bool) → a ≡ true → (a || b) ≡ true
-or_true a b e = ap (λ c. c || b) e
-
-true_or : (a b : Bool) → b ≡ true → (a || b) ≡ true
-true_or true b e = refl
-true_or false b e = e
-
 join_left : (x y : Members) (i : ℕ) → length x ≡ length y → has x i ≡ true → has (join x y) i ≡ true
 join_left [] y i e h = absurd (false≢true h)
 join_left (b ∷ x) [] i e h = absurd (omega (arith, e))
-join_left (b ∷ x) (c ∷ y) zero e h = or_true b c h
+join_left (b ∷ x) (c ∷ y) zero e h = or_left b c h
 join_left (b ∷ x) (c ∷ y) (suc i) e h = join_left x y i (omega (arith, e)) h
 
 join_right : (x y : Members) (i : ℕ) → length x ≡ length y → has y i ≡ true → has (join x y) i ≡ true
 join_right [] [] i e h = absurd (false≢true h)
 join_right [] (c ∷ y) i e h = absurd (omega (arith, e))
 join_right (b ∷ x) [] i e h = absurd (omega (arith, e))
-join_right (b ∷ x) (c ∷ y) zero e h = true_or b c h
+join_right (b ∷ x) (c ∷ y) zero e h = or_right b c h
 join_right (b ∷ x) (c ∷ y) (suc i) e h = join_right x y i (omega (arith, e)) h
-
-either : (a b : Bool) → (a || b) ≡ true → (a ≡ true) ⊎ (b ≡ true)
-either true b e = inl refl
-either false b e = inr e
 
 join_either : (x y : Members) (i : ℕ) → has (join x y) i ≡ true → (has x i ≡ true) ⊎ (has y i ≡ true)
 join_either [] y i h = absurd (false≢true h)
 join_either (b ∷ x) [] i h = absurd (false≢true h)
-join_either (b ∷ x) (c ∷ y) zero h = either b c h
+join_either (b ∷ x) (c ∷ y) zero h = or_cases b c h
 join_either (b ∷ x) (c ∷ y) (suc i) h = join_either x y i h
 
 has_none : (n i : ℕ) → has (none n) i ≡ false

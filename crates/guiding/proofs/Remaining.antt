@@ -4,6 +4,7 @@ use Rattle.std.proofs.Common.{if◌then◌else◌, ◌||◌, Contains, refl, sym
 use Rattle.std.proofs.Common.{true≢false, append_assoc}
 use Rattle.std.specs.List.{list_any, AllPairs, AllByRecursion}
 use Rattle.std.proofs.lemmas.Bool.{cases_eq}
+use Rattle.std.proofs.lemmas.List.{append-nil}
 use Rattle.model.specs.Content.{Problem}
 use Rattle.model.specs.Vertices.{Vertex, same_vertex, space}
 use Rattle.model.specs.Axioms.{IsVertex}
@@ -45,10 +46,6 @@ apart_or w v = at (same_vertex w v) refl
 in_append : {X : Type 0} (xs : List X) (y : X) (ys : List X) → Contains (xs ++ y ∷ ys) y
 in_append [] y ys = in_first y ys
 in_append (x ∷ xs) y ys = in_rest x y (xs ++ y ∷ ys) (in_append xs y ys)
-
-none_more : {X : Type 0} (xs : List X) → xs ++ [] ≡ xs
-none_more [] = refl
-none_more (x ∷ xs) = ap (λ ys. x ∷ ys) (none_more xs)
 
 module _ (q : Problem) where
   -- one that isn't among the others changes nothing of them
@@ -111,7 +108,7 @@ module _ (q : Problem) where
   pub late_grown : (vs more : List Vertex) → AllPairs (λ v w. v ≢ w) (vs ++ more)
       → AllByRecursion (λ v. IsVertex q v) more → sum_of (spaces_of q more) + late_of q (vs ++ more) ≡ late_of q vs
   late_grown vs [] apart are = let e : late_of q (vs ++ []) ≡ late_of q vs =
-      ap (late_of q) (none_more vs) in omega (arith, e)
+      ap (late_of q) (append-nil vs) in omega (arith, e)
   late_grown vs (v ∷ more) apart are =
       let one = late_one vs v (vertices q) (listed_apart q) (all_listed q v are.0) (not_before vs v more apart) in
       let same : (vs ++ v ∷ []) ++ more ≡ vs ++ v ∷ more = append_assoc vs (v ∷ []) more in

@@ -1,20 +1,13 @@
 -- What the root and versions ask for by their entries.
-use Rattle.std.proofs.Common.{◌≡◌, Bool, true, false, ◌||◌, List, [], ◌∷◌, ◌++◌, refl, sym, ap, ap₂, ◌∙◌}
+use Rattle.std.proofs.Common.{◌≡◌, ◌||◌, List, [], ◌∷◌, refl, sym, ap, ap₂, ◌∙◌}
 use Rattle.std.specs.Prelude.{ℕ}
 use Rattle.std.specs.List.{list_any, flat_map}
+use Rattle.std.proofs.lemmas.List.Folds.{list_any-append}
 use Rattle.model.specs.Summary.{Summary, Entry, feature, dependency, dependency_feature, weak_feature, Table}
 use Rattle.model.specs.Summary.{entries_at}
 use Rattle.manifest.specs.Manifests.{asked_by, root_asks}
 use Rattle.refutations.specs.Causes.{asks_for, entries_or_none, same_pair}
 use Rattle.known_pairs.specs.Asking.{row_may_ask, row_names}
-
-or-same : (a b c : Bool) → ((a || b) || c) ≡ (a || (b || c))
-or-same true b c = refl
-or-same false b c = refl
-
-pub any-append : {X : Type 0} (p : X → Bool) (xs ys : List X) → list_any p (xs ++ ys) ≡ (list_any p xs || list_any p ys)
-any-append p [] ys = refl
-any-append p (x ∷ xs) ys = ap (λ b. p x || b) (any-append p xs ys) ∙ sym (or-same (p x) (list_any p xs) (list_any p ys))
 
 entries_ask : (d g : List ℕ) (es : List Entry)
     → list_any (asks_for d g) es ≡ list_any (same_pair (d, g)) (flat_map asked_by es)
@@ -29,7 +22,7 @@ pub rows_ask : (d g : List ℕ) (table : Table)
 unfolding row_names
 rows_ask d g [] = refl
 rows_ask d g (row ∷ rows) = ap₂ (λ a b. a || b) (entries_ask d g row.1) (rows_ask d g rows)
-    ∙ sym (any-append (same_pair (d, g)) (flat_map asked_by row.1) (root_asks rows))
+    ∙ sym (list_any-append (same_pair (d, g)) (flat_map asked_by row.1) (root_asks rows))
 
 may_ask_is : (d g : List ℕ) (table : Table)
     → list_any (row_may_ask d g table) table

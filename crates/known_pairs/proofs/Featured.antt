@@ -3,6 +3,7 @@ use Rattle.std.proofs.Common.{◌≡◌, ◌≢◌, ℕ, zero, suc, ◌+◌, ◌
 use Rattle.std.proofs.Common.{length, slice_get, refl, sym, ap, ap₂, ◌∙◌, arith, true≢false}
 use Rattle.std.specs.List.{list_any, All, AllPairs}
 use Rattle.std.proofs.lemmas.List.{length-map}
+use Rattle.std.proofs.lemmas.List.Folds.{list_any-append}
 use Rattle.semver.specs.Identifiers.{parts_of}
 use Rattle.semver.specs.declared.Version.{Version}
 use Rattle.model.specs.Summary.{same_text}
@@ -12,6 +13,7 @@ use Rattle.model.specs.Vertices.{Owner, version_of}
 use Rattle.model.specs.Candidates.{Record, as_candidate}
 use Rattle.model.proofs.Same.{text-same, text-refl}
 use Rattle.model.proofs.Lists.{all_first, all_rest, pairs_all, pairs_rest}
+use Rattle.model.proofs.Mapped.{any-map}
 use Rattle.manifest.specs.Manifests.{ManifestView}
 use Rattle.refutations.specs.Causes.{owner_asks, owners_in}
 use Rattle.catalogue.specs.Problems.{problem_in}
@@ -19,9 +21,7 @@ use Rattle.catalogue.specs.Ranks.{records}
 use Rattle.catalogue.specs.Stores.{CatalogueView, IsStore, Row, candidates_at, rows_by_name}
 use Rattle.catalogue.proofs.LawsCatalogues.{store-catalogue}
 use Rattle.known_pairs.specs.Asking.{row_owners_ask, version_asks}
-use Rattle.known_pairs.proofs.Asked.{any-append}
 use Rattle.catalogue.proofs.Lookups.{candidates_are}
-use Rattle.looking_up.proofs.Versions.{any-map}
 
 -- ---- the loop over places
 
@@ -86,7 +86,7 @@ owned : (p : Owner → Bool) (rows : Rows)
 owned p [] = refl
 owned p (r ∷ rows) =
     ap₂ (λ a b. a || b) (sym (any-map p (λ (c : Candidate). version_of r.0 c.version) r.1)) (owned p rows)
-    ∙ sym (any-append p (map (λ (c : Candidate). version_of r.0 c.version) r.1) (owners_in rows))
+    ∙ sym (list_any-append p (map (λ (c : Candidate). version_of r.0 c.version) r.1) (owners_in rows))
 
 pub rows_asked : (m : ManifestView) (c : CatalogueView) (name f : List ℕ) → IsStore c
     → list_any (row_owners_ask (problem_in m c) name f) (map (λ row. row.0) c.rows)

@@ -4,6 +4,7 @@ use Rattle.std.proofs.Common.{◌||◌, ◌&&◌, cond, Option, Some, None, Resu
 use Rattle.std.proofs.Common.{refl, sym, ap, ap₂, ◌∙◌}
 use Rattle.std.specs.Borrow.{Bor}
 use Rattle.std.specs.List.{list_any}
+use Rattle.std.proofs.lemmas.List.Folds.{list_any-append}
 use Rattle.semver.specs.Parse.{Parts}
 use Rattle.semver.specs.Identifiers.{parts_of}
 use Rattle.semver.specs.declared.Version.{Version}
@@ -14,6 +15,7 @@ use Rattle.model.specs.Optional.{passes}
 use Rattle.model.specs.Vertices.{the_root, version_of}
 use Rattle.model.proofs.Same.{text-same}
 use Rattle.model.proofs.Flips.{text-flips}
+use Rattle.model.proofs.Mapped.{any-map}
 use Rattle.manifest.specs.Manifests.{ManifestView}
 use Rattle.manifest.specs.Manifests as manifest
 use Rattle.refutations.specs.Causes.{asks_for, entries_or_none, owner_asks, owners_in, same_pair}
@@ -26,11 +28,11 @@ use Rattle.known_pairs.specs.Gathered.{brings_in, is_asked_by_root, is_asked_by_
 use Rattle.known_pairs.specs.Gathered.{is_known_by, is_known_feature}
 use Rattle.known_pairs.specs.Pairs.{Adds, has_pair}
 use Rattle.known_pairs.specs.declared.pairs.Pairs.{Pairs}
-use Rattle.known_pairs.proofs.Asked.{any-append, owner_may_ask, rows_ask}
+use Rattle.known_pairs.proofs.Asked.{owner_may_ask, rows_ask}
 use Rattle.catalogue.proofs.Lookups.{candidates_are}
 use Rattle.known_pairs.proofs.Featured.{any_end, any_here, any_later, rows_asked}
 use Rattle.known_pairs.proofs.PairLemmas.{or-none}
-use Rattle.looking_up.proofs.Versions.{any-map, any_candidate}
+use Rattle.looking_up.proofs.Versions.{any_candidate}
 
 abbrev Test : Type 0
 Test = List ℕ → List ℕ → Bool
@@ -121,7 +123,7 @@ list_default name d n f e =
     ap (λ b. b || (s && same_text f (codes "default"))) (named_texts n f name d.features)
     ∙ and-or s (list_any (same_text f) d.features) (same_text f (codes "default"))
     ∙ ap (λ b. s && (list_any (same_text f) d.features || b)) (or-none (same_text f (codes "default")))
-    ∙ ap (λ b. s && b) (sym (any-append (same_text f) d.features (codes "default" ∷ [])))
+    ∙ ap (λ b. s && b) (sym (list_any-append (same_text f) d.features (codes "default" ∷ [])))
     ∙ ap (λ b. s && list_any (same_text f) (cond b (d.features ++ codes "default" ∷ []) d.features)) (sym e)
 
 -- two tests one after the other

@@ -10,12 +10,13 @@ use Rattle.model.specs.Candidates.{Record, as_candidate}
 use Rattle.model.specs.Content.{Candidate, candidates_of}
 use Rattle.model.specs.Selection.{Class}
 use Rattle.model.specs.Vertices.{class_candidates, in_that_class, version}
+use Rattle.model.proofs.Mapped.{any-map}
 use Rattle.manifest.specs.Manifests.{ManifestView}
 use Rattle.catalogue.specs.Problems.{problem_in}
 use Rattle.catalogue.specs.Stores.{CatalogueView, candidates_at}
 use Rattle.looking_up.specs.Ranges.{is_of, versions_with}
 use Rattle.catalogue.proofs.Lookups.{candidates_are}
-use Rattle.looking_up.proofs.Versions.{all-map, any-map}
+use Rattle.looking_up.proofs.Versions.{all-map}
 
 in_class : (k : Class) (rs : List Record) → filter (is_of k) (map (λ r. r.version) rs)
     ≡ map (λ (e : Candidate). e.version) (filter (in_that_class k) (map as_candidate rs))

@@ -5,7 +5,7 @@ use Rattle.std.proofs.Common.{inr}
 use Rattle.std.specs.List.Sorted.{IsPartitionedBy, IsPartitionPoint}
 use Rattle.std.specs.Ordering.{is_gt}
 use Rattle.std.specs.declared.cmp.Ordering.TheVariants.{Less}
-use Rattle.std.proofs.lemmas.Bool.{cases_lt, lt-ltb, ltb-true, ltb-false, eq-eqb}
+use Rattle.std.proofs.lemmas.Bool.{cases_lt, lt-ltb, ltb-true, ltb-false, eq-eqb, not-true}
 use Rattle.std.proofs.lemmas.List.{get_or-drop, length-drop, take_rest}
 use Rattle.semver.specs.Identifiers.{parts_of}
 use Rattle.semver.specs.Parse.{Parts}
@@ -133,10 +133,6 @@ module _ {X : Type 0} (p : X → Bool) where
       ∙ ap (λ ys. x ∷ ys) (kept xs j (omega (arith, few)) (λ k d less. low (suc k) d (omega (arith, less)))
       (λ k d more within. high (suc k) d (omega (arith, more)) (omega (arith, within))))
 
-pub not_true : (b : Bool) → not b ≡ true → b ≡ false
-not_true false e = refl
-not_true true e = sym e
-
 not_false : (b : Bool) → not b ≡ false → b ≡ true
 not_false true e = refl
 not_false false e = sym e
@@ -155,7 +151,7 @@ between k vs i j first less last =
     (λ n d low. neither k (class_of (parts_of (get_or (drop i vs) n d)))
     (subst (λ v. is_below k (parts_of v) ≡ false) (sym (get_or-drop i vs n d))
     (first.1 (i + n) d (omega arith) (omega arith)))
-    (not_true (is_above k (parts_of (get_or (drop i vs) n d))) (last.0 n d (omega arith) low)))
+    (not-true (is_above k (parts_of (get_or (drop i vs) n d))) (last.0 n d (omega arith) low)))
     (λ n d high within. apart_above k (class_of (parts_of (get_or (drop i vs) n d)))
     (not_false (is_above k (parts_of (get_or (drop i vs) n d))) (last.1 n d high within))))
 

@@ -1,5 +1,5 @@
 -- Tests of the versions of a name are tests of its candidates.
-use Rattle.std.proofs.Common.{◌≡◌, Bool, ◌&&◌, ◌||◌, List, [], ◌∷◌, map, refl, sym, ap, ◌∙◌}
+use Rattle.std.proofs.Common.{◌≡◌, Bool, ◌&&◌, List, [], ◌∷◌, map, refl, sym, ap, ◌∙◌}
 use Rattle.std.specs.List.{list_any, list_all}
 use Rattle.semver.specs.Parse.{Parts}
 use Rattle.semver.specs.Identifiers.{parts_of}
@@ -9,13 +9,9 @@ use Rattle.model.specs.Summary.{Dependency}
 use Rattle.model.specs.Content.{Candidate, candidates_of}
 use Rattle.model.specs.Axioms.{matched}
 use Rattle.model.specs.Candidates.{Record, as_candidate}
+use Rattle.model.proofs.Mapped.{any-map}
 use Rattle.catalogue.specs.Stores.{CatalogueView, candidates_at, rows_by_name}
 use Rattle.catalogue.proofs.Lookups.{candidates_are}
-
-pub any-map : {X A : Type 0} (p : A → Bool) (view : X → A) (xs : List X)
-    → list_any p (map view xs) ≡ list_any (λ x. p (view x)) xs
-any-map p view [] = refl
-any-map p view (x ∷ xs) = ap (λ b. p (view x) || b) (any-map p view xs)
 
 pub all-map : {X A : Type 0} (p : A → Bool) (view : X → A) (xs : List X)
     → list_all p (map view xs) ≡ list_all (λ x. p (view x)) xs

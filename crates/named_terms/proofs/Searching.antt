@@ -14,9 +14,10 @@ use Rattle.std.proofs.lemmas.List.Kept.{AllPairs-cons}
 use Rattle.model.specs.Vertices.{State, same_state, has_state}
 use Rattle.model.proofs.Lists.{pairs_none}
 use Rattle.model.proofs.Same.{state-same}
+use Rattle.model.proofs.Tests.{beside}
 use Rattle.vertices.specs.Orders.{state_cmp}
 use Rattle.vertices.proofs.OrderLaws.{state_total}
-use Rattle.catalogue.proofs.Found.{beside, less-other, greater-other}
+use Rattle.catalogue.proofs.Found.{less-other, greater-other}
 use Rattle.vertices.specs.RefViews.{state_ref_view, state_ref_views}
 use Rattle.vertices.specs.declared.state.StateRef as declared
 

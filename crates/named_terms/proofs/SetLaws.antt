@@ -1,7 +1,8 @@
 -- Sets of states compared state by state.
 use Rattle.std.proofs.Common.{◌≡◌, List, [], ◌∷◌, ◌++◌, map, filter, Bool, true, false, not, cond, ◌&&◌, ◌||◌, refl}
 use Rattle.std.proofs.Common.{sym, ap, ◌∙◌}
-use Rattle.std.specs.List.{list_all, list_any}
+use Rattle.std.specs.List.{list_all}
+use Rattle.std.proofs.lemmas.List.Folds.{list_any-append, list_all-append}
 use Rattle.model.specs.Derivation.{both}
 use Rattle.model.specs.Vertices.{State, same_state, has_state}
 use Rattle.model.proofs.Same.{state-same}
@@ -24,22 +25,6 @@ all_map f test (x ∷ xs) = ap (λ b. test (f x) && b) (all_map f test xs)
 pub all_alike : {X : Type 0} (p r : X → Bool) → ((x : X) → p x ≡ r x) → (xs : List X) → list_all p xs ≡ list_all r xs
 all_alike p r h [] = refl
 all_alike p r h (x ∷ xs) = ap (λ b. b && list_all p xs) (h x) ∙ ap (λ b. r x && b) (all_alike p r h xs)
-
-pub all_append : {X : Type 0} (p : X → Bool) (xs ys : List X) → list_all p (xs ++ ys) ≡ (list_all p xs && list_all p ys)
-all_append p [] ys = refl
-all_append p (x ∷ xs) ys = ap (λ b. p x && b) (all_append p xs ys) ∙ by (p x)
-  where
-    by : (b : Bool) → (b && (list_all p xs && list_all p ys)) ≡ ((b && list_all p xs) && list_all p ys)
-    by true = refl
-    by false = refl
-
-pub any_append : {X : Type 0} (p : X → Bool) (xs ys : List X) → list_any p (xs ++ ys) ≡ (list_any p xs || list_any p ys)
-any_append p [] ys = refl
-any_append p (x ∷ xs) ys = ap (λ b. p x || b) (any_append p xs ys) ∙ by (p x)
-  where
-    by : (b : Bool) → (b || (list_any p xs || list_any p ys)) ≡ ((b || list_any p xs) || list_any p ys)
-    by true = refl
-    by false = refl
 
 pub all_filter : {X : Type 0} (t p : X → Bool) (xs : List X)
     → list_all p (filter t xs) ≡ list_all (λ x. not (t x) || p x) xs
@@ -80,8 +65,8 @@ pub union_is : (ss a b : List State)
     → (all_in_either ss a b && (is_within a ss && is_within b ss)) ≡ same_states ss (a ++ b)
 union_is ss a b =
     ap (λ x. x && (is_within a ss && is_within b ss)) (all_alike (λ s. has_state a s || has_state b s)
-    (has_state (a ++ b)) (λ s. sym (any_append (same_state s) a b)) ss)
-    ∙ ap (λ x. is_within ss (a ++ b) && x) (sym (all_append (has_state ss) a b))
+    (has_state (a ++ b)) (λ s. sym (list_any-append (same_state s) a b)) ss)
+    ∙ ap (λ x. is_within ss (a ++ b) && x) (sym (list_all-append (has_state ss) a b))
 
 -- a set is the intersection of two where it lies in both and has all that they share
 pub meet_is : (ss a b : List State) → (all_in_both ss a b && all_shared_in a b ss) ≡ same_states ss (both a b)

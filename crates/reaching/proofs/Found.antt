@@ -1,6 +1,6 @@
 -- What the facts find over packages is what the root reaches, wherever dependencies lead; and the content that is built
 -- of it.
-use Rattle.std.proofs.Common.{◌≡◌, ◌↔◌, ◌≢◌, ◌<◌, ℕ, zero, suc, List, [], ◌∷◌, length, Bool, true, false, nat_eq}
+use Rattle.std.proofs.Common.{◌≡◌, ◌↔◌, ◌≢◌, ℕ, List, [], ◌∷◌, Bool, true, false, nat_eq}
 use Rattle.std.proofs.Common.{Contains, Option, Some, None, option_map, slice_get, get_or, refl, sym, ap, ap₂, ◌∙◌}
 use Rattle.std.proofs.Common.{subst, subst₂, inl, inr, arith, true≢false}
 use Rattle.std.specs.Option.{option_and_then}
@@ -21,7 +21,8 @@ use Rattle.std.specs.List.{All}
 use Rattle.model.specs.Axioms.{IsOwner}
 use Rattle.model.specs.ContentOf.{Kept, package_of, IsTargetOf, AreKept}
 use Rattle.model.proofs.Closed.{owner_of_fact}
-use Rattle.model.proofs.Gathered.{place_in, at_place, name_back}
+use Rattle.model.proofs.Gathered.{name_back}
+use Rattle.model.proofs.Places.{some_at, place_of, got_in}
 use Rattle.reaching.specs.Nodes.{AreMet, IsNode, IsLead, AreFlags}
 use Rattle.reaching.specs.Built.{LeadsFrom, AreFound, IsBuilt}
 
@@ -48,12 +49,6 @@ summed q (version_of n v) p e h =
     (sym (ap (λ (p : Package). p.name) e)) (sym (ap (λ (p : Package). p.version) e))
 
 -- ---- small steps
-
--- a place of a list has an element
-some_at : {X : Type 0} (xs : List X) (n : ℕ) → n < length xs → (x : X) × (slice_get xs n ≡ Some x)
-some_at [] n lt = absurd (omega (arith, lt))
-some_at (x ∷ xs) zero lt = (x, refl)
-some_at (x ∷ xs) (suc n) lt = some_at xs n (omega arith)
 
 joined : (o : Option (Option ℕ)) (t : ℕ) → option_and_then (λ o. o) o ≡ Some t → o ≡ Some (Some t)
 joined None t h = absurd (none-some t h)
@@ -321,7 +316,7 @@ module _ (q : Problem) (LeadsTo : Owner → ℕ → Dependency → Owner → Typ
       to_packages t h =
           let (n, at, near) = near_of (here t) h in
           let c = (built.members n).1 ((are.each_here n).1 near, t, at) in
-          let (k, got_n) = place_in (built.places) n c in
+          let (k, got_n) = place_of (built.places) n c in
           let lt = slice_get_within (built.places) k n got_n in
           let many = built.as_many in
           let (p, got) = some_at content k (omega (arith, lt, many)) in
@@ -332,7 +327,7 @@ module _ (q : Problem) (LeadsTo : Owner → ℕ → Dependency → Owner → Typ
           → (k : ℕ) × (p : Package) × (slice_get content k ≡ Some p) × (name_of q p ≡ t) → Far (here t)
       from_packages t (k, p, got, e) =
           let x = placed k p got in
-          let m = (built.members x.n).0 (at_place (built.places) k x.n x.at) in
+          let m = (built.members x.n).0 (got_in (built.places) k x.n x.at) in
           subst (λ o. Far (here o)) (sym x.name ∙ e) (here_far x.n x.o x.stands ((are.each_here x.n).0 m.0))
 
       abbrev Linked : ℕ → Package → Type 0

@@ -13,6 +13,8 @@ use Rattle.model.specs.Vertices.{Vertex, State, same_state, same_vertex, space}
 use Rattle.model.specs.Axioms.{AreApart, IsVertex, Term, at}
 use Rattle.model.proofs.Lists.{in_first, in_rest, pairs_first, pairs_rest}
 use Rattle.model.proofs.Same.{state-same}
+use Rattle.model.proofs.Places.{got_in}
+use Rattle.model.proofs.Members.{each_at}
 use Rattle.vertices.specs.Texts.{IsReadState, IsReadVertex}
 use Rattle.vertices.specs.Valid.{HasValidParts}
 use Rattle.vertices.proofs.InProblem.{in-problem}
@@ -21,7 +23,6 @@ use Rattle.vertices.proofs.ReadBack.{state-is-read, vertex-is-read}
 use Rattle.derivations.specs.Building.{AreNewTerms, IsNewTerm}
 use Rattle.encoding.specs.Numberings.{IsNumbering, Numbering}
 use Rattle.encoding.proofs.Distinct.{states_once}
-use Rattle.encoding.proofs.Places.{each_at, got_in}
 use Rattle.decoding.specs.Decoding.{states_in, terms_of, with_term}
 use Rattle.decoding.proofs.Whole.{terms_apart}
 

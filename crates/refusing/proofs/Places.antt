@@ -15,8 +15,8 @@ use Rattle.model.specs.Content.{Problem}
 use Rattle.model.specs.WellFormed.{IsCatalogue}
 use Rattle.model.specs.Vertices.{Vertex}
 use Rattle.model.specs.Derivation.{IsAccepted, Step}
+use Rattle.model.proofs.Places.{got_in}
 use Rattle.encoding.specs.Numberings.{IsNumbering, Numbering}
-use Rattle.encoding.proofs.Places.{got_in}
 use Rattle.decoding.specs.Decoding.{IsOver}
 use Rattle.decoding.specs.Steps.{AreStepsOf, IsEncoded, IsNeeded, IsStepOf, steps_of}
 use Rattle.decoding.proofs.Accepting.{accepted, at_its_place, needed_over, own_steps}

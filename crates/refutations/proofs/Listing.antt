@@ -17,12 +17,12 @@ use Rattle.model.specs.Vertices.{classes_of, class_candidates}
 use Rattle.model.specs.Axioms.{IsOwner, HasEntry, HasFeatVertex, RootAsks}
 use Rattle.model.specs.Axioms.HasFeatVertex.{had, asked, by_entry}
 use Rattle.model.proofs.Flat.{to_flat}
-use Rattle.model.proofs.Gathered.{at_place}
 use Rattle.model.proofs.Lists.{in_none, in_cons, in_first, in_rest, in_filter, to_filter, to_map, any_of, all_none}
 use Rattle.model.proofs.Lists.{all_cons, pairs_none, to_any}
 use Rattle.model.proofs.Same.{both, text-same, version-same, class-same, owner-same, owner-refl, class-refl, text-refl}
 use Rattle.model.proofs.Same.{version-refl}
 use Rattle.model.proofs.Spaces.{class_in}
+use Rattle.model.proofs.Places.{got_in}
 use Rattle.refutations.specs.Causes.{Cause, of_root, of_need, of_target, of_feature, of_list, of_ask, of_entry}
 use Rattle.refutations.specs.Causes.{of_enabling, of_asking, of_newest, of_weak, same_entry, enables, is_needed}
 use Rattle.refutations.specs.Causes.{dependency_at, has_class, has_entry, some_entry, lists_feature}
@@ -269,7 +269,7 @@ module _ (q : Problem) where
   feature_named name k f (asked o i d _ _ e h c (inl a)) = asked_named o f h.0
       (Contains-append_left (flat_map asked_of_target (owner_brings q o).dependencies) (entries_ask q o) f
       (to_flat asked_of_target (owner_brings q o).dependencies d f
-      (at_place (owner_brings q o).dependencies i d h.1) a))
+      (got_in (owner_brings q o).dependencies i d h.1) a))
   feature_named name k f (asked the_root i d _ _ e h c (inr a)) =
       Contains-append_left (map (λ p. p.1) q.root_asks) (flat_map (asked_of_others q) (owners q)
       ++ flat_map (had_by q) q.candidates) f (to_map (λ (p : List ℕ × List ℕ). p.1) q.root_asks (d.name, f) a)

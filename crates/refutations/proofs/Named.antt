@@ -24,7 +24,7 @@ use Rattle.refutations.specs.Causes.{dependency_at, has_class, table_of_owner, e
 use Rattle.refutations.specs.Causes.{root_asks_for, lists_feature, entry_asks, owners_in, owners, owner_asks}
 use Rattle.refutations.specs.Causes.{has_feature_vertex}
 use Rattle.std.proofs.lemmas.List.Elements.{Contains-append_right, Contains-append_left}
-use Rattle.model.proofs.Gathered.{place_in, at_place}
+use Rattle.model.proofs.Places.{place_of, got_in}
 
 -- ---- entries
 
@@ -293,7 +293,7 @@ module _ (q : Problem) where
           let r = any_of (owner_asks q name f) (owners q) t in
           let d = any_of (λ d. same_text d.real_name name && (lists_feature q r.0 d f || entry_asks q r.0 d f))
           (owner_brings q r.0).dependencies r.2 in
-          let p = place_in (owner_brings q r.0).dependencies d.0 d.1 in
+          let p = place_of (owner_brings q r.0).dependencies d.0 d.1 in
           let x = both (same_text (d.0).real_name name) (lists_feature q r.0 d.0 f || entry_asks q r.0 d.0 f) d.2 in
           of_dep r.0 p.0 d.0 p.1 x.0 (lists_feature q r.0 d.0 f) refl x.1
 
@@ -306,7 +306,7 @@ module _ (q : Problem) where
       (to_any (owner_asks q d.real_name f) (owners q) o (to_owners o h.0)
       (to_any (λ x. same_text x.real_name d.real_name && (lists_feature q o x f || entry_asks q o x f))
       (owner_brings q o).dependencies d
-      (at_place (owner_brings q o).dependencies i d h.1) (and_from _ _ (text-refl d.real_name) t))))
+      (got_in (owner_brings q o).dependencies i d h.1) (and_from _ _ (text-refl d.real_name) t))))
 
   pub to_feature : (name : List ℕ) (k : Class) (f : List ℕ) → HasFeatVertex q name k f
       → has_feature_vertex q name k f ≡ true

@@ -5,7 +5,7 @@ use Rattle.std.proofs.Common.{Contains, Option, Some, None, is_some, option_and_
 use Rattle.std.proofs.Common.{◌∙◌, subst, arith, inl, inr}
 use Rattle.std.specs.List.{All}
 use Rattle.std.proofs.lemmas.List.{length-append, length-map}
-use Rattle.std.proofs.lemmas.List.Elements.{Contains-append_cases}
+use Rattle.std.proofs.lemmas.List.Elements.{Contains-append_cases, All-contains}
 use Rattle.std.proofs.lemmas.Option.{none-some}
 use Rattle.model.specs.Content.{Candidate, Content, Package, if_checksum, is_root, same_option}
 use Rattle.model.specs.Candidates.{Record, RustVersion, as_candidate}
@@ -13,6 +13,7 @@ use Rattle.model.specs.Selection.{IsValidSelection}
 use Rattle.model.proofs.Lists.{in_none, in_cons, in_first, in_rest, in_map, to_map}
 use Rattle.model.proofs.Owners.{is_candidate, not_root}
 use Rattle.model.proofs.Same.{text-refl}
+use Rattle.model.proofs.Places.{place_of}
 use Rattle.manifest.specs.Manifests.{ManifestView}
 use Rattle.index_reader.specs.Folders.{Files, MemoryCalls, file_at}
 use Rattle.index_reader.specs.Paths.{path_of}
@@ -26,7 +27,7 @@ use Rattle.catalogue.proofs.LawsCandidates.{file_of, with_file}
 use Rattle.catalogue.proofs.LawsCatalogues.{problem-asked}
 use Rattle.catalogue.proofs.LawsFewer.{next_asked, asked_before, no_more}
 use Rattle.catalogue.proofs.LawsIndexes.{chain-answers, run-over}
-use Rattle.catalogue.proofs.LawsLists.{at_in, get_in, distinct-within}
+use Rattle.catalogue.proofs.LawsLists.{distinct-within}
 use Rattle.catalogue.proofs.LawsNames.{asked-distinct, turn-more}
 use Rattle.catalogue.proofs.LawsPackages.{text_option}
 use Rattle.catalogue.proofs.LawsSelections.{holds_again}
@@ -82,7 +83,7 @@ module _ (m : ManifestView) (index : CatalogueView) (content : Content)
           → (b && differs p.checksum (option_map said (record_at (candidates_at index p.name) p.version))) ≡ false
       by false s = refl
       by true s =
-          let at = get_in content p c in
+          let at = place_of content p c in
           let other : is_root (problem_in m index) p ≡ false =
           not_root (problem_in m index) p (ap is_some (text_option p.source index.source s)) in
           let k = is_candidate (problem_in m index) content valid at.0 p (at.1, other) in
@@ -122,7 +123,7 @@ module _ (folder : Files) (failed : Files → ℕ) (m : ManifestView) (source : 
     known a c =
         let named = asked_before files m old source first.asked content run was_valid [] asked
         (λ b i. absurd (in_none b i)) answers so_far.in_turn a.0 (to_map (λ (a : Asked). a.0) asked a c) in
-        let file = at_in (λ (a : Asked). a.1 ≡ files a.0) asked a answers c in
+        let file = All-contains (λ (a : Asked). a.1 ≡ files a.0) asked a answers c in
         let is : file_of files a.0 ≡ a = λ k. (a.0, sym file k) in
         subst (λ x. Contains first.asked x) is (with_file files first.asked a.0 run.answers named)
 
@@ -134,7 +135,7 @@ module _ (folder : Files) (failed : Files → ℕ) (m : ManifestView) (source : 
     next-within : (name : List ℕ)
         → next_name content source m.brings.dependencies asked ≡ Some name → IsWithin (files name)
     next-within name next =
-        at_in (λ (a : Asked). IsWithin a.1) first.asked (file_of files name) first.so_far.within
+        All-contains (λ (a : Asked). IsWithin a.1) first.asked (file_of files name) first.so_far.within
         (with_file files first.asked name run.answers (next-there name next))
 
     -- fewer names than the first asked for

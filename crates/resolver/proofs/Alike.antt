@@ -4,7 +4,7 @@ use Rattle.std.proofs.Common.{◌≡◌, ℕ, ◌<◌, Bool, true, false, cond, 
 use Rattle.std.proofs.Common.{Some, None, unwrap_or, option_map, Err, refl, sym, ap, ap₂, ◌∙◌, subst, arith}
 use Rattle.std.specs.List.{All}
 use Rattle.std.proofs.lemmas.List.{append-nil, append_assoc, length-append}
-use Rattle.std.proofs.lemmas.List.Elements.{All-append, Contains-append_left, Contains-append_right}
+use Rattle.std.proofs.lemmas.List.Elements.{All-append, Contains-append_left, Contains-append_right, All-contains}
 use Rattle.std.proofs.lemmas.Option.{none-some}
 use Rattle.model.specs.Content.{Content, same_option}
 use Rattle.model.specs.Candidates.{Record, RustVersion, is_locked}
@@ -24,7 +24,6 @@ use Rattle.catalogue.specs.declared.fault.LoadFault.{LoadFault}
 use Rattle.catalogue.proofs.Chosen.{records-ranked}
 use Rattle.catalogue.proofs.LawsCandidates.{file_of}
 use Rattle.catalogue.proofs.LawsIndexes.{chain-answers}
-use Rattle.catalogue.proofs.LawsLists.{at_in}
 use Rattle.catalogue.proofs.LawsNames.{turn-more}
 use Rattle.resolver.specs.Faults.{input_wants_memory, of_load}
 use Rattle.resolver.proofs.Again.{problem-is}
@@ -136,7 +135,7 @@ module _ (folder : Files) (m : ManifestView) (old : Content) (source : List ℕ)
         let parts = length-append more whole.0 in
         let one = length-append asked (file_of files name ∷ []) in
         omega (arith, long, parts, one)),
-    at_in (λ (a : Asked). IsWithin a.1) first.asked (file_of files name) first.so_far.within there,
+    All-contains (λ (a : Asked). IsWithin a.1) first.asked (file_of files name) first.so_far.within there,
   )
     where
       more : List Asked

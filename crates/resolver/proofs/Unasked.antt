@@ -1,14 +1,15 @@
 -- A folder with the same files for the names that a run asked for is read as that run's was.
 use Rattle.std.proofs.Common.{◌≡◌, ℕ, true, List, [], ◌∷◌, Contains, Option, Ok, refl, sym, ap, ◌∙◌, subst}
 use Rattle.std.specs.List.{All}
+use Rattle.std.proofs.lemmas.List.Elements.{All-contains}
 use Rattle.model.specs.Candidates.{RustVersion}
 use Rattle.model.proofs.Lists.{all_first, all_rest, to_map}
+use Rattle.model.proofs.Members.{all_in}
 use Rattle.index_reader.specs.Folders.{Files, MemoryCalls, file_at}
 use Rattle.index_reader.specs.Paths.{path_of}
 use Rattle.catalogue.specs.Loads.{IsLoaded, rust_for, store_of}
 use Rattle.catalogue.specs.Runs.{Asked, Chain}
 use Rattle.catalogue.proofs.LawsIndexes.{chain-answers}
-use Rattle.catalogue.proofs.LawsLists.{all_in, at_in}
 use Rattle.vertices.proofs.Bound.{same-Ok}
 use Rattle.resolver.specs.Faults.{input_wants_memory}
 use Rattle.resolver.specs.Inputs.{RequestView, AreRead, IsInputFault, names_of}
@@ -50,7 +51,7 @@ module _ (failed : Files → ℕ) (folder other : Files) (request : RequestView)
 
   answers : All (λ a. a.1 ≡ file_at other (path_of a.0)) loaded.asked
   answers = all_in (λ (a : Asked). a.1 ≡ file_at other (path_of a.0)) loaded.asked (λ a c.
-      at_in (λ (a : Asked). a.1 ≡ file_at folder (path_of a.0)) loaded.asked a
+      All-contains (λ (a : Asked). a.1 ≡ file_at folder (path_of a.0)) loaded.asked a
       (chain-answers folder loaded.asked folder after refl loaded.so_far.chain) c ∙ sym (alike a.0 (named a c)))
 
   -- the other folder is read as the same

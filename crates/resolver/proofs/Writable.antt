@@ -14,6 +14,9 @@ use Rattle.model.specs.Summary.{Dependency, same_text}
 use Rattle.model.proofs.Lists.{in_none, in_cons, in_first, in_rest, in_map}
 use Rattle.model.proofs.Same.{both, text-same}
 use Rattle.model.proofs.Owners.{candidate_at-is, is_candidate, root_parts}
+use Rattle.model.proofs.Places.{place_of}
+use Rattle.model.proofs.Members.{all_in, each_at}
+use Rattle.model.proofs.Flat.{in_flat}
 use Rattle.manifest.specs.Manifests.{ManifestView}
 use Rattle.features.specs.Names.{is_between}
 use Rattle.index_reader.specs.Files.{records_of_file}
@@ -22,7 +25,6 @@ use Rattle.catalogue.specs.Problems.{candidates_by_name, names_in, problem_of}
 use Rattle.catalogue.specs.Runs.{Asked, AreNext, as_record, candidates_in, meant_by, needed_by, records_of}
 use Rattle.catalogue.specs.Sources.{is_source, is_source_byte}
 use Rattle.catalogue.proofs.LawsCandidates.{in_candidates}
-use Rattle.catalogue.proofs.LawsLists.{all_in, get_in, in_flat}
 use Rattle.catalogue.proofs.LawsNames.{needed-cases, next-needed}
 use Rattle.catalogue.proofs.LawsPackages.{text_option}
 use Rattle.lockfile.specs.Locks.{is_plain_byte}
@@ -32,10 +34,6 @@ use Rattle.resolver.proofs.IndexTexts.{IsName, MeansName, IsRecord, file-texts}
 use Rattle.resolver.proofs.ManifestTexts.{HasTexts}
 
 -- ---- lists
-
-each-in : {A : Type 0} (P : A → Type 0) (xs : List A) (x : A) → AllByRecursion P xs → Contains xs x → P x
-each-in P [] x h c = absurd (in_none x c)
-each-in P (y ∷ ys) x h c = elim (in_cons y x ys c) [ inl s ↦ subst P s h.0 | inr i ↦ each-in P ys x h.1 i ]
 
 -- ---- bytes
 
@@ -107,11 +105,11 @@ records-read : (a : Asked) (r : Record) → Contains (records_of a) r → IsRead
 records-read (name, None) r c = absurd (in_none r c)
 records-read (name, Some bytes) r c =
     let i = in_map as_record (records_of_file name bytes).records r c in
-    subst IsRead i.2 (each-in IsRecord (records_of_file name bytes).records i.0 (file-texts name bytes) i.1)
+    subst IsRead i.2 (each_at IsRecord (records_of_file name bytes).records i.0 (file-texts name bytes) i.1)
 
 means : (ds : List Dependency) (name : List ℕ) → AllByRecursion MeansName ds → Contains (meant_by ds) name → IsName name
 means ds name h c = let i =
-    in_map (λ (d : Dependency). d.real_name) ds name c in subst IsName i.2 (each-in MeansName ds i.0 h i.1)
+    in_map (λ (d : Dependency). d.real_name) ds name c in subst IsName i.2 (each_at MeansName ds i.0 h i.1)
 
 module _ (old : Content) (source : List ℕ) where
   candidate-read : (a : Asked) (r : Record) → Contains (candidates_in old source a) r → IsRead r
@@ -226,4 +224,4 @@ module _ (m : ManifestView) (old : Content) (source : List ℕ) (asked : List As
 
   pub all-writable : IsValidSelection q content → HasBareRoot q content → All IsWritable content
   all-writable valid bare =
-      all_in IsWritable content (λ p c. let at = get_in content p c in package-writable at.0 p valid bare at.1)
+      all_in IsWritable content (λ p c. let at = place_of content p c in package-writable at.0 p valid bare at.1)

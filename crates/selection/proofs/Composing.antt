@@ -1,6 +1,7 @@
 -- What is found of a lock, put together, and what follows for the verdict.
-use Rattle.std.proofs.Common.{◌≡◌, ℕ, ◌↔◌, true, List, length, map, Result, Ok, Err, IfOk, refl, sym, ap, ◌∙◌, subst}
+use Rattle.std.proofs.Common.{◌≡◌, ℕ, ◌↔◌, true, List, length, map, Result, IfOk, refl, sym, ap, ◌∙◌, subst}
 use Rattle.std.proofs.lemmas.List.{length-map}
+use Rattle.std.proofs.lemmas.Result.{IfOk-weaker}
 use Rattle.semver.specs.Identifiers.{parts_of}
 use Rattle.semver.specs.Parse.{Parts}
 use Rattle.model.specs.Facts.{enabled}
@@ -27,10 +28,6 @@ use Rattle.selection.proofs.Holding.{facts_same, lacks_same}
 
 both_ways : {A B C : Type 0} → A ↔ B → B ↔ C → A ↔ C
 both_ways f g = (λ a. g.0 (f.0 a), λ c. f.1 (g.1 c))
-
-if_ok : {X E : Type 0} (P Q : X → Type 0) (r : Result X E) → ((x : X) → P x → Q x) → IfOk r P → IfOk r Q
-if_ok P Q (Ok x) f h = f x h
-if_ok P Q (Err e) f h = tt
 
 pub findings_are : (m : ManifestView) (index : CatalogueView) (f : Findings) (nodes : List Node) → nodes ≡ f.nodes.items
     → IsOnlyRoot (problem_in m index) (content_in f) f.root
@@ -68,7 +65,7 @@ pub said_of : {E : Type 0} (r : Result Verdict E) (q : Problem) (f : Findings) (
     → IfOk r (λ v. (p : Problem) → AreFindings p f → IsVerdictOn p (content_in f) v)
     → IfOk r (λ v. IsVerdictOn q content v)
 said_of r q f content same found h =
-    if_ok (λ v. (p : Problem) → AreFindings p f → IsVerdictOn p (content_in f) v) (λ v. IsVerdictOn q content v) r
+    IfOk-weaker r (λ v. (p : Problem) → AreFindings p f → IsVerdictOn p (content_in f) v) (λ v. IsVerdictOn q content v)
     (λ v says. subst (λ c. IsVerdictOn q c v) same (says q found)) h
 
 module _ (q : Problem) (content : Content) where
@@ -82,8 +79,8 @@ module _ (q : Problem) (content : Content) where
   pub rootless_said : {E : Type 0} (r : Result Verdict E) (name : List ℕ) (version : Parts) → name ≡ q.name
       → version ≡ q.version → HasNoRoot q content
       → IfOk r (λ v. IsFaultOf fault.Root name version v) → IfOk r (λ v. IsVerdictOn q content v)
-  rootless_said r name version n w none h = if_ok (λ v. IsFaultOf fault.Root name version v)
-      (λ v. IsVerdictOn q content v) r (rootless name version n w none) h
+  rootless_said r name version n w none h = IfOk-weaker r (λ v. IsFaultOf fault.Root name version v)
+      (λ v. IsVerdictOn q content v) (rootless name version n w none) h
 
   module _ (formed : IsContent content) where
     never_at : (v : VerdictFault) (name : List ℕ) (version : Parts) → IsAt q content v name version
@@ -108,4 +105,5 @@ module _ (q : Problem) (content : Content) where
 
     pub selected : {E : Type 0} (r : Result Verdict E) → IfOk r (λ v. IsVerdictOn q content v)
         → IfOk r (λ v. (v ≡ Valid) ↔ IsValidSelection q content)
-    selected r h = if_ok (λ v. IsVerdictOn q content v) (λ v. (v ≡ Valid) ↔ IsValidSelection q content) r selects h
+    selected r h =
+        IfOk-weaker r (λ v. IsVerdictOn q content v) (λ v. (v ≡ Valid) ↔ IsValidSelection q content) selects h

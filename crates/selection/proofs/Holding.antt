@@ -1,6 +1,6 @@
 -- The facts of the packages of a lock, by the list of what they bring, are the facts of its content.
-use Rattle.std.proofs.Common.{◌≡◌, ℕ, zero, suc, ◌<◌, ◌↔◌, true, cond, List, [], ◌∷◌, length, get_or, Contains, Option}
-use Rattle.std.proofs.Common.{Some, None, option_map, option_and_then, slice_get, refl, sym, ap, ◌∙◌, subst, arith}
+use Rattle.std.proofs.Common.{◌≡◌, ℕ, ◌<◌, ◌↔◌, true, cond, List, length, get_or, Contains, Option}
+use Rattle.std.proofs.Common.{Some, None, option_map, option_and_then, slice_get, refl, sym, ap, ◌∙◌, subst}
 use Rattle.std.proofs.Common.{true≢false}
 use Rattle.std.proofs.lemmas.List.{length-map}
 use Rattle.std.proofs.lemmas.List.Elements.{All-map}
@@ -11,18 +11,13 @@ use Rattle.model.specs.Content.{Package, Content, Problem, brings_of, candidate_
 use Rattle.model.specs.Content.{serves_if, last_serving, list_if, target_of}
 use Rattle.model.specs.Selection.{IsRootAt, IsPlace, HasTarget, IsFact}
 use Rattle.model.proofs.Orders.{last_is}
+use Rattle.model.proofs.Places.{some_at}
 use Rattle.manifest.specs.Manifests.{root_asks}
 use Rattle.facts.specs.Graphs.{NodeView, brings_if, starts_if, target_if, brings_at, starts_at, target_at, IsFactOf}
 use Rattle.facts.specs.Graphs.{LacksFeature, IsGraph, AreWithin}
 use Rattle.facts.proofs.Mapped.{HoldsFar, holds_far}
 use Rattle.selection.specs.Graphs.{node_of, graph_of, IsOnlyRoot}
 use Rattle.selection.specs.Places.{Lacks}
-
--- what stands at a place of a list
-pub there : {X : Type 0} (xs : List X) (n : ℕ) → n < length xs → (x : X) × (slice_get xs n ≡ Some x)
-there [] n lt = absurd (omega arith)
-there (x ∷ xs) zero lt = (x, refl)
-there (x ∷ xs) (suc n) lt = there xs n (omega arith)
 
 -- a target is a place of the content
 target_within : (content : Content) (d : Dependency) (list : List ℕ) (t : ℕ)
@@ -67,7 +62,7 @@ module _ (q : Problem) (content : Content) (root : ℕ) (only : IsOnlyRoot q con
 
   within_begun : (n : ℕ) → n < length content → starts_at nodes n ≡ true
   within_begun n lt = let p =
-      there content n lt in ap starts_if (node_at n) ∙ ap (λ o. starts_if (option_map (node_of q content) o)) p.1
+      some_at content n lt in ap starts_if (node_at n) ∙ ap (λ o. starts_if (option_map (node_of q content) o)) p.1
 
   target_is : (n i : ℕ) (d : Dependency) → Brings (summary_at q content) n i d
       → target_at nodes n i ≡ target_of content n d

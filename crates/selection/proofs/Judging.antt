@@ -3,6 +3,7 @@ use Rattle.std.proofs.Common.{◌≡◌, ℕ, ◌<◌, ◌↔◌, Bool, true, fa
 use Rattle.std.proofs.Common.{Option, Some, None, option_map, unwrap_or, is_some, slice_get, refl, sym, ap, ◌∙◌, subst}
 use Rattle.std.proofs.Common.{true≢false}
 use Rattle.std.proofs.lemmas.Option.{none-some, same_Some, slice_get-map, slice_get-get_or}
+use Rattle.std.proofs.lemmas.Bool.{not-true, not_from_false}
 use Rattle.model.specs.Summary.{Summary, Dependency, has_feature}
 use Rattle.model.specs.Facts.{enabled}
 use Rattle.model.specs.Content.{Package, Content, Problem, is_root, candidate_of, summary_of, summary_if, summary_at}
@@ -22,16 +23,9 @@ use Rattle.selection.specs.declared.checked.Checked.{Checked}
 both_ways : {A B C : Type 0} → A ↔ B → B ↔ C → A ↔ C
 both_ways f g = (λ a. g.0 (f.0 a), λ c. f.1 (g.1 c))
 
-pub negated : (b : Bool) → not b ≡ true → b ≡ false
-negated false e = refl
-negated true e = absurd (true≢false (sym e))
-
-pub negate : (b : Bool) → b ≡ false → not b ≡ true
-negate b e = ap not e
-
 -- a test that is said by its failing
 pub by_failing : (b : Bool) (P : Type 0) → (b ≡ false) ↔ P → (not b ≡ true) ↔ P
-by_failing b P h = (λ e. h.0 (negated b e), λ p. negate b (h.1 p))
+by_failing b P h = (λ e. h.0 (not-true b e), λ p. not_from_false b (h.1 p))
 
 module _ (q : Problem) (content : Content) (n : ℕ) (p : Package) (got : slice_get content n ≡ Some p) where
   -- a candidate

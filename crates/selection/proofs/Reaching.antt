@@ -1,10 +1,10 @@
 -- What the rules of the lists give from the root is what lists lead to.
 use Rattle.std.proofs.Common.{◌≡◌, ℕ, zero, suc, ◌+◌, ◌<◌, ◌↔◌, Bool, true, List, [], ◌∷◌, ◌++◌, length, take, drop}
 use Rattle.std.proofs.Common.{◌≤◌, Contains, Some, slice_get, append_assoc, refl, sym, ap, ◌∙◌, subst, arith, inl, inr}
-use Rattle.std.proofs.Common.{◌⊎◌}
 use Rattle.std.specs.List.{All}
 use Rattle.std.proofs.lemmas.List.{append-nil, drop_all, take_all}
 use Rattle.std.proofs.lemmas.Option.{slice_get_within, none-some, same_Some}
+use Rattle.std.proofs.lemmas.List.Elements.{Contains-append_left, Contains-append_cases, Contains-append_right}
 use Rattle.chains.specs.Chains.{has, IsGiven, AreBelow}
 use Rattle.chains.specs.Chains.IsGiven.{begins, follows}
 use Rattle.chains.specs.declared.rule.Rule.{Rule}
@@ -13,29 +13,10 @@ use Rattle.model.specs.Selection.{IsReached}
 use Rattle.model.specs.Selection.IsReached.{root as at_root, listed as by_list}
 use Rattle.model.specs.WellFormed.{IsContent}
 use Rattle.model.proofs.Contents.{within_at}
-use Rattle.model.proofs.Lists.{in_none, in_cons, in_first, in_rest, in_map, to_map, all_none, all_cons}
+use Rattle.model.proofs.Lists.{in_none, in_map, to_map}
+use Rattle.model.proofs.Members.{all_in}
 use Rattle.selection.specs.Graphs.{IsOnlyRoot}
 use Rattle.selection.specs.Places.{rules_at, rules_from}
-
--- a rule of one list of two
-in_both : {X : Type 0} (xs ys : List X) (x : X) → Contains (xs ++ ys) x → Contains xs x ⊎ Contains ys x
-in_both [] ys x c = inr c
-in_both (z ∷ xs) ys x c = elim (in_cons z x (xs ++ ys) c) [
-  | inl e ↦ inl (subst (λ w. Contains (z ∷ xs) w) e (in_first z xs))
-  | inr r ↦ elim (in_both xs ys x r) [ inl a ↦ inl (in_rest z x xs a) | inr b ↦ inr b ]
-]
-
-in_left : {X : Type 0} (xs ys : List X) (x : X) → Contains xs x → Contains (xs ++ ys) x
-in_left [] ys x c = absurd (in_none x c)
-in_left (z ∷ xs) ys x c = elim (in_cons z x xs c) [
-  | inl e ↦ subst
-      (λ w. Contains (z ∷ xs ++ ys) w) e (in_first z (xs ++ ys))
-  | inr r ↦ in_rest z x (xs ++ ys) (in_left xs ys x r)
-]
-
-in_right : {X : Type 0} (xs ys : List X) (x : X) → Contains ys x → Contains (xs ++ ys) x
-in_right [] ys x c = c
-in_right (z ∷ xs) ys x c = in_rest z x (xs ++ ys) (in_right xs ys x c)
 
 -- a rule is one of a package's list
 pub record IsListed (n : ℕ) (ps : Content) (r : Rule) : Type 0 where
@@ -48,7 +29,7 @@ pub record IsListed (n : ℕ) (ps : Content) (r : Rule) : Type 0 where
 
 rule_of : (n : ℕ) (ps : Content) (r : Rule) → Contains (rules_from n ps) r → IsListed n ps r
 rule_of n [] r c = absurd (in_none r c)
-rule_of n (p ∷ ps) r c = elim (in_both (rules_at n p.list) (rules_from (suc n) ps) r c) [
+rule_of n (p ∷ ps) r c = elim (Contains-append_cases (rules_at n p.list) (rules_from (suc n) ps) r c) [
   | inl a ↦ here (in_map (λ t. record { first = n; second = n; gives = t }) p.list r a)
   | inr b ↦ later (rule_of (suc n) ps r b)
 ]
@@ -79,12 +60,12 @@ rule_there : (n m k t : ℕ) (ps : Content) (p : Package) → m ≡ n + k → sl
 rule_there n m k t [] p at e c = absurd (none-some p e)
 rule_there n m zero t (s ∷ ps) p at e c =
     let same : n ≡ m = omega arith in
-    in_left (rules_at n s.list) (rules_from (suc n) ps) (record { first = m; second = m; gives = t })
+    Contains-append_left (rules_at n s.list) (rules_from (suc n) ps) (record { first = m; second = m; gives = t })
     (subst (λ k. Contains (rules_at n s.list) (record { first = k; second = k; gives = t })) same
     (to_map (λ t. record { first = n; second = n; gives = t }) s.list t
     (subst (λ (x : Package). Contains x.list t) (sym (same_Some s p e)) c)))
 rule_there n m (suc k) t (s ∷ ps) p at e c =
-    in_right (rules_at n s.list) (rules_from (suc n) ps) (record { first = m; second = m; gives = t })
+    Contains-append_right (rules_at n s.list) (rules_from (suc n) ps) (record { first = m; second = m; gives = t })
     (rule_there (suc n) m k t ps p (omega arith) e c)
 
 -- one package more
@@ -115,13 +96,9 @@ written : {X : Type 0} (len : ℕ) (new items : List X) → length new ≡ lengt
 written len new items e le = ap (λ t. take len (new ++ t)) (drop_all (length new) items (omega (arith, e)))
     ∙ ap (take len) (append-nil new) ∙ take_all len new le
 
-all_of : {X : Type 0} (P : X → Type 0) (xs : List X) → ((x : X) → Contains xs x → P x) → All P xs
-all_of P [] h = all_none P
-all_of P (x ∷ xs) h = all_cons P x xs (h x (in_first x xs)) (all_of P xs (λ y c. h y (in_rest x y xs c)))
-
 module _ (content : Content) (formed : IsContent content) where
   pub rules_below : AreBelow (length content) (rules_from 0 content)
-  rules_below = all_of (λ (r : Rule). (r.first < length content) × (r.second < length content)
+  rules_below = all_in (λ (r : Rule). (r.first < length content) × (r.second < length content)
       × (r.gives < length content)) (rules_from 0 content) (λ r c. below r (rule_of 0 content r c))
     where
       contained : (P : ℕ → Type 0) (xs : List ℕ) (x : ℕ) → All P xs → Contains xs x → P x

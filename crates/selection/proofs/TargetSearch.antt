@@ -16,8 +16,9 @@ use Rattle.model.specs.Order.{text_cmp, package_cmp}
 use Rattle.model.specs.WellFormed.{IsContent}
 use Rattle.model.proofs.Same.{text-same}
 use Rattle.model.proofs.Contents.{text-equal}
+use Rattle.model.proofs.Tests.{below-less, index-most}
 use Rattle.selection.specs.Names.{name_cmp}
-use Rattle.selection.proofs.NameOrder.{below_less, names_rise}
+use Rattle.selection.proofs.NameOrder.{names_rise}
 
 -- ---- along a list
 
@@ -109,17 +110,12 @@ module _ (content : Content) (d : Dependency) where
   higher_fails i h = other_name i (text-equal d.real_name d.real_name refl) (slice_get content i)
       (λ e. true≢false (sym (ap (λ o. not (is_gt o)) e) ∙ h))
 
-  index_most : (r : Ordering) → ordering_index r ≤ 2
-  index_most Less = omega arith
-  index_most Equal = omega arith
-  index_most Greater = omega arith
-
   beside_rises : IsContent content → (i j : ℕ) → i < j → j < length content
       → ordering_index (beside i) ≤ ordering_index (beside j)
   beside_rises formed i j lt within = by (slice_get content j) refl
     where
       by : (o : Option Package) → slice_get content j ≡ o → ordering_index (beside i) ≤ ordering_index (name_cmp d o)
-      by None e = index_most (beside i)
+      by None e = index-most (beside i)
       by (Some r) e =
           let got : slice_get content i ≡ Some (get_or content i r) = slice_get-get_or content i r (omega arith) in
           let before = formed.in_order i j r lt within in
@@ -145,7 +141,7 @@ module _ (content : Content) (d : Dependency) where
   pub less_partitioned : IsContent content → (is : List ℕ) → All (λ t. t < length content) is
       → AllPairs (λ i j. i < j) is → IsPartitionedBy (λ t. is_lt (beside t)) is
   less_partitioned formed is within rising i j k le lt h =
-      below_less (beside (get_or is i k)) (beside (get_or is j k)) (list_rises formed is within rising i j k le lt) h
+      below-less (beside (get_or is i k)) (beside (get_or is j k)) (list_rises formed is within rising i j k le lt) h
 
   pub most_partitioned : IsContent content → (is : List ℕ) → All (λ t. t < length content) is
       → AllPairs (λ i j. i < j) is → IsPartitionedBy (λ t. not (is_gt (beside t))) is

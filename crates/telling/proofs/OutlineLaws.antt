@@ -6,12 +6,13 @@ use Rattle.std.specs.List.{All, AllPairs}
 use Rattle.std.proofs.lemmas.Bool.{eqb-true}
 use Rattle.std.proofs.lemmas.Bool.Decides.{leb_tells}
 use Rattle.std.proofs.lemmas.List.{get_or_append_left}
-use Rattle.std.proofs.lemmas.List.Elements.{All-weaker}
-use Rattle.std.proofs.lemmas.List.Kept.{AllPairs-cons}
+use Rattle.std.proofs.lemmas.List.Elements.{All-weaker, All-push, Contains-append_left, Contains-push}
 use Rattle.std.proofs.lemmas.Option.{none-some, same_Some}
+use Rattle.std.proofs.lemmas.List.Quantifiers.{all_pairs_push}
 use Rattle.model.specs.Derivation.{Step}
-use Rattle.model.proofs.Lists.{all_cons, all_first, all_none, all_rest, any_of, in_cons, in_first, in_none, in_rest}
-use Rattle.model.proofs.Lists.{pairs_all, pairs_none, pairs_one, pairs_rest}
+use Rattle.model.proofs.Lists.{all_none, any_of, in_cons, in_first, in_none, in_rest}
+use Rattle.model.proofs.Lists.{pairs_none}
+use Rattle.model.proofs.Places.{get_more, get_push}
 use Rattle.derivations.specs.References.{references_at}
 use Rattle.telling.specs.Outlines.{FollowsBy, Follows, IsOutline, IsShown, Outline, LeadsBack, Sentences, by_fact}
 use Rattle.telling.specs.Outlines.{fact_of, has_reason, is_merged, is_needed, is_plain, is_told_before, looked_at}
@@ -26,27 +27,6 @@ use Rattle.telling.specs.declared.uses.Uses.TheVariants.{Never, Once, Often, End
 use Rattle.telling.proofs.UsesLaws.{used, uses-long, last-is}
 
 -- ---- lists
-
-in-left : {X : Type 0} (xs ys : List X) (x : X) → Contains xs x → Contains (xs ++ ys) x
-in-left [] ys x c = absurd (in_none x c)
-in-left (y ∷ xs) ys x c = by (in_cons y x xs c) (λ c. in-left xs ys x c)
-  where
-    by : (y ≡ x) ⊎ Contains xs x → (Contains xs x → Contains (xs ++ ys) x) → Contains (y ∷ (xs ++ ys)) x
-    by (inl same) rest = subst (λ z. Contains (y ∷ (xs ++ ys)) z) same (in_first y (xs ++ ys))
-    by (inr c) rest = in_rest y x (xs ++ ys) (rest c)
-
-in-end : {X : Type 0} (xs : List X) (x : X) → Contains (xs ++ x ∷ []) x
-in-end [] x = in_first x []
-in-end (y ∷ xs) x = in_rest y x (xs ++ x ∷ []) (in-end xs x)
-
-got-left : {X : Type 0} (xs ys : List X) (i : ℕ) (x : X) → slice_get xs i ≡ Some x → slice_get (xs ++ ys) i ≡ Some x
-got-left [] ys i x e = absurd (none-some x e)
-got-left (y ∷ xs) ys zero x e = e
-got-left (y ∷ xs) ys (suc i) x e = got-left xs ys i x e
-
-got-end : {X : Type 0} (xs : List X) (x : X) → slice_get (xs ++ x ∷ []) (length xs) ≡ Some x
-got-end [] x = refl
-got-end (y ∷ xs) x = got-end xs x
 
 got-either : {X : Type 0} (xs : List X) (x y : X) (i : ℕ) → slice_get (xs ++ x ∷ []) i ≡ Some y
     → (slice_get xs i ≡ Some y) ⊎ ((i ≡ length xs) × (x ≡ y))
@@ -69,17 +49,6 @@ past-end [] x d zero lt = absurd (omega (arith, lt))
 past-end [] x d (suc m) lt = refl
 past-end (y ∷ xs) x d zero lt = absurd (omega (arith, lt))
 past-end (y ∷ xs) x d (suc m) lt = past-end xs x d m (omega (arith, lt))
-
-all-snoc : {X : Type 0} (P : X → Type 0) (xs : List X) (x : X) → All P xs → P x → All P (xs ++ x ∷ [])
-all-snoc P [] x h p = all_cons P x [] p (all_none P)
-all-snoc P (y ∷ ys) x h p = all_cons P y (ys ++ x ∷ []) (all_first P y ys h) (all-snoc P ys x (all_rest P y ys h) p)
-
-pairs-snoc : {X : Type 0} (R : X → X → Type 0) (xs : List X) (x : X) → AllPairs R xs → All (λ y. R y x) xs
-    → AllPairs R (xs ++ x ∷ [])
-pairs-snoc R [] x h k = pairs_one R x
-pairs-snoc R (y ∷ ys) x h k =
-    AllPairs-cons R y (ys ++ x ∷ []) (all-snoc (R y) ys x (pairs_all R y ys h) (all_first (λ y. R y x) y ys k))
-    (pairs-snoc R ys x (pairs_rest R y ys h) (all_rest (λ y. R y x) y ys k))
 
 three-ways : (a b : ℕ) → (a < b) ⊎ ((a ≡ b) ⊎ (b < a))
 three-ways a b = by (leb_tells a b) (leb_tells b a)
@@ -106,14 +75,14 @@ one-keeps rs x r c = by (has_reason rs x)
   where
     by : (b : Bool) → Contains (cond b rs (rs ++ x ∷ [])) r
     by true = c
-    by false = in-left rs (x ∷ []) r c
+    by false = Contains-append_left rs (x ∷ []) r c
 
 one-has : (rs : List Reason) (x : Reason) → Contains (with_reason rs x) x
 one-has rs x = by (has_reason rs x) refl
   where
     by : (b : Bool) → has_reason rs x ≡ b → Contains (cond b rs (rs ++ x ∷ [])) x
     by true e = has-is rs x e
-    by false e = in-end rs x
+    by false e = Contains-push rs x
 
 first-in : (rs more : List Reason) (r : Reason) → Contains rs r → Contains (with_reasons rs more) r
 unfolding with_reasons
@@ -305,8 +274,8 @@ module _ (notes : List Note) (steps : List Step) where
       → Follows notes steps o.told rs n → IsGood (n + 1) (with_sentence n rs o)
   told-good n o rs good cite h = record {
     many = long o.said (Told (length o.told) ∷ []) ∙ ap (λ k. k + 1) good.many;
-    order = pairs-snoc (λ a b. a.0 < b.0) o.told (n, rs) good.order good.below;
-    below = all-snoc (λ s. s.0 < n + 1) o.told (n, rs)
+    order = all_pairs_push (λ a b. a.0 < b.0) o.told (n, rs) good.order good.below;
+    below = All-push (λ s. s.0 < n + 1) o.told (n, rs)
         (All-weaker (λ s. s.0 < n) (λ s. s.0 < n + 1) (λ s lt. omega (arith, lt)) o.told good.below) (omega arith);
     cites = λ m p c. let more =
         longer in omega (arith, more, either m p (said-at o.said (Told (length o.told) ∷ []) m (Told p) c));
@@ -336,7 +305,7 @@ module _ (notes : List Note) (steps : List Step) where
           by (s ∷ ss) = let rest = by ss in omega (arith, rest)
 
       up : (p : ℕ) (s : ℕ × List Reason) → slice_get o.told p ≡ Some s → slice_get new p ≡ Some s
-      up p s e = got-left o.told ((n, rs) ∷ []) p s e
+      up p s e = get_more o.told ((n, rs) ∷ []) p s e
 
       either : (m p : ℕ) → Contains (reasons_at o.said m) (Told p)
           ⊎ Contains (Told (length o.told) ∷ []) (Told p) → p < length o.told + 1
@@ -371,7 +340,7 @@ module _ (notes : List Note) (steps : List Step) where
           ∙ at-end o.said (Told (length o.told) ∷ []) [] in
           subst (λ x. IsShown notes steps new x m) (sym here) (subst (λ k. IsShown notes steps new
           (Told (length o.told) ∷ []) k) (sym same) (shown_by_sentence (Told (length o.told) ∷ []) rs n
-          (length o.told) (got-end o.told (n, rs)) (in_first (Told (length o.told)) [])))
+          (length o.told) (get_push o.told (n, rs)) (in_first (Told (length o.told)) [])))
       at-place m lt need (inr (inr over)) = absurd (omega (arith, lt, over))
 
       follows-at : (i : ℕ) (s : ℕ × List Reason) → (slice_get o.told i ≡ Some s) ⊎ ((i ≡ length o.told) × ((n, rs) ≡ s))

@@ -1,8 +1,8 @@
 -- What holds of each element that a walk has passed, and what the answer of a test says.
-use Rattle.std.proofs.Common.{◌≡◌, ℕ, zero, suc, ◌+◌, ◌<◌, ◌≤◌, Bool, true, false, List, [], ◌∷◌, map, take, length}
-use Rattle.std.proofs.Common.{get_or, All, Some, slice_get, MatchBool, refl, sym, subst, arith, take_all}
+use Rattle.std.proofs.Common.{◌≡◌, ℕ, ◌+◌, ◌<◌, ◌≤◌, Bool, true, false, List, map, take, length}
+use Rattle.std.proofs.Common.{get_or, All, Some, slice_get, MatchBool, sym, subst, take_all}
 use Rattle.std.specs.Bool.{OnFalse, OnTrue}
-use Rattle.std.proofs.lemmas.List.Elements.{All-cons, All-head, All-map, All-more, All-nil, All-tail}
+use Rattle.std.proofs.lemmas.List.Elements.{All-map, All-more}
 use Rattle.std.proofs.lemmas.Option.{get_or_from_slice_get}
 
 module _ {X : Type 0} where
@@ -19,20 +19,9 @@ module _ {X : Type 0} where
   pub all_passed : (P : X → Type 0) (xs : List X) (i : ℕ) → length xs ≤ i → All P (take i xs) → All P xs
   all_passed P xs i le h = subst (All P) (take_all i xs le) h
 
-  -- something stands at each place of a list
-  pub there : (xs : List X) (i : ℕ) → i < length xs → (x : X) × (slice_get xs i ≡ Some x)
-  there [] i lt = absurd (omega (arith, lt))
-  there (x ∷ xs) zero lt = (x, refl)
-  there (x ∷ xs) (suc i) lt = there xs i (omega (arith, lt))
-
 module _ {X Y : Type 0} (f : X → Y) (P : Y → Type 0) where
   pub all_seen : (xs : List X) (i : ℕ) → length xs ≤ i → All (λ x. P (f x)) (take i xs) → All P (map f xs)
   all_seen xs i le h = All-map P f xs (all_passed (λ x. P (f x)) xs i le h)
-
-  pub all_mapped : (xs : List X) → All P (map f xs) → All (λ x. P (f x)) xs
-  all_mapped [] h = All-nil (λ x. P (f x))
-  all_mapped (x ∷ xs) h =
-      All-cons (λ x. P (f x)) x xs (All-head P (f x) (map f xs) h) (all_mapped xs (All-tail P (f x) (map f xs) h))
 
 -- ---- answers
 

@@ -5,6 +5,7 @@ use Rattle.std.specs.List.{AllPairs}
 use Rattle.std.proofs.lemmas.List.{length-map}
 use Rattle.std.proofs.lemmas.List.Concat.{flat_map-cons}
 use Rattle.std.proofs.lemmas.List.Elements.{All-append, All-cons, All-head, All-map, All-nil, All-tail, All-weaker}
+use Rattle.std.proofs.lemmas.List.Elements.{All-contains}
 use Rattle.semver.specs.Grammar.{IsValid}
 use Rattle.semver.specs.Identifiers.{parts_of}
 use Rattle.semver.specs.declared.Version.{Version}
@@ -13,17 +14,17 @@ use Rattle.model.specs.Content.{Candidate}
 use Rattle.model.specs.Summary.{Entry, feature, dependency, dependency_feature, weak_feature, Table, same_text}
 use Rattle.model.proofs.Lists.{in_cons, in_none, pairs_first, pairs_rest, to_map}
 use Rattle.model.proofs.Same.{text-refl, text-same}
+use Rattle.model.proofs.Mapped.{all_mapped}
+use Rattle.model.proofs.Members.{all_in}
 use Rattle.manifest.specs.Manifests.{ManifestView, asked_by, root_asks}
 use Rattle.catalogue.specs.Problems.{problem_in}
 use Rattle.catalogue.specs.Ranks.{records}
 use Rattle.catalogue.specs.Stores.{CatalogueView, IsStore, Row, candidates_at, row_at}
 use Rattle.catalogue.specs.Views.{AreRead}
-use Rattle.catalogue.proofs.LawsLists.{all_in, all_map, at_in}
 use Rattle.vertices.specs.Valid.{BringsValid, HasValidParts, IsFeatureName, IsPackageName, IsValidEntry, IsValidRecord}
 use Rattle.vertices.specs.Valid.{IsValidRow}
 use Rattle.valid_parts.specs.Few.{AreFew, IsFew}
 use Rattle.valid_parts.specs.Records.{AreFewAt, AreValidAt, AreValidRecords, BringFew, BringValid}
-use Rattle.valid_parts.proofs.Lists.{all_mapped}
 
 -- ---- what entries of the root ask for
 
@@ -99,23 +100,24 @@ module _ (c : CatalogueView) (store : IsStore c) where
   of_names : (P : List ℕ → List Record → Type 0) → All (λ n. P n (candidates_at c n))
       (map (λ (row : Row). row.0) c.rows) → All (λ (row : Row). P row.0 (records row.1)) c.rows
   of_names P h = all_in (λ (row : Row). P row.0 (records row.1)) c.rows (λ row i.
-      subst (P row.0) (led_to row i) (at_in (λ n. P n (candidates_at c n)) (map (λ (r : Row). r.0) c.rows) row.0 h
+      subst (P row.0) (led_to row i)
+      (All-contains (λ n. P n (candidates_at c n)) (map (λ (r : Row). r.0) c.rows) row.0 h
       (to_map (λ (r : Row). r.0) c.rows row i)))
 
   -- .. and the other way round
   of_rows : (P : List Record → Type 0) → All (λ (row : Row). P (records row.1)) c.rows
       → All (λ n. P (candidates_at c n)) (map (λ (row : Row). row.0) c.rows)
-  of_rows P h = all_map (λ (row : Row). row.0)
-      (λ n. P (candidates_at c n)) c.rows (all_in (λ (row : Row). P (candidates_at c row.0)) c.rows (λ row i.
-      subst P (sym (led_to row i)) (at_in (λ (r : Row). P (records r.1)) c.rows row h i)))
+  of_rows P h = All-map (λ n. P (candidates_at c n))
+      (λ (row : Row). row.0) c.rows (all_in (λ (row : Row). P (candidates_at c row.0)) c.rows (λ row i.
+      subst P (sym (led_to row i)) (All-contains (λ (r : Row). P (records r.1)) c.rows row h i)))
 
   pub valid_parts : (m : ManifestView) → BringsValid m.brings → All (AreValidAt c) (map (λ (row : Row). row.0) c.rows)
       → HasValidParts (problem_in m c)
   valid_parts m brings h = record {
     brings = brings;
     root_asks = rows_ask m.brings.features brings.features;
-    candidates = all_map (λ (row : Row). (row.0, map as_candidate (records row.1)))
-        (λ (row : List ℕ × List Candidate). IsPackageName row.0 × All IsValidRecord row.1) c.rows
+    candidates = All-map (λ (row : List ℕ × List Candidate). IsPackageName row.0 × All IsValidRecord row.1)
+        (λ (row : Row). (row.0, map as_candidate (records row.1))) c.rows
         (All-weaker (λ (row : Row). IsPackageName row.0 × AreValidRecords (records row.1))
         (λ (row : Row). IsPackageName row.0 × All IsValidRecord (map as_candidate (records row.1)))
         (λ row v. (v.0, All-map IsValidRecord as_candidate (records row.1) v.1)) c.rows

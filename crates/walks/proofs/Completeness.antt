@@ -5,6 +5,7 @@ use Rattle.std.specs.declared.alloc.Global.{Global}
 use Rattle.std.proofs.lemmas.Bool.{and_from}
 use Rattle.std.proofs.lemmas.Option.{slice_get_within, same_Some, none-some}
 use Rattle.model.proofs.Same.{both}
+use Rattle.model.proofs.Places.{some_at}
 use Rattle.model.specs.Summary.{Summary, Dependency}
 use Rattle.model.specs.Facts.{enabled}
 use Rattle.model.specs.Content.{Candidate, Problem}
@@ -15,7 +16,6 @@ use Rattle.facts.specs.Graphs.{NodeView, node_view, node_views, flag_at, flag_in
 use Rattle.facts.specs.declared.node.Node.{Node}
 use Rattle.reaching.specs.Nodes.{AreFlags, AreMet, IsLead}
 use Rattle.reaching.proofs.Found.{enabled_far, near_of, node_at, owner_there}
-use Rattle.contents.proofs.Lists.{some_at}
 use Rattle.walks.specs.Met.{are_met, all_met}
 
 is_met : (t : Option ℕ) (b : Bool) → (is_some t || not b) ≡ true → b ≡ true → is_some t ≡ true

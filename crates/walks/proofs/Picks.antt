@@ -11,14 +11,15 @@ use Rattle.model.specs.Summary.{Dependency}
 use Rattle.model.specs.Content.{Candidate, candidates_of}
 use Rattle.model.specs.Candidates.{as_candidate}
 use Rattle.model.specs.Walk.{first_match}
-use Rattle.model.proofs.Gathered.{at_place}
 use Rattle.model.proofs.Lists.{in_none, in_cons}
+use Rattle.model.proofs.Places.{got_in}
+use Rattle.catalogue.proofs.Lookups.{candidates_are}
 use Rattle.catalogue.specs.Ranks.{Ranked, records, same_rank, places_of, places_by_rank}
 use Rattle.catalogue.specs.Stores.{CatalogueView, ranked_at, rows_by_name}
 use Rattle.catalogue.specs.declared.candidate.Rank.{Rank}
 use Rattle.catalogue.specs.declared.candidate.Rank.TheVariants.{Locked, Fits, Rest}
 use Rattle.catalogue.proofs.Preferences.{at_rank, map-reverse}
-use Rattle.contents.proofs.Rows.{candidates_are, row_of, versions_are}
+use Rattle.contents.proofs.Rows.{row_of, versions_are}
 use Rattle.walks.specs.Preferred.{of_rank, by_rank, preferred_in}
 use Rattle.walks.specs.Met.{is_matched, versions_at, place_picked}
 
@@ -155,7 +156,7 @@ lies_in cs (n ∷ ns) (p ∷ ps) c e i =
     let first : slice_get cs n ≡ Some p = cc in
     let rest : map (slice_get cs) ns ≡ map Some ps = cc in
     elim (in_cons p c ps i) [
-      | inl is ↦ at_place cs n c (first ∙ ap Some is)
+      | inl is ↦ got_in cs n c (first ∙ ap Some is)
       | inr j ↦ lies_in cs ns ps c rest j
     ]
 

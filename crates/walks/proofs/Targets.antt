@@ -7,11 +7,12 @@ use Rattle.model.specs.Summary.{Dependency}
 use Rattle.model.specs.Content.{Candidate, Problem}
 use Rattle.model.specs.Vertices.{Owner, version_of}
 use Rattle.model.specs.Walk.{Picks}
+use Rattle.model.proofs.Places.{get_push_cases}
 use Rattle.catalogue.specs.Stores.{CatalogueView}
 use Rattle.reaching.specs.Nodes.{AreLeads, IsLead}
 use Rattle.contents.specs.Contents.{Grows, candidate_owner, owner_if, owners_of}
 use Rattle.contents.specs.declared.met.MetVersion.{MetVersion}
-use Rattle.contents.proofs.MetVersions.{grows_on, owner_on, snoc_at}
+use Rattle.contents.proofs.MetVersions.{grows_on, owner_on}
 use Rattle.walks.specs.Preferred.{preferred_in}
 use Rattle.walks.specs.Met.{ArePicks, IsPick, place_picked}
 use Rattle.walks.proofs.Picks.{one_picked}
@@ -73,7 +74,7 @@ module _ (index : CatalogueView) where
       record {
         grows = grows_on index old mid new h.grows g;
         many = ap length e ∙ length-append targets (target ∷ []) ∙ omega (arith, many);
-        picks = λ i d' t' got at. elim (snoc_at targets target i t' (sym (ap (λ ts. slice_get ts i) e) ∙ at)) [
+        picks = λ i d' t' got at. elim (get_push_cases targets target i t' (sym (ap (λ ts. slice_get ts i) e) ∙ at)) [
           | inl before ↦ pick_on mid new g d' t' (h.picks i d' t' got before)
           | inr last ↦ subst₂ (IsPick (preferred_in index) (owners_of index new))
               (same_Some d d' (sym there ∙ sym (ap (slice_get ds) (last.0 ∙ many)) ∙ got)) last.1 p

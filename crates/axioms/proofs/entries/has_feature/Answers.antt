@@ -3,10 +3,10 @@ use Rattle.std.proofs.lemmas.Iterator.{YieldsList-from_slice}
 use Rattle.std.proofs.lemmas.Iterator.Search.{any_from_yields_List}
 use borrow.Author.Tests.{tests}
 use Rattle.model.specs.Summary.{feature}
+use Rattle.model.proofs.Mapped.{any-map}
 use Rattle.features.specs.EntryViews.{entry_view}
 use Rattle.features.specs.declared.entry.Entry.{Entry}
 use Rattle.refutations.specs.Causes.{same_entry}
-use Rattle.looking_up.proofs.Versions.{any-map}
 use Rattle.axioms.proofs.entries.has_feature.Goals as goal
 
 pub returns : goal.returns

@@ -1,11 +1,11 @@
 use Rattle.std.proofs.Common.{rules, ◌∙◌, sym}
 use Rattle.std.proofs.lemmas.Iterator.{YieldsList-from_slice}
 use Rattle.std.proofs.lemmas.Iterator.Search.{any_from_yields_List}
+use Rattle.model.proofs.Mapped.{any-map}
 use borrow.Author.Tests.{tests}
 use Rattle.features.specs.EntryViews.{entry_view}
 use Rattle.features.specs.declared.entry.Entry.{Entry}
 use Rattle.refutations.specs.Causes.{asks_for}
-use Rattle.looking_up.proofs.Versions.{any-map}
 use Rattle.axioms.proofs.wants_feature.has_named.Goals as goal
 
 pub returns : goal.returns

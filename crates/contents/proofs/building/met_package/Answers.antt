@@ -1,9 +1,9 @@
 use Rattle.std.proofs.Common.{rules, ◌≡◌, Some, map, option_map, string_bytes, sym, ap, ◌∙◌}
 use Rattle.std.proofs.lemmas.Option.{slice_get-map}
+use Rattle.model.proofs.Places.{map_at}
 use Rattle.semver.specs.Identifiers.{parts_of}
 use Rattle.catalogue.specs.Views.{said_by}
 use Rattle.contents.proofs.MetVersions.{got_item, no_version, not_said, met_package_is}
-use Rattle.contents.proofs.Lists.{map_at}
 use Rattle.contents.proofs.RankLists.{no_item}
 use Rattle.contents.proofs.building.met_package.Goals as goal
 

@@ -2,8 +2,8 @@ use Rattle.std.proofs.Common.{◌<◌, ◌∙◌, Some, sym, ap, arith}
 use Rattle.std.proofs.lemmas.List.{length-map}
 use Rattle.std.proofs.lemmas.Option.{slice_get-get_or}
 use Rattle.model.proofs.Lists.{all_get}
+use Rattle.model.proofs.Places.{map_at}
 use Rattle.contents.specs.Contents.{placed_view, placed_views, places_in}
-use Rattle.contents.proofs.Lists.{map_at}
 use Rattle.contents.proofs.RankLists.{one_rank, ranks_are}
 use Rattle.contents.proofs.listing.ranks_of.Goals as goal
 

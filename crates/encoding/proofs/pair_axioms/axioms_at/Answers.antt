@@ -4,19 +4,19 @@ use Rattle.std.proofs.lemmas.Option.{none-some, same_Some}
 use Rattle.std.proofs.lemmas.Result.{IfOk-weaker}
 use Rattle.model.specs.Axioms.{IsVertex}
 use Rattle.model.specs.Vertices.{Vertex}
+use Rattle.model.proofs.Members.{element}
 use Rattle.encoding.specs.Assignments.{state_at}
 use Rattle.encoding.specs.GivenViews.{given_views}
 use Rattle.encoding.specs.KnownProblem.{problem}
 use Rattle.encoding.specs.Numberings.{AddsOnly}
 use Rattle.encoding.specs.Pairs.{IsCauseAt, IsGivenAt, IsSpokenOf}
 use Rattle.vertices.specs.RefViews.{vertex_ref_view}
-use Rattle.encoding.proofs.AddLaws.{vertex_there}
 use Rattle.encoding.proofs.pair_axioms.axioms_at.Goals as goal
 
 pub vertex_axioms-requires-clause-vertex : goal.vertex_axioms-requires-clause-vertex
 vertex_axioms-requires-clause-vertex g c =
     let q = problem c.args.known.now in
-    vertex_there (λ v. IsVertex q v) c.args.table.now c.args.number (vertex_ref_view c.in-Some.vertex)
+    element (λ v. IsVertex q v) c.args.table.now c.args.number (vertex_ref_view c.in-Some.vertex)
     c.requires.numbering.there (sym c.vertex.ensures ∙ ap (option_map vertex_ref_view) c.in-Some.is)
 
 pub vertex_axioms-requires-clause-state : goal.vertex_axioms-requires-clause-state

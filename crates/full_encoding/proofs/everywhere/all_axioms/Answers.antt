@@ -1,9 +1,9 @@
 use Rattle.std.proofs.Common.{◌≡◌, ◌<◌, ◌≤◌, ◌+◌, suc, length, take, take_all, refl, sym}
 use Rattle.std.proofs.Common.{subst, arith}
+use Rattle.model.proofs.Places.{some_at}
 use Rattle.encoding.specs.GivenViews.{given_views}
 use Rattle.encoding.specs.KnownProblem.{problem}
 use Rattle.encoding.proofs.Needing.{grows_on, still_at}
-use Rattle.encoding.proofs.Places.{get_below}
 use Rattle.full_encoding.specs.Everywhere.{IsGivenFor, all_pairs}
 use Rattle.full_encoding.proofs.Pairing.{given_all, no_pairs, vertex_fresh, vertices_next}
 use Rattle.full_encoding.proofs.Put.{put_none}
@@ -29,7 +29,7 @@ vertices-preserved g c =
     let new = c.put_vertex.new.table in
     let xs = given_views g.S.States.tests c.put_vertex.new.given.items in
     let lt : n < length old = subst (λ k. n < k) c.len-number-end.ensures c.vertices-test.true in
-    let r = get_below old n lt in
+    let r = some_at old n lt in
     let e : n + 1 ≡ suc n = omega arith in
     record {
       same = refl;

@@ -4,9 +4,9 @@ use Rattle.std.proofs.lemmas.Option.{none-some, same_Some}
 use Rattle.std.proofs.lemmas.Result.{on_ok_weaker}
 use Rattle.model.specs.Axioms.{IsVertex}
 use Rattle.model.specs.Vertices.{State, Vertex}
+use Rattle.model.proofs.Members.{element}
 use Rattle.encoding.specs.GivenViews.{given_views}
 use Rattle.encoding.specs.KnownProblem.{problem}
-use Rattle.encoding.proofs.AddLaws.{vertex_there}
 use Rattle.vertices.specs.RefViews.{vertex_ref_view}
 use Rattle.full_encoding.specs.Everywhere.{IsGivenFor, pairs_of}
 use Rattle.full_encoding.proofs.everywhere.put_vertex.Goals as goal
@@ -14,7 +14,7 @@ use Rattle.full_encoding.proofs.everywhere.put_vertex.Goals as goal
 pub put_each-requires-clause-vertex : goal.put_each-requires-clause-vertex
 put_each-requires-clause-vertex g c =
     let q = problem c.args.known.now in
-    vertex_there (λ v. IsVertex q v) c.args.table.now c.args.number (vertex_ref_view c.in-Some.vertex)
+    element (λ v. IsVertex q v) c.args.table.now c.args.number (vertex_ref_view c.in-Some.vertex)
     c.requires.numbering.there (sym c.vertex.ensures ∙ ap (option_map vertex_ref_view) c.in-Some.is)
 
 pub returns-in-Some-clause-given : goal.returns-in-Some-clause-given

@@ -1,11 +1,11 @@
 use Rattle.std.proofs.Common.{◌≡◌, ◌∙◌, ◌++◌, ◌∷◌, [], Some, None, slice_get, ap, sym}
 use Rattle.std.specs.Prelude.{option_copied}
-use Rattle.std.proofs.lemmas.List.{map-append}
+use Rattle.std.proofs.lemmas.List.{map-append, append-nil}
 use Rattle.model.specs.Selection.{Class}
 use Rattle.model.specs.Vertices.{feat}
 use Rattle.vertices.specs.RefViews.{vertex_ref_view}
 use Rattle.full_encoding.specs.Views.{vertex_views}
-use Rattle.full_encoding.proofs.Steps.{append_none, first_none, first_some}
+use Rattle.full_encoding.proofs.Steps.{first_none, first_some}
 use Rattle.full_encoding.proofs.naming.put_first_of.Goals as goal
 
 pub returns-in_ok-push-in-Some : goal.returns-in_ok-push-in-Some
@@ -23,5 +23,5 @@ pub returns-in-None : goal.returns-in-None
 returns-in-None c =
     let at : slice_get c.args.versions.now 0 ≡ None = sym c.first.ensures.value ∙ ap option_copied c.in-None.is in
     let vs = vertex_views c.args.vertices.now.items in
-    sym (append_none vs)
+    sym (append-nil vs)
     ∙ ap (λ l. vs ++ l) (sym (first_none c.args.name.now c.args.feature.now c.args.versions.now at))

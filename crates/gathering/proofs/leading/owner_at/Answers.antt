@@ -2,8 +2,8 @@ use Rattle.std.proofs.Common.{◌-◌, map, option_map, slice_get, sym, ap, ◌�
 use Rattle.std.proofs.lemmas.Option.{slice_get-map, same_Some, none-some}
 use Rattle.semver.specs.Identifiers.{parts_of}
 use Rattle.model.specs.Vertices.{the_root}
+use Rattle.model.proofs.Places.{map_at}
 use Rattle.contents.specs.Contents.{owners_of}
-use Rattle.contents.proofs.Lists.{map_at}
 use Rattle.contents.proofs.RankLists.{no_item}
 use Rattle.contents.proofs.MetVersions.{got_item, no_owner, no_version, owner_at_met, met_there}
 use Rattle.gathering.proofs.Led.{owner_is}

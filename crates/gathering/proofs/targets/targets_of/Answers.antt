@@ -1,7 +1,7 @@
 use Rattle.std.proofs.Common.{Some, None, get_or, sym, ap, ◌∙◌, arith}
 use Rattle.std.proofs.lemmas.Option.{slice_get-get_or}
+use Rattle.model.proofs.Places.{map_at}
 use Rattle.features.specs.Views.{dependency_view, dependency_views}
-use Rattle.contents.proofs.Lists.{map_at}
 use Rattle.gathering.proofs.Put.{one_put, there_put}
 use Rattle.gathering.proofs.targets.targets_of.Goals as goal
 

@@ -4,8 +4,8 @@ use Rattle.semver.specs.EvalViews.{matches_views}
 use Rattle.semver.specs.Identifiers.{parts_of}
 use Rattle.features.specs.Views.{requirement_view}
 use Rattle.model.specs.Candidates.{Record}
+use Rattle.model.proofs.Mapped.{any-map}
 use Rattle.catalogue.specs.Stores.{candidates_at}
-use Rattle.lacks.proofs.Lines.{any-map}
 use Rattle.lacks.proofs.lack.is_met.Goals as goal
 
 pub returns : goal.returns

@@ -1,9 +1,9 @@
 use Rattle.std.proofs.Common.{◌∙◌, sym}
+use Rattle.model.proofs.Mapped.{any-map}
 use Rattle.features.specs.Views.{requirement_view}
 use Rattle.index_reader.specs.Records.{RecordView}
 use Rattle.index_reader.specs.Views.{record_view}
 use Rattle.lacks.specs.Lacks.{is_held_back}
-use Rattle.lacks.proofs.Lines.{any-map}
 use Rattle.lacks.proofs.lack.would_match.Goals as goal
 
 pub returns : goal.returns

@@ -1,9 +1,9 @@
 use Rattle.std.proofs.Common.{◌<◌, length, Some, sym, ap, ◌∙◌, subst}
 use Rattle.std.proofs.lemmas.Result.{on_ok_weaker}
 use Rattle.model.specs.Derivation.{combine, given}
+use Rattle.model.proofs.Members.{element}
 use Rattle.vertices.specs.Kinds.{kind_view}
 use Rattle.vertices.specs.Texts.{IsReadVertex}
-use Rattle.encoding.proofs.AddLaws.{vertex_there}
 use Rattle.derivations.specs.Building.{ordered_terms}
 use Rattle.derivations.specs.Named.{named_views}
 use Rattle.decoding.specs.Needs.{place_in}
@@ -42,7 +42,7 @@ push_named_combination-requires-clause-vertex c =
     let one = c.requires.spelt c.in-Combined.number c.in_ok-space-in-Combined.space.now
     c.in_ok-space-in-Combined.ensures there.2 there.3 in
     subst IsReadVertex (sym one)
-    (vertex_there IsReadVertex c.args.table.now c.in-Combined.number there.2 c.requires.valid there.3)
+    (element IsReadVertex c.args.table.now c.in-Combined.number there.2 c.requires.valid there.3)
 
 pub returns-in_ok-space-in-Combined : goal.returns-in_ok-space-in-Combined
 returns-in_ok-space-in-Combined c =

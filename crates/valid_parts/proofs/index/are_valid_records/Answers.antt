@@ -1,10 +1,11 @@
 use Rattle.std.proofs.Common.{◌<◌, ◌≤◌, length, MatchBool, sym, subst}
 use Rattle.model.specs.Candidates.{Record}
 use Rattle.model.proofs.Lists.{all_get}
+use Rattle.model.proofs.Places.{some_at}
 use Rattle.catalogue.specs.Stores.{candidates_at}
 use Rattle.vertices.specs.Valid.{BringsValid}
 use Rattle.valid_parts.specs.Few.{IsFew}
-use Rattle.valid_parts.proofs.Lists.{all_passed, place_more, there}
+use Rattle.valid_parts.proofs.Lists.{all_passed, place_more}
 use Rattle.valid_parts.proofs.Rows.{counted, valid_at}
 use Rattle.valid_parts.proofs.index.are_valid_records.Goals as goal
 
@@ -12,7 +13,7 @@ pub returns-then-not-brings_valid : goal.returns-then-not-brings_valid
 returns-then-not-brings_valid c = λ few.
     let rs = candidates_at c.args.catalogue.now c.args.name.now in
     let count = counted c.versions-count.result.now rs c.versions-count.ensures.versions in
-    let found = there rs c.places.place (subst (λ k. c.places.place < k) (sym count) c.places-test.true) in
+    let found = some_at rs c.places.place (subst (λ k. c.places.place < k) (sym count) c.places-test.true) in
     let r : Record = found.0 in
     let many : IsFew r.brings → ⊥ =
     subst (λ b. MatchBool b (BringsValid r.brings) (IsFew r.brings → ⊥)) c.if-not-brings_valid.true
@@ -24,7 +25,7 @@ places-preserved c =
     let rs = candidates_at c.args.catalogue.now c.args.name.now in
     let count = counted c.versions-count.result.now rs c.versions-count.ensures.versions in
     let within : c.places.place < length rs = subst (λ k. c.places.place < k) (sym count) c.places-test.true in
-    let found = there rs c.places.place within in
+    let found = some_at rs c.places.place within in
     let r : Record = found.0 in
     let valid : BringsValid r.brings =
     subst (λ b. MatchBool b (BringsValid r.brings) (IsFew r.brings → ⊥)) c.if-not-brings_valid.false

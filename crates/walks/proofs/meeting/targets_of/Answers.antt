@@ -1,7 +1,7 @@
 use Rattle.std.proofs.Common.{Some, sym, ap, ◌∙◌}
 use Rattle.std.proofs.lemmas.Option.{slice_get-get_or}
+use Rattle.model.proofs.Places.{map_at}
 use Rattle.features.specs.Views.{dependency_view, dependency_views}
-use Rattle.contents.proofs.Lists.{map_at}
 use Rattle.walks.proofs.Targets.{more_targets}
 use Rattle.walks.proofs.meeting.targets_of.Goals as goal
 
