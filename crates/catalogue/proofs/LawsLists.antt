@@ -1,4 +1,4 @@
--- What is in a list, and what holds of its elements, where it is made of other lists.
+-- What holds of each two elements of a list, at its front and before it was mapped, and texts that differ.
 use Rattle.std.proofs.Common.{◌≡◌, ℕ, List, [], ◌∷◌, ◌++◌, map, length, ◌≤◌, ◌≢◌, true, Contains}
 use Rattle.std.specs.List.{AllPairs, list_any}
 use Rattle.std.specs.Cmp.Lexicographic.{bytes_decides}
@@ -22,7 +22,7 @@ module _ {X : Type 0} where
       (pairs_front R xs ys (pairs_rest R x (xs ++ ys) h))
 
 module _ {X Y : Type 0} (f : X → Y) where
-  -- what holds of each two of a mapped list
+  -- what holds of each two that elements become holds of the elements
   pub pairs_mapped : (R : Y → Y → Type 0) (xs : List X) → AllPairs R (map f xs) → AllPairs (λ x y. R (f x) (f y)) xs
   pairs_mapped R [] h = pairs_none (λ x y. R (f x) (f y))
   pairs_mapped R (x ∷ xs) h =

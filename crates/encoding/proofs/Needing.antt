@@ -5,7 +5,7 @@ use Rattle.std.specs.Prelude.{option_map}
 use Rattle.std.specs.List.{AllPairs, AllByRecursion, list_any}
 use Rattle.std.proofs.lemmas.Option.{none-some, same_Some}
 use Rattle.std.proofs.lemmas.List.Kept.{AllPairs-cons}
-use Rattle.std.proofs.lemmas.List.{append-nil}
+use Rattle.std.proofs.lemmas.List.{append-nil, append_assoc}
 use Rattle.std.proofs.lemmas.List.Elements.{Contains-append_left, Contains-push_cases}
 use Rattle.terms.specs.Terms.{TermView}
 use Rattle.incompatibilities.specs.Incompatibilities as numbered
@@ -39,10 +39,6 @@ spoken_of : (vs : Numbering) (ts : List Term) → AllByRecursion (λ t. Contains
 spoken_of vs ts h v ss e = spoken (λ w. Contains vs w) ts h v ss e
 
 -- ---- lists with one more at the end
-
-append_more : {X : Type 0} (a b c : List X) → (a ++ b) ++ c ≡ a ++ (b ++ c)
-append_more [] b c = refl
-append_more (x ∷ a) b c = ap (λ l. x ∷ l) (append_more a b c)
 
 pub apart_last : {X : Type 0} (xs : List X) (x : X) → AllPairs (λ v w. v ≢ w) xs → ((y : X) → Contains xs y → y ≢ x)
     → AllPairs (λ v w. v ≢ w) (xs ++ x ∷ [])
@@ -127,7 +123,7 @@ put_grows vs v = by (list_any (same_vertex v) vs)
     by false = (v ∷ [], refl)
 
 pub grows_on : (a b c : Numbering) → IsGrown a b → IsGrown b c → IsGrown a c
-grows_on a b c (more, e) (rest, f) = (more ++ rest, f ∙ ap (λ l. l ++ rest) e ∙ append_more a more rest)
+grows_on a b c (more, e) (rest, f) = (more ++ rest, f ∙ ap (λ l. l ++ rest) e ∙ append_assoc a more rest)
 
 pub still_at : (vs new : Numbering) (n : ℕ) (v : Vertex) → IsGrown vs new → slice_get vs n ≡ Some v
     → slice_get new n ≡ Some v

@@ -5,7 +5,7 @@ use Rattle.std.proofs.Common.{subst, arith}
 use Rattle.std.specs.Prelude.{option_and_then, option_map}
 use Rattle.std.specs.List.{AllByRecursion, AllPairs}
 use Rattle.std.proofs.lemmas.List.{map-append, take-append-drop, take-append-le, length-map}
-use Rattle.std.proofs.lemmas.Option.{none-some, same_Some, slice_get_past, slice_get_within}
+use Rattle.std.proofs.lemmas.Option.{none-some, same_Some, slice_get_past, slice_get_within, slice_get-map}
 use Rattle.model.specs.Content.{Problem}
 use Rattle.model.specs.Vertices.{State, Vertex, absent, same_vertex, space}
 use Rattle.model.specs.Axioms.{IsVertex}
@@ -69,11 +69,6 @@ module _ {X : Type 0} where
   all_taken P [] (suc n) h = h
   all_taken P (x ∷ xs) zero h = tt
   all_taken P (x ∷ xs) (suc n) h = (h.0, all_taken P xs n h.1)
-
-  map_get : {Y : Type 0} (f : X → Y) (xs : List X) (i : ℕ) → slice_get (map f xs) i ≡ option_map f (slice_get xs i)
-  map_get f [] i = refl
-  map_get f (x ∷ xs) zero = refl
-  map_get f (x ∷ xs) (suc i) = map_get f xs i
 
 pub numbering_taken : (q : Problem) (vs : Numbering) (n : ℕ) → IsNumbering q vs → IsNumbering q (take n vs)
 numbering_taken q vs n ok =
@@ -149,7 +144,7 @@ module _ (q : Problem) where
   -- the size at a number
   pub size_at : (vs : Numbering) (ss : List ℕ) (n : ℕ) → AreSpaces q vs ss
       → slice_get ss n ≡ option_map (λ v. length (space q v)) (slice_get (take (length ss) vs) n)
-  size_at vs ss n are = ap (λ l. slice_get l n) are ∙ map_get (λ v. length (space q v)) (take (length ss) vs) n
+  size_at vs ss n are = ap (λ l. slice_get l n) are ∙ slice_get-map (λ v. length (space q v)) (take (length ss) vs) n
 
 -- vertices that count are no fewer once more have come
 pub taken_grows : (vs new : Numbering) (a b : ℕ) → IsGrown vs new → a ≤ length vs → a ≤ b

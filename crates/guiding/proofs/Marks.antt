@@ -3,16 +3,12 @@ use Rattle.std.proofs.Common.{◌≡◌, ◌≢◌, ℕ, zero, suc, ◌<◌, ◌
 use Rattle.std.proofs.Common.{map, get_or, set, refl, sym, ap, ap₂, ◌∙◌, subst, inl, inr, ◌⊎◌, arith}
 use Rattle.std.proofs.lemmas.Bool.{cases_eq, cases_lt, false≢true, or_left, or_right, or_cases}
 use Rattle.std.proofs.lemmas.List.{get_or-append_right, get_or-set_other, get_or-set_same, get_or_append_left}
-use Rattle.std.proofs.lemmas.List.{length-append, length-replicate, length-set}
+use Rattle.std.proofs.lemmas.List.{length-append, length-replicate}
+use Rattle.version_sets.proofs.Laws.{length-join, length-only}
 use Rattle.version_sets.specs.Sets.{Members, has, join, none, only}
 use Rattle.propagation.specs.Trails.{set_of}
 use Rattle.guiding.specs.Guides.{marked}
 use Rattle.guiding.proofs.Arrivals.{map_append}
-
-join_long : (x y : Members) → length x ≡ length y → length (join x y) ≡ length x
-join_long [] y e = refl
-join_long (b ∷ x) [] e = absurd (omega (arith, e))
-join_long (b ∷ x) (c ∷ y) e = ap suc (join_long x y (omega (arith, e)))
 
 join_left : (x y : Members) (i : ℕ) → length x ≡ length y → has x i ≡ true → has (join x y) i ≡ true
 join_left [] y i e h = absurd (false≢true h)
@@ -37,9 +33,6 @@ has_none : (n i : ℕ) → has (none n) i ≡ false
 has_none zero i = refl
 has_none (suc n) zero = refl
 has_none (suc n) (suc i) = has_none n i
-
-only_long : (n i : ℕ) → length (only n i) ≡ n
-only_long n i = length-set (none n) i true ∙ length-replicate n false
 
 only_has : (n i : ℕ) → i < n → has (only n i) i ≡ true
 only_has n i lt = get_or-set_same (none n) i true false (omega (arith, lt, length-replicate n false))
@@ -74,7 +67,7 @@ lengths_at (s ∷ l) (suc k) = lengths_at l k
 
 pub mark_lengths : (asked : List Members) (v i : ℕ) → map length (marked asked v i) ≡ map length asked
 mark_lengths asked v i = lengths_set asked v _
-    (join_long (set_of asked v) (only (length (set_of asked v)) i) (sym (only_long (length (set_of asked v)) i)))
+    (length-join (set_of asked v) (only (length (set_of asked v)) i) (sym (length-only (length (set_of asked v)) i)))
 
 module _ (asked : List Members) (came : List ℕ) (v i : ℕ) (low : v < length asked)
     (lt : i < length (set_of asked v)) where
@@ -86,7 +79,7 @@ module _ (asked : List Members) (came : List ℕ) (v i : ℕ) (low : v < length 
   here = get_or_append_left asked (map none came) [] v low
 
   fits : length (set_of wide v) ≡ length (only (length (set_of wide v)) i)
-  fits = sym (only_long (length (set_of wide v)) i)
+  fits = sym (length-only (length (set_of wide v)) i)
 
   within : v < length wide
   unfolding wide
@@ -103,7 +96,7 @@ module _ (asked : List Members) (came : List ℕ) (v i : ℕ) (low : v < length 
   pub marked_lengths : map length (marked (asked ++ map none came) v i) ≡ map length asked ++ came
   unfolding wide
   marked_lengths =
-      lengths_set (asked ++ map none came) v _ (join_long (set_of wide v) (only (length (set_of wide v)) i) fits)
+      lengths_set (asked ++ map none came) v _ (length-join (set_of wide v) (only (length (set_of wide v)) i) fits)
       ∙ map_append length asked (map none came) ∙ ap (λ l. map length asked ++ l) (lengths_none came)
 
   -- what was asked for is so afterwards

@@ -10,7 +10,6 @@ use Rattle.semver.specs.Identifiers.{parts_of}
 use Rattle.semver.specs.Parse.{Parts}
 use Rattle.semver.specs.declared.Version.{Version}
 use Rattle.model.specs.Axioms.{versions_that}
-use Rattle.model.specs.Candidates.{Record, as_candidate}
 use Rattle.model.specs.Content.{Candidate, brings_of, candidate_at, candidates_of, same_version}
 use Rattle.model.specs.Order.{version_cmp}
 use Rattle.model.specs.Summary.{Summary, has_feature}
@@ -24,7 +23,7 @@ use Rattle.catalogue.specs.Stores.{CatalogueView, candidates_at, rows_by_name}
 use Rattle.looking_up.specs.Matching.{is_lacking}
 use Rattle.looking_up.specs.Ranges.{AreRising, is_of, versions_with}
 use Rattle.catalogue.proofs.Lookups.{candidates_are}
-use Rattle.looking_up.proofs.Classed.{with_classed}
+use Rattle.looking_up.proofs.Classed.{with_classed, records_named}
 use Rattle.looking_up.proofs.Pieces.{parts_filtered}
 use Rattle.instances.proofs.Rising.{rising_parts}
 
@@ -72,10 +71,6 @@ brings_same t all (e ∷ cs) h =
     (filter (λ (e : Candidate). t (brings_of (candidate_at all e.version))) cs)) (ap (λ o. t (brings_of o)) h.0)
     ∙ ap (λ (es : List Candidate). cond (t e.brings) (e ∷ es) es) (brings_same t all cs h.1)
 
-versions_are : (rs : List Record) → map (λ r. r.version) rs ≡ map (λ (e : Candidate). e.version) (map as_candidate rs)
-versions_are [] = refl
-versions_are (r ∷ rs) = ap (λ vs. r.version ∷ vs) (versions_are rs)
-
 pub lacking_is : (m : ManifestView) (c : CatalogueView) (name : List ℕ) (k : Class) (f : List ℕ) (vs ws : List Version)
     → map parts_of vs ≡ map (λ r. r.version) (candidates_at c name) → AreRising vs
     → ws ≡ filter (λ v. is_of k (parts_of v)) vs
@@ -85,7 +80,7 @@ unfolding is_lacking
 lacking_is m c name k f vs ws is rising e =
     let all = candidates_of (rows_by_name c) name in
     let t : Summary → Bool = λ (o : Summary). not (has_feature o.features f) in
-    let sorted = subst (IsStrictlySortedBy version_cmp) (is ∙ versions_are (candidates_at c name)
+    let sorted = subst (IsStrictlySortedBy version_cmp) (is ∙ records_named (candidates_at c name)
     ∙ ap (map (λ (e : Candidate). e.version)) (sym (candidates_are c name))) (rising_parts vs rising) in
     with_classed m c name k ws (ap (map parts_of) e ∙ parts_filtered (is_of k) vs ∙ ap (filter (is_of k)) is)
     (λ v. t (brings_of (candidate_at all v)))

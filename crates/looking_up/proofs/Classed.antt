@@ -50,7 +50,8 @@ pub named : (cs : List Candidate)
 named [] = refl
 named (e ∷ cs) = ap (λ ss. version e.version ∷ ss) (named cs)
 
-records_named : (rs : List Record) → map (λ r. r.version) rs ≡ map (λ (e : Candidate). e.version) (map as_candidate rs)
+pub records_named : (rs : List Record)
+    → map (λ r. r.version) rs ≡ map (λ (e : Candidate). e.version) (map as_candidate rs)
 records_named [] = refl
 records_named (r ∷ rs) = ap (λ vs. r.version ∷ vs) (records_named rs)
 

@@ -1,4 +1,4 @@
--- A table that has rows, and a test of views.
+-- A table that has rows.
 use Rattle.std.proofs.Common.{◌≡◌, ◌==◌, List, [], ◌∷◌, length, not, String, Global, arith, refl}
 use Rattle.std.proofs.lemmas.Bool.Decides.{nat_tests}
 use Rattle.toml.specs.View.{members_view}

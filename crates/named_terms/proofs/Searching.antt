@@ -9,25 +9,15 @@ use Rattle.std.specs.Ordering.{ordering_index, ordering_reverse}
 use Rattle.std.specs.declared.cmp.Ordering.TheVariants.{Less, Equal}
 use Rattle.std.proofs.lemmas.Bool.{cases_lt}
 use Rattle.std.proofs.lemmas.Cmp.{tied_itself, alike_right}
-use Rattle.std.proofs.lemmas.List.Elements.{All-from_recursion}
-use Rattle.std.proofs.lemmas.List.Kept.{AllPairs-cons}
 use Rattle.model.specs.Vertices.{State, same_state, has_state}
-use Rattle.model.proofs.Lists.{pairs_none}
 use Rattle.model.proofs.Same.{state-same}
 use Rattle.model.proofs.Tests.{beside}
+use Rattle.refutations.proofs.InOrder.{sorted_pairs}
 use Rattle.vertices.specs.Orders.{state_cmp}
 use Rattle.vertices.proofs.OrderLaws.{state_total}
 use Rattle.catalogue.proofs.Found.{less-other, greater-other}
 use Rattle.vertices.specs.RefViews.{state_ref_view, state_ref_views}
 use Rattle.vertices.specs.declared.state.StateRef as declared
-
--- what is sorted has each two in order
-pub sorted_pairs : {X : Type 0} (cmp : X → X → Ordering) (xs : List X) → IsStrictlySortedBy cmp xs
-    → AllPairs (λ x y. cmp x y ≡ Less) xs
-unfolding IsStrictlySortedBy
-sorted_pairs cmp [] h = pairs_none (λ x y. cmp x y ≡ Less)
-sorted_pairs cmp (x ∷ xs) h = AllPairs-cons
-    (λ x y. cmp x y ≡ Less) x xs (All-from_recursion (λ y. cmp x y ≡ Less) xs h.0) (sorted_pairs cmp xs h.1)
 
 -- what a search found, if it passes the test
 abbrev pub kept : {X : Type 0} → (X → Bool) → X → Option X

@@ -1,4 +1,4 @@
--- Tests over lists: when each element passes, which is the first, and what two tests that imply each other give.
+-- Tests over lists: when each element passes, and which is the first.
 use Rattle.std.proofs.Common.{◌≡◌, ℕ, zero, suc, List, [], ◌∷◌, filter, Bool, true, false, cond, ◌||◌, Contains, Some}
 use Rattle.std.proofs.Common.{option_map, slice_get, refl, sym, ap, ◌∙◌, true≢false}
 use Rattle.std.specs.List.{list_all, list_any, find}

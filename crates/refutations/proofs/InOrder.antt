@@ -23,7 +23,7 @@ once_before : {X : Type 0} (cmp : X → X → Ordering) → ((x y : X) → cmp x
 once_before cmp flips x y h k = let e : Less ≡ Greater = sym h ∙ flips x y ∙ ap ordering_reverse k in cc
 
 -- what is sorted has each two in order
-sorted_pairs : {X : Type 0} (cmp : X → X → Ordering) (xs : List X) → IsStrictlySortedBy cmp xs
+pub sorted_pairs : {X : Type 0} (cmp : X → X → Ordering) (xs : List X) → IsStrictlySortedBy cmp xs
     → AllPairs (λ x y. cmp x y ≡ Less) xs
 unfolding IsStrictlySortedBy
 sorted_pairs cmp [] h = pairs_none (λ x y. cmp x y ≡ Less)
@@ -31,7 +31,7 @@ sorted_pairs cmp (x ∷ xs) h = AllPairs-cons
     (λ x y. cmp x y ≡ Less) x xs (All-from_recursion (λ y. cmp x y ≡ Less) xs h.0) (sorted_pairs cmp xs h.1)
 
 -- to say the same goes both ways
-same_at-back : (x y : Option (List State)) → SameAt x y → SameAt y x
+pub same_at-back : (x y : Option (List State)) → SameAt x y → SameAt y x
 same_at-back None None h = tt
 same_at-back None (Some b) h = h
 same_at-back (Some a) None h = h
