@@ -1,13 +1,14 @@
 -- Equality of vertices and states, and what a hash of them is fed: their parts.
-use Rattle.std.specs.Prelude.{◌≡◌, Bool, true, false, [], ◌++◌, refl}
+use Rattle.std.specs.Prelude.{◌≡◌, Bool, true, [], ◌++◌, refl}
 use Rattle.std.specs.Cmp.{IsEquivalence}
 use Rattle.std.specs.Hash.{HashWrites}
 use Rattle.std.specs.Hash as fed
-use Rattle.std.proofs.Common.{sym, ap, subst}
+use Rattle.std.proofs.Common.{ap, subst}
 use Rattle.semver.specs.Parse.{Parts}
 use Rattle.model.specs.Vertices.{Owner, the_root, version_of, Vertex, root, pkg, dep, feat, ask, State, absent, present}
 use Rattle.model.specs.Vertices.{version, in_class, same_owner, same_vertex, same_state}
 use Rattle.model.proofs.Same.{owner-same, owner-refl, vertex-same, vertex-refl, state-same, state-refl}
+use Rattle.model.proofs.Tests.{one_test}
 use Rattle.vertices.specs.Orders.{class_number}
 
 abbrev pub version_fed : Parts → HashWrites
@@ -34,15 +35,10 @@ state_fed (in_class c) = fed.u64 (class_number c)
 
 module _ {X : Type 0} (eq : X → X → Bool) (same : (x y : X) → eq x y ≡ true → x ≡ y)
     (own : (x : X) → eq x x ≡ true) where
-  from_true : (a b : Bool) → (a ≡ true → b ≡ true) → (b ≡ true → a ≡ true) → a ≡ b
-  from_true true b f g = sym (f refl)
-  from_true false true f g = g refl
-  from_true false false f g = refl
-
   pub equivalence : IsEquivalence eq
   equivalence = record {
     refl = own;
-    symm = λ x y. from_true (eq x y) (eq y x) (λ e. subst (λ z. eq z x ≡ true) (same x y e) (own x))
+    symm = λ x y. one_test (eq x y) (eq y x) (λ e. subst (λ z. eq z x ≡ true) (same x y e) (own x))
         (λ e. subst (λ z. eq z y ≡ true) (same y x e) (own y));
     congr = λ x y z e. ap (λ w. eq w z) (same x y e);
   }
