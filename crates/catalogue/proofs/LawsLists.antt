@@ -7,8 +7,7 @@ use Rattle.std.proofs.lemmas.Map.Made.{IsDistinct-from_AllPairs, length-le_from_
 use Rattle.model.specs.Summary.{same_text}
 use Rattle.std.proofs.lemmas.List.Elements.{Contains-append_left, All-contains}
 use Rattle.std.proofs.lemmas.List.Kept.{AllPairs-cons}
-use Rattle.model.proofs.Lists.{any_of, to_any}
-use Rattle.model.proofs.Lists.{pairs_none, pairs_all, pairs_rest}
+use Rattle.model.proofs.Lists.{any_of, to_any, pairs_none, pairs_all, pairs_rest}
 use Rattle.model.proofs.Mapped.{all_mapped}
 use Rattle.model.proofs.Members.{all_in}
 

@@ -21,8 +21,7 @@ use Rattle.model.specs.Candidates.{IsOlder, Record, as_candidate}
 use Rattle.model.specs.Order.{precedence}
 use Rattle.model.specs.Vertices.{Owner, the_root, version_of, owner_brings}
 use Rattle.model.proofs.Contents.{precedence-equal}
-use Rattle.model.proofs.Lists.{all_get, all_first, all_rest, pairs_get, pairs_none}
-use Rattle.model.proofs.Lists.{to_any}
+use Rattle.model.proofs.Lists.{all_get, all_first, all_rest, pairs_get, pairs_none, to_any}
 use Rattle.model.proofs.Owners.{candidate_at-is, candidate_at-there}
 use Rattle.model.proofs.Same.{both, text-refl, text-same}
 use Rattle.model.proofs.Places.{place_of, got_in, get_more, map_at}

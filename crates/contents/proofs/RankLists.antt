@@ -1,8 +1,7 @@
 -- Ranks, and the lists that they make.
 use Rattle.std.proofs.Common.{◌≡◌, ◌≢◌, ◌↔◌, ℕ, zero, suc, ◌+◌, ◌<◌, ◌≤◌, Bool, true, false, List, [], ◌∷◌, ◌++◌}
 use Rattle.std.proofs.Common.{length, get_or, drop, nat_eq, Contains, Bor, Vec, Result, Ok, Err, IfOk, Option, Some}
-use Rattle.std.proofs.Common.{None, option_map, slice_get, refl, sym, ap, ap₂, ◌∙◌, subst, subst₂, inl, inr}
-use Rattle.std.proofs.Common.{◌⊎◌, arith}
+use Rattle.std.proofs.Common.{None, option_map, slice_get, refl, sym, ap, ap₂, ◌∙◌, subst, subst₂, inl, inr, ◌⊎◌, arith}
 use Rattle.std.specs.List.{AllPairs}
 use Rattle.std.specs.Option.{option_and_then}
 use Rattle.std.proofs.Math.Seq.{drop-cons}

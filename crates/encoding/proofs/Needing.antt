@@ -15,8 +15,7 @@ use Rattle.model.specs.Vertices.{Vertex, State, same_vertex}
 use Rattle.model.specs.Axioms.{Term, IsVertex}
 use Rattle.model.specs.Derivation as model
 use Rattle.model.proofs.Same.{vertex-refl}
-use Rattle.model.proofs.Lists.{pairs_first, pairs_rest, pairs_one, in_first, in_rest}
-use Rattle.model.proofs.Lists.{to_any}
+use Rattle.model.proofs.Lists.{pairs_first, pairs_rest, pairs_one, in_first, in_rest, to_any}
 use Rattle.model.proofs.Places.{place_of, get_more}
 use Rattle.model.proofs.Members.{all_in}
 use Rattle.model.proofs.Accepted.{all-push}

@@ -1,7 +1,6 @@
 -- All facts are given by the rules.
-use Rattle.std.proofs.Common.{◌≡◌, ℕ, ◌<◌, List, [], ◌∷◌, length, Bool, true, false, not, ◌||◌, cond, nat_eq}
-use Rattle.std.proofs.Common.{Option, Some, None, slice_get, option_and_then, Contains, refl, sym, ap, ◌∙◌, subst}
-use Rattle.std.proofs.Common.{true≢false}
+use Rattle.std.proofs.Common.{◌≡◌, ℕ, ◌<◌, List, [], ◌∷◌, length, Bool, true, false, not, ◌||◌, cond, nat_eq, Option}
+use Rattle.std.proofs.Common.{Some, None, slice_get, option_and_then, Contains, refl, sym, ap, ◌∙◌, subst, true≢false}
 use Rattle.std.specs.List.{flat_map}
 use Rattle.std.proofs.lemmas.Bool.{eq-eqb}
 use Rattle.std.proofs.lemmas.List.Elements.{Contains-append_left, Contains-append_right}

@@ -12,8 +12,7 @@ use Rattle.model.proofs.Same.{both}
 use Rattle.facts.specs.Graphs.{flag_at}
 use Rattle.selection.specs.Graphs.{targets_in}
 use Rattle.selection.specs.Places.{is_missing, IsLedTo}
-use Rattle.selection.proofs.Judging.{its_target, its_dependency, target_here, led_to_target}
-use Rattle.selection.proofs.Judging.{target_led_to}
+use Rattle.selection.proofs.Judging.{its_target, its_dependency, target_here, led_to_target, target_led_to}
 use Rattle.flaws.specs.Flaws.{IsUnmet, IsSurplus}
 use Rattle.flaws.proofs.Elements.{in_range}
 

@@ -1,7 +1,6 @@
 -- The classes of versions that are oldest first come in runs: behind those of the first class stand those of others.
 use Rattle.std.proofs.Common.{◌≡◌, ◌<◌, ◌≤◌, ℕ, zero, suc, List, [], ◌∷◌, map, filter, drop, length, Bool, true, false}
-use Rattle.std.proofs.Common.{cond, ◌||◌, Contains, Some, slice_get, refl, sym, ap, ◌∙◌, subst, arith}
-use Rattle.std.proofs.Common.{true≢false}
+use Rattle.std.proofs.Common.{cond, ◌||◌, Contains, Some, slice_get, refl, sym, ap, ◌∙◌, subst, arith, true≢false}
 use Rattle.std.specs.List.{list_any, AllPairs}
 use Rattle.std.specs.Ordering.{is_gt}
 use Rattle.std.specs.declared.cmp.Ordering.TheVariants.{Less}

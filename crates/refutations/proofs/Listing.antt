@@ -12,8 +12,7 @@ use Rattle.model.specs.Summary.{entries_at, has_feature, asked_of_target, same_t
 use Rattle.model.specs.Content.{Problem, Candidate, candidates_of}
 use Rattle.model.specs.Optional.{passes}
 use Rattle.model.specs.Selection.{Class, class_of}
-use Rattle.model.specs.Vertices.{Owner, the_root, version_of, in_that_class, owner_brings}
-use Rattle.model.specs.Vertices.{classes_of, class_candidates}
+use Rattle.model.specs.Vertices.{Owner, the_root, version_of, in_that_class, owner_brings, classes_of, class_candidates}
 use Rattle.model.specs.Axioms.{IsOwner, HasEntry, HasFeatVertex, RootAsks}
 use Rattle.model.specs.Axioms.HasFeatVertex.{had, asked, by_entry}
 use Rattle.model.proofs.Flat.{to_flat}

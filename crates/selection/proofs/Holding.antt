@@ -1,7 +1,6 @@
 -- The facts of the packages of a lock, by the list of what they bring, are the facts of its content.
-use Rattle.std.proofs.Common.{◌≡◌, ℕ, ◌<◌, ◌↔◌, true, cond, List, length, get_or, Contains, Option}
-use Rattle.std.proofs.Common.{Some, None, option_map, option_and_then, slice_get, refl, sym, ap, ◌∙◌, subst}
-use Rattle.std.proofs.Common.{true≢false}
+use Rattle.std.proofs.Common.{◌≡◌, ℕ, ◌<◌, ◌↔◌, true, cond, List, length, get_or, Contains, Option, Some, None}
+use Rattle.std.proofs.Common.{option_map, option_and_then, slice_get, refl, sym, ap, ◌∙◌, subst, true≢false}
 use Rattle.std.proofs.lemmas.List.{length-map}
 use Rattle.std.proofs.lemmas.List.Elements.{All-map}
 use Rattle.std.proofs.lemmas.Option.{none-some, slice_get-map, slice_get_within}

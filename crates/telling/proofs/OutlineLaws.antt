@@ -10,8 +10,7 @@ use Rattle.std.proofs.lemmas.List.Elements.{All-weaker, All-push, Contains-appen
 use Rattle.std.proofs.lemmas.Option.{none-some, same_Some}
 use Rattle.std.proofs.lemmas.List.Quantifiers.{all_pairs_push}
 use Rattle.model.specs.Derivation.{Step}
-use Rattle.model.proofs.Lists.{all_none, any_of, in_cons, in_first, in_none, in_rest}
-use Rattle.model.proofs.Lists.{pairs_none}
+use Rattle.model.proofs.Lists.{all_none, any_of, in_cons, in_first, in_none, in_rest, pairs_none}
 use Rattle.model.proofs.Places.{get_more, get_push}
 use Rattle.derivations.specs.References.{references_at}
 use Rattle.telling.specs.Outlines.{FollowsBy, Follows, IsOutline, IsShown, Outline, LeadsBack, Sentences, by_fact}

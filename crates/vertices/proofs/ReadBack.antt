@@ -15,11 +15,10 @@ use Rattle.model.specs.Vertices.{Owner, the_root, version_of, Vertex, root, pkg,
 use Rattle.model.specs.Vertices.{version, in_class}
 use Rattle.model.proofs.Same.{text-same}
 use Rattle.classes.specs.Classes.{class_text}
-use Rattle.vertices.specs.Texts.{IsReadVertex, IsReadState}
-use Rattle.vertices.specs.Texts.{Reading, parted, kinded_vertex, package_name_of, feature_name_of, version_or}
-use Rattle.vertices.specs.Texts.{version_of_text, above_zero, class_of_text, named_version_of_text, owner_text}
-use Rattle.vertices.specs.Texts.{owner_of_text, vertex_text, package_of_text, dependency_of_text, feature_of_text}
-use Rattle.vertices.specs.Texts.{ask_of_text, vertex_of_text, value_of_text}
+use Rattle.vertices.specs.Texts.{IsReadVertex, IsReadState, Reading, parted, kinded_vertex, package_name_of}
+use Rattle.vertices.specs.Texts.{feature_name_of, version_or, version_of_text, above_zero, class_of_text}
+use Rattle.vertices.specs.Texts.{named_version_of_text, owner_text, owner_of_text, vertex_text, package_of_text}
+use Rattle.vertices.specs.Texts.{dependency_of_text, feature_of_text, ask_of_text, vertex_of_text, value_of_text}
 use Rattle.vertices.specs.Valid.{IsPackageName, IsFeatureName, IsValidClass, IsIndex, IsValidOwner, IsValidVertex}
 use Rattle.vertices.specs.Valid.{IsValidState}
 use Rattle.vertices.proofs.Around.{Lacks, lacks-append, parted-first}

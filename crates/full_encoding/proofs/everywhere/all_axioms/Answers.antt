@@ -1,5 +1,4 @@
-use Rattle.std.proofs.Common.{◌≡◌, ◌<◌, ◌≤◌, ◌+◌, suc, length, take, take_all, refl, sym}
-use Rattle.std.proofs.Common.{subst, arith}
+use Rattle.std.proofs.Common.{◌≡◌, ◌<◌, ◌≤◌, ◌+◌, suc, length, take, take_all, refl, sym, subst, arith}
 use Rattle.model.proofs.Places.{some_at}
 use Rattle.encoding.specs.GivenViews.{given_views}
 use Rattle.encoding.specs.KnownProblem.{problem}
