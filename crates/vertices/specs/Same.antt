@@ -1,5 +1,5 @@
 -- Equality of vertices and states, and what a hash of them is fed: their parts.
-use Rattle.std.specs.Prelude.{◌≡◌, Bool, true, [], ◌++◌, refl}
+use Rattle.std.specs.Prelude.{◌≡◌, Bool, true, [], ◌++◌}
 use Rattle.std.specs.Cmp.{IsEquivalence}
 use Rattle.std.specs.Hash.{HashWrites}
 use Rattle.std.specs.Hash as fed
