@@ -62,6 +62,11 @@ fn put(lists: &mut Vec<Vec<Rule>>, fact: usize, rule: &Rule) -> Result<(), Alloc
     ensures length { length lists.new.items ≡ length lists.old.items }
     ensures put { OnOk result (rule_lists lists.new.items ≡ put_at (rule_lists lists.old.items) fact rule.now) }
 {
-    lists[fact].push(*rule)?;
+    let list = &mut lists[fact];
+    if list.is_empty() {
+        // Most facts are needed by one rule alone.
+        list.reserve_exact(1)?;
+    }
+    list.push(*rule)?;
     Ok(())
 }
