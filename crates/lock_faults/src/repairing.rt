@@ -6,6 +6,7 @@ use classes::{Class, version_order};
 use semver::Version;
 use std::alloc::{AllocError, Global};
 use std::cmp::Ordering;
+use tables::read_table;
 use toml::{Table, Value};
 
 /// A lock of the packages that could be read, each without its list, and how many these are.
@@ -36,19 +37,11 @@ pub fn readable_part(alloc: Global, bytes: &[u8]) -> Result<Readable, AllocError
 
 /// Adds the table that bytes are, and whether they are one.
 fn push_table(alloc: Global, bytes: &[u8], tables: &mut Vec<Table>) -> Result<bool, AllocError> {
-    match toml::table_from_slice(alloc, bytes) {
-        Ok(table) => {
-            tables.push(table)?;
-            Ok(true)
-        }
-        Err(error) => {
-            if error.is_memory() {
-                Err(AllocError)
-            } else {
-                Ok(false)
-            }
-        }
-    }
+    let Some(table) = read_table(alloc, bytes)? else {
+        return Ok(false);
+    };
+    tables.push(table)?;
+    Ok(true)
 }
 
 /// Adds the tables of both sides of a merge, else those of the sections of the lock.

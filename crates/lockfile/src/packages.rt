@@ -8,8 +8,9 @@ ghost use Rattle.lockfile.specs.Views.{package_view, unlinked_view, unlinked_vie
 
 use crate::fault::LockFault;
 use crate::package::Package;
-use crate::table::{dependencies, member, package_name, plain_text, text, version};
+use crate::table::{dependencies, package_name, plain_text, text, version};
 use std::alloc::Global;
+use tables::member;
 use toml::{Table, Value};
 
 /// A package with the texts of its dependencies: what these mean is still to be found, and its list is empty.

@@ -15,8 +15,9 @@ use crate::meaning::lists;
 use crate::order::ordered;
 use crate::package::Package;
 use crate::packages::{UnlinkedPackage, packages};
-use crate::table::{check_version, read_table};
+use crate::table::check_version;
 use std::alloc::{AllocError, Global};
+use tables::read_table;
 use toml::Table;
 
 /// The greatest number of bytes that a lock may have: 64 MiB.
@@ -30,7 +31,9 @@ pub fn read(alloc: Global, bytes: &[u8]) -> Result<LockContent, LockFault>
     if bytes.len() > MOST_BYTES {
         return Err(LockFault::TooLarge);
     }
-    let table = read_table(alloc, bytes)?;
+    let Some(table) = read_table(alloc, bytes)? else {
+        return Err(LockFault::NotToml);
+    };
     content_in(alloc, &table)
 }
 

@@ -6,10 +6,9 @@ ghost use Rattle.features.specs.Names.{is_package_name};
 ghost use Rattle.semver.specs.Grammar.{IsValid};
 ghost use Rattle.semver.specs.Identifiers.{parts_of};
 ghost use Rattle.semver.specs.Parse.{memory_error};
-ghost use Rattle.toml.specs.Data.{get_member};
-ghost use Rattle.toml.specs.View.{view, table_view, items_view};
+ghost use Rattle.toml.specs.View.{table_view, items_view};
 ghost use Rattle.model.specs.Outcome.{Gives, guard};
-ghost use Rattle.lockfile.specs.Locks.{wants_memory, table_of_bytes, is_known_version, version_known, text_at};
+ghost use Rattle.lockfile.specs.Locks.{wants_memory, is_known_version, version_known, text_at};
 ghost use Rattle.lockfile.specs.Locks.{checked_name, checked_version, is_plain_byte, checked_plain, plain_at, texts_in};
 ghost use Rattle.lockfile.specs.Locks.{dependencies_at};
 ghost use Rattle.features.specs.Views.{text_views};
@@ -18,36 +17,14 @@ use crate::fault::LockFault;
 use features::{NameFault, PackageName};
 use semver::Version;
 use std::alloc::{AllocError, Global};
+use tables::member;
 use toml::{Table, Value};
-
-/// The table that the bytes are.
-pub(crate) fn read_table(alloc: Global, bytes: &[u8]) -> Result<Table, LockFault>
-    ensures { Gives wants_memory table_view result (table_of_bytes bytes.now) }
-{
-    match toml::table_from_slice(alloc, bytes) {
-        Ok(table) => Ok(table),
-        Err(e) => {
-            if e.is_memory() {
-                Err(LockFault::OutOfMemory)
-            } else {
-                Err(LockFault::NotToml)
-            }
-        }
-    }
-}
 
 /// A fault for what doesn't pass.
 pub(crate) fn check(passes: bool, fault: LockFault) -> Result<(), LockFault>
     ensures { Gives wants_memory (λ u. u) result (guard passes fault) }
 {
     if passes { Ok(()) } else { Err(fault) }
-}
-
-/// The value at a key.
-pub(crate) fn member<'a>(table: &'a Table, key: &str) -> Option<&'a Value>
-    ensures { option_map (λ v. view v.now) result ≡ get_member key.now (table_view table.now) }
-{
-    table.get(key)
 }
 
 /// A fault for a `version` of the format that isn't read.

@@ -8,7 +8,8 @@ use Rattle.semver.specs.Parse.{Parts, version_parts}
 use Rattle.semver.specs.declared.error.Error.{Error}
 use Rattle.model.specs.Outcome.{◌>>=◌}
 use Rattle.classes.specs.RustVersions.{rust_version_of}
-use Rattle.manifest.specs.Values.{Shaped, wanted, or_absent, text_of, table_of, has_key, has_rows, package_name_of}
+use Rattle.tables.specs.Rows.{has_rows}
+use Rattle.manifest.specs.Values.{Shaped, wanted, or_absent, text_of, table_of, has_key, package_name_of}
 use Rattle.manifest.specs.declared.fault.ManifestFault.TheVariants.{Shape}
 use Rattle.manifest.specs.declared.fault.Part.{Part}
 use Rattle.manifest.specs.declared.fault.Part.TheVariants as part

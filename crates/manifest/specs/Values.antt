@@ -1,7 +1,7 @@
 -- Values and keys in the tables of a manifest (Cargo book, "The Manifest Format"; TOML).
-use Rattle.std.specs.Prelude.{ℕ, Bool, true, false, if◌then◌else◌, List, Option, Some, None, Result, Ok, Err, is_some}
+use Rattle.std.specs.Prelude.{ℕ, Bool, if◌then◌else◌, List, Option, Some, None, Result, Ok, Err, is_some}
 use Rattle.std.specs.Option.{ok_or}
-use Rattle.toml.specs.Data.{Data, as_str, as_bool, as_table, get_member, Members, no_members, member}
+use Rattle.toml.specs.Data.{Data, as_str, as_bool, as_table, get_member, Members}
 use Rattle.model.specs.Outcome.{◌>>=◌}
 use Rattle.features.specs.Names.{is_package_name, is_feature_name}
 use Rattle.manifest.specs.declared.fault.ManifestFault.{ManifestFault}
@@ -37,10 +37,6 @@ table_of p d = wanted p (as_table d)
 
 abbrev pub has_key : List ℕ → Members → Bool
 has_key key t = is_some (get_member key t)
-
-abbrev pub has_rows : Members → Bool
-has_rows no_members = false
-has_rows (member key d rest) = true
 
 -- one of two spellings, of which only one may stand
 abbrev pub one_of : Part → Option Data → Option Data → Shaped (Option Data)

@@ -15,11 +15,10 @@ ghost use Rattle.manifest.specs.ShapeViews.{source_view, dependency_view, depend
 
 use crate::check::check;
 use crate::fault::{ManifestFault, Part, Unsupported};
-use crate::table::{
-    either, feature_name, flag, has_key, list, member, package_name, text, text_at,
-};
+use crate::table::{either, feature_name, flag, list, package_name, text, text_at};
 use features::{DependencyKind, FeatureName, PackageName};
 use std::alloc::Global;
+use tables::{has_key, member};
 use toml::value::{Array, Table, Value};
 
 /// Where a dependency is from.

@@ -10,10 +10,11 @@ ghost use Rattle.manifest.specs.Values.{wanted};
 ghost use Rattle.manifest.specs.Shapes.{strong, root_entry, entries_in, feature_of, features_in, features_of};
 
 use crate::fault::{ManifestFault, Part};
-use crate::table::{feature_name, list, member, table, text};
+use crate::table::{feature_name, list, table, text};
 use features::{Entry, EntryFault, FeatureName};
 use std::alloc::Global;
 use std::collections::BTreeMap;
+use tables::member;
 use toml::value::{Array, Table, Value};
 
 /// The features of `[features]`.

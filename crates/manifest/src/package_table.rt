@@ -15,12 +15,13 @@ ghost use Rattle.manifest.specs.ShapeViews.{package_view};
 
 use crate::fault::{ManifestFault, Part};
 use crate::package::Package;
-use crate::table::{has_key, member, package_name, table, text};
+use crate::table::{package_name, table, text};
 use crate::workspace::has_members;
 use classes::RustVersion;
 use features::PackageName;
 use semver::Version;
 use std::alloc::{AllocError, Global};
+use tables::{has_key, member};
 use toml::{Table, Value};
 
 /// `[package]`, or none where its name or version is left to a workspace, or where it is absent beside a workspace with

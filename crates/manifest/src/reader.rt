@@ -18,12 +18,12 @@ use crate::dependency::{DependencyShape, DependencySource};
 use crate::fault::{ManifestFault, Unsupported};
 use crate::root_features::root_features;
 use crate::shape::{Shape, read_shape};
-use crate::table::read_table;
 use classes::RustVersion;
 use features::{Dependency, DependencyParts, FeatureTable, PackageName, Summary};
 use semver::{Version, VersionReq};
 use std::alloc::{AllocError, Global};
 use std::marker::Model;
+use tables::read_table;
 use toml::Table;
 
 /// The most bytes that a manifest may have: 1 MiB.
@@ -67,7 +67,9 @@ impl Manifest {
         ensures { Gives wants_memory (λ m. m) result (manifest_of_bytes bytes.now) }
     {
         check(bytes.len() <= LIMIT, ManifestFault::TooLarge)?;
-        let table = read_table(alloc, bytes)?;
+        let Some(table) = read_table(alloc, bytes)? else {
+            return Err(ManifestFault::NotToml);
+        };
         manifest_in(alloc, &table)
     }
 

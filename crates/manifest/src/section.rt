@@ -10,9 +10,10 @@ ghost use Rattle.manifest.specs.ShapeViews.{dependency_views};
 
 use crate::dependency::{DependencyShape, dependencies_in};
 use crate::fault::{ManifestFault, Part};
-use crate::table::{either, member, table};
+use crate::table::{either, table};
 use features::DependencyKind;
 use std::alloc::Global;
+use tables::member;
 use toml::value::{Table, Value};
 
 /// Where a table of dependencies stands.

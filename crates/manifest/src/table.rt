@@ -2,48 +2,18 @@
 
 ghost use Rattle.std.specs.Prelude.{◌≡◌, option_map, Some, None, codes};
 ghost use Rattle.toml.specs.Data.{as_str, as_bool, as_table, as_array, get_member};
-ghost use Rattle.toml.specs.Text.{has_items};
 ghost use Rattle.toml.specs.View.{view, table_view, array_view};
 ghost use Rattle.model.specs.Outcome.{Gives};
 ghost use Rattle.manifest.specs.Faults.{wants_memory};
-ghost use Rattle.manifest.specs.Manifests.{table_of_bytes};
 ghost use Rattle.manifest.specs.Values.{wanted, if_there, or_absent, text_of, flag_of, table_of, either_at};
-ghost use Rattle.manifest.specs.Values.{package_name_of, feature_name_of, has_key, has_rows};
+ghost use Rattle.manifest.specs.Values.{package_name_of, feature_name_of};
 ghost use Rattle.manifest.specs.Packages.{is_written};
 
 use crate::fault::{ManifestFault, Part};
 use features::{FeatureName, NameFault, PackageName};
 use std::alloc::Global;
+use tables::{has_rows, member};
 use toml::value::{Array, Table, Value};
-
-/// The table that the bytes are.
-pub(crate) fn read_table(alloc: Global, bytes: &[u8]) -> Result<Table, ManifestFault>
-    ensures { Gives wants_memory table_view result (table_of_bytes bytes.now) }
-{
-    match toml::table_from_slice(alloc, bytes) {
-        Ok(table) => Ok(table),
-        Err(e) => {
-            if e.is_memory() {
-                Err(ManifestFault::OutOfMemory)
-            } else {
-                Err(ManifestFault::NotToml)
-            }
-        }
-    }
-}
-
-/// The value at a key.
-pub(crate) fn member<'a>(table: &'a Table, key: &str) -> Option<&'a Value>
-    ensures { option_map (λ v. view v.now) result ≡ get_member key.now (table_view table.now) }
-{
-    table.get(key)
-}
-
-pub(crate) fn has_key(table: &Table, key: &str) -> bool
-    ensures { result ≡ has_key key.now (table_view table.now) }
-{
-    member(table, key).is_some()
-}
 
 /// The value at a key with a dash, which may be spelled with an underscore, but not in both ways.
 pub(crate) fn either<'a>(
@@ -121,20 +91,6 @@ pub(crate) fn flag(value: Option<&Value>, absent: bool, part: Part) -> Result<bo
         },
         None => Ok(absent),
     }
-}
-
-/// Whether a list has items.
-pub(crate) fn has_items(items: &Array) -> bool
-    ensures { result ≡ has_items (array_view items.now) }
-{
-    !items.is_empty()
-}
-
-/// Whether a table has entries.
-fn has_rows(table: &Table) -> bool
-    ensures { result ≡ has_rows (table_view table.now) }
-{
-    !table.is_empty()
 }
 
 /// Whether the table at a key, which may be absent, has entries.

@@ -5,7 +5,7 @@ ghost use Rattle.toml.specs.View.{table_view};
 ghost use Rattle.manifest.specs.Packages.{members_at, workspace_of};
 
 use crate::fault::{ManifestFault, Part};
-use crate::table::{has_items, member};
+use tables::{has_items, member};
 use toml::Table;
 
 /// Whether `[workspace]` has members.

@@ -2,6 +2,7 @@
 use Rattle.std.specs.Prelude.{ℕ, Bool, true, false, ◌==◌, if◌then◌else◌, List, ◌++◌, take, drop}
 use Rattle.std.specs.Prelude.{◌≡◌, Some, codes, is_some, nat_eq}
 use Rattle.std.specs.List.{before_first, list_any, starts_with}
+use Rattle.model.specs.Optional.{of_utf8}
 use Rattle.misreadings.specs.Lines.{line_after}
 use Rattle.toml.specs.Parse.{parse_document}
 use Rattle.toml.specs.Data.{Members}
@@ -10,7 +11,7 @@ use Rattle.manifest_faults.specs.declared.place.Place.{Place}
 
 -- the bytes are TOML, and have something at the place, or have nothing there
 abbrev pub Has : Bool → Place → List ℕ → Type 0
-Has has p bytes = (top : Members) × (parse_document bytes ≡ Some top) × (is_some (value_at p top) ≡ has)
+Has has p bytes = (top : Members) × (of_utf8 parse_document bytes ≡ Some top) × (is_some (value_at p top) ≡ has)
 
 -- what stands before the first such byte, or all
 abbrev pub up_to : ℕ → List ℕ → List ℕ

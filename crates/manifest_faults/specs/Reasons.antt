@@ -10,7 +10,8 @@ use Rattle.semver.specs.Parse.{version_parts, req_of}
 use Rattle.model.specs.Summary.{same_text, Entry, feature, dependency, dependency_feature, weak_feature}
 use Rattle.features.specs.Entries.{entry_of}
 use Rattle.features.specs.Names.{is_package_name, is_feature_name}
-use Rattle.manifest.specs.Values.{has_key, has_rows}
+use Rattle.tables.specs.Rows.{has_rows}
+use Rattle.manifest.specs.Values.{has_key}
 use Rattle.manifest.specs.Packages.{is_inherited}
 use Rattle.manifest.specs.Dependencies.{unsupported_in}
 use Rattle.manifest.specs.Manifests.{same_source}

@@ -6,7 +6,7 @@ ghost use Rattle.toml.specs.View.{table_view, view};
 ghost use Rattle.manifest_faults.specs.Reasons.{has_among, has_in, has_in_target, has_in_targets, is_called};
 ghost use Rattle.manifest_faults.specs.Reasons.{is_optional, on_some, passes};
 
-use crate::place::member;
+use tables::member;
 use toml::{Table, Value};
 
 /// Whether a dependency of the manifest is called so, an optional one if that is asked.

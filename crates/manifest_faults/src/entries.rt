@@ -10,9 +10,9 @@ ghost use Rattle.manifest_faults.specs.Reasons.{is_no_feature, is_taken, is_take
 ghost use Rattle.manifest_faults.specs.Reasons.{is_written, named_in, names_none, names_required, on_some};
 
 use crate::called::is_called;
-use crate::place::member;
 use features::{Entry, EntryFault};
 use std::alloc::{AllocError, Global};
+use tables::member;
 use toml::{Table, Value};
 
 /// Whether an entry is no feature, nor the implicit one of an optional dependency.

@@ -8,13 +8,14 @@ ghost use Rattle.manifest_faults.specs.Finding.{IsFound};
 use crate::called::is_optional;
 use crate::entries::{dependency_in, entry_in, feature_in, is_written, named_in};
 use crate::finding::{TABLES, first_item};
-use crate::place::{Place, items_at, member, table_at};
+use crate::place::{Place, items_at, table_at};
 use crate::sought::{Sought, blamed, first_blamed};
 use crate::why::{Culprit, Kind, Sort, Why};
 use features::{Entry, FeatureName};
 use manifest::TableFault;
 use std::alloc::{AllocError, Global};
 use std::collections::BTreeMap;
+use tables::member;
 use toml::{Table, Value};
 
 /// What is wrong with the shape of `[features]`.

@@ -8,10 +8,11 @@ ghost use Rattle.std.specs.Prelude.{◌≡◌, ◌≤◌, ◌++◌, IfOk, IfSome
 ghost use Rattle.manifest_faults.specs.Lines.{Begins, Has, IsLineOf, front_of, up_to};
 ghost use Rattle.manifest_faults.specs.Places.{value_at};
 
-use crate::place::{Place, member, named_value, value_at};
+use crate::place::{Place, named_value, value_at};
 use misreadings::line_after;
 use std::alloc::{AllocError, Global};
 use std::str::from_utf8;
+use tables::{member, read_table};
 use toml::{Table, Value};
 
 /// The line on which what stands at a place begins, if that is certain.
@@ -54,16 +55,10 @@ fn begins(alloc: Global, before: &[u8], rest: &[u8], place: &Place<'_>) -> Resul
 fn has(alloc: Global, bytes: &[u8], place: &Place<'_>, wanted: bool) -> Result<bool, AllocError>
     ensures { IfOk result (λ b. b ≡ true → Has wanted place.now bytes.now) }
 {
-    match toml::table_from_slice(alloc, bytes) {
-        Ok(table) => Ok(value_at(&table, place).is_some() == wanted),
-        Err(e) => {
-            if e.is_memory() {
-                Err(AllocError)
-            } else {
-                Ok(false)
-            }
-        }
-    }
+    let Some(table) = read_table(alloc, bytes)? else {
+        return Ok(false);
+    };
+    Ok(value_at(&table, place).is_some() == wanted)
 }
 
 /// The bytes with a header behind them as it stands in its line, or with the key there and 0 as its value.
@@ -125,7 +120,7 @@ fn seeming_start(
         let at = begun.saturating_add(line.len().saturating_sub(words.len()));
         begun = begun.saturating_add(line.len()).saturating_add(1);
         if words.starts_with("[") {
-            if let Some(table) = table_in(alloc, words)? {
+            if let Some(table) = read_table(alloc, words.as_bytes())? {
                 if value_at(&table, place).is_some() {
                     return Ok(Some(at));
                 }
@@ -136,20 +131,6 @@ fn seeming_start(
         }
     }
     Ok(None)
-}
-
-/// The table that a line is by itself.
-fn table_in(alloc: Global, line: &str) -> Result<Option<Table>, AllocError> {
-    match toml::table_from_str(alloc, line) {
-        Ok(table) => Ok(Some(table)),
-        Err(e) => {
-            if e.is_memory() {
-                Err(AllocError)
-            } else {
-                Ok(None)
-            }
-        }
-    }
 }
 
 fn within_at(header: &Table, place: &Place<'_>) -> Within {
@@ -189,7 +170,7 @@ fn seems(
     let mut line = String::new(alloc);
     line.push_str(key_in(words))?;
     line.push_str("=0")?;
-    let Some(table) = table_in(alloc, line.as_str())? else {
+    let Some(table) = read_table(alloc, line.as_bytes())? else {
         return Ok(false);
     };
     if matches!(within, Within::Top) {

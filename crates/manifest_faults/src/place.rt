@@ -1,11 +1,11 @@
 //! Places in a manifest.
 
 ghost use Rattle.std.specs.Prelude.{◌≡◌, option_copied, option_map};
-ghost use Rattle.toml.specs.Data.{get_member};
 ghost use Rattle.toml.specs.View.{table_view, view};
 ghost use Rattle.manifest_faults.specs.Places.{below, numbered, section_value, named_value, value_at, underscored};
 ghost use Rattle.manifest_faults.specs.Places.{twin_at};
 
+use tables::member;
 use toml::value::Array;
 use toml::{Table, Value};
 
@@ -151,13 +151,6 @@ fn below<'t>(value: Option<&'t Value>, key: Option<&str>) -> Option<&'t Value>
         Some(key) => value?.get(key),
         None => value,
     }
-}
-
-/// The value at a key.
-pub(crate) fn member<'t>(table: &'t Table, key: &str) -> Option<&'t Value>
-    ensures { option_map (λ v. view v.now) result ≡ get_member key.now (table_view table.now) }
-{
-    table.get(key)
 }
 
 /// The spelling with underscores of a key that has two.

@@ -1,12 +1,12 @@
 //! The sentence that tells what is wrong with a part of a manifest.
 
-use crate::place::{Place, member};
-use crate::shape::has_key;
+use crate::place::Place;
 use crate::why::{Culprit, Kind, Sort, Why};
 use manifest::Unsupported;
 use semver::{Version, VersionReq};
 use std::alloc::{AllocError, Global};
 use std::fmt;
+use tables::{has_key, member};
 use toml::{Table, Value};
 
 /// `[dependencies] serde: its `version` isn't a requirement: `^^1``, of the value that stands at the place.

@@ -7,17 +7,16 @@ ghost use Rattle.toml.specs.Data.{as_table};
 ghost use Rattle.toml.specs.View.{table_view, view};
 ghost use Rattle.manifest.specs.Dependencies.{unsupported_in};
 ghost use Rattle.manifest.specs.Packages.{is_inherited};
-ghost use Rattle.manifest.specs.Values.{has_key};
 ghost use Rattle.manifest_faults.specs.Reasons.{is_foreign, is_no, is_not, is_refused, lacks_source};
 ghost use Rattle.semver.specs.Parse.{memory_error, req_of, version_parts};
 
 use crate::entries::entry_of;
-use crate::place::member;
 use crate::why::{Kind, Sort};
 use features::{FeatureName, NameFault, PackageName};
 use manifest::Unsupported;
 use semver::{Version, VersionReq};
 use std::alloc::{AllocError, Global};
+use tables::has_key;
 use toml::{Table, Value};
 
 /// Whether a value isn't what it has to be.
@@ -61,12 +60,6 @@ pub(crate) fn is_inherited(value: Option<&Value>) -> bool
         },
         None => false,
     }
-}
-
-pub(crate) fn has_key(table: &Table, key: &str) -> bool
-    ensures { result ≡ has_key key.now (table_view table.now) }
-{
-    member(table, key).is_some()
 }
 
 /// Whether a table says neither a version nor another source.

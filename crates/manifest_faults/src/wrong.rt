@@ -2,9 +2,7 @@
 
 ghost use Rattle.std.specs.Prelude.{◌≡◌, if◌then◌else◌, false, IfOk, option_copied};
 ghost use Rattle.toml.specs.Data.{as_bool};
-ghost use Rattle.toml.specs.Text.{has_items};
-ghost use Rattle.toml.specs.View.{array_view, table_view, view};
-ghost use Rattle.manifest.specs.Values.{has_rows};
+ghost use Rattle.toml.specs.View.{table_view, view};
 ghost use Rattle.manifest_faults.specs.Reasons.{is_dev, is_no, is_on, is_wrong, on_some};
 
 use crate::entries::{entry_at, is_no_feature, is_taken, names_none, names_required};
@@ -12,7 +10,7 @@ use crate::place::{Place, twin_at};
 use crate::shape::{is_foreign, is_inherited, is_no, is_not};
 use crate::why::{Sort, Why};
 use std::alloc::{AllocError, Global};
-use toml::value::Array;
+use tables::{has_items, has_rows};
 use toml::{Table, Value};
 
 /// Whether it is wrong of the value that stands at the place.
@@ -79,16 +77,4 @@ fn is_dev(section: &str) -> bool
     } else {
         section == "dev_dependencies"
     }
-}
-
-fn has_rows(table: &Table) -> bool
-    ensures { result ≡ has_rows (table_view table.now) }
-{
-    !table.is_empty()
-}
-
-fn has_items(items: &Array) -> bool
-    ensures { result ≡ has_items (array_view items.now) }
-{
-    !items.is_empty()
 }

@@ -3,7 +3,7 @@ use Rattle.std.proofs.Common.{◌≡◌, ◌==◌, List, [], ◌∷◌, length, 
 use Rattle.std.proofs.lemmas.Bool.Decides.{nat_tests}
 use Rattle.toml.specs.View.{members_view}
 use Rattle.toml.specs.declared.value.Value.{Value}
-use Rattle.manifest.specs.Values.{has_rows}
+use Rattle.tables.specs.Rows.{has_rows}
 
 -- a table has rows where its map isn't empty
 pub has_rows-view : (es : List (String Global × Value)) → has_rows (members_view es) ≡ not (length es == 0)

@@ -2,7 +2,7 @@ use Rattle.std.proofs.Common.{arith}
 use Rattle.std.proofs.lemmas.Bool.Decides.{nat_tests}
 use Rattle.std.proofs.lemmas.Grind.{common_steps}
 use Rattle.toml.proofs.Views.{has_items-view}
-use Rattle.manifest_faults.proofs.wrong.has_items.Goals as goal
+use Rattle.tables.proofs.filled.has_items.Goals as goal
 
 pub returns : goal.returns
 returns c = grind (arith, nat_tests, common_steps, has_items-view c.args.items.now.items)

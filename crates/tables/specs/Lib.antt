@@ -1,0 +1,2 @@
+pub use Rattle.model.specs.Optional
+pub mod Rows
