@@ -144,7 +144,7 @@ fn dependency_in<'a>(
     ensures { Gives wants_memory dependency_view result (dependency_in part kind name (table_view table.now)) }
 {
     let version = text_at(table, "version", part)?;
-    let source = dependency_source(unsupported_source(table), version, part)?;
+    let source = dependency_source(unsupported_in(table), version, part)?;
     let given = text_at(table, "package", part)?;
     let real_name = real_name(alloc, &name, given, part)?;
     let optional = flag(member(table, "optional"), false, part)?;
@@ -182,8 +182,8 @@ fn default_features(table: &Table, part: Part) -> Result<bool, ManifestFault>
     flag(value, true, part)
 }
 
-/// The first source that is unsupported and that a key of the dependency asks for.
-fn unsupported_source(table: &Table) -> Option<Unsupported>
+/// The first source that is unsupported and that a key in the table of a dependency asks for.
+pub fn unsupported_in(table: &Table) -> Option<Unsupported>
     ensures { result ≡ unsupported_in (table_view table.now) }
 {
     if has_key(table, "git") {

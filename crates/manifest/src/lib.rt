@@ -10,7 +10,8 @@
 //! and each is known by its number in this order. Since all count, its entry `d?/g` says what `d/g` does.
 //!
 //! A layer above may rely on this: `Manifest::read` gives what the definition gives for the bytes, or says that memory
-//! was wanting. The names and the version in a `Manifest` are valid ones by its type.
+//! was wanting. The names and the version in a `Manifest` are valid ones by its type. `unsupported_in` says of the
+//! table of a dependency alone which unsupported source it asks for.
 #![tactic(auto)]
 
 mod check;
@@ -26,5 +27,6 @@ mod shape;
 mod table;
 mod workspace;
 
+pub use dependency::unsupported_in;
 pub use fault::{ManifestFault, Part, TableFault, Unsupported};
 pub use reader::Manifest;

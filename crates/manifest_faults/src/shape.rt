@@ -5,7 +5,6 @@ ghost use Rattle.features.specs.Entries.{entry_of};
 ghost use Rattle.features.specs.Names.{is_feature_name, is_package_name};
 ghost use Rattle.toml.specs.Data.{as_table};
 ghost use Rattle.toml.specs.View.{table_view, view};
-ghost use Rattle.manifest.specs.Dependencies.{unsupported_in};
 ghost use Rattle.manifest.specs.Packages.{is_inherited};
 ghost use Rattle.manifest_faults.specs.Reasons.{is_foreign, is_no, is_not, is_refused, lacks_source};
 ghost use Rattle.semver.specs.Parse.{memory_error, req_of, version_parts};
@@ -13,7 +12,7 @@ ghost use Rattle.semver.specs.Parse.{memory_error, req_of, version_parts};
 use crate::entries::entry_of;
 use crate::why::{Kind, Sort};
 use features::{FeatureName, NameFault, PackageName};
-use manifest::Unsupported;
+use manifest::{Unsupported, unsupported_in};
 use semver::{Version, VersionReq};
 use std::alloc::{AllocError, Global};
 use tables::has_key;
@@ -72,23 +71,6 @@ fn lacks_source(table: &Table) -> bool
         false
     } else {
         unsupported_in(table).is_none()
-    }
-}
-
-/// The first source that is unsupported and that a key of a dependency asks for.
-fn unsupported_in(table: &Table) -> Option<Unsupported>
-    ensures { result ≡ unsupported_in (table_view table.now) }
-{
-    if has_key(table, "git") {
-        Some(Unsupported::Git)
-    } else if has_key(table, "path") {
-        Some(Unsupported::Path)
-    } else if has_key(table, "registry") {
-        Some(Unsupported::Registry)
-    } else if has_key(table, "registry-index") {
-        Some(Unsupported::Registry)
-    } else {
-        None
     }
 }
 
