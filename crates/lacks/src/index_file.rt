@@ -1,9 +1,7 @@
 //! What the index has of a name, to tell why something isn't there.
 
 use features::PackageName;
-use index_reader::{
-    Folder, FolderFault, MAX_LINES, Record, Skip, index_path, lines, read_file,
-};
+use index_reader::{Folder, FolderFault, MAX_LINES, Record, Skip, index_path, lines, read_file};
 use std::alloc::{AllocError, Global};
 
 /// The file of a name: its lines that can be used, and those that are skipped.
