@@ -10,7 +10,8 @@ use named_terms::Cause;
 use std::alloc::{AllocError, Global};
 use vertices::OwnerRef;
 
-/// The dependencies that no version fits, of those that the axioms of a derivation speak of: of each name the first, and
+/// The dependencies that no version fits, of those that the axioms of a derivation speak of: of each name the first,
+/// and
 /// of at most so many names.
 pub fn unmatched_in<'a>(
     alloc: Global,

@@ -1,5 +1,6 @@
 -- What the JSON reader's clauses say of `data_of_bytes`.
-use Rattle.std.proofs.Common.{◌≡◌, ℕ, ◌≤◌, List, [], ◌∷◌, Bool, true, false, Option, Some, None, option_map, map, drop, ◌+◌, ◌<◌, length, ◌⊎◌, inl, inr}
+use Rattle.std.proofs.Common.{◌≡◌, ℕ, ◌≤◌, List, [], ◌∷◌, Bool, true, false, Option, Some, None, option_map, map, drop}
+use Rattle.std.proofs.Common.{◌+◌, ◌<◌, length, ◌⊎◌, inl, inr}
 use Rattle.std.proofs.Common.{option_and_then, is_some, Ok, Err, refl, sym, ap, ◌∙◌, arith, IsUtf8}
 use Rattle.std.proofs.Math.ListN.{get_or}
 use Rattle.std.proofs.lemmas.List.{at_drop_more, drop_all}
@@ -126,8 +127,10 @@ is_some-map f (Some a) = refl
 
 pub opens : (left : ℕ) (node : Node) → left ≡ 0
     → ((x : ℕ) × (node ≡ Object x)) ⊎ ((x : ℕ) × (node ≡ Array x)) → left_after left (node_token node) ≡ None
-opens left node none (inl (x, is)) = ap (λ n. left_after n (node_token node)) none ∙ ap (λ n. left_after 0 (node_token n)) is
-opens left node none (inr (x, is)) = ap (λ n. left_after n (node_token node)) none ∙ ap (λ n. left_after 0 (node_token n)) is
+opens left node none (inl (x, is)) =
+    ap (λ n. left_after n (node_token node)) none ∙ ap (λ n. left_after 0 (node_token n)) is
+opens left node none (inr (x, is)) =
+    ap (λ n. left_after n (node_token node)) none ∙ ap (λ n. left_after 0 (node_token n)) is
 
 ends : (left i : ℕ) (nodes : List Node) → length nodes ≤ i → fit_within left (map node_token (drop i nodes)) ≡ true
 unfolding fit_within

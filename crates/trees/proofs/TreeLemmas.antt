@@ -11,7 +11,8 @@ use Rattle.json.specs.Token.{Token}
 use Rattle.json.specs.Json as json
 use Rattle.json.specs.Find as find
 use Rattle.serde_json.specs.Data.{Num, Data, number, array, object, Items, no_items, item, Members, no_members, put}
-use Rattle.serde_json.specs.Find.{get, get_member, get_item, at, as_str, as_bool, as_array, as_object, as_number, as_u64}
+use Rattle.serde_json.specs.Find.{get, get_member, get_item, at, as_str, as_bool, as_array, as_object, as_number}
+use Rattle.serde_json.specs.Find.{as_u64}
 use Rattle.serde_json.specs.Read.{number_of, of_json, of_items, of_members, read}
 use Rattle.serde_json.proofs.Views.{get_member-put, get_member-put_other}
 use Rattle.trees.specs.declared.fault.TreeFault.{TreeFault}

@@ -26,7 +26,8 @@ facts_of-requires g c =
     }
 
 -- which packages are here, and what each enables
-flags_of : (g : Over) (c : goal.After-drop-versions-inside-5 g) → AreFlags (node_views c.in_ok-versions.field-0.nodes.items)
+flags_of : (g : Over) (c : goal.After-drop-versions-inside-5 g)
+    → AreFlags (node_views c.in_ok-versions.field-0.nodes.items)
     c.in_ok-facts.facts.here.items (map (λ v. v.items) c.in_ok-facts.facts.enabled.items)
 flags_of g c = record {
   each_here = rw c.as_slice.ensures.value at c.in_ok-facts.ensures.here;

@@ -24,4 +24,5 @@ pub returns-in-None : goal.returns-in-None
 returns-in-None c =
     let ts = c.args.tree.now.element in
     let j = json_from ts in
-    sym (ap (option_map data_of) (c.in-None.ensures j (begun ts c.args.tree.now.begins))) ∙ sym (at-data_of c.args.index j)
+    sym (ap (option_map data_of) (c.in-None.ensures j (begun ts c.args.tree.now.begins)))
+        ∙ sym (at-data_of c.args.index j)
