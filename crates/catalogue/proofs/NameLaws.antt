@@ -94,21 +94,24 @@ module _ {S : Type 0} where
       → list_any (same_text name) names ≡ false
       → Updates same_text m n name (Some (length names)) → ArePlaces (names ++ name ∷ []) n
   more_places names name m n are absent u =
-      record { once = distinct-snoc names name are.once absent; found =
-            λ q. u.0 q ∙ by q (same_text name q) refl ∙ sym (position-snoc (same_text q) names name) }
+      record {
+        once = distinct-snoc names name are.once absent;
+        found =
+            λ q. u.0 q ∙ by q (same_text name q) refl ∙ sym (position-snoc (same_text q) names name);
+      }
     where
       by : (q : List ℕ) (b : Bool) → same_text name q ≡ b → cond b (Some (length names)) (get same_text m q)
           ≡ option_or (position (same_text q) names) (cond (same_text q name) (Some (length names)) None)
       by q true e =
           let is = text-same name q e in
           let none : position (same_text q) names ≡ None =
-              subst (λ t. position (same_text t) names ≡ None) is (place-none (same_text name) names absent) in
+          subst (λ t. position (same_text t) names ≡ None) is (place-none (same_text name) names absent) in
           let here : same_text q name ≡ true = subst (λ t. same_text t name ≡ true) is (text-refl name) in
           sym (ap (λ o. option_or o (cond (same_text q name) (Some (length names)) None)) none
-                ∙ ap (λ b. cond b (Some (length names)) None) here)
+          ∙ ap (λ b. cond b (Some (length names)) None) here)
       by q false e =
           are.found q ∙ sym (ap (λ b. option_or (position (same_text q) names) (cond b (Some (length names)) None))
-            (differs name q e) ∙ kept (position (same_text q) names))
+          (differs name q e) ∙ kept (position (same_text q) names))
         where
           kept : (o : Option ℕ) → option_or o None ≡ o
           kept None = refl

@@ -10,9 +10,8 @@ use semver::{Version, VersionReq};
 use serde::Serialize;
 use std::alloc::{AllocError, Global};
 
-/// What is told; `reason` says which of these it is. What has many keys is a struct of its own, since what is proved of
-/// a
-/// message takes the time of all keys in one.
+/// What is told; `reason` says which of these it is. What has many keys is a struct of its own, since what is proved
+/// of a message takes the time of all keys in one.
 #[derive(Drop, Serialize)]
 #[serde(tag = "reason", rename_all = "kebab-case")]
 pub(crate) enum Message<'a> {

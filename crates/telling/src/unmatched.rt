@@ -11,8 +11,7 @@ use std::alloc::{AllocError, Global};
 use vertices::OwnerRef;
 
 /// The dependencies that no version fits, of those that the axioms of a derivation speak of: of each name the first,
-/// and
-/// of at most so many names.
+/// and of at most so many names.
 pub fn unmatched_in<'a>(
     alloc: Global,
     problem: Problem<'a>,

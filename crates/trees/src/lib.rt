@@ -3,8 +3,7 @@
 //! An index has many lines with many texts, and so has a long derivation. The definition of a line goes by the value
 //! that `serde_json` reads; to make that value would copy each text and sort each object's keys. So `read_tape` gives
 //! the tokens of a line in a row, by the crate `json`, whose texts are borrowed from the line; a `Tree` is a value
-//! among
-//! them, which is looked into where it lies, and members stand as in the text.
+//! among them, which is looked into where it lies, and members stand as in the text.
 //!
 //! What is hard is that both mean the same: how deep a text may nest, which numbers fit, and that of a key which comes
 //! twice the last one counts. That is proved here once (`tree_view`), and readers go on to speak of `serde_json`'s

@@ -10,6 +10,6 @@ returns-clause-put c =
       | else-is_empty w ↦ ap (λ v. v.items) w.list-is
     ] in
     put-set c.args.lists.now.items c.args.fact c.args.rule.now c.index_mut-list.result.now
-        c.push.new.self c.requires.below
+    c.push.new.self c.requires.below
     (c.in_ok-push.ensures.items
-          ∙ ap (λ l. l ++ c.args.rule.now ∷ []) (same ∙ ap (λ v. v.items) c.index_mut-list.ensures.value))
+    ∙ ap (λ l. l ++ c.args.rule.now ∷ []) (same ∙ ap (λ v. v.items) c.index_mut-list.ensures.value))

@@ -25,4 +25,4 @@ returns-in-None c =
     let ts = c.args.tree.now.element in
     let j = json_from ts in
     sym (ap (option_map data_of) (c.in-None.ensures j (begun ts c.args.tree.now.begins)))
-        ∙ sym (at-data_of c.args.index j)
+    ∙ sym (at-data_of c.args.index j)

@@ -25,4 +25,4 @@ returns-in-None c =
     let ts = c.args.tree.now.element in
     let j = json_from ts in
     sym (ap (option_map data_of) (c.in-None.ensures j (begun ts c.args.tree.now.begins)))
-        ∙ sym (get-data_of c.args.key.now j)
+    ∙ sym (get-data_of c.args.key.now j)

@@ -10,7 +10,7 @@ pub returns-then-is_none : goal.returns-then-is_none
 returns-then-is_none c =
     let unkept : is_some (number_of c.in-Number.text.now) ≡ false =
     sym (ap is_some c.number_of.ensures) ∙ is_some-map number_view c.number_of.result ∙ c.is_none.ensures
-        ∙ ap not c.if-is_none.true in
+    ∙ ap not c.if-is_none.true in
     told-stops c.nodes.left c.nodes.node-index c.args.nodes.now _ c.nodes.invariant.told c.nodes-test.true
     (ap (λ n. left_after c.nodes.left (node_token n)) c.in-Number.is
     ∙ ap (λ b. cond b (Some c.nodes.left) None) unkept)
