@@ -29,5 +29,6 @@ pub use dependency::{Dependency, DependencyKind, DependencyParts, Summary};
 pub use entry::{Entry, EntryFault};
 pub use feature_name::FeatureName;
 pub use name::{NameFault, PackageName};
+pub use name_text::NameText;
 pub use table::{DepName, FeatureFault, FeatureTable, Rows};
 pub use versioned::name_and_version;

@@ -6,15 +6,16 @@ ghost use Rattle.features.specs.NameTexts.{text_bytes};
 use arrayvec::ArrayString;
 use std::alloc::{AllocError, Global};
 
-/// A text: most names have at most 16 bytes, and ask for no memory.
+/// A text of names and the like: most have at most 16 bytes, and ask for no memory.
 #[derive(Drop)]
-pub(crate) enum NameText {
+pub enum NameText {
     Short(ArrayString<16>),
     Long(String),
 }
 
 impl NameText {
-    pub(crate) fn of(alloc: Global, text: &str) -> Result<NameText, AllocError>
+    /// The text, in memory of its own.
+    pub fn of(alloc: Global, text: &str) -> Result<NameText, AllocError>
         ensures text { IfOk result (λ t. text_bytes t ≡ text.now) }
         ensures short { length text.now ≤ 16 → IsOk result }
     {
@@ -24,7 +25,7 @@ impl NameText {
         }
     }
 
-    pub(crate) fn as_str(&self) -> &str
+    pub fn as_str(&self) -> &str
         ensures { result.now ≡ text_bytes self.now }
     {
         match self {

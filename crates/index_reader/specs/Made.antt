@@ -1,15 +1,16 @@
 -- What a feature table is made of, once the texts of its line are kept, and which lines are made of the same.
-use Rattle.std.specs.Prelude.{◌≡◌, Bool, ◌&&◌, List, map, Ok, string_bytes}
+use Rattle.std.specs.Prelude.{◌≡◌, Bool, ◌&&◌, List, map, Ok}
 use Rattle.std.specs.Bool.{beq}
 use Rattle.std.specs.Cmp.Lexicographic.{pointwise}
 use Rattle.model.specs.Summary.{Table, same_text}
 use Rattle.model.specs.Tables.{DepName}
+use Rattle.features.specs.NameTexts.{text_bytes}
 use Rattle.index_reader.specs.Shapes.{FeatureView, ShapeView}
 use Rattle.index_reader.specs.Written.{dep_names_of, features_of}
 use Rattle.index_reader.specs.declared.made.FeatureText.{FeatureText}
 
 abbrev pub feature_text_view : FeatureText → FeatureView
-feature_text_view f = record { name = string_bytes f.name; entries = map string_bytes f.entries.items }
+feature_text_view f = record { name = text_bytes f.name; entries = map text_bytes f.entries.items }
 
 abbrev pub feature_text_views : List FeatureText → List FeatureView
 feature_text_views fs = map feature_text_view fs

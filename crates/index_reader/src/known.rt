@@ -1,14 +1,15 @@
 //! The dependencies that were read, so that those that lines write alike are read and kept once.
 
-ghost use Rattle.std.specs.Prelude.{◌≡◌, IfOk, IfSome, IsTrue, map, string_bytes, unwrap_or};
+ghost use Rattle.std.specs.Prelude.{◌≡◌, IfOk, IfSome, IsTrue, map, unwrap_or};
+ghost use Rattle.features.specs.NameTexts.{text_bytes};
 ghost use Rattle.model.specs.Summary.{same_text};
 ghost use Rattle.features.specs.Views.{text_views};
 ghost use Rattle.index_reader.specs.Known.{IsMadeOf, IsRequirement, Says, same_flags, same_names, same_parts};
 ghost use Rattle.index_reader.specs.ShapeViews.{part_view};
 
-use crate::made::{are_texts, strings};
+use crate::made::{are_texts, kept_texts};
 use crate::shape::PartShape;
-use features::{Dependency, PackageName};
+use features::{Dependency, NameText, PackageName};
 use semver::VersionReq;
 use std::alloc::{AllocError, Global};
 use std::hash::{FoldHasher, Hash, Hasher};
@@ -20,10 +21,10 @@ const SLOTS: usize = 8_192;
 /// A dependency, with the texts that were read for it, so that they outlive their line.
 #[derive(Drop)]
 struct MadeDependency {
-    requirement: String,
-    features: Vec<String>,
+    requirement: NameText,
+    features: Vec<NameText>,
     dependency: Dependency,
-    ghost made: { IsMadeOf (string_bytes requirement) (map string_bytes features.items) dependency },
+    ghost made: { IsMadeOf (text_bytes requirement) (map text_bytes features.items) dependency },
 }
 
 /// A part of a line, with the requirement that its text is.
@@ -93,8 +94,8 @@ impl KnownDependencies {
             self.slots = no_dependencies(alloc)?;
         }
         let made = MadeDependency {
-            requirement: String::from_str(alloc, part.requirement)?,
-            features: strings(alloc, &part.features)?,
+            requirement: NameText::of(alloc, part.requirement)?,
+            features: kept_texts(alloc, &part.features)?,
             dependency: dependency.clone()?,
         };
         let shared = Rc::new(alloc, made)?;

@@ -1,6 +1,7 @@
 //! The feature table of the line before, which the next line of a package mostly has too.
 
-ghost use Rattle.std.specs.Prelude.{◌≡◌, Ok, IfOk, IfSome, IsTrue, map, string_bytes};
+ghost use Rattle.std.specs.Prelude.{◌≡◌, Ok, IfOk, IfSome, IsTrue, map};
+ghost use Rattle.features.specs.NameTexts.{text_bytes};
 ghost use Rattle.std.specs.Cmp.Lexicographic.{pointwise};
 ghost use Rattle.std.specs.List.{list_all, zip};
 ghost use Rattle.model.specs.Outcome.{Gives};
@@ -15,14 +16,14 @@ ghost use Rattle.index_reader.specs.Written.{dep_names_of, features_of};
 use crate::fault::LineFault;
 use crate::shape::{FeatureShape, LineShape};
 use crate::written::{dep_names, features};
-use features::{DepName, FeatureTable};
+use features::{DepName, FeatureTable, NameText};
 use std::alloc::{AllocError, Global};
 
 /// What a line writes of a feature, with texts of its own, so that it outlives the line.
 #[derive(Drop)]
 struct FeatureText {
-    name: String,
-    entries: Vec<String>,
+    name: NameText,
+    entries: Vec<NameText>,
 }
 
 /// A feature table, with what it was made of.
@@ -140,17 +141,18 @@ fn feature_text(alloc: Global, feature: &FeatureShape<'_>) -> Result<FeatureText
     ensures { IfOk result (λ f. feature_text_view f ≡ feature_view feature.now) }
 {
     Ok(FeatureText {
-        name: String::from_str(alloc, feature.name)?,
-        entries: strings(alloc, &feature.entries)?,
+        name: NameText::of(alloc, feature.name)?,
+        entries: kept_texts(alloc, &feature.entries)?,
     })
 }
 
-pub(crate) fn strings(alloc: Global, texts: &[&str]) -> Result<Vec<String>, AllocError>
-    ensures { IfOk result (λ v. map string_bytes v.items ≡ text_views texts.now) }
+/// The same texts in memory of their own, of which short ones take none.
+pub(crate) fn kept_texts(alloc: Global, texts: &[&str]) -> Result<Vec<NameText>, AllocError>
+    ensures { IfOk result (λ v. map text_bytes v.items ≡ text_views texts.now) }
 {
     let mut found = Vec::with_capacity(alloc, texts.len())?;
     'texts: for text in texts {
-        found.push(String::from_str(alloc, text)?)?;
+        found.push(NameText::of(alloc, text)?)?;
     }
     Ok(found)
 }
@@ -200,14 +202,14 @@ fn is_feature(known: &FeatureText, feature: &FeatureShape<'_>) -> bool
     known.name.as_str() == feature.name && are_texts(&known.entries, &feature.entries)
 }
 
-pub(crate) fn are_texts(known: &[String], texts: &[&str]) -> bool
-    ensures { result ≡ pointwise same_text (map string_bytes known.now) (text_views texts.now) }
+pub(crate) fn are_texts(known: &[NameText], texts: &[&str]) -> bool
+    ensures { result ≡ pointwise same_text (map text_bytes known.now) (text_views texts.now) }
 {
     known.len() == texts.len() && all_texts(known, texts)
 }
 
-fn all_texts(known: &[String], texts: &[&str]) -> bool
-    ensures { result ≡ list_all (λ p. same_text (string_bytes p.0) p.1.now) (zip known.now texts.now) }
+fn all_texts(known: &[NameText], texts: &[&str]) -> bool
+    ensures { result ≡ list_all (λ p. same_text (text_bytes p.0) p.1.now) (zip known.now texts.now) }
 {
     known
         .iter()

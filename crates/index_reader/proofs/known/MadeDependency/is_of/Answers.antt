@@ -1,4 +1,5 @@
-use Rattle.std.proofs.Common.{◌≡◌, true, map, string_bytes, sym, ◌∙◌}
+use Rattle.std.proofs.Common.{◌≡◌, true, map, sym, ◌∙◌}
+use Rattle.features.specs.NameTexts.{text_bytes}
 use Rattle.index_reader.specs.Known.{same_parts}
 use Rattle.index_reader.specs.ShapeViews.{part_view}
 use Rattle.model.proofs.Same.{text-same}
@@ -11,9 +12,9 @@ returns c h =
     let made = c.args.self.now in
     let p = part_view c.args.part.now in
     let same : same_parts made.dependency p ≡ true = sym c.has_parts.ensures ∙ c.if-not-has_parts.false in
-    let requirement : string_bytes made.requirement ≡ p.requirement =
+    let requirement : text_bytes made.requirement ≡ p.requirement =
     text-same _ _ (sym (rw c.as_str.ensures.value at c.is_text.ensures) ∙ c.if-not-is_text.false) in
-    let features : map string_bytes made.features.items ≡ p.features =
+    let features : map text_bytes made.features.items ≡ p.features =
     texts-same _ _ (sym (rw (c.deref.ensures.value, c.deref-2.ensures.value) at c.are_texts.ensures) ∙ h) in
-    says p made.dependency (string_bytes made.requirement) (map string_bytes made.features.items) made.made same
+    says p made.dependency (text_bytes made.requirement) (map text_bytes made.features.items) made.made same
     requirement features
