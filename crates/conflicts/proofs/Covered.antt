@@ -3,6 +3,7 @@ use Rattle.std.proofs.Common.{◌≡◌, ℕ, suc, ◌+◌, ◌<◌, true, false
 use Rattle.std.proofs.Common.{Some, None, refl, sym, ap, ◌∙◌, subst, arith, inl, inr}
 use Rattle.std.proofs.lemmas.Bool.{cases_eq, cases_lt, false≢true, ne_eqb}
 use Rattle.version_sets.specs.Sets.{Members, inside, join, meet, rest, size}
+use Rattle.version_sets.proofs.Within.{meets_some}
 use Rattle.terms.specs.Terms.{TermView}
 use Rattle.incompatibilities.specs.Incompatibilities.{IsCombination, LiesIn, Terms, combined_at, meet_at}
 use Rattle.incompatibilities.specs.Incompatibilities.{states_at, union_at, unless_full, HoldsAt}
@@ -13,7 +14,7 @@ use Rattle.propagation.specs.Trails.{TrailView, set_of, sets_at, space_of}
 use Rattle.propagation.specs.Units.{term_at}
 use Rattle.propagation.specs.declared.satisfying.Satisfier.{Satisfier}
 use Rattle.propagation.proofs.Combining.{kept_holds, meet_holds}
-use Rattle.propagation.proofs.SetLemmas.{inside_through, meets_some}
+use Rattle.propagation.proofs.SetLemmas.{inside_same, inside_through}
 use Rattle.propagation.proofs.Vertices.{place_of}
 use Rattle.conflicts.specs.Covering.{Covers, CoversAt}
 
@@ -45,14 +46,9 @@ covered_all old ts each u = at (states_at ts u) refl
 pub covers_itself : (f : Terms) → Covers f f
 covers_itself f u = at (f u)
   where
-    same : (s : Members) → inside s s ≡ true
-    same [] = refl
-    same (true ∷ s) = same s
-    same (false ∷ s) = same s
-
     at : (o : Option Members) → CoversAt o o
     at None = tt
-    at (Some x) = same x
+    at (Some x) = inside_same x
 
 -- ---- the combination
 

@@ -4,9 +4,11 @@ use Rattle.std.proofs.Common.{arith}
 use Rattle.std.proofs.lemmas.List.{get_or_append_left, length-append}
 use Rattle.std.proofs.Math.Seq.{get_or-append_seam}
 use Rattle.terms.specs.Terms.{TermView}
-use Rattle.incompatibilities.specs.Incompatibilities.{Breaks, IsCombination, IsWithin, Terms, states_at}
+use Rattle.incompatibilities.specs.Incompatibilities.{Breaks, Fit, IsCombination, IsWithin, LiesIn, Terms, states_at}
 use Rattle.incompatibilities.specs.Stores.{EntryView, Follows, IsAxiom, entry, touches}
 use Rattle.incompatibilities.specs.declared.origin.Origin.TheVariants.{Axiom, Combined}
+use Rattle.incompatibilities.proofs.Broken.{lies_fit}
+use Rattle.conflicts.specs.Covering.{AllLie}
 use Rattle.conflicts.specs.Resolving.{IsCombined}
 
 abbrev empty : EntryView
@@ -51,6 +53,14 @@ module _ (es more new : List EntryView) (grown : new ≡ es ++ more) where
             one.2,
         subst (λ (e : EntryView). Breaks x (states_at e.terms)) (sym (entry_kept one.0 one.1)) one.3,
       )
+
+-- two entries whose terms lie in universes fit
+pub entries_fit : (space : ℕ → ℕ) (es : List EntryView) (i j : ℕ) (one two : List TermView) → AllLie space es
+    → i < length es → j < length es → one ≡ (entry es i).terms → two ≡ (entry es j).terms
+    → Fit (states_at one) (states_at two)
+entries_fit space es i j one two all first second is also = lies_fit space (states_at one) (states_at two)
+    (subst (λ (ts : List TermView). LiesIn space (states_at ts)) (sym is) (all i first))
+    (subst (λ (ts : List TermView). LiesIn space (states_at ts)) (sym also) (all j second))
 
 -- one entry more
 module _ (es : List EntryView) (last : EntryView) (new : List EntryView) (grown : new ≡ es ++ last ∷ []) where

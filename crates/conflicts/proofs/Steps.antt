@@ -4,7 +4,7 @@ use Rattle.std.proofs.Common.{Option, Some, None, refl, sym, ap, ◌∙◌, subs
 use Rattle.std.specs.Bool.{OnTrue}
 use Rattle.std.specs.Option.{is_some}
 use Rattle.std.proofs.lemmas.Bool.{cases_eq, cases_lt}
-use Rattle.std.proofs.lemmas.List.{length-append}
+use Rattle.std.proofs.lemmas.List.{append-nil, length-append}
 use Rattle.version_sets.specs.Sets.{Members, inside, size}
 use Rattle.terms.specs.Terms.{TermView}
 use Rattle.incompatibilities.specs.Incompatibilities.{IsCombination, LiesIn, Terms, states_at, HoldsAt}
@@ -302,7 +302,7 @@ pub start_is : (es : List EntryView) (t : TrailView) (id : ℕ) (found : Option 
     → Quiet es t t.level → IsStart es t id → IsFound es t id found → IsResolving es t es id found
 start_is es t id found trail quiet start f = record {
   gained = [];
-  grown = sym (nothing es);
+  grown = sym (append-nil es);
   few = within_all found f;
   combined = λ i from lt. absurd (omega (arith, from, lt));
   quiet = quiet;
@@ -313,10 +313,6 @@ start_is es t id found trail quiet start f = record {
   here = f;
 }
   where
-    nothing : (xs : List EntryView) → xs ++ [] ≡ xs
-    nothing [] = refl
-    nothing (x ∷ xs) = ap (λ ys. x ∷ ys) (nothing xs)
-
     within_all : (o : Option Satisfier) → IsFound es t id o → 0 + places_left o ≤ length t.steps
     within_all None g = omega arith
     within_all (Some s) g = let w = g.satisfier.satisfied.within in omega (arith, w)

@@ -1,8 +1,9 @@
 -- What a store keeps as it gains combinations that are not watched.
 use Rattle.std.proofs.Common.{◌≡◌, ℕ, ◌<◌, ◌≤◌, Bool, true, false, Result, Ok, Err, IfOk, OnErr, List, [], ◌∷◌}
-use Rattle.std.proofs.Common.{◌++◌, length, append_assoc, refl, sym, ap, ◌∙◌, subst, arith, inl, inr}
+use Rattle.std.proofs.Common.{◌++◌, length, append_assoc, sym, ap, ◌∙◌, subst, arith, inl, inr}
 use Rattle.std.specs.Bool.{OnTrue}
 use Rattle.std.proofs.lemmas.Bool.{cases_lt, false≢true}
+use Rattle.std.proofs.lemmas.List.{append-nil}
 use Rattle.terms.specs.Terms.{TermView}
 use Rattle.incompatibilities.specs.Incompatibilities.{IsCombination, LiesIn, states_at}
 use Rattle.incompatibilities.specs.Stores.{EntryView, Follows, entry, terms_of, touches, watched}
@@ -19,10 +20,6 @@ use Rattle.conflicts.specs.Resolving.{IsCombined, IsGained, IsStrengthened, Quie
 use Rattle.conflicts.specs.declared.resolving.Resolution.{Resolution}
 use Rattle.conflicts.specs.declared.resolving.Resolution.TheVariants.{Learned, Unsolvable}
 
-nothing : (xs : List EntryView) → xs ++ [] ≡ xs
-nothing [] = refl
-nothing (x ∷ xs) = ap (λ ys. x ∷ ys) (nothing xs)
-
 -- what holds whether a call gives something or fails
 pub either_way : {X E : Type 0} (r : Result X E) (Q : X → Type 0) (R P : Type 0) → ((x : X) → Q x → P) → (R → P)
     → IfOk r Q → OnErr r R → P
@@ -38,7 +35,7 @@ whichever false p = tt
 pub strengthened_none : (es : List EntryView) → IsStrengthened es es
 strengthened_none es = record {
   gained = [];
-  grown = sym (nothing es);
+  grown = sym (append-nil es);
   combined = λ id from lt. absurd (omega (arith, from, lt));
   unwatched = λ id from lt. absurd (omega (arith, from, lt));
   lies = λ space all. all;

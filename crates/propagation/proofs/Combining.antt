@@ -4,12 +4,13 @@ use Rattle.std.proofs.Common.{◌≡◌, ℕ, ◌<◌, Bool, true, false, cond, 
 use Rattle.std.proofs.Common.{refl, sym, ap, ◌∙◌, subst, arith, inl, inr}
 use Rattle.std.proofs.lemmas.Bool.{cases_eq, false≢true, ne_eqb}
 use Rattle.version_sets.specs.Sets.{Members, inside, is_full, join, meet, rest, size}
+use Rattle.version_sets.proofs.Within.{meets_some}
 use Rattle.terms.specs.Terms.{TermView}
 use Rattle.incompatibilities.specs.Incompatibilities.{IsCombination, IsIncompatibility, LiesIn, NoneFull, Terms}
 use Rattle.incompatibilities.specs.Incompatibilities.{combined_at, meet_at, states_at, union_at, unless_full, HoldsAt}
 use Rattle.propagation.specs.Trails.{set_of}
 use Rattle.propagation.specs.Satisfaction.{IsForced, OthersHold, Sat}
-use Rattle.propagation.proofs.SetLemmas.{inside_none, meets_some}
+use Rattle.propagation.proofs.SetLemmas.{inside_none}
 use Rattle.propagation.proofs.Vertices.{full_at, place_of}
 
 inside_join : (b x y : Members) → length x ≡ length b → length y ≡ length b → inside (meet b (rest x)) y ≡ true

@@ -2,16 +2,19 @@
 use Rattle.std.proofs.Common.{◌≡◌, ◌≢◌, ℕ, zero, suc, ◌+◌, ◌-◌, ◌<◌, ◌≤◌, true, leb, List, [], ◌∷◌, ◌++◌, length}
 use Rattle.std.proofs.Common.{get_or, drop, take, cond, Option, Some, None, refl, sym, ap, ◌∙◌, subst, arith, inl, inr}
 use Rattle.std.proofs.lemmas.Bool.{cases_eq, cases_lt, le-leb, lt-leb}
+use Rattle.std.proofs.Math.Seq.{drop-cons}
 use Rattle.std.proofs.lemmas.List.{get_or-set_same}
 use Rattle.version_sets.specs.Sets.{Members, inside, size}
+use Rattle.version_sets.proofs.Laws.{size-le}
 use Rattle.incompatibilities.specs.Incompatibilities.{Terms, HoldsAt}
 use Rattle.propagation.specs.Satisfaction.{Sat}
-use Rattle.propagation.specs.Trails.{StepView, TrailView, end_sets, latest_at, level_after, past, set_of, sets_at}
+use Rattle.propagation.specs.Trails.{StepView, TrailView, end_sets, latest_at, level_after, no_step, past, set_of}
+use Rattle.propagation.specs.Trails.{sets_at}
 use Rattle.propagation.specs.Trails.{space_of, step_at, undo, unlink}
 use Rattle.propagation.specs.Promises.{IsCut, IsSound, IsTaken, LatestOf, Levels, NextLevel}
 use Rattle.propagation.proofs.Back.{length-put_back}
 use Rattle.propagation.proofs.LevelLemmas.{next_low, past_append}
-use Rattle.propagation.proofs.SetLemmas.{inside_same, inside_through, size_every, size_le}
+use Rattle.propagation.proofs.SetLemmas.{inside_same, inside_through, size_every}
 use Rattle.propagation.proofs.Soundness.{same_space}
 
 -- a vertex that no place between two is on keeps its set
@@ -71,11 +74,6 @@ some_at t sound v (suc k) le some = elim (cases_eq v (step_at t.steps k).vertex)
 ]
 
 -- the link of a place leads to the last place before it on its vertex
-pub drop_step : (ss : List StepView) (k : ℕ) → k < length ss → drop k ss ≡ step_at ss k ∷ drop (suc k) ss
-drop_step [] k lt = absurd (omega (arith, lt))
-drop_step (s ∷ ss) zero lt = refl
-drop_step (s ∷ ss) (suc k) lt = drop_step ss k (omega (arith, lt))
-
 pub linked : (t : TrailView) → IsSound t → (k : ℕ) → k < length t.steps
     → LatestOf (take k t.steps) (step_at t.steps k).vertex (step_at t.steps k).previous
 linked t sound k lt =
@@ -86,7 +84,7 @@ linked t sound k lt =
     let room : v < length (unlink (drop (suc k) t.steps) t.latest) =
     omega (arith, within, sound.long, length-put_back (λ s. s.previous) (drop (suc k) t.steps) t.latest) in
     let at : get_or (latest_at t k) v None ≡ (step_at t.steps k).previous =
-    ap (λ ss. get_or (unlink ss t.latest) v None) (drop_step t.steps k lt)
+    ap (λ ss. get_or (unlink ss t.latest) v None) (drop-cons t.steps k no_step lt)
     ∙ get_or-set_same (unlink (drop (suc k) t.steps) t.latest) v (step_at t.steps k).previous None room in
     subst (LatestOf (take k t.steps) v) at (sound.latest k v (omega (arith, lt)) within)
 
@@ -152,7 +150,7 @@ past_end l (suc k) (s ∷ ss) lt = elim (cases_lt l s.level) [
 ]
 
 -- the level before a place, and that levels rise
-level_from : ℕ → List StepView → ℕ → ℕ
+unfoldable pub level_from : ℕ → List StepView → ℕ → ℕ
 level_from low ss zero = low
 level_from low ss (suc k) = (step_at ss k).level
 
@@ -164,7 +162,7 @@ next_at low high zero (s ∷ ss) r lt = r.0
 next_at low high (suc zero) (s ∷ ss) r lt = next_at s.level high zero ss r.1 (omega (arith, lt))
 next_at low high (suc (suc k)) (s ∷ ss) r lt = next_at s.level high (suc k) ss r.1 (omega (arith, lt))
 
-from_start : (ss : List StepView) (k : ℕ) → level_from 0 ss k ≡ level_after ss k
+pub from_start : (ss : List StepView) (k : ℕ) → level_from 0 ss k ≡ level_after ss k
 unfolding level_from
 from_start ss zero = refl
 from_start ss (suc k) = refl
@@ -195,7 +193,7 @@ pub holds_later : (t : TrailView) → IsSound t → (u j k : ℕ) → j ≤ k �
 holds_later t sound u j k jk le None h = tt
 holds_later t sound u j k jk le (Some x) h = (
   some_at t sound u k le (let some =
-      h.0 in omega (arith, some, size_le (set_of (sets_at t j) u), same_space t sound j (omega (arith, jk, le)) u)),
+      h.0 in omega (arith, some, size-le (set_of (sets_at t j) u), same_space t sound j (omega (arith, jk, le)) u)),
   inside_through (set_of (sets_at t k) u) (set_of (sets_at t j) u) x (shrinks t sound u j k jk le) h.1,
 )
 

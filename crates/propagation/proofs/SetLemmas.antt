@@ -48,18 +48,6 @@ meets_through (false ∷ as_) (true ∷ bs) (true ∷ xs) h m = refl
 meets_through (false ∷ as_) (true ∷ bs) (false ∷ xs) h m = meets_through as_ bs xs h m
 meets_through (false ∷ as_) (false ∷ bs) (x ∷ xs) h m = meets_through as_ bs xs h m
 
-pub inside_has : (s x : Members) (i : ℕ) → inside s x ≡ true → has s i ≡ true → has x i ≡ true
-inside_has [] x i h k = absurd (false≢true k)
-inside_has (true ∷ s) [] i h k = absurd (false≢true h)
-inside_has (false ∷ s) [] zero h k = absurd (false≢true k)
-inside_has (false ∷ s) [] (suc i) h k = inside_has s [] i h k
-inside_has (true ∷ s) (true ∷ x) zero h k = refl
-inside_has (true ∷ s) (false ∷ x) zero h k = absurd (false≢true h)
-inside_has (false ∷ s) (y ∷ x) zero h k = absurd (false≢true k)
-inside_has (true ∷ s) (true ∷ x) (suc i) h k = inside_has s x i h k
-inside_has (true ∷ s) (false ∷ x) (suc i) h k = absurd (false≢true h)
-inside_has (false ∷ s) (y ∷ x) (suc i) h k = inside_has s x i h k
-
 -- the set of one number
 pub inside_empty : (n : ℕ) (s : Members) → inside (none n) s ≡ true
 inside_empty zero s = refl
@@ -132,22 +120,11 @@ some_left (true ∷ s) (true ∷ x) e h = some_left s x (omega (arith, e)) h
 some_left (true ∷ s) (false ∷ x) e h = omega arith
 some_left (false ∷ s) (b ∷ x) e h = some_left s x (omega (arith, e)) h
 
-pub meets_some : (s x : Members) → meets s x ≡ true → 0 < size s
-meets_some [] x h = absurd (false≢true h)
-meets_some (b ∷ s) [] h = absurd (false≢true h)
-meets_some (true ∷ s) (b ∷ x) h = omega arith
-meets_some (false ∷ s) (b ∷ x) h = meets_some s x h
-
 pub length-rest : (x : Members) → length (rest x) ≡ length x
 length-rest [] = refl
 length-rest (b ∷ x) = omega (arith, length-rest x)
 
--- how many numbers a set has, by its universe, by a set around it, and by a number that it has
-pub size_le : (s : Members) → size s ≤ length s
-size_le [] = omega arith
-size_le (true ∷ s) = omega (arith, size_le s)
-size_le (false ∷ s) = omega (arith, size_le s)
-
+-- how many numbers a set has, by a set around it, and by a number that it has
 pub inside_size : (s x : Members) → inside s x ≡ true → size s ≤ size x
 inside_size [] x h = omega arith
 inside_size (true ∷ s) [] h = absurd (false≢true h)

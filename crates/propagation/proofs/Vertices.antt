@@ -2,18 +2,20 @@
 use Rattle.std.proofs.Common.{◌≡◌, ℕ, zero, suc, ◌<◌, Bool, true, false, ◌&&◌, ltb, List, [], ◌∷◌, length, get_or, map}
 use Rattle.std.proofs.Common.{Option, Some, None, refl, sym, ap, ap₂, subst, ◌∙◌, arith, inl, inr, if◌then◌else◌}
 use Rattle.std.proofs.lemmas.Bool.{and_parts, and_right, cases_Bool, cases_eq, cases_lt, le-ltb, lt-ltb, true≢false}
-use Rattle.std.proofs.lemmas.List.{get_or-map}
+use Rattle.std.proofs.lemmas.List.{get_or-map, length-map}
 use Rattle.std.proofs.lemmas.Option.{same_Some}
 use Rattle.version_sets.specs.Sets.{Members, inside, is_full, meets, size}
+use Rattle.version_sets.proofs.Within.{meets_some}
 use Rattle.terms.specs.Terms.{TermView, relation_of}
 use Rattle.terms.specs.declared.term.Relation.{Relation}
 use Rattle.terms.specs.declared.term.Relation.TheVariants.{Satisfied, Contradicted, Open}
 use Rattle.incompatibilities.specs.Incompatibilities.{AllPast, IsRising, NoneFull, states_at, HoldsAt}
 use Rattle.incompatibilities.proofs.Lookups.{at_first, at_later}
-use Rattle.propagation.specs.Trails.{TrailView, set_of, space_of}
+use Rattle.propagation.specs.Trails.{TrailView, no_step, set_of, space_of, step_at, step_view, steps_view}
+use Rattle.propagation.specs.declared.trail.Step.{Step}
 use Rattle.propagation.specs.Satisfaction.{IsOneOpen, IsQuiet, Sat}
 use Rattle.propagation.specs.Units.{AllHold, LiesOn, Neither, OneIsOpen, relation_at, term_at}
-use Rattle.propagation.proofs.SetLemmas.{meets_some, not_full_long}
+use Rattle.propagation.proofs.SetLemmas.{not_full_long}
 
 -- relations and satisfaction
 relates : Bool → Bool → Relation
@@ -188,3 +190,9 @@ quiet_from sets ts r n = record {
 pub view_at : {A B : Type 0} (f : A → B) (xs : List A) (i : ℕ) (a : A) (d : B) → i < length xs → a ≡ get_or xs i a
     → get_or (map f xs) i d ≡ f a
 view_at f xs i a d lt e = get_or-map f xs i a d lt ∙ ap f (sym e)
+
+-- a step, read
+pub step_read : {S : Type 0} (tests : S → Members) (ss : List (Step S)) (p : ℕ) (s d : Step S)
+    → p < length (steps_view tests ss) → s ≡ get_or ss p d → step_at (steps_view tests ss) p ≡ step_view tests s
+step_read tests ss p s d lt e =
+    get_or-map (step_view tests) ss p d no_step (rw length-map at lt) ∙ ap (step_view tests) (sym e)

@@ -1,12 +1,13 @@
 -- Each assignment and each decision brings the number down.
 use Rattle.std.proofs.Common.{◌≡◌, ℕ, zero, suc, ◌+◌, ◌<◌, ◌≤◌, List, [], ◌∷◌, ◌++◌, length, set, take, Option, Some}
 use Rattle.std.proofs.Common.{None, refl, sym, ap, ◌∙◌, subst, arith}
+use Rattle.std.proofs.Math.Seq.{drop-cons}
 use Rattle.version_sets.specs.Sets.{Members, size}
-use Rattle.propagation.specs.Trails.{StepView, TrailView, end_sets, level_after, past, set_of, sets_at, step_at, total}
-use Rattle.propagation.specs.Trails.{undo}
+use Rattle.propagation.specs.Trails.{StepView, TrailView, end_sets, level_after, no_step, past, set_of, sets_at}
+use Rattle.propagation.specs.Trails.{step_at, total, undo}
 use Rattle.propagation.specs.Promises.{IsSound, Levels, NextLevel}
 use Rattle.propagation.proofs.LevelLemmas.{past_top}
-use Rattle.propagation.proofs.Places.{drop_step, next_level}
+use Rattle.propagation.proofs.Places.{from_start, level_from, next_level}
 use Rattle.propagation.proofs.Back.{sets_long}
 use Rattle.searching.specs.Searching.{EachFalls, IsFalling, space, space_in, start_of, sum_at, up_to}
 use Rattle.searching.proofs.Ends.{deeper_falls, end_top, ends_same, falling_deeper, falling_lower, lower_falls}
@@ -17,10 +18,6 @@ take_at [] k lt = absurd (omega (arith, lt))
 take_at (s ∷ ss) zero lt = refl
 take_at (s ∷ ss) (suc k) lt = ap (λ xs. s ∷ xs) (take_at ss k (omega (arith, lt)))
 
-level_from : ℕ → List StepView → ℕ → ℕ
-level_from low ss zero = low
-level_from low ss (suc k) = (step_at ss k).level
-
 levels_take : (low high k : ℕ) (ss : List StepView) → Levels low ss high → k ≤ length ss
     → Levels low (take k ss) (level_from low ss k)
 unfolding level_from
@@ -28,11 +25,6 @@ levels_take low high zero ss v le = refl
 levels_take low high (suc k) [] v le = absurd (omega (arith, le))
 levels_take low high (suc zero) (s ∷ ss) v le = (v.0, refl)
 levels_take low high (suc (suc k)) (s ∷ ss) v le = (v.0, levels_take s.level high (suc k) ss v.1 (omega (arith, le)))
-
-from_start : (ss : List StepView) (k : ℕ) → level_from 0 ss k ≡ level_after ss k
-unfolding level_from
-from_start ss zero = refl
-from_start ss (suc k) = refl
 
 top_at : (t : TrailView) (k : ℕ) → IsSound t → k ≤ length t.steps → past (up_to t k).level (up_to t k).steps ≡ []
 top_at t k sound le =
@@ -47,7 +39,7 @@ total_more (s ∷ sets) (suc v) x lt more = omega (arith, total_more sets v x (o
 
 module _ (late : ℕ) (t : TrailView) (sound : IsSound t) where
   back_at : (k : ℕ) → k < length t.steps → undo (step_at t.steps k ∷ []) (sets_at t (suc k)) ≡ sets_at t k
-  back_at k lt = sym (ap (λ ss. undo ss t.sets) (drop_step t.steps k lt))
+  back_at k lt = sym (ap (λ ss. undo ss t.sets) (drop-cons t.steps k no_step lt))
 
   spent : (k : ℕ) → k < length t.steps → total (sets_at t (suc k)) < total (sets_at t k)
   spent k lt =

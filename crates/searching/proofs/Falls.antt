@@ -4,6 +4,7 @@ use Rattle.std.proofs.Common.{length, Some, map, refl, sym, ap, ap₂, ◌∙◌
 use Rattle.std.proofs.lemmas.Bool.{cases_lt, false≢true}
 use Rattle.std.proofs.lemmas.List.{get_or_append_left, get_or-append_right, length-append}
 use Rattle.version_sets.specs.Sets.{Members, every, size}
+use Rattle.version_sets.proofs.Laws.{size-le}
 use Rattle.incompatibilities.specs.Incompatibilities.{LiesIn, states_at, HoldsAt}
 use Rattle.incompatibilities.specs.Stores.{EntryView, entry, terms_of, watched}
 use Rattle.incompatibilities.specs.declared.origin.Origin.TheVariants.{Axiom}
@@ -13,7 +14,7 @@ use Rattle.propagation.specs.Promises.{IsDecided, IsTrail, Levels, LieIn, Propag
 use Rattle.propagation.specs.declared.propagating.Progress.{Progress}
 use Rattle.propagation.specs.declared.propagating.Progress.TheVariants.{Conflict, Fixpoint}
 use Rattle.propagation.proofs.Places.{cut_sets}
-use Rattle.propagation.proofs.SetLemmas.{inside_size, only_inside, size_le}
+use Rattle.propagation.proofs.SetLemmas.{inside_size, only_inside}
 use Rattle.propagation.proofs.Soundness.{trail_grown}
 use Rattle.propagation.proofs.Vertices.{in_range}
 use Rattle.propagation.proofs.Widened.{ends_long, ends_sum, ends_wider, old_set, quiet_wider, sat_back, short_past}
@@ -254,7 +255,7 @@ module _ (asked more : Pairs) (left fewer late later : ℕ) (old wide : TrailVie
       let some = h.0 in
       let size_is : size set ≡ 1 = omega (arith, one, some, inside_size set new.states h.1) in
       false≢true (sym new.is_new
-      ∙ caught l lt new.vertex new.state (in_range (end_sets old l) new.vertex (omega (arith, some, size_le set)))
+      ∙ caught l lt new.vertex new.state (in_range (end_sets old l) new.vertex (omega (arith, some, size-le set)))
       (size_is, only_inside set new.states new.state h.1 one new.only.1 some))
 
   pub wide_quiet : Quiet old_es old old.level → Quiet es wide wide.level

@@ -4,6 +4,8 @@ use Rattle.std.proofs.Common.{ap, ◌∙◌, subst, arith, inl, inr}
 use Rattle.std.proofs.lemmas.Bool.{cases_eq, cases_lt}
 use Rattle.std.proofs.lemmas.List.{get_or-set_other, get_or-set_same, length-set}
 use Rattle.version_sets.specs.Sets.{Members, has, only, size}
+use Rattle.version_sets.proofs.Laws.{size-le}
+use Rattle.version_sets.proofs.Within.{inside_has}
 use Rattle.incompatibilities.specs.Incompatibilities.{Assignment, Breaks, HoldsOf, Terms, HoldsAt}
 use Rattle.incompatibilities.specs.Stores.{EntryView, IsAxiom, entry, terms_of}
 use Rattle.propagation.specs.Satisfaction.{Agrees, BreaksNone, Sat}
@@ -11,7 +13,6 @@ use Rattle.propagation.specs.Trails.{StepView, TrailView, set_of, space_of}
 use Rattle.propagation.specs.Promises.{IsDecided, Propagated, SameSpaces, IsProgress}
 use Rattle.propagation.specs.declared.propagating.Progress.{Progress}
 use Rattle.propagation.specs.declared.propagating.Progress.TheVariants.{Conflict}
-use Rattle.propagation.proofs.SetLemmas.{inside_has, size_le}
 use Rattle.propagation.proofs.Vertices.{in_range}
 use Rattle.conflicts.specs.Resolving.{IsGained}
 use Rattle.conflicts.proofs.Growing.{entry_kept}
@@ -26,7 +27,7 @@ holds_broken s (Some x) i h there = inside_has s x i h.1 (there h.0)
 -- what is satisfied is broken by each assignment that agrees
 pub sat_breaks : (x : Assignment) (sets : List Members) (f : Terms) → Agrees x sets → Sat sets f → Breaks x f
 sat_breaks x sets f agrees sat u = holds_broken (set_of sets u) (f u) (x u) (sat u)
-    (λ some. agrees u (in_range sets u (omega (arith, some, size_le (set_of sets u)))))
+    (λ some. agrees u (in_range sets u (omega (arith, some, size-le (set_of sets u)))))
 
 pub no_conflict : (x : Assignment) (es : List EntryView) (t : TrailView) (id : ℕ)
     → IsProgress es t.sets (Conflict id) → IsLeft x es t → ⊥

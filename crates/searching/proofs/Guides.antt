@@ -2,7 +2,8 @@
 use Rattle.std.proofs.Common.{◌≡◌, ℕ, zero, suc, ◌+◌, ◌-◌, ◌<◌, ◌≤◌, true, false, List, [], ◌∷◌, ◌++◌, length, map}
 use Rattle.std.proofs.Common.{get_or, refl, sym, ap, ap₂, ◌∙◌, subst, arith, inl, inr}
 use Rattle.std.proofs.lemmas.Bool.{cases_lt, false≢true}
-use Rattle.std.proofs.lemmas.List.{get_or_append_left, get_or-append_right, length-append, length-map, length-replicate}
+use Rattle.std.proofs.lemmas.List.{append-nil, get_or_append_left, get_or-append_right, length-append, length-map}
+use Rattle.std.proofs.lemmas.List.{length-replicate}
 use Rattle.version_sets.specs.Sets.{Members, every, has, size}
 use Rattle.incompatibilities.specs.Stores.{EntryView}
 use Rattle.propagation.specs.Trails.{TrailView, set_of, space_of}
@@ -18,10 +19,6 @@ none_size [] all = refl
 none_size (true ∷ s) all = absurd (false≢true (sym (all 0 (omega arith))))
 none_size (false ∷ s) all = none_size s (λ i lt. all (suc i) (omega (arith, lt)))
 
-nothing_put : (es : List EntryView) → es ≡ es ++ []
-nothing_put [] = refl
-nothing_put (e ∷ es) = ap (λ xs. e ∷ xs) (nothing_put es)
-
 -- no vertex and no axiom
 pub adding_nothing : (asked : Pairs) (left late : ℕ) (t : TrailView) (es : List EntryView) → LieIn t es
     → AllAsked asked t.sets → IsAdding asked asked left left late late t t es es false
@@ -31,7 +28,7 @@ adding_nothing asked left late t es lies all = record {
   came = omega arith;
   lone = λ v i ge lt only. absurd (omega (arith, ge, lt));
   gained = [];
-  grown = nothing_put es;
+  grown = sym (append-nil es);
   of_new = λ i lt. absurd (omega (arith, lt));
   lies = lies;
   grows = λ v i h. h;

@@ -4,12 +4,13 @@ use Rattle.std.proofs.Common.{◌∙◌, subst, arith, inl, inr}
 use Rattle.std.proofs.lemmas.Bool.{cases_eq, cases_lt}
 use Rattle.std.proofs.lemmas.List.{get_or-append_right, length-append}
 use Rattle.version_sets.specs.Sets.{every, has, size}
+use Rattle.version_sets.proofs.Laws.{size-le}
 use Rattle.propagation.specs.Trails.{StepView, TrailView, set_of, sets_at, space_of, step_at, undo}
 use Rattle.propagation.specs.Promises.{IsCut, IsSound}
 use Rattle.propagation.specs.Widening.{IsWider}
 use Rattle.propagation.proofs.Back.{back_same, sets_long, sets_now}
 use Rattle.propagation.proofs.Places.{shrinks, some_at}
-use Rattle.propagation.proofs.SetLemmas.{inside_size, only_inside, size_every, size_le}
+use Rattle.propagation.proofs.SetLemmas.{inside_size, only_inside, size_every}
 use Rattle.propagation.proofs.Soundness.{same_space}
 use Rattle.propagation.proofs.Widened.{old_set, sets_wider}
 use Rattle.searching.specs.Searching.{AllAsked, AreMore, HasSpaces, IsOnly, IsSeen, LoneAsked, Pairs}
@@ -30,7 +31,7 @@ alone_later t sound v i k n le within only =
     let one = only.0 in
     let inner = shrinks t sound v k n le within in
     let some = some_at t sound v n within
-    (omega (arith, one, size_le (set_of (sets_at t k) v), same_space t sound k (omega (arith, le, within)) v)) in (
+    (omega (arith, one, size-le (set_of (sets_at t k) v), same_space t sound k (omega (arith, le, within)) v)) in (
       omega (arith, one, some, inside_size (set_of (sets_at t n) v) (set_of (sets_at t k) v) inner),
       only_inside (set_of (sets_at t n) v) (set_of (sets_at t k) v) i inner one only.1 some,
     )

@@ -1,9 +1,11 @@
 -- Where nothing is left to propagate, an assignment out of what is left breaks no entry in which at most one vertex is
 -- undecided.
-use Rattle.std.proofs.Common.{◌≡◌, ◌≢◌, ℕ, zero, suc, ◌<◌, Bool, true, false, List, [], ◌∷◌, length, Option, Some, None}
+use Rattle.std.proofs.Common.{◌≡◌, ◌≢◌, ℕ, Bool, true, false, List, length, Option, Some, None}
 use Rattle.std.proofs.Common.{refl, sym, subst, arith, inl, inr}
-use Rattle.std.proofs.lemmas.Bool.{cases_eq, false≢true}
-use Rattle.version_sets.specs.Sets.{Members, has, inside, meets}
+use Rattle.std.proofs.lemmas.Bool.{cases_eq}
+use Rattle.version_sets.specs.Sets.{Members, has, inside}
+use Rattle.version_sets.proofs.Laws.{has_below}
+use Rattle.version_sets.proofs.Within.{meets_at}
 use Rattle.incompatibilities.specs.Incompatibilities.{Assignment, Breaks, HoldsOf, LiesIn, Terms, HoldsAt}
 use Rattle.propagation.specs.Satisfaction.{Agrees, IsQuiet, OthersHold}
 use Rattle.propagation.specs.Trails.{set_of}
@@ -11,25 +13,11 @@ use Rattle.propagation.proofs.SetLemmas.{has_some, one_inside}
 use Rattle.propagation.proofs.Vertices.{in_range}
 use Rattle.searching.specs.Following.{IsDecidedBut}
 
-has_long : (s : Members) (i : ℕ) → has s i ≡ true → 0 < length s
-has_long [] i h = absurd (false≢true h)
-has_long (b ∷ s) i h = omega arith
-
-both_meet : (s x : Members) (i : ℕ) → has s i ≡ true → has x i ≡ true → meets s x ≡ true
-both_meet [] x i h k = absurd (false≢true h)
-both_meet (b ∷ s) [] i h k = absurd (false≢true k)
-both_meet (true ∷ s) (true ∷ x) zero h k = refl
-both_meet (true ∷ s) (false ∷ x) zero h k = absurd (false≢true k)
-both_meet (false ∷ s) (y ∷ x) zero h k = absurd (false≢true h)
-both_meet (true ∷ s) (true ∷ x) (suc i) h k = refl
-both_meet (true ∷ s) (false ∷ x) (suc i) h k = both_meet s x i h k
-both_meet (false ∷ s) (y ∷ x) (suc i) h k = both_meet s x i h k
-
 module _ (x : Assignment) (sets : List Members) (f : Terms) (w : ℕ) (lies : LiesIn (λ u. length (set_of sets u)) f)
     (agrees : Agrees x sets) (quiet : IsQuiet sets f) (decided : IsDecidedBut w x sets f) (breaks : Breaks x f) where
   -- where a term holds, the state is left
   left : (u : ℕ) (s : Members) → f u ≡ Some s → HoldsOf (Some s) (x u) → has (set_of sets u) (x u) ≡ true
-  left u s e h = agrees u (in_range sets u (omega (arith, lies u s e, has_long s (x u) h)))
+  left u s e h = agrees u (in_range sets u (omega (arith, lies u s e, has_below s (x u) h)))
 
   others_by : (u : ℕ) → u ≢ w → (o : Option Members) → f u ≡ o → HoldsOf o (x u) → HoldsAt (set_of sets u) o
   others_by u ne None e h = tt
@@ -51,7 +39,7 @@ module _ (x : Assignment) (sets : List Members) (f : Terms) (w : ℕ) (lies : Li
   open_by s e h true is =
       all (subst (HoldsAt (set_of sets w)) (sym e) (has_some (set_of sets w) (x w) (left w s e h), is))
   open_by s e h false is = quiet.not_one w s
-      (record { term = e; common = both_meet (set_of sets w) s (x w) (left w s e h) h; apart = is; others = others })
+      (record { term = e; common = meets_at (set_of sets w) s (x w) (left w s e h) h; apart = is; others = others })
 
   here_by : (o : Option Members) → f w ≡ o → HoldsOf o (x w) → ⊥
   here_by None e h = all (subst (HoldsAt (set_of sets w)) (sym e) tt)

@@ -3,27 +3,15 @@ use Rattle.std.proofs.Common.{◌≡◌, ◌<◌, true, false, not, ◌&&◌, []
 use Rattle.std.proofs.lemmas.Bool.{and_left, and_right, cases_Bool, cases_lt, false≢true, le-ltb, lt-ltb, not-false}
 use Rattle.std.proofs.lemmas.Bool.{not-true, true≢false}
 use Rattle.version_sets.specs.Sets.{Members, inside, meets, size}
+use Rattle.version_sets.proofs.Within.{inside_nothing, meets_some}
 use Rattle.terms.specs.Terms.{relation_of}
 use Rattle.terms.specs.declared.term.Relation.TheVariants.{Satisfied, Contradicted, Open}
-
--- a set that meets another isn't empty
-met_some : (xs ys : Members) → meets xs ys ≡ true → 0 < size xs
-met_some [] ys h = absurd (false≢true h)
-met_some (x ∷ xs) [] h = absurd (false≢true h)
-met_some (true ∷ xs) (y ∷ ys) h = omega arith
-met_some (false ∷ xs) (y ∷ ys) h = met_some xs ys h
-
--- a set that lies inside no number is empty
-inside_none : (xs : Members) → inside xs [] ≡ true → size xs ≡ 0
-inside_none [] h = refl
-inside_none (true ∷ xs) h = absurd (false≢true h)
-inside_none (false ∷ xs) h = inside_none xs h
 
 -- a set that isn't empty and lies inside another meets it
 some_met : (xs ys : Members) → inside xs ys ≡ true → 0 < size xs → meets xs ys ≡ true
 some_met [] ys h some = absurd (omega arith)
 some_met (true ∷ xs) [] h some = absurd (false≢true h)
-some_met (false ∷ xs) [] h some = absurd (omega (arith, inside_none xs h))
+some_met (false ∷ xs) [] h some = absurd (omega (arith, inside_nothing xs h))
 some_met (true ∷ xs) (true ∷ ys) h some = refl
 some_met (true ∷ xs) (false ∷ ys) h some = absurd (false≢true h)
 some_met (false ∷ xs) (y ∷ ys) h some = some_met xs ys h some
@@ -44,7 +32,7 @@ contradicted xs ys h =
 
 pub satisfied : (xs ys : Members) → false ≡ not (meets xs ys) → true ≡ inside xs ys → Satisfied ≡ relation_of xs ys
 satisfied xs ys h within =
-    rw (lt-ltb 0 (size xs) (met_some xs ys (not-false (meets xs ys) (sym h))), sym within) refl
+    rw (lt-ltb 0 (size xs) (meets_some xs ys (not-false (meets xs ys) (sym h))), sym within) refl
 
 pub open_between : (xs ys : Members) → false ≡ not (meets xs ys) → false ≡ inside xs ys → Open ≡ relation_of xs ys
 open_between xs ys h apart =

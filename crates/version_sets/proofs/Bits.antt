@@ -12,6 +12,7 @@ use Rattle.std.specs.Simd.Lanes.{zip2}
 use Rattle.version_sets.specs.Sets.{Members, has, inside, join, meet, meets, rest}
 use Rattle.version_sets.specs.Listed.{set_where}
 use Rattle.version_sets.specs.Words.{IsWords, all_zero, and_not, has_bit}
+use Rattle.version_sets.proofs.Within.{inside_has, meets_at}
 use Rattle.version_sets.proofs.Listing.{has-set_where, join_where, length-set_where, meet_where, rest_where, set_agree}
 
 -- one bit
@@ -172,16 +173,6 @@ inside_from (true ∷ xs) (y ∷ ys) e h = and_from y (inside xs ys) (h 0 (omega
     (inside_from xs ys (omega arith) (λ i low. h (suc i) (omega arith)))
 inside_from (false ∷ xs) (y ∷ ys) e h = inside_from xs ys (omega arith) (λ i low. h (suc i) (omega arith))
 
-inside_at : (xs ys : Members) (i : ℕ) → inside xs ys ≡ true → has xs i ≡ true → has ys i ≡ true
-inside_at [] ys i h x = absurd (false≢true x)
-inside_at (true ∷ xs) [] i h x = absurd (false≢true h)
-inside_at (false ∷ xs) [] zero h x = absurd (false≢true x)
-inside_at (false ∷ xs) [] (suc i) h x = inside_at xs [] i h x
-inside_at (true ∷ xs) (y ∷ ys) zero h x = (and_parts y (inside xs ys) h).0
-inside_at (true ∷ xs) (y ∷ ys) (suc i) h x = inside_at xs ys i (and_parts y (inside xs ys) h).1 x
-inside_at (false ∷ xs) (y ∷ ys) zero h x = absurd (false≢true x)
-inside_at (false ∷ xs) (y ∷ ys) (suc i) h x = inside_at xs ys i h x
-
 apart_from : (xs ys : Members) → ((i : ℕ) → has xs i ≡ true → has ys i ≡ true → ⊥) → not (meets xs ys) ≡ true
 apart_from [] ys h = refl
 apart_from (x ∷ xs) [] h = refl
@@ -190,13 +181,7 @@ apart_from (true ∷ xs) (false ∷ ys) h = apart_from xs ys (λ i. h (suc i))
 apart_from (false ∷ xs) (y ∷ ys) h = apart_from xs ys (λ i. h (suc i))
 
 apart_at : (xs ys : Members) (i : ℕ) → not (meets xs ys) ≡ true → has xs i ≡ true → has ys i ≡ true → ⊥
-apart_at [] ys i h x y = false≢true x
-apart_at (x ∷ xs) [] i h p q = false≢true q
-apart_at (true ∷ xs) (true ∷ ys) i h p q = false≢true h
-apart_at (true ∷ xs) (false ∷ ys) zero h p q = false≢true q
-apart_at (true ∷ xs) (false ∷ ys) (suc i) h p q = apart_at xs ys i h p q
-apart_at (false ∷ xs) (y ∷ ys) zero h p q = false≢true p
-apart_at (false ∷ xs) (y ∷ ys) (suc i) h p q = apart_at xs ys i h p q
+apart_at xs ys i h x y = false≢true (sym (ap not (meets_at xs ys i x y)) ∙ h)
 
 -- a word is 0 where no bit is set
 no_bits : (w : ℕ) → w < 2 ^ 64 → ((j : ℕ) → j < 64 → bit_is w j ≡ false) → w ≡ 0
@@ -251,7 +236,7 @@ module _ (n : ℕ) (a b : List ℕ) (p : IsWords n a) (q : IsWords n b) where
           (omega (arith, and_le_l (get_or a k 0) (bit_not w64 (get_or b k 0)), p.fits k))
           (λ j small. and_not_bit (get_or a k 0) (get_or b k 0) j (q.fits k) small
           ∙ ruled (bit_is (get_or a k 0) j) (bit_is (get_or b k 0) j)
-          (λ x. sym (bit_number b q k j small) ∙ inside_at (set_where n (has_bit a)) (set_where n (has_bit b))
+          (λ x. sym (bit_number b q k j small) ∙ inside_has (set_where n (has_bit a)) (set_where n (has_bit b))
           (64 * k + j) h (bit_number a p k j small ∙ x))))
         where
           ruled : (x y : Bool) → (x ≡ true → y ≡ true) → (x && not y) ≡ false

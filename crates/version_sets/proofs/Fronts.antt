@@ -2,6 +2,7 @@
 use Rattle.std.proofs.Common.{◌≡◌, ℕ, zero, suc, ◌+◌, ◌<◌, ◌≤◌, Bool, true, false, ◌&&◌, eqb, List, [], ◌∷◌, ◌++◌}
 use Rattle.std.proofs.Common.{length, take, drop, get_or, set, map, bit_and, bit_or, refl, ap, ap₂, sym, ◌∙◌, arith}
 use Rattle.std.proofs.Common.{eq-eqb, inl, inr}
+use Rattle.std.proofs.Math.Bool.{and-true}
 use Rattle.std.proofs.Math.Seq.{drop-cons}
 use Rattle.std.proofs.lemmas.Bool.{cases_eq, ne_eqb}
 use Rattle.std.proofs.lemmas.List.{length-map, length-take}
@@ -145,11 +146,7 @@ or_zero a b = elim (cases_eq a 0) [
 ]
 
 folded : (a : ℕ) (xs : List ℕ) → eqb (fold_l bit_or a xs) 0 ≡ (eqb a 0 && all_zero xs)
-folded a [] = and_true (eqb a 0)
-  where
-    and_true : (b : Bool) → b ≡ (b && true)
-    and_true true = refl
-    and_true false = refl
+folded a [] = sym (and-true (eqb a 0))
 folded a (x ∷ xs) = folded (bit_or a x) xs ∙ ap (λ b. b && all_zero xs) (or_zero a x) ∙ and_assoc (eqb a 0)
   where
     and_assoc : (b : Bool) → ((b && eqb x 0) && all_zero xs) ≡ (b && (eqb x 0 && all_zero xs))

@@ -11,6 +11,7 @@ use Rattle.std.proofs.lemmas.List.FromFn.{length-map-range_with_len, get_or-map-
 use Rattle.std.proofs.lemmas.List.FromFn.{length-range_with_len, fill_by_all}
 use Rattle.std.specs.List.{filter, list_any, list_all, range_with_len}
 use Rattle.version_sets.specs.Sets.{Members, every, has, inside, join, meet, meets, none, only, rest, size}
+use Rattle.version_sets.proofs.Laws.{size-le}
 use Rattle.version_sets.specs.Listed.{IsList, below, is_listed, list_where, set_where}
 
 -- two tests that agree on the numbers from a on
@@ -243,14 +244,9 @@ search_is n ms x r l s = found ms x r (searched ms x r s (list_rises n ms l)) �
 pub size_is : (n : ℕ) (ms : List ℕ) → IsList n ms → length ms ≡ size (set_where n (is_listed ms))
 size_is n ms l = ap length l.rises ∙ size_where n (is_listed ms)
 
-size_bound : (s : Members) → size s ≤ length s
-size_bound [] = omega arith
-size_bound (true ∷ s) = omega (arith, size_bound s)
-size_bound (false ∷ s) = omega (arith, size_bound s)
-
 pub short_list : (n : ℕ) (ms : List ℕ) → IsList n ms → length ms ≤ 65536
 short_list n ms l =
-    omega (arith, size_is n ms l, size_bound (set_where n (is_listed ms)), length-set_where n (is_listed ms), l.small)
+    omega (arith, size_is n ms l, size-le (set_where n (is_listed ms)), length-set_where n (is_listed ms), l.small)
 
 -- one number
 only_from : (a n k m : ℕ) → m ≡ a + k → set (replicate n false) k true ≡ map (λ i. eqb m i) (range_with_len a n)

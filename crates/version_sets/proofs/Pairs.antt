@@ -1,6 +1,7 @@
 -- What holds of a set by its words, and of two sets of one universe.
-use Rattle.std.proofs.Common.{◌≡◌, ℕ, ◌+◌, ◌^◌, ◌<◌, ◌≤◌, ◌↔◌, Bool, true, false, not, ◌&&◌, List, [], ◌∷◌, length, map}
-use Rattle.std.proofs.Common.{bit_and, bit_or, eqb, refl, ap, ap₂, sym, ◌∙◌, subst, arith, eq-eqb, Result}
+use Rattle.std.proofs.Common.{◌≡◌, ℕ, ◌+◌, ◌^◌, ◌<◌, ◌≤◌, ◌↔◌, not, List, [], ◌∷◌, length, map}
+use Rattle.std.proofs.Common.{bit_and, bit_or, eqb, ap, ap₂, sym, ◌∙◌, subst, arith, eq-eqb, Result}
+use Rattle.std.proofs.Math.Bool.{and-true}
 use Rattle.std.proofs.lemmas.Bool.{eqb-true}
 use Rattle.std.proofs.lemmas.Result.{IfOk-weaker}
 use Rattle.std.specs.Int.{bit_not, w64}
@@ -99,17 +100,13 @@ module _ (xs ys : Members) (a b : List ℕ) (p : AreWords xs a) (q : AreWords ys
     pair_and_words = subst (λ k. IsWords k (zip2 bit_and a b)) (sym n_is) (words_and (length xs) a b p.is second)
 
 -- the test of one word
-and_true : (b : Bool) → b ≡ (b && true)
-and_true true = refl
-and_true false = refl
-
 pub lone_within : (xs ys : Members) (x y : ℕ) → AreWords xs (x ∷ []) → AreWords ys (y ∷ []) → length xs ≡ length ys
     → eqb (and_not x y) 0 ≡ inside xs ys
-lone_within xs ys x y p q same = and_true (eqb (and_not x y) 0) ∙ pair_within xs ys (x ∷ []) (y ∷ []) p q same
+lone_within xs ys x y p q same = sym (and-true (eqb (and_not x y) 0)) ∙ pair_within xs ys (x ∷ []) (y ∷ []) p q same
 
 pub lone_apart : (xs ys : Members) (x y : ℕ) → AreWords xs (x ∷ []) → AreWords ys (y ∷ []) → length xs ≡ length ys
     → eqb (bit_and x y) 0 ≡ not (meets xs ys)
-lone_apart xs ys x y p q same = and_true (eqb (bit_and x y) 0) ∙ pair_apart xs ys (x ∷ []) (y ∷ []) p q same
+lone_apart xs ys x y p q same = sym (and-true (eqb (bit_and x y) 0)) ∙ pair_apart xs ys (x ∷ []) (y ∷ []) p q same
 
 pub lone_same : (xs ys : Members) (x y : ℕ) → AreWords xs (x ∷ []) → AreWords ys (y ∷ []) → length xs ≡ length ys
     → IsTrue (eqb x y) ↔ (xs ≡ ys)

@@ -1,22 +1,20 @@
-use Rattle.std.proofs.Common.{List, rules, sym, subst}
+use Rattle.std.proofs.Common.{List, rules, subst}
 use Rattle.std.specs.Bool.{OnTrue}
 use Rattle.terms.specs.Terms.{TermView, terms_view}
-use Rattle.incompatibilities.specs.Incompatibilities.{LiesIn, states_at}
+use Rattle.incompatibilities.specs.Incompatibilities.{states_at}
 use Rattle.incompatibilities.specs.Stores.{entries_view, terms_of}
 use Rattle.conflicts.specs.Covering.{Covers}
 use Rattle.conflicts.proofs.Covered.{covers_itself}
-use Rattle.incompatibilities.proofs.Broken.{lies_fit}
+use Rattle.conflicts.proofs.Growing.{entries_fit}
 use Rattle.conflicts.proofs.standing_in.covering_or.Goals as goal
 
 pub covers-requires : goal.covers-requires
 covers-requires g c =
-    let space = c.requires.lies.0 in
-    lies_fit space (states_at (terms_view g.S.States.tests c.get.result.now))
-    (states_at (terms_view g.S.States.tests c.get-2.result.now))
-    (subst (λ (ts : List TermView). LiesIn space (states_at ts)) (sym c.get.ensures.value)
-    (c.requires.lies.1 c.args.id c.requires.within))
-    (subst (λ (ts : List TermView). LiesIn space (states_at ts)) (sym c.get-2.ensures.value)
-    (c.requires.lies.1 c.args.other (search rules)))
+    let tests = g.S.States.tests in
+    let es = entries_view tests c.args.store.now in
+    entries_fit c.requires.lies.0 es c.args.id c.args.other (terms_view tests c.get.result.now)
+    (terms_view tests c.get-2.result.now) c.requires.lies.1 c.requires.within (search rules) c.get.ensures.value
+    c.get-2.ensures.value
 
 pub returns-then-covers-clause-covers : goal.returns-then-covers-clause-covers
 returns-then-covers-clause-covers g c =

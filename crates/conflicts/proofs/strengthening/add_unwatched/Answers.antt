@@ -1,24 +1,22 @@
-use Rattle.std.proofs.Common.{◌≡◌, false, List, [], ◌∷◌, length, ap, sym, subst, arith}
+use Rattle.std.proofs.Common.{◌≡◌, false, List, [], ◌∷◌, length, ap, subst, arith}
 use Rattle.std.proofs.lemmas.List.{length-append}
 use Rattle.std.proofs.lemmas.Result.{IfOk-weaker}
 use Rattle.terms.specs.Terms.{TermView, terms_view}
-use Rattle.incompatibilities.specs.Incompatibilities.{IsCombination, LiesIn, states_at}
+use Rattle.incompatibilities.specs.Incompatibilities.{IsCombination}
 use Rattle.incompatibilities.specs.Stores.{EntryView, entries_view, entry}
 use Rattle.incompatibilities.specs.declared.origin.Origin.TheVariants.{Combined}
 use Rattle.conflicts.specs.Resolving.{IsStrengthened}
-use Rattle.incompatibilities.proofs.Broken.{lies_fit}
+use Rattle.conflicts.proofs.Growing.{entries_fit}
 use Rattle.conflicts.proofs.Strengthened.{either_way, strengthened_none, strengthened_one, strengthened_same}
 use Rattle.conflicts.proofs.strengthening.add_unwatched.Goals as goal
 
 pub combine-requires : goal.combine-requires
 combine-requires g c =
-    let space = c.requires.lies.0 in
-    lies_fit space (states_at (terms_view g.S.States.tests c.get.result.now))
-    (states_at (terms_view g.S.States.tests c.get-2.result.now))
-    (subst (λ (ts : List TermView). LiesIn space (states_at ts)) (sym c.get.ensures.value)
-    (c.requires.lies.1 c.args.first c.requires.first))
-    (subst (λ (ts : List TermView). LiesIn space (states_at ts)) (sym c.get-2.ensures.value)
-    (c.requires.lies.1 c.args.second c.requires.second))
+    let tests = g.S.States.tests in
+    let es = entries_view tests c.args.store.now in
+    entries_fit c.requires.lies.0 es c.args.first c.args.second (terms_view tests c.get.result.now)
+    (terms_view tests c.get-2.result.now) c.requires.lies.1 c.requires.first c.requires.second c.get.ensures.value
+    c.get-2.ensures.value
 
 pub returns-clause-within : goal.returns-clause-within
 returns-clause-within g c = IfOk-weaker c.add.result _ _ (λ id h. omega (

@@ -1,19 +1,13 @@
-use Rattle.std.proofs.Common.{◌≡◌, ◌<◌, ◌≤◌, ◌+◌, ℕ, suc, List, None, Some, length, get_or, true, false, sym, ap, ◌∙◌}
+use Rattle.std.proofs.Common.{◌≡◌, ◌<◌, ◌≤◌, ◌+◌, suc, None, Some, length, get_or, true, false, sym, ap, ◌∙◌}
 use Rattle.std.proofs.Common.{subst, arith}
-use Rattle.std.proofs.lemmas.List.{get_or-map, get_or_default, length-map}
-use Rattle.version_sets.specs.Sets.{Members, inside}
+use Rattle.std.proofs.lemmas.List.{get_or_default}
+use Rattle.version_sets.specs.Sets.{inside}
 use Rattle.propagation.specs.Counting.{IsCount}
-use Rattle.propagation.specs.Trails.{StepView, no_step, step_at, step_view, steps_view, trail_view}
-use Rattle.propagation.specs.declared.trail.Step.{Step}
+use Rattle.propagation.specs.Trails.{StepView, step_at, trail_view}
 use Rattle.propagation.proofs.Counts.{IsOnWay, count_here, count_none, reach, reach_less, some_space, way_back}
 use Rattle.propagation.proofs.Counts.{way_long, way_start, way_within}
+use Rattle.propagation.proofs.Vertices.{step_read}
 use Rattle.propagation.proofs.trail.Trail.places_of.Goals as goal
-
--- a step, read
-read : {S : Type 0} (tests : S → Members) (ss : List (Step S)) (p : ℕ) (s d : Step S) → p < length (steps_view tests ss)
-    → s ≡ get_or ss p d → step_at (steps_view tests ss) p ≡ step_view tests s
-read {S} tests ss p s d lt e =
-    get_or-map (step_view tests) ss p d no_step (rw length-map at lt) ∙ ap (step_view tests) (sym e)
 
 pub back-init : goal.back-init
 back-init g c =
@@ -31,7 +25,7 @@ subset-requires g c =
     let p = c.in-Some.place in
     let way : IsOnWay t c.args.term.now.vertex (tests c.args.term.now.states) (Some p) =
     subst (IsOnWay t c.args.term.now.vertex (tests c.args.term.now.states)) c.in-Some.is c.back.invariant in
-    let at = read tests c.args.self.now.steps.items p c.index.result.now _
+    let at = step_read tests c.args.self.now.steps.items p c.index.result.now _
     (way_within t c.args.term.now.vertex (tests c.args.term.now.states) c.requires.sound p way) c.index.ensures in
     ap (λ (s : StepView). length s.before) (sym at)
     ∙ way_long t c.args.term.now.vertex (tests c.args.term.now.states) c.requires.sound p way ∙ sym c.requires.fits
@@ -44,7 +38,7 @@ returns-then-not-subset g c =
     let x = tests c.args.term.now.states in
     let p = c.in-Some.place in
     let way : IsOnWay t v x (Some p) = subst (IsOnWay t v x) c.in-Some.is c.back.invariant in
-    let at = read tests c.args.self.now.steps.items p c.index.result.now _
+    let at = step_read tests c.args.self.now.steps.items p c.index.result.now _
     (way_within t v x c.requires.sound p way) c.index.ensures in
     let out : inside (step_at t.steps p).before x ≡ false =
     ap (λ (s : StepView). inside s.before x) at ∙ sym c.subset.ensures ∙ c.if-not-subset.true in
@@ -60,8 +54,9 @@ back-preserved g c =
     let p = c.in-Some.place in
     let way : IsOnWay t v x (Some p) = subst (IsOnWay t v x) c.in-Some.is c.back.invariant in
     let within = way_within t v x c.requires.sound p way in
-    let at = read tests c.args.self.now.steps.items p c.index.result.now _ within c.index.ensures in
-    let again = read tests c.args.self.now.steps.items p c.index-in-Some.result.now _ within c.index-in-Some.ensures in
+    let at = step_read tests c.args.self.now.steps.items p c.index.result.now _ within c.index.ensures in
+    let again =
+        step_read tests c.args.self.now.steps.items p c.index-in-Some.result.now _ within c.index-in-Some.ensures in
     let into : inside (step_at t.steps p).before x ≡ true =
     ap (λ (s : StepView). inside s.before x) at ∙ sym c.subset.ensures ∙ c.if-not-subset.false in
     subst (IsOnWay t v x) (ap (λ (s : StepView). s.previous) again) (way_back t v x c.requires.sound p way into)
@@ -75,7 +70,8 @@ back-smaller g c =
     let p = c.in-Some.place in
     let way : IsOnWay t v x (Some p) = subst (IsOnWay t v x) c.in-Some.is c.back.invariant in
     let within = way_within t v x c.requires.sound p way in
-    let again = read tests c.args.self.now.steps.items p c.index-in-Some.result.now _ within c.index-in-Some.ensures in
+    let again =
+        step_read tests c.args.self.now.steps.items p c.index-in-Some.result.now _ within c.index-in-Some.ensures in
     let less : reach c.index-in-Some.result.now.previous ≤ p =
     subst (λ (s : StepView). reach s.previous ≤ p) again (reach_less t c.requires.sound p within) in
     let here : reach c.back.link ≡ suc p = ap reach c.in-Some.is in

@@ -1,23 +1,16 @@
-use Rattle.std.proofs.Common.{◌≡◌, ◌<◌, ◌-◌, ℕ, zero, suc, List, length, get_or, sym, ap, ◌∙◌, subst, arith}
-use Rattle.std.proofs.lemmas.List.{get_or-map, length-map}
-use Rattle.version_sets.specs.Sets.{Members}
+use Rattle.std.proofs.Common.{◌≡◌, ◌<◌, ◌-◌, ℕ, zero, suc, List, length, sym, ap, subst, arith}
 use Rattle.terms.specs.Terms.{TermView, terms_view}
 use Rattle.propagation.specs.Counting.{AreRanked, Ranked}
-use Rattle.propagation.specs.Trails.{StepView, TrailView, no_step, step_at, step_view, steps_view, trail_view}
+use Rattle.propagation.specs.Trails.{StepView, TrailView, trail_view}
 use Rattle.propagation.specs.declared.satisfying.Ranks.{Ranks}
-use Rattle.propagation.specs.declared.trail.Step.{Step}
 use Rattle.propagation.proofs.Satisfiers.{IsRead, forced_is, opens_is, satisfied_is}
+use Rattle.propagation.proofs.Vertices.{step_read}
 use Rattle.propagation.proofs.trail.Trail.satisfier.Given.{Over}
 use Rattle.propagation.proofs.trail.Trail.satisfier.Goals as goal
 
 ranked_some : (t : TrailView) (ts : List TermView) (n : ℕ) (r : Ranks) → 0 < n → Ranked t ts n r → AreRanked t ts n r
 ranked_some t ts zero r some h = absurd (omega (arith, some))
 ranked_some t ts (suc n) r some h = h
-
-read : {S : Type 0} (tests : S → Members) (ss : List (Step S)) (p : ℕ) (s d : Step S) → p < length (steps_view tests ss)
-    → s ≡ get_or ss p d → step_at (steps_view tests ss) p ≡ step_view tests s
-read {S} tests ss p s d lt e =
-    get_or-map (step_view tests) ss p d no_step (rw length-map at lt) ∙ ap (step_view tests) (sym e)
 
 is_read : (g : Over) (c : goal.After-level_after g) → IsRead (trail_view g.S.States.tests c.args.self.now)
     (terms_view g.S.States.tests c.args.incompatibility.now) c.ranks-ranks.result
@@ -39,7 +32,8 @@ is_read g c =
     let ranks = ranked_some t ts (length ts) r c.requires.some ranked in
     let place : suc (r.all - 1) ≡ r.all = (let some = ranks.some in omega (arith, some)) in
     let lt : r.all - 1 < length t.steps = (let w = ranks.count.within in omega (arith, w, place)) in
-    let at = read tests c.args.self.now.steps.items (r.all - 1) c.index-step.result.now _ lt c.index-step.ensures in
+    let at =
+        step_read tests c.args.self.now.steps.items (r.all - 1) c.index-step.result.now _ lt c.index-step.ensures in
     record {
       sound = c.requires.sound;
       lies = record { is = c.terms.ensures.is; lies = c.requires.lies };
