@@ -17,25 +17,12 @@ returns-in-Err-clause-kept g c =
     (c.shrink.ensures.places ∙ count) (c.shrink.ensures.level ∙ up.1.level)
 
 pub returns-in-Err-clause-trail : goal.returns-in-Err-clause-trail
-returns-in-Err-clause-trail g c =
-    let view = trail_view g.S.States.tests in
-    let up = c.spread.ensures.spread in
-    let down = c.shrink.ensures.longer in
-    let count : c.len-places.result ≡ length (view c.args.self.now).steps = rw length-map (search rules) in
-    subst (IsTrail (entries_view g.S.States.tests c.args.store.now))
-    (sym (restored (view c.args.self.now) (view c.spread.new.self) (view c.shrink.new.self) up.0 down.0 up.1.longer
-    down.1 (c.shrink.ensures.places ∙ count) (c.shrink.ensures.level ∙ up.1.level)))
-    c.requires
+returns-in-Err-clause-trail g c = subst (IsTrail (entries_view g.S.States.tests c.args.store.now))
+    (sym (returns-in-Err-clause-kept g c)) c.requires
 
 pub returns-in-Err-clause-spaces : goal.returns-in-Err-clause-spaces
 returns-in-Err-clause-spaces g c =
-    let view = trail_view g.S.States.tests in
-    let up = c.spread.ensures.spread in
-    let down = c.shrink.ensures.longer in
-    let count : c.len-places.result ≡ length (view c.args.self.now).steps = rw length-map (search rules) in
-    same_again _ (view c.args.self.now)
-    (restored (view c.args.self.now) (view c.spread.new.self) (view c.shrink.new.self) up.0 down.0 up.1.longer
-    down.1 (c.shrink.ensures.places ∙ count) (c.shrink.ensures.level ∙ up.1.level))
+    same_again _ (trail_view g.S.States.tests c.args.self.now) (returns-in-Err-clause-kept g c)
 
 pub returns-in-Ok-clause-spaces : goal.returns-in-Ok-clause-spaces
 returns-in-Ok-clause-spaces g c =
