@@ -1,9 +1,9 @@
 -- The start of a search on full sets.
-use Rattle.std.proofs.Common.{◌≡◌, ℕ, zero, suc, ◌<◌, true, List, [], ◌∷◌, length, get_or, refl, sym, ap, ◌∙◌, subst}
+use Rattle.std.proofs.Common.{◌≡◌, ℕ, zero, suc, ◌<◌, true, List, length, get_or, refl, sym, ap, ◌∙◌, subst}
 use Rattle.std.proofs.Common.{arith}
-use Rattle.std.proofs.lemmas.Bool.{false≢true}
 use Rattle.std.proofs.lemmas.List.{length-replicate}
-use Rattle.version_sets.specs.Sets.{Members, every, has}
+use Rattle.version_sets.specs.Sets.{every, has}
+use Rattle.version_sets.proofs.Laws.{has_below}
 use Rattle.incompatibilities.specs.Incompatibilities.{Assignment}
 use Rattle.incompatibilities.specs.Stores.{EntryView, terms_of}
 use Rattle.propagation.specs.Satisfaction.{Agrees}
@@ -39,14 +39,10 @@ agrees_new spaces t x new within u lt = subst (λ s. has s (x u) ≡ true) (sym 
     (has_every (get_or spaces u 0) (x u) (within u (omega (arith, lt, new.vertices))))
 
 -- the end of a search that decides all vertices
-has_long : (s : Members) (i : ℕ) → has s i ≡ true → 0 < length s
-has_long [] i h = absurd (false≢true h)
-has_long (b ∷ s) i h = omega arith
-
 decided_all : (es : List EntryView) (t : TrailView) (x : Assignment) → IsTrail es t → AllDecided t → Agrees x t.sets
     → (id : ℕ) → id < length es → IsDecidedBut 0 x t.sets (terms_of es id)
 decided_all es t x trail done agrees id lt u ne s e h =
-    let within : u < length t.sets = in_range t.sets u (omega (arith, trail.lies id lt u s e, has_long s (x u) h)) in
+    let within : u < length t.sets = in_range t.sets u (omega (arith, trail.lies id lt u s e, has_below s (x u) h)) in
     omega (arith, done u within, has_some (set_of t.sets u) (x u) (agrees u within))
 
 pub selects : (asked : Pairs) (es : List EntryView) (t : TrailView) (a : Answer) → IsTrail es t

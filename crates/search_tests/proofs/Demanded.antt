@@ -1,10 +1,10 @@
 -- Axioms that come once their pairs stand alone.
-use Rattle.std.proofs.Common.{◌≡◌, ◌≢◌, ℕ, zero, suc, ◌+◌, ◌-◌, ◌<◌, ◌≤◌, Bool, true, false, not, ◌&&◌, ◌||◌, eqb}
+use Rattle.std.proofs.Common.{◌≡◌, ◌≢◌, ℕ, zero, suc, ◌+◌, ◌-◌, ◌<◌, Bool, true, false, not, ◌&&◌, ◌||◌, eqb}
 use Rattle.std.proofs.Common.{eq-eqb, List, [], ◌∷◌, ◌++◌, length, map, get_or, append_assoc, Some, None, refl, sym, ap}
 use Rattle.std.proofs.Common.{◌∙◌, subst, arith, inl, inr}
 use Rattle.std.specs.List.{remove}
-use Rattle.std.proofs.lemmas.Bool.{cases_eq, cases_lt, false≢true, ne_eqb}
-use Rattle.std.proofs.lemmas.List.{get_or_append_left, get_or-append_right, length-append}
+use Rattle.std.proofs.lemmas.Bool.{and_parts, cases_lt, eqb-true, false≢true, ne_eqb, or_left, or_right}
+use Rattle.std.proofs.lemmas.List.{append-nil, get_or_append_left, get_or-append_right, get_or_past, length-append}
 use Rattle.std.proofs.lemmas.List.Edits.{length-remove}
 use Rattle.terms.specs.Terms.{TermView}
 use Rattle.incompatibilities.specs.Incompatibilities.{IsIncompatibility, LiesIn, states_at}
@@ -19,15 +19,8 @@ use Rattle.propagation.proofs.Widened.{sum_append, wider_again, wider_none}
 use Rattle.searching.specs.Searching.{HasSpaces, IsOnly}
 use Rattle.searching.specs.Turning.{IsAdding}
 use Rattle.searching.proofs.Guides.{adding_nothing, lone_one, spaces_wider}
-use Rattle.search_tests.specs.Universes.{universe_at}
+use Rattle.search_trials.specs.Meeting.{universe_at}
 use Rattle.search_tests.specs.Demands.{AllFit, HasCome, HasOnly, IsAlone, IsOfPair, IsPutOf, asked_of, pair_at, waits}
-
--- one more of the first
-pub one_more : (P : ℕ → Type 0) (n : ℕ) → ((k : ℕ) → k < n → P k) → P n → (k : ℕ) → k < n + 1 → P k
-one_more P n below here k lt = elim (cases_lt k n) [
-  | inl less ↦ below k less
-  | inr ge ↦ subst P (let e : n ≡ k = omega (arith, ge, lt) in e) here
-]
 
 lies_all : (spaces : List ℕ) (ts : List TermView) → AllFit spaces ts → LiesIn (universe_at spaces) (states_at ts)
 lies_all spaces ts fit u s e = let p = place_of ts u s e in subst (λ x. length x ≡ universe_at spaces u) p.3
@@ -38,12 +31,8 @@ pub ones_asked : (spaces : List ℕ) (ps : List (ℕ × ℕ)) (v i : ℕ) → un
     → asked_of spaces ps v i ≡ true
 ones_asked spaces ps v i e = rw e refl
 
-nothing_put : (es : List EntryView) → es ≡ es ++ []
-nothing_put [] = refl
-nothing_put (e ∷ es) = ap (λ xs. e ∷ xs) (nothing_put es)
-
 pub put_none : (spaces : List ℕ) (v i : ℕ) (es : List EntryView) → IsPutOf spaces v i es es
-put_none spaces v i es = record { gained = []; grown = nothing_put es; each = λ k lt. absurd (omega (arith, lt)) }
+put_none spaces v i es = record { gained = []; grown = sym (append-nil es); each = λ k lt. absurd (omega (arith, lt)) }
 
 pub put_one : (spaces : List ℕ) (v i : ℕ) (es new : List EntryView) (ts : List TermView) → IsIncompatibility ts
     → universe_at spaces v ≢ 1 → AllFit spaces ts → HasOnly ts v i
@@ -73,11 +62,8 @@ waits_at : (ps : List (ℕ × ℕ)) (k : ℕ) → k < length ps → waits ps (pa
 waits_at [] k lt = absurd (omega (arith, lt))
 waits_at (p ∷ ps) zero lt = rw (eq-eqb p.0 p.0 refl, eq-eqb p.1 p.1 refl) refl
 waits_at (p ∷ ps) (suc k) lt =
-    or_right (eqb p.0 (pair_at ps k).0 && eqb p.1 (pair_at ps k).1) (waits_at ps k (omega (arith, lt)))
-  where
-    or_right : (a : Bool) {b : Bool} → b ≡ true → (a || b) ≡ true
-    or_right true e = refl
-    or_right false e = e
+    or_right (eqb p.0 (pair_at ps k).0 && eqb p.1 (pair_at ps k).1) (waits ps (pair_at ps k).0 (pair_at ps k).1)
+    (waits_at ps k (omega (arith, lt)))
 
 or_cases : (P : Type 0) (a b : Bool) → (a || b) ≡ true → (a ≡ true → P) → (b ≡ true → P) → P
 or_cases P true b e f g = f refl
@@ -88,61 +74,24 @@ waits_where : (ps : List (ℕ × ℕ)) (v i : ℕ) → waits ps v i ≡ true
 waits_where [] v i e = absurd (false≢true e)
 waits_where (p ∷ ps) v i e = or_cases _ (eqb p.0 v && eqb p.1 i) (waits ps v i) e
     (λ here. let both =
-    and_both (eqb p.0 v) (eqb p.1 i) here in (0, omega arith, equal p.0 v both.0, equal p.1 i both.1))
+    and_parts (eqb p.0 v) (eqb p.1 i) here in (0, omega arith, eqb-true p.0 v both.0, eqb-true p.1 i both.1))
     (λ there. let at = waits_where ps v i there in (suc at.0, let lt = at.1 in omega (arith, lt), at.2, at.3))
-  where
-    and_both : (a b : Bool) → (a && b) ≡ true → (a ≡ true) × (b ≡ true)
-    and_both true b e = (refl, e)
-    and_both false b e = absurd (false≢true e)
-
-    equal : (m n : ℕ) → eqb m n ≡ true → m ≡ n
-    equal m n e = elim (cases_eq m n) [
-      | inl same ↦ same
-      | inr ne ↦ absurd (false≢true (sym (ne_eqb m n ne) ∙ e))
-    ]
 
 waits_fewer : (ps : List (ℕ × ℕ)) (k v i : ℕ) → waits (remove ps k) v i ≡ true → waits ps v i ≡ true
 waits_fewer [] zero v i e = e
 waits_fewer [] (suc k) v i e = e
-waits_fewer (p ∷ ps) zero v i e = or_either (eqb p.0 v && eqb p.1 i) e
-  where
-    or_either : (a : Bool) {b : Bool} → b ≡ true → (a || b) ≡ true
-    or_either true h = refl
-    or_either false h = h
+waits_fewer (p ∷ ps) zero v i e = or_right (eqb p.0 v && eqb p.1 i) (waits ps v i) e
 waits_fewer (p ∷ ps) (suc k) v i e =
     or_cases (waits (p ∷ ps) v i ≡ true) (eqb p.0 v && eqb p.1 i) (waits (remove ps k) v i) e
     (λ here. rw here refl)
-    (λ there. or_then (eqb p.0 v && eqb p.1 i) (waits_fewer ps k v i there))
-  where
-    or_then : (a : Bool) {b : Bool} → b ≡ true → (a || b) ≡ true
-    or_then true h = refl
-    or_then false h = h
+    (λ there. or_right (eqb p.0 v && eqb p.1 i) (waits ps v i) (waits_fewer ps k v i there))
 
 more_by : (a b : Bool) → (b ≡ true → a ≡ true) → not a ≡ true → not b ≡ true
 more_by a true f e = subst (λ c. not c ≡ true) (f refl) e
 more_by a false f e = refl
 
-or_left : (a b : Bool) → a ≡ true → (a || b) ≡ true
-or_left a b e = rw e refl
-
-or_then : (a b : Bool) → b ≡ true → (a || b) ≡ true
-or_then true b e = refl
-or_then false b e = e
-
 neither : (a b : Bool) → a ≡ false → b ≡ true → (a || not b) ≡ false
 neither a b e f = rw (e, f) refl
-
-past_zero : (xs : List ℕ) (i : ℕ) → length xs ≤ i → get_or xs i 0 ≡ 0
-past_zero [] zero le = refl
-past_zero [] (suc i) le = refl
-past_zero (x ∷ xs) zero le = absurd (omega (arith, le))
-past_zero (x ∷ xs) (suc i) le = past_zero xs i (omega (arith, le))
-
-is_one : (n : ℕ) → eqb n 1 ≡ true → n ≡ 1
-is_one n e = elim (cases_eq n 1) [
-  | inl same ↦ same
-  | inr ne ↦ absurd (false≢true (sym (ne_eqb n 1 ne) ∙ e))
-]
 
 pub adding_one : (spaces coming more later : List ℕ) (t wide : TrailView) (ps : List (ℕ × ℕ)) (k v i : ℕ)
     (old new : List EntryView) → HasSpaces spaces t → HasCome old spaces coming t more later wide → k < length ps
@@ -183,9 +132,9 @@ adding_one spaces coming more later t wide ps k v i old new has h lt low is put 
   ];
   grows = λ w j e. or_cases ((eqb (universe_at more w) 1 || not (waits (remove ps k) w j)) ≡ true)
       (eqb (universe_at spaces w) 1) (not (waits ps w j)) e
-      (λ one. let is_lone = is_one (universe_at spaces w) one in or_left (eqb (universe_at more w) 1)
+      (λ one. let is_lone = eqb-true (universe_at spaces w) 1 one in or_left (eqb (universe_at more w) 1)
       (not (waits (remove ps k) w j)) (eq-eqb (universe_at more w) 1 (stays w (there w is_lone) ∙ is_lone)))
-      (λ none. or_then (eqb (universe_at more w) 1) (not (waits (remove ps k) w j))
+      (λ none. or_right (eqb (universe_at more w) 1) (not (waits (remove ps k) w j))
       (more_by (waits ps w j) (waits (remove ps k) w j) (waits_fewer ps k w j) none));
   goes = λ e. omega (arith, length-remove ps k lt);
   stays = λ e. absurd (false≢true (sym e));
@@ -197,7 +146,7 @@ adding_one spaces coming more later t wide ps k v i old new has h lt low is put 
     there : (w : ℕ) → universe_at spaces w ≡ 1 → w < length spaces
     there w one = elim (cases_lt w (length spaces)) [
       | inl lt ↦ lt
-      | inr ge ↦ absurd (omega (arith, one, past_zero spaces w ge))
+      | inr ge ↦ absurd (omega (arith, one, get_or_past spaces w 0 ge))
     ]
 
 pub adding_none : (spaces : List ℕ) (left late : ℕ) (t : TrailView) (ps : List (ℕ × ℕ)) (es : List EntryView)
@@ -205,7 +154,7 @@ pub adding_none : (spaces : List ℕ) (left late : ℕ) (t : TrailView) (ps : Li
     → IsAdding (asked_of spaces ps) (asked_of spaces ps) left left late late t t es es false
 adding_none spaces left late t ps es lies alone =
     adding_nothing (asked_of spaces ps) left late t es lies (λ v i within only.
-    or_then (eqb (universe_at spaces v) 1) (not (waits ps v i)) (asked v i within only (waits ps v i) refl))
+    or_right (eqb (universe_at spaces v) 1) (not (waits ps v i)) (asked v i within only (waits ps v i) refl))
   where
     asked : (v i : ℕ) → v < length t.sets → IsOnly (set_of t.sets v) i → (b : Bool) → waits ps v i ≡ b
         → not (waits ps v i) ≡ true
@@ -216,14 +165,15 @@ adding_none spaces left late t ps es lies alone =
     asked v i within only false e = ap not e
 
 -- vertices come
-nothing_more : {A : Type 0} (xs : List A) → xs ≡ xs ++ []
-nothing_more [] = refl
-nothing_more (x ∷ xs) = ap (λ ys. x ∷ ys) (nothing_more xs)
-
 pub come_none : (es : List EntryView) (spaces coming : List ℕ) (t : TrailView) → IsTrail es t
     → HasCome es spaces coming t spaces coming t
-come_none es spaces coming t trail =
-    record { came = []; spaces_are = nothing_more spaces; rest_is = omega arith; wider = wider_none t; trail = trail }
+come_none es spaces coming t trail = record {
+  came = [];
+  spaces_are = sym (append-nil spaces);
+  rest_is = omega arith;
+  wider = wider_none t;
+  trail = trail;
+}
 
 sum_last : (xs : List ℕ) (n : ℕ) → sum_of (xs ++ n ∷ []) ≡ sum_of xs + n
 sum_last xs n = sum_append xs (n ∷ []) ∙ (let e : sum_of xs + (n + 0) ≡ sum_of xs + n = omega arith in e)

@@ -1,3 +1,4 @@
 pub mod Added
 pub mod Beginnings
 pub mod Demanded
+pub mod Waiting

@@ -5,18 +5,13 @@ use Rattle.incompatibilities.specs.Incompatibilities.{Assignment, Breaks, LiesIn
 use Rattle.incompatibilities.specs.Stores.{EntryView, entry, terms_of, watched}
 use Rattle.propagation.specs.Satisfaction.{Agrees}
 use Rattle.propagation.specs.Trails.{TrailView, set_of}
+use Rattle.search_trials.specs.Meeting.{universe_at}
 use Rattle.searching.specs.Searching.{IsRefutation}
 use Rattle.searching.specs.declared.turns.Answer.{Answer}
 use Rattle.searching.specs.declared.turns.Answer.TheVariants.{Selection, Unsolvable}
 
-abbrev pub universe_at : List ℕ → ℕ → ℕ
-universe_at spaces v = slice_index_or spaces v 0
-
 abbrev pub AllLie : List ℕ → List EntryView → Type 0
 AllLie spaces es = (id : ℕ) → id < length es → LiesIn (universe_at spaces) (terms_of es id)
-
-abbrev pub AreSmall : List ℕ → Type 0
-AreSmall spaces = (i : ℕ) → i < length spaces → slice_index_or spaces i 0 ≤ 65536
 
 -- every vertex has at most one state left
 abbrev pub AllDecided : TrailView → Type 0

@@ -2,7 +2,8 @@
 //! the trail once an axiom speaks of them.
 
 ghost use Rattle.search_tests.specs.Demands.{AllFit, HasCome, HasOnly, IsAlone, IsPutOf};
-ghost use Rattle.search_tests.specs.Universes.{AreSmall, Refutes, universe_at};
+ghost use Rattle.search_tests.specs.Universes.{Refutes};
+ghost use Rattle.search_trials.specs.Meeting.{AreSmall, universe_at};
 ghost use Rattle.incompatibilities.specs.Stores.{entries_view};
 ghost use Rattle.propagation.specs.Promises.{IsTrail};
 ghost use Rattle.propagation.specs.Trails.{set_of, trail_view};

@@ -1,17 +1,14 @@
 //! Stores and guides for the tests; a set of states is written as a number, state 0 its lowest bit.
 
 ghost use Rattle.incompatibilities.specs.Stores.{entries_view};
-ghost use Rattle.search_trials.specs.Meeting.{AreFit};
-ghost use Rattle.search_tests.specs.Universes.{AllLie, AreSmall, universe_at};
-ghost use Rattle.std.specs.Option.{IfSome};
+ghost use Rattle.search_tests.specs.Universes.{AllLie};
+ghost use Rattle.search_trials.specs.Meeting.{AreSmall};
 ghost use Rattle.std.specs.Prelude.{◌≤◌, IfOk};
-ghost use Rattle.terms.specs.Terms.{terms_view};
 
 use crate::preferring::Preferring;
 use incompatibilities::{Id, Incompatibility, Origin, Store};
-use search_trials::of_bits;
+use search_trials::terms_of;
 use std::alloc::{AllocError, Global};
-use terms::Term;
 use version_sets::States;
 
 /// So many vertices of one universe.
@@ -38,34 +35,6 @@ pub(crate) fn guide_of(
         states,
         lessons: Vec::new(alloc),
     })
-}
-
-/// The terms of these vertices and states; none if the vertices don't rise or one isn't there.
-pub(crate) fn terms_of<S: States + Drop>(
-    alloc: Global,
-    spaces: &[u32],
-    said: &[(usize, u64)],
-) -> Result<Option<Vec<Term<S>>>, AllocError>
-    requires { AreSmall spaces.now }
-    ensures { IfOk result (λ o. IfSome o (λ v. AreFit (universe_at spaces.now) (terms_view S.tests v.items))) }
-{
-    let mut terms = Vec::new(alloc);
-    let mut low = 0;
-    'said: for (vertex, bits) in said {
-        if *vertex < low {
-            return Ok(None);
-        }
-        if *vertex >= spaces.len() {
-            return Ok(None);
-        }
-        let states = of_bits(alloc, spaces[*vertex], *bits)?;
-        terms.push(Term {
-            vertex: *vertex,
-            states,
-        })?;
-        low = *vertex + 1;
-    }
-    Ok(Some(terms))
 }
 
 /// Puts an axiom into a store, if its vertices rise and are there.

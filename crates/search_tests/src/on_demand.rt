@@ -1,11 +1,11 @@
 //! Pigeons that come, and axioms of theirs that are added, only once a pigeon before them stands in a hole.
 
-ghost use Rattle.search_tests.specs.Universes.{AreSmall};
+ghost use Rattle.search_trials.specs.Meeting.{AreSmall};
 ghost use Rattle.std.specs.Prelude.{◌≤◌};
 
 use crate::demanding::{Demanding, Pending, search_on_demand};
-use crate::made_stores::terms_of;
 use incompatibilities::{Id, Incompatibility};
+use search_trials::terms_of;
 use searching::Answer;
 use std::alloc::{AllocError, Global};
 use std::process::Abort;

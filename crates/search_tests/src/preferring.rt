@@ -1,7 +1,8 @@
 //! A search whose axioms all stand in the store from the start, with a preferred state for each vertex; it keeps what
 //! the search tells of its conflicts.
 
-ghost use Rattle.search_tests.specs.Universes.{AllDecided, AllLie, AreSmall, IsWithinAll, Prefers, Refutes, Selects};
+ghost use Rattle.search_tests.specs.Universes.{AllDecided, AllLie, IsWithinAll, Prefers, Refutes, Selects};
+ghost use Rattle.search_trials.specs.Meeting.{AreSmall};
 ghost use Rattle.incompatibilities.specs.Stores.{entries_view};
 ghost use Rattle.propagation.specs.Trails.{trail_view};
 ghost use Rattle.incompatibilities.specs.Incompatibilities.{Assignment};

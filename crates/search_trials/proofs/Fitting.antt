@@ -1,8 +1,8 @@
--- Terms that come one by one at rising vertices, and a store with one entry more.
-use Rattle.std.proofs.Common.{◌≡◌, ◌≢◌, ℕ, ◌+◌, ◌≤◌, ◌⊎◌, Bool, true, false, cond, eqb, List, [], ◌∷◌, ◌++◌, length}
-use Rattle.std.proofs.Common.{Option, Some, None, refl, sym, ap, ◌∙◌, subst, arith, inl, inr}
+-- Terms that come one by one at rising vertices, and a trail that meets a store after each call.
+use Rattle.std.proofs.Common.{◌≡◌, ◌≢◌, ℕ, zero, suc, ◌+◌, ◌≤◌, ◌⊎◌, Bool, true, false, cond, eqb, List, [], ◌∷◌, ◌++◌}
+use Rattle.std.proofs.Common.{length, Option, Some, None, refl, sym, ap, ◌∙◌, subst, arith, inl, inr}
 use Rattle.std.proofs.lemmas.Bool.{cases_eq, cases_lt, ne_eqb}
-use Rattle.std.proofs.lemmas.List.{get_or_append_left, length-append}
+use Rattle.std.proofs.lemmas.List.{get_or_append_left, length-append, length-replicate}
 use Rattle.std.proofs.lemmas.Option.{same_Some}
 use Rattle.version_sets.specs.Sets.{Members, every}
 use Rattle.terms.specs.Terms.{TermView}
@@ -10,11 +10,11 @@ use Rattle.incompatibilities.specs.Incompatibilities.{LiesIn, OneEach, states_at
 use Rattle.incompatibilities.specs.Stores.{EntryView, entry}
 use Rattle.incompatibilities.specs.declared.origin.Origin.TheVariants.{Axiom}
 use Rattle.incompatibilities.proofs.Lookups.{at_first, at_later, or_else, states_at-append}
-use Rattle.propagation.specs.Promises.{LieIn}
-use Rattle.propagation.specs.Trails.{TrailView, space_of}
+use Rattle.propagation.specs.Promises.{IsNew, IsTrail, LieIn, SameSpaces}
+use Rattle.propagation.specs.Trails.{TrailView, set_of, space_of}
 use Rattle.propagation.specs.Widening.{IsWider}
 use Rattle.propagation.proofs.Soundness.{trail_grown}
-use Rattle.search_trials.specs.Meeting.{AreFit, IsMeeting}
+use Rattle.search_trials.specs.Meeting.{AreFit, AreSmall, IsMeeting, universe_at}
 
 -- the terms so far, all at vertices below a number
 pub record AreSoFar (space : ℕ → ℕ) (low : ℕ) (ts : List TermView) : Type 0 where
@@ -72,11 +72,39 @@ one_more space low next ts t far le is fits = record {
 pub all_fit : (space : ℕ → ℕ) (low : ℕ) (ts : List TermView) → AreSoFar space low ts → AreFit space ts
 all_fit space low ts far = record { one = far.one; lies = far.lies }
 
+-- a trail before any assignment
+pub meets_at_first : (spaces : List ℕ) (t : TrailView) → AreSmall spaces → IsNew spaces t → IsTrail [] t
+    → IsMeeting spaces [] t
+meets_at_first spaces t small new trail = record {
+  trail = trail;
+  vertices = new.vertices;
+  each = λ v. ap length (new.full v) ∙ length-replicate (universe_at spaces v) true;
+  small = small;
+}
+
+-- a trail on which no universe changed
+pub meets_still : (spaces : List ℕ) (es : List EntryView) (old new : TrailView) → IsMeeting spaces es old
+    → IsTrail es new → SameSpaces old new → IsMeeting spaces es new
+meets_still spaces es old new m trail same = record {
+  trail = trail;
+  vertices = same.vertices ∙ m.vertices;
+  each = λ v. same.spaces v ∙ m.each v;
+  small = m.small;
+}
+
 -- a store with one entry more
-pub meets_more : (n : ℕ) (es : List EntryView) (e : EntryView) (t : TrailView) → IsMeeting n es t
-    → LiesIn (space_of t) (states_at e.terms) → IsMeeting n (es ++ e ∷ []) t
-meets_more n es e t m lies = record { trail = trail_grown es (e ∷ []) t m.trail all; vertices = m.vertices }
+pub meets_more : (spaces : List ℕ) (es : List EntryView) (e : EntryView) (t : TrailView) → IsMeeting spaces es t
+    → LiesIn (universe_at spaces) (states_at e.terms) → IsMeeting spaces (es ++ e ∷ []) t
+meets_more spaces es e t m fits = record {
+  trail = trail_grown es (e ∷ []) t m.trail all;
+  vertices = m.vertices;
+  each = m.each;
+  small = m.small;
+}
   where
+    lies : LiesIn (space_of t) (states_at e.terms)
+    lies u s is = fits u s is ∙ sym (m.each u)
+
     last : (es : List EntryView) (d : EntryView) → entry (es ++ d ∷ []) (length es) ≡ d
     last [] d = refl
     last (x ∷ es) d = last es d
@@ -92,7 +120,37 @@ meets_more n es e t m lies = record { trail = trail_grown es (e ∷ []) t m.trai
     ]
 
 -- one vertex more
-pub one_wider : (n universe : ℕ) (old new : TrailView) → length old.sets ≡ n → IsWider (universe ∷ []) old new
-    → length new.sets ≡ n + 1
-one_wider n universe old new is wider =
-    ap length wider.sets ∙ omega (arith, length-append old.sets (every universe ∷ []), is)
+small_more : (spaces : List ℕ) (universe : ℕ) → AreSmall spaces → universe ≤ 65536
+    → AreSmall (spaces ++ universe ∷ [])
+small_more [] universe all le zero lt = le
+small_more [] universe all le (suc i) lt = absurd (omega (arith, lt))
+small_more (n ∷ spaces) universe all le zero lt = all zero (omega arith)
+small_more (n ∷ spaces) universe all le (suc i) lt =
+    small_more spaces universe (λ j low. all (suc j) (omega (arith, low))) le i (omega (arith, lt))
+
+each_more : (sets : List Members) (spaces : List ℕ) (universe : ℕ) → length sets ≡ length spaces
+    → ((v : ℕ) → length (set_of sets v) ≡ universe_at spaces v)
+    → (v : ℕ) → length (set_of (sets ++ every universe ∷ []) v) ≡ universe_at (spaces ++ universe ∷ []) v
+each_more [] [] universe e each zero = length-replicate universe true
+each_more [] [] universe e each (suc v) = refl
+each_more [] (n ∷ spaces) universe e each v = absurd (omega (arith, e))
+each_more (s ∷ sets) [] universe e each v = absurd (omega (arith, e))
+each_more (s ∷ sets) (n ∷ spaces) universe e each zero = each zero
+each_more (s ∷ sets) (n ∷ spaces) universe e each (suc v) =
+    each_more sets spaces universe (omega (arith, e)) (λ u. each (suc u)) v
+
+pub meets_wider : (spaces : List ℕ) (universe : ℕ) (es : List EntryView) (old new : TrailView)
+    → IsMeeting spaces es old → universe ≤ 65536 → IsTrail es new → IsWider (universe ∷ []) old new
+    → IsMeeting (spaces ++ universe ∷ []) es new
+meets_wider spaces universe es old new m small trail wider = record {
+  trail = trail;
+  vertices = ap length wider.sets ∙ omega (
+    arith,
+    length-append old.sets (every universe ∷ []),
+    length-append spaces (universe ∷ []),
+    m.vertices,
+  );
+  each = λ v. ap (λ sets. length (set_of sets v)) wider.sets
+      ∙ each_more old.sets spaces universe m.vertices m.each v;
+  small = small_more spaces universe m.small small;
+}

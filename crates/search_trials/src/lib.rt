@@ -5,8 +5,8 @@
 //! undone what can't be, and says so.
 #![tactic(auto)]
 
-mod terms_of;
+mod made_terms;
 mod trial;
 
-pub use terms_of::{of_bits, with_number};
+pub use made_terms::{terms_of, with_number};
 pub use trial::Trial;

@@ -4,9 +4,9 @@ ghost use Rattle.incompatibilities.specs.Stores.{entries_view};
 ghost use Rattle.propagation.specs.Promises.{IsTrail, IsProgress};
 ghost use Rattle.propagation.specs.Trails.{trail_view};
 ghost use Rattle.propagation.specs.declared.propagating.Progress.TheVariants.{Conflict};
-ghost use Rattle.std.specs.Prelude.{◌≤◌};
+ghost use Rattle.std.specs.Prelude.{◌≡◌, ◌≤◌, length};
 
-use crate::terms_of::terms_of;
+use crate::made_terms::terms_of;
 use incompatibilities::{Id, Incompatibility, Origin, Store};
 use propagation::{Progress, Satisfier, Trail};
 use std::alloc::{AllocError, Global};
@@ -19,7 +19,7 @@ pub struct Trial<S: States> {
     alloc: Global,
     store: Store<S>,
     trail: Trail<S>,
-    vertices: usize,
+    spaces: Vec<u32>,
 }
 
 impl<S: States> Model for Trial<S> {
@@ -31,7 +31,7 @@ impl<S: States> Model for Trial<S> {
 
     ghost view = { λ t. trail_view S.tests t.trail };
 
-    ghost invariant = { λ t. IsMeeting t.vertices (entries_view S.tests t.store) (trail_view S.tests t.trail) };
+    ghost invariant = { λ t. IsMeeting t.spaces.items (entries_view S.tests t.store) (trail_view S.tests t.trail) };
 }
 
 /// The entry that a propagation ended at and what satisfied it, if it has a term.
@@ -53,12 +53,12 @@ fn satisfier_of<S: States + Drop>(
 impl<S: States + Drop> Trial<S> {
     /// The empty store, and the trail without vertices.
     pub fn new(alloc: Global) -> Result<Trial<S>, AllocError> {
-        let spaces: [u32; 0] = [];
+        let spaces = Vec::new(alloc);
         Ok(Trial {
             alloc,
             store: Store::new(alloc),
             trail: Trail::new(alloc, &spaces)?,
-            vertices: 0,
+            spaces,
         })
     }
 
@@ -66,16 +66,18 @@ impl<S: States + Drop> Trial<S> {
     pub fn grow(&mut self, universe: u32) -> Result<(), AllocError>
         requires { universe ≤ 65536 }
     {
+        // Room first, so that `spaces` grows where the trail does.
+        self.spaces.reserve(1)?;
         self.store.is_proper();
         self.trail.grow(universe)?;
-        self.vertices += 1;
+        self.spaces.push_reserved(universe);
         Ok(())
     }
 
     /// Puts an entry into the store: not each of these vertices has one of the states whose bits are set. Whether it
     /// did: the vertices have to rise and to be there.
     pub fn forbid(&mut self, said: &[(usize, u64)]) -> Result<bool, AllocError> {
-        match terms_of(self.alloc, &self.trail, self.vertices, said)? {
+        match terms_of(self.alloc, &self.spaces, said)? {
             Some(terms) => {
                 self.store
                     .add(Incompatibility::new(terms), Origin::Axiom(0))?;
@@ -87,7 +89,7 @@ impl<S: States + Drop> Trial<S> {
 
     /// Decides, if the vertex has that state among several; whether it did.
     pub fn decide(&mut self, vertex: usize, state: u32) -> Result<bool, AllocError> {
-        if vertex >= self.vertices {
+        if vertex >= self.vertices() {
             return Ok(false);
         }
         if self.trail.states(vertex).count() <= 1 {
@@ -121,8 +123,10 @@ impl<S: States + Drop> Trial<S> {
     }
 
     /// How many vertices there are.
-    pub fn vertices(&self) -> usize {
-        self.vertices
+    pub fn vertices(&self) -> usize
+        ensures { result ≡ length self.now.sets }
+    {
+        self.spaces.len()
     }
 
     /// The level.
@@ -137,7 +141,7 @@ impl<S: States + Drop> Trial<S> {
 
     /// How many states a vertex has left; none if it isn't there.
     pub fn count(&self, vertex: usize) -> u32 {
-        if vertex >= self.vertices {
+        if vertex >= self.vertices() {
             return 0;
         }
         self.trail.states(vertex).count()
@@ -145,7 +149,7 @@ impl<S: States + Drop> Trial<S> {
 
     /// Whether a vertex has a state left.
     pub fn has(&self, vertex: usize, state: u32) -> bool {
-        if vertex >= self.vertices {
+        if vertex >= self.vertices() {
             return false;
         }
         self.trail.states(vertex).member(state)

@@ -1,9 +1,12 @@
-use Rattle.std.proofs.Common.{◌∙◌}
 use Rattle.incompatibilities.specs.Stores.{entries_view}
+use Rattle.propagation.specs.Trails.{trail_view}
+use Rattle.search_trials.proofs.Fitting.{meets_still}
 use Rattle.search_trials.proofs.trial.Trial.decide.Goals as goal
 
 pub invariant_of-self-2 : goal.invariant_of-self-2
-invariant_of-self-2 g c = record {
-  trail = c.decide.ensures.trail (entries_view g.S.States.tests c.self.inside.store) c.self.invariant.trail;
-  vertices = c.decide.ensures.spaces.vertices ∙ c.self.invariant.vertices;
-}
+invariant_of-self-2 g c =
+    let tests = g.S.States.tests in
+    let es = entries_view tests c.self.inside.store in
+    meets_still c.self.inside.spaces.items es (trail_view tests c.self.inside.trail)
+    (trail_view tests c.decide.new.self) c.self.invariant (c.decide.ensures.trail es c.self.invariant.trail)
+    c.decide.ensures.spaces

@@ -2,7 +2,7 @@ use Rattle.std.proofs.Common.{◌≡◌, ◌∙◌, ap, length, sym}
 use Rattle.std.proofs.lemmas.Result.{IfOk-weaker}
 use Rattle.version_sets.specs.Sets.{join}
 use Rattle.version_sets.proofs.Laws.{length-join, length-only}
-use Rattle.search_trials.proofs.terms_of.with_number.Goals as goal
+use Rattle.search_trials.proofs.made_terms.with_number.Goals as goal
 
 pub returns : goal.returns
 returns g c =

@@ -1,5 +1,5 @@
 use Rattle.std.proofs.Common.{◌≡◌, length}
-use Rattle.search_trials.proofs.terms_of.of_bits.Given as goal
+use Rattle.search_trials.proofs.made_terms.of_bits.Given as goal
 
 abbrev pub invariant-states : goal.invariant-states
 invariant-states g l = length (g.S.States.tests l.set) ≡ l.universe

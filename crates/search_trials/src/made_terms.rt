@@ -1,12 +1,10 @@
 //! Terms made of vertices and bits.
 
-ghost use Rattle.propagation.specs.Trails.{space_of, trail_view};
-ghost use Rattle.search_trials.specs.Meeting.{AreFit};
+ghost use Rattle.search_trials.specs.Meeting.{AreFit, AreSmall, universe_at};
 ghost use Rattle.std.specs.Option.{IfSome};
 ghost use Rattle.std.specs.Prelude.{◌≡◌, ◌≤◌, IfOk, length};
 ghost use Rattle.terms.specs.Terms.{terms_view};
 
-use propagation::Trail;
 use std::alloc::{AllocError, Global};
 use terms::Term;
 use version_sets::States;
@@ -30,7 +28,7 @@ pub fn with_number<S: States + Drop>(
 }
 
 /// The set of the numbers below a universe whose bits are set, counted modulo 64.
-pub fn of_bits<S: States + Drop>(alloc: Global, universe: u32, bits: u64) -> Result<S, AllocError>
+fn of_bits<S: States + Drop>(alloc: Global, universe: u32, bits: u64) -> Result<S, AllocError>
     requires { universe ≤ 65536 }
     ensures { IfOk result (λ s. length (S.tests s) ≡ universe) }
 {
@@ -43,16 +41,14 @@ pub fn of_bits<S: States + Drop>(alloc: Global, universe: u32, bits: u64) -> Res
     Ok(set)
 }
 
-/// The terms of these vertices and bits; none if the vertices don't rise or one isn't on the trail.
-pub(crate) fn terms_of<S: States + Drop>(
+/// The terms of these vertices and bits; none if the vertices don't rise or one isn't there.
+pub fn terms_of<S: States + Drop>(
     alloc: Global,
-    trail: &Trail<S>,
-    vertices: usize,
+    spaces: &[u32],
     said: &[(usize, u64)],
 ) -> Result<Option<Vec<Term<S>>>, AllocError>
-    requires { length (trail_view S.tests trail.now).sets ≡ vertices }
-    ensures { IfOk result
-        (λ o. IfSome o (λ v. AreFit (space_of (trail_view S.tests trail.now)) (terms_view S.tests v.items))) }
+    requires { AreSmall spaces.now }
+    ensures { IfOk result (λ o. IfSome o (λ v. AreFit (universe_at spaces.now) (terms_view S.tests v.items))) }
 {
     let mut terms = Vec::new(alloc);
     let mut low = 0;
@@ -60,13 +56,13 @@ pub(crate) fn terms_of<S: States + Drop>(
         if *vertex < low {
             return Ok(None);
         }
-        if *vertex >= vertices {
+        if *vertex >= spaces.len() {
             return Ok(None);
         }
-        let universe = trail.states(*vertex).universe();
+        let states = of_bits(alloc, spaces[*vertex], *bits)?;
         terms.push(Term {
             vertex: *vertex,
-            states: of_bits(alloc, universe, *bits)?,
+            states,
         })?;
         low = *vertex + 1;
     }
