@@ -33,10 +33,11 @@ impl Rank {
 #[derive(Drop)]
 pub struct Candidate {
     pub checksum: Checksum,
-    /// A yanked candidate is there because it is locked.
-    pub yanked: bool,
     /// The Rust version that it needs, if it names one.
     pub rust_version: Option<RustVersion>,
     pub brings: Summary,
+    // Side by side, so that they take eight bytes together.
+    /// A yanked candidate is there because it is locked.
+    pub yanked: bool,
     pub(crate) rank: Rank,
 }
