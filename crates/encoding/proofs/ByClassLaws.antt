@@ -1,6 +1,6 @@
 -- A number that is put behind those of its class is there, and what those of a class give is what all give with it.
-use Rattle.std.proofs.Common.{◌≡◌, ℕ, List, [], ◌∷◌, ◌++◌, Bool, true, false, cond, Some, None, Vec, map, refl, sym, ap}
-use Rattle.std.proofs.Common.{ap₂, ◌∙◌, ◌+◌, ◌<◌, nat_eq, true≢false, length, drop, get_or}
+use Rattle.std.proofs.Common.{◌≡◌, ℕ, List, [], ◌∷◌, ◌++◌, Bool, true, false, cond, Option, Some, Vec, map, refl, sym}
+use Rattle.std.proofs.Common.{ap, ap₂, unwrap_or, ◌∙◌, ◌+◌, ◌<◌, nat_eq, true≢false, length, drop, get_or}
 use Rattle.std.specs.HashMap.{HashMap, get}
 use Rattle.std.specs.List.{flat_map, list_all}
 use Rattle.std.specs.declared.alloc.Global.{Global}
@@ -21,8 +21,8 @@ use Rattle.refutations.specs.Causes.{Cause, of_newest}
 use Rattle.encoding.specs.ByClass.{PutsLeading, leading_to, newest_among, newest_with, number_if, numbers_in, same_key}
 use Rattle.encoding.specs.Called.{numbered_from}
 use Rattle.encoding.specs.CausesAt.{newest_above, newest_at, newest_if}
-use Rattle.encoding.specs.Lists.{if_some}
 use Rattle.encoding.specs.OnPackage.{on_package, others_on}
+use Rattle.encoding.proofs.ListLaws.{pushed}
 use Rattle.encoding.proofs.OnPackageLaws.{each_on, each_other}
 use Rattle.encoding.proofs.Same.{class_same}
 
@@ -39,33 +39,16 @@ key_same (class.Major n) (class.Patch m) e = absurd (true≢false (sym e))
 key_same (class.Major n) (class.Minor m) e = absurd (true≢false (sym e))
 key_same (class.Major n) (class.Major m) e = ap class.Major (eqb-true n m e)
 
-module _ {S : Type 0} (m new : HashMap code.Class (Vec ℕ Global) S) (c : code.Class) (j : ℕ) (w : Vec ℕ Global)
-    (is : (x : code.Class) → get same_key new x ≡ cond (same_key c x) (Some w) (get same_key m x)) where
-  putting : (had : List ℕ) → if_some (get same_key m c) ≡ had → w.items ≡ had ++ j ∷ []
-      → PutsLeading m j (class_view c ∷ []) new
-  putting had before more x = ap if_some (is x) ∙ by (same_key c x) refl
-      ∙ ap (λ b. numbers_in m x ++ (cond b (j ∷ []) [] ++ [])) (class_same c x)
-    where
-      by : (b : Bool) → same_key c x ≡ b
-          → if_some (cond b (Some w) (get same_key m x)) ≡ numbers_in m x ++ (cond b (j ∷ []) [] ++ [])
-      by true e = more ∙ ap (λ l. l ++ j ∷ []) (sym before ∙ ap (numbers_in m) (key_same c x e))
-      by false e = sym (append-nil (numbers_in m x))
-
-  -- behind those of its class ..
-  pub leading_behind : (before : Vec ℕ Global) → get same_key m c ≡ Some before → w.items ≡ before.items ++ j ∷ []
-      → PutsLeading m j (class_view c ∷ []) new
-  leading_behind before had more = putting before.items (ap if_some had) more
-
-  leading_first : get same_key m c ≡ None → w.items ≡ j ∷ [] → PutsLeading m j (class_view c ∷ []) new
-  leading_first none more = putting [] (ap if_some none) more
-
--- .. or as the first, where the map was asked for them before
-pub leading_new : {S : Type 0} (m mid new : HashMap code.Class (Vec ℕ Global) S) (c : code.Class) (j : ℕ)
-    (w : Vec ℕ Global) → mid ≡ m
-    → ((x : code.Class) → get same_key new x ≡ cond (same_key c x) (Some w) (get same_key mid x))
-    → get same_key m c ≡ None → w.items ≡ j ∷ [] → PutsLeading m j (class_view c ∷ []) new
-leading_new m mid new c j w same is none more = leading_first m new c j w
-    (λ x. is x ∙ ap (λ n. cond (same_key c x) (Some w) (get same_key n x)) same) none more
+-- behind those of its class, or as the first
+pub leading_behind : {S : Type 0} (m new : HashMap code.Class (Vec ℕ Global) S) (c : code.Class) (j : ℕ)
+    (w : Vec ℕ Global) → ((x : code.Class) → get same_key new x ≡ cond (same_key c x) (Some w) (get same_key m x))
+    → {found : Option (Vec ℕ Global)} (before none : Vec ℕ Global) → found ≡ get same_key m c
+    → before ≡ unwrap_or found none → none.items ≡ [] → w.items ≡ before.items ++ j ∷ []
+    → PutsLeading m j (class_view c ∷ []) new
+leading_behind m new c j w is before none had or empty more x =
+    pushed same_key m new c j w (λ x e. ap (get same_key m) (key_same c x e)) is before none had or empty more x
+    ∙ ap (λ l. numbers_in m x ++ l) (sym (append-nil (cond (same_key c x) (j ∷ []) [])))
+    ∙ ap (λ b. numbers_in m x ++ (cond b (j ∷ []) [] ++ [])) (class_same c x)
 
 -- after one class what is left is that much less
 pub leading_step : {S : Type 0} (m new : HashMap code.Class (Vec ℕ Global) S) (j : ℕ) (ks : List code.Class) (i : ℕ)

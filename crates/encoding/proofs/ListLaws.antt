@@ -1,6 +1,6 @@
--- A value that is put behind those of its text is there, and no other text has it.
-use Rattle.std.proofs.Common.{◌≡◌, ℕ, List, [], ◌∷◌, ◌++◌, Bool, true, false, cond, Some, None, Vec, map, refl, sym, ap}
-use Rattle.std.proofs.Common.{◌∙◌}
+-- A value that is put behind those of its key is there, and no other key has it.
+use Rattle.std.proofs.Common.{◌≡◌, ℕ, List, [], ◌∷◌, ◌++◌, Bool, true, false, cond, Option, Some, None, Vec, map, refl}
+use Rattle.std.proofs.Common.{sym, ap, ◌∙◌, unwrap_or}
 use Rattle.std.specs.Borrow.{Bor}
 use Rattle.std.specs.HashMap.{HashMap, get}
 use Rattle.std.specs.Map.{lookup}
@@ -10,38 +10,33 @@ use Rattle.model.specs.Summary.{same_text}
 use Rattle.model.proofs.Same.{text-same}
 use Rattle.encoding.specs.Lists.{Puts, if_some, listed_in, same_name}
 
-module _ {T S : Type 0} (m new : HashMap (Bor (List ℕ)) (Vec T Global) S) (text : Bor (List ℕ))
-    (value : T) (w : Vec T Global)
-    (is : (x : Bor (List ℕ)) → get same_name new x ≡ cond (same_name text x) (Some w) (get same_name m x)) where
-  same_at : (x : Bor (List ℕ)) → same_name text x ≡ true → get same_name m text ≡ get same_name m x
-  same_at x e = ap (λ n. lookup (λ (k : Bor (List ℕ)). same_text n k.now) m.entries) (text-same text.now x.now e)
+some_or : {T : Type 0} (o : Option (Vec T Global)) (none : Vec T Global) → none.items ≡ []
+    → if_some o ≡ (unwrap_or o none).items
+some_or None none empty = sym empty
+some_or (Some values) none empty = refl
 
-  putting : (had : List T) → if_some (get same_name m text) ≡ had → w.items ≡ had ++ value ∷ [] → Puts m text value new
-  putting had before more x = ap if_some (is x) ∙ by (same_name text x) refl
+-- a map with the list w at the key k, where equal keys find the same: w is what was there, or else an empty list, with
+-- one value more
+module _ {K T S : Type 0} (same : K → K → Bool) (m new : HashMap K (Vec T Global) S) (k : K) (value : T)
+    (w : Vec T Global) (alike : (x : K) → same k x ≡ true → get same m k ≡ get same m x)
+    (is : (x : K) → get same new x ≡ cond (same k x) (Some w) (get same m x)) where
+  pub pushed : {found : Option (Vec T Global)} (before none : Vec T Global) → found ≡ get same m k
+      → before ≡ unwrap_or found none → none.items ≡ [] → w.items ≡ before.items ++ value ∷ []
+      → (x : K) → if_some (get same new x) ≡ if_some (get same m x) ++ cond (same k x) (value ∷ []) []
+  pushed before none had or empty more x = ap if_some (is x) ∙ by (same k x) refl
     where
-      by : (b : Bool) → same_name text x ≡ b
-          → if_some (cond b (Some w) (get same_name m x)) ≡ listed_in m x ++ cond b (value ∷ []) []
-      by true e = more ∙ ap (λ l. l ++ value ∷ []) (sym before ∙ ap if_some (same_at x e))
-      by false e = sym (append-nil (listed_in m x))
+      by : (b : Bool) → same k x ≡ b
+          → if_some (cond b (Some w) (get same m x)) ≡ if_some (get same m x) ++ cond b (value ∷ []) []
+      by true e = more ∙ ap (λ l. l ++ value ∷ []) (ap (λ v. v.items) (or ∙ ap (λ o. unwrap_or o none) had)
+          ∙ sym (some_or (get same m k) none empty) ∙ ap if_some (alike x e))
+      by false e = sym (append-nil (if_some (get same m x)))
 
-  -- behind those of its text ..
-  pub put_behind : (before : Vec T Global) → get same_name m text ≡ Some before
-      → w.items ≡ before.items ++ value ∷ [] → Puts m text value new
-  put_behind before had more = putting before.items (ap if_some had) more
+-- equal texts find the same
+pub same_at : {T S : Type 0} (m : HashMap (Bor (List ℕ)) (Vec T Global) S) (text x : Bor (List ℕ))
+    → same_name text x ≡ true → get same_name m text ≡ get same_name m x
+same_at m text x e = ap (λ n. lookup (λ (k : Bor (List ℕ)). same_text n k.now) m.entries) (text-same text.now x.now e)
 
-  -- .. or as the first, ..
-  put_first : get same_name m text ≡ None → w.items ≡ value ∷ [] → Puts m text value new
-  put_first none more = putting [] (ap if_some none) more
-
--- .. where the map was asked for them before
-pub put_new : {T S : Type 0} (m mid new : HashMap (Bor (List ℕ)) (Vec T Global) S) (text : Bor (List ℕ)) (value : T)
-    (w : Vec T Global) → mid ≡ m
-    → ((x : Bor (List ℕ)) → get same_name new x ≡ cond (same_name text x) (Some w) (get same_name mid x))
-    → get same_name m text ≡ None → w.items ≡ value ∷ [] → Puts m text value new
-put_new m mid new text value w same is none more = put_first m new text value w
-    (λ x. is x ∙ ap (λ n. cond (same_name text x) (Some w) (get same_name n x)) same) none more
-
--- the same of what the values stand for
+-- what is put, of what the values stand for
 pub put_views : {T X S : Type 0} (view : T → X) (m new : HashMap (Bor (List ℕ)) (Vec T Global) S) (text : Bor (List ℕ))
     (value : T) → Puts m text value new
     → (x : Bor (List ℕ))

@@ -122,12 +122,7 @@ fn put_class(
 ) -> Result<(), AllocError>
     ensures { OnOk result (PutsLeading leading.old number (class_view class.now ∷ []) leading.new) }
 {
-    if let Some(numbers) = leading.get_mut(class) {
-        numbers.push(number)?;
-        return Ok(());
-    }
-    let mut numbers = Vec::new(alloc);
+    let numbers = leading.entry(*class)?.or_insert(Vec::new(alloc));
     numbers.push(number)?;
-    leading.insert(*class, numbers)?;
     Ok(())
 }

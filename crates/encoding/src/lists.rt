@@ -15,12 +15,7 @@ pub(crate) fn put<'a, T: Drop>(
 ) -> Result<(), AllocError>
     ensures { OnOk result (Puts lists.old text.entry value lists.new) }
 {
-    if let Some(values) = lists.get_mut(&text) {
-        values.push(value)?;
-        return Ok(());
-    }
-    let mut values = Vec::new(alloc);
+    let values = lists.entry(text)?.or_insert(Vec::new(alloc));
     values.push(value)?;
-    lists.insert(text, values)?;
     Ok(())
 }

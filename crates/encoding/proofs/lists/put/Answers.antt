@@ -1,17 +1,14 @@
-use Rattle.std.proofs.Common.{◌++◌, ◌∷◌, [], is_some, sym, ap, ◌∙◌}
-use Rattle.encoding.proofs.ListLaws.{put_behind, put_new}
+use Rattle.std.proofs.Common.{arith}
+use Rattle.std.specs.HashMap.Entry.{map_with_value}
+use Rattle.encoding.specs.Lists.{same_name}
+use Rattle.encoding.proofs.ListLaws.{pushed, same_at}
 use Rattle.encoding.proofs.lists.put.Goals as goal
-
-pub returns-in-Some : goal.returns-in-Some
-returns-in-Some g c =
-    let w = c.push.new.self in
-    let had = sym c.in-Some.ensures.value in
-    put_behind c.args.lists.now (c.get_mut.follows.lender w) c.args.text c.args.value w
-    ((c.get_mut.follows.holds w).3 (ap is_some had)).0 c.in-Some.values.now had c.in_ok-push.ensures.items
 
 pub returns : goal.returns
 returns g c =
-    put_new c.args.lists.now _ c.insert.new.self c.args.text c.args.value c.push-2.new.self
-    c.get_mut.follows.holds-at-none
-    c.in_ok-insert.ensures.updates.0 (sym c.in_default.ensures.value)
-    (c.in_ok-push-2.ensures.items ∙ ap (λ xs. xs ++ c.args.value ∷ []) c.new-values.ensures.items)
+    let w = c.push.new.self in
+    let put = pushed same_name c.args.lists.now (map_with_value c.in_ok-lists.field-0 w) c.args.text c.args.value w
+    (same_at c.args.lists.now c.args.text) (c.in_ok-lists.ensures.update.0 w).0 c.or_insert-values.result.now
+    c.new.result c.in_ok-lists.ensures.value c.or_insert-values.ensures.value c.new.ensures.items
+    c.in_ok-push.ensures.items in
+    λ x. grind (arith, put x)
