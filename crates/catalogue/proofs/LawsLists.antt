@@ -25,7 +25,7 @@ module _ {X Y : Type 0} (f : X → Y) where
   pub pairs_mapped : (R : Y → Y → Type 0) (xs : List X) → AllPairs R (map f xs) → AllPairs (λ x y. R (f x) (f y)) xs
   pairs_mapped R [] h = pairs_none (λ x y. R (f x) (f y))
   pairs_mapped R (x ∷ xs) h =
-      AllPairs-cons (λ x y. R (f x) (f y)) x xs (all_mapped (R (f x)) xs (pairs_all R (f x) (map f xs) h))
+      AllPairs-cons (λ x y. R (f x) (f y)) x xs (all_mapped f (R (f x)) xs (pairs_all R (f x) (map f xs) h))
       (pairs_mapped R xs (pairs_rest R (f x) (map f xs) h))
 
 -- texts that differ from one another and are all among others are no more than those
