@@ -56,7 +56,7 @@ back-preserved g c =
     let within = way_within t v x c.requires.sound p way in
     let at = step_read tests c.args.self.now.steps.items p c.index.result.now _ within c.index.ensures in
     let again =
-        step_read tests c.args.self.now.steps.items p c.index-in-Some.result.now _ within c.index-in-Some.ensures in
+    step_read tests c.args.self.now.steps.items p c.index-in-Some.result.now _ within c.index-in-Some.ensures in
     let into : inside (step_at t.steps p).before x ≡ true =
     ap (λ (s : StepView). inside s.before x) at ∙ sym c.subset.ensures ∙ c.if-not-subset.false in
     subst (IsOnWay t v x) (ap (λ (s : StepView). s.previous) again) (way_back t v x c.requires.sound p way into)
@@ -71,7 +71,7 @@ back-smaller g c =
     let way : IsOnWay t v x (Some p) = subst (IsOnWay t v x) c.in-Some.is c.back.invariant in
     let within = way_within t v x c.requires.sound p way in
     let again =
-        step_read tests c.args.self.now.steps.items p c.index-in-Some.result.now _ within c.index-in-Some.ensures in
+    step_read tests c.args.self.now.steps.items p c.index-in-Some.result.now _ within c.index-in-Some.ensures in
     let less : reach c.index-in-Some.result.now.previous ≤ p =
     subst (λ (s : StepView). reach s.previous ≤ p) again (reach_less t c.requires.sound p within) in
     let here : reach c.back.link ≡ suc p = ap reach c.in-Some.is in

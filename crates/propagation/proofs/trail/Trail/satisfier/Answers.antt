@@ -33,7 +33,7 @@ is_read g c =
     let place : suc (r.all - 1) ≡ r.all = (let some = ranks.some in omega (arith, some)) in
     let lt : r.all - 1 < length t.steps = (let w = ranks.count.within in omega (arith, w, place)) in
     let at =
-        step_read tests c.args.self.now.steps.items (r.all - 1) c.index-step.result.now _ lt c.index-step.ensures in
+    step_read tests c.args.self.now.steps.items (r.all - 1) c.index-step.result.now _ lt c.index-step.ensures in
     record {
       sound = c.requires.sound;
       lies = record { is = c.terms.ensures.is; lies = c.requires.lies };
