@@ -1,4 +1,3 @@
 pub mod Added
 pub mod Beginnings
 pub mod Demanded
-pub mod Waiting

@@ -1,4 +1,4 @@
-use Rattle.std.proofs.Common.{List, length, ℕ, ap, arith, subst}
+use Rattle.std.proofs.Common.{List, length, ℕ, ap, arith, subst, map}
 use Rattle.incompatibilities.specs.Stores.{entries_view}
 use Rattle.propagation.specs.Promises.{IsNew}
 use Rattle.propagation.specs.Trails.{trail_view}
@@ -6,8 +6,11 @@ use Rattle.searching.proofs.Seen.{seen_none}
 use Rattle.search_tests.specs.Demands.{asked_of}
 use Rattle.search_tests.proofs.Beginnings.{has_spaces}
 use Rattle.search_tests.proofs.Demanded.{ones_asked}
-use Rattle.search_tests.proofs.Waiting.{pairs_view}
+use Rattle.search_tests.specs.declared.demanding.Pending.{Pending}
 use Rattle.search_tests.proofs.demanding.search_on_demand.Goals as goal
+
+abbrev pairs_view : {S : Type 0} → List (Pending S) → List (ℕ × ℕ)
+pairs_view ps = map (λ p. (p.vertex, p.state)) ps
 
 pub search-requires-clause-seen : goal.search-requires-clause-seen
 search-requires-clause-seen g c =

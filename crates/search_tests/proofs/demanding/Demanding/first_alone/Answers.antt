@@ -1,12 +1,14 @@
-use Rattle.std.proofs.Common.{◌≡◌, ◌<◌, ℕ, length, subst, sym, arith}
+use Rattle.std.proofs.Common.{◌≡◌, ◌<◌, ℕ, length, subst, sym, arith, List, map}
 use Rattle.propagation.specs.Trails.{set_of, trail_view}
 use Rattle.propagation.proofs.Vertices.{view_at}
 use Rattle.searching.specs.Searching.{IsOnly}
 use Rattle.search_tests.specs.Demands.{pair_at}
 use Rattle.search_tests.specs.declared.demanding.Pending.{Pending}
 use Rattle.conflicts.proofs.Covered.{one_more}
-use Rattle.search_tests.proofs.Waiting.{pairs_view}
 use Rattle.search_tests.proofs.demanding.Demanding.first_alone.Goals as goal
+
+abbrev pairs_view : {S : Type 0} → List (Pending S) → List (ℕ × ℕ)
+pairs_view ps = map (λ p. (p.vertex, p.state)) ps
 
 pub pairs-preserved : goal.pairs-preserved
 pairs-preserved g c =

@@ -1,9 +1,12 @@
-use Rattle.std.proofs.Common.{◌<◌, ℕ, length}
+use Rattle.std.proofs.Common.{◌<◌, ℕ, length, List, map}
 use Rattle.propagation.specs.Trails.{set_of, trail_view}
 use Rattle.searching.specs.Searching.{IsOnly}
 use Rattle.search_tests.specs.Demands.{pair_at}
-use Rattle.search_tests.proofs.Waiting.{pairs_view}
+use Rattle.search_tests.specs.declared.demanding.Pending.{Pending}
 use Rattle.search_tests.proofs.demanding.Demanding.first_alone.Given as goal
+
+abbrev pairs_view : {S : Type 0} → List (Pending S) → List (ℕ × ℕ)
+pairs_view ps = map (λ p. (p.vertex, p.state)) ps
 
 abbrev pub invariant-pairs : goal.invariant-pairs
 invariant-pairs g l =

@@ -1,4 +1,4 @@
-use Rattle.std.proofs.Common.{◌≡◌, ◌<◌, ℕ, List, length, true, subst, sym, ap, ◌∙◌}
+use Rattle.std.proofs.Common.{◌≡◌, ◌<◌, ℕ, List, length, true, subst, sym, ap, ◌∙◌, map}
 use Rattle.std.specs.List.{remove}
 use Rattle.std.proofs.lemmas.List.{length-map}
 use Rattle.incompatibilities.specs.Stores.{entries_view}
@@ -12,8 +12,10 @@ use Rattle.searching.proofs.Seen.{seen_none}
 use Rattle.search_tests.specs.Demands.{HasCome, IsPutOf, asked_of, pair_at}
 use Rattle.search_tests.specs.declared.demanding.Pending.{Pending}
 use Rattle.search_tests.proofs.Demanded.{adding_none, adding_one, map-remove, ones_asked}
-use Rattle.search_tests.proofs.Waiting.{pairs_view}
 use Rattle.search_tests.proofs.demanding.DemandingGuide.axioms.Goals as goal
+
+abbrev pairs_view : {S : Type 0} → List (Pending S) → List (ℕ × ℕ)
+pairs_view ps = map (λ p. (p.vertex, p.state)) ps
 
 pub returns-in-None-clause-adding : goal.returns-in-None-clause-adding
 returns-in-None-clause-adding g c =
