@@ -34,7 +34,8 @@ use Rattle.contents.specs.Contents.{AreInOrder, AreKept, AreListed, IsPackage, I
 use Rattle.contents.specs.Contents.{IsThere, owner_if, owners_of, met_owner, Placed, kept_with, package_if, places_in}
 use Rattle.model.specs.ContentOf.{package_of}
 use Rattle.reaching.specs.Built.{IsBuilt}
-use Rattle.contents.proofs.MetVersions.{once_at, rising_of, owners_once, some_is, name_in, version_in}
+use Rattle.contents.proofs.MetVersions.{once_at, rising_of, owners_once, some_is}
+use Rattle.model.proofs.Inner.{name_in, version_in}
 
 -- ---- one place more
 

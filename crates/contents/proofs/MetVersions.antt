@@ -20,7 +20,7 @@ use Rattle.model.specs.ContentOf.{package_of}
 use Rattle.model.specs.Candidates.{IsOlder, Record, as_candidate}
 use Rattle.model.specs.Order.{precedence}
 use Rattle.model.specs.Vertices.{Owner, the_root, version_of, owner_brings}
-use Rattle.model.proofs.Contents.{precedence-equal}
+use Rattle.model.proofs.Contents.{precedence-equal, less_equal}
 use Rattle.model.proofs.Lists.{all_get, all_first, all_rest, pairs_get, pairs_none, to_any}
 use Rattle.model.proofs.Owners.{candidate_at-is, candidate_at-there}
 use Rattle.model.proofs.Same.{both, text-refl, text-same}
@@ -116,18 +116,15 @@ rising_of index name s =
     subst Rising (sym (candidates_are index name)) (pairs_map as_candidate (λ c e. precedence c.version e.version
     ≡ Less) (candidates_at index name) (rising_at index.rows name s.versions_rise))
 
-less-equal : (o : Ordering) → o ≡ Less → o ≡ Equal → ⊥
-less-equal o e f = let x : Less ≡ Equal = sym e ∙ f in cc
-
 -- the version of each is there once
 pub once_at : (cs : List Candidate) → Rising cs → (n m : ℕ) (c e : Candidate) → slice_get cs n ≡ Some c
     → slice_get cs m ≡ Some e → precedence c.version e.version ≡ Equal → precedence e.version c.version ≡ Equal → n ≡ m
 once_at cs h n m c e got had same back = elim (cases_order n m) [
   | inl is ↦ is
   | inr o ↦ elim o [
-    | inl lt ↦ absurd (less-equal (precedence c.version e.version)
+    | inl lt ↦ absurd (less_equal (precedence c.version e.version)
         (pairs_get (λ c e. precedence c.version e.version ≡ Less) cs n m c e h lt got had) same)
-    | inr gt ↦ absurd (less-equal (precedence e.version c.version)
+    | inr gt ↦ absurd (less_equal (precedence e.version c.version)
         (pairs_get (λ c e. precedence c.version e.version ≡ Less) cs m n e c h gt had got) back)
   ]
 ]
@@ -279,12 +276,6 @@ pub met_there : (index : CatalogueView) (versions : List MetVersion) (n : ℕ) (
 met_there index versions n s h got = all_get (IsThere index) versions n s h.there got
 
 -- ---- each owner once
-
-pub name_in : (a b : List ℕ) (v w : Parts) → version_of a v ≡ version_of b w → a ≡ b
-name_in a b v w e = cc
-
-pub version_in : (a b : List ℕ) (v w : Parts) → version_of a v ≡ version_of b w → v ≡ w
-version_in a b v w e = cc
 
 module _ (index : CatalogueView) (store : IsStore index) where
   apart : (s t : MetVersion) → IsThere index s → IsThere index t → s ≢ t → met_owner index s ≢ met_owner index t

@@ -15,7 +15,7 @@ use Rattle.model.proofs.Same.{both, owner-same, text-same}
 use Rattle.vertices.specs.RefViews.{owner_ref_view}
 use Rattle.vertices.specs.declared.vertex.OwnerRef.{OwnerRef}
 use Rattle.encoding.specs.Called.{numbered_from}
-use Rattle.encoding.specs.Indexed.{AreBrought, AreByClass, AreThere, IsBrought, Place, same_place, same_ref}
+use Rattle.encoding.specs.Indexed.{AreBrought, AreByClass, AreThere, IsBrought, OwnerKey, same_owner_key, same_ref}
 use Rattle.encoding.specs.Matched.{AreMatched, Ask, classes_asked, same_ask}
 use Rattle.encoding.specs.OnPackage.{on_package}
 use Rattle.encoding.proofs.Requirements.{requirement-same}
@@ -72,16 +72,17 @@ put_brought q m after o ds r u e are one =
 
 -- ---- of dependencies on one package
 
-place-alike : (q : Problem) (x y : Place) (b : Problem × List (ℕ × Dependency)) → same_place x y ≡ true
+place-alike : (q : Problem) (x y : OwnerKey) (b : Problem × List (ℕ × Dependency)) → same_owner_key x y ≡ true
     → AreThere q x b → AreThere q y b
 place-alike q x y b same is =
     let e = both (same_ref x.0 y.0) _ same in
     is ∙ ap₂ (λ o n. (q, on_package n (numbered_from 0 (owner_brings q o).dependencies)))
     (owner-same (owner_ref_view x.0) (owner_ref_view y.0) e.0) (text-same x.1.now y.1.now e.1)
 
-pub put_place : (q : Problem) {S X E : Type 0} (m after : HashMap Place (Problem × List (ℕ × Dependency)) S) (x : Place)
+pub put_place : (q : Problem) {S X E : Type 0}
+    (m after : HashMap OwnerKey (Problem × List (ℕ × Dependency)) S) (x : OwnerKey)
     (b : Problem × List (ℕ × Dependency)) (r : Result X E)
-    → OnOk r (Updates same_place m after x (Some b)) → OnErr r (IsUnchanged m after) → AreByClass q m
+    → OnOk r (Updates same_owner_key m after x (Some b)) → OnErr r (IsUnchanged m after) → AreByClass q m
     → AreThere q x b → AreByClass q after
 put_place q m after x b r u e are one =
-    kept_after same_place (AreThere q) (place-alike q) m after x b r u e are one
+    kept_after same_owner_key (AreThere q) (place-alike q) m after x b r u e are one

@@ -23,16 +23,16 @@ abbrev pub AreBrought : {S : Type 0} → Problem → HashMap OwnerRef (List Depe
 AreBrought q m = (o : OwnerRef) (ds : List Dependency) → get same_ref m o ≡ Some ds → IsBrought q o ds
 
 -- an owner, and a package
-abbrev pub Place : Type 0
-Place = OwnerRef × Bor (List ℕ)
+abbrev pub OwnerKey : Type 0
+OwnerKey = OwnerRef × Bor (List ℕ)
 
-abbrev pub same_place : Place → Place → Bool
-same_place x y = same_ref x.0 y.0 && pointwise nat_eq x.1.now y.1.now
+abbrev pub same_owner_key : OwnerKey → OwnerKey → Bool
+same_owner_key x y = same_ref x.0 y.0 && pointwise nat_eq x.1.now y.1.now
 
 -- those are the owner's dependencies on the package
-abbrev pub AreThere : Problem → Place → Problem × List (ℕ × Dependency) → Type 0
+abbrev pub AreThere : Problem → OwnerKey → Problem × List (ℕ × Dependency) → Type 0
 AreThere q x b = b ≡ (q, on_package x.1.now (numbered_from 0 (owner_brings q (owner_ref_view x.0)).dependencies))
 
 -- those that are kept are these
-abbrev pub AreByClass : {S : Type 0} → Problem → HashMap Place (Problem × List (ℕ × Dependency)) S → Type 0
-AreByClass q m = (x : Place) (b : Problem × List (ℕ × Dependency)) → get same_place m x ≡ Some b → AreThere q x b
+abbrev pub AreByClass : {S : Type 0} → Problem → HashMap OwnerKey (Problem × List (ℕ × Dependency)) S → Type 0
+AreByClass q m = (x : OwnerKey) (b : Problem × List (ℕ × Dependency)) → get same_owner_key m x ≡ Some b → AreThere q x b

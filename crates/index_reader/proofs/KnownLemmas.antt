@@ -11,7 +11,7 @@ use Rattle.features.specs.Views.{requirement_view, dependency_view}
 use Rattle.features.specs.declared.dependency.DependencyParts.{DependencyParts}
 use Rattle.index_reader.specs.Shapes.{Line, PartView}
 use Rattle.index_reader.specs.Records.{feature_names, dependency_read, required_part}
-use Rattle.index_reader.specs.Known.{IsRequirement, IsMadeOf, Says, same_names, same_flags, same_parts}
+use Rattle.index_reader.specs.Known.{IsRequirement, IsMadeOf, IsSaid, same_names, same_flags, same_parts}
 
 -- the dependency that a part is with these features
 abbrev with_features : PartView → List Held → List (List ℕ) → Line model.Dependency
@@ -26,7 +26,7 @@ with_features p requirement features = Ok (record {
 
 pub says : (p : PartView) (d : DependencyParts) (requirement : List ℕ) (features : List (List ℕ))
     → IsMadeOf requirement features d → same_parts d p ≡ true → requirement ≡ p.requirement → features ≡ p.features
-    → Says p d
+    → IsSaid p d
 unfolding dependency_read
 says p d requirement features made same r f =
     let t = both (same_names d p) (same_flags d p) same in
@@ -63,7 +63,7 @@ same_made r r' fs fs' d d' made rs fss ds =
     (subst (λ text. IsMadeOf text fs d) (sym rs) made))
 
 -- a part that says what another one says has its requirement
-pub again_required : (p q : PartView) (d : DependencyParts) → q ≡ p → Says q d
+pub again_required : (p q : PartView) (d : DependencyParts) → q ≡ p → IsSaid q d
     → required_part p ≡ Ok (q, requirement_view d.requirement)
 again_required p q d e says =
     ap required_part (sym e) ∙ ap (λ r. r >>= λ requirement. Ok (q, requirement)) says.requirement

@@ -20,7 +20,7 @@ pub record IsMadeOf (text : List ℕ) (texts : List (List ℕ)) (d : DependencyP
   pub features : feature_names texts ≡ Ok d.features.items
 
 -- a part of a line says just this dependency
-pub record Says (p : PartView) (d : DependencyParts) : Type 0 where
+pub record IsSaid (p : PartView) (d : DependencyParts) : Type 0 where
   pub requirement : IsRequirement p.requirement d.requirement
   pub dependency : dependency_read (p, requirement_view d.requirement) ≡ Ok (dependency_view d)
 

@@ -4,7 +4,7 @@ ghost use Rattle.std.specs.Prelude.{◌≡◌, IfOk, IfSome, IsTrue, map, unwrap
 ghost use Rattle.features.specs.NameTexts.{text_bytes};
 ghost use Rattle.model.specs.Summary.{same_text};
 ghost use Rattle.features.specs.Views.{text_views};
-ghost use Rattle.index_reader.specs.Known.{IsMadeOf, IsRequirement, Says, same_flags, same_names, same_parts};
+ghost use Rattle.index_reader.specs.Known.{IsMadeOf, IsRequirement, IsSaid, same_flags, same_names, same_parts};
 ghost use Rattle.index_reader.specs.ShapeViews.{part_view};
 
 use crate::made::{are_texts, kept_texts};
@@ -40,7 +40,7 @@ pub(crate) struct RequirementRead<'a> {
 pub(crate) struct PartAgain<'a> {
     pub part: &'a PartShape<'a>,
     pub dependency: Dependency,
-    ghost says: { Says (part_view part.now) dependency },
+    ghost says: { IsSaid (part_view part.now) dependency },
 }
 
 /// Dependencies that were read. Each has a place by its name and its requirement, and the next one that has this place
@@ -126,7 +126,7 @@ fn slot_of(part: &PartShape<'_>) -> usize {
 impl MadeDependency {
     /// Whether a part says just this.
     fn is_of(&self, part: &PartShape<'_>) -> bool
-        ensures { IsTrue result → Says (part_view part.now) self.now.dependency }
+        ensures { IsTrue result → IsSaid (part_view part.now) self.now.dependency }
     {
         if !has_parts(&self.dependency, part) {
             return false;

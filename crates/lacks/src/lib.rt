@@ -5,7 +5,7 @@
 //! where there is no file, it is asked for names that differ in `-` and `_` alone (`missing`). A dependency that some
 //! candidate fits may only lack a feature, for which one of nearly the same name may be told (`similar`).
 //!
-//! What is told is there as a value too (`look_for`, `reason_of`), for who tells it otherwise than in sentences; and
+//! What is told is there as a value too (`look_for`, `nothing_fits`), for who tells it otherwise than in sentences; and
 //! the file of a name (`file_of`), for who tells why a version of a lock isn't there.
 //!
 //! A layer above may rely on this: where no candidate is matched, the reason is the one that `specs/Lacks` gives for
@@ -23,5 +23,5 @@ mod similar;
 pub use index_file::{IndexFile, file_of, out_of_memory};
 pub use lack::{Lack, lack_of};
 pub use missing::{Missing, look_for};
-pub use reason::{Reason, reason_of};
+pub use reason::{NothingFits, nothing_fits};
 pub use sentences::{note_lack, tell_lacks};

@@ -12,7 +12,7 @@ use std::cmp::Ordering;
 
 /// Why nothing fits a dependency, and what else is told of it.
 #[derive(Clone, Copy)]
-pub struct Reason<'a> {
+pub struct NothingFits<'a> {
     pub lack: Lack,
     /// The newest of the versions that are yanked, or pre-releases, or don't fit, or have the feature.
     pub newest: Option<&'a Version>,
@@ -25,12 +25,12 @@ pub struct Reason<'a> {
 }
 
 /// What is told of a dependency for which nothing fits, by what the index has of it.
-pub fn reason_of<'a>(
+pub fn nothing_fits<'a>(
     alloc: Global,
     catalogue: &'a Catalogue,
     dependency: &'a DependencyParts,
     missing: &'a Missing,
-) -> Result<Reason<'a>, AllocError> {
+) -> Result<NothingFits<'a>, AllocError> {
     let name = &dependency.real_name;
     let requirement = &dependency.requirement;
     let lack = missing.lack;
@@ -49,7 +49,7 @@ pub fn reason_of<'a>(
         (None, Some(feature)) => similar_feature(alloc, catalogue, dependency, feature)?,
         _ => None,
     };
-    Ok(Reason {
+    Ok(NothingFits {
         lack,
         newest: version,
         feature,

@@ -3,7 +3,7 @@
 use crate::index_file::out_of_memory;
 use crate::lack::Lack;
 use crate::missing::look_for;
-use crate::reason::{Reason, reason_of};
+use crate::reason::{NothingFits, nothing_fits};
 use catalogue::Catalogue;
 use features::{DependencyParts, FeatureName, PackageName};
 use index_reader::{Folder, FolderFault};
@@ -24,7 +24,7 @@ pub fn tell_lacks<F: Folder>(
     let mut text = String::new(alloc);
     for dependency in manifest.dependencies() {
         if let Some(found) = look_for(alloc, catalogue, folder, dependency)? {
-            let reason = reason_of(alloc, catalogue, dependency, &found).map_err(out_of_memory)?;
+            let reason = nothing_fits(alloc, catalogue, dependency, &found).map_err(out_of_memory)?;
             let told = push_lack(&mut text, manifest.name(), dependency, reason);
             told.map_err(out_of_memory)?;
         }
@@ -37,7 +37,7 @@ fn push_lack(
     text: &mut String,
     root: &PackageName,
     dependency: &DependencyParts,
-    reason: Reason<'_>,
+    reason: NothingFits<'_>,
 ) -> Result<(), AllocError> {
     let name = &dependency.real_name;
     let requirement = &dependency.requirement;
@@ -66,7 +66,7 @@ pub fn note_lack<F: Folder>(
     let Some(found) = look_for(alloc, catalogue, folder, dependency)? else {
         return Ok(());
     };
-    let reason = reason_of(alloc, catalogue, dependency, &found).map_err(out_of_memory)?;
+    let reason = nothing_fits(alloc, catalogue, dependency, &found).map_err(out_of_memory)?;
     if matches!(reason.lack, Lack::NoVersion | Lack::NoFeature) {
         return Ok(());
     }
@@ -76,7 +76,7 @@ pub fn note_lack<F: Folder>(
 fn push_note(
     text: &mut String,
     dependency: &DependencyParts,
-    reason: Reason<'_>,
+    reason: NothingFits<'_>,
 ) -> Result<(), AllocError> {
     let name = &dependency.real_name;
     let requirement = &dependency.requirement;
@@ -86,7 +86,11 @@ fn push_note(
 }
 
 /// Why no version fits.
-fn push_why(text: &mut String, name: &PackageName, reason: Reason<'_>) -> Result<(), AllocError> {
+fn push_why(
+    text: &mut String,
+    name: &PackageName,
+    reason: NothingFits<'_>,
+) -> Result<(), AllocError> {
     match reason.lack {
         Lack::NoPackage => push_unknown(text, name, reason.other),
         Lack::NoLine => write!(text, "no line of {name} in this index can be used"),
@@ -128,7 +132,7 @@ fn push_unknown(
 fn push_feature(
     text: &mut String,
     name: &PackageName,
-    reason: Reason<'_>,
+    reason: NothingFits<'_>,
 ) -> Result<(), AllocError> {
     let Some(feature) = reason.feature else {
         return Ok(());

@@ -19,8 +19,8 @@ use Rattle.lockfile.proofs.PackageOrder.{each-read}
 use Rattle.lockfile.proofs.Spaces.{free-from}
 
 -- the place that a text means, or the fault
-abbrev pub Place : List UnlinkedPackage → List ℕ → Result ℕ LockFault
-Place ps text = ok_or (place_meant (locked_packages (unlinked_views ps)) text) LockShape
+abbrev pub PlaceMeant : List UnlinkedPackage → List ℕ → Result ℕ LockFault
+PlaceMeant ps text = ok_or (place_meant (locked_packages (unlinked_views ps)) text) LockShape
 
 abbrev Only : List UnlinkedPackage → (Package → Bool) → Option ℕ
 Only ps test = only (places test (locked_packages (unlinked_views ps)))
@@ -50,14 +50,14 @@ faults-by false text f m h k = let no_version =
 
 -- a fault of the version's text is a fault of the whole text
 pub version-fault : (ps : List UnlinkedPackage) (name text : List ℕ) (f : LockFault) → HasNoSpace name → HasNoSpace text
-    → Faults (wants_memory f) f (checked_version text) → Faults (wants_memory f) f (Place ps (name ++ (32 ∷ text)))
+    → Faults (wants_memory f) f (checked_version text) → Faults (wants_memory f) f (PlaceMeant ps (name ++ (32 ∷ text)))
 version-fault ps name text f n t =
     faults-by (wants_memory f) text f _ (λ e is. ap (λ o. ok_or o LockShape) (meant-no_version name text e
     (locked_packages (unlinked_views ps)) (each-read ps) (free-from name n) (free-from text t) is))
 
 pub source-fault : (ps : List UnlinkedPackage) (name text end : List ℕ) (f : LockFault) → HasNoSpace name
     → HasNoSpace text → Faults (wants_memory f) f (checked_version text)
-    → Faults (wants_memory f) f (Place ps (name ++ (32 ∷ (text ++ (32 ∷ end)))))
+    → Faults (wants_memory f) f (PlaceMeant ps (name ++ (32 ∷ (text ++ (32 ∷ end)))))
 source-fault ps name text end f n t =
     faults-by (wants_memory f) text f _ (λ e is. ap (λ o. ok_or o LockShape) (meant-no_source name text end e
     (locked_packages (unlinked_views ps)) (each-read ps) (free-from name n) (free-from text t) is))
@@ -65,7 +65,7 @@ source-fault ps name text end f n t =
 -- ---- by name
 
 pub name-place : (ps : List UnlinkedPackage) (n : List ℕ) (o : Option ℕ) (r : Result ℕ LockFault) → HasNoSpace n
-    → o ≡ Only ps (is_named n) → r ≡ ok_or o LockShape → Gives wants_memory (λ i. i) r (Place ps n)
+    → o ≡ Only ps (is_named n) → r ≡ ok_or o LockShape → Gives wants_memory (λ i. i) r (PlaceMeant ps n)
 name-place ps n o r h e is =
     gives-same r _ (is ∙ ap (λ p. ok_or p LockShape)
     (e ∙ sym (meant-name n (locked_packages (unlinked_views ps)) (each-read ps) (free-from n h))))
@@ -81,29 +81,30 @@ version-meant ps n v text h k is = meant-version n v text (locked_packages (unli
 
 pub version-there : (ps : List UnlinkedPackage) (n : List ℕ) (v : Parts) (text : List ℕ) (o : Option ℕ) (i : ℕ)
     → HasNoSpace n → HasNoSpace text → checked_version text ≡ Ok v
-    → o ≡ Only ps (is_versioned n v) → o ≡ Some i → Place ps (n ++ (32 ∷ text)) ≡ Ok i
+    → o ≡ Only ps (is_versioned n v) → o ≡ Some i → PlaceMeant ps (n ++ (32 ∷ text)) ≡ Ok i
 version-there ps n v text o i h k is e s = rw (version-meant ps n v text h k is, ← e, s) refl
 
 pub version-place : (ps : List UnlinkedPackage) (n : List ℕ) (v : Parts) (text : List ℕ) (o q : Option ℕ)
     (r : Result ℕ LockFault) → HasNoSpace n → HasNoSpace text → checked_version text ≡ Ok v
     → o ≡ Only ps (is_versioned n v) → o ≡ None → q ≡ Only ps (is_sourced n v None) → r ≡ ok_or q LockShape
-    → Gives wants_memory (λ i. i) r (Place ps (n ++ (32 ∷ text)))
+    → Gives wants_memory (λ i. i) r (PlaceMeant ps (n ++ (32 ∷ text)))
 version-place ps n v text o q r h k is e s f g =
-    let both : Place ps (n ++ (32 ∷ text)) ≡ ok_or q LockShape =
+    let both : PlaceMeant ps (n ++ (32 ∷ text)) ≡ ok_or q LockShape =
     rw (version-meant ps n v text h k is, ← e, s, f) refl in
     gives-same r _ (g ∙ sym both)
 
 -- ---- by name, version and source
 
 pub bare-place : (ps : List UnlinkedPackage) (name text end : List ℕ) → HasNoSpace name → HasNoSpace text
-    → ((s : List ℕ) → end ≡ 40 ∷ (s ++ (41 ∷ [])) → ⊥) → Place ps (name ++ (32 ∷ (text ++ (32 ∷ end)))) ≡ Err LockShape
+    → ((s : List ℕ) → end ≡ 40 ∷ (s ++ (41 ∷ [])) → ⊥)
+    → PlaceMeant ps (name ++ (32 ∷ (text ++ (32 ∷ end)))) ≡ Err LockShape
 bare-place ps name text end h k never = ap (λ o. ok_or o LockShape) (meant-bare name text end
     (locked_packages (unlinked_views ps)) (each-read ps) (free-from name h) (free-from text k) never)
 
 pub source-place : (ps : List UnlinkedPackage) (n : List ℕ) (v : Parts) (s : List ℕ) (text end : List ℕ) (o : Option ℕ)
     (r : Result ℕ LockFault) → HasNoSpace n → HasNoSpace text → checked_version text ≡ Ok v
     → end ≡ 40 ∷ (s ++ (41 ∷ [])) → o ≡ Only ps (is_sourced n v (Some s)) → r ≡ ok_or o LockShape
-    → Gives wants_memory (λ i. i) r (Place ps (n ++ (32 ∷ (text ++ (32 ∷ end)))))
+    → Gives wants_memory (λ i. i) r (PlaceMeant ps (n ++ (32 ∷ (text ++ (32 ∷ end)))))
 source-place ps n v s text end o r h k is e f g =
     gives-same r _
     (g ∙ ap (λ p. ok_or p LockShape) (f ∙ sym (meant-source n v s text end (locked_packages (unlinked_views ps))

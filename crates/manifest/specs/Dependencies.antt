@@ -13,8 +13,8 @@ use Rattle.manifest.specs.declared.fault.Part.{Part}
 use Rattle.manifest.specs.declared.fault.Part.TheVariants as part
 use Rattle.manifest.specs.declared.fault.Unsupported.{Unsupported}
 use Rattle.manifest.specs.declared.fault.Unsupported.TheVariants as source
-use Rattle.manifest.specs.declared.section.Place.{Place}
-use Rattle.manifest.specs.declared.section.Place.TheVariants.{Top, Target}
+use Rattle.manifest.specs.declared.section.SectionPlace.{SectionPlace}
+use Rattle.manifest.specs.declared.section.SectionPlace.TheVariants.{Top, Target}
 
 -- where a dependency is from: the registry, with the text of its requirement, or a source that is unsupported
 pub data SourceView : Type 0 where
@@ -131,7 +131,7 @@ dependencies_in p kind (member key d rest) = do
   Ok (first ∷ others)
 
 -- the part that a table of dependencies is
-abbrev pub part_of : Place → DependencyKind → Part
+abbrev pub part_of : SectionPlace → DependencyKind → Part
 part_of Top Normal = part.Dependencies
 part_of Top Dev = part.DevDependencies
 part_of Top Build = part.BuildDependencies
@@ -149,7 +149,7 @@ section_of p kind t = do
   or_absent [] (λ d. table_of p d >>= dependencies_in p kind) found
 
 -- the dependencies that stand at the top, or in a target: normal, dev and build ones
-unfoldable pub sections_of : Place → Members → Shaped (List DependencyShapeView)
+unfoldable pub sections_of : SectionPlace → Members → Shaped (List DependencyShapeView)
 sections_of place t = do
   normal ← section_of (part_of place Normal) Normal t
   dev ← section_of (part_of place Dev) Dev t

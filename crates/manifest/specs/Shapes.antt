@@ -9,7 +9,7 @@ use Rattle.manifest.specs.Values.{Shaped, wanted, or_absent, text_of, table_of, 
 use Rattle.manifest.specs.Packages.{PackageView, package_of, workspace_of, is_written}
 use Rattle.manifest.specs.Dependencies.{DependencyShapeView, sections_of, targets_of}
 use Rattle.manifest.specs.declared.fault.Part.TheVariants as part
-use Rattle.manifest.specs.declared.section.Place.TheVariants.{Top}
+use Rattle.manifest.specs.declared.section.SectionPlace.TheVariants.{Top}
 
 -- the root counts with all its dependencies, so in a manifest `d?/g` says what `d/g` does
 abbrev pub strong : Entry → Entry

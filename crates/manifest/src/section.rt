@@ -18,23 +18,23 @@ use toml::value::{Table, Value};
 
 /// Where a table of dependencies stands.
 #[derive(Clone, Copy, Debug, PartialEq, Eq)]
-pub(crate) enum Place {
+pub(crate) enum SectionPlace {
     /// At the top of the manifest.
     Top,
     /// In a table of `[target]`.
     Target,
 }
 
-impl Place {
+impl SectionPlace {
     /// The part that the table of this kind is, here.
     pub(crate) fn part(self, kind: DependencyKind) -> Part
         ensures { result ≡ part_of self kind }
     {
         match (self, kind) {
-            (Place::Target, _) => Part::Target,
-            (Place::Top, DependencyKind::Normal) => Part::Dependencies,
-            (Place::Top, DependencyKind::Dev) => Part::DevDependencies,
-            (Place::Top, DependencyKind::Build) => Part::BuildDependencies,
+            (SectionPlace::Target, _) => Part::Target,
+            (SectionPlace::Top, DependencyKind::Normal) => Part::Dependencies,
+            (SectionPlace::Top, DependencyKind::Dev) => Part::DevDependencies,
+            (SectionPlace::Top, DependencyKind::Build) => Part::BuildDependencies,
         }
     }
 }
@@ -58,7 +58,7 @@ fn targets(alloc: Global, targets: &Table) -> Result<Vec<DependencyShape<'_>>, M
 {
     let mut found = Vec::new(alloc);
     'members: for (_, value) in targets.iter() {
-        let mut own = sections(alloc, table(value, Part::Target)?, Place::Target)?;
+        let mut own = sections(alloc, table(value, Part::Target)?, SectionPlace::Target)?;
         found.append(&mut own)?;
     }
     Ok(found)
@@ -69,7 +69,7 @@ fn targets(alloc: Global, targets: &Table) -> Result<Vec<DependencyShape<'_>>, M
 pub(crate) fn sections(
     alloc: Global,
     table: &Table,
-    place: Place,
+    place: SectionPlace,
 ) -> Result<Vec<DependencyShape<'_>>, ManifestFault>
     ensures { Gives wants_memory (λ v. dependency_views v.items) result (sections_of place (table_view table.now)) }
 {

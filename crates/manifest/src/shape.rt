@@ -11,7 +11,7 @@ use crate::fault::{ManifestFault, Part};
 use crate::feature::written_features;
 use crate::package::Package;
 use crate::package_table::own_package;
-use crate::section::{Place, sections, target_dependencies};
+use crate::section::{SectionPlace, sections, target_dependencies};
 use crate::table::is_written;
 use crate::workspace::has_members;
 use features::{Entry, FeatureName};
@@ -62,7 +62,7 @@ pub(crate) fn read_shape(alloc: Global, top: &Table) -> Result<Shape<'_>, Manife
 fn all_dependencies(alloc: Global, top: &Table) -> Result<Vec<DependencyShape<'_>>, ManifestFault>
     ensures { Gives wants_memory (λ v. dependency_views v.items) result (all_dependencies (table_view top.now)) }
 {
-    let mut found = sections(alloc, top, Place::Top)?;
+    let mut found = sections(alloc, top, SectionPlace::Top)?;
     let mut targets = target_dependencies(alloc, top)?;
     found.append(&mut targets)?;
     Ok(found)

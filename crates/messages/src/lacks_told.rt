@@ -5,7 +5,7 @@ use crate::shown::Shown;
 use catalogue::{Catalogue, LoadFault};
 use features::{Dependency, PackageName};
 use index_reader::{Folder, FolderFault};
-use lacks::{Lack, Reason, look_for, out_of_memory, reason_of};
+use lacks::{Lack, NothingFits, look_for, nothing_fits, out_of_memory};
 use reports::{Inputs, loaded, unless_failed};
 use std::alloc::Global;
 
@@ -30,7 +30,7 @@ fn lacks_in<F: Folder>(
     let mut text = String::new(alloc);
     for dependency in inputs.manifest.dependencies() {
         if let Some(found) = look_for(alloc, catalogue, folder, dependency)? {
-            let reason = reason_of(alloc, catalogue, dependency, &found).map_err(out_of_memory)?;
+            let reason = nothing_fits(alloc, catalogue, dependency, &found).map_err(out_of_memory)?;
             let message = lack(inputs.manifest.name(), dependency, reason);
             push_message(&mut text, alloc, &message).map_err(out_of_memory)?;
         }
@@ -38,7 +38,11 @@ fn lacks_in<F: Folder>(
     Ok(text)
 }
 
-fn lack<'a>(root: &'a PackageName, dependency: &'a Dependency, reason: Reason<'a>) -> Message<'a> {
+fn lack<'a>(
+    root: &'a PackageName,
+    dependency: &'a Dependency,
+    reason: NothingFits<'a>,
+) -> Message<'a> {
     Message::Lack(LackOf {
         package: root.as_str(),
         dependency: dependency.real_name.as_str(),

@@ -52,8 +52,8 @@ alike p r e f g =
       text-equal (parts_text p.version) (parts_text r.version) (ap parts_text f),
     ) (source-equal p.source r.source g)
 
-less-equal : (o : Ordering) → o ≡ Less → o ≡ Equal → ⊥
-less-equal o e f = let x : Less ≡ Equal = sym e ∙ f in cc
+pub less_equal : (o : Ordering) → o ≡ Less → o ≡ Equal → ⊥
+less_equal o e f = let x : Less ≡ Equal = sym e ∙ f in cc
 
 -- of two packages in order that have one name, the first isn't the newer
 ordered-older : (p r : Package) → package_cmp p r ≡ Less → p.name ≡ r.name
@@ -78,7 +78,7 @@ module _ (content : Content) (formed : IsContent content) where
   -- a package that stands before another differs from it
   differs : (n m : ℕ) (p r : Package) → slice_get content n ≡ Some p → slice_get content m ≡ Some r → n < m
       → p.name ≡ r.name → p.version ≡ r.version → p.source ≡ r.source → ⊥
-  differs n m p r got had lt e f g = less-equal (package_cmp p r)
+  differs n m p r got had lt e f g = less_equal (package_cmp p r)
       (pairs_get (λ p r. package_cmp p r ≡ Less) content n m p r formed.in_order lt got had) (alike p r e f g)
 
   -- no two packages are alike in name, version and source
@@ -129,7 +129,7 @@ rising_once (x ∷ cs) c e h i j same = elim (in_cons x c cs i) [
 ]
   where
     apart : (c e : Candidate) → c ≡ x → Contains cs e → c.version ≡ e.version → ⊥
-    apart c e a j same = less-equal (precedence x.version e.version)
+    apart c e a j same = less_equal (precedence x.version e.version)
         (pairs_first (λ c e. precedence c.version e.version ≡ Less) x e cs h j)
         (precedence-equal x.version e.version (ap (λ (x : Candidate). x.version) (sym a) ∙ same))
 
@@ -140,11 +140,11 @@ rising_tied [] c e h i j tie = absurd (in_none c i)
 rising_tied (x ∷ cs) c e h i j tie = elim (in_cons x c cs i) [
   | inl a ↦ elim (in_cons x e cs j) [
     | inl b ↦ sym a ∙ b
-    | inr j ↦ absurd (less-equal (precedence x.version e.version)
+    | inr j ↦ absurd (less_equal (precedence x.version e.version)
         (first e j) (subst (λ (y : Candidate). precedence y.version e.version ≡ Equal) (sym a) tie))
   ]
   | inr i ↦ elim (in_cons x e cs j) [
-    | inl b ↦ absurd (less-equal (precedence x.version c.version) (first c i)
+    | inl b ↦ absurd (less_equal (precedence x.version c.version) (first c i)
         (precedence_total.antisymm x.version c.version
         ∙ ap ordering_reverse (subst (λ (y : Candidate). precedence c.version y.version ≡ Equal) (sym b) tie)))
     | inr j ↦ rising_tied cs c e (pairs_rest (λ c e. precedence c.version e.version ≡ Less) x cs h) i j tie

@@ -23,6 +23,7 @@ use Rattle.model.specs.Axioms.{is_lower}
 use Rattle.model.specs.Stands.{name_of, IsLink, StandsFor}
 use Rattle.model.specs.Search.{IsUnbroken, LeadsTo, IsReachedFact, IsPresent}
 use Rattle.model.proofs.Same.{both, text-refl, text-same}
+use Rattle.model.proofs.Inner.{version_inner, class_inner, name_in, version_in}
 use Rattle.model.proofs.Orders.{last_is, none_serves, class_above}
 use Rattle.model.proofs.Contents.{no_two_alike, older_first, rising_at}
 use Rattle.model.proofs.Owners.{candidate_at-there, not_root, root_parts}
@@ -50,22 +51,10 @@ three (major a) (minor b) = inr (inr refl)
 three (major a) (major b) =
     elim (three_nat a b) [ inl h ↦ inl h | inr h ↦ elim h [ inl e ↦ inr (inl (ap major e)) | inr l ↦ inr (inr l) ] ]
 
-version-inner : (v w : Parts) → version v ≡ version w → v ≡ w
-version-inner v w e = cc
-
-class-inner : (k m : Class) → in_class k ≡ in_class m → k ≡ m
-class-inner k m e = cc
-
 pub package_at : (content : Content) (n : ℕ) → n < length content → (p : Package) × (slice_get content n ≡ Some p)
 package_at [] n lt = absurd (omega arith)
 package_at (p ∷ ps) zero lt = (p, refl)
 package_at (p ∷ ps) (suc n) lt = package_at ps n (omega arith)
-
-of-name : (a b : List ℕ) (v w : Parts) → version_of a v ≡ version_of b w → a ≡ b
-of-name a b v w e = cc
-
-of-version : (a b : List ℕ) (v w : Parts) → version_of a v ≡ version_of b w → v ≡ w
-of-version a b v w e = cc
 
 module _ (q : Problem) (state : Vertex → State) (ok : IsUnbroken q state) (known : IsCatalogue q) (content : Content)
     (stands : StandsFor q (LeadsTo q state) content) where
@@ -144,8 +133,8 @@ module _ (q : Problem) (state : Vertex → State) (ok : IsUnbroken q state) (kno
       by false false x y =
           let z : version_of p.name p.version ≡ version_of r.name r.version =
           sym (name_other p x) ∙ e ∙ name_other r y in
-          no_two_alike content stands.is_content n m p r got had (of-name p.name r.name p.version r.version z)
-          (of-version p.name r.name p.version r.version z)
+          no_two_alike content stands.is_content n m p r got had (name_in p.name r.name p.version r.version z)
+          (version_in p.name r.name p.version r.version z)
           (stands.sources n p got x ∙ sym (stands.sources m r had y))
 
   served_name : (n : ℕ) (p : Package) → At n p → (d : Dependency) → serves d p ≡ true
@@ -170,7 +159,7 @@ module _ (q : Problem) (state : Vertex → State) (ok : IsUnbroken q state) (kno
       by : (b : Bool) → is_root q s ≡ b → (b ≡ false) × (s.name ≡ name) × (s.version ≡ v)
       by true x = let z : the_root ≡ version_of name v = sym (name_root s x) ∙ e in cc
       by false x = let z : version_of s.name s.version ≡ version_of name v =
-          sym (name_other s x) ∙ e in (refl, of-name s.name name s.version v z, of-version s.name name s.version v z)
+          sym (name_other s x) ∙ e in (refl, name_in s.name name s.version v z, version_in s.name name s.version v z)
 
   -- the target of an enabled dependency is what the assignment chooses
   pub to_target : (n : ℕ) (p : Package) (i : ℕ) (d : Dependency) → At n p → Brings (owner_brings q) (name_of q p) i d
@@ -242,7 +231,7 @@ module _ (q : Problem) (state : Vertex → State) (ok : IsUnbroken q state) (kno
                       link.brings (r.4).brings real at_i l.chosen at_m fits lower)
                   | inr h ↦ elim h [
                     | inl same ↦
-                        let vs : v ≡ l.v = version-inner v l.v
+                        let vs : v ≡ l.v = version_inner v l.v
                         (sym at_k ∙ subst (λ x. state (pkg d.real_name x) ≡ version l.v) (sym same) at_m) in
                         let versions : s.version ≡ (r.0).version = s_is.2 ∙ vs ∙ sym r_named.2 in
                         one_place u t s r.0 had r.3 (name_other s s_is.0 ∙ (λ x. version_of (same_name x) (versions x))
@@ -270,8 +259,8 @@ module _ (q : Problem) (state : Vertex → State) (ok : IsUnbroken q state) (kno
   same_lead : (n : Owner) (i : ℕ) (d : Dependency) (a b : Owner) → LeadsTo q state n i d a
       → LeadsTo q state n i d b → a ≡ b
   same_lead n i d a b l m =
-      let ks : l.k ≡ m.k = class-inner l.k m.k (sym l.chosen ∙ m.chosen) in
-      let vs : l.v ≡ m.v = version-inner l.v m.v
+      let ks : l.k ≡ m.k = class_inner l.k m.k (sym l.chosen ∙ m.chosen) in
+      let vs : l.v ≡ m.v = version_inner l.v m.v
       (sym l.locked ∙ subst (λ k. state (pkg d.real_name k) ≡ version m.v) (sym ks) m.locked) in
       l.target ∙ ap (version_of d.real_name) vs ∙ sym m.target
 
@@ -496,7 +485,7 @@ module _ (q : Problem) (state : Vertex → State) (ok : IsUnbroken q state) (kno
         let x = is_present n p o.0 o.1 in
         let y = is_present m r u.0 u.1 in
         let same : version p.version ≡ version r.version = sym x ∙ (λ i. state (pkg (name i) (class i))) ∙ y in
-        no_two_alike content stands.is_content n m p r o.0 u.0 name (version-inner p.version r.version same)
+        no_two_alike content stands.is_content n m p r o.0 u.0 name (version_inner p.version r.version same)
         (stands.sources n p o.0 o.1 ∙ sym (stands.sources m r u.0 u.1));
     met = λ n i d e.
         let x = means (enabled n i) e.1 in

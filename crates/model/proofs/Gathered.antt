@@ -19,22 +19,9 @@ use Rattle.model.specs.Stands.{name_of, IsReachedFact, IsLink, StandsFor}
 use Rattle.model.specs.ContentOf.{Kept, package_of, in_package_order, places_from, content_of, IsTargetOf, AreKept}
 use Rattle.model.proofs.Lists.{in_none, in_cons, in_first, in_rest, to_any, any_of, all_get, all_none, all_cons}
 use Rattle.model.proofs.Lists.{all_first, all_rest, pairs_none, pairs_all, pairs_rest}
+use Rattle.model.proofs.Places.{place_of, got_in}
 use Rattle.model.proofs.Same.{owner-same, owner-refl, text-refl, version-refl}
 use Rattle.model.proofs.Ordered.{Rises, order-permutes, order-rises, kept-differ}
-
-module _ {X : Type 0} where
-  -- what is in a list stands at a place, and back
-  pub place_in : (xs : List X) (x : X) → Contains xs x → (n : ℕ) × (slice_get xs n ≡ Some x)
-  place_in [] x c = absurd (in_none x c)
-  place_in (y ∷ xs) x c = elim (in_cons y x xs c) [
-    | inl e ↦ (zero, ap Some e)
-    | inr c ↦ let r = place_in xs x c in (suc r.0, r.1)
-  ]
-
-  pub at_place : (xs : List X) (n : ℕ) (x : X) → slice_get xs n ≡ Some x → Contains xs x
-  at_place [] n x e = absurd (none-some x e)
-  at_place (y ∷ xs) zero x e = subst (Contains (y ∷ xs)) (same_Some y x e) (in_first y xs)
-  at_place (y ∷ xs) (suc n) x e = in_rest y x xs (at_place xs n x e)
 
 module _ {X Y : Type 0} (f : X → Y) where
   all_map : (P : Y → Type 0) → ((x : X) → P (f x)) → (xs : List X) → All P (map f xs)
@@ -211,7 +198,7 @@ module _ (q : Problem) where
 
     -- the targets of a kept owner
     targets_at : (k : Kept) → Contains ks k → (t : Owner) → Contains k.targets t ↔ IsTargetOf q LeadsTo k.owner t
-    targets_at k c = let r = place_in kept k (from_order k c) in
+    targets_at k c = let r = place_of kept k (from_order k c) in
         all_get (λ k. (t : Owner) → Contains k.targets t ↔ IsTargetOf q LeadsTo k.owner t) kept r.0 k are.targets r.1
 
     among_target : (k m : Kept) → IsAmong k.targets m → Contains k.targets m.owner
@@ -245,7 +232,7 @@ module _ (q : Problem) where
         subst (λ l. Contains l t) (ap (λ (p : Package). p.list) x.is ∙ list_back (x.k).owner (places x.k)) c in
         let y = placed_from 0 t ks (x.k).targets listed in
         let place : y.j ≡ t = omega (arith, y.is) in
-        let z = (targets_at x.k (at_place ks n x.k x.got) (y.k).owner).0 (among_target x.k y.k y.among) in
+        let z = (targets_at x.k (got_in ks n x.k x.got) (y.k).owner).0 (among_target x.k y.k y.among) in
         let name_p : name_of q p ≡ (x.k).owner = named n p x in
         let name_r : name_of q (as_package y.k) ≡ (y.k).owner = name_back (y.k).owner (places y.k) in (
           as_package y.k,
@@ -272,7 +259,7 @@ module _ (q : Problem) where
           subst (λ o. IsReachedFact q LeadsTo (enabled o i)) name_p l.is_enabled,
           subst₂ (λ o u. LeadsTo o i d u) name_p name_r l.leads,
         ) in
-        let c = (targets_at x.k (at_place ks n x.k x.got) (y.k).owner).1 target in
+        let c = (targets_at x.k (got_in ks n x.k x.got) (y.k).owner).1 target in
         let placed = to_placed 0 ks (x.k).targets t y.k y.got (to_among x.k y.k c) in
         let z : 0 + t ≡ t = omega arith in
         subst (λ l. Contains l t) (sym (ap (λ (p : Package). p.list) x.is ∙ list_back (x.k).owner (places x.k)))
@@ -284,10 +271,10 @@ module _ (q : Problem) where
       is_content = formed;
       packages = λ t. (
         λ h. let r = (are.reached t).0 h in
-            let y = place_in ks r.0 (to_order r.0 r.1) in
+            let y = place_of ks r.0 (to_order r.0 r.1) in
             (y.0, as_package r.0, to_at y.0 r.0 y.1, name_back (r.0).owner (places r.0) ∙ r.2),
         λ (n, p, got, is). let x = at n p got in
-            (are.reached t).1 (x.k, from_order x.k (at_place ks n x.k x.got), sym (named n p x) ∙ is),
+            (are.reached t).1 (x.k, from_order x.k (got_in ks n x.k x.got), sym (named n p x) ∙ is),
       );
       root_checksum = λ n p got h. let x = at n p got in
           subst (λ (r : Package). r.checksum ≡ None) (sym x.is)

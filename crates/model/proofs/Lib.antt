@@ -1,4 +1,5 @@
 pub mod Same
+pub mod Inner
 pub mod Lists
 pub mod Places
 pub mod Members

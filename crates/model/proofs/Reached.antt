@@ -24,14 +24,12 @@ use Rattle.model.specs.Axioms.HasFeatVertex.{had, asked as vertex_of_asked, by_e
 use Rattle.model.specs.WellFormed.{IsCatalogue}
 use Rattle.model.specs.Search.{IsUnbroken, LeadsTo, IsTheRoot, IsReachedFact, IsPresent, IsOn, SaysOfFact}
 use Rattle.model.proofs.Same.{class-same, text-same, text-refl, vertex-same, vertex-refl, class-refl}
+use Rattle.model.proofs.Inner.{version_inner}
 use Rattle.model.proofs.Lists.{in_first, in_rest, in_cons, in_none, in_filter, to_filter, in_map, to_map, to_any}
 use Rattle.model.proofs.Spaces.{state_from, state_in}
 use Rattle.model.proofs.Orders.{not_lower_itself}
 use Rattle.model.proofs.Contents.{feature_known}
 use Rattle.model.proofs.Owners.{candidate_at-is, candidate_at-there}
-
-version-inner : (v w : Parts) → version v ≡ version w → v ≡ w
-version-inner v w e = cc
 
 module _ (q : Problem) (state : Vertex → State) (ok : IsUnbroken q state) where
   Has : Vertex → State → Type 0
@@ -61,7 +59,7 @@ module _ (q : Problem) (state : Vertex → State) (ok : IsUnbroken q state) wher
       (in_cons absent (version v) vs c) [ inl a ↦ absurd (let x : absent ≡ version v = a in cc) | inr c ↦ c ] in
       let r = in_map (λ (x : Candidate). version x.version) (class_candidates q name k) (version v) d in
       let f = in_filter (in_that_class k) (candidates_of q.candidates name) r.0 r.1 in
-      let is : (r.0).version ≡ v = version-inner (r.0).version v r.2 in
+      let is : (r.0).version ≡ v = version_inner (r.0).version v r.2 in
       (r.0, f.0, is, sym (class-same k (class_of (r.0).version) f.1 ∙ ap class_of is))
 
   -- and what is found there
@@ -442,7 +440,7 @@ module _ (q : Problem) (state : Vertex → State) (ok : IsUnbroken q state) wher
       elim (pkg_cases d.real_name m) [
         | inl a ↦ (let x : absent ≡ version v = sym a ∙ at_m in cc)
         | inr r ↦
-            let is : (r.0).version ≡ v = version-inner (r.0).version v (sym r.2 ∙ at_m) in
+            let is : (r.0).version ≡ v = version_inner (r.0).version v (sym r.2 ∙ at_m) in
             let served : matched d r.0 ≡ true = ap (matches_views d.requirement) is ∙ fits in
             ok.unbroken NewestListed _
             (newest_listed n i j d e k m other (has_dep n i d h b) (has_dep n j e h c) same (has_class n i d k b at_i)

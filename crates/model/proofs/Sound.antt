@@ -21,6 +21,7 @@ use Rattle.model.specs.Axioms.IsInstance.{root_is, needed, has_target, has_its_f
 use Rattle.model.specs.Axioms.IsInstance.{feature_on, dependency_on, feature_asks, newest_listed, weakly}
 use Rattle.model.specs.Assignment.{Locks, Leads, Has, IsOwnerAt, Meets, Breaks}
 use Rattle.model.proofs.Same.{state-same}
+use Rattle.model.proofs.Inner.{version_inner, class_inner}
 use Rattle.model.proofs.Lists.{in_cons, in_filter, in_map}
 use Rattle.model.proofs.Orders.{IsLast, class_above, not_lower_itself}
 use Rattle.model.proofs.Contents.{each_version_once, older_first, rising_at}
@@ -29,13 +30,7 @@ use Rattle.model.proofs.Owners.{same_package, same_place, same_owner_place, targ
 use Rattle.model.proofs.Owners.{lead_serves, owner_package}
 use Rattle.model.proofs.Spaces.{state_from}
 
--- states that differ
-version-inner : (v w : Parts) → version v ≡ version w → v ≡ w
-version-inner v w e = cc
-
-class-inner : (k m : Class) → in_class k ≡ in_class m → k ≡ m
-class-inner k m e = cc
-
+-- the state of a set that has one
 only_state : (x s : State) → has_state (x ∷ []) s ≡ true → s ≡ x
 only_state x s h = by (same_state s x) refl h
   where
@@ -73,7 +68,7 @@ module _ (q : Problem) (content : Content) where
       let r = in_map (λ (x : Candidate). version x.version) (filter test (class_candidates q name k)) (version v) c in
       let f = in_filter test (class_candidates q name k) r.0 r.1 in
       let g = in_filter (in_that_class k) (candidates_of q.candidates name) r.0 f.0 in
-      (r.0, g.0, f.1, version-inner (r.0).version v r.2)
+      (r.0, g.0, f.1, version_inner (r.0).version v r.2)
 
   passing_or : (test : Candidate → Bool) (name : List ℕ) (k : Class) (v : Parts)
       → has_state (absent_or q test name k) (version v) ≡ true
@@ -100,7 +95,7 @@ module _ (q : Problem) (content : Content) where
         → (n : ℕ) × IsOwnerAt q content (version_of name v) n
     met_owner name v m =
         let h = met_has (pkg name (class_of v)) (version v) (λ e. cc) m in
-        (h.0, (h.1, h.2, version-inner (h.1).version v (sym h.3)))
+        (h.0, (h.1, h.2, version_inner (h.1).version v (sym h.3)))
 
     -- the feature is on at the owner
     met_feature : (name : List ℕ) (v : Parts) (f : List ℕ) (n : ℕ) → IsOwnerAt q content (version_of name v) n
@@ -146,7 +141,7 @@ module _ (q : Problem) (content : Content) where
           p = h.3;
           lead = subst (λ e. Leads q content o i h.0 h.1 e h.3) is l;
           classed =
-              sym (class-inner k (class_of (h.3).version) h.5);
+              sym (class_inner k (class_of (h.3).version) h.5);
         }
 
     -- the target, as the locked version of its name and class

@@ -12,11 +12,13 @@ use Rattle.model.specs.Order.{package_cmp}
 use Rattle.model.specs.Vertices.{Owner, the_root, version_of, owner_brings}
 use Rattle.model.specs.Stands.{IsReachedFact, StandsFor, name_of}
 use Rattle.model.proofs.Contents.{rising_at}
+use Rattle.model.proofs.Inner.{name_in, version_in}
 use Rattle.model.proofs.Lists.{in_map, to_map}
 use Rattle.model.proofs.Owners.{root_parts}
 use Rattle.model.proofs.Permuted.{rising-same}
 use Rattle.model.proofs.PackageOrder.{package_total}
-use Rattle.model.proofs.Gathered.{place_in, at_place, pairs_map}
+use Rattle.model.proofs.Places.{place_of, got_in}
+use Rattle.model.proofs.Gathered.{pairs_map}
 
 -- a package without its list
 abbrev head : Package → Package
@@ -36,12 +38,6 @@ same_parts : (p r : Package) → p.name ≡ r.name → p.version ≡ r.version �
     → p.checksum ≡ r.checksum → head p ≡ head r
 same_parts p r e f g h =
     ap₂ (λ n v. of_parts n v p.source p.checksum) e f ∙ ap₂ (λ s c. of_parts r.name r.version s c) g h
-
-of-name : (a b : List ℕ) (v w : Parts) → version_of a v ≡ version_of b w → a ≡ b
-of-name a b v w e = cc
-
-of-version : (a b : List ℕ) (v w : Parts) → version_of a v ≡ version_of b w → v ≡ w
-of-version a b v w e = cc
 
 -- lists of packages that differ in nothing
 same_packages : (xs ys : Content) → map head xs ≡ map head ys
@@ -72,8 +68,8 @@ module _ (q : Problem) (LeadsTo : Owner → ℕ → Dependency → Owner → Typ
       by true false e f same = cc
       by false true e f same = cc
       by false false e f same =
-          let names = of-name p.name r.name p.version r.version same in
-          let versions = of-version p.name r.name p.version r.version same in
+          let names = name_in p.name r.name p.version r.version same in
+          let versions = version_in p.name r.name p.version r.version same in
           same_parts p r names versions (s.sources n p got e ∙ sym (t.sources m r had f))
           (s.checksums n p got e ∙ ap₂ (λ k v. option_map (λ c. c.checksum)
           (candidate_at (candidates_of q.candidates k) v)) names versions ∙ sym (t.checksums m r had f))
@@ -83,10 +79,10 @@ module _ (q : Problem) (LeadsTo : Owner → ℕ → Dependency → Owner → Typ
       → Contains (map head b) h
   heads_in a b s t h c =
       let (p, cp, e) = in_map head a h c in
-      let (n, got) = place_in a p cp in
+      let (n, got) = place_of a p cp in
       let (m, r, had, same) = (t.packages (name_of q p)).0 ((s.packages (name_of q p)).1 (n, p, got, refl)) in
       subst (λ x. Contains (map head b) x) (sym (alike a b s t n m p r got had (sym same)) ∙ e)
-      (to_map head b r (at_place b m r had))
+      (to_map head b r (got_in b m r had))
 
   module _ (a b : Content) (s : StandsFor q LeadsTo a) (t : StandsFor q LeadsTo b) where
     heads_same : map head a ≡ map head b

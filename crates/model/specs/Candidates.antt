@@ -1,6 +1,6 @@
 -- Which records of the index may be locked, and in which order they are preferred (Cargo book, "Dependency Resolution",
 -- yanked versions and "Rust version"; "Registry Index").
-use Rattle.std.specs.Prelude.{◌≡◌, ◌≢◌, ℕ, List, [], ◌∷◌, ◌++◌, Bool, true, not, ◌&&◌, ◌||◌, if◌then◌else◌, Option}
+use Rattle.std.specs.Prelude.{◌≡◌, ◌≢◌, ℕ, List, ◌++◌, Bool, true, not, ◌&&◌, ◌||◌, Option}
 use Rattle.std.specs.Prelude.{Some, None, filter, reverse}
 use Rattle.std.specs.List.{list_any}
 use Rattle.std.specs.Ordering.{nat_cmp, ordering_then, is_gt}

@@ -18,6 +18,7 @@ use Rattle.model.specs.Stands.{IsLink, IsReachedFact, StandsFor, name_of}
 use Rattle.model.specs.Assignment.{Assigns, IsOwnerAt, Locks}
 use Rattle.model.specs.Search.{IsUnbroken, LeadsTo}
 use Rattle.model.proofs.Same.{owner-refl, owner-same, text-same}
+use Rattle.model.proofs.Inner.{version_inner, class_inner}
 use Rattle.model.proofs.Owners.{is_candidate, owner_is, owner_package, same_owner_place, same_package, served_is}
 use Rattle.model.proofs.Reached.{reached_met}
 use Rattle.facts.proofs.Mapped.{Keeps, HoldsFar, holds_far}
@@ -25,12 +26,6 @@ use Rattle.reaching.specs.Built.{HasBareRoot}
 use Rattle.reaching.specs.Followed.{AgreesWith, IsBrought}
 
 -- ---- states
-
-version_inner : (v w : Parts) → version v ≡ version w → v ≡ w
-version_inner v w e = cc
-
-class_inner : (k m : Class) → in_class k ≡ in_class m → k ≡ m
-class_inner k m e = cc
 
 text_option : (o : Option (List ℕ)) (x : List ℕ) → same_option o (Some x) ≡ true → o ≡ Some x
 text_option None x h = absurd (true≢false (sym h))

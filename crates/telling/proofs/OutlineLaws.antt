@@ -19,8 +19,8 @@ use Rattle.telling.specs.Outlines.{merged, nothing_yet, outline_from, reasons_at
 use Rattle.telling.specs.Outlines.{sentences_of, step_at, uses_at, uses_of, with_reason, with_reasons, with_sentence}
 use Rattle.telling.specs.Outlines.IsShown.{shown_by_sentence, shown_by_fact, shown_by_reasons}
 use Rattle.telling.specs.declared.outline.Note.{Note}
-use Rattle.telling.specs.declared.outline.Reason.{Reason}
-use Rattle.telling.specs.declared.outline.Reason.TheVariants.{Fact, Told}
+use Rattle.telling.specs.declared.outline.Premise.{Premise}
+use Rattle.telling.specs.declared.outline.Premise.TheVariants.{Fact, Told}
 use Rattle.telling.specs.declared.uses.Uses.{Uses}
 use Rattle.telling.specs.declared.uses.Uses.TheVariants.{Never, Once, Often, End}
 use Rattle.telling.proofs.UsesLaws.{used, uses-long, last-is}
@@ -60,35 +60,35 @@ three-ways a b = by (leb_tells a b) (leb_tells b a)
 
 -- ---- reasons
 
-same-is : (a b : Reason) → same_reason a b ≡ true → a ≡ b
+same-is : (a b : Premise) → same_reason a b ≡ true → a ≡ b
 same-is (Fact a) (Fact b) e = ap Fact (eqb-true a b e)
 same-is (Told a) (Told b) e = ap Told (eqb-true a b e)
 same-is (Fact a) (Told b) e = absurd (let no : false ≡ true = e in cc)
 same-is (Told a) (Fact b) e = absurd (let no : false ≡ true = e in cc)
 
-has-is : (rs : List Reason) (r : Reason) → has_reason rs r ≡ true → Contains rs r
+has-is : (rs : List Premise) (r : Premise) → has_reason rs r ≡ true → Contains rs r
 has-is rs r e = let one = any_of (same_reason r) rs e in subst (λ x. Contains rs x) (sym (same-is r one.0 one.2)) one.1
 
-one-keeps : (rs : List Reason) (x r : Reason) → Contains rs r → Contains (with_reason rs x) r
+one-keeps : (rs : List Premise) (x r : Premise) → Contains rs r → Contains (with_reason rs x) r
 one-keeps rs x r c = by (has_reason rs x)
   where
     by : (b : Bool) → Contains (cond b rs (rs ++ x ∷ [])) r
     by true = c
     by false = Contains-append_left rs (x ∷ []) r c
 
-one-has : (rs : List Reason) (x : Reason) → Contains (with_reason rs x) x
+one-has : (rs : List Premise) (x : Premise) → Contains (with_reason rs x) x
 one-has rs x = by (has_reason rs x) refl
   where
     by : (b : Bool) → has_reason rs x ≡ b → Contains (cond b rs (rs ++ x ∷ [])) x
     by true e = has-is rs x e
     by false e = Contains-push rs x
 
-first-in : (rs more : List Reason) (r : Reason) → Contains rs r → Contains (with_reasons rs more) r
+first-in : (rs more : List Premise) (r : Premise) → Contains rs r → Contains (with_reasons rs more) r
 unfolding with_reasons
 first-in rs [] r c = c
 first-in rs (x ∷ more) r c = first-in (with_reason rs x) more r (one-keeps rs x r c)
 
-second-in : (rs more : List Reason) (r : Reason) → Contains more r → Contains (with_reasons rs more) r
+second-in : (rs more : List Premise) (r : Premise) → Contains more r → Contains (with_reasons rs more) r
 unfolding with_reasons
 second-in rs [] r c = absurd (in_none r c)
 second-in rs (x ∷ more) r c = by (in_cons x r more c) (λ c. second-in (with_reason rs x) more r c)
@@ -99,10 +99,10 @@ second-in rs (x ∷ more) r c = by (in_cons x r more c) (λ c. second-in (with_r
         first-in (with_reason rs x) more r (subst (λ z. Contains (with_reason rs x) z) same (one-has rs x))
     by (inr c) rest = rest c
 
-one-from : (rs : List Reason) (x r : Reason) → Contains (with_reason rs x) r → Contains rs r ⊎ (x ≡ r)
+one-from : (rs : List Premise) (x r : Premise) → Contains (with_reason rs x) r → Contains rs r ⊎ (x ≡ r)
 one-from rs x r c = by (has_reason rs x) c
   where
-    snoc : (rs : List Reason) → Contains (rs ++ x ∷ []) r → Contains rs r ⊎ (x ≡ r)
+    snoc : (rs : List Premise) → Contains (rs ++ x ∷ []) r → Contains rs r ⊎ (x ≡ r)
     snoc [] c = else (in_cons x r [] c)
       where
         else : (x ≡ r) ⊎ Contains [] r → Contains [] r ⊎ (x ≡ r)
@@ -123,7 +123,7 @@ one-from rs x r c = by (has_reason rs x) c
     by true c = inl c
     by false c = snoc rs c
 
-both-from : (rs more : List Reason) (r : Reason) → Contains (with_reasons rs more) r → Contains rs r ⊎ Contains more r
+both-from : (rs more : List Premise) (r : Premise) → Contains (with_reasons rs more) r → Contains rs r ⊎ Contains more r
 unfolding with_reasons
 both-from rs [] r c = inl c
 both-from rs (x ∷ more) r c = by (both-from (with_reason rs x) more r c)
@@ -139,23 +139,23 @@ both-from rs (x ∷ more) r c = by (both-from (with_reason rs x) more r c)
 -- ---- steps that follow from reasons
 
 module _ (notes : List Note) (steps : List Step) where
-  wider : (told : Sentences) (rs more : List Reason) (n : ℕ) → ((r : Reason) → Contains rs r → Contains more r)
+  wider : (told : Sentences) (rs more : List Premise) (n : ℕ) → ((r : Premise) → Contains rs r → Contains more r)
       → IsShown notes steps told rs n → IsShown notes steps told more n
   wider told rs more n sub (shown_by_sentence zs own i p at c) = shown_by_sentence more own i p at (sub (Told p) c)
   wider told rs more n sub (shown_by_fact zs i at k) = shown_by_fact more i at (λ f e. sub (Fact f) (k f e))
   wider told rs more n sub (shown_by_reasons zs own i a b at m x y k) =
       shown_by_reasons more own i a b at m x y (λ r c. sub r (k r c))
 
-  grown : (told new : Sentences) (rs : List Reason) (n : ℕ)
-      → ((p : ℕ) (s : ℕ × List Reason) → slice_get told p ≡ Some s → slice_get new p ≡ Some s)
+  grown : (told new : Sentences) (rs : List Premise) (n : ℕ)
+      → ((p : ℕ) (s : ℕ × List Premise) → slice_get told p ≡ Some s → slice_get new p ≡ Some s)
       → IsShown notes steps told rs n → IsShown notes steps new rs n
   grown told new rs n up (shown_by_sentence zs own i p at c) = shown_by_sentence zs own i p (up p (i, own) at) c
   grown told new rs n up (shown_by_fact zs i at k) = shown_by_fact zs i at k
   grown told new rs n up (shown_by_reasons zs own i a b at m x y k) =
       shown_by_reasons zs own i a b at m (grown told new own a up x) (grown told new own b up y) k
 
-  follows-grown : (told new : Sentences) (rs : List Reason) (n : ℕ) (o : Option (ℕ × ℕ))
-      → ((p : ℕ) (s : ℕ × List Reason) → slice_get told p ≡ Some s → slice_get new p ≡ Some s)
+  follows-grown : (told new : Sentences) (rs : List Premise) (n : ℕ) (o : Option (ℕ × ℕ))
+      → ((p : ℕ) (s : ℕ × List Premise) → slice_get told p ≡ Some s → slice_get new p ≡ Some s)
       → FollowsBy notes steps told rs n o → FollowsBy notes steps new rs n o
   follows-grown told new rs n None up h = h
   follows-grown told new rs n (Some p) up h = (grown told new rs p.0 up h.0, grown told new rs p.1 up h.1)
@@ -169,9 +169,9 @@ module _ (notes : List Note) (steps : List Step) where
     order : AllPairs (λ a b. a.0 < b.0) o.told
     below : All (λ s. s.0 < n) o.told
     cites : (m p : ℕ) → Contains (reasons_at o.said m) (Told p) → p < length o.told
-    back : (i p : ℕ) (s : ℕ × List Reason) → slice_get o.told i ≡ Some s → Contains s.1 (Told p) → p < i
+    back : (i p : ℕ) (s : ℕ × List Premise) → slice_get o.told i ≡ Some s → Contains s.1 (Told p) → p < i
     shown : (m : ℕ) → m < n → is_needed (uses_at uses m) ≡ true → IsShown notes steps o.told (reasons_at o.said m) m
-    follows : (i : ℕ) (s : ℕ × List Reason) → slice_get o.told i ≡ Some s → Follows notes steps o.told s.1 s.0
+    follows : (i : ℕ) (s : ℕ × List Premise) → slice_get o.told i ≡ Some s → Follows notes steps o.told s.1 s.0
     ends : (m : ℕ) → m < n → uses_at uses m ≡ End → is_told_before (reasons_at o.said m) ≡ true
 
   -- the reasons of the next step
@@ -213,7 +213,7 @@ module _ (notes : List Note) (steps : List Step) where
           either (inr c) = good.cites q.1 p c
 
   -- what is told where a step is combined, with one more
-  said-at : (said : List (List Reason)) (rs : List Reason) (m : ℕ) (r : Reason)
+  said-at : (said : List (List Premise)) (rs : List Premise) (m : ℕ) (r : Premise)
       → Contains (reasons_at (said ++ rs ∷ []) m) r → Contains (reasons_at said m) r ⊎ Contains rs r
   said-at said rs m r c = by (three-ways m (length said))
     where
@@ -223,11 +223,11 @@ module _ (notes : List Note) (steps : List Step) where
           (subst (λ k. Contains (reasons_at (said ++ rs ∷ []) k) r) same c))
       by (inr (inr lt)) = absurd (in_none r (subst (λ x. Contains x r) (past-end said rs [] m lt) c))
 
-  long : (said : List (List Reason)) (rs : List Reason) → length (said ++ rs ∷ []) ≡ length said + 1
+  long : (said : List (List Premise)) (rs : List Premise) → length (said ++ rs ∷ []) ≡ length said + 1
   long [] rs = refl
   long (s ∷ said) rs = let rest = long said rs in omega (arith, rest)
 
-  merged-good : (n : ℕ) (o : Outline) (rs : List Reason) → IsGood n o
+  merged-good : (n : ℕ) (o : Outline) (rs : List Premise) → IsGood n o
       → ((p : ℕ) → Contains rs (Told p) → p < length o.told)
       → (is_needed (uses_at uses n) ≡ true → IsShown notes steps o.told rs n)
       → (uses_at uses n ≡ End → is_told_before rs ≡ true) → IsGood (n + 1) (merged rs o)
@@ -268,7 +268,7 @@ module _ (notes : List Note) (steps : List Step) where
           (sym same) (show (subst (λ k. is_needed (uses_at uses k) ≡ true) same need)))
       at-place m lt need (inr (inr over)) = absurd (omega (arith, lt, over))
 
-  told-good : (n : ℕ) (o : Outline) (rs : List Reason) → IsGood n o
+  told-good : (n : ℕ) (o : Outline) (rs : List Premise) → IsGood n o
       → ((p : ℕ) → Contains rs (Told p) → p < length o.told)
       → Follows notes steps o.told rs n → IsGood (n + 1) (with_sentence n rs o)
   told-good n o rs good cite h = record {
@@ -303,7 +303,7 @@ module _ (notes : List Note) (steps : List Step) where
           by [] = refl
           by (s ∷ ss) = let rest = by ss in omega (arith, rest)
 
-      up : (p : ℕ) (s : ℕ × List Reason) → slice_get o.told p ≡ Some s → slice_get new p ≡ Some s
+      up : (p : ℕ) (s : ℕ × List Premise) → slice_get o.told p ≡ Some s → slice_get new p ≡ Some s
       up p s e = get_more o.told ((n, rs) ∷ []) p s e
 
       either : (m p : ℕ) → Contains (reasons_at o.said m) (Told p)
@@ -311,7 +311,7 @@ module _ (notes : List Note) (steps : List Step) where
       either m p (inl c) = let lt = good.cites m p c in omega (arith, lt)
       either m p (inr c) = own (in_cons (Told (length o.told)) (Told p) [] c)
         where
-          place : Reason → ℕ
+          place : Premise → ℕ
           place (Fact f) = zero
           place (Told p) = p
 
@@ -319,11 +319,11 @@ module _ (notes : List Note) (steps : List Step) where
           own (inl e) = let same : length o.told ≡ p = ap place e in omega (arith, same)
           own (inr c) = absurd (in_none (Told p) c)
 
-      back-at : (i p : ℕ) (s : ℕ × List Reason) → Contains s.1 (Told p)
+      back-at : (i p : ℕ) (s : ℕ × List Premise) → Contains s.1 (Told p)
           → (slice_get o.told i ≡ Some s) ⊎ ((i ≡ length o.told) × ((n, rs) ≡ s)) → p < i
       back-at i p s c (inl at) = good.back i p s at c
       back-at i p s c (inr (e, same)) = let lt =
-          cite p (subst (λ (t : ℕ × List Reason). Contains t.1 (Told p)) (sym same) c) in omega (arith, lt, e)
+          cite p (subst (λ (t : ℕ × List Premise). Contains t.1 (Told p)) (sym same) c) in omega (arith, lt, e)
 
       at-place : (m : ℕ) → m < n + 1 → is_needed (uses_at uses m) ≡ true → (m < n) ⊎ ((m ≡ n) ⊎ (n < m))
           → IsShown notes steps new (reasons_at (o.said ++ (Told (length o.told) ∷ []) ∷ []) m) m
@@ -342,14 +342,15 @@ module _ (notes : List Note) (steps : List Step) where
           (length o.told) (get_push o.told (n, rs)) (in_first (Told (length o.told)) [])))
       at-place m lt need (inr (inr over)) = absurd (omega (arith, lt, over))
 
-      follows-at : (i : ℕ) (s : ℕ × List Reason) → (slice_get o.told i ≡ Some s) ⊎ ((i ≡ length o.told) × ((n, rs) ≡ s))
+      follows-at : (i : ℕ) (s : ℕ × List Premise)
+          → (slice_get o.told i ≡ Some s) ⊎ ((i ≡ length o.told) × ((n, rs) ≡ s))
           → Follows notes steps new s.1 s.0
       follows-at i s (inl at) = follows-grown o.told new s.1 s.0 (references_at steps s.0) up (good.follows i s at)
-      follows-at i s (inr (e, same)) = subst (λ (t : ℕ × List Reason). Follows notes steps new t.1 t.0) same
+      follows-at i s (inr (e, same)) = subst (λ (t : ℕ × List Premise). Follows notes steps new t.1 t.0) same
           (follows-grown o.told new rs n (references_at steps n) up h)
 
   -- a step without a sentence
-  shown-merged : (n : ℕ) (told : Sentences) (rs : List Reason) → is_merged (is_plain (slice_get notes n))
+  shown-merged : (n : ℕ) (told : Sentences) (rs : List Premise) → is_merged (is_plain (slice_get notes n))
       (uses_at uses n) rs ≡ true → Follows notes steps told rs n → IsShown notes steps told rs n
   shown-merged n told rs m h = by (references_at steps n) refl h
     where
@@ -362,7 +363,7 @@ module _ (notes : List Note) (steps : List Step) where
       → is_needed u ≡ true → IsGood n o → IsGood (n + 1) (step_at notes steps u n o)
   step-good u n o back lt is need good = by (is_merged (is_plain (slice_get notes n)) u rs) refl
     where
-      rs : List Reason
+      rs : List Premise
       rs = reasons_of notes steps o.said n
 
       h : Follows notes steps o.told rs n
@@ -409,7 +410,7 @@ module _ (notes : List Note) (steps : List Step) where
     ends = λ m lt at. absurd (omega (arith, lt));
   }
 
-  one-told : (rs : List Reason) → is_told_before rs ≡ true → (p : ℕ) × (rs ≡ Told p ∷ [])
+  one-told : (rs : List Premise) → is_told_before rs ≡ true → (p : ℕ) × (rs ≡ Told p ∷ [])
   one-told [] e = absurd (let no : false ≡ true = e in cc)
   one-told (Fact f ∷ rs) e = absurd (let no : false ≡ true = e in cc)
   one-told (Told p ∷ []) e = (p, refl)

@@ -9,8 +9,8 @@ use Rattle.derivations.specs.References.{references_at}
 use Rattle.telling.specs.declared.uses.Uses.{Uses}
 use Rattle.telling.specs.declared.uses.Uses.TheVariants.{Never, Once, Often, End}
 use Rattle.telling.specs.declared.outline.Note.{Note}
-use Rattle.telling.specs.declared.outline.Reason.{Reason}
-use Rattle.telling.specs.declared.outline.Reason.TheVariants.{Fact, Told}
+use Rattle.telling.specs.declared.outline.Premise.{Premise}
+use Rattle.telling.specs.declared.outline.Premise.TheVariants.{Fact, Told}
 
 -- ---- how many needed steps combine each step
 
@@ -52,23 +52,23 @@ uses_of steps = uses_down steps (length steps) (with_end (replicate (length step
 
 -- ---- reasons
 
-abbrev pub same_reason : Reason → Reason → Bool
+abbrev pub same_reason : Premise → Premise → Bool
 same_reason (Fact a) (Fact b) = nat_eq a b
 same_reason (Told a) (Told b) = nat_eq a b
 same_reason _ _ = false
 
-abbrev pub has_reason : List Reason → Reason → Bool
+abbrev pub has_reason : List Premise → Premise → Bool
 has_reason rs r = list_any (same_reason r) rs
 
 -- a reason after others, unless it is among them
-abbrev pub with_reason : List Reason → Reason → List Reason
+abbrev pub with_reason : List Premise → Premise → List Premise
 with_reason rs r = if has_reason rs r then rs else rs ++ r ∷ []
 
-unfoldable pub with_reasons : List Reason → List Reason → List Reason
+unfoldable pub with_reasons : List Premise → List Premise → List Premise
 with_reasons rs [] = rs
 with_reasons rs (r ∷ more) = with_reasons (with_reason rs r) more
 
-abbrev pub reasons_at : List (List Reason) → ℕ → List Reason
+abbrev pub reasons_at : List (List Premise) → ℕ → List Premise
 reasons_at said n = slice_index_or said n []
 
 abbrev pub fact_of : Option Note → Option ℕ
@@ -80,22 +80,22 @@ is_plain None = true
 is_plain (Some note) = note.plain
 
 -- what an axiom says by itself, if it says something
-abbrev pub by_fact : Option ℕ → List Reason
+abbrev pub by_fact : Option ℕ → List Premise
 by_fact None = []
 by_fact (Some fact) = Fact fact ∷ []
 
 -- why a step holds, by what is told of the steps before it
-abbrev pub reasons_by : List Note → List (List Reason) → ℕ → Option (ℕ × ℕ) → List Reason
+abbrev pub reasons_by : List Note → List (List Premise) → ℕ → Option (ℕ × ℕ) → List Premise
 reasons_by notes said n None = by_fact (fact_of (slice_get notes n))
 reasons_by notes said n (Some p) = with_reasons (reasons_at said p.0) (reasons_at said p.1)
 
-abbrev pub reasons_of : List Note → List Step → List (List Reason) → ℕ → List Reason
+abbrev pub reasons_of : List Note → List Step → List (List Premise) → ℕ → List Premise
 reasons_of notes steps said n = reasons_by notes said n (references_at steps n)
 
 -- ---- sentences
 
 -- a single sentence is all the reason
-abbrev pub is_told_before : List Reason → Bool
+abbrev pub is_told_before : List Premise → Bool
 is_told_before [] = false
 is_told_before (Fact f ∷ rs) = false
 is_told_before (Told p ∷ []) = true
@@ -106,7 +106,7 @@ too_many plain = if plain then 3 else 6
 
 -- whether a step with these reasons has no sentence, and its reasons stand for it where it is combined: it restates its
 -- one reason, or is combined once and has no more than two, or five where it isn't plain
-abbrev pub is_merged : Bool → Uses → List Reason → Bool
+abbrev pub is_merged : Bool → Uses → List Premise → Bool
 is_merged plain Never rs = true
 is_merged plain Once rs = nat_lt (length rs) (too_many plain)
 is_merged plain Often rs = nat_lt (length rs) 2
@@ -114,16 +114,16 @@ is_merged plain End rs = is_told_before rs
 
 -- the sentences so far, each with its step and reasons, and for each step so far what is told where it is combined
 pub record Outline : Type 0 where
-  pub told : List (ℕ × List Reason)
-  pub said : List (List Reason)
+  pub told : List (ℕ × List Premise)
+  pub said : List (List Premise)
 
-abbrev pub merged : List Reason → Outline → Outline
+abbrev pub merged : List Premise → Outline → Outline
 merged rs o = record { told = o.told; said = o.said ++ rs ∷ [] }
 
-abbrev pub with_sentence : ℕ → List Reason → Outline → Outline
+abbrev pub with_sentence : ℕ → List Premise → Outline → Outline
 with_sentence n rs o = record { told = o.told ++ (n, rs) ∷ []; said = o.said ++ (Told (length o.told) ∷ []) ∷ [] }
 
-abbrev pub with_step : Bool → Uses → ℕ → List Reason → Outline → Outline
+abbrev pub with_step : Bool → Uses → ℕ → List Premise → Outline → Outline
 with_step plain uses n rs o = if is_merged plain uses rs then merged rs o else with_sentence n rs o
 
 abbrev pub step_at : List Note → List Step → Uses → ℕ → Outline → Outline
@@ -145,13 +145,13 @@ abbrev pub nothing_yet : Outline
 nothing_yet = record { told = []; said = [] }
 
 -- the sentences that tell a derivation, of whose steps this is known
-abbrev pub sentences_of : List Note → List Step → List (ℕ × List Reason)
+abbrev pub sentences_of : List Note → List Step → List (ℕ × List Premise)
 sentences_of notes steps = (outline_from notes steps 0 (uses_of steps) nothing_yet).told
 
 -- ---- what sentences have to be
 
 abbrev pub Sentences : Type 0
-Sentences = List (ℕ × List Reason)
+Sentences = List (ℕ × List Premise)
 
 -- references lead to earlier steps
 abbrev pub LeadsBack : List Step → Type 0
@@ -159,22 +159,22 @@ LeadsBack steps = (n a b : ℕ) → references_at steps n ≡ Some (a, b) → (a
 
 -- A step follows from reasons: they have its sentence, or what it says as an axiom, or all the reasons of its own,
 -- which show the two steps that it combines and are few enough for it to have no sentence.
-pub data IsShown (notes : List Note) (steps : List Step) (told : Sentences) : List Reason → ℕ → Type 0 where
-  shown_by_sentence : (rs own : List Reason) (n p : ℕ) → slice_get told p ≡ Some (n, own) → Contains rs (Told p)
+pub data IsShown (notes : List Note) (steps : List Step) (told : Sentences) : List Premise → ℕ → Type 0 where
+  shown_by_sentence : (rs own : List Premise) (n p : ℕ) → slice_get told p ≡ Some (n, own) → Contains rs (Told p)
       → IsShown notes steps told rs n
-  shown_by_fact : (rs : List Reason) (n : ℕ) → references_at steps n ≡ None
+  shown_by_fact : (rs : List Premise) (n : ℕ) → references_at steps n ≡ None
       → ((f : ℕ) → fact_of (slice_get notes n) ≡ Some f → Contains rs (Fact f)) → IsShown notes steps told rs n
-  shown_by_reasons : (rs own : List Reason) (n a b : ℕ) → references_at steps n ≡ Some (a, b)
+  shown_by_reasons : (rs own : List Premise) (n a b : ℕ) → references_at steps n ≡ Some (a, b)
       → is_merged (is_plain (slice_get notes n)) (uses_at (uses_of steps) n) own ≡ true
       → IsShown notes steps told own a → IsShown notes steps told own b
-      → ((r : Reason) → Contains own r → Contains rs r) → IsShown notes steps told rs n
+      → ((r : Premise) → Contains own r → Contains rs r) → IsShown notes steps told rs n
 
-abbrev pub FollowsBy : List Note → List Step → Sentences → List Reason → ℕ → Option (ℕ × ℕ) → Type 0
+abbrev pub FollowsBy : List Note → List Step → Sentences → List Premise → ℕ → Option (ℕ × ℕ) → Type 0
 FollowsBy notes steps told rs n None = (f : ℕ) → fact_of (slice_get notes n) ≡ Some f → Contains rs (Fact f)
 FollowsBy notes steps told rs n (Some p) = IsShown notes steps told rs p.0 × IsShown notes steps told rs p.1
 
 -- the reasons have what the step says as an axiom, or show the two steps that it combines
-abbrev pub Follows : List Note → List Step → Sentences → List Reason → ℕ → Type 0
+abbrev pub Follows : List Note → List Step → Sentences → List Premise → ℕ → Type 0
 Follows notes steps told rs n = FollowsBy notes steps told rs n (references_at steps n)
 
 -- The sentences tell the derivation: each step once and those before others first, by sentences that stand before; each
@@ -182,6 +182,6 @@ Follows notes steps told rs n = FollowsBy notes steps told rs n (references_at s
 -- on, down to the facts.
 pub record IsOutline (notes : List Note) (steps : List Step) (told : Sentences) : Type 0 where
   pub order : AllPairs (λ a b. a.0 < b.0) told
-  pub back : (i p : ℕ) (s : ℕ × List Reason) → slice_get told i ≡ Some s → Contains s.1 (Told p) → p < i
-  pub follows : (i : ℕ) (s : ℕ × List Reason) → slice_get told i ≡ Some s → Follows notes steps told s.1 s.0
+  pub back : (i p : ℕ) (s : ℕ × List Premise) → slice_get told i ≡ Some s → Contains s.1 (Told p) → p < i
+  pub follows : (i : ℕ) (s : ℕ × List Premise) → slice_get told i ≡ Some s → Follows notes steps told s.1 s.0
   pub last : (n : ℕ) → n + 1 ≡ length steps → (p : ℕ) × IsShown notes steps told (Told p ∷ []) n

@@ -1,14 +1,14 @@
 -- What the parts of an outline stand for.
 use Rattle.std.specs.Prelude.{ℕ, List, map}
 use Rattle.telling.specs.Outlines.{Outline}
-use Rattle.telling.specs.declared.outline.Reason.{Reason}
+use Rattle.telling.specs.declared.outline.Premise.{Premise}
 use Rattle.telling.specs.declared.outline.Sentence.{Sentence}
 use Rattle.telling.specs.declared.outline.SoFar.{SoFar}
 
-abbrev pub sentence_view : Sentence → ℕ × List Reason
+abbrev pub sentence_view : Sentence → ℕ × List Premise
 sentence_view s = (s.step, s.reasons.items)
 
-abbrev pub sentence_views : List Sentence → List (ℕ × List Reason)
+abbrev pub sentence_views : List Sentence → List (ℕ × List Premise)
 sentence_views ss = map sentence_view ss
 
 abbrev pub so_far_view : SoFar → Outline

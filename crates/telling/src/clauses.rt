@@ -1,7 +1,7 @@
 //! The clauses of a sentence, by which it gives its reasons.
 
 use crate::facts::{Facts, Rank};
-use crate::outline::Reason;
+use crate::outline::Premise;
 use crate::ranges::push_before;
 use looking_up::Problem;
 use std::alloc::{AllocError, Global};
@@ -20,7 +20,7 @@ pub(crate) enum Clause {
 pub(crate) fn clauses_of(
     alloc: Global,
     facts: &Facts<'_>,
-    reasons: &[Reason],
+    reasons: &[Premise],
     before: Option<usize>,
 ) -> Result<Vec<Clause>, AllocError> {
     let mut told = Vec::from_slice(alloc, reasons)?;
@@ -35,24 +35,24 @@ pub(crate) fn clauses_of(
 }
 
 /// Whether a reason is the sentence at this place.
-pub(crate) fn is_told(reason: &Reason, place: Option<usize>) -> bool {
+pub(crate) fn is_told(reason: &Premise, place: Option<usize>) -> bool {
     match (reason, place) {
-        (Reason::Told(told), Some(place)) => *told == place,
+        (Premise::Told(told), Some(place)) => *told == place,
         _ => false,
     }
 }
 
-fn is_covered(facts: &Facts<'_>, reason: &Reason, reasons: &[Reason]) -> bool {
+fn is_covered(facts: &Facts<'_>, reason: &Premise, reasons: &[Premise]) -> bool {
     reasons.iter().any(|other| match (other, reason) {
-        (Reason::Fact(other), Reason::Fact(fact)) => facts.covers(*other, *fact),
+        (Premise::Fact(other), Premise::Fact(fact)) => facts.covers(*other, *fact),
         _ => false,
     })
 }
 
-fn rank(facts: &Facts<'_>, reason: &Reason) -> (bool, Rank) {
+fn rank(facts: &Facts<'_>, reason: &Premise) -> (bool, Rank) {
     match reason {
-        Reason::Told(place) => (false, (false, *place, 0)),
-        Reason::Fact(number) => (true, facts.rank(*number)),
+        Premise::Told(place) => (false, (false, *place, 0)),
+        Premise::Fact(number) => (true, facts.rank(*number)),
     }
 }
 
@@ -61,14 +61,14 @@ fn add_reason(
     alloc: Global,
     clauses: &mut Vec<Clause>,
     facts: &Facts<'_>,
-    reason: Reason,
+    reason: Premise,
 ) -> Result<(), AllocError> {
     let number = match reason {
-        Reason::Told(place) => {
+        Premise::Told(place) => {
             clauses.push(Clause::Told(place))?;
             return Ok(());
         }
-        Reason::Fact(number) => number,
+        Premise::Fact(number) => number,
     };
     let same = clauses
         .iter()

@@ -29,7 +29,7 @@ mod terms;
 mod unmatched;
 mod uses;
 
-pub use outline::{Note, Reason, Sentence, sentences_of};
+pub use outline::{Note, Premise, Sentence, sentences_of};
 pub use spans::{Span, spans_of};
 pub use telling::tell;
 pub use unmatched::unmatched_in;

@@ -13,7 +13,7 @@ use std::alloc::{AllocError, Global};
 
 /// Why a step holds.
 #[derive(Clone, Copy, Debug)]
-pub enum Reason {
+pub enum Premise {
     /// What axioms say: the number of a fact.
     Fact(usize),
     /// What an earlier sentence says: its place.
@@ -34,7 +34,7 @@ pub struct Note {
 pub struct Sentence {
     /// The number of the step.
     pub step: usize,
-    pub reasons: Vec<Reason>,
+    pub reasons: Vec<Premise>,
 }
 
 /// What is known of the steps so far.
@@ -42,7 +42,7 @@ pub struct Sentence {
 struct SoFar {
     sentences: Vec<Sentence>,
     /// For each step what is told where it is combined.
-    said: Vec<Vec<Reason>>,
+    said: Vec<Vec<Premise>>,
 }
 
 /// The sentences that tell a derivation: its needed steps in order, but for those that only restate a reason, and those
@@ -113,7 +113,7 @@ fn add_step(
     alloc: Global,
     so_far: &mut SoFar,
     number: usize,
-    reasons: Vec<Reason>,
+    reasons: Vec<Premise>,
     uses: Uses,
     plain: bool,
 ) -> Result<(), AllocError>
@@ -128,7 +128,7 @@ fn add_step(
 }
 
 /// Whether a step with these reasons has no sentence.
-fn is_merged(plain: bool, uses: Uses, reasons: &[Reason]) -> bool
+fn is_merged(plain: bool, uses: Uses, reasons: &[Premise]) -> bool
     ensures { result ≡ outlines.is_merged plain uses reasons.now }
 {
     match uses {
@@ -156,16 +156,16 @@ fn is_plain(notes: &[Note], number: usize) -> bool
 }
 
 /// Whether a single sentence is all the reason.
-fn is_told_before(reasons: &[Reason]) -> bool
+fn is_told_before(reasons: &[Premise]) -> bool
     ensures { result ≡ is_told_before reasons.now }
 {
     match reasons {
-        [Reason::Told(_)] => true,
+        [Premise::Told(_)] => true,
         _ => false,
     }
 }
 
-fn merge(so_far: &mut SoFar, reasons: Vec<Reason>) -> Result<(), AllocError>
+fn merge(so_far: &mut SoFar, reasons: Vec<Premise>) -> Result<(), AllocError>
     ensures { OnOk result (so_far_view so_far.new ≡ merged reasons.items (so_far_view so_far.old)) }
 {
     so_far.said.push(reasons)?;
@@ -176,12 +176,12 @@ fn tell(
     alloc: Global,
     so_far: &mut SoFar,
     step: usize,
-    reasons: Vec<Reason>,
+    reasons: Vec<Premise>,
 ) -> Result<(), AllocError>
     ensures { OnOk result (so_far_view so_far.new ≡ with_sentence step reasons.items (so_far_view so_far.old)) }
 {
     let mut told = Vec::new(alloc);
-    told.push(Reason::Told(so_far.sentences.len()))?;
+    told.push(Premise::Told(so_far.sentences.len()))?;
     so_far.sentences.push(Sentence { step, reasons })?;
     so_far.said.push(told)?;
     Ok(())
@@ -190,11 +190,11 @@ fn tell(
 /// Why a step holds: what it says by itself, or the reasons of the two that it combines.
 fn reasons_of(
     alloc: Global,
-    said: &[Vec<Reason>],
+    said: &[Vec<Premise>],
     derivation: &Derivation,
     notes: &[Note],
     number: usize,
-) -> Result<Vec<Reason>, AllocError>
+) -> Result<Vec<Premise>, AllocError>
     ensures { IfOk result
         (λ v. v.items ≡ outlines.reasons_of notes.now derivation.now (map (λ v. v.items) said.now) number) }
 {
@@ -204,7 +204,7 @@ fn reasons_of(
     }
 }
 
-fn reasons_at(said: &[Vec<Reason>], number: u64) -> &[Reason]
+fn reasons_at(said: &[Vec<Premise>], number: u64) -> &[Premise]
     ensures { result.now ≡ reasons_at (map (λ v. v.items) said.entry.now) number }
 {
     if number >= said.len() as u64 {
@@ -214,12 +214,12 @@ fn reasons_at(said: &[Vec<Reason>], number: u64) -> &[Reason]
 }
 
 /// What an axiom says by itself.
-fn own(alloc: Global, notes: &[Note], number: usize) -> Result<Vec<Reason>, AllocError>
+fn own(alloc: Global, notes: &[Note], number: usize) -> Result<Vec<Premise>, AllocError>
     ensures { IfOk result (λ v. v.items ≡ by_fact (fact_of (slice_get notes.now number))) }
 {
     let mut reasons = Vec::new(alloc);
     if let Some(fact) = fact_of(notes, number) {
-        reasons.push(Reason::Fact(fact))?;
+        reasons.push(Premise::Fact(fact))?;
     }
     Ok(reasons)
 }
@@ -234,7 +234,7 @@ fn fact_of(notes: &[Note], number: usize) -> Option<usize>
 }
 
 /// The reasons of two steps, each once.
-fn both(alloc: Global, first: &[Reason], second: &[Reason]) -> Result<Vec<Reason>, AllocError>
+fn both(alloc: Global, first: &[Premise], second: &[Premise]) -> Result<Vec<Premise>, AllocError>
     ensures { IfOk result (λ v. v.items ≡ with_reasons first.now second.now) }
 {
     let mut reasons = Vec::from_slice(alloc, first)?;
@@ -243,7 +243,7 @@ fn both(alloc: Global, first: &[Reason], second: &[Reason]) -> Result<Vec<Reason
 }
 
 #[tactic(auto, unfolding(crate::specs::Outlines::with_reasons))]
-fn add_reasons(reasons: &mut Vec<Reason>, more: &[Reason]) -> Result<(), AllocError>
+fn add_reasons(reasons: &mut Vec<Premise>, more: &[Premise]) -> Result<(), AllocError>
     ensures { OnOk result (reasons.new.items ≡ with_reasons reasons.old.items more.now) }
 {
     'more: for reason in more {
@@ -252,7 +252,7 @@ fn add_reasons(reasons: &mut Vec<Reason>, more: &[Reason]) -> Result<(), AllocEr
     Ok(())
 }
 
-fn add_reason(reasons: &mut Vec<Reason>, reason: Reason) -> Result<(), AllocError>
+fn add_reason(reasons: &mut Vec<Premise>, reason: Premise) -> Result<(), AllocError>
     ensures { OnOk result (reasons.new.items ≡ with_reason reasons.old.items reason) }
 {
     if !has_reason(reasons, reason) {
@@ -261,18 +261,18 @@ fn add_reason(reasons: &mut Vec<Reason>, reason: Reason) -> Result<(), AllocErro
     Ok(())
 }
 
-fn has_reason(reasons: &[Reason], reason: Reason) -> bool
+fn has_reason(reasons: &[Premise], reason: Premise) -> bool
     ensures { result ≡ has_reason reasons.now reason }
 {
     reasons.iter().any(|other| is_same(reason, *other))
 }
 
-fn is_same(a: Reason, b: Reason) -> bool
+fn is_same(a: Premise, b: Premise) -> bool
     ensures { result ≡ same_reason a b }
 {
     match (a, b) {
-        (Reason::Fact(a), Reason::Fact(b)) => a == b,
-        (Reason::Told(a), Reason::Told(b)) => a == b,
+        (Premise::Fact(a), Premise::Fact(b)) => a == b,
+        (Premise::Told(a), Premise::Told(b)) => a == b,
         _ => false,
     }
 }

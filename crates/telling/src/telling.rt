@@ -3,7 +3,7 @@
 use crate::claim::push_claim;
 use crate::clauses::{Clause, clauses_of, is_told, push_facts};
 use crate::facts::{Facts, facts_of};
-use crate::outline::{Reason, Sentence, sentences_of};
+use crate::outline::{Premise, Sentence, sentences_of};
 use crate::terms::terms_of;
 use derivations::Derivation;
 use looking_up::Problem;
@@ -70,9 +70,9 @@ fn numbers_of(alloc: Global, sentences: &[Sentence]) -> Result<Vec<Option<usize>
 }
 
 /// Marks the sentences among these reasons, but for the one before.
-fn mark(marks: &mut [bool], before: Option<usize>, reasons: &[Reason]) {
+fn mark(marks: &mut [bool], before: Option<usize>, reasons: &[Premise]) {
     for reason in reasons.iter() {
-        if let Reason::Told(told) = reason {
+        if let Premise::Told(told) = reason {
             if !is_told(reason, before) {
                 if let Some(mark) = marks.get_mut(*told) {
                     *mark = true;
@@ -191,7 +191,7 @@ impl Whole<'_, '_> {
 }
 
 /// The facts among the reasons of all sentences, each once; none where they aren't few.
-fn few_facts(alloc: Global, sentences: &[Sentence]) -> Result<Vec<Reason>, AllocError> {
+fn few_facts(alloc: Global, sentences: &[Sentence]) -> Result<Vec<Premise>, AllocError> {
     let mut facts = Vec::new(alloc);
     for sentence in sentences.iter() {
         put_facts(&mut facts, &sentence.reasons)?;
@@ -202,9 +202,9 @@ fn few_facts(alloc: Global, sentences: &[Sentence]) -> Result<Vec<Reason>, Alloc
     Ok(facts)
 }
 
-fn put_facts(facts: &mut Vec<Reason>, reasons: &[Reason]) -> Result<(), AllocError> {
+fn put_facts(facts: &mut Vec<Premise>, reasons: &[Premise]) -> Result<(), AllocError> {
     for reason in reasons.iter() {
-        if let Reason::Fact(number) = reason {
+        if let Premise::Fact(number) = reason {
             if !has_fact(facts, *number) {
                 facts.push(*reason)?;
             }
@@ -213,8 +213,8 @@ fn put_facts(facts: &mut Vec<Reason>, reasons: &[Reason]) -> Result<(), AllocErr
     Ok(())
 }
 
-fn has_fact(facts: &[Reason], number: usize) -> bool {
-    facts.iter().any(|fact| matches!(fact, Reason::Fact(other) if *other == number))
+fn has_fact(facts: &[Premise], number: usize) -> bool {
+    facts.iter().any(|fact| matches!(fact, Premise::Fact(other) if *other == number))
 }
 
 /// How a sentence begins that goes on from the one before it, or doesn't, and has so many clauses.

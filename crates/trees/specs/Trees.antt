@@ -1,6 +1,5 @@
 -- What a value in a text of JSON stands for: the value that `serde_json` reads there, where of a key that comes twice
--- the
--- last stays.
+-- the last stays.
 use Rattle.std.specs.Prelude.{◌≡◌, ℕ, Bool, true, false, ◌&&◌, negsuc, List, [], ◌∷◌, Option, Some, None, is_some}
 use Rattle.std.specs.Prelude.{unwrap_or, option_and_then}
 use Rattle.std.specs.Borrow.{Bor}

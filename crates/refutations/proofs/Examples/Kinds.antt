@@ -12,7 +12,7 @@ use Rattle.refutations.specs.Causes.{of_root, of_need, of_target, of_feature, of
 use Rattle.refutations.specs.Causes.{of_asking, of_newest, of_weak, is_cause}
 use Rattle.refutations.specs.Instances.{is_instance}
 use Rattle.refutations.proofs.Examples.Pieces.{plain, exactly, within, from, on, candidate, demo, no_features, class_1}
-use Rattle.refutations.proofs.Examples.Pieces.{class_2, one, Gives}
+use Rattle.refutations.proofs.Examples.Pieces.{class_2, one, HasTerms}
 
 abbrev text_a : List ℕ
 text_a = codes "a"
@@ -92,13 +92,13 @@ b1 = pkg text_b (major 1)
 abbrev a_with : List ℕ → List Term → List Term
 a_with f ts = one a1 (version (plain 1 0 0)) ∷ one (feat text_a (major 1) f) present ∷ ts
 
-pub root_counts : Gives small of_root Root (one root absent ∷ [])
+pub root_counts : HasTerms small of_root Root (one root absent ∷ [])
 root_counts = (refl, refl, refl, refl)
 
 pub root_counts-not : is_instance small Root (one root present ∷ []) ≡ false
 root_counts-not = refl
 
-pub root_needs : Gives small (of_need the_root 0) Needed (one root present ∷ one (dep the_root 0) absent ∷ [])
+pub root_needs : HasTerms small (of_need the_root 0) Needed (one root present ∷ one (dep the_root 0) absent ∷ [])
 root_needs = (refl, refl, refl, refl)
 
 -- an optional dependency isn't needed
@@ -107,7 +107,7 @@ pub optional_unneeded : is_instance small Needed (one a1 (version (plain 1 0 0))
 optional_unneeded = refl
 
 -- nothing matches z: the term on its vertex would be full, and is left out
-pub full_dropped : Gives small (of_need (version_of text_a (plain 2 0 0)) 0) Needed
+pub full_dropped : HasTerms small (of_need (version_of text_a (plain 2 0 0)) 0) Needed
     (one (pkg text_a (major 2)) (version (plain 2 0 0)) ∷ [])
 full_dropped = (refl, refl, refl, refl)
 
@@ -115,19 +115,19 @@ pub full_written : is_instance small Needed (one (pkg text_a (major 2)) (version
     ∷ one (dep (version_of text_a (plain 2 0 0)) 0) absent ∷ []) ≡ false
 full_written = refl
 
-pub leads_to_match : Gives small (of_target a_1_0_0 0 (major 1)) Target
+pub leads_to_match : HasTerms small (of_target a_1_0_0 0 (major 1)) Target
     (one (dep a_1_0_0 0) class_1 ∷ at b1 (absent ∷ version (plain 1 1 0) ∷ []) ∷ [])
 leads_to_match = (refl, refl, refl, refl)
 
 pub leads_to_match-state_less : is_instance small Target (one (dep a_1_0_0 0) class_1 ∷ one b1 absent ∷ []) ≡ false
 leads_to_match-state_less = refl
 
-pub feature_is_had : Gives small (of_feature text_b (major 1) text_h) HasFeature
+pub feature_is_had : HasTerms small (of_feature text_b (major 1) text_h) HasFeature
     (one (feat text_b (major 1) text_h) present ∷ at b1 (absent ∷ version (plain 1 1 0) ∷ []) ∷ [])
 feature_is_had = (refl, refl, refl, refl)
 
 -- a weak entry asks for g, which nothing has: all states of b's vertex are among these, and only the feature is left
-pub feature_nowhere : Gives small (of_feature text_b (major 1) text_g) HasFeature
+pub feature_nowhere : HasTerms small (of_feature text_b (major 1) text_g) HasFeature
     (one (feat text_b (major 1) text_g) present ∷ [])
 feature_nowhere = (refl, refl, refl, refl)
 
@@ -135,7 +135,7 @@ feature_nowhere = (refl, refl, refl, refl)
 pub feature_unknown : is_instance small HasFeature (one (feat text_b (major 1) text_f) present ∷ []) ≡ false
 feature_unknown = refl
 
-pub list_asks : Gives small (of_list the_root 0 (major 1) text_f) WantsFeature
+pub list_asks : HasTerms small (of_list the_root 0 (major 1) text_f) WantsFeature
     (one (dep the_root 0) class_1 ∷ one (feat text_a (major 1) text_f) absent ∷ [])
 list_asks = (refl, refl, refl, refl)
 
@@ -143,7 +143,7 @@ pub list_asks_no_other : is_instance small WantsFeature
     (one (dep the_root 0) class_1 ∷ one (feat text_a (major 1) text_g) absent ∷ []) ≡ false
 list_asks_no_other = refl
 
-pub entry_is_passed_on : Gives small (of_ask text_a (plain 1 0 0) 0 text_h (major 1)) WantsFeature
+pub entry_is_passed_on : HasTerms small (of_ask text_a (plain 1 0 0) 0 text_h (major 1)) WantsFeature
     (one (ask text_a (plain 1 0 0) 0 text_h) present ∷ one (dep a_1_0_0 0) class_1
     ∷ one (feat text_b (major 1) text_h) absent ∷ [])
 entry_is_passed_on = (refl, refl, refl, refl)
@@ -153,7 +153,7 @@ pub weak_entry_asks_not : is_instance small WantsFeature (one (ask text_a (plain
     ∷ one (dep a_1_0_0 0) class_1 ∷ one (feat text_b (major 1) text_g) absent ∷ []) ≡ false
 weak_entry_asks_not = refl
 
-pub feature_turns_on : Gives small (of_entry text_a (plain 1 0 0) text_f text_g) FeatureOnFeature
+pub feature_turns_on : HasTerms small (of_entry text_a (plain 1 0 0) text_f text_g) FeatureOnFeature
     (a_with text_f (one (feat text_a (major 1) text_g) absent ∷ []))
 feature_turns_on = (refl, refl, refl, refl)
 
@@ -166,11 +166,12 @@ feature_turns_back = refl
 pub itself_left_out : is_cause small (of_entry text_a (plain 1 0 0) text_g text_g) ≡ false
 itself_left_out = refl
 
-pub dep_entry_enables : Gives small (of_enabling text_a (plain 1 0 0) text_f (dependency text_b) 0) FeatureOnDependency
+pub dep_entry_enables : HasTerms small
+    (of_enabling text_a (plain 1 0 0) text_f (dependency text_b) 0) FeatureOnDependency
     (a_with text_f (one (dep a_1_0_0 0) absent ∷ []))
 dep_entry_enables = (refl, refl, refl, refl)
 
-pub other_entry_enables : Gives small (of_enabling text_a (plain 1 0 0) text_f (dependency_feature text_b text_h) 0)
+pub other_entry_enables : HasTerms small (of_enabling text_a (plain 1 0 0) text_f (dependency_feature text_b text_h) 0)
     FeatureOnDependency (a_with text_f (one (dep a_1_0_0 0) absent ∷ []))
 other_entry_enables = (refl, refl, refl, refl)
 
@@ -181,7 +182,7 @@ nothing_enables = refl
 pub weak_enables_not : is_cause small (of_enabling text_a (plain 1 0 0) text_f (weak_feature text_b text_g) 0) ≡ false
 weak_enables_not = refl
 
-pub entry_asks : Gives small (of_asking text_a (plain 1 0 0) text_f text_h 0) FeatureAsks
+pub entry_asks : HasTerms small (of_asking text_a (plain 1 0 0) text_f text_h 0) FeatureAsks
     (a_with text_f (one (ask text_a (plain 1 0 0) 0 text_h) absent ∷ []))
 entry_asks = (refl, refl, refl, refl)
 
@@ -190,7 +191,7 @@ pub entry_asks_no_other : is_instance small FeatureAsks
 entry_asks_no_other = refl
 
 -- a as `>=1` in class 1, and as `2` in class 2, which `>=1` matches too
-pub newer_is_listed : Gives small (of_newest the_root 0 1 (major 1) (major 2)) NewestListed
+pub newer_is_listed : HasTerms small (of_newest the_root 0 1 (major 1) (major 2)) NewestListed
     (one (dep the_root 0) class_1 ∷ one (dep the_root 1) class_2
     ∷ one (pkg text_a (major 2)) (version (plain 2 0 0)) ∷ [])
 newer_is_listed = (refl, refl, refl, refl)
@@ -205,7 +206,7 @@ pub older_not_listed : is_instance small NewestListed
     (one (dep the_root 0) class_2 ∷ one (dep the_root 1) class_1 ∷ one a1 (version (plain 1 0 0)) ∷ []) ≡ false
 older_not_listed = refl
 
-pub weak_entry_asks : Gives small (of_weak text_a (plain 1 0 0) text_f text_g 0 (major 1)) WeakFeature
+pub weak_entry_asks : HasTerms small (of_weak text_a (plain 1 0 0) text_f text_g 0 (major 1)) WeakFeature
     (a_with text_f (one (dep a_1_0_0 0) class_1 ∷ one (feat text_b (major 1) text_g) absent ∷ []))
 weak_entry_asks = (refl, refl, refl, refl)
 

@@ -69,6 +69,6 @@ abbrev pub one : Vertex → State → Term
 one v s = at v (s ∷ [])
 
 -- the cause is there, is of this kind, has these terms, and they pass the test of the kind
-abbrev pub Gives : Problem → Cause → Kind → List Term → Type 0
-Gives q c k ts =
+abbrev pub HasTerms : Problem → Cause → Kind → List Term → Type 0
+HasTerms q c k ts =
     (is_cause q c ≡ true) × (kind_of c ≡ k) × (without_full q (terms_of_cause q c) ≡ ts) × (is_instance q k ts ≡ true)

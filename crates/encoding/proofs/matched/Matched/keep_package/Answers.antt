@@ -1,7 +1,7 @@
 use Rattle.std.proofs.Common.{ap, ◌∙◌}
 use Rattle.model.specs.Vertices.{owner_brings}
 use Rattle.encoding.specs.Called.{numbered_from}
-use Rattle.encoding.specs.Indexed.{Place}
+use Rattle.encoding.specs.Indexed.{OwnerKey}
 use Rattle.encoding.specs.MatchedViews.{problem_of}
 use Rattle.encoding.specs.OnPackage.{on_package}
 use Rattle.vertices.specs.RefViews.{owner_ref_view}
@@ -18,7 +18,7 @@ pub invariant_of-self-clause-are_by_class : goal.invariant_of-self-clause-are_by
 invariant_of-self-clause-are_by_class c =
     let q = problem_of c.args.self.now in
     let o = owner_ref_view c.args.owner in
-    let place : Place = (c.args.owner, c.args.name) in
+    let place : OwnerKey = (c.args.owner, c.args.name) in
     put_place q c.args.self.now.by_class c.insert.new.self place c.in_ok-by_class.by_class c.insert.result
     c.insert.ensures.updates c.insert.ensures.err c.args.self.now.are_by_class
     (c.in_ok-by_class.ensures ∙ ap (λ ps. (q, ps)) (c.in-Some.ensures
