@@ -1,8 +1,7 @@
 -- What is wrong with a part of a manifest, and of which fault that is (Cargo book, "The Manifest Format", "Specifying
 -- Dependencies" and "Features").
-use Rattle.std.specs.Prelude.{ℕ, Bool, true, false, not, if◌then◌else◌, List, [], ◌∷◌, Option, Some, None, Result, Ok}
-use Rattle.std.specs.Prelude.{Err}
-use Rattle.std.specs.Prelude.{codes, is_some, is_none, option_copied, option_and_then}
+use Rattle.std.specs.Prelude.{ℕ, Bool, true, false, not, if◌then◌else◌, List, [], ◌∷◌, Option, Some, None}
+use Rattle.std.specs.Prelude.{codes, is_err, is_some, is_none, option_copied, option_and_then}
 use Rattle.toml.specs.Data.{Data, string, integer, float, boolean, datetime, array, table, as_str, as_bool, as_array}
 use Rattle.toml.specs.Data.{as_table, get, at, get_member, Members, no_members, member}
 use Rattle.toml.specs.Text.{has_items}
@@ -60,10 +59,6 @@ is_not kind.OwnText d = if is_text d then false else not (is_inherited (as_table
 is_not kind.Flag d = is_none (as_bool d)
 is_not kind.List d = is_none (as_array d)
 
-abbrev pub is_refused : {A E : Type 0} → Result A E → Bool
-is_refused (Ok a) = false
-is_refused (Err e) = true
-
 abbrev pub no_asked_feature : List ℕ → Bool
 no_asked_feature [] = false
 no_asked_feature (b ∷ bs) = not (is_feature_name (b ∷ bs))
@@ -73,8 +68,8 @@ abbrev pub is_no : Sort → List ℕ → Bool
 is_no sort.PackageName text = not (is_package_name text)
 is_no sort.FeatureName text = not (is_feature_name text)
 is_no sort.AskedFeature text = no_asked_feature text
-is_no sort.Version text = is_refused (version_parts text)
-is_no sort.Requirement text = is_refused (req_of text)
+is_no sort.Version text = is_err (version_parts text)
+is_no sort.Requirement text = is_err (req_of text)
 is_no sort.Entry text = is_none (entry_of text)
 
 -- ---- dependencies

@@ -1,12 +1,12 @@
 //! Whether values and texts are what they have to be.
 
-ghost use Rattle.std.specs.Prelude.{◌≡◌, ◌≢◌, true, IfOk, is_none, not, option_and_then, option_map};
+ghost use Rattle.std.specs.Prelude.{◌≡◌, ◌≢◌, true, IfOk, is_err, is_none, not, option_and_then, option_map};
 ghost use Rattle.features.specs.Entries.{entry_of};
 ghost use Rattle.features.specs.Names.{is_feature_name, is_package_name};
 ghost use Rattle.toml.specs.Data.{as_table};
 ghost use Rattle.toml.specs.View.{table_view, view};
 ghost use Rattle.manifest.specs.Packages.{is_inherited};
-ghost use Rattle.manifest_faults.specs.Reasons.{is_foreign, is_no, is_not, is_refused, lacks_source};
+ghost use Rattle.manifest_faults.specs.Reasons.{is_foreign, is_no, is_not, lacks_source};
 ghost use Rattle.semver.specs.Parse.{memory_error, req_of, version_parts};
 
 use crate::entries::entry_of;
@@ -128,25 +128,25 @@ fn is_no_feature_name(alloc: Global, text: &str) -> Result<bool, AllocError>
 }
 
 fn is_no_version(alloc: Global, text: &str) -> Result<bool, AllocError>
-    ensures { IfOk result (λ b. b ≡ is_refused (version_parts text.now)) }
+    ensures { IfOk result (λ b. b ≡ is_err (version_parts text.now)) }
 {
     match Version::parse(alloc, text) {
         Ok(_) => Ok(false),
-        Err(e) => refused(e),
+        Err(e) => unread(e),
     }
 }
 
 fn is_no_requirement(alloc: Global, text: &str) -> Result<bool, AllocError>
-    ensures { IfOk result (λ b. b ≡ is_refused (req_of text.now)) }
+    ensures { IfOk result (λ b. b ≡ is_err (req_of text.now)) }
 {
     match VersionReq::parse(alloc, text) {
         Ok(_) => Ok(false),
-        Err(e) => refused(e),
+        Err(e) => unread(e),
     }
 }
 
-/// That a text was refused, unless memory was wanting.
-fn refused(e: semver::Error) -> Result<bool, AllocError>
+/// That a text says nothing, unless memory was wanting.
+fn unread(e: semver::Error) -> Result<bool, AllocError>
     ensures { IfOk result (λ b. (b ≡ true) × (e ≢ memory_error)) }
 {
     if e == semver::Error::from(AllocError) {

@@ -115,10 +115,10 @@ fn unsolvable<F: Folder>(
         said.form(),
         wish.all,
     )?;
-    Ok(refused(alloc, paths, why.as_str(), said)?)
+    Ok(no_lock(alloc, paths, why.as_str(), said)?)
 }
 
-/// What becomes of a lock that is another one than the old: `--locked` refuses it, `--write` hands it on. Without these
+/// What becomes of a lock that is another one than the old: with `--locked` that is an error, `--write` hands it on. Without these
 /// it is told that nothing is written.
 fn with_new_lock(
     alloc: Global,
@@ -154,7 +154,7 @@ fn copied(alloc: Global, bytes: &[u8]) -> Result<Vec<u8>, AllocError>
 }
 
 /// Tells why there is no lock.
-fn refused(
+fn no_lock(
     alloc: Global,
     paths: &Paths<'_>,
     why: &str,

@@ -59,8 +59,8 @@ pub fn why_told<F: Folder>(
             Meant::One(wanted) => {
                 answered(alloc, folder, paths, &inputs, words, &wanted, all, said)
             }
-            Meant::Absent => Ok(refused(alloc, paths, words, NoWay::Absent, said)?),
-            Meant::Several => Ok(refused(alloc, paths, words, NoWay::Several, said)?),
+            Meant::Absent => Ok(no_way(alloc, paths, words, NoWay::Absent, said)?),
+            Meant::Several => Ok(no_way(alloc, paths, words, NoWay::Several, said)?),
         },
     }
 }
@@ -83,13 +83,13 @@ fn answered<F: Folder>(
             said.answer(if is_root { IS_ROOT } else { text.as_str() })?;
             Ok(Outcome::yes())
         }
-        WhyThere::Absent => Ok(refused(alloc, paths, words, NoWay::Absent, said)?),
-        WhyThere::Unreached => Ok(refused(alloc, paths, words, NoWay::Unreached, said)?),
+        WhyThere::Absent => Ok(no_way(alloc, paths, words, NoWay::Absent, said)?),
+        WhyThere::Unreached => Ok(no_way(alloc, paths, words, NoWay::Unreached, said)?),
     }
 }
 
 /// That there is no way to tell; of several packages none is meant, which Cargo takes for an error too.
-fn refused(
+fn no_way(
     alloc: Global,
     paths: &Paths<'_>,
     words: &str,
