@@ -21,6 +21,7 @@ use Rattle.model.specs.Candidates.{IsOlder, Record, as_candidate}
 use Rattle.model.specs.Order.{precedence}
 use Rattle.model.specs.Vertices.{Owner, the_root, version_of, owner_brings}
 use Rattle.model.proofs.Contents.{precedence-equal, less_equal}
+use Rattle.model.proofs.Inner.{name_in, version_in}
 use Rattle.model.proofs.Lists.{all_get, all_first, all_rest, pairs_get, pairs_none, to_any}
 use Rattle.model.proofs.Owners.{candidate_at-is, candidate_at-there}
 use Rattle.model.proofs.Same.{both, text-refl, text-same}
