@@ -118,8 +118,9 @@ fn unsolvable<F: Folder>(
     Ok(no_lock(alloc, paths, why.as_str(), said)?)
 }
 
-/// What becomes of a lock that is another one than the old: with `--locked` that is an error, `--write` hands it on. Without these
-/// it is told that nothing is written.
+/// What becomes of a lock that is another one than the old: with `--locked` that is an error, and `--write` hands it
+/// on.
+/// Without these it is told that nothing is written.
 fn with_new_lock(
     alloc: Global,
     path: &str,

@@ -14,10 +14,11 @@ use Rattle.model.proofs.Lists.{all_none, any_of, in_cons, in_first, in_none, in_
 use Rattle.model.proofs.Places.{get_more, get_push}
 use Rattle.derivations.specs.References.{references_at}
 use Rattle.telling.specs.Outlines.{FollowsBy, Follows, IsOutline, IsShown, Outline, LeadsBack, Sentences, by_fact}
-use Rattle.telling.specs.Outlines.{fact_of, has_reason, is_merged, is_needed, is_plain, is_told_before, looked_at}
-use Rattle.telling.specs.Outlines.{merged, nothing_yet, outline_from, reasons_at, reasons_by, reasons_of, same_reason}
-use Rattle.telling.specs.Outlines.{sentences_of, step_at, uses_at, uses_of, with_reason, with_reasons, with_sentence}
-use Rattle.telling.specs.Outlines.IsShown.{shown_by_sentence, shown_by_fact, shown_by_reasons}
+use Rattle.telling.specs.Outlines.{fact_of, has_premise, is_merged, is_needed, is_plain, is_told_before, looked_at}
+use Rattle.telling.specs.Outlines.{merged, nothing_yet, outline_from, premises_at, premises_by, premises_of}
+use Rattle.telling.specs.Outlines.{same_premise}
+use Rattle.telling.specs.Outlines.{sentences_of, step_at, uses_at, uses_of, with_premise, with_premises, with_sentence}
+use Rattle.telling.specs.Outlines.IsShown.{shown_by_sentence, shown_by_fact, shown_by_premises}
 use Rattle.telling.specs.declared.outline.Note.{Note}
 use Rattle.telling.specs.declared.outline.Premise.{Premise}
 use Rattle.telling.specs.declared.outline.Premise.TheVariants.{Fact, Told}
@@ -58,49 +59,49 @@ three-ways a b = by (leb_tells a b) (leb_tells b a)
     by (inl (e, h)) (inr (f, k)) = inl k
     by (inl (e, h)) (inl (f, k)) = inr (inl (omega (arith, h, k)))
 
--- ---- reasons
+-- ---- premises
 
-same-is : (a b : Premise) → same_reason a b ≡ true → a ≡ b
+same-is : (a b : Premise) → same_premise a b ≡ true → a ≡ b
 same-is (Fact a) (Fact b) e = ap Fact (eqb-true a b e)
 same-is (Told a) (Told b) e = ap Told (eqb-true a b e)
 same-is (Fact a) (Told b) e = absurd (let no : false ≡ true = e in cc)
 same-is (Told a) (Fact b) e = absurd (let no : false ≡ true = e in cc)
 
-has-is : (rs : List Premise) (r : Premise) → has_reason rs r ≡ true → Contains rs r
-has-is rs r e = let one = any_of (same_reason r) rs e in subst (λ x. Contains rs x) (sym (same-is r one.0 one.2)) one.1
+has-is : (rs : List Premise) (r : Premise) → has_premise rs r ≡ true → Contains rs r
+has-is rs r e = let one = any_of (same_premise r) rs e in subst (λ x. Contains rs x) (sym (same-is r one.0 one.2)) one.1
 
-one-keeps : (rs : List Premise) (x r : Premise) → Contains rs r → Contains (with_reason rs x) r
-one-keeps rs x r c = by (has_reason rs x)
+one-keeps : (rs : List Premise) (x r : Premise) → Contains rs r → Contains (with_premise rs x) r
+one-keeps rs x r c = by (has_premise rs x)
   where
     by : (b : Bool) → Contains (cond b rs (rs ++ x ∷ [])) r
     by true = c
     by false = Contains-append_left rs (x ∷ []) r c
 
-one-has : (rs : List Premise) (x : Premise) → Contains (with_reason rs x) x
-one-has rs x = by (has_reason rs x) refl
+one-has : (rs : List Premise) (x : Premise) → Contains (with_premise rs x) x
+one-has rs x = by (has_premise rs x) refl
   where
-    by : (b : Bool) → has_reason rs x ≡ b → Contains (cond b rs (rs ++ x ∷ [])) x
+    by : (b : Bool) → has_premise rs x ≡ b → Contains (cond b rs (rs ++ x ∷ [])) x
     by true e = has-is rs x e
     by false e = Contains-push rs x
 
-first-in : (rs more : List Premise) (r : Premise) → Contains rs r → Contains (with_reasons rs more) r
-unfolding with_reasons
+first-in : (rs more : List Premise) (r : Premise) → Contains rs r → Contains (with_premises rs more) r
+unfolding with_premises
 first-in rs [] r c = c
-first-in rs (x ∷ more) r c = first-in (with_reason rs x) more r (one-keeps rs x r c)
+first-in rs (x ∷ more) r c = first-in (with_premise rs x) more r (one-keeps rs x r c)
 
-second-in : (rs more : List Premise) (r : Premise) → Contains more r → Contains (with_reasons rs more) r
-unfolding with_reasons
+second-in : (rs more : List Premise) (r : Premise) → Contains more r → Contains (with_premises rs more) r
+unfolding with_premises
 second-in rs [] r c = absurd (in_none r c)
-second-in rs (x ∷ more) r c = by (in_cons x r more c) (λ c. second-in (with_reason rs x) more r c)
+second-in rs (x ∷ more) r c = by (in_cons x r more c) (λ c. second-in (with_premise rs x) more r c)
   where
-    by : (x ≡ r) ⊎ Contains more r → (Contains more r → Contains (with_reasons (with_reason rs x) more) r)
-        → Contains (with_reasons (with_reason rs x) more) r
+    by : (x ≡ r) ⊎ Contains more r → (Contains more r → Contains (with_premises (with_premise rs x) more) r)
+        → Contains (with_premises (with_premise rs x) more) r
     by (inl same) rest =
-        first-in (with_reason rs x) more r (subst (λ z. Contains (with_reason rs x) z) same (one-has rs x))
+        first-in (with_premise rs x) more r (subst (λ z. Contains (with_premise rs x) z) same (one-has rs x))
     by (inr c) rest = rest c
 
-one-from : (rs : List Premise) (x r : Premise) → Contains (with_reason rs x) r → Contains rs r ⊎ (x ≡ r)
-one-from rs x r c = by (has_reason rs x) c
+one-from : (rs : List Premise) (x r : Premise) → Contains (with_premise rs x) r → Contains rs r ⊎ (x ≡ r)
+one-from rs x r c = by (has_premise rs x) c
   where
     snoc : (rs : List Premise) → Contains (rs ++ x ∷ []) r → Contains rs r ⊎ (x ≡ r)
     snoc [] c = else (in_cons x r [] c)
@@ -123,36 +124,37 @@ one-from rs x r c = by (has_reason rs x) c
     by true c = inl c
     by false c = snoc rs c
 
-both-from : (rs more : List Premise) (r : Premise) → Contains (with_reasons rs more) r → Contains rs r ⊎ Contains more r
-unfolding with_reasons
+both-from : (rs more : List Premise) (r : Premise) → Contains (with_premises rs more) r
+    → Contains rs r ⊎ Contains more r
+unfolding with_premises
 both-from rs [] r c = inl c
-both-from rs (x ∷ more) r c = by (both-from (with_reason rs x) more r c)
+both-from rs (x ∷ more) r c = by (both-from (with_premise rs x) more r c)
   where
     then : Contains rs r ⊎ (x ≡ r) → Contains rs r ⊎ Contains (x ∷ more) r
     then (inl c) = inl c
     then (inr same) = inr (subst (λ z. Contains (x ∷ more) z) same (in_first x more))
 
-    by : Contains (with_reason rs x) r ⊎ Contains more r → Contains rs r ⊎ Contains (x ∷ more) r
+    by : Contains (with_premise rs x) r ⊎ Contains more r → Contains rs r ⊎ Contains (x ∷ more) r
     by (inl c) = then (one-from rs x r c)
     by (inr c) = inr (in_rest x r more c)
 
--- ---- steps that follow from reasons
+-- ---- steps that follow from premises
 
 module _ (notes : List Note) (steps : List Step) where
   wider : (told : Sentences) (rs more : List Premise) (n : ℕ) → ((r : Premise) → Contains rs r → Contains more r)
       → IsShown notes steps told rs n → IsShown notes steps told more n
   wider told rs more n sub (shown_by_sentence zs own i p at c) = shown_by_sentence more own i p at (sub (Told p) c)
   wider told rs more n sub (shown_by_fact zs i at k) = shown_by_fact more i at (λ f e. sub (Fact f) (k f e))
-  wider told rs more n sub (shown_by_reasons zs own i a b at m x y k) =
-      shown_by_reasons more own i a b at m x y (λ r c. sub r (k r c))
+  wider told rs more n sub (shown_by_premises zs own i a b at m x y k) =
+      shown_by_premises more own i a b at m x y (λ r c. sub r (k r c))
 
   grown : (told new : Sentences) (rs : List Premise) (n : ℕ)
       → ((p : ℕ) (s : ℕ × List Premise) → slice_get told p ≡ Some s → slice_get new p ≡ Some s)
       → IsShown notes steps told rs n → IsShown notes steps new rs n
   grown told new rs n up (shown_by_sentence zs own i p at c) = shown_by_sentence zs own i p (up p (i, own) at) c
   grown told new rs n up (shown_by_fact zs i at k) = shown_by_fact zs i at k
-  grown told new rs n up (shown_by_reasons zs own i a b at m x y k) =
-      shown_by_reasons zs own i a b at m (grown told new own a up x) (grown told new own b up y) k
+  grown told new rs n up (shown_by_premises zs own i a b at m x y k) =
+      shown_by_premises zs own i a b at m (grown told new own a up x) (grown told new own b up y) k
 
   follows-grown : (told new : Sentences) (rs : List Premise) (n : ℕ) (o : Option (ℕ × ℕ))
       → ((p : ℕ) (s : ℕ × List Premise) → slice_get told p ≡ Some s → slice_get new p ≡ Some s)
@@ -168,31 +170,31 @@ module _ (notes : List Note) (steps : List Step) where
     many : length o.said ≡ n
     order : AllPairs (λ a b. a.0 < b.0) o.told
     below : All (λ s. s.0 < n) o.told
-    cites : (m p : ℕ) → Contains (reasons_at o.said m) (Told p) → p < length o.told
+    cites : (m p : ℕ) → Contains (premises_at o.said m) (Told p) → p < length o.told
     back : (i p : ℕ) (s : ℕ × List Premise) → slice_get o.told i ≡ Some s → Contains s.1 (Told p) → p < i
-    shown : (m : ℕ) → m < n → is_needed (uses_at uses m) ≡ true → IsShown notes steps o.told (reasons_at o.said m) m
+    shown : (m : ℕ) → m < n → is_needed (uses_at uses m) ≡ true → IsShown notes steps o.told (premises_at o.said m) m
     follows : (i : ℕ) (s : ℕ × List Premise) → slice_get o.told i ≡ Some s → Follows notes steps o.told s.1 s.0
-    ends : (m : ℕ) → m < n → uses_at uses m ≡ End → is_told_before (reasons_at o.said m) ≡ true
+    ends : (m : ℕ) → m < n → uses_at uses m ≡ End → is_told_before (premises_at o.said m) ≡ true
 
-  -- the reasons of the next step
+  -- the premises of the next step
   next-follows : (n : ℕ) (o : Outline) → LeadsBack steps → n < length steps → IsGood n o
-      → is_needed (uses_at uses n) ≡ true → Follows notes steps o.told (reasons_of notes steps o.said n) n
+      → is_needed (uses_at uses n) ≡ true → Follows notes steps o.told (premises_of notes steps o.said n) n
   next-follows n o back lt good need = by (references_at steps n) refl
     where
       by : (r : Option (ℕ × ℕ)) → references_at steps n ≡ r
-          → FollowsBy notes steps o.told (reasons_by notes o.said n r) n r
+          → FollowsBy notes steps o.told (premises_by notes o.said n r) n r
       by None at = λ f e. subst (λ o. Contains (by_fact o) (Fact f)) (sym e) (in_first (Fact f) [])
       by (Some p) at =
           let low = back n p.0 p.1 at in
           let need2 = used steps back n p.0 p.1 lt need at in (
-            wider o.told (reasons_at o.said p.0) (with_reasons (reasons_at o.said p.0) (reasons_at o.said p.1)) p.0
-                (first-in (reasons_at o.said p.0) (reasons_at o.said p.1)) (good.shown p.0 low.0 need2.0),
-            wider o.told (reasons_at o.said p.1) (with_reasons (reasons_at o.said p.0) (reasons_at o.said p.1)) p.1
-                (second-in (reasons_at o.said p.0) (reasons_at o.said p.1)) (good.shown p.1 low.1 need2.1),
+            wider o.told (premises_at o.said p.0) (with_premises (premises_at o.said p.0) (premises_at o.said p.1)) p.0
+                (first-in (premises_at o.said p.0) (premises_at o.said p.1)) (good.shown p.0 low.0 need2.0),
+            wider o.told (premises_at o.said p.1) (with_premises (premises_at o.said p.0) (premises_at o.said p.1)) p.1
+                (second-in (premises_at o.said p.0) (premises_at o.said p.1)) (good.shown p.1 low.1 need2.1),
           )
 
   next-cites : (n : ℕ) (o : Outline) → IsGood n o → (p : ℕ)
-      → Contains (reasons_of notes steps o.said n) (Told p) → p < length o.told
+      → Contains (premises_of notes steps o.said n) (Told p) → p < length o.told
   next-cites n o good p c = by (references_at steps n) c
     where
       not-told : (o : Option ℕ) → Contains (by_fact o) (Told p) → ⊥
@@ -203,24 +205,24 @@ module _ (notes : List Note) (steps : List Step) where
           either (inl e) = cc
           either (inr c) = in_none (Told p) c
 
-      by : (r : Option (ℕ × ℕ)) → Contains (reasons_by notes o.said n r) (Told p) → p < length o.told
+      by : (r : Option (ℕ × ℕ)) → Contains (premises_by notes o.said n r) (Told p) → p < length o.told
       by None c = absurd (not-told (fact_of (slice_get notes n)) c)
-      by (Some q) c = either (both-from (reasons_at o.said q.0) (reasons_at o.said q.1) (Told p) c)
+      by (Some q) c = either (both-from (premises_at o.said q.0) (premises_at o.said q.1) (Told p) c)
         where
-          either : Contains (reasons_at o.said q.0) (Told p)
-              ⊎ Contains (reasons_at o.said q.1) (Told p) → p < length o.told
+          either : Contains (premises_at o.said q.0) (Told p)
+              ⊎ Contains (premises_at o.said q.1) (Told p) → p < length o.told
           either (inl c) = good.cites q.0 p c
           either (inr c) = good.cites q.1 p c
 
   -- what is told where a step is combined, with one more
   said-at : (said : List (List Premise)) (rs : List Premise) (m : ℕ) (r : Premise)
-      → Contains (reasons_at (said ++ rs ∷ []) m) r → Contains (reasons_at said m) r ⊎ Contains rs r
+      → Contains (premises_at (said ++ rs ∷ []) m) r → Contains (premises_at said m) r ⊎ Contains rs r
   said-at said rs m r c = by (three-ways m (length said))
     where
-      by : (m < length said) ⊎ ((m ≡ length said) ⊎ (length said < m)) → Contains (reasons_at said m) r ⊎ Contains rs r
+      by : (m < length said) ⊎ ((m ≡ length said) ⊎ (length said < m)) → Contains (premises_at said m) r ⊎ Contains rs r
       by (inl lt) = inl (subst (λ x. Contains x r) (get_or_append_left said (rs ∷ []) [] m lt) c)
       by (inr (inl same)) = inr (subst (λ x. Contains x r) (at-end said rs [])
-          (subst (λ k. Contains (reasons_at (said ++ rs ∷ []) k) r) same c))
+          (subst (λ k. Contains (premises_at (said ++ rs ∷ []) k) r) same c))
       by (inr (inr lt)) = absurd (in_none r (subst (λ x. Contains x r) (past-end said rs [] m lt) c))
 
   long : (said : List (List Premise)) (rs : List Premise) → length (said ++ rs ∷ []) ≡ length said + 1
@@ -243,27 +245,27 @@ module _ (notes : List Note) (steps : List Step) where
   }
     where
       end-at : (m : ℕ) → m < n + 1 → uses_at uses m ≡ End → (m < n) ⊎ ((m ≡ n) ⊎ (n < m))
-          → is_told_before (reasons_at (o.said ++ rs ∷ []) m) ≡ true
+          → is_told_before (premises_at (o.said ++ rs ∷ []) m) ≡ true
       end-at m lt at (inl below) = ap is_told_before (get_or_append_left o.said (rs ∷ []) [] m
           (let many = good.many in omega (arith, below, many))) ∙ good.ends m below at
       end-at m lt at (inr (inl same)) =
-          ap (λ k. is_told_before (reasons_at (o.said ++ rs ∷ []) k)) (same ∙ sym good.many)
+          ap (λ k. is_told_before (premises_at (o.said ++ rs ∷ []) k)) (same ∙ sym good.many)
           ∙ ap is_told_before (at-end o.said rs []) ∙ end (subst (λ k. uses_at uses k ≡ End) same at)
       end-at m lt at (inr (inr over)) = absurd (omega (arith, lt, over))
 
-      either : (m p : ℕ) → Contains (reasons_at o.said m) (Told p) ⊎ Contains rs (Told p) → p < length o.told
+      either : (m p : ℕ) → Contains (premises_at o.said m) (Told p) ⊎ Contains rs (Told p) → p < length o.told
       either m p (inl c) = good.cites m p c
       either m p (inr c) = cite p c
 
       at-place : (m : ℕ) → m < n + 1 → is_needed (uses_at uses m) ≡ true → (m < n) ⊎ ((m ≡ n) ⊎ (n < m))
-          → IsShown notes steps o.told (reasons_at (o.said ++ rs ∷ []) m) m
+          → IsShown notes steps o.told (premises_at (o.said ++ rs ∷ []) m) m
       at-place m lt need (inl below) =
-          let same : reasons_at (o.said ++ rs ∷ []) m ≡ reasons_at o.said m =
+          let same : premises_at (o.said ++ rs ∷ []) m ≡ premises_at o.said m =
           get_or_append_left o.said (rs ∷ []) [] m (let many = good.many in omega (arith, below, many)) in
           subst (λ x. IsShown notes steps o.told x m) (sym same) (good.shown m below need)
       at-place m lt need (inr (inl same)) =
-          let here : reasons_at (o.said ++ rs ∷ []) m ≡ rs =
-          ap (λ k. reasons_at (o.said ++ rs ∷ []) k) (same ∙ sym good.many) ∙ at-end o.said rs [] in
+          let here : premises_at (o.said ++ rs ∷ []) m ≡ rs =
+          ap (λ k. premises_at (o.said ++ rs ∷ []) k) (same ∙ sym good.many) ∙ at-end o.said rs [] in
           subst (λ x. IsShown notes steps o.told x m) (sym here) (subst (λ k. IsShown notes steps o.told rs k)
           (sym same) (show (subst (λ k. is_needed (uses_at uses k) ≡ true) same need)))
       at-place m lt need (inr (inr over)) = absurd (omega (arith, lt, over))
@@ -285,11 +287,11 @@ module _ (notes : List Note) (steps : List Step) where
   }
     where
       end-at : (m : ℕ) → m < n + 1 → uses_at uses m ≡ End → (m < n) ⊎ ((m ≡ n) ⊎ (n < m))
-          → is_told_before (reasons_at (o.said ++ (Told (length o.told) ∷ []) ∷ []) m) ≡ true
+          → is_told_before (premises_at (o.said ++ (Told (length o.told) ∷ []) ∷ []) m) ≡ true
       end-at m lt at (inl below) = ap is_told_before (get_or_append_left o.said ((Told (length o.told) ∷ []) ∷ []) [] m
           (let many = good.many in omega (arith, below, many))) ∙ good.ends m below at
       end-at m lt at (inr (inl same)) =
-          ap (λ k. is_told_before (reasons_at (o.said ++ (Told (length o.told) ∷ []) ∷ []) k)) (same ∙ sym good.many)
+          ap (λ k. is_told_before (premises_at (o.said ++ (Told (length o.told) ∷ []) ∷ []) k)) (same ∙ sym good.many)
           ∙ ap is_told_before (at-end o.said (Told (length o.told) ∷ []) [])
       end-at m lt at (inr (inr over)) = absurd (omega (arith, lt, over))
 
@@ -306,7 +308,7 @@ module _ (notes : List Note) (steps : List Step) where
       up : (p : ℕ) (s : ℕ × List Premise) → slice_get o.told p ≡ Some s → slice_get new p ≡ Some s
       up p s e = get_more o.told ((n, rs) ∷ []) p s e
 
-      either : (m p : ℕ) → Contains (reasons_at o.said m) (Told p)
+      either : (m p : ℕ) → Contains (premises_at o.said m) (Told p)
           ⊎ Contains (Told (length o.told) ∷ []) (Told p) → p < length o.told + 1
       either m p (inl c) = let lt = good.cites m p c in omega (arith, lt)
       either m p (inr c) = own (in_cons (Told (length o.told)) (Told p) [] c)
@@ -326,16 +328,16 @@ module _ (notes : List Note) (steps : List Step) where
           cite p (subst (λ (t : ℕ × List Premise). Contains t.1 (Told p)) (sym same) c) in omega (arith, lt, e)
 
       at-place : (m : ℕ) → m < n + 1 → is_needed (uses_at uses m) ≡ true → (m < n) ⊎ ((m ≡ n) ⊎ (n < m))
-          → IsShown notes steps new (reasons_at (o.said ++ (Told (length o.told) ∷ []) ∷ []) m) m
+          → IsShown notes steps new (premises_at (o.said ++ (Told (length o.told) ∷ []) ∷ []) m) m
       at-place m lt need (inl below) =
-          let same : reasons_at (o.said ++ (Told (length o.told) ∷ []) ∷ []) m ≡ reasons_at o.said m =
+          let same : premises_at (o.said ++ (Told (length o.told) ∷ []) ∷ []) m ≡ premises_at o.said m =
           get_or_append_left o.said ((Told (length o.told) ∷ []) ∷ []) [] m
           (let many = good.many in omega (arith, below, many)) in
           subst (λ x. IsShown notes steps new x m) (sym same)
-          (grown o.told new (reasons_at o.said m) m up (good.shown m below need))
+          (grown o.told new (premises_at o.said m) m up (good.shown m below need))
       at-place m lt need (inr (inl same)) =
-          let here : reasons_at (o.said ++ (Told (length o.told) ∷ []) ∷ []) m ≡ Told (length o.told) ∷ [] =
-          ap (λ k. reasons_at (o.said ++ (Told (length o.told) ∷ []) ∷ []) k) (same ∙ sym good.many)
+          let here : premises_at (o.said ++ (Told (length o.told) ∷ []) ∷ []) m ≡ Told (length o.told) ∷ [] =
+          ap (λ k. premises_at (o.said ++ (Told (length o.told) ∷ []) ∷ []) k) (same ∙ sym good.many)
           ∙ at-end o.said (Told (length o.told) ∷ []) [] in
           subst (λ x. IsShown notes steps new x m) (sym here) (subst (λ k. IsShown notes steps new
           (Told (length o.told) ∷ []) k) (sym same) (shown_by_sentence (Told (length o.told) ∷ []) rs n
@@ -357,14 +359,14 @@ module _ (notes : List Note) (steps : List Step) where
       by : (r : Option (ℕ × ℕ)) → references_at steps n ≡ r → FollowsBy notes steps told rs n r
           → IsShown notes steps told rs n
       by None at k = shown_by_fact rs n at k
-      by (Some p) at k = shown_by_reasons rs rs n p.0 p.1 at m k.0 k.1 (λ r c. c)
+      by (Some p) at k = shown_by_premises rs rs n p.0 p.1 at m k.0 k.1 (λ r c. c)
 
   step-good : (u : Uses) (n : ℕ) (o : Outline) → LeadsBack steps → n < length steps → uses_at uses n ≡ u
       → is_needed u ≡ true → IsGood n o → IsGood (n + 1) (step_at notes steps u n o)
   step-good u n o back lt is need good = by (is_merged (is_plain (slice_get notes n)) u rs) refl
     where
       rs : List Premise
-      rs = reasons_of notes steps o.said n
+      rs = premises_of notes steps o.said n
 
       h : Follows notes steps o.told rs n
       h = next-follows n o back lt good (ap is_needed is ∙ need)
@@ -421,7 +423,7 @@ module _ (notes : List Note) (steps : List Step) where
   last-shown back o good n is =
       let end = last-is steps back n (omega (arith, is)) in
       let lt : n < length steps = omega (arith, is) in
-      let one = one-told (reasons_at o.said n) (good.ends n lt end) in
+      let one = one-told (premises_at o.said n) (good.ends n lt end) in
       (one.0, subst (λ rs. IsShown notes steps o.told rs n) one.1 (good.shown n lt (ap is_needed end)))
 
   pub sentences-tell : LeadsBack steps → IsOutline notes steps (sentences_of notes steps)

@@ -1,4 +1,5 @@
--- Which steps of a derivation are told, in which order and by which reasons (Dart pub's `solver.md`, "Error Reporting",
+-- Which steps of a derivation are told, in which order and by which premises (Dart pub's `solver.md`, "Error
+-- Reporting",
 -- has such sentences; the rules are this project's).
 use Rattle.std.specs.Prelude.{◌≡◌, ◌<◌, Contains, ℕ, zero, suc, ◌+◌, ◌-◌, nat_eq, nat_lt, Bool, true, false}
 use Rattle.std.specs.Prelude.{if◌then◌else◌, List, [], ◌∷◌, ◌++◌, length, replicate, Option, Some, None, slice_get}
@@ -50,26 +51,26 @@ uses_down steps (suc n) us =
 abbrev pub uses_of : List Step → List Uses
 uses_of steps = uses_down steps (length steps) (with_end (replicate (length steps) Never))
 
--- ---- reasons
+-- ---- premises
 
-abbrev pub same_reason : Premise → Premise → Bool
-same_reason (Fact a) (Fact b) = nat_eq a b
-same_reason (Told a) (Told b) = nat_eq a b
-same_reason _ _ = false
+abbrev pub same_premise : Premise → Premise → Bool
+same_premise (Fact a) (Fact b) = nat_eq a b
+same_premise (Told a) (Told b) = nat_eq a b
+same_premise _ _ = false
 
-abbrev pub has_reason : List Premise → Premise → Bool
-has_reason rs r = list_any (same_reason r) rs
+abbrev pub has_premise : List Premise → Premise → Bool
+has_premise rs r = list_any (same_premise r) rs
 
--- a reason after others, unless it is among them
-abbrev pub with_reason : List Premise → Premise → List Premise
-with_reason rs r = if has_reason rs r then rs else rs ++ r ∷ []
+-- a premise after others, unless it is among them
+abbrev pub with_premise : List Premise → Premise → List Premise
+with_premise rs r = if has_premise rs r then rs else rs ++ r ∷ []
 
-unfoldable pub with_reasons : List Premise → List Premise → List Premise
-with_reasons rs [] = rs
-with_reasons rs (r ∷ more) = with_reasons (with_reason rs r) more
+unfoldable pub with_premises : List Premise → List Premise → List Premise
+with_premises rs [] = rs
+with_premises rs (r ∷ more) = with_premises (with_premise rs r) more
 
-abbrev pub reasons_at : List (List Premise) → ℕ → List Premise
-reasons_at said n = slice_index_or said n []
+abbrev pub premises_at : List (List Premise) → ℕ → List Premise
+premises_at said n = slice_index_or said n []
 
 abbrev pub fact_of : Option Note → Option ℕ
 fact_of None = None
@@ -85,16 +86,16 @@ by_fact None = []
 by_fact (Some fact) = Fact fact ∷ []
 
 -- why a step holds, by what is told of the steps before it
-abbrev pub reasons_by : List Note → List (List Premise) → ℕ → Option (ℕ × ℕ) → List Premise
-reasons_by notes said n None = by_fact (fact_of (slice_get notes n))
-reasons_by notes said n (Some p) = with_reasons (reasons_at said p.0) (reasons_at said p.1)
+abbrev pub premises_by : List Note → List (List Premise) → ℕ → Option (ℕ × ℕ) → List Premise
+premises_by notes said n None = by_fact (fact_of (slice_get notes n))
+premises_by notes said n (Some p) = with_premises (premises_at said p.0) (premises_at said p.1)
 
-abbrev pub reasons_of : List Note → List Step → List (List Premise) → ℕ → List Premise
-reasons_of notes steps said n = reasons_by notes said n (references_at steps n)
+abbrev pub premises_of : List Note → List Step → List (List Premise) → ℕ → List Premise
+premises_of notes steps said n = premises_by notes said n (references_at steps n)
 
 -- ---- sentences
 
--- a single sentence is all the reason
+-- a single sentence is all the premise
 abbrev pub is_told_before : List Premise → Bool
 is_told_before [] = false
 is_told_before (Fact f ∷ rs) = false
@@ -104,15 +105,16 @@ is_told_before (Told p ∷ (r ∷ rs)) = false
 abbrev pub too_many : Bool → ℕ
 too_many plain = if plain then 3 else 6
 
--- whether a step with these reasons has no sentence, and its reasons stand for it where it is combined: it restates its
--- one reason, or is combined once and has no more than two, or five where it isn't plain
+-- whether a step with these premises has no sentence, and its premises stand for it where it is combined: it restates
+-- its
+-- one premise, or is combined once and has no more than two, or five where it isn't plain
 abbrev pub is_merged : Bool → Uses → List Premise → Bool
 is_merged plain Never rs = true
 is_merged plain Once rs = nat_lt (length rs) (too_many plain)
 is_merged plain Often rs = nat_lt (length rs) 2
 is_merged plain End rs = is_told_before rs
 
--- the sentences so far, each with its step and reasons, and for each step so far what is told where it is combined
+-- the sentences so far, each with its step and premises, and for each step so far what is told where it is combined
 pub record Outline : Type 0 where
   pub told : List (ℕ × List Premise)
   pub said : List (List Premise)
@@ -127,7 +129,7 @@ abbrev pub with_step : Bool → Uses → ℕ → List Premise → Outline → Ou
 with_step plain uses n rs o = if is_merged plain uses rs then merged rs o else with_sentence n rs o
 
 abbrev pub step_at : List Note → List Step → Uses → ℕ → Outline → Outline
-step_at notes steps uses n o = with_step (is_plain (slice_get notes n)) uses n (reasons_of notes steps o.said n) o
+step_at notes steps uses n o = with_step (is_plain (slice_get notes n)) uses n (premises_of notes steps o.said n) o
 
 -- a step that isn't needed says nothing
 abbrev pub looked_at : List Note → List Step → Uses → ℕ → Outline → Outline
@@ -157,14 +159,14 @@ Sentences = List (ℕ × List Premise)
 abbrev pub LeadsBack : List Step → Type 0
 LeadsBack steps = (n a b : ℕ) → references_at steps n ≡ Some (a, b) → (a < n) × (b < n)
 
--- A step follows from reasons: they have its sentence, or what it says as an axiom, or all the reasons of its own,
+-- A step follows from premises: they have its sentence, or what it says as an axiom, or all the premises of its own,
 -- which show the two steps that it combines and are few enough for it to have no sentence.
 pub data IsShown (notes : List Note) (steps : List Step) (told : Sentences) : List Premise → ℕ → Type 0 where
   shown_by_sentence : (rs own : List Premise) (n p : ℕ) → slice_get told p ≡ Some (n, own) → Contains rs (Told p)
       → IsShown notes steps told rs n
   shown_by_fact : (rs : List Premise) (n : ℕ) → references_at steps n ≡ None
       → ((f : ℕ) → fact_of (slice_get notes n) ≡ Some f → Contains rs (Fact f)) → IsShown notes steps told rs n
-  shown_by_reasons : (rs own : List Premise) (n a b : ℕ) → references_at steps n ≡ Some (a, b)
+  shown_by_premises : (rs own : List Premise) (n a b : ℕ) → references_at steps n ≡ Some (a, b)
       → is_merged (is_plain (slice_get notes n)) (uses_at (uses_of steps) n) own ≡ true
       → IsShown notes steps told own a → IsShown notes steps told own b
       → ((r : Premise) → Contains own r → Contains rs r) → IsShown notes steps told rs n
@@ -173,12 +175,13 @@ abbrev pub FollowsBy : List Note → List Step → Sentences → List Premise �
 FollowsBy notes steps told rs n None = (f : ℕ) → fact_of (slice_get notes n) ≡ Some f → Contains rs (Fact f)
 FollowsBy notes steps told rs n (Some p) = IsShown notes steps told rs p.0 × IsShown notes steps told rs p.1
 
--- the reasons have what the step says as an axiom, or show the two steps that it combines
+-- the premises have what the step says as an axiom, or show the two steps that it combines
 abbrev pub Follows : List Note → List Step → Sentences → List Premise → ℕ → Type 0
 Follows notes steps told rs n = FollowsBy notes steps told rs n (references_at steps n)
 
 -- The sentences tell the derivation: each step once and those before others first, by sentences that stand before; each
--- follows from its reasons, and one of them is all the reason of the last step. So all is told that the last step rests
+-- follows from its premises, and one of them is all the premise of the last step. So all is told that the last step
+-- rests
 -- on, down to the facts.
 pub record IsOutline (notes : List Note) (steps : List Step) (told : Sentences) : Type 0 where
   pub order : AllPairs (λ a b. a.0 < b.0) told

@@ -6,7 +6,7 @@ use Rattle.telling.specs.declared.outline.Sentence.{Sentence}
 use Rattle.telling.specs.declared.outline.SoFar.{SoFar}
 
 abbrev pub sentence_view : Sentence → ℕ × List Premise
-sentence_view s = (s.step, s.reasons.items)
+sentence_view s = (s.step, s.premises.items)
 
 abbrev pub sentence_views : List Sentence → List (ℕ × List Premise)
 sentence_views ss = map sentence_view ss

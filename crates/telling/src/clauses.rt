@@ -1,4 +1,4 @@
-//! The clauses of a sentence, by which it gives its reasons.
+//! The clauses of a sentence, by which it gives its premises.
 
 use crate::facts::{Facts, Rank};
 use crate::outline::Premise;
@@ -15,55 +15,55 @@ pub(crate) enum Clause {
     Facts(Vec<usize>),
 }
 
-/// The clauses for these reasons, but for the sentence before: sentences, then what the root needs, then other facts,
+/// The clauses for these premises, but for the sentence before: sentences, then what the root needs, then other facts,
 /// name by name, as the derivation comes to them. Of two facts of which one says all that the other does, that one.
 pub(crate) fn clauses_of(
     alloc: Global,
     facts: &Facts<'_>,
-    reasons: &[Premise],
+    premises: &[Premise],
     before: Option<usize>,
 ) -> Result<Vec<Clause>, AllocError> {
-    let mut told = Vec::from_slice(alloc, reasons)?;
+    let mut told = Vec::from_slice(alloc, premises)?;
     told.sort_by(|a, b| rank(facts, a).cmp(&rank(facts, b)))?;
     let mut clauses = Vec::new(alloc);
-    for reason in told.iter() {
-        if !is_told(reason, before) && !is_covered(facts, reason, reasons) {
-            add_reason(alloc, &mut clauses, facts, *reason)?;
+    for premise in told.iter() {
+        if !is_told(premise, before) && !is_covered(facts, premise, premises) {
+            add_premise(alloc, &mut clauses, facts, *premise)?;
         }
     }
     Ok(clauses)
 }
 
-/// Whether a reason is the sentence at this place.
-pub(crate) fn is_told(reason: &Premise, place: Option<usize>) -> bool {
-    match (reason, place) {
+/// Whether a premise is the sentence at this place.
+pub(crate) fn is_told(premise: &Premise, place: Option<usize>) -> bool {
+    match (premise, place) {
         (Premise::Told(told), Some(place)) => *told == place,
         _ => false,
     }
 }
 
-fn is_covered(facts: &Facts<'_>, reason: &Premise, reasons: &[Premise]) -> bool {
-    reasons.iter().any(|other| match (other, reason) {
+fn is_covered(facts: &Facts<'_>, premise: &Premise, premises: &[Premise]) -> bool {
+    premises.iter().any(|other| match (other, premise) {
         (Premise::Fact(other), Premise::Fact(fact)) => facts.covers(*other, *fact),
         _ => false,
     })
 }
 
-fn rank(facts: &Facts<'_>, reason: &Premise) -> (bool, Rank) {
-    match reason {
+fn rank(facts: &Facts<'_>, premise: &Premise) -> (bool, Rank) {
+    match premise {
         Premise::Told(place) => (false, (false, *place, 0)),
         Premise::Fact(number) => (true, facts.rank(*number)),
     }
 }
 
-/// Adds a reason: a fact to the clause of who does it, if there is one.
-fn add_reason(
+/// Adds a premise: a fact to the clause of who does it, if there is one.
+fn add_premise(
     alloc: Global,
     clauses: &mut Vec<Clause>,
     facts: &Facts<'_>,
-    reason: Premise,
+    premise: Premise,
 ) -> Result<(), AllocError> {
-    let number = match reason {
+    let number = match premise {
         Premise::Told(place) => {
             clauses.push(Clause::Told(place))?;
             return Ok(());

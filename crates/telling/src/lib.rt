@@ -1,16 +1,17 @@
 //! Why there is no lock, told in sentences.
 //!
 //! A derivation has a step for each thing that was combined, and most of these say little. So a step gets a sentence of
-//! its own only where several need it, or where its reasons have become too many for one sentence; else its reasons
+//! its own only where several need it, or where its premises have become too many for one sentence; else its premises
 //! stand for it (`outline.rt`, with `uses.rt`). What is hard is to be sure that nothing is lost by that. Which steps
-//! are told is a definition, and a law says of it that each sentence follows from its reasons, down to what axioms say.
+//! are told is a definition, and a law says of it that each sentence follows from its premises, down to what axioms
+//! say.
 //!
 //! What an axiom says is told by the cause that its terms can have, which `causes` finds (`axiom.rt`). What is said of
 //! several versions of a name is one fact (`facts.rt`), so that thirty versions that need the same are told at once.
 //! Versions stand as ranges over the candidates of their name (`spans.rt`, `ranges.rt`), from marks that say which of
 //! them a term means (`marks.rt`).
 //!
-//! A layer above may rely on this: `sentences_of` loses no reason, and a range has exactly the versions that it is to
+//! A layer above may rely on this: `sentences_of` loses no premise, and a range has exactly the versions that it is to
 //! have. Which dependencies no version fits is there for who knows why (`unmatched_in`). Whether the derivation is
 //! right is for the checker to say: ask it first.
 #![tactic(auto)]

@@ -1,10 +1,10 @@
-//! Which steps of a derivation are told, and by which reasons.
+//! Which steps of a derivation are told, and by which premises.
 
 ghost use Rattle.std.specs.Prelude.{◌≡◌, ◌++◌, ◌∷◌, [], IfOk, OnOk, length, map, slice_get};
 ghost use Rattle.telling.specs.Outlines as outlines;
-ghost use Rattle.telling.specs.Outlines.{IsOutline, by_fact, fact_of, has_reason, is_plain, is_told_before, looked_at};
-ghost use Rattle.telling.specs.Outlines.{merged, outline_from, reasons_at, same_reason, too_many, with_reason};
-ghost use Rattle.telling.specs.Outlines.{with_reasons, with_sentence, with_step};
+ghost use Rattle.telling.specs.Outlines.{IsOutline, by_fact, fact_of, has_premise, is_plain, is_told_before, looked_at};
+ghost use Rattle.telling.specs.Outlines.{merged, outline_from, premises_at, same_premise, too_many, with_premise};
+ghost use Rattle.telling.specs.Outlines.{with_premises, with_sentence, with_step};
 ghost use Rattle.telling.specs.Views.{sentence_views, so_far_view};
 
 use crate::uses::{Uses, is_needed, uses_of};
@@ -34,7 +34,7 @@ pub struct Note {
 pub struct Sentence {
     /// The number of the step.
     pub step: usize,
-    pub reasons: Vec<Premise>,
+    pub premises: Vec<Premise>,
 }
 
 /// What is known of the steps so far.
@@ -45,8 +45,9 @@ struct SoFar {
     said: Vec<Vec<Premise>>,
 }
 
-/// The sentences that tell a derivation: its needed steps in order, but for those that only restate a reason, and those
-/// that one step alone combines and that have few reasons: at most two, or five where what they say isn't plain. The
+/// The sentences that tell a derivation: its needed steps in order, but for those that only restate a premise, and
+/// those
+/// that one step alone combines and that have few premises: at most two, or five where what they say isn't plain. The
 /// notes stand at the numbers of their steps.
 pub fn sentences_of(
     alloc: Global,
@@ -97,12 +98,12 @@ fn look_at(
     if !is_needed(uses) {
         return merge(so_far, Vec::new(alloc));
     }
-    let reasons = reasons_of(alloc, &so_far.said, derivation, notes, number)?;
+    let premises = premises_of(alloc, &so_far.said, derivation, notes, number)?;
     add_step(
         alloc,
         so_far,
         number,
-        reasons,
+        premises,
         uses,
         is_plain(notes, number),
     )
@@ -113,33 +114,33 @@ fn add_step(
     alloc: Global,
     so_far: &mut SoFar,
     number: usize,
-    reasons: Vec<Premise>,
+    premises: Vec<Premise>,
     uses: Uses,
     plain: bool,
 ) -> Result<(), AllocError>
     ensures { OnOk result
-        (so_far_view so_far.new ≡ with_step plain uses number reasons.items (so_far_view so_far.old)) }
+        (so_far_view so_far.new ≡ with_step plain uses number premises.items (so_far_view so_far.old)) }
 {
-    if is_merged(plain, uses, &reasons) {
-        merge(so_far, reasons)
+    if is_merged(plain, uses, &premises) {
+        merge(so_far, premises)
     } else {
-        tell(alloc, so_far, number, reasons)
+        tell(alloc, so_far, number, premises)
     }
 }
 
-/// Whether a step with these reasons has no sentence.
-fn is_merged(plain: bool, uses: Uses, reasons: &[Premise]) -> bool
-    ensures { result ≡ outlines.is_merged plain uses reasons.now }
+/// Whether a step with these premises has no sentence.
+fn is_merged(plain: bool, uses: Uses, premises: &[Premise]) -> bool
+    ensures { result ≡ outlines.is_merged plain uses premises.now }
 {
     match uses {
         Uses::Never => true,
-        Uses::Once => reasons.len() < too_many(plain),
-        Uses::Often => reasons.len() < 2,
-        Uses::End => is_told_before(reasons),
+        Uses::Once => premises.len() < too_many(plain),
+        Uses::Often => premises.len() < 2,
+        Uses::End => is_told_before(premises),
     }
 }
 
-/// How many reasons are too many for a step to have no sentence.
+/// How many premises are too many for a step to have no sentence.
 fn too_many(plain: bool) -> usize
     ensures { result ≡ too_many plain }
 {
@@ -155,20 +156,20 @@ fn is_plain(notes: &[Note], number: usize) -> bool
     }
 }
 
-/// Whether a single sentence is all the reason.
-fn is_told_before(reasons: &[Premise]) -> bool
-    ensures { result ≡ is_told_before reasons.now }
+/// Whether a single sentence is all the premise.
+fn is_told_before(premises: &[Premise]) -> bool
+    ensures { result ≡ is_told_before premises.now }
 {
-    match reasons {
+    match premises {
         [Premise::Told(_)] => true,
         _ => false,
     }
 }
 
-fn merge(so_far: &mut SoFar, reasons: Vec<Premise>) -> Result<(), AllocError>
-    ensures { OnOk result (so_far_view so_far.new ≡ merged reasons.items (so_far_view so_far.old)) }
+fn merge(so_far: &mut SoFar, premises: Vec<Premise>) -> Result<(), AllocError>
+    ensures { OnOk result (so_far_view so_far.new ≡ merged premises.items (so_far_view so_far.old)) }
 {
-    so_far.said.push(reasons)?;
+    so_far.said.push(premises)?;
     Ok(())
 }
 
@@ -176,19 +177,19 @@ fn tell(
     alloc: Global,
     so_far: &mut SoFar,
     step: usize,
-    reasons: Vec<Premise>,
+    premises: Vec<Premise>,
 ) -> Result<(), AllocError>
-    ensures { OnOk result (so_far_view so_far.new ≡ with_sentence step reasons.items (so_far_view so_far.old)) }
+    ensures { OnOk result (so_far_view so_far.new ≡ with_sentence step premises.items (so_far_view so_far.old)) }
 {
     let mut told = Vec::new(alloc);
     told.push(Premise::Told(so_far.sentences.len()))?;
-    so_far.sentences.push(Sentence { step, reasons })?;
+    so_far.sentences.push(Sentence { step, premises })?;
     so_far.said.push(told)?;
     Ok(())
 }
 
-/// Why a step holds: what it says by itself, or the reasons of the two that it combines.
-fn reasons_of(
+/// Why a step holds: what it says by itself, or the premises of the two that it combines.
+fn premises_of(
     alloc: Global,
     said: &[Vec<Premise>],
     derivation: &Derivation,
@@ -196,16 +197,16 @@ fn reasons_of(
     number: usize,
 ) -> Result<Vec<Premise>, AllocError>
     ensures { IfOk result
-        (λ v. v.items ≡ outlines.reasons_of notes.now derivation.now (map (λ v. v.items) said.now) number) }
+        (λ v. v.items ≡ outlines.premises_of notes.now derivation.now (map (λ v. v.items) said.now) number) }
 {
     match derivation.references(number) {
-        Some((first, second)) => both(alloc, reasons_at(said, first), reasons_at(said, second)),
+        Some((first, second)) => both(alloc, premises_at(said, first), premises_at(said, second)),
         None => own(alloc, notes, number),
     }
 }
 
-fn reasons_at(said: &[Vec<Premise>], number: u64) -> &[Premise]
-    ensures { result.now ≡ reasons_at (map (λ v. v.items) said.entry.now) number }
+fn premises_at(said: &[Vec<Premise>], number: u64) -> &[Premise]
+    ensures { result.now ≡ premises_at (map (λ v. v.items) said.entry.now) number }
 {
     if number >= said.len() as u64 {
         return &[];
@@ -217,11 +218,11 @@ fn reasons_at(said: &[Vec<Premise>], number: u64) -> &[Premise]
 fn own(alloc: Global, notes: &[Note], number: usize) -> Result<Vec<Premise>, AllocError>
     ensures { IfOk result (λ v. v.items ≡ by_fact (fact_of (slice_get notes.now number))) }
 {
-    let mut reasons = Vec::new(alloc);
+    let mut premises = Vec::new(alloc);
     if let Some(fact) = fact_of(notes, number) {
-        reasons.push(Premise::Fact(fact))?;
+        premises.push(Premise::Fact(fact))?;
     }
-    Ok(reasons)
+    Ok(premises)
 }
 
 fn fact_of(notes: &[Note], number: usize) -> Option<usize>
@@ -233,42 +234,42 @@ fn fact_of(notes: &[Note], number: usize) -> Option<usize>
     }
 }
 
-/// The reasons of two steps, each once.
+/// The premises of two steps, each once.
 fn both(alloc: Global, first: &[Premise], second: &[Premise]) -> Result<Vec<Premise>, AllocError>
-    ensures { IfOk result (λ v. v.items ≡ with_reasons first.now second.now) }
+    ensures { IfOk result (λ v. v.items ≡ with_premises first.now second.now) }
 {
-    let mut reasons = Vec::from_slice(alloc, first)?;
-    add_reasons(&mut reasons, second)?;
-    Ok(reasons)
+    let mut premises = Vec::from_slice(alloc, first)?;
+    add_premises(&mut premises, second)?;
+    Ok(premises)
 }
 
-#[tactic(auto, unfolding(crate::specs::Outlines::with_reasons))]
-fn add_reasons(reasons: &mut Vec<Premise>, more: &[Premise]) -> Result<(), AllocError>
-    ensures { OnOk result (reasons.new.items ≡ with_reasons reasons.old.items more.now) }
+#[tactic(auto, unfolding(crate::specs::Outlines::with_premises))]
+fn add_premises(premises: &mut Vec<Premise>, more: &[Premise]) -> Result<(), AllocError>
+    ensures { OnOk result (premises.new.items ≡ with_premises premises.old.items more.now) }
 {
-    'more: for reason in more {
-        add_reason(reasons, *reason)?;
+    'more: for premise in more {
+        add_premise(premises, *premise)?;
     }
     Ok(())
 }
 
-fn add_reason(reasons: &mut Vec<Premise>, reason: Premise) -> Result<(), AllocError>
-    ensures { OnOk result (reasons.new.items ≡ with_reason reasons.old.items reason) }
+fn add_premise(premises: &mut Vec<Premise>, premise: Premise) -> Result<(), AllocError>
+    ensures { OnOk result (premises.new.items ≡ with_premise premises.old.items premise) }
 {
-    if !has_reason(reasons, reason) {
-        reasons.push(reason)?;
+    if !has_premise(premises, premise) {
+        premises.push(premise)?;
     }
     Ok(())
 }
 
-fn has_reason(reasons: &[Premise], reason: Premise) -> bool
-    ensures { result ≡ has_reason reasons.now reason }
+fn has_premise(premises: &[Premise], premise: Premise) -> bool
+    ensures { result ≡ has_premise premises.now premise }
 {
-    reasons.iter().any(|other| is_same(reason, *other))
+    premises.iter().any(|other| is_same(premise, *other))
 }
 
 fn is_same(a: Premise, b: Premise) -> bool
-    ensures { result ≡ same_reason a b }
+    ensures { result ≡ same_premise a b }
 {
     match (a, b) {
         (Premise::Fact(a), Premise::Fact(b)) => a == b,

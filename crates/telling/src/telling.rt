@@ -56,7 +56,7 @@ struct Whole<'w, 'a> {
 fn numbers_of(alloc: Global, sentences: &[Sentence]) -> Result<Vec<Option<usize>>, AllocError> {
     let mut marks = vec![in alloc; false; sentences.len()]?;
     for (place, sentence) in sentences.iter().enumerate() {
-        mark(&mut marks, place.checked_sub(1), &sentence.reasons);
+        mark(&mut marks, place.checked_sub(1), &sentence.premises);
     }
     let mut numbers = Vec::new(alloc);
     let mut last = 0usize;
@@ -69,11 +69,11 @@ fn numbers_of(alloc: Global, sentences: &[Sentence]) -> Result<Vec<Option<usize>
     Ok(numbers)
 }
 
-/// Marks the sentences among these reasons, but for the one before.
-fn mark(marks: &mut [bool], before: Option<usize>, reasons: &[Premise]) {
-    for reason in reasons.iter() {
-        if let Premise::Told(told) = reason {
-            if !is_told(reason, before) {
+/// Marks the sentences among these premises, but for the one before.
+fn mark(marks: &mut [bool], before: Option<usize>, premises: &[Premise]) {
+    for premise in premises.iter() {
+        if let Premise::Told(told) = premise {
+            if !is_told(premise, before) {
                 if let Some(mark) = marks.get_mut(*told) {
                     *mark = true;
                 }
@@ -118,21 +118,21 @@ impl Whole<'_, '_> {
         Ok(text)
     }
 
-    /// The sentence that gives all facts as reasons of the last step, if these are few clauses.
+    /// The sentence that gives all facts as premises of the last step, if these are few clauses.
     fn whole_sentence(&self, alloc: Global) -> Result<Option<Sentence>, AllocError> {
         let Some(last) = self.sentences.last() else {
             return Ok(None);
         };
-        let reasons = few_facts(alloc, self.sentences)?;
-        if reasons.is_empty() {
+        let premises = few_facts(alloc, self.sentences)?;
+        if premises.is_empty() {
             return Ok(None);
         }
-        let clauses = clauses_of(alloc, self.facts, &reasons, None)?;
+        let clauses = clauses_of(alloc, self.facts, &premises, None)?;
         if clauses.len() > FEW_CLAUSES {
             return Ok(None);
         }
         let step = last.step;
-        Ok(Some(Sentence { step, reasons }))
+        Ok(Some(Sentence { step, premises }))
     }
 
     /// `Because .., and .., ...`, after the sentence at a place, if one is told before it.
@@ -143,9 +143,9 @@ impl Whole<'_, '_> {
         sentence: &Sentence,
         before: Option<usize>,
     ) -> Result<(), AllocError> {
-        let reasons = sentence.reasons.as_slice();
-        let goes_on = reasons.iter().any(|reason| is_told(reason, before));
-        let clauses = clauses_of(alloc, self.facts, reasons, before)?;
+        let premises = sentence.premises.as_slice();
+        let goes_on = premises.iter().any(|premise| is_told(premise, before));
+        let clauses = clauses_of(alloc, self.facts, premises, before)?;
         text.push_str(opening(goes_on, clauses.len()))?;
         for (place, clause) in clauses.iter().enumerate() {
             push_comma(text, place, clauses.len())?;
@@ -190,11 +190,11 @@ impl Whole<'_, '_> {
     }
 }
 
-/// The facts among the reasons of all sentences, each once; none where they aren't few.
+/// The facts among the premises of all sentences, each once; none where they aren't few.
 fn few_facts(alloc: Global, sentences: &[Sentence]) -> Result<Vec<Premise>, AllocError> {
     let mut facts = Vec::new(alloc);
     for sentence in sentences.iter() {
-        put_facts(&mut facts, &sentence.reasons)?;
+        put_facts(&mut facts, &sentence.premises)?;
         if facts.len() > FEW_FACTS {
             return Ok(Vec::new(alloc));
         }
@@ -202,11 +202,11 @@ fn few_facts(alloc: Global, sentences: &[Sentence]) -> Result<Vec<Premise>, Allo
     Ok(facts)
 }
 
-fn put_facts(facts: &mut Vec<Premise>, reasons: &[Premise]) -> Result<(), AllocError> {
-    for reason in reasons.iter() {
-        if let Premise::Fact(number) = reason {
+fn put_facts(facts: &mut Vec<Premise>, premises: &[Premise]) -> Result<(), AllocError> {
+    for premise in premises.iter() {
+        if let Premise::Fact(number) = premise {
             if !has_fact(facts, *number) {
-                facts.push(*reason)?;
+                facts.push(*premise)?;
             }
         }
     }
