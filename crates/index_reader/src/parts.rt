@@ -29,46 +29,49 @@ pub(crate) struct Values<'t, 'a> {
     pub registry: Option<Tree<'t, 'a>>,
 }
 
-/// The values of an object: to look for one key after another would go over its members for each.
-pub(crate) fn values_of<'t, 'a>(object: &Tree<'t, 'a>) -> Values<'t, 'a>
-    ensures { values_view result ≡ values_of (tree_view object.now) }
-{
-    let Some(members) = entries(object) else {
-        return no_values();
-    };
-    values_among(members)
-}
-
-/// The values among the members of an object.
-fn values_among<'t, 'a>(mut members: Entries<'t, 'a>) -> Values<'t, 'a>
-    ensures { values_view result ≡ values_in (members_of (left members.entry) no_members) }
-{
-    let mut values = no_values();
-    'members: while let Some((key, value)) = next_entry(&mut members) {
-        put(&mut values, key, unless_null(value));
+impl<'t, 'a> Values<'t, 'a> {
+    pub(crate) fn none() -> Values<'t, 'a>
+        ensures { values_view result ≡ values_in no_members }
+    {
+        Values {
+            name: None,
+            version: None,
+            checksum: None,
+            dependencies: None,
+            features: None,
+            features2: None,
+            yanked: None,
+            format: None,
+            rust_version: None,
+            kind: None,
+            package: None,
+            requirement: None,
+            optional: None,
+            default_features: None,
+            registry: None,
+        }
     }
-    values
-}
 
-fn no_values<'t, 'a>() -> Values<'t, 'a>
-    ensures { values_view result ≡ values_in no_members }
-{
-    Values {
-        name: None,
-        version: None,
-        checksum: None,
-        dependencies: None,
-        features: None,
-        features2: None,
-        yanked: None,
-        format: None,
-        rust_version: None,
-        kind: None,
-        package: None,
-        requirement: None,
-        optional: None,
-        default_features: None,
-        registry: None,
+    /// Takes the values of an object in the place of those that it has. They are found in one pass, for to look for one
+    /// key after another would go over the members for each; and they are put where they are read, for to hand them on
+    /// would take as long as to find them.
+    pub(crate) fn take(&mut self, object: &Tree<'t, 'a>)
+        ensures { values_view self.new ≡ values_of (tree_view object.now) }
+    {
+        *self = Values::none();
+        if let Some(members) = entries(object) {
+            self.put_all(members);
+        }
+    }
+
+    /// Puts the values of the members of an object, where there are none yet.
+    fn put_all(&mut self, mut members: Entries<'t, 'a>)
+        requires { values_view self.old ≡ values_in no_members }
+        ensures { values_view self.new ≡ values_in (members_of (left members.entry) no_members) }
+    {
+        'members: while let Some((key, value)) = next_entry(&mut members) {
+            put(self, key, unless_null(value));
+        }
     }
 }
 

@@ -13,7 +13,7 @@ ghost use Rattle.index_reader.specs.ShapeViews.{shape_view, values_view};
 ghost use Rattle.trees.specs.Trees.{items_of, left_items, tree_view, entries_view, listed_view};
 
 use crate::fault::{LineFault, SkipReason};
-use crate::parts::{Values, values_of};
+use crate::parts::Values;
 use crate::values::{flag, needed_text, text_if_any, texts, texts_if_any, whole};
 use classes::RustVersion;
 use features::{DependencyKind, NameFault, PackageName};
@@ -70,7 +70,8 @@ pub(crate) struct FeatureShape<'a> {
 pub(crate) fn read_shape<'a>(alloc: Global, line: &Tree<'_, 'a>) -> Result<LineShape<'a>, LineFault>
     ensures { Gives wants_memory shape_view result (shape_of (tree_view line.now)) }
 {
-    let values = values_of(line);
+    let mut values = Values::none();
+    values.take(line);
     let name = needed_text(&values.name)?;
     let version = needed_text(&values.version)?;
     let checksum = needed_text(&values.checksum)?;
@@ -215,26 +216,31 @@ fn of_kind<'a>(
 }
 
 #[tactic(auto, unfolding(crate::specs::Shapes::dependency_of))]
-fn dependency<'a>(alloc: Global, value: &Tree<'_, 'a>) -> Result<DependencyShape<'a>, LineFault>
+fn dependency<'t, 'a>(
+    alloc: Global,
+    value: &Tree<'t, 'a>,
+    values: &mut Values<'t, 'a>,
+) -> Result<DependencyShape<'a>, LineFault>
     ensures { Gives wants_memory line_dependency_view result (dependency_of (tree_view value.now)) }
 {
-    let values = values_of(value);
+    values.take(value);
     let name = needed_name(alloc, &values.name)?;
     let kind = kind(&values.kind)?;
-    of_kind(alloc, name, kind, &values)
+    of_kind(alloc, name, kind, values)
 }
 
 #[tactic(auto, unfolding(crate::specs::Shapes::dependencies_in))]
-fn dependencies_in<'a>(
+fn dependencies_in<'t, 'a>(
     alloc: Global,
-    mut items: Elements<'_, 'a>,
+    mut items: Elements<'t, 'a>,
 ) -> Result<Vec<DependencyShape<'a>>, LineFault>
     ensures { Gives wants_memory
         (λ v. line_dependency_views v.items) result (dependencies_in (items_of (left_items items.entry))) }
 {
     let mut found = Vec::new(alloc);
+    let mut values = Values::none();
     'items: while let Some(item) = next_element(&mut items) {
-        found.push(dependency(alloc, &item)?)?;
+        found.push(dependency(alloc, &item, &mut values)?)?;
     }
     Ok(found)
 }

@@ -5,7 +5,7 @@ use Rattle.serde_json.specs.Find.{get_member}
 use Rattle.index_reader.specs.Shapes.{unless_null, values_by}
 use Rattle.index_reader.specs.PartMembers.{value_put}
 use Rattle.index_reader.proofs.PartLemmas.{values_in-put}
-use Rattle.index_reader.proofs.parts.values_among.Goals as goal
+use Rattle.index_reader.proofs.parts.Values.put_all.Goals as goal
 
 pub members-preserved : goal.members-preserved
 members-preserved c =
