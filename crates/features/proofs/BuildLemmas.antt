@@ -1,8 +1,7 @@
 -- A built table is what is written with the rows of its implicit features and `default`.
-use Rattle.std.proofs.Common.{◌≡◌, ℕ, List, [], ◌∷◌, map, Bool, true, false, cond, Result, Ok, Err, Vec, is_some, refl}
+use Rattle.std.proofs.Common.{◌≡◌, ℕ, List, [], ◌∷◌, map, Bool, true, false, cond, Result, Ok, Err, Vec, refl}
 use Rattle.std.proofs.Common.{sym, ap, ap₂, ◌∙◌}
-use Rattle.std.specs.BTreeMap.{insert_entry, is_at}
-use Rattle.std.specs.Map.{lookup}
+use Rattle.std.specs.BTreeMap.{insert_entry}
 use Rattle.std.specs.List.{filter}
 use Rattle.std.specs.declared.alloc.Global.{Global}
 use Rattle.model.specs.Summary.{Table, has_feature}
@@ -12,7 +11,6 @@ use Rattle.model.specs.Tables.{DepName, TableFault, no_such_feature, no_such_dep
 use Rattle.model.specs.Tables.{is_implicit, default_feature, implicit_entries, with_row, with_implicit, with_default}
 use Rattle.model.specs.Tables.{table_of}
 use Rattle.model.proofs.Tables.{seen-insert_entry}
-use Rattle.features.proofs.TableLemmas.{has-get}
 use Rattle.features.specs.Drafts.{or_fault, implicit_rows, rows_or_fault, with_rows}
 use Rattle.features.specs.EntryViews.{entry_views}
 use Rattle.features.specs.Tables.{built, rows_of, table_or_fault}
@@ -60,22 +58,14 @@ built-rows ds written =
     by (Ok x) (Ok y) (Err e) = refl
     by (Ok x) (Ok y) (Ok z) = ap (λ t. Ok (with_default t)) (with_implicit-rows (is_implicit ds written) ds written)
 
--- whether a table has `default`, by what its map answers
-default-found : (es : List (List ℕ × Vec Entry Global)) (f : List ℕ) (b : Bool) → f ≡ default_feature
-    → b ≡ is_some (lookup (is_at (text_cmp f)) es) → has_feature (rows_of es) default_feature ≡ b
-default-found es f b same answer =
-    ap (λ k. has_feature (rows_of es) k) (sym same) ∙ has-get (rows_of es) es f refl ∙ sym answer
+pub default-there : (t : Table) → has_feature t default_feature ≡ true → t ≡ with_default t
+default-there t there = rw there refl
 
-pub default-there : (es : List (List ℕ × Vec Entry Global)) (f : List ℕ) (b : Bool) → f ≡ default_feature
-    → b ≡ is_some (lookup (is_at (text_cmp f)) es) → b ≡ true
-    → rows_of es ≡ with_default (rows_of es)
-default-there es f b same answer there = rw (default-found es f b same answer ∙ there) refl
-
-pub default-put : (es new : List (List ℕ × Vec Entry Global)) (f : List ℕ) (v : Vec Entry Global) (b : Bool)
-    → f ≡ default_feature → b ≡ is_some (lookup (is_at (text_cmp f)) es) → b ≡ false
-    → v.items ≡ [] → new ≡ insert_entry text_cmp es f v → rows_of new ≡ with_default (rows_of es)
-default-put es new f v b same answer absent empty put =
-    rw (default-found es f b same answer ∙ absent) (ap rows_of put ∙ rows_of-insert_entry es f v
+pub default-put : (es new : List (List ℕ × Vec Entry Global)) (f : List ℕ) (v : Vec Entry Global)
+    → has_feature (rows_of es) default_feature ≡ false → f ≡ default_feature → v.items ≡ []
+    → new ≡ insert_entry text_cmp es f v → rows_of new ≡ with_default (rows_of es)
+default-put es new f v absent same empty put =
+    rw absent (ap rows_of put ∙ rows_of-insert_entry es f v
     ∙ ap₂ (λ k xs. with_row (rows_of es) k (entry_views xs)) same empty)
 
 -- a row that was put to a map is no longer left

@@ -1,18 +1,22 @@
 -- Texts in a set, and what a loop has put there so far.
 use Rattle.std.proofs.Common.{◌≡◌, ℕ, List, [], ◌∷◌, ◌++◌, map, Bool, true, false, ◌||◌, cond, Some, None, is_some, Vec}
+use Rattle.std.proofs.Common.{zero, suc, ◌+◌, ◌<◌, length, get_or, take, drop, not, ◌&&◌, Ok, arith}
 use Rattle.std.proofs.Common.{Ordering, Less, Equal, Greater, refl, sym, ap, ap₂, ◌∙◌, subst}
 use Rattle.std.specs.Borrow.{Bor}
 use Rattle.std.specs.BTreeMap.{is_at}
-use Rattle.std.specs.BTreeSet.{BTreeSet, insert_key, IsFromIterResult}
+use Rattle.std.specs.BTreeSet.{insert_key}
 use Rattle.std.specs.Ordering.{nat_cmp, match_ordering}
 use Rattle.std.specs.Cmp.Lexicographic.{slice_cmp, texts_ties}
-use Rattle.std.specs.List.{list_any}
+use Rattle.std.specs.List.{list_all, list_any}
+use Rattle.std.proofs.lemmas.List.{drop_more}
 use Rattle.std.proofs.lemmas.List.Folds.{list_any-append}
 use Rattle.std.proofs.lemmas.Map.Lookups.{exact_bytes}
 use Rattle.std.specs.declared.alloc.Global.{Global}
-use Rattle.model.specs.Summary.{entries_at, has_feature, same_text}
+use Rattle.model.specs.Summary.{Table, entries_at, has_feature, same_text}
 use Rattle.model.specs.Summary as model
-use Rattle.model.specs.Tables.{first_with}
+use Rattle.model.specs.Tables.{DepName, TableFault, first_with, has_dep_entry, has_dependency, has_fault, is_dep, is_optional}
+use Rattle.model.specs.Tables.{no_such_feature, no_such_dependency, not_optional}
+use Rattle.features.specs.Drafts.{faultless, is_well}
 use Rattle.features.specs.Texts.{has_text, borrowed_cmp}
 use Rattle.features.specs.EntryViews.{entry_view, entry_views}
 use Rattle.features.specs.Tables.{rows_of}
@@ -69,25 +73,6 @@ has_text-put d k few more new put =
     ∙ or_assoc (has_text few d) (has_text more d) (same_text d k.now)
     ∙ ap (λ b. b || same_text d k.now) (sym (list_any-append (λ k. same_text d k.now) few more))
 
--- what is made of a list of texts has just these
-pub has_text-collected : (d : List ℕ) (texts : List (Bor (List ℕ))) (set : BTreeSet (Bor (List ℕ)))
-    → IsFromIterResult borrowed_cmp texts set → has_text set.keys d ≡ has_text texts d
-has_text-collected d texts set made =
-    let q : Bor (List ℕ) = record { ref_ptr = (0, 0); now = d } in
-    sym (contains-has d set.keys) ∙ made.0 q ∙ contains-has d texts
-
--- the keys of a map of rows are the features that it has
-pub keys-has : (d : List ℕ) (es : List (List ℕ × Vec Entry Global))
-    → list_any (same_text d) (map (λ e. e.0) es) ≡ has_feature (rows_of es) d
-keys-has d [] = refl
-keys-has d (e ∷ es) = by (same_text d e.0) (keys-has d es)
-  where
-    by : (b : Bool) → list_any (same_text d) (map (λ e. e.0) es) ≡ has_feature (rows_of es) d
-        → (b || list_any (same_text d) (map (λ e. e.0) es))
-        ≡ is_some (cond b (Some (entry_views e.1.items)) (entries_at d (rows_of es)))
-    by true rest = refl
-    by false rest = rest
-
 any-views : (test : model.Entry → Bool) (es : List Entry)
     → list_any test (entry_views es) ≡ list_any (λ e. test (entry_view e)) es
 any-views test [] = refl
@@ -111,3 +96,100 @@ module _ (test : model.Entry → Bool) (e : List ℕ × Vec Entry Global) (es : 
 pub first_with-none : (test : model.Entry → Bool) → None ≡ first_with test (rows_of [])
 unfolding first_with
 first_with-none test = refl
+
+-- the first among the rows from a place on is the one of the row there, or one after it
+module _ (test : model.Entry → Bool) (es : List (List ℕ × Vec Entry Global)) (i : ℕ)
+    (row : List ℕ × Vec Entry Global) (inside : i < length es) (is : row ≡ get_or es i row) where
+  from-row : drop i es ≡ row ∷ drop (i + 1) es
+  from-row = drop_more es i row inside ∙ ap (λ r. r ∷ drop (i + 1) es) (sym is)
+
+  pub first_with-at : list_any (λ entry. test (entry_view entry)) row.1.items ≡ true
+      → Some row.0 ≡ first_with test (rows_of (drop i es))
+  first_with-at h = first_with-here test row (drop (i + 1) es) h
+      ∙ ap (λ rows. first_with test (rows_of rows)) (sym from-row)
+
+  pub first_with-beyond : list_any (λ entry. test (entry_view entry)) row.1.items ≡ false
+      → first_with test (rows_of (drop (i + 1) es)) ≡ first_with test (rows_of (drop i es))
+  first_with-beyond h = first_with-later test row (drop (i + 1) es) h
+      ∙ ap (λ rows. first_with test (rows_of rows)) (sym from-row)
+
+or_none : (a : Bool) → (a || false) ≡ a
+or_none true = refl
+or_none false = refl
+
+dep_entry-next : (d : List ℕ) (es : List (List ℕ × Vec Entry Global)) (i : ℕ) (row : List ℕ × Vec Entry Global)
+    → i < length es → has_dep_entry (rows_of (take (suc i) es)) d
+    ≡ (has_dep_entry (rows_of (take i es)) d || list_any (is_dep d) (entry_views (get_or es i row).1.items))
+dep_entry-next d [] i row inside = absurd (omega arith)
+dep_entry-next d (e ∷ es) zero row inside = or_none (list_any (is_dep d) (entry_views e.1.items))
+dep_entry-next d (e ∷ es) (suc i) row inside =
+    ap (λ b. list_any (is_dep d) (entry_views e.1.items) || b) (dep_entry-next d es i row (omega arith))
+    ∙ or_assoc (list_any (is_dep d) (entry_views e.1.items)) (has_dep_entry (rows_of (take i es)) d)
+    (list_any (is_dep d) (entry_views (get_or es i row).1.items))
+
+-- one row more
+pub has_dep_entry-more : (d : List ℕ) (es : List (List ℕ × Vec Entry Global)) (i : ℕ)
+    (row : List ℕ × Vec Entry Global) → i < length es → row ≡ get_or es i row
+    → (has_dep_entry (rows_of (take i es)) d || list_any (is_dep d) (entry_views row.1.items))
+    ≡ has_dep_entry (rows_of (take (i + 1) es)) d
+has_dep_entry-more d es i row inside is =
+    let on : i + 1 ≡ suc i = omega arith in
+    ap (λ r. has_dep_entry (rows_of (take i es)) d || list_any (is_dep d) (entry_views r.1.items)) is
+    ∙ sym (ap (λ n. has_dep_entry (rows_of (take n es)) d) on ∙ dep_entry-next d es i row inside)
+
+-- ---- where no entry has a fault
+
+both_hold : (a b : Bool) → (a && b) ≡ true → (a ≡ true) × (b ≡ true)
+both_hold true b h = (refl, h)
+both_hold false b h = cc
+
+-- an optional dependency is one
+optional-called : (ds : List DepName) (d : List ℕ) → is_optional ds d ≡ true → has_dependency ds d ≡ true
+optional-called [] d h = h
+optional-called (e ∷ ds) d h = by (same_text d e.name) e.optional (λ rest. optional-called ds d rest) h
+  where
+    by : (same optional : Bool) → (is_optional ds d ≡ true → has_dependency ds d ≡ true)
+        → ((same && optional) || is_optional ds d) ≡ true → (same || has_dependency ds d) ≡ true
+    by true optional rest h = refl
+    by false optional rest h = rest h
+
+module _ (ds : List DepName) (written : Table) where
+  unfaulty : (fault : TableFault) (e : model.Entry) → is_well ds written e ≡ true → has_fault ds written fault e ≡ false
+  unfaulty no_such_feature (model.feature g) h = ap not h
+  unfaulty no_such_feature (model.dependency d) h = refl
+  unfaulty no_such_feature (model.dependency_feature d g) h = refl
+  unfaulty no_such_feature (model.weak_feature d g) h = refl
+  unfaulty no_such_dependency (model.feature g) h = refl
+  unfaulty no_such_dependency (model.dependency d) h = ap not (optional-called ds d h)
+  unfaulty no_such_dependency (model.dependency_feature d g) h = ap not h
+  unfaulty no_such_dependency (model.weak_feature d g) h = ap not h
+  unfaulty not_optional (model.feature g) h = refl
+  unfaulty not_optional (model.dependency d) h = ap not h
+  unfaulty not_optional (model.dependency_feature d g) h = refl
+  unfaulty not_optional (model.weak_feature d g) h = refl
+
+  none-faulty : (fault : TableFault) (es : List Entry) → list_all (λ e. is_well ds written (entry_view e)) es ≡ true
+      → list_any (λ e. has_fault ds written fault (entry_view e)) es ≡ false
+  none-faulty fault [] h = refl
+  none-faulty fault (e ∷ es) h =
+      let both = both_hold (is_well ds written (entry_view e)) (list_all (λ e. is_well ds written (entry_view e)) es) h in
+      ap₂ (λ a b. a || b) (unfaulty fault (entry_view e) both.0) (none-faulty fault es both.1)
+
+  all-unfaulty : (fault : TableFault) (es : List (List ℕ × Vec Entry Global))
+      → list_all (λ row. list_all (λ e. is_well ds written (entry_view e)) row.1.items) es ≡ true
+      → first_with (has_fault ds written fault) (rows_of es) ≡ None
+  all-unfaulty fault [] h = sym (first_with-none (has_fault ds written fault))
+  all-unfaulty fault (e ∷ es) h =
+      let both = both_hold (list_all (λ e. is_well ds written (entry_view e)) e.1.items)
+      (list_all (λ row. list_all (λ e. is_well ds written (entry_view e)) row.1.items) es) h in
+      sym (first_with-later (has_fault ds written fault) e es (none-faulty fault e.1.items both.0))
+      ∙ all-unfaulty fault es both.1
+
+  -- a draft whose entries are all well has no fault
+  pub faultless-well : (es : List (List ℕ × Vec Entry Global)) → written ≡ rows_of es
+      → list_all (λ row. list_all (λ e. is_well ds written (entry_view e)) row.1.items) es ≡ true
+      → faultless ds written ≡ Ok tt
+  faultless-well es same h =
+      let none : (fault : TableFault) → first_with (has_fault ds written fault) written ≡ None = λ fault.
+      ap (first_with (has_fault ds written fault)) same ∙ all-unfaulty fault es h in
+      rw (none no_such_feature, none no_such_dependency, none not_optional) refl

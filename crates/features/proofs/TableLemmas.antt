@@ -28,7 +28,7 @@ entries_at-rows_of name (e ∷ es) = ap (λ b. cond b (Some (entry_views e.1.ite
     by rest true = refl
     by rest false = rest
 
-is_some-option_map : {A B : Type 0} (f : A → B) (o : Option A) → is_some (option_map f o) ≡ is_some o
+pub is_some-option_map : {A B : Type 0} (f : A → B) (o : Option A) → is_some (option_map f o) ≡ is_some o
 is_some-option_map f None = refl
 is_some-option_map f (Some x) = refl
 

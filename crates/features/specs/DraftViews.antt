@@ -9,4 +9,4 @@ abbrev pub names_in : Draft → List model.DepName
 names_in d = dep_names_view d.dependencies.now
 
 abbrev pub written_in : Draft → Table
-written_in d = rows_of d.written.now.entries
+written_in d = rows_of d.written.now

@@ -1,7 +1,7 @@
 -- How a feature table is built from what is written: its faults one after another, and the rows that are put to it.
 use Rattle.std.specs.Prelude.{ℕ, List, [], ◌∷◌, map, Bool, Result, Ok, Err}
 use Rattle.std.specs.List.{filter}
-use Rattle.model.specs.Summary.{Table}
+use Rattle.model.specs.Summary.{Entry, feature, dependency, dependency_feature, weak_feature, Table}
 use Rattle.model.specs.Outcome.{◌>>=◌}
 use Rattle.model.specs.Tables as model
 use Rattle.features.specs.Tables.{fault_at}
@@ -23,6 +23,13 @@ or_fault (Err e) = Err (fault_at e.0 e.1)
 -- no entry has the fault
 abbrev pub without : List model.DepName → Table → model.TableFault → Result (Unit {0}) FeatureFault
 without ds written fault = or_fault (model.free_of ds written fault)
+
+-- whether an entry has no fault at all
+abbrev pub is_well : List model.DepName → Table → Entry → Bool
+is_well ds written (feature g) = model.is_feature ds written g
+is_well ds written (dependency d) = model.is_optional ds d
+is_well ds written (dependency_feature d g) = model.has_dependency ds d
+is_well ds written (weak_feature d g) = model.has_dependency ds d
 
 -- no entry has a fault
 abbrev pub faultless : List model.DepName → Table → Result (Unit {0}) FeatureFault

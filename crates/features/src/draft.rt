@@ -1,23 +1,26 @@
 //! What a feature table is built from: what a package writes, its faults, and the features that nobody wrote.
 
 ghost use Rattle.std.specs.Prelude.{◌≡◌, ◌||◌, ℕ, List, IfOk, OnOk, option_copied};
-ghost use Rattle.std.specs.List.{list_any};
+ghost use Rattle.std.specs.List.{list_all, list_any};
+ghost use Rattle.std.specs.List.Sorted.{IsStrictlySortedBy-prop};
+ghost use Rattle.std.specs.Map.{keys_of};
+ghost use Rattle.model.specs.Order.{text_cmp};
 ghost use Rattle.model.specs.Outcome.{Gives};
 ghost use Rattle.model.specs.Summary.{has_feature, same_text};
 ghost use Rattle.model.specs.Tables.{has_dep_entry, has_dependency, has_fault, first_with, is_dep, implicit_entries};
 ghost use Rattle.model.specs.Tables.{is_feature, is_implicit, is_optional};
-ghost use Rattle.features.specs.Drafts.{faultless, implicit_rows, lack_view, rows_or_fault, without};
+ghost use Rattle.features.specs.Drafts.{faultless, implicit_rows, is_well, lack_view, rows_or_fault, without};
 ghost use Rattle.features.specs.Texts.{has_text, HasThose, texts_in};
 ghost use Rattle.features.specs.EntryViews.{entry_view, entry_views};
-ghost use Rattle.features.specs.Tables.{dep_names_view, rows_of, table_wants_memory};
+ghost use Rattle.features.specs.Tables.{AreRising, dep_names_view, rows_of, table_wants_memory};
 
 use crate::entry::Entry;
 use crate::feature_name::FeatureName;
 use crate::name::PackageName;
+use crate::rows::has_row;
 use crate::table::{DepName, FeatureFault};
 use crate::texts::Texts;
 use std::alloc::{AllocError, Global};
-use std::collections::BTreeMap;
 
 /// What an entry may lack.
 #[derive(Clone, Copy)]
@@ -34,19 +37,17 @@ enum Lack {
 #[derive(Drop)]
 struct Draft<'a> {
     dependencies: &'a [DepName],
-    written: &'a BTreeMap<FeatureName, Vec<Entry>>,
+    written: &'a [(FeatureName, Vec<Entry>)],
     /// What the dependencies are called.
     called: Texts<'a>,
     /// What the optional ones are called.
     optional: Texts<'a>,
     /// What the entries `dep:d` name.
     entered: Texts<'a>,
-    /// What the features are called.
-    features: Texts<'a>,
     ghost called_is: { HasThose (texts_in called) (has_dependency (dep_names_view dependencies.now)) },
     ghost optional_is: { HasThose (texts_in optional) (is_optional (dep_names_view dependencies.now)) },
-    ghost entered_is: { HasThose (texts_in entered) (has_dep_entry (rows_of written.now.entries)) },
-    ghost features_is: { HasThose (texts_in features) (has_feature (rows_of written.now.entries)) },
+    ghost entered_is: { HasThose (texts_in entered) (has_dep_entry (rows_of written.now)) },
+    ghost rising: { AreRising written.now } by { IsStrictlySortedBy-prop text_cmp (keys_of written.now) },
 }
 
 /// What the dependencies are called.
@@ -77,13 +78,13 @@ fn optional<'a>(alloc: Global, dependencies: &'a [DepName]) -> Result<Texts<'a>,
 /// What the entries `dep:d` name.
 fn entered<'a>(
     alloc: Global,
-    written: &'a BTreeMap<FeatureName, Vec<Entry>>,
+    written: &'a [(FeatureName, Vec<Entry>)],
 ) -> Result<Texts<'a>, AllocError>
-    ensures { IfOk result (λ names. HasThose (texts_in names) (has_dep_entry (rows_of written.entry.now.entries))) }
+    ensures { IfOk result (λ names. HasThose (texts_in names) (has_dep_entry (rows_of written.entry.now))) }
 {
     let mut names = Texts::new(alloc);
-    'rows: for (_, entries) in written.iter() {
-        put_entered(&mut names, entries.as_slice())?;
+    'rows: for row in written {
+        put_entered(&mut names, row.1.as_slice())?;
     }
     Ok(names)
 }
@@ -100,30 +101,17 @@ fn put_entered<'a>(names: &mut Texts<'a>, entries: &'a [Entry]) -> Result<(), Al
     Ok(())
 }
 
-/// What the features are called.
-fn features<'a>(
-    alloc: Global,
-    written: &'a BTreeMap<FeatureName, Vec<Entry>>,
-) -> Result<Texts<'a>, AllocError>
-    ensures { IfOk result (λ names. HasThose (texts_in names) (has_feature (rows_of written.entry.now.entries))) }
-{
-    let mut names = Vec::with_capacity(alloc, written.len())?;
-    'rows: for name in written.keys() {
-        names.push(name.as_str())?;
-    }
-    Texts::of(alloc, names)
-}
-
 impl<'a> Draft<'a> {
     ghost use Rattle.features.specs.DraftViews.{names_in, written_in};
 
     fn of(
         alloc: Global,
         dependencies: &'a [DepName],
-        written: &'a BTreeMap<FeatureName, Vec<Entry>>,
+        written: &'a [(FeatureName, Vec<Entry>)],
     ) -> Result<Draft<'a>, AllocError>
+        requires { AreRising written.now }
         ensures { IfOk result (λ d. (names_in d ≡ dep_names_view dependencies.entry.now)
-            × (written_in d ≡ rows_of written.entry.now.entries)) }
+            × (written_in d ≡ rows_of written.entry.now)) }
     {
         Ok(Draft {
             dependencies,
@@ -131,22 +119,28 @@ impl<'a> Draft<'a> {
             called: called(alloc, dependencies)?,
             optional: optional(alloc, dependencies)?,
             entered: entered(alloc, written)?,
-            features: features(alloc, written)?,
         })
+    }
+
+    /// Whether the package writes this feature.
+    fn is_written(&self, name: &str) -> bool
+        ensures { result ≡ has_feature (written_in self.now) name.now }
+    {
+        has_row(self.written, name)
     }
 
     /// Whether an optional dependency of this name brings a feature that nobody wrote.
     fn is_implicit(&self, name: &str) -> bool
         ensures { result ≡ is_implicit (names_in self.now) (written_in self.now) name.now }
     {
-        self.optional.has(name) && !self.entered.has(name) && !self.features.has(name)
+        self.optional.has(name) && !self.entered.has(name) && !self.is_written(name)
     }
 
     /// Whether the table has this feature in the end.
     fn is_feature(&self, name: &str) -> bool
         ensures { result ≡ is_feature (names_in self.now) (written_in self.now) name.now }
     {
-        self.features.has(name) || self.is_implicit(name) || name == "default"
+        self.is_written(name) || self.is_implicit(name) || name == "default"
     }
 
     /// Whether an entry lacks this.
@@ -183,12 +177,41 @@ impl<'a> Draft<'a> {
         ensures { option_copied result
             ≡ first_with (has_fault (names_in self.now) (written_in self.now) (lack_view lack)) (written_in self.now) }
     {
-        'rows: for (feature, entries) in self.written.iter() {
-            if self.some_lacking(lack, entries.as_slice()) {
-                return Some(feature);
+        'rows: for row in self.written {
+            if self.some_lacking(lack, row.1.as_slice()) {
+                return Some(&row.0);
             }
         }
         None
+    }
+
+    /// Whether an entry lacks nothing.
+    fn is_well(&self, entry: &Entry) -> bool
+        ensures { result ≡ is_well (names_in self.now) (written_in self.now) (entry_view entry.now) }
+    {
+        match entry {
+            Entry::Feature(feature) => self.is_feature(feature.as_str()),
+            Entry::Dependency(name) => self.optional.has(name.as_str()),
+            Entry::DependencyFeature(name, _) | Entry::WeakFeature(name, _) => {
+                self.called.has(name.as_str())
+            }
+        }
+    }
+
+    fn are_well(&self, entries: &[Entry]) -> bool
+        ensures { result
+            ≡ list_all (λ e. is_well (names_in self.now) (written_in self.now) (entry_view e)) entries.now }
+    {
+        entries.iter().all(|entry| self.is_well(entry))
+    }
+
+    fn all_well(&self) -> bool
+        ensures { result ≡ list_all (λ row. list_all
+            (λ e. is_well (names_in self.now) (written_in self.now) (entry_view e)) row.1.items) self.now.written.now }
+    {
+        self.written
+            .iter()
+            .all(|row| self.are_well(row.1.as_slice()))
     }
 
     fn without(&self, lack: Lack) -> Result<(), FeatureFault>
@@ -206,9 +229,13 @@ impl<'a> Draft<'a> {
         })
     }
 
+    /// Looks for one fault after another only where there is some.
     fn faultless(&self) -> Result<(), FeatureFault>
         ensures { Gives table_wants_memory (λ u. u) result (faultless (names_in self.now) (written_in self.now)) }
     {
+        if self.all_well() {
+            return Ok(());
+        }
         self.without(Lack::Feature)?;
         self.without(Lack::Dependency)?;
         self.without(Lack::Optional)
@@ -242,10 +269,11 @@ fn implicit_row(alloc: Global, name: &PackageName) -> Result<(FeatureName, Vec<E
 pub(crate) fn implicit_rows(
     alloc: Global,
     dependencies: &[DepName],
-    written: &BTreeMap<FeatureName, Vec<Entry>>,
+    written: &[(FeatureName, Vec<Entry>)],
 ) -> Result<Vec<(FeatureName, Vec<Entry>)>, FeatureFault>
+    requires { AreRising written.now }
     ensures { Gives table_wants_memory
-        (λ v. rows_of v.items) result (rows_or_fault (dep_names_view dependencies.now) (rows_of written.now.entries)) }
+        (λ v. rows_of v.items) result (rows_or_fault (dep_names_view dependencies.now) (rows_of written.now)) }
 {
     let draft = Draft::of(alloc, dependencies, written)?;
     draft.faultless()?;

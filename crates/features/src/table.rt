@@ -1,13 +1,9 @@
 //! Tables of features.
 
-ghost use Rattle.std.specs.Prelude.{◌≡◌, [], IfOk, map, option_map, unwrap_or};
-ghost use Rattle.std.specs.BTreeMap.{is_at};
-ghost use Rattle.std.specs.Map.{lookup};
-ghost use Rattle.model.specs.Order.{text_cmp};
+ghost use Rattle.std.specs.Prelude.{◌≡◌, [], IfOk, map, unwrap_or};
 ghost use Rattle.model.specs.Outcome.{Gives};
 ghost use Rattle.model.specs.Summary.{entries_at, has_feature};
 ghost use Rattle.model.specs.Tables.{with_default};
-ghost use Rattle.features.specs.Drafts.{with_rows};
 ghost use Rattle.features.specs.Tables.{AreRising, dep_names_view, rows_of, table_wants_memory, built};
 ghost use Rattle.features.specs.EntryViews.{entry_views};
 
@@ -15,6 +11,7 @@ use crate::draft::implicit_rows;
 use crate::entry::Entry;
 use crate::feature_name::FeatureName;
 use crate::name::PackageName;
+use crate::rows::{entries_in, has_row, put_row, rows_of, with_rows};
 use std::alloc::{AllocError, Global};
 use std::collections::BTreeMap;
 use std::marker::Model;
@@ -89,16 +86,32 @@ impl FeatureTable {
         ensures { Gives table_wants_memory
             (λ t. t) result (built (dep_names_view dependencies.now) (rows_of written.entries)) }
     {
+        FeatureTable::of_rows(alloc, dependencies, rows_of(alloc, written)?)
+    }
+
+    /// The same, where what is written rises by the names of the features.
+    ///
+    /// # Errors
+    /// The lowest fault, at the first feature that has it by the bytes of the names.
+    pub fn of_rows(
+        alloc: Global,
+        dependencies: &[DepName],
+        written: Vec<(FeatureName, Vec<Entry>)>,
+    ) -> Result<FeatureTable, FeatureFault>
+        requires { AreRising written.items }
+        ensures { Gives table_wants_memory
+            (λ t. t) result (built (dep_names_view dependencies.now) (rows_of written.items)) }
+    {
         let implicit = implicit_rows(alloc, dependencies, &written)?;
-        let features = with_rows(written, implicit)?;
-        Ok(of_map(alloc, with_default(alloc, features)?)?)
+        let features = with_rows(alloc, written, implicit)?;
+        Ok(of_features(alloc, with_default(alloc, features)?)?)
     }
 
     /// The entries of a feature: none where the table lacks it.
     pub fn entries(&self, name: &FeatureName) -> &[Entry]
         ensures { entry_views result.now ≡ unwrap_or (entries_at name.now self.now) [] }
     {
-        match entries_in(self.features.as_slice(), name) {
+        match entries_in(self.features.as_slice(), name.as_str()) {
             Some(entries) => entries.as_slice(),
             None => &[],
         }
@@ -117,7 +130,7 @@ impl FeatureTable {
     pub fn has(&self, name: &FeatureName) -> bool
         ensures { result ≡ has_feature self.now name.now }
     {
-        entries_in(self.features.as_slice(), name).is_some()
+        has_row(self.features.as_slice(), name.as_str())
     }
 }
 
@@ -165,60 +178,36 @@ impl Clone for FeatureTable {
     }
 }
 
-/// The entries of a feature, among rows that rise by their names.
-fn entries_in<'a>(
-    rows: &'a [(FeatureName, Vec<Entry>)],
-    name: &FeatureName,
-) -> Option<&'a Vec<Entry>>
-    requires { AreRising rows.now }
-    ensures { option_map (λ v. v.now) result ≡ lookup (is_at (text_cmp name.now)) rows.now }
-{
-    match rows.binary_search_by(|row| row.0.cmp(name)) {
-        Ok(place) => Some(&rows[place].1),
-        Err(_) => None,
-    }
-}
-
 /// The table with just these features.
-fn of_map(
+fn of_features(
     alloc: Global,
-    features: BTreeMap<FeatureName, Vec<Entry>>,
+    features: Vec<(FeatureName, Vec<Entry>)>,
 ) -> Result<FeatureTable, AllocError>
-    ensures { IfOk result (λ t. t ≡ rows_of features.entries) }
+    requires { AreRising features.items }
+    ensures { IfOk result (λ t. t ≡ rows_of features.items) }
 {
-    let mut rows = Vec::with_capacity(alloc, features.len())?;
-    'rows: for row in features {
-        rows.push(row)?;
-    }
     Ok(FeatureTable {
-        features: Rc::new(alloc, rows)?,
+        features: Rc::new(alloc, features)?,
     })
 }
 
-/// A table with these rows too.
-fn with_rows(
-    mut features: BTreeMap<FeatureName, Vec<Entry>>,
-    rows: Vec<(FeatureName, Vec<Entry>)>,
-) -> Result<BTreeMap<FeatureName, Vec<Entry>>, AllocError>
-    ensures { IfOk result (λ m. rows_of m.entries ≡ with_rows (rows_of features.entries) (rows_of rows.items)) }
-{
-    'rows: for (name, entries) in rows {
-        features.insert(name, entries)?;
-    }
-    Ok(features)
-}
-
-/// A table with the feature `default` too, without entries where it isn't there yet.
+/// Rows with one of the feature `default` too, without entries where it isn't there yet.
 fn with_default(
     alloc: Global,
-    mut features: BTreeMap<FeatureName, Vec<Entry>>,
-) -> Result<BTreeMap<FeatureName, Vec<Entry>>, AllocError>
-    ensures { IfOk result (λ m. rows_of m.entries ≡ with_default (rows_of features.entries)) }
+    mut rows: Vec<(FeatureName, Vec<Entry>)>,
+) -> Result<Vec<(FeatureName, Vec<Entry>)>, AllocError>
+    requires { AreRising rows.items }
+    ensures rows { IfOk result (λ v. rows_of v.items ≡ with_default (rows_of rows.items)) }
+    ensures rising { IfOk result (λ v. AreRising v.items) }
 {
-    let default = FeatureName::default_name(alloc)?;
-    if features.contains_key(&default) {
-        return Ok(features);
+    if has_row(&rows, "default") {
+        return Ok(rows);
     }
-    features.insert(default, Vec::new(alloc))?;
-    Ok(features)
+    rows.reserve_exact(1)?;
+    put_row(
+        &mut rows,
+        FeatureName::default_name(alloc)?,
+        Vec::new(alloc),
+    )?;
+    Ok(rows)
 }

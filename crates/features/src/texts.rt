@@ -1,9 +1,8 @@
 //! Texts to be looked up, the first few of which lie in a row.
 
-ghost use Rattle.std.specs.Prelude.{◌≡◌, ◌||◌, [], ℕ, List, IfOk, OnOk};
-ghost use Rattle.std.specs.BTreeSet.{IsFromIterResult};
+ghost use Rattle.std.specs.Prelude.{◌≡◌, ◌||◌, [], ℕ, List, OnOk};
 ghost use Rattle.model.specs.Summary.{same_text};
-ghost use Rattle.features.specs.Texts.{has_text, borrowed_cmp, texts_in};
+ghost use Rattle.features.specs.Texts.{has_text, texts_in};
 
 use std::alloc::{AllocError, Global};
 use std::collections::BTreeSet;
@@ -29,23 +28,6 @@ impl<'a> Texts<'a> {
         }
     }
 
-    /// The texts of a list. Where there are more than a few, the tree is made at once: those of a map rise, so that
-    /// none need be looked up.
-    pub(crate) fn of(alloc: Global, texts: Vec<&'a str>) -> Result<Texts<'a>, AllocError>
-        ensures { IfOk result (λ t. (d : List ℕ) → has_text (texts_in t) d ≡ has_text texts.entry.items d) }
-    {
-        if texts.len() <= FEW {
-            return Ok(Texts {
-                few: texts,
-                more: BTreeSet::new(alloc),
-            });
-        }
-        Ok(Texts {
-            few: Vec::new(alloc),
-            more: collected(alloc, texts)?,
-        })
-    }
-
     pub(crate) fn has(&self, text: &str) -> bool
         ensures { result ≡ has_text (texts_in self.now) text.now }
     {
@@ -69,10 +51,4 @@ fn is_among(few: &[&str], text: &str) -> bool
     ensures { result ≡ has_text few.now text.now }
 {
     few.iter().any(|one| text == *one)
-}
-
-fn collected<'a>(alloc: Global, texts: Vec<&'a str>) -> Result<BTreeSet<&'a str>, AllocError>
-    ensures { IfOk result (IsFromIterResult borrowed_cmp texts.entry.items) }
-{
-    texts.into_iter().collect(alloc)
 }

@@ -130,7 +130,7 @@ rising-behind rows name (f ∷ fs) before rise =
 pub all-rising : (fs : List FeatureView) → names_rise [] fs ≡ true → with_features [] fs ≡ features_read fs
 all-rising fs rise = rising-behind [] [] fs (λ next less. tt) rise ∙ front-none (features_read fs)
 
--- ---- the map of such rows
+-- ---- the rows that are read
 
 all-after : (name next : List ℕ) (keys : List (List ℕ)) → text_cmp name next ≡ Less
     → AllByRecursion (λ key. text_cmp next key ≡ Less) keys → AllByRecursion (λ key. text_cmp name key ≡ Less) keys
@@ -166,43 +166,14 @@ keys-rows : (es : List (List ℕ × Vec Entry Global)) → keys_of (rows_of es) 
 keys-rows [] = refl
 keys-rows (e ∷ es) = ap (λ keys. e.0 ∷ keys) (keys-rows es)
 
--- a look-up in rows, whichever of the two ways it is written
-found-same : {X : Type 0} (q : List ℕ) (es : List (List ℕ × X)) → find text_cmp q es ≡ lookup (is_at (text_cmp q)) es
-found-same q [] = refl
-found-same q (e ∷ es) = ap (λ o. cond (is_eq (text_cmp q e.0)) (Some e.1) o) (found-same q es)
-
-below-test : {X : Type 0} (key : List ℕ) (es : List (List ℕ × X))
-    → AllByRecursion (λ k. text_cmp key k ≡ Less) (keys_of es) → below_all text_cmp key es ≡ true
-below-test key [] all = refl
-below-test key (e ∷ es) (first, rest) = ap (λ o. is_lt o && below_all text_cmp key es) first ∙ below-test key es rest
-
-sorted-test : {X : Type 0} (es : List (List ℕ × X)) → IsStrictlySortedBy text_cmp (keys_of es)
-    → is_sorted text_cmp es ≡ true
-unfolding IsStrictlySortedBy
-sorted-test [] sorted = refl
-sorted-test (e ∷ es) (first, rest) =
-    ap (λ b. b && is_sorted text_cmp es) (below-test e.0 es first) ∙ sorted-test es rest
-
-in-place : (es : List (List ℕ × Vec Entry Global)) (m : BTreeMap (List ℕ) (Vec Entry Global))
-    → IsFromIterResult text_cmp es m → IsStrictlySortedBy text_cmp (keys_of es) → m.entries ≡ es
-in-place es m (found, ordered) sorted =
-    same_entries text_cmp nat_list_cmp_total exact_bytes m.entries es (subst T (sym (sorted-test m.entries ordered)) tt)
-    (subst T (sym (sorted-test es sorted)) tt)
-    (λ q. found-same q m.entries ∙ found q
-    ∙ update_all_none (eq_by_cmp_equiv nat_list_cmp_total) (eq_by_cmp text_cmp)
-    (λ x y. refl) es q (IsDistinct-from_sorted text_cmp (keys_of es) sorted) ∙ sym (found-same q es))
-
 tail-sorted : (key : List ℕ) (keys : List (List ℕ)) → IsStrictlySortedBy text_cmp (key ∷ keys)
     → IsStrictlySortedBy text_cmp keys
 unfolding IsStrictlySortedBy
 tail-sorted key keys s = s.1
 
--- the map that is collected from the rows of rising features has them all
-pub map-rising : (fs : List FeatureView) (es : List (List ℕ × Vec Entry Global))
-    (m : BTreeMap (List ℕ) (Vec Entry Global)) → names_rise [] fs ≡ true
-    → features_read fs ≡ Ok (rows_of es) → IsFromIterResult text_cmp es m → with_features [] fs ≡ Ok (rows_of m.entries)
-map-rising fs es m rise read made =
-    let sorted : IsStrictlySortedBy text_cmp (keys_of (rows_of es)) =
-    tail-sorted [] (keys_of (rows_of es)) (sorted-read [] fs (rows_of es) rise read) in
-    all-rising fs rise ∙ read ∙ ap (λ x. Ok (rows_of x))
-    (sym (in-place es m made (subst (IsStrictlySortedBy text_cmp) (keys-rows es) sorted)))
+-- the rows of features whose names rise do too
+pub rows-rise : (fs : List FeatureView) (es : List (List ℕ × Vec Entry Global)) → names_rise [] fs ≡ true
+    → features_read fs ≡ Ok (rows_of es) → AreRising es
+rows-rise fs es rise read =
+    subst (IsStrictlySortedBy text_cmp) (keys-rows es)
+    (tail-sorted [] (keys_of (rows_of es)) (sorted-read [] fs (rows_of es) rise read))

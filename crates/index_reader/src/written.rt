@@ -1,7 +1,6 @@
 //! The features that a line writes, and the table that they make.
 
-ghost use Rattle.std.specs.Prelude.{◌≡◌, [], true, IfOk, Ok};
-ghost use Rattle.std.specs.BTreeMap.{IsFromIterResult};
+ghost use Rattle.std.specs.Prelude.{◌≡◌, [], IfOk, Ok};
 ghost use Rattle.std.specs.Option.{ok_or};
 ghost use Rattle.std.specs.Ordering.{is_lt};
 ghost use Rattle.model.specs.Order.{text_cmp};
@@ -9,7 +8,8 @@ ghost use Rattle.model.specs.Outcome.{Gives};
 ghost use Rattle.model.specs.Tables.{table_of};
 ghost use Rattle.features.specs.Entries.{entry_of};
 ghost use Rattle.features.specs.EntryViews.{entry_view, entry_views};
-ghost use Rattle.features.specs.Tables.{built, dep_name_view, dep_names_view, rows_of, table_wants_memory};
+ghost use Rattle.features.specs.Tables.{AreRising, built, dep_name_view, dep_names_view, rows_of};
+ghost use Rattle.features.specs.Tables.{table_wants_memory};
 ghost use Rattle.index_reader.specs.Shapes.{wants_memory};
 ghost use Rattle.features.specs.Views.{text_views};
 ghost use Rattle.index_reader.specs.ShapeViews.{feature_view, feature_views, line_dependency_view};
@@ -20,7 +20,9 @@ ghost use Rattle.index_reader.specs.Written.{dep_names_of, unless_faulty, featur
 
 use crate::fault::{LineFault, SkipReason};
 use crate::shape::{DependencyShape, FeatureShape, LineShape};
-use features::{DepName, Entry, EntryFault, FeatureFault, FeatureName, FeatureTable, NameFault};
+use features::{
+    DepName, Entry, EntryFault, FeatureFault, FeatureName, FeatureTable, NameFault, map_of, rows_of,
+};
 use std::alloc::{AllocError, Global};
 use std::collections::BTreeMap;
 
@@ -38,40 +40,33 @@ pub(crate) fn features(
     table(alloc, names, written)
 }
 
-/// The features that a line writes: those of `features2` behind those of `features`.
-fn written(
-    alloc: Global,
-    line: &LineShape<'_>,
-) -> Result<BTreeMap<FeatureName, Vec<Entry>>, LineFault>
-    ensures { Gives wants_memory (λ m. rows_of m.entries) result (written_of (shape_view line.now)) }
+/// The features that a line writes, by their names: those of `features2` behind those of `features`. They lie in rows,
+/// for few lines have both, and a map is what takes longest to make.
+fn written(alloc: Global, line: &LineShape<'_>) -> Result<Vec<(FeatureName, Vec<Entry>)>, LineFault>
+    ensures read { Gives wants_memory (λ v. rows_of v.items) result (written_of (shape_view line.now)) }
+    ensures rising { IfOk result (λ v. AreRising v.items) }
 {
     let written = first_features(alloc, &line.features)?;
-    with_features(alloc, written, &line.features2)
+    if line.features2.is_empty() {
+        return Ok(written);
+    }
+    let written = with_features(alloc, map_of(alloc, written)?, &line.features2)?;
+    Ok(rows_of(alloc, written)?)
 }
 
-/// The map of features: made at once where their names rise, as those of a registry do.
+/// The rows of features: as they are read where their names rise, as those of a registry do.
 fn first_features(
     alloc: Global,
     features: &[FeatureShape<'_>],
-) -> Result<BTreeMap<FeatureName, Vec<Entry>>, LineFault>
-    ensures { Gives wants_memory (λ m. rows_of m.entries) result (with_features [] (feature_views features.now)) }
+) -> Result<Vec<(FeatureName, Vec<Entry>)>, LineFault>
+    ensures read { Gives wants_memory (λ v. rows_of v.items) result (with_features [] (feature_views features.now)) }
+    ensures rising { IfOk result (λ v. AreRising v.items) }
 {
     if names_rise(features) {
-        return rising(alloc, features);
+        return rows(alloc, features);
     }
-    with_features(alloc, BTreeMap::new(alloc), features)
-}
-
-/// The map of features whose names rise: no row need be looked up.
-fn rising(
-    alloc: Global,
-    features: &[FeatureShape<'_>],
-) -> Result<BTreeMap<FeatureName, Vec<Entry>>, LineFault>
-    requires { names_rise [] (feature_views features.now) ≡ true }
-    ensures { Gives wants_memory (λ m. rows_of m.entries) result (with_features [] (feature_views features.now)) }
-{
-    let rows = rows(alloc, features)?;
-    Ok(collected(alloc, rows)?)
+    let written = with_features(alloc, BTreeMap::new(alloc), features)?;
+    Ok(rows_of(alloc, written)?)
 }
 
 /// Whether each feature's name comes after the one before it.
@@ -117,15 +112,6 @@ fn row(alloc: Global, feature: &FeatureShape<'_>) -> Result<(FeatureName, Vec<En
     let name = feature_name(alloc, feature.name)?;
     let entries = entries(alloc, &feature.entries)?;
     Ok((name, entries))
-}
-
-fn collected(
-    alloc: Global,
-    rows: Vec<(FeatureName, Vec<Entry>)>,
-) -> Result<BTreeMap<FeatureName, Vec<Entry>>, AllocError>
-    ensures { IfOk result (IsFromIterResult text_cmp rows.items) }
-{
-    rows.into_iter().collect(alloc)
 }
 
 #[tactic(auto, unfolding(crate::specs::Written::with_features))]
@@ -237,12 +223,13 @@ fn dep_name(dependency: &DependencyShape<'_>) -> Result<DepName, AllocError>
 fn table(
     alloc: Global,
     names: &[DepName],
-    written: BTreeMap<FeatureName, Vec<Entry>>,
+    written: Vec<(FeatureName, Vec<Entry>)>,
 ) -> Result<FeatureTable, LineFault>
+    requires { AreRising written.items }
     ensures { Gives wants_memory
-        (λ t. t) result (unless_faulty (table_of (dep_names_view names.now) (rows_of written.entries))) }
+        (λ t. t) result (unless_faulty (table_of (dep_names_view names.now) (rows_of written.items))) }
 {
-    match FeatureTable::build(alloc, names, written) {
+    match FeatureTable::of_rows(alloc, names, written) {
         Ok(table) => Ok(table),
         Err(fault) => Err(fault_of(fault)),
     }

@@ -1,11 +1,17 @@
-use Rattle.features.proofs.BuildLemmas.{default-put, default-there}
+use Rattle.std.proofs.Common.{ap, sym, ◌∙◌}
+use Rattle.std.specs.BTreeMap.{insert_entry}
+use Rattle.model.specs.Order.{text_cmp}
+use Rattle.model.specs.Summary.{has_feature}
+use Rattle.model.specs.Tables.{default_feature}
+use Rattle.features.specs.Tables.{rows_of}
+use Rattle.features.proofs.BuildLemmas.{default-put}
 use Rattle.features.proofs.table.with_default.Goals as goal
 
-pub returns-then-contains_key : goal.returns-then-contains_key
-returns-then-contains_key c = default-there c.args.features.entries c.in_ok-default.default c.contains_key.result
-    c.in_ok-default.ensures c.contains_key.ensures c.if-contains_key.true
-
-pub returns : goal.returns
-returns c = default-put c.args.features.entries c.insert.new.self.entries c.in_ok-default.default c.new.result
-    c.contains_key.result c.in_ok-default.ensures c.contains_key.ensures
-    c.if-contains_key.false c.new.ensures.items c.in_ok-insert.ensures.entries
+pub returns-clause-rows : goal.returns-clause-rows
+returns-clause-rows c =
+    default-put c.args.rows.items c.put_row.new.rows.items c.in_ok-default_name.field-0 c.new.result
+    (ap (λ rows. has_feature (rows_of rows) default_feature) (sym c.deref.ensures.value) ∙ sym c.has_row.ensures
+    ∙ c.if-has_row.false) c.in_ok-default_name.ensures c.new.ensures.items
+    (c.in_ok-put_row.ensures.put
+    ∙ ap (λ rows. insert_entry text_cmp rows c.in_ok-default_name.field-0 c.new.result)
+    c.in_ok-reserve_exact.ensures.items)

@@ -2,7 +2,7 @@ use Rattle.std.proofs.Common.{rules}
 use Rattle.std.proofs.lemmas.Fn.{always_returns_same}
 use Rattle.model.specs.Order.{text_cmp}
 use Rattle.features.proofs.RowLemmas.{row_found, row_lacking}
-use Rattle.features.proofs.table.entries_in.Goals as goal
+use Rattle.features.proofs.rows.entries_in.Goals as goal
 
 pub returns-in-Ok : goal.returns-in-Ok
 returns-in-Ok c =

@@ -1,5 +1,5 @@
 use Rattle.std.proofs.Common.{◌≡◌, ◌++◌}
-use Rattle.features.proofs.table.of_map.Given as goal
+use Rattle.features.proofs.rows.rows_of.Given as goal
 
 -- the rows so far and those that are left are those of the map
 abbrev pub invariant-rows : goal.invariant-rows
