@@ -1,5 +1,6 @@
 pub mod TableLemmas
 pub mod RowLemmas
+pub mod PlaceLemmas
 pub mod TextLemmas
 pub mod BuildLemmas
 pub mod DraftLemmas

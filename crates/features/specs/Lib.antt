@@ -5,6 +5,7 @@ pub mod NameTexts
 pub mod Entries
 pub mod EntryViews
 pub mod Tables
+pub mod Places
 pub mod Texts
 pub mod Drafts
 pub mod DraftViews

@@ -6,6 +6,7 @@ ghost use Rattle.std.specs.Map.{lookup};
 ghost use Rattle.model.specs.Order.{text_cmp};
 ghost use Rattle.model.specs.Summary.{has_feature};
 ghost use Rattle.features.specs.Drafts.{with_rows};
+ghost use Rattle.features.specs.Places.{place_of};
 ghost use Rattle.features.specs.Tables.{AreRising, rows_of};
 
 use crate::entry::Entry;
@@ -37,6 +38,14 @@ pub(crate) fn has_row(rows: &[(FeatureName, Vec<Entry>)], name: &str) -> bool
     ensures { result ≡ has_feature (rows_of rows.now) name.now }
 {
     entries_in(rows, name).is_some()
+}
+
+/// The place of the row of a feature.
+pub(crate) fn place_in(rows: &[(FeatureName, Vec<Entry>)], name: &str) -> Option<usize>
+    requires { AreRising rows.now }
+    ensures { result ≡ place_of name.now (rows_of rows.now) }
+{
+    rows.binary_search_by(|row| row.0.as_str().cmp(name)).ok()
 }
 
 /// Puts a row where it belongs: in the place of that of its feature, if there is one.

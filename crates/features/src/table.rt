@@ -3,7 +3,8 @@
 ghost use Rattle.std.specs.Prelude.{◌≡◌, [], IfOk, map, unwrap_or};
 ghost use Rattle.model.specs.Outcome.{Gives};
 ghost use Rattle.model.specs.Summary.{entries_at, has_feature};
-ghost use Rattle.model.specs.Tables.{with_default};
+ghost use Rattle.model.specs.Tables.{IsInOrder, with_default};
+ghost use Rattle.features.specs.Places.{place_of};
 ghost use Rattle.features.specs.Tables.{AreRising, dep_names_view, rows_of, table_wants_memory, built};
 ghost use Rattle.features.specs.EntryViews.{entry_views};
 
@@ -11,7 +12,7 @@ use crate::draft::implicit_rows;
 use crate::entry::Entry;
 use crate::feature_name::FeatureName;
 use crate::name::PackageName;
-use crate::rows::{entries_in, has_row, put_row, rows_of, with_rows};
+use crate::rows::{entries_in, has_row, place_in, put_row, rows_of, with_rows};
 use std::alloc::{AllocError, Global};
 use std::collections::BTreeMap;
 use std::marker::Model;
@@ -119,11 +120,19 @@ impl FeatureTable {
 
     /// The features with their entries, in the order of their names.
     pub fn iter(&self) -> Rows<'_>
-        ensures { rows_of result ≡ self.now }
+        ensures rows { rows_of result ≡ self.now }
+        ensures order { IsInOrder self.now }
     {
         Rows {
             rest: self.features.as_slice(),
         }
+    }
+
+    /// The place of a feature among the rows, by the bytes of the names.
+    pub fn place_of(&self, name: &str) -> Option<usize>
+        ensures { result ≡ place_of name.now self.now }
+    {
+        place_in(self.features.as_slice(), name)
     }
 
     /// Whether the table has a feature.
