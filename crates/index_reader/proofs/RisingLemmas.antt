@@ -1,28 +1,23 @@
 -- Features whose names rise are joined one behind another.
-use Rattle.std.proofs.Common.{◌≡◌, ℕ, List, [], ◌∷◌, ◌++◌, Bool, true, false, cond, ◌&&◌, T, Some, None, Ok, Err, Vec}
-use Rattle.std.proofs.Common.{Ordering, Less, Equal, Greater, refl, sym, ap, ◌∙◌, subst}
+use Rattle.std.proofs.Common.{◌≡◌, ℕ, List, [], ◌∷◌, ◌++◌, Bool, true, false, cond, ◌&&◌, Some, None, Ok, Err, Vec}
+use Rattle.std.proofs.Common.{Result, Ordering, Less, Equal, Greater, IfOk, refl, sym, ap, ◌∙◌, subst}
 use Rattle.std.proofs.lemmas.List.{append-nil}
-use Rattle.std.proofs.lemmas.Map.Keys.{IsDistinct-from_sorted}
-use Rattle.std.proofs.lemmas.Map.Lookups.{exact_bytes}
-use Rattle.std.proofs.lemmas.Map.Made.{update_all_none}
-use Rattle.std.specs.BTreeMap.{BTreeMap, IsFromIterResult, is_at}
-use Rattle.std.specs.Cmp.{eq_by_cmp_equiv}
 use Rattle.std.specs.Cmp.Lexicographic.{nat_list_cmp_total, texts_ties}
 use Rattle.std.specs.List.{AllByRecursion}
 use Rattle.std.specs.List.Sorted.{IsStrictlySortedBy}
-use Rattle.std.specs.FinMap.Entries.{below_all, find, is_sorted, same_entries}
-use Rattle.std.specs.Map.{keys_of, lookup}
-use Rattle.std.specs.Ordering.{eq_by_cmp, is_eq, is_lt, match_ordering, ordering_reverse}
+use Rattle.std.specs.Map.{keys_of}
+use Rattle.std.specs.Ordering.{is_eq, is_lt, match_ordering, ordering_reverse}
 use Rattle.std.specs.declared.alloc.Global.{Global}
-use Rattle.model.specs.Outcome.{◌>>=◌}
+use Rattle.model.specs.Outcome.{◌>>=◌, Gives}
 use Rattle.model.specs.Order.{text_cmp}
 use Rattle.model.specs.Summary as model
 use Rattle.model.specs.Summary.{entries_at}
 use Rattle.model.specs.Tables.{Written, with_row}
 use Rattle.features.specs.Names.{is_feature_name}
-use Rattle.features.specs.Tables.{rows_of}
+use Rattle.features.specs.Tables.{AreRising, rows_of}
 use Rattle.features.specs.declared.entry.Entry.{Entry}
-use Rattle.index_reader.specs.Shapes.{Line, FeatureView}
+use Rattle.index_reader.specs.Shapes.{Line, FeatureView, wants_memory}
+use Rattle.index_reader.specs.declared.fault.LineFault.{LineFault}
 use Rattle.index_reader.specs.declared.fault.LineFault.TheVariants.{Skipped}
 use Rattle.index_reader.specs.declared.fault.SkipReason.TheVariants.{BadFeatures}
 use Rattle.index_reader.specs.Written.{entries_read, feature_read, features_read, joined, names_rise, with_features}
@@ -172,8 +167,14 @@ unfolding IsStrictlySortedBy
 tail-sorted key keys s = s.1
 
 -- the rows of features whose names rise do too
-pub rows-rise : (fs : List FeatureView) (es : List (List ℕ × Vec Entry Global)) → names_rise [] fs ≡ true
+rows-rise : (fs : List FeatureView) (es : List (List ℕ × Vec Entry Global)) → names_rise [] fs ≡ true
     → features_read fs ≡ Ok (rows_of es) → AreRising es
 rows-rise fs es rise read =
     subst (IsStrictlySortedBy text_cmp) (keys-rows es)
     (tail-sorted [] (keys_of (rows_of es)) (sorted-read [] fs (rows_of es) rise read))
+
+pub read-rise : (fs : List FeatureView) (r : Result (Vec (List ℕ × Vec Entry Global) Global) LineFault)
+    → names_rise [] fs ≡ true → Gives wants_memory (λ v. rows_of v.items) r (features_read fs)
+    → IfOk r (λ v. AreRising v.items)
+read-rise fs (Ok v) rise read = rows-rise fs v.items rise read
+read-rise fs (Err e) rise read = tt

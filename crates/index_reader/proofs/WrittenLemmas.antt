@@ -1,6 +1,7 @@
 -- Features are joined one after another, in a map as in a table.
 use Rattle.std.proofs.Common.{◌≡◌, ℕ, List, [], ◌∷◌, ◌++◌, Bool, true, false, cond, Some, None, option_map, refl, sym}
-use Rattle.std.proofs.Common.{ap, ◌∙◌, Vec}
+use Rattle.std.proofs.Common.{ap, ◌∙◌, ◌==◌, suc, Ok, Vec, length, arith}
+use Rattle.std.proofs.lemmas.Bool.{eqb-true}
 use Rattle.std.specs.Map.{lookup, set_value}
 use Rattle.std.specs.Ordering.{nat_cmp, match_ordering}
 use Rattle.std.specs.declared.cmp.Ordering.{Ordering}
@@ -11,11 +12,15 @@ use Rattle.std.specs.declared.alloc.Global.{Global}
 use Rattle.model.specs.Summary as model
 use Rattle.model.specs.Summary.{same_text}
 use Rattle.model.specs.Order.{text_cmp}
+use Rattle.model.specs.Tables.{Written}
 use Rattle.features.specs.Tables.{rows_of}
 use Rattle.features.specs.EntryViews.{entry_views}
 use Rattle.features.specs.declared.entry.Entry.{Entry}
 use Rattle.features.proofs.TableLemmas.{at_is, entries_at-rows_of}
-use Rattle.index_reader.specs.Written.{with_more, joined}
+use Rattle.index_reader.specs.ShapeViews.{feature_views}
+use Rattle.index_reader.specs.Shapes.{ShapeView}
+use Rattle.index_reader.specs.declared.shape.FeatureShape.{FeatureShape}
+use Rattle.index_reader.specs.Written.{with_more, joined, with_features, written_of}
 
 pub set-rows : (name : List ℕ) (es : List (List ℕ × Vec Entry Global)) (w : Vec Entry Global)
     → rows_of (set_value (is_at (slice_cmp nat_cmp name)) es w)
@@ -67,3 +72,13 @@ pub joined-insert : (es : List (List ℕ × Vec Entry Global)) (name : List ℕ)
 joined-insert es name v absent =
     insert-rows es name v ∙ sym (ap (λ o. with_more o (rows_of es) name (entry_views v.items))
     (entries_at-rows_of name es ∙ ap (option_map (λ v. entry_views v.items)) absent))
+
+-- a line without `features2` writes just the others
+pub nothing-more : (s : ShapeView) (written : Written) → s.features2 ≡ [] → with_features [] s.features ≡ Ok written
+    → written_of s ≡ Ok written
+unfolding with_features
+nothing-more s written none read = rw (read, none) refl
+
+pub none-viewed : (fs : List FeatureShape) → (length fs == 0) ≡ true → feature_views fs ≡ []
+none-viewed [] h = refl
+none-viewed (f ∷ fs) h = absurd (let k = eqb-true (suc (length fs)) 0 h in omega (arith, k))

@@ -82,21 +82,33 @@ pub(crate) fn unless_null<'t, 'a>(value: Tree<'t, 'a>) -> Option<Tree<'t, 'a>>
     if is_null(&value) { None } else { Some(value) }
 }
 
-/// Puts a value to those at its key.
+/// Puts a value to those at its key: those of dependencies first, for a line has one of each and several dependencies.
 fn put<'t, 'a>(values: &mut Values<'t, 'a>, key: &str, value: Option<Tree<'t, 'a>>)
     ensures { (at : List ℕ → Option Data) → values_view values.old ≡ values_by at
         → values_view values.new ≡ values_by (value_put key.now (option_map tree_view value.entry) at) }
 {
     if key == "name" {
         values.name = value;
-    } else if key == "vers" {
-        values.version = value;
-    } else if key == "cksum" {
-        values.checksum = value;
-    } else if key == "deps" {
-        values.dependencies = value;
+    } else if key == "req" {
+        values.requirement = value;
     } else if key == "features" {
         values.features = value;
+    } else if key == "optional" {
+        values.optional = value;
+    } else if key == "default_features" {
+        values.default_features = value;
+    } else if key == "kind" {
+        values.kind = value;
+    } else if key == "package" {
+        values.package = value;
+    } else if key == "registry" {
+        values.registry = value;
+    } else if key == "vers" {
+        values.version = value;
+    } else if key == "deps" {
+        values.dependencies = value;
+    } else if key == "cksum" {
+        values.checksum = value;
     } else if key == "features2" {
         values.features2 = value;
     } else if key == "yanked" {
@@ -105,17 +117,5 @@ fn put<'t, 'a>(values: &mut Values<'t, 'a>, key: &str, value: Option<Tree<'t, 'a
         values.format = value;
     } else if key == "rust_version" {
         values.rust_version = value;
-    } else if key == "kind" {
-        values.kind = value;
-    } else if key == "package" {
-        values.package = value;
-    } else if key == "req" {
-        values.requirement = value;
-    } else if key == "optional" {
-        values.optional = value;
-    } else if key == "default_features" {
-        values.default_features = value;
-    } else if key == "registry" {
-        values.registry = value;
     }
 }

@@ -47,7 +47,7 @@ fn written(alloc: Global, line: &LineShape<'_>) -> Result<Vec<(FeatureName, Vec<
     ensures rising { IfOk result (λ v. AreRising v.items) }
 {
     let written = first_features(alloc, &line.features)?;
-    if line.features2.is_empty() {
+    if line.features2.as_slice().is_empty() {
         return Ok(written);
     }
     let written = with_features(alloc, map_of(alloc, written)?, &line.features2)?;
