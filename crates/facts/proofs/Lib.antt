@@ -1,5 +1,6 @@
 pub mod Mapped
 pub mod LoopLemmas
+pub mod RowRules
 pub mod NumbersLemmas
 pub mod Numbers
 pub mod Members

@@ -151,9 +151,9 @@ fn features_rules(
     ensures { OnOk result (rules.new.items
         ≡ rules.old.items ++ features_rules (numbers_views packages.now) (numbers_view node.now) table.now) }
 {
-    'rows: for (name, _) in table.iter() {
+    'rows: for (name, entries) in table.iter() {
         let fact = number_on(node, name.as_str());
-        entries_rules(rules, packages, node, fact, table.entries(name))?;
+        entries_rules(rules, packages, node, fact, entries.as_slice())?;
     }
     Ok(())
 }
