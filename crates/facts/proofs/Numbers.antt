@@ -1,10 +1,11 @@
 -- Which fact each number stands for: facts and numbers are one to one.
 use Rattle.std.proofs.Common.{◌≡◌, ℕ, zero, suc, ◌+◌, List, [], ◌∷◌, ◌++◌, map, length, Bool, true, false, cond, Option}
-use Rattle.std.proofs.Common.{Some, None, slice_get, is_some, option_and_then, refl, sym, ap, ap₂, ◌∙◌, subst, inl, inr}
-use Rattle.std.proofs.Common.{◌⊎◌, arith}
+use Rattle.std.proofs.Common.{Some, None, slice_get, is_some, option_and_then, option_map, refl, sym, ap, ap₂, ◌∙◌, subst}
+use Rattle.std.proofs.Common.{arith}
 use Rattle.std.proofs.lemmas.List.{length-append, append_assoc}
 use Rattle.model.specs.Summary.{Dependency, Table, same_text, has_feature, entries_at}
 use Rattle.model.proofs.Same.{text-same}
+use Rattle.features.specs.Places.{place_of}
 use Rattle.facts.specs.Graphs.{NodeView}
 use Rattle.facts.specs.FactNumbers.{LinkView, FactNumbersView, number_in, links_from, links_called, IsNumberedFrom}
 
@@ -40,58 +41,87 @@ module _ {X : Type 0} where
   get_later [] y z ys = refl
   get_later (x ∷ xs) y z ys = get_later xs y z ys
 
+  get_behind : (xs ys : List X) (i : ℕ) → slice_get (xs ++ ys) (length xs + i) ≡ slice_get ys i
+  get_behind [] ys i = let e : 0 + i ≡ i = omega arith in ap (slice_get ys) e
+  get_behind (x ∷ xs) ys i =
+      let e : suc (length xs) + i ≡ suc (length xs + i) = omega arith in
+      ap (slice_get (x ∷ xs ++ ys)) e ∙ get_behind xs ys i
+
   one_more : (xs : List X) (y : X) (ys : List X) → (xs ++ y ∷ []) ++ ys ≡ xs ++ y ∷ ys
   one_more xs y ys = append_assoc xs (y ∷ []) ys
 
   long : (xs : List X) (y : X) → length (xs ++ y ∷ []) ≡ suc (length xs)
   long xs y = length-append xs (y ∷ []) ∙ omega arith
 
--- the number of a feature is that of the fact that it is on
-feature_there : (n : ℕ) (f : List ℕ) (front : List Mark) (o : Option ℕ) (rows : Table) (rest : List Mark) (k : ℕ)
-    → number_in (length front) o f rows ≡ Some k
-    → (o ≡ Some k)
-    ⊎ ((slice_get (front ++ (on_marks n rows ++ rest)) k ≡ Some (is_on n f)) × (has_feature rows f ≡ true))
-feature_there n f front o [] rest k e = inl e
-feature_there n f front o (row ∷ rows) rest k e = by (same_text f row.0) refl
-    (feature_there n f (front ++ is_on n row.0 ∷ []) (cond (same_text f row.0) (Some (length front)) o) rows rest k
-    (ap (λ m. number_in m (cond (same_text f row.0) (Some (length front)) o) f rows) (long front (is_on n row.0)) ∙ e))
-  where
-    same : (front ++ is_on n row.0 ∷ []) ++ (on_marks n rows ++ rest) ≡ front ++ (on_marks n (row ∷ rows) ++ rest)
-    same = one_more front (is_on n row.0) (on_marks n rows ++ rest)
+-- what stands at the place of a feature
+abbrev IsThere : ℕ → List ℕ → Table → List Mark → ℕ → Type 0
+IsThere n f rows rest i =
+    (slice_get (on_marks n rows ++ rest) i ≡ Some (is_on n f)) × (has_feature rows f ≡ true)
 
-    by : (b : Bool) → same_text f row.0 ≡ b
-        → (cond b (Some (length front)) o ≡ Some k)
-        ⊎ ((slice_get ((front ++ is_on n row.0 ∷ []) ++ (on_marks n rows ++ rest)) k ≡ Some (is_on n f))
-        × (has_feature rows f ≡ true))
-        → (o ≡ Some k) ⊎ ((slice_get (front ++ (on_marks n (row ∷ rows) ++ rest)) k ≡ Some (is_on n f))
-        × (has_feature (row ∷ rows) f ≡ true))
-    by true x (inl is) =
-        let at : length front ≡ k = cc in
-        inr (
-          subst (λ m. slice_get (front ++ (on_marks n (row ∷ rows) ++ rest)) m ≡ Some (is_on n f)) at
-              (get_next front (is_on n row.0) (on_marks n rows ++ rest)
-              ∙ ap (λ g. Some (is_on n g)) (sym (text-same f row.0 x))),
+place_there : (n : ℕ) (f : List ℕ) (rows : Table) (rest : List Mark) (i : ℕ) → place_of f rows ≡ Some i
+    → IsThere n f rows rest i
+place_there n f [] rest i e = let z : None ≡ Some i = e in absurd cc
+place_there n f (row ∷ rows) rest i e = by (same_text f row.0) refl e (place_there n f rows rest)
+  where
+    later : (o : Option ℕ) → same_text f row.0 ≡ false → option_map suc o ≡ Some i
+        → ((j : ℕ) → o ≡ Some j → IsThere n f rows rest j) → IsThere n f (row ∷ rows) rest i
+    later None x e h = let z : None ≡ Some i = e in absurd cc
+    later (Some j) x e h =
+        let at : suc j ≡ i = cc in
+        let r = h j refl in (
+          subst (λ m. slice_get (on_marks n (row ∷ rows) ++ rest) m ≡ Some (is_on n f)) at r.0,
+          ap (λ b. is_some (cond b (Some row.1) (entries_at f rows))) x ∙ r.1,
+        )
+
+    by : (b : Bool) → same_text f row.0 ≡ b → cond b (Some 0) (option_map suc (place_of f rows)) ≡ Some i
+        → ((j : ℕ) → place_of f rows ≡ Some j → IsThere n f rows rest j) → IsThere n f (row ∷ rows) rest i
+    by true x e h =
+        let at : 0 ≡ i = cc in (
+          subst (λ m. slice_get (on_marks n (row ∷ rows) ++ rest) m ≡ Some (is_on n f)) at
+              (ap (λ g. Some (is_on n g)) (sym (text-same f row.0 x))),
           ap (λ b. is_some (cond b (Some row.1) (entries_at f rows))) x,
         )
-    by true x (inr r) =
-        inr (ap (λ ms. slice_get ms k) (sym same) ∙ r.0, ap (λ b. is_some (cond b (Some row.1) (entries_at f rows))) x)
-    by false x (inl is) = inl is
-    by false x (inr r) = inr (
-      ap (λ ms. slice_get ms k) (sym same) ∙ r.0,
-      ap (λ b. is_some (cond b (Some row.1) (entries_at f rows))) x ∙ r.1,
-    )
+    by false x e h = later (place_of f rows) x e h
 
--- a feature without a number doesn't exist
-feature_absent : (f : List ℕ) (k : ℕ) (o : Option ℕ) (rows : Table) → number_in k o f rows ≡ None
-    → (o ≡ None) × (has_feature rows f ≡ false)
-feature_absent f k o [] e = (e, refl)
-feature_absent f k o (row ∷ rows) e =
-    by (same_text f row.0) refl (feature_absent f (suc k) (cond (same_text f row.0) (Some k) o) rows e)
+-- the number of a feature is that of the fact that it is on
+feature_there : (n : ℕ) (f : List ℕ) (front : List Mark) (rows : Table) (rest : List Mark) (k : ℕ)
+    → number_in (length front) f rows ≡ Some k
+    → (slice_get (front ++ (on_marks n rows ++ rest)) k ≡ Some (is_on n f)) × (has_feature rows f ≡ true)
+feature_there n f front rows rest k e = by (place_of f rows) refl e
   where
-    by : (b : Bool) → same_text f row.0 ≡ b → (cond b (Some k) o ≡ None) × (has_feature rows f ≡ false)
-        → (o ≡ None) × (has_feature (row ∷ rows) f ≡ false)
-    by true x (a, h) = let z : Some k ≡ None = a in absurd (cc)
-    by false x (a, h) = (a, ap (λ b. is_some (cond b (Some row.1) (entries_at f rows))) x ∙ h)
+    by : (o : Option ℕ) → place_of f rows ≡ o → option_map (λ i. length front + i) o ≡ Some k
+        → (slice_get (front ++ (on_marks n rows ++ rest)) k ≡ Some (is_on n f)) × (has_feature rows f ≡ true)
+    by None z e = let w : None ≡ Some k = e in absurd cc
+    by (Some i) z e =
+        let at : length front + i ≡ k = cc in
+        let r = place_there n f rows rest i z in (
+          subst (λ m. slice_get (front ++ (on_marks n rows ++ rest)) m ≡ Some (is_on n f)) at
+              (get_behind front (on_marks n rows ++ rest) i ∙ r.0),
+          r.1,
+        )
+
+-- a feature without a place doesn't exist
+place_absent : (f : List ℕ) (rows : Table) → place_of f rows ≡ None → has_feature rows f ≡ false
+place_absent f [] e = refl
+place_absent f (row ∷ rows) e = by (same_text f row.0) refl e (place_absent f rows)
+  where
+    before : (o : Option ℕ) → option_map suc o ≡ None → o ≡ None
+    before None e = refl
+    before (Some j) e = let z : Some (suc j) ≡ None = e in absurd cc
+
+    by : (b : Bool) → same_text f row.0 ≡ b → cond b (Some 0) (option_map suc (place_of f rows)) ≡ None
+        → (place_of f rows ≡ None → has_feature rows f ≡ false) → has_feature (row ∷ rows) f ≡ false
+    by true x e h = let z : Some 0 ≡ None = e in absurd cc
+    by false x e h =
+        ap (λ b. is_some (cond b (Some row.1) (entries_at f rows))) x ∙ h (before (place_of f rows) e)
+
+-- nor does one without a number
+feature_absent : (f : List ℕ) (k : ℕ) (rows : Table) → number_in k f rows ≡ None → has_feature rows f ≡ false
+feature_absent f k rows e = place_absent f rows (before (place_of f rows) e)
+  where
+    before : (o : Option ℕ) → option_map (λ i. k + i) o ≡ None → o ≡ None
+    before None e = refl
+    before (Some j) e = let z : Some (k + j) ≡ None = e in absurd cc
 
 -- what is known of the dependency with a number
 pub record IsLink (marks : List Mark) (n : ℕ) (targets : List (Option ℕ)) (i : ℕ) (d : Dependency)
@@ -176,13 +206,11 @@ numbered front n x p rest h =
       lacks = ap (slice_get (front ++ (block n x ++ rest))) h.lacks
           ∙ get_later front (is_here n) (lacking n) (tail ++ rest);
       on = λ f k e.
-          let e2 : number_in (length two) None f rows ≡ Some k =
-          ap (λ m. number_in m None f rows) long_two ∙ sym (h.numbers f) ∙ e in
-          elim (feature_there n f two None rows (enabled_marks n 0 ds ++ rest) k e2) [
-            | inl z ↦ (let w : None ≡ Some k = z in absurd cc)
-            | inr r ↦ (ap (λ ms. slice_get ms k) (sym ons) ∙ r.0, r.1)
-          ];
-      absent = λ f e. (feature_absent f (suc (suc (length front))) None rows (sym (h.numbers f) ∙ e)).1;
+          let e2 : number_in (length two) f rows ≡ Some k =
+          ap (λ m. number_in m f rows) long_two ∙ sym (h.numbers f) ∙ e in
+          let r = feature_there n f two rows (enabled_marks n 0 ds ++ rest) k e2 in
+          (ap (λ ms. slice_get ms k) (sym ons) ∙ r.0, r.1);
+      absent = λ f e. feature_absent f (suc (suc (length front))) rows (sym (h.numbers f) ∙ e);
       link = λ i d e.
           let r = link_there n x.targets three 0 ds rest i d e in
           let at : 0 + i ≡ i = omega arith in (

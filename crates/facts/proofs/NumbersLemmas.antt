@@ -1,5 +1,5 @@
 -- How facts get their numbers, step by step.
-use Rattle.std.proofs.Common.{◌≡◌, ℕ, suc, ◌+◌, List, [], ◌∷◌, ◌++◌, length, Bool, true, false, cond, Option, Some}
+use Rattle.std.proofs.Common.{◌≡◌, ℕ, ◌+◌, List, [], ◌∷◌, ◌++◌, length, Bool, true, false, cond, Option, Some}
 use Rattle.std.proofs.Common.{None, Vec, Ordering, Less, Equal, Greater, refl, sym, ap, ap₂, ◌∙◌, subst, true≢false}
 use Rattle.std.proofs.Common.{arith}
 use Rattle.std.specs.Borrow.{Bor}
@@ -10,16 +10,14 @@ use Rattle.std.specs.Cmp.Lexicographic.{slice_cmp, texts_ties}
 use Rattle.std.specs.declared.alloc.Global.{Global}
 use Rattle.std.proofs.lemmas.Map.Lookups.{exact_bytes}
 use Rattle.std.proofs.lemmas.List.{length-append, append_assoc, append-nil, map-append}
-use Rattle.features.specs.Tables.{rows_of}
 use Rattle.features.specs.Texts.{borrowed_cmp}
 use Rattle.features.specs.TextMaps.{at_text}
-use Rattle.features.specs.declared.entry.Entry.{Entry}
 use Rattle.features.proofs.TextMaps.{at_text-get}
 use Rattle.model.specs.Summary.{same_text}
 use Rattle.model.proofs.Same.{text-same}
 use Rattle.facts.specs.Graphs.{NodeView}
 use Rattle.facts.specs.declared.fact_numbers.Link.{Link}
-use Rattle.facts.specs.FactNumbers.{number_in, unmarked_for, link_view, link_views, links_if, links_called}
+use Rattle.facts.specs.FactNumbers.{unmarked_for, link_view, link_views, links_if, links_called}
 use Rattle.facts.specs.FactNumbers.{flags_of, flags_of_all, FactNumbersView, IsNumberedFrom, AreNumberedFrom}
 
 shadowed : {X : Type 0} (b : Bool) (v w : X) (o : Option X) → cond b (Some v) o ≡ cond b (Some v) (cond b (Some w) o)
@@ -60,20 +58,6 @@ pub flag_more : {X : Type 0} (marked more whole : List Bool) (x : X) (xs : List 
     → more ++ unmarked_for xs ≡ whole
 flag_more marked more whole x xs told is =
     ap (λ m. m ++ unmarked_for xs) is ∙ append_assoc marked (false ∷ []) (unmarked_for xs) ∙ told
-
-length_more : (marked more : List Bool) (b : Bool) → more ≡ marked ++ b ∷ [] → length more ≡ suc (length marked)
-length_more marked more b is = ap length is ∙ length-append marked (b ∷ []) ∙ omega arith
-
--- one more feature has its number
-pub number_more : (f : List ℕ) (marked more : List Bool) (es fs : List (Bor (List ℕ) × ℕ)) (k : Bor (List ℕ))
-    (row : List ℕ × Vec Entry Global) (rows : List (List ℕ × Vec Entry Global))
-    → more ≡ marked ++ false ∷ [] → fs ≡ insert_entry borrowed_cmp es k (length marked) → k.now ≡ row.0
-    → number_in (length more) (at_text fs f) f (rows_of rows)
-    ≡ number_in (length marked) (at_text es f) f (rows_of (row ∷ rows))
-number_more f marked more es fs k row rows is put named =
-    ap₂ (λ n o. number_in n o f (rows_of rows)) (length_more marked more false is)
-    (ap (λ g. at_text g f) put ∙ at_text-insert f es k (length marked)
-    ∙ ap (λ t. cond (same_text f t) (Some (length marked)) (at_text es f)) named)
 
 -- ---- dependencies by name
 

@@ -1,9 +1,10 @@
 -- The numbers of facts: each package has its own, one after another.
-use Rattle.std.specs.Prelude.{◌≡◌, ◌+◌, ℕ, suc, Bool, false, if◌then◌else◌, List, [], ◌∷◌, ◌++◌, map, length, Vec}
-use Rattle.std.specs.Prelude.{Option, None, Some, slice_get, option_and_then}
+use Rattle.std.specs.Prelude.{◌≡◌, ◌+◌, ℕ, suc, Bool, false, List, [], ◌∷◌, ◌++◌, map, length, Vec}
+use Rattle.std.specs.Prelude.{Option, None, Some, slice_get, option_and_then, option_map}
 use Rattle.std.specs.List.{filter, flat_map}
 use Rattle.std.specs.declared.alloc.Global.{Global}
 use Rattle.model.specs.Summary.{Summary, Dependency, Table, same_text}
+use Rattle.features.specs.Places.{place_of}
 use Rattle.features.specs.TextMaps.{at_text}
 use Rattle.features.specs.Views.{dependency_view, brings_view}
 use Rattle.facts.specs.declared.fact_numbers.Link.{Link}
@@ -26,6 +27,10 @@ abbrev pub links_if : Option (Vec Link Global) → List LinkView
 links_if None = []
 links_if (Some v) = link_views v.items
 
+-- the number of a feature of a table, where that of its first is k
+abbrev pub number_in : ℕ → List ℕ → Table → Option ℕ
+number_in k f table = option_map (λ i. k + i) (place_of f table)
+
 pub record FactNumbersView : Type 0 where
   pub brings : Summary
   -- that it is here
@@ -43,18 +48,13 @@ numbers_view p = record {
   brings = brings_view p.brings;
   here = p.here;
   lacks = p.lacks;
-  numbers = λ f. at_text p.features.entries f;
+  numbers = λ f. number_in p.features f (brings_view p.brings).features;
   links = link_views p.links.items;
   called = λ d. links_if (at_text p.called.entries d);
 }
 
 abbrev pub numbers_views : List FactNumbers → List FactNumbersView
 numbers_views ps = map numbers_view ps
-
--- the number of a feature, where the first row has the number k and o was found before
-abbrev pub number_in : ℕ → Option ℕ → List ℕ → Table → Option ℕ
-number_in k o f [] = o
-number_in k o f (row ∷ rows) = number_in (suc k) (if same_text f row.0 then Some k else o) f rows
 
 -- the dependencies with their numbers, where the first of them is dependency i and has the number k
 abbrev pub links_from : ℕ → List (Option ℕ) → ℕ → List Dependency → List LinkView
@@ -71,7 +71,7 @@ pub record IsNumberedFrom (k : ℕ) (x : NodeView) (p : FactNumbersView) : Type 
   pub brings : p.brings ≡ x.brings
   pub here : p.here ≡ k
   pub lacks : p.lacks ≡ suc k
-  pub numbers : (f : List ℕ) → p.numbers f ≡ number_in (suc (suc k)) None f x.brings.features
+  pub numbers : (f : List ℕ) → p.numbers f ≡ number_in (suc (suc k)) f x.brings.features
   pub links : p.links ≡ links_from (suc (suc k) + length x.brings.features) x.targets 0 x.brings.dependencies
   pub called : (d : List ℕ) → p.called d ≡ links_called d p.links
 

@@ -1,5 +1,8 @@
 //! The numbers of a package's facts.
 
+ghost use Rattle.std.specs.Prelude.{◌+◌, ◌<◌, ◌^◌, length};
+ghost use Rattle.features.specs.Views.{brings_view};
+
 use features::{Dependency, Summary};
 use std::collections::BTreeMap;
 
@@ -19,9 +22,10 @@ pub(crate) struct FactNumbers<'a> {
     pub(crate) here: usize,
     /// That a feature is on which it lacks.
     pub(crate) lacks: usize,
-    /// That a feature is on which it has.
-    pub(crate) features: BTreeMap<&'a str, usize>,
+    /// That its first feature is on. Those of the others follow, by their places in the table.
+    pub(crate) features: usize,
     /// Its dependencies by number, and those called so.
     pub(crate) links: Vec<Link<'a>>,
     pub(crate) called: BTreeMap<&'a str, Vec<Link<'a>>>,
+    ghost within: { features + length (brings_view brings).features < 2 ^ 64 },
 }

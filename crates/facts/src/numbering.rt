@@ -1,9 +1,9 @@
 //! Facts get their numbers: each package's one after another.
 
-ghost use Rattle.std.specs.Prelude.{◌≡◌, ◌++◌, ◌∷◌, [], ℕ, List, None, Some, length, map, OnOk, IfOk};
+ghost use Rattle.std.specs.Prelude.{◌≡◌, ◌++◌, ◌∷◌, [], ℕ, List, Some, length, map, OnOk, IfOk};
 ghost use Rattle.features.specs.Views.{dependency_views, brings_view};
 ghost use Rattle.facts.specs.Graphs.{node_view, node_views, target_if};
-ghost use Rattle.facts.specs.FactNumbers.{number_in, link_view, link_views, links_if, links_from};
+ghost use Rattle.facts.specs.FactNumbers.{link_view, link_views, links_if, links_from};
 ghost use Rattle.features.specs.TextMaps.{at_text};
 ghost use Rattle.facts.specs.FactNumbers.{links_called, unmarked_for, flags_of, flags_of_all, numbers_view};
 ghost use Rattle.facts.specs.FactNumbers.{numbers_views, IsNumberedFrom, AreNumberedFrom};
@@ -45,7 +45,8 @@ fn numbers_of<'a>(
     marked.push(node.starts)?;
     let lacks = marked.len();
     marked.push(false)?;
-    let features = features_of(alloc, node.brings, marked)?;
+    let features = marked.len();
+    mark_features(node.brings, marked)?;
     let links = links_of(alloc, node, marked)?;
     let called = by_name(alloc, links.as_slice())?;
     Ok(FactNumbers {
@@ -58,38 +59,24 @@ fn numbers_of<'a>(
     })
 }
 
-/// The numbers of the features that a package has.
-fn features_of<'a>(
-    alloc: Global,
-    brings: Option<&'a Summary>,
-    marked: &mut Vec<bool>,
-) -> Result<BTreeMap<&'a str, usize>, AllocError>
-    ensures marked { OnOk result
+/// A flag for each feature that a package has.
+fn mark_features(brings: Option<&Summary>, marked: &mut Vec<bool>) -> Result<(), AllocError>
+    ensures { OnOk result
         (marked.new.items ≡ marked.old.items ++ unmarked_for (brings_view brings.entry).features) }
-    ensures numbers { IfOk result (λ m. (f : List ℕ)
-        → at_text m.entries f ≡ number_in (length marked.old.items) None f (brings_view brings.entry).features) }
 {
     match brings {
-        Some(summary) => table_numbers(alloc, &summary.features, marked),
-        None => Ok(BTreeMap::new(alloc)),
+        Some(summary) => mark_rows(&summary.features, marked),
+        None => Ok(()),
     }
 }
 
-fn table_numbers<'a>(
-    alloc: Global,
-    table: &'a FeatureTable,
-    marked: &mut Vec<bool>,
-) -> Result<BTreeMap<&'a str, usize>, AllocError>
-    ensures marked { OnOk result (marked.new.items ≡ marked.old.items ++ unmarked_for table.entry.now) }
-    ensures numbers { IfOk result
-        (λ m. (f : List ℕ) → at_text m.entries f ≡ number_in (length marked.old.items) None f table.entry.now) }
+fn mark_rows(table: &FeatureTable, marked: &mut Vec<bool>) -> Result<(), AllocError>
+    ensures { OnOk result (marked.new.items ≡ marked.old.items ++ unmarked_for table.now) }
 {
-    let mut numbers = BTreeMap::new(alloc);
-    'rows: for (name, _) in table.iter() {
-        numbers.insert(name.as_str(), marked.len())?;
+    'rows: for _ in table.iter() {
         marked.push(false)?;
     }
-    Ok(numbers)
+    Ok(())
 }
 
 /// The dependencies of a package by number.

@@ -2,6 +2,7 @@
 
 ghost use Rattle.std.specs.Prelude.{◌≡◌, ◌++◌, ◌||◌, ◌∷◌, [], not, OnOk, IfOk, option_copied, option_map};
 ghost use Rattle.std.specs.List.{flat_map};
+ghost use Rattle.features.specs.Places.{place_of};
 ghost use Rattle.features.specs.Views.{dependency_view};
 ghost use Rattle.features.specs.EntryViews.{entry_view, entry_views};
 ghost use Rattle.facts.specs.FactNumbers.{link_view, link_views, links_if, numbers_view, numbers_views};
@@ -400,9 +401,19 @@ fn one(fact: usize, gives: usize) -> Rule
 fn number_on(node: &FactNumbers<'_>, feature: &str) -> usize
     ensures { result ≡ number_on (numbers_view node.now) feature.now }
 {
-    match node.features.get(feature) {
-        Some(number) => *number,
+    match place_on(node, feature) {
+        Some(place) => node.features + place,
         None => node.lacks,
+    }
+}
+
+/// The place of a feature in the table of a package.
+fn place_on(node: &FactNumbers<'_>, feature: &str) -> Option<usize>
+    ensures { result ≡ place_of feature.now (numbers_view node.now).brings.features }
+{
+    match node.brings {
+        Some(summary) => summary.features.place_of(feature),
+        None => None,
     }
 }
 
