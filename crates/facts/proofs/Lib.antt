@@ -1,6 +1,7 @@
 pub mod Mapped
 pub mod LoopLemmas
 pub mod RowRules
+pub mod ByName
 pub mod NumbersLemmas
 pub mod Numbers
 pub mod Members

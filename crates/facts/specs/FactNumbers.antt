@@ -1,11 +1,9 @@
 -- The numbers of facts: each package has its own, one after another.
-use Rattle.std.specs.Prelude.{◌≡◌, ◌+◌, ℕ, suc, Bool, false, List, [], ◌∷◌, ◌++◌, map, length, Vec}
-use Rattle.std.specs.Prelude.{Option, None, Some, slice_get, option_and_then, option_map}
+use Rattle.std.specs.Prelude.{◌≡◌, ◌+◌, ℕ, suc, Bool, false, List, [], ◌∷◌, ◌++◌, map, length}
+use Rattle.std.specs.Prelude.{Option, slice_get, option_and_then, option_map}
 use Rattle.std.specs.List.{filter, flat_map}
-use Rattle.std.specs.declared.alloc.Global.{Global}
 use Rattle.model.specs.Summary.{Summary, Dependency, Table, same_text}
 use Rattle.features.specs.Places.{place_of}
-use Rattle.features.specs.TextMaps.{at_text}
 use Rattle.features.specs.Views.{dependency_view, brings_view}
 use Rattle.facts.specs.declared.fact_numbers.Link.{Link}
 use Rattle.facts.specs.declared.fact_numbers.FactNumbers.{FactNumbers}
@@ -23,9 +21,9 @@ link_view l = record { dependency = dependency_view l.dependency.now; enabled = 
 abbrev pub link_views : List Link → List LinkView
 link_views ls = map link_view ls
 
-abbrev pub links_if : Option (Vec Link Global) → List LinkView
-links_if None = []
-links_if (Some v) = link_views v.items
+-- those that are called so
+abbrev pub links_called : List ℕ → List LinkView → List LinkView
+links_called d ls = filter (λ l. same_text d l.dependency.name) ls
 
 -- the number of a feature of a table, where that of its first is k
 abbrev pub number_in : ℕ → List ℕ → Table → Option ℕ
@@ -50,7 +48,7 @@ numbers_view p = record {
   lacks = p.lacks;
   numbers = λ f. number_in p.features f (brings_view p.brings).features;
   links = link_views p.links.items;
-  called = λ d. links_if (at_text p.called.entries d);
+  called = λ d. links_called d (link_views p.called.items);
 }
 
 abbrev pub numbers_views : List FactNumbers → List FactNumbersView
@@ -62,9 +60,6 @@ links_from k targets i [] = []
 links_from k targets i (d ∷ ds) =
     record { dependency = d; enabled = k; target = option_and_then (λ o. o) (slice_get targets i) }
     ∷ links_from (suc k) targets (suc i) ds
-
-abbrev pub links_called : List ℕ → List LinkView → List LinkView
-links_called d ls = filter (λ l. same_text d l.dependency.name) ls
 
 -- the numbers of a package's facts begin at k
 pub record IsNumberedFrom (k : ℕ) (x : NodeView) (p : FactNumbersView) : Type 0 where

@@ -2,9 +2,9 @@
 
 ghost use Rattle.std.specs.Prelude.{◌+◌, ◌<◌, ◌^◌, length};
 ghost use Rattle.features.specs.Views.{brings_view};
+ghost use Rattle.facts.specs.ByName.{AreByName};
 
 use features::{Dependency, Summary};
-use std::collections::BTreeMap;
 
 /// A dependency, with the number of the fact that it is enabled and the place to which it leads.
 #[derive(Clone, Copy)]
@@ -24,8 +24,9 @@ pub(crate) struct FactNumbers<'a> {
     pub(crate) lacks: usize,
     /// That its first feature is on. Those of the others follow, by their places in the table.
     pub(crate) features: usize,
-    /// Its dependencies by number, and those called so.
+    /// Its dependencies by number, and in the order of the names that they are called by.
     pub(crate) links: Vec<Link<'a>>,
-    pub(crate) called: BTreeMap<&'a str, Vec<Link<'a>>>,
+    pub(crate) called: Vec<Link<'a>>,
     ghost within: { features + length (brings_view brings).features < 2 ^ 64 },
+    ghost order: { AreByName called.items },
 }

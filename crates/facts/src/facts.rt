@@ -74,7 +74,7 @@ fn here_flags(
 ) -> Result<Vec<bool>, AllocError>
     ensures { IfOk result (λ v. v.items ≡ here_flags marked.now (numbers_views packages.now)) }
 {
-    let mut flags = Vec::new(alloc);
+    let mut flags = Vec::with_capacity(alloc, packages.len())?;
     'packages: for node in packages {
         flags.push(is_marked(marked, node.here))?;
     }
@@ -88,7 +88,7 @@ fn lacks_flags(
 ) -> Result<Vec<bool>, AllocError>
     ensures { IfOk result (λ v. v.items ≡ lacks_flags marked.now (numbers_views packages.now)) }
 {
-    let mut flags = Vec::new(alloc);
+    let mut flags = Vec::with_capacity(alloc, packages.len())?;
     'packages: for node in packages {
         flags.push(is_marked(marked, node.lacks))?;
     }
@@ -102,7 +102,7 @@ fn enabled_flags(
 ) -> Result<Vec<Vec<bool>>, AllocError>
     ensures { IfOk result (λ v. map (λ v. v.items) v.items ≡ enabled_flags marked.now (numbers_views packages.now)) }
 {
-    let mut flags = Vec::new(alloc);
+    let mut flags = Vec::with_capacity(alloc, packages.len())?;
     'packages: for node in packages {
         flags.push(link_flags(alloc, marked, node.links.as_slice())?)?;
     }
@@ -112,7 +112,7 @@ fn enabled_flags(
 fn link_flags(alloc: Global, marked: &[bool], links: &[Link<'_>]) -> Result<Vec<bool>, AllocError>
     ensures { IfOk result (λ v. v.items ≡ link_flags marked.now (link_views links.now)) }
 {
-    let mut flags = Vec::new(alloc);
+    let mut flags = Vec::with_capacity(alloc, links.len())?;
     'links: for link in links {
         flags.push(is_marked(marked, link.enabled))?;
     }

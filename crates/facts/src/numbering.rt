@@ -1,10 +1,11 @@
 //! Facts get their numbers: each package's one after another.
 
-ghost use Rattle.std.specs.Prelude.{◌≡◌, ◌++◌, ◌∷◌, [], ℕ, List, Some, length, map, OnOk, IfOk};
+ghost use Rattle.std.specs.Prelude.{◌≡◌, ◌++◌, ℕ, List, Some, length, map, OnOk, IfOk};
+ghost use Rattle.model.specs.Order.{text_cmp};
 ghost use Rattle.features.specs.Views.{dependency_views, brings_view};
 ghost use Rattle.facts.specs.Graphs.{node_view, node_views, target_if};
-ghost use Rattle.facts.specs.FactNumbers.{link_view, link_views, links_if, links_from};
-ghost use Rattle.features.specs.TextMaps.{at_text};
+ghost use Rattle.facts.specs.ByName.{AreByName, name_of};
+ghost use Rattle.facts.specs.FactNumbers.{link_views, links_from};
 ghost use Rattle.facts.specs.FactNumbers.{links_called, unmarked_for, flags_of, flags_of_all, numbers_view};
 ghost use Rattle.facts.specs.FactNumbers.{numbers_views, IsNumberedFrom, AreNumberedFrom};
 
@@ -12,7 +13,7 @@ use crate::fact_numbers::{FactNumbers, Link};
 use crate::node::Node;
 use features::{Dependency, FeatureTable, Summary};
 use std::alloc::{AllocError, Global};
-use std::collections::BTreeMap;
+use std::cmp::Ordering;
 
 /// The packages with the numbers of their facts. What is marked from the start is put to `marked`, a flag for each
 /// fact.
@@ -25,7 +26,7 @@ pub(crate) fn numbers_of_all<'a>(
     ensures packages { IfOk result
         (λ v. AreNumberedFrom (length marked.old.items) (node_views nodes.now) (numbers_views v.items)) }
 {
-    let mut packages = Vec::new(alloc);
+    let mut packages = Vec::with_capacity(alloc, nodes.len())?;
     'nodes: for node in nodes {
         packages.push(numbers_of(alloc, node, marked)?)?;
     }
@@ -90,8 +91,9 @@ fn links_of<'a>(
     ensures links { IfOk result (λ v. link_views v.items
         ≡ links_from (length marked.old.items) node.now.targets.items 0 (node_view node.now).brings.dependencies) }
 {
-    let mut links = Vec::new(alloc);
-    'dependencies: for (number, dependency) in dependencies_of(node.brings).iter().enumerate() {
+    let dependencies = dependencies_of(node.brings);
+    let mut links = Vec::with_capacity(alloc, dependencies.len())?;
+    'dependencies: for (number, dependency) in dependencies.iter().enumerate() {
         links.push(Link {
             dependency,
             enabled: marked.len(),
@@ -122,35 +124,19 @@ fn target_of(node: &Node<'_>, number: usize) -> Option<usize>
     }
 }
 
-/// The dependencies by the names that they are called by.
-fn by_name<'a>(
-    alloc: Global,
-    links: &[Link<'a>],
-) -> Result<BTreeMap<&'a str, Vec<Link<'a>>>, AllocError>
-    ensures { IfOk result (λ m. (d : List ℕ) → links_if (at_text m.entries d) ≡ links_called d (link_views links.now)) }
+/// The dependencies in the order of the names that they are called by, and those of a name by number.
+fn by_name<'a>(alloc: Global, links: &[Link<'a>]) -> Result<Vec<Link<'a>>, AllocError>
+    ensures order { IfOk result (λ v. AreByName v.items) }
+    ensures called { IfOk result
+        (λ v. (d : List ℕ) → links_called d (link_views v.items) ≡ links_called d (link_views links.now)) }
 {
-    let mut called = BTreeMap::new(alloc);
-    'links: for link in links {
-        put(alloc, &mut called, *link)?;
-    }
+    let mut called = Vec::from_slice(alloc, links)?;
+    called.sort_by(|a, b| name_order(a, b))?;
     Ok(called)
 }
 
-fn put<'a>(
-    alloc: Global,
-    called: &mut BTreeMap<&'a str, Vec<Link<'a>>>,
-    link: Link<'a>,
-) -> Result<(), AllocError>
-    ensures { OnOk result ((d : List ℕ) → links_if (at_text called.new.entries d)
-        ≡ links_if (at_text called.old.entries d) ++ links_called d (link_views (link.entry ∷ []))) }
+fn name_order(a: &Link<'_>, b: &Link<'_>) -> Ordering
+    ensures { result ≡ text_cmp (name_of a.now) (name_of b.now) }
 {
-    let name = link.dependency.name.as_str();
-    if let Some(links) = called.get_mut(name) {
-        links.push(link)?;
-        return Ok(());
-    }
-    let mut links = Vec::new(alloc);
-    links.push(link)?;
-    called.insert(name, links)?;
-    Ok(())
+    a.dependency.name.cmp(&b.dependency.name)
 }

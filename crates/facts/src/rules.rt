@@ -1,11 +1,15 @@
 //! The rules of features, over the numbers of facts.
 
-ghost use Rattle.std.specs.Prelude.{◌≡◌, ◌++◌, ◌||◌, ◌∷◌, [], not, OnOk, IfOk, option_copied, option_map};
+ghost use Rattle.std.specs.Prelude.{◌≡◌, ◌++◌, ◌||◌, ◌∷◌, ◌≤◌, [], true, false, not, OnOk, IfOk, length, option_map};
 ghost use Rattle.std.specs.List.{flat_map};
+ghost use Rattle.std.specs.List.Sorted.{IsPartitionPoint};
+ghost use Rattle.std.specs.Ordering.{is_lt, is_le};
+ghost use Rattle.model.specs.Order.{text_cmp};
 ghost use Rattle.features.specs.Places.{place_of};
 ghost use Rattle.features.specs.Views.{dependency_view};
 ghost use Rattle.features.specs.EntryViews.{entry_view, entry_views};
-ghost use Rattle.facts.specs.FactNumbers.{link_view, link_views, links_if, numbers_view, numbers_views};
+ghost use Rattle.facts.specs.ByName.{AreByName, name_of};
+ghost use Rattle.facts.specs.FactNumbers.{link_view, link_views, numbers_view, numbers_views};
 ghost use Rattle.facts.specs.RuleLists.{one, both, number_on, package_at, ask, ask_features, arrive, need, is_needed};
 ghost use Rattle.facts.specs.RuleLists.{link_rules, enable_all, ask_all, ask_enabled, entry_rules, root_rules};
 ghost use Rattle.facts.specs.RuleLists.{root_entries, root_table, entries_rules, features_rules, table_rules};
@@ -15,6 +19,7 @@ use crate::fact_numbers::{FactNumbers, Link};
 use chains::Rule;
 use features::{Entry, FeatureName, FeatureTable, PackageName};
 use std::alloc::{AllocError, Global};
+use std::cmp::Ordering;
 
 /// The rules of all packages, of which the one at the place `root` is the root.
 pub(crate) fn rules_of(
@@ -250,11 +255,40 @@ fn root_rules(
     }
 }
 
-/// The dependencies called so, if there are any.
-fn called_so<'a, 'b>(node: &'a FactNumbers<'b>, name: &PackageName) -> Option<&'a Vec<Link<'b>>>
-    ensures { links_if (option_copied result) ≡ (numbers_view node.now).called name.now }
+/// The dependencies called so: they lie side by side.
+fn called_so<'a, 'b>(node: &'a FactNumbers<'b>, name: &PackageName) -> &'a [Link<'b>]
+    ensures { link_views result.now ≡ (numbers_view node.now).called name.now }
 {
-    node.called.get(name.as_str())
+    let called = node.called.as_slice();
+    let rest = &called[before(called, name)..];
+    &rest[..up_to(rest, name)]
+}
+
+/// How many are called by names before this one.
+fn before(links: &[Link<'_>], name: &PackageName) -> usize
+    requires { AreByName links.now }
+    ensures few { result ≤ length links.now }
+    ensures place { IsPartitionPoint (λ l. is_lt (text_cmp (name_of l) name.now) ≡ true)
+        (λ l. is_lt (text_cmp (name_of l) name.now) ≡ false) links.now result }
+{
+    links.partition_point(|link| order_beside(link, name).is_lt())
+}
+
+/// How many aren't called by names behind this one.
+fn up_to(links: &[Link<'_>], name: &PackageName) -> usize
+    requires { AreByName links.now }
+    ensures few { result ≤ length links.now }
+    ensures place { IsPartitionPoint (λ l. is_le (text_cmp (name_of l) name.now) ≡ true)
+        (λ l. is_le (text_cmp (name_of l) name.now) ≡ false) links.now result }
+{
+    links.partition_point(|link| order_beside(link, name).is_le())
+}
+
+/// Where the name that a dependency is called by stands beside another.
+fn order_beside(link: &Link<'_>, name: &PackageName) -> Ordering
+    ensures { result ≡ text_cmp (name_of link.now) name.now }
+{
+    link.dependency.name.cmp(name)
 }
 
 /// The fact enables each dependency called so.
@@ -267,10 +301,7 @@ fn enable_called(
     ensures { OnOk result
         (rules.new.items ≡ rules.old.items ++ enable_all fact ((numbers_view node.now).called name.now)) }
 {
-    match called_so(node, name) {
-        Some(links) => enable_all(rules, fact, links.as_slice()),
-        None => Ok(()),
-    }
+    enable_all(rules, fact, called_so(node, name))
 }
 
 /// The fact asks the target of each dependency called so for a feature.
@@ -285,10 +316,13 @@ fn ask_called(
     ensures { OnOk result (rules.new.items ≡ rules.old.items
         ++ ask_all (numbers_views packages.now) fact ((numbers_view node.now).called name.now) feature.now) }
 {
-    match called_so(node, name) {
-        Some(links) => ask_all(rules, packages, fact, links.as_slice(), feature.as_str()),
-        None => Ok(()),
-    }
+    ask_all(
+        rules,
+        packages,
+        fact,
+        called_so(node, name),
+        feature.as_str(),
+    )
 }
 
 /// The same of those that are enabled.
@@ -303,10 +337,13 @@ fn ask_weakly(
     ensures { OnOk result (rules.new.items ≡ rules.old.items
         ++ ask_enabled (numbers_views packages.now) fact ((numbers_view node.now).called name.now) feature.now) }
 {
-    match called_so(node, name) {
-        Some(links) => ask_enabled(rules, packages, fact, links.as_slice(), feature.as_str()),
-        None => Ok(()),
-    }
+    ask_enabled(
+        rules,
+        packages,
+        fact,
+        called_so(node, name),
+        feature.as_str(),
+    )
 }
 
 /// The fact enables each of these dependencies.
