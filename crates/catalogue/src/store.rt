@@ -156,7 +156,7 @@ fn candidate_in<'a>(candidates: &'a Candidates, version: &Version) -> Option<&'a
 fn places_by_rank(alloc: Global, candidates: &Candidates) -> Result<Vec<u32>, AllocError>
     ensures { IfOk result (λ v. v.items ≡ places_by_rank (map (λ c. c.1) (candidates_view candidates.now))) }
 {
-    let mut order = Vec::new(alloc);
+    let mut order = Vec::with_capacity(alloc, candidates.candidates.len())?;
     add_rank(&mut order, candidates.candidates.as_slice(), Rank::Locked)?;
     add_rank(&mut order, candidates.candidates.as_slice(), Rank::Fits)?;
     add_rank(&mut order, candidates.candidates.as_slice(), Rank::Rest)?;
