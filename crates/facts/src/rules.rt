@@ -137,6 +137,7 @@ fn table_rules(
     is_root: bool,
     table: &FeatureTable,
 ) -> Result<(), AllocError>
+    requires { (numbers_view node.now).brings.features ≡ table.now }
     ensures { OnOk result (rules.new.items
         ≡ rules.old.items ++ table_rules (numbers_views packages.now) is_root (numbers_view node.now) table.now) }
 {
@@ -147,19 +148,21 @@ fn table_rules(
     Ok(())
 }
 
-/// What the features of a table do.
+/// What the features of a table do: the numbers of their facts follow one another.
 fn features_rules(
     rules: &mut Vec<Rule>,
     packages: &[FactNumbers<'_>],
     node: &FactNumbers<'_>,
     table: &FeatureTable,
 ) -> Result<(), AllocError>
+    requires { (numbers_view node.now).brings.features ≡ table.now }
     ensures { OnOk result (rules.new.items
         ≡ rules.old.items ++ features_rules (numbers_views packages.now) (numbers_view node.now) table.now) }
 {
-    'rows: for (name, entries) in table.iter() {
-        let fact = number_on(node, name.as_str());
+    let mut fact = node.features;
+    'rows: for (_, entries) in table.iter() {
         entries_rules(rules, packages, node, fact, entries.as_slice())?;
+        fact += 1;
     }
     Ok(())
 }
