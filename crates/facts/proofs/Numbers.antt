@@ -1,6 +1,7 @@
 -- Which fact each number stands for: facts and numbers are one to one.
 use Rattle.std.proofs.Common.{◌≡◌, ℕ, zero, suc, ◌+◌, List, [], ◌∷◌, ◌++◌, map, length, Bool, true, false, cond, Option}
-use Rattle.std.proofs.Common.{Some, None, slice_get, is_some, option_and_then, option_map, refl, sym, ap, ap₂, ◌∙◌, subst}
+use Rattle.std.proofs.Common.{Some, None, slice_get, is_some, option_and_then, option_map, refl, sym, ap, ap₂, ◌∙◌}
+use Rattle.std.proofs.Common.{subst}
 use Rattle.std.proofs.Common.{arith}
 use Rattle.std.proofs.lemmas.List.{length-append, append_assoc}
 use Rattle.model.specs.Summary.{Dependency, Table, same_text, has_feature, entries_at}
