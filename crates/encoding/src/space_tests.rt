@@ -50,7 +50,7 @@ pub(crate) fn left_tests(
     ensures { IfOk result
         (λ v. v.items ≡ true ∷ map (λ w. is_left (requirement_view requirement.now) (parts_of w)) versions.now) }
 {
-    let mut tests = Vec::new(alloc);
+    let mut tests = Vec::with_capacity(alloc, versions.len().saturating_add(1))?;
     tests.push(true)?;
     'versions: for version in versions.iter() {
         tests.push(is_left(requirement, version))?;
@@ -67,7 +67,7 @@ pub(crate) fn taken_tests(
     ensures { IfOk result
         (λ v. v.items ≡ false ∷ map (λ w. matches_views (requirement_view requirement.now) (parts_of w)) versions.now) }
 {
-    let mut tests = Vec::new(alloc);
+    let mut tests = Vec::with_capacity(alloc, versions.len().saturating_add(1))?;
     tests.push(false)?;
     'versions: for version in versions.iter() {
         tests.push(is_matched(requirement, version))?;
@@ -84,7 +84,7 @@ pub(crate) fn chosen_tests(
     ensures { IfOk result
         (λ v. v.items ≡ false ∷ map (λ w. is_chosen (parts_of chosen.now) (parts_of w)) versions.now) }
 {
-    let mut tests = Vec::new(alloc);
+    let mut tests = Vec::with_capacity(alloc, versions.len().saturating_add(1))?;
     tests.push(false)?;
     'versions: for version in versions.iter() {
         tests.push(is_chosen(chosen, version))?;
@@ -103,7 +103,7 @@ pub(crate) fn lacking_tests(
     ensures { IfOk result (λ v. v.items
         ≡ true ∷ map (λ w. is_lacking (problem known.now) name.now feature.now (parts_of w)) versions.now) }
 {
-    let mut tests = Vec::new(alloc);
+    let mut tests = Vec::with_capacity(alloc, versions.len().saturating_add(1))?;
     tests.push(true)?;
     'versions: for version in versions.iter() {
         tests.push(is_lacking(known, name, feature, version))?;
@@ -115,7 +115,7 @@ pub(crate) fn lacking_tests(
 pub(crate) fn no_class(alloc: Global, classes: &[Class]) -> Result<Vec<bool>, AllocError>
     ensures { IfOk result (λ v. v.items ≡ true ∷ map (λ k. false) classes.now) }
 {
-    let mut tests = Vec::new(alloc);
+    let mut tests = Vec::with_capacity(alloc, classes.len().saturating_add(1))?;
     tests.push(true)?;
     'classes: for _class in classes.iter() {
         tests.push(false)?;
@@ -131,7 +131,7 @@ pub(crate) fn class_tests(
 ) -> Result<Vec<bool>, AllocError>
     ensures { IfOk result (λ v. v.items ≡ false ∷ map (λ k. is_class (class_view class) (class_view k)) classes.now) }
 {
-    let mut tests = Vec::new(alloc);
+    let mut tests = Vec::with_capacity(alloc, classes.len().saturating_add(1))?;
     tests.push(false)?;
     'classes: for other in classes.iter() {
         tests.push(is_class(class, *other))?;

@@ -81,7 +81,7 @@ fn two_states(
 ) -> Result<TestedTerm<'_>, AllocError>
     ensures { IfOk result (λ p. tested_view p ≡ (vertex_ref_view vertex.entry, not present ∷ present ∷ [])) }
 {
-    let mut tests = Vec::new(alloc);
+    let mut tests = Vec::with_capacity(alloc, 2)?;
     tests.push(!present)?;
     tests.push(present)?;
     Ok(TestedTerm { vertex, tests })
