@@ -1,4 +1,6 @@
+pub mod LexLemmas
 pub mod ReadLemmas
 pub mod TokenLemmas
 pub mod TreeLemmas
 pub mod RisingLemmas
+pub mod WordLemmas
