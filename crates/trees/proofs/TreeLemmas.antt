@@ -3,7 +3,7 @@ use Rattle.std.proofs.Common.{◌≡◌, ℕ, zero, suc, List, [], ◌∷◌, Bo
 use Rattle.std.proofs.Common.{◌++◌, is_some, unwrap_or, Ok, option_map, option_and_then, Ordering, Less, Equal}
 use Rattle.std.proofs.Common.{Greater, bytes_eq, Bor, refl, sym, ap, ◌∙◌, true≢false, subst}
 use Rattle.std.proofs.lemmas.Slice.Eq.{bytes_eq-Decides}
-use Rattle.std.specs.Option.{ok_or}
+use Rattle.std.specs.Option.{ok_or, option_or}
 use Rattle.std.specs.BTreeMap.{insert_entry}
 use Rattle.std.specs.Ordering.{nat_cmp, match_ordering}
 use Rattle.std.specs.Cmp.Lexicographic.{slice_cmp}
@@ -79,31 +79,27 @@ read-of text j e is = ap (option_and_then of_json) (is_read (json_of_text text) 
 
 -- ---- looking up
 
-abbrev or_before : Option Data → Option Data → Option Data
-or_before None before = before
-or_before (Some d) before = Some d
-
 last_put : (b : Bool) (key k : List ℕ) (j : json.Json) (found : Members) → bytes_eq k key ≡ b
     → get_member key (put k (data_of j) found)
-    ≡ or_before (option_map data_of (cond b (Some j) None)) (get_member key found)
+    ≡ option_or (option_map data_of (cond b (Some j) None)) (get_member key found)
 last_put true key k j found same = subst (λ q. get_member q (put k (data_of j) found) ≡ Some (data_of j))
     ((bytes_eq-Decides k key).0 same) (get_member-put k (data_of j) found)
 last_put false key k j found other = get_member-put_other key k (data_of j) found
     (λ same. true≢false (sym ((bytes_eq-Decides k key).1 (sym same)) ∙ other))
 
 later : (o : Option json.Json) (key k : List ℕ) (j : json.Json) (found : Members)
-    → or_before (option_map data_of o) (get_member key (put k (data_of j) found))
-    ≡ or_before (option_map data_of (find.later_or o (cond (bytes_eq k key) (Some j) None))) (get_member key found)
+    → option_or (option_map data_of o) (get_member key (put k (data_of j) found))
+    ≡ option_or (option_map data_of (find.later_or o (cond (bytes_eq k key) (Some j) None))) (get_member key found)
 later None key k j found = last_put (bytes_eq k key) key k j found refl
 later (Some x) key k j found = refl
 
-get_member-of : (key : List ℕ) (ms : json.Members) (found : Members) → get_member key (members_of ms found)
-    ≡ or_before (option_map data_of (find.get_member key ms)) (get_member key found)
+pub get_member-of : (key : List ℕ) (ms : json.Members) (found : Members) → get_member key (members_of ms found)
+    ≡ option_or (option_map data_of (find.get_member key ms)) (get_member key found)
 get_member-of key json.no_members found = refl
 get_member-of key (json.member k j ms) found =
     get_member-of key ms (put k (data_of j) found) ∙ later (find.get_member key ms) key k j found
 
-or_none : (o : Option Data) → or_before o None ≡ o
+pub or_none : (o : Option Data) → option_or o None ≡ o
 or_none None = refl
 or_none (Some d) = refl
 

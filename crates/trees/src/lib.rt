@@ -18,6 +18,7 @@ mod fault;
 mod listing;
 mod looking;
 mod number;
+mod parts;
 mod reading;
 mod tree;
 
@@ -28,5 +29,6 @@ pub use looking::{
     Members, are_rising, as_flag, as_list, as_members, as_text, as_whole, by_key, is_null, item,
     member,
 };
+pub use parts::{lines_are_read_by_parts, lines_have_what_parts_have};
 pub use reading::{read_tape, root};
 pub use tree::{Elements, Entries, Tree};

@@ -1,0 +1,39 @@
+//! A line of the index is what its parts are.
+//!
+//! Half of the lines of a file have the very bytes of the line before as dependencies and as features. So it is stated
+//! here that a line is read by its parts, each as a text of its own: what these bytes were read as once they are again.
+
+ghost use Rattle.std.specs.Prelude.{◌≡◌, ◌≢◌, ℕ, ◌∷◌, List, Some, true, is_some};
+ghost use Rattle.std.specs.Option.{option_or};
+ghost use Rattle.json.specs.Json as json;
+ghost use Rattle.json.specs.Lex.{tokens};
+ghost use Rattle.serde_json.specs.Data.{Data, Members, no_members, object};
+ghost use Rattle.serde_json.specs.Find.{get_member};
+ghost use Rattle.trees.specs.Parts.{data_within, first_members, is_plain, line_of, part_depth};
+ghost use Rattle.trees.specs.Tokens.{json_from};
+ghost use Rattle.trees.specs.Trees.{data_of_bytes, members_of};
+
+/// A line of plain texts, of dependencies and features that are read on their own, and of a rest that is read as an
+/// object's once `{` (123) stands before it, is read as the members of all these. The rest has to have members: behind
+/// the comma before it one has to follow.
+pub fn lines_are_read_by_parts()
+    ensures { (name version deps checksum features rest : List ℕ) (d f : Data) (ms : json.Members)
+        → is_plain name ≡ true → is_plain version ≡ true → is_plain checksum ≡ true
+        → data_within part_depth deps ≡ Some d → data_within part_depth features ≡ Some f
+        → is_some (data_of_bytes (123 ∷ rest)) ≡ true → json_from (tokens (123 ∷ rest)) ≡ json.object ms
+        → ms ≢ json.no_members
+        → data_of_bytes (line_of name version deps checksum features rest)
+        ≡ Some (object (members_of ms (first_members name version d checksum f))) }
+{}
+
+/// The same by what the rest is read as: at each key such a line has what the rest has there, and else what its first
+/// members are.
+pub fn lines_have_what_parts_have()
+    ensures { (name version deps checksum features rest : List ℕ) (d f : Data) (others : Members)
+        → is_plain name ≡ true → is_plain version ≡ true → is_plain checksum ≡ true
+        → data_within part_depth deps ≡ Some d → data_within part_depth features ≡ Some f
+        → data_of_bytes (123 ∷ rest) ≡ Some (object others) → others ≢ no_members
+        → (all : Members) × (data_of_bytes (line_of name version deps checksum features rest) ≡ Some (object all))
+        × ((key : List ℕ) → get_member key all
+        ≡ option_or (get_member key others) (get_member key (first_members name version d checksum f))) }
+{}
