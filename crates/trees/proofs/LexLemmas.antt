@@ -178,15 +178,15 @@ module _ (rest : List ℕ) (ended : ends_word rest ≡ true) where
 
   in_text : (q b o s l : Bool) (x : ℕ) (xs : List ℕ)
       → Found (cond q (Some []) (cond b (content after_backslash xs)
-          (cond l None (prepend (x ∷ []) (content plain xs)))))
+      (cond l None (prepend (x ∷ []) (content plain xs)))))
       → Splits between xs → (Found (content after_backslash xs) → Splits in_escape xs)
       → (Found (content plain xs) → Splits in_string xs)
       → are_good (lex_byte in_string (cond q quote (cond b backslash (cond o operator (cond s space other)))) x xs
-          (λ n. lex n xs)) ≡ true
+      (λ n. lex n xs)) ≡ true
       → lex_byte in_string (cond q quote (cond b backslash (cond o operator (cond s space other)))) x (xs ++ rest)
-          (λ n. lex n (xs ++ rest))
+      (λ n. lex n (xs ++ rest))
       ≡ lex_byte in_string (cond q quote (cond b backslash (cond o operator (cond s space other)))) x xs
-          (λ n. lex n xs) ++ lex between rest
+      (λ n. lex n xs) ++ lex between rest
   in_text true b o s l x xs h outside escaped inside good = outside good
   in_text false true o s l x xs h outside escaped inside good = escaped h good
   in_text false false o s true x xs h outside escaped inside good = absurd (false≢true h)
@@ -204,7 +204,7 @@ module _ (rest : List ℕ) (ended : ends_word rest ≡ true) where
 
   after_unit : (o : Option ℕ) (xs : List ℕ)
       → Found (option_and_then (λ u. cond (is_high_surrogate u) (content (after_high u) xs)
-          (cond (is_low_surrogate u) None (prepend (encode_utf8 u) (content plain xs)))) o)
+      (cond (is_low_surrogate u) None (prepend (encode_utf8 u) (content plain xs)))) o)
       → ((u : ℕ) → Found (content (after_high u) xs) → Splits in_string xs)
       → (Found (content plain xs) → Splits in_string xs) → Splits in_string xs
   after_unit None xs h f g = absurd (false≢true h)
@@ -283,6 +283,6 @@ module _ (rest : List ℕ) (ended : ends_word rest ≡ true) where
     inside (after_high h) (s ∷ u ∷ a ∷ b ∷ c ∷ d ∷ xs) e =
         let p = paired h s u a b c d xs e in
         let skip = λ (ys : List ℕ). lex-backslash s (u ∷ a ∷ b ∷ c ∷ d ∷ ys) p.backslash
-            ∙ lex-escape u (a ∷ b ∷ c ∷ d ∷ ys) ∙ lex-unit a b c d ys p.unit in
+        ∙ lex-escape u (a ∷ b ∷ c ∷ d ∷ ys) ∙ lex-unit a b c d ys p.unit in
         as_from in_string in_string (s ∷ u ∷ a ∷ b ∷ c ∷ d ∷ xs) xs (skip xs) (skip (xs ++ rest))
         (inside plain xs p.behind)

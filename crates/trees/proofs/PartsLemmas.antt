@@ -96,14 +96,14 @@ module _ (n v c : List ℕ) (n_plain : is_plain n ≡ true) (v_plain : is_plain 
   before_deps : (r : List ℕ)
       → tokens (codes "{\"name\":\"" ++ (n ++ (codes "\",\"vers\":\"" ++ (v ++ (codes "\",\"deps\":" ++ r)))))
       ≡ begin_object ∷ key (codes "name") ∷ string n ∷ key (codes "vers") ∷ string v ∷ key (codes "deps")
-        ∷ punctuate fresh (lex between r)
+      ∷ punctuate fresh (lex between r)
   unfolding lex content punctuate
   before_deps r =
       let behind = codes ",\"deps\":" ++ r in
       ap (λ ls. punctuate fresh (token begin_object ∷ token (string (codes "name")) ∷ colon ∷ ls))
       (lex-plain n (codes ",\"vers\":\"" ++ (v ++ 34 ∷ behind)) n_plain)
       ∙ ap (λ ls. punctuate fresh (token begin_object ∷ token (string (codes "name")) ∷ colon ∷ token (string n) ∷ comma
-        ∷ token (string (codes "vers")) ∷ colon ∷ ls)) (lex-plain v behind v_plain)
+      ∷ token (string (codes "vers")) ∷ colon ∷ ls)) (lex-plain v behind v_plain)
 
   -- from behind the dependencies up to the features
   before_features : (r : List ℕ)
@@ -190,7 +190,7 @@ module _ (n v deps c features rest : List ℕ) (d f t : Data) (ms : json.Members
       let last = rest-behind_comma rest ms some (rest-tokens rest ms (rest_read.spelt ∙ ap json_tokens rest_is)) in
       before_deps n v c n_plain v_plain c_plain (deps ++ 44 ∷ third)
       ∙ ap (λ ts. begin_object ∷ key (codes "name") ∷ string n ∷ key (codes "vers") ∷ string v ∷ key (codes "deps")
-        ∷ ts)
+      ∷ ts)
       (value-before_comma deps third deps_read.part deps_read.spelt
       ∙ ap (λ ts. json_tokens deps_read.part ++ ts) (before_features n v c n_plain v_plain c_plain behind
       ∙ ap (λ ts. key (codes "cksum") ∷ string c ∷ key (codes "features") ∷ ts)

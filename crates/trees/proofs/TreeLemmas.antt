@@ -1,9 +1,9 @@
 -- What is looked up in a tree is what the value that it stands for has there.
 use Rattle.std.proofs.Common.{◌≡◌, ℕ, zero, suc, List, [], ◌∷◌, Bool, true, false, cond, ◌&&◌, Option, Some, None}
-use Rattle.std.proofs.Common.{◌++◌, is_some, unwrap_or, Ok, option_map, option_and_then, Ordering, Less, Equal}
+use Rattle.std.proofs.Common.{◌++◌, is_some, unwrap_or, option_map, option_and_then, Ordering, Less, Equal}
 use Rattle.std.proofs.Common.{Greater, bytes_eq, Bor, refl, sym, ap, ◌∙◌, true≢false, subst}
 use Rattle.std.proofs.lemmas.Slice.Eq.{bytes_eq-Decides}
-use Rattle.std.specs.Option.{ok_or, option_or}
+use Rattle.std.specs.Option.{option_or}
 use Rattle.std.specs.BTreeMap.{insert_entry}
 use Rattle.std.specs.Ordering.{nat_cmp, match_ordering}
 use Rattle.std.specs.Cmp.Lexicographic.{slice_cmp}
@@ -13,10 +13,9 @@ use Rattle.json.specs.Find as find
 use Rattle.serde_json.specs.Data.{Num, Data, number, array, object, Items, no_items, item, Members, no_members, put}
 use Rattle.serde_json.specs.Find.{get, get_member, get_item, at, as_str, as_bool, as_array, as_object, as_number}
 use Rattle.serde_json.specs.Find.{as_u64}
-use Rattle.serde_json.specs.Read.{number_of, of_json, of_items, of_members, read}
+use Rattle.serde_json.specs.Read.{number_of, of_json, of_items, of_members}
 use Rattle.serde_json.proofs.Views.{get_member-put, get_member-put_other}
-use Rattle.trees.specs.declared.fault.TreeFault.{TreeFault}
-use Rattle.trees.specs.Trees.{json_of_text, numbers_fit, items_fit, members_fit, data_of, items_of, members_of}
+use Rattle.trees.specs.Trees.{numbers_fit, items_fit, members_fit, data_of, items_of, members_of}
 use Rattle.trees.specs.Trees.{num_of, is_null, tokens_view, tree_view, trees_view, put_all, sorted_view}
 use Rattle.trees.specs.Tokens.{begins}
 use Rattle.trees.specs.declared.tree.Tree.{Tree}
@@ -68,14 +67,6 @@ mutual
       ap (λ o. option_and_then (λ d. of_members ms (put k d found)) o) (of_json-fits j)
       ∙ a_member (numbers_fit j) (members_fit ms) (data_of j) (λ d. of_members ms (put k d found))
       (members_of ms (put k (data_of j) found)) (of_members-fits ms (put k (data_of j) found))
-
-is_read : (o : Option json.Json) (j : json.Json) (e : TreeFault) → ok_or o e ≡ Ok j → o ≡ Some j
-is_read None j e is = cc
-is_read (Some k) j e is = cc
-
-pub read-of : (text : List ℕ) (j : json.Json) (e : TreeFault) → ok_or (json_of_text text) e ≡ Ok j
-    → read text ≡ if_fits (numbers_fit j) (data_of j)
-read-of text j e is = ap (option_and_then of_json) (is_read (json_of_text text) j e is) ∙ of_json-fits j
 
 -- ---- looking up
 

@@ -15,10 +15,13 @@ is_plain_byte b = nat_le 32 b && nat_le b 126 && not (b == 34) && not (b == 92)
 abbrev pub is_plain : List ℕ → Bool
 is_plain text = list_all is_plain_byte text
 
--- what `serde_json` reads, if arrays and objects nest no deeper than this
+-- the JSON that a text is, whatever its numbers are, if arrays and objects nest no deeper than this
+abbrev pub json_within : ℕ → List ℕ → Option json.Json
+json_within depth text = option_and_then (λ p. json.if_last p.0 p.1) (json.value depth (tokens text))
+
+-- what `serde_json` reads off such a text, and off bytes
 abbrev pub read_within : ℕ → List ℕ → Option Data
-read_within depth text =
-    option_and_then of_json (option_and_then (λ p. json.if_last p.0 p.1) (json.value depth (tokens text)))
+read_within depth text = option_and_then of_json (json_within depth text)
 
 abbrev pub data_within : ℕ → List ℕ → Option Data
 data_within depth bytes = of_utf8 (read_within depth) bytes

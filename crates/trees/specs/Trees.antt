@@ -1,16 +1,15 @@
 -- What a value in a text of JSON stands for: the value that `serde_json` reads there, where of a key that comes twice
 -- the last stays.
 use Rattle.std.specs.Prelude.{◌≡◌, ℕ, Bool, true, false, ◌&&◌, negsuc, List, [], ◌∷◌, Option, Some, None, is_some}
-use Rattle.std.specs.Prelude.{unwrap_or, option_and_then}
+use Rattle.std.specs.Prelude.{unwrap_or}
 use Rattle.std.specs.Borrow.{Bor}
 use Rattle.std.specs.Ordering.{is_lt, nat_cmp}
 use Rattle.std.specs.Cmp.Lexicographic.{slice_cmp}
 use Rattle.json.specs.Json as json
 use Rattle.json.specs.Token.{Token}
-use Rattle.json.specs.Lex.{tokens}
 use Rattle.serde_json.specs.Data.{Num, negative, Data, null, boolean, number, string, array, object, Items, no_items}
 use Rattle.serde_json.specs.Data.{item, Members, no_members, member, put}
-use Rattle.serde_json.specs.Read.{number_of, max_depth, read}
+use Rattle.serde_json.specs.Read.{number_of, read}
 use Rattle.model.specs.Optional.{of_utf8}
 use Rattle.trees.specs.Tokens.{json_from, items_from, members_from}
 use Rattle.trees.specs.declared.fault.TreeFault.{TreeFault}
@@ -26,10 +25,6 @@ wants_memory NotJson = false
 -- the value that `serde_json` reads off bytes
 abbrev pub data_of_bytes : List ℕ → Option Data
 data_of_bytes bytes = of_utf8 read bytes
-
--- the JSON that a text is, whatever its numbers are
-abbrev pub json_of_text : List ℕ → Option json.Json
-json_of_text text = option_and_then (λ p. json.if_last p.0 p.1) (json.value max_depth (tokens text))
 
 -- each number is one that can be kept: none is beyond the floats
 abbrev mutual

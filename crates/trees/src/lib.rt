@@ -30,5 +30,5 @@ pub use looking::{
     member,
 };
 pub use parts::{lines_are_read_by_parts, lines_have_what_parts_have};
-pub use reading::{read_tape, root};
+pub use reading::{read_tape, read_tape_within, root};
 pub use tree::{Elements, Entries, Tree};
