@@ -1,5 +1,7 @@
 pub mod ReadLemmas
 pub mod PartLemmas
+pub mod CutLemmas
+pub mod ByPartsLemmas
 pub mod PathLemmas
 pub mod WrittenLemmas
 pub mod MadeLemmas

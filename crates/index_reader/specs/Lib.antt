@@ -5,6 +5,7 @@ pub mod Written
 pub mod Made
 pub mod Records
 pub mod Known
+pub mod ByParts
 pub mod Reasons
 pub mod Files
 pub mod Views

@@ -32,6 +32,7 @@ mod parts;
 mod path;
 mod record;
 mod shape;
+mod split;
 mod values;
 mod written;
 
