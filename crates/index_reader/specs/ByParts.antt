@@ -1,59 +1,99 @@
 -- A line that is read by its parts, so that what the line before has too need not be read again.
-use Rattle.std.specs.Prelude.{ℕ, ◌≡◌, Bool, true, false, ◌&&◌, List, [], ◌∷◌, Option, Some, is_some, is_none}
+use Rattle.std.specs.Prelude.{ℕ, ◌≡◌, Bool, true, false, not, ◌==◌, ◌&&◌, ◌||◌, List, [], ◌∷◌, Option, Some, is_none}
 use Rattle.std.specs.Prelude.{Ok, codes}
 use Rattle.std.specs.List.{list_all}
+use Rattle.std.specs.Option.{ok_or}
+use Rattle.semver.specs.Parse.{version_parts}
 use Rattle.serde_json.specs.Data.{Data}
 use Rattle.serde_json.specs.Find.{get}
 use Rattle.model.specs.Outcome.{◌>>=◌}
 use Rattle.model.specs.Summary as model
-use Rattle.model.specs.Tables.{DepName}
+use Rattle.model.specs.Summary.{Table}
+use Rattle.model.specs.Tables.{DepName, table_of}
+use Rattle.features.specs.Names.{is_package_name}
 use Rattle.trees.specs.Parts.{data_within, is_plain, line_of, part_depth}
-use Rattle.trees.specs.Trees.{data_of_bytes}
-use Rattle.index_reader.specs.Made.{Makes}
-use Rattle.index_reader.specs.Records.{dependencies_read, is_of_index, required}
-use Rattle.index_reader.specs.Shapes.{DependencyView, FeatureView, features_or_none, flag_at, needed_dependencies}
-use Rattle.index_reader.specs.Shapes.{rust_version_at, unless_null, whole_at}
-use Rattle.index_reader.specs.Written.{dep_names_of}
+use Rattle.index_reader.specs.Records.{RecordView, dependencies_read, is_of_index, required, semver_or, unless}
+use Rattle.index_reader.specs.Shapes.{Line, DependencyView, FeatureView, data_of_bytes, features_or_none, flag_at}
+use Rattle.index_reader.specs.Shapes.{needed_dependencies, rust_version_at, unless_null, whole_at}
+use Rattle.index_reader.specs.Written.{dep_names_of, unless_faulty, with_features}
+use Rattle.index_reader.specs.declared.fault.LineFault.TheVariants.{Skipped}
+use Rattle.index_reader.specs.declared.fault.SkipReason.TheVariants as reason
 use Rattle.index_reader.specs.declared.split.LineParts.{LineParts}
 
 -- a line of a package is cut into these parts
 pub record IsCut (name : List ℕ) (p : LineParts) (line : List ℕ) : Type 0 where
+  pub named : is_package_name name ≡ true
   pub whole : line ≡ line_of name p.version.now p.dependencies.now p.checksum.now p.features.now p.rest.now
   pub version : is_plain p.version.now ≡ true
   pub checksum : is_plain p.checksum.now ≡ true
 
--- bytes that are read on their own as the dependencies of a line, which are called so and are of this index
-pub record AreDependencies (bytes : List ℕ) (names : List DepName) (dependencies : List model.Dependency) : Type 0 where
-  pub value : Data
-  pub read : data_within part_depth bytes ≡ Some value
-  pub shapes : List DependencyView
-  pub shaped : needed_dependencies (unless_null (Some value)) ≡ Ok shapes
-  pub named : names ≡ dep_names_of shapes
-  pub said : (required shapes >>= dependencies_read) ≡ Ok dependencies
-  pub own : list_all is_of_index shapes ≡ true
+-- what bytes are that are to stand at a key of a line
+abbrev pub part_of_bytes : List ℕ → Line Data
+part_of_bytes bytes = ok_or (data_within part_depth bytes) (Skipped reason.NotJson)
 
--- bytes that are read on their own as the features of a line, which make this table where dependencies are called so
-pub record AreFeatures (bytes : List ℕ) (names : List DepName) (table : model.Table) : Type 0 where
-  pub value : Data
-  pub read : data_within part_depth bytes ≡ Some value
-  pub features : List FeatureView
-  pub shaped : features_or_none (unless_null (Some value)) ≡ Ok features
-  pub makes : Makes names features [] table
+-- the dependencies that take part of these
+abbrev pub dependencies_of_shapes : List DependencyView → Line (List model.Dependency)
+dependencies_of_shapes shapes = required shapes >>= dependencies_read
 
--- the rest of a line says nothing of what stands before it, nor of further features
+-- the dependencies of such bytes, and what those of each kind are called
+unfoldable pub dependencies_of_bytes : List ℕ → Line (List DepName × List model.Dependency)
+dependencies_of_bytes bytes = do
+  d ← part_of_bytes bytes
+  shapes ← needed_dependencies (unless_null (Some d))
+  registries ← unless (list_all is_of_index shapes) reason.OtherRegistry
+  dependencies ← dependencies_of_shapes shapes
+  Ok (dep_names_of shapes, dependencies)
+
+-- the table that features make with no further ones, where dependencies are called so
+abbrev pub table_alone : List DepName → List FeatureView → Line Table
+table_alone names features = with_features [] features >>= λ written. unless_faulty (table_of names written)
+
+-- the table of the features of such bytes
+unfoldable pub table_of_bytes : List DepName → List ℕ → Line Table
+table_of_bytes names bytes = do
+  d ← part_of_bytes bytes
+  features ← features_or_none (unless_null (Some d))
+  table_alone names features
+
+-- what a line says behind its features
+pub record RestView : Type 0 where
+  pub yanked : Bool
+  pub format : ℕ
+  pub rust_version : Option (ℕ × ℕ × ℕ)
+
 abbrev pub lacks : List ℕ → Data → Bool
 lacks key rest = is_none (get key rest)
 
+-- it says nothing again that stands before it, and has no further features
 abbrev pub lacks_parts : Data → Bool
 lacks_parts rest = lacks (codes "name") rest && (lacks (codes "vers") rest && (lacks (codes "deps") rest
     && (lacks (codes "cksum") rest && (lacks (codes "features") rest && lacks (codes "features2") rest))))
 
--- bytes that are read as the rest of a line, once `{` (123) stands before them
-pub record IsRest (bytes : List ℕ) (yanked : Bool) (format : ℕ) (rust_version : Option (ℕ × ℕ × ℕ)) : Type 0 where
-  pub rest : Data
-  pub read : data_of_bytes (123 ∷ bytes) ≡ Some rest
-  pub some : is_some (get (codes "yanked") rest) ≡ true
-  pub others : lacks_parts rest ≡ true
-  pub yanked_is : flag_at (codes "yanked") false rest ≡ Ok yanked
-  pub format_is : whole_at (codes "v") 1 rest ≡ Ok format
-  pub rust_version_is : rust_version_at rest ≡ rust_version
+unfoldable pub rest_of : Data → Line RestView
+rest_of rest = do
+  yanked_there ← unless (not (lacks (codes "yanked") rest)) reason.Shape
+  parts_not_there ← unless (lacks_parts rest) reason.Shape
+  yanked ← flag_at (codes "yanked") false rest
+  format ← whole_at (codes "v") 1 rest
+  Ok (record { yanked = yanked; format = format; rust_version = rust_version_at rest })
+
+-- the bytes of a rest are an object's once `{` (123) stands before them
+abbrev pub rest_of_bytes : List ℕ → Line RestView
+rest_of_bytes bytes = data_of_bytes (123 ∷ bytes) >>= rest_of
+
+-- what a line says by its parts
+unfoldable pub record_of_parts : LineParts → Line RecordView
+record_of_parts line = do
+  rest ← rest_of_bytes line.rest.now
+  format ← unless (rest.format == 1 || rest.format == 2) reason.NewerFormat
+  version ← semver_or reason.BadVersion (version_parts line.version.now)
+  dependencies ← dependencies_of_bytes line.dependencies.now
+  table ← table_of_bytes dependencies.0 line.features.now
+  Ok (record {
+    version = version;
+    checksum = line.checksum.now;
+    yanked = rest.yanked;
+    rust_version = rest.rust_version;
+    brings =
+        record { dependencies = dependencies.1; features = table };
+  })

@@ -98,10 +98,10 @@ fn texts_in(alloc: Global, bytes: &[u8]) -> Result<Vec<&[u8]>, AllocError>
 
 /// What a file of these lines says.
 #[tactic(auto, unfolding(crate::specs::Files::with_lines))]
-fn read_texts(
+fn read_texts<'a>(
     alloc: Global,
     name: &PackageName,
-    texts: &[&[u8]],
+    texts: &[&'a [u8]],
     scratch: &mut Scratch,
     known: &mut KnownDependencies,
 ) -> Result<FileSoFar, AllocError>
@@ -118,18 +118,18 @@ fn read_texts(
 }
 
 /// A file with one more line.
-fn with_line(
+fn with_line<'a>(
     alloc: Global,
     name: &PackageName,
     number: u64,
-    text: &[u8],
+    text: &'a [u8],
     file: FileSoFar,
     scratch: &mut Scratch,
     known: &mut KnownDependencies,
-    before: &mut LineBefore,
+    before: &mut LineBefore<'a>,
 ) -> Result<FileSoFar, AllocError>
     ensures { IfOk result (λ f. file_view f.records.items f.skips.items
-        ≡ with_line name.now number text.now (file_view file.records.items file.skips.items)) }
+        ≡ with_line name.now number text.entry.now (file_view file.records.items file.skips.items)) }
 {
     if is_blank(text) {
         return Ok(file);

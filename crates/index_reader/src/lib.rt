@@ -17,6 +17,8 @@
 //! memory was wanting. No two records of a file have equal precedence, and each feature table knows its features.
 #![tactic(auto)]
 
+mod brought;
+mod by_parts;
 mod disk;
 mod fail_at;
 mod fault;
@@ -31,6 +33,7 @@ mod opened;
 mod parts;
 mod path;
 mod record;
+mod rest;
 mod shape;
 mod split;
 mod values;

@@ -1,6 +1,6 @@
 //! Reading a line.
 
-ghost use Rattle.std.specs.Prelude.{◌≡◌, ◌≢◌, ◌⊎◌, IfOk, unwrap_or};
+ghost use Rattle.std.specs.Prelude.{◌≡◌, ◌≢◌, ◌⊎◌, IfOk, IfSome, Ok, unwrap_or};
 ghost use Rattle.std.specs.List.{list_all};
 ghost use Rattle.semver.specs.Grammar.{IsValid};
 ghost use Rattle.semver.specs.Identifiers.{parts_of};
@@ -15,6 +15,7 @@ ghost use Rattle.index_reader.specs.Records.{unchecked_of_shape, unchecked_of_li
 ghost use Rattle.index_reader.specs.ShapeViews.{line_dependency_view, line_dependency_views, part_view, shape_view};
 ghost use Rattle.index_reader.specs.Views.{record_view, required_view, required_views};
 
+use crate::by_parts::read_by_parts;
 use crate::fault::{LineFault, SkipReason};
 use crate::known::{KnownDependencies, PartAgain, RequirementRead};
 use crate::made::{LineBefore, features_after};
@@ -61,19 +62,44 @@ pub fn read_line(alloc: Global, name: &PackageName, line: &[u8]) -> Result<Recor
 
 /// The same, whatever the checksum is, with room and a feature table that are kept from line to line.
 #[tactic(auto, unfolding(crate::specs::Records::unchecked_of_line))]
-pub(crate) fn read_unchecked(
+pub(crate) fn read_unchecked<'a>(
     alloc: Global,
     name: &PackageName,
-    line: &[u8],
+    line: &'a [u8],
     scratch: &mut Scratch,
     known: &mut KnownDependencies,
-    before: &mut LineBefore,
+    before: &mut LineBefore<'a>,
 ) -> Result<Record, LineFault>
-    ensures { Gives wants_memory record_view result (unchecked_of_line name.now line.now) }
+    ensures { Gives wants_memory record_view result (unchecked_of_line name.now line.entry.now) }
 {
+    if let Some(record) = record_by_parts(alloc, name, line, scratch, known, before)? {
+        return Ok(record);
+    }
     let tape = read_json(alloc, line, scratch)?;
     let shape = read_shape(alloc, &root(&tape))?;
     record_in(alloc, name, &shape, known, before)
+}
+
+/// The record that a line is by its parts, if it can be read so. Else it is read as a whole, which also tells why it is
+/// none.
+fn record_by_parts<'a>(
+    alloc: Global,
+    name: &PackageName,
+    line: &'a [u8],
+    scratch: &mut Scratch,
+    known: &mut KnownDependencies,
+    before: &mut LineBefore<'a>,
+) -> Result<Option<Record>, AllocError>
+    ensures { IfOk result (λ o. IfSome o (λ r. unchecked_of_line name.now line.entry.now ≡ Ok (record_view r))) }
+{
+    let Some(before) = before.parts() else {
+        return Ok(None);
+    };
+    match read_by_parts(alloc, name, line, scratch, known, before) {
+        Ok(record) => Ok(Some(record)),
+        Err(LineFault::Skipped(_)) => Ok(None),
+        Err(LineFault::OutOfMemory) => Err(AllocError),
+    }
 }
 
 #[tactic(auto, unfolding(crate::specs::Records::unchecked_of_shape))]
@@ -82,7 +108,7 @@ fn record_in(
     name: &PackageName,
     shape: &LineShape<'_>,
     known: &mut KnownDependencies,
-    before: &mut LineBefore,
+    before: &mut LineBefore<'_>,
 ) -> Result<Record, LineFault>
     ensures { Gives wants_memory record_view result (unchecked_of_shape name.now (shape_view shape.now)) }
 {
@@ -108,7 +134,7 @@ fn record_in(
     })
 }
 
-fn check(passes: bool, why: SkipReason) -> Result<(), LineFault>
+pub(crate) fn check(passes: bool, why: SkipReason) -> Result<(), LineFault>
     ensures { Gives wants_memory (λ u. u) result (unless passes why) }
 {
     if passes {
@@ -118,7 +144,7 @@ fn check(passes: bool, why: SkipReason) -> Result<(), LineFault>
     }
 }
 
-fn version(alloc: Global, text: &str) -> Result<Version, LineFault>
+pub(crate) fn version(alloc: Global, text: &str) -> Result<Version, LineFault>
     ensures read { Gives wants_memory parts_of result (semver_or SkipReason.BadVersion (version_parts text.now)) }
     ensures valid { IfOk result (λ v. IsValid (parts_of v)) }
 {
@@ -160,7 +186,7 @@ fn fault_of(e: semver::Error, why: SkipReason) -> LineFault
 
 /// The dependencies that take part, with their requirements.
 #[tactic(auto, unfolding(crate::specs::Records::required))]
-fn requirements<'a>(
+pub(crate) fn requirements<'a>(
     alloc: Global,
     shapes: &'a [DependencyShape<'a>],
     known: &KnownDependencies,
@@ -196,7 +222,7 @@ fn part_required<'a>(
 
 /// The dependencies, of which those that weren't known are now.
 #[tactic(auto, unfolding(crate::specs::Records::dependencies_read))]
-fn dependencies(
+pub(crate) fn dependencies(
     alloc: Global,
     parts: Vec<Required<'_>>,
     known: &mut KnownDependencies,
@@ -277,7 +303,7 @@ fn feature_names(alloc: Global, texts: &[&str]) -> Result<Vec<FeatureName>, Line
 
 /// A dependency of another registry is one of another index.
 #[tactic(auto, using(crate::proofs::ReadLemmas::views))]
-fn check_registries(dependencies: &[DependencyShape<'_>]) -> Result<(), LineFault>
+pub(crate) fn check_registries(dependencies: &[DependencyShape<'_>]) -> Result<(), LineFault>
     ensures { Gives wants_memory (λ u. u) result
         (unless (list_all is_of_index (line_dependency_views dependencies.now)) SkipReason.OtherRegistry) }
 {

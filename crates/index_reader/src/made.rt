@@ -13,6 +13,7 @@ ghost use Rattle.features.specs.Views.{text_views};
 ghost use Rattle.index_reader.specs.ShapeViews.{feature_view, feature_views, line_dependency_views, shape_view};
 ghost use Rattle.index_reader.specs.Written.{dep_names_of, features_of};
 
+use crate::by_parts::PartsBefore;
 use crate::fault::LineFault;
 use crate::shape::{FeatureShape, LineShape};
 use crate::written::{dep_names, features};
@@ -40,18 +41,31 @@ struct MadeTable {
 
 /// The line before, as far as the next one goes by it.
 #[derive(Drop)]
-pub(crate) struct LineBefore {
+pub(crate) struct LineBefore<'a> {
+    /// What its parts said, for a line that is written as a registry's.
+    parts: PartsBefore<'a>,
+    /// The table of a line that was read as a whole.
     made: Option<MadeTable>,
     /// Whether there may be a next one: what a line is made of isn't kept for none.
     has_next: bool,
 }
 
-impl LineBefore {
+impl<'a> LineBefore<'a> {
     /// No line yet of a file of so many lines, the last of which may be empty.
-    pub(crate) fn none(lines: usize) -> LineBefore {
+    pub(crate) fn none(lines: usize) -> LineBefore<'a> {
         LineBefore {
+            parts: PartsBefore::none(),
             made: None,
             has_next: lines > 2,
+        }
+    }
+
+    /// What its parts said, where there may be a next one.
+    pub(crate) fn parts(&mut self) -> Option<&mut PartsBefore<'a>> {
+        if self.has_next {
+            Some(&mut self.parts)
+        } else {
+            None
         }
     }
 }
@@ -60,7 +74,7 @@ impl LineBefore {
 pub(crate) fn features_after(
     alloc: Global,
     line: &LineShape<'_>,
-    before: &mut LineBefore,
+    before: &mut LineBefore<'_>,
 ) -> Result<FeatureTable, LineFault>
     ensures { Gives wants_memory (λ t. t) result (features_of (shape_view line.now)) }
 {
@@ -158,7 +172,7 @@ pub(crate) fn kept_texts(alloc: Global, texts: &[&str]) -> Result<Vec<NameText>,
 }
 
 /// Whether these names are the same, and the same of them optional.
-fn are_names(known: &[DepName], names: &[DepName]) -> bool
+pub(crate) fn are_names(known: &[DepName], names: &[DepName]) -> bool
     ensures { IsTrue result → dep_names_view known.now ≡ dep_names_view names.now }
 {
     known.len() == names.len() && all_names(known, names)

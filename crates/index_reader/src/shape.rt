@@ -75,7 +75,7 @@ pub(crate) fn read_shape<'a>(alloc: Global, line: &Tree<'_, 'a>) -> Result<LineS
     let name = needed_text(&values.name)?;
     let version = needed_text(&values.version)?;
     let checksum = needed_text(&values.checksum)?;
-    let dependencies = dependencies(alloc, &values.dependencies)?;
+    let dependencies = needed_dependencies(alloc, &values.dependencies)?;
     let features = features_if_any(alloc, &values.features)?;
     let features2 = features_if_any(alloc, &values.features2)?;
     let yanked = flag(&values.yanked, false)?;
@@ -94,7 +94,7 @@ pub(crate) fn read_shape<'a>(alloc: Global, line: &Tree<'_, 'a>) -> Result<LineS
 }
 
 /// The Rust version of a line: whatever is none counts as absent.
-fn rust_version(found: &Option<Tree<'_, '_>>) -> Option<RustVersion>
+pub(crate) fn rust_version(found: &Option<Tree<'_, '_>>) -> Option<RustVersion>
     ensures { option_map rust_version_view result ≡ rust_version_in (option_map tree_view found.now) }
 {
     match found {
@@ -245,7 +245,8 @@ fn dependencies_in<'t, 'a>(
     Ok(found)
 }
 
-fn dependencies<'a>(
+/// Dependencies that have to be there.
+pub(crate) fn needed_dependencies<'a>(
     alloc: Global,
     found: &Option<Tree<'_, 'a>>,
 ) -> Result<Vec<DependencyShape<'a>>, LineFault>
@@ -308,7 +309,7 @@ fn features_by_key<'a>(
 }
 
 /// Features: none where they are absent.
-fn features_if_any<'a>(
+pub(crate) fn features_if_any<'a>(
     alloc: Global,
     found: &Option<Tree<'_, 'a>>,
 ) -> Result<Vec<FeatureShape<'a>>, LineFault>

@@ -1,9 +1,9 @@
 //! Cutting a line into its parts.
 //!
-//! A registry writes each line in one way, with no blanks: the name, the version, the dependencies, the checksum and the
-//! features in this order, then whether it is yanked, and the rest. Such a line is cut here with no look into its
-//! dependencies and features, for half of the lines have those of the line before. A cut may be wrong, as the texts that
-//! stand between the parts may stand in one: then what was cut off isn't read on its own.
+//! A registry writes each line in one way, with no blanks: the name, the version, the dependencies, the checksum and
+//! the features in this order, then whether it is yanked, and the rest. Such a line is cut here with no look into its
+//! dependencies and features, for half of the lines have those of the line before. A cut may be wrong, as the texts
+//! that stand between the parts may stand in one: then what was cut off isn't read on its own.
 
 ghost use Rattle.std.specs.Prelude.{◌≡◌, ◌≤◌, ◌++◌, IfSome, length, true};
 ghost use Rattle.trees.specs.Parts.{is_plain, is_plain_byte};

@@ -1,11 +1,13 @@
 //! What values of JSON have to be.
 
 ghost use Rattle.std.specs.Prelude.{None, option_and_then, option_map};
+ghost use Rattle.std.specs.Option.{ok_or};
 ghost use Rattle.serde_json.specs.Find.{as_bool, as_str};
 ghost use Rattle.model.specs.Outcome.{Gives};
 ghost use Rattle.index_reader.specs.Shapes.{wants_memory, as_whole, data_of_bytes, needed, text_of};
 ghost use Rattle.index_reader.specs.Shapes.{optional, texts_in, texts_of, texts_or_none};
 ghost use Rattle.features.specs.Views.{text_views};
+ghost use Rattle.trees.specs.Parts.{data_within, part_depth};
 ghost use Rattle.trees.specs.Trees.{items_of, left_items, tokens_view, tree_view};
 
 use crate::fault::{LineFault, SkipReason};
@@ -13,7 +15,11 @@ use json::{Scratch, Tape};
 use std::alloc::Global;
 use trees::{
     Elements, Tree, TreeFault, as_flag, as_text, as_whole, elements, next_element, read_tape,
+    read_tape_within,
 };
+
+/// How deep arrays and objects nest at most in what a line has at a key: one level less than in the line.
+const PART_DEPTH: usize = 126;
 
 /// The JSON value that the bytes are, as its tokens.
 pub(crate) fn read_json<'a>(
@@ -24,6 +30,22 @@ pub(crate) fn read_json<'a>(
     ensures { Gives wants_memory tokens_view result (data_of_bytes bytes.entry.now) }
 {
     match read_tape(alloc, bytes, scratch) {
+        Ok(tape) => Ok(tape),
+        Err(TreeFault::OutOfMemory) => Err(LineFault::OutOfMemory),
+        Err(TreeFault::NotJson) => Err(LineFault::Skipped(SkipReason::NotJson)),
+    }
+}
+
+/// The same of bytes that are to stand at a key of a line, and so nest one level less deep.
+pub(crate) fn read_part<'a>(
+    alloc: Global,
+    bytes: &'a [u8],
+    scratch: &'a mut Scratch,
+) -> Result<Tape<'a>, LineFault>
+    ensures { Gives wants_memory tokens_view result
+        (ok_or (data_within part_depth bytes.entry.now) (LineFault.Skipped SkipReason.NotJson)) }
+{
+    match read_tape_within(alloc, bytes, scratch, PART_DEPTH) {
         Ok(tape) => Ok(tape),
         Err(TreeFault::OutOfMemory) => Err(LineFault::OutOfMemory),
         Err(TreeFault::NotJson) => Err(LineFault::Skipped(SkipReason::NotJson)),

@@ -10,6 +10,7 @@ ghost use Rattle.features.specs.Entries.{entry_of};
 ghost use Rattle.features.specs.EntryViews.{entry_view, entry_views};
 ghost use Rattle.features.specs.Tables.{AreRising, built, dep_name_view, dep_names_view, rows_of};
 ghost use Rattle.features.specs.Tables.{table_wants_memory};
+ghost use Rattle.index_reader.specs.ByParts.{table_alone};
 ghost use Rattle.index_reader.specs.Shapes.{wants_memory};
 ghost use Rattle.features.specs.Views.{text_views};
 ghost use Rattle.index_reader.specs.ShapeViews.{feature_view, feature_views, line_dependency_view};
@@ -37,6 +38,19 @@ pub(crate) fn features(
     ensures { Gives wants_memory (λ t. t) result (features_of (shape_view line.now)) }
 {
     let written = written(alloc, line)?;
+    table(alloc, names, written)
+}
+
+/// The feature table of features with no further ones, where dependencies are called so.
+pub(crate) fn features_alone(
+    alloc: Global,
+    features: &[FeatureShape<'_>],
+    names: &[DepName],
+) -> Result<FeatureTable, LineFault>
+    ensures { Gives wants_memory
+        (λ t. t) result (table_alone (dep_names_view names.now) (feature_views features.now)) }
+{
+    let written = first_features(alloc, features)?;
     table(alloc, names, written)
 }
 

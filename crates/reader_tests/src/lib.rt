@@ -1,5 +1,5 @@
-//! Tests of what no run of the program calls: a folder in memory, a line of an index alone, a plain table, the texts of
-//! its faults; derivations as lines, and one that is built.
+//! Tests of what no run of the program calls: a folder in memory, a line of an index alone and in a file, a plain table,
+//! the texts of its faults; derivations as lines, and one that is built.
 #![tactic(auto)]
 
 #[cfg(test)]
@@ -8,6 +8,8 @@ mod built_refusals;
 mod folders;
 #[cfg(test)]
 mod lines;
+#[cfg(test)]
+mod lines_by_parts;
 #[cfg(test)]
 mod refusals;
 #[cfg(test)]

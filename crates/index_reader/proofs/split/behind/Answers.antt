@@ -1,5 +1,4 @@
 use Rattle.index_reader.proofs.CutLemmas.{stripped}
-use Rattle.index_reader.proofs.ByPartsLemmas.{by-parts}
 use Rattle.index_reader.proofs.split.behind.Goals as goal
 
 pub returns : goal.returns

@@ -1,0 +1,179 @@
+//! What a line brings, where its dependencies and features are read on their own.
+
+ghost use Rattle.std.specs.Prelude.{◌≡◌, IfOk, Ok};
+ghost use Rattle.model.specs.Outcome.{Gives};
+ghost use Rattle.features.specs.Tables.{dep_names_view};
+ghost use Rattle.features.specs.Views.{dependency_views};
+ghost use Rattle.index_reader.specs.Shapes.{wants_memory};
+ghost use Rattle.index_reader.specs.ShapeViews.{line_dependency_views};
+ghost use Rattle.index_reader.specs.ByParts.{dependencies_of_bytes, dependencies_of_shapes, table_of_bytes};
+
+use crate::fault::LineFault;
+use crate::known::KnownDependencies;
+use crate::line::{check_registries, dependencies, requirements};
+use crate::made::are_names;
+use crate::parts::unless_null;
+use crate::shape::{DependencyShape, features_if_any, needed_dependencies};
+use crate::split::LineParts;
+use crate::values::read_part;
+use crate::written::{dep_names, features_alone};
+use features::{DepName, Dependency, FeatureTable, Summary};
+use json::Scratch;
+use std::alloc::{AllocError, Global};
+use trees::root;
+
+/// The dependencies of a line, and the bytes that they were read off.
+#[derive(Drop)]
+struct DependenciesRead<'a> {
+    bytes: &'a [u8],
+    /// What those of each kind are called.
+    names: Vec<DepName>,
+    dependencies: Vec<Dependency>,
+    ghost read: { dependencies_of_bytes bytes.now
+        ≡ Ok (dep_names_view names.items, dependency_views dependencies.items) },
+}
+
+/// What a line brings, and the bytes that it was read off.
+#[derive(Drop)]
+pub(crate) struct Brought<'a> {
+    dependencies: DependenciesRead<'a>,
+    /// The bytes of its features, and the table that these make.
+    features: &'a [u8],
+    table: FeatureTable,
+    ghost made: { table_of_bytes (dep_names_view dependencies.names.items) features.now ≡ Ok table },
+}
+
+/// What a line of these parts brings: what the line before brought, as far as its bytes are the same.
+///
+/// # Errors
+/// `Skipped` where a part can't be read on its own, or the line is no record.
+pub(crate) fn brought_after<'a>(
+    alloc: Global,
+    line: &LineParts<'a>,
+    before: Option<Brought<'a>>,
+    scratch: &mut Scratch,
+    known: &mut KnownDependencies,
+) -> Result<Brought<'a>, LineFault>
+    ensures dependencies { IfOk result (λ b. b.dependencies.bytes.now ≡ line.now.dependencies.now) }
+    ensures features { IfOk result (λ b. b.features.now ≡ line.now.features.now) }
+{
+    let Some(before) = before else {
+        let dependencies = read_dependencies(alloc, line.dependencies, scratch, known)?;
+        return with_features(alloc, dependencies, line.features, scratch);
+    };
+    if before.dependencies.bytes != line.dependencies {
+        let dependencies = read_dependencies(alloc, line.dependencies, scratch, known)?;
+        return before.with_dependencies(alloc, dependencies, line.features, scratch);
+    }
+    if before.features != line.features {
+        return with_features(alloc, before.dependencies, line.features, scratch);
+    }
+    Ok(before)
+}
+
+/// These dependencies with the table that these features make.
+fn with_features<'a>(
+    alloc: Global,
+    dependencies: DependenciesRead<'a>,
+    features: &'a [u8],
+    scratch: &mut Scratch,
+) -> Result<Brought<'a>, LineFault>
+    ensures dependencies { IfOk result (λ b. b.dependencies.bytes.now ≡ dependencies.entry.bytes.now) }
+    ensures features { IfOk result (λ b. b.features.now ≡ features.entry.now) }
+{
+    let table = read_features(alloc, features, &dependencies.names, scratch)?;
+    Ok(Brought {
+        dependencies,
+        features,
+        table,
+    })
+}
+
+#[tactic(auto, unfolding(crate::specs::ByParts::dependencies_of_bytes))]
+fn read_dependencies<'a>(
+    alloc: Global,
+    bytes: &'a [u8],
+    scratch: &mut Scratch,
+    known: &mut KnownDependencies,
+) -> Result<DependenciesRead<'a>, LineFault>
+    ensures { IfOk result (λ d. d.bytes.now ≡ bytes.entry.now) }
+{
+    let tape = read_part(alloc, bytes, scratch)?;
+    let shapes = needed_dependencies(alloc, &unless_null(root(&tape)))?;
+    check_registries(&shapes)?;
+    Ok(DependenciesRead {
+        bytes,
+        names: dep_names(alloc, &shapes)?,
+        dependencies: dependencies_of(alloc, &shapes, known)?,
+    })
+}
+
+fn dependencies_of(
+    alloc: Global,
+    shapes: &Vec<DependencyShape<'_>>,
+    known: &mut KnownDependencies,
+) -> Result<Vec<Dependency>, LineFault>
+    ensures { Gives wants_memory (λ v. dependency_views v.items) result
+        (dependencies_of_shapes (line_dependency_views shapes.now.items)) }
+{
+    let parts = requirements(alloc, shapes, known)?;
+    dependencies(alloc, parts, known)
+}
+
+/// The table that features make where dependencies are called so.
+#[tactic(auto, unfolding(crate::specs::ByParts::table_of_bytes))]
+fn read_features(
+    alloc: Global,
+    bytes: &[u8],
+    names: &[DepName],
+    scratch: &mut Scratch,
+) -> Result<FeatureTable, LineFault>
+    ensures { Gives wants_memory (λ t. t) result (table_of_bytes (dep_names_view names.now) bytes.now) }
+{
+    let tape = read_part(alloc, bytes, scratch)?;
+    let shapes = features_if_any(alloc, &unless_null(root(&tape)))?;
+    features_alone(alloc, &shapes, names)
+}
+
+impl<'a> Brought<'a> {
+    /// The same with other dependencies: with this table too, if they are called so and the features are the same.
+    fn with_dependencies(
+        self,
+        alloc: Global,
+        dependencies: DependenciesRead<'a>,
+        features: &'a [u8],
+        scratch: &mut Scratch,
+    ) -> Result<Brought<'a>, LineFault>
+        ensures dependencies { IfOk result (λ b. b.dependencies.bytes.now ≡ dependencies.entry.bytes.now) }
+        ensures features { IfOk result (λ b. b.features.now ≡ features.entry.now) }
+    {
+        if self.features != features {
+            return with_features(alloc, dependencies, features, scratch);
+        }
+        if !are_names(&self.dependencies.names, &dependencies.names) {
+            return with_features(alloc, dependencies, features, scratch);
+        }
+        Ok(Brought {
+            dependencies,
+            features,
+            table: self.table,
+        })
+    }
+
+    /// The bytes of its dependencies, and those of its features.
+    pub(crate) fn bytes(&self) -> (&'a [u8], &'a [u8]) {
+        (self.dependencies.bytes, self.features)
+    }
+
+    /// The same for a record of its own.
+    pub(crate) fn summary(&self) -> Result<Summary, AllocError>
+        ensures { IfOk result
+            (λ s. (dependency_views s.dependencies.items ≡ dependency_views self.now.dependencies.dependencies.items)
+            × (s.features ≡ self.now.table)) }
+    {
+        Ok(Summary {
+            dependencies: self.dependencies.dependencies.clone()?,
+            features: self.table.clone()?,
+        })
+    }
+}

@@ -1,0 +1,149 @@
+//! Lines of a file that are read by their parts, and others that can't be: each says what it says alone.
+
+use features::{FeatureName, PackageName};
+use index_reader::{LineFault, MAX_LINES, Record, Skip, lines, read_file, read_line};
+use std::alloc::{AllocError, Global};
+use std::test::Fail;
+
+const CHECKSUM: &str = "0000000000000000000000000000000000000000000000000000000000000000";
+
+const BAR: &str = r#"[{"name":"bar","req":"^1","optional":true}]"#;
+const X: &str = r#"{"x":["dep:bar"]}"#;
+const PLAIN: &str = r#""yanked":false}"#;
+
+/// A line as a registry writes it, with this behind its features.
+fn line(
+    alloc: Global,
+    version: &str,
+    dependencies: &str,
+    features: &str,
+    rest: &str,
+) -> Result<String, AllocError> {
+    format!(in alloc;
+        "{{\"name\":\"foo\",\"vers\":\"{version}\",\"deps\":{dependencies},\"cksum\":\"{CHECKSUM}\",\"features\":{features},{rest}"
+    )
+}
+
+/// What a record says: its version, its dependencies, whether it has the feature x, and whether it is yanked.
+fn told(alloc: Global, record: &Record) -> Result<String, Fail> {
+    let mut text = format!(in alloc; "{}", record.version)?;
+    for dependency in record.brings.dependencies.as_slice() {
+        text = format!(in alloc; "{text} {} {}", dependency.name, dependency.requirement)?;
+    }
+    let x = FeatureName::parse(alloc, "x")?;
+    if record.brings.features.has(&x) {
+        text.push_str(" x")?;
+    }
+    if record.yanked {
+        text.push_str(" yanked")?;
+    }
+    Ok(text)
+}
+
+/// What a line says alone.
+fn alone(alloc: Global, name: &PackageName, line: &str) -> Result<String, Fail> {
+    match read_line(alloc, name, line.as_bytes()) {
+        Ok(record) => told(alloc, &record),
+        Err(LineFault::Skipped(reason)) => Ok(format!(in alloc; "{reason}")?),
+        Err(LineFault::OutOfMemory) => Ok(format!(in alloc; "out of memory")?),
+    }
+}
+
+/// What the second line of a file says, whose others are plain.
+fn second(records: &[Record], skips: &[Skip], alloc: Global) -> Result<String, Fail> {
+    if let Some(skip) = skips.first() {
+        return Ok(format!(in alloc; "{}", skip.reason)?);
+    }
+    match records.get(1) {
+        Some(record) => told(alloc, record),
+        None => Ok(format!(in alloc; "no record")?),
+    }
+}
+
+/// What a line says behind another one, and the line behind it.
+fn in_file(alloc: Global, name: &PackageName, text: &str) -> Result<(String, String), Fail> {
+    let first = line(alloc, "1.0.0", BAR, X, PLAIN)?;
+    let last = line(alloc, "1.0.2", BAR, X, PLAIN)?;
+    let file = format!(in alloc; "{first}\n{text}\n{last}\n")?;
+    if lines(file.as_bytes()) > MAX_LINES {
+        return Ok((String::new(alloc), String::new(alloc)));
+    }
+    let (records, skips) = read_file(alloc, name, file.as_bytes())?;
+    let told_last = match records.last() {
+        Some(record) => told(alloc, record)?,
+        None => String::new(alloc),
+    };
+    Ok((second(&records, &skips, alloc)?, told_last))
+}
+
+#[test]
+fn say_what_they_say_alone(rt: HostRuntime) -> Result<(), Fail> {
+    let foo = PackageName::parse(rt.alloc(), "foo")?;
+    for (dependencies, features, rest, wanted) in [
+        (BAR, X, PLAIN, "1.0.1 bar ^1 x"),
+        (BAR, X, r#""yanked":true}"#, "1.0.1 bar ^1 x yanked"),
+        (BAR, X, r#""yanked":null}"#, "1.0.1 bar ^1 x"),
+        (BAR, X, r#""yanked":0}"#, "S2 Shape"),
+        (BAR, "{}", PLAIN, "1.0.1 bar ^1"),
+        (BAR, "null", PLAIN, "1.0.1 bar ^1"),
+        ("[]", "{}", PLAIN, "1.0.1"),
+        ("null", "{}", PLAIN, "S2 Shape"),
+        ("[", "{}", PLAIN, "S1 NotJson"),
+        (r#"[{"name":"bar","req":"^2","optional":true}]"#, X, PLAIN, "1.0.1 bar ^2 x"),
+        (r#"[{"name":"baz","req":"^1","optional":true}]"#, X, PLAIN, "S7 BadFeatures"),
+        (r#"[{"name":"bar","req":"^1"}]"#, X, PLAIN, "S7 BadFeatures"),
+        (r#"[{"name":"bar","cksum":"1","req":"^1","optional":true}]"#, X, PLAIN, "1.0.1 bar ^1 x"),
+        (r#"[{"name":"bar","req":"^1","registry":"r"}]"#, "{}", PLAIN, "S8 OtherRegistry"),
+        (BAR, X, r#""yanked":false,"deps":null}"#, "S2 Shape"),
+        (BAR, "{}", r#""yanked":false,"deps":[]}"#, "1.0.1"),
+        (BAR, X, r#""yanked":false,"features":{}}"#, "1.0.1 bar ^1"),
+        (BAR, X, r#""yanked":false,"name":"bar"}"#, "S4 OtherName"),
+        (BAR, "{}", r#""yanked":false,"features2":{"x":["dep:bar"]},"v":2}"#, "1.0.1 bar ^1 x"),
+        (BAR, X, r#""yanked":false,"v":3}"#, "S3 NewerFormat"),
+        (BAR, X, r#""yanked":false}}"#, "S1 NotJson"),
+    ] {
+        let text = line(rt.alloc(), "1.0.1", dependencies, features, rest)?;
+        let (found, last) = in_file(rt.alloc(), &foo, text.as_str())?;
+        assert_eq!(rt; alone(rt.alloc(), &foo, text.as_str())?.as_str(), wanted);
+        assert_eq!(rt; found.as_str(), wanted);
+        assert_eq!(rt; last.as_str(), "1.0.2 bar ^1 x");
+    }
+    Ok(())
+}
+
+/// A dependency with as many arrays in one another at a key that isn't read.
+fn nested(alloc: Global, arrays: usize) -> Result<String, AllocError> {
+    let mut opened = String::new(alloc);
+    let mut closed = String::new(alloc);
+    for _ in 0..arrays {
+        opened.push_str("[")?;
+        closed.push_str("]")?;
+    }
+    format!(in alloc; "[{{\"name\":\"bar\",\"req\":\"^1\",\"optional\":true,\"z\":{opened}{closed}}}]")
+}
+
+#[test]
+fn nest_as_deep_as_alone(rt: HostRuntime) -> Result<(), Fail> {
+    let foo = PackageName::parse(rt.alloc(), "foo")?;
+    for (arrays, wanted) in [(124, "1.0.1 bar ^1 x"), (125, "S1 NotJson")] {
+        let dependencies = nested(rt.alloc(), arrays)?;
+        let text = line(rt.alloc(), "1.0.1", dependencies.as_str(), X, PLAIN)?;
+        let (found, last) = in_file(rt.alloc(), &foo, text.as_str())?;
+        assert_eq!(rt; alone(rt.alloc(), &foo, text.as_str())?.as_str(), wanted);
+        assert_eq!(rt; found.as_str(), wanted);
+        assert_eq!(rt; last.as_str(), "1.0.2 bar ^1 x");
+    }
+    Ok(())
+}
+
+#[test]
+fn may_have_blanks(rt: HostRuntime) -> Result<(), Fail> {
+    let foo = PackageName::parse(rt.alloc(), "foo")?;
+    let text = format!(in rt.alloc();
+        "{{\"name\": \"foo\", \"vers\": \"1.0.1\", \"deps\": {BAR}, \"cksum\": \"{CHECKSUM}\", \"features\": {X}, {PLAIN}"
+    )?;
+    let (found, last) = in_file(rt.alloc(), &foo, text.as_str())?;
+    assert_eq!(rt; found.as_str(), "1.0.1 bar ^1 x");
+    assert_eq!(rt; last.as_str(), "1.0.2 bar ^1 x");
+    Ok(())
+}
