@@ -1,18 +1,18 @@
 -- A line whose parts are read on their own says what they say together.
 use Rattle.std.proofs.Common.{◌≡◌, ◌≢◌, ℕ, List, [], ◌∷◌, Bool, true, false, not, ◌==◌, ◌||◌, Option, Some, None}
-use Rattle.std.proofs.Common.{is_none, option_and_then, Result, Ok, Err, codes, refl, sym, ap, ◌∙◌}
+use Rattle.std.proofs.Common.{is_none, option_and_then, Ok, Err, codes, refl, sym, ap, ◌∙◌}
 use Rattle.std.specs.List.{list_all}
 use Rattle.std.specs.Option.{ok_or, option_or}
 use Rattle.std.proofs.lemmas.Bool.{and_parts}
 use Rattle.semver.specs.Parse.{Parts, version_parts}
 use Rattle.serde_json.specs.Data.{Data, null, boolean, number, string, array, object, Members, no_members}
-use Rattle.serde_json.specs.Find.{get, get_member, as_bool, as_str}
+use Rattle.serde_json.specs.Find.{get_member, as_bool, as_str}
 use Rattle.model.specs.Outcome.{◌>>=◌}
 use Rattle.model.specs.Summary as model
 use Rattle.model.specs.Summary.{Table, same_text}
 use Rattle.model.specs.Tables.{DepName, table_of}
 use Rattle.model.proofs.Same.{text-refl}
-use Rattle.trees.specs.Parts.{data_within, first_members, is_plain, line_of, part_depth}
+use Rattle.trees.specs.Parts.{data_within, first_members, part_depth}
 use Rattle.trees.specs.Trees as trees
 use Rattle.trees.proofs.PartsLemmas.{line-members}
 use Rattle.trees.proofs.TreeLemmas.{or_none}
@@ -285,18 +285,22 @@ is-rest bytes r is =
     let rest = steps (data_of_bytes (123 ∷ bytes)) rest_of r is in
     rest-by rest.0 bytes r (there (trees.data_of_bytes (123 ∷ bytes)) rest.0 rest.1) rest.2
 
+-- the record that a line is of which this was read
+abbrev record_with : LineParts → RestView → Parts → List model.Dependency → Table → RecordView
+record_with p rest version ds table = record {
+  version = version;
+  checksum = p.checksum.now;
+  yanked = rest.yanked;
+  rust_version = rest.rust_version;
+  brings = record { dependencies = ds; features = table };
+}
+
 together : (name : List ℕ) (p : LineParts) (line : List ℕ) (ds : List DepName × List model.Dependency) (table : Table)
     (rest : RestView) (version : Parts) → IsCut name p line
     → AreDependencies p.dependencies.now ds.0 ds.1 → AreFeatures p.features.now ds.0 table → IsRest p.rest.now rest
     → (rest.format == 1 || rest.format == 2) ≡ true
     → semver_or BadVersion (version_parts p.version.now) ≡ Ok version
-    → unchecked_of_line name line ≡ Ok (record {
-      version = version;
-      checksum = p.checksum.now;
-      yanked = rest.yanked;
-      rust_version = rest.rust_version;
-      brings = record { dependencies = ds.1; features = table };
-    })
+    → unchecked_of_line name line ≡ Ok (record_with p rest version ds.1 table)
 unfolding unchecked_of_line
 together name p line ds table rest version cut d f r format_is version_is =
     let v = p.version.now in
@@ -341,7 +345,7 @@ by-parts name p line r cut is =
     let version = steps (semver_or BadVersion (version_parts p.version.now)) _ r format.2 in
     let ds = steps (dependencies_of_bytes p.dependencies.now) _ r version.2 in
     let table = steps (table_of_bytes ds.0.0 p.features.now) _ r ds.2 in
-    same-record (unchecked_of_line name line) _ (Ok r)
+    same-record (unchecked_of_line name line) (Ok (record_with p rest.0 version.0 ds.0.1 table.0)) (Ok r)
     (together name p line ds.0 table.0 rest.0 version.0 cut (are-dependencies p.dependencies.now ds.0 ds.1)
     (are-features ds.0.0 p.features.now table.0 table.1) (is-rest p.rest.now rest.0 rest.1)
     (passed (rest.0.format == 1 || rest.0.format == 2) NewerFormat format.0 format.1) version.1)

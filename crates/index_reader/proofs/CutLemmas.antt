@@ -1,6 +1,6 @@
 -- What a text begins with, and which names are plain.
-use Rattle.std.proofs.Common.{◌≡◌, ℕ, ◌+◌, List, [], ◌∷◌, ◌++◌, Bool, true, false, ◌==◌, not, nat_le, ◌&&◌, refl, sym}
-use Rattle.std.proofs.Common.{ap, ap₂, ◌∙◌, take, drop, length, Option, Some, None, Bor, arith}
+use Rattle.std.proofs.Common.{◌≡◌, ℕ, ◌+◌, List, [], ◌∷◌, ◌++◌, true, false, ◌&&◌, refl, sym, ap₂}
+use Rattle.std.proofs.Common.{◌∙◌, take, drop, length, Option, Some, None, Bor, arith}
 use Rattle.std.specs.Prelude.{IfSome, MatchOption, nat_eq}
 use Rattle.std.specs.Cmp.Lexicographic.{pointwise}
 use Rattle.std.specs.List.{list_all}

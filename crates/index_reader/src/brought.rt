@@ -110,11 +110,11 @@ fn read_dependencies<'a>(
 
 fn dependencies_of(
     alloc: Global,
-    shapes: &Vec<DependencyShape<'_>>,
+    shapes: &[DependencyShape<'_>],
     known: &mut KnownDependencies,
 ) -> Result<Vec<Dependency>, LineFault>
     ensures { Gives wants_memory (λ v. dependency_views v.items) result
-        (dependencies_of_shapes (line_dependency_views shapes.now.items)) }
+        (dependencies_of_shapes (line_dependency_views shapes.now)) }
 {
     let parts = requirements(alloc, shapes, known)?;
     dependencies(alloc, parts, known)

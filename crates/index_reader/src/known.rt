@@ -29,16 +29,16 @@ struct MadeDependency {
 
 /// A part of a line, with the requirement that its text is.
 #[derive(Drop)]
-pub(crate) struct RequirementRead<'a> {
-    pub part: &'a PartShape<'a>,
+pub(crate) struct RequirementRead<'p, 'a> {
+    pub part: &'p PartShape<'a>,
     pub requirement: VersionReq,
     ghost read: { IsRequirement part.now.requirement.now requirement },
 }
 
 /// A part of a line that says just what was read before.
 #[derive(Drop)]
-pub(crate) struct PartAgain<'a> {
-    pub part: &'a PartShape<'a>,
+pub(crate) struct PartAgain<'p, 'a> {
+    pub part: &'p PartShape<'a>,
     pub dependency: Dependency,
     ghost says: { IsSaid (part_view part.now) dependency },
 }
@@ -59,10 +59,10 @@ impl KnownDependencies {
     }
 
     /// The dependency that says what this part says, if it is kept.
-    pub(crate) fn find<'a>(
+    pub(crate) fn find<'p, 'a>(
         &self,
-        part: &'a PartShape<'a>,
-    ) -> Result<Option<PartAgain<'a>>, AllocError>
+        part: &'p PartShape<'a>,
+    ) -> Result<Option<PartAgain<'p, 'a>>, AllocError>
         ensures { IfOk result (λ o. IfSome o (λ a. part_view a.part.now ≡ part_view part.entry.now)) }
     {
         let Some(slot) = self.slots.get(slot_of(part)) else {

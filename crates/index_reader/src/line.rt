@@ -31,10 +31,10 @@ use trees::root;
 
 /// A dependency that takes part, with its requirement.
 #[derive(Drop)]
-pub(crate) enum Required<'a> {
+pub(crate) enum Required<'p, 'a> {
     /// One that was read before.
-    Again(PartAgain<'a>),
-    Read(RequirementRead<'a>),
+    Again(PartAgain<'p, 'a>),
+    Read(RequirementRead<'p, 'a>),
 }
 
 /// The record that a line of this package's file is, or why it is none (Cargo book, "Registry Index").
@@ -186,11 +186,11 @@ fn fault_of(e: semver::Error, why: SkipReason) -> LineFault
 
 /// The dependencies that take part, with their requirements.
 #[tactic(auto, unfolding(crate::specs::Records::required))]
-pub(crate) fn requirements<'a>(
+pub(crate) fn requirements<'p, 'a>(
     alloc: Global,
-    shapes: &'a [DependencyShape<'a>],
+    shapes: &'p [DependencyShape<'a>],
     known: &KnownDependencies,
-) -> Result<Vec<Required<'a>>, LineFault>
+) -> Result<Vec<Required<'p, 'a>>, LineFault>
     ensures { Gives wants_memory (λ v. required_views v.items) result (required (line_dependency_views shapes.now)) }
 {
     let mut found = Vec::with_capacity(alloc, shapes.len())?;
@@ -204,11 +204,11 @@ pub(crate) fn requirements<'a>(
 }
 
 /// A dependency that takes part, with its requirement: one that was read before, where it says the same.
-fn part_required<'a>(
+fn part_required<'p, 'a>(
     alloc: Global,
-    part: &'a PartShape<'a>,
+    part: &'p PartShape<'a>,
     known: &KnownDependencies,
-) -> Result<Required<'a>, LineFault>
+) -> Result<Required<'p, 'a>, LineFault>
     ensures { Gives wants_memory required_view result (required_part (part_view part.entry.now)) }
 {
     match known.find(part)? {
@@ -224,7 +224,7 @@ fn part_required<'a>(
 #[tactic(auto, unfolding(crate::specs::Records::dependencies_read))]
 pub(crate) fn dependencies(
     alloc: Global,
-    parts: Vec<Required<'_>>,
+    parts: Vec<Required<'_, '_>>,
     known: &mut KnownDependencies,
 ) -> Result<Vec<Dependency>, LineFault>
     ensures { Gives wants_memory
@@ -239,7 +239,7 @@ pub(crate) fn dependencies(
 
 fn dependency(
     alloc: Global,
-    required: Required<'_>,
+    required: Required<'_, '_>,
     known: &mut KnownDependencies,
 ) -> Result<Dependency, LineFault>
     ensures { Gives wants_memory dependency_view result (dependency_read (required_view required.entry)) }
@@ -253,7 +253,7 @@ fn dependency(
 #[tactic(auto, unfolding(crate::specs::Records::dependency_read))]
 fn read_dependency(
     alloc: Global,
-    required: RequirementRead<'_>,
+    required: RequirementRead<'_, '_>,
     known: &mut KnownDependencies,
 ) -> Result<Dependency, LineFault>
     ensures { Gives wants_memory dependency_view result
