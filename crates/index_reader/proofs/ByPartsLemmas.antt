@@ -17,7 +17,8 @@ use Rattle.trees.specs.Trees as trees
 use Rattle.trees.proofs.PartsLemmas.{line-members}
 use Rattle.trees.proofs.TreeLemmas.{or_none}
 use Rattle.index_reader.specs.ByParts.{IsCut, RestView, dependencies_of_bytes, dependencies_of_shapes, lacks}
-use Rattle.index_reader.specs.ByParts.{lacks_parts, part_of_bytes, record_of_parts, rest_of, rest_of_bytes, table_alone, table_of_bytes}
+use Rattle.index_reader.specs.ByParts.{lacks_parts, part_of_bytes, record_of_parts, rest_of, rest_of_bytes, table_alone}
+use Rattle.index_reader.specs.ByParts.{table_of_bytes}
 use Rattle.index_reader.specs.Records.{RecordView, dependencies_read, is_of_index, required, semver_or, unless}
 use Rattle.index_reader.specs.Records.{unchecked_of_shape, unchecked_of_line}
 use Rattle.index_reader.specs.Shapes.{Line, DependencyView, FeatureView, ShapeView, as_whole, data_of_bytes, needed}
@@ -92,9 +93,9 @@ has-parts : (name version checksum : List ℕ) (deps features : Data) (others fo
 has-parts name version checksum deps features others found lacking at =
     let first = first_members name version deps checksum features in
     let own = λ (key : List ℕ) (none : get_member key others ≡ None). ap unless_null
-        (at key ∙ ap (λ o. option_or o (get_member key first)) none) in
+    (at key ∙ ap (λ o. option_or o (get_member key first)) none) in
     let other = λ (key : List ℕ) (none : get_member key first ≡ None). ap unless_null
-        (at key ∙ ap (option_or (get_member key others)) none ∙ or_none (get_member key others)) in
+    (at key ∙ ap (option_or (get_member key others)) none ∙ or_none (get_member key others)) in
     record {
       name_is = own (codes "name") lacking.name;
       version_is = own (codes "vers") lacking.version;
@@ -306,7 +307,7 @@ together name p line ds table rest version cut d f r format_is version_is =
     let v = p.version.now in
     let c = p.checksum.now in
     let whole = line-members name v p.dependencies.now c p.features.now p.rest.now d.value f.value r.others
-        (name-plain name cut.named) cut.version cut.checksum d.read f.read r.read r.some in
+    (name-plain name cut.named) cut.version cut.checksum d.read f.read r.read r.some in
     let has = has-parts name v c d.value f.value r.others whole.0 r.lacking whole.2 in
     let shape : ShapeView = record {
       name = name;

@@ -60,7 +60,7 @@ pub fn read_line(alloc: Global, name: &PackageName, line: &[u8]) -> Result<Recor
     Ok(record)
 }
 
-/// The same, whatever the checksum is, with room and a feature table that are kept from line to line.
+/// The same, whatever the checksum is, with room and what the line before said, which are kept from line to line.
 #[tactic(auto, unfolding(crate::specs::Records::unchecked_of_line))]
 pub(crate) fn read_unchecked<'a>(
     alloc: Global,

@@ -19,9 +19,10 @@ fn line(
     features: &str,
     rest: &str,
 ) -> Result<String, AllocError> {
-    format!(in alloc;
-        "{{\"name\":\"foo\",\"vers\":\"{version}\",\"deps\":{dependencies},\"cksum\":\"{CHECKSUM}\",\"features\":{features},{rest}"
-    )
+    let first = format!(in alloc;
+        "{{\"name\":\"foo\",\"vers\":\"{version}\",\"deps\":{dependencies}"
+    )?;
+    format!(in alloc; "{first},\"cksum\":\"{CHECKSUM}\",\"features\":{features},{rest}")
 }
 
 /// What a record says: its version, its dependencies, whether it has the feature x, and whether it is yanked.
@@ -139,8 +140,11 @@ fn nest_as_deep_as_alone(rt: HostRuntime) -> Result<(), Fail> {
 #[test]
 fn may_have_blanks(rt: HostRuntime) -> Result<(), Fail> {
     let foo = PackageName::parse(rt.alloc(), "foo")?;
+    let first = format!(in rt.alloc();
+        "{{\"name\": \"foo\", \"vers\": \"1.0.1\", \"deps\": {BAR}"
+    )?;
     let text = format!(in rt.alloc();
-        "{{\"name\": \"foo\", \"vers\": \"1.0.1\", \"deps\": {BAR}, \"cksum\": \"{CHECKSUM}\", \"features\": {X}, {PLAIN}"
+        "{first}, \"cksum\": \"{CHECKSUM}\", \"features\": {X}, {PLAIN}"
     )?;
     let (found, last) = in_file(rt.alloc(), &foo, text.as_str())?;
     assert_eq!(rt; found.as_str(), "1.0.1 bar ^1 x");
