@@ -8,7 +8,9 @@ use std::test::Fail;
 const CHECKSUM: &str = "0000000000000000000000000000000000000000000000000000000000000000";
 
 const BAR: &str = r#"[{"name":"bar","req":"^1","optional":true}]"#;
+
 const X: &str = r#"{"x":["dep:bar"]}"#;
+
 const PLAIN: &str = r#""yanked":false}"#;
 
 /// A line as a registry writes it, with this behind its features.
@@ -90,16 +92,41 @@ fn say_what_they_say_alone(rt: HostRuntime) -> Result<(), Fail> {
         ("[]", "{}", PLAIN, "1.0.1"),
         ("null", "{}", PLAIN, "S2 Shape"),
         ("[", "{}", PLAIN, "S1 NotJson"),
-        (r#"[{"name":"bar","req":"^2","optional":true}]"#, X, PLAIN, "1.0.1 bar ^2 x"),
-        (r#"[{"name":"baz","req":"^1","optional":true}]"#, X, PLAIN, "S7 BadFeatures"),
+        (
+            r#"[{"name":"bar","req":"^2","optional":true}]"#,
+            X,
+            PLAIN,
+            "1.0.1 bar ^2 x",
+        ),
+        (
+            r#"[{"name":"baz","req":"^1","optional":true}]"#,
+            X,
+            PLAIN,
+            "S7 BadFeatures",
+        ),
         (r#"[{"name":"bar","req":"^1"}]"#, X, PLAIN, "S7 BadFeatures"),
-        (r#"[{"name":"bar","cksum":"1","req":"^1","optional":true}]"#, X, PLAIN, "1.0.1 bar ^1 x"),
-        (r#"[{"name":"bar","req":"^1","registry":"r"}]"#, "{}", PLAIN, "S8 OtherRegistry"),
+        (
+            r#"[{"name":"bar","cksum":"1","req":"^1","optional":true}]"#,
+            X,
+            PLAIN,
+            "1.0.1 bar ^1 x",
+        ),
+        (
+            r#"[{"name":"bar","req":"^1","registry":"r"}]"#,
+            "{}",
+            PLAIN,
+            "S8 OtherRegistry",
+        ),
         (BAR, X, r#""yanked":false,"deps":null}"#, "S2 Shape"),
         (BAR, "{}", r#""yanked":false,"deps":[]}"#, "1.0.1"),
         (BAR, X, r#""yanked":false,"features":{}}"#, "1.0.1 bar ^1"),
         (BAR, X, r#""yanked":false,"name":"bar"}"#, "S4 OtherName"),
-        (BAR, "{}", r#""yanked":false,"features2":{"x":["dep:bar"]},"v":2}"#, "1.0.1 bar ^1 x"),
+        (
+            BAR,
+            "{}",
+            r#""yanked":false,"features2":{"x":["dep:bar"]},"v":2}"#,
+            "1.0.1 bar ^1 x",
+        ),
         (BAR, X, r#""yanked":false,"v":3}"#, "S3 NewerFormat"),
         (BAR, X, r#""yanked":false}}"#, "S1 NotJson"),
     ] {
@@ -120,7 +147,9 @@ fn nested(alloc: Global, arrays: usize) -> Result<String, AllocError> {
         opened.push_str("[")?;
         closed.push_str("]")?;
     }
-    format!(in alloc; "[{{\"name\":\"bar\",\"req\":\"^1\",\"optional\":true,\"z\":{opened}{closed}}}]")
+    format!(in alloc;
+        "[{{\"name\":\"bar\",\"req\":\"^1\",\"optional\":true,\"z\":{opened}{closed}}}]"
+    )
 }
 
 #[test]
