@@ -14,8 +14,8 @@ use Rattle.std.proofs.lemmas.Map.Lookups.{exact_bytes}
 use Rattle.std.specs.declared.alloc.Global.{Global}
 use Rattle.model.specs.Summary.{Table, entries_at, has_feature, same_text}
 use Rattle.model.specs.Summary as model
-use Rattle.model.specs.Tables.{DepName, TableFault, first_with, has_dep_entry, has_dependency, has_fault, is_dep, is_optional}
-use Rattle.model.specs.Tables.{no_such_feature, no_such_dependency, not_optional}
+use Rattle.model.specs.Tables.{DepName, TableFault, first_with, has_dep_entry, has_dependency, has_fault, is_dep}
+use Rattle.model.specs.Tables.{is_optional, no_such_feature, no_such_dependency, not_optional}
 use Rattle.features.specs.Drafts.{faultless, is_well}
 use Rattle.features.specs.Texts.{has_text, borrowed_cmp}
 use Rattle.features.specs.EntryViews.{entry_view, entry_views}
@@ -172,7 +172,8 @@ module _ (ds : List DepName) (written : Table) where
       → list_any (λ e. has_fault ds written fault (entry_view e)) es ≡ false
   none-faulty fault [] h = refl
   none-faulty fault (e ∷ es) h =
-      let both = both_hold (is_well ds written (entry_view e)) (list_all (λ e. is_well ds written (entry_view e)) es) h in
+      let both =
+      both_hold (is_well ds written (entry_view e)) (list_all (λ e. is_well ds written (entry_view e)) es) h in
       ap₂ (λ a b. a || b) (unfaulty fault (entry_view e) both.0) (none-faulty fault es both.1)
 
   all-unfaulty : (fault : TableFault) (es : List (List ℕ × Vec Entry Global))

@@ -7,9 +7,9 @@
 //! What is hard is the table. A package writes some features; Cargo adds one for each optional dependency that no entry
 //! `dep:d` names and no feature is called by, and adds `default`; and an entry may name what isn't there.
 //! `FeatureTable::build` is just that function (`table_of`), with the lowest fault at the first feature that has it.
-//! What entries name is looked up among texts of which the first few lie in a row (`texts.rt`). What is written and what
-//! is built are rows that rise by the names of the features (`rows.rt`), for a map takes longer to make and three times
-//! their room. A clone of a table shares them. So does a dependency with its parts.
+//! What entries name is looked up among texts of which the first few lie in a row (`texts.rt`). What is written and
+//! what is built are rows that rise by the names of the features (`rows.rt`), for a map takes longer to make and three
+//! times their room. A clone of a table shares them. So does a dependency with its parts.
 //!
 //! A layer above may rely on this: `parse` takes exactly the texts that are names or entries. A table has exactly the
 //! features that are meant, in the order of their bytes, and each entry that names a feature names one of the same
