@@ -16,6 +16,7 @@ use Rattle.model.specs.Summary.{Table, entries_at, has_feature, same_text}
 use Rattle.model.specs.Summary as model
 use Rattle.model.specs.Tables.{DepName, TableFault, first_with, has_dep_entry, has_dependency, has_fault, is_dep}
 use Rattle.model.specs.Tables.{is_optional, no_such_feature, no_such_dependency, not_optional}
+use Rattle.model.proofs.Same.{both}
 use Rattle.features.specs.Drafts.{faultless, is_well}
 use Rattle.features.specs.Texts.{has_text, borrowed_cmp}
 use Rattle.features.specs.EntryViews.{entry_view, entry_views}
@@ -139,10 +140,6 @@ has_dep_entry-more d es i row inside is =
 
 -- ---- where no entry has a fault
 
-both_hold : (a b : Bool) → (a && b) ≡ true → (a ≡ true) × (b ≡ true)
-both_hold true b h = (refl, h)
-both_hold false b h = cc
-
 -- an optional dependency is one
 optional-called : (ds : List DepName) (d : List ℕ) → is_optional ds d ≡ true → has_dependency ds d ≡ true
 optional-called [] d h = h
@@ -172,19 +169,19 @@ module _ (ds : List DepName) (written : Table) where
       → list_any (λ e. has_fault ds written fault (entry_view e)) es ≡ false
   none-faulty fault [] h = refl
   none-faulty fault (e ∷ es) h =
-      let both =
-      both_hold (is_well ds written (entry_view e)) (list_all (λ e. is_well ds written (entry_view e)) es) h in
-      ap₂ (λ a b. a || b) (unfaulty fault (entry_view e) both.0) (none-faulty fault es both.1)
+      let well =
+      both (is_well ds written (entry_view e)) (list_all (λ e. is_well ds written (entry_view e)) es) h in
+      ap₂ (λ a b. a || b) (unfaulty fault (entry_view e) well.0) (none-faulty fault es well.1)
 
   all-unfaulty : (fault : TableFault) (es : List (List ℕ × Vec Entry Global))
       → list_all (λ row. list_all (λ e. is_well ds written (entry_view e)) row.1.items) es ≡ true
       → first_with (has_fault ds written fault) (rows_of es) ≡ None
   all-unfaulty fault [] h = sym (first_with-none (has_fault ds written fault))
   all-unfaulty fault (e ∷ es) h =
-      let both = both_hold (list_all (λ e. is_well ds written (entry_view e)) e.1.items)
+      let well = both (list_all (λ e. is_well ds written (entry_view e)) e.1.items)
       (list_all (λ row. list_all (λ e. is_well ds written (entry_view e)) row.1.items) es) h in
-      sym (first_with-later (has_fault ds written fault) e es (none-faulty fault e.1.items both.0))
-      ∙ all-unfaulty fault es both.1
+      sym (first_with-later (has_fault ds written fault) e es (none-faulty fault e.1.items well.0))
+      ∙ all-unfaulty fault es well.1
 
   -- a draft whose entries are all well has no fault
   pub faultless-well : (es : List (List ℕ × Vec Entry Global)) → written ≡ rows_of es

@@ -64,7 +64,7 @@ row_lacking es name i rising found =
 
 -- ---- where a row is put
 
-after : (name key : List ℕ) → text_cmp key name ≡ Less → text_cmp name key ≡ Greater
+pub after : (name key : List ℕ) → text_cmp key name ≡ Less → text_cmp name key ≡ Greater
 after name key less = nat_list_cmp_total.antisymm name key ∙ ap ordering_reverse less
 
 before : (name key : List ℕ) → text_cmp key name ≡ Greater → text_cmp name key ≡ Less
@@ -138,7 +138,7 @@ all_put first name v (e ∷ es) less (own, others) = by (text_cmp name e.0) (all
     by Equal rest = (own, others)
     by Greater rest = (own, rest)
 
-all_after : (name first : List ℕ) (keys : List (List ℕ)) → text_cmp name first ≡ Less
+pub all_after : (name first : List ℕ) (keys : List (List ℕ)) → text_cmp name first ≡ Less
     → AllByRecursion (λ key. text_cmp first key ≡ Less) keys → AllByRecursion (λ key. text_cmp name key ≡ Less) keys
 all_after name first [] less all = tt
 all_after name first (key ∷ keys) less (own, others) =

@@ -7,8 +7,8 @@ ghost use Rattle.features.specs.Texts.{has_text, texts_in};
 use std::alloc::{AllocError, Global};
 use std::collections::BTreeSet;
 
-/// How many texts lie in the row. Most packages have no more dependencies and features, and a few are found faster one
-/// after another than in a tree.
+/// How many texts lie in the row. Most packages have no more dependencies, and a few are found faster one after another
+/// than in a tree.
 const FEW: usize = 16;
 
 /// Texts to be looked up.

@@ -16,6 +16,7 @@ use Rattle.model.specs.Tables.{Written, with_row}
 use Rattle.features.specs.Names.{is_feature_name}
 use Rattle.features.specs.Tables.{AreRising, rows_of}
 use Rattle.features.specs.declared.entry.Entry.{Entry}
+use Rattle.features.proofs.RowLemmas.{after, all_after}
 use Rattle.index_reader.specs.Shapes.{Line, FeatureView, wants_memory}
 use Rattle.index_reader.specs.declared.fault.LineFault.{LineFault}
 use Rattle.index_reader.specs.declared.fault.LineFault.TheVariants.{Skipped}
@@ -29,9 +30,6 @@ use Rattle.model.proofs.Fronts.{with_front, with_front-next}
 -- each of the rows comes before that name
 abbrev AllBefore : List ℕ → Written → Type 0
 AllBefore name rows = AllByRecursion (λ key. text_cmp key name ≡ Less) (keys_of rows)
-
-after : (name key : List ℕ) → text_cmp key name ≡ Less → text_cmp name key ≡ Greater
-after name key less = nat_list_cmp_total.antisymm name key ∙ ap ordering_reverse less
 
 -- so do they and a row before it
 before-last : (name : List ℕ) (row : List ℕ × List model.Entry) (rows : Written) → text_cmp row.0 name ≡ Less
@@ -127,12 +125,6 @@ all-rising fs rise = rising-behind [] [] fs (λ next less. tt) rise ∙ front-no
 
 -- ---- the rows that are read
 
-all-after : (name next : List ℕ) (keys : List (List ℕ)) → text_cmp name next ≡ Less
-    → AllByRecursion (λ key. text_cmp next key ≡ Less) keys → AllByRecursion (λ key. text_cmp name key ≡ Less) keys
-all-after name next [] less all = tt
-all-after name next (key ∷ keys) less (first, rest) =
-    (nat_list_cmp_total.trans name next key less first, all-after name next keys less rest)
-
 sorted-read : (name : List ℕ) (fs : List FeatureView) (rows : Written) → names_rise name fs ≡ true
     → features_read fs ≡ Ok rows → IsStrictlySortedBy text_cmp (name ∷ keys_of rows)
 unfolding features_read IsStrictlySortedBy
@@ -155,7 +147,7 @@ sorted-read name (f ∷ fs) rows rise read = by (λ row others rise read. sorted
         let sorted = later row.0 others rises.1 next in
         let whole : row ∷ others ≡ rows = cc in
         subst (λ rows. IsStrictlySortedBy text_cmp (name ∷ keys_of rows)) whole
-        ((rises.0, all-after name row.0 (keys_of others) rises.0 sorted.0), sorted)
+        ((rises.0, all_after name row.0 (keys_of others) rises.0 sorted.0), sorted)
 
 keys-rows : (es : List (List ℕ × Vec Entry Global)) → keys_of (rows_of es) ≡ keys_of es
 keys-rows [] = refl

@@ -119,8 +119,7 @@ fn unsolvable<F: Folder>(
 }
 
 /// What becomes of a lock that is another one than the old: with `--locked` that is an error, and `--write` hands it
-/// on.
-/// Without these it is told that nothing is written.
+/// on. Without these it is told that nothing is written.
 fn with_new_lock(
     alloc: Global,
     path: &str,

@@ -46,9 +46,8 @@ struct SoFar {
 }
 
 /// The sentences that tell a derivation: its needed steps in order, but for those that only restate a premise, and
-/// those
-/// that one step alone combines and that have few premises: at most two, or five where what they say isn't plain. The
-/// notes stand at the numbers of their steps.
+/// those that one step alone combines and that have few premises: at most two, or five where what they say isn't plain.
+/// The notes stand at the numbers of their steps.
 pub fn sentences_of(
     alloc: Global,
     derivation: &Derivation,
@@ -156,7 +155,7 @@ fn is_plain(notes: &[Note], number: usize) -> bool
     }
 }
 
-/// Whether a single sentence is all the premise.
+/// Whether a single sentence is the only premise.
 fn is_told_before(premises: &[Premise]) -> bool
     ensures { result ≡ is_told_before premises.now }
 {
