@@ -1,4 +1,5 @@
 pub mod LexLemmas
+pub mod ListLemmas
 pub mod PartsLemmas
 pub mod PunctuationLemmas
 pub mod ReadLemmas

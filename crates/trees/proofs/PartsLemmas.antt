@@ -132,14 +132,14 @@ module _ (rest : List ℕ) (ms : json.Members) where
 
 -- ---- what is read of a part
 
-record ReadOf (deep : ℕ) (bytes : List ℕ) (d : Data) : Type 0 where
-  part : Json
+pub record ReadOf (deep : ℕ) (bytes : List ℕ) (d : Data) : Type 0 where
+  pub part : Json
   begins : value deep (tokens bytes) ≡ Some (part, [])
-  spelt : tokens bytes ≡ json_tokens part
-  shallow : depth part ≤ deep
-  fits : numbers_fit part ≡ true
-  is : d ≡ data_of part
-  text : IsUtf8 bytes
+  pub spelt : tokens bytes ≡ json_tokens part
+  pub shallow : depth part ≤ deep
+  pub fits : numbers_fit part ≡ true
+  pub is : d ≡ data_of part
+  pub text : IsUtf8 bytes
 
 whole-is : (o : Option (Json × List Token)) (d : Data)
     → option_and_then of_json (option_and_then (λ p. if_last p.0 p.1) o) ≡ Some d
@@ -156,7 +156,7 @@ utf8-is : (b : Bool) (o : Option Data) (d : Data) → cond b o None ≡ Some d �
 utf8-is true o d e = (refl, e)
 utf8-is false o d e = cc
 
-read-of : (deep : ℕ) (bytes : List ℕ) (d : Data) → data_within deep bytes ≡ Some d → ReadOf deep bytes d
+pub read-of : (deep : ℕ) (bytes : List ℕ) (d : Data) → data_within deep bytes ≡ Some d → ReadOf deep bytes d
 read-of deep bytes d e =
     let text = utf8-is (is_utf8 bytes) (read_within deep bytes) d e in
     let j = whole-is (value deep (tokens bytes)) d text.1 in

@@ -1,10 +1,10 @@
 -- A line of the index by its parts: the line as Cargo's registry spells it, and what a part is read as that is a text
--- of its own.
-use Rattle.std.specs.Prelude.{ℕ, Bool, not, nat_le, ◌==◌, ◌&&◌, List, ◌++◌, Option, option_and_then, codes}
+-- of its own; and a list by its items.
+use Rattle.std.specs.Prelude.{ℕ, Bool, not, nat_le, ◌==◌, ◌&&◌, List, [], ◌∷◌, ◌++◌, Option, option_and_then, codes}
 use Rattle.std.specs.List.{list_all}
 use Rattle.json.specs.Json as json
 use Rattle.json.specs.Lex.{tokens}
-use Rattle.serde_json.specs.Data.{Data, string, Members, no_members, put}
+use Rattle.serde_json.specs.Data.{Data, string, Items, no_items, item, Members, no_members, put}
 use Rattle.serde_json.specs.Read.{of_json}
 use Rattle.model.specs.Optional.{of_utf8}
 
@@ -41,3 +41,18 @@ abbrev pub first_members : List ℕ → List ℕ → Data → List ℕ → Data 
 first_members name version deps checksum features =
     put (codes "features") features (put (codes "cksum") (string checksum) (put (codes "deps") deps
     (put (codes "vers") (string version) (put (codes "name") (string name) no_members))))
+
+-- the texts of a list's items with commas (44) between
+abbrev pub between_commas : List (List ℕ) → List ℕ
+between_commas [] = []
+between_commas (text ∷ []) = text
+between_commas (text ∷ next ∷ texts) = text ++ (44 ∷ between_commas (next ∷ texts))
+
+-- the list of such items
+abbrev pub list_of : List (List ℕ) → List ℕ
+list_of texts = codes "[" ++ (between_commas texts ++ codes "]")
+
+-- values as the items of a list
+abbrev pub items_of_data : List Data → Items
+items_of_data [] = no_items
+items_of_data (d ∷ ds) = item d (items_of_data ds)

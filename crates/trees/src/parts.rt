@@ -2,14 +2,15 @@
 //!
 //! Half of the lines of a file have the very bytes of the line before as dependencies and as features. So it is stated
 //! here that a line is read by its parts, each as a text of its own: what these bytes were read as once they are again.
+//! A list is read by its items likewise: one that is new as a whole may have items that aren't.
 
-ghost use Rattle.std.specs.Prelude.{◌≡◌, ◌≢◌, ℕ, ◌∷◌, List, Some, true, is_some};
+ghost use Rattle.std.specs.Prelude.{◌≡◌, ◌≢◌, ℕ, suc, ◌∷◌, List, map, Some, true, is_some};
 ghost use Rattle.std.specs.Option.{option_or};
 ghost use Rattle.json.specs.Json as json;
 ghost use Rattle.json.specs.Lex.{tokens};
-ghost use Rattle.serde_json.specs.Data.{Data, Members, no_members, object};
+ghost use Rattle.serde_json.specs.Data.{Data, Members, array, no_members, object};
 ghost use Rattle.serde_json.specs.Find.{get_member};
-ghost use Rattle.trees.specs.Parts.{data_within, first_members, is_plain, line_of, part_depth};
+ghost use Rattle.trees.specs.Parts.{data_within, first_members, is_plain, items_of_data, line_of, list_of, part_depth};
 ghost use Rattle.trees.specs.Tokens.{json_from};
 ghost use Rattle.trees.specs.Trees.{data_of_bytes, members_of};
 
@@ -36,4 +37,11 @@ pub fn lines_have_what_parts_have()
         → (all : Members) × (data_of_bytes (line_of name version deps checksum features rest) ≡ Some (object all))
         × ((key : List ℕ) → get_member key all
         ≡ option_or (get_member key others) (get_member key (first_members name version d checksum f))) }
+{}
+
+/// A list of texts, each of which is read on its own one level less deep, is read as the list of what these are.
+pub fn lists_are_read_by_items()
+    ensures { (depth : ℕ) (texts : List (List ℕ)) (ds : List Data)
+        → map (data_within depth) texts ≡ map Some ds
+        → data_within (suc depth) (list_of texts) ≡ Some (array (items_of_data ds)) }
 {}
