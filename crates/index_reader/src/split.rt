@@ -76,10 +76,15 @@ fn plain_text<'a>(bytes: &'a [u8]) -> Option<(&'a str, &'a [u8])>
     }
 }
 
+/// Without an end at the first byte that isn't plain, so that many are looked at at a time.
 fn is_plain(text: &[u8]) -> bool
     ensures { result ≡ is_plain text.now }
 {
-    text.iter().all(|b| is_plain_byte(*b))
+    let mut all = true;
+    'bytes: for byte in text {
+        all &= is_plain_byte(*byte);
+    }
+    all
 }
 
 fn is_plain_byte(byte: u8) -> bool
