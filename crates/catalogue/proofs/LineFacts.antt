@@ -70,3 +70,18 @@ full-few (b ∷ bytes) =
     let few = later-few b bytes in
     let f = full-later (slice_split is_line_end (b ∷ bytes)) in
     omega (arith, few, f)
+
+-- and these no more than the bytes
+pub lines_few : (bytes : List ℕ) → line_count bytes ≤ length bytes
+lines_few [] = omega arith
+lines_few (b ∷ []) = by (is_line_end b) refl
+  where
+    by : (t : Bool) → is_line_end b ≡ t → line_count (b ∷ []) ≤ length (b ∷ [])
+    by true e = let k = count-cons b [] in rw (k, e) (omega arith)
+    by false e = let k = count-cons b [] in rw (k, e) (omega arith)
+lines_few (b ∷ c ∷ bytes) = by (is_line_end b) refl (lines_few (c ∷ bytes))
+  where
+    by : (t : Bool) → is_line_end b ≡ t → line_count (c ∷ bytes) ≤ length (c ∷ bytes)
+        → line_count (b ∷ c ∷ bytes) ≤ length (b ∷ c ∷ bytes)
+    by true e few = let k = count-cons b (c ∷ bytes) in rw (k, e, open-cons b c bytes) (omega (arith, few))
+    by false e few = let k = count-cons b (c ∷ bytes) in rw (k, e, open-cons b c bytes) (omega (arith, few))

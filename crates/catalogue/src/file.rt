@@ -50,14 +50,16 @@ fn read_bytes(
 /// A file past the limits isn't read.
 ///
 /// # Errors
-/// `TooLarge` where it has more bytes than `MAX_BYTES`, or else more lines than are read.
+/// `TooLarge` where it has more bytes than `MAX_BYTES`, or else more lines than are read. Lines are counted only where
+/// there are as many bytes: each line has one at least.
+#[tactic(auto, using(crate::proofs::LineFacts::lines_few))]
 pub fn check_file(name: &PackageName, bytes: &[u8]) -> Result<(), LoadFault>
     ensures { SaysOfLimits name.now bytes.now result }
 {
     if bytes.len() > MAX_BYTES {
         return Err(LoadFault::TooLarge(Limit::File(name.clone()?)));
     }
-    if lines(bytes) > MAX_LINES {
+    if bytes.len() > MAX_LINES && lines(bytes) > MAX_LINES {
         return Err(LoadFault::TooLarge(Limit::Lines(name.clone()?)));
     }
     Ok(())
