@@ -1,7 +1,7 @@
 //! A folder on a disk.
 
 use crate::folder::{Folder, FolderFault};
-use crate::opened::{FileFault, Opens, path_below, read_at};
+use crate::opened::{FileFault, Opens, path_below, read_at_in};
 use std::alloc::AllocError;
 use std::marker::Model;
 
@@ -15,6 +15,8 @@ pub struct DiskFolder<O: Opens + AllocGlobal + Clone + Drop> {
     opener: O,
     path: String,
     failures: u64,
+    /// What files are read into.
+    room: Vec<u8>,
 }
 
 impl<O: Opens + AllocGlobal + Clone + Drop> Model for DiskFolder<O> {
@@ -40,6 +42,7 @@ impl<O: Opens + AllocGlobal + Clone + Drop> DiskFolder<O> {
             opener: opener.clone()?,
             path: String::from_str(opener.alloc(), path)?,
             failures: 0,
+            room: Vec::new(opener.alloc()),
         })
     }
 
@@ -77,7 +80,8 @@ impl<O: Opens + AllocGlobal + Clone + Drop> Folder for DiskFolder<O> {
         let Ok(whole) = path_below(alloc, self.path.as_str(), path) else {
             return Err(FolderFault::OutOfMemory);
         };
-        let given = read_at(&self.opener, alloc, whole.as_str(), MOST_READ);
+        let room = &mut self.room;
+        let given = read_at_in(&self.opener, alloc, room, whole.as_str(), MOST_READ);
         self.answer(given)
     }
 
