@@ -1,5 +1,6 @@
 pub mod LexLemmas
 pub mod ListLemmas
+pub mod ObjectLemmas
 pub mod PartsLemmas
 pub mod PunctuationLemmas
 pub mod ReadLemmas

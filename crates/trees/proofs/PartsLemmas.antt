@@ -64,14 +64,14 @@ escape_plain (x ∷ s) h =
     ap₂ (λ (a b : List ℕ). a ++ b)
     (escape_byte_plain x (eqb-false x 34 p.no_quote) (eqb-false x 92 p.no_backslash) p.from) (escape_plain s both.1)
 
-ascii_plain : (s : List ℕ) → is_plain s ≡ true → are_ascii s ≡ true
+pub ascii_plain : (s : List ℕ) → is_plain s ≡ true → are_ascii s ≡ true
 ascii_plain [] h = refl
 ascii_plain (x ∷ s) h =
     let both = and_parts (is_plain_byte x) (is_plain s) h in
     let p = a_plain_byte x both.0 in
     ap₂ (λ a b. a && b) (lt-ltb x 128 (omega (arith, p.to))) (ascii_plain s both.1)
 
-lex-plain : (s r : List ℕ) → is_plain s ≡ true
+pub lex-plain : (s r : List ℕ) → is_plain s ≡ true
     → lex between (34 ∷ (s ++ 34 ∷ r)) ≡ token (string s) ∷ lex between r
 unfolding lex
 lex-plain s r h =

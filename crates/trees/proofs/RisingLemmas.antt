@@ -4,6 +4,7 @@ use Rattle.std.proofs.Common.{Bor, refl, sym, ap, ◌∙◌}
 use Rattle.std.specs.Ordering.{nat_cmp, ordering_reverse, is_lt}
 use Rattle.std.specs.Cmp.Lexicographic.{slice_cmp, nat_list_cmp_total}
 use Rattle.serde_json.specs.Data.{Data, Members, no_members, member, put}
+use Rattle.trees.specs.Parts.{keys_rise, members_put, members_in_order}
 use Rattle.trees.specs.Trees.{put_all, entries_view, listed_view, rise_after, tree_view}
 use Rattle.trees.specs.declared.tree.Tree.{Tree}
 
@@ -63,3 +64,21 @@ put-listed found k (m ∷ ms) below rise =
 
 pub entries-listed : (ms : List Member) → rise_after [] ms ≡ true → entries_view ms ≡ listed_view ms
 entries-listed ms rise = put-listed no_members [] ms (λ l less. tt) rise
+
+-- ---- the same of members that are values already
+
+put-in_order : (found : Members) (k : List ℕ) (ms : List (List ℕ × Data))
+    → ((l : List ℕ) → slice_cmp nat_cmp k l ≡ Less → Below found l) → keys_rise k ms ≡ true
+    → members_put ms found ≡ behind found (members_in_order ms)
+put-in_order found k [] below rise = sym (behind-none found)
+put-in_order found k (m ∷ ms) below rise =
+    let rises = both (is_lt (slice_cmp nat_cmp k m.0)) (keys_rise m.0 ms) rise in
+    let here = below m.0 (is_less (slice_cmp nat_cmp k m.0) rises.0) in
+    ap (members_put ms) (put-last found m.0 m.1 here)
+    ∙ put-in_order (behind found (member m.0 m.1 no_members)) m.0 ms
+    (λ l less. below-next found m.0 l m.1 here less) rises.1
+    ∙ behind-one found m.0 m.1 (members_in_order ms)
+
+pub members-stay : (ms : List (List ℕ × Data)) → keys_rise [] ms ≡ true
+    → members_put ms no_members ≡ members_in_order ms
+members-stay ms rise = put-in_order no_members [] ms (λ l less. tt) rise

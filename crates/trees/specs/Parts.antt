@@ -1,10 +1,13 @@
 -- A line of the index by its parts: the line as Cargo's registry spells it, and what a part is read as that is a text
--- of its own; and a list by its items.
-use Rattle.std.specs.Prelude.{ℕ, Bool, not, nat_le, ◌==◌, ◌&&◌, List, [], ◌∷◌, ◌++◌, Option, option_and_then, codes}
+-- of its own; and a list by its items, an object by its members.
+use Rattle.std.specs.Prelude.{ℕ, Bool, true, not, nat_le, ◌==◌, ◌&&◌, List, [], ◌∷◌, ◌++◌, map, Option, option_and_then}
+use Rattle.std.specs.Prelude.{codes}
+use Rattle.std.specs.Cmp.Lexicographic.{slice_cmp}
 use Rattle.std.specs.List.{list_all}
+use Rattle.std.specs.Ordering.{is_lt, nat_cmp}
 use Rattle.json.specs.Json as json
 use Rattle.json.specs.Lex.{tokens}
-use Rattle.serde_json.specs.Data.{Data, string, Items, no_items, item, Members, no_members, put}
+use Rattle.serde_json.specs.Data.{Data, string, Items, no_items, item, Members, no_members, member, put}
 use Rattle.serde_json.specs.Read.{of_json}
 use Rattle.model.specs.Optional.{of_utf8}
 
@@ -56,3 +59,30 @@ list_of texts = codes "[" ++ (between_commas texts ++ codes "]")
 abbrev pub items_of_data : List Data → Items
 items_of_data [] = no_items
 items_of_data (d ∷ ds) = item d (items_of_data ds)
+
+-- a member of an object: its key, a plain text, and what stands there
+abbrev pub member_text : List ℕ × List ℕ → List ℕ
+member_text m = codes "\"" ++ (m.0 ++ (codes "\":" ++ m.1))
+
+-- the texts of an object's members with commas between
+abbrev pub members_text : List (List ℕ × List ℕ) → List ℕ
+members_text ms = between_commas (map member_text ms)
+
+-- the object of such members
+abbrev pub object_text : List (List ℕ × List ℕ) → List ℕ
+object_text ms = codes "{" ++ (members_text ms ++ codes "}")
+
+-- members put in turn to those that are there: of a key that comes twice the last stays
+abbrev pub members_put : List (List ℕ × Data) → Members → Members
+members_put [] found = found
+members_put (m ∷ ms) found = members_put ms (put m.0 m.1 found)
+
+-- members in this order
+abbrev pub members_in_order : List (List ℕ × Data) → Members
+members_in_order [] = no_members
+members_in_order (m ∷ ms) = member m.0 m.1 (members_in_order ms)
+
+-- each key comes after the one before it, and the first after this one
+abbrev pub keys_rise : {A : Type 0} → List ℕ → List (List ℕ × A) → Bool
+keys_rise key [] = true
+keys_rise key (m ∷ ms) = is_lt (slice_cmp nat_cmp key m.0) && keys_rise m.0 ms

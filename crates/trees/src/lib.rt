@@ -29,6 +29,9 @@ pub use looking::{
     Members, are_rising, as_flag, as_list, as_members, as_text, as_whole, by_key, is_null, item,
     member,
 };
-pub use parts::{lines_are_read_by_parts, lines_have_what_parts_have, lists_are_read_by_items};
+pub use parts::{
+    lines_are_read_by_parts, lines_have_what_parts_have, lists_are_read_by_items, objects_are_read_by_members,
+    rising_members_stay,
+};
 pub use reading::{read_tape, read_tape_within, root};
 pub use tree::{Elements, Entries, Tree};

@@ -2,15 +2,18 @@
 //!
 //! Half of the lines of a file have the very bytes of the line before as dependencies and as features. So it is stated
 //! here that a line is read by its parts, each as a text of its own: what these bytes were read as once they are again.
-//! A list is read by its items likewise: one that is new as a whole may have items that aren't.
+//! A list is read by its items likewise, and an object by its members: one that is new as a whole may have items that
+//! aren't.
 
-ghost use Rattle.std.specs.Prelude.{◌≡◌, ◌≢◌, ℕ, suc, ◌∷◌, List, map, Some, true, is_some};
+ghost use Rattle.std.specs.Prelude.{◌≡◌, ◌≢◌, ℕ, suc, [], ◌∷◌, List, map, Some, true, is_some};
+ghost use Rattle.std.specs.List.{list_all, zip};
 ghost use Rattle.std.specs.Option.{option_or};
 ghost use Rattle.json.specs.Json as json;
 ghost use Rattle.json.specs.Lex.{tokens};
 ghost use Rattle.serde_json.specs.Data.{Data, Members, array, no_members, object};
 ghost use Rattle.serde_json.specs.Find.{get_member};
-ghost use Rattle.trees.specs.Parts.{data_within, first_members, is_plain, items_of_data, line_of, list_of, part_depth};
+ghost use Rattle.trees.specs.Parts.{data_within, first_members, is_plain, items_of_data, keys_rise, line_of, list_of};
+ghost use Rattle.trees.specs.Parts.{members_in_order, members_put, object_text, part_depth};
 ghost use Rattle.trees.specs.Tokens.{json_from};
 ghost use Rattle.trees.specs.Trees.{data_of_bytes, members_of};
 
@@ -44,4 +47,19 @@ pub fn lists_are_read_by_items()
     ensures { (depth : ℕ) (texts : List (List ℕ)) (ds : List Data)
         → map (data_within depth) texts ≡ map Some ds
         → data_within (suc depth) (list_of texts) ≡ Some (array (items_of_data ds)) }
+{}
+
+/// An object of plain keys, whose values are each read on their own one level less deep, is read as these members put
+/// in turn.
+pub fn objects_are_read_by_members()
+    ensures { (depth : ℕ) (ms : List (List ℕ × List ℕ)) (ds : List Data)
+        → list_all (λ m. is_plain m.0) ms ≡ true
+        → map (λ m. data_within depth m.1) ms ≡ map Some ds
+        → data_within (suc depth) (object_text ms)
+        ≡ Some (object (members_put (zip (map (λ m. m.0) ms) ds) no_members)) }
+{}
+
+/// Members whose keys rise stay in their order when they are put in turn.
+pub fn rising_members_stay()
+    ensures { (ms : List (List ℕ × Data)) → keys_rise [] ms ≡ true → members_put ms no_members ≡ members_in_order ms }
 {}
