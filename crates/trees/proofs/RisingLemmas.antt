@@ -1,6 +1,6 @@
 -- Members whose keys rise stay as they are listed when they are put one after another.
 use Rattle.std.proofs.Common.{◌≡◌, ℕ, List, [], ◌∷◌, Bool, true, false, ◌&&◌, Ordering, Less, Equal, Greater}
-use Rattle.std.proofs.Common.{Bor, refl, sym, ap, ◌∙◌}
+use Rattle.std.proofs.Common.{map, Bor, refl, sym, ap, ◌∙◌}
 use Rattle.std.specs.Ordering.{nat_cmp, ordering_reverse, is_lt}
 use Rattle.std.specs.Cmp.Lexicographic.{slice_cmp, nat_list_cmp_total}
 use Rattle.serde_json.specs.Data.{Data, Members, no_members, member, put}
@@ -47,26 +47,6 @@ both : (a b : Bool) → (a && b) ≡ true → (a ≡ true) × (b ≡ true)
 both true b e = (refl, e)
 both false b e = cc
 
-abbrev Member : Type 0
-Member = Bor (List ℕ) × Tree
-
-put-listed : (found : Members) (k : List ℕ) (ms : List Member)
-    → ((l : List ℕ) → slice_cmp nat_cmp k l ≡ Less → Below found l) → rise_after k ms ≡ true
-    → put_all ms found ≡ behind found (listed_view ms)
-put-listed found k [] below rise = sym (behind-none found)
-put-listed found k (m ∷ ms) below rise =
-    let rises = both (is_lt (slice_cmp nat_cmp k m.0.now)) (rise_after m.0.now ms) rise in
-    let here = below m.0.now (is_less (slice_cmp nat_cmp k m.0.now) rises.0) in
-    ap (put_all ms) (put-last found m.0.now (tree_view m.1) here)
-    ∙ put-listed (behind found (member m.0.now (tree_view m.1) no_members)) m.0.now ms
-    (λ l less. below-next found m.0.now l (tree_view m.1) here less) rises.1
-    ∙ behind-one found m.0.now (tree_view m.1) (listed_view ms)
-
-pub entries-listed : (ms : List Member) → rise_after [] ms ≡ true → entries_view ms ≡ listed_view ms
-entries-listed ms rise = put-listed no_members [] ms (λ l less. tt) rise
-
--- ---- the same of members that are values already
-
 put-in_order : (found : Members) (k : List ℕ) (ms : List (List ℕ × Data))
     → ((l : List ℕ) → slice_cmp nat_cmp k l ≡ Less → Below found l) → keys_rise k ms ≡ true
     → members_put ms found ≡ behind found (members_in_order ms)
@@ -82,3 +62,27 @@ put-in_order found k (m ∷ ms) below rise =
 pub members-stay : (ms : List (List ℕ × Data)) → keys_rise [] ms ≡ true
     → members_put ms no_members ≡ members_in_order ms
 members-stay ms rise = put-in_order no_members [] ms (λ l less. tt) rise
+
+-- ---- the same of members whose values are trees
+
+abbrev Member : Type 0
+Member = Bor (List ℕ) × Tree
+
+abbrev values : List Member → List (List ℕ × Data)
+values ms = map (λ m. (m.0.now, tree_view m.1)) ms
+
+put-values : (ms : List Member) (found : Members) → put_all ms found ≡ members_put (values ms) found
+put-values [] found = refl
+put-values (m ∷ ms) found = put-values ms (put m.0.now (tree_view m.1) found)
+
+listed-values : (ms : List Member) → members_in_order (values ms) ≡ listed_view ms
+listed-values [] = refl
+listed-values (m ∷ ms) = ap (member m.0.now (tree_view m.1)) (listed-values ms)
+
+rise-values : (k : List ℕ) (ms : List Member) → keys_rise k (values ms) ≡ rise_after k ms
+rise-values k [] = refl
+rise-values k (m ∷ ms) = ap (λ b. is_lt (slice_cmp nat_cmp k m.0.now) && b) (rise-values m.0.now ms)
+
+pub entries-listed : (ms : List Member) → rise_after [] ms ≡ true → entries_view ms ≡ listed_view ms
+entries-listed ms rise =
+    put-values ms no_members ∙ members-stay (values ms) (rise-values [] ms ∙ rise) ∙ listed-values ms

@@ -30,8 +30,8 @@ pub use looking::{
     member,
 };
 pub use parts::{
-    lines_are_read_by_parts, lines_have_what_parts_have, lists_are_read_by_items, objects_are_read_by_members,
-    rising_members_stay,
+    lines_are_read_by_parts, lines_have_what_parts_have, lists_are_read_by_items,
+    objects_are_read_by_members, rising_members_stay,
 };
 pub use reading::{read_tape, read_tape_within, root};
 pub use tree::{Elements, Entries, Tree};
