@@ -9,7 +9,7 @@ ghost use Rattle.features.specs.Views.{wants_memory};
 
 use crate::feature_name::FeatureName;
 use crate::name::{NameFault, PackageName};
-use std::alloc::Global;
+use std::alloc::{AllocError, Global};
 use thiserror::Error;
 
 /// What a feature puts on (Cargo book, "Features").
@@ -23,6 +23,23 @@ pub enum Entry {
     DependencyFeature(PackageName, FeatureName),
     /// `d?/g`: a feature of the target of the dependency called d, where something else enables that one.
     WeakFeature(PackageName, FeatureName),
+}
+
+impl Clone for Entry {
+    ghost is_clone = { λ entry copy. entry_view copy ≡ entry_view entry };
+
+    fn clone(&self) -> Result<Entry, AllocError> {
+        match self {
+            Entry::Feature(feature) => Ok(Entry::Feature(feature.clone()?)),
+            Entry::Dependency(name) => Ok(Entry::Dependency(name.clone()?)),
+            Entry::DependencyFeature(name, feature) => {
+                Ok(Entry::DependencyFeature(name.clone()?, feature.clone()?))
+            }
+            Entry::WeakFeature(name, feature) => {
+                Ok(Entry::WeakFeature(name.clone()?, feature.clone()?))
+            }
+        }
+    }
 }
 
 /// Why a text is no entry.
