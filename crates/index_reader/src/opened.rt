@@ -50,9 +50,14 @@ pub trait Fronted {
     /// An error that reading them ended with.
     ghost fails: { Self → Error → Type 0 };
 
-    /// The first bytes that are left, but at most this many. They may be read by way of the room, which grows if it is
-    /// empty; what it holds means nothing, so that one room does for many files.
-    fn front(self, alloc: Global, room: &mut Vec<u8>, most: u64) -> io::Result<Vec<u8>>
+    /// The first bytes that are left, but at most this many.
+    fn front(self, alloc: Global, most: u64) -> io::Result<Vec<u8>>
+        ensures bytes { IfOk result (λ bytes. IfSome (left self) (λ whole. bytes.items ≡ take most whole)) }
+        ensures failed { IfErr result (fails self) };
+
+    /// The same. They may be read by way of the room, which grows if it is empty; what it holds means nothing, so that
+    /// one room does for many files.
+    fn front_in(self, alloc: Global, room: &mut Vec<u8>, most: u64) -> io::Result<Vec<u8>>
         ensures bytes { IfOk result (λ bytes. IfSome (left self) (λ whole. bytes.items ≡ take most whole)) }
         ensures failed { IfErr result (fails self) };
 }
@@ -74,7 +79,11 @@ impl<F: Read + Drop> Fronted for F {
 
     ghost fails = { λ _ _. Unit {0} };
 
-    fn front(self, alloc: Global, room: &mut Vec<u8>, most: u64) -> io::Result<Vec<u8>> {
+    fn front(self, alloc: Global, most: u64) -> io::Result<Vec<u8>> {
+        self.front_in(alloc, &mut Vec::new(alloc), most)
+    }
+
+    fn front_in(self, alloc: Global, room: &mut Vec<u8>, most: u64) -> io::Result<Vec<u8>> {
         if room.is_empty() {
             room.resize(ROOM, 0)?;
         }
@@ -155,7 +164,7 @@ fn front_at<O: Opens>(
     ensures { IsFront (O.opens opener.now) O.File.left O.File.fails path.now most result }
 {
     let file = opener.open_at(path)?;
-    file.front(alloc, room, most)
+    file.front_in(alloc, room, most)
 }
 
 /// Only a growth that failed here is want of memory: what the system lacks makes the file unreadable.

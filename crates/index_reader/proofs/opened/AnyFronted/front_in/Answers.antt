@@ -1,7 +1,7 @@
 use Rattle.std.proofs.Common.{◌≡◌, IfOk, IfSome, ℕ, List, Option, None, Some, Result, Ok, Err, Vec, take, option_map}
 use Rattle.std.specs.declared.alloc.Global.{Global}
 use Rattle.std.specs.declared.io.Error.{Error}
-use Rattle.index_reader.proofs.opened.AnyFronted.front.Goals as goal
+use Rattle.index_reader.proofs.opened.AnyFronted.front_in.Goals as goal
 
 -- all of the first bytes that are left are the first of those that are left
 first_of_left : (r : Result (Vec ℕ Global) Error) (most : ℕ) (left : Option (List ℕ))
