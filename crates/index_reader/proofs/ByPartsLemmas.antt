@@ -110,10 +110,10 @@ has-parts name version checksum deps features others found lacking at =
 
 -- ---- what these make
 
-goes : {A B : Type 0} (m : Line A) (f : A → Line B) (x : A) (y : Line B) → m ≡ Ok x → f x ≡ y → (m >>= f) ≡ y
+pub goes : {A B : Type 0} (m : Line A) (f : A → Line B) (x : A) (y : Line B) → m ≡ Ok x → f x ≡ y → (m >>= f) ≡ y
 goes m f x y is then = ap (λ r. r >>= f) is ∙ then
 
-steps : {A B : Type 0} (m : Line A) (f : A → Line B) (y : B) → (m >>= f) ≡ Ok y
+pub steps : {A B : Type 0} (m : Line A) (f : A → Line B) (y : B) → (m >>= f) ≡ Ok y
     → (x : A) × (m ≡ Ok x) × (f x ≡ Ok y)
 steps (Ok x) f y is = (x, refl, is)
 steps (Err e) f y is = cc
@@ -192,11 +192,11 @@ features-alone s names table named none is =
     goes (written_of s) _ written.0 _ (nothing-more s written.0 none written.1)
     (ap (λ ds. unless_faulty (table_of ds written.0)) named ∙ written.2)
 
-passed : (test : Bool) (why : SkipReason) (u : Unit {0}) → unless test why ≡ Ok u → test ≡ true
+pub passed : (test : Bool) (why : SkipReason) (u : Unit {0}) → unless test why ≡ Ok u → test ≡ true
 passed true why u is = refl
 passed false why u is = cc
 
-there : (o : Option Data) (d : Data) → ok_or o (Skipped NotJson) ≡ Ok d → o ≡ Some d
+pub there : (o : Option Data) (d : Data) → ok_or o (Skipped NotJson) ≡ Ok d → o ≡ Some d
 there None d is = cc
 there (Some e) d is = cc
 

@@ -2,6 +2,7 @@ pub mod ReadLemmas
 pub mod PartLemmas
 pub mod CutLemmas
 pub mod ByPartsLemmas
+pub mod ItemsLemmas
 pub mod PathLemmas
 pub mod WrittenLemmas
 pub mod MadeLemmas

@@ -1,6 +1,6 @@
 -- A line that is read by its parts, so that what the line before has too need not be read again.
-use Rattle.std.specs.Prelude.{ℕ, ◌≡◌, Bool, true, false, not, ◌==◌, ◌&&◌, ◌||◌, List, [], ◌∷◌, Option, Some, is_none}
-use Rattle.std.specs.Prelude.{Ok, codes}
+use Rattle.std.specs.Prelude.{ℕ, ◌≡◌, Bool, true, false, not, ◌==◌, ◌&&◌, ◌||◌, List, [], ◌∷◌, Option, Some, None}
+use Rattle.std.specs.Prelude.{is_none, Ok, codes}
 use Rattle.std.specs.List.{list_all}
 use Rattle.std.specs.Option.{ok_or}
 use Rattle.semver.specs.Parse.{version_parts}
@@ -12,10 +12,12 @@ use Rattle.model.specs.Summary.{Table}
 use Rattle.model.specs.Tables.{DepName, table_of}
 use Rattle.features.specs.Names.{is_package_name}
 use Rattle.trees.specs.Parts.{data_within, is_plain, line_of, part_depth}
-use Rattle.index_reader.specs.Records.{RecordView, dependencies_read, is_of_index, required, semver_or, unless}
-use Rattle.index_reader.specs.Shapes.{Line, DependencyView, FeatureView, data_of_bytes, features_or_none, flag_at}
-use Rattle.index_reader.specs.Shapes.{needed_dependencies, rust_version_at, unless_null, whole_at}
-use Rattle.index_reader.specs.Written.{dep_names_of, unless_faulty, with_features}
+use Rattle.index_reader.specs.Records.{RecordView, dependencies_read, dependency_read, is_of_index, required}
+use Rattle.index_reader.specs.Records.{required_part, semver_or, unless}
+use Rattle.index_reader.specs.Shapes.{Line, DependencyView, dev, part, FeatureView, data_of_bytes, dependency_of}
+use Rattle.index_reader.specs.Shapes.{features_or_none, flag_at, needed_dependencies, rust_version_at, unless_null}
+use Rattle.index_reader.specs.Shapes.{whole_at}
+use Rattle.index_reader.specs.Written.{dep_name_of, dep_names_of, unless_faulty, with_features}
 use Rattle.index_reader.specs.declared.fault.LineFault.TheVariants.{Skipped}
 use Rattle.index_reader.specs.declared.fault.SkipReason.TheVariants as reason
 use Rattle.index_reader.specs.declared.split.LineParts.{LineParts}
@@ -43,6 +45,24 @@ dependencies_of_bytes bytes = do
   registries ← unless (list_all is_of_index shapes) reason.OtherRegistry
   dependencies ← dependencies_of_shapes shapes
   Ok (dep_names_of shapes, dependencies)
+
+-- how deep an item of such a list may nest: one level less than the list
+abbrev pub item_depth : ℕ
+item_depth = 125
+
+-- the dependency that one of a line is, if it takes part
+abbrev pub taking_part : DependencyView → Line (Option model.Dependency)
+taking_part (dev name) = Ok None
+taking_part (part p) = required_part p >>= λ required. dependency_read required >>= λ d. Ok (Some d)
+
+-- the dependency that the bytes of an item are, if it takes part, and what it is called
+unfoldable pub item_of_bytes : List ℕ → Line (DepName × Option model.Dependency)
+item_of_bytes bytes = do
+  d ← ok_or (data_within item_depth bytes) (Skipped reason.NotJson)
+  shape ← dependency_of d
+  registry ← unless (is_of_index shape) reason.OtherRegistry
+  dependency ← taking_part shape
+  Ok (dep_name_of shape, dependency)
 
 -- the table that features make with no further ones, where dependencies are called so
 abbrev pub table_alone : List DepName → List FeatureView → Line Table

@@ -6,6 +6,7 @@ pub mod Made
 pub mod Records
 pub mod Known
 pub mod ByParts
+pub mod Items
 pub mod Reasons
 pub mod Files
 pub mod Views

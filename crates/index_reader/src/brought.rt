@@ -5,18 +5,18 @@ ghost use Rattle.model.specs.Outcome.{Gives};
 ghost use Rattle.features.specs.Tables.{dep_names_view};
 ghost use Rattle.features.specs.Views.{dependency_views};
 ghost use Rattle.index_reader.specs.Shapes.{wants_memory};
-ghost use Rattle.index_reader.specs.ShapeViews.{line_dependency_views};
-ghost use Rattle.index_reader.specs.ByParts.{dependencies_of_bytes, dependencies_of_shapes, table_of_bytes};
+ghost use Rattle.index_reader.specs.ByParts.{dependencies_of_bytes, table_of_bytes};
 
 use crate::fault::LineFault;
+use crate::item::ItemRead;
+use crate::items::{items_after, names, those_taking_part};
 use crate::known::KnownDependencies;
-use crate::line::{check_registries, dependencies, requirements};
 use crate::made::are_names;
 use crate::parts::unless_null;
-use crate::shape::{DependencyShape, features_if_any, needed_dependencies};
+use crate::shape::features_if_any;
 use crate::split::LineParts;
 use crate::values::read_part;
-use crate::written::{dep_names, features_alone};
+use crate::written::features_alone;
 use features::{DepName, Dependency, FeatureTable, Summary};
 use json::Scratch;
 use std::alloc::{AllocError, Global};
@@ -26,6 +26,8 @@ use trees::root;
 #[derive(Drop)]
 struct DependenciesRead<'a> {
     bytes: &'a [u8],
+    /// Each of them with its own bytes.
+    items: Vec<ItemRead<'a>>,
     /// What those of each kind are called.
     names: Vec<DepName>,
     dependencies: Vec<Dependency>,
@@ -58,11 +60,12 @@ pub(crate) fn brought_after<'a>(
     ensures features { IfOk result (λ b. b.features.now ≡ line.now.features.now) }
 {
     let Some(before) = before else {
-        let dependencies = read_dependencies(alloc, line.dependencies, scratch, known)?;
+        let dependencies = dependencies_after(alloc, line.dependencies, &[], scratch, known)?;
         return with_features(alloc, dependencies, line.features, scratch);
     };
     if before.dependencies.bytes != line.dependencies {
-        let dependencies = read_dependencies(alloc, line.dependencies, scratch, known)?;
+        let items = &before.dependencies.items;
+        let dependencies = dependencies_after(alloc, line.dependencies, items, scratch, known)?;
         return before.with_dependencies(alloc, dependencies, line.features, scratch);
     }
     if before.features != line.features {
@@ -89,35 +92,25 @@ fn with_features<'a>(
     })
 }
 
-#[tactic(auto, unfolding(crate::specs::ByParts::dependencies_of_bytes))]
-fn read_dependencies<'a>(
+/// The dependencies of a list: what those of the line before said, as far as their bytes are the same.
+fn dependencies_after<'a>(
     alloc: Global,
     bytes: &'a [u8],
+    before: &[ItemRead<'a>],
     scratch: &mut Scratch,
     known: &mut KnownDependencies,
 ) -> Result<DependenciesRead<'a>, LineFault>
     ensures { IfOk result (λ d. d.bytes.now ≡ bytes.entry.now) }
 {
-    let tape = read_part(alloc, bytes, scratch)?;
-    let shapes = needed_dependencies(alloc, &unless_null(root(&tape)))?;
-    check_registries(&shapes)?;
+    let items = items_after(alloc, bytes, before, scratch, known)?;
+    let names = names(alloc, &items)?;
+    let dependencies = those_taking_part(alloc, &items)?;
     Ok(DependenciesRead {
         bytes,
-        names: dep_names(alloc, &shapes)?,
-        dependencies: dependencies_of(alloc, &shapes, known)?,
+        items,
+        names,
+        dependencies,
     })
-}
-
-fn dependencies_of(
-    alloc: Global,
-    shapes: &[DependencyShape<'_>],
-    known: &mut KnownDependencies,
-) -> Result<Vec<Dependency>, LineFault>
-    ensures { Gives wants_memory (λ v. dependency_views v.items) result
-        (dependencies_of_shapes (line_dependency_views shapes.now)) }
-{
-    let parts = requirements(alloc, shapes, known)?;
-    dependencies(alloc, parts, known)
 }
 
 /// The table that features make where dependencies are called so.

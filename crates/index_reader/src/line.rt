@@ -186,7 +186,7 @@ fn fault_of(e: semver::Error, why: SkipReason) -> LineFault
 
 /// The dependencies that take part, with their requirements.
 #[tactic(auto, unfolding(crate::specs::Records::required))]
-pub(crate) fn requirements<'p, 'a>(
+fn requirements<'p, 'a>(
     alloc: Global,
     shapes: &'p [DependencyShape<'a>],
     known: &KnownDependencies,
@@ -204,7 +204,7 @@ pub(crate) fn requirements<'p, 'a>(
 }
 
 /// A dependency that takes part, with its requirement: one that was read before, where it says the same.
-fn part_required<'p, 'a>(
+pub(crate) fn part_required<'p, 'a>(
     alloc: Global,
     part: &'p PartShape<'a>,
     known: &KnownDependencies,
@@ -222,7 +222,7 @@ fn part_required<'p, 'a>(
 
 /// The dependencies, of which those that weren't known are now.
 #[tactic(auto, unfolding(crate::specs::Records::dependencies_read))]
-pub(crate) fn dependencies(
+fn dependencies(
     alloc: Global,
     parts: Vec<Required<'_, '_>>,
     known: &mut KnownDependencies,
@@ -237,7 +237,7 @@ pub(crate) fn dependencies(
     Ok(found)
 }
 
-fn dependency(
+pub(crate) fn dependency(
     alloc: Global,
     required: Required<'_, '_>,
     known: &mut KnownDependencies,
@@ -303,7 +303,7 @@ fn feature_names(alloc: Global, texts: &[&str]) -> Result<Vec<FeatureName>, Line
 
 /// A dependency of another registry is one of another index.
 #[tactic(auto, using(crate::proofs::ReadLemmas::views))]
-pub(crate) fn check_registries(dependencies: &[DependencyShape<'_>]) -> Result<(), LineFault>
+fn check_registries(dependencies: &[DependencyShape<'_>]) -> Result<(), LineFault>
     ensures { Gives wants_memory (λ u. u) result
         (unless (list_all is_of_index (line_dependency_views dependencies.now)) SkipReason.OtherRegistry) }
 {
@@ -316,7 +316,7 @@ fn are_of_index(dependencies: &[DependencyShape<'_>]) -> bool
     dependencies.iter().all(|d| is_of_index(d))
 }
 
-fn is_of_index(dependency: &DependencyShape<'_>) -> bool
+pub(crate) fn is_of_index(dependency: &DependencyShape<'_>) -> bool
     ensures { result ≡ is_of_index (line_dependency_view dependency.now) }
 {
     match dependency {

@@ -229,6 +229,16 @@ fn dependency<'t, 'a>(
     of_kind(alloc, name, kind, values)
 }
 
+/// What a value says of a dependency that is read on its own.
+pub(crate) fn one_dependency<'a>(
+    alloc: Global,
+    value: &Tree<'_, 'a>,
+) -> Result<DependencyShape<'a>, LineFault>
+    ensures { Gives wants_memory line_dependency_view result (dependency_of (tree_view value.now)) }
+{
+    dependency(alloc, value, &mut Values::none())
+}
+
 #[tactic(auto, unfolding(crate::specs::Shapes::dependencies_in))]
 fn dependencies_in<'t, 'a>(
     alloc: Global,
@@ -246,7 +256,7 @@ fn dependencies_in<'t, 'a>(
 }
 
 /// Dependencies that have to be there.
-pub(crate) fn needed_dependencies<'a>(
+fn needed_dependencies<'a>(
     alloc: Global,
     found: &Option<Tree<'_, 'a>>,
 ) -> Result<Vec<DependencyShape<'a>>, LineFault>

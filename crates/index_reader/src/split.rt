@@ -55,7 +55,7 @@ pub(crate) fn split<'a>(
 }
 
 /// What stands behind a text that the bytes begin with.
-fn behind<'a>(bytes: &'a [u8], text: &[u8]) -> Option<&'a [u8]>
+pub(crate) fn behind<'a>(bytes: &'a [u8], text: &[u8]) -> Option<&'a [u8]>
     ensures { IfSome result (λ rest. bytes.entry.now ≡ text.now ++ rest.now) }
 {
     bytes.strip_prefix(text)

@@ -1,12 +1,14 @@
 //! What values of JSON have to be.
 
-ghost use Rattle.std.specs.Prelude.{None, option_and_then, option_map};
+ghost use Rattle.std.specs.Prelude.{◌≤◌, None, option_and_then, option_map};
 ghost use Rattle.std.specs.Option.{ok_or};
+ghost use Rattle.json.specs.Json.{max_depth};
 ghost use Rattle.serde_json.specs.Find.{as_bool, as_str};
 ghost use Rattle.model.specs.Outcome.{Gives};
 ghost use Rattle.index_reader.specs.Shapes.{wants_memory, as_whole, data_of_bytes, needed, text_of};
 ghost use Rattle.index_reader.specs.Shapes.{optional, texts_in, texts_of, texts_or_none};
 ghost use Rattle.features.specs.Views.{text_views};
+ghost use Rattle.index_reader.specs.ByParts.{item_depth};
 ghost use Rattle.trees.specs.Parts.{data_within, part_depth};
 ghost use Rattle.trees.specs.Trees.{items_of, left_items, tokens_view, tree_view};
 
@@ -20,6 +22,9 @@ use trees::{
 
 /// How deep arrays and objects nest at most in what a line has at a key: one level less than in the line.
 const PART_DEPTH: usize = 126;
+
+/// How deep they nest at most in an item of such a list: one level less than in the list.
+const ITEM_DEPTH: usize = 125;
 
 /// The JSON value that the bytes are, as its tokens.
 pub(crate) fn read_json<'a>(
@@ -45,7 +50,32 @@ pub(crate) fn read_part<'a>(
     ensures { Gives wants_memory tokens_view result
         (ok_or (data_within part_depth bytes.entry.now) (LineFault.Skipped SkipReason.NotJson)) }
 {
-    match read_tape_within(alloc, bytes, scratch, PART_DEPTH) {
+    read_within(alloc, bytes, scratch, PART_DEPTH)
+}
+
+/// The same of bytes that are to be an item of a list at such a key.
+pub(crate) fn read_item<'a>(
+    alloc: Global,
+    bytes: &'a [u8],
+    scratch: &'a mut Scratch,
+) -> Result<Tape<'a>, LineFault>
+    ensures { Gives wants_memory tokens_view result
+        (ok_or (data_within item_depth bytes.entry.now) (LineFault.Skipped SkipReason.NotJson)) }
+{
+    read_within(alloc, bytes, scratch, ITEM_DEPTH)
+}
+
+fn read_within<'a>(
+    alloc: Global,
+    bytes: &'a [u8],
+    scratch: &'a mut Scratch,
+    depth: usize,
+) -> Result<Tape<'a>, LineFault>
+    requires { depth ≤ max_depth }
+    ensures { Gives wants_memory tokens_view result
+        (ok_or (data_within depth bytes.entry.now) (LineFault.Skipped SkipReason.NotJson)) }
+{
+    match read_tape_within(alloc, bytes, scratch, depth) {
         Ok(tape) => Ok(tape),
         Err(TreeFault::OutOfMemory) => Err(LineFault::OutOfMemory),
         Err(TreeFault::NotJson) => Err(LineFault::Skipped(SkipReason::NotJson)),

@@ -219,7 +219,7 @@ pub(crate) fn dep_names(
     Ok(found)
 }
 
-fn dep_name(dependency: &DependencyShape<'_>) -> Result<DepName, AllocError>
+pub(crate) fn dep_name(dependency: &DependencyShape<'_>) -> Result<DepName, AllocError>
     ensures { IfOk result (λ d. dep_name_view d ≡ dep_name_of (line_dependency_view dependency.now)) }
 {
     match dependency {
