@@ -180,3 +180,85 @@ fn may_have_blanks(rt: HostRuntime) -> Result<(), Fail> {
     assert_eq!(rt; last.as_str(), "1.0.2 bar ^1 x");
     Ok(())
 }
+
+const A: &str = r#"{"name":"a","req":"^1"}"#;
+
+const B: &str = r#"{"name":"b","req":"^1"}"#;
+
+const C: &str = r#"{"name":"c","req":"^1"}"#;
+
+const DEV: &str = r#"{"name":"d","req":"^1","kind":"dev"}"#;
+
+/// A list of these items.
+fn list(alloc: Global, items: &[&str]) -> Result<String, AllocError> {
+    let mut text = String::from_str(alloc, "[")?;
+    for (number, item) in items.iter().enumerate() {
+        if number > 0 {
+            text.push_str(",")?;
+        }
+        text.push_str(item)?;
+    }
+    text.push_str("]")?;
+    Ok(text)
+}
+
+/// What the second of two lines with such items says in a file, and alone.
+fn after(
+    alloc: Global,
+    name: &PackageName,
+    first: &[&str],
+    next: &[&str],
+) -> Result<(String, String), Fail> {
+    let first = line(alloc, "1.0.0", list(alloc, first)?.as_str(), "{}", PLAIN)?;
+    let next = line(alloc, "1.0.1", list(alloc, next)?.as_str(), "{}", PLAIN)?;
+    let file = format!(in alloc; "{first}\n{next}\n")?;
+    if lines(file.as_bytes()) > MAX_LINES {
+        return Ok((String::new(alloc), String::new(alloc)));
+    }
+    let (records, skips) = read_file(alloc, name, file.as_bytes())?;
+    let alone = alone(alloc, name, next.as_str())?;
+    Ok((second(&records, &skips, alloc)?, alone))
+}
+
+#[test]
+fn have_items_of_the_line_before(rt: HostRuntime) -> Result<(), Fail> {
+    let foo = PackageName::parse(rt.alloc(), "foo")?;
+    let changed = r#"{"name":"b","req":"^2"}"#;
+    let longer = r#"{"name":"b","req":"^1"}}"#;
+    let other = r#"{"name":"b","req":"^1","registry":"r"}"#;
+    let bracket = r#"{"name":"b","req":"^1","target":"a}"}"#;
+    let end = r#"{"name":"b","req":"^1","target":"a},"}"#;
+    let within = r#"{"name":"b","req":"^1","z":{"y":{}},"x":1}"#;
+    for (first, next, wanted) in [
+        (
+            [A, B, C].as_slice(),
+            [A, B, C].as_slice(),
+            "1.0.1 a ^1 b ^1 c ^1",
+        ),
+        (&[A, B, C], &[A, changed, C], "1.0.1 a ^1 b ^2 c ^1"),
+        (&[A, C], &[A, B, C], "1.0.1 a ^1 b ^1 c ^1"),
+        (&[A, B, C], &[A, C], "1.0.1 a ^1 c ^1"),
+        (&[A, B, C], &[A, B], "1.0.1 a ^1 b ^1"),
+        (&[A, B], &[A, B, C], "1.0.1 a ^1 b ^1 c ^1"),
+        (&[A, B, C], &[C, B, A], "1.0.1 c ^1 b ^1 a ^1"),
+        (&[A, B], &[A, A, B], "1.0.1 a ^1 a ^1 b ^1"),
+        (&[A, DEV, C], &[B, DEV, C], "1.0.1 b ^1 c ^1"),
+        (&[DEV], &[A, DEV], "1.0.1 a ^1"),
+        (&[A, B, C], &[A, other, C], "S8 OtherRegistry"),
+        (&[A, B, C], &[A, longer, C], "S1 NotJson"),
+        (&[A, C], &[A, bracket, C], "1.0.1 a ^1 b ^1 c ^1"),
+        (&[A, bracket, C], &[A, bracket], "1.0.1 a ^1 b ^1"),
+        (&[A, C], &[A, end, C], "1.0.1 a ^1 b ^1 c ^1"),
+        (&[A, C], &[A, within, C], "1.0.1 a ^1 b ^1 c ^1"),
+        (&[A, C], &[A, "", C], "S1 NotJson"),
+        (&[A, C], &[A, ""], "S1 NotJson"),
+        (&[A, C], &["1", C], "S2 Shape"),
+        (&[], &[A, B], "1.0.1 a ^1 b ^1"),
+        (&[A, B], &[], "1.0.1"),
+    ] {
+        let (found, alone) = after(rt.alloc(), &foo, first, next)?;
+        assert_eq!(rt; alone.as_str(), wanted);
+        assert_eq!(rt; found.as_str(), wanted);
+    }
+    Ok(())
+}
