@@ -1,12 +1,15 @@
 -- A feature is found at its place, in a table whose rows are in order.
 use Rattle.std.proofs.Common.{◌≡◌, ℕ, zero, suc, ◌<◌, List, [], ◌∷◌, length, get_or, Bool, true, false, cond, Option}
-use Rattle.std.proofs.Common.{Some, None, option_map, slice_get, Result, Ok, Err, Vec, refl, sym, ap, ◌∙◌, subst, arith}
+use Rattle.std.proofs.Common.{Some, None, option_map, slice_get, Result, Ok, Err, Vec, Bor, refl, sym, ap, ◌∙◌, subst}
+use Rattle.std.proofs.Common.{arith, not}
 use Rattle.std.specs.Cmp.Lexicographic.{nat_list_cmp_total, texts_ties}
 use Rattle.std.specs.List.{All, AllByRecursion}
 use Rattle.std.specs.List.Sorted.{IsBinarySearchResult, IsSearchInRange}
 use Rattle.std.specs.Map.{keys_of}
+use Rattle.std.specs.Option.{is_none, is_some}
 use Rattle.std.specs.Ordering.{is_eq, ordering_reverse}
 use Rattle.std.specs.Result.{result_ok}
+use Rattle.std.specs.Slice.{IsItemAt}
 use Rattle.std.specs.declared.alloc.Global.{Global}
 use Rattle.std.specs.declared.cmp.Ordering.TheVariants.{Less}
 use Rattle.std.proofs.lemmas.List.Kept.{AllPairs-cons}
@@ -15,9 +18,9 @@ use Rattle.std.proofs.lemmas.Map.Lookups.{exact_bytes}
 use Rattle.std.proofs.lemmas.Option.{slice_get-get_or, slice_get-map}
 use Rattle.model.specs.Order.{text_cmp}
 use Rattle.model.specs.Summary as model
-use Rattle.model.specs.Summary.{Table, same_text, entries_at}
+use Rattle.model.specs.Summary.{Table, same_text, entries_at, has_feature}
 use Rattle.model.specs.Tables.{Before, IsInOrder}
-use Rattle.model.proofs.Same.{text-refl}
+use Rattle.model.proofs.Same.{text-refl, text-same}
 use Rattle.model.proofs.Lists.{all_none, all_cons, all_get, pairs_all, pairs_rest}
 use Rattle.features.specs.EntryViews.{entry_views}
 use Rattle.features.specs.Places.{place_of}
@@ -83,6 +86,21 @@ place_of-none f (row ∷ t) e = by (same_text f row.0) e (λ e. place_of-none f 
     by true e rest = let z : Some row.1 ≡ None = e in absurd cc
     by false e rest = ap (option_map suc) (rest e)
 
+-- a table lacks what has no place in it
+pub none-lacking : (f : List ℕ) (t : Table) → is_none (place_of f t) ≡ not (has_feature t f)
+none-lacking f [] = refl
+none-lacking f (row ∷ t) = by (same_text f row.0) (none-lacking f t)
+  where
+    later : (o : Option ℕ) → is_none (option_map suc o) ≡ is_none o
+    later None = refl
+    later (Some i) = refl
+
+    by : (b : Bool) → is_none (place_of f t) ≡ not (has_feature t f)
+        → is_none (cond b (Some 0) (option_map suc (place_of f t)))
+        ≡ not (is_some (cond b (Some row.1) (entries_at f t)))
+    by true e = refl
+    by false e = later (place_of f t) ∙ e
+
 pub place_of-within : (f : List ℕ) (t : Table) (i : ℕ) → place_of f t ≡ Some i → i < length t
 place_of-within f [] i e = let z : None ≡ Some i = e in absurd cc
 place_of-within f (row ∷ t) i e = by (same_text f row.0) e (place_of-within f t)
@@ -95,6 +113,16 @@ place_of-within f (row ∷ t) i e = by (same_text f row.0) e (place_of-within f 
         → ((j : ℕ) → place_of f t ≡ Some j → j < length t) → i < suc (length t)
     by true e h = let s : 0 ≡ i = cc in omega (arith, s)
     by false e h = later (place_of f t) h e
+
+-- the row of a feature stands at its place
+pub place_held : (es : List Row) (name : List ℕ) (i : ℕ) (r : Option (Bor Row)) (b : Bor Row) → AreRising es
+    → IsItemAt es i r → r ≡ Some b → same_text b.now.0 name ≡ true → place_of name (rows_of es) ≡ Some i
+place_held es name i r b rising held some same =
+    let h : IsItemAt es i (Some b) = subst (IsItemAt es i) some held in
+    let got : slice_get (rows_of es) i ≡ Some (seen b.now) = slice_get-map seen es i
+    ∙ ap (option_map seen) (slice_get-get_or es i b.now h.3.0 ∙ ap Some (sym (h.3.1 b.now))) in
+    subst (λ n. place_of n (rows_of es) ≡ Some i) (text-same b.now.0 name same)
+    (place_of-row (rows_of es) i (seen b.now) (rows_in_order es rising) got)
 
 -- ---- what a search finds
 

@@ -1,6 +1,6 @@
 //! Rows of features that rise by their names.
 
-ghost use Rattle.std.specs.Prelude.{◌≡◌, IfOk, OnOk, option_map};
+ghost use Rattle.std.specs.Prelude.{◌≡◌, true, IfOk, OnOk, Some, option_map};
 ghost use Rattle.std.specs.BTreeMap.{is_at, insert_entry, IsFromIterResult};
 ghost use Rattle.std.specs.Map.{lookup};
 ghost use Rattle.model.specs.Order.{text_cmp};
@@ -46,6 +46,17 @@ pub(crate) fn place_in(rows: &[(FeatureName, Vec<Entry>)], name: &str) -> Option
     ensures { result ≡ place_of name.now (rows_of rows.now) }
 {
     rows.binary_search_by(|row| row.0.as_str().cmp(name)).ok()
+}
+
+/// Whether the row of a feature is at this place.
+pub(crate) fn is_at(rows: &[(FeatureName, Vec<Entry>)], name: &FeatureName, place: usize) -> bool
+    requires { AreRising rows.now }
+    ensures { result ≡ true → place_of name.now (rows_of rows.now) ≡ Some place }
+{
+    match rows.get(place) {
+        Some(row) => row.0 == *name,
+        None => false,
+    }
 }
 
 /// Puts a row where it belongs: in the place of that of its feature, if there is one.

@@ -1,6 +1,7 @@
 //! Tables of features.
 
-ghost use Rattle.std.specs.Prelude.{◌≡◌, [], IfOk, map, unwrap_or};
+ghost use Rattle.std.specs.Prelude.{◌≡◌, [], IfOk, map, not, unwrap_or};
+ghost use Rattle.std.specs.Option.{is_none};
 ghost use Rattle.model.specs.Outcome.{Gives};
 ghost use Rattle.model.specs.Summary.{entries_at, has_feature};
 ghost use Rattle.model.specs.Tables.{IsInOrder, with_default};
@@ -12,7 +13,7 @@ use crate::draft::implicit_rows;
 use crate::entry::Entry;
 use crate::feature_name::FeatureName;
 use crate::name::PackageName;
-use crate::rows::{entries_in, has_row, place_in, put_row, rows_of, with_rows};
+use crate::rows::{entries_in, has_row, is_at, place_in, put_row, rows_of, with_rows};
 use std::alloc::{AllocError, Global};
 use std::collections::BTreeMap;
 use std::marker::Model;
@@ -133,6 +134,19 @@ impl FeatureTable {
         ensures { result ≡ place_of name.now self.now }
     {
         place_in(self.features.as_slice(), name)
+    }
+
+    /// The same, looked for at this place first: where tables of neighbouring versions have the same rows, one look
+    /// finds it.
+    pub fn place_near(&self, name: &FeatureName, near: usize) -> Option<usize>
+        ensures place { result ≡ place_of name.now self.now }
+        ensures lacking { is_none result ≡ not (has_feature self.now name.now) }
+    {
+        if is_at(self.features.as_slice(), name, near) {
+            Some(near)
+        } else {
+            self.place_of(name.as_str())
+        }
     }
 
     /// Whether the table has a feature.
