@@ -1,11 +1,10 @@
 -- A list of dependencies is what its items are.
-use Rattle.std.proofs.Common.{◌≡◌, ℕ, suc, ◌<◌, List, [], ◌∷◌, ◌++◌, length, map, true, ◌&&◌, Option, Some, None, Ok}
-use Rattle.std.proofs.Common.{codes, refl, sym, ap, ap₂, ◌∙◌, arith, append_assoc}
+use Rattle.std.proofs.Common.{◌≡◌, ℕ, ◌<◌, List, [], ◌∷◌, ◌++◌, length, map, true, ◌&&◌, Option, Some, None, Ok}
+use Rattle.std.proofs.Common.{refl, sym, ap, ap₂, ◌∙◌, arith, append_assoc}
 use Rattle.std.specs.List.{list_all}
 use Rattle.std.specs.Option.{ok_or, option_map}
 use Rattle.semver.specs.Parse.{Held}
 use Rattle.serde_json.specs.Data.{Data, array}
-use Rattle.model.specs.Outcome.{◌>>=◌}
 use Rattle.model.specs.Summary as model
 use Rattle.model.specs.Tables.{DepName}
 use Rattle.features.specs.Tables.{dep_name_view}
