@@ -72,7 +72,7 @@ and-second : (a b : Bool) → (a && b) ≡ true → b ≡ true
 and-second true b h = h
 and-second false b h = cc
 
-named : (f : FeatureView) (row : List ℕ × List model.Entry) → feature_read f ≡ Ok row → f.name ≡ row.0
+pub named : (f : FeatureView) (row : List ℕ × List model.Entry) → feature_read f ≡ Ok row → f.name ≡ row.0
 unfolding feature_read
 named f row read = by (is_feature_name f.name) (entries_read f.entries) read
   where
@@ -159,7 +159,7 @@ unfolding IsStrictlySortedBy
 tail-sorted key keys s = s.1
 
 -- the rows of features whose names rise do too
-rows-rise : (fs : List FeatureView) (es : List (List ℕ × Vec Entry Global)) → names_rise [] fs ≡ true
+pub rows-rise : (fs : List FeatureView) (es : List (List ℕ × Vec Entry Global)) → names_rise [] fs ≡ true
     → features_read fs ≡ Ok (rows_of es) → AreRising es
 rows-rise fs es rise read =
     subst (IsStrictlySortedBy text_cmp) (keys-rows es)

@@ -1,6 +1,6 @@
 -- A line that is read by its parts, so that what the line before has too need not be read again.
 use Rattle.std.specs.Prelude.{ℕ, ◌≡◌, Bool, true, false, not, ◌==◌, ◌&&◌, ◌||◌, List, [], ◌∷◌, Option, Some, None}
-use Rattle.std.specs.Prelude.{is_none, Ok, codes}
+use Rattle.std.specs.Prelude.{is_none, Ok, codes, drop, length}
 use Rattle.std.specs.List.{list_all}
 use Rattle.std.specs.Option.{ok_or}
 use Rattle.semver.specs.Parse.{version_parts}
@@ -8,16 +8,16 @@ use Rattle.serde_json.specs.Data.{Data}
 use Rattle.serde_json.specs.Find.{get}
 use Rattle.model.specs.Outcome.{◌>>=◌}
 use Rattle.model.specs.Summary as model
-use Rattle.model.specs.Summary.{Table}
+use Rattle.model.specs.Summary.{Entry, Table}
 use Rattle.model.specs.Tables.{DepName, table_of}
 use Rattle.features.specs.Names.{is_package_name}
-use Rattle.trees.specs.Parts.{data_within, is_plain, line_of, part_depth}
+use Rattle.trees.specs.Parts.{data_within, is_plain, line_of, member_text, part_depth}
 use Rattle.index_reader.specs.Records.{RecordView, dependencies_read, dependency_read, is_of_index, required}
 use Rattle.index_reader.specs.Records.{required_part, semver_or, unless}
 use Rattle.index_reader.specs.Shapes.{Line, DependencyView, dev, part, FeatureView, data_of_bytes, dependency_of}
 use Rattle.index_reader.specs.Shapes.{features_or_none, flag_at, needed_dependencies, rust_version_at, unless_null}
-use Rattle.index_reader.specs.Shapes.{whole_at}
-use Rattle.index_reader.specs.Written.{dep_name_of, dep_names_of, unless_faulty, with_features}
+use Rattle.index_reader.specs.Shapes.{texts_of, whole_at}
+use Rattle.index_reader.specs.Written.{dep_name_of, dep_names_of, feature_read, unless_faulty, with_features}
 use Rattle.index_reader.specs.declared.fault.LineFault.TheVariants.{Skipped}
 use Rattle.index_reader.specs.declared.fault.SkipReason.TheVariants as reason
 use Rattle.index_reader.specs.declared.split.LineParts.{LineParts}
@@ -74,6 +74,22 @@ table_of_bytes names bytes = do
   d ← part_of_bytes bytes
   features ← features_or_none (unless_null (Some d))
   table_alone names features
+
+-- the feature that a key and the bytes behind it are, with its entries
+unfoldable pub row_of_member : List ℕ → List ℕ → Line (List ℕ × List Entry)
+row_of_member key bytes = do
+  d ← ok_or (data_within item_depth bytes) (Skipped reason.NotJson)
+  texts ← texts_of d
+  feature_read (record { name = key; entries = texts })
+
+-- what stands behind the key of a member
+abbrev pub value_behind : List ℕ → List ℕ → List ℕ
+value_behind key bytes = drop 2 (drop (length key) (drop 1 bytes))
+
+-- bytes are the member of this feature
+abbrev pub IsRow : List ℕ → List ℕ → List Entry → Type 0
+IsRow bytes name entries = (is_plain name ≡ true) × (bytes ≡ member_text (name, value_behind name bytes))
+    × (row_of_member name (value_behind name bytes) ≡ Ok (name, entries))
 
 -- what a line says behind its features
 pub record RestView : Type 0 where

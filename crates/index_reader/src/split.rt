@@ -62,7 +62,7 @@ pub(crate) fn behind<'a>(bytes: &'a [u8], text: &[u8]) -> Option<&'a [u8]>
 }
 
 /// A text up to the next `"`, if each of its bytes stands for itself, and what stands from there on.
-fn plain_text<'a>(bytes: &'a [u8]) -> Option<(&'a str, &'a [u8])>
+pub(crate) fn plain_text<'a>(bytes: &'a [u8]) -> Option<(&'a str, &'a [u8])>
     ensures { IfSome result (λ p. (bytes.entry.now ≡ p.0.now ++ p.1.now) × (is_plain p.0.now ≡ true)) }
 {
     let end = memchr(b'"', bytes)?;

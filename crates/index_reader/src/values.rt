@@ -23,7 +23,7 @@ use trees::{
 /// How deep arrays and objects nest at most in what a line has at a key: one level less than in the line.
 const PART_DEPTH: usize = 126;
 
-/// How deep they nest at most in an item of such a list: one level less than in the list.
+/// How deep they nest at most in an item of a list there, or in a feature of an object: one level less again.
 const ITEM_DEPTH: usize = 125;
 
 /// The JSON value that the bytes are, as its tokens.
@@ -53,7 +53,7 @@ pub(crate) fn read_part<'a>(
     read_within(alloc, bytes, scratch, PART_DEPTH)
 }
 
-/// The same of bytes that are to be an item of a list at such a key.
+/// The same of bytes that are to be an item of a list at such a key, or a feature of an object there.
 pub(crate) fn read_item<'a>(
     alloc: Global,
     bytes: &'a [u8],

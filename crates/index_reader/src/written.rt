@@ -97,7 +97,7 @@ fn names_rise(features: &[FeatureShape<'_>]) -> bool
     true
 }
 
-fn comes_before(name: &str, next: &str) -> bool
+pub(crate) fn comes_before(name: &str, next: &str) -> bool
     ensures { result ≡ is_lt (text_cmp name.now next.now) }
 {
     name < next
@@ -175,7 +175,7 @@ fn with_entries(
 }
 
 #[tactic(auto, unfolding(crate::specs::Written::entries_read))]
-fn entries(alloc: Global, texts: &[&str]) -> Result<Vec<Entry>, LineFault>
+pub(crate) fn entries(alloc: Global, texts: &[&str]) -> Result<Vec<Entry>, LineFault>
     ensures { Gives wants_memory (λ v. entry_views v.items) result (entries_read (text_views texts.now)) }
 {
     let mut found = Vec::with_capacity(alloc, texts.len())?;
@@ -234,7 +234,8 @@ pub(crate) fn dep_name(dependency: &DependencyShape<'_>) -> Result<DepName, Allo
     }
 }
 
-fn table(
+/// The table of features whose names rise, where dependencies are called so.
+pub(crate) fn table(
     alloc: Global,
     names: &[DepName],
     written: Vec<(FeatureName, Vec<Entry>)>,
