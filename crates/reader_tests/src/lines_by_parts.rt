@@ -1,6 +1,6 @@
 //! Lines of a file that are read by their parts, and others that can't be: each says what it says alone.
 
-use features::{FeatureName, PackageName};
+use features::{Entry, FeatureName, PackageName};
 use index_reader::{LineFault, MAX_LINES, Record, Skip, lines, read_file, read_line};
 use std::alloc::{AllocError, Global};
 use std::test::Fail;
@@ -257,6 +257,165 @@ fn have_items_of_the_line_before(rt: HostRuntime) -> Result<(), Fail> {
         (&[A, B], &[], "1.0.1"),
     ] {
         let (found, alone) = after(rt.alloc(), &foo, first, next)?;
+        assert_eq!(rt; alone.as_str(), wanted);
+        assert_eq!(rt; found.as_str(), wanted);
+    }
+    Ok(())
+}
+
+/// An entry of a feature as a line writes it.
+fn entry_text(alloc: Global, entry: &Entry) -> Result<String, AllocError> {
+    match entry {
+        Entry::Feature(feature) => format!(in alloc; "{feature}"),
+        Entry::Dependency(name) => format!(in alloc; "dep:{name}"),
+        Entry::DependencyFeature(name, feature) => format!(in alloc; "{name}/{feature}"),
+        Entry::WeakFeature(name, feature) => format!(in alloc; "{name}?/{feature}"),
+    }
+}
+
+/// The features of a record with their entries.
+fn table(alloc: Global, record: &Record) -> Result<String, Fail> {
+    let mut text = format!(in alloc; "{}", record.version)?;
+    for (name, entries) in record.brings.features.iter() {
+        text = format!(in alloc; "{text} {name}:")?;
+        for entry in entries.as_slice() {
+            text = format!(in alloc; "{text}{},", entry_text(alloc, entry)?)?;
+        }
+    }
+    Ok(text)
+}
+
+/// What a line says of its features alone.
+fn table_alone(alloc: Global, name: &PackageName, line: &str) -> Result<String, Fail> {
+    match read_line(alloc, name, line.as_bytes()) {
+        Ok(record) => table(alloc, &record),
+        Err(LineFault::Skipped(reason)) => Ok(format!(in alloc; "{reason}")?),
+        Err(LineFault::OutOfMemory) => Ok(format!(in alloc; "out of memory")?),
+    }
+}
+
+/// What the second of two lines, each of dependencies and features, says of its features in a file, and alone.
+fn features_after(
+    alloc: Global,
+    name: &PackageName,
+    first: (&str, &str),
+    next: (&str, &str),
+) -> Result<(String, String), Fail> {
+    let first = line(alloc, "1.0.0", first.0, first.1, PLAIN)?;
+    let next = line(alloc, "1.0.1", next.0, next.1, PLAIN)?;
+    let file = format!(in alloc; "{first}\n{next}\n")?;
+    if lines(file.as_bytes()) > MAX_LINES {
+        return Ok((String::new(alloc), String::new(alloc)));
+    }
+    let (records, skips) = read_file(alloc, name, file.as_bytes())?;
+    let alone = table_alone(alloc, name, next.as_str())?;
+    if let Some(skip) = skips.first() {
+        return Ok((format!(in alloc; "{}", skip.reason)?, alone));
+    }
+    match records.get(1) {
+        Some(record) => Ok((table(alloc, record)?, alone)),
+        None => Ok((String::new(alloc), alone)),
+    }
+}
+
+const ABC: &str = r#"{"a":["b"],"b":[],"c":["dep:bar"]}"#;
+
+const ABC_TOLD: &str = "1.0.1 a:b, b: c:dep:bar, default:";
+
+#[test]
+fn have_features_of_the_line_before(rt: HostRuntime) -> Result<(), Fail> {
+    let foo = PackageName::parse(rt.alloc(), "foo")?;
+    for (features, wanted) in [
+        (
+            r#"{"a":["b"],"b":["c","bar/x"],"c":["dep:bar"]}"#,
+            "1.0.1 a:b, b:c,bar/x, c:dep:bar, default:",
+        ),
+        (
+            r#"{"a":["b"],"aa":["a"],"b":[],"c":["dep:bar"]}"#,
+            "1.0.1 a:b, aa:a, b: c:dep:bar, default:",
+        ),
+        (
+            r#"{"b":[],"c":["dep:bar"]}"#,
+            "1.0.1 b: c:dep:bar, default:",
+        ),
+        (
+            r#"{"a":["b"],"b":[]}"#,
+            "1.0.1 a:b, b: bar:dep:bar, default:",
+        ),
+        (r#"{"b":[],"c":["dep:bar"],"a":["b"]}"#, ABC_TOLD),
+        (r#"{"c":["dep:bar"],"b":[],"a":["b"]}"#, ABC_TOLD),
+        (
+            r#"{"a":["b"],"a":["c"],"b":[],"c":["dep:bar"]}"#,
+            "1.0.1 a:c, b: c:dep:bar, default:",
+        ),
+        (r#"{"a":["b"],"b":["c"],"b":[],"c":["dep:bar"]}"#, ABC_TOLD),
+        (
+            r#"{"a":["b"],"b":[],"c":[],"b":["x"],"c":["dep:bar"]}"#,
+            "S7 BadFeatures",
+        ),
+        (r#"{"a":["b"],"\u0062":[],"c":["dep:bar"]}"#, ABC_TOLD),
+        (r#"{"a":["\u0062"],"b":[],"c":["dep:bar"]}"#, ABC_TOLD),
+        (r#"{"a":["b]"],"b":[],"c":["dep:bar"]}"#, "S7 BadFeatures"),
+        (r#"{"a]":["b"],"b":[],"c":["dep:bar"]}"#, "S7 BadFeatures"),
+        (r#"{"a":["x"],"b":[],"c":["dep:bar"]}"#, "S7 BadFeatures"),
+        (r#"{"a":null,"b":[],"c":["dep:bar"]}"#, "S2 Shape"),
+        (r#"{"a":["b"],"b":null,"c":["dep:bar"]}"#, "S2 Shape"),
+        (r#"{"a":["b"],"b":{},"c":["dep:bar"]}"#, "S2 Shape"),
+        (r#"{"a":["b"],"b":[["c"]],"c":["dep:bar"]}"#, "S2 Shape"),
+        (r#"{"a":[ "b" ], "b":[],"c":["dep:bar"]}"#, ABC_TOLD),
+        (r#"{"a":["b"],"b":[],"c":["dep:bar"],}"#, "S1 NotJson"),
+        (r#"{"a":["b"],"b":[]"c":["dep:bar"]}"#, "S1 NotJson"),
+        (r#"{"a":["b"]],"b":[],"c":["dep:bar"]}"#, "S1 NotJson"),
+        (r#"["a",["b"],"b",[]]"#, "S2 Shape"),
+        ("{}", "1.0.1 bar:dep:bar, default:"),
+        (ABC, ABC_TOLD),
+    ] {
+        let (found, alone) = features_after(rt.alloc(), &foo, (BAR, ABC), (BAR, features))?;
+        assert_eq!(rt; alone.as_str(), wanted);
+        assert_eq!(rt; found.as_str(), wanted);
+        let (found, _) = features_after(rt.alloc(), &foo, (BAR, features), (BAR, ABC))?;
+        assert_eq!(rt;
+            found.as_str(),
+            if wanted.starts_with("S") {
+                wanted
+            } else {
+                ABC_TOLD
+            }
+        );
+    }
+    Ok(())
+}
+
+#[test]
+fn have_features_with_other_dependencies(rt: HostRuntime) -> Result<(), Fail> {
+    let foo = PackageName::parse(rt.alloc(), "foo")?;
+    let more = r#"[{"name":"bar","req":"^1","optional":true},{"name":"d","req":"^1"}]"#;
+    let optional =
+        r#"[{"name":"bar","req":"^1","optional":true},{"name":"d","req":"^1","optional":true}]"#;
+    let slash = r#"{"a":["d/x"],"c":["dep:bar"]}"#;
+    for (first, next, features, wanted) in [
+        (BAR, more, ABC, ABC_TOLD),
+        (more, BAR, ABC, ABC_TOLD),
+        (
+            BAR,
+            optional,
+            ABC,
+            "1.0.1 a:b, b: c:dep:bar, d:dep:d, default:",
+        ),
+        (optional, BAR, ABC, ABC_TOLD),
+        (
+            more,
+            optional,
+            slash,
+            "1.0.1 a:d/x, c:dep:bar, d:dep:d, default:",
+        ),
+        (optional, more, slash, "1.0.1 a:d/x, c:dep:bar, default:"),
+        (more, BAR, slash, "S7 BadFeatures"),
+        (optional, BAR, slash, "S7 BadFeatures"),
+        (BAR, "[]", ABC, "S7 BadFeatures"),
+        (BAR, optional, "{}", "1.0.1 bar:dep:bar, d:dep:d, default:"),
+    ] {
+        let (found, alone) = features_after(rt.alloc(), &foo, (first, features), (next, features))?;
         assert_eq!(rt; alone.as_str(), wanted);
         assert_eq!(rt; found.as_str(), wanted);
     }
