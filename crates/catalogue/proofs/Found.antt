@@ -40,6 +40,13 @@ said_at (v ∷ vs) (c ∷ cs) (suc i) same = said_at vs cs i (omega (arith, same
 said_at [] (c ∷ cs) i same = absurd (omega (arith, same))
 said_at (v ∷ vs) [] i same = absurd (omega (arith, same))
 
+pub all_said : (vs : List Version) (cs : List Candidate) → length vs ≡ length cs
+    → map said_by cs ≡ map said (records (ranked_view vs cs))
+all_said [] [] same = refl
+all_said (v ∷ vs) (c ∷ cs) same = ap (λ ss. said_by c ∷ ss) (all_said vs cs (omega (arith, same)))
+all_said [] (c ∷ cs) same = absurd (omega (arith, same))
+all_said (v ∷ vs) [] same = absurd (omega (arith, same))
+
 pub versions_seen : (vs : List Version) (cs : List Candidate) → length vs ≡ length cs
     → map parts_of vs ≡ map (λ (r : Record). r.version) (records (ranked_view vs cs))
 versions_seen [] [] same = refl

@@ -93,6 +93,16 @@ impl Catalogue {
         self.of(name)?.candidates.get(place)
     }
 
+    /// What the index says of a name's candidates, each at the place of its version among `versions`.
+    pub fn candidates(&self, name: &PackageName) -> &[Candidate]
+        ensures { map said_by result.now ≡ map said (candidates_at self.now name.now) }
+    {
+        match self.of(name) {
+            Some(candidates) => candidates.candidates.as_slice(),
+            None => &[],
+        }
+    }
+
     /// The candidate of a name that has this version, by the whole text.
     pub fn candidate(&self, name: &PackageName, version: &Version) -> Option<&Candidate>
         ensures { option_map (λ c. said_by c.now) result

@@ -6,7 +6,8 @@ use Rattle.semver.specs.Parse.{Parts}
 use Rattle.semver.specs.EvalViews.{matches_views}
 use Rattle.semver.specs.Identifiers.{parts_of}
 use Rattle.semver.specs.declared.Version.{Version}
-use Rattle.model.specs.Summary.{Summary, Dependency, has_feature}
+use Rattle.model.specs.Summary.{Dependency, has_feature}
+use Rattle.model.specs.Candidates.{Record, as_candidate}
 use Rattle.model.specs.Content.{Candidate, Problem, brings_of, candidate_at, candidates_of, same_version}
 use Rattle.model.specs.Selection.{Class}
 use Rattle.model.specs.WellFormed.{IsCatalogue}
@@ -19,15 +20,17 @@ use Rattle.model.proofs.Lists.{any_of, pairs_first, pairs_rest}
 use Rattle.manifest.specs.Manifests.{ManifestView}
 use Rattle.catalogue.specs.Problems.{problem_in}
 use Rattle.catalogue.specs.Stores.{CatalogueView, candidates_at}
+use Rattle.catalogue.specs.Views.{Said, said, said_by}
+use Rattle.catalogue.specs.declared.candidate.Candidate as stored
 use Rattle.classes.specs.Classes.{class_view}
 use Rattle.classes.specs.declared.class.Class as code
 use Rattle.refutations.specs.Listed.{classes_at, classes_if}
 use Rattle.encoding.specs.Numberings.{members_at}
 use Rattle.encoding.specs.TestedTerms.{is_chosen, is_class}
-use Rattle.looking_up.specs.Matching.{is_lacking, is_left}
+use Rattle.looking_up.specs.Matching.{is_left}
 use Rattle.looking_up.specs.Ranges.{is_of, versions_with}
 use Rattle.encoding.proofs.ClassOrder.{IsOlder}
-use Rattle.looking_up.proofs.Classed.{classed_are, named, with_classed}
+use Rattle.looking_up.proofs.Classed.{class_is_of, classed_are, named, with_classed, with_those}
 use Rattle.encoding.proofs.Distinct.{of_rows, older_differ}
 
 module _ {X Y Z : Type 0} where
@@ -135,23 +138,42 @@ found_in (x ∷ cs) a e c =
         ≡ true) (sym i) (version-refl e.version)) ∙ s))
     by rest false s (inr d) = rest d
 
-pub lacking_is : (m : ManifestView) (c : CatalogueView) (name : List ℕ) (k : Class) (f : List ℕ) (vs : List Version)
+-- those of a class that lack a feature
+lacking_there : (m : ManifestView) (c : CatalogueView) (name : List ℕ) (k : Class) (f : List ℕ)
     → IsCatalogue (problem_in m c)
-    → map parts_of vs ≡ filter (is_of k) (map (λ r. r.version) (candidates_at c name))
-    → true ∷ map (λ w. is_lacking (problem_in m c) name f (parts_of w)) vs
+    → true ∷ map (λ (e : Candidate). not (has_feature e.brings.features f)) (class_candidates (problem_in m c) name k)
     ≡ members_at (problem_in m c) (pkg name k)
     (absent_or (problem_in m c) (λ e. not (has_feature e.brings.features f)) name k)
-unfolding is_lacking
-lacking_is m c name k f vs known e =
+lacking_there m c name k f known =
     let q = problem_in m c in
     let all = candidates_of q.candidates name in
-    let t : Summary → Bool = λ (o : Summary). not (has_feature o.features f) in
-    with_absent m c name k vs e (λ v. t (brings_of (candidate_at all v)))
-    ∙ ap (λ (cs : List Candidate). members_at q (pkg name k) (absent ∷ map (λ (e : Candidate). version e.version) cs))
-    (filter_along (λ (e : Candidate). t (brings_of (candidate_at all e.version)))
-    (λ (e : Candidate). t e.brings) (class_candidates q name k)
-    (λ e i. ap (λ o. t (brings_of o))
-    (found_in all (of_rows q.candidates known.versions_rise name) e (in_filter (in_that_class k) all e i).0)))
+    let those = class_candidates q name k in
+    let lacks : Candidate → Bool = λ (e : Candidate). not (has_feature e.brings.features f) in
+    let test : Parts → Bool = λ v. not (has_feature (brings_of (candidate_at all v)).features f) in
+    let found : (e : Candidate) → Contains those e → test e.version ≡ lacks e
+    = λ e i. ap (λ o. not (has_feature (brings_of o).features f))
+    (found_in all (of_rows q.candidates known.versions_rise name) e (in_filter (in_that_class k) all e i).0) in
+    let vs = map (λ (e : Candidate). e.version) those in
+    let ss = versions_with test vs in
+    ap (λ l. true ∷ l) (map_along lacks (λ e. has_state (absent ∷ ss) (version e.version)) those
+    (λ e i. sym (found e i) ∙ sym (passing test vs e.version (to_map (λ (e : Candidate). e.version) those e i)))
+    ∙ sym (map_map (has_state (absent ∷ ss)) (λ (e : Candidate). version e.version) those))
+    ∙ ap (λ zs. members_at q (pkg name k) (absent ∷ zs)) (with_those m c name k test
+    ∙ ap (map (λ (e : Candidate). version e.version)) (filter_along (λ (e : Candidate). test e.version) lacks those found))
+
+pub lacking_is : (m : ManifestView) (c : CatalogueView) (name : List ℕ) (k : Class) (f : List ℕ)
+    (cs : List stored.Candidate) → IsCatalogue (problem_in m c)
+    → map said_by cs ≡ map said (filter (λ (r : Record). is_of k r.version) (candidates_at c name))
+    → true ∷ map (λ x. not (has_feature (said_by x).brings.features f)) cs ≡ members_at (problem_in m c) (pkg name k)
+    (absent_or (problem_in m c) (λ e. not (has_feature e.brings.features f)) name k)
+lacking_is m c name k f cs known told =
+    let rs = filter (λ (r : Record). is_of k r.version) (candidates_at c name) in
+    ap (λ l. true ∷ l) (sym (map_map (λ (s : Said). not (has_feature s.brings.features f)) said_by cs)
+    ∙ ap (map (λ (s : Said). not (has_feature s.brings.features f))) told
+    ∙ map_map (λ (s : Said). not (has_feature s.brings.features f)) said rs
+    ∙ sym (map_map (λ (e : Candidate). not (has_feature e.brings.features f)) as_candidate rs)
+    ∙ ap (map (λ (e : Candidate). not (has_feature e.brings.features f))) (sym (class_is_of m c name k)))
+    ∙ lacking_there m c name k f known
 
 -- ---- the classes of a dependency
 
@@ -201,11 +223,3 @@ module _ (m : ManifestView) (c : CatalogueView) where
       ≡ members_at (problem_in m c) (pkg d.real_name k) (versions_that (problem_in m c) (matched d) d.real_name k)
   taken_at d j k vs same e = taken_is m c d k vs
       (subst (λ x. map parts_of vs ≡ filter (is_of x) (map (λ r. r.version) (candidates_at c d.real_name))) same e)
-
-  pub lacking_at : (name : List ℕ) (j k : Class) (f : List ℕ) (vs : List Version) → IsCatalogue (problem_in m c) → j ≡ k
-      → map parts_of vs ≡ filter (is_of j) (map (λ r. r.version) (candidates_at c name))
-      → true ∷ map (λ w. is_lacking (problem_in m c) name f (parts_of w)) vs
-      ≡ members_at (problem_in m c) (pkg name k)
-      (absent_or (problem_in m c) (λ e. not (has_feature e.brings.features f)) name k)
-  lacking_at name j k f vs known same e = lacking_is m c name k f vs known
-      (subst (λ x. map parts_of vs ≡ filter (is_of x) (map (λ r. r.version) (candidates_at c name))) same e)

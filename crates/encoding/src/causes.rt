@@ -22,7 +22,7 @@ ghost use Rattle.vertices.specs.RefViews.{owner_ref_view};
 
 use crate::called::{ByName, Numbered};
 use crate::known_problem::KnownProblem;
-use crate::lookups::{brings, dependencies_of, entries_of};
+use crate::lookups::{brings, dependencies_of};
 use crate::possible_classes::classes_of;
 use classes::{Class, same_class};
 use features::{Dependency, DependencyParts, Entry, FeatureName, FeatureTable, PackageName};
@@ -421,23 +421,18 @@ fn put_rows<'a>(
     table: &'a FeatureTable,
 ) -> Result<(), AllocError>
     requires called { AreOfVersion (problem known.now) name.now (parts_of version.now) called.now }
+    requires table { table.now
+        ≡ table_of_owner (problem known.now) (model_vertices.version_of name.now (parts_of version.now)) }
     ensures { OnOk result (cause_views causes.new.items ≡ cause_views causes.old.items ++ flat_map (λ row.
         feature_causes (problem known.now) name.entry.now (parts_of version.entry.now) row.0) table.entry.now) }
 {
-    'rows: for (feature, _) in table.iter() {
+    'rows: for (feature, entries) in table.iter() {
         let own = Own {
             name,
             version,
             feature,
         };
-        put_feature(
-            alloc,
-            known,
-            causes,
-            own,
-            called,
-            entries_of(known, name, version, feature),
-        )?;
+        put_feature(alloc, known, causes, own, called, entries.as_slice())?;
     }
     Ok(())
 }

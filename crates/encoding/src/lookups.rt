@@ -1,17 +1,14 @@
 //! What owners bring, looked up in a known problem.
 
 ghost use Rattle.std.specs.Prelude.{◌≡◌, option_map};
-ghost use Rattle.semver.specs.Identifiers.{parts_of};
 ghost use Rattle.features.specs.Views.{dependency_view, dependency_views, brings_view};
-ghost use Rattle.features.specs.EntryViews.{entry_views};
 ghost use Rattle.model.specs.Vertices.{owner_brings};
-ghost use Rattle.refutations.specs.Causes.{dependency_at, entries_of};
+ghost use Rattle.refutations.specs.Causes.{dependency_at};
 ghost use Rattle.encoding.specs.KnownProblem.{problem};
 ghost use Rattle.vertices.specs.RefViews.{owner_ref_view};
 
 use crate::known_problem::KnownProblem;
-use features::{Dependency, DependencyParts, Entry, FeatureName, PackageName, Summary};
-use semver::Version;
+use features::{Dependency, DependencyParts, Summary};
 use vertices::OwnerRef;
 
 /// What an owner brings: nothing where it is neither the root nor a candidate.
@@ -45,17 +42,4 @@ pub fn dependency_at<'a>(
 {
     let held = known.held();
     looking_up::dependency_at(&held, owner, number)
-}
-
-/// The entries of a feature of a version.
-pub(crate) fn entries_of<'a>(
-    known: &KnownProblem<'a>,
-    name: &PackageName,
-    version: &Version,
-    feature: &FeatureName,
-) -> &'a [Entry]
-    ensures { entry_views result.now ≡ entries_of (problem known.now) name.now (parts_of version.now) feature.now }
-{
-    let held = known.held();
-    looking_up::entries_of(&held, name, version, feature)
 }

@@ -1,17 +1,18 @@
 //! Sets of a vertex's states, as tests of its space: absent first, then the versions or classes in their order.
 
-ghost use Rattle.std.specs.Prelude.{◌≡◌, ◌∷◌, true, false, map, IfOk};
+ghost use Rattle.std.specs.Prelude.{◌≡◌, ◌∷◌, true, false, not, map, IfOk};
 ghost use Rattle.semver.specs.Identifiers.{parts_of};
 ghost use Rattle.classes.specs.Classes.{class_view};
 ghost use Rattle.features.specs.Views.{requirement_view};
-ghost use Rattle.encoding.specs.KnownProblem.{problem};
+ghost use Rattle.catalogue.specs.Views.{said_by};
+ghost use Rattle.model.specs.Summary.{has_feature};
 ghost use Rattle.encoding.specs.TestedTerms.{is_chosen, is_class};
-ghost use Rattle.looking_up.specs.Matching.{is_lacking, is_left};
+ghost use Rattle.looking_up.specs.Matching.{is_left};
 ghost use Rattle.semver.specs.EvalViews.{matches_views};
 
-use crate::known_problem::KnownProblem;
+use catalogue::Candidate;
 use classes::{Class, is_matched};
-use features::{FeatureName, PackageName};
+use features::FeatureName;
 use looking_up::is_left;
 use semver::{Version, VersionReq};
 use std::alloc::{AllocError, Global};
@@ -28,17 +29,6 @@ fn is_class(class: Class, other: Class) -> bool
     ensures { result ≡ is_class (class_view class) (class_view other) }
 {
     other == class
-}
-
-fn is_lacking(
-    known: &KnownProblem<'_>,
-    name: &PackageName,
-    feature: &FeatureName,
-    version: &Version,
-) -> bool
-    ensures { result ≡ is_lacking (problem known.now) name.now feature.now (parts_of version.now) }
-{
-    looking_up::is_lacking(&known.held(), name, feature, version)
 }
 
 /// Absent, and the versions that aren't matched.
@@ -92,21 +82,19 @@ pub(crate) fn chosen_tests(
     Ok(tests)
 }
 
-/// Absent, and the versions that lack the feature.
+/// Absent, and the candidates that lack the feature.
 pub(crate) fn lacking_tests(
     alloc: Global,
-    known: &KnownProblem<'_>,
-    name: &PackageName,
     feature: &FeatureName,
-    versions: &[Version],
+    candidates: &[Candidate],
 ) -> Result<Vec<bool>, AllocError>
     ensures { IfOk result (λ v. v.items
-        ≡ true ∷ map (λ w. is_lacking (problem known.now) name.now feature.now (parts_of w)) versions.now) }
+        ≡ true ∷ map (λ c. not (has_feature (said_by c).brings.features feature.now)) candidates.now) }
 {
-    let mut tests = Vec::with_capacity(alloc, versions.len().saturating_add(1))?;
+    let mut tests = Vec::with_capacity(alloc, candidates.len().saturating_add(1))?;
     tests.push(true)?;
-    'versions: for version in versions.iter() {
-        tests.push(is_lacking(known, name, feature, version))?;
+    'candidates: for candidate in candidates.iter() {
+        tests.push(!candidate.brings.features.has(feature))?;
     }
     Ok(tests)
 }

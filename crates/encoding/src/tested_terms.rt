@@ -1,6 +1,6 @@
 //! The terms of the instance that a cause gives rise to, each as a vertex and tests of its space.
 
-ghost use Rattle.std.specs.Prelude.{◌≡◌, ◌∷◌, [], true, false, not, IfOk};
+ghost use Rattle.std.specs.Prelude.{◌≡◌, ◌∷◌, [], true, false, not, Some, IfOk};
 ghost use Rattle.semver.specs.Identifiers.{parts_of};
 ghost use Rattle.classes.specs.Classes.{class_view};
 ghost use Rattle.features.specs.Views.{dependency_view};
@@ -9,7 +9,7 @@ ghost use Rattle.model.specs.Selection.{class_of};
 ghost use Rattle.model.specs.Summary.{has_feature};
 ghost use Rattle.model.specs.Vertices as model;
 ghost use Rattle.refutations.specs.Causes as causes;
-ghost use Rattle.refutations.specs.Causes.{feature_holds, terms_of_cause};
+ghost use Rattle.refutations.specs.Causes.{dependency_at, feature_holds, terms_of_cause};
 ghost use Rattle.named_terms.specs.CauseViews.{cause_view};
 ghost use Rattle.encoding.specs.KnownProblem.{problem};
 ghost use Rattle.encoding.specs.TestedTerms.{tested, tested_view, tested_views, all_tested};
@@ -17,14 +17,14 @@ ghost use Rattle.vertices.specs.RefViews.{owner_ref_view, vertex_ref_view};
 
 use crate::known_problem::KnownProblem;
 use crate::lookups::dependency_at;
-use crate::possible_classes::classes_at;
+use crate::possible_classes::{classes_at, classes_of};
 use crate::space_tests::{
     chosen_tests, class_tests, lacking_tests, left_tests, no_class, taken_tests,
 };
 use catalogue::catalogues_are_well_formed;
 use classes::Class;
 use features::{DependencyParts, FeatureName, PackageName};
-use looking_up::class_versions;
+use looking_up::{class_candidates, class_versions};
 use named_terms::Cause;
 use semver::Version;
 use std::alloc::{AllocError, Global};
@@ -184,6 +184,27 @@ fn absent<'a>(
     })
 }
 
+/// The dependency, which has this number among those of its owner, leads to the class.
+fn leads_to<'a>(
+    alloc: Global,
+    known: &KnownProblem<'a>,
+    owner: OwnerRef<'a>,
+    number: usize,
+    dependency: &'a DependencyParts,
+    class: Class,
+) -> Result<TestedTerm<'a>, AllocError>
+    requires { dependency_at (problem known.now) (owner_ref_view owner) number ≡ Some (dependency_view dependency.now) }
+    ensures { IfOk result (λ p. tested_view p ≡ tested (problem known.now)
+        (at (model.dep (owner_ref_view owner.entry) number) (model.in_class (class_view class) ∷ []))) }
+{
+    let classes = classes_of(alloc, known, dependency)?;
+    let tests = class_tests(alloc, class, classes.as_slice())?;
+    Ok(TestedTerm {
+        vertex: VertexRef::Dependency(owner, number),
+        tests,
+    })
+}
+
 /// The dependency leads to the class.
 fn leads<'a>(
     alloc: Global,
@@ -288,7 +309,7 @@ fn target_terms<'a>(
 {
     match dependency_at(known, &owner, number) {
         Some(dependency) => Ok(vec![in alloc;
-            leads(alloc, known, owner, number, class)?,
+            leads_to(alloc, known, owner, number, dependency, class)?,
             left(alloc, known, dependency, class)?,
         ]?),
         None => Ok(Vec::new(alloc)),
@@ -343,8 +364,8 @@ fn lacking<'a>(
         (λ c. not (has_feature c.brings.features feature.now)) name.entry.now (class_view class)))) }
 {
     catalogues_are_well_formed(known.manifest, known.catalogue);
-    let versions = class_versions(known.catalogue, name, class);
-    let tests = lacking_tests(alloc, known, name, feature, versions)?;
+    let candidates = class_candidates(known.catalogue, name, class);
+    let tests = lacking_tests(alloc, feature, candidates)?;
     Ok(package_term(name, class, tests))
 }
 
@@ -378,7 +399,7 @@ fn list_terms<'a>(
 {
     match dependency_at(known, &owner, number) {
         Some(dependency) => Ok(vec![in alloc;
-            leads(alloc, known, owner, number, class)?,
+            leads_to(alloc, known, owner, number, dependency, class)?,
             off_there(alloc, dependency, class, feature)?,
         ]?),
         None => Ok(Vec::new(alloc)),
@@ -402,7 +423,7 @@ fn ask_terms<'a>(
     match dependency_at(known, &owner, number) {
         Some(dependency) => Ok(vec![in alloc;
             two_states(alloc, VertexRef::Ask(name, version, number, feature), true)?,
-            leads(alloc, known, owner, number, class)?,
+            leads_to(alloc, known, owner, number, dependency, class)?,
             off_there(alloc, dependency, class, feature)?,
         ]?),
         None => Ok(Vec::new(alloc)),
@@ -424,7 +445,7 @@ fn newest_terms<'a>(
 {
     match dependency_at(known, &owner, number) {
         Some(dependency) => Ok(vec![in alloc;
-            leads(alloc, known, owner, number, class)?,
+            leads_to(alloc, known, owner, number, dependency, class)?,
             leads(alloc, known, owner, other, higher)?,
             taken(alloc, known, dependency, higher)?,
         ]?),
@@ -452,7 +473,7 @@ fn weak_terms<'a>(
             alloc,
             chosen(alloc, known, name, version)?,
             own_feature(alloc, name, version, on, true)?,
-            leads(alloc, known, owner, number, class)?,
+            leads_to(alloc, known, owner, number, dependency, class)?,
             off_there(alloc, dependency, class, off)?,
         ),
         None => Ok(Vec::new(alloc)),

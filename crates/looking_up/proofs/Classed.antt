@@ -31,6 +31,20 @@ in_class k (r ∷ rs) = by (is_of k r.version) (in_class k rs)
     by true e = ap (λ vs. r.version ∷ vs) e
     by false e = e
 
+records_in_class : (k : Class) (rs : List Record) → filter (in_that_class k) (map as_candidate rs)
+    ≡ map as_candidate (filter (λ (r : Record). is_of k r.version) rs)
+records_in_class k [] = refl
+records_in_class k (r ∷ rs) = by (is_of k r.version) (records_in_class k rs)
+  where
+    by : (b : Bool) → filter (in_that_class k) (map as_candidate rs)
+        ≡ map as_candidate (filter (λ (r : Record). is_of k r.version) rs)
+        → cond b (as_candidate r ∷ filter (in_that_class k) (map as_candidate rs))
+        (filter (in_that_class k) (map as_candidate rs))
+        ≡ map as_candidate (cond b (r ∷ filter (λ (r : Record). is_of k r.version) rs)
+        (filter (λ (r : Record). is_of k r.version) rs))
+    by true e = ap (λ cs. as_candidate r ∷ cs) e
+    by false e = e
+
 taken_out : (t : Parts → Bool) (cs : List Candidate) → filter t (map (λ (e : Candidate). e.version) cs)
     ≡ map (λ (e : Candidate). e.version) (filter (λ (e : Candidate). t e.version) cs)
 taken_out t [] = refl
@@ -71,6 +85,14 @@ module _ (m : ManifestView) (c : CatalogueView) (name : List ℕ) (k : Class) wh
   classed_are = in_class k (candidates_at c name)
       ∙ ap (λ cs. map (λ (e : Candidate). e.version) (filter (in_that_class k) cs)) (sym (candidates_are c name))
 
+  pub class_is_of : those ≡ map as_candidate (filter (λ (r : Record). is_of k r.version) (candidates_at c name))
+  class_is_of = ap (filter (in_that_class k)) (candidates_are c name) ∙ records_in_class k (candidates_at c name)
+
+  -- the states of those that pass
+  pub with_those : (f : Parts → Bool) → versions_with f (map (λ (e : Candidate). e.version) those)
+      ≡ versions_that (problem_in m c) (λ (e : Candidate). f e.version) name k
+  with_those f = ap (map version) (taken_out f those) ∙ named (filter (λ (e : Candidate). f e.version) those)
+
   module _ (vs : List Version)
       (is : map parts_of vs ≡ filter (is_of k) (map (λ r. r.version) (candidates_at c name))) where
     pub any_classed : (f : Parts → Bool)
@@ -85,5 +107,4 @@ module _ (m : ManifestView) (c : CatalogueView) (name : List ℕ) (k : Class) wh
 
     pub with_classed : (f : Parts → Bool)
         → versions_with f (map parts_of vs) ≡ versions_that (problem_in m c) (λ (e : Candidate). f e.version) name k
-    with_classed f = ap (versions_with f) (is ∙ classed_are) ∙ ap (map version) (taken_out f those)
-        ∙ named (filter (λ (e : Candidate). f e.version) those)
+    with_classed f = ap (versions_with f) (is ∙ classed_are) ∙ with_those f

@@ -6,16 +6,19 @@ use Rattle.std.specs.List.Sorted.{IsPartitionedBy, IsPartitionPoint}
 use Rattle.std.specs.Ordering.{is_gt}
 use Rattle.std.specs.declared.cmp.Ordering.TheVariants.{Less}
 use Rattle.std.proofs.lemmas.Bool.{cases_lt, lt-ltb, ltb-true, ltb-false, eq-eqb, not-true}
-use Rattle.std.proofs.lemmas.List.{get_or-drop, length-drop, take_rest}
+use Rattle.std.proofs.lemmas.List.{drop-map, get_or-drop, length-drop, length-map, take-map, take_rest}
 use Rattle.semver.specs.Identifiers.{parts_of}
 use Rattle.semver.specs.Parse.{Parts}
 use Rattle.semver.specs.declared.Version.{Version}
 use Rattle.model.specs.Axioms.{is_lower}
+use Rattle.model.specs.Candidates.{Record}
 use Rattle.model.specs.Order.{precedence}
 use Rattle.model.specs.Selection.{Class, patch, minor, major, class_of}
 use Rattle.model.specs.Vertices.{same_class}
 use Rattle.model.proofs.Orders.{class_above, not_lower_itself}
 use Rattle.model.proofs.Same.{class-same}
+use Rattle.catalogue.specs.Views.{said, said_by}
+use Rattle.catalogue.specs.declared.candidate.Candidate.{Candidate}
 use Rattle.looking_up.specs.Ranges.{AreRising, is_above, is_below, is_of}
 
 -- ---- the order of classes
@@ -137,23 +140,46 @@ not_false : (b : Bool) → not b ≡ false → b ≡ true
 not_false true e = refl
 not_false false e = sym e
 
-between : (k : Class) (vs : List Version) (i j : ℕ)
-    → IsPartitionPoint (λ v. is_below k (parts_of v) ≡ true) (λ v. is_below k (parts_of v) ≡ false) vs i
-    → j ≤ length (drop i vs)
-    → IsPartitionPoint (λ v. not (is_above k (parts_of v)) ≡ true)
-    (λ v. not (is_above k (parts_of v)) ≡ false) (drop i vs) j
-    → take j (drop i vs) ≡ filter (λ v. is_of k (parts_of v)) vs
-between k vs i j first less last =
-    let long = length-drop i vs in
-    sym (skipped (λ v. is_of k (parts_of v)) vs i
-    (λ n d low within. apart_below k (class_of (parts_of (get_or vs n d))) (first.0 n d (omega arith) low))
-    ∙ kept (λ v. is_of k (parts_of v)) (drop i vs) j less
-    (λ n d low. neither k (class_of (parts_of (get_or (drop i vs) n d)))
-    (subst (λ v. is_below k (parts_of v) ≡ false) (sym (get_or-drop i vs n d))
-    (first.1 (i + n) d (omega arith) (omega arith)))
-    (not-true (is_above k (parts_of (get_or (drop i vs) n d))) (last.0 n d (omega arith) low)))
-    (λ n d high within. apart_above k (class_of (parts_of (get_or (drop i vs) n d)))
-    (not_false (is_above k (parts_of (get_or (drop i vs) n d))) (last.1 n d high within))))
+-- what stands beside versions, at the places of those
+module _ {Y : Type 0} (g : Y → Parts) where
+  as_many : (vs : List Version) (ys : List Y) → map parts_of vs ≡ map g ys → length vs ≡ length ys
+  as_many vs ys same = sym (length-map vs parts_of) ∙ ap length same ∙ length-map ys g
+
+  beside : (vs : List Version) (ys : List Y) → map parts_of vs ≡ map g ys → (n : ℕ) (d : Y) → n < length ys
+      → (v : Version) × (parts_of (get_or vs n v) ≡ g (get_or ys n d))
+  beside vs [] same n d within = absurd (omega (arith, within))
+  beside [] (y ∷ ys) same n d within = absurd (omega (arith, as_many [] (y ∷ ys) same))
+  beside (v ∷ vs) (y ∷ ys) same zero d within = (v, cc)
+  beside (v ∷ vs) (y ∷ ys) same (suc n) d within =
+      let rest : map parts_of vs ≡ map g ys = cc in beside vs ys rest n d (omega (arith, within))
+
+  between : (k : Class) (vs : List Version) (ys : List Y) (i j : ℕ) → map parts_of vs ≡ map g ys
+      → IsPartitionPoint (λ v. is_below k (parts_of v) ≡ true) (λ v. is_below k (parts_of v) ≡ false) vs i
+      → j ≤ length (drop i vs)
+      → IsPartitionPoint (λ v. not (is_above k (parts_of v)) ≡ true)
+      (λ v. not (is_above k (parts_of v)) ≡ false) (drop i vs) j
+      → take j (drop i ys) ≡ filter (λ y. is_of k (g y)) ys
+  between k vs ys i j same first less last =
+      let many = as_many vs ys same in
+      let long = length-drop i vs in
+      let wide = length-drop i ys in
+      let rest : map parts_of (drop i vs) ≡ map g (drop i ys)
+      = sym (drop-map parts_of i vs) ∙ ap (drop i) same ∙ drop-map g i ys in
+      sym (skipped (λ y. is_of k (g y)) ys i
+      (λ n d low within. let b = beside vs ys same n d within in subst (λ v. same_class k (class_of v) ≡ false) b.1
+      (apart_below k (class_of (parts_of (get_or vs n b.0))) (first.0 n b.0 (omega arith) low)))
+      ∙ kept (λ y. is_of k (g y)) (drop i ys) j (omega (arith, less, many, long, wide))
+      (λ n d low. let b = beside (drop i vs) (drop i ys) rest n d (omega (arith, low, less, many, long, wide)) in
+      subst (λ v. same_class k (class_of v) ≡ true) b.1
+      (neither k (class_of (parts_of (get_or (drop i vs) n b.0)))
+      (subst (λ v. is_below k (parts_of v) ≡ false) (sym (get_or-drop i vs n b.0))
+      (first.1 (i + n) b.0 (omega arith) (omega arith)))
+      (not-true (is_above k (parts_of (get_or (drop i vs) n b.0))) (last.0 n b.0 (omega arith) low))))
+      (λ n d high within. let b = beside (drop i vs) (drop i ys) rest n d within in
+      subst (λ v. same_class k (class_of v) ≡ false) b.1
+      (apart_above k (class_of (parts_of (get_or (drop i vs) n b.0)))
+      (not_false (is_above k (parts_of (get_or (drop i vs) n b.0)))
+      (last.1 n b.0 high (omega (arith, within, many, long, wide)))))))
 
 -- the versions of a class lie between those below it and those above it
 pub piece_is : (k : Class) (vs : List Version) (i j : ℕ)
@@ -162,7 +188,27 @@ pub piece_is : (k : Class) (vs : List Version) (i j : ℕ)
     → IsPartitionPoint (λ v. not (is_above k (parts_of v)) ≡ true)
     (λ v. not (is_above k (parts_of v)) ≡ false) (take (length vs - i) (drop i vs)) j
     → take j (take (length vs - i) (drop i vs)) ≡ filter (λ v. is_of k (parts_of v)) vs
-piece_is k vs i j first = rw (take_rest vs i) (λ less last. between k vs i j first less last)
+piece_is k vs i j first = rw (take_rest vs i) (λ less last. between parts_of k vs vs i j refl first less last)
+
+-- so does what is said of their candidates, which lie beside them
+pub said_between : (k : Class) (vs : List Version) (cs : List Candidate) (rs : List Record) (i j : ℕ)
+    → map parts_of vs ≡ map (λ (r : Record). r.version) rs → map said_by cs ≡ map said rs
+    → IsPartitionPoint (λ v. is_below k (parts_of v) ≡ true) (λ v. is_below k (parts_of v) ≡ false) vs i
+    → j ≤ length (take (length vs - i) (drop i vs))
+    → IsPartitionPoint (λ v. not (is_above k (parts_of v)) ≡ true)
+    (λ v. not (is_above k (parts_of v)) ≡ false) (take (length vs - i) (drop i vs)) j
+    → map said_by (take j (take (length cs - i) (drop i cs)))
+    ≡ map said (filter (λ (r : Record). is_of k r.version) rs)
+said_between k vs cs rs i j same told first = rw (take_rest vs i, take_rest cs i)
+    (λ less last. sym (take-map said_by j (drop i cs))
+    ∙ ap (take j) (sym (drop-map said_by i cs) ∙ ap (drop i) told ∙ drop-map said i rs) ∙ take-map said j (drop i rs)
+    ∙ ap (map said) (between (λ (r : Record). r.version) k vs rs i j same first less last))
+
+-- there are as many of them
+pub as_many_said : (vs : List Version) (cs : List Candidate) (rs : List Record)
+    → map parts_of vs ≡ map (λ (r : Record). r.version) rs → map said_by cs ≡ map said rs → length vs ≡ length cs
+as_many_said vs cs rs same told = as_many (λ (r : Record). r.version) vs rs same
+    ∙ sym (sym (length-map cs said_by) ∙ ap length told ∙ length-map rs said)
 
 -- ---- as parts
 

@@ -17,4 +17,4 @@ mod ranges;
 pub use matching::{has_class, is_lacking, is_left, is_unmatched};
 pub use owners::{brings, dependencies_of, dependency_at, entries_of, is_needed};
 pub use problem::Problem;
-pub use ranges::{below, class_versions, of_class};
+pub use ranges::{below, class_candidates, class_versions, of_class};

@@ -5,9 +5,10 @@ ghost use Rattle.std.specs.List.Sorted.{IsPartitionPoint};
 ghost use Rattle.semver.specs.Identifiers.{parts_of};
 ghost use Rattle.classes.specs.Classes.{class_view};
 ghost use Rattle.catalogue.specs.Stores.{candidates_at};
+ghost use Rattle.catalogue.specs.Views.{said, said_by};
 ghost use Rattle.looking_up.specs.Ranges.{AreRising, is_above, is_below, is_of};
 
-use catalogue::Catalogue;
+use catalogue::{Candidate, Catalogue};
 use classes::Class;
 use features::PackageName;
 use semver::Version;
@@ -23,6 +24,23 @@ pub fn class_versions<'a>(
     ensures rising { AreRising result.now }
 {
     of_class(class, catalogue.versions(name))
+}
+
+/// What the index says of a name's candidates that are of a class, each at the place of its version among
+/// `class_versions`.
+pub fn class_candidates<'a>(
+    catalogue: &'a Catalogue,
+    name: &PackageName,
+    class: Class,
+) -> &'a [Candidate]
+    ensures { map said_by result.now
+        ≡ map said (filter (λ r. is_of (class_view class) r.version) (candidates_at catalogue.entry.now name.now)) }
+{
+    let versions = catalogue.versions(name);
+    let first = below(class, versions);
+    let count = up_to(class, &versions[first..]);
+    let rest = &catalogue.candidates(name)[first..];
+    &rest[..count]
 }
 
 /// Those of a class: after those of lower classes, and before those of higher ones.

@@ -1,11 +1,10 @@
-use Rattle.std.proofs.Common.{◌≡◌, ◌++◌, ◌∷◌, true, map, drop}
-use Rattle.semver.specs.Identifiers.{parts_of}
-use Rattle.encoding.specs.KnownProblem.{problem}
-use Rattle.looking_up.specs.Matching.{is_lacking}
+use Rattle.std.proofs.Common.{◌≡◌, ◌++◌, ◌∷◌, true, not, map, drop}
+use Rattle.catalogue.specs.Views.{said_by}
+use Rattle.model.specs.Summary.{has_feature}
 use Rattle.encoding.proofs.space_tests.lacking_tests.Given as goal
 
--- the tests so far, with those of the versions that are left, are those of all
-abbrev pub invariant-versions : goal.invariant-versions
-invariant-versions l = l.tests.items
-    ++ map (λ w. is_lacking (problem l.known) l.name l.feature (parts_of w)) (drop l.version-index l.versions)
-    ≡ true ∷ map (λ w. is_lacking (problem l.known) l.name l.feature (parts_of w)) l.versions
+-- the tests so far, with those of the candidates that are left, are those of all
+abbrev pub invariant-candidates : goal.invariant-candidates
+invariant-candidates l = l.tests.items
+    ++ map (λ x. not (has_feature (said_by x).brings.features l.feature)) (drop l.candidate-index l.candidates)
+    ≡ true ∷ map (λ x. not (has_feature (said_by x).brings.features l.feature)) l.candidates

@@ -1,13 +1,13 @@
-use Rattle.std.proofs.Common.{refl, ap, ◌∙◌}
+use Rattle.std.proofs.Common.{ap, ◌∙◌}
 use Rattle.classes.specs.Classes.{class_view}
 use Rattle.model.specs.Vertices.{pkg}
-use Rattle.encoding.proofs.Tested.{lacking_at}
+use Rattle.encoding.proofs.Tested.{lacking_is}
 use Rattle.encoding.proofs.tested_terms.lacking.Goals as goal
 
 pub returns : goal.returns
 returns c =
     let i = c.args.known.now in
     c.package_term.ensures ∙ ap (λ m. (pkg c.args.name.now (class_view c.args.class), m))
-    (c.in_ok-tests.ensures ∙ lacking_at i.manifest.now i.catalogue.now c.args.name.now (class_view c.args.class)
-    (class_view c.args.class) c.args.feature.now c.class_versions-versions.result.now
-    c.catalogues_are_well_formed.ensures refl c.class_versions-versions.ensures.versions)
+    (c.in_ok-tests.ensures ∙ lacking_is i.manifest.now i.catalogue.now c.args.name.now (class_view c.args.class)
+    c.args.feature.now c.class_candidates-candidates.result.now c.catalogues_are_well_formed.ensures
+    c.class_candidates-candidates.ensures)
