@@ -82,7 +82,7 @@ pub(crate) fn chosen_tests(
     Ok(tests)
 }
 
-/// Absent, and the candidates that lack the feature.
+/// Absent, and the candidates that lack the feature. It is looked for where the one before has it.
 pub(crate) fn lacking_tests(
     alloc: Global,
     feature: &FeatureName,
@@ -93,8 +93,11 @@ pub(crate) fn lacking_tests(
 {
     let mut tests = Vec::with_capacity(alloc, candidates.len().saturating_add(1))?;
     tests.push(true)?;
+    let mut near = 0;
     'candidates: for candidate in candidates.iter() {
-        tests.push(!candidate.brings.features.has(feature))?;
+        let place = candidate.brings.features.place_near(feature, near);
+        tests.push(place.is_none())?;
+        near = place.unwrap_or(near);
     }
     Ok(tests)
 }
