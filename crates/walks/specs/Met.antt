@@ -2,10 +2,11 @@
 -- (own; a superset of what the preferred walk reaches, on which the facts are found).
 use Rattle.std.specs.Prelude.{Vec, ◌≡◌, ℕ, Bool, false, List, map, length, Option, Some, None, slice_get, not, ◌||◌}
 use Rattle.std.specs.Prelude.{is_some}
+use Rattle.std.specs.HashMap.{HashMap, get}
 use Rattle.std.specs.List.{find, list_all, zip}
 use Rattle.semver.specs.Parse.{Held, Parts}
 use Rattle.semver.specs.EvalViews.{matches_views}
-use Rattle.model.specs.Summary.{Dependency}
+use Rattle.model.specs.Summary.{Dependency, same_text}
 use Rattle.model.specs.Content.{Candidate, candidates_of}
 use Rattle.model.specs.Vertices.{Owner, version_of}
 use Rattle.model.specs.Walk.{first_match}
@@ -24,10 +25,19 @@ is_matched requirement (Some v) = matches_views requirement v
 abbrev pub versions_at : CatalogueView → List ℕ → List Parts
 versions_at index name = map (λ r. r.version) (candidates_at index name)
 
+-- the places of a name's candidates in the order of preference
+abbrev pub order_at : CatalogueView → List ℕ → List ℕ
+order_at index name = places_by_rank (map (λ c. c.1) (ranked_at index name))
+
+-- the orders that are kept by name are the names'
+abbrev pub AreOrders : {S : Type 0} → CatalogueView → HashMap (List ℕ) (Vec ℕ Global) S → Type 0
+AreOrders index orders = (name : List ℕ) (order : Vec ℕ Global) → get same_text orders name ≡ Some order
+    → order.items ≡ order_at index name
+
 -- the place of the candidate that a dependency picks
 abbrev pub place_picked : CatalogueView → Dependency → Option ℕ
 place_picked index d = find (λ n. is_matched d.requirement (slice_get (versions_at index d.real_name) n))
-    (places_by_rank (map (λ c. c.1) (ranked_at index d.real_name)))
+    (order_at index d.real_name)
 
 -- ---- picks among the versions met
 

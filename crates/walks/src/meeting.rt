@@ -8,18 +8,20 @@ ghost use Rattle.reaching.specs.Nodes.{AreMet};
 ghost use Rattle.catalogue.specs.Problems.{problem_in};
 ghost use Rattle.contents.specs.Contents.{AreMetVersions, Grows, owners_of};
 ghost use Rattle.walks.specs.Preferred.{preferred_in};
-ghost use Rattle.walks.specs.Met.{ArePicks, IsPick};
+ghost use Rattle.walks.specs.Met.{AreOrders, ArePicks, IsPick};
 
 use crate::picking::pick;
 use catalogue::Catalogue;
 use contents::{Met, MetVersion, brings_at, put_met, store_holds};
 use facts::{Node, dependencies_of};
-use features::{Dependency, DependencyParts};
+use features::{Dependency, DependencyParts, PackageName};
 use indexmap::IndexSet;
 use manifest::Manifest;
 use std::alloc::{AllocError, Global};
+use std::collections::HashMap;
 
-/// Follows the pick of each dependency, enabled or not, and takes each version once.
+/// Follows the pick of each dependency, enabled or not, and takes each version once. The order of preference of a name
+/// is made once, for the first dependency on it.
 pub(crate) fn meet<'a>(
     alloc: Global,
     manifest: &'a Manifest,
@@ -32,11 +34,13 @@ pub(crate) fn meet<'a>(
 {
     store_holds(catalogue);
     let mut versions = IndexSet::new(alloc);
+    let mut orders = HashMap::new(alloc);
     let mut nodes = Vec::new(alloc);
     'versions: while nodes.len() <= versions.len() {
         let place = nodes.len();
         let brings = brings_at(manifest, catalogue, versions.as_slice(), place);
-        let targets = targets_of(alloc, catalogue, &mut versions, dependencies_of(brings))?;
+        let dependencies = dependencies_of(brings);
+        let targets = targets_of(alloc, catalogue, &mut orders, &mut versions, dependencies)?;
         nodes.push(Node {
             brings,
             targets,
@@ -50,16 +54,19 @@ pub(crate) fn meet<'a>(
 fn targets_of(
     alloc: Global,
     catalogue: &Catalogue,
+    orders: &mut HashMap<PackageName, Vec<u32>>,
     versions: &mut IndexSet<MetVersion>,
     dependencies: &[Dependency],
 ) -> Result<Vec<Option<usize>>, AllocError>
+    requires { AreOrders catalogue.now orders.old }
+    ensures orders { OnOk result (AreOrders catalogue.now orders.new) }
     ensures grows { OnOk result (Grows catalogue.now versions.old.keys versions.new.keys) }
     ensures picks { IfOk result (λ v. ArePicks (preferred_in catalogue.now) (owners_of catalogue.now versions.new.keys)
         (dependency_views dependencies.now) v.items) }
 {
     let mut targets = Vec::new(alloc);
     'dependencies: for dependency in dependencies.iter() {
-        targets.push(target_of(catalogue, versions, dependency)?)?;
+        targets.push(target_of(catalogue, orders, versions, dependency)?)?;
     }
     Ok(targets)
 }
@@ -67,14 +74,17 @@ fn targets_of(
 /// Where the pick of a dependency stands; if it is new it goes last.
 fn target_of(
     catalogue: &Catalogue,
+    orders: &mut HashMap<PackageName, Vec<u32>>,
     versions: &mut IndexSet<MetVersion>,
     dependency: &DependencyParts,
 ) -> Result<Option<usize>, AllocError>
+    requires { AreOrders catalogue.now orders.old }
+    ensures orders { OnOk result (AreOrders catalogue.now orders.new) }
     ensures grows { OnOk result (Grows catalogue.now versions.old.keys versions.new.keys) }
     ensures pick { IfOk result (λ o. IsPick (preferred_in catalogue.now) (owners_of catalogue.now versions.new.keys)
         (dependency_view dependency.now) o) }
 {
-    let Some(place) = pick(catalogue, dependency)? else {
+    let Some(place) = pick(catalogue, orders, dependency)? else {
         return Ok(None);
     };
     Ok(Some(put_met(catalogue, versions, &dependency.real_name, place)?))

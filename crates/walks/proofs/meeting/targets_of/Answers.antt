@@ -13,8 +13,9 @@ dependencies-preserved c =
     let there = map_at dependency_view ds i d
     (slice_get-get_or ds i c.dependency-item.result c.dependencies-test.true
     ∙ ap Some (sym (c.deref.ensures ∙ c.dependency-item.is))) in
-    more_targets c.args.catalogue.now c.args.versions.now.keys c.dependencies.versions.keys
+    let more = more_targets c.args.catalogue.now c.args.versions.now.keys c.dependencies.versions.keys
     c.target_of.new.versions.keys
     (dependency_views ds) i c.dependencies.targets.items _ (dependency_view d) c.in_ok-target_of.field-0
-    c.dependencies.invariant c.in_ok-target_of.ensures.grows there c.in_ok-target_of.ensures.pick
-    c.in_ok-push.ensures.items
+    c.dependencies.invariant.0 c.in_ok-target_of.ensures.grows there c.in_ok-target_of.ensures.pick
+    c.in_ok-push.ensures.items in
+    (more, c.in_ok-target_of.ensures.orders)

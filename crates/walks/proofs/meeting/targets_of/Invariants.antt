@@ -1,8 +1,10 @@
 use Rattle.features.specs.Views.{dependency_views}
+use Rattle.walks.specs.Met.{AreOrders}
 use Rattle.walks.proofs.Targets.{TargetsTo}
 use Rattle.walks.proofs.meeting.targets_of.Given as goal
 
--- the targets of the dependencies so far
+-- the targets of the dependencies so far; the orders that are kept are right
 abbrev pub invariant-dependencies : goal.invariant-dependencies
 invariant-dependencies l = TargetsTo l.catalogue l.fn.versions.keys l.versions.keys
     (dependency_views l.dependencies) l.dependency-index l.targets.items
+    × AreOrders l.catalogue l.orders

@@ -2,10 +2,10 @@ use Rattle.std.proofs.Common.{ap₂, ◌∙◌, slice_get}
 use Rattle.std.specs.List.{find}
 use Rattle.features.specs.Views.{requirement_view}
 use Rattle.walks.specs.Met.{is_matched}
-use Rattle.walks.proofs.picking.pick.Goals as goal
+use Rattle.walks.proofs.picking.pick_by.Goals as goal
 
 pub returns : goal.returns
 returns c =
     c.first_matched.ensures
     ∙ ap₂ (λ vs ns. find (λ n. is_matched (requirement_view c.args.dependency.now.requirement) (slice_get vs n)) ns)
-    c.versions-versions.ensures.versions (c.as_slice.ensures.value ∙ c.in_ok-order.ensures.places)
+    c.versions-versions.ensures.versions c.requires
