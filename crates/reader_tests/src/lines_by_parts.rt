@@ -181,22 +181,32 @@ fn may_have_blanks(rt: HostRuntime) -> Result<(), Fail> {
     Ok(())
 }
 
-const A: &str = r#"{"name":"a","req":"^1"}"#;
+/// The item of a list of dependencies that a letter stands for.
+fn item(letter: u8) -> &'static str {
+    match letter {
+        b'a' => r#"{"name":"a","req":"^1"}"#,
+        b'b' => r#"{"name":"b","req":"^1"}"#,
+        b'c' => r#"{"name":"c","req":"^1"}"#,
+        b'd' => r#"{"name":"d","req":"^1","kind":"dev"}"#,
+        b'2' => r#"{"name":"b","req":"^2"}"#,
+        b'l' => r#"{"name":"b","req":"^1"}}"#,
+        b'r' => r#"{"name":"b","req":"^1","registry":"r"}"#,
+        b'}' => r#"{"name":"b","req":"^1","target":"a}"}"#,
+        b',' => r#"{"name":"b","req":"^1","target":"a},"}"#,
+        b'w' => r#"{"name":"b","req":"^1","z":{"y":{}},"x":1}"#,
+        b'1' => "1",
+        _ => "",
+    }
+}
 
-const B: &str = r#"{"name":"b","req":"^1"}"#;
-
-const C: &str = r#"{"name":"c","req":"^1"}"#;
-
-const DEV: &str = r#"{"name":"d","req":"^1","kind":"dev"}"#;
-
-/// A list of these items.
-fn list(alloc: Global, items: &[&str]) -> Result<String, AllocError> {
+/// The list of the items that letters stand for.
+fn list(alloc: Global, letters: &str) -> Result<String, AllocError> {
     let mut text = String::from_str(alloc, "[")?;
-    for (number, item) in items.iter().enumerate() {
+    for (number, letter) in letters.as_bytes().iter().enumerate() {
         if number > 0 {
             text.push_str(",")?;
         }
-        text.push_str(item)?;
+        text.push_str(item(*letter))?;
     }
     text.push_str("]")?;
     Ok(text)
@@ -206,8 +216,8 @@ fn list(alloc: Global, items: &[&str]) -> Result<String, AllocError> {
 fn after(
     alloc: Global,
     name: &PackageName,
-    first: &[&str],
-    next: &[&str],
+    first: &str,
+    next: &str,
 ) -> Result<(String, String), Fail> {
     let first = line(alloc, "1.0.0", list(alloc, first)?.as_str(), "{}", PLAIN)?;
     let next = line(alloc, "1.0.1", list(alloc, next)?.as_str(), "{}", PLAIN)?;
@@ -223,38 +233,28 @@ fn after(
 #[test]
 fn have_items_of_the_line_before(rt: HostRuntime) -> Result<(), Fail> {
     let foo = PackageName::parse(rt.alloc(), "foo")?;
-    let changed = r#"{"name":"b","req":"^2"}"#;
-    let longer = r#"{"name":"b","req":"^1"}}"#;
-    let other = r#"{"name":"b","req":"^1","registry":"r"}"#;
-    let bracket = r#"{"name":"b","req":"^1","target":"a}"}"#;
-    let end = r#"{"name":"b","req":"^1","target":"a},"}"#;
-    let within = r#"{"name":"b","req":"^1","z":{"y":{}},"x":1}"#;
     for (first, next, wanted) in [
-        (
-            [A, B, C].as_slice(),
-            [A, B, C].as_slice(),
-            "1.0.1 a ^1 b ^1 c ^1",
-        ),
-        (&[A, B, C], &[A, changed, C], "1.0.1 a ^1 b ^2 c ^1"),
-        (&[A, C], &[A, B, C], "1.0.1 a ^1 b ^1 c ^1"),
-        (&[A, B, C], &[A, C], "1.0.1 a ^1 c ^1"),
-        (&[A, B, C], &[A, B], "1.0.1 a ^1 b ^1"),
-        (&[A, B], &[A, B, C], "1.0.1 a ^1 b ^1 c ^1"),
-        (&[A, B, C], &[C, B, A], "1.0.1 c ^1 b ^1 a ^1"),
-        (&[A, B], &[A, A, B], "1.0.1 a ^1 a ^1 b ^1"),
-        (&[A, DEV, C], &[B, DEV, C], "1.0.1 b ^1 c ^1"),
-        (&[DEV], &[A, DEV], "1.0.1 a ^1"),
-        (&[A, B, C], &[A, other, C], "S8 OtherRegistry"),
-        (&[A, B, C], &[A, longer, C], "S1 NotJson"),
-        (&[A, C], &[A, bracket, C], "1.0.1 a ^1 b ^1 c ^1"),
-        (&[A, bracket, C], &[A, bracket], "1.0.1 a ^1 b ^1"),
-        (&[A, C], &[A, end, C], "1.0.1 a ^1 b ^1 c ^1"),
-        (&[A, C], &[A, within, C], "1.0.1 a ^1 b ^1 c ^1"),
-        (&[A, C], &[A, "", C], "S1 NotJson"),
-        (&[A, C], &[A, ""], "S1 NotJson"),
-        (&[A, C], &["1", C], "S2 Shape"),
-        (&[], &[A, B], "1.0.1 a ^1 b ^1"),
-        (&[A, B], &[], "1.0.1"),
+        ("abc", "abc", "1.0.1 a ^1 b ^1 c ^1"),
+        ("abc", "a2c", "1.0.1 a ^1 b ^2 c ^1"),
+        ("ac", "abc", "1.0.1 a ^1 b ^1 c ^1"),
+        ("abc", "ac", "1.0.1 a ^1 c ^1"),
+        ("abc", "ab", "1.0.1 a ^1 b ^1"),
+        ("ab", "abc", "1.0.1 a ^1 b ^1 c ^1"),
+        ("abc", "cba", "1.0.1 c ^1 b ^1 a ^1"),
+        ("ab", "aab", "1.0.1 a ^1 a ^1 b ^1"),
+        ("adc", "bdc", "1.0.1 b ^1 c ^1"),
+        ("d", "ad", "1.0.1 a ^1"),
+        ("abc", "arc", "S8 OtherRegistry"),
+        ("abc", "alc", "S1 NotJson"),
+        ("ac", "a}c", "1.0.1 a ^1 b ^1 c ^1"),
+        ("a}c", "a}", "1.0.1 a ^1 b ^1"),
+        ("ac", "a,c", "1.0.1 a ^1 b ^1 c ^1"),
+        ("ac", "awc", "1.0.1 a ^1 b ^1 c ^1"),
+        ("ac", "a-c", "S1 NotJson"),
+        ("ac", "a-", "S1 NotJson"),
+        ("ac", "1c", "S2 Shape"),
+        ("", "ab", "1.0.1 a ^1 b ^1"),
+        ("ab", "", "1.0.1"),
     ] {
         let (found, alone) = after(rt.alloc(), &foo, first, next)?;
         assert_eq!(rt; alone.as_str(), wanted);
@@ -374,14 +374,11 @@ fn have_features_of_the_line_before(rt: HostRuntime) -> Result<(), Fail> {
         assert_eq!(rt; alone.as_str(), wanted);
         assert_eq!(rt; found.as_str(), wanted);
         let (found, _) = features_after(rt.alloc(), &foo, (BAR, features), (BAR, ABC))?;
-        assert_eq!(rt;
-            found.as_str(),
-            if wanted.starts_with("S") {
-                wanted
-            } else {
-                ABC_TOLD
-            }
-        );
+        if wanted.starts_with("S") {
+            assert_eq!(rt; found.as_str(), wanted);
+        } else {
+            assert_eq!(rt; found.as_str(), ABC_TOLD);
+        }
     }
     Ok(())
 }
