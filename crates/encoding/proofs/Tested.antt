@@ -159,7 +159,8 @@ lacking_there m c name k f known =
     (λ e i. sym (found e i) ∙ sym (passing test vs e.version (to_map (λ (e : Candidate). e.version) those e i)))
     ∙ sym (map_map (has_state (absent ∷ ss)) (λ (e : Candidate). version e.version) those))
     ∙ ap (λ zs. members_at q (pkg name k) (absent ∷ zs)) (with_those m c name k test
-    ∙ ap (map (λ (e : Candidate). version e.version)) (filter_along (λ (e : Candidate). test e.version) lacks those found))
+    ∙ ap (map (λ (e : Candidate). version e.version))
+    (filter_along (λ (e : Candidate). test e.version) lacks those found))
 
 pub lacking_is : (m : ManifestView) (c : CatalogueView) (name : List ℕ) (k : Class) (f : List ℕ)
     (cs : List stored.Candidate) → IsCatalogue (problem_in m c)

@@ -1,5 +1,5 @@
 -- Texts in a set, and what a loop has put there so far.
-use Rattle.std.proofs.Common.{◌≡◌, ℕ, List, [], ◌∷◌, ◌++◌, map, Bool, true, false, ◌||◌, cond, Some, None, is_some, Vec}
+use Rattle.std.proofs.Common.{◌≡◌, ℕ, List, [], ◌∷◌, ◌++◌, Bool, true, false, ◌||◌, cond, Some, None, Vec}
 use Rattle.std.proofs.Common.{zero, suc, ◌+◌, ◌<◌, length, get_or, take, drop, not, ◌&&◌, Ok, arith}
 use Rattle.std.proofs.Common.{Ordering, Less, Equal, Greater, refl, sym, ap, ap₂, ◌∙◌, subst}
 use Rattle.std.specs.Borrow.{Bor}

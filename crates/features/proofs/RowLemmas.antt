@@ -1,5 +1,6 @@
 -- Rows that rise by the names of their features: where a feature is found among them, and where it is put.
-use Rattle.std.proofs.Common.{◌≡◌, ℕ, zero, suc, ◌+◌, ◌<◌, ◌≤◌, List, [], ◌∷◌, Some, None, Ok, Err, Vec, length, get_or}
+use Rattle.std.proofs.Common.{◌≡◌, ℕ, zero, suc, ◌+◌, ◌<◌, ◌≤◌, List, [], ◌∷◌, Some, None, Ok, Err}
+use Rattle.std.proofs.Common.{Vec, length, map, get_or}
 use Rattle.std.proofs.Common.{Ordering, Less, Equal, Greater, true, cond, T, ◌&&◌, slice_set, refl, sym, ap, ◌∙◌, ap₂}
 use Rattle.std.proofs.Common.{subst, arith}
 use Rattle.std.specs.BTreeMap.{BTreeMap, IsFromIterResult, insert_entry, is_at}
@@ -19,7 +20,7 @@ use Rattle.std.proofs.lemmas.Map.Lookups.{exact_bytes}
 use Rattle.std.proofs.lemmas.Map.Made.{update_all_none}
 use Rattle.std.proofs.lemmas.Option.{slice_get-get_or, get_or_from_slice_get, slice_get_within}
 use Rattle.model.specs.Order.{text_cmp}
-use Rattle.features.specs.Tables.{AreRising}
+use Rattle.features.specs.Tables.{AreRising, rows_of}
 use Rattle.features.specs.declared.entry.Entry.{Entry}
 
 abbrev Row : Type 0
@@ -31,6 +32,17 @@ names_rise es i j d rising less within =
     ap₂ text_cmp (sym (get_or-map (λ (e : Row). e.0) es i d d.0 (omega (arith, less, within))))
     (sym (get_or-map (λ (e : Row). e.0) es j d d.0 within))
     ∙ Less-from_sorted text_cmp (keys_of es) i j d.0 rising less (rw (length-keys_of es) within)
+
+-- the names of rows, and those of what they are as a table
+names-of-table : (es : List Row) → keys_of es ≡ map (λ row. row.0) (rows_of es)
+names-of-table [] = refl
+names-of-table (e ∷ es) = ap (λ names. e.0 ∷ names) (names-of-table es)
+
+-- rows that are the same table as rows that rise
+pub rise_too : (es fs : List Row) → rows_of fs ≡ rows_of es → AreRising es → AreRising fs
+rise_too es fs same rising =
+    subst (IsStrictlySortedBy text_cmp) (names-of-table es ∙ ap (λ rows. map (λ row. row.0) rows) (sym same)
+    ∙ sym (names-of-table fs)) rising
 
 can_be_searched : (es : List Row) (name : List ℕ) → AreRising es
     → IsNonDecreasingBy (λ (e : Row). ordering_index (text_cmp e.0 name)) es

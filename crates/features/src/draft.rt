@@ -17,6 +17,7 @@ ghost use Rattle.features.specs.Tables.{AreRising, dep_names_view, rows_of, tabl
 use crate::entry::Entry;
 use crate::feature_name::FeatureName;
 use crate::name::PackageName;
+use crate::row::Row;
 use crate::rows::has_row;
 use crate::table::{DepName, FeatureFault};
 use crate::texts::Texts;
@@ -37,7 +38,7 @@ enum Lack {
 #[derive(Drop)]
 struct Draft<'a> {
     dependencies: &'a [DepName],
-    written: &'a [(FeatureName, Vec<Entry>)],
+    written: &'a [Row],
     /// What the dependencies are called.
     called: Texts<'a>,
     /// What the optional ones are called.
@@ -76,15 +77,12 @@ fn optional<'a>(alloc: Global, dependencies: &'a [DepName]) -> Result<Texts<'a>,
 }
 
 /// What the entries `dep:d` name.
-fn entered<'a>(
-    alloc: Global,
-    written: &'a [(FeatureName, Vec<Entry>)],
-) -> Result<Texts<'a>, AllocError>
+fn entered<'a>(alloc: Global, written: &'a [Row]) -> Result<Texts<'a>, AllocError>
     ensures { IfOk result (λ names. HasThose (texts_in names) (has_dep_entry (rows_of written.entry.now))) }
 {
     let mut names = Texts::new(alloc);
     'rows: for row in written {
-        put_entered(&mut names, row.1.as_slice())?;
+        put_entered(&mut names, row.entries().as_slice())?;
     }
     Ok(names)
 }
@@ -107,7 +105,7 @@ impl<'a> Draft<'a> {
     fn of(
         alloc: Global,
         dependencies: &'a [DepName],
-        written: &'a [(FeatureName, Vec<Entry>)],
+        written: &'a [Row],
     ) -> Result<Draft<'a>, AllocError>
         requires { AreRising written.now }
         ensures { IfOk result (λ d. (names_in d ≡ dep_names_view dependencies.entry.now)
@@ -178,8 +176,8 @@ impl<'a> Draft<'a> {
             ≡ first_with (has_fault (names_in self.now) (written_in self.now) (lack_view lack)) (written_in self.now) }
     {
         'rows: for row in self.written {
-            if self.some_lacking(lack, row.1.as_slice()) {
-                return Some(&row.0);
+            if self.some_lacking(lack, row.entries().as_slice()) {
+                return Some(row.name());
             }
         }
         None
@@ -211,7 +209,7 @@ impl<'a> Draft<'a> {
     {
         self.written
             .iter()
-            .all(|row| self.are_well(row.1.as_slice()))
+            .all(|row| self.are_well(row.entries().as_slice()))
     }
 
     fn without(&self, lack: Lack) -> Result<(), FeatureFault>
@@ -242,7 +240,7 @@ impl<'a> Draft<'a> {
     }
 
     /// The rows of the implicit features, dependency after dependency.
-    fn implicit_rows(&self, alloc: Global) -> Result<Vec<(FeatureName, Vec<Entry>)>, AllocError>
+    fn implicit_rows(&self, alloc: Global) -> Result<Vec<Row>, AllocError>
         ensures { IfOk result (λ v. rows_of v.items
             ≡ implicit_rows (is_implicit (names_in self.now) (written_in self.now)) (names_in self.now)) }
     {
@@ -257,20 +255,20 @@ impl<'a> Draft<'a> {
 }
 
 /// The implicit feature of a dependency: with the one entry `dep:d`.
-fn implicit_row(alloc: Global, name: &PackageName) -> Result<(FeatureName, Vec<Entry>), AllocError>
+fn implicit_row(alloc: Global, name: &PackageName) -> Result<Row, AllocError>
     ensures { IfOk result (λ row. (row.0 ≡ name.now) × (entry_views row.1.items ≡ implicit_entries name.now)) }
 {
-    let mut entries = Vec::new(alloc);
+    let mut entries = Vec::with_capacity(alloc, 1)?;
     entries.push(Entry::Dependency(name.clone()?))?;
-    Ok((FeatureName::of_package(alloc, name)?, entries))
+    Row::new(alloc, FeatureName::of_package(alloc, name)?, entries)
 }
 
 /// The rows of the implicit features, where what is written has no fault.
 pub(crate) fn implicit_rows(
     alloc: Global,
     dependencies: &[DepName],
-    written: &[(FeatureName, Vec<Entry>)],
-) -> Result<Vec<(FeatureName, Vec<Entry>)>, FeatureFault>
+    written: &[Row],
+) -> Result<Vec<Row>, FeatureFault>
     requires { AreRising written.now }
     ensures { Gives table_wants_memory
         (λ v. rows_of v.items) result (rows_or_fault (dep_names_view dependencies.now) (rows_of written.now)) }

@@ -9,7 +9,8 @@
 //! `FeatureTable::build` is just that function (`table_of`), with the lowest fault at the first feature that has it.
 //! What entries name is looked up among texts of which the first few lie in a row (`texts.rt`). What is written and
 //! what is built are rows that rise by the names of the features (`rows.rt`), for a map takes longer to make and three
-//! times their room. A clone of a table shares them. So does a dependency with its parts.
+//! times their room. Tables of neighbouring versions share the rows that both have, as a dependency's clone shares its
+//! parts.
 //!
 //! A layer above may rely on this: `parse` takes exactly the texts that are names or entries. A table has exactly the
 //! features that are meant, in the order of their bytes, and each entry that names a feature names one of the same
@@ -22,6 +23,7 @@ mod entry;
 mod feature_name;
 mod name;
 mod name_text;
+mod row;
 mod rows;
 mod table;
 mod texts;
@@ -32,6 +34,7 @@ pub use entry::{Entry, EntryFault};
 pub use feature_name::FeatureName;
 pub use name::{NameFault, PackageName};
 pub use name_text::NameText;
+pub use row::{Row, shared};
 pub use rows::{map_of, rows_of};
 pub use table::{DepName, FeatureFault, FeatureTable, Rows};
 pub use versioned::name_and_version;

@@ -11,6 +11,7 @@ ghost use Rattle.features.specs.Tables.{AreRising, rows_of};
 
 use crate::entry::Entry;
 use crate::feature_name::FeatureName;
+use crate::row::{Row, copies, shared};
 use std::alloc::{AllocError, Global};
 use std::collections::BTreeMap;
 
@@ -19,21 +20,18 @@ use std::collections::BTreeMap;
 const FEW: usize = 16;
 
 /// The entries of a feature.
-pub(crate) fn entries_in<'a>(
-    rows: &'a [(FeatureName, Vec<Entry>)],
-    name: &str,
-) -> Option<&'a Vec<Entry>>
+pub(crate) fn entries_in<'a>(rows: &'a [Row], name: &str) -> Option<&'a Vec<Entry>>
     requires { AreRising rows.now }
     ensures { option_map (λ v. v.now) result ≡ lookup (is_at (text_cmp name.now)) rows.now }
 {
-    match rows.binary_search_by(|row| row.0.as_str().cmp(name)) {
-        Ok(place) => Some(&rows[place].1),
+    match rows.binary_search_by(|row| row.name().as_str().cmp(name)) {
+        Ok(place) => Some(rows[place].entries()),
         Err(_) => None,
     }
 }
 
 /// Whether there is a row of this feature.
-pub(crate) fn has_row(rows: &[(FeatureName, Vec<Entry>)], name: &str) -> bool
+pub(crate) fn has_row(rows: &[Row], name: &str) -> bool
     requires { AreRising rows.now }
     ensures { result ≡ has_feature (rows_of rows.now) name.now }
 {
@@ -41,37 +39,34 @@ pub(crate) fn has_row(rows: &[(FeatureName, Vec<Entry>)], name: &str) -> bool
 }
 
 /// The place of the row of a feature.
-pub(crate) fn place_in(rows: &[(FeatureName, Vec<Entry>)], name: &str) -> Option<usize>
+pub(crate) fn place_in(rows: &[Row], name: &str) -> Option<usize>
     requires { AreRising rows.now }
     ensures { result ≡ place_of name.now (rows_of rows.now) }
 {
-    rows.binary_search_by(|row| row.0.as_str().cmp(name)).ok()
+    rows.binary_search_by(|row| row.name().as_str().cmp(name))
+        .ok()
 }
 
 /// Whether the row of a feature is at this place.
-pub(crate) fn is_at(rows: &[(FeatureName, Vec<Entry>)], name: &FeatureName, place: usize) -> bool
+pub(crate) fn is_at(rows: &[Row], name: &FeatureName, place: usize) -> bool
     requires { AreRising rows.now }
     ensures { result ≡ true → place_of name.now (rows_of rows.now) ≡ Some place }
 {
     match rows.get(place) {
-        Some(row) => row.0 == *name,
+        Some(row) => row.name() == name,
         None => false,
     }
 }
 
 /// Puts a row where it belongs: in the place of that of its feature, if there is one.
-pub(crate) fn put_row(
-    rows: &mut Vec<(FeatureName, Vec<Entry>)>,
-    name: FeatureName,
-    entries: Vec<Entry>,
-) -> Result<(), AllocError>
+pub(crate) fn put_row(rows: &mut Vec<Row>, row: Row) -> Result<(), AllocError>
     requires { AreRising rows.old.items }
-    ensures put { OnOk result (rows.new.items ≡ insert_entry text_cmp rows.old.items name entries) }
+    ensures put { OnOk result (rows.new.items ≡ insert_entry text_cmp rows.old.items row.0 row.1) }
     ensures rising { OnOk result (AreRising rows.new.items) }
 {
-    match rows.binary_search_by(|row| row.0.cmp(&name)) {
-        Ok(place) => rows[place].1 = entries,
-        Err(place) => rows.insert(place, (name, entries))?,
+    match rows.binary_search_by(|other| other.name().cmp(row.name())) {
+        Ok(place) => rows[place] = row,
+        Err(place) => rows.insert(place, row)?,
     }
     Ok(())
 }
@@ -79,9 +74,9 @@ pub(crate) fn put_row(
 /// The rows with these too.
 pub(crate) fn with_rows(
     alloc: Global,
-    rows: Vec<(FeatureName, Vec<Entry>)>,
-    more: Vec<(FeatureName, Vec<Entry>)>,
-) -> Result<Vec<(FeatureName, Vec<Entry>)>, AllocError>
+    rows: Vec<Row>,
+    more: Vec<Row>,
+) -> Result<Vec<Row>, AllocError>
     requires { AreRising rows.items }
     ensures rows { IfOk result (λ v. rows_of v.items ≡ with_rows (rows_of rows.items) (rows_of more.items)) }
     ensures rising { IfOk result (λ v. AreRising v.items) }
@@ -89,21 +84,19 @@ pub(crate) fn with_rows(
     if more.len() <= FEW {
         return with_few(rows, more);
     }
-    rows_of(alloc, with_many(alloc, rows, more)?)
+    let features = with_many(alloc, &rows, &more)?;
+    shared(alloc, rows_of(alloc, features)?)
 }
 
 /// The rows with these too, each put where it belongs.
-fn with_few(
-    mut rows: Vec<(FeatureName, Vec<Entry>)>,
-    more: Vec<(FeatureName, Vec<Entry>)>,
-) -> Result<Vec<(FeatureName, Vec<Entry>)>, AllocError>
+fn with_few(mut rows: Vec<Row>, more: Vec<Row>) -> Result<Vec<Row>, AllocError>
     requires { AreRising rows.items }
     ensures rows { IfOk result (λ v. rows_of v.items ≡ with_rows (rows_of rows.items) (rows_of more.items)) }
     ensures rising { IfOk result (λ v. AreRising v.items) }
 {
     rows.reserve_exact(more.len())?;
-    'rows: for (name, entries) in more {
-        put_row(&mut rows, name, entries)?;
+    'rows: for row in more {
+        put_row(&mut rows, row)?;
     }
     Ok(rows)
 }
@@ -111,14 +104,15 @@ fn with_few(
 /// The same as a map.
 fn with_many(
     alloc: Global,
-    rows: Vec<(FeatureName, Vec<Entry>)>,
-    more: Vec<(FeatureName, Vec<Entry>)>,
+    rows: &[Row],
+    more: &[Row],
 ) -> Result<BTreeMap<FeatureName, Vec<Entry>>, AllocError>
-    requires { AreRising rows.items }
-    ensures { IfOk result (λ m. rows_of m.entries ≡ with_rows (rows_of rows.items) (rows_of more.items)) }
+    requires { AreRising rows.now }
+    ensures { IfOk result (λ m. rows_of m.entries ≡ with_rows (rows_of rows.now) (rows_of more.now)) }
 {
-    let mut features = map_of(alloc, rows)?;
-    'rows: for (name, entries) in more {
+    let mut features = map_of(alloc, copies(alloc, rows)?)?;
+    let added = copies(alloc, more)?;
+    'rows: for (name, entries) in added {
         features.insert(name, entries)?;
     }
     Ok(features)

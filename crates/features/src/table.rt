@@ -13,6 +13,7 @@ use crate::draft::implicit_rows;
 use crate::entry::Entry;
 use crate::feature_name::FeatureName;
 use crate::name::PackageName;
+use crate::row::{Row, shared};
 use crate::rows::{entries_in, has_row, is_at, place_in, put_row, rows_of, with_rows};
 use std::alloc::{AllocError, Global};
 use std::collections::BTreeMap;
@@ -59,7 +60,7 @@ impl From<AllocError> for FeatureFault {
 /// for many versions of a package have the same features.
 #[derive(Drop)]
 pub struct FeatureTable {
-    features: Rc<Vec<(FeatureName, Vec<Entry>)>>,
+    features: Rc<Vec<Row>>,
 }
 
 impl Model for FeatureTable {
@@ -88,7 +89,8 @@ impl FeatureTable {
         ensures { Gives table_wants_memory
             (λ t. t) result (built (dep_names_view dependencies.now) (rows_of written.entries)) }
     {
-        FeatureTable::of_rows(alloc, dependencies, rows_of(alloc, written)?)
+        let written = shared(alloc, rows_of(alloc, written)?)?;
+        FeatureTable::of_rows(alloc, dependencies, written)
     }
 
     /// The same, where what is written rises by the names of the features.
@@ -98,7 +100,7 @@ impl FeatureTable {
     pub fn of_rows(
         alloc: Global,
         dependencies: &[DepName],
-        written: Vec<(FeatureName, Vec<Entry>)>,
+        written: Vec<Row>,
     ) -> Result<FeatureTable, FeatureFault>
         requires { AreRising written.items }
         ensures { Gives table_wants_memory
@@ -160,7 +162,7 @@ impl FeatureTable {
 /// The features of a table with their entries, one after another.
 #[derive(Drop)]
 pub struct Rows<'a> {
-    rest: &'a [(FeatureName, Vec<Entry>)],
+    rest: &'a [Row],
 }
 
 impl<'a> Model for Rows<'a> {
@@ -187,7 +189,7 @@ impl<'a> Iterator for Rows<'a> {
     fn next(&mut self) -> Option<(&'a FeatureName, &'a Vec<Entry>)> {
         let (first, rest) = self.rest.split_first()?;
         self.rest = rest;
-        Some((&first.0, &first.1))
+        Some((first.name(), first.entries()))
     }
 }
 
@@ -202,10 +204,7 @@ impl Clone for FeatureTable {
 }
 
 /// The table with just these features.
-fn of_features(
-    alloc: Global,
-    features: Vec<(FeatureName, Vec<Entry>)>,
-) -> Result<FeatureTable, AllocError>
+fn of_features(alloc: Global, features: Vec<Row>) -> Result<FeatureTable, AllocError>
     requires { AreRising features.items }
     ensures { IfOk result (λ t. t ≡ rows_of features.items) }
 {
@@ -215,10 +214,7 @@ fn of_features(
 }
 
 /// Rows with one of the feature `default` too, without entries where it isn't there yet.
-fn with_default(
-    alloc: Global,
-    mut rows: Vec<(FeatureName, Vec<Entry>)>,
-) -> Result<Vec<(FeatureName, Vec<Entry>)>, AllocError>
+fn with_default(alloc: Global, mut rows: Vec<Row>) -> Result<Vec<Row>, AllocError>
     requires { AreRising rows.items }
     ensures rows { IfOk result (λ v. rows_of v.items ≡ with_default (rows_of rows.items)) }
     ensures rising { IfOk result (λ v. AreRising v.items) }
@@ -227,10 +223,7 @@ fn with_default(
         return Ok(rows);
     }
     rows.reserve_exact(1)?;
-    put_row(
-        &mut rows,
-        FeatureName::default_name(alloc)?,
-        Vec::new(alloc),
-    )?;
+    let name = FeatureName::default_name(alloc)?;
+    put_row(&mut rows, Row::new(alloc, name, Vec::new(alloc))?)?;
     Ok(rows)
 }

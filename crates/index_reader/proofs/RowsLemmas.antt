@@ -1,5 +1,5 @@
 -- An object of features is what its members are.
-use Rattle.std.proofs.Common.{◌≡◌, ℕ, suc, List, [], ◌∷◌, map, Bool, true, ◌&&◌, Some, Ok, Vec, codes}
+use Rattle.std.proofs.Common.{◌≡◌, ℕ, suc, List, [], ◌∷◌, map, true, ◌&&◌, Some, Ok, Vec, codes}
 use Rattle.std.proofs.Common.{◌++◌, drop, refl, sym, ap, ap₂, ◌∙◌, subst}
 use Rattle.std.specs.List.{list_all, zip}
 use Rattle.std.proofs.Math.Seq.{drop-append_seam}
@@ -8,7 +8,6 @@ use Rattle.std.specs.Option.{ok_or}
 use Rattle.std.specs.Ordering.{is_lt}
 use Rattle.std.specs.declared.alloc.Global.{Global}
 use Rattle.serde_json.specs.Data.{Data, object}
-use Rattle.model.specs.Outcome.{◌>>=◌}
 use Rattle.model.specs.Order.{text_cmp}
 use Rattle.model.specs.Summary as model
 use Rattle.model.specs.Tables.{DepName, Written, table_of}
@@ -124,10 +123,10 @@ are-members [] = record {
 }
 are-members (r ∷ rows) =
     let bytes = r.bytes.now in
-    let value = value_behind r.name bytes in
-    let row : List ℕ × List model.Entry = (r.name, entry_views r.entries.items) in
-    with-member bytes r.name value row (row_texts rows) (row_views rows) r.read.0 r.read.1
-    (is-member r.name value row r.read.2) (are-members rows)
+    let value = value_behind r.row.0 bytes in
+    let row : List ℕ × List model.Entry = (r.row.0, entry_views r.row.1.items) in
+    with-member bytes r.row.0 value row (row_texts rows) (row_views rows) r.read.0 r.read.1
+    (is-member r.row.0 value row r.read.2) (are-members rows)
 
 -- ---- the object of the members
 

@@ -15,4 +15,4 @@ braced texts = codes "{" ++ (between_commas texts ++ codes "}")
 
 -- each feature with its entries
 abbrev pub row_views : List RowRead → Written
-row_views rows = map (λ r. (r.name, entry_views r.entries.items)) rows
+row_views rows = map (λ r. (r.row.0, entry_views r.row.1.items)) rows

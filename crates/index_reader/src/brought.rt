@@ -17,7 +17,7 @@ use crate::known::KnownDependencies;
 use crate::made::are_names;
 use crate::parts::unless_null;
 use crate::row::RowRead;
-use crate::rows::{copies, rows_after};
+use crate::rows::{rows_after, rows_of};
 use crate::shape::features_if_any;
 use crate::split::LineParts;
 use crate::values::read_part;
@@ -76,8 +76,8 @@ pub(crate) fn brought_after<'a>(
 {
     let Some(before) = before else {
         let dependencies = dependencies_after(alloc, line.dependencies, &[], scratch, known)?;
-        let none = Some(Vec::new(alloc));
-        let features = features_after(alloc, line.features, none, scratch)?;
+        let no_rows = Some(Vec::new(alloc));
+        let features = features_after(alloc, line.features, no_rows, scratch)?;
         return with_features(alloc, dependencies, features, scratch);
     };
     if before.dependencies.bytes != line.dependencies {
@@ -178,9 +178,10 @@ fn table_of_rows(
     names: &[DepName],
 ) -> Result<FeatureTable, LineFault>
     requires { keys_rise [] (row_views rows.now) ≡ true }
-    ensures { Gives wants_memory (λ t. t) result (table_of_bytes (dep_names_view names.now) (braced (row_texts rows.now))) }
+    ensures { Gives wants_memory
+        (λ t. t) result (table_of_bytes (dep_names_view names.now) (braced (row_texts rows.now))) }
 {
-    let rows = copies(alloc, rows)?;
+    let rows = rows_of(alloc, rows)?;
     table(alloc, names, rows)
 }
 

@@ -11,7 +11,7 @@ use crate::fault::{LineFault, SkipReason};
 use crate::split::{behind, plain_text};
 use crate::values::{read_item, texts};
 use crate::written::{entries, feature_name};
-use features::{Entry, FeatureName};
+use features::Row;
 use json::Scratch;
 use std::alloc::Global;
 use trees::root;
@@ -21,9 +21,8 @@ use trees::root;
 pub(crate) struct RowRead<'a> {
     /// Those of the whole member, its key too.
     pub bytes: &'a [u8],
-    pub name: FeatureName,
-    pub entries: Vec<Entry>,
-    ghost read: { IsRow bytes.now name (entry_views entries.items) },
+    pub row: Row,
+    ghost read: { IsRow bytes.now row.0 (entry_views row.1.items) },
 }
 
 impl<'a> RowRead<'a> {
@@ -41,12 +40,8 @@ impl<'a> RowRead<'a> {
         let Some((key, value)) = key_and_value(bytes) else {
             return Err(LineFault::Skipped(SkipReason::Shape));
         };
-        let (name, entries) = row_of_member(alloc, key, value, scratch)?;
-        Ok(RowRead {
-            bytes,
-            name,
-            entries,
-        })
+        let row = row_of_member(alloc, key, value, scratch)?;
+        Ok(RowRead { bytes, row })
     }
 }
 
@@ -68,7 +63,7 @@ fn row_of_member(
     key: &str,
     value: &[u8],
     scratch: &mut Scratch,
-) -> Result<(FeatureName, Vec<Entry>), LineFault>
+) -> Result<Row, LineFault>
     ensures { Gives wants_memory
         (λ row. (row.0, entry_views row.1.items)) result (row_of_member key.now value.now) }
 {
@@ -76,5 +71,5 @@ fn row_of_member(
     let texts = texts(alloc, &root(&tape))?;
     let name = feature_name(alloc, key)?;
     let entries = entries(alloc, &texts)?;
-    Ok((name, entries))
+    Ok(Row::new(alloc, name, entries)?)
 }

@@ -3,11 +3,10 @@
 //! Where the features of a line aren't those of the line before, nine of ten still stand there byte for byte. So an
 //! object is cut into its members with no look into those that the line before has too, and what these say is kept, as
 //! with dependencies (`items.rt`). Each other one seems to end at the first `]`. Such a cut may be wrong, as a text may
-//! have a bracket: then what was cut off is no feature, and the line is read as a whole. So is one whose features don't
-//! rise by their names, for of a name that comes twice the last one counts.
+//! have a bracket: then what was cut off is no feature, and the features are read together. So are those that don't rise
+//! by their names, for of a name that comes twice the last one counts.
 
 ghost use Rattle.std.specs.Prelude.{◌≡◌, ◌≤◌, ◌++◌, [], IfOk, IfSome, codes, length, true};
-ghost use Rattle.features.specs.EntryViews.{entry_views};
 ghost use Rattle.features.specs.Tables.{rows_of};
 ghost use Rattle.trees.specs.Parts.{between_commas, keys_rise};
 ghost use Rattle.index_reader.specs.Rows.{braced, row_texts, row_views};
@@ -16,7 +15,7 @@ use crate::fault::{LineFault, SkipReason};
 use crate::row::RowRead;
 use crate::split::behind;
 use crate::written::comes_before;
-use features::{Entry, FeatureName};
+use features::Row;
 use json::Scratch;
 use memchr::memchr;
 use std::alloc::{AllocError, Global};
@@ -34,7 +33,7 @@ struct Next<'a> {
 /// The features of an object, whose names rise: those of the line before, as far as their bytes are the same.
 ///
 /// # Errors
-/// `Skipped` where the object can't be read by its members, or one of them is no feature.
+/// `Skipped` where the object can't be read by its members, or they are no features whose names rise.
 pub(crate) fn rows_after<'a>(
     alloc: Global,
     bytes: &'a [u8],
@@ -142,7 +141,7 @@ fn names_rise(rows: &[RowRead<'_>]) -> bool
 {
     let mut before = "";
     'rows: for row in rows {
-        let name = row.name.as_str();
+        let name = row.row.name().as_str();
         if !comes_before(before, name) {
             return false;
         }
@@ -151,26 +150,13 @@ fn names_rise(rows: &[RowRead<'_>]) -> bool
     true
 }
 
-/// The features with their entries for a table.
-pub(crate) fn copies(
-    alloc: Global,
-    rows: &[RowRead<'_>],
-) -> Result<Vec<(FeatureName, Vec<Entry>)>, AllocError>
+/// The features with their entries for a table, which shares them, with room for `default` and an implicit feature.
+pub(crate) fn rows_of(alloc: Global, rows: &[RowRead<'_>]) -> Result<Vec<Row>, AllocError>
     ensures { IfOk result (λ v. rows_of v.items ≡ row_views rows.now) }
 {
-    let mut found = Vec::with_capacity(alloc, rows.len())?;
+    let mut found = Vec::with_capacity(alloc, rows.len().saturating_add(2))?;
     'rows: for row in rows {
-        found.push((row.name.clone()?, entries_again(alloc, &row.entries)?))?;
-    }
-    Ok(found)
-}
-
-fn entries_again(alloc: Global, entries: &[Entry]) -> Result<Vec<Entry>, AllocError>
-    ensures { IfOk result (λ v. entry_views v.items ≡ entry_views entries.now) }
-{
-    let mut found = Vec::with_capacity(alloc, entries.len())?;
-    'entries: for entry in entries {
-        found.push(entry.clone()?)?;
+        found.push(row.row.clone()?)?;
     }
     Ok(found)
 }

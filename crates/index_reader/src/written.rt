@@ -22,7 +22,8 @@ ghost use Rattle.index_reader.specs.Written.{dep_names_of, unless_faulty, featur
 use crate::fault::{LineFault, SkipReason};
 use crate::shape::{DependencyShape, FeatureShape, LineShape};
 use features::{
-    DepName, Entry, EntryFault, FeatureFault, FeatureName, FeatureTable, NameFault, map_of, rows_of,
+    DepName, Entry, EntryFault, FeatureFault, FeatureName, FeatureTable, NameFault, Row, map_of,
+    rows_of, shared,
 };
 use std::alloc::{AllocError, Global};
 use std::collections::BTreeMap;
@@ -38,7 +39,7 @@ pub(crate) fn features(
     ensures { Gives wants_memory (λ t. t) result (features_of (shape_view line.now)) }
 {
     let written = written(alloc, line)?;
-    table(alloc, names, written)
+    table(alloc, names, shared(alloc, written)?)
 }
 
 /// The feature table of features with no further ones, where dependencies are called so.
@@ -51,7 +52,7 @@ pub(crate) fn features_alone(
         (λ t. t) result (table_alone (dep_names_view names.now) (feature_views features.now)) }
 {
     let written = first_features(alloc, features)?;
-    table(alloc, names, written)
+    table(alloc, names, shared(alloc, written)?)
 }
 
 /// The features that a line writes, by their names: those of `features2` behind those of `features`. They lie in rows,
@@ -238,7 +239,7 @@ pub(crate) fn dep_name(dependency: &DependencyShape<'_>) -> Result<DepName, Allo
 pub(crate) fn table(
     alloc: Global,
     names: &[DepName],
-    written: Vec<(FeatureName, Vec<Entry>)>,
+    written: Vec<Row>,
 ) -> Result<FeatureTable, LineFault>
     requires { AreRising written.items }
     ensures { Gives wants_memory

@@ -7,5 +7,6 @@ use Rattle.features.proofs.draft.entered.Goals as goal
 
 pub rows-preserved : goal.rows-preserved
 rows-preserved c = λ d. c.in_ok-put_entered.ensures d
-    ∙ ap₂ (λ a es. a || list_any (is_dep d) (entry_views es)) (c.rows.invariant d) c.as_slice.ensures.value
+    ∙ ap₂ (λ a es. a || list_any (is_dep d) (entry_views es)) (c.rows.invariant d)
+    (c.as_slice.ensures.value ∙ ap (λ v. v.items) c.entries.ensures)
     ∙ has_dep_entry-more d c.args.written.now c.rows.row-index c.row-item.result c.rows-test.true c.row-item.is

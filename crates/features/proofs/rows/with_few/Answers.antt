@@ -21,7 +21,7 @@ rows-preserved c = record {
   can = tt;
   finite = tt;
   rising = c.in_ok-put_row.ensures.rising;
-  told = row-put c.rows.rows.items c.put_row.new.rows.items (into_iter_items c.next.new.self) c.in-Some.name
-      c.in-Some.entries (with_rows (rows_of c.args.rows.items) (rows_of c.args.more.items))
+  told = row-put c.rows.rows.items c.put_row.new.rows.items (into_iter_items c.next.new.self) c.in-Some.row.0
+      c.in-Some.row.1 (with_rows (rows_of c.args.rows.items) (rows_of c.args.more.items))
       c.in_ok-put_row.ensures.put (search rules);
 }

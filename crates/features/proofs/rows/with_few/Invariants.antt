@@ -7,9 +7,9 @@ use Rattle.features.proofs.rows.with_few.Given as goal
 -- the rows so far with those that are left are the rows with all of them
 abbrev pub invariant-rows : goal.invariant-rows
 invariant-rows l = record {
-  can : (goal.iterator-rows).can_next l.name-iterator;
-  finite : (goal.iterator-rows).is_finite l.name-iterator;
+  can : (goal.iterator-rows).can_next l.row-iterator;
+  finite : (goal.iterator-rows).is_finite l.row-iterator;
   rising : AreRising l.rows.items;
-  told : with_rows (rows_of l.rows.items) (rows_of (into_iter_items l.name-iterator))
+  told : with_rows (rows_of l.rows.items) (rows_of (into_iter_items l.row-iterator))
       ≡ with_rows (rows_of l.fn.rows.items) (rows_of l.fn.more.items);
 }

@@ -10,5 +10,5 @@ invariant-rows l = record {
   can : (goal.iterator-rows).can_next l.name-iterator;
   finite : (goal.iterator-rows).is_finite l.name-iterator;
   told : with_rows (rows_of l.features.entries) (rows_of (into_iter_items l.name-iterator))
-      ≡ with_rows (rows_of l.fn.rows.items) (rows_of l.fn.more.items);
+      ≡ with_rows (rows_of l.fn.rows) (rows_of l.fn.more);
 }

@@ -9,9 +9,10 @@ use Rattle.features.proofs.table.with_default.Goals as goal
 
 pub returns-clause-rows : goal.returns-clause-rows
 returns-clause-rows c =
-    default-put c.args.rows.items c.put_row.new.rows.items c.in_ok-default_name.field-0 c.new.result
+    default-put c.args.rows.items c.put_row.new.rows.items c.in_ok-new.field-0.0 c.in_ok-new.field-0.1
     (ap (λ rows. has_feature (rows_of rows) default_feature) (sym c.deref.ensures.value) ∙ sym c.has_row.ensures
-    ∙ c.if-has_row.false) c.in_ok-default_name.ensures c.new.ensures.items
+    ∙ c.if-has_row.false) (ap (λ row. row.0) c.in_ok-new.ensures ∙ c.in_ok-name.ensures)
+    (ap (λ row. row.1.items) c.in_ok-new.ensures ∙ c.new.ensures.items)
     (c.in_ok-put_row.ensures.put
-    ∙ ap (λ rows. insert_entry text_cmp rows c.in_ok-default_name.field-0 c.new.result)
+    ∙ ap (λ rows. insert_entry text_cmp rows c.in_ok-new.field-0.0 c.in_ok-new.field-0.1)
     c.in_ok-reserve_exact.ensures.items)

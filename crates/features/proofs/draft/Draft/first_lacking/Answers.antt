@@ -1,4 +1,4 @@
-use Rattle.std.proofs.Common.{rules, ◌≡◌, Bool, true, false, ap, sym, ◌∙◌}
+use Rattle.std.proofs.Common.{rules, Some, ◌≡◌, Bool, true, false, ap, sym, ◌∙◌}
 use Rattle.std.specs.List.{list_any}
 use Rattle.std.proofs.lemmas.List.{drop_all}
 use Rattle.model.specs.Summary as model
@@ -14,7 +14,8 @@ returns-then-some_lacking c =
     let test : model.Entry → Bool = has_fault (dep_names_view c.args.self.now.dependencies.now)
     (rows_of c.args.self.now.written.now) (lack_view c.args.lack) in
     let some : list_any (λ entry. test (entry_view entry)) c.row-item.result.1.items ≡ true = search rules in
-    first_with-at test c.args.self.now.written.now c.rows.row-index c.row-item.result c.rows-test.true c.row-item.is
+    ap Some c.name.ensures
+    ∙ first_with-at test c.args.self.now.written.now c.rows.row-index c.row-item.result c.rows-test.true c.row-item.is
     some ∙ c.rows.invariant
 
 pub rows-preserved : goal.rows-preserved

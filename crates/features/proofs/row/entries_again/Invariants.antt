@@ -1,6 +1,6 @@
 use Rattle.std.proofs.Common.{◌≡◌, take}
 use Rattle.features.specs.EntryViews.{entry_views}
-use Rattle.index_reader.proofs.rows.entries_again.Given as goal
+use Rattle.features.proofs.row.entries_again.Given as goal
 
 -- the copies so far are of the entries so far
 abbrev pub invariant-entries : goal.invariant-entries
