@@ -13,14 +13,16 @@ use features::{Dependency, NameText, PackageName};
 use semver::VersionReq;
 use std::alloc::{AllocError, Global};
 use std::hash::{FoldHasher, Hash, Hasher};
-use std::rc::Rc;
 
-/// How many dependencies are kept at once: those of the lines before, and those that many packages have.
-const SLOTS: usize = 8_192;
+/// How many dependencies are kept at once: those of the lines before, and those that many packages have. More places
+/// find few more, and each is written when the first dependency is kept, also in a small run.
+const SLOTS: usize = 2_048;
 
 /// A dependency, with the texts that were read for it, so that they outlive their line.
 #[derive(Drop)]
 struct MadeDependency {
+    /// The whole hash that it has its place by: another dependency in this place is told from it by this alone.
+    hash: u64,
     requirement: NameText,
     features: Vec<NameText>,
     dependency: Dependency,
@@ -47,7 +49,8 @@ pub(crate) struct PartAgain<'p, 'a> {
 /// takes it, so that no more are kept than are of use.
 #[derive(Drop)]
 pub struct KnownDependencies {
-    slots: Vec<Option<Rc<MadeDependency>>>,
+    /// What is compared first stands in the place itself: a look-up that finds another dependency reads nothing else.
+    slots: Vec<Option<MadeDependency>>,
 }
 
 impl KnownDependencies {
@@ -65,13 +68,14 @@ impl KnownDependencies {
     ) -> Result<Option<PartAgain<'p, 'a>>, AllocError>
         ensures { IfOk result (λ o. IfSome o (λ a. part_view a.part.now ≡ part_view part.entry.now)) }
     {
-        let Some(slot) = self.slots.get(slot_of(part)) else {
+        let hash = hash_of(part);
+        let Some(slot) = self.slots.get(slot_of(hash)) else {
             return Ok(None);
         };
         let Some(made) = slot else {
             return Ok(None);
         };
-        if !made.is_of(part) {
+        if !made.is_of(hash, part) {
             return Ok(None);
         }
         let again = PartAgain {
@@ -93,21 +97,22 @@ impl KnownDependencies {
         if self.slots.is_empty() {
             self.slots = no_dependencies(alloc)?;
         }
+        let hash = hash_of(part);
         let made = MadeDependency {
+            hash,
             requirement: NameText::of(alloc, part.requirement)?,
             features: kept_texts(alloc, &part.features)?,
             dependency: dependency.clone()?,
         };
-        let shared = Rc::new(alloc, made)?;
-        if let Some(slot) = self.slots.get_mut(slot_of(part)) {
-            *slot = Some(shared);
+        if let Some(slot) = self.slots.get_mut(slot_of(hash)) {
+            *slot = Some(made);
         }
         Ok(())
     }
 }
 
 /// As many places as there are, all of them empty.
-fn no_dependencies(alloc: Global) -> Result<Vec<Option<Rc<MadeDependency>>>, AllocError> {
+fn no_dependencies(alloc: Global) -> Result<Vec<Option<MadeDependency>>, AllocError> {
     let mut slots = Vec::with_capacity(alloc, SLOTS)?;
     'slots: for _ in 0..SLOTS {
         slots.push(None)?;
@@ -115,26 +120,34 @@ fn no_dependencies(alloc: Global) -> Result<Vec<Option<Rc<MadeDependency>>>, All
     Ok(slots)
 }
 
-/// The place of a dependency.
-fn slot_of(part: &PartShape<'_>) -> usize {
+/// The hash that a dependency has its place by.
+fn hash_of(part: &PartShape<'_>) -> u64 {
     let mut hasher = FoldHasher::default();
     part.name.hash(&mut hasher);
     part.requirement.hash(&mut hasher);
-    (hasher.finish() % SLOTS as u64) as usize
+    hasher.finish()
+}
+
+/// The place of a dependency of this hash.
+fn slot_of(hash: u64) -> usize {
+    (hash % SLOTS as u64) as usize
 }
 
 impl MadeDependency {
-    /// Whether a part says just this.
-    fn is_of(&self, part: &PartShape<'_>) -> bool
+    /// Whether a part of this hash says just this.
+    fn is_of(&self, hash: u64, part: &PartShape<'_>) -> bool
         ensures { IsTrue result → IsSaid (part_view part.now) self.now.dependency }
     {
-        if !has_parts(&self.dependency, part) {
+        if self.hash != hash {
             return false;
         }
         if !is_text(self.requirement.as_str(), part.requirement) {
             return false;
         }
-        are_texts(&self.features, &part.features)
+        if !are_texts(&self.features, &part.features) {
+            return false;
+        }
+        has_parts(&self.dependency, part)
     }
 }
 

@@ -11,10 +11,11 @@ pub returns : goal.returns
 returns c h =
     let made = c.args.self.now in
     let p = part_view c.args.part.now in
-    let same : same_parts made.dependency p ≡ true = sym c.has_parts.ensures ∙ c.if-not-has_parts.false in
+    let same : same_parts made.dependency p ≡ true = sym c.has_parts.ensures ∙ h in
     let requirement : text_bytes made.requirement ≡ p.requirement =
     text-same _ _ (sym (rw c.as_str.ensures at c.is_text.ensures) ∙ c.if-not-is_text.false) in
     let features : map text_bytes made.features.items ≡ p.features =
-    texts-same _ _ (sym (rw (c.deref.ensures.value, c.deref-2.ensures.value) at c.are_texts.ensures) ∙ h) in
+    texts-same _ _ (sym (rw (c.deref.ensures.value, c.deref-2.ensures.value) at c.are_texts.ensures)
+    ∙ c.if-not-are_texts.false) in
     says p made.dependency (text_bytes made.requirement) (map text_bytes made.features.items) made.made same
     requirement features
