@@ -1,7 +1,7 @@
 -- Digits of bytes, one byte after the other.
 use Rattle.std.proofs.Common.{◌≡◌, ◌≢◌, ℕ, ◌+◌, ◌*◌, ◌/◌, ◌%◌, ◌<◌, ◌≤◌, ◌&&◌, nat_eq, Bool, false, true, List, [], ◌∷◌}
-use Rattle.std.proofs.Common.{◌++◌, length, take, drop, slice_index, slice_set, refl, sym, ap, ap₂, ◌∙◌, arith}
-use Rattle.std.proofs.lemmas.List.{append_assoc, drop_all, drop_more, take_all, take_more, take_more_set}
+use Rattle.std.proofs.Common.{◌++◌, length, take, drop, slice_index, refl, sym, ap, ap₂, ◌∙◌, arith}
+use Rattle.std.proofs.lemmas.List.{append_assoc, drop_all, drop_more, take_more}
 use Rattle.std.specs.Cmp.Lexicographic.{unequal}
 use Rattle.model.specs.Summary.{same_text}
 use Rattle.catalogue.specs.Checksums.{digit, digits_of}
@@ -30,15 +30,6 @@ written-more bytes old mid new i h high low so_far =
     ∙ append_assoc (digits_of (take i bytes)) (digit (b / 16) ∷ []) (digit (b % 16) ∷ [])
     ∙ sym (ap digits_of (take_more bytes i 0 h) ∙ digits_of-snoc (take i bytes) b)
 
-take-pair : (text : List ℕ) (i : ℕ) → 2 * i + 1 < length text
-    → take (2 * (i + 1)) text ≡ take (2 * i) text ++ slice_index text (2 * i) ∷ slice_index text (2 * i + 1) ∷ []
-take-pair text i h =
-    let two : 2 * (i + 1) ≡ 2 * i + 1 + 1 = omega arith in
-    let second = take_more text (2 * i + 1) 0 h in
-    let first = take_more text (2 * i) 0 (omega arith) in
-    rw (two, second, first)
-    (append_assoc (take (2 * i) text) (slice_index text (2 * i) ∷ []) (slice_index text (2 * i + 1) ∷ []))
-
 drop-pair : (text : List ℕ) (i : ℕ) → 2 * i + 1 < length text
     → drop (2 * i) text ≡ slice_index text (2 * i) ∷ slice_index text (2 * i + 1) ∷ drop (2 * (i + 1)) text
 drop-pair text i h =
@@ -46,21 +37,6 @@ drop-pair text i h =
     let second = drop_more text (2 * i + 1) 0 h in
     let two : 2 * i + 1 + 1 ≡ 2 * (i + 1) = omega arith in
     rw (first, second, two) refl
-
--- one byte more is read
-pub read-more : (bytes text : List ℕ) (i b : ℕ) → i < length bytes → 2 * i + 1 < length text
-    → digit (b / 16) ≡ slice_index text (2 * i) → digit (b % 16) ≡ slice_index text (2 * i + 1)
-    → digits_of (take i bytes) ≡ take (2 * i) text
-    → digits_of (take (i + 1) (slice_set bytes i b)) ≡ take (2 * (i + 1)) text
-read-more bytes text i b h few high low so_far =
-    ap digits_of (take_more_set bytes i b h) ∙ digits_of-snoc (take i bytes) b
-    ∙ ap₂ (λ front both. front ++ both) so_far (ap₂ (λ x y. x ∷ y ∷ []) high low) ∙ sym (take-pair text i few)
-
--- all bytes are read
-pub all-read : (bytes text : List ℕ) (i : ℕ) → length bytes ≡ 32 → length text ≡ 64 → 32 ≤ i
-    → digits_of (take i bytes) ≡ take (2 * i) text → digits_of bytes ≡ text
-all-read bytes text i long few done so_far =
-    ap digits_of (sym (take_all i bytes (omega arith))) ∙ so_far ∙ take_all (2 * i) text (omega arith)
 
 and_assoc : (a b c : Bool) → (a && (b && c)) ≡ ((a && b) && c)
 and_assoc true b c = refl

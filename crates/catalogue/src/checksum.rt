@@ -1,6 +1,7 @@
 //! The checksum of a candidate, in less than half of the room that its text takes.
 
-ghost use Rattle.std.specs.Prelude.{◌≡◌, ◌/◌, ◌%◌, ◌<◌, ◌&&◌, nat_eq, [], ◌∷◌, ◌++◌, string_bytes, IfOk, IfSome, OnOk};
+ghost use Rattle.std.specs.Prelude.{◌≡◌, ◌/◌, ◌%◌, ◌<◌, ◌&&◌, nat_eq, [], ◌∷◌, ◌++◌, length, string_bytes};
+ghost use Rattle.std.specs.Prelude.{IfOk, IfSome, OnOk};
 ghost use Rattle.model.specs.Summary.{same_text};
 ghost use Rattle.catalogue.specs.Checksums.{digit, digits_of};
 
@@ -73,29 +74,31 @@ fn bytes_of(text: &[u8]) -> Option<[u8; 32]>
     if text.len() != 64 {
         return None;
     }
+    let bytes = bytes_in(text);
+    if are_digits_of(text, &bytes) {
+        Some(bytes)
+    } else {
+        None
+    }
+}
+
+/// The bytes that are written in 64 digits; any bytes for another text. No digit is asked whether it is a letter: which
+/// ones are is chance, so a processor would guess wrong at every third.
+fn bytes_in(text: &[u8]) -> [u8; 32]
+    requires { length text.now ≡ 64 }
+{
     let mut bytes = [0; 32];
     'places: for place in 0..32 {
-        bytes[place] = byte_of(text[2 * place], text[2 * place + 1])?;
+        bytes[place] = 16 * value_of(text[2 * place]) + value_of(text[2 * place + 1]);
     }
-    Some(bytes)
+    bytes
 }
 
-/// The byte that is written in two digits.
-fn byte_of(high: u8, low: u8) -> Option<u8>
-    ensures { IfSome result (λ b. (digit (b / 16) ≡ high) × (digit (b % 16) ≡ low)) }
+/// What a digit means: those below 10 are from 0x30 on, the others from 0x61 on. Of another byte, any number below 16.
+fn value_of(byte: u8) -> u8
+    ensures { result < 16 }
 {
-    Some(16 * value_of(high)? + value_of(low)?)
-}
-
-/// What a digit means.
-fn value_of(byte: u8) -> Option<u8>
-    ensures { IfSome result (λ v. (v < 16) × (digit v ≡ byte)) }
-{
-    match byte {
-        b'0'..=b'9' => Some(byte - b'0'),
-        b'a'..=b'f' => Some(byte - b'a' + 10),
-        _ => None,
-    }
+    (byte % 16 + 9 * (byte / 64)) % 16
 }
 
 /// Whether a text is the digits of these bytes.

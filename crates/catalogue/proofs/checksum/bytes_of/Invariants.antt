@@ -1,6 +1,0 @@
-use Rattle.std.proofs.Common.{◌≡◌, ◌*◌, length, take}
-use Rattle.catalogue.specs.Checksums.{digits_of}
-use Rattle.catalogue.proofs.checksum.bytes_of.Given as goal
-
-abbrev pub invariant-places : goal.invariant-places
-invariant-places l = (length l.bytes ≡ 32) × (digits_of (take l.place l.bytes) ≡ take (2 * l.place) l.text)
