@@ -1,14 +1,23 @@
 -- Where a name stands among the names so far, after one more is put last.
 use Rattle.std.proofs.Common.{◌≡◌, ℕ, suc, Bool, true, false, cond, ◌||◌, List, [], ◌∷◌, ◌++◌, length, Option, Some}
-use Rattle.std.proofs.Common.{None, option_map, is_some, refl, sym, ap, ◌∙◌, subst, true≢false}
+use Rattle.std.proofs.Common.{None, ◌<◌, ◌+◌, get_or, drop, Bor, flat_map, option_map, is_some, refl, sym, ap, ◌∙◌, subst}
+use Rattle.std.proofs.Common.{true≢false}
 use Rattle.std.specs.HashMap.{HashMap, IsEmpty, IsUnchanged, Updates, get}
 use Rattle.std.specs.List.{AllByRecursion, IsDistinct, list_any, position}
 use Rattle.std.specs.Map.{lookup}
+use Rattle.std.specs.Slice.{IsItemAt}
+use Rattle.std.proofs.lemmas.List.{drop_more}
+use Rattle.std.proofs.lemmas.List.Sums.{fold-append}
+use Rattle.std.proofs.lemmas.List.Concat.{flat_map-cons}
 use Rattle.std.specs.Option.{option_or}
 use Rattle.std.proofs.lemmas.Bool.{or_parts}
+use Rattle.std.proofs.lemmas.List.Folds.{list_any-append, list_any_at}
 use Rattle.model.specs.Summary.{same_text}
 use Rattle.model.proofs.Same.{text-same, text-refl}
-use Rattle.catalogue.specs.Names.{ArePlaces}
+use Rattle.features.specs.Views.{dependency_views}
+use Rattle.features.specs.declared.dependency.DependencyParts.{DependencyParts}
+use Rattle.catalogue.specs.Runs.{meant_by}
+use Rattle.catalogue.specs.Names.{ArePlaces, insert_all, insert_key}
 use Rattle.catalogue.proofs.Rows.{position-cons}
 
 module _ {X : Type 0} (p : X → Bool) where
@@ -121,3 +130,73 @@ module _ {S : Type 0} where
 pub there : {S : Type 0} (names : List (List ℕ)) (m : HashMap (List ℕ) ℕ S) (name : List ℕ) → ArePlaces names m
     → is_some (get same_text m name) ≡ list_any (same_text name) names
 there names m name are = ap is_some (are.found name) ∙ place-any (same_text name) names
+
+-- names that are there stay there
+module _ (q : List ℕ) where
+  kept-key : (ks : List (List ℕ)) (k : List ℕ) → list_any (same_text q) ks ≡ true
+      → list_any (same_text q) (insert_key same_text ks k) ≡ true
+  kept-key ks k h = by (list_any (same_text k) ks)
+    where
+      by : (b : Bool) → list_any (same_text q) (cond b ks (ks ++ k ∷ [])) ≡ true
+      by true = h
+      by false =
+          list_any-append (same_text q) ks (k ∷ []) ∙ ap (λ b. b || list_any (same_text q) (k ∷ [])) h
+
+  kept-all : (ks ns : List (List ℕ)) → list_any (same_text q) ks ≡ true
+      → list_any (same_text q) (insert_all same_text ks ns) ≡ true
+  kept-all ks [] h = h
+  kept-all ks (n ∷ ns) h = kept-all (insert_key same_text ks n) ns (kept-key ks n h)
+
+  or-last : (b : Bool) → (b || true) ≡ true
+  or-last true = refl
+  or-last false = refl
+
+  -- a name that is put is there
+  put-key : (ks : List (List ℕ)) (k : List ℕ) → same_text q k ≡ true
+      → list_any (same_text q) (insert_key same_text ks k) ≡ true
+  put-key ks k e = by (list_any (same_text k) ks) refl
+    where
+      by : (b : Bool) → list_any (same_text k) ks ≡ b → list_any (same_text q) (cond b ks (ks ++ k ∷ [])) ≡ true
+      by true h = subst (λ t. list_any (same_text t) ks ≡ true) (sym (text-same q k e)) h
+      by false h =
+          list_any-append (same_text q) ks (k ∷ []) ∙ ap (λ b. list_any (same_text q) ks || (b || false)) e
+          ∙ or-last (list_any (same_text q) ks)
+
+  pub put-all : (ks ns : List (List ℕ)) → list_any (same_text q) ns ≡ true
+      → list_any (same_text q) (insert_all same_text ks ns) ≡ true
+  put-all ks [] h = absurd (true≢false (sym h))
+  put-all ks (n ∷ ns) h = by (same_text q n) refl h (put-all (insert_key same_text ks n) ns)
+    where
+      by : (b : Bool) → same_text q n ≡ b → (b || list_any (same_text q) ns) ≡ true
+          → (list_any (same_text q) ns ≡ true
+          → list_any (same_text q) (insert_all same_text (insert_key same_text ks n) ns) ≡ true)
+          → list_any (same_text q) (insert_all same_text (insert_key same_text ks n) ns) ≡ true
+      by true e h rest = kept-all (insert_key same_text ks n) ns (put-key ks n e)
+      by false e h rest = rest h
+
+  -- a name that one of these dependencies means
+  any-meant : (ds : List DependencyParts) → list_any (same_text q) (meant_by (dependency_views ds))
+      ≡ list_any (λ d. same_text q d.real_name) ds
+  any-meant [] = refl
+  any-meant (d ∷ ds) = ap (λ b. same_text q d.real_name || b) (any-meant ds)
+
+  pub meant-at : (ds : List DependencyParts) (i : ℕ) (r : Option (Bor DependencyParts)) (b : Bor DependencyParts)
+      → IsItemAt ds i r → r ≡ Some b → same_text q b.now.real_name ≡ true
+      → list_any (same_text q) (meant_by (dependency_views ds)) ≡ true
+  meant-at ds i None b h e same = cc
+  meant-at ds i (Some a) b h e same =
+      any-meant ds ∙ list_any_at (λ d. same_text q d.real_name) ds i a.now h.3.0
+      (sym (ap (λ (d : DependencyParts). same_text q d.real_name) (h.3.1 a.now)) ∙ ap means e ∙ same)
+    where
+      means : Option (Bor DependencyParts) → Bool
+      means None = false
+      means (Some d) = same_text q d.now.real_name
+
+-- the names of the first of what is left are put, then those of the others
+pub put-more : {X : Type 0} (f : X → List (List ℕ)) (ks : List (List ℕ)) (xs : List X) (i : ℕ) (x : X) → i < length xs
+    → insert_all same_text (insert_all same_text ks (f (get_or xs i x))) (flat_map f (drop (i + 1) xs))
+    ≡ insert_all same_text ks (flat_map f (drop i xs))
+put-more f ks xs i x less =
+    sym (ap (λ ys. insert_all same_text ks (flat_map f ys)) (drop_more xs i x less)
+    ∙ ap (insert_all same_text ks) (flat_map-cons f (get_or xs i x) (drop (i + 1) xs))
+    ∙ fold-append (insert_key same_text) ks (f (get_or xs i x)) (flat_map f (drop (i + 1) xs)))

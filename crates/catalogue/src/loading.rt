@@ -1,6 +1,7 @@
 //! Loading the index of a run from a folder.
 
-ghost use Rattle.std.specs.Prelude.{◌≡◌, IfOk, OnOk, Some, map, option_map};
+ghost use Rattle.std.specs.Prelude.{◌≡◌, ℕ, IfOk, IfSome, List, OnOk, Some, map, option_map, true};
+ghost use Rattle.std.specs.List.{list_any};
 ghost use Rattle.classes.specs.RustVersions.{rust_version_view};
 ghost use Rattle.index_reader.specs.Views.{skip_view};
 ghost use Rattle.model.specs.Summary.{same_text};
@@ -33,6 +34,9 @@ use std::alloc::{AllocError, Global};
 
 /// How many names a run asks for at most.
 const MAX_NAMES: usize = 65_536;
+
+/// How many dependencies of the candidate before may have the next name: those between aren't needed any more.
+const WINDOW: usize = 4;
 
 /// Asks the folder for the names that the root's dependencies and, name after name, those of the candidates mean, each
 /// name once.
@@ -89,7 +93,7 @@ fn ask_all<F: Folder>(
     let mut scratch = Scratch::new(alloc);
     let mut known = KnownDependencies::none(alloc);
     let source = String::from_str(alloc, run.source.as_str())?;
-    add_names(&mut names, dependencies)?;
+    add_names(&mut names, dependencies, &[])?;
     'names: while candidates.len() < names.len() {
         if candidates.len() >= MAX_NAMES {
             return Err(LoadFault::TooLarge(Limit::Names));
@@ -138,21 +142,50 @@ fn ask<F: Folder>(
 fn add_needed(names: &mut Names, candidates: &[Candidate]) -> Result<(), AllocError>
     ensures { OnOk result (names.new.keys ≡ insert_all same_text names.old.keys (needs_of candidates.now)) }
 {
+    let mut before: &[Dependency] = &[];
     'candidates: for candidate in candidates.iter() {
-        add_names(names, candidate.brings.dependencies.as_slice())?;
+        let dependencies = candidate.brings.dependencies.as_slice();
+        add_names(names, dependencies, before)?;
+        before = dependencies;
     }
     Ok(())
 }
 
-/// Adds the names of the packages that these dependencies mean, each once.
-fn add_names(names: &mut Names, dependencies: &[Dependency]) -> Result<(), AllocError>
+/// Adds the names of the packages that these dependencies mean, each once. Those that the dependencies of the candidate
+/// before mean are there: a version mostly needs what the one before it needs, so few names are looked up.
+fn add_names(
+    names: &mut Names,
+    dependencies: &[Dependency],
+    before: &[Dependency],
+) -> Result<(), AllocError>
+    requires { (name : List ℕ) → list_any (same_text name) (meant_by (dependency_views before.now)) ≡ true
+        → list_any (same_text name) names.old.keys ≡ true }
     ensures { OnOk result
         (names.new.keys ≡ insert_all same_text names.old.keys (meant_by (dependency_views dependencies.now))) }
 {
+    let mut place = 0;
     'dependencies: for dependency in dependencies.iter() {
-        add_name(names, &dependency.real_name)?;
+        match place_after(&dependency.real_name, before, place) {
+            Some(after) => place = after,
+            None => add_name(names, &dependency.real_name)?,
+        }
     }
     Ok(())
+}
+
+/// The place after that of a dependency which means this name, if it is one of the next ones.
+fn place_after(name: &PackageName, dependencies: &[Dependency], place: usize) -> Option<usize>
+    ensures { IfSome result (λ _. list_any (same_text name.now) (meant_by (dependency_views dependencies.now)) ≡ true) }
+{
+    'places: for place in place..place.saturating_add(WINDOW) {
+        let Some(dependency) = dependencies.get(place) else {
+            return None;
+        };
+        if *name == dependency.real_name {
+            return Some(place + 1);
+        }
+    }
+    None
 }
 
 /// Adds a name, unless it is there.
