@@ -1,16 +1,18 @@
 -- What the calls of this crate answer.
-use Rattle.std.specs.Prelude.{◌≡◌, ◌≢◌, ◌<◌, ◌⊎◌, ◌↔◌, ℕ, Bool, true, false, List, length, map, Option, Some}
-use Rattle.std.specs.Prelude.{Result, Ok, Err, String, Vec, string_bytes}
+use Rattle.std.specs.Prelude.{◌≡◌, ◌≢◌, ◌<◌, ◌⊎◌, ◌↔◌, ℕ, Bool, true, false, List, [], ◌∷◌, length, map}
+use Rattle.std.specs.Prelude.{Option, Some, None, Result, Ok, Err, String, Vec, string_bytes}
 use Rattle.std.specs.declared.alloc.Global.{Global}
 use Rattle.model.specs.Content.{Content, Problem}
 use Rattle.model.specs.Derivation.{IsAccepted, Step}
 use Rattle.model.specs.Selection.{IsValidSelection}
+use Rattle.index_reader.specs.Files.{SkipView}
 use Rattle.index_reader.specs.Views.{skip_view}
 use Rattle.index_reader.specs.declared.record.Skip.{Skip}
 use Rattle.lockfile.specs.Locks.{content_of_bytes, most_bytes, table_of_bytes}
 use Rattle.lockfile.specs.Spelling.{spelling}
 use Rattle.lockfile.specs.Table.{table_of}
 use Rattle.catalogue.specs.Runs.{Calls}
+use Rattle.catalogue.specs.Stores.{CatalogueView}
 use Rattle.selection.specs.Verdicts.{IsVerdictOn}
 use Rattle.selection.specs.declared.verdict.Verdict.{Verdict}
 use Rattle.selection.specs.declared.verdict.Verdict.TheVariants.{Valid}
@@ -166,6 +168,15 @@ abbrev pub RepliesWith : Option (List ℕ) → Inputs → Result Reply Fault →
 RepliesWith old inputs (Ok given) = IsReply old inputs given
 RepliesWith old inputs (Err f) = UnlessMemory (input_wants_memory f) ((HoldsOld inputs → ⊥) × IsMisread inputs f)
 
+-- a loaded index, where these skips of it are none
+abbrev pub if_none : List SkipView → CatalogueView → Option CatalogueView
+if_none [] index = Some index
+if_none (_ ∷ _) index = None
+
+-- a loaded index of which no line was skipped
+abbrev pub if_unskipped : CatalogueView → Option CatalogueView
+if_unskipped index = if_none index.skips index
+
 -- ---- the call
 
 module _ {S : Type 0} (calls : Calls S) (failed : S → ℕ) (request : RequestView) (before : S) where
@@ -190,3 +201,12 @@ module _ {S : Type 0} (calls : Calls S) (failed : S → ℕ) (request : RequestV
   Resolves (Ok answer) after = IsAnswered answer after
   Resolves (Err f) after = EndsWith calls failed request before (input_wants_memory f)
       (IsInputFault calls failed request before f after ⊎ IsUnanswered f after) after
+
+  -- the same with the index that was loaded for the answer, where no line of it was skipped
+  pub record IsAnsweredKeeping (answer : Answer) (index : Option CatalogueView) (after : S) : Type 0 where
+    pub answered : IsAnswered answer after
+    pub index_is : index ≡ if_unskipped (answered.inputs).catalogue
+
+  abbrev pub ResolvesKeeping : Result (Answer × Option CatalogueView) Fault → S → Type 0
+  ResolvesKeeping (Ok given) after = IsAnsweredKeeping given.0 given.1 after
+  ResolvesKeeping (Err f) after = Resolves (Err f) after

@@ -25,7 +25,7 @@ mod writing;
 
 pub use checking::check_bytes;
 pub use fault::{CheckFault, Fault, TooLarge};
-pub use resolving::{Answer, resolve};
+pub use resolving::{Answer, resolve, resolve_keeping};
 pub use returning::{
     chosen_contents_are_writable, given_locks_ask_for_no_more, given_locks_come_back,
     given_locks_verify, given_refusals_prove, loaded_inputs_make_a_catalogue,

@@ -1,13 +1,14 @@
 //! Resolving a manifest from bytes.
 
-ghost use Rattle.std.specs.Prelude.{◌≡◌, ◌↔◌, true, IfOk, Ok, option_copied};
+ghost use Rattle.std.specs.Prelude.{◌≡◌, ◌↔◌, true, map, IfOk, Ok, option_copied};
+ghost use Rattle.index_reader.specs.Views.{skip_view};
 ghost use Rattle.resolver.specs.Inputs.{old_of_bytes};
-ghost use Rattle.resolver.specs.Answers.{HoldsOld, RepliesWith, Resolves, with_skips};
+ghost use Rattle.resolver.specs.Answers.{HoldsOld, RepliesWith, Resolves, ResolvesKeeping, if_unskipped, with_skips};
 
 use crate::fault::Fault;
 use crate::inputs::{Inputs, Request, read_inputs};
 use crate::writing::written;
-use catalogue::{Prefer, Source};
+use catalogue::{Catalogue, Prefer, Source};
 use derivations::Derivation;
 use explainer::explain;
 use index_reader::{Folder, Skip};
@@ -67,6 +68,31 @@ pub fn resolve<F: Folder>(
       prefer = prefer;
     }) folder.old result folder.new }
 {
+    let given = resolve_keeping(alloc, manifest, folder, old, source, prefer)?;
+    Ok(given.0)
+}
+
+/// The same, with the loaded index beside the answer, for a caller that ends soon and needn't give it back: piece by
+/// piece that takes a while. Where a line was skipped there is none, for the skips are taken out of it.
+///
+/// # Errors
+/// Those of `resolve`.
+pub fn resolve_keeping<F: Folder>(
+    alloc: Global,
+    manifest: &[u8],
+    folder: &mut F,
+    old: Option<&[u8]>,
+    source: &Source,
+    prefer: Prefer,
+) -> Result<(Answer, Option<Catalogue>), Fault>
+    ensures { ResolvesKeeping F.calls F.failed (record {
+      manifest = manifest.now;
+      old = option_copied old.entry;
+      source =
+          source.now;
+      prefer = prefer;
+    }) folder.old result folder.new }
+{
     let request = Request {
         manifest,
         old,
@@ -77,7 +103,20 @@ pub fn resolve<F: Folder>(
     let _ = source.as_str();
     let inputs = read_inputs(alloc, &request, folder)?;
     let reply = reply_to(alloc, old, &inputs)?;
-    Ok(with_skips(reply, inputs.catalogue.into_skips()))
+    let (skips, index) = parted(alloc, inputs.catalogue);
+    Ok((with_skips(reply, skips), index))
+}
+
+/// The skipped lines of an index, and the index where there are none.
+fn parted(alloc: Global, index: Catalogue) -> (Vec<Skip>, Option<Catalogue>)
+    ensures skips { map skip_view result.0.items ≡ index.skips }
+    ensures index { result.1 ≡ if_unskipped index }
+{
+    if index.skips().is_empty() {
+        (Vec::new(alloc), Some(index))
+    } else {
+        (index.into_skips(), None)
+    }
 }
 
 /// The answer with the skipped lines.

@@ -2,7 +2,7 @@ use Rattle.std.proofs.lemmas.Result.{err_from_is_err_and}
 use Rattle.std.proofs.Common.{option_copied, subst, sym}
 use Rattle.resolver.specs.Answers.{IsAnswer}
 use Rattle.resolver.proofs.Answered.{answered, unanswered}
-use Rattle.resolver.proofs.resolving.resolve.Goals as goal
+use Rattle.resolver.proofs.resolving.resolve_keeping.Goals as goal
 
 pub returns-in_err-reply : goal.returns-in_err-reply
 returns-in_err-reply g c =
@@ -21,9 +21,12 @@ returns-in_err-reply g c =
 pub returns : goal.returns
 returns g c =
     record {
-      inputs = c.in_ok-inputs.inputs;
-      read = c.in_ok-inputs.ensures;
-      is = subst (IsAnswer (option_copied c.args.old) c.in_ok-inputs.inputs) (sym c.with_skips.ensures)
-          (answered (option_copied c.args.old) c.in_ok-inputs.inputs c.in_ok-reply.reply c.into_skips.result
-          c.in_ok-inputs.ensures.lock_says c.into_skips.ensures c.in_ok-reply.ensures);
+      answered = record {
+        inputs = c.in_ok-inputs.inputs;
+        read = c.in_ok-inputs.ensures;
+        is = subst (IsAnswer (option_copied c.args.old) c.in_ok-inputs.inputs) (sym c.with_skips.ensures)
+            (answered (option_copied c.args.old) c.in_ok-inputs.inputs c.in_ok-reply.reply c.parted-skips.result.0
+            c.in_ok-inputs.ensures.lock_says c.parted-skips.ensures.skips c.in_ok-reply.ensures);
+      };
+      index_is = c.parted-skips.ensures.index;
     }
