@@ -25,9 +25,10 @@ use checker::Check;
 use derivations::Derivation;
 use explainer::explain;
 use index_reader::Opens;
-use resolver::{Answer, Fault, check_bytes, resolve, verify_bytes};
+use resolver::{Answer, Fault, check_bytes, resolve_keeping, verify_bytes};
 use selection::Verdict;
 use std::io::{self, ErrorKind, Write};
+use std::mem;
 use words::{Words, WordsFault, read_words};
 
 /// The status of wrong use, of a fault, of a file that can't be read and of output that can't be written.
@@ -200,7 +201,7 @@ fn answer_at<'a, D: Disk>(
     let from = own_source(disk.memory(), text)?;
     let mut folder = disk.open(index)?;
     let prefer = preference(rust_first);
-    let answer = resolve(
+    let (answer, loaded) = resolve_keeping(
         disk.memory(),
         bytes.as_slice(),
         &mut folder,
@@ -208,6 +209,8 @@ fn answer_at<'a, D: Disk>(
         &from,
         prefer,
     )?;
+    // The run ends soon, and the system takes the index back as a whole.
+    mem::forget(loaded);
     Ok(answer)
 }
 

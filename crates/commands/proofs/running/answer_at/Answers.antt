@@ -19,8 +19,8 @@ returns-clause-answer g c = record {
   prefer_is = c.preference-prefer.ensures;
   folder = c.in_ok-folder.folder;
   opened = c.in_ok-folder.ensures;
-  after = c.resolve.new.folder;
-  resolves = rw (sym c.as_slice.ensures.value) c.in_ok-answer.ensures;
+  after = c.resolve_keeping.new.folder;
+  resolves = rw (sym c.as_slice.ensures.value) c.in_ok-answer.ensures.answered;
 }
 
 pub returns-in_err-old-clause-lacks : goal.returns-in_err-old-clause-lacks
@@ -77,7 +77,7 @@ returns-in_err-answer-clause-lacks g c =
         prefer_is = c.preference-prefer.ensures;
         folder = c.in_ok-folder.folder;
         opened = c.in_ok-folder.ensures;
-        after = c.resolve.new.folder;
+        after = c.resolve_keeping.new.folder;
         resolves = rw (sym c.as_slice.ensures.value) c.in_err-answer.ensures;
       },
       p.2,
