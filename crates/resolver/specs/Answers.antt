@@ -48,6 +48,15 @@ module _ {S : Type 0} (calls : Calls S) (failed : S → ℕ) (request : RequestV
   Verifies (Err f) after = EndsWith calls failed request before (input_wants_memory f)
       (IsInputFault calls failed request before f after) after
 
+  -- the same with the index that was loaded for it
+  pub record IsVerdictKeeping (verdict : Verdict) (index : CatalogueView) (after : S) : Type 0 where
+    pub found : IsVerdictFor verdict after
+    pub index_is : index ≡ (found.inputs).catalogue
+
+  abbrev pub VerifiesKeeping : Result (Verdict × CatalogueView) Fault → S → Type 0
+  VerifiesKeeping (Ok given) after = IsVerdictKeeping given.0 given.1 after
+  VerifiesKeeping (Err f) after = Verifies (Err f) after
+
 -- ---- the answer to a manifest
 
 -- the bytes of a lock mean a valid selection

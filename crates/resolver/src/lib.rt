@@ -32,4 +32,4 @@ pub use returning::{
     locks_are_given_where_there_are_selections, memory_folders_stay,
     names_not_asked_for_cannot_matter, verified_locks_exclude_refusals,
 };
-pub use verifying::verify_bytes;
+pub use verifying::{verify_bytes, verify_bytes_keeping};
