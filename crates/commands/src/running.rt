@@ -25,7 +25,7 @@ use checker::Check;
 use derivations::Derivation;
 use explainer::explain;
 use index_reader::Opens;
-use resolver::{Answer, Fault, check_bytes, resolve_keeping, verify_bytes};
+use resolver::{Answer, Fault, check_bytes, resolve_keeping, verify_bytes_keeping};
 use selection::Verdict;
 use std::io::{self, ErrorKind, Write};
 use std::mem;
@@ -169,13 +169,15 @@ fn verdict_at<'a, D: Disk>(
     let locked = read_lock(disk, lock)?;
     let from = own_source(disk.memory(), text)?;
     let mut folder = disk.open(index)?;
-    let verdict = verify_bytes(
+    let (verdict, loaded) = verify_bytes_keeping(
         disk.memory(),
         bytes.as_slice(),
         &mut folder,
         locked.as_slice(),
         &from,
     )?;
+    // The run ends soon, and the system takes the index back as a whole.
+    mem::forget(loaded);
     Ok(verdict)
 }
 

@@ -15,8 +15,8 @@ returns-clause-verdict g c = record {
       (text_if c.args.source) c.in_ok-from.from c.in_ok-text.text.now c.in_ok-from.ensures c.in_ok-text.ensures.source;
   folder = c.in_ok-folder.folder;
   opened = c.in_ok-folder.ensures;
-  after = c.verify_bytes.new.folder;
-  verifies = rw (sym c.as_slice.ensures.value, sym c.as_slice-2.ensures.value) c.in_ok-verdict.ensures;
+  after = c.verify_bytes_keeping.new.folder;
+  verifies = rw (sym c.as_slice.ensures.value, sym c.as_slice-2.ensures.value) c.in_ok-verdict.ensures.found;
 }
 
 pub returns-in_err-locked-clause-lacks : goal.returns-in_err-locked-clause-lacks
@@ -75,7 +75,7 @@ returns-in_err-verdict-clause-lacks g c =
             c.in_ok-text.ensures.source;
         folder = c.in_ok-folder.folder;
         opened = c.in_ok-folder.ensures;
-        after = c.verify_bytes.new.folder;
+        after = c.verify_bytes_keeping.new.folder;
         verifies = rw (sym c.as_slice.ensures.value, sym c.as_slice-2.ensures.value) c.in_err-verdict.ensures;
       },
       p.2,
