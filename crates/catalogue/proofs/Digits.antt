@@ -1,9 +1,13 @@
 -- Digits of bytes, one byte after the other.
 use Rattle.std.proofs.Common.{◌≡◌, ◌≢◌, ℕ, ◌+◌, ◌*◌, ◌/◌, ◌%◌, ◌<◌, ◌≤◌, ◌&&◌, nat_eq, Bool, false, true, List, [], ◌∷◌}
-use Rattle.std.proofs.Common.{◌++◌, length, take, drop, slice_index, refl, sym, ap, ap₂, ◌∙◌, arith}
-use Rattle.std.proofs.lemmas.List.{append_assoc, drop_all, drop_more, take_more}
+use Rattle.std.proofs.Common.{◌++◌, length, take, drop, slice_index, slice_set, refl, sym, ap, ap₂, ◌∙◌, arith}
+use Rattle.std.proofs.Common.{true≢false}
+use Rattle.std.proofs.lemmas.List.{append_assoc, drop_all, drop_more, take_all, take_more, take_more_set}
+use Rattle.std.proofs.lemmas.List.Folds.{list_all_at}
+use Rattle.std.specs.List.{list_all}
 use Rattle.std.specs.Cmp.Lexicographic.{unequal}
 use Rattle.model.specs.Summary.{same_text}
+use Rattle.index_reader.specs.Records.{is_hexadecimal}
 use Rattle.catalogue.specs.Checksums.{digit, digits_of}
 
 -- the digits of a byte
@@ -30,6 +34,15 @@ written-more bytes old mid new i h high low so_far =
     ∙ append_assoc (digits_of (take i bytes)) (digit (b / 16) ∷ []) (digit (b % 16) ∷ [])
     ∙ sym (ap digits_of (take_more bytes i 0 h) ∙ digits_of-snoc (take i bytes) b)
 
+take-pair : (text : List ℕ) (i : ℕ) → 2 * i + 1 < length text
+    → take (2 * (i + 1)) text ≡ take (2 * i) text ++ slice_index text (2 * i) ∷ slice_index text (2 * i + 1) ∷ []
+take-pair text i h =
+    let two : 2 * (i + 1) ≡ 2 * i + 1 + 1 = omega arith in
+    let second = take_more text (2 * i + 1) 0 h in
+    let first = take_more text (2 * i) 0 (omega arith) in
+    rw (two, second, first)
+    (append_assoc (take (2 * i) text) (slice_index text (2 * i) ∷ []) (slice_index text (2 * i + 1) ∷ []))
+
 drop-pair : (text : List ℕ) (i : ℕ) → 2 * i + 1 < length text
     → drop (2 * i) text ≡ slice_index text (2 * i) ∷ slice_index text (2 * i + 1) ∷ drop (2 * (i + 1)) text
 drop-pair text i h =
@@ -37,6 +50,30 @@ drop-pair text i h =
     let second = drop_more text (2 * i + 1) 0 h in
     let two : 2 * i + 1 + 1 ≡ 2 * (i + 1) = omega arith in
     rw (first, second, two) refl
+
+-- each byte of digits is one
+pub digit-at : (text : List ℕ) (i : ℕ) → i < length text → list_all is_hexadecimal text ≡ true
+    → is_hexadecimal (slice_index text i) ≡ true
+digit-at text i h all = by (is_hexadecimal (slice_index text i)) refl
+  where
+    by : (b : Bool) → is_hexadecimal (slice_index text i) ≡ b → b ≡ true
+    by true e = refl
+    by false e = absurd (true≢false (sym all ∙ list_all_at is_hexadecimal text i 0 h e))
+
+-- one byte more is read
+pub read-more : (bytes text : List ℕ) (i b : ℕ) → i < length bytes → 2 * i + 1 < length text
+    → digit (b / 16) ≡ slice_index text (2 * i) → digit (b % 16) ≡ slice_index text (2 * i + 1)
+    → digits_of (take i bytes) ≡ take (2 * i) text
+    → digits_of (take (i + 1) (slice_set bytes i b)) ≡ take (2 * (i + 1)) text
+read-more bytes text i b h few high low so_far =
+    ap digits_of (take_more_set bytes i b h) ∙ digits_of-snoc (take i bytes) b
+    ∙ ap₂ (λ front both. front ++ both) so_far (ap₂ (λ x y. x ∷ y ∷ []) high low) ∙ sym (take-pair text i few)
+
+-- all bytes are read
+pub all-read : (bytes text : List ℕ) (i : ℕ) → length bytes ≡ 32 → length text ≡ 64 → 32 ≤ i
+    → digits_of (take i bytes) ≡ take (2 * i) text → digits_of bytes ≡ text
+all-read bytes text i long few done so_far =
+    ap digits_of (sym (take_all i bytes (omega arith))) ∙ so_far ∙ take_all (2 * i) text (omega arith)
 
 and_assoc : (a b c : Bool) → (a && (b && c)) ≡ ((a && b) && c)
 and_assoc true b c = refl

@@ -1,10 +1,13 @@
 //! The checksum of a candidate, in less than half of the room that its text takes.
 
 ghost use Rattle.std.specs.Prelude.{◌≡◌, ◌/◌, ◌%◌, ◌<◌, ◌&&◌, nat_eq, [], ◌∷◌, ◌++◌, length, string_bytes};
-ghost use Rattle.std.specs.Prelude.{IfOk, IfSome, OnOk};
+ghost use Rattle.std.specs.Prelude.{IfOk, IfSome, OnOk, true};
+ghost use Rattle.std.specs.List.{list_all};
+ghost use Rattle.index_reader.specs.Records.{is_hexadecimal};
 ghost use Rattle.model.specs.Summary.{same_text};
 ghost use Rattle.catalogue.specs.Checksums.{digit, digits_of};
 
+use index_reader::are_hexadecimal;
 use std::alloc::{AllocError, Global};
 use std::marker::Model;
 
@@ -71,21 +74,19 @@ impl Checksum {
 fn bytes_of(text: &[u8]) -> Option<[u8; 32]>
     ensures { IfSome result (λ bytes. digits_of bytes ≡ text.now) }
 {
-    if text.len() != 64 {
-        return None;
-    }
-    let bytes = bytes_in(text);
-    if are_digits_of(text, &bytes) {
-        Some(bytes)
+    if text.len() == 64 && are_hexadecimal(text) {
+        Some(bytes_in(text))
     } else {
         None
     }
 }
 
-/// The bytes that are written in 64 digits; any bytes for another text. No digit is asked whether it is a letter: which
-/// ones are is chance, so a processor would guess wrong at every third.
+/// The bytes that are written in 64 digits. No digit is asked whether it is a letter: which ones are is chance, so a
+/// processor would guess wrong at every third.
 fn bytes_in(text: &[u8]) -> [u8; 32]
-    requires { length text.now ≡ 64 }
+    requires long { length text.now ≡ 64 }
+    requires digits { list_all is_hexadecimal text.now ≡ true }
+    ensures { digits_of result ≡ text.now }
 {
     let mut bytes = [0; 32];
     'places: for place in 0..32 {
@@ -94,9 +95,10 @@ fn bytes_in(text: &[u8]) -> [u8; 32]
     bytes
 }
 
-/// What a digit means: those below 10 are from 0x30 on, the others from 0x61 on. Of another byte, any number below 16.
+/// What a digit means: those below 10 are from 0x30 on, the others from 0x61 on.
 fn value_of(byte: u8) -> u8
-    ensures { result < 16 }
+    requires { is_hexadecimal byte ≡ true }
+    ensures { (result < 16) × (digit result ≡ byte) }
 {
     (byte % 16 + 9 * (byte / 64)) % 16
 }

@@ -55,4 +55,4 @@ pub use laws::{records_are_apart, records_know_their_features};
 pub use line::read_line;
 pub use opened::{FileFault, Fronted, Opens, read_at};
 pub use path::index_path;
-pub use record::{Record, Skip};
+pub use record::{Record, Skip, are_hexadecimal};

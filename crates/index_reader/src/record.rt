@@ -42,8 +42,9 @@ pub(crate) fn is_checksum(text: &str) -> bool
     text.len() == 64 && are_hexadecimal(text.as_bytes())
 }
 
-/// Without an end at the first that is none, so that many are looked at at a time.
-fn are_hexadecimal(text: &[u8]) -> bool
+/// Whether all bytes are lower-case hexadecimal digits, without an end at the first that is none, so that many are
+/// looked at at a time.
+pub fn are_hexadecimal(text: &[u8]) -> bool
     ensures { result ≡ list_all is_hexadecimal text.now }
 {
     let mut all = true;
