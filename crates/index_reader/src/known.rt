@@ -13,10 +13,13 @@ use features::{Dependency, NameText, PackageName};
 use semver::VersionReq;
 use std::alloc::{AllocError, Global};
 use std::hash::{FoldHasher, Hash, Hasher};
+use std::mem;
 
-/// How many dependencies are kept at once: those of the lines before, and those that many packages have. More places
-/// find few more, and each is written when the first dependency is kept, also in a small run.
-const SLOTS: usize = 2_048;
+/// How many places there are at first. Each is written when the first dependency is kept, also in a small run.
+const FIRST_SLOTS: usize = 1_024;
+
+/// How many places there are at most, since an index has no end of dependencies that differ.
+const MOST_SLOTS: usize = 65_536;
 
 /// A dependency, with the texts that were read for it, so that they outlive their line.
 #[derive(Drop)]
@@ -46,11 +49,13 @@ pub(crate) struct PartAgain<'p, 'a> {
 }
 
 /// Dependencies that were read. Each has a place by its name and its requirement, and the next one that has this place
-/// takes it, so that no more are kept than are of use.
+/// takes it. There are more places as more are kept, so that few are dropped that come up again.
 #[derive(Drop)]
 pub struct KnownDependencies {
     /// What is compared first stands in the place itself: a look-up that finds another dependency reads nothing else.
     slots: Vec<Option<MadeDependency>>,
+    /// How many were kept, with those that had their place taken.
+    kept: usize,
 }
 
 impl KnownDependencies {
@@ -58,6 +63,7 @@ impl KnownDependencies {
     pub fn none(alloc: Global) -> KnownDependencies {
         KnownDependencies {
             slots: Vec::new(alloc),
+            kept: 0,
         }
     }
 
@@ -69,7 +75,7 @@ impl KnownDependencies {
         ensures { IfOk result (λ o. IfSome o (λ a. part_view a.part.now ≡ part_view part.entry.now)) }
     {
         let hash = hash_of(part);
-        let Some(slot) = self.slots.get(slot_of(hash)) else {
+        let Some(slot) = self.slots.get(slot_of(hash, self.slots.len())) else {
             return Ok(None);
         };
         let Some(made) = slot else {
@@ -94,8 +100,8 @@ impl KnownDependencies {
     ) -> Result<(), AllocError>
         requires { IsMadeOf part.now.requirement.now (text_views part.now.features.items) dependency.now }
     {
-        if self.slots.is_empty() {
-            self.slots = no_dependencies(alloc)?;
+        if self.kept >= self.slots.len() {
+            self.grow(alloc)?;
         }
         let hash = hash_of(part);
         let made = MadeDependency {
@@ -104,20 +110,54 @@ impl KnownDependencies {
             features: kept_texts(alloc, &part.features)?,
             dependency: dependency.clone()?,
         };
-        if let Some(slot) = self.slots.get_mut(slot_of(hash)) {
-            *slot = Some(made);
+        put(&mut self.slots, made);
+        self.kept = self.kept.saturating_add(1);
+        Ok(())
+    }
+
+    /// Makes twice as many places, if there may be more, and moves each dependency to its place there.
+    fn grow(&mut self, alloc: Global) -> Result<(), AllocError> {
+        let places = more_places(self.slots.len());
+        if places <= self.slots.len() {
+            return Ok(());
+        }
+        let fewer = mem::replace(&mut self.slots, no_dependencies(alloc, places)?);
+        'fewer: for slot in fewer {
+            if let Some(made) = slot {
+                put(&mut self.slots, made);
+            }
         }
         Ok(())
     }
 }
 
-/// As many places as there are, all of them empty.
-fn no_dependencies(alloc: Global) -> Result<Vec<Option<MadeDependency>>, AllocError> {
-    let mut slots = Vec::with_capacity(alloc, SLOTS)?;
-    'slots: for _ in 0..SLOTS {
+/// How many places come after so many.
+fn more_places(places: usize) -> usize {
+    if places == 0 {
+        FIRST_SLOTS
+    } else {
+        places.saturating_mul(2).min(MOST_SLOTS)
+    }
+}
+
+/// So many places, all of them empty.
+fn no_dependencies(
+    alloc: Global,
+    places: usize,
+) -> Result<Vec<Option<MadeDependency>>, AllocError> {
+    let mut slots = Vec::with_capacity(alloc, places)?;
+    'slots: for _ in 0..places {
         slots.push(None)?;
     }
     Ok(slots)
+}
+
+/// Puts a dependency into its place.
+fn put(slots: &mut [Option<MadeDependency>], made: MadeDependency) {
+    let place = slot_of(made.hash, slots.len());
+    if let Some(slot) = slots.get_mut(place) {
+        *slot = Some(made);
+    }
 }
 
 /// The hash that a dependency has its place by.
@@ -128,9 +168,9 @@ fn hash_of(part: &PartShape<'_>) -> u64 {
     hasher.finish()
 }
 
-/// The place of a dependency of this hash.
-fn slot_of(hash: u64) -> usize {
-    (hash % SLOTS as u64) as usize
+/// The place of a dependency of this hash among so many, whose number is a power of two. Among none it has none.
+fn slot_of(hash: u64, places: usize) -> usize {
+    hash as usize & places.wrapping_sub(1)
 }
 
 impl MadeDependency {
