@@ -4,8 +4,8 @@ ghost use Rattle.std.specs.Prelude.{◌≡◌, IfOk};
 
 use crate::feature_name::FeatureName;
 use crate::name::PackageName;
+use crate::requirement::Requirement;
 use crate::table::FeatureTable;
-use semver::VersionReq;
 use std::alloc::{AllocError, Global};
 use std::marker::Model;
 use std::ops::Deref;
@@ -26,7 +26,7 @@ pub struct DependencyParts {
     pub name: PackageName,
     /// The name of the package that it means: another one where it is renamed.
     pub real_name: PackageName,
-    pub requirement: VersionReq,
+    pub requirement: Requirement,
     pub optional: bool,
     /// Whether it asks for the feature `default`.
     pub default_features: bool,

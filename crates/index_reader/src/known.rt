@@ -7,10 +7,10 @@ ghost use Rattle.features.specs.Views.{text_views};
 ghost use Rattle.index_reader.specs.Known.{IsMadeOf, IsRequirement, IsSaid, same_flags, same_names, same_parts};
 ghost use Rattle.index_reader.specs.ShapeViews.{part_view};
 
+use crate::known_requirements::KnownRequirements;
 use crate::made::{are_texts, kept_texts};
 use crate::shape::PartShape;
-use features::{Dependency, NameText, PackageName};
-use semver::VersionReq;
+use features::{Dependency, NameText, PackageName, Requirement};
 use std::alloc::{AllocError, Global};
 use std::hash::{FoldHasher, Hash, Hasher};
 use std::mem;
@@ -36,7 +36,7 @@ struct MadeDependency {
 #[derive(Drop)]
 pub(crate) struct RequirementRead<'p, 'a> {
     pub part: &'p PartShape<'a>,
-    pub requirement: VersionReq,
+    pub requirement: Requirement,
     ghost read: { IsRequirement part.now.requirement.now requirement },
 }
 
@@ -56,6 +56,7 @@ pub struct KnownDependencies {
     slots: Vec<Option<MadeDependency>>,
     /// How many were kept, with those that had their place taken.
     kept: usize,
+    requirements: KnownRequirements,
 }
 
 impl KnownDependencies {
@@ -64,6 +65,7 @@ impl KnownDependencies {
         KnownDependencies {
             slots: Vec::new(alloc),
             kept: 0,
+            requirements: KnownRequirements::none(alloc),
         }
     }
 
@@ -91,7 +93,14 @@ impl KnownDependencies {
         Ok(Some(again))
     }
 
-    /// Keeps a dependency that was made of this part.
+    /// The requirement that this text is, if it is kept.
+    pub(crate) fn requirement(&self, text: &str) -> Result<Option<Requirement>, AllocError>
+        ensures { IfOk result (λ o. IfSome o (λ r. IsRequirement text.now r)) }
+    {
+        self.requirements.find(text)
+    }
+
+    /// Keeps a dependency that was made of this part, and its requirement.
     pub(crate) fn keep(
         &mut self,
         alloc: Global,
@@ -103,6 +112,8 @@ impl KnownDependencies {
         if self.kept >= self.slots.len() {
             self.grow(alloc)?;
         }
+        self.requirements
+            .keep(alloc, part.requirement, &dependency.requirement)?;
         let hash = hash_of(part);
         let made = MadeDependency {
             hash,

@@ -30,6 +30,7 @@ mod folder;
 mod item;
 mod items;
 mod known;
+mod known_requirements;
 mod laws;
 mod line;
 mod made;

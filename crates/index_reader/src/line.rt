@@ -23,7 +23,7 @@ use crate::record::{Record, is_checksum};
 use crate::shape::{DependencyShape, LineShape, PartShape, read_shape};
 use crate::values::read_json;
 use crate::written::feature_name;
-use features::{Dependency, DependencyParts, FeatureName, PackageName, Summary};
+use features::{Dependency, DependencyParts, FeatureName, PackageName, Requirement, Summary};
 use json::Scratch;
 use semver::{Version, VersionReq};
 use std::alloc::{AllocError, Global};
@@ -154,7 +154,21 @@ pub(crate) fn version(alloc: Global, text: &str) -> Result<Version, LineFault>
     }
 }
 
-fn requirement(alloc: Global, text: &str) -> Result<VersionReq, LineFault>
+/// The requirement that a text is: one that was read before, if it is kept.
+fn requirement(
+    alloc: Global,
+    text: &str,
+    known: &KnownDependencies,
+) -> Result<Requirement, LineFault>
+    ensures { Gives wants_memory requirement_view result (semver_or SkipReason.BadRequirement (req_of text.now)) }
+{
+    match known.requirement(text)? {
+        Some(requirement) => Ok(requirement),
+        None => Ok(Requirement::new(alloc, requirement_read(alloc, text)?)?),
+    }
+}
+
+fn requirement_read(alloc: Global, text: &str) -> Result<VersionReq, LineFault>
     ensures { Gives wants_memory requirement_view result (semver_or SkipReason.BadRequirement (req_of text.now)) }
 {
     match VersionReq::parse(alloc, text) {
@@ -215,7 +229,7 @@ pub(crate) fn part_required<'p, 'a>(
         Some(again) => Ok(Required::Again(again)),
         None => Ok(Required::Read(RequirementRead {
             part,
-            requirement: requirement(alloc, part.requirement)?,
+            requirement: requirement(alloc, part.requirement, known)?,
         })),
     }
 }

@@ -19,7 +19,7 @@ use crate::fault::{ManifestFault, Unsupported};
 use crate::root_features::root_features;
 use crate::shape::{Shape, read_shape};
 use classes::RustVersion;
-use features::{Dependency, DependencyParts, FeatureTable, PackageName, Summary};
+use features::{Dependency, DependencyParts, FeatureTable, PackageName, Requirement, Summary};
 use semver::{Version, VersionReq};
 use std::alloc::{AllocError, Global};
 use std::marker::Model;
@@ -218,7 +218,7 @@ fn with_requirement(alloc: Global, shape: DependencyShape<'_>) -> Result<Depende
             DependencyParts {
                 name: shape.name,
                 real_name: shape.real_name,
-                requirement,
+                requirement: Requirement::new(alloc, requirement)?,
                 optional: shape.optional,
                 default_features: shape.default_features,
                 features: shape.features,
