@@ -67,7 +67,8 @@ impl<'a> Matched<'a> {
         ensures { IfSome result
             (λ ks. map class_view ks.now ≡ dep_classes (problem_of self.now) (dependency_view dependency.now)) }
     {
-        let ask = (&dependency.real_name, &dependency.requirement);
+        let requirement: &VersionReq = &dependency.requirement;
+        let ask = (&dependency.real_name, requirement);
         match self.classes.get(&ask) {
             Some(classes) => Some(classes.as_slice()),
             None => None,
@@ -233,7 +234,8 @@ impl<'a> Matched<'a> {
             return Ok(());
         }
         let classes = match_anew(alloc, &self.problem, dependency)?;
-        let ask = (&dependency.real_name, &dependency.requirement);
+        let requirement: &VersionReq = &dependency.requirement;
+        let ask = (&dependency.real_name, requirement);
         self.classes.insert(ask, classes)?;
         Ok(())
     }
