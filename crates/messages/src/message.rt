@@ -5,8 +5,9 @@ ghost use Rattle.json.specs.Lex.{tokens};
 ghost use Rattle.json.specs.Print.{print};
 
 use crate::shown::Shown;
+use features::Requirement;
 use index_reader::SkipReason;
-use semver::{Version, VersionReq};
+use semver::Version;
 use serde::Serialize;
 use std::alloc::{AllocError, Global};
 
@@ -82,7 +83,7 @@ pub(crate) enum Change {
 pub(crate) struct LackOf<'a> {
     pub(crate) package: &'a str,
     pub(crate) dependency: &'a str,
-    pub(crate) requirement: Shown<'a, VersionReq>,
+    pub(crate) requirement: Shown<'a, Requirement>,
     pub(crate) lack: LackKind,
     pub(crate) newest: Option<Shown<'a, Version>>,
     pub(crate) feature: Option<&'a str>,
@@ -107,7 +108,7 @@ pub(crate) enum LackKind {
 pub(crate) struct Step<'a> {
     pub(crate) from: PackageId<'a>,
     /// What the one needs of the other; none where its list alone says so.
-    pub(crate) requirement: Option<Shown<'a, VersionReq>>,
+    pub(crate) requirement: Option<Shown<'a, Requirement>>,
     /// What the dependency is called, where that is another name.
     pub(crate) renamed: Option<&'a str>,
     pub(crate) features: Vec<&'a str>,

@@ -4,7 +4,7 @@ use crate::message::{PackageId, push_message};
 use crate::shown::Shown;
 use crate::ways_told::id_of;
 use catalogue::{Catalogue, LoadFault};
-use features::{Dependency, FeatureName};
+use features::{Dependency, FeatureName, Requirement};
 use flaws::{
     Flawed, Judged, MissingVersion, NoCandidate, dependency_at, flaws_of, lacking_features,
     last_serving, why_missing,
@@ -15,7 +15,7 @@ use lockfile::{LockContent, Package};
 use manifest::Manifest;
 use reports::{Inputs, loaded_beside, unless_failed};
 use selection::{Findings, Verdict, VerdictFault};
-use semver::{Version, VersionReq};
+use semver::Version;
 use serde::Serialize;
 use std::alloc::{AllocError, Global};
 
@@ -40,7 +40,7 @@ struct Flaw<'a> {
     flaw: FlawKind,
     /// The dependency that is meant.
     dependency: Option<&'a str>,
-    requirement: Option<Shown<'a, VersionReq>>,
+    requirement: Option<Shown<'a, Requirement>>,
     /// The feature that is lacking, and the one whose entry asks for it.
     feature: Option<&'a str>,
     by: Option<&'a str>,
