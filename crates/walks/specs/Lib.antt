@@ -3,3 +3,4 @@ pub use Rattle.catalogue.specs.Problems
 pub use Rattle.reaching.specs.Built
 pub mod Preferred
 pub mod Met
+pub mod Followed

@@ -1,17 +1,22 @@
-//! That there is one preferred walk, and that it goes by the model's order of preference.
+//! That there is one preferred walk, that it goes by the model's order of preference, and that it is found where only
+//! enabled dependencies are followed.
 //!
 //! A law is a function that does nothing: its contract is the statement, and its body calls what its proof rests on.
 
-ghost use Rattle.std.specs.Prelude.{◌≡◌, ℕ, List, Option};
+ghost use Rattle.std.specs.Prelude.{◌≡◌, ◌↔◌, ℕ, Bool, List, Option};
 ghost use Rattle.model.specs.Summary.{Dependency};
-ghost use Rattle.model.specs.Content.{Content};
+ghost use Rattle.model.specs.Facts.{Fact};
+ghost use Rattle.model.specs.Content.{Candidate, Content, Problem};
 ghost use Rattle.model.specs.Candidates.{RustVersion, is_locked};
-ghost use Rattle.model.specs.Walk.{IsWalk};
+ghost use Rattle.model.specs.Stands.{IsReachedFact, StandsFor};
+ghost use Rattle.model.specs.Vertices.{Owner};
+ghost use Rattle.model.specs.Walk.{IsWalk, Picks};
 ghost use Rattle.catalogue.specs.Loads.{store_of};
 ghost use Rattle.catalogue.specs.Problems.{problem_in};
 ghost use Rattle.catalogue.specs.Ranks.{AreRanked};
 ghost use Rattle.catalogue.specs.Runs.{Asked};
 ghost use Rattle.catalogue.specs.Stores.{CatalogueView, ranked_at};
+ghost use Rattle.walks.specs.Followed.{AreFollowed, PicksFollowed};
 ghost use Rattle.walks.specs.Preferred.{preferred_by, preferred_in};
 
 use catalogue::{Catalogue, catalogues_are_well_formed};
@@ -38,4 +43,15 @@ pub fn ranks_are_preferences()
     ensures preferred { (old : Content) (source : List ℕ) (rust : Option RustVersion) (root : List Dependency)
         (asked : List Asked) (index : CatalogueView)
         → index ≡ store_of old source rust root asked → preferred_in index ≡ preferred_by old rust index }
+{}
+
+/// Where each enabled dependency is followed, those that aren't make no difference: what the root reaches is the same as
+/// where each one leads to its pick, and so is the walk.
+pub fn enabled_dependencies_are_enough()
+    ensures facts { (q : Problem) (preferred : List (List ℕ × List Candidate)) (all : Bool) (asked : List (List Bool))
+        (owners : List Owner) → AreFollowed all asked owners q preferred → (x : Fact Owner)
+        → IsReachedFact q (PicksFollowed all asked owners q preferred) x ↔ IsReachedFact q (Picks q preferred) x }
+    ensures walk { (q : Problem) (preferred : List (List ℕ × List Candidate)) (all : Bool) (asked : List (List Bool))
+        (owners : List Owner) (content : Content) → AreFollowed all asked owners q preferred
+        → StandsFor q (PicksFollowed all asked owners q preferred) content → IsWalk q preferred content }
 {}

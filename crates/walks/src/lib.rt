@@ -20,5 +20,5 @@ mod meeting;
 mod picking;
 mod walk;
 
-pub use laws::{ranks_are_preferences, there_is_one_walk};
+pub use laws::{enabled_dependencies_are_enough, ranks_are_preferences, there_is_one_walk};
 pub use walk::preferred;
