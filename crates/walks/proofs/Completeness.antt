@@ -7,16 +7,20 @@ use Rattle.std.proofs.lemmas.Option.{slice_get_within, same_Some, none-some}
 use Rattle.model.proofs.Same.{both}
 use Rattle.model.proofs.Places.{some_at}
 use Rattle.model.specs.Summary.{Summary, Dependency}
-use Rattle.model.specs.Facts.{enabled}
+use Rattle.model.specs.Facts.{enabled, Brings}
 use Rattle.model.specs.Content.{Candidate, Problem}
-use Rattle.model.specs.Vertices.{Owner}
+use Rattle.model.specs.Vertices.{Owner, owner_brings}
+use Rattle.model.specs.Stands.{IsReachedFact}
 use Rattle.model.specs.Walk.{IsComplete, Picks}
 use Rattle.manifest.specs.Manifests.{root_asks}
 use Rattle.facts.specs.Graphs.{NodeView, node_view, node_views, flag_at, flag_in}
 use Rattle.facts.specs.declared.node.Node.{Node}
 use Rattle.reaching.specs.Nodes.{AreFlags, AreMet, IsLead}
-use Rattle.reaching.proofs.Found.{enabled_far, near_of, node_at, owner_there}
+use Rattle.reaching.proofs.Found.{enabled_far, near_of, node_at, owner_there, stands}
+use Rattle.walks.specs.Followed.{AreFollowed, PicksFollowed}
 use Rattle.walks.specs.Met.{are_met, all_met}
+use Rattle.walks.specs.Rounds.{AreEnough}
+use Rattle.walks.proofs.Followed.{already, stands_still, still}
 
 is_met : (t : Option ℕ) (b : Bool) → (is_some t || not b) ≡ true → b ≡ true → is_some t ≡ true
 is_met (Some x) b h e = refl
@@ -72,44 +76,66 @@ if_all_met (m ∷ nodes) (w ∷ vs) h = and_from (are_met w.items m.targets.item
 
 -- ---- the walk
 
-module _ (q : Problem) (preferred : List (List ℕ × List Candidate)) (owners : List Owner) (nodes : List NodeView)
-    (met : AreMet q (Picks q preferred) owners nodes)
-    (asks : q.root_asks ≡ root_asks q.brings.features) (flags : List Bool) (lists : List (List Bool))
-    (are : AreFlags nodes flags lists) where
-  -- where each enabled dependency has a target, the walk is complete
-  pub complete : AllMet nodes lists → IsComplete q preferred
-  complete h = record {
-    picks = λ o i d on_it b.
-        let (n, at, p) = near_of q (Picks q preferred) owners nodes met asks (enabled o i) on_it in
-        let (v, got, is) = node_at q (Picks q preferred) owners nodes met asks n o at in
+module _ (q : Problem) (preferred : List (List ℕ × List Candidate)) (asked : List (List Bool)) (owners : List Owner)
+    (nodes : List NodeView) (asks : q.root_asks ≡ root_asks q.brings.features) (flags : List Bool)
+    (lists : List (List Bool)) (are : AreFlags nodes flags lists) where
+  abbrev Led : Bool → Owner → ℕ → Dependency → Owner → Type 0
+  Led all = PicksFollowed all asked owners q preferred
+
+  module _ (all : Bool) (met : AreMet q (Led all) owners nodes) (have : AllMet nodes lists) where
+    -- where each enabled dependency has a target, each leads there
+    led : (o : Owner) (i : ℕ) (d : Dependency) → IsReachedFact q (Led all) (enabled o i)
+        → Brings (owner_brings q) o i d → (t : Owner) × Led all o i d t
+    led o i d on_it b =
+        let (n, at, p) = near_of q (Led all) owners nodes met asks (enabled o i) on_it in
+        let (v, got, is) = node_at q (Led all) owners nodes met asks n o at in
         let brought : slice_get (v.brings).dependencies i ≡ Some d =
         subst (λ (o : Summary). slice_get o.dependencies i ≡ Some d) (sym is.brings) b in
         let lt = slice_get_within (v.brings).dependencies i d brought in
         let many = (is.leads).as_many in
         let (target, stands) = some_at v.targets i (omega (arith, lt, many)) in
-        by o i d target (h n i v target got stands ((are.each_enabled n i).1 p))
-        ((is.leads).leads i d target brought stands);
-  }
-    where
-      by : (o : Owner) (i : ℕ) (d : Dependency) (target : Option ℕ) → is_some target ≡ true
-          → IsLead q (Picks q preferred) owners o i d target → (t : Owner) × Picks q preferred o i d t
-      by o i d None e l = absurd (true≢false (sym e))
-      by o i d (Some n) e (t, at, l, only) = (t, l)
+        by target (have n i v target got stands ((are.each_enabled n i).1 p))
+        ((is.leads).leads i d target brought stands)
+      where
+        by : (target : Option ℕ) → is_some target ≡ true → IsLead q (Led all) owners o i d target
+            → (t : Owner) × Led all o i d t
+        by None e l = absurd (true≢false (sym e))
+        by (Some n) e (t, at, l, only) = (t, l)
 
-  -- where the walk is complete, each enabled dependency has a target
-  pub met_if_complete : IsComplete q preferred → AllMet nodes lists
-  met_if_complete all n i v target got stands flag =
-      let (o, at) = owner_there q (Picks q preferred) owners nodes met asks n v got in
+    -- so each is followed, and the walk is complete
+    are_followed : AreFollowed all asked owners q preferred
+    are_followed o i d h b = let (t, l) = led o i d h b in l.0
+
+    complete : IsComplete q preferred
+    complete = record {
+      picks = λ o i d h b. let (t, l) = led o i d (already q (Picks q preferred) (Led all) (λ o t i d l. l.1)
+          (λ o t i d h b l. (are_followed o i d h b, l)) (enabled o i) h) b in (t, l.1);
+    }
+
+    pub are_enough : AreEnough q preferred owners nodes flags lists
+    are_enough = record {
+      as_many = met.as_many;
+      walk = λ content built. stands_still q (Picks q preferred) (Led all) (λ o t i d l. l.1)
+          (λ o t i d h b l. (are_followed o i d h b, l)) content
+          (stands q (Led all) owners nodes met asks flags lists are content built);
+      complete = complete;
+    }
+
+  -- where all are followed and the walk is complete, each enabled dependency has a target
+  pub met_if_complete : AreMet q (Led true) owners nodes → IsComplete q preferred → AllMet nodes lists
+  met_if_complete met each n i v target got there flag =
+      let (o, at) = owner_there q (Led true) owners nodes met asks n v got in
       let is = met.each n o v at got in
-      let lt = slice_get_within v.targets i target stands in
+      let lt = slice_get_within v.targets i target there in
       let many = (is.leads).as_many in
       let (d, brought) = some_at (v.brings).dependencies i (omega (arith, lt, many)) in
-      let far = enabled_far q (Picks q preferred) owners nodes met asks n i o at ((are.each_enabled n i).0 flag) in
+      let near = enabled_far q (Led true) owners nodes met asks n i o at ((are.each_enabled n i).0 flag) in
+      let far = still q (Picks q preferred) (Led true) (λ o t i d l. l.1) (enabled o i) near in
       let (t, l) =
-      all.picks o i d far (subst (λ (o : Summary). slice_get o.dependencies i ≡ Some d) is.brings brought) in
-      by o d t target l ((is.leads).leads i d target brought stands)
+      each.picks o i d far (subst (λ (o : Summary). slice_get o.dependencies i ≡ Some d) is.brings brought) in
+      by o d t target ((n, at, refl), l) ((is.leads).leads i d target brought there)
     where
-      by : (o : Owner) (d : Dependency) (t : Owner) (target : Option ℕ) → Picks q preferred o i d t
-          → IsLead q (Picks q preferred) owners o i d target → is_some target ≡ true
+      by : (o : Owner) (d : Dependency) (t : Owner) (target : Option ℕ) → Led true o i d t
+          → IsLead q (Led true) owners o i d target → is_some target ≡ true
       by o d t None l none = absurd (none t l)
       by o d t (Some s) l p = refl

@@ -4,3 +4,4 @@ pub use Rattle.reaching.specs.Built
 pub mod Preferred
 pub mod Met
 pub mod Followed
+pub mod Rounds

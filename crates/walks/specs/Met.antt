@@ -1,6 +1,6 @@
--- The versions that a walk may meet: from the root, those that the picks of all dependencies lead to, enabled or not
+-- The versions that a walk may meet: from the root, those that the picks of the dependencies lead to that are followed
 -- (own; a superset of what the preferred walk reaches, on which the facts are found).
-use Rattle.std.specs.Prelude.{Vec, ◌≡◌, ℕ, Bool, false, List, map, length, Option, Some, None, slice_get, not, ◌||◌}
+use Rattle.std.specs.Prelude.{Vec, ◌≡◌, ℕ, Bool, true, false, List, map, length, Option, Some, None, slice_get, not, ◌||◌}
 use Rattle.std.specs.Prelude.{is_some}
 use Rattle.std.specs.HashMap.{HashMap, get}
 use Rattle.std.specs.List.{find, list_all, zip}
@@ -12,7 +12,9 @@ use Rattle.model.specs.Vertices.{Owner, version_of}
 use Rattle.model.specs.Walk.{first_match}
 use Rattle.catalogue.specs.Ranks.{places_by_rank}
 use Rattle.catalogue.specs.Stores.{CatalogueView, candidates_at, ranked_at}
+use Rattle.facts.specs.Graphs.{flag_at}
 use Rattle.facts.specs.declared.node.Node.{Node}
+use Rattle.walks.specs.Followed.{is_followed}
 use Rattle.std.specs.declared.alloc.Global.{Global}
 
 -- ---- picks by place
@@ -48,11 +50,16 @@ module _ (preferred : List (List ℕ × List Candidate)) (owners : List Owner) w
   IsPick d (Some t) = (c : Candidate) × (first_match d (candidates_of preferred d.real_name) ≡ Some c)
       × (slice_get owners t ≡ Some (version_of d.real_name c.version))
 
-  -- by number, where the picks of dependencies stand
-  pub record ArePicks (ds : List Dependency) (targets : List (Option ℕ)) : Type 0 where
+  -- the same where it is followed, and else there is none
+  abbrev pub IsPickIf : Bool → Dependency → Option ℕ → Type 0
+  IsPickIf true d target = IsPick d target
+  IsPickIf false d target = target ≡ None
+
+  -- by number, where the picks of those dependencies stand that are followed
+  pub record ArePicks (all : Bool) (asked : List Bool) (ds : List Dependency) (targets : List (Option ℕ)) : Type 0 where
     pub as_many : length targets ≡ length ds
     pub picks : (i : ℕ) (d : Dependency) (target : Option ℕ) → slice_get ds i ≡ Some d
-        → slice_get targets i ≡ Some target → IsPick d target
+        → slice_get targets i ≡ Some target → IsPickIf (is_followed all (flag_at asked i) d) d target
 
 -- ---- completeness
 

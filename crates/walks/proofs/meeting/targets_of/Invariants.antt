@@ -5,6 +5,6 @@ use Rattle.walks.proofs.meeting.targets_of.Given as goal
 
 -- the targets of the dependencies so far; the orders that are kept are right
 abbrev pub invariant-dependencies : goal.invariant-dependencies
-invariant-dependencies l = TargetsTo l.catalogue l.fn.versions.keys l.versions.keys
-    (dependency_views l.dependencies) l.dependency-index l.targets.items
+invariant-dependencies l = TargetsTo l.catalogue l.all l.asked l.fn.versions.keys l.versions.keys
+    (dependency_views l.dependencies) l.number l.targets.items
     × AreOrders l.catalogue l.orders
