@@ -9,7 +9,7 @@ use std::marker::Model;
 use std::ops::Deref;
 use std::rc::Rc;
 
-/// A requirement. It acts as a reference to what `semver` reads, and a clone has the same: an index has few that differ.
+/// A requirement. It acts as a reference to what was read, and a clone has the same: an index has few that differ.
 #[derive(Drop)]
 pub struct Requirement {
     read: Rc<VersionReq>,

@@ -10,10 +10,10 @@
 //! a registry's is cut into its parts, and no part is read again that the line before has too (`by_parts.rt`), nor a
 //! dependency or a feature where only others differ (`items.rt`, `rows.rt`); line ends are found by `memchr`; each
 //! vector of a record takes the room that it needs, and a requirement no more than its comparators take; neighbouring
-//! lines that write the same features share one table (`made.rt`), and dependencies that stand word for word in several
-//! lines are read once and shared (`known.rt`). A folder is a trait (`Folder`) with a relation of its own, so that what
-//! stands on it is proved over every folder; `DiskFolder` is exact over anything that opens files (`Opens`), and of the
-//! system's call alone nothing is promised.
+//! lines that write the same features share one table (`made.rt`), dependencies that stand word for word in several
+//! lines are read once and shared (`known.rt`), and so are requirements (`known_requirements.rt`). A folder is a trait
+//! (`Folder`) with a relation of its own, so that what stands on it is proved over every folder; `DiskFolder` is exact
+//! over anything that opens files (`Opens`), and of the system's call alone nothing is promised.
 //!
 //! A layer above may rely on this: `read_line` and `read_file` give what the definitions give for the bytes, unless
 //! memory was wanting. No two records of a file have equal precedence, and each feature table knows its features.
