@@ -1,6 +1,6 @@
 -- Where each enabled dependency is followed, those that aren't make no difference: each reason goes through targets of
 -- enabled dependencies alone.
-use Rattle.std.proofs.Common.{◌≡◌, ℕ, List, Contains, Some, slice_get}
+use Rattle.std.proofs.Common.{◌≡◌, ℕ, Some, slice_get}
 use Rattle.model.specs.Summary.{Dependency}
 use Rattle.model.specs.Facts.{Fact, here, on, enabled, Brings}
 use Rattle.model.specs.Facts.Holds.{starts, arrives, root_needs, needs, asks, root_wants, turns_on, enables}

@@ -1,7 +1,7 @@
 -- The versions that a walk may meet: from the root, those that the picks of the dependencies lead to that are followed
 -- (own; a superset of what the preferred walk reaches, on which the facts are found).
-use Rattle.std.specs.Prelude.{Vec, ◌≡◌, ℕ, Bool, true, false, List, map, length, Option, Some, None, slice_get, not, ◌||◌}
-use Rattle.std.specs.Prelude.{is_some}
+use Rattle.std.specs.Prelude.{Vec, ◌≡◌, ℕ, Bool, true, false, List, map, length, Option, Some, None}
+use Rattle.std.specs.Prelude.{is_some, not, slice_get, ◌||◌}
 use Rattle.std.specs.HashMap.{HashMap, get}
 use Rattle.std.specs.List.{find, list_all, zip}
 use Rattle.semver.specs.Parse.{Held, Parts}

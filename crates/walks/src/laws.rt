@@ -45,8 +45,8 @@ pub fn ranks_are_preferences()
         → index ≡ store_of old source rust root asked → preferred_in index ≡ preferred_by old rust index }
 {}
 
-/// Where each enabled dependency is followed, those that aren't make no difference: what the root reaches is the same as
-/// where each one leads to its pick, and so is the walk.
+/// Where each enabled dependency is followed, those that aren't make no difference: what the root reaches is the same
+/// as where each one leads to its pick, and so is the walk.
 pub fn enabled_dependencies_are_enough()
     ensures facts { (q : Problem) (preferred : List (List ℕ × List Candidate)) (all : Bool) (asked : List (List Bool))
         (owners : List Owner) → AreFollowed all asked owners q preferred → (x : Fact Owner)

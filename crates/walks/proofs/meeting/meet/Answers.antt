@@ -1,5 +1,5 @@
-use Rattle.std.proofs.Common.{◌≡◌, ◌∷◌, ◌||◌, [], Some, length, map, nat_eq, slice_get, unwrap_or, sym, ap, ap₂, ◌∙◌}
-use Rattle.std.proofs.Common.{subst, subst₂, arith}
+use Rattle.std.proofs.Common.{◌≡◌, ◌∷◌, ◌||◌, [], Some, length, map, nat_eq, slice_get, unwrap_or, sym, ap, ◌∙◌}
+use Rattle.std.proofs.Common.{subst, arith}
 use Rattle.std.proofs.lemmas.List.{length-map, map-append, length-append}
 use Rattle.features.specs.Views.{brings_view}
 use Rattle.facts.specs.Graphs.{node_view, node_views}
@@ -55,9 +55,10 @@ versions-preserved c =
     let grows = c.in_ok-targets.ensures.grows in
     let picks : ArePicks rows (owners_of index new) (c.args.all || nat_eq c.len-place.result 0)
     (unwrap_or (slice_get asked c.len-place.result) []) (brings_view c.brings_at-brings.result).dependencies targets
-    = rw (c.follows_all.ensures, c.flags.ensures, c.dependencies_of-dependencies.ensures) at c.in_ok-targets.ensures.picks in
-    let more = one_more q (PicksFollowed c.args.all asked (owners_of index new) q rows) index old new (node_views nodes) _ _
-    (so_far_on c.args.all asked q rows index c.store_holds.ensures old new grows (node_views nodes)
+    = rw (c.follows_all.ensures, c.flags.ensures, c.dependencies_of-dependencies.ensures)
+    at c.in_ok-targets.ensures.picks in
+    let more = one_more q (PicksFollowed c.args.all asked (owners_of index new) q rows) index old new
+    (node_views nodes) _ _ (so_far_on c.args.all asked q rows index c.store_holds.ensures old new grows (node_views nodes)
     c.versions.invariant.0) (rw length-map (omega (arith, test, len, wide))) grows
     (λ o at. c.brings_at-brings.ensures o (subst (λ ks. slice_get (owners_of index ks) c.len-place.result ≡ Some o)
     (sym c.as_slice.ensures.keys) (ap (slice_get (owners_of index old)) even ∙ at)))

@@ -18,7 +18,7 @@ returns-then-is_complete c =
     record {
       versions = c.in_ok-found.ensures.versions;
       enough = are_enough (problem_in c.args.manifest.now index) (preferred_in index)
-          (map (λ v. v.items) c.as_slice.result.now) (owners_of index c.follow.new.versions.keys) (node_views nodes) refl
-          c.in_ok-found.found.facts.here.items (map (λ v. v.items) enabled) c.in_ok-found.ensures.flags false
+          (map (λ v. v.items) c.as_slice.result.now) (owners_of index c.follow.new.versions.keys) (node_views nodes)
+          refl c.in_ok-found.found.facts.here.items (map (λ v. v.items) enabled) c.in_ok-found.ensures.flags false
           c.in_ok-found.ensures.met (all_met_says nodes enabled (sym test ∙ done));
     }

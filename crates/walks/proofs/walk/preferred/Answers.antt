@@ -1,4 +1,4 @@
-use Rattle.std.proofs.Common.{◌≡◌, map, subst}
+use Rattle.std.proofs.Common.{map, subst}
 use Rattle.model.specs.Selection.{IsValidSelection}
 use Rattle.model.specs.Walk.{Picks}
 use Rattle.model.proofs.Unique.{one_content}
