@@ -7,4 +7,5 @@ pub mod ReadLemmas
 pub mod TokenLemmas
 pub mod TreeLemmas
 pub mod RisingLemmas
+pub mod ScalarLemmas
 pub mod WordLemmas

@@ -31,7 +31,8 @@ pub use looking::{
 };
 pub use parts::{
     lines_are_read_by_parts, lines_have_what_parts_have, lists_are_read_by_items,
-    objects_are_read_by_members, rising_members_stay,
+    objects_are_read_by_members, plain_texts_are_read_as_they_stand, rising_members_stay,
+    words_are_read_as_they_stand,
 };
 pub use reading::{read_tape, read_tape_within, root};
 pub use tree::{Elements, Entries, Tree};

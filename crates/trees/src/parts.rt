@@ -5,12 +5,12 @@
 //! A list is read by its items likewise, and an object by its members: one that is new as a whole may have items that
 //! aren't.
 
-ghost use Rattle.std.specs.Prelude.{◌≡◌, ◌≢◌, ℕ, suc, [], ◌∷◌, List, map, Some, true, is_some};
+ghost use Rattle.std.specs.Prelude.{◌≡◌, ◌≢◌, ℕ, suc, [], ◌∷◌, ◌++◌, List, map, Some, true, false, is_some, codes};
 ghost use Rattle.std.specs.List.{list_all, zip};
 ghost use Rattle.std.specs.Option.{option_or};
 ghost use Rattle.json.specs.Json as json;
 ghost use Rattle.json.specs.Lex.{tokens};
-ghost use Rattle.serde_json.specs.Data.{Data, Members, array, no_members, object};
+ghost use Rattle.serde_json.specs.Data.{Data, Members, array, boolean, no_members, null, object, string};
 ghost use Rattle.serde_json.specs.Find.{get_member};
 ghost use Rattle.trees.specs.Parts.{data_within, first_members, is_plain, items_of_data, keys_rise, line_of, list_of};
 ghost use Rattle.trees.specs.Parts.{members_in_order, members_put, object_text, part_depth};
@@ -62,4 +62,17 @@ pub fn objects_are_read_by_members()
 /// Members whose keys rise stay in their order when they are put in turn.
 pub fn rising_members_stay()
     ensures { (ms : List (List ℕ × Data)) → keys_rise [] ms ≡ true → members_put ms no_members ≡ members_in_order ms }
+{}
+
+/// A plain text between quotes (34) is read on its own as that string, at any depth.
+pub fn plain_texts_are_read_as_they_stand()
+    ensures { (depth : ℕ) (text : List ℕ) → is_plain text ≡ true
+        → data_within depth (34 ∷ (text ++ (34 ∷ []))) ≡ Some (string text) }
+{}
+
+/// So are the words of JSON as what they name.
+pub fn words_are_read_as_they_stand()
+    ensures yes { (depth : ℕ) → data_within depth (codes "true") ≡ Some (boolean true) }
+    ensures no { (depth : ℕ) → data_within depth (codes "false") ≡ Some (boolean false) }
+    ensures nothing { (depth : ℕ) → data_within depth (codes "null") ≡ Some null }
 {}
