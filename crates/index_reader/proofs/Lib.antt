@@ -3,6 +3,7 @@ pub mod PartLemmas
 pub mod CutLemmas
 pub mod ByPartsLemmas
 pub mod ItemsLemmas
+pub mod PlainLemmas
 pub mod RowsLemmas
 pub mod PathLemmas
 pub mod WrittenLemmas

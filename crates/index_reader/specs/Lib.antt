@@ -7,6 +7,7 @@ pub mod Records
 pub mod Known
 pub mod ByParts
 pub mod Items
+pub mod Plain
 pub mod Rows
 pub mod Reasons
 pub mod Files

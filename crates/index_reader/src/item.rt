@@ -5,12 +5,14 @@ ghost use Rattle.model.specs.Outcome.{Gives};
 ghost use Rattle.features.specs.Tables.{dep_name_view};
 ghost use Rattle.features.specs.Views.{dependency_view};
 ghost use Rattle.index_reader.specs.ByParts.{item_of_bytes, taking_part};
+ghost use Rattle.index_reader.specs.Plain.{shape_of_item};
 ghost use Rattle.index_reader.specs.Shapes.{wants_memory};
 ghost use Rattle.index_reader.specs.ShapeViews.{line_dependency_view};
 
 use crate::fault::{LineFault, SkipReason};
 use crate::known::KnownDependencies;
 use crate::line::{check, dependency, is_of_index, part_required};
+use crate::plain::plain_dependency;
 use crate::shape::{DependencyShape, one_dependency};
 use crate::values::read_item;
 use crate::written::dep_name;
@@ -44,8 +46,7 @@ impl<'a> ItemRead<'a> {
     ) -> Result<ItemRead<'a>, LineFault>
         ensures { IfOk result (λ i. i.bytes.now ≡ bytes.entry.now) }
     {
-        let tape = read_item(alloc, bytes, scratch)?;
-        let shape = one_dependency(alloc, &root(&tape))?;
+        let shape = shape_of(alloc, bytes, scratch)?;
         check(is_of_index(&shape), SkipReason::OtherRegistry)?;
         Ok(ItemRead {
             bytes,
@@ -85,6 +86,21 @@ impl<'a> ItemRead<'a> {
             None => Ok(None),
         }
     }
+}
+
+/// What these bytes say of a dependency: without a tape where a registry spells it so.
+fn shape_of<'a>(
+    alloc: Global,
+    bytes: &'a [u8],
+    scratch: &'a mut Scratch,
+) -> Result<DependencyShape<'a>, LineFault>
+    ensures { Gives wants_memory line_dependency_view result (shape_of_item bytes.entry.now) }
+{
+    if let Some(shape) = plain_dependency(alloc, bytes)? {
+        return Ok(shape);
+    }
+    let tape = read_item(alloc, bytes, scratch)?;
+    one_dependency(alloc, &root(&tape))
 }
 
 /// The dependency that one of a line is, if it takes part.

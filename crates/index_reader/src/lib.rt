@@ -8,12 +8,13 @@
 //! It is to be fast too: a line is read as its tokens in a row, with its texts borrowed (`trees`), and what stands at
 //! the keys of a line or of a dependency is found in one pass over its members (`parts.rt`); a line that is written as
 //! a registry's is cut into its parts, and no part is read again that the line before has too (`by_parts.rt`), nor a
-//! dependency or a feature where only others differ (`items.rt`, `rows.rt`); line ends are found by `memchr`; each
-//! vector of a record takes the room that it needs, and a requirement no more than its comparators take; neighbouring
-//! lines that write the same features share one table (`made.rt`), dependencies that stand word for word in several
-//! lines are read once and shared (`known.rt`), and so are requirements (`known_requirements.rt`). A folder is a trait
-//! (`Folder`) with a relation of its own, so that what stands on it is proved over every folder; `DiskFolder` is exact
-//! over anything that opens files (`Opens`), and of the system's call alone nothing is promised.
+//! dependency or a feature where only others differ (`items.rt`, `rows.rt`), and one that is spelt as a registry does is
+//! read without its tokens (`plain.rt`); line ends are found by `memchr`; each vector of a record takes the room that it
+//! needs, and a requirement no more than its comparators take; neighbouring lines that write the same features share one
+//! table (`made.rt`), dependencies that stand word for word in several lines are read once and shared (`known.rt`), and
+//! so are requirements (`known_requirements.rt`). A folder is a trait (`Folder`) with a relation of its own, so that what
+//! stands on it is proved over every folder; `DiskFolder` is exact over anything that opens files (`Opens`), and of the
+//! system's call alone nothing is promised.
 //!
 //! A layer above may rely on this: `read_line` and `read_file` give what the definitions give for the bytes, unless
 //! memory was wanting. No two records of a file have equal precedence, and each feature table knows its features.
@@ -37,6 +38,7 @@ mod made;
 mod opened;
 mod parts;
 mod path;
+mod plain;
 mod record;
 mod rest;
 mod row;

@@ -3,11 +3,14 @@
 ghost use Rattle.std.specs.Prelude.{◌≡◌, IfOk, IfSome, true};
 ghost use Rattle.model.specs.Outcome.{Gives};
 ghost use Rattle.features.specs.EntryViews.{entry_views};
+ghost use Rattle.features.specs.Views.{text_views};
 ghost use Rattle.trees.specs.Parts.{is_plain, member_text};
 ghost use Rattle.index_reader.specs.ByParts.{IsRow, row_of_member};
+ghost use Rattle.index_reader.specs.Plain.{texts_of_item};
 ghost use Rattle.index_reader.specs.Shapes.{wants_memory};
 
 use crate::fault::{LineFault, SkipReason};
+use crate::plain::plain_texts;
 use crate::split::{behind, plain_text};
 use crate::values::{read_item, texts};
 use crate::written::{entries, feature_name};
@@ -67,9 +70,23 @@ fn row_of_member(
     ensures { Gives wants_memory
         (λ row. (row.0, entry_views row.1.items)) result (row_of_member key.now value.now) }
 {
-    let tape = read_item(alloc, value, scratch)?;
-    let texts = texts(alloc, &root(&tape))?;
+    let texts = texts_of(alloc, value, scratch)?;
     let name = feature_name(alloc, key)?;
     let entries = entries(alloc, &texts)?;
     Ok(Row::new(alloc, name, entries)?)
+}
+
+/// The texts of a list: without a tape where each is plain.
+fn texts_of<'a>(
+    alloc: Global,
+    bytes: &'a [u8],
+    scratch: &'a mut Scratch,
+) -> Result<Vec<&'a str>, LineFault>
+    ensures { Gives wants_memory (λ v. text_views v.items) result (texts_of_item bytes.entry.now) }
+{
+    if let Some(texts) = plain_texts(alloc, bytes)? {
+        return Ok(texts);
+    }
+    let tape = read_item(alloc, bytes, scratch)?;
+    texts(alloc, &root(&tape))
 }

@@ -144,7 +144,7 @@ fn name_if_any(
 }
 
 /// The kind that a text names.
-fn kind_of_text(text: &str) -> Option<DependencyKind>
+pub(crate) fn kind_of_text(text: &str) -> Option<DependencyKind>
     ensures { result ≡ kind_of_text text.now }
 {
     if text == "normal" {
