@@ -9,7 +9,7 @@ use features::{NameText, Requirement};
 use std::alloc::{AllocError, Global};
 use std::hash::{FoldHasher, Hash, Hasher};
 
-/// How many requirements are kept at once: an index has a few hundred that differ.
+/// How many requirements are kept at once. Each place is written when the first one is kept, also in a small run.
 const SLOTS: usize = 1_024;
 
 /// A requirement, with the text that was read as it.
