@@ -43,7 +43,8 @@ struct Round<'a> {
 
 /// The versions that the preferred walk reaches, and some more; none where an enabled dependency has no pick.
 ///
-/// Each round follows what the one before found to be enabled, until each enabled dependency has its target.
+/// Each round follows what the one before found to be enabled, until each enabled dependency has its target. Where
+/// nothing more was enabled, the rounds would go on as they are.
 pub(crate) fn reach<'a>(
     alloc: Global,
     manifest: &'a Manifest,
@@ -71,6 +72,9 @@ pub(crate) fn reach<'a>(
                 nodes,
                 facts,
             }));
+        }
+        if facts.enabled == asked {
+            return reach_all(alloc, manifest, catalogue, orders, versions);
         }
         asked = facts.enabled;
     }
