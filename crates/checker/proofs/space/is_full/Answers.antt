@@ -22,7 +22,7 @@ pub returns-in-Some : goal.returns-in-Some
 returns-in-Some c =
     let there : c.is_in_either.result ≡ true = search rules in
     let ss = c.args.a.now ++ c.args.b.now in
-    c.has_matching.ensures
+    (rw c.deref.ensures at c.has_matching.ensures)
     ∙ matched_all c.args.manifest.now c.args.catalogue.now ss (owner_view c.in-Dependency.owner) c.in-Dependency.number
     (dependency_view c.in-Some.dependency.now) c.versions.result.now c.versions.ensures.versions (c.in-Some.ensures
     ∙ ap (λ o. dependency_at (problem_in c.args.manifest.now c.args.catalogue.now) o c.in-Dependency.number)

@@ -19,5 +19,6 @@ returns c =
     (λ ks e. e ∙ ap (map (λ g. class_view g.0)) c.as_slice.ensures.value
     ∙ classes_are k.manifest.now k.catalogue.now d c.versions.result.now c.within-versions.result.now
     c.in_ok-groups.groups.items c.catalogues_are_well_formed.ensures c.versions.ensures.versions
-    c.within-versions.ensures.matched c.in_ok-groups.ensures)
+    (rw c.deref.ensures at c.within-versions.ensures.matched)
+    (rw c.deref-2.ensures at c.in_ok-groups.ensures))
     c.firsts.ensures

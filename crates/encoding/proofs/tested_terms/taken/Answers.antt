@@ -10,6 +10,6 @@ returns c =
     let i = c.args.known.now in
     let d = dependency_view c.args.dependency.now in
     c.package_term.ensures ∙ ap (λ m. (pkg d.real_name (class_view c.args.class), m))
-    (c.in_ok-tests.ensures
+    ((rw c.deref.ensures at c.in_ok-tests.ensures)
     ∙ taken_at i.manifest.now i.catalogue.now d (class_view c.args.class) (class_view c.args.class)
     c.class_versions-versions.result.now refl c.class_versions-versions.ensures.versions)

@@ -6,5 +6,5 @@ use Rattle.instances.proofs.full_terms.has_classes_of.Goals as goal
 pub returns : goal.returns
 returns c =
     let k = c.args.problem.now in
-    c.all_matched.ensures ∙ classes_full k.manifest.now k.catalogue.now
+    (rw c.deref.ensures at c.all_matched.ensures) ∙ classes_full k.manifest.now k.catalogue.now
     (dependency_view c.args.dependency.now) c.args.states.now c.versions.result.now c.versions.ensures.versions

@@ -13,7 +13,7 @@ use Rattle.instances.proofs.newest_listed.taken_term.Goals as goal
 pub package_term-requires : goal.package_term-requires
 package_term-requires c =
     subst (IsStrictlySortedBy state_cmp) (sym c.in_ok-states.ensures)
-    (those_rise (matches_views (requirement_view c.args.dependency.now.requirement))
+    (those_rise (matches_views (requirement_view c.deref.result.now))
     c.class_versions-versions.result.now c.class_versions-versions.ensures.rising)
 
 pub returns : goal.returns
@@ -21,5 +21,5 @@ returns c =
     let k = c.args.problem.now in
     let d = dependency_view c.args.dependency.now in
     c.package_term.ensures ∙ ap (at (pkg d.real_name (class_view c.args.class)))
-    (c.in_ok-states.ensures ∙ (taken_is k.manifest.now k.catalogue.now d
+    ((rw c.deref.ensures at c.in_ok-states.ensures) ∙ (taken_is k.manifest.now k.catalogue.now d
     (class_view c.args.class) c.class_versions-versions.result.now c.class_versions-versions.ensures.versions))

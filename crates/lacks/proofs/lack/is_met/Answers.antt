@@ -11,7 +11,7 @@ use Rattle.lacks.proofs.lack.is_met.Goals as goal
 pub returns : goal.returns
 returns c =
     let matched = matches_views (requirement_view c.args.dependency.now.requirement) in
-    c.some_matched.ensures
+    (rw c.deref.ensures at c.some_matched.ensures)
     ∙ sym (any-map matched parts_of c.versions.result.now)
     ∙ ap (list_any matched) c.versions.ensures.versions
     ∙ any-map matched (λ (r : Record). r.version) (candidates_at c.args.catalogue.now c.args.dependency.now.real_name)

@@ -5,5 +5,5 @@ use Rattle.looking_up.proofs.matching.is_unmatched.Goals as goal
 
 pub returns : goal.returns
 returns c =
-    ap not (c.some_matched.ensures ∙ matched_is c.args.problem.now.catalogue.now
+    ap not ((rw c.deref.ensures at c.some_matched.ensures) ∙ matched_is c.args.problem.now.catalogue.now
     (dependency_view c.args.dependency.now) c.versions.result.now c.versions.ensures.versions)

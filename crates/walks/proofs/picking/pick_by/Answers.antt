@@ -6,6 +6,6 @@ use Rattle.walks.proofs.picking.pick_by.Goals as goal
 
 pub returns : goal.returns
 returns c =
-    c.first_matched.ensures
+    (rw c.deref.ensures at c.first_matched.ensures)
     ∙ ap₂ (λ vs ns. find (λ n. is_matched (requirement_view c.args.dependency.now.requirement) (slice_get vs n)) ns)
     c.versions-versions.ensures.versions c.requires
