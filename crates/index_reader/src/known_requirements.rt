@@ -10,7 +10,7 @@ use std::alloc::{AllocError, Global};
 use std::hash::{FoldHasher, Hash, Hasher};
 
 /// How many requirements are kept at once. Each place is written when the first one is kept, also in a small run.
-const SLOTS: usize = 1_024;
+const SLOTS: usize = 4_096;
 
 /// A requirement, with the text that was read as it.
 #[derive(Drop)]
