@@ -121,11 +121,6 @@ put_found es name v i rising found inside =
     (λ j d less. subst (λ n. text_cmp (get_or es j d).0 n ≡ Less) (exact_bytes (get_or es i d).0 name (found d))
     (names_rise es j i d rising less inside)) inside found
 
--- the name of the row that a search found
-pub found_name : (es : List Row) (name : List ℕ) (i : ℕ) (d : Row)
-    → IsBinarySearchResult (λ (e : Row). text_cmp e.0 name) es (Ok i) → (get_or es i d).0 ≡ name
-found_name es name i d found = exact_bytes (get_or es i d).0 name (found d)
-
 -- a row between those that a search stopped at
 pub put_between : (es : List Row) (name : List ℕ) (v : Vec Entry Global) (i : ℕ) → AreRising es
     → IsBinarySearchResult (λ (e : Row). text_cmp e.0 name) es (Err i) → i ≤ length es

@@ -11,7 +11,8 @@
 //!
 //! A layer above may rely on the three statements `Resolves`, `Verifies` and `Checks` (`specs`), which speak of bytes,
 //! the folder's calls and the model alone: each answer is right, each fault comes exactly where its definition says,
-//! and after want of memory a call says what is left of the folder.
+//! and after want of memory a call says what is left of the folder. `ResolvesKeeping` and `VerifiesKeeping` say the
+//! same of the calls that hand the loaded index back beside the answer.
 #![tactic(auto)]
 
 mod checking;
