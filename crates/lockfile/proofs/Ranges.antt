@@ -10,6 +10,7 @@ use Rattle.std.specs.declared.cmp.Ordering.TheVariants.{Less, Equal, Greater}
 use Rattle.std.proofs.lemmas.Bool.{cases_lt}
 use Rattle.std.proofs.lemmas.Cmp.{alike_right, nat_list_cmp_total}
 use Rattle.std.proofs.lemmas.List.{length-map}
+use Rattle.std.proofs.lemmas.Option.{slice_get-map, slice_get-get_or}
 use Rattle.std.proofs.Math.ListN.{get_or-map}
 use Rattle.std.proofs.lemmas.Map.Keys.{Less-from_sorted}
 use Rattle.semver.specs.Identifiers.{parts_of}
@@ -256,3 +257,57 @@ pub wanted-nowhere : (w : Wanted) (ps : List UnlinkedPackage) (first : ℕ) (her
     → None ≡ only (places (is_wanted w) (locked_packages (unlinked_views ps)))
 wanted-nowhere w ps first here next s h t e =
     sym (ap (λ b. only_there first b next) e) ∙ only-told w ps first here next s h t
+
+-- ---- the only one by those beside it
+
+not-lower : (r t : Ordering) → ordering_index r ≤ ordering_index t → is_eq r ≡ true → is_lt t ≡ false
+not-lower r Equal l e = refl
+not-lower r Greater l e = refl
+not-lower Equal Less l e = absurd (omega arith)
+not-lower Less Less l e = cc
+not-lower Greater Less l e = cc
+
+lower-one : (r t : Ordering) → ordering_index r ≤ ordering_index t → is_eq t ≡ true → is_eq r ≡ false → is_lt r ≡ true
+lower-one Less t l e f = refl
+lower-one Equal t l e f = cc
+lower-one Greater Equal l e f = absurd (omega arith)
+lower-one Greater Less l e f = cc
+lower-one Greater Greater l e f = cc
+
+-- whether the package at a place is wanted
+wanted-at : (w : Wanted) (ps : List UnlinkedPackage) (i : ℕ) (d : UnlinkedPackage) → i < length ps
+    → passes (is_wanted w) (slice_get (locked_views ps) i) ≡ is_eq (order_to w (get_or ps i d))
+wanted-at w ps i d inside = ap (passes (is_wanted w)) (slice_get-map locked_view ps i
+    ∙ ap (option_map locked_view) (slice_get-get_or ps i d inside))
+
+-- those that are wanted begin at a place, if the package there is wanted and the one before it isn't
+begin-there : (w : Wanted) (ps : List UnlinkedPackage) (i : ℕ) → IsOrdered (locked_packages (unlinked_views ps))
+    → i < length ps → passes (is_wanted w) (slice_get (locked_views ps) i) ≡ true
+    → ((before : ℕ) → i ≡ suc before → passes (is_wanted w) (slice_get (locked_views ps) before) ≡ false)
+    → IsPartitionPoint (λ p. is_lt (order_to w p) ≡ true) (λ p. is_lt (order_to w p) ≡ false) ps i
+begin-there w ps i s inside here alone = (under i inside here alone, over)
+  where
+    over : (k : ℕ) (d : UnlinkedPackage) → i ≤ k → k < length ps → is_lt (order_to w (get_or ps k d)) ≡ false
+    over k d l u = not-lower (order_to w (get_or ps i d)) (order_to w (get_or ps k d)) (order_to-rises w ps s i k d l u)
+        (sym (wanted-at w ps i d inside) ∙ here)
+
+    under : (i : ℕ) → i < length ps → passes (is_wanted w) (slice_get (locked_views ps) i) ≡ true
+        → ((before : ℕ) → i ≡ suc before → passes (is_wanted w) (slice_get (locked_views ps) before) ≡ false)
+        → (k : ℕ) (d : UnlinkedPackage) → 0 ≤ k → k < i → is_lt (order_to w (get_or ps k d)) ≡ true
+    under zero inside here alone k d z l = absurd (omega (arith, l))
+    under (suc b) inside here alone k d z l =
+        let last : b < length ps = omega (arith, inside) in
+        let below = lower-one (order_to w (get_or ps b d)) (order_to w (get_or ps (suc b) d))
+        (order_to-rises w ps s b (suc b) d (omega arith) inside)
+        (sym (wanted-at w ps (suc b) d inside) ∙ here) (sym (wanted-at w ps b d last) ∙ alone b refl) in
+        below-less (order_to w (get_or ps k d)) (order_to w (get_or ps b d))
+        (order_to-rises w ps s k b d (omega (arith, l)) last) below
+
+pub wanted-alone : (w : Wanted) (ps : List UnlinkedPackage) (i : ℕ) (here before next : Bool)
+    → IsOrdered (locked_packages (unlinked_views ps)) → i < length ps → Told w ps i here next
+    → ((b : ℕ) → i ≡ suc b → before ≡ passes (is_wanted w) (slice_get (locked_views ps) b))
+    → here ≡ true → before ≡ false → next ≡ false
+    → Some i ≡ only (places (is_wanted w) (locked_packages (unlinked_views ps)))
+wanted-alone w ps i here before next s inside t told e f g =
+    wanted-there w ps i here next s
+    (begin-there w ps i s inside (sym t.0 ∙ e) (λ b is. sym (told b is) ∙ f)) t e g

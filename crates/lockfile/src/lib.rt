@@ -2,10 +2,11 @@
 //!
 //! A lock names packages by the shortest text that tells them apart: the name, the name and the version, or these and
 //! the source. So what a dependency text means depends on all packages. Reading puts the packages into package order
-//! first; then those of a name stand next to one another, and each text is looked up by search (`meaning.rt`). Writing
-//! keeps for each package its version's text and the text by which lists name it: the two packages beside it decide
-//! which form that is (`written_package.rt`), and each list is put in order by a stable sort. Both are n log n, with no
-//! search through all packages for one text.
+//! first; then those of a name stand next to one another, and each text is looked up by search, but for a name that
+//! has one package, which is found where the name was put down last (`meaning.rt`). Writing keeps for each package its
+//! version's text and the text by which lists name it: the two packages beside it decide which form that is
+//! (`written_package.rt`), and each list is put in order by a stable sort. Both are n log n, with no search through all
+//! packages for one text.
 //!
 //! What is hard is that what is written is read as the same again. The laws (`laws.rt`) say so: the table that a
 //! content is spelled as says that content, and where TOML reads the spelling as this table, `read` gives the content

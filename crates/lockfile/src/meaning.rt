@@ -1,6 +1,6 @@
 //! What a dependency text means.
 
-ghost use Rattle.std.specs.Prelude.{◌≡◌, ◌≢◌, ℕ, List, [], ◌∷◌, ◌++◌, slice_get, MatchOption};
+ghost use Rattle.std.specs.Prelude.{◌≡◌, ◌≢◌, ℕ, suc, List, [], ◌∷◌, ◌++◌, slice_get, MatchOption, Some, true};
 ghost use Rattle.std.specs.Option.{ok_or};
 ghost use Rattle.std.specs.Ordering.{ordering_then};
 ghost use Rattle.semver.specs.Identifiers.{parts_of};
@@ -9,7 +9,7 @@ ghost use Rattle.model.specs.Content as model;
 ghost use Rattle.model.specs.Outcome.{Gives};
 ghost use Rattle.lockfile.specs.Locks.{wants_memory, place_meant, places_meant, list_of, lists_of, only, places};
 ghost use Rattle.lockfile.specs.Locks.{locked_packages};
-ghost use Rattle.lockfile.specs.Search.{named_cmp, versioned_cmp, wanted_cmp, is_wanted, IsOrdered};
+ghost use Rattle.lockfile.specs.Search.{named_cmp, versioned_cmp, wanted_cmp, is_named, is_wanted, IsOrdered};
 ghost use Rattle.model.specs.Optional.{passes};
 ghost use Rattle.lockfile.specs.Search.{HasNoSpace};
 ghost use Rattle.features.specs.Views.{text_views};
@@ -22,8 +22,9 @@ use crate::packages::UnlinkedPackage;
 use crate::table::version;
 use classes::version_order;
 use semver::Version;
-use std::alloc::Global;
+use std::alloc::{AllocError, Global};
 use std::cmp::Ordering;
+use std::collections::HashMap;
 
 /// The packages that are looked for.
 #[derive(Clone, Copy)]
@@ -104,6 +105,65 @@ fn only_place(packages: &[UnlinkedPackage], wanted: Wanted) -> Option<usize>
     if here { Some(first) } else { None }
 }
 
+/// Whether the package before a place is wanted.
+fn is_wanted_before(packages: &[UnlinkedPackage], place: usize, wanted: Wanted) -> bool
+    ensures { (before : ℕ) → place ≡ suc before
+        → result ≡ passes (is_wanted wanted.entry) (slice_get (locked_views packages.now) before) }
+{
+    if place == 0 {
+        return false;
+    }
+    is_wanted_at(packages, place - 1, wanted)
+}
+
+/// Whether the package at a place is wanted, and neither of those beside it: then it is the only one.
+fn is_only_at(packages: &[UnlinkedPackage], place: usize, wanted: Wanted) -> bool
+    requires { IsOrdered (locked_packages (unlinked_views packages.now)) }
+    ensures { result ≡ true
+        → Some place ≡ only (places (is_wanted wanted.entry) (locked_packages (unlinked_views packages.now))) }
+{
+    if place >= packages.len() {
+        return false;
+    }
+    if is_wanted_before(packages, place, wanted) {
+        return false;
+    }
+    if is_wanted_at(packages, place + 1, wanted) {
+        return false;
+    }
+    is_wanted_at(packages, place, wanted)
+}
+
+/// The place of the only package of a name. The last one of the name is looked at first, for a search looks at many.
+fn named_place(
+    packages: &[UnlinkedPackage],
+    last_places: &HashMap<&str, usize>,
+    name: &str,
+) -> Option<usize>
+    requires { IsOrdered (locked_packages (unlinked_views packages.now)) }
+    ensures { result ≡ only (places (is_named name.now) (locked_packages (unlinked_views packages.now))) }
+{
+    let wanted = Wanted::Name(name);
+    if let Some(place) = last_places.get(&name) {
+        if is_only_at(packages, *place, wanted) {
+            return Some(*place);
+        }
+    }
+    only_place(packages, wanted)
+}
+
+/// The last place of each name. No contract says so: who is given one looks whether the package there is the only one.
+fn last_places<'p>(
+    alloc: Global,
+    packages: &'p [UnlinkedPackage],
+) -> Result<HashMap<&'p str, usize>, AllocError> {
+    let mut places = HashMap::new(alloc);
+    'packages: for (place, package) in packages.iter().enumerate() {
+        places.insert(package.locked.name.as_str(), place)?;
+    }
+    Ok(places)
+}
+
 /// The place of the package that the text `name version` means.
 fn place_with_version(
     alloc: Global,
@@ -159,13 +219,18 @@ fn in_parentheses(text: &str) -> Option<&str>
 }
 
 /// The place of the package that a text means.
-fn place(alloc: Global, packages: &[UnlinkedPackage], text: &str) -> Result<usize, LockFault>
+fn place(
+    alloc: Global,
+    packages: &[UnlinkedPackage],
+    last_places: &HashMap<&str, usize>,
+    text: &str,
+) -> Result<usize, LockFault>
     requires { IsOrdered (locked_packages (unlinked_views packages.now)) }
     ensures { Gives wants_memory (λ i. i) result
         (ok_or (place_meant (locked_packages (unlinked_views packages.now)) text.now) LockFault.LockShape) }
 {
     let Some((name, rest)) = text.split_once(' ') else {
-        return only_place(packages, Wanted::Name(text)).ok_or(LockFault::LockShape);
+        return named_place(packages, last_places, text).ok_or(LockFault::LockShape);
     };
     match rest.split_once(' ') {
         Some((version, end)) => place_with_source(alloc, packages, name, version, end),
@@ -177,6 +242,7 @@ fn place(alloc: Global, packages: &[UnlinkedPackage], text: &str) -> Result<usiz
 fn places_in(
     alloc: Global,
     packages: &[UnlinkedPackage],
+    last_places: &HashMap<&str, usize>,
     texts: &[&str],
 ) -> Result<Vec<usize>, LockFault>
     requires { IsOrdered (locked_packages (unlinked_views packages.now)) }
@@ -185,7 +251,7 @@ fn places_in(
 {
     let mut found = Vec::new(alloc);
     'texts: for text in texts.iter() {
-        found.push(place(alloc, packages, text)?)?;
+        found.push(place(alloc, packages, last_places, text)?)?;
     }
     Ok(found)
 }
@@ -194,17 +260,17 @@ fn places_in(
 fn list(
     alloc: Global,
     packages: &[UnlinkedPackage],
+    last_places: &HashMap<&str, usize>,
     texts: &[&str],
 ) -> Result<Vec<usize>, LockFault>
     requires { IsOrdered (locked_packages (unlinked_views packages.now)) }
     ensures { Gives wants_memory
         (λ v. v.items) result (list_of (locked_packages (unlinked_views packages.now)) (text_views texts.now)) }
 {
-    ordered_list(places_in(alloc, packages, texts)?)
+    ordered_list(places_in(alloc, packages, last_places, texts)?)
 }
 
 /// The lists of packages that stand in package order, no two alike.
-#[tactic(auto, unfolding(crate::specs::Locks::lists_of))]
 pub(crate) fn lists(
     alloc: Global,
     packages: &[UnlinkedPackage],
@@ -213,9 +279,23 @@ pub(crate) fn lists(
     ensures { Gives wants_memory (λ v. list_views v.items) result
         (lists_of (locked_packages (unlinked_views packages.now)) (unlinked_views packages.now)) }
 {
+    let last_places = last_places(alloc, packages)?;
+    lists_with(alloc, packages, &last_places)
+}
+
+#[tactic(auto, unfolding(crate::specs::Locks::lists_of))]
+fn lists_with(
+    alloc: Global,
+    packages: &[UnlinkedPackage],
+    last_places: &HashMap<&str, usize>,
+) -> Result<Vec<Vec<usize>>, LockFault>
+    requires { IsOrdered (locked_packages (unlinked_views packages.now)) }
+    ensures { Gives wants_memory (λ v. list_views v.items) result
+        (lists_of (locked_packages (unlinked_views packages.now)) (unlinked_views packages.now)) }
+{
     let mut found = Vec::new(alloc);
     'packages: for package in packages.iter() {
-        found.push(list(alloc, packages, &package.texts)?)?;
+        found.push(list(alloc, packages, last_places, &package.texts)?)?;
     }
     Ok(found)
 }

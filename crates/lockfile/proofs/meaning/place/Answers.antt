@@ -7,7 +7,7 @@ pub returns-in_default : goal.returns-in_default
 returns-in_default c =
     let whole = split_parts 32 c.args.text.now c.split_once.result c.split_once.ensures.cases (omega arith) in
     name-place c.args.packages.now c.args.text.now _ _
-    (rw c.in_default.is at whole) c.only_place.ensures c.ok_or.ensures.value
+    (rw c.in_default.is at whole) c.named_place.ensures c.ok_or.ensures.value
 
 pub place_with_source-requires-clause-name : goal.place_with_source-requires-clause-name
 place_with_source-requires-clause-name c =

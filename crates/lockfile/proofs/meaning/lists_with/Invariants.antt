@@ -2,7 +2,7 @@ use Rattle.std.proofs.Common.{◌≡◌, drop}
 use Rattle.lockfile.specs.Locks.{lists_of, locked_packages}
 use Rattle.lockfile.specs.Views.{list_views, unlinked_views}
 use Rattle.model.proofs.Fronts.{with_front}
-use Rattle.lockfile.proofs.meaning.lists.Given as goal
+use Rattle.lockfile.proofs.meaning.lists_with.Given as goal
 
 -- the lists so far and those of what is left are those of all
 abbrev pub invariant-packages : goal.invariant-packages
