@@ -1,9 +1,10 @@
 -- A candidate is found by its place and by its version.
 use Rattle.std.proofs.Common.{◌≡◌, ◌≢◌, ℕ, zero, suc, ◌<◌, Bool, true, false, cond, List, [], ◌∷◌, map}
 use Rattle.std.proofs.Common.{length, get_or, Some, None, Ok, Err, option_map, slice_get, refl, sym, ap, ◌∙◌, subst}
-use Rattle.std.proofs.Common.{arith, Ordering, inl, inr, ◌⊎◌}
+use Rattle.std.proofs.Common.{Bor, Option, arith, Ordering, inl, inr, ◌⊎◌}
 use Rattle.std.specs.List.{All, AllPairs}
 use Rattle.std.specs.List.Sorted.{IsBinarySearchResult, IsNonDecreasingBy}
+use Rattle.std.specs.Slice.{IsItemAt}
 use Rattle.std.specs.Ordering.{ordering_index, ordering_reverse}
 use Rattle.std.specs.declared.cmp.Ordering.TheVariants.{Less, Equal, Greater}
 use Rattle.std.proofs.lemmas.Bool.{cases_lt}
@@ -26,11 +27,19 @@ use Rattle.catalogue.specs.Ranks.{records}
 use Rattle.catalogue.specs.Views.{said, record_of, said_by, ranked_view, AreRising}
 use Rattle.catalogue.specs.Stores.{record_at}
 use Rattle.catalogue.specs.declared.candidate.Candidate.{Candidate}
+use Rattle.catalogue.proofs.Rows.{item_at}
 
 abbrev pub AreOlder : List Version → Type 0
 AreOlder vs = AllPairs (λ v w. precedence_cmp v w ≡ Less) vs
 
 -- ---- by its place
+
+-- what is looked up in a list of what is said
+pub said_got : (cs : List Candidate) (rs : List Record) (i : ℕ) (r : Option (Bor Candidate))
+    → map said_by cs ≡ map said rs → IsItemAt cs i r
+    → option_map (λ b. said_by b.now) r ≡ option_map said (slice_get rs i)
+said_got cs rs i r e h = item_at said_by cs i r h ∙ sym (slice_get-map said_by cs i) ∙ ap (λ xs. slice_get xs i) e
+    ∙ slice_get-map said rs i
 
 pub said_at : (vs : List Version) (cs : List Candidate) (i : ℕ) → length vs ≡ length cs
     → option_map said_by (slice_get cs i) ≡ option_map said (slice_get (records (ranked_view vs cs)) i)

@@ -1,6 +1,6 @@
 //! The store behind a loaded index: for each name that was asked for, its candidates.
 
-ghost use Rattle.std.specs.Prelude.{◌≡◌, ◌≤◌, ◌++◌, [], map, length, option_map, slice_get, Bool, Option, Some, IfOk};
+ghost use Rattle.std.specs.Prelude.{◌≡◌, ◌<◌, ◌≤◌, ◌++◌, [], map, length, option_map, slice_get, Bool, Option, Some, IfOk};
 ghost use Rattle.std.specs.Prelude.{OnOk};
 ghost use Rattle.std.specs.List.{AllPairs};
 ghost use Rattle.std.specs.List.Sorted.{IsPermutation};
@@ -85,12 +85,12 @@ impl Catalogue {
         }
     }
 
-    /// The candidate of a name at a place of its `versions`.
-    pub fn candidate_at(&self, name: &PackageName, place: usize) -> Option<&Candidate>
-        ensures { option_map (λ c. said_by c.now) result
-            ≡ option_map said (slice_get (candidates_at self.now name.now) place) }
+    /// What the index says of a name's candidate at a place of its `versions`.
+    pub fn record(&self, name: &PackageName, place: usize) -> &Candidate
+        requires { place < length (candidates_at self.now name.now) }
+        ensures { option_map said (slice_get (candidates_at self.now name.now) place) ≡ Some (said_by result.now) }
     {
-        self.of(name)?.candidates.get(place)
+        &self.candidates(name)[place]
     }
 
     /// What the index says of a name's candidates, each at the place of its version among `versions`.

@@ -43,7 +43,7 @@ fn is_newer(version: &Version, locked: &Version) -> bool {
 
 /// Whether the candidate at a place of the versions is there only because it is locked.
 fn is_yanked(catalogue: &Catalogue, package: &Package, place: usize) -> bool {
-    match catalogue.candidate_at(&package.name, place) {
+    match catalogue.candidates(&package.name).get(place) {
         Some(candidate) => candidate.yanked,
         None => false,
     }

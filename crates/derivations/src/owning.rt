@@ -1,20 +1,23 @@
 //! Vertices and states that own their parts, made from borrowed ones.
 
 ghost use Rattle.std.specs.Prelude.{◌≡◌, Ok, IfOk};
+ghost use Rattle.std.specs.Result.{IsOk};
 ghost use Rattle.vertices.specs.RefViews.{state_ref_view};
 ghost use Rattle.vertices.specs.Texts.{vertex_of_text};
 ghost use Rattle.vertices.specs.Views.{vertex_view, state_view};
 
 use std::alloc::{AllocError, Global};
-use vertices::{State, StateRef, Vertex};
+use vertices::{State, StateRef, TextFault, Vertex};
 
-/// The vertex that a text is. A text of another kind counts as want of memory: no caller has one.
+/// The vertex whose text this is.
 pub(crate) fn owned_vertex(alloc: Global, text: &str) -> Result<Vertex, AllocError>
+    requires { IsOk (vertex_of_text text.now) }
     ensures { IfOk result (λ v. vertex_of_text text.now ≡ Ok (vertex_view v)) }
 {
     match Vertex::parse(alloc, text) {
         Ok(vertex) => Ok(vertex),
-        Err(_) => Err(AllocError),
+        Err(TextFault::OutOfMemory) => Err(AllocError),
+        Err(TextFault::NotAText) => unreachable!(),
     }
 }
 

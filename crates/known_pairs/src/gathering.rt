@@ -101,7 +101,7 @@ fn put_had_at<'a>(
     ensures { OnOk result (Adds known.old known.new (λ n f. same_text n name.now && passes (λ c. has_feature
         c.brings.features f) (slice_get (candidates_of (rows_by_name catalogue.now) name.now) place))) }
 {
-    match catalogue.candidate_at(name, place) {
+    match catalogue.candidates(name).get(place) {
         Some(candidate) => put_table(known, name.as_str(), &candidate.brings.features),
         None => Ok(()),
     }

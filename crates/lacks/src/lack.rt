@@ -106,7 +106,7 @@ pub(crate) fn has_feature(
     place: usize,
     feature: &FeatureName,
 ) -> bool {
-    match catalogue.candidate_at(name, place) {
+    match catalogue.candidates(name).get(place) {
         Some(candidate) => candidate.brings.features.has(feature),
         None => false,
     }

@@ -31,7 +31,7 @@ fn newest_table<'a>(
             newest = Some(place);
         }
     }
-    match catalogue.candidate_at(name, newest?) {
+    match catalogue.candidates(name).get(newest?) {
         Some(candidate) => Some(&candidate.brings.features),
         None => None,
     }

@@ -20,7 +20,7 @@ use Rattle.explainer.specs.Explanations.{explanation_of}
 use Rattle.reaching.specs.Built.{HasBareRoot}
 use Rattle.reaching.specs.Followed.{IsBrought}
 use Rattle.solver.specs.Solving.{IsSelected, IsUnsolvable}
-use Rattle.walks.specs.Preferred.{IsPreferred, preferred_in}
+use Rattle.selection.specs.Preferred.{IsPreferred, preferred_in}
 use Rattle.resolver.specs.Faults.{input_wants_memory}
 use Rattle.resolver.specs.Inputs.{RequestView, AreRead, IsInputFault, EndsWith, UnlessMemory, problem_of}
 use Rattle.resolver.specs.declared.inputs.Inputs.{Inputs}

@@ -9,3 +9,15 @@ pub mod Leading
 pub mod LowestFault
 pub mod Judging
 pub mod Composing
+pub mod Rows
+pub mod MetVersions
+pub mod MetNodes
+pub mod RankLists
+pub mod Ordered
+pub mod Built
+pub mod Picks
+pub mod PickedTargets
+pub mod Followed
+pub mod Completeness
+pub mod Preferences
+pub mod Examples

@@ -1,7 +1,14 @@
 pub use Rattle.model.specs.Verdict
+pub use Rattle.model.specs.Walk
 pub use Rattle.catalogue.specs.Problems
+pub use Rattle.reaching.specs.Built
 pub mod Verdicts
 pub mod Graphs
 pub mod Names
 pub mod Texts
 pub mod Places
+pub mod Contents
+pub mod Preferred
+pub mod Met
+pub mod Followed
+pub mod Rounds

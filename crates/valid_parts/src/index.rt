@@ -52,7 +52,7 @@ fn brings_valid(catalogue: &Catalogue, name: &PackageName, place: usize) -> bool
     ensures { (r : Record) → slice_get (candidates_at catalogue.now name.now) place ≡ Some r
         → MatchBool result (BringsValid r.brings) (IsFew r.brings → ⊥) }
 {
-    match catalogue.candidate_at(name, place) {
+    match catalogue.candidates(name).get(place) {
         Some(candidate) => owners::is_valid(&candidate.brings),
         None => true,
     }

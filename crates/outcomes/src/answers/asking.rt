@@ -1,6 +1,6 @@
 //! What the calls of `resolver` answer.
 
-use catalogue::{Prefer, Source};
+use catalogue::{Prefer, Source, SourceFault};
 use index_reader::Folder;
 use manifest::Manifest;
 use project_files::Bytes;
@@ -13,7 +13,11 @@ use std::alloc::{AllocError, Global};
 const CRATES_IO: &str = "registry+https://github.com/rust-lang/crates.io-index";
 
 fn own_source(alloc: Global) -> Result<Source, AllocError> {
-    Source::parse(alloc, CRATES_IO).map_err(|_| AllocError)
+    match Source::parse(alloc, CRATES_IO) {
+        Ok(source) => Ok(source),
+        Err(SourceFault::OutOfMemory) => Err(AllocError),
+        Err(SourceFault::NotASource) => unreachable!(),
+    }
 }
 
 /// What `resolve` answers, the newest versions preferred.

@@ -1,7 +1,0 @@
-use Rattle.contents.specs.Contents.{placed_views, places_in}
-use Rattle.contents.proofs.RankLists.{RanksTo}
-use Rattle.contents.proofs.listing.ranks_of.Given as goal
-
--- the ranks of those so far
-abbrev pub invariant-kept : goal.invariant-kept
-invariant-kept l = RanksTo (places_in (placed_views l.kept)) l.count l.rank l.ranks.items

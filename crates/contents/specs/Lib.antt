@@ -1,2 +1,0 @@
-pub use Rattle.reaching.specs.Built
-pub mod Contents

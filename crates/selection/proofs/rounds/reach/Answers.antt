@@ -1,0 +1,24 @@
+use Rattle.std.proofs.Common.{rules, ◌≡◌, map, true, false, refl, sym, ◌∙◌}
+use Rattle.facts.specs.Graphs.{node_views}
+use Rattle.catalogue.specs.Problems.{problem_in}
+use Rattle.selection.specs.Contents.{owners_of}
+use Rattle.selection.specs.Preferred.{preferred_in}
+use Rattle.selection.specs.Met.{all_met}
+use Rattle.selection.proofs.Completeness.{all_met_says, are_enough}
+use Rattle.selection.proofs.rounds.reach.Goals as goal
+
+pub returns-then-is_complete : goal.returns-then-is_complete
+returns-then-is_complete c =
+    let index = c.args.catalogue.now in
+    let nodes = c.in_ok-found.found.nodes.items in
+    let enabled = c.in_ok-found.found.facts.enabled.items in
+    let test : c.is_complete.result ≡ all_met nodes enabled =
+    rw (c.as_slice-in-rounds.ensures.value, c.as_slice-in-rounds-2.ensures.value) at c.is_complete.ensures in
+    let done : c.is_complete.result ≡ true = search rules in
+    record {
+      versions = c.in_ok-found.ensures.versions;
+      enough = are_enough (problem_in c.args.manifest.now index) (preferred_in index)
+          (map (λ v. v.items) c.as_slice.result.now) (owners_of index c.follow.new.versions.keys) (node_views nodes)
+          refl c.in_ok-found.found.facts.here.items (map (λ v. v.items) enabled) c.in_ok-found.ensures.flags false
+          c.in_ok-found.ensures.met (all_met_says nodes enabled (sym test ∙ done));
+    }

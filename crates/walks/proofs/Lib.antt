@@ -1,6 +1,0 @@
-pub mod Picks
-pub mod Targets
-pub mod Followed
-pub mod Completeness
-pub mod Preferences
-pub mod Examples

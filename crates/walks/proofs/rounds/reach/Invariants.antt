@@ -1,7 +1,0 @@
-use Rattle.contents.specs.Contents.{AreMetVersions}
-use Rattle.walks.specs.Met.{AreOrders}
-use Rattle.walks.proofs.rounds.reach.Given as goal
-
--- each of those met so far is there once; the orders that are kept are right
-abbrev pub invariant-rounds : goal.invariant-rounds
-invariant-rounds l = AreMetVersions l.catalogue l.versions.keys × AreOrders l.catalogue l.orders
