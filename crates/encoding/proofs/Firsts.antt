@@ -1,60 +1,100 @@
--- The first term of an instance holds where the instance is broken, and at most one of its terms has absent among its
--- states.
-use Rattle.std.proofs.Common.{◌≡◌, List, [], ◌∷◌, Bool, true, ◌&&◌, not, Option, Some, None, nat_eq, sym, ◌∙◌, inl, inr}
-use Rattle.model.specs.Summary.{Dependency, dependency_feature}
-use Rattle.model.specs.Content.{Problem}
+-- The first term of a cause is on a vertex that is there, in one of its states.
+use Rattle.std.proofs.Common.{◌≡◌, ℕ, List, [], ◌∷◌, map, true, not, ◌&&◌, Contains, Option, Some, nat_eq, refl, sym}
+use Rattle.std.proofs.Common.{subst}
+use Rattle.semver.specs.Parse.{Parts}
+use Rattle.model.specs.Summary.{Dependency, Entry, dependency_feature, feature, same_text}
+use Rattle.model.specs.Content.{Candidate, Problem, candidates_of}
 use Rattle.model.specs.Optional.{passes}
-use Rattle.model.specs.Vertices.{Owner, the_root, version_of, Vertex, State}
-use Rattle.model.specs.Axioms.{Term, HasOneOf, IsBroken, owner_holds}
-use Rattle.model.proofs.Same.{both}
-use Rattle.model.proofs.Spaces.{state_from}
-use Rattle.model.proofs.Lists.{in_cons, in_none}
+use Rattle.model.specs.Selection.{Class, class_of}
+use Rattle.model.specs.Vertices.{Owner, the_root, version_of, Vertex, dep, feat, ask, absent, present, version}
+use Rattle.model.specs.Vertices.{in_class, in_that_class, dep_classes, dep_space, class_candidates, space}
+use Rattle.model.specs.Axioms.{HasEntry, IsOwner, IsVertex, is_lower}
+use Rattle.model.proofs.Lists.{in_first, in_rest, to_filter, to_map}
+use Rattle.model.proofs.Same.{both, class-refl}
 use Rattle.refutations.specs.Causes.{Cause, of_root, of_need, of_target, of_feature, of_list, of_ask, of_entry}
-use Rattle.refutations.specs.Causes.{of_enabling, of_asking, of_newest, of_weak, same_entry, dependency_at}
-use Rattle.refutations.specs.Causes.{has_class, some_entry, lists_feature, is_overtaken, is_weak_on, is_cause}
-use Rattle.refutations.specs.Causes.{terms_with, terms_of_cause}
-use Rattle.refutations.proofs.Named.{passes-is}
-use Rattle.encoding.specs.Pairs.{Pair, owner_pair, first_pair}
+use Rattle.refutations.specs.Causes.{of_enabling, of_asking, of_newest, of_weak, same_entry, enables, is_needed}
+use Rattle.refutations.specs.Causes.{dependency_at, has_class, has_entry, some_entry, lists_feature, is_overtaken}
+use Rattle.refutations.specs.Causes.{is_weak_on, is_cause}
+use Rattle.refutations.proofs.Named.{entry-same, passes-is, dep_owner, has_entry-is, some_entry-is, class-is}
+use Rattle.refutations.proofs.Named.{feature-is}
+use Rattle.numbering.specs.Pairs.{Pair, owner_pair, first_pair}
+use Rattle.encoding.specs.Everywhere.{IsPair}
 
-module _ (q : Problem) (state : Vertex → State) where
-  abbrev pub Has : Vertex → State → Type 0
-  Has v s = state v ≡ s
+module _ (q : Problem) where
+  -- a vertex, and one of its states
+  abbrev pub IsThere : Pair → Type 0
+  IsThere p = IsPair q p
 
-  one_state : (v : Vertex) (s : State) → HasOneOf Has v (s ∷ []) → state v ≡ s
-  one_state v s (r, is, h) =
-      elim (in_cons s r [] (state_from (s ∷ []) r h)) [ inl e ↦ is ∙ sym e | inr c ↦ absurd (in_none r c) ]
+  owner_there : (o : Owner) → IsOwner q o → IsThere (owner_pair o)
+  owner_there the_root h = (tt, in_rest absent present (present ∷ []) (in_first present []))
+  owner_there (version_of name v) (c, i, e) =
+      let here : Contains (class_candidates q name (class_of v)) c
+      = subst
+      (λ w. Contains (class_candidates q name (class_of w)) c) e (to_filter (in_that_class (class_of c.version))
+      (candidates_of q.candidates name) c i (class-refl (class_of c.version))) in (
+        (c, here),
+        in_rest absent (version v) (map (λ (c : Candidate). version c.version) (class_candidates q name (class_of v)))
+            (subst (λ w. Contains
+            (map (λ (c : Candidate). version c.version) (class_candidates q name (class_of v))) (version w)) e
+            (to_map (λ (c : Candidate). version c.version) (class_candidates q name (class_of v)) c here)),
+      )
 
-  abbrev pub Holds : Pair → Type 0
-  Holds p = state p.0 ≡ p.1
+  needs_owner : (o : Owner) (i : ℕ) (d : Dependency) → dependency_at q o i ≡ Some d → IsThere (owner_pair o)
+  needs_owner o i d at = owner_there o (dep_owner q o i d at).0
 
-  owner_first : (o : Owner) → HasOneOf Has (owner_holds o).vertex (owner_holds o).states → Holds (owner_pair o)
-  owner_first the_root h = one_state _ _ h
-  owner_first (version_of name v) h = one_state _ _ h
+  lead_there : (o : Owner) (i : ℕ) (k : Class) (d : Dependency) → dependency_at q o i ≡ Some d → has_class q k d ≡ true
+      → IsThere (dep o i, in_class k)
+  lead_there o i k d at has = (
+    (d, dep_owner q o i d at),
+    subst (λ (x : Option Dependency). Contains (dep_space q x) (in_class k)) (sym at)
+        (in_rest absent (in_class k) (map in_class (dep_classes q d))
+        (to_map in_class (dep_classes q d) k (class-is q d k has))),
+  )
 
-  -- the first term of what a dependency gives
-  with_first : (terms : Dependency → List Term) (p : Pair) (test : Dependency → Bool) (o : Option Dependency)
-      → passes test o ≡ true
-      → ((d : Dependency) → IsBroken Has (terms d) → Holds p) → IsBroken Has (terms_with terms o) → Holds p
-  with_first terms p test None t of broken = let r = passes-is test None t in let x : None ≡ Some r.0 = r.1 in cc
-  with_first terms p test (Some d) t of broken = of d broken
+  is_on : (v : Vertex) → IsVertex q v → space q v ≡ absent ∷ present ∷ [] → IsThere (v, present)
+  is_on v is e =
+      (is, subst (λ ss. Contains ss present) (sym e) (in_rest absent present (present ∷ []) (in_first present [])))
 
-  pub first_holds : (c : Cause) → is_cause q c ≡ true → IsBroken Has (terms_of_cause q c) → Holds (first_pair c)
-  first_holds of_root t b = one_state _ _ b.0
-  first_holds (of_need o i) t b = owner_first o b.0
-  first_holds (of_target o i k) t b =
-      with_first _ _ (has_class q k) (dependency_at q o i) t (λ d b. one_state _ _ b.0) b
-  first_holds (of_feature name k f) t b = one_state _ _ b.0
-  first_holds (of_list o i k g) t b = with_first _ _
-      (λ d. has_class q k d && lists_feature q o d g) (dependency_at q o i) t (λ d b. one_state _ _ b.0) b
-  first_holds (of_ask name v i g k) t b =
-      with_first _ _ (λ d. has_class q k d && some_entry q (same_entry (dependency_feature d.name g)) name v)
-      (dependency_at q (version_of name v) i) t (λ d b. one_state _ _ b.0) b
-  first_holds (of_entry name v f g) t b = one_state _ _ b.0
-  first_holds (of_enabling name v f e i) t b = one_state _ _ b.0
-  first_holds (of_asking name v f g i) t b = one_state _ _ b.0
-  first_holds (of_newest o i j k m) t b =
-      with_first _ _ (λ d. passes (is_overtaken q k m d) (dependency_at q o j)) (dependency_at q o i)
-      (both (not (nat_eq i j)) (passes (λ d. passes (is_overtaken q k m d) (dependency_at q o j)) (dependency_at q o i))
-      t).1 (λ d b. one_state _ _ b.0) b
-  first_holds (of_weak name v f g i k) t b =
-      with_first _ _ (is_weak_on q name v f g k) (dependency_at q (version_of name v) i) t (λ d b. one_state _ _ b.0) b
+  entry_owner : (name : List ℕ) (v : Parts) (f : List ℕ) (e : Entry) → has_entry q name v f e ≡ true
+      → IsThere (owner_pair (version_of name v))
+  entry_owner name v f e t = owner_there (version_of name v) (has_entry-is q name v f e t).0
+
+  pub first_there : (c : Cause) → is_cause q c ≡ true → IsThere (first_pair c)
+  first_there of_root t = (tt, in_first absent (present ∷ []))
+  first_there (of_need o i) t = let r = passes-is (is_needed o) (dependency_at q o i) t in needs_owner o i r.0 r.1
+  first_there (of_target o i k) t = let r =
+      passes-is (has_class q k) (dependency_at q o i) t in lead_there o i k r.0 r.1 r.2
+  first_there (of_feature name k f) t = is_on (feat name k f) (feature-is q name k f t) refl
+  first_there (of_list o i k g) t =
+      let r = passes-is (λ d. has_class q k d && lists_feature q o d g) (dependency_at q o i) t in
+      lead_there o i k r.0 r.1 (both (has_class q k r.0) (lists_feature q o r.0 g) r.2).0
+  first_there (of_ask name v i g k) t =
+      let r = passes-is (λ d. has_class q k d && some_entry q (same_entry (dependency_feature d.name g)) name v)
+      (dependency_at q (version_of name v) i) t in
+      let a = both (has_class q k r.0) (some_entry q (same_entry (dependency_feature (r.0).name g)) name v) r.2 in
+      let e = some_entry-is q (same_entry (dependency_feature (r.0).name g)) name v a.1 in
+      is_on (ask name v i g) (
+        r.0,
+        e.0,
+        dep_owner q (version_of name v) i r.0 r.1,
+        subst (HasEntry q name v e.0) (sym (entry-same (dependency_feature (r.0).name g) e.1 e.3)) e.2,
+      ) refl
+  first_there (of_entry name v f g) t =
+      entry_owner name v f (feature g) (both (has_entry q name v f (feature g)) (not (same_text f g)) t).0
+  first_there (of_enabling name v f e i) t = entry_owner name v f e
+      (both (has_entry q name v f e) (passes (λ d. enables d.name e) (dependency_at q (version_of name v) i)) t).0
+  first_there (of_asking name v f g i) t =
+      let r = passes-is (λ d. has_entry q name v f (dependency_feature d.name g))
+      (dependency_at q (version_of name v) i) t in needs_owner (version_of name v) i r.0 r.1
+  first_there (of_newest o i j k m) t =
+      let x = both (not (nat_eq i j))
+      (passes (λ d. passes (is_overtaken q k m d) (dependency_at q o j)) (dependency_at q o i)) t in
+      let r = passes-is (λ d. passes (is_overtaken q k m d) (dependency_at q o j)) (dependency_at q o i) x.1 in
+      let s = passes-is (is_overtaken q k m r.0) (dependency_at q o j) r.2 in
+      let a = both (same_text (r.0).real_name (s.0).real_name)
+      (has_class q k r.0 && (has_class q m s.0 && (is_lower k m && has_class q m r.0))) s.2 in
+      lead_there o i k r.0 r.1
+      (both (has_class q k r.0) (has_class q m s.0 && (is_lower k m && has_class q m r.0)) a.1).0
+  first_there (of_weak name v f g i k) t = let r =
+      passes-is (is_weak_on q name v f g k) (dependency_at q (version_of name v) i) t in
+      needs_owner (version_of name v) i r.0 r.1

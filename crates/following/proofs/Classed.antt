@@ -24,8 +24,8 @@ use Rattle.catalogue.specs.Problems.{problem_in}
 use Rattle.catalogue.specs.Stores.{CatalogueView, candidates_at}
 use Rattle.looking_up.specs.Ranges.{AreRising, is_above, is_below, is_of}
 use Rattle.looking_up.proofs.Pieces.{above_parted, apart_below, neither, parts_filtered, skipped}
-use Rattle.encoding.proofs.Stated.{versions_counted, versions_space}
-use Rattle.encoding.proofs.Tested.{states_here}
+use Rattle.numbering.proofs.Stated.{versions_counted, versions_space}
+use Rattle.numbering.proofs.Tested.{states_here}
 use Rattle.following.specs.Found.{IsNumberOf}
 
 -- ---- classes

@@ -6,7 +6,7 @@ use Rattle.model.specs.Content.{Package, Content, Problem, last_serving}
 use Rattle.model.specs.Selection.{Class, class_of}
 use Rattle.model.specs.Vertices.{Owner, the_root, version_of, Vertex, State, same_class, space}
 use Rattle.model.specs.Assignment.{Has}
-use Rattle.encoding.specs.Assignments.{state_at}
+use Rattle.numbering.specs.Assignments.{state_at}
 
 -- ---- packages
 

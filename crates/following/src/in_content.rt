@@ -9,15 +9,15 @@ ghost use Rattle.lockfile.specs.Search.{named_cmp};
 ghost use Rattle.lockfile.specs.Views.{package_view, package_views};
 ghost use Rattle.model.specs.Selection.{IsValidSelection};
 ghost use Rattle.model.specs.Vertices.{same_class};
-ghost use Rattle.encoding.specs.KnownProblem.{problem};
+ghost use Rattle.numbering.specs.KnownProblem.{problem};
 ghost use Rattle.vertices.specs.RefViews.{owner_ref_view};
 ghost use Rattle.model.specs.WellFormed.{IsContent};
 ghost use Rattle.following.specs.Found.{is_locked, is_owner, is_sourceless, led_to};
 
 use classes::{Class, same_class};
-use encoding::KnownProblem;
 use features::{DependencyParts, PackageName};
 use lockfile::Package;
+use numbering::KnownProblem;
 use selection::target;
 use std::cmp::Ordering;
 use vertices::OwnerRef;

@@ -5,14 +5,14 @@ ghost use Rattle.semver.specs.Identifiers.{parts_of};
 ghost use Rattle.classes.specs.Classes.{class_view};
 ghost use Rattle.model.specs.Vertices.{has_state, pkg, same_class, space};
 ghost use Rattle.model.specs.Vertices as model;
-ghost use Rattle.encoding.specs.KnownProblem.{problem};
+ghost use Rattle.numbering.specs.KnownProblem.{problem};
 ghost use Rattle.following.specs.Found.{IsNumberOf};
 
 use catalogue::place_of;
 use classes::{Class, same_class};
-use encoding::KnownProblem;
 use features::PackageName;
 use looking_up::below;
+use numbering::KnownProblem;
 use semver::Version;
 
 /// The number of a version among the states of a name in its class.

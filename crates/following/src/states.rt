@@ -6,17 +6,17 @@ ghost use Rattle.lockfile.specs.Views.{package_views};
 ghost use Rattle.model.specs.Assignment.{Has};
 ghost use Rattle.model.specs.Selection.{IsValidSelection};
 ghost use Rattle.model.specs.Vertices.{State, dep, pkg, space};
-ghost use Rattle.encoding.specs.Assignments.{state_at};
-ghost use Rattle.encoding.specs.KnownProblem.{problem};
+ghost use Rattle.numbering.specs.Assignments.{state_at};
+ghost use Rattle.numbering.specs.KnownProblem.{problem};
 ghost use Rattle.vertices.specs.RefViews.{owner_ref_view, vertex_ref_view};
 ghost use Rattle.following.specs.Found.{IsStateIn};
 
 use crate::in_content::{led_to, package_in};
 use crate::numbers::{class_number, version_number};
 use classes::Class;
-use encoding::{KnownProblem, classes_of, dependency_at, spaces_are_small};
 use features::PackageName;
 use lockfile::{LockContent, Package};
+use numbering::{KnownProblem, classes_of, dependency_at, spaces_are_small};
 use std::alloc::{AllocError, Global};
 use vertices::{OwnerRef, VertexRef};
 

@@ -1,7 +1,7 @@
 use Rattle.std.proofs.Common.{◌∙◌, find, ap, arith}
 use Rattle.std.proofs.lemmas.List.{take_rest}
 use Rattle.lockfile.specs.Views.{package_view}
-use Rattle.encoding.specs.KnownProblem.{problem}
+use Rattle.numbering.specs.KnownProblem.{problem}
 use Rattle.following.specs.Found.{is_sourceless}
 use Rattle.following.proofs.Named.{find_past, lower_is_sourced}
 use Rattle.following.proofs.in_content.root_in.Goals as goal

@@ -3,7 +3,7 @@ use Rattle.classes.specs.Classes.{class_view}
 use Rattle.features.specs.Views.{dependency_view}
 use Rattle.lockfile.specs.Views.{package_view, package_views}
 use Rattle.model.specs.Vertices.{dep, dep_classes}
-use Rattle.encoding.specs.KnownProblem.{problem}
+use Rattle.numbering.specs.KnownProblem.{problem}
 use Rattle.vertices.specs.RefViews.{owner_ref_view}
 use Rattle.following.proofs.InContent.{few_classes, none_led, one_led}
 use Rattle.following.proofs.states.class_in.Goals as goal

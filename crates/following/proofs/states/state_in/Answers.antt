@@ -4,7 +4,7 @@ use Rattle.classes.specs.Classes.{class_view}
 use Rattle.lockfile.specs.Views.{package_views}
 use Rattle.model.specs.Content.{Content}
 use Rattle.model.specs.Vertices.{Vertex, pkg, dep}
-use Rattle.encoding.specs.KnownProblem.{problem}
+use Rattle.numbering.specs.KnownProblem.{problem}
 use Rattle.vertices.specs.RefViews.{owner_ref_view, vertex_ref_view}
 use Rattle.following.specs.Found.{IsStateIn}
 use Rattle.following.proofs.states.state_in.Goals as goal

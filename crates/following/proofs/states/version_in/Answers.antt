@@ -1,5 +1,5 @@
 use Rattle.classes.specs.Classes.{class_view}
-use Rattle.encoding.specs.KnownProblem.{problem}
+use Rattle.numbering.specs.KnownProblem.{problem}
 use Rattle.following.proofs.InContent.{none_locked, one_locked}
 use Rattle.following.proofs.states.version_in.Goals as goal
 

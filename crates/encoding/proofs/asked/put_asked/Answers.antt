@@ -1,7 +1,0 @@
-use Rattle.std.proofs.lemmas.Result.{on_ok_weaker}
-use Rattle.encoding.proofs.AskedLaws.{asks_one}
-use Rattle.encoding.proofs.asked.put_asked.Goals as goal
-
-pub returns : goal.returns
-returns c = on_ok_weaker c.put.result (λ put. asks_one c.args.asked.now c.put.new.lists c.args.called c.as_str.result
-    (record { feature = c.args.feature }) c.as_str.ensures.text put) c.put.ensures

@@ -1,9 +1,0 @@
-use Rattle.std.proofs.Common.{◌≡◌, [], drop}
-use Rattle.encoding.specs.GivenViews.{cause_views}
-use Rattle.encoding.specs.CausesAt.{with_causes}
-use Rattle.encoding.proofs.causes.each_once.Given as goal
-
--- those kept so far, with those that are left, are all
-abbrev pub invariant-causes : goal.invariant-causes
-invariant-causes l = with_causes (cause_views l.kept.keys) (cause_views (drop l.cause-index l.causes))
-    ≡ with_causes [] (cause_views l.causes)

@@ -1,7 +1,0 @@
-use Rattle.std.proofs.Common.{◌≡◌}
-use Rattle.encoding.specs.MatchedViews.{problem_of}
-use Rattle.encoding.proofs.matched.Matched.keep_each.Given as goal
-
--- it is of the same problem
-abbrev pub invariant-dependencies : goal.invariant-dependencies
-invariant-dependencies l = problem_of l.self ≡ problem_of l.fn.self

@@ -1,0 +1,17 @@
+use Rattle.std.proofs.Common.{◌≡◌, ◌++◌, drop}
+use Rattle.std.specs.List.{flat_map}
+use Rattle.semver.specs.Identifiers.{parts_of}
+use Rattle.features.specs.EntryViews.{entry_views}
+use Rattle.features.specs.Views.{dependency_views}
+use Rattle.numbering.specs.KnownProblem.{problem}
+use Rattle.encoding.specs.Everything.{of_entry}
+use Rattle.encoding.specs.Views.{vertex_views}
+use Rattle.encoding.proofs.naming.put_entries.Given as goal
+
+-- the vertices so far, with those of the entries that are left, are all
+abbrev pub invariant-entries : goal.invariant-entries
+invariant-entries l =
+    vertex_views l.vertices.items ++ flat_map (of_entry (problem l.known) l.release.name.now
+    (parts_of l.release.version.now) (dependency_views l.dependencies)) (entry_views (drop l.entry-index l.entries))
+    ≡ vertex_views l.fn.vertices.items ++ flat_map (of_entry (problem l.known) l.release.name.now
+    (parts_of l.release.version.now) (dependency_views l.dependencies)) (entry_views l.entries)

@@ -1,7 +1,0 @@
-use Rattle.std.proofs.lemmas.Result.{on_ok_weaker}
-use Rattle.encoding.proofs.OnPackageLaws.{puts_on}
-use Rattle.encoding.proofs.on_package.put_on.Goals as goal
-
-pub returns : goal.returns
-returns c = on_ok_weaker c.put.result
-    (λ put. puts_on c.args.on.now c.put.new.lists c.as_str.result c.args.one c.as_str.ensures.text put) c.put.ensures

@@ -1,9 +1,0 @@
-use Rattle.encoding.specs.KnownProblem.{problem}
-use Rattle.encoding.proofs.Putting.{spaces_few}
-use Rattle.encoding.proofs.Stated.{some_states}
-use Rattle.encoding.proofs.spaces.spaces_are_small.Goals as goal
-
-pub returns : goal.returns
-returns c =
-    let i = c.args.known.now in
-    λ v. (some_states (problem i) v, spaces_few i.manifest.now i.catalogue.now c.names.ensures.store v)

@@ -1,7 +1,0 @@
--- The problem whose owners are looked at.
-use Rattle.model.specs.Content.{Problem}
-use Rattle.looking_up.specs.Views.{problem_view}
-use Rattle.encoding.specs.declared.indexed.Indexed.{Indexed}
-
-abbrev pub problem_indexed : Indexed → Problem
-problem_indexed i = problem_view i.problem

@@ -1,0 +1,88 @@
+-- What is kept stays right, where one more is kept.
+use Rattle.std.proofs.Common.{◌≡◌, ℕ, Bool, true, false, cond, List, Some, Result, Ok, Err, OnOk, OnErr, Vec, map, refl}
+use Rattle.std.proofs.Common.{sym, ap, ap₂, ◌∙◌, subst}
+use Rattle.std.specs.HashMap.{HashMap, IsUnchanged, Updates, get}
+use Rattle.std.specs.Map.{lookup}
+use Rattle.std.specs.declared.alloc.Global.{Global}
+use Rattle.std.proofs.lemmas.Option.{same_Some}
+use Rattle.classes.specs.Classes.{class_view}
+use Rattle.classes.specs.declared.class.Class as code
+use Rattle.features.specs.Views.{requirement_view}
+use Rattle.model.specs.Content.{Problem}
+use Rattle.model.specs.Summary.{Dependency, same_text}
+use Rattle.model.specs.Vertices.{owner_brings}
+use Rattle.model.proofs.Same.{both, owner-same, text-same}
+use Rattle.vertices.specs.RefViews.{owner_ref_view}
+use Rattle.vertices.specs.declared.vertex.OwnerRef.{OwnerRef}
+use Rattle.numbering.specs.Called.{numbered_from}
+use Rattle.numbering.specs.Indexed.{AreBrought, AreByClass, AreThere, IsBrought, OwnerKey, same_owner_key, same_ref}
+use Rattle.numbering.specs.Matched.{AreMatched, Ask, classes_asked, same_ask}
+use Rattle.numbering.specs.OnPackage.{on_package}
+use Rattle.numbering.proofs.Requirements.{requirement-same}
+
+-- ---- of any values that are right for their keys
+
+module _ {K V S : Type 0} (same : K → K → Bool) (Is : K → V → Type 0)
+    (alike : (k l : K) (v : V) → same k l ≡ true → Is k v → Is l v) where
+  abbrev AreRight : HashMap K V S → Type 0
+  AreRight m = (k : K) (v : V) → get same m k ≡ Some v → Is k v
+
+  same_kept : (m after : HashMap K V S) → IsUnchanged m after → AreRight m → AreRight after
+  same_kept m after e are k v got = are k v (sym (ap (lookup (same k)) e) ∙ got)
+
+  more_kept : (m after : HashMap K V S) (k : K) (v : V) → AreRight m → Is k v
+      → Updates same m after k (Some v) → AreRight after
+  more_kept m after k v are one u l w got = by (same k l) refl (sym (u.0 l) ∙ got)
+    where
+      by : (b : Bool) → same k l ≡ b → cond b (Some v) (get same m l) ≡ Some w → Is l w
+      by true e f = alike k l w e (subst (Is k) (same_Some v w f) one)
+      by false e f = are l w f
+
+  -- after one is put there, or isn't for want of memory
+  kept_after : {X E : Type 0} (m after : HashMap K V S) (k : K) (v : V) (r : Result X E)
+      → OnOk r (Updates same m after k (Some v)) → OnErr r (IsUnchanged m after) → AreRight m → Is k v → AreRight after
+  kept_after m after k v (Ok x) u e are one = more_kept m after k v are one u
+  kept_after m after k v (Err x) u e are one = same_kept m after e are
+
+-- ---- of classes
+
+asked-alike : (q : Problem) (k l : Ask) → same_ask k l ≡ true
+    → classes_asked q k.0.now (requirement_view k.1.now) ≡ classes_asked q l.0.now (requirement_view l.1.now)
+asked-alike q k l e =
+    let b = both (same_text k.0.now l.0.now) _ e in
+    ap₂ (classes_asked q) (text-same k.0.now l.0.now b.0) (requirement-same k.1.now l.1.now b.1)
+
+pub put_kept : (q : Problem) {S X E : Type 0} (m after : HashMap Ask (Vec code.Class Global) S) (k : Ask)
+    (ks : Vec code.Class Global) (r : Result X E)
+    → OnOk r (Updates same_ask m after k (Some ks)) → OnErr r (IsUnchanged m after) → AreMatched q m
+    → map class_view ks.items ≡ classes_asked q k.0.now (requirement_view k.1.now) → AreMatched q after
+put_kept q m after k ks r u e are one =
+    kept_after same_ask (λ k ks. map class_view ks.items ≡ classes_asked q k.0.now (requirement_view k.1.now))
+    (λ k l ks same is. is ∙ asked-alike q k l same) m after k ks r u e are one
+
+-- ---- of dependencies
+
+pub put_brought : (q : Problem) {S X E : Type 0} (m after : HashMap OwnerRef (List Dependency) S) (o : OwnerRef)
+    (ds : List Dependency) (r : Result X E)
+    → OnOk r (Updates same_ref m after o (Some ds)) → OnErr r (IsUnchanged m after) → AreBrought q m
+    → IsBrought q o ds → AreBrought q after
+put_brought q m after o ds r u e are one =
+    kept_after same_ref (IsBrought q) (λ o p ds same is. is ∙ ap (λ w. (owner_brings q w).dependencies)
+    (owner-same (owner_ref_view o) (owner_ref_view p) same)) m after o ds r u e are one
+
+-- ---- of dependencies on one package
+
+place-alike : (q : Problem) (x y : OwnerKey) (b : Problem × List (ℕ × Dependency)) → same_owner_key x y ≡ true
+    → AreThere q x b → AreThere q y b
+place-alike q x y b same is =
+    let e = both (same_ref x.0 y.0) _ same in
+    is ∙ ap₂ (λ o n. (q, on_package n (numbered_from 0 (owner_brings q o).dependencies)))
+    (owner-same (owner_ref_view x.0) (owner_ref_view y.0) e.0) (text-same x.1.now y.1.now e.1)
+
+pub put_place : (q : Problem) {S X E : Type 0}
+    (m after : HashMap OwnerKey (Problem × List (ℕ × Dependency)) S) (x : OwnerKey)
+    (b : Problem × List (ℕ × Dependency)) (r : Result X E)
+    → OnOk r (Updates same_owner_key m after x (Some b)) → OnErr r (IsUnchanged m after) → AreByClass q m
+    → AreThere q x b → AreByClass q after
+put_place q m after x b r u e are one =
+    kept_after same_owner_key (AreThere q) (place-alike q) m after x b r u e are one

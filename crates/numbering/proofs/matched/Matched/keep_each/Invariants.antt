@@ -1,0 +1,7 @@
+use Rattle.std.proofs.Common.{◌≡◌}
+use Rattle.numbering.specs.MatchedViews.{problem_of}
+use Rattle.numbering.proofs.matched.Matched.keep_each.Given as goal
+
+-- it is of the same problem
+abbrev pub invariant-dependencies : goal.invariant-dependencies
+invariant-dependencies l = problem_of l.self ≡ problem_of l.fn.self

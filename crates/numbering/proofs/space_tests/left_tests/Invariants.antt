@@ -1,0 +1,11 @@
+use Rattle.std.proofs.Common.{◌≡◌, ◌++◌, ◌∷◌, true, map, drop}
+use Rattle.semver.specs.Identifiers.{parts_of}
+use Rattle.features.specs.Views.{requirement_view}
+use Rattle.looking_up.specs.Matching.{is_left}
+use Rattle.numbering.proofs.space_tests.left_tests.Given as goal
+
+-- the tests so far, with those of the versions that are left, are those of all
+abbrev pub invariant-versions : goal.invariant-versions
+invariant-versions l =
+    l.tests.items ++ map (λ w. is_left (requirement_view l.requirement) (parts_of w)) (drop l.version-index l.versions)
+    ≡ true ∷ map (λ w. is_left (requirement_view l.requirement) (parts_of w)) l.versions

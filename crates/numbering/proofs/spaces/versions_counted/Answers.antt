@@ -1,0 +1,10 @@
+use Rattle.classes.specs.Classes.{class_view}
+use Rattle.numbering.proofs.Stated.{versions_counted}
+use Rattle.numbering.proofs.spaces.versions_counted.Goals as goal
+
+pub returns : goal.returns
+returns c =
+    let i = c.args.known.now in
+    let name = c.args.name.now in
+    versions_counted i.manifest.now i.catalogue.now name
+    (class_view c.args.class) c.class_versions.result.now c.class_versions.ensures.versions

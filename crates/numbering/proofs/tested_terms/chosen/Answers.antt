@@ -1,0 +1,16 @@
+use Rattle.std.proofs.Common.{ap₂, ◌∙◌}
+use Rattle.semver.specs.Identifiers.{parts_of}
+use Rattle.classes.specs.Classes.{class_view}
+use Rattle.model.specs.Selection.{class_of}
+use Rattle.model.specs.Vertices.{pkg}
+use Rattle.numbering.proofs.Tested.{chosen_at}
+use Rattle.numbering.proofs.tested_terms.chosen.Goals as goal
+
+pub returns : goal.returns
+returns c =
+    let i = c.args.known.now in
+    let v = parts_of c.args.version.now in
+    c.package_term.ensures ∙ ap₂ (λ k m. (pkg c.args.name.now k, m)) c.of-class.ensures
+    (c.in_ok-tests.ensures
+    ∙ chosen_at i.manifest.now i.catalogue.now c.args.name.now (class_view c.of-class.result) (class_of v) v
+    c.class_versions-versions.result.now c.of-class.ensures c.class_versions-versions.ensures.versions)

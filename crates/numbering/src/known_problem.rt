@@ -1,0 +1,37 @@
+//! What vertices and axioms are looked up in.
+
+ghost use Rattle.std.specs.Prelude.{◌≡◌};
+ghost use Rattle.catalogue.specs.Problems.{problem_in};
+ghost use Rattle.looking_up.specs.Views as looked_up;
+ghost use Rattle.numbering.specs.MatchedViews.{problem_of};
+
+use crate::matched::Matched;
+use catalogue::Catalogue;
+use features::FeatureName;
+use looking_up::Problem;
+use manifest::Manifest;
+
+/// The manifest and the loaded index, the name of the feature `default`, which a dependency may ask for without
+/// spelling it, and what is known of what requirements match there.
+#[derive(Drop)]
+pub struct KnownProblem<'a> {
+    pub manifest: &'a Manifest,
+    pub catalogue: &'a Catalogue,
+    pub default: &'a FeatureName,
+    pub matched: Matched<'a>,
+    ghost matched_there: { problem_of matched ≡ problem_in manifest.now catalogue.now },
+}
+
+impl<'a> KnownProblem<'a> {
+    ghost use Rattle.numbering.specs.KnownProblem.{problem};
+
+    /// The manifest and the loaded index alone.
+    pub(crate) fn held(&self) -> Problem<'a>
+        ensures { looked_up.problem_view result ≡ problem self.now }
+    {
+        Problem {
+            manifest: self.manifest,
+            catalogue: self.catalogue,
+        }
+    }
+}

@@ -1,0 +1,45 @@
+//! What owners bring, looked up in a known problem.
+
+ghost use Rattle.std.specs.Prelude.{◌≡◌, option_map};
+ghost use Rattle.features.specs.Views.{dependency_view, dependency_views, brings_view};
+ghost use Rattle.model.specs.Vertices.{owner_brings};
+ghost use Rattle.refutations.specs.Causes.{dependency_at};
+ghost use Rattle.numbering.specs.KnownProblem.{problem};
+ghost use Rattle.vertices.specs.RefViews.{owner_ref_view};
+
+use crate::known_problem::KnownProblem;
+use features::{Dependency, DependencyParts, Summary};
+use vertices::OwnerRef;
+
+/// What an owner brings: nothing where it is neither the root nor a candidate.
+pub(crate) fn brings<'a>(known: &KnownProblem<'a>, owner: &OwnerRef<'_>) -> Option<&'a Summary>
+    ensures { brings_view result ≡ owner_brings (problem known.now) (owner_ref_view owner.now) }
+{
+    let held = known.held();
+    looking_up::brings(&held, owner)
+}
+
+/// The dependencies of an owner.
+pub(crate) fn dependencies_of<'a>(
+    known: &KnownProblem<'a>,
+    owner: &OwnerRef<'_>,
+) -> &'a [Dependency]
+    ensures { dependency_views result.now
+        ≡ (owner_brings (problem known.now) (owner_ref_view owner.now)).dependencies }
+{
+    let held = known.held();
+    looking_up::dependencies_of(&held, owner)
+}
+
+/// The dependency of an owner that has this number.
+pub fn dependency_at<'a>(
+    known: &KnownProblem<'a>,
+    owner: &OwnerRef<'_>,
+    number: usize,
+) -> Option<&'a DependencyParts>
+    ensures { option_map (λ d. dependency_view d.now) result
+        ≡ dependency_at (problem known.now) (owner_ref_view owner.now) number }
+{
+    let held = known.held();
+    looking_up::dependency_at(&held, owner, number)
+}

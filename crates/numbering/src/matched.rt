@@ -1,0 +1,290 @@
+//! What requirements match, kept so that no requirement is matched twice against one name.
+
+ghost use Rattle.std.specs.Prelude.{◌≡◌, IfOk, IfSome, map};
+ghost use Rattle.classes.specs.Classes.{class_view};
+ghost use Rattle.features.specs.Views.{dependency_view};
+ghost use Rattle.looking_up.specs.Views.{problem_view};
+ghost use Rattle.model.specs.Vertices.{dep_classes, owner_brings};
+ghost use Rattle.vertices.specs.RefViews.{owner_ref_view};
+ghost use Rattle.numbering.specs.Called.{numbered_from, numbered_views};
+ghost use Rattle.numbering.specs.Indexed.{AreByClass};
+ghost use Rattle.numbering.specs.IndexedViews.{problem_indexed};
+ghost use Rattle.numbering.specs.Matched.{AreMatched};
+ghost use Rattle.numbering.specs.OnPackage.{on_package};
+
+use crate::asked::Asked;
+use crate::by_class::ByClass;
+use crate::called::Numbered;
+use crate::indexed::Indexed;
+use crate::narrowing::within;
+use crate::table::Table;
+use catalogue::{Catalogue, catalogues_are_well_formed};
+use classes::{Class, matching};
+use features::{Dependency, DependencyParts, PackageName};
+use looking_up::{Problem, class_versions, dependencies_of};
+use manifest::Manifest;
+use semver::VersionReq;
+use std::alloc::{AllocError, Global};
+use std::collections::HashMap;
+use vertices::{OwnerRef, VertexRef};
+
+/// By name and requirement, the classes of the candidates that are matched; and what owners bring, found by name, and
+/// by class where several dependencies of an owner are on one package.
+///
+/// Nothing but time rests on what is kept: what isn't is matched where it is asked for.
+#[derive(Drop)]
+pub struct Matched<'a> {
+    pub(crate) problem: Problem<'a>,
+    pub(crate) classes: HashMap<(&'a PackageName, &'a VersionReq), Vec<Class>>,
+    indexed: Indexed<'a>,
+    pub(crate) by_class: HashMap<(OwnerRef<'a>, &'a PackageName), ByClass<'a>>,
+    ghost are_matched: { AreMatched (problem_view problem) classes },
+    ghost same_problem: { problem_indexed indexed ≡ problem_view problem },
+    ghost are_by_class: { AreByClass (problem_view problem) by_class },
+}
+
+impl<'a> Matched<'a> {
+    ghost use Rattle.numbering.specs.MatchedViews.{problem_of};
+    ghost use Rattle.catalogue.specs.Problems.{problem_in};
+
+    /// Nothing is kept yet.
+    pub fn new(alloc: Global, manifest: &'a Manifest, catalogue: &'a Catalogue) -> Matched<'a>
+        ensures { problem_of result ≡ problem_in manifest.entry.now catalogue.entry.now }
+    {
+        Matched {
+            problem: Problem {
+                manifest,
+                catalogue,
+            },
+            classes: HashMap::new(alloc),
+            indexed: Indexed::new(alloc, manifest, catalogue),
+            by_class: HashMap::new(alloc),
+        }
+    }
+
+    /// The classes to which a dependency may lead, lowest first, if they are kept.
+    pub(crate) fn classes(&self, dependency: &'a DependencyParts) -> Option<&[Class]>
+        ensures { IfSome result
+            (λ ks. map class_view ks.now ≡ dep_classes (problem_of self.now) (dependency_view dependency.now)) }
+    {
+        let requirement: &VersionReq = &dependency.requirement;
+        let ask = (&dependency.real_name, requirement);
+        match self.classes.get(&ask) {
+            Some(classes) => Some(classes.as_slice()),
+            None => None,
+        }
+    }
+
+    /// The classes to which a dependency may lead, lowest first: those that are kept, else it is matched for them.
+    pub(crate) fn classes_of(
+        &self,
+        alloc: Global,
+        dependency: &'a DependencyParts,
+    ) -> Result<Vec<Class>, AllocError>
+        ensures { IfOk result
+            (λ ks. map class_view ks.items ≡ dep_classes (problem_of self.now) (dependency_view dependency.now)) }
+    {
+        match self.classes(dependency) {
+            Some(classes) => Vec::from_slice(alloc, classes),
+            None => match_anew(alloc, &self.problem, dependency),
+        }
+    }
+
+    /// What the entries of the root's features ask for, if it is kept.
+    pub(crate) fn asked(&self) -> Option<&Asked<'a>>
+        ensures { IfSome result (λ a. a.now ≡ (problem_of self.now).root_asks) }
+    {
+        self.indexed.asked()
+    }
+
+    /// The dependencies of the owner that are on the package of this name, if there are any and they are kept.
+    pub(crate) fn on_package(&self, owner: &OwnerRef<'a>, name: &'a str) -> Option<&[Numbered<'a>]>
+        ensures { IfSome result (λ those. numbered_views those.now ≡ on_package name.entry.now
+            (numbered_from 0 (owner_brings (problem_of self.now) (owner_ref_view owner.now)).dependencies)) }
+    {
+        self.indexed.on_package(owner, name)
+    }
+
+    /// The dependencies of the owner on the package by the classes that they may lead to, if they are kept.
+    pub(crate) fn by_class(
+        &self,
+        owner: &OwnerRef<'a>,
+        name: &'a PackageName,
+    ) -> Option<&ByClass<'a>>
+        ensures { IfSome result (λ b. b.now ≡ (
+          problem_of self.now,
+          on_package name.entry.now
+              (numbered_from 0 (owner_brings (problem_of self.now) (owner_ref_view owner.now)).dependencies),
+        )) }
+    {
+        let place = (*owner, name);
+        match self.by_class.get(&place) {
+            Some(those) => Some(those),
+            None => None,
+        }
+    }
+
+    /// Matches what the owner needs that the vertex of this number is in the state of this number: all dependencies of
+    /// which the axioms of the two speak are its.
+    ///
+    /// # Errors
+    /// Memory is wanting.
+    pub fn keep_at(
+        &mut self,
+        alloc: Global,
+        table: &Table<'a>,
+        number: usize,
+        state: usize,
+    ) -> Result<(), AllocError>
+        ensures { problem_of self.new ≡ problem_of self.old }
+    {
+        let problem = self.problem;
+        match owner_at(&problem, table, number, state) {
+            Some(owner) => self.keep_owner(alloc, owner),
+            None => Ok(()),
+        }
+    }
+
+    /// Matches what every owner needs.
+    ///
+    /// # Errors
+    /// Memory is wanting.
+    pub fn keep_all(&mut self, alloc: Global) -> Result<(), AllocError>
+        ensures { problem_of self.new ≡ problem_of self.old }
+    {
+        let problem = self.problem;
+        self.keep_owner(alloc, OwnerRef::Root)?;
+        'names: for name in problem.catalogue.names() {
+            self.keep_name(alloc, name)?;
+        }
+        Ok(())
+    }
+
+    /// Matches what the versions of a name need.
+    fn keep_name(&mut self, alloc: Global, name: &'a PackageName) -> Result<(), AllocError>
+        ensures { problem_of self.new ≡ problem_of self.old }
+    {
+        let problem = self.problem;
+        'versions: for version in problem.catalogue.versions(name) {
+            self.keep_owner(alloc, OwnerRef::Version(name, version))?;
+        }
+        Ok(())
+    }
+
+    fn keep_owner(&mut self, alloc: Global, owner: OwnerRef<'a>) -> Result<(), AllocError>
+        ensures { problem_of self.new ≡ problem_of self.old }
+    {
+        let problem = self.problem;
+        let dependencies = dependencies_of(&problem, &owner);
+        self.keep_each(alloc, dependencies)?;
+        self.indexed.keep(alloc, owner)?;
+        self.keep_packages(alloc, owner, dependencies)
+    }
+
+    /// Puts by their classes those that are on one package with others.
+    fn keep_packages(
+        &mut self,
+        alloc: Global,
+        owner: OwnerRef<'a>,
+        dependencies: &'a [Dependency],
+    ) -> Result<(), AllocError>
+        ensures { problem_of self.new ≡ problem_of self.old }
+    {
+        'dependencies: for dependency in dependencies.iter() {
+            self.keep_package(alloc, owner, &dependency.real_name)?;
+        }
+        Ok(())
+    }
+
+    fn keep_package(
+        &mut self,
+        alloc: Global,
+        owner: OwnerRef<'a>,
+        name: &'a PackageName,
+    ) -> Result<(), AllocError>
+        ensures { problem_of self.new ≡ problem_of self.old }
+    {
+        if self.by_class(&owner, name).is_some() {
+            return Ok(());
+        }
+        let Some(those) = self.on_package(&owner, name.as_str()) else {
+            return Ok(());
+        };
+        if those.len() < 2 {
+            return Ok(());
+        }
+        let by_class = ByClass::of(alloc, self, those)?;
+        self.by_class.insert((owner, name), by_class)?;
+        Ok(())
+    }
+
+    fn keep_each(&mut self, alloc: Global, dependencies: &'a [Dependency]) -> Result<(), AllocError>
+        ensures { problem_of self.new ≡ problem_of self.old }
+    {
+        'dependencies: for dependency in dependencies.iter() {
+            self.keep(alloc, dependency)?;
+        }
+        Ok(())
+    }
+
+    fn keep(&mut self, alloc: Global, dependency: &'a DependencyParts) -> Result<(), AllocError>
+        ensures { problem_of self.new ≡ problem_of self.old }
+    {
+        if self.classes(dependency).is_some() {
+            return Ok(());
+        }
+        let classes = match_anew(alloc, &self.problem, dependency)?;
+        let requirement: &VersionReq = &dependency.requirement;
+        let ask = (&dependency.real_name, requirement);
+        self.classes.insert(ask, classes)?;
+        Ok(())
+    }
+}
+
+/// The owner that a vertex is in a state: the root where it is present, a version where it is chosen.
+fn owner_at<'a>(
+    problem: &Problem<'a>,
+    table: &Table<'a>,
+    number: usize,
+    state: usize,
+) -> Option<OwnerRef<'a>> {
+    match table.vertex(number)? {
+        VertexRef::Root => Some(OwnerRef::Root),
+        VertexRef::Package(name, class) => {
+            let versions = class_versions(problem.catalogue, name, class);
+            let version = versions.get(state.checked_sub(1)?)?;
+            Some(OwnerRef::Version(name, version))
+        }
+        VertexRef::Dependency(_, _) => None,
+        VertexRef::Feature(_, _, _) => None,
+        VertexRef::Ask(_, _, _, _) => None,
+    }
+}
+
+/// The classes in which some candidate is matched, lowest first.
+pub(crate) fn match_anew(
+    alloc: Global,
+    problem: &Problem<'_>,
+    dependency: &DependencyParts,
+) -> Result<Vec<Class>, AllocError>
+    ensures { IfOk result
+        (λ ks. map class_view ks.items ≡ dep_classes (problem_view problem.now) (dependency_view dependency.now)) }
+{
+    catalogues_are_well_formed(problem.manifest, problem.catalogue);
+    let versions = within(
+        &dependency.requirement,
+        problem.catalogue.versions(&dependency.real_name),
+    );
+    let groups = matching(alloc, &dependency.requirement, versions)?;
+    firsts(alloc, groups.as_slice())
+}
+
+fn firsts(alloc: Global, groups: &[(Class, Vec<u32>)]) -> Result<Vec<Class>, AllocError>
+    ensures { IfOk result (λ ks. map class_view ks.items ≡ map (λ g. class_view g.0) groups.now) }
+{
+    let mut classes = Vec::new(alloc);
+    'groups: for group in groups.iter() {
+        classes.push(group.0)?;
+    }
+    Ok(classes)
+}

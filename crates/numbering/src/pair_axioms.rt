@@ -1,0 +1,149 @@
+//! The instances that are added once a vertex has a state.
+
+ghost use Rattle.std.specs.Prelude.{◌≡◌, ◌<◌, ◌++◌, ◌∷◌, [], true, Contains, List, Some, IfOk, OnOk, length, slice_get};
+ghost use Rattle.std.specs.List.{AllByRecursion};
+ghost use Rattle.model.specs.Axioms.{IsVertex};
+ghost use Rattle.model.specs.Vertices.{Vertex, space};
+ghost use Rattle.refutations.specs.Causes as causes;
+ghost use Rattle.refutations.specs.Causes.{is_cause};
+ghost use Rattle.numbering.specs.Assignments.{state_at};
+ghost use Rattle.numbering.specs.GivenViews.{cause_views, given_views};
+ghost use Rattle.named_terms.specs.CauseViews.{cause_view};
+ghost use Rattle.numbering.specs.KnownProblem.{KnowsDefault, problem};
+ghost use Rattle.numbering.specs.Numberings.{AddsOnly, IsGrown, IsNumbering};
+ghost use Rattle.numbering.specs.Pairs.{AreGiven, IsCauseAt, IsGivenAt, IsSpokenOf, spoken_by};
+ghost use Rattle.vertices.specs.RefViews.{state_ref_view, vertex_ref_view};
+
+use crate::instances::instance;
+use crate::known_problem::KnownProblem;
+use crate::pair_causes::causes_at;
+use crate::states::state_at;
+use crate::table::Table;
+use incompatibilities::Incompatibility;
+use named_terms::Cause;
+use std::alloc::{AllocError, Global};
+use version_sets::States;
+use vertices::{Kind, StateRef, VertexRef};
+
+/// The instances that have the vertex of this number in the state of this number as their first term, each once, with
+/// its kind; their vertices get numbers where they have none, and no others do.
+pub fn axioms_at<'a, S: States + Drop>(
+    alloc: Global,
+    known: &KnownProblem<'a>,
+    table: &mut Table<'a>,
+    number: usize,
+    state: usize,
+) -> Result<Vec<(Kind, Incompatibility<S>)>, AllocError>
+    requires default { KnowsDefault known.now }
+    requires numbering { IsNumbering (problem known.now) table.old }
+    requires state { (v : Vertex) → slice_get table.old number ≡ Some v
+        → state < length (space (problem known.now) v) }
+    ensures grown { IsGrown table.old table.new }
+    ensures numbering { IsNumbering (problem known.now) table.new }
+    ensures only { (v : Vertex) → slice_get table.old number ≡ Some v → AddsOnly (IsSpokenOf (problem known.now)
+        (IsCauseAt (problem known.now) (v, state_at (problem known.now) v state))) table.old table.new }
+    ensures given { IfOk result (λ xs. (v : Vertex) → slice_get table.old number ≡ Some v → IsGivenAt
+        (problem known.now) table.new (v, state_at (problem known.now) v state) (given_views S.tests xs.items)) }
+{
+    match table.vertex(number) {
+        Some(vertex) => vertex_axioms(alloc, known, table, vertex, state),
+        None => Ok(Vec::new(alloc)),
+    }
+}
+
+/// The same of a vertex.
+fn vertex_axioms<'a, S: States + Drop>(
+    alloc: Global,
+    known: &KnownProblem<'a>,
+    table: &mut Table<'a>,
+    vertex: VertexRef<'a>,
+    number: usize,
+) -> Result<Vec<(Kind, Incompatibility<S>)>, AllocError>
+    requires default { KnowsDefault known.now }
+    requires numbering { IsNumbering (problem known.now) table.old }
+    requires vertex { IsVertex (problem known.now) (vertex_ref_view vertex) }
+    requires state { number < length (space (problem known.now) (vertex_ref_view vertex)) }
+    ensures grown { IsGrown table.old table.new }
+    ensures numbering { IsNumbering (problem known.now) table.new }
+    ensures only { AddsOnly
+        (IsSpokenOf (problem known.now) (IsCauseAt (problem known.now) (
+          vertex_ref_view vertex.entry,
+          state_at (problem known.now) (vertex_ref_view vertex.entry) number,
+        ))) table.old table.new }
+    ensures given { IfOk result (λ xs. IsGivenAt (problem known.now) table.new (
+      vertex_ref_view vertex.entry,
+      state_at (problem known.now) (vertex_ref_view vertex.entry) number,
+    ) (given_views S.tests xs.items)) }
+{
+    let state = state_at(alloc, known, &vertex, number)?;
+    axioms_of(alloc, known, table, vertex, state)
+}
+
+/// The instances that have the vertex in the state as their first term, each once, with its kind; their vertices get
+/// numbers where they have none, and no others do. Who has the states of a vertex at hand need not look each up by its
+/// number.
+pub fn axioms_of<'a, S: States + Drop>(
+    alloc: Global,
+    known: &KnownProblem<'a>,
+    table: &mut Table<'a>,
+    vertex: VertexRef<'a>,
+    state: StateRef<'a>,
+) -> Result<Vec<(Kind, Incompatibility<S>)>, AllocError>
+    requires default { KnowsDefault known.now }
+    requires numbering { IsNumbering (problem known.now) table.old }
+    requires vertex { IsVertex (problem known.now) (vertex_ref_view vertex) }
+    requires state { Contains (space (problem known.now) (vertex_ref_view vertex)) (state_ref_view state) }
+    ensures grown { IsGrown table.old table.new }
+    ensures numbering { IsNumbering (problem known.now) table.new }
+    ensures only { AddsOnly (IsSpokenOf (problem known.now) (IsCauseAt (problem known.now)
+        (vertex_ref_view vertex.entry, state_ref_view state.entry))) table.old table.new }
+    ensures given { IfOk result (λ xs. IsGivenAt (problem known.now) table.new
+        (vertex_ref_view vertex.entry, state_ref_view state.entry) (given_views S.tests xs.items)) }
+{
+    let causes = causes_at(alloc, known, vertex, state)?;
+    instances(alloc, known, table, causes.as_slice())
+}
+
+/// The instances of causes, each with its kind.
+fn instances<'a, S: States + Drop>(
+    alloc: Global,
+    known: &KnownProblem<'a>,
+    table: &mut Table<'a>,
+    causes: &[Cause<'a>],
+) -> Result<Vec<(Kind, Incompatibility<S>)>, AllocError>
+    requires numbering { IsNumbering (problem known.now) table.old }
+    requires there { AllByRecursion (λ c. is_cause (problem known.now) c ≡ true) (cause_views causes.now) }
+    ensures grown { IsGrown table.old table.new }
+    ensures numbering { IsNumbering (problem known.now) table.new }
+    ensures only { AddsOnly (IsSpokenOf (problem known.now) (Contains (cause_views causes.now))) table.old table.new }
+    ensures given { IfOk result
+        (λ xs. AreGiven (problem known.now) table.new (cause_views causes.now) (given_views S.tests xs.items)) }
+{
+    let mut given = Vec::new(alloc);
+    'causes: for cause in causes.iter() {
+        put_instance(alloc, known, table, &mut given, cause)?;
+    }
+    Ok(given)
+}
+
+fn put_instance<'a, S: States + Drop>(
+    alloc: Global,
+    known: &KnownProblem<'a>,
+    table: &mut Table<'a>,
+    given: &mut Vec<(Kind, Incompatibility<S>)>,
+    cause: &Cause<'a>,
+) -> Result<(), AllocError>
+    requires numbering { IsNumbering (problem known.now) table.old }
+    requires there { is_cause (problem known.now) (cause_view cause.now) ≡ true }
+    ensures grown { IsGrown table.old table.new }
+    ensures numbering { IsNumbering (problem known.now) table.new }
+    ensures only { AddsOnly (Contains (spoken_by (problem known.now) (cause_view cause.now))) table.old table.new }
+    ensures given { OnOk result
+        ((cs : List causes.Cause) → AreGiven (problem known.now) table.old cs (given_views S.tests given.old.items)
+        → AreGiven (problem known.now) table.new (cs ++ cause_view cause.now ∷ [])
+        (given_views S.tests given.new.items)) }
+{
+    let made = instance(alloc, known, table, cause)?;
+    given.push((cause.kind(), made))?;
+    Ok(())
+}

@@ -1,0 +1,187 @@
+//! The causes of the instances that are added once a vertex has a state.
+
+ghost use Rattle.std.specs.Prelude.{◌≡◌, ◌++◌, ◌∷◌, [], Contains, IfOk, OnOk, map};
+ghost use Rattle.semver.specs.Identifiers.{parts_of};
+ghost use Rattle.classes.specs.Classes.{class_view};
+ghost use Rattle.model.specs.Axioms.{IsVertex};
+ghost use Rattle.model.specs.Vertices as model;
+ghost use Rattle.refutations.specs.Causes.{of_ask};
+ghost use Rattle.refutations.specs.Listed.{classes_at};
+ghost use Rattle.numbering.specs.GivenViews.{cause_views};
+ghost use Rattle.named_terms.specs.CauseViews.{cause_view};
+ghost use Rattle.numbering.specs.CausesAt.{causes_at};
+ghost use Rattle.numbering.specs.KnownProblem.{KnowsDefault, problem};
+ghost use Rattle.numbering.specs.Pairs.{AreCausesAt};
+ghost use Rattle.vertices.specs.RefViews.{state_ref_view, vertex_ref_view};
+
+use crate::causes::{each_once, put_needs, put_version};
+use crate::known_problem::KnownProblem;
+use crate::leading::{Lead, put_lead};
+use crate::lookups::dependencies_of;
+use crate::possible_classes::classes_at;
+use classes::Class;
+use features::{FeatureName, PackageName};
+use indexmap::IndexSet;
+use named_terms::Cause;
+use semver::Version;
+use std::alloc::{AllocError, Global};
+use vertices::{OwnerRef, StateRef, VertexRef};
+
+/// The causes whose instances are added once the vertex has the state, each once.
+pub fn causes_at<'a>(
+    alloc: Global,
+    known: &KnownProblem<'a>,
+    vertex: VertexRef<'a>,
+    state: StateRef<'a>,
+) -> Result<IndexSet<Cause<'a>>, AllocError>
+    requires default { KnowsDefault known.now }
+    requires vertex { IsVertex (problem known.now) (vertex_ref_view vertex) }
+    requires state { Contains (model.space (problem known.now) (vertex_ref_view vertex)) (state_ref_view state) }
+    ensures { IfOk result (λ s. AreCausesAt (problem known.now)
+        (vertex_ref_view vertex.entry, state_ref_view state.entry) (cause_views s.keys)) }
+{
+    let mut causes = Vec::new(alloc);
+    put_causes(alloc, known, &mut causes, vertex, state)?;
+    each_once(alloc, causes.as_slice())
+}
+
+fn put_causes<'a>(
+    alloc: Global,
+    known: &KnownProblem<'a>,
+    causes: &mut Vec<Cause<'a>>,
+    vertex: VertexRef<'a>,
+    state: StateRef<'a>,
+) -> Result<(), AllocError>
+    requires default { KnowsDefault known.now }
+    ensures { OnOk result (cause_views causes.new.items ≡ cause_views causes.old.items
+        ++ causes_at (problem known.now) (vertex_ref_view vertex.entry) (state_ref_view state.entry)) }
+{
+    match state {
+        StateRef::Absent => match vertex {
+            VertexRef::Root => put_one(causes, Cause::Root),
+            VertexRef::Package(_, _) => Ok(()),
+            VertexRef::Dependency(_, _) => Ok(()),
+            VertexRef::Feature(_, _, _) => Ok(()),
+            VertexRef::Ask(_, _, _, _) => Ok(()),
+        },
+        StateRef::Present => put_present(alloc, known, causes, vertex),
+        StateRef::Version(version) => put_chosen(alloc, known, causes, vertex, version),
+        StateRef::Class(class) => put_in_class(alloc, known, causes, vertex, class),
+    }
+}
+
+fn put_one<'a>(causes: &mut Vec<Cause<'a>>, cause: Cause<'a>) -> Result<(), AllocError>
+    ensures { OnOk result (cause_views causes.new.items ≡ cause_views causes.old.items ++ cause_view cause.entry ∷ []) }
+{
+    causes.push(cause)?;
+    Ok(())
+}
+
+/// The root needs its dependencies, a feature versions that have it, an ask the feature where it leads.
+fn put_present<'a>(
+    alloc: Global,
+    known: &KnownProblem<'a>,
+    causes: &mut Vec<Cause<'a>>,
+    vertex: VertexRef<'a>,
+) -> Result<(), AllocError>
+    ensures { OnOk result (cause_views causes.new.items ≡ cause_views causes.old.items
+        ++ causes_at (problem known.now) (vertex_ref_view vertex.entry) model.present) }
+{
+    match vertex {
+        VertexRef::Root => {
+            let dependencies = dependencies_of(known, &OwnerRef::Root);
+            put_needs(causes, OwnerRef::Root, dependencies)
+        }
+        VertexRef::Package(_, _) => Ok(()),
+        VertexRef::Dependency(_, _) => Ok(()),
+        VertexRef::Feature(name, class, feature) => {
+            put_one(causes, Cause::Feature(name, class, feature))
+        }
+        VertexRef::Ask(name, version, number, feature) => {
+            put_asks(alloc, known, causes, name, version, number, feature)
+        }
+    }
+}
+
+/// What an ask gives in each class that its dependency may lead to.
+fn put_asks<'a>(
+    alloc: Global,
+    known: &KnownProblem<'a>,
+    causes: &mut Vec<Cause<'a>>,
+    name: &'a PackageName,
+    version: &'a Version,
+    number: usize,
+    feature: &'a FeatureName,
+) -> Result<(), AllocError>
+    ensures { OnOk result (cause_views causes.new.items ≡ cause_views causes.old.items
+        ++ map (of_ask name.entry.now (parts_of version.entry.now) number feature.entry.now)
+        (classes_at (problem known.now) (model.version_of name.entry.now (parts_of version.entry.now)) number)) }
+{
+    let classes = classes_at(alloc, known, &OwnerRef::Version(name, version), number)?;
+    put_asks_in(causes, name, version, number, feature, classes.as_slice())
+}
+
+fn put_asks_in<'a>(
+    causes: &mut Vec<Cause<'a>>,
+    name: &'a PackageName,
+    version: &'a Version,
+    number: usize,
+    feature: &'a FeatureName,
+    classes: &[Class],
+) -> Result<(), AllocError>
+    ensures { OnOk result (cause_views causes.new.items ≡ cause_views causes.old.items ++ map (of_ask name.entry.now
+        (parts_of version.entry.now) number feature.entry.now) (map class_view classes.now)) }
+{
+    'classes: for class in classes.iter() {
+        put_one(causes, Cause::Ask(name, version, number, feature, *class))?;
+    }
+    Ok(())
+}
+
+/// What a package gives once a version is chosen.
+fn put_chosen<'a>(
+    alloc: Global,
+    known: &KnownProblem<'a>,
+    causes: &mut Vec<Cause<'a>>,
+    vertex: VertexRef<'a>,
+    version: &'a Version,
+) -> Result<(), AllocError>
+    ensures { OnOk result (cause_views causes.new.items ≡ cause_views causes.old.items ++ causes_at (problem known.now)
+        (vertex_ref_view vertex.entry) (model.version (parts_of version.entry.now))) }
+{
+    match vertex {
+        VertexRef::Root => Ok(()),
+        VertexRef::Package(name, _) => put_version(alloc, known, causes, name, version),
+        VertexRef::Dependency(_, _) => Ok(()),
+        VertexRef::Feature(_, _, _) => Ok(()),
+        VertexRef::Ask(_, _, _, _) => Ok(()),
+    }
+}
+
+/// What a dependency gives once it leads to a class.
+fn put_in_class<'a>(
+    alloc: Global,
+    known: &KnownProblem<'a>,
+    causes: &mut Vec<Cause<'a>>,
+    vertex: VertexRef<'a>,
+    class: Class,
+) -> Result<(), AllocError>
+    requires default { KnowsDefault known.now }
+    ensures { OnOk result (cause_views causes.new.items ≡ cause_views causes.old.items
+        ++ causes_at (problem known.now) (vertex_ref_view vertex.entry) (model.in_class (class_view class))) }
+{
+    match vertex {
+        VertexRef::Root => Ok(()),
+        VertexRef::Package(_, _) => Ok(()),
+        VertexRef::Dependency(owner, number) => {
+            let lead = Lead {
+                owner,
+                number,
+                class,
+            };
+            put_lead(alloc, known, causes, lead)
+        }
+        VertexRef::Feature(_, _, _) => Ok(()),
+        VertexRef::Ask(_, _, _, _) => Ok(()),
+    }
+}

@@ -1,0 +1,497 @@
+//! The terms of the instance that a cause gives rise to, each as a vertex and tests of its space.
+
+ghost use Rattle.std.specs.Prelude.{◌≡◌, ◌∷◌, [], true, false, not, Some, IfOk};
+ghost use Rattle.semver.specs.Identifiers.{parts_of};
+ghost use Rattle.classes.specs.Classes.{class_view};
+ghost use Rattle.features.specs.Views.{dependency_view};
+ghost use Rattle.model.specs.Axioms.{absent_or, at, matched, owner_holds, versions_that};
+ghost use Rattle.model.specs.Selection.{class_of};
+ghost use Rattle.model.specs.Summary.{has_feature};
+ghost use Rattle.model.specs.Vertices as model;
+ghost use Rattle.refutations.specs.Causes as causes;
+ghost use Rattle.refutations.specs.Causes.{dependency_at, feature_holds, terms_of_cause};
+ghost use Rattle.named_terms.specs.CauseViews.{cause_view};
+ghost use Rattle.numbering.specs.KnownProblem.{problem};
+ghost use Rattle.numbering.specs.TestedTerms.{tested, tested_view, tested_views, all_tested};
+ghost use Rattle.vertices.specs.RefViews.{owner_ref_view, vertex_ref_view};
+
+use crate::known_problem::KnownProblem;
+use crate::lookups::dependency_at;
+use crate::possible_classes::{classes_at, classes_of};
+use crate::space_tests::{
+    chosen_tests, class_tests, lacking_tests, left_tests, no_class, taken_tests,
+};
+use catalogue::catalogues_are_well_formed;
+use classes::Class;
+use features::{DependencyParts, FeatureName, PackageName};
+use looking_up::{class_candidates, class_versions};
+use named_terms::Cause;
+use semver::Version;
+use std::alloc::{AllocError, Global};
+use vertices::{OwnerRef, VertexRef};
+
+/// A term: a vertex, and for each of its states, in their order, whether the term has it.
+#[derive(Drop)]
+pub(crate) struct TestedTerm<'a> {
+    pub(crate) vertex: VertexRef<'a>,
+    pub(crate) tests: Vec<bool>,
+}
+
+/// The terms of the instance.
+pub(crate) fn terms_tested<'a>(
+    alloc: Global,
+    known: &KnownProblem<'a>,
+    cause: &Cause<'a>,
+) -> Result<Vec<TestedTerm<'a>>, AllocError>
+    ensures { IfOk result (λ v. tested_views v.items
+        ≡ all_tested (problem known.now) (terms_of_cause (problem known.now) (cause_view cause.now))) }
+{
+    match *cause {
+        Cause::Root => Ok(vec![in alloc; two_states(alloc, VertexRef::Root, false)?]?),
+        Cause::Need(owner, number) => need_terms(alloc, known, owner, number),
+        Cause::Target(owner, number, class) => target_terms(alloc, known, owner, number, class),
+        Cause::Feature(name, class, feature) => feature_terms(alloc, known, name, class, feature),
+        Cause::List(owner, number, class, feature) => {
+            list_terms(alloc, known, owner, number, class, feature)
+        }
+        Cause::Ask(name, version, number, feature, class) => {
+            ask_terms(alloc, known, name, version, number, feature, class)
+        }
+        Cause::Entry(name, version, on, off) => entry_terms(alloc, known, name, version, on, off),
+        Cause::Enabling(name, version, on, _, number) => {
+            enabling_terms(alloc, known, name, version, on, number)
+        }
+        Cause::Asking(name, version, on, asked, number) => {
+            asking_terms(alloc, known, name, version, on, asked, number)
+        }
+        Cause::Newest(owner, number, other, class, higher) => {
+            newest_terms(alloc, known, owner, number, other, class, higher)
+        }
+        Cause::Weak(name, version, on, off, number, class) => {
+            weak_terms(alloc, known, name, version, on, off, number, class)
+        }
+    }
+}
+
+/// A vertex that may be absent or present: it is the one of them.
+fn two_states(
+    alloc: Global,
+    vertex: VertexRef<'_>,
+    present: bool,
+) -> Result<TestedTerm<'_>, AllocError>
+    ensures { IfOk result (λ p. tested_view p ≡ (vertex_ref_view vertex.entry, not present ∷ present ∷ [])) }
+{
+    let mut tests = Vec::with_capacity(alloc, 2)?;
+    tests.push(!present)?;
+    tests.push(present)?;
+    Ok(TestedTerm { vertex, tests })
+}
+
+/// The versions of the package in the class that pass, and absent first.
+fn package_term<'a>(name: &'a PackageName, class: Class, tests: Vec<bool>) -> TestedTerm<'a>
+    ensures { tested_view result ≡ (model.pkg name.entry.now (class_view class), tests.items) }
+{
+    TestedTerm {
+        vertex: VertexRef::Package(name, class),
+        tests,
+    }
+}
+
+/// The owner counts.
+fn holds<'a>(
+    alloc: Global,
+    known: &KnownProblem<'a>,
+    owner: OwnerRef<'a>,
+) -> Result<TestedTerm<'a>, AllocError>
+    ensures { IfOk result
+        (λ p. tested_view p ≡ tested (problem known.now) (owner_holds (owner_ref_view owner.entry))) }
+{
+    match owner {
+        OwnerRef::Root => two_states(alloc, VertexRef::Root, true),
+        OwnerRef::Version(name, version) => chosen(alloc, known, name, version),
+    }
+}
+
+/// The version is chosen.
+fn chosen<'a>(
+    alloc: Global,
+    known: &KnownProblem<'a>,
+    name: &'a PackageName,
+    version: &'a Version,
+) -> Result<TestedTerm<'a>, AllocError>
+    ensures { IfOk result (λ p. tested_view p ≡ tested (problem known.now) (at (model.pkg name.entry.now
+        (class_of (parts_of version.entry.now))) (model.version (parts_of version.entry.now) ∷ []))) }
+{
+    let class = Class::of(version);
+    let versions = class_versions(known.catalogue, name, class);
+    let tests = chosen_tests(alloc, version, versions)?;
+    Ok(package_term(name, class, tests))
+}
+
+/// The feature of the version is on, or off.
+fn own_feature<'a>(
+    alloc: Global,
+    name: &'a PackageName,
+    version: &'a Version,
+    feature: &'a FeatureName,
+    on: bool,
+) -> Result<TestedTerm<'a>, AllocError>
+    ensures { IfOk result (λ p. tested_view p
+        ≡ (model.feat name.entry.now (class_of (parts_of version.entry.now)) feature.entry.now, not on ∷ on ∷ [])) }
+{
+    two_states(
+        alloc,
+        VertexRef::Feature(name, Class::of(version), feature),
+        on,
+    )
+}
+
+/// The feature is off in the class.
+fn off_there<'a>(
+    alloc: Global,
+    dependency: &'a DependencyParts,
+    class: Class,
+    feature: &'a FeatureName,
+) -> Result<TestedTerm<'a>, AllocError>
+    ensures { IfOk result (λ p. tested_view p ≡ (
+      model.feat (dependency_view dependency.entry.now).real_name
+          (class_view class) feature.entry.now,
+      true ∷ false ∷ [],
+    )) }
+{
+    two_states(
+        alloc,
+        VertexRef::Feature(&dependency.real_name, class, feature),
+        false,
+    )
+}
+
+/// The dependency is absent.
+fn absent<'a>(
+    alloc: Global,
+    known: &KnownProblem<'a>,
+    owner: OwnerRef<'a>,
+    number: usize,
+) -> Result<TestedTerm<'a>, AllocError>
+    ensures { IfOk result (λ p. tested_view p
+        ≡ tested (problem known.now) (at (model.dep (owner_ref_view owner.entry) number) (model.absent ∷ []))) }
+{
+    let classes = classes_at(alloc, known, &owner, number)?;
+    let tests = no_class(alloc, classes.as_slice())?;
+    Ok(TestedTerm {
+        vertex: VertexRef::Dependency(owner, number),
+        tests,
+    })
+}
+
+/// The dependency, which has this number among those of its owner, leads to the class.
+fn leads_to<'a>(
+    alloc: Global,
+    known: &KnownProblem<'a>,
+    owner: OwnerRef<'a>,
+    number: usize,
+    dependency: &'a DependencyParts,
+    class: Class,
+) -> Result<TestedTerm<'a>, AllocError>
+    requires { dependency_at (problem known.now) (owner_ref_view owner) number ≡ Some (dependency_view dependency.now) }
+    ensures { IfOk result (λ p. tested_view p ≡ tested (problem known.now)
+        (at (model.dep (owner_ref_view owner.entry) number) (model.in_class (class_view class) ∷ []))) }
+{
+    let classes = classes_of(alloc, known, dependency)?;
+    let tests = class_tests(alloc, class, classes.as_slice())?;
+    Ok(TestedTerm {
+        vertex: VertexRef::Dependency(owner, number),
+        tests,
+    })
+}
+
+/// The dependency leads to the class.
+fn leads<'a>(
+    alloc: Global,
+    known: &KnownProblem<'a>,
+    owner: OwnerRef<'a>,
+    number: usize,
+    class: Class,
+) -> Result<TestedTerm<'a>, AllocError>
+    ensures { IfOk result (λ p. tested_view p ≡ tested (problem known.now)
+        (at (model.dep (owner_ref_view owner.entry) number) (model.in_class (class_view class) ∷ []))) }
+{
+    let classes = classes_at(alloc, known, &owner, number)?;
+    let tests = class_tests(alloc, class, classes.as_slice())?;
+    Ok(TestedTerm {
+        vertex: VertexRef::Dependency(owner, number),
+        tests,
+    })
+}
+
+fn need_terms<'a>(
+    alloc: Global,
+    known: &KnownProblem<'a>,
+    owner: OwnerRef<'a>,
+    number: usize,
+) -> Result<Vec<TestedTerm<'a>>, AllocError>
+    ensures { IfOk result (λ v. tested_views v.items ≡ all_tested (problem known.now)
+        (terms_of_cause (problem known.now) (causes.of_need (owner_ref_view owner.entry) number))) }
+{
+    Ok(vec![in alloc;
+        holds(alloc, known, owner)?,
+        absent(alloc, known, owner, number)?,
+    ]?)
+}
+
+fn entry_terms<'a>(
+    alloc: Global,
+    known: &KnownProblem<'a>,
+    name: &'a PackageName,
+    version: &'a Version,
+    on: &'a FeatureName,
+    off: &'a FeatureName,
+) -> Result<Vec<TestedTerm<'a>>, AllocError>
+    ensures { IfOk result (λ v. tested_views v.items ≡ all_tested (problem known.now)
+        (feature_holds name.entry.now (parts_of version.entry.now) on.entry.now (at (model.feat name.entry.now
+        (class_of (parts_of version.entry.now)) off.entry.now) (model.absent ∷ []) ∷ []))) }
+{
+    Ok(vec![in alloc;
+        chosen(alloc, known, name, version)?,
+        own_feature(alloc, name, version, on, true)?,
+        own_feature(alloc, name, version, off, false)?,
+    ]?)
+}
+
+fn enabling_terms<'a>(
+    alloc: Global,
+    known: &KnownProblem<'a>,
+    name: &'a PackageName,
+    version: &'a Version,
+    on: &'a FeatureName,
+    number: usize,
+) -> Result<Vec<TestedTerm<'a>>, AllocError>
+    ensures { IfOk result (λ v. tested_views v.items ≡ all_tested (problem known.now) (feature_holds name.entry.now
+        (parts_of version.entry.now) on.entry.now (at (model.dep (model.version_of name.entry.now
+        (parts_of version.entry.now)) number) (model.absent ∷ []) ∷ []))) }
+{
+    Ok(vec![in alloc;
+        chosen(alloc, known, name, version)?,
+        own_feature(alloc, name, version, on, true)?,
+        absent(alloc, known, OwnerRef::Version(name, version), number)?,
+    ]?)
+}
+
+fn asking_terms<'a>(
+    alloc: Global,
+    known: &KnownProblem<'a>,
+    name: &'a PackageName,
+    version: &'a Version,
+    on: &'a FeatureName,
+    asked: &'a FeatureName,
+    number: usize,
+) -> Result<Vec<TestedTerm<'a>>, AllocError>
+    ensures { IfOk result (λ v. tested_views v.items ≡ all_tested (problem known.now)
+        (feature_holds name.entry.now (parts_of version.entry.now) on.entry.now (at (model.ask name.entry.now
+        (parts_of version.entry.now) number asked.entry.now) (model.absent ∷ []) ∷ []))) }
+{
+    Ok(vec![in alloc;
+        chosen(alloc, known, name, version)?,
+        own_feature(alloc, name, version, on, true)?,
+        two_states(alloc, VertexRef::Ask(name, version, number, asked), false)?,
+    ]?)
+}
+
+fn target_terms<'a>(
+    alloc: Global,
+    known: &KnownProblem<'a>,
+    owner: OwnerRef<'a>,
+    number: usize,
+    class: Class,
+) -> Result<Vec<TestedTerm<'a>>, AllocError>
+    ensures { IfOk result (λ v. tested_views v.items ≡ all_tested (problem known.now) (terms_of_cause
+        (problem known.now) (causes.of_target (owner_ref_view owner.entry) number (class_view class)))) }
+{
+    match dependency_at(known, &owner, number) {
+        Some(dependency) => Ok(vec![in alloc;
+            leads_to(alloc, known, owner, number, dependency, class)?,
+            left(alloc, known, dependency, class)?,
+        ]?),
+        None => Ok(Vec::new(alloc)),
+    }
+}
+
+/// The package is absent or has a version of the class that isn't matched.
+fn left<'a>(
+    alloc: Global,
+    known: &KnownProblem<'a>,
+    dependency: &'a DependencyParts,
+    class: Class,
+) -> Result<TestedTerm<'a>, AllocError>
+    ensures { IfOk result (λ p. tested_view p ≡ tested (problem known.now)
+        (at (model.pkg (dependency_view dependency.entry.now).real_name (class_view class))
+        (absent_or (problem known.now) (λ c. not (matched (dependency_view dependency.entry.now) c))
+        (dependency_view dependency.entry.now).real_name (class_view class)))) }
+{
+    let versions = class_versions(known.catalogue, &dependency.real_name, class);
+    let tests = left_tests(alloc, &dependency.requirement, versions)?;
+    Ok(package_term(&dependency.real_name, class, tests))
+}
+
+/// The package has a version of the class that is matched.
+fn taken<'a>(
+    alloc: Global,
+    known: &KnownProblem<'a>,
+    dependency: &'a DependencyParts,
+    class: Class,
+) -> Result<TestedTerm<'a>, AllocError>
+    ensures { IfOk result
+        (λ p. tested_view p
+        ≡ tested (problem known.now) (at (model.pkg (dependency_view dependency.entry.now).real_name
+        (class_view class)) (versions_that (problem known.now) (matched (dependency_view dependency.entry.now))
+        (dependency_view dependency.entry.now).real_name (class_view class)))) }
+{
+    let versions = class_versions(known.catalogue, &dependency.real_name, class);
+    let tests = taken_tests(alloc, &dependency.requirement, versions)?;
+    Ok(package_term(&dependency.real_name, class, tests))
+}
+
+/// The package is absent or has a version of the class that lacks the feature.
+fn lacking<'a>(
+    alloc: Global,
+    known: &KnownProblem<'a>,
+    name: &'a PackageName,
+    class: Class,
+    feature: &FeatureName,
+) -> Result<TestedTerm<'a>, AllocError>
+    ensures { IfOk result (λ p. tested_view p ≡ tested (problem known.now)
+        (at (model.pkg name.entry.now (class_view class)) (absent_or (problem known.now)
+        (λ c. not (has_feature c.brings.features feature.now)) name.entry.now (class_view class)))) }
+{
+    catalogues_are_well_formed(known.manifest, known.catalogue);
+    let candidates = class_candidates(known.catalogue, name, class);
+    let tests = lacking_tests(alloc, feature, candidates)?;
+    Ok(package_term(name, class, tests))
+}
+
+fn feature_terms<'a>(
+    alloc: Global,
+    known: &KnownProblem<'a>,
+    name: &'a PackageName,
+    class: Class,
+    feature: &'a FeatureName,
+) -> Result<Vec<TestedTerm<'a>>, AllocError>
+    ensures { IfOk result (λ v. tested_views v.items ≡ all_tested (problem known.now) (terms_of_cause
+        (problem known.now) (causes.of_feature name.entry.now (class_view class) feature.entry.now))) }
+{
+    Ok(vec![in alloc;
+        two_states(alloc, VertexRef::Feature(name, class, feature), true)?,
+        lacking(alloc, known, name, class, feature)?,
+    ]?)
+}
+
+fn list_terms<'a>(
+    alloc: Global,
+    known: &KnownProblem<'a>,
+    owner: OwnerRef<'a>,
+    number: usize,
+    class: Class,
+    feature: &'a FeatureName,
+) -> Result<Vec<TestedTerm<'a>>, AllocError>
+    ensures { IfOk result
+        (λ v. tested_views v.items ≡ all_tested (problem known.now) (terms_of_cause (problem known.now)
+        (causes.of_list (owner_ref_view owner.entry) number (class_view class) feature.entry.now))) }
+{
+    match dependency_at(known, &owner, number) {
+        Some(dependency) => Ok(vec![in alloc;
+            leads_to(alloc, known, owner, number, dependency, class)?,
+            off_there(alloc, dependency, class, feature)?,
+        ]?),
+        None => Ok(Vec::new(alloc)),
+    }
+}
+
+fn ask_terms<'a>(
+    alloc: Global,
+    known: &KnownProblem<'a>,
+    name: &'a PackageName,
+    version: &'a Version,
+    number: usize,
+    feature: &'a FeatureName,
+    class: Class,
+) -> Result<Vec<TestedTerm<'a>>, AllocError>
+    ensures { IfOk result
+        (λ v. tested_views v.items ≡ all_tested (problem known.now) (terms_of_cause (problem known.now)
+        (causes.of_ask name.entry.now (parts_of version.entry.now) number feature.entry.now (class_view class)))) }
+{
+    let owner = OwnerRef::Version(name, version);
+    match dependency_at(known, &owner, number) {
+        Some(dependency) => Ok(vec![in alloc;
+            two_states(alloc, VertexRef::Ask(name, version, number, feature), true)?,
+            leads_to(alloc, known, owner, number, dependency, class)?,
+            off_there(alloc, dependency, class, feature)?,
+        ]?),
+        None => Ok(Vec::new(alloc)),
+    }
+}
+
+fn newest_terms<'a>(
+    alloc: Global,
+    known: &KnownProblem<'a>,
+    owner: OwnerRef<'a>,
+    number: usize,
+    other: usize,
+    class: Class,
+    higher: Class,
+) -> Result<Vec<TestedTerm<'a>>, AllocError>
+    ensures { IfOk result
+        (λ v. tested_views v.items ≡ all_tested (problem known.now) (terms_of_cause (problem known.now)
+        (causes.of_newest (owner_ref_view owner.entry) number other (class_view class) (class_view higher)))) }
+{
+    match dependency_at(known, &owner, number) {
+        Some(dependency) => Ok(vec![in alloc;
+            leads_to(alloc, known, owner, number, dependency, class)?,
+            leads(alloc, known, owner, other, higher)?,
+            taken(alloc, known, dependency, higher)?,
+        ]?),
+        None => Ok(Vec::new(alloc)),
+    }
+}
+
+fn weak_terms<'a>(
+    alloc: Global,
+    known: &KnownProblem<'a>,
+    name: &'a PackageName,
+    version: &'a Version,
+    on: &'a FeatureName,
+    off: &'a FeatureName,
+    number: usize,
+    class: Class,
+) -> Result<Vec<TestedTerm<'a>>, AllocError>
+    ensures { IfOk result (λ v. tested_views v.items
+        ≡ all_tested (problem known.now) (terms_of_cause (problem known.now) (causes.of_weak name.entry.now
+        (parts_of version.entry.now) on.entry.now off.entry.now number (class_view class)))) }
+{
+    let owner = OwnerRef::Version(name, version);
+    match dependency_at(known, &owner, number) {
+        Some(dependency) => four(
+            alloc,
+            chosen(alloc, known, name, version)?,
+            own_feature(alloc, name, version, on, true)?,
+            leads_to(alloc, known, owner, number, dependency, class)?,
+            off_there(alloc, dependency, class, off)?,
+        ),
+        None => Ok(Vec::new(alloc)),
+    }
+}
+
+fn four<'a>(
+    alloc: Global,
+    a: TestedTerm<'a>,
+    b: TestedTerm<'a>,
+    c: TestedTerm<'a>,
+    d: TestedTerm<'a>,
+) -> Result<Vec<TestedTerm<'a>>, AllocError>
+    ensures { IfOk result
+        (λ v. tested_views v.items
+        ≡ tested_view a.entry ∷ tested_view b.entry ∷ tested_view c.entry ∷ tested_view d.entry ∷ []) }
+{
+    let mut tested_terms = vec![in alloc; a, b, c]?;
+    tested_terms.push(d)?;
+    Ok(tested_terms)
+}
