@@ -1,82 +1,127 @@
 -- What the resolution of a conflict finds, learns and leaves (Dart pub's `solver.md`, "Conflict Resolution").
-use Rattle.std.specs.Prelude.{◌≡◌, ℕ, ◌<◌, ◌≤◌, Bool, true, false, List, [], ◌++◌, length, Option, Some, None}
+use Rattle.std.specs.Prelude.{◌≡◌, ℕ, suc, ◌+◌, ◌-◌, true, ◌<◌, ◌≤◌, ◌⊎◌, List, [], ◌∷◌, ◌++◌, length, Option, Some, None}
 use Rattle.version_sets.specs.Sets.{Members}
-use Rattle.incompatibilities.specs.Incompatibilities.{IsCombination, IsIncompatibility, states_at}
+use Rattle.incompatibilities.specs.Incompatibilities.{IsIncompatibility, LiesIn, states_at}
 use Rattle.terms.specs.Terms.{TermView}
-use Rattle.incompatibilities.specs.Stores.{EntryView, Follows, entry, terms_of, touches, watched}
-use Rattle.incompatibilities.specs.declared.origin.Origin.TheVariants.{Combined}
-use Rattle.propagation.specs.Trails.{StepView, TrailView, end_sets}
+use Rattle.incompatibilities.specs.Chains.{ChainView}
+use Rattle.incompatibilities.specs.declared.chain.Link.{Link}
+use Rattle.incompatibilities.specs.Stores.{ComesOut, EntryView, Follows, IsAxiom, entry, terms_of, touches}
+use Rattle.incompatibilities.specs.declared.origin.Origin.TheVariants as origins
+use Rattle.propagation.specs.Trails.{StepView, TrailView, end_sets, space_of}
 use Rattle.propagation.specs.Satisfaction.{IsOneOpen, Sat}
-use Rattle.propagation.specs.Promises.{ForcedFits, IsCut, IsSatisfied, OpenFits}
+use Rattle.propagation.specs.Promises.{ForcedFits, IsCut, IsSatisfied, IsTrail, OpenFits}
 use Rattle.propagation.specs.declared.satisfying.Satisfier.{Satisfier}
-use Rattle.conflicts.specs.Covering.{AllLie}
-use Rattle.conflicts.specs.declared.resolving.Resolution.{Resolution}
-use Rattle.conflicts.specs.declared.resolving.Resolution.TheVariants.{Learned, Unsolvable}
+use Rattle.conflicts.specs.declared.lessons.Back.{Back}
+use Rattle.conflicts.specs.declared.lessons.Back.TheVariants.{No, Yes}
+use Rattle.conflicts.specs.declared.resolving.Outcome.{Outcome}
+use Rattle.conflicts.specs.declared.resolving.Outcome.TheVariants.{Learned, Unsolvable}
 
--- no watched entry of a store is satisfied at the end of a level below one
+-- no entry of a store is satisfied at the end of a level below one
 abbrev pub Quiet : List EntryView → TrailView → ℕ → Type 0
-Quiet es t level = (l : ℕ) → l < level → (id : ℕ) → id < length es → watched (entry es id).origin ≡ true
-    → ¬ Sat (end_sets t l) (terms_of es id)
+Quiet es t level = (l : ℕ) → l < level → (id : ℕ) → id < length es → ¬ Sat (end_sets t l) (terms_of es id)
 
--- the satisfier of an entry that has a term
-pub record IsSatisfierOf (es : List EntryView) (t : TrailView) (id : ℕ) (s : Satisfier) : Type 0 where
-  pub satisfied : IsSatisfied t (terms_of es id) s
-  pub forced_by : ForcedFits es t (entry es id).terms s s.forced_by
-  pub opens : OpenFits t (terms_of es id) s
+-- the satisfier of an incompatibility that has a term
+pub record IsSatisfierOf (es : List EntryView) (t : TrailView) (ts : List TermView) (s : Satisfier) : Type 0 where
+  pub satisfied : IsSatisfied t (states_at ts) s
+  pub cause : ForcedFits es t ts s s.cause
+  pub opens : OpenFits t (states_at ts) s
 
-abbrev pub Satisfies : List EntryView → TrailView → ℕ → Option Satisfier → Type 0
-Satisfies es t id None = (entry es id).terms ≡ []
-Satisfies es t id (Some s) = IsSatisfierOf es t id s
+abbrev pub Satisfies : List EntryView → TrailView → List TermView → Option Satisfier → Type 0
+Satisfies es t ts None = ts ≡ []
+Satisfies es t ts (Some s) = IsSatisfierOf es t ts s
 
-pub record IsFound (es : List EntryView) (t : TrailView) (id : ℕ) (found : Option Satisfier) : Type 0 where
-  pub satisfier : Satisfies es t id found
-  pub is : IsIncompatibility (entry es id).terms
-  pub follows : Follows es (terms_of es id)
+pub record IsFound (es : List EntryView) (t : TrailView) (ts : List TermView) (found : Option Satisfier) : Type 0 where
+  pub satisfier : Satisfies es t ts found
+  pub is : IsIncompatibility ts
 
--- an incompatibility is learned, and so watched, where its satisfier's level is above that of the other terms
-abbrev pub Learns : TrailView → List TermView → Bool → Type 0
-Learns t ts watches = (s : Satisfier) → IsSatisfied t (states_at ts) s → s.before < s.level → watches ≡ true
+-- an incompatibility is not satisfied at the end of a level below the trail's
+abbrev pub IsLone : TrailView → List TermView → Type 0
+IsLone t ts = (l : ℕ) → l < t.level → ¬ Sat (end_sets t l) (states_at ts)
 
--- an entry is not satisfied at the end of a level below the trail's
-abbrev pub IsLone : List EntryView → TrailView → ℕ → Type 0
-IsLone es t id = (l : ℕ) → l < t.level → ¬ Sat (end_sets t l) (terms_of es id)
+-- the other terms were satisfied by a satisfier's level, and before it if that was a decision
+abbrev pub IsPlaced : Option Satisfier → Type 0
+IsPlaced None = Unit {0}
+IsPlaced (Some s) = (s.before ≤ s.level) × (s.cause ≡ None → s.before < s.level)
 
--- where a resolution may start: at an entry that is satisfied, by no earlier level's end, and watched if it is learned
--- at once
-pub record IsStart (es : List EntryView) (t : TrailView) (id : ℕ) : Type 0 where
-  pub within : id < length es
-  pub satisfied : Sat t.sets (terms_of es id)
-  pub lone : IsLone es t id
-  pub learns : Learns t (entry es id).terms (watched (entry es id).origin)
+-- with what forced a satisfier, where the other terms were satisfied at its own level
+abbrev pub IsForcedAtLevel : Satisfier → Link → Type 0
+IsForcedAtLevel s l = (s.before ≡ s.level) × (s.cause ≡ Some l.with) × (l.vertex ≡ s.vertex)
 
--- what forced a satisfier, where the other terms were satisfied at its own level
-abbrev pub IsForcedAtLevel : Satisfier → Option ℕ → Type 0
-IsForcedAtLevel s None = s.before < s.level
-IsForcedAtLevel s (Some c) = (s.before ≡ s.level) × (s.forced_by ≡ Some c)
+-- a resolution ends at an incompatibility that has no term, or whose other terms were satisfied at a lower level than
+-- its satisfier's; else it goes on with one combination
+abbrev pub Ends : Option Satisfier → Type 0
+Ends None = Unit {0}
+Ends (Some s) = s.before < s.level
 
--- an entry is the combination of two earlier ones, at a vertex at which the first has a term
-pub record IsCombined (es : List EntryView) (id : ℕ) : Type 0 where
-  pub first : ℕ
-  pub second : ℕ
-  pub vertex : ℕ
-  pub watches : Bool
-  pub origin : (entry es id).origin ≡ Combined first second vertex watches
-  pub first_earlier : first < id
-  pub second_earlier : second < id
-  pub term : touches vertex (entry es first).terms ≡ true
-  pub is : IsCombination vertex (entry es first).terms (entry es second).terms (entry es id).terms
+abbrev pub IsNext : Option Satisfier → Option Link → Type 0
+IsNext found None = Ends found
+IsNext None (Some l) = ⊥
+IsNext (Some s) (Some l) = IsForcedAtLevel s l
 
--- a store gains combinations, and no watched entry is satisfied at the end of an earlier level of a trail
+-- what comes out of a chain of entries
+pub record IsHeld (es : List EntryView) (t : TrailView) (ts : List TermView) (chain : ChainView) : Type 0 where
+  pub first : chain.first < length es
+  pub comes_out : ComesOut es (length es) (entry es chain.first).terms chain.links ts
+  pub lies : LiesIn (space_of t) (states_at ts)
+
+-- what follows and is satisfied now, in a resolution; where no entry is satisfied at the end of a lower level, this
+-- isn't
+pub record IsLesson (es : List EntryView) (t : TrailView) (ts : List TermView) (chain : ChainView)
+    (found : Option Satisfier) : Type 0 where
+  pub held : IsHeld es t ts chain
+  pub some : (chain.links ≡ []) ⊎ (0 < length t.steps)
+  pub lone : Quiet es t t.level → IsLone t ts
+  pub here : (xs : List EntryView) → IsTrail xs t → IsFound xs t ts found
+
+-- how many places there are up to a satisfier, and before it
+abbrev pub places_left : Option Satisfier → ℕ
+places_left None = 0
+places_left (Some s) = suc s.place
+
+abbrev pub place_of : Option Satisfier → ℕ
+place_of None = 0
+place_of (Some s) = s.place
+
+-- a resolution can go on with an incompatibility that the first places satisfied
+abbrev pub IsBack : TrailView → List TermView → ℕ → Back → Type 0
+IsBack t ts places No = Unit {0}
+IsBack t ts places (Yes found) = IsLone t ts × ((xs : List EntryView) → IsTrail xs t → IsFound xs t ts found)
+    × (places_left found ≤ places)
+
+-- a store has room for one more beside the lesson, where it had so many entries before the conflict
+abbrev pub HasRoom : ℕ → TrailView → List EntryView → Type 0
+HasRoom first t es = length es ≤ first + (length t.steps - 1)
+
+-- an incompatibility and a store of one universe for each vertex
+abbrev pub LieSomewhere : List EntryView → List TermView → Type 0
+LieSomewhere es ts = (space : ℕ → ℕ) × ((id : ℕ) → id < length es → LiesIn space (terms_of es id))
+    × LiesIn space (states_at ts)
+
+-- an entry to combine an incompatibility with at a vertex where it has a term
+abbrev pub IsUnitFor : List EntryView → List TermView → ℕ → Option ℕ → Type 0
+IsUnitFor es ts v None = Unit {0}
+IsUnitFor es ts v (Some unit) = (unit < length es) × (touches v ts ≡ true)
+
+-- the entry that says what came out of a chain: the one that it begins with, if it has no combination, else a new one
+pub record IsKept (es : List EntryView) (ts : List TermView) (chain : ChainView) (new : List EntryView)
+    (id : ℕ) : Type 0 where
+  pub gained : List EntryView
+  pub grown : new ≡ es ++ gained
+  pub new_one : (gained ≡ []) ⊎ ((0 < length chain.links)
+      × (gained ≡ record { terms = ts; origin = origins.Learned chain } ∷ []))
+  pub within : id < length new
+  pub terms : (entry new id).terms ≡ ts
+
+-- a store gains learned entries alone; if no entry was satisfied at the end of an earlier level of a trail, none is
 pub record IsGained (old : List EntryView) (t : TrailView) (new gained : List EntryView) : Type 0 where
   pub grown : new ≡ old ++ gained
-  pub combined : (id : ℕ) → length old ≤ id → id < length new → IsCombined new id
-  pub quiet : Quiet new t t.level
+  pub learned : (id : ℕ) → length old ≤ id → id < length new → ¬ IsAxiom (entry new id).origin
+  pub quiet : Quiet old t t.level → Quiet new t t.level
 
--- the learned entry follows and is watched; the trail is cut to a level below its own, where one term of the entry is
--- open and all others are satisfied, and no lower level has that
+-- the learned entry follows; the trail is cut to a level below its own, where one term of the entry is open and all
+-- others are satisfied, and no lower level has that
 pub record IsLearned (t : TrailView) (es : List EntryView) (new : TrailView) (id back_to : ℕ) : Type 0 where
   pub within : id < length es
-  pub watches : watched (entry es id).origin ≡ true
   pub follows : Follows es (terms_of es id)
   pub lower : back_to < t.level
   pub gone : List StepView
@@ -93,20 +138,17 @@ pub record IsRefuted (t : TrailView) (es : List EntryView) (new : TrailView) (id
   pub none : (entry es id).terms ≡ []
   pub stays : new ≡ t
 
-abbrev pub Resolved : TrailView → List EntryView → TrailView → Resolution → Type 0
+abbrev pub Resolved : TrailView → List EntryView → TrailView → Outcome → Type 0
 Resolved t es new (Learned id back_to) = IsLearned t es new id back_to
 Resolved t es new (Unsolvable id) = IsRefuted t es new id
 
 -- what a resolution teaches: where a trail is cut as it says, that incompatibility is learned
-abbrev pub Teaches : List EntryView → TrailView → Resolution → Type 0
+abbrev pub Teaches : List EntryView → TrailView → Outcome → Type 0
 Teaches es t (Learned id back_to) = (back_to ≤ t.level)
     × ((new : TrailView) (gone : List StepView) → IsCut back_to t new gone → IsLearned t es new id back_to)
 Teaches es t (Unsolvable id) = IsRefuted t es t id
 
--- a store gains combinations that are not watched, of terms that lie where those of the store do
-pub record IsStrengthened (old new : List EntryView) : Type 0 where
-  pub gained : List EntryView
-  pub grown : new ≡ old ++ gained
-  pub combined : (id : ℕ) → length old ≤ id → id < length new → IsCombined new id
-  pub unwatched : (id : ℕ) → length old ≤ id → id < length new → watched (entry new id).origin ≡ false
-  pub lies : (space : ℕ → ℕ) → AllLie space old → AllLie space new
+-- the outcome where it ended at a satisfier
+abbrev pub outcome_of : ℕ → Option Satisfier → Outcome
+outcome_of id None = Unsolvable id
+outcome_of id (Some s) = Learned id s.before

@@ -1,47 +1,38 @@
-//! Making what stands in for entries: their combinations with what holds at level 0.
+//! Taking what holds at level 0 out of entries before they are combined.
 
-ghost use Rattle.conflicts.specs.Covering.{LieSomewhere};
-ghost use Rattle.conflicts.specs.Resolving.{IsStrengthened};
-ghost use Rattle.incompatibilities.specs.Incompatibilities.{states_at};
-ghost use Rattle.incompatibilities.specs.Stores.{entries_view, entry, touches};
-ghost use Rattle.propagation.specs.Trails.{trail_view};
+ghost use Rattle.conflicts.specs.Resolving.{HasRoom, IsGained, IsHeld, IsLone, IsUnitFor, LieSomewhere};
+ghost use Rattle.incompatibilities.specs.Incompatibilities.{LiesIn, states_at};
+ghost use Rattle.incompatibilities.specs.Stores.{EntryView, entries_view};
+ghost use Rattle.propagation.specs.Promises.{IsSound, IsTrail};
+ghost use Rattle.propagation.specs.Trails.{space_of, trail_view};
 ghost use Rattle.std.specs.Bool.{OnTrue};
-ghost use Rattle.std.specs.Prelude.{◌≡◌, ◌<◌, IfOk, Some, length, true};
+ghost use Rattle.std.specs.Prelude.{◌≡◌, ◌+◌, ◌-◌, ◌<◌, ◌≤◌, IfOk, List, Some, length, option_map};
 ghost use Rattle.terms.specs.Terms.{terms_view};
 ghost use Rattle.version_sets.specs.Sets.{Members};
 
-use crate::covering::states_on;
-use crate::standing_in::StandIns;
-use incompatibilities::{Id, Incompatibility, Origin, Store, combine};
+use crate::keeping::{has_room, keep};
+use crate::lessons::{Back, back_of};
+use incompatibilities::{Chain, Id, Incompatibility, Link, Store, combine};
 use propagation::Trail;
 use std::alloc::{AllocError, Global};
 use version_sets::States;
 
-/// Puts the combination of two entries into the store, not to be watched.
-fn add_unwatched<S: States + Drop>(
-    alloc: Global,
-    store: &mut Store<S>,
-    first: Id,
-    second: Id,
-    vertex: usize,
-) -> Result<Id, AllocError>
-    requires first { first < length (entries_view S.tests store.old) }
-    requires second { second < length (entries_view S.tests store.old) }
-    requires term { touches vertex (entry (entries_view S.tests store.old) first).terms ≡ true }
-    requires lies { LieSomewhere (entries_view S.tests store.old) }
-    ensures within { IfOk result (λ made. made < length (entries_view S.tests store.new)) }
-    ensures strengthened { IsStrengthened (entries_view S.tests store.old) (entries_view S.tests store.new) }
+/// An incompatibility, and the chain that it came out of.
+#[derive(Drop)]
+struct Held<S: States> {
+    incompatibility: Incompatibility<S>,
+    chain: Chain,
+}
+
+/// The states of an incompatibility's term at a vertex, if there is one; a binary search.
+fn states_on<S: States + Drop>(incompatibility: &Incompatibility<S>, vertex: usize) -> Option<&S>
+    ensures { option_map (λ s. S.tests s.now) result ≡ states_at (terms_view S.tests incompatibility.now) vertex }
 {
-    let made = combine(alloc, store.get(first), store.get(second), vertex)?;
-    store.add(
-        made,
-        Origin::Combined {
-            first,
-            second,
-            vertex,
-            watched: false,
-        },
-    )
+    let terms = incompatibility.terms();
+    match terms.binary_search_by_key(&vertex, |term| term.vertex) {
+        Ok(place) => Some(&terms[place].states),
+        Err(_) => None,
+    }
 }
 
 /// Whether an incompatibility's term at a vertex has states that a set lacks.
@@ -55,309 +46,252 @@ fn has_more<S: States + Drop>(states: &S, unit: &Incompatibility<S>, vertex: usi
     }
 }
 
-/// Whether both entries have a term at a vertex, and that of the second has states that the first's lacks.
-fn adds<S: States + Drop>(store: &Store<S>, first: Id, second: Id, vertex: usize) -> bool
-    requires first { first < length (entries_view S.tests store.now) }
-    requires second { second < length (entries_view S.tests store.now) }
-    requires lies { LieSomewhere (entries_view S.tests store.now) }
-    ensures { OnTrue result (touches vertex (entry (entries_view S.tests store.now) first).terms ≡ true) }
-{
-    match states_on(store.get(first), vertex) {
-        Some(states) => has_more(states, store.get(second), vertex),
-        None => false,
-    }
-}
-
-/// An entry with the states of its term at a vertex that are gone at level 0: no term there, if all others are.
-fn with_unit<S: States + Drop>(
-    alloc: Global,
-    store: &mut Store<S>,
-    table: &StandIns,
-    id: Id,
+/// The entry that says which states of a vertex are gone, if an incompatibility has a term there that lacks some.
+fn unit_for<S: States + Drop>(
+    store: &Store<S>,
+    incompatibility: &Incompatibility<S>,
     vertex: usize,
-) -> Result<Id, AllocError>
-    requires within { id < length (entries_view S.tests store.old) }
-    requires lies { LieSomewhere (entries_view S.tests store.old) }
-    ensures within { IfOk result (λ made. made < length (entries_view S.tests store.new)) }
-    ensures strengthened { IsStrengthened (entries_view S.tests store.old) (entries_view S.tests store.new) }
+) -> Option<Id>
+    requires { LieSomewhere (entries_view S.tests store.now) (terms_view S.tests incompatibility.now) }
+    ensures { IsUnitFor (entries_view S.tests store.now) (terms_view S.tests incompatibility.now) vertex result }
 {
-    let unit = match table.unit_at(vertex) {
+    let unit = match store.notes().unit_at(vertex) {
         Some(unit) => unit,
-        None => return Ok(id),
+        None => return None,
     };
     if unit.index() >= store.len() {
-        return Ok(id);
+        return None;
     }
-    if !adds(store, id, unit, vertex) {
-        return Ok(id);
+    let states = match states_on(incompatibility, vertex) {
+        Some(states) => states,
+        None => return None,
+    };
+    if has_more(states, store.get(unit), vertex) {
+        return Some(unit);
     }
-    add_unwatched(alloc, store, id, unit, vertex)
+    None
 }
 
-/// The vertices of an entry's terms.
+/// What is held with the states of its term at a vertex that are gone at level 0: no term there, if all others are.
+fn with_unit<S: States + Drop>(
+    alloc: Global,
+    trail: &Trail<S>,
+    store: &Store<S>,
+    held: Held<S>,
+    vertex: usize,
+) -> Result<Held<S>, AllocError>
+    requires trail { IsTrail (entries_view S.tests store.now) (trail_view S.tests trail.now) }
+    requires held { IsHeld (entries_view S.tests store.now) (trail_view S.tests trail.now)
+        (terms_view S.tests held.incompatibility) held.chain }
+    ensures { IfOk result (λ h. IsHeld (entries_view S.tests store.now) (trail_view S.tests trail.now)
+        (terms_view S.tests h.incompatibility) h.chain) }
+{
+    let unit = match unit_for(store, &held.incompatibility, vertex) {
+        Some(unit) => unit,
+        None => return Ok(held),
+    };
+    let made = combine(alloc, &held.incompatibility, store.get(unit), vertex)?;
+    let mut chain = held.chain;
+    chain.push(Link { with: unit, vertex })?;
+    Ok(Held {
+        incompatibility: made,
+        chain,
+    })
+}
+
+/// The vertices of an incompatibility's terms at which something is noted to be gone.
 fn vertices_of<S: States + Drop>(
     alloc: Global,
+    store: &Store<S>,
     incompatibility: &Incompatibility<S>,
-) -> Result<Vec<usize>, AllocError> {
-    incompatibility
-        .terms()
-        .iter()
-        .map(|term| term.vertex)
-        .collect(alloc)
+) -> Result<Vec<usize>, AllocError>
+    requires { LieSomewhere (entries_view S.tests store.now) (terms_view S.tests incompatibility.now) }
+{
+    let mut vertices = Vec::new(alloc);
+    'terms: for term in incompatibility.terms() {
+        if unit_for(store, incompatibility, term.vertex).is_some() {
+            vertices.push(term.vertex)?;
+        }
+    }
+    Ok(vertices)
 }
 
-/// An entry with what is gone at level 0 at each of its vertices.
+/// An entry with what is gone at level 0 at some vertices.
 fn with_units<S: States + Drop>(
     alloc: Global,
+    trail: &Trail<S>,
+    store: &Store<S>,
+    id: Id,
+    vertices: Vec<usize>,
+) -> Result<Held<S>, AllocError>
+    requires trail { IsTrail (entries_view S.tests store.now) (trail_view S.tests trail.now) }
+    requires within { id < length (entries_view S.tests store.now) }
+    ensures { IfOk result (λ h. IsHeld (entries_view S.tests store.now) (trail_view S.tests trail.now)
+        (terms_view S.tests h.incompatibility) h.chain) }
+{
+    let incompatibility = store.get(id).copy(alloc)?;
+    let mut held = Held {
+        incompatibility,
+        chain: Chain::new(alloc, id),
+    };
+    'vertices: for vertex in &vertices {
+        held = with_unit(alloc, trail, store, held, *vertex)?;
+    }
+    Ok(held)
+}
+
+/// Whether no level's end below the trail's satisfies an incompatibility.
+fn is_lone<S: States + Drop>(trail: &Trail<S>, incompatibility: &Incompatibility<S>) -> bool
+    requires sound { IsSound (trail_view S.tests trail.now) }
+    requires lies { LiesIn (space_of (trail_view S.tests trail.now))
+        (states_at (terms_view S.tests incompatibility.now)) }
+    ensures { OnTrue result (IsLone (trail_view S.tests trail.now) (terms_view S.tests incompatibility.now)) }
+{
+    if !trail.is_satisfied(incompatibility) {
+        return true;
+    }
+    match back_of(trail, incompatibility, trail.places()) {
+        Back::Yes(_) => true,
+        Back::No => false,
+    }
+}
+
+/// The entry that stands in for one so far, or the one itself.
+fn stand_in_of<S: States + Drop>(store: &Store<S>, id: Id) -> Id
+    requires { id < length (entries_view S.tests store.now) }
+    ensures { result < length (entries_view S.tests store.now) }
+{
+    match store.notes().stand_in(id) {
+        Some(other) => {
+            if other.index() < store.len() {
+                other
+            } else {
+                id
+            }
+        }
+        None => id,
+    }
+}
+
+/// Notes what stands in for two entries.
+fn note_stand_ins<S: States + Drop>(
     store: &mut Store<S>,
-    table: &StandIns,
+    id: Id,
+    current: Id,
+    stand_in: Id,
+) -> Result<(), AllocError>
+    ensures { entries_view S.tests store.new ≡ entries_view S.tests store.old }
+{
+    store.note_stand_in(id, stand_in)?;
+    store.note_stand_in(current, stand_in)
+}
+
+/// What stands in for an entry: one that has taken up all that is gone at level 0, which the store gains where it has
+/// none; or the one so far where there is no room.
+pub(crate) fn stand_in_for<S: States + Drop>(
+    alloc: Global,
+    trail: &Trail<S>,
+    store: &mut Store<S>,
+    first: usize,
     id: Id,
 ) -> Result<Id, AllocError>
+    requires trail { IsTrail (entries_view S.tests store.old) (trail_view S.tests trail.now) }
     requires within { id < length (entries_view S.tests store.old) }
-    requires lies { LieSomewhere (entries_view S.tests store.old) }
-    ensures within { IfOk result (λ made. made < length (entries_view S.tests store.new)) }
-    ensures strengthened { IsStrengthened (entries_view S.tests store.old) (entries_view S.tests store.new) }
+    requires room { HasRoom first (trail_view S.tests trail.now) (entries_view S.tests store.old) }
+    ensures within { IfOk result (λ i. i < length (entries_view S.tests store.new)) }
+    ensures gained { (gained : List EntryView) × IsGained (entries_view S.tests store.old)
+        (trail_view S.tests trail.now) (entries_view S.tests store.new) gained }
+    ensures trail { IsTrail (entries_view S.tests store.new) (trail_view S.tests trail.now) }
+    ensures room { HasRoom first (trail_view S.tests trail.now) (entries_view S.tests store.new) }
 {
-    let vertices = vertices_of(alloc, store.get(id))?;
-    let mut made = id;
-    'vertices: for vertex in &vertices {
-        made = with_unit(alloc, store, table, made, *vertex)?;
+    let current = stand_in_of(store, id);
+    let vertices = vertices_of(alloc, store, store.get(current))?;
+    if vertices.is_empty() {
+        return Ok(current);
     }
+    if !has_room(trail, store, first) {
+        return Ok(current);
+    }
+    let held = with_units(alloc, trail, store, current, vertices)?;
+    if !is_lone(trail, &held.incompatibility) {
+        return Ok(current);
+    }
+    let made = keep(store, held.incompatibility, held.chain)?;
+    note_stand_ins(store, id, current, made)?;
     Ok(made)
 }
 
-/// Marks the vertices of an entry's terms.
-fn mark<S: States + Drop>(marks: &mut [bool], incompatibility: &Incompatibility<S>) {
-    'terms: for term in incompatibility.terms() {
-        if let Some(mark) = marks.get_mut(term.vertex) {
-            *mark = true;
-        }
-    }
-}
-
-/// Whether a vertex is marked, and a place on it is still to be taken up.
-fn is_wanted(marks: &[bool], table: &StandIns, vertex: usize, place: usize) -> bool {
-    match marks.get(vertex) {
-        Some(true) => table.lacks(vertex, place),
+/// Whether an incompatibility says of one vertex alone what is gone there.
+fn is_unit<S: States + Drop>(incompatibility: &Incompatibility<S>, vertex: usize) -> bool {
+    match incompatibility.terms() {
+        [term] => term.vertex == vertex,
         _ => false,
     }
 }
 
-/// The places of level 0 that are still to be taken up before an entry can be strengthened, falling: those on its
-/// vertices, and on the vertices of what forced these.
-fn wanted<S: States + Drop>(
-    alloc: Global,
-    trail: &Trail<S>,
-    store: &Store<S>,
-    table: &StandIns,
-    id: Id,
-) -> Result<Vec<usize>, AllocError>
-    requires { id < length (entries_view S.tests store.now) }
-{
-    let mut marks = vec![in alloc; false; table.vertices()]?;
-    mark(&mut marks, store.get(id));
-    let mut places = Vec::new(alloc);
-    let count = trail.places().min(table.places());
-    'back: for place in (0..count).rev() {
-        if is_wanted(&marks, table, trail.vertex_at(place), place) {
-            places.push(place)?;
-            mark_forcing(&mut marks, trail, store, place);
-        }
-    }
-    Ok(places)
-}
-
-/// Marks the vertices of what forced the assignment at a place.
-fn mark_forcing<S: States + Drop>(
-    marks: &mut [bool],
-    trail: &Trail<S>,
-    store: &Store<S>,
+/// Notes that a place was taken up, and the entry that says what is gone at its vertex, if this does.
+fn note_place<S: States + Drop>(
+    store: &mut Store<S>,
     place: usize,
-)
-    requires { place < length (trail_view S.tests trail.now).steps }
+    vertex: usize,
+    unit: Id,
+) -> Result<(), AllocError>
+    requires { unit < length (entries_view S.tests store.old) }
+    ensures { entries_view S.tests store.new ≡ entries_view S.tests store.old }
 {
-    if let Some(forced_by) = trail.forced_by_at(place) {
-        if forced_by.index() < store.len() {
-            mark(marks, store.get(forced_by));
-        }
+    let says = is_unit(store.get(unit), vertex);
+    store.note_taken(place.saturating_add(1));
+    if !says {
+        return Ok(());
     }
+    store.note_unit(vertex, unit)
 }
 
-/// The one that says which states of a vertex are gone, if it has a term there and no other.
-fn unit_of<S: States + Drop>(store: &Store<S>, id: Id, vertex: usize) -> Option<Id>
-    requires { id < length (entries_view S.tests store.now) }
-{
-    match store.get(id).terms() {
-        [term] if term.vertex == vertex => Some(id),
-        _ => None,
-    }
-}
-
-/// Takes a place of level 0 up into what is said of its vertex: what forced it, with what is gone at the vertices of
-/// its terms, has one term left.
+/// Takes up a place of level 0, which an entry forced: what stands in for the entry says what is gone at the vertex.
 fn take_up<S: States + Drop>(
     alloc: Global,
     trail: &Trail<S>,
     store: &mut Store<S>,
-    table: &mut StandIns,
+    first: usize,
     place: usize,
+    forced_by: Id,
 ) -> Result<(), AllocError>
-    requires { LieSomewhere (entries_view S.tests store.old) }
-    ensures { IsStrengthened (entries_view S.tests store.old) (entries_view S.tests store.new) }
+    requires trail { IsTrail (entries_view S.tests store.old) (trail_view S.tests trail.now) }
+    requires room { HasRoom first (trail_view S.tests trail.now) (entries_view S.tests store.old) }
+    requires place { place < length (trail_view S.tests trail.now).steps }
+    ensures gained { (gained : List EntryView) × IsGained (entries_view S.tests store.old)
+        (trail_view S.tests trail.now) (entries_view S.tests store.new) gained }
+    ensures trail { IsTrail (entries_view S.tests store.new) (trail_view S.tests trail.now) }
+    ensures room { HasRoom first (trail_view S.tests trail.now) (entries_view S.tests store.new) }
 {
-    if place >= trail.places() {
-        return Ok(());
-    }
-    let vertex = trail.vertex_at(place);
-    let forced_by = match trail.forced_by_at(place) {
-        Some(forced_by) => forced_by,
-        None => return Ok(()),
-    };
     if forced_by.index() >= store.len() {
         return Ok(());
     }
-    let made = with_units(alloc, store, table, forced_by)?;
-    table.put_unit(vertex, unit_of(store, made, vertex), place);
-    Ok(())
+    let unit = stand_in_for(alloc, trail, store, first, forced_by)?;
+    note_place(store, place, trail.vertex_at(place), unit)
 }
 
-/// Takes places of level 0 up, the last one first.
-fn take_all_up<S: States + Drop>(
+/// Takes up the places of level 0 that came since it was done last: those up to the first decision.
+pub(crate) fn take_all_up<S: States + Drop>(
     alloc: Global,
     trail: &Trail<S>,
     store: &mut Store<S>,
-    table: &mut StandIns,
-    places: Vec<usize>,
-) -> Result<(), AllocError>
-    requires { LieSomewhere (entries_view S.tests store.old) }
-    ensures { IsStrengthened (entries_view S.tests store.old) (entries_view S.tests store.new) }
-{
-    let mut places = places;
-    'places: while let Some(place) = places.pop() {
-        take_up(alloc, trail, store, table, place)?;
-    }
-    Ok(())
-}
-
-/// Whether all that is gone at level 0 at the vertices of an entry is said.
-fn is_ready<S: States + Drop>(table: &StandIns, incompatibility: &Incompatibility<S>) -> bool {
-    'terms: for term in incompatibility.terms() {
-        if table.is_behind(term.vertex) {
-            return false;
-        }
-    }
-    true
-}
-
-/// Says what is gone at level 0 at the vertices of an entry.
-fn prepare<S: States + Drop>(
-    alloc: Global,
-    trail: &Trail<S>,
-    store: &mut Store<S>,
-    table: &mut StandIns,
-    id: Id,
-) -> Result<(), AllocError>
-    requires within { id < length (entries_view S.tests store.old) }
-    requires lies { LieSomewhere (entries_view S.tests store.old) }
-    ensures { IsStrengthened (entries_view S.tests store.old) (entries_view S.tests store.new) }
-{
-    if is_ready(table, store.get(id)) {
-        return Ok(());
-    }
-    let places = wanted(alloc, trail, store, table, id)?;
-    take_all_up(alloc, trail, store, table, places)
-}
-
-/// Makes what stands in for an entry, from what stands in for it already.
-fn strengthen<S: States + Drop>(
-    alloc: Global,
-    trail: &Trail<S>,
-    store: &mut Store<S>,
-    table: &mut StandIns,
-    id: Id,
-) -> Result<(), AllocError>
-    requires { LieSomewhere (entries_view S.tests store.old) }
-    ensures { IsStrengthened (entries_view S.tests store.old) (entries_view S.tests store.new) }
-{
-    let from = table.named_or(id);
-    if from.index() >= store.len() {
-        return Ok(());
-    }
-    prepare(alloc, trail, store, table, from)?;
-    let made = with_units(alloc, store, table, from)?;
-    name_other(table, id, from, made)
-}
-
-/// Says what stands in for an entry, if it is another one than before.
-fn name_other(table: &mut StandIns, id: Id, from: Id, made: Id) -> Result<(), AllocError> {
-    if made != from {
-        table.name(id, made)?;
-    }
-    Ok(())
-}
-
-/// What a combination took as its second, or for what that stood in.
-fn second_of<S: States + Drop>(store: &Store<S>, table: &StandIns, id: Id) -> Option<Id> {
-    if id.index() >= store.len() {
-        return None;
-    }
-    match store.origin(id) {
-        Origin::Axiom(_) => None,
-        Origin::Combined { second, .. } => Some(table.original_of(second)),
-    }
-}
-
-/// Makes what stands in for what a combination took as its second.
-fn strengthen_second<S: States + Drop>(
-    alloc: Global,
-    trail: &Trail<S>,
-    store: &mut Store<S>,
-    table: &mut StandIns,
-    id: Id,
-) -> Result<(), AllocError>
-    requires { LieSomewhere (entries_view S.tests store.old) }
-    ensures { IsStrengthened (entries_view S.tests store.old) (entries_view S.tests store.new) }
-{
-    match second_of(store, table, id) {
-        Some(second) => strengthen(alloc, trail, store, table, second),
-        None => Ok(()),
-    }
-}
-
-/// Makes what stands in for what some combinations took as their second.
-fn strengthen_seconds<S: States + Drop>(
-    alloc: Global,
-    trail: &Trail<S>,
-    store: &mut Store<S>,
-    table: &mut StandIns,
-    first: usize,
-    end: usize,
-) -> Result<(), AllocError>
-    requires { LieSomewhere (entries_view S.tests store.old) }
-    ensures { IsStrengthened (entries_view S.tests store.old) (entries_view S.tests store.new) }
-{
-    'gained: for place in first..end {
-        strengthen_second(alloc, trail, store, table, Id::new(place))?;
-    }
-    Ok(())
-}
-
-/// Makes what stands in for the entries that a conflict took: itself, what forced its satisfiers, and what was learned.
-pub(crate) fn strengthen_used<S: States + Drop>(
-    alloc: Global,
-    trail: &Trail<S>,
-    store: &mut Store<S>,
-    table: &mut StandIns,
-    conflict: Id,
-    learned: Id,
     first: usize,
 ) -> Result<(), AllocError>
-    requires { LieSomewhere (entries_view S.tests store.old) }
-    ensures { IsStrengthened (entries_view S.tests store.old) (entries_view S.tests store.new) }
+    requires trail { IsTrail (entries_view S.tests store.old) (trail_view S.tests trail.now) }
+    requires room { HasRoom first (trail_view S.tests trail.now) (entries_view S.tests store.old) }
+    ensures gained { (gained : List EntryView) × IsGained (entries_view S.tests store.old)
+        (trail_view S.tests trail.now) (entries_view S.tests store.new) gained }
+    ensures trail { IsTrail (entries_view S.tests store.new) (trail_view S.tests trail.now) }
+    ensures room { HasRoom first (trail_view S.tests trail.now) (entries_view S.tests store.new) }
 {
-    let end = store.len();
-    table.look(trail)?;
-    strengthen(alloc, trail, store, table, conflict)?;
-    strengthen_seconds(alloc, trail, store, table, first, end)?;
-    strengthen(alloc, trail, store, table, learned)
+    let from = store.notes().taken();
+    'places: for place in from..trail.places() {
+        let forced_by = match trail.forced_by_at(place) {
+            Some(forced_by) => forced_by,
+            None => return Ok(()),
+        };
+        take_up(alloc, trail, store, first, place, forced_by)?;
+    }
+    Ok(())
 }

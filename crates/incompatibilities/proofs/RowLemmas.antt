@@ -6,8 +6,7 @@ use Rattle.std.proofs.lemmas.Bool.{cases_eq, ne_eqb, or_left, or_right, true≢f
 use Rattle.std.proofs.Math.Seq.{drop-cons}
 use Rattle.std.proofs.lemmas.List.{append-nil, append_assoc, get_or_append_left, length-append, length-set}
 use Rattle.std.specs.declared.alloc.Global.{Global}
-use Rattle.incompatibilities.specs.Rows.{HasRoom, IsApart, IsGrown, Rows, posting_of, postings_in, row_at, stands_in}
-use Rattle.incompatibilities.specs.declared.rows.Posting.{Posting}
+use Rattle.incompatibilities.specs.Rows.{HasRoom, IsApart, IsGrown, Rows, listed_in, row_at, stands_in}
 use Rattle.version_sets.specs.Sets.{Members}
 use Rattle.terms.specs.Terms.{TermView, terms_view}
 use Rattle.terms.specs.declared.term.Term.{Term}
@@ -117,29 +116,29 @@ abbrev pub vertices : {S : Type 0} → List (Term S) → List ℕ
 vertices ts = map (λ t. t.vertex) ts
 
 -- some terms are listed, and some are left
-pub record IsEntering {S : Type 0} (id : ℕ) (old now : Rows (Posting S)) (all left : List (Term S)) : Type 0 where
-  pub rows : (v : ℕ) → row_at now v ++ postings_in id v left ≡ row_at old v ++ postings_in id v all
+pub record IsEntering {S E : Type 0} (item : Term S → E) (old now : Rows E) (all left : List (Term S)) : Type 0 where
+  pub rows : (v : ℕ) → row_at now v ++ listed_in item v left ≡ row_at old v ++ listed_in item v all
   pub room : (v : ℕ) → stands_in v (vertices left) ≡ true → HasRoom now v
   pub apart : IsApart (vertices left)
 
-pub entering_first : {S : Type 0} (id : ℕ) (rows : Rows (Posting S)) (all left : List (Term S)) → left ≡ all
+pub entering_first : {S E : Type 0} (item : Term S → E) (rows : Rows E) (all left : List (Term S)) → left ≡ all
     → ((v : ℕ) → stands_in v (vertices all) ≡ true → HasRoom rows v) → IsApart (vertices all)
-    → IsEntering id rows rows all left
-entering_first id rows all left same room apart =
-    subst (IsEntering id rows rows all) (sym same) (record { rows = λ v. refl; room = room; apart = apart })
+    → IsEntering item rows rows all left
+entering_first item rows all left same room apart =
+    subst (IsEntering item rows rows all) (sym same) (record { rows = λ v. refl; room = room; apart = apart })
 
-pub entering_last : {S : Type 0} (id : ℕ) (old now : Rows (Posting S)) (all left : List (Term S)) → left ≡ []
-    → IsEntering id old now all left → (v : ℕ) → row_at now v ≡ row_at old v ++ postings_in id v all
-entering_last {S} id old now all left none r v = sym (append-nil (row_at now v))
-    ∙ ap (λ (l : List (Term S)). row_at now v ++ postings_in id v l) (sym none) ∙ r.rows v
+pub entering_last : {S E : Type 0} (item : Term S → E) (old now : Rows E) (all left : List (Term S)) → left ≡ []
+    → IsEntering item old now all left → (v : ℕ) → row_at now v ≡ row_at old v ++ listed_in item v all
+entering_last {S} {E} item old now all left none r v = sym (append-nil (row_at now v))
+    ∙ ap (λ (l : List (Term S)). row_at now v ++ listed_in item v l) (sym none) ∙ r.rows v
 
-pub entering_more : {S : Type 0} (id : ℕ) (old now next : Rows (Posting S)) (all left rest : List (Term S)) (t : Term S)
+pub entering_more : {S E : Type 0} (item : Term S → E) (old now next : Rows E) (all left rest : List (Term S)) (t : Term S)
     → left ≡ t ∷ rest
-    → row_at next t.vertex ≡ row_at now t.vertex ++ posting_of id t ∷ []
+    → row_at next t.vertex ≡ row_at now t.vertex ++ item t ∷ []
     → ((v : ℕ) → v ≢ t.vertex → row_at next v ≡ row_at now v)
     → ((v : ℕ) → v ≢ t.vertex → HasRoom now v → HasRoom next v)
-    → IsEntering id old now all left → IsEntering id old next all rest
-entering_more {S} id old now next all left rest t split here others rooms r = record {
+    → IsEntering item old now all left → IsEntering item old next all rest
+entering_more {S} {E} item old now next all left rest t split here others rooms r = record {
   rows = λ v. rows v (cases_eq t.vertex v);
   room = λ v s. rooms v (apart_from v s) (r.room v (ap (λ (l : List (Term S)). stands_in v (vertices l)) split
       ∙ or_right (eqb t.vertex v) (stands_in v (vertices rest)) s));
@@ -153,28 +152,28 @@ entering_more {S} id old now next all left rest t split here others rooms r = re
     apart_from v s e = true≢false (sym s ∙ ap (λ x. stands_in x (vertices rest)) e ∙ apart.0)
 
     -- what was pushed is the first of what was left
-    first : (v : ℕ) → t.vertex ≡ v → postings_in id v left ≡ posting_of id t ∷ postings_in id v rest
-    first v e = ap (postings_in id v) split
-        ∙ ap (λ b. cond b (posting_of id t ∷ postings_in id v rest) (postings_in id v rest)) (eq-eqb t.vertex v e)
+    first : (v : ℕ) → t.vertex ≡ v → listed_in item v left ≡ item t ∷ listed_in item v rest
+    first v e = ap (listed_in item v) split
+        ∙ ap (λ b. cond b (item t ∷ listed_in item v rest) (listed_in item v rest)) (eq-eqb t.vertex v e)
 
-    later : (v : ℕ) → t.vertex ≢ v → postings_in id v left ≡ postings_in id v rest
-    later v o = ap (postings_in id v) split
-        ∙ ap (λ b. cond b (posting_of id t ∷ postings_in id v rest) (postings_in id v rest)) (ne_eqb t.vertex v o)
+    later : (v : ℕ) → t.vertex ≢ v → listed_in item v left ≡ listed_in item v rest
+    later v o = ap (listed_in item v) split
+        ∙ ap (λ b. cond b (item t ∷ listed_in item v rest) (listed_in item v rest)) (ne_eqb t.vertex v o)
 
     rows : (v : ℕ) → (t.vertex ≡ v) ⊎ (t.vertex ≢ v)
-        → row_at next v ++ postings_in id v rest ≡ row_at old v ++ postings_in id v all
+        → row_at next v ++ listed_in item v rest ≡ row_at old v ++ listed_in item v all
     rows v (inl e) =
-        ap (λ (l : List (Posting S)). l ++ postings_in id v rest)
-        (subst (λ x. row_at next x ≡ row_at now x ++ posting_of id t ∷ []) e here)
-        ∙ append_assoc (row_at now v) (posting_of id t ∷ []) (postings_in id v rest)
-        ∙ ap (λ (l : List (Posting S)). row_at now v ++ l) (sym (first v e)) ∙ r.rows v
+        ap (λ (l : List E). l ++ listed_in item v rest)
+        (subst (λ x. row_at next x ≡ row_at now x ++ item t ∷ []) e here)
+        ∙ append_assoc (row_at now v) (item t ∷ []) (listed_in item v rest)
+        ∙ ap (λ (l : List E). row_at now v ++ l) (sym (first v e)) ∙ r.rows v
     rows v (inr o) =
-        ap (λ (l : List (Posting S)). l ++ postings_in id v rest) (others v (λ (e : v ≡ t.vertex). o (sym e)))
-        ∙ ap (λ (l : List (Posting S)). row_at now v ++ l) (sym (later v o)) ∙ r.rows v
+        ap (λ (l : List E). l ++ listed_in item v rest) (others v (λ (e : v ≡ t.vertex). o (sym e)))
+        ∙ ap (λ (l : List E). row_at now v ++ l) (sym (later v o)) ∙ r.rows v
 
-pub first_room : {S : Type 0} (id : ℕ) (old now : Rows (Posting S)) (all left rest : List (Term S)) (t : Term S)
-    → left ≡ t ∷ rest → IsEntering id old now all left → HasRoom now t.vertex
-first_room {S} id old now all left rest t split r =
+pub first_room : {S E : Type 0} (item : Term S → E) (old now : Rows E) (all left rest : List (Term S)) (t : Term S)
+    → left ≡ t ∷ rest → IsEntering item old now all left → HasRoom now t.vertex
+first_room {S} {E} item old now all left rest t split r =
     r.room t.vertex (ap (λ (l : List (Term S)). stands_in t.vertex (vertices l)) split
     ∙ or_left (eqb t.vertex t.vertex) (stands_in t.vertex (vertices rest)) (eq-eqb t.vertex t.vertex refl))
 

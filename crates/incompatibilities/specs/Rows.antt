@@ -4,7 +4,6 @@ use Rattle.std.specs.Prelude.{Vec, vec_len, vec_capacity}
 use Rattle.std.specs.List.{list_any}
 use Rattle.std.specs.declared.alloc.Global.{Global}
 use Rattle.terms.specs.declared.term.Term.{Term}
-use Rattle.incompatibilities.specs.declared.rows.Posting.{Posting}
 
 abbrev pub Rows : Type 0 → Type 0
 Rows E = List (Vec E Global)
@@ -26,14 +25,10 @@ abbrev pub IsApart : List ℕ → Type 0
 IsApart [] = Unit {0}
 IsApart (v ∷ vs) = (stands_in v vs ≡ false) × IsApart vs
 
--- what a row has of a term: a number, and the term's states
-abbrev pub posting_of : {S : Type 0} → ℕ → Term S → Posting S
-posting_of id t = record { id = id; states = t.states }
-
--- what a vertex's row gets of terms
-abbrev pub postings_in : {S : Type 0} → ℕ → ℕ → List (Term S) → List (Posting S)
-postings_in id v [] = []
-postings_in id v (t ∷ ts) = if t.vertex == v then posting_of id t ∷ postings_in id v ts else postings_in id v ts
+-- what a vertex's row gets of terms, where each brings an item
+abbrev pub listed_in : {S E : Type 0} → (Term S → E) → ℕ → List (Term S) → List E
+listed_in item v [] = []
+listed_in item v (t ∷ ts) = if t.vertex == v then item t ∷ listed_in item v ts else listed_in item v ts
 
 -- the same rows, and no less room
 pub record IsGrown {E : Type 0} (old new : Rows E) : Type 0 where

@@ -3,10 +3,12 @@
 ghost use Rattle.incompatibilities.specs.Incompatibilities.{IsIncompatibility, IsMadeOf, LiesIn, OneEach, states_at};
 ghost use Rattle.std.specs.List.Sorted.{IsNonDecreasingBy, IsPermutation};
 ghost use Rattle.std.specs.List.{filter};
-ghost use Rattle.std.specs.Prelude.{◌≡◌, ℕ, not};
+ghost use Rattle.std.specs.Prelude.{◌≡◌, ℕ, IfOk, not};
 ghost use Rattle.terms.specs.Terms.{terms_view};
 ghost use Rattle.version_sets.specs.Sets.{is_full};
 
+use crate::rows::copies_of;
+use std::alloc::{AllocError, Global};
 use std::marker::Model;
 use terms::Term;
 use version_sets::States;
@@ -74,6 +76,13 @@ impl<S: States + Drop> Incompatibility<S> {
         ensures is { IsIncompatibility (terms_view S.tests self.now) }
     {
         &self.terms
+    }
+
+    /// The same incompatibility again.
+    pub fn copy(&self, alloc: Global) -> Result<Incompatibility<S>, AllocError>
+        ensures { IfOk result (λ i. terms_view S.tests i ≡ terms_view S.tests self.now) }
+    {
+        Ok(Incompatibility::of_rising(copies_of(alloc, self.terms())?))
     }
 
     /// Terms that are an incompatibility as they stand.

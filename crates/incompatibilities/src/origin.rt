@@ -1,5 +1,6 @@
 //! Where an incompatibility came from.
 
+use crate::chain::Chain;
 use std::marker::Model;
 
 /// The place of an incompatibility in its store, counted from 0.
@@ -37,32 +38,10 @@ impl Id {
 }
 
 /// Where an incompatibility came from.
-#[derive(Clone, Copy, PartialEq, Eq, Debug)]
+#[derive(Drop)]
 pub enum Origin {
     /// It was given, as an instance of the axiom with this number.
     Axiom(u8),
-    /// It is the combination of two earlier ones at a vertex.
-    Combined {
-        first: Id,
-        second: Id,
-        vertex: usize,
-        /// Whether unit propagation looks at it. It needn't where the combination was only a step on the way to what a
-        /// conflict taught.
-        watched: bool,
-    },
-}
-
-impl Origin {
-    ghost use Rattle.std.specs.Prelude.{◌≡◌};
-    ghost use Rattle.incompatibilities.specs.Stores.{watched};
-
-    /// Whether unit propagation looks at an incompatibility that came so.
-    pub fn is_watched(&self) -> bool
-        ensures { result ≡ watched self.now }
-    {
-        match self {
-            Origin::Axiom(_) => true,
-            Origin::Combined { watched, .. } => *watched,
-        }
-    }
+    /// A conflict taught it: it is what comes out of a chain of combinations of earlier ones.
+    Learned(Chain),
 }

@@ -1,28 +1,15 @@
-//! The index of a store: for each vertex the places of the incompatibilities with a term there, and the term's states.
+//! The index of a store: for each vertex the places of the incompatibilities with a term there, and beside them the
+//! states of that term, so that who goes through a row reads memory in order: most often these are all that has to be
+//! looked at, and the incompatibility and its terms lie elsewhere.
 
-ghost use Rattle.incompatibilities.specs.Rows.{HasRoom, IsApart, IsGrown, postings_in, row_at, stands_in};
+ghost use Rattle.incompatibilities.specs.Rows.{HasRoom, IsApart, IsGrown, listed_in, row_at, stands_in};
 ghost use Rattle.std.specs.Prelude.{◌≡◌, ◌≢◌, ◌++◌, ◌∷◌, [], ℕ, IfOk, OnOk, map, true};
 ghost use Rattle.terms.specs.Terms.{term_view, terms_view};
 
 use crate::origin::Id;
 use std::alloc::{AllocError, Global};
-use std::mem::size_of;
 use terms::Term;
-use version_sets::{States, WordStates};
-
-/// What a vertex's row has of an incompatibility with a term there.
-///
-/// The states stand in the row too, so that who goes through it reads memory in order: most often they are all that has
-/// to be looked at, and the incompatibility and its terms lie elsewhere.
-#[derive(Drop)]
-pub struct Posting<S> {
-    /// The place of the incompatibility.
-    pub id: Id,
-    /// The states of its term at the vertex.
-    pub states: S,
-}
-
-const _: () = prove!(size_of::<Posting<WordStates>>() == 24);
+use version_sets::States;
 
 /// A vertex's row; a vertex past the rows has nothing.
 pub(crate) fn row_of<E>(rows: &[Vec<E>], vertex: usize) -> &[E]
@@ -74,8 +61,8 @@ fn reserve_at<E: Drop>(
 }
 
 /// Makes room for one more in the row of each term's vertex.
-pub(crate) fn reserve_rows<S: Drop>(
-    rows: &mut Vec<Vec<Posting<S>>>,
+pub(crate) fn reserve_rows<E: Drop, S: Drop>(
+    rows: &mut Vec<Vec<E>>,
     alloc: Global,
     terms: &[Term<S>],
 ) -> Result<(), AllocError>
@@ -99,14 +86,23 @@ fn push_at<E: Drop>(rows: &mut Vec<Vec<E>>, vertex: usize, item: E)
     rows[vertex].push_reserved(item);
 }
 
-/// Puts a place and the states of each term at the end of the row of the term's vertex.
-pub(crate) fn push_rows<S: Drop>(rows: &mut Vec<Vec<Posting<S>>>, terms: Vec<Term<S>>, id: Id)
-    requires room { (v : ℕ) → stands_in v (map (λ t. t.vertex) terms.items) ≡ true → HasRoom rows.old.items v }
+/// Puts a place and the states of each term at the ends of the rows of the term's vertex.
+pub(crate) fn push_rows<S: Drop>(
+    ids: &mut Vec<Vec<Id>>,
+    sets: &mut Vec<Vec<S>>,
+    terms: Vec<Term<S>>,
+    id: Id,
+)
+    requires ids { (v : ℕ) → stands_in v (map (λ t. t.vertex) terms.items) ≡ true → HasRoom ids.old.items v }
+    requires sets { (v : ℕ) → stands_in v (map (λ t. t.vertex) terms.items) ≡ true → HasRoom sets.old.items v }
     requires apart { IsApart (map (λ t. t.vertex) terms.items) }
-    ensures { (v : ℕ) → row_at rows.new.items v ≡ row_at rows.old.items v ++ postings_in id v terms.items }
+    ensures ids { (v : ℕ) → row_at ids.new.items v ≡ row_at ids.old.items v ++ listed_in (λ t. id) v terms.items }
+    ensures sets { (v : ℕ) → row_at sets.new.items v
+        ≡ row_at sets.old.items v ++ listed_in (λ t. t.states) v terms.items }
 {
     'terms: for term in terms {
         let Term { vertex, states } = term;
-        push_at(rows, vertex, Posting { id, states });
+        push_at(ids, vertex, id);
+        push_at(sets, vertex, states);
     }
 }

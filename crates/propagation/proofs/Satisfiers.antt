@@ -33,7 +33,7 @@ pub record IsRead (t : TrailView) (ts : List TermView) (r : Ranks) (s : Satisfie
   pub place : suc s.place ≡ r.all
   pub vertex : s.vertex ≡ (step_at t.steps s.place).vertex
   pub level : s.level ≡ (step_at t.steps s.place).level
-  pub forced_by : s.forced_by ≡ (step_at t.steps s.place).forced_by
+  pub cause : s.cause ≡ (step_at t.steps s.place).forced_by
   pub before : s.before ≡ level_after t.steps r.others
 
 module _ (t : TrailView) (ts : List TermView) (r : Ranks) (s : Satisfier) (d : IsRead t ts r s) where
@@ -106,7 +106,7 @@ module _ (t : TrailView) (ts : List TermView) (r : Ranks) (s : Satisfier) (d : I
     first = all_before;
     vertex = d.vertex;
     level = d.level;
-    forced_by = d.forced_by;
+    cause = d.cause;
     before = (
       r.others,
       others_le,
@@ -122,8 +122,8 @@ module _ (t : TrailView) (ts : List TermView) (r : Ranks) (s : Satisfier) (d : I
   }
 
   -- levels
-  next : NextLevel (level_after t.steps s.place) s.level s.forced_by
-  next = subst (λ c. NextLevel (level_after t.steps s.place) s.level c) (sym d.forced_by)
+  next : NextLevel (level_after t.steps s.place) s.level s.cause
+  next = subst (λ c. NextLevel (level_after t.steps s.place) s.level c) (sym d.cause)
       (subst (λ n. NextLevel (level_after t.steps s.place) n (step_at t.steps s.place).forced_by) (sym d.level)
       (next_level t.level s.place t.steps d.sound.levels within))
 
@@ -146,7 +146,7 @@ module _ (t : TrailView) (ts : List TermView) (r : Ranks) (s : Satisfier) (d : I
 
   pub opens_is : OpenFits t (states_at ts) s
   opens_is = record {
-    not_later = not_later_by s.forced_by next;
+    not_later = not_later_by s.cause next;
     held = λ e. subst (λ (ss : List Members). Sat ss f) (sym (end_is_place t s.level)) (all_after (kept s.level t.steps)
         (let p = d.place in let l = d.level in
         omega (arith, p, before_end s.level 0 t.level s.place t.steps d.sound.levels within (omega (arith, l))))
@@ -176,5 +176,5 @@ module _ (t : TrailView) (ts : List TermView) (r : Ranks) (s : Satisfier) (d : I
             ∙ sym (same_space t d.sound s.place (let w = within in omega (arith, w)) s.vertex)) comb.each,
       )
 
-  pub forced_is : (es : List EntryView) → IsTrail es t → ForcedFits es t ts s s.forced_by
-  forced_is es trail = forced_by_is es trail s.forced_by (sym d.forced_by) next
+  pub forced_is : (es : List EntryView) → IsTrail es t → ForcedFits es t ts s s.cause
+  forced_is es trail = forced_by_is es trail s.cause (sym d.cause) next

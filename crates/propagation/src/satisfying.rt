@@ -25,7 +25,7 @@ pub struct Satisfier {
     /// Its level.
     pub level: usize,
     /// The incompatibility that forced it; none for a decision.
-    pub forced_by: Option<Id>,
+    pub cause: Option<Id>,
     /// The level of the first place after which all the other terms are satisfied, 0 if there are none.
     pub before: usize,
 }
@@ -71,9 +71,9 @@ impl<S: States + Drop> Trail<S> {
         requires some { 0 < length (terms_view S.tests incompatibility.now) }
         ensures satisfied { IsSatisfied (trail_view S.tests self.now)
             (states_at (terms_view S.tests incompatibility.now)) result }
-        ensures forced_by { (es : List EntryView) → IsTrail es (trail_view S.tests self.now)
+        ensures cause { (es : List EntryView) → IsTrail es (trail_view S.tests self.now)
             → ForcedFits es (trail_view S.tests self.now)
-            (terms_view S.tests incompatibility.now) result result.forced_by }
+            (terms_view S.tests incompatibility.now) result result.cause }
         ensures opens { OpenFits (trail_view S.tests self.now)
             (states_at (terms_view S.tests incompatibility.now)) result }
     {
@@ -84,7 +84,7 @@ impl<S: States + Drop> Trail<S> {
             place,
             vertex: step.vertex,
             level: step.level,
-            forced_by: step.forced_by,
+            cause: step.forced_by,
             before: self.level_after(ranks.others),
         }
     }

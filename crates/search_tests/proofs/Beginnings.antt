@@ -47,6 +47,6 @@ decided_all es t x trail done agrees id lt u ne s e h =
 
 pub selects : (asked : Pairs) (es : List EntryView) (t : TrailView) (a : Answer) → IsTrail es t
     → HasEnded (AllDecided t) asked es t a → Selects es t a
-selects asked es t Selection trail ended = λ x agrees id lt on breaks. not_broken x t.sets (terms_of es id) 0
-    (trail.lies id lt) agrees (ended.2 id lt on) (decided_all es t x trail ended.0 agrees id lt) breaks
+selects asked es t Selection trail ended = λ x agrees id lt breaks. not_broken x t.sets (terms_of es id) 0
+    (trail.lies id lt) agrees (ended.2 id lt) (decided_all es t x trail ended.0 agrees id lt) breaks
 selects asked es t (Unsolvable i) trail ended = tt

@@ -22,6 +22,12 @@ use Rattle.searching.proofs.Guides.{adding_nothing, lone_one, spaces_wider}
 use Rattle.search_trials.specs.Meeting.{universe_at}
 use Rattle.search_tests.specs.Demands.{AllFit, HasCome, HasOnly, IsAlone, IsOfPair, IsPutOf, asked_of, pair_at, waits}
 
+pub one_more : (P : ℕ → Type 0) (n : ℕ) → ((i : ℕ) → i < n → P i) → P n → (i : ℕ) → i < n + 1 → P i
+one_more P n was here i lt = elim (cases_lt i n) [
+  | inl less ↦ was i less
+  | inr ge ↦ subst P (let e : n ≡ i = omega (arith, ge, lt) in e) here
+]
+
 lies_all : (spaces : List ℕ) (ts : List TermView) → AllFit spaces ts → LiesIn (universe_at spaces) (states_at ts)
 lies_all spaces ts fit u s e = let p = place_of ts u s e in subst (λ x. length x ≡ universe_at spaces u) p.3
     (subst (λ v. length (term_at ts p.0).states ≡ universe_at spaces v) p.2 (fit p.0 p.1))

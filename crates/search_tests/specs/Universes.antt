@@ -2,7 +2,7 @@
 use Rattle.std.specs.Prelude.{◌≡◌, ℕ, ◌<◌, ◌≤◌, true, List, length, slice_index_or}
 use Rattle.version_sets.specs.Sets.{size}
 use Rattle.incompatibilities.specs.Incompatibilities.{Assignment, Breaks, LiesIn}
-use Rattle.incompatibilities.specs.Stores.{EntryView, entry, terms_of, watched}
+use Rattle.incompatibilities.specs.Stores.{EntryView, entry, terms_of}
 use Rattle.propagation.specs.Satisfaction.{Agrees}
 use Rattle.propagation.specs.Trails.{TrailView, set_of}
 use Rattle.search_trials.specs.Meeting.{universe_at}
@@ -33,8 +33,8 @@ abbrev pub Refutes : List EntryView → Answer → Type 0
 Refutes es Selection = Unit {0}
 Refutes es (Unsolvable id) = IsRefutation es id
 
--- after a selection each assignment out of what is left breaks no watched entry, and so no axiom
+-- after a selection each assignment out of what is left breaks no entry
 abbrev pub Selects : List EntryView → TrailView → Answer → Type 0
 Selects es t Selection = (x : Assignment) → Agrees x t.sets → (id : ℕ) → id < length es
-    → watched (entry es id).origin ≡ true → ¬ Breaks x (terms_of es id)
+    → ¬ Breaks x (terms_of es id)
 Selects es t (Unsolvable id) = Unit {0}

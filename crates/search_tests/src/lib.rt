@@ -29,6 +29,8 @@ mod preferring;
 #[cfg(test)]
 mod sets;
 #[cfg(test)]
+mod sizes;
+#[cfg(test)]
 mod stores;
 #[cfg(test)]
 mod trails;

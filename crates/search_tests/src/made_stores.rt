@@ -63,22 +63,20 @@ fn mask_of<S: States>(set: &S) -> usize {
     mask
 }
 
-/// Writes down where an entry came from, how many terms it has, and for each its vertex and states.
+/// Writes down where an entry came from, its chain's first entry and the links, how many terms it has, and for each its
+/// vertex and states.
 fn write_entry<S: States + Drop>(
     out: &mut Vec<usize>,
     incompatibility: &Incompatibility<S>,
-    origin: Origin,
+    origin: &Origin,
 ) -> Result<(), AllocError> {
-    if let Origin::Combined {
-        first,
-        second,
-        vertex,
-        ..
-    } = origin
-    {
-        out.push(first.index())?;
-        out.push(second.index())?;
-        out.push(vertex)?;
+    if let Origin::Learned(chain) = origin {
+        out.push(chain.first().index())?;
+        out.push(chain.links().len())?;
+        'links: for link in chain.links() {
+            out.push(link.with.index())?;
+            out.push(link.vertex)?;
+        }
     }
     out.push(incompatibility.terms().len())?;
     'terms: for term in incompatibility.terms() {

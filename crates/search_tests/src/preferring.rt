@@ -7,7 +7,8 @@ ghost use Rattle.incompatibilities.specs.Stores.{entries_view};
 ghost use Rattle.propagation.specs.Trails.{trail_view};
 ghost use Rattle.incompatibilities.specs.Incompatibilities.{Assignment};
 ghost use Rattle.propagation.specs.Satisfaction.{BreaksNone};
-ghost use Rattle.searching.specs.Counting.{combinations};
+ghost use Rattle.searching.specs.Counting.{HasCounted};
+ghost use Rattle.incompatibilities.specs.Counts.{combinations};
 ghost use Rattle.searching.specs.Following.{IsSelection};
 ghost use Rattle.std.specs.Prelude.{◌≡◌, ◌+◌, ◌<◌, ◌≤◌, IfOk, length, slice_index_or, true};
 ghost use Rattle.version_sets.specs.Sets.{has, size};
@@ -124,8 +125,8 @@ pub fn search_from_full<S: States + Drop>(
     requires lies { AllLie guide.old.spaces.items (entries_view S.tests store.old) }
     ensures refuted { IfOk result (λ r. Refutes (entries_view S.tests store.new) r.0.answer) }
     ensures selected { IfOk result (λ r. Selects (entries_view S.tests store.new) (trail_view S.tests r.1) r.0.answer) }
-    ensures counted { IfOk result (λ r.
-        combinations (entries_view S.tests store.new) ≤ combinations (entries_view S.tests store.old) + r.0.steps) }
+    ensures counted { IfOk result (λ r. HasCounted (combinations (entries_view S.tests store.new))
+        (combinations (entries_view S.tests store.old)) r.0.steps) }
     ensures preferred { IfOk result (λ r. (x : Assignment) → Prefers guide.old.spaces.items guide.old.states.items x
         → IsWithinAll guide.old.spaces.items x → BreaksNone x (entries_view S.tests store.old)
         → IsSelection r.0.answer) }

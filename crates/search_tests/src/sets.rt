@@ -5,7 +5,7 @@ ghost use Rattle.std.specs.Prelude.{◌≡◌, ◌≤◌, IfOk, length};
 use search_trials::with_number;
 use std::alloc::{AllocError, Global};
 use std::process::Abort;
-use terms::{Relation, Term};
+use terms::{Relation, Term, relation};
 use version_sets::{ListStates, States, WordStates};
 
 /// The set of the numbers of a list that lie below the universe.
@@ -150,7 +150,7 @@ fn term<S: States + Drop>(alloc: Global) -> Result<Term<S>, AllocError>
 /// How that term relates to a set.
 fn relation_to<S: States + Drop>(alloc: Global, members: &[u32]) -> Result<Relation, AllocError> {
     let set: S = set_of(alloc, 4, members)?;
-    Ok(term(alloc)?.relation(&set))
+    Ok(relation(&set, &term(alloc)?))
 }
 
 /// What that term's negation has.

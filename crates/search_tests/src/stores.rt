@@ -1,13 +1,12 @@
 //! Combinations and stores: what they hold is written down as numbers.
 
 ghost use Rattle.incompatibilities.specs.Incompatibilities.{LiesIn, states_at};
-ghost use Rattle.incompatibilities.specs.declared.origin.Origin.TheVariants.{Combined};
 ghost use Rattle.search_tests.specs.Spaces.{space};
-ghost use Rattle.std.specs.Prelude.{◌≡◌, IfOk, true};
+ghost use Rattle.std.specs.Prelude.{IfOk};
 ghost use Rattle.terms.specs.Terms.{terms_view};
 
 use crate::sets::{set_of, write_set};
-use incompatibilities::{Id, Incompatibility, Origin, Posting, Store, combine};
+use incompatibilities::{Id, Incompatibility, Origin, Store, combine};
 use std::alloc::{AllocError, Global};
 use std::process::Abort;
 use terms::Term;
@@ -36,27 +35,15 @@ fn two_terms<S: States + Drop>(
     Ok(Incompatibility::new(terms))
 }
 
-/// The origin of the combination of two entries at a vertex.
-fn combined(first: Id, second: Id, vertex: usize) -> Origin
-    ensures { result ≡ Combined first second vertex true }
-{
-    Origin::Combined {
-        first,
-        second,
-        vertex,
-        watched: true,
-    }
-}
-
-/// Two axioms, and their combination at vertex 1.
+/// Two axioms, and their combination at vertex 1 as a third.
 fn three_entries<S: States + Drop>(alloc: Global) -> Result<Store<S>, AllocError> {
     let a = two_terms(alloc, &[1], &[0, 2])?;
     let b = two_terms(alloc, &[1], &[0, 1])?;
     let made = combine(alloc, &a, &b, 1)?;
     let mut store = Store::new(alloc);
-    let first = store.add(a, Origin::Axiom(1))?;
-    let second = store.add(b, Origin::Axiom(2))?;
-    store.add(made, combined(first, second, 1))?;
+    store.add(a, Origin::Axiom(1))?;
+    store.add(b, Origin::Axiom(2))?;
+    store.add(made, Origin::Axiom(3))?;
     Ok(store)
 }
 
@@ -79,34 +66,33 @@ fn write_terms<S: States + Drop>(
     Ok(())
 }
 
-/// Whether an entry is there and came from there.
-fn has_origin<S: States + Drop>(store: &Store<S>, place: usize, origin: Origin) -> bool {
+/// Whether an entry is there and is an instance of this axiom.
+fn has_origin<S: States + Drop>(store: &Store<S>, place: usize, kind: u8) -> bool {
     if place >= store.len() {
         return false;
     }
-    store.origin(Id::new(place)) == origin
+    match store.origin(Id::new(place)) {
+        Origin::Axiom(number) => *number == kind,
+        Origin::Learned(_) => false,
+    }
 }
 
 /// Whether the three entries came from where they were said to come from.
 fn have_origins<S: States + Drop>(alloc: Global) -> Result<bool, AllocError> {
     let store: Store<S> = three_entries(alloc)?;
-    let made = combined(Id::new(0), Id::new(1), 1);
-    Ok(
-        has_origin(&store, 0, Origin::Axiom(1))
-            & has_origin(&store, 1, Origin::Axiom(2))
-            & has_origin(&store, 2, made),
-    )
+    Ok(has_origin(&store, 0, 1) & has_origin(&store, 1, 2) & has_origin(&store, 2, 3))
 }
 
 /// Writes down which entries have a term at a vertex, and the states of each.
 fn write_at<S: States + Drop>(
     out: &mut Vec<usize>,
-    postings: &[Posting<S>],
+    ids: &[Id],
+    states: &[S],
 ) -> Result<(), AllocError> {
-    out.push(postings.len())?;
-    'postings: for posting in postings {
-        out.push(posting.id.index())?;
-        write_set(out, &posting.states)?;
+    out.push(ids.len().max(states.len()))?;
+    'ids: for (id, set) in ids.iter().zip(states) {
+        out.push(id.index())?;
+        write_set(out, set)?;
     }
     Ok(())
 }
@@ -118,7 +104,7 @@ fn write_store<S: States + Drop>(out: &mut Vec<usize>, store: &Store<S>) -> Resu
         write_terms(out, store.get(Id::new(place)))?;
     }
     'vertices: for vertex in [0, 1, 7] {
-        write_at(out, store.at(vertex))?;
+        write_at(out, store.at(vertex), store.states_at(vertex))?;
     }
     Ok(())
 }

@@ -200,7 +200,7 @@ fn clashes<S: States + Drop>(trial: &mut Trial<S>) -> Result<bool, AllocError> {
         place: 2,
         vertex: 1,
         level: 2,
-        forced_by: Some(Id::new(0)),
+        cause: Some(Id::new(0)),
         before: 1,
     };
     match trial.conflict()? {

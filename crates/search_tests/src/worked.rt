@@ -64,11 +64,12 @@ fn worked<S: States + Drop>(
 
 /// State 0 of vertex 0 forces state 1 of vertices 1 and 2, which don't go together.
 ///
-/// Vertex 2 came last, so the conflict is combined with what forced that, then with what forced vertex 1. Nothing but
-/// the decision is left.
-static ONE_LEVEL: [usize; 18] = [
-    // Entry 3: 2 and 1 at vertex 2. Entry 4: 3 and 0 at vertex 1.
+/// Vertex 2 came last, so the conflict is combined with what forced that, which is short and kept, then with what
+/// forced vertex 1. Nothing but the decision is left.
+static ONE_LEVEL: [usize; 20] = [
+    // Entry 3: of entry 2, with 1 at vertex 2. Entry 4: of entry 3, with 0 at vertex 1.
     2,
+    1,
     1,
     2,
     2,
@@ -77,6 +78,7 @@ static ONE_LEVEL: [usize; 18] = [
     1,
     2,
     3,
+    1,
     0,
     1,
     1,
@@ -91,8 +93,9 @@ static ONE_LEVEL: [usize; 18] = [
 
 /// States 0 of vertices 0 and 2 leave vertex 3 none. The decision for vertex 1 between them has no part in it, so the
 /// search goes back over it.
-static OVER_ONE_LEVEL: [usize; 12] = [
-    // Entry 2: 1 and 0 at vertex 3.
+static OVER_ONE_LEVEL: [usize; 13] = [
+    // Entry 2: of entry 1, with 0 at vertex 3.
+    1,
     1,
     0,
     3,
@@ -109,10 +112,11 @@ static OVER_ONE_LEVEL: [usize; 12] = [
 ];
 
 /// No two states of two vertices go together.
-static NONE_LEFT: [usize; 20] = [
-    // Entry 4: 1 and 0 at vertex 1. Entry 5: 3 and 2 at vertex 1. Entry 6: 5 and 4 at vertex 0, with no term.
-    1, 0, 1, 1, 0, 1, 3, 2, 1, 1, 0, 2, 5, 4, 0, 0,
-    // entry 1 was the conflict, 4 was learned, back to level 0; entry 6 refuses
+static NONE_LEFT: [usize; 25] = [
+    // Entry 4: of entry 1, with 0 at vertex 1.
+    1, 1, 0, 1, 1, 0, 1, // Entry 5, what entry 2 leaves of vertex 1 at level 0: of entry 2, with 4 at vertex 0.
+    2, 1, 4, 0, 1, 1, 1, // Entry 6: of entry 3, with 5 at vertex 1 and 4 at vertex 0, with no term.
+    3, 2, 5, 1, 4, 0, 0, // entry 1 was the conflict, 4 was learned, back to level 0; entry 6 refuses
     1, 4, 0, 6,
 ];
 
@@ -147,7 +151,7 @@ pub(crate) fn all_worked<S: States + Drop>(
         ],
     )?;
     assert!(rt; out.as_slice() == NONE_LEFT.as_slice());
-    // Four assignments, two conflicts, three combinations.
-    assert!(rt; steps == 9);
+    // Four assignments, two conflicts, four combinations.
+    assert!(rt; steps == 10);
     Ok(())
 }

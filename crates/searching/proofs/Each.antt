@@ -26,7 +26,7 @@ levels_take low high (suc k) [] v le = absurd (omega (arith, le))
 levels_take low high (suc zero) (s ∷ ss) v le = (v.0, refl)
 levels_take low high (suc (suc k)) (s ∷ ss) v le = (v.0, levels_take s.level high (suc k) ss v.1 (omega (arith, le)))
 
-top_at : (t : TrailView) (k : ℕ) → IsSound t → k ≤ length t.steps → past (up_to t k).level (up_to t k).steps ≡ []
+pub top_at : (t : TrailView) (k : ℕ) → IsSound t → k ≤ length t.steps → past (up_to t k).level (up_to t k).steps ≡ []
 top_at t k sound le =
     past_top (level_after t.steps k) 0 (level_after t.steps k) (take k t.steps) (subst (Levels 0 (take k t.steps))
     (from_start t.steps k) (levels_take 0 t.level k t.steps sound.levels le)) (omega arith)
@@ -41,7 +41,7 @@ module _ (late : ℕ) (t : TrailView) (sound : IsSound t) where
   back_at : (k : ℕ) → k < length t.steps → undo (step_at t.steps k ∷ []) (sets_at t (suc k)) ≡ sets_at t k
   back_at k lt = sym (ap (λ ss. undo ss t.sets) (drop-cons t.steps k no_step lt))
 
-  spent : (k : ℕ) → k < length t.steps → total (sets_at t (suc k)) < total (sets_at t k)
+  pub spent : (k : ℕ) → k < length t.steps → total (sets_at t (suc k)) < total (sets_at t k)
   spent k lt =
       let taken = sound.places k lt in
       let fewer = taken.fewer in
@@ -86,12 +86,12 @@ module _ (late : ℕ) (t : TrailView) (sound : IsSound t) where
             (λ l low. ap (λ (ss : List Members). total ss + late) (same k lt l low)) fewer,
       )
 
-  start_at : (k : ℕ) → k ≤ length t.steps → sets_at (up_to t k) 0 ≡ sets_at t 0
+  pub start_at : (k : ℕ) → k ≤ length t.steps → sets_at (up_to t k) 0 ≡ sets_at t 0
   start_at zero le = refl
   start_at (suc k) le = start_same (up_to t (suc k)) (up_to t k) (step_at t.steps k ∷ []) (take_at t.steps k le)
       (back_at k le) ∙ start_at k (omega (arith, le))
 
-  falling_at : (k : ℕ) → k ≤ length t.steps → IsFalling (start_of late t) late (up_to t k)
+  pub falling_at : (k : ℕ) → k ≤ length t.steps → IsFalling (start_of late t) late (up_to t k)
   falling_at zero le = record { first = omega arith; falls = λ l lt. absurd (omega (arith, lt)); top = refl }
   falling_at (suc k) le = (step_by (start_of late t) k le (step_at t.steps k).forced_by
       (next_level t.level k t.steps sound.levels le) (falling_at k (omega (arith, le)))).0

@@ -1,18 +1,21 @@
 -- Each turn of a search brings the number down, by what the layers below promise.
-use Rattle.std.proofs.Common.{◌≡◌, ℕ, zero, suc, ◌+◌, ◌-◌, ◌<◌, ◌≤◌, Bool, true, false, List, [], ◌∷◌, ◌++◌, drop}
+use Rattle.std.proofs.Common.{◌≡◌, ℕ, zero, suc, ◌+◌, ◌-◌, ◌<◌, ◌≤◌, Bool, false, List, [], ◌∷◌, ◌++◌, drop}
 use Rattle.std.proofs.Common.{length, Some, map, refl, sym, ap, ap₂, ◌∙◌, subst, arith, inl, inr}
 use Rattle.std.proofs.lemmas.Bool.{cases_lt, false≢true}
-use Rattle.std.proofs.lemmas.List.{get_or_append_left, get_or-append_right, length-append}
+use Rattle.std.proofs.lemmas.List.{get_or_append_left, get_or-append_right, length-append, take-append-drop}
+use Rattle.std.proofs.Math.Seq.{drop-append-add, drop-append_seam, get_or-append_seam}
 use Rattle.version_sets.specs.Sets.{Members, every, size}
 use Rattle.version_sets.proofs.Laws.{size-le}
 use Rattle.incompatibilities.specs.Incompatibilities.{LiesIn, states_at, HoldsAt}
-use Rattle.incompatibilities.specs.Stores.{EntryView, entry, terms_of, watched}
+use Rattle.incompatibilities.specs.Stores.{EntryView, entry, terms_of}
 use Rattle.incompatibilities.specs.declared.origin.Origin.TheVariants.{Axiom}
 use Rattle.propagation.specs.Satisfaction.{IsQuiet, Sat}
-use Rattle.propagation.specs.Trails.{StepView, TrailView, end_sets, past, set_of, sets_at, space_of, total, undo}
-use Rattle.propagation.specs.Promises.{IsDecided, IsTrail, Levels, LieIn, Propagated, IsProgress}
+use Rattle.propagation.specs.Trails.{Above, StepView, TrailView, end_sets, no_step, past, set_of, sets_at, space_of, step_at}
+use Rattle.propagation.specs.Trails.{total, undo}
+use Rattle.propagation.specs.Promises.{IsDecided, IsSound, IsTrail, Levels, LieIn, Propagated, IsProgress}
 use Rattle.propagation.specs.declared.propagating.Progress.{Progress}
 use Rattle.propagation.specs.declared.propagating.Progress.TheVariants.{Conflict, Fixpoint}
+use Rattle.propagation.proofs.LevelLemmas.{place_low}
 use Rattle.propagation.proofs.Places.{cut_sets}
 use Rattle.propagation.proofs.SetLemmas.{inside_size, only_inside}
 use Rattle.propagation.proofs.Soundness.{trail_grown}
@@ -21,9 +24,10 @@ use Rattle.propagation.proofs.Widened.{ends_long, ends_sum, ends_wider, old_set,
 use Rattle.propagation.proofs.Widened.{start_sum, wider_trail}
 use Rattle.conflicts.specs.Resolving.{IsLearned, Quiet}
 use Rattle.searching.specs.Searching.{AllAsked, AreMore, IsCaught, IsFalling, IsOfNew, IsOnly, IsSearching, Pairs}
-use Rattle.searching.specs.Searching.{space, space_in, start_of, sum_at}
+use Rattle.searching.specs.Searching.{HasJumped, space, space_in, start_of, sum_at, up_to}
 use Rattle.searching.specs.Turning.{HasFallen, IsAdding}
 use Rattle.searching.proofs.Ends.{above_less, deeper_falls, end_top, ends_same, falling_deeper, falling_lower}
+use Rattle.searching.proofs.Each.{falling_at, spent, start_at, top_at}
 use Rattle.searching.proofs.Ends.{falling_stays, lower_falls, space_stays, start_same}
 
 none_added : (added : List StepView) → length added ≡ 0 → added ≡ []
@@ -54,7 +58,7 @@ gone asked left fewer late old new es next trail stops start falling quiet caugh
 
 quiet_same : (es : List EntryView) (old new : TrailView) → new.level ≤ old.level
     → ((l : ℕ) → l < new.level → end_sets new l ≡ end_sets old l) → Quiet es old old.level → Quiet es new new.level
-quiet_same es old new level same quiet l lt id within on sat = quiet l (omega (arith, lt, level)) id within on
+quiet_same es old new level same quiet l lt id within sat = quiet l (omega (arith, lt, level)) id within
     (subst (λ (ss : List Members). Sat ss (terms_of es id)) (same l lt) sat)
 
 caught_same : (asked more : Pairs) (old new : TrailView) → new.level ≤ old.level
@@ -62,6 +66,10 @@ caught_same : (asked more : Pairs) (old new : TrailView) → new.level ≤ old.l
     → IsCaught asked old → IsCaught more new
 caught_same asked more old new level same grows caught l lt v i within only =
     grows v i (subst (AllAsked asked) (sym (same l lt)) (caught l (omega (arith, lt, level))) v i within only)
+
+least_level : (n m : ℕ) → ((l : ℕ) → l < n → l < m) → n ≤ m
+least_level zero m each = omega arith
+least_level (suc n) m each = let last = each n (omega arith) in omega (arith, last)
 
 -- ---- after a conflict
 module _ (asked : Pairs) (left late : ℕ) (es : List EntryView) (old mid new : TrailView) (id back_to : ℕ)
@@ -75,11 +83,11 @@ module _ (asked : Pairs) (left late : ℕ) (es : List EntryView) (old mid new : 
 
   -- something was added, since the learned entry has an open term and no entry was satisfied there
   adds : (q : Progress) → IsProgress es new.sets q → length added ≡ 0 → ⊥
-  adds Fixpoint stops none = (stops id l.within l.watches).not_one l.vertex l.states (let same : new.sets ≡ mid.sets =
+  adds Fixpoint stops none = (stops id l.within).not_one l.vertex l.states (let same : new.sets ≡ mid.sets =
       subst (λ ss. undo ss new.sets ≡ mid.sets) (none_added added none) p.back in rw same l.one)
-  adds (Conflict c) stops none = quiet back_to l.lower c stops.0 stops.1
+  adds (Conflict c) stops none = quiet back_to l.lower c stops.0
       (let same : new.sets ≡ mid.sets = subst (λ ss. undo ss new.sets ≡ mid.sets) (none_added added none) p.back in
-      subst (λ (ss : List Members). Sat ss (terms_of es c)) (same ∙ sym ends) stops.2)
+      subst (λ (ss : List Members). Sat ss (terms_of es c)) (same ∙ sym ends) stops.1)
 
   level : new.level ≤ old.level
   level = let low = l.lower in omega (arith, here, low)
@@ -107,6 +115,52 @@ module _ (asked : Pairs) (left late : ℕ) (es : List EntryView) (old mid new : 
       (start_same new mid added p.steps p.back ∙ sym (start_same old mid l.gone l.cut.steps (sym l.cut.sets))) falls
       (quiet_same es old new level same quiet)
       (caught_same asked asked old new level same (λ v i h. h) caught) (omega (arith, fell))
+
+  -- the first assignment that is added brings the number down
+  first_falls : (ss : List StepView) → added ≡ ss → IsSound new → HasJumped late old mid new
+  first_falls [] e sound = absurd (adds next p.stops (ap length e))
+  first_falls (a ∷ more) e sound =
+      let k : ℕ = length mid.steps in
+      let steps : new.steps ≡ mid.steps ++ a ∷ more = p.steps ∙ ap (λ (ss : List StepView). mid.steps ++ ss) e in
+      let lt : k < length new.steps = omega (arith, ap length steps, length-append mid.steps (a ∷ more)) in
+      let one : TrailView = up_to new (suc k) in
+      let at : step_at new.steps k ≡ a =
+      ap (λ (ss : List StepView). step_at ss k) steps ∙ get_or-append_seam mid.steps a more no_step in
+      let on : suc k ≡ k + 1 = omega arith in
+      let rest : drop (suc k) new.steps ≡ more =
+      ap₂ (λ n (ss : List StepView). drop n ss) on steps ∙ drop-append-add mid.steps (a ∷ more) 1 in
+      let above : (n : ℕ) → n < new.level → Above n (a ∷ more) =
+      λ n low. subst (Above n) e (p.above n (let is = p.level in omega (arith, is, low))) in
+      let level_is : one.level ≡ new.level =
+      (let least = least_level new.level a.level (λ n low. (above n low).0) in
+      let most_is = place_low 0 new.level k new.steps sound.levels lt in
+      omega (arith, least, most_is, ap (λ (s : StepView). s.level) at)) in
+      let same_one : (n : ℕ) → n < one.level → end_sets one n ≡ end_sets old n =
+      λ n low. (let lower : n < new.level = omega (arith, low, level_is) in
+      sym (ends_same n new one (drop (suc k) new.steps) (sym (take-append-drop (suc k) new.steps)) refl
+      (subst (Above n) (sym rest) (above n lower).1)) ∙ same n lower) in
+      let back : sets_at new k ≡ mid.sets = ap (λ (ss : List StepView). undo ss new.sets)
+      (ap (drop k) p.steps ∙ drop-append_seam mid.steps added) ∙ p.back in
+      let fewer : total one.sets < total mid.sets =
+      subst (λ (ss : List Members). total one.sets < total ss) back (spent late new sound k lt) in
+      let less_one : sum_at late one one.level < sum_at late old one.level =
+      subst (λ (ss : List Members). total ss + late < sum_at late old one.level)
+      (sym (end_top one (top_at new (suc k) sound lt)))
+      (subst (λ (ss : List Members). total one.sets + late < total ss + late)
+      (sym (ap (end_sets old) (level_is ∙ here) ∙ ends)) (omega (arith, fewer))) in
+      let fell = lower_falls (start_of late new) late old one (falling_at late new sound (suc k) lt)
+      (omega (arith, level, level_is)) (λ n low. ap (λ (ss : List Members). total ss + late) (same_one n low))
+      less_one in (
+        lt,
+        subst (λ n. space_in n late one < space late old)
+            (ap (λ (ss : List Members). total ss + late) (sym (start_at late new sound (suc k) lt)))
+            (subst (λ n. space_in (start_of late new) late one < space_in n late old)
+            (ap (λ (ss : List Members). total ss + late) (start_same new mid added p.steps p.back
+            ∙ sym (start_same old mid l.gone l.cut.steps (sym l.cut.sets)))) fell),
+      )
+
+  pub jump_falls : IsSound new → HasJumped late old mid new
+  jump_falls sound = first_falls added refl sound
 
 -- what the guide was told of a conflict leaves the turn as it is
 pub turn_noted : (before left fewer late later : ℕ) (asked more : Pairs) (es : List EntryView) (new : TrailView)
@@ -142,11 +196,11 @@ turn_decide asked left fewer late es old mid new vertex state step next added wa
     let fell = deeper_falls (start_of late old) late old new falls here sums in
     gone asked left fewer late old new es next trail p.stops
     (start_same new mid added p.steps p.back ∙ start_same mid old (step ∷ []) d.steps d.back) falls
-    (λ l lt i within on sat. elim (cases_lt l old.level) [
-      | inl low ↦ was.quiet l low i within on (subst (λ (ss : List Members). Sat ss (terms_of es i)) (same l lt) sat)
+    (λ l lt i within sat. elim (cases_lt l old.level) [
+      | inl low ↦ was.quiet l low i within (subst (λ (ss : List Members). Sat ss (terms_of es i)) (same l lt) sat)
       | inr ge ↦
           let e : l ≡ old.level = omega (arith, ge, lt, here) in
-          (was.stops i within on).not_all (subst (λ (ss : List Members). Sat ss (terms_of es i))
+          (was.stops i within).not_all (subst (λ (ss : List Members). Sat ss (terms_of es i))
           (same l lt ∙ ap (end_sets old) e ∙ end_top old was.falling.top) sat)
     ])
     (λ l lt. elim (cases_lt l old.level) [
@@ -237,8 +291,8 @@ module _ (asked more : Pairs) (left fewer late later : ℕ) (old wide : TrailVie
       (short_past old (terms_of old_es id) (trail.lies id lt)) quiet)
 
   old_quiet : Quiet old_es old old.level → (l : ℕ) → l < wide.level → (id : ℕ) → id < length old_es
-      → watched (entry old_es id).origin ≡ true → Sat (end_sets wide l) (terms_of old_es id) → ⊥
-  old_quiet quiet l lt id within on sat = quiet l (let e = a.wider.level_is in omega (arith, e, lt)) id within on
+      → Sat (end_sets wide l) (terms_of old_es id) → ⊥
+  old_quiet quiet l lt id within sat = quiet l (let e = a.wider.level_is in omega (arith, e, lt)) id within
       (sat_back (end_sets old l) (map every a.spaces) (terms_of old_es id)
       (λ u x ge e. short_past old (terms_of old_es id) (trail.lies id within) u x (omega (arith, ge, long l)) e)
       (subst (λ (ss : List Members). Sat ss (terms_of old_es id)) (wide_ends l) sat))
@@ -259,8 +313,8 @@ module _ (asked more : Pairs) (left fewer late later : ℕ) (old wide : TrailVie
       (size_is, only_inside set new.states new.state h.1 one new.only.1 some))
 
   pub wide_quiet : Quiet old_es old old.level → Quiet es wide wide.level
-  wide_quiet quiet l lt id within on sat = elim (cases_lt id (length old_es)) [
-    | inl low ↦ old_quiet quiet l lt id low (subst (λ (e : EntryView). watched e.origin ≡ true) (earlier id low) on)
+  wide_quiet quiet l lt id within sat = elim (cases_lt id (length old_es)) [
+    | inl low ↦ old_quiet quiet l lt id low
         (subst (λ (e : EntryView). Sat (end_sets wide l) (states_at e.terms)) (earlier id low) sat)
     | inr ge ↦ late_quiet (entry a.gained (id - length old_es))
         (a.of_new (id - length old_es) (omega (arith, within, ge, ap length a.grown, length-append old_es a.gained))) l
@@ -277,7 +331,7 @@ module _ (asked more : Pairs) (left fewer late later : ℕ) (old wide : TrailVie
     falling = wide_falling was.falling;
     quiet = wide_quiet was.quiet;
     stops = (let same : es ≡ old_es = (a.stays none).0 in subst (λ (xs : List EntryView).
-        IsProgress xs wide.sets Fixpoint) (sym same) (λ id lt on. wide_quiet_at id lt (was.stops id lt on)));
+        IsProgress xs wide.sets Fixpoint) (sym same) (λ id lt. wide_quiet_at id lt (was.stops id lt)));
   }
 
 added_space : (s late : ℕ) (old new : TrailView) (es : List EntryView) (next : Progress) (added : List StepView)

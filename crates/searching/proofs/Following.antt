@@ -2,12 +2,13 @@
 use Rattle.std.proofs.Common.{◌≡◌, ℕ, zero, suc, ◌<◌, true, List, [], ◌∷◌, length, set, Option, Some, None, refl, sym}
 use Rattle.std.proofs.Common.{ap, ◌∙◌, subst, arith, inl, inr}
 use Rattle.std.proofs.lemmas.Bool.{cases_eq, cases_lt}
-use Rattle.std.proofs.lemmas.List.{get_or-set_other, get_or-set_same, length-set}
+use Rattle.std.proofs.lemmas.List.{get_or_append_left, get_or-set_other, get_or-set_same, length-set}
 use Rattle.version_sets.specs.Sets.{Members, has, only, size}
 use Rattle.version_sets.proofs.Laws.{size-le}
 use Rattle.version_sets.proofs.Within.{inside_has}
 use Rattle.incompatibilities.specs.Incompatibilities.{Assignment, Breaks, HoldsOf, Terms, HoldsAt}
 use Rattle.incompatibilities.specs.Stores.{EntryView, IsAxiom, entry, terms_of}
+use Rattle.incompatibilities.specs.declared.origin.Origin.TheVariants.{Axiom}
 use Rattle.propagation.specs.Satisfaction.{Agrees, BreaksNone, Sat}
 use Rattle.propagation.specs.Trails.{StepView, TrailView, set_of, space_of}
 use Rattle.propagation.specs.Promises.{IsDecided, Propagated, SameSpaces, IsProgress}
@@ -15,8 +16,6 @@ use Rattle.propagation.specs.declared.propagating.Progress.{Progress}
 use Rattle.propagation.specs.declared.propagating.Progress.TheVariants.{Conflict}
 use Rattle.propagation.proofs.Vertices.{in_range}
 use Rattle.conflicts.specs.Resolving.{IsGained}
-use Rattle.conflicts.proofs.Growing.{entry_kept}
-use Rattle.conflicts.proofs.Steps.{combined_not_given}
 use Rattle.searching.specs.Searching.{CanDecide, HasSpaces}
 use Rattle.searching.specs.Following.{AreGiven, IsLeft}
 
@@ -31,7 +30,7 @@ sat_breaks x sets f agrees sat u = holds_broken (set_of sets u) (f u) (x u) (sat
 
 pub no_conflict : (x : Assignment) (es : List EntryView) (t : TrailView) (id : ℕ)
     → IsProgress es t.sets (Conflict id) → IsLeft x es t → ⊥
-no_conflict x es t id stops is_left = is_left.0 id stops.0 (sat_breaks x t.sets (terms_of es id) is_left.1 stops.2)
+no_conflict x es t id stops is_left = is_left.0 id stops.0 (sat_breaks x t.sets (terms_of es id) is_left.1 stops.1)
 
 has_only : (s : Members) (i : ℕ) → has s i ≡ true → has (only (length s) i) i ≡ true
 has_only [] i h = h
@@ -59,9 +58,11 @@ pub given_more : (given : EntryView → Type 0) (es : List EntryView) (t : Trail
     → IsGained es t more gained → AreGiven given es → AreGiven given more
 given_more given es t more gained g was id within origin = elim (cases_lt id (length es)) [
   | inl lt ↦
-      let same : entry more id ≡ entry es id = entry_kept es gained more g.grown id lt in
+      let same : entry more id ≡ entry es id =
+      ap (λ (xs : List EntryView). entry xs id) g.grown
+      ∙ get_or_append_left es gained (record { terms = []; origin = Axiom 0 }) id lt in
       subst given (sym same) (was id lt (subst (λ (e : EntryView). IsAxiom e.origin) same origin))
-  | inr ge ↦ absurd (combined_not_given more id (g.combined id ge within) origin)
+  | inr ge ↦ absurd (g.learned id ge within origin)
 ]
 
 -- universes stay

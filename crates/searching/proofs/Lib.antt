@@ -1,10 +1,9 @@
 pub mod Counts
 pub mod Weights
 pub mod Ends
-pub mod Falls
 pub mod Seen
 pub mod Following
 pub mod Selections
 pub mod Each
+pub mod Falls
 pub mod Guides
-pub mod Touching

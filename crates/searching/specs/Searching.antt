@@ -3,8 +3,7 @@ use Rattle.std.specs.Prelude.{◌≡◌, ℕ, zero, suc, ◌+◌, ◌<◌, ◌�
 use Rattle.std.specs.Prelude.{slice_index_or, take, Some}
 use Rattle.version_sets.specs.Sets.{Members, has, size}
 use Rattle.incompatibilities.specs.Incompatibilities.{states_at}
-use Rattle.incompatibilities.specs.Stores.{EntryView, Follows, IsAxiom, entry, terms_of, touches}
-use Rattle.incompatibilities.specs.declared.origin.Origin.TheVariants.{Combined}
+use Rattle.incompatibilities.specs.Stores.{EntryView, Follows, IsAxiom, entry, terms_of}
 use Rattle.propagation.specs.Trails.{TrailView, end_sets, latest_at, level_after, past, set_of, sets_at, space_of}
 use Rattle.propagation.specs.Trails.{total}
 use Rattle.propagation.specs.Promises.{IsTrail, IsProgress}
@@ -91,11 +90,6 @@ pub record IsRefutation (es : List EntryView) (id : ℕ) : Type 0 where
   pub none : (entry es id).terms ≡ []
   pub follows : Follows es (terms_of es id)
 
--- each combination is at a vertex at which the first of the two has a term
-abbrev pub AreTouching : List EntryView → Type 0
-AreTouching es = (id i j v : ℕ) (w : Bool) → id < length es → (entry es id).origin ≡ Combined i j v w
-    → touches v (entry es i).terms ≡ true
-
 -- a vertex with several states left, and one of them
 pub record CanDecide (t : TrailView) (v i : ℕ) : Type 0 where
   pub within : v < length t.sets
@@ -122,3 +116,8 @@ up_to t k = record {
 
 abbrev pub EachFalls : ℕ → TrailView → Type 0
 EachFalls late t = (k : ℕ) → k < length t.steps → space late (up_to t (suc k)) < space late (up_to t k)
+
+-- the first assignment after a jump back brings the number below what it was before the jump
+abbrev pub HasJumped : ℕ → TrailView → TrailView → TrailView → Type 0
+HasJumped late old mid new =
+    (length mid.steps < length new.steps) × (space late (up_to new (suc (length mid.steps))) < space late old)

@@ -89,8 +89,7 @@ pub trait Guide<S: States + Drop>: Sized {
             → Agrees x (trail_view S.tests trail.now).sets → x d.0 ≡ d.1)) };
 
     /// Tells that a conflict was resolved, and the trail cut, before what was learned is propagated. `learned` is
-    /// `conflict` or the combination of an entry with what forced its satisfier, or with what holds at level 0; that
-    /// entry is again `conflict` or such a combination.
+    /// `conflict`, or comes out of a chain whose entries are the ones that had to do with the conflict.
     ///
     /// What is kept of it may change what is chosen. The vertices stay, and so does how many pairs are left; fewer
     /// places may count as looked at.

@@ -10,18 +10,18 @@
 //! that are still to come count with all their states from the start, so that their coming leaves the number as it was.
 //! Where axioms are added the number may stay, but then one pair less is left.
 //!
-//! A layer above may rely on this: the search ends with nothing left to decide, no watched entry satisfied and each
-//! pair that stands alone asked for; or with an entry without terms, which follows from the axioms. What the guide
-//! knows of the axioms in the store (`given`, `stored`) holds at the end, since the store only grows, and each
-//! combination is at a vertex at which the first of its two entries has a term (`AreTouching`), so at one that has a
-//! number. Where the guide decides as an assignment that breaks no axiom does (`follows`), the search doesn't end with
-//! a refutation.
+//! A layer above may rely on this: the search ends with nothing left to decide, no entry satisfied and each pair that
+//! stands alone asked for; or with an entry without terms, which follows from the axioms. What the guide knows of the
+//! axioms in the store (`given`, `stored`) holds at the end, since the store only grows. Where the guide decides as an
+//! assignment that breaks no axiom does (`follows`), the search doesn't end with a refutation.
 #![tactic(auto)]
 
 mod guide;
+mod laws;
 mod states_left;
 mod turns;
 
 pub use guide::Guide;
+pub use laws::{assignments_fall, jumps_fall};
 pub use states_left::least;
 pub use turns::{Answer, Found, search};

@@ -2,18 +2,19 @@
 
 ghost use Rattle.incompatibilities.specs.Incompatibilities.{Assignment};
 ghost use Rattle.incompatibilities.specs.Stores.{entries_view};
-ghost use Rattle.propagation.specs.Promises.{IsTrail};
+ghost use Rattle.propagation.specs.Promises.{IsTrail, most};
 ghost use Rattle.propagation.specs.Trails.{trail_view};
 ghost use Rattle.propagation.specs.declared.propagating.Progress.TheVariants.{Conflict, Fixpoint};
 ghost use Rattle.searching.specs.Counting.{CountsOn, IsCount};
-ghost use Rattle.searching.specs.Searching.{AreTouching, EachFalls, HasSpaces, IsCaught, IsSearching, IsSeen, space};
+ghost use Rattle.incompatibilities.specs.Counts.{combinations, links_in};
+ghost use Rattle.searching.specs.Searching.{EachFalls, HasSpaces, IsCaught, IsSearching, IsSeen, space};
 ghost use Rattle.searching.specs.Turning.{HasEnded, HasTurned};
 ghost use Rattle.searching.specs.Following.{AreGiven, IsLeft, IsSelection, KeepsFollowed, TurnsOn};
-ghost use Rattle.std.specs.Prelude.{◌≡◌, ℕ, ◌+◌, ◌<◌, ◌≤◌, ◌⊎◌, [], IfOk};
+ghost use Rattle.std.specs.Prelude.{◌≡◌, ℕ, ◌+◌, ◌≤◌, ◌⊎◌, [], IfOk, length, take};
 
 use crate::guide::Guide;
-use conflicts::{Resolution, StandIns, resolve_conflict};
-use incompatibilities::{Id, Store};
+use conflicts::{Outcome, resolve_conflict};
+use incompatibilities::{Id, Origin, Store};
 use propagation::{Progress, Trail};
 use std::alloc::{AllocError, Global};
 use version_sets::States;
@@ -32,8 +33,8 @@ pub enum Answer {
 pub struct Found {
     /// How it ended.
     pub answer: Answer,
-    /// The assignments that the trail ever had, the conflicts that were resolved, and the combinations that these took,
-    /// and that were made to stand in for entries; 2^64 - 1 if there are more.
+    /// The assignments that the trail ever had, the conflicts that were resolved, and the combinations of the chains of
+    /// what was learned; 2^64 - 1 if there are more.
     pub steps: u64,
 }
 
@@ -46,21 +47,45 @@ enum Turn {
     Ends(Answer),
 }
 
-/// The steps with one conflict more, which brought the store from so many entries to so many.
-fn with_conflict(steps: u64, before: usize, after: usize) -> u64
-    requires { before ≤ after }
-    ensures { (steps + after < result + before) ⊎ (after ≤ result) }
+/// How many combinations a chain has.
+fn links_in(origin: &Origin) -> usize
+    ensures { result ≡ links_in origin.now }
 {
-    let combinations = (after - before) as u64;
-    steps.saturating_add(1).saturating_add(combinations)
+    match origin {
+        Origin::Axiom(_) => 0,
+        Origin::Learned(chain) => chain.links().len(),
+    }
 }
 
-/// The steps with the assignments.
-fn with_assignments(steps: u64, assigned: u64) -> u64
+/// The steps with some more, as far as 64 bits go.
+fn with_more(steps: u64, more: usize) -> u64
+    ensures counted { (steps + more ≤ result) ⊎ (most ≤ result) }
+    ensures more { steps ≤ result }
+{
+    steps.saturating_add(more as u64)
+}
+
+/// The steps with one conflict more, and with the combinations of the chains of the entries from a place on.
+fn with_conflict<S: States + Drop>(store: &Store<S>, steps: u64, from: usize) -> u64
+    requires { from ≤ length (entries_view S.tests store.now) }
+    ensures counted { (combinations (entries_view S.tests store.now) + steps
+        ≤ result + combinations (take from (entries_view S.tests store.now))) ⊎ (most ≤ result) }
+    ensures more { steps ≤ result }
+{
+    let mut count = with_more(steps, 1);
+    'gained: for place in from..store.len() {
+        count = with_more(count, links_in(store.origin(Id::new(place))));
+    }
+    count
+}
+
+/// The steps with the assignments; those that stand are among them.
+fn with_assignments(steps: u64, assigned: u64, standing: usize) -> u64
     ensures steps { steps ≤ result }
     ensures assigned { assigned ≤ result }
+    ensures standing { standing ≤ result }
 {
-    steps.saturating_add(assigned)
+    steps.saturating_add(assigned).max(standing as u64)
 }
 
 /// After a conflict: learns from it, goes back, tells the guide and propagates.
@@ -69,7 +94,6 @@ fn turn_back<S: States + Drop, G: Guide<S>>(
     guide: &mut G,
     trail: &mut Trail<S>,
     store: &mut Store<S>,
-    table: &mut StandIns,
     steps: &mut u64,
     id: Id,
 ) -> Result<Turn, AllocError>
@@ -90,8 +114,6 @@ fn turn_back<S: States + Drop, G: Guide<S>>(
         → AreGiven (G.given guide.new) (entries_view S.tests store.new)) }
     ensures stored { IfOk result (λ r. G.stored guide.old (entries_view S.tests store.old)
         → G.stored guide.new (entries_view S.tests store.new)) }
-    ensures touching { IfOk result
-        (λ r. AreTouching (entries_view S.tests store.old) → AreTouching (entries_view S.tests store.new)) }
     ensures follows { IfOk result
         (λ r. KeepsFollowed (G.follows guide.old) (entries_view S.tests store.old) (trail_view S.tests trail.old)
         (G.follows guide.new) (entries_view S.tests store.new) (trail_view S.tests trail.new)) }
@@ -99,15 +121,15 @@ fn turn_back<S: States + Drop, G: Guide<S>>(
         (λ r. TurnsOn (G.follows guide.new) (entries_view S.tests store.old) (trail_view S.tests trail.old) r) }
 {
     let before = store.len();
-    let outcome = resolve_conflict(alloc, trail, store, table, id)?;
-    *steps = with_conflict(*steps, before, store.len());
+    let outcome = resolve_conflict(alloc, trail, store, id)?;
+    *steps = with_conflict(store, *steps, before);
     match outcome {
-        Resolution::Learned { id: learned, .. } => {
+        Outcome::Learned { id: learned, .. } => {
             // Before propagation, so that the guide finds the trail as the cut has left it.
             guide.noted(trail, store, id, learned)?;
             Ok(Turn::Goes(trail.propagate(store)?))
         }
-        Resolution::Unsolvable(none) => Ok(Turn::Ends(Answer::Unsolvable(none))),
+        Outcome::Unsolvable(none) => Ok(Turn::Ends(Answer::Unsolvable(none))),
     }
 }
 
@@ -135,8 +157,6 @@ fn turn_on<S: States + Drop, G: Guide<S>>(
         → AreGiven (G.given guide.new) (entries_view S.tests store.new)) }
     ensures stored { IfOk result (λ r. G.stored guide.old (entries_view S.tests store.old)
         → G.stored guide.new (entries_view S.tests store.new)) }
-    ensures touching { IfOk result
-        (λ r. AreTouching (entries_view S.tests store.old) → AreTouching (entries_view S.tests store.new)) }
     ensures follows { IfOk result
         (λ r. KeepsFollowed (G.follows guide.old) (entries_view S.tests store.old) (trail_view S.tests trail.old)
         (G.follows guide.new) (entries_view S.tests store.new) (trail_view S.tests trail.new)) }
@@ -162,7 +182,6 @@ fn one_turn<S: States + Drop, G: Guide<S>>(
     guide: &mut G,
     trail: &mut Trail<S>,
     store: &mut Store<S>,
-    table: &mut StandIns,
     steps: &mut u64,
     progress: Progress,
 ) -> Result<Turn, AllocError>
@@ -183,8 +202,6 @@ fn one_turn<S: States + Drop, G: Guide<S>>(
         → AreGiven (G.given guide.new) (entries_view S.tests store.new)) }
     ensures stored { IfOk result (λ r. G.stored guide.old (entries_view S.tests store.old)
         → G.stored guide.new (entries_view S.tests store.new)) }
-    ensures touching { IfOk result
-        (λ r. AreTouching (entries_view S.tests store.old) → AreTouching (entries_view S.tests store.new)) }
     ensures follows { IfOk result
         (λ r. KeepsFollowed (G.follows guide.old) (entries_view S.tests store.old) (trail_view S.tests trail.old)
         (G.follows guide.new) (entries_view S.tests store.new) (trail_view S.tests trail.new)) }
@@ -192,7 +209,7 @@ fn one_turn<S: States + Drop, G: Guide<S>>(
         (λ r. TurnsOn (G.follows guide.new) (entries_view S.tests store.old) (trail_view S.tests trail.old) r) }
 {
     match progress {
-        Progress::Conflict(id) => turn_back(alloc, guide, trail, store, table, steps, id),
+        Progress::Conflict(id) => turn_back(alloc, guide, trail, store, steps, id),
         Progress::Fixpoint => turn_on(guide, trail, store),
     }
 }
@@ -216,6 +233,8 @@ pub fn search<S: States + Drop, G: Guide<S>>(
     ensures counted { IfOk result (λ f. IsCount (entries_view S.tests store.old) (entries_view S.tests store.new)
         (trail_view S.tests trail.new) f.steps) }
     ensures trail { IfOk result (λ r. IsTrail (entries_view S.tests store.new) (trail_view S.tests trail.new)) }
+    // No fewer than the assignments that stand.
+    ensures standing { IfOk result (λ f. length (trail_view S.tests trail.new).steps ≤ f.steps) }
     // Each assignment and each decision that stands brought the number down.
     ensures each { IfOk result (λ r. EachFalls (G.late guide.new) (trail_view S.tests trail.new)) }
     ensures spaces { IfOk result (λ r. HasSpaces (G.spaces guide.new) (trail_view S.tests trail.new)) }
@@ -224,8 +243,6 @@ pub fn search<S: States + Drop, G: Guide<S>>(
         → AreGiven (G.given guide.new) (entries_view S.tests store.new)) }
     ensures stored { IfOk result (λ r. G.stored guide.old (entries_view S.tests store.old)
         → G.stored guide.new (entries_view S.tests store.new)) }
-    ensures touching { IfOk result
-        (λ r. AreTouching (entries_view S.tests store.old) → AreTouching (entries_view S.tests store.new)) }
     ensures follows { IfOk result
         (λ r. KeepsFollowed (G.follows guide.old) (entries_view S.tests store.old) (trail_view S.tests trail.old)
         (G.follows guide.new) (entries_view S.tests store.new) (trail_view S.tests trail.new)) }
@@ -233,16 +250,15 @@ pub fn search<S: States + Drop, G: Guide<S>>(
         → IsLeft x (entries_view S.tests store.old) (trail_view S.tests trail.old) → IsSelection f.answer) }
 {
     let mut steps = 0;
-    let mut table = StandIns::new(alloc);
     // An entry that is there from the start may force something, or be satisfied.
     let mut progress = trail.propagate(store)?;
     'turns: loop {
-        match one_turn(alloc, guide, trail, store, &mut table, &mut steps, progress)? {
+        match one_turn(alloc, guide, trail, store, &mut steps, progress)? {
             Turn::Goes(next) => progress = next,
             Turn::Ends(answer) => {
                 return Ok(Found {
                     answer,
-                    steps: with_assignments(steps, trail.assigned()),
+                    steps: with_assignments(steps, trail.assigned(), trail.places()),
                 });
             }
         }

@@ -8,10 +8,11 @@
 //! none does, or some do and some don't. `solver.md` calls these satisfied, contradicted and inconclusive. A vertex
 //! without a state contradicts each term, so a set with nothing left never counts as satisfied.
 //!
-//! A layer above may rely on this: `relation` is exact and takes no memory, `negate` is the exact complement, and a
-//! term on a universe of at most 64 states takes 24 bytes.
+//! A layer above may rely on this: `relation` is exact and takes no memory, and `negate` is the exact complement.
 #![tactic(auto)]
 
+mod relating;
 mod term;
 
+pub use relating::relation;
 pub use term::{Relation, Term};

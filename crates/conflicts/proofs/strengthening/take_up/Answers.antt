@@ -1,12 +1,23 @@
-use Rattle.incompatibilities.specs.Stores.{entries_view}
-use Rattle.conflicts.proofs.Strengthened.{strengthened_none}
+use Rattle.std.proofs.Common.{List, sym, subst}
+use Rattle.incompatibilities.specs.Stores.{EntryView, entries_view}
+use Rattle.propagation.specs.Promises.{IsTrail}
+use Rattle.propagation.specs.Trails.{trail_view}
+use Rattle.conflicts.specs.Resolving.{HasRoom, IsGained}
 use Rattle.conflicts.proofs.strengthening.take_up.Goals as goal
 
-pub returns-then-place-places : goal.returns-then-place-places
-returns-then-place-places g c = strengthened_none (entries_view g.S.States.tests c.args.store.now)
+pub returns-clause-gained : goal.returns-clause-gained
+returns-clause-gained g c =
+    let tests = g.S.States.tests in
+    subst (λ (xs : List EntryView). (gained : List EntryView)
+    × IsGained (entries_view tests c.args.store.now) (trail_view tests c.args.trail.now) xs gained)
+    (sym c.note_place.ensures) c.stand_in_for.ensures.gained
 
-pub returns-in-None : goal.returns-in-None
-returns-in-None g c = strengthened_none (entries_view g.S.States.tests c.args.store.now)
+pub returns-clause-trail : goal.returns-clause-trail
+returns-clause-trail g c =
+    subst (λ (xs : List EntryView). IsTrail xs (trail_view g.S.States.tests c.args.trail.now))
+    (sym c.note_place.ensures) c.stand_in_for.ensures.trail
 
-pub returns-then-index-len : goal.returns-then-index-len
-returns-then-index-len g c = strengthened_none (entries_view g.S.States.tests c.args.store.now)
+pub returns-clause-room : goal.returns-clause-room
+returns-clause-room g c =
+    subst (λ (xs : List EntryView). HasRoom c.args.first (trail_view g.S.States.tests c.args.trail.now) xs)
+    (sym c.note_place.ensures) c.stand_in_for.ensures.room

@@ -1,10 +1,9 @@
-use Rattle.std.proofs.Common.{◌<◌, length}
+use Rattle.terms.specs.Terms.{terms_view}
 use Rattle.incompatibilities.specs.Stores.{entries_view}
-use Rattle.conflicts.specs.Resolving.{IsStrengthened}
+use Rattle.propagation.specs.Trails.{trail_view}
+use Rattle.conflicts.specs.Resolving.{IsHeld}
 use Rattle.conflicts.proofs.strengthening.with_units.Given as goal
 
 abbrev pub invariant-vertices : goal.invariant-vertices
-invariant-vertices g l = let view = entries_view g.S.States.tests in record {
-  within : l.made < length (view l.store);
-  strengthened : IsStrengthened (view l.fn.store) (view l.store);
-}
+invariant-vertices g l = let tests = g.S.States.tests in IsHeld (entries_view tests l.store)
+    (trail_view tests l.trail) (terms_view tests l.held.incompatibility) l.held.chain

@@ -11,17 +11,27 @@ terms-init g c =
       can = tt;
       finite = tt;
       counted = gives.1 ∙ long ∙ sym (ap length gives.0);
-      entering =
-          entering_first c.args.id c.args.rows.now.items c.args.terms.items _ gives.0 c.requires.room c.requires.apart;
+      ids = entering_first (λ t. c.args.id) c.args.ids.now.items c.args.terms.items _ gives.0 c.requires.ids
+          c.requires.apart;
+      sets = entering_first (λ t. t.states) c.args.sets.now.items c.args.terms.items _ gives.0 c.requires.sets
+          c.requires.apart;
     }
 
 pub push_at-requires : goal.push_at-requires
 push_at-requires g c =
     let here : into_iter_items c.terms.term-iterator ≡ c.in-Some.term ∷ into_iter_items c.next.new.self =
     c.in-Some.ensures.steps.0 in
-    first_room c.args.id c.args.rows.now.items c.terms.rows.items c.args.terms.items
+    first_room (λ t. c.args.id) c.args.ids.now.items c.terms.ids.items c.args.terms.items
     (into_iter_items c.terms.term-iterator)
-    (into_iter_items c.next.new.self) c.in-Some.term here c.terms.invariant.entering
+    (into_iter_items c.next.new.self) c.in-Some.term here c.terms.invariant.ids
+
+pub push_at-requires-in-terms : goal.push_at-requires-in-terms
+push_at-requires-in-terms g c =
+    let here : into_iter_items c.terms.term-iterator ≡ c.in-Some.term ∷ into_iter_items c.next.new.self =
+    c.in-Some.ensures.steps.0 in
+    first_room (λ t. t.states) c.args.sets.now.items c.terms.sets.items c.args.terms.items
+    (into_iter_items c.terms.term-iterator)
+    (into_iter_items c.next.new.self) c.in-Some.term here c.terms.invariant.sets
 
 pub terms-preserved : goal.terms-preserved
 terms-preserved g c =
@@ -34,15 +44,26 @@ terms-preserved g c =
       can = tt;
       finite = tt;
       counted = omega (arith, counted, count, left);
-      entering =
-          entering_more c.args.id c.args.rows.now.items c.terms.rows.items c.push_at.new.rows.items c.args.terms.items
-          (into_iter_items c.terms.term-iterator) (into_iter_items c.next.new.self) c.in-Some.term
-          here c.push_at.ensures.here c.push_at.ensures.others c.push_at.ensures.room c.terms.invariant.entering;
+      ids =
+          entering_more (λ t. c.args.id) c.args.ids.now.items c.terms.ids.items c.push_at.new.rows.items
+          c.args.terms.items (into_iter_items c.terms.term-iterator) (into_iter_items c.next.new.self) c.in-Some.term
+          here c.push_at.ensures.here c.push_at.ensures.others c.push_at.ensures.room c.terms.invariant.ids;
+      sets =
+          entering_more (λ t. t.states) c.args.sets.now.items c.terms.sets.items c.push_at-in-terms.new.rows.items
+          c.args.terms.items (into_iter_items c.terms.term-iterator) (into_iter_items c.next.new.self) c.in-Some.term
+          here c.push_at-in-terms.ensures.here c.push_at-in-terms.ensures.others c.push_at-in-terms.ensures.room c.terms.invariant.sets;
     }
 
-pub returns : goal.returns
-returns g c =
+pub returns-clause-ids : goal.returns-clause-ids
+returns-clause-ids g c =
     let none : into_iter_items c.terms.term-iterator ≡ [] = none_left (into_iter_len c.terms.term-iterator)
     (into_iter_items c.terms.term-iterator) c.terms.invariant.counted c.in-None.ensures.steps.0 in
-    entering_last c.args.id c.args.rows.now.items c.terms.rows.items c.args.terms.items
-    (into_iter_items c.terms.term-iterator) none c.terms.invariant.entering
+    entering_last (λ t. c.args.id) c.args.ids.now.items c.terms.ids.items c.args.terms.items
+    (into_iter_items c.terms.term-iterator) none c.terms.invariant.ids
+
+pub returns-clause-sets : goal.returns-clause-sets
+returns-clause-sets g c =
+    let none : into_iter_items c.terms.term-iterator ≡ [] = none_left (into_iter_len c.terms.term-iterator)
+    (into_iter_items c.terms.term-iterator) c.terms.invariant.counted c.in-None.ensures.steps.0 in
+    entering_last (λ t. t.states) c.args.sets.now.items c.terms.sets.items c.args.terms.items
+    (into_iter_items c.terms.term-iterator) none c.terms.invariant.sets

@@ -9,5 +9,7 @@ invariant-terms g l =
       can : (goal.iterator-terms g).can_next l.term-iterator;
       finite : (goal.iterator-terms g).is_finite l.term-iterator;
       counted : into_iter_len l.term-iterator ≡ length (into_iter_items l.term-iterator);
-      entering : IsEntering l.id l.fn.rows.items l.rows.items l.fn.terms.items (into_iter_items l.term-iterator);
+      ids : IsEntering (λ t. l.id) l.fn.ids.items l.ids.items l.fn.terms.items (into_iter_items l.term-iterator);
+      sets : IsEntering (λ t. t.states) l.fn.sets.items l.sets.items l.fn.terms.items
+          (into_iter_items l.term-iterator);
     }

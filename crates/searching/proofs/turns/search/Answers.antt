@@ -1,10 +1,11 @@
 use Rattle.std.proofs.Common.{◌+◌, arith, subst}
 use Rattle.incompatibilities.specs.Stores.{entries_view}
 use Rattle.propagation.specs.Trails.{trail_view}
-use Rattle.searching.specs.Counting.{combinations}
+use Rattle.incompatibilities.specs.Counts.{combinations}
 use Rattle.searching.specs.Searching.{space}
 use Rattle.searching.specs.Turning.{HasGone, HasTurned}
 use Rattle.searching.specs.Following.{RefutesNothing}
+use Rattle.searching.proofs.Counts.{counted_up}
 use Rattle.searching.proofs.Each.{each_falls}
 use Rattle.searching.proofs.turns.search.Goals as goal
 
@@ -33,7 +34,6 @@ turns-preserved g c =
       keeps = g.G.Guide.keeps_on _ _ _ was.keeps turn.keeps;
       given = λ given. turn.given (was.given given);
       stored = λ stored. turn.stored (was.stored stored);
-      touching = λ touching. turn.touching (was.touching touching);
       counted = turn.counted (combinations (entries_view tests c.args.store.now)) was.counted;
       follows = λ x is. let mid = turn.follows x is in let first =
           was.follows x mid.0 in (first.0, λ is_left. mid.1 (first.1 is_left));
@@ -44,9 +44,6 @@ returns-in-Ends-clause-given g c given = c.in_ok-next.ensures.given (c.turns.inv
 
 pub returns-in-Ends-clause-stored : goal.returns-in-Ends-clause-stored
 returns-in-Ends-clause-stored g c stored = c.in_ok-next.ensures.stored (c.turns.invariant.stored stored)
-
-pub returns-in-Ends-clause-touching : goal.returns-in-Ends-clause-touching
-returns-in-Ends-clause-touching g c touching = c.in_ok-next.ensures.touching (c.turns.invariant.touching touching)
 
 pub returns-in-Ends-clause-follows : goal.returns-in-Ends-clause-follows
 returns-in-Ends-clause-follows g c x is = let mid = c.in_ok-next.ensures.follows x is in let first =
@@ -69,6 +66,8 @@ returns-in-Ends-clause-counted g c =
     let more = c.in_ok-next.ensures.counted
     (combinations (entries_view g.S.States.tests c.args.store.now)) c.turns.invariant.counted in
     record {
-      combined = omega (arith, more, c.with_assignments.ensures.steps);
+      combined = counted_up (combinations (entries_view g.S.States.tests c.one_turn.new.store))
+          (combinations (entries_view g.S.States.tests c.args.store.now)) c.one_turn.new.steps
+          c.with_assignments.result more c.with_assignments.ensures.steps;
       assigned = omega (arith, c.assigned.ensures, c.with_assignments.ensures.assigned);
     }

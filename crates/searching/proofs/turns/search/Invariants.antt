@@ -1,8 +1,9 @@
-use Rattle.std.proofs.Common.{◌+◌, ◌≤◌}
+use Rattle.std.proofs.Common.{◌+◌}
 use Rattle.incompatibilities.specs.Stores.{entries_view}
 use Rattle.propagation.specs.Trails.{trail_view}
-use Rattle.searching.specs.Counting.{combinations}
-use Rattle.searching.specs.Searching.{AreTouching, HasSpaces, IsCaught, IsSearching, IsSeen, space}
+use Rattle.searching.specs.Counting.{HasCounted}
+use Rattle.incompatibilities.specs.Counts.{combinations}
+use Rattle.searching.specs.Searching.{HasSpaces, IsCaught, IsSearching, IsSeen, space}
 use Rattle.searching.specs.Following.{AreGiven, KeepsFollowed}
 use Rattle.searching.proofs.turns.search.Given as goal
 
@@ -12,13 +13,12 @@ invariant-turns g l = let tests = g.S.States.tests in record {
   caught : IsCaught (g.G.Guide.asked l.guide) (trail_view tests l.trail);
   seen : IsSeen (g.G.Guide.seen l.guide) (g.G.Guide.asked l.guide) (trail_view tests l.trail);
   spaces : HasSpaces (g.G.Guide.spaces l.guide) (trail_view tests l.trail);
-  counted : combinations (entries_view tests l.store) ≤ combinations (entries_view tests l.fn.store) + l.steps;
+  counted : HasCounted (combinations (entries_view tests l.store)) (combinations (entries_view tests l.fn.store)) l.steps;
   keeps : g.G.Guide.keeps l.fn.guide l.guide;
   given : AreGiven (g.G.Guide.given l.fn.guide) (entries_view tests l.fn.store)
       → AreGiven (g.G.Guide.given l.guide) (entries_view tests l.store);
   stored : g.G.Guide.stored l.fn.guide (entries_view tests l.fn.store)
       → g.G.Guide.stored l.guide (entries_view tests l.store);
-  touching : AreTouching (entries_view tests l.fn.store) → AreTouching (entries_view tests l.store);
   follows : KeepsFollowed (g.G.Guide.follows l.fn.guide) (entries_view tests l.fn.store) (trail_view tests l.fn.trail)
       (g.G.Guide.follows l.guide) (entries_view tests l.store) (trail_view tests l.trail);
 }

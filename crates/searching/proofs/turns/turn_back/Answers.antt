@@ -1,13 +1,12 @@
-use Rattle.std.proofs.Common.{◌+◌, ◌<◌, ◌≤◌, ◌⊎◌, refl, subst, sym}
+use Rattle.std.proofs.Common.{◌+◌, refl, subst, sym}
 use Rattle.incompatibilities.specs.Stores.{entries_view, entry}
 use Rattle.propagation.specs.Trails.{trail_view}
 use Rattle.conflicts.specs.Resolving.{Resolved}
-use Rattle.conflicts.specs.declared.resolving.Resolution.TheVariants.{Learned}
+use Rattle.conflicts.specs.declared.resolving.Outcome.TheVariants.{Learned}
 use Rattle.searching.specs.Searching.{space}
 use Rattle.searching.proofs.Counts.{counts_gained}
 use Rattle.searching.proofs.Falls.{turn_jump, turn_noted}
 use Rattle.searching.proofs.Seen.{seen_cut, seen_longer}
-use Rattle.searching.proofs.Touching.{touching_gained}
 use Rattle.searching.proofs.Following.{given_more, no_conflict, spaces_same}
 use Rattle.searching.proofs.turns.turn_back.Goals as goal
 
@@ -31,7 +30,7 @@ returns-in_ok-propagate-in-Learned-clause-turned g c =
           (g.G.Guide.late was) (g.G.Guide.late now) (g.G.Guide.asked was) (g.G.Guide.asked now) es new next
           grows c.in_ok-noted-in-Learned.ensures.left c.in_ok-noted-in-Learned.ensures.late
           (turn_jump (g.G.Guide.asked was) (g.G.Guide.left was) (g.G.Guide.late was) es old mid new c.in-Learned.learned
-          c.in-Learned.back_to learned c.in_ok-outcome.ensures.gained.1.quiet next more.0 more.1
+          c.in-Learned.back_to learned (c.in_ok-outcome.ensures.gained.1.quiet c.requires.searching.quiet) next more.0 more.1
           c.requires.searching.falling c.requires.caught c.in_ok-propagate-in-Learned.ensures.trail);
       seen_is = seen_longer (g.G.Guide.seen now) (g.G.Guide.asked now) mid new more.0 more.1.steps more.1.back
           (seen_cut (g.G.Guide.seen was) (g.G.Guide.seen now) c.in-Learned.back_to (g.G.Guide.asked was)
@@ -114,8 +113,7 @@ returns-in_ok-propagate-in-Learned-clause-counted g c =
     counts_gained (entries_view tests c.args.store.now)
     (entries_view tests c.resolve_conflict.new.store) c.in_ok-outcome.ensures.gained.0 c.args.steps.now
     c.with_conflict.result c.len-before.result c.in_ok-outcome.ensures.gained.1.grown c.len-before.ensures
-    (subst (λ n. (c.args.steps.now + n < c.with_conflict.result + c.len-before.result)
-    ⊎ (n ≤ c.with_conflict.result)) c.len.ensures c.with_conflict.ensures)
+    c.with_conflict.ensures.counted c.with_conflict.ensures.more
 
 pub returns-in-Unsolvable-clause-counted : goal.returns-in-Unsolvable-clause-counted
 returns-in-Unsolvable-clause-counted g c =
@@ -123,16 +121,4 @@ returns-in-Unsolvable-clause-counted g c =
     counts_gained (entries_view tests c.args.store.now)
     (entries_view tests c.resolve_conflict.new.store) c.in_ok-outcome.ensures.gained.0 c.args.steps.now
     c.with_conflict.result c.len-before.result c.in_ok-outcome.ensures.gained.1.grown c.len-before.ensures
-    (subst (λ n. (c.args.steps.now + n < c.with_conflict.result + c.len-before.result)
-    ⊎ (n ≤ c.with_conflict.result)) c.len.ensures c.with_conflict.ensures)
-
-pub returns-in-Unsolvable-clause-touching : goal.returns-in-Unsolvable-clause-touching
-returns-in-Unsolvable-clause-touching g c = touching_gained (entries_view g.S.States.tests c.args.store.now)
-    (trail_view g.S.States.tests c.args.trail.now) (entries_view g.S.States.tests c.resolve_conflict.new.store)
-    c.in_ok-outcome.ensures.gained.0 c.in_ok-outcome.ensures.gained.1
-
-pub returns-in_ok-propagate-in-Learned-clause-touching : goal.returns-in_ok-propagate-in-Learned-clause-touching
-returns-in_ok-propagate-in-Learned-clause-touching g c =
-    touching_gained (entries_view g.S.States.tests c.args.store.now) (trail_view g.S.States.tests c.args.trail.now)
-    (entries_view g.S.States.tests c.resolve_conflict.new.store) c.in_ok-outcome.ensures.gained.0
-    c.in_ok-outcome.ensures.gained.1
+    c.with_conflict.ensures.counted c.with_conflict.ensures.more

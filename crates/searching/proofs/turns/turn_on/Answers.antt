@@ -6,7 +6,6 @@ use Rattle.searching.proofs.Counts.{counts_axioms}
 use Rattle.searching.proofs.Falls.{adding_trail, turn_axioms, turn_decide, wide_caught, wide_falling, wide_quiet}
 use Rattle.searching.proofs.Falls.{wide_searching, wide_space}
 use Rattle.searching.proofs.Seen.{seen_longer}
-use Rattle.searching.proofs.Touching.{touching_axioms}
 use Rattle.searching.proofs.Following.{decide_agrees, spaces_same, spread_agrees}
 use Rattle.propagation.specs.Satisfaction.{Agrees}
 use Rattle.incompatibilities.specs.Incompatibilities.{Assignment}
@@ -189,25 +188,4 @@ returns-then-branch-clause-counted g c =
     let tests = g.S.States.tests in
     let adding = c.in_ok-axioms.ensures.adding in
     counts_axioms (entries_view tests c.args.store.now)
-    (entries_view tests c.axioms.new.store) adding.gained adding.grown (λ i lt. (adding.of_new i lt).given)
-
-pub returns-then-branch-clause-touching : goal.returns-then-branch-clause-touching
-returns-then-branch-clause-touching g c =
-    let tests = g.S.States.tests in
-    let adding = c.in_ok-axioms.ensures.adding in
-    touching_axioms (entries_view tests c.args.store.now)
-    (entries_view tests c.axioms.new.store) adding.gained adding.grown (λ i lt. (adding.of_new i lt).given)
-
-pub returns-in_ok-propagate-in-Some-clause-touching : goal.returns-in_ok-propagate-in-Some-clause-touching
-returns-in_ok-propagate-in-Some-clause-touching g c =
-    let tests = g.S.States.tests in
-    let adding = c.in_ok-axioms.ensures.adding in
-    touching_axioms (entries_view tests c.args.store.now)
-    (entries_view tests c.axioms.new.store) adding.gained adding.grown (λ i lt. (adding.of_new i lt).given)
-
-pub returns-in-None-clause-touching : goal.returns-in-None-clause-touching
-returns-in-None-clause-touching g c =
-    let tests = g.S.States.tests in
-    let adding = c.in_ok-axioms.ensures.adding in
-    touching_axioms (entries_view tests c.args.store.now)
     (entries_view tests c.axioms.new.store) adding.gained adding.grown (λ i lt. (adding.of_new i lt).given)

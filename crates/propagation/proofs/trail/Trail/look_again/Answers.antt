@@ -12,21 +12,21 @@ is_within-requires-clause-vertex g c =
     (vertex_within t c.requires.trail.sound t.propagated c.requires.waits)
 
 pub is_within-requires-clause-fits : goal.is_within-requires-clause-fits
-is_within-requires-clause-fits g c = c.requires.trail.lies c.args.posting.now.id c.requires.id c.args.vertex
-    (g.S.States.tests c.args.posting.now.states) c.requires.states
+is_within-requires-clause-fits g c = c.requires.trail.lies c.args.id c.requires.id c.args.vertex
+    (g.S.States.tests c.args.states.now) c.requires.states
 
 pub returns-then-is_within-clause-looked : goal.returns-then-is_within-clause-looked
 returns-then-is_within-clause-looked g c =
     let tests = g.S.States.tests in
     looked_again (entries_view tests c.args.store.now) (trail_view tests c.args.self.now)
-    (trail_view tests c.look.new.self) c.args.posting.now.id c.look.result c.requires.waits c.look.ensures.looked
+    (trail_view tests c.look.new.self) c.args.id c.look.result c.requires.waits c.look.ensures.looked
 
 pub returns-clause-looked : goal.returns-clause-looked
 returns-clause-looked g c =
     let tests = g.S.States.tests in
     let es = entries_view tests c.args.store.now in
     let t = trail_view tests c.args.self.now in
-    let id = c.args.posting.now.id in
+    let id = c.args.id in
     let v = c.args.vertex in
     let off : c.is_within.result ≡ false = search rules in
     let apart : is_within (set_of t.sets v) (terms_of es id v) ≡ false =

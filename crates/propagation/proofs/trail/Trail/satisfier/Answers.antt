@@ -19,7 +19,7 @@ is_read : (g : Over) (c : goal.After-level_after g) → IsRead (trail_view g.S.S
       vertex = c.index-step.result.now.vertex;
       level =
           c.index-step.result.now.level;
-      forced_by = c.index-step.result.now.forced_by;
+      cause = c.index-step.result.now.forced_by;
       before = c.level_after.result;
     })
 is_read g c =
@@ -41,15 +41,15 @@ is_read g c =
       place = place;
       vertex = ap (λ (s : StepView). s.vertex) (sym at);
       level = ap (λ (s : StepView). s.level) (sym at);
-      forced_by = ap (λ (s : StepView). s.forced_by) (sym at);
+      cause = ap (λ (s : StepView). s.forced_by) (sym at);
       before = c.level_after.ensures;
     }
 
 pub returns-clause-satisfied : goal.returns-clause-satisfied
 returns-clause-satisfied g c = satisfied_is _ _ _ _ (is_read g c)
 
-pub returns-clause-forced_by : goal.returns-clause-forced_by
-returns-clause-forced_by g c = forced_is _ _ _ _ (is_read g c)
+pub returns-clause-cause : goal.returns-clause-cause
+returns-clause-cause g c = forced_is _ _ _ _ (is_read g c)
 
 pub returns-clause-opens : goal.returns-clause-opens
 returns-clause-opens g c = opens_is _ _ _ _ (is_read g c)

@@ -4,7 +4,7 @@ use Rattle.propagation.proofs.Vertices.{view_at}
 use Rattle.searching.specs.Searching.{IsOnly}
 use Rattle.search_tests.specs.Demands.{pair_at}
 use Rattle.search_tests.specs.declared.demanding.Pending.{Pending}
-use Rattle.conflicts.proofs.Covered.{one_more}
+use Rattle.search_tests.proofs.Demanded.{one_more}
 use Rattle.search_tests.proofs.demanding.Demanding.first_alone.Goals as goal
 
 abbrev pairs_view : {S : Type 0} → List (Pending S) → List (ℕ × ℕ)

@@ -1,0 +1,18 @@
+use Rattle.std.proofs.Common.{◌≡◌, ◌∙◌, List, ℕ, ap, sym, subst}
+use Rattle.incompatibilities.specs.Indexed.{HaveStates, entries_in}
+use Rattle.incompatibilities.specs.Rows.{row_at}
+use Rattle.incompatibilities.specs.Stores.{entries_view, ids_at}
+use Rattle.incompatibilities.proofs.store.Store.states_at.Goals as goal
+
+pub returns : goal.returns
+returns g c =
+    let tests = g.S.States.tests in
+    let v = c.args.vertex in
+    let es = entries_view tests (entries_in c.self.inside.entries.items) in
+    let row : c.row_of.result.now ≡ row_at c.self.inside.sets.items v =
+    c.row_of.ensures ∙ ap (λ rows. row_at rows v) c.as_slice.ensures.value in
+    subst (λ vs. HaveStates tests (entries_view tests vs) v (ids_at v (entries_view tests vs)) c.row_of.result.now)
+    c.self.view_is
+    (subst (HaveStates tests es v (ids_at v es)) (sym row)
+    (subst (λ (ids : List ℕ). HaveStates tests es v ids (row_at c.self.inside.sets.items v)) (c.self.invariant.listed v)
+    (c.self.invariant.states v)))
