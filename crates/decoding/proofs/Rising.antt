@@ -22,8 +22,8 @@ use Rattle.model.proofs.Orders.{class_above}
 use Rattle.model.proofs.Vertices.{class_from}
 use Rattle.model.proofs.Lists.{in_first, in_rest, to_any, pairs_first, pairs_rest, pairs_none}
 use Rattle.model.proofs.Members.{all_in}
-use Rattle.encoding.proofs.ClassOrder.{IsOlder, pairs_filter}
-use Rattle.encoding.proofs.Distinct.{of_rows}
+use Rattle.numbering.proofs.ClassOrder.{IsOlder, pairs_filter}
+use Rattle.numbering.proofs.Distinct.{of_rows}
 use Rattle.decoding.specs.Decoding.{IsStateOrder}
 
 below : (a b : ℕ) → nat_lt b a ≡ false → (a ≡ b → ⊥) → nat_lt a b ≡ true

@@ -5,8 +5,8 @@ use Rattle.std.proofs.lemmas.Option.{slice_get_within}
 use Rattle.version_sets.specs.Sets.{Members, has, size}
 use Rattle.propagation.proofs.SetLemmas.{has_some}
 use Rattle.model.specs.Vertices.{Vertex}
-use Rattle.encoding.specs.Numberings.{Numbering, number_in}
-use Rattle.encoding.proofs.Places.{number_at}
+use Rattle.numbering.specs.Numberings.{Numbering, number_in}
+use Rattle.numbering.proofs.Places.{number_at}
 use Rattle.guiding.specs.Guides.{first_in}
 
 pub first_at : (s : Members) (n : ℕ) → has s n ≡ true → ((i : ℕ) → i < n → has s i ≡ false) → first_in s ≡ n

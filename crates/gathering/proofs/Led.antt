@@ -22,9 +22,9 @@ use Rattle.model.proofs.Places.{some_at, get_push_cases}
 use Rattle.catalogue.proofs.Lookups.{candidates_are}
 use Rattle.catalogue.specs.Stores.{CatalogueView, candidates_at, rows_by_name}
 use Rattle.reaching.specs.Nodes.{AreLeads, IsLead}
-use Rattle.contents.specs.Contents.{owner_if, owners_of, met_owner}
-use Rattle.contents.specs.declared.met.MetVersion.{MetVersion}
-use Rattle.contents.proofs.Rows.{versions_are}
+use Rattle.selection.specs.Contents.{owner_if, owners_of, met_owner}
+use Rattle.selection.specs.declared.met.MetVersion.{MetVersion}
+use Rattle.selection.proofs.Rows.{versions_are}
 use Rattle.gathering.specs.Leads.{AreLed, ArePut, AreThere, IsLed, IsPut, class_if, version_if}
 
 -- ---- states

@@ -7,10 +7,10 @@ use Rattle.model.specs.Assignment.{Assigns}
 use Rattle.model.specs.Content.{Content, Problem}
 use Rattle.model.specs.Selection.{IsValidSelection}
 use Rattle.model.specs.Vertices.{State, absent}
-use Rattle.encoding.specs.Assignments.{state_at, state_if, state_of}
-use Rattle.encoding.specs.Numberings.{Numbering, number_in}
-use Rattle.encoding.proofs.Places.{number_at}
-use Rattle.encoding.proofs.Sound.{has_assignment}
+use Rattle.numbering.specs.Assignments.{state_at, state_if, state_of}
+use Rattle.numbering.specs.Numberings.{Numbering, number_in}
+use Rattle.numbering.proofs.Places.{number_at}
+use Rattle.numbering.proofs.Sound.{has_assignment}
 use Rattle.guiding.specs.Guides.{final_of}
 use Rattle.guiding.proofs.FirstTerms.{space_starts}
 use Rattle.reaching.specs.Followed.{AgreesWith}

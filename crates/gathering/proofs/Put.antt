@@ -6,9 +6,9 @@ use Rattle.std.proofs.lemmas.Option.{same_Some, none-some}
 use Rattle.model.specs.Summary.{Dependency}
 use Rattle.model.proofs.Places.{get_push_cases}
 use Rattle.catalogue.specs.Stores.{CatalogueView}
-use Rattle.contents.specs.Contents.{Grows, IsCandidate, candidate_owner}
-use Rattle.contents.specs.declared.met.MetVersion.{MetVersion}
-use Rattle.contents.proofs.MetVersions.{grows_on, owner_on, unchanged}
+use Rattle.selection.specs.Contents.{Grows, IsCandidate, candidate_owner}
+use Rattle.selection.specs.declared.met.MetVersion.{MetVersion}
+use Rattle.selection.proofs.MetVersions.{grows_on, owner_on, unchanged}
 use Rattle.gathering.specs.Leads.{ArePut, AreThere, IsPut}
 
 module _ (index : CatalogueView) where

@@ -10,12 +10,12 @@ use Rattle.model.specs.Selection.{Class}
 use Rattle.model.specs.Vertices.{Owner, version_of, Vertex, State, absent, present, version, in_class}
 use Rattle.model.specs.Search.{IsUnbroken, LeadsTo}
 use Rattle.catalogue.specs.Stores.{CatalogueView, rows_by_name}
-use Rattle.contents.specs.Contents.{candidate_owner, owners_of}
-use Rattle.contents.specs.declared.met.MetVersion.{MetVersion}
-use Rattle.encoding.specs.Assignments.{IsOf, state_of}
-use Rattle.encoding.specs.KnownProblem.{problem}
-use Rattle.encoding.specs.Numberings.{Numbering}
-use Rattle.encoding.specs.declared.known_problem.KnownProblem.{KnownProblem}
+use Rattle.selection.specs.Contents.{candidate_owner, owners_of}
+use Rattle.selection.specs.declared.met.MetVersion.{MetVersion}
+use Rattle.numbering.specs.Assignments.{IsOf, state_of}
+use Rattle.numbering.specs.KnownProblem.{problem}
+use Rattle.numbering.specs.Numberings.{Numbering}
+use Rattle.numbering.specs.declared.known_problem.KnownProblem.{KnownProblem}
 use Rattle.guiding.specs.Guides.{IsDone, final_of}
 
 -- the states of vertices at the end

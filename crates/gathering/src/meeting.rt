@@ -5,17 +5,17 @@ ghost use Rattle.propagation.specs.Trails.{trail_view};
 ghost use Rattle.facts.specs.Graphs.{node_views};
 ghost use Rattle.model.specs.Search.{LeadsTo};
 ghost use Rattle.reaching.specs.Nodes.{AreMet};
-ghost use Rattle.encoding.specs.KnownProblem.{problem};
-ghost use Rattle.contents.specs.Contents.{AreMetVersions, owners_of};
+ghost use Rattle.numbering.specs.KnownProblem.{problem};
+ghost use Rattle.selection.specs.Contents.{AreMetVersions, owners_of};
 ghost use Rattle.gathering.specs.Leads.{HasEnded, ends};
 
 use crate::leading::led_at;
 use crate::targets::targets_of;
-use contents::{Met, brings_at, store_holds};
-use encoding::{KnownProblem, Table};
 use facts::{Node, dependencies_of};
 use indexmap::IndexSet;
+use numbering::{KnownProblem, Table};
 use propagation::Trail;
+use selection::{Met, brings_at, store_holds};
 use std::alloc::{AllocError, Global};
 use version_sets::States;
 

@@ -5,8 +5,8 @@ ghost use Rattle.propagation.specs.Trails.{trail_view};
 ghost use Rattle.model.specs.Content.{Content};
 ghost use Rattle.model.specs.Search.{IsUnbroken};
 ghost use Rattle.model.specs.Selection.{IsValidSelection};
-ghost use Rattle.encoding.specs.Assignments.{state_of};
-ghost use Rattle.encoding.specs.KnownProblem.{problem};
+ghost use Rattle.numbering.specs.Assignments.{state_of};
+ghost use Rattle.numbering.specs.KnownProblem.{problem};
 ghost use Rattle.guiding.specs.Guides.{final_of};
 ghost use Rattle.reaching.specs.Built.{HasBareRoot};
 ghost use Rattle.reaching.specs.Followed.{IsBrought};
@@ -14,15 +14,15 @@ ghost use Rattle.gathering.specs.Leads.{IsLeft};
 
 use crate::meeting::meet;
 use catalogue::catalogues_are_well_formed;
-use contents::{Met, content_of};
-use encoding::{KnownProblem, Table};
 use facts::facts_of;
 use lockfile::LockContent;
+use numbering::{KnownProblem, Table};
 use propagation::Trail;
 use reaching::{
     built_contents_follow, built_contents_select, built_roots_have_no_checksum,
     packages_are_a_graph,
 };
+use selection::{Met, content_of};
 use std::alloc::{AllocError, Global};
 use version_sets::States;
 

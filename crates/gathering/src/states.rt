@@ -9,7 +9,7 @@ ghost use Rattle.guiding.specs.Guides.{first_in};
 ghost use Rattle.gathering.specs.Leads.{class_if, ends, version_if};
 
 use classes::Class;
-use encoding::{KnownProblem, Table, state_at};
+use numbering::{KnownProblem, Table, state_at};
 use propagation::Trail;
 use semver::Version;
 use std::alloc::{AllocError, Global};

@@ -2,13 +2,13 @@
 
 ghost use Rattle.std.specs.Prelude.{◌≡◌, ℕ, IfOk, OnOk, Some, length};
 ghost use Rattle.features.specs.Views.{dependency_views};
-ghost use Rattle.contents.specs.Contents.{Grows, IsCandidate};
+ghost use Rattle.selection.specs.Contents.{Grows, IsCandidate};
 ghost use Rattle.gathering.specs.Leads.{ArePut, AreThere, IsPut};
 
 use catalogue::Catalogue;
-use contents::{MetVersion, put_met};
 use features::{Dependency, PackageName};
 use indexmap::IndexSet;
+use selection::{MetVersion, put_met};
 use std::alloc::{AllocError, Global};
 
 /// Where the candidate at a place of a name's stands among those that were met.

@@ -3,7 +3,7 @@ use Rattle.std.proofs.Common.{◌≡◌, refl, ap}
 use Rattle.model.specs.Vertices.{Owner, the_root, version_of, Vertex, root, absent}
 use Rattle.refutations.specs.Causes.{Cause, of_root, of_need, of_target, of_feature, of_list, of_ask, of_entry}
 use Rattle.refutations.specs.Causes.{of_enabling, of_asking, of_newest, of_weak}
-use Rattle.encoding.specs.Pairs.{Pair, first_pair, owner_pair}
+use Rattle.numbering.specs.Pairs.{Pair, first_pair, owner_pair}
 
 owner_present : (o : Owner) (v : Vertex) → owner_pair o ≡ (v, absent) → ⊥
 owner_present the_root v e = let x = ap (λ (p : Pair). p.1) e in cc

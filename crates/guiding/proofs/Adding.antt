@@ -21,10 +21,10 @@ use Rattle.model.specs.Derivation.{states_at}
 use Rattle.model.specs.Vertices.{State, Vertex, space}
 use Rattle.refutations.specs.Causes.{Cause, kind_of, terms_of_cause}
 use Rattle.refutations.proofs.CauseLaws.{cause_instance}
-use Rattle.encoding.specs.Assignments.{state_at}
-use Rattle.encoding.specs.Numberings.{Numbering, Says, members_at}
-use Rattle.encoding.specs.Pairs.{AreGiven, Given, IsGivenAt}
-use Rattle.encoding.proofs.Needing.{still_at}
+use Rattle.numbering.specs.Assignments.{state_at}
+use Rattle.numbering.specs.Numberings.{Numbering, Says, members_at}
+use Rattle.numbering.specs.Pairs.{AreGiven, Given, IsGivenAt}
+use Rattle.numbering.proofs.Needing.{still_at}
 use Rattle.model.proofs.Lists.{in_cons, in_none, in_first, in_rest}
 use Rattle.searching.specs.Searching.{AreMore, HasSpaces, IsOfNew, IsSeen}
 use Rattle.searching.specs.Turning.{IsAdding}

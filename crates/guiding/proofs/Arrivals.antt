@@ -6,9 +6,9 @@ use Rattle.std.proofs.lemmas.Option.{none-some, same_Some}
 use Rattle.version_sets.specs.Sets.{Members, none}
 use Rattle.model.specs.Vertices.{Vertex, space}
 use Rattle.model.proofs.Places.{some_at}
-use Rattle.encoding.specs.KnownProblem.{problem}
-use Rattle.encoding.specs.Numberings.{Numbering}
-use Rattle.encoding.specs.declared.known_problem.KnownProblem.{KnownProblem}
+use Rattle.numbering.specs.KnownProblem.{problem}
+use Rattle.numbering.specs.Numberings.{Numbering}
+use Rattle.numbering.specs.declared.known_problem.KnownProblem.{KnownProblem}
 use Rattle.propagation.specs.Trails.{TrailView}
 use Rattle.propagation.proofs.Widened.{wider_again, wider_none}
 use Rattle.guiding.specs.Guides.{IsCome, IsEncoding}

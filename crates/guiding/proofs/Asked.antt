@@ -12,11 +12,11 @@ use Rattle.propagation.specs.Promises.{IsTrail}
 use Rattle.model.specs.Content.{Content}
 use Rattle.model.specs.Vertices.{Vertex, space}
 use Rattle.model.specs.WellFormed.{IsCatalogue}
-use Rattle.encoding.specs.Assignments.{state_at}
-use Rattle.encoding.specs.KnownProblem.{KnowsDefault, problem}
-use Rattle.encoding.specs.Numberings.{IsGrown, IsNumbering, Numbering}
-use Rattle.encoding.specs.Pairs.{Given, IsGivenAt}
-use Rattle.encoding.specs.declared.known_problem.KnownProblem.{KnownProblem}
+use Rattle.numbering.specs.Assignments.{state_at}
+use Rattle.numbering.specs.KnownProblem.{KnowsDefault, problem}
+use Rattle.numbering.specs.Numberings.{IsGrown, IsNumbering, Numbering}
+use Rattle.numbering.specs.Pairs.{Given, IsGivenAt}
+use Rattle.numbering.specs.declared.known_problem.KnownProblem.{KnownProblem}
 use Rattle.searching.specs.Searching.{HasSpaces, IsOnly, IsSeen, Pairs}
 use Rattle.searching.specs.Searching as searching
 use Rattle.searching.proofs.Seen.{seen_all}

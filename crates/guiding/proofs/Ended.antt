@@ -6,8 +6,8 @@ use Rattle.incompatibilities.specs.Stores.{EntryView}
 use Rattle.propagation.specs.Trails.{TrailView}
 use Rattle.propagation.specs.Promises.{IsTrail}
 use Rattle.model.specs.Content.{Content, Problem}
-use Rattle.encoding.specs.Numberings.{IsNumbering}
-use Rattle.searching.specs.Searching.{AreTouching, HasSpaces, Pairs}
+use Rattle.numbering.specs.Numberings.{IsNumbering}
+use Rattle.searching.specs.Searching.{HasSpaces, Pairs}
 use Rattle.searching.specs.Turning.{HasEnded}
 use Rattle.searching.specs.Following as following
 use Rattle.searching.specs.Following.{IsLeft, IsSelection}
@@ -46,15 +46,14 @@ pub searched_of : (q : Problem) (follows : Option Content) (old g : EncodedView)
     → (following.AreGiven (IsOfInstance old.problem old.vertices) es0
     → following.AreGiven (IsOfInstance g.problem g.vertices) es)
     → (AreStored old.problem old.vertices old.asked es0 → AreStored g.problem g.vertices g.asked es)
-    → (AreTouching es0 → AreTouching es)
     → ((x : Assignment) → Follows g x → Follows old x × (IsLeft x es0 t0 → IsLeft x es t))
     → ((x : Assignment) → Follows g x → IsLeft x es0 t0 → IsSelection a)
     → HasSearched q g t es a
-searched_of q follows old g t0 t es0 es a begun goes ok spaces spaced trail ended given stored touching keeps selects =
+searched_of q follows old g t0 t es0 es a begun goes ok spaces spaced trail ended given stored keeps selects =
     record {
       numbering = subst (λ p. IsNumbering p g.vertices) (goes.problem ∙ begun.problem) ok;
       whole = omega (arith, goes.whole begun.whole, spaced.vertices, length-map g.asked length);
-      touching = touching begun.touching;
+      trail = trail;
       found = found_of q follows old g t0 t es0 es a begun goes ok spaces spaced trail ended given stored;
       done = done_of (IsDone t) (asked_of g.asked) es t a ended;
       followed = followed_by q follows old g t0 t es0 es a begun goes keeps selects;

@@ -26,10 +26,10 @@ use Rattle.refutations.specs.Causes.{of_enabling, of_asking, of_newest, of_weak,
 use Rattle.refutations.specs.Causes.{has_class, some_entry, lists_feature, is_overtaken, is_weak_on, is_cause}
 use Rattle.refutations.specs.Causes.{terms_with, terms_of_cause}
 use Rattle.refutations.proofs.Named.{passes-is}
-use Rattle.encoding.specs.Numberings.{Numbering, Says, members_at}
-use Rattle.encoding.specs.Pairs.{Pair, first_pair, owner_pair}
-use Rattle.encoding.specs.Assignments.{state_at}
-use Rattle.encoding.proofs.Distinct.{states_once}
+use Rattle.numbering.specs.Numberings.{Numbering, Says, members_at}
+use Rattle.numbering.specs.Pairs.{Pair, first_pair, owner_pair}
+use Rattle.numbering.specs.Assignments.{state_at}
+use Rattle.numbering.proofs.Distinct.{states_once}
 use Rattle.searching.specs.Searching.{IsOnly}
 
 -- ---- the first of a cause's terms

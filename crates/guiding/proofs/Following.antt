@@ -23,12 +23,12 @@ use Rattle.model.proofs.Lists.{pairs_first, pairs_rest}
 use Rattle.model.proofs.Places.{got_in}
 use Rattle.refutations.specs.Causes.{kind_of, terms_of_cause}
 use Rattle.refutations.proofs.CauseLaws.{cause_instance}
-use Rattle.encoding.specs.Assignments.{IsOf, state_at}
-use Rattle.encoding.specs.Numberings.{IsGrown, Numbering}
-use Rattle.encoding.specs.Pairs.{Given, IsGivenAt, Pair}
-use Rattle.encoding.proofs.Distinct.{states_once}
-use Rattle.encoding.proofs.Needing.{still_at}
-use Rattle.encoding.proofs.Sound.{breaks_none, has_assignment}
+use Rattle.numbering.specs.Assignments.{IsOf, state_at}
+use Rattle.numbering.specs.Numberings.{IsGrown, Numbering}
+use Rattle.numbering.specs.Pairs.{Given, IsGivenAt, Pair}
+use Rattle.numbering.proofs.Distinct.{states_once}
+use Rattle.numbering.proofs.Needing.{still_at}
+use Rattle.numbering.proofs.Sound.{breaks_none, has_assignment}
 use Rattle.searching.specs.Searching.{HasSpaces}
 use Rattle.searching.specs.Following.{IsLeft, IsSelection, KeepsFollowed}
 use Rattle.searching.specs.declared.turns.Answer.{Answer}
@@ -202,15 +202,18 @@ pub followed_by : (q : Problem) (follows : Option Content) (old g : EncodedView)
     → ((x : Assignment) → Follows g x → Follows old x × (IsLeft x es0 t0 → IsLeft x es t))
     → ((x : Assignment) → Follows g x → IsLeft x es0 t0 → IsSelection a) → HasFollowed g t a
 followed_by q follows old g t0 t es0 es a begun goes keeps selects = record {
+  can_follow = can;
   selects = selected g.follows refl;
   agrees = λ x f. let k = keeps x f in (k.1 (begun.is_left x k.0)).1;
 }
   where
+    can : CanFollow g.problem g.follows
+    can = subst (λ p. CanFollow p g.follows) (sym goes.problem)
+        (subst (CanFollow old.problem) (sym goes.follows_is) begun.can_follow)
+
     selected : (o : Option Content) → g.follows ≡ o → IsSome o → IsSelection a
     selected None e some = absurd (false≢true some)
     selected (Some content) e some =
-        let valid : IsValidSelection g.problem content =
-        subst (CanFollow g.problem) e (subst (λ p. CanFollow p g.follows) (sym goes.problem)
-        (subst (CanFollow old.problem) (sym goes.follows_is) begun.can_follow)) in
+        let valid : IsValidSelection g.problem content = subst (CanFollow g.problem) e can in
         selects_by g.problem g.vertices content a valid
         (λ x of. let f : Follows g x = (content, e, valid, of) in selects x f (begun.is_left x (keeps x f).0))

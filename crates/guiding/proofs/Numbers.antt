@@ -11,9 +11,9 @@ use Rattle.model.specs.Vertices.{Vertex, space}
 use Rattle.model.specs.Axioms.{IsVertex}
 use Rattle.model.proofs.Places.{got_in}
 use Rattle.model.proofs.Members.{each_at}
-use Rattle.encoding.specs.Numberings.{IsGrown, IsNumbering, Numbering, number_in}
-use Rattle.encoding.proofs.Needing.{still_at}
-use Rattle.encoding.proofs.Places.{number_at, number_of}
+use Rattle.numbering.specs.Numberings.{IsGrown, IsNumbering, Numbering, number_in}
+use Rattle.numbering.proofs.Needing.{still_at}
+use Rattle.numbering.proofs.Places.{number_at, number_of}
 use Rattle.propagation.specs.Trails.{set_of}
 use Rattle.propagation.specs.Widening.{sum_of}
 use Rattle.guiding.specs.Guides.{asked_at, asked_if, on_trail}

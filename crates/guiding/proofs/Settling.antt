@@ -8,9 +8,9 @@ use Rattle.std.proofs.lemmas.Option.{same_Some, slice_get_within}
 use Rattle.version_sets.specs.Sets.{Members, has, size}
 use Rattle.version_sets.proofs.Laws.{has_below}
 use Rattle.incompatibilities.specs.Incompatibilities.{Assignment, Breaks}
-use Rattle.incompatibilities.specs.Stores.{EntryView, IsAxiom, entry, terms_of, watched}
+use Rattle.incompatibilities.specs.Stores.{EntryView, IsAxiom, entry, terms_of}
 use Rattle.incompatibilities.specs.declared.origin.Origin.{Origin}
-use Rattle.incompatibilities.specs.declared.origin.Origin.TheVariants.{Axiom, Combined}
+use Rattle.incompatibilities.specs.declared.origin.Origin.TheVariants.{Axiom, Learned}
 use Rattle.propagation.specs.Trails.{TrailView, set_of, space_of}
 use Rattle.propagation.specs.Promises.{IsTrail, IsProgress}
 use Rattle.propagation.specs.declared.propagating.Progress.TheVariants.{Fixpoint}
@@ -21,14 +21,14 @@ use Rattle.model.specs.Content.{Problem}
 use Rattle.model.specs.Vertices.{State, Vertex, absent, root, space}
 use Rattle.model.specs.Search.{IsUnbroken}
 use Rattle.refutations.specs.Causes.{Cause, terms_of_cause}
-use Rattle.encoding.specs.Assignments.{IsAdded, IsSettled, state_at, state_if, state_of}
-use Rattle.encoding.specs.Finals.{IsAtRest, IsFinal}
-use Rattle.encoding.specs.Numberings.{IsNumbering, Numbering, Says, number_in}
-use Rattle.encoding.specs.Pairs.{Pair, first_pair}
-use Rattle.encoding.proofs.Absent.{instance_one_zero}
-use Rattle.encoding.proofs.Final.{breaks_not}
-use Rattle.encoding.proofs.Places.{number_at}
-use Rattle.encoding.proofs.Settled.{is_unbroken}
+use Rattle.numbering.specs.Assignments.{IsAdded, IsSettled, state_at, state_if, state_of}
+use Rattle.numbering.specs.Finals.{IsAtRest, IsFinal}
+use Rattle.numbering.specs.Numberings.{IsNumbering, Numbering, Says, number_in}
+use Rattle.numbering.specs.Pairs.{Pair, first_pair}
+use Rattle.numbering.proofs.Absent.{instance_one_zero}
+use Rattle.numbering.proofs.Final.{breaks_not}
+use Rattle.numbering.proofs.Places.{number_at}
+use Rattle.numbering.proofs.Settled.{is_unbroken}
 use Rattle.searching.specs.Searching.{AllAsked, HasSpaces}
 use Rattle.searching.specs.Following as following
 use Rattle.guiding.specs.Guides.{first_in, AreStored, IsDone, IsOfInstance, IsPut, asked_of, on_trail}
@@ -52,24 +52,20 @@ not_zero [] ne = refl
 not_zero (true ∷ s) ne = absurd (ne refl)
 not_zero (false ∷ s) ne = refl
 
--- the combinations of a store put aside, so that only its axioms can be broken
+-- what was learned put aside, so that only its axioms can be broken
 abbrev nothing : EntryView
 nothing = record { terms = record { vertex = 0; states = [] } ∷ []; origin = Axiom 0 }
 
 abbrev axiom_or : Origin → EntryView → EntryView
 axiom_or (Axiom k) e = e
-axiom_or (Combined i j v w) e = nothing
+axiom_or (Learned chain) e = nothing
 
 abbrev axioms_of : List EntryView → List EntryView
 axioms_of es = map (λ e. axiom_or e.origin e) es
 
-axiom_watched : (o : Origin) → IsAxiom o → watched o ≡ true
-axiom_watched (Axiom k) h = refl
-axiom_watched (Combined i j v w) h = absurd h
-
 axiom_kept : (o : Origin) (e : EntryView) → IsAxiom o → axiom_or o e ≡ e
 axiom_kept (Axiom k) e h = refl
-axiom_kept (Combined i j v w) e h = absurd h
+axiom_kept (Learned chain) e h = absurd h
 
 axioms_at : (es : List EntryView) (id : ℕ) → id < length es
     → entry (axioms_of es) id ≡ axiom_or (entry es id).origin (entry es id)
@@ -117,8 +113,8 @@ module _ (q : Problem) (vs : Numbering) (asked : List Members) (es : List EntryV
   within n v e = subst (λ k. chosen n < k) (space_is n v e)
       (has_below (set_of t.sets n) (chosen n) (final n (subst (λ k. 0 < k) (sym (space_is n v e)) (spacious v))).left)
 
-  rests : (id : ℕ) → id < length es → watched (entry es id).origin ≡ true → IsAtRest (set_of t.sets) (terms_of es id)
-  rests id lt on = let quiet = stops id lt on in record {
+  rests : (id : ℕ) → id < length es → IsAtRest (set_of t.sets) (terms_of es id)
+  rests id lt = let quiet = stops id lt in record {
     not_all = quiet.not_all;
     not_one = λ v x one. quiet.not_one v x (record {
       term = one.term;
@@ -133,7 +129,7 @@ module _ (q : Problem) (vs : Numbering) (asked : List Members) (es : List EntryV
       let g = given id lt ax in
       breaks_not (set_of t.sets) (terms_of es id) chosen (λ u s e. final u (positive u s e))
       (instance_one_zero q vs g.kind g.terms (entry es id).terms ok.once g.is g.says)
-      (rests id lt (axiom_watched (entry es id).origin ax)) breaks
+      (rests id lt) breaks
     where
       positive : (u : ℕ) (s : Members) → terms_of es id u ≡ Some s → 0 < space_of t u
       positive u s e = let h : has s (chosen u) ≡ true =
@@ -166,7 +162,7 @@ module _ (q : Problem) (vs : Numbering) (asked : List Members) (es : List EntryV
           none_broken id lt ax (subst (λ (x : EntryView).
           Breaks chosen (Rattle.incompatibilities.specs.Incompatibilities.states_at x.terms))
           (at ∙ axiom_kept (entry es id).origin (entry es id) ax) breaks)
-      by (Combined i j v w) e =
+      by (Learned chain) e =
           let same : entry (axioms_of es) id ≡ nothing = at ∙ ap (λ o. axiom_or o (entry es id)) e in
           let b : Breaks chosen (Rattle.incompatibilities.specs.Incompatibilities.states_at nothing.terms) =
           subst (λ (x : EntryView).

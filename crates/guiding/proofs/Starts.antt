@@ -15,18 +15,17 @@ use Rattle.model.specs.Content.{Content}
 use Rattle.model.specs.Vertices.{Vertex, absent, root}
 use Rattle.refutations.specs.Causes.{kind_of, terms_of_cause}
 use Rattle.refutations.proofs.CauseLaws.{cause_instance}
-use Rattle.encoding.specs.Assignments.{state_at}
-use Rattle.encoding.specs.KnownProblem.{problem}
-use Rattle.encoding.specs.Numberings.{Numbering}
-use Rattle.encoding.specs.Pairs.{Given, IsGivenAt}
-use Rattle.encoding.specs.declared.known_problem.KnownProblem.{KnownProblem}
-use Rattle.searching.specs.Searching.{AreTouching, HasSpaces, IsSeen}
+use Rattle.numbering.specs.Assignments.{state_at}
+use Rattle.numbering.specs.KnownProblem.{problem}
+use Rattle.numbering.specs.Numberings.{Numbering}
+use Rattle.numbering.specs.Pairs.{Given, IsGivenAt}
+use Rattle.numbering.specs.declared.known_problem.KnownProblem.{KnownProblem}
+use Rattle.searching.specs.Searching.{HasSpaces, IsSeen}
 use Rattle.searching.specs.Following as following
 use Rattle.searching.specs.Following.{IsLeft}
-use Rattle.searching.specs.Counting.{combinations}
-use Rattle.searching.proofs.Counts.{counts_axioms}
+use Rattle.incompatibilities.specs.Counts.{combinations}
+use Rattle.searching.proofs.Counts.{no_combinations}
 use Rattle.searching.proofs.Guides.{spaces_wider}
-use Rattle.searching.proofs.Touching.{touching_axioms}
 use Rattle.guiding.specs.Guides.{CanFollow, Follows, HasBegun, IsCome, IsEncoding, IsOfInstance, IsPut, as_entry}
 use Rattle.guiding.specs.Guides.{asked_of, encoded_view, with_given}
 use Rattle.guiding.proofs.Adding.{given_at, given_of, said_long, with_given_is}
@@ -75,7 +74,6 @@ begun i follows put vs n asked t wide more given encoding can at come whole bare
       steps = come.wider.steps ∙ steps;
       seen = seen_first asked (map as_entry given) wide now;
       given = instances;
-      touching = touches_all;
       uncombined = none_combined;
       stored = record {
         root_is = root_put;
@@ -127,13 +125,8 @@ begun i follows put vs n asked t wide more given encoding can at come whole bare
     are_axioms id lt =
         subst IsAxiom (sym (given_at (problem i) vs root_given.causes given id root_given.given lt).origin) tt
 
-    touches_all : AreTouching (map as_entry given)
-    touches_all = touching_axioms [] (map as_entry given) (map as_entry given) refl are_axioms
-        (λ id j k v lt e. absurd (omega (arith, lt)))
-
     none_combined : combinations (map as_entry given) ≡ 0
-    none_combined = let few = counts_axioms [] (map as_entry given) (map as_entry given) refl are_axioms 0 0
-        (omega arith) in omega (arith, few)
+    none_combined = no_combinations (map as_entry given) are_axioms
 
     start_left : (x : Assignment) → Follows (encoded_view (problem i) vs asked 0 follows) x
         → IsLeft x (map as_entry given) wide

@@ -7,9 +7,9 @@ use Rattle.terms.specs.Terms.{TermView}
 use Rattle.model.specs.Content.{Problem}
 use Rattle.model.specs.Axioms.{Term}
 use Rattle.refutations.specs.Causes.{terms_of_cause}
-use Rattle.encoding.specs.Numberings.{IsGrown, IsNumbering, Numbering, Says}
-use Rattle.encoding.specs.Pairs.{Pair}
-use Rattle.encoding.proofs.Needing.{grows_on, says_more}
+use Rattle.numbering.specs.Numberings.{IsGrown, IsNumbering, Numbering, Says}
+use Rattle.numbering.specs.Pairs.{Pair}
+use Rattle.numbering.proofs.Needing.{grows_on, says_more}
 use Rattle.std.specs.List.{AllPairs}
 use Rattle.guiding.specs.Guides.{AreStored, EncodedView, GoesOn, IsPut}
 

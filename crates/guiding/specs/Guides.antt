@@ -19,13 +19,13 @@ use Rattle.vertices.specs.Kinds.{kind_number}
 use Rattle.model.specs.WellFormed.{IsCatalogue}
 use Rattle.refutations.specs.Causes.{Cause, is_cause, terms_of_cause}
 use Rattle.model.specs.Search.{IsUnbroken}
-use Rattle.encoding.specs.Assignments.{IsOf, state_at, state_of}
-use Rattle.encoding.specs.KnownProblem.{KnowsDefault, problem}
-use Rattle.encoding.specs.Numberings.{IsGrown, IsNumbering, Numbering, Says, number_in}
-use Rattle.encoding.specs.Pairs.{Given, IsGivenAt, Pair, first_pair}
-use Rattle.encoding.specs.declared.known_problem.KnownProblem.{KnownProblem}
-use Rattle.searching.specs.Counting.{combinations}
-use Rattle.searching.specs.Searching.{AreTouching, HasSpaces, IsOnly, IsRefutation, IsSeen, Pairs}
+use Rattle.numbering.specs.Assignments.{IsOf, state_at, state_of}
+use Rattle.numbering.specs.KnownProblem.{KnowsDefault, problem}
+use Rattle.numbering.specs.Numberings.{IsGrown, IsNumbering, Numbering, Says, number_in}
+use Rattle.numbering.specs.Pairs.{Given, IsGivenAt, Pair, first_pair}
+use Rattle.numbering.specs.declared.known_problem.KnownProblem.{KnownProblem}
+use Rattle.incompatibilities.specs.Counts.{combinations}
+use Rattle.searching.specs.Searching.{HasSpaces, IsOnly, IsRefutation, IsSeen, Pairs}
 use Rattle.searching.specs.declared.turns.Answer.{Answer}
 use Rattle.searching.specs.declared.turns.Answer.TheVariants.{Selection, Unsolvable}
 use Rattle.searching.specs.Following as following
@@ -192,7 +192,6 @@ pub record HasBegun (q : Problem) (follows : Option Content) (g : EncodedView) (
   pub steps : t.steps ≡ []
   pub seen : IsSeen g.seen (asked_of g.asked) t
   pub given : following.AreGiven (IsOfInstance g.problem g.vertices) es
-  pub touching : AreTouching es
   pub uncombined : combinations es ≡ 0
   pub stored : AreStored g.problem g.vertices g.asked es
   pub follows_is : g.follows ≡ follows
@@ -216,17 +215,18 @@ abbrev pub HasFound : Problem → EncodedView → TrailView → List EntryView �
 HasFound q g t es Selection = IsUnbroken q (state_of q g.vertices (final_of t))
 HasFound q g t es (Unsolvable id) = IsRefutation es id × following.AreGiven (IsOfInstance q g.vertices) es
 
--- a search that follows a content ends with a selection, and the states of that content are left
+-- a search that follows a content, a valid selection, ends with a selection, and the states of that content are left
 pub record HasFollowed (g : EncodedView) (t : TrailView) (a : Answer) : Type 0 where
+  pub can_follow : CanFollow g.problem g.follows
   pub selects : IsSome g.follows → following.IsSelection a
   pub agrees : (x : Assignment) → Follows g x → Agrees x t.sets
 
--- the vertices have one number each and are all on the trail, each combination is at a vertex at which its first has a
--- term, and this was found; in a selection each vertex that has lost absent has one state
+-- the vertices have one number each and are all on the trail, which meets the store, and this was found; in a selection
+-- each vertex that has lost absent has one state
 pub record HasSearched (q : Problem) (g : EncodedView) (t : TrailView) (es : List EntryView) (a : Answer) : Type 0 where
   pub numbering : IsNumbering q g.vertices
   pub whole : length g.vertices ≤ length t.sets
-  pub touching : AreTouching es
+  pub trail : IsTrail es t
   pub found : HasFound q g t es a
   pub done : following.IsSelection a → IsDone t
   pub followed : HasFollowed g t a

@@ -6,8 +6,8 @@ ghost use Rattle.propagation.specs.Promises.{IsTrail};
 ghost use Rattle.propagation.specs.Trails.{trail_view};
 ghost use Rattle.guiding.specs.Guides.{IsCome, IsEncoding};
 
-use encoding::{KnownProblem, Table, space_at};
 use incompatibilities::Store;
+use numbering::{KnownProblem, Table, space_at};
 use propagation::Trail;
 use std::alloc::{AllocError, Global};
 use version_sets::States;

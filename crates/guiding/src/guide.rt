@@ -1,8 +1,8 @@
 //! What a search asks of a manifest and a loaded index: its vertices and axioms on demand, and what to decide.
 
 ghost use Rattle.std.specs.Prelude.{◌≡◌, ◌<◌, [], IfOk, IfSome, OnOk, false, is_some, length, map, true};
-ghost use Rattle.encoding.specs.KnownProblem.{KnowsDefault, problem};
-ghost use Rattle.encoding.specs.Numberings.{IsNumbering};
+ghost use Rattle.numbering.specs.KnownProblem.{KnowsDefault, problem};
+ghost use Rattle.numbering.specs.Numberings.{IsNumbering};
 ghost use Rattle.incompatibilities.specs.Incompatibilities.{Assignment};
 ghost use Rattle.incompatibilities.specs.Stores.{entries_view};
 ghost use Rattle.propagation.specs.Promises.{IsTrail};
@@ -22,10 +22,10 @@ use crate::opening::{next_open, unless_asked};
 use crate::order::Order;
 use crate::preferring::preferred_state;
 use catalogue::catalogues_are_well_formed;
-use encoding::{KnownProblem, Table, axioms_at};
 use following::state_in;
 use incompatibilities::{Id, Store};
 use lockfile::LockContent;
+use numbering::{KnownProblem, Table, axioms_at};
 use propagation::Trail;
 use searching::Guide;
 use std::alloc::{AllocError, Global};
@@ -54,7 +54,7 @@ pub struct Encoded<'a, S: States> {
 
 impl<'a, S: States> Model for Encoded<'a, S> {
     ghost use Rattle.std.specs.Prelude.{map};
-    ghost use Rattle.encoding.specs.KnownProblem.{problem};
+    ghost use Rattle.numbering.specs.KnownProblem.{problem};
     ghost use Rattle.guiding.specs.Guides.{CanFollow, EncodedView, IsEncoding, encoded_view};
 
     ghost Value = { EncodedView };

@@ -4,7 +4,7 @@
 //! with the root alone on the trail, and in the store the instance that the root can't be absent. Where a vertex has
 //! one state left, not absent, that wasn't asked for, the instances of that pair go into the store and the vertices
 //! that they speak of onto the trail. That misses none, for where a pair doesn't hold none of its instances is broken
-//! (`encoding`). How many states are still to come, and how many pairs weren't asked for, by which the loop ends, is
+//! (`numbering`). How many states are still to come, and how many pairs weren't asked for, by which the loop ends, is
 //! counted over the finite list of all vertices (`specs/Everything`), by the proof alone.
 //!
 //! What is decided is the first vertex, by number, that can't be absent and has several states left (`order.rt`). It

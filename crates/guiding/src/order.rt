@@ -120,9 +120,7 @@ impl Order {
             }
             *waiting = true;
         }
-        match self.candidates.push(usize::MAX - vertex) {
-            Ok(()) => Ok(()),
-            Err(_) => Err(AllocError),
-        }
+        self.candidates.push(usize::MAX - vertex)?;
+        Ok(())
     }
 }

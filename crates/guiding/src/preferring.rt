@@ -4,8 +4,8 @@ ghost use Rattle.std.specs.Prelude.{◌≡◌, IfOk, IfSome, true};
 ghost use Rattle.version_sets.specs.Sets.{has};
 
 use classes::Class;
-use encoding::{KnownProblem, classes_of, dependency_at};
 use features::PackageName;
+use numbering::{KnownProblem, classes_of, dependency_at};
 use std::alloc::{AllocError, Global};
 use version_sets::States;
 use vertices::{OwnerRef, VertexRef};

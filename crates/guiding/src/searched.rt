@@ -3,14 +3,14 @@
 ghost use Rattle.std.specs.Prelude.{◌≡◌, [], IfOk};
 ghost use Rattle.incompatibilities.specs.Stores.{entries_view};
 ghost use Rattle.propagation.specs.Trails.{trail_view};
-ghost use Rattle.encoding.specs.KnownProblem.{KnowsDefault, problem};
+ghost use Rattle.numbering.specs.KnownProblem.{KnowsDefault, problem};
 ghost use Rattle.searching.specs.Counting.{IsCount};
 ghost use Rattle.guiding.specs.Guides.{CanFollow, HasSearched};
 
 use crate::guide::Encoded;
-use encoding::KnownProblem;
 use incompatibilities::Store;
 use lockfile::LockContent;
+use numbering::KnownProblem;
 use propagation::Trail;
 use searching::{Found, search};
 use std::alloc::{AllocError, Global};

@@ -21,8 +21,8 @@ use Rattle.vertices.proofs.InProblem.{in-problem}
 use Rattle.vertices.proofs.InSpace.{in-space}
 use Rattle.vertices.proofs.ReadBack.{state-is-read, vertex-is-read}
 use Rattle.derivations.specs.Building.{AreNewTerms, IsNewTerm}
-use Rattle.encoding.specs.Numberings.{IsNumbering, Numbering}
-use Rattle.encoding.proofs.Distinct.{states_once}
+use Rattle.numbering.specs.Numberings.{IsNumbering, Numbering}
+use Rattle.numbering.proofs.Distinct.{states_once}
 use Rattle.decoding.specs.Decoding.{states_in, terms_of, with_term}
 use Rattle.decoding.proofs.Whole.{terms_apart}
 

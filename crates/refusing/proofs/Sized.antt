@@ -1,8 +1,9 @@
 -- The sets of an incompatibility are of as many states as their vertices have, and its terms one by one.
 use Rattle.std.proofs.Common.{◌≡◌, ℕ, zero, suc, ◌+◌, ◌<◌, ◌≤◌, ◌==◌, List, [], ◌∷◌, ◌++◌, map, length, take, drop}
 use Rattle.std.proofs.Common.{get_or, append_assoc, append-nil, Bool, true, false, cond, Option, Some, None, slice_get}
-use Rattle.std.proofs.Common.{refl, sym, ap, ap₂, ◌∙◌, subst, arith}
+use Rattle.std.proofs.Common.{All, refl, sym, ap, ap₂, ◌∙◌, subst, arith}
 use Rattle.std.specs.List.{AllByRecursion}
+use Rattle.std.proofs.lemmas.List.Elements.{All-get_or}
 use Rattle.std.proofs.Math.Seq.{drop-cons, take-suc}
 use Rattle.std.proofs.lemmas.Bool.{eq-eqb, eqb-true, false_from_ne_true}
 use Rattle.std.proofs.lemmas.List.{drop_all, get_or-map, length-map, map-append, take_all}
@@ -14,7 +15,7 @@ use Rattle.incompatibilities.specs.Incompatibilities.{AllPast, IsRising, LiesIn,
 use Rattle.model.specs.Content.{Problem}
 use Rattle.model.specs.Vertices.{Vertex}
 use Rattle.model.specs.Axioms.{Term}
-use Rattle.encoding.specs.Numberings.{Numbering}
+use Rattle.numbering.specs.Numberings.{Numbering}
 use Rattle.decoding.specs.Decoding.{IsOver, sizes, states_in, terms_of, with_term}
 use Rattle.derivations.specs.Named.{named_view, named_views}
 use Rattle.derivations.specs.declared.named.NamedTerm.{NamedTerm}
@@ -113,6 +114,11 @@ module _ {S : Type 0} (tests : S → Members) (q : Problem) (vs : Numbering) whe
   sized_at [] i t h lt is = absurd (omega (arith, lt))
   sized_at (x ∷ all) zero t h lt is = subst (λ y. length (tests y.states) ≡ sizes q vs y.vertex) (sym is) h.0
   sized_at (x ∷ all) (suc i) t h lt is = sized_at all i t h.1 (omega (arith, lt)) is
+
+-- what holds of each item holds of one
+pub at_place : {X : Type 0} (P : X → Type 0) (xs : List X) (i : ℕ) (x : X) → i < length xs → x ≡ get_or xs i x
+    → All P xs → P x
+at_place P xs i x lt is all = subst P (sym is) (All-get_or P xs i x lt all)
 
 -- ---- where terms lie
 

@@ -1,8 +1,8 @@
 -- A step with an entry's terms in the written order is one of the entry.
-use Rattle.std.proofs.Common.{◌≡◌, ℕ, Bool, List, Some, slice_get, refl, sym, subst}
-use Rattle.incompatibilities.specs.Stores.{EntryView}
-use Rattle.incompatibilities.specs.declared.origin.Origin.{Origin}
-use Rattle.incompatibilities.specs.declared.origin.Origin.TheVariants.{Axiom, Combined}
+use Rattle.std.proofs.Common.{◌≡◌, ℕ, List, Some, slice_get, refl, sym, subst}
+use Rattle.unrolling.specs.Flats.{FlatView}
+use Rattle.unrolling.specs.declared.flat.Source.{Source}
+use Rattle.unrolling.specs.declared.flat.Source.TheVariants.{Axiom, Combined}
 use Rattle.model.specs.Content.{Problem}
 use Rattle.model.specs.WellFormed.{IsCatalogue}
 use Rattle.model.specs.Vertices.{Vertex}
@@ -10,7 +10,7 @@ use Rattle.model.specs.Axioms.{AreApart, Kind, Term}
 use Rattle.model.specs.Derivation.{SameTerms, Step, combine, given}
 use Rattle.vertices.specs.Valid.{HasValidParts}
 use Rattle.derivations.specs.Building.{AreNewTerms, ordered_terms}
-use Rattle.encoding.specs.Numberings.{IsNumbering, Numbering}
+use Rattle.numbering.specs.Numberings.{IsNumbering, Numbering}
 use Rattle.decoding.specs.Decoding.{IsOver, terms_of}
 use Rattle.decoding.specs.Steps.{IsBy, IsStepOf}
 use Rattle.vertices.specs.Kinds.{kind_at}
@@ -19,10 +19,10 @@ use Rattle.refusing.specs.Refusing.{IsStepWith}
 use Rattle.refusing.proofs.NewTerms.{terms_new}
 use Rattle.refusing.proofs.SayingSame.{ordered_same}
 
-module _ (q : Problem) (vs : Numbering) (ok : IsNumbering q vs) (e : EntryView) (over : IsOver q vs e.terms)
+module _ (q : Problem) (vs : Numbering) (ok : IsNumbering q vs) (e : FlatView) (over : IsOver q vs e.terms)
     (ts : List Term) (is : ts ≡ terms_of q vs e.terms) where
-  pub stepped : (place : ℕ → ℕ) (s : Step) → IsStepWith vs place e.origin (ordered_terms ts) s → IsStepOf q vs place e s
-  stepped place s with_terms = record {
+  pub stepped : (s : Step) → IsStepWith vs e.source (ordered_terms ts) s → IsStepOf q vs e s
+  stepped s with_terms = record {
     by = with_terms.by;
     terms = subst (λ l. SameTerms l (terms_of q vs e.terms)) (sym with_terms.terms)
         (subst (λ l. SameTerms (ordered_terms ts) l) is
@@ -32,11 +32,11 @@ module _ (q : Problem) (vs : Numbering) (ok : IsNumbering q vs) (e : EntryView) 
   pub entry_new : HasValidParts q → IsCatalogue q → AreNewTerms ts
   entry_new valid known = subst AreNewTerms (sym is) (terms_new q vs valid known ok e.terms over.is.rising)
 
-module _ (vs : Numbering) (place : ℕ → ℕ) (o : Origin) (ts : List Term) where
-  pub by_axiom : (n : ℕ) (k : Kind) → o ≡ Axiom n → k ≡ kind_at n → IsStepWith vs place o ts (given k ts)
-  by_axiom n k is same = record { by = subst (λ x. IsBy vs place x (given k ts)) (sym is) same; terms = refl }
+module _ (vs : Numbering) (o : Source) (ts : List Term) where
+  pub by_axiom : (n : ℕ) (k : Kind) → o ≡ Axiom n → k ≡ kind_at n → IsStepWith vs o ts (given k ts)
+  by_axiom n k is same = record { by = subst (λ x. IsBy vs x (given k ts)) (sym is) same; terms = refl }
 
-  pub by_parts : (i j m a b : ℕ) (w : Bool) (v : Vertex) → o ≡ Combined i j m w → a ≡ place i → b ≡ place j
-      → slice_get vs m ≡ Some v → IsStepWith vs place o ts (combine a b v ts)
-  by_parts i j m a b w v is first second there =
-      record { by = subst (λ x. IsBy vs place x (combine a b v ts)) (sym is) (first, second, there); terms = refl }
+  pub by_parts : (i j m : ℕ) (v : Vertex) → o ≡ Combined i j m → slice_get vs m ≡ Some v
+      → IsStepWith vs o ts (combine i j v ts)
+  by_parts i j m v is there =
+      record { by = subst (λ x. IsBy vs x (combine i j v ts)) (sym is) (refl, refl, there); terms = refl }

@@ -1,9 +1,9 @@
 //! Why there is no selection: the entries that a store's last one comes from, as a derivation that others can check.
 //!
-//! A search that finds nothing ends at an entry without terms, which follows from axioms that are instances. `needed`
-//! (`decoding`) finds the entries that it comes from. Each of them becomes a step, in their order and each once: the
-//! numbers of vertices and states become the vertices and states that they stand for, and the builder of `derivations`
-//! puts them into the written order.
+//! A search that finds nothing ends at an entry without terms, which follows from axioms that are instances. `unroll`
+//! gives the row of axioms and combinations that it comes from. Each becomes a step, in their order: the numbers of
+//! vertices and states become the vertices and states that they stand for, and the builder of `derivations` puts them
+//! into the written order.
 //!
 //! What is hard is what the builder asks for: that each vertex and state is what its own text reads as. Names are so by
 //! their types, versions because they were read; that the numbers of dependencies are so is what `valid_parts` finds

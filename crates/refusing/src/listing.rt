@@ -1,18 +1,18 @@
-//! The vertices that entries speak of, listed in the order of their texts.
+//! The vertices that a row speaks of, listed in the order of their texts.
 //!
 //! So a derivation numbers them in that order, and finds and orders terms by numbers. Nothing rests on the order.
 
 ghost use Rattle.std.specs.Prelude.{◌≡◌};
-ghost use Rattle.encoding.specs.KnownProblem.{problem};
+ghost use Rattle.numbering.specs.KnownProblem.{problem};
 ghost use Rattle.refusing.specs.Refusing.{AreListed, AreReadVertices, AreSpelt};
 
 use crate::spaces::Spaces;
 use derivations::Derivation;
-use encoding::{KnownProblem, Table};
-use incompatibilities::{Id, Store};
+use numbering::{KnownProblem, Table};
 use std::alloc::{AllocError, Global};
 use std::fmt::Write;
 use terms::Term;
+use unrolling::Flat;
 use version_sets::States;
 
 /// A vertex's text and its number.
@@ -31,18 +31,15 @@ fn mark<S: States>(marks: &mut Vec<bool>, terms: &[Term<S>]) {
     }
 }
 
-/// Whether entries speak of each vertex.
+/// Whether a row speaks of each vertex.
 fn marked<S: States + Drop>(
     alloc: Global,
     table: &Table<'_>,
-    store: &Store<S>,
-    ids: &[Id],
+    row: &[Flat<S>],
 ) -> Result<Vec<bool>, AllocError> {
     let mut marks = vec![in alloc; false; table.len()]?;
-    'entries: for id in ids {
-        if id.index() < store.len() {
-            mark(&mut marks, store.get(*id).terms());
-        }
+    'row: for flat in row {
+        mark(&mut marks, flat.incompatibility.terms());
     }
     Ok(marks)
 }
@@ -76,13 +73,12 @@ fn by_text(alloc: Global, table: &Table<'_>, marks: &[bool]) -> Result<Vec<Texte
     Ok(found)
 }
 
-/// Lists the vertices that entries speak of.
+/// Lists the vertices that a row speaks of.
 pub(crate) fn list_by_text<'a, S: States + Drop>(
     alloc: Global,
     known: &KnownProblem<'a>,
     table: &Table<'a>,
-    store: &Store<S>,
-    ids: &[Id],
+    row: &[Flat<S>],
     spaces: &mut Spaces<'a>,
     steps: &mut Derivation,
 ) -> Result<(), AllocError>
@@ -93,7 +89,7 @@ pub(crate) fn list_by_text<'a, S: States + Drop>(
     ensures spelt { AreSpelt table.now spaces.new }
     ensures steps { steps.new ≡ steps.old }
 {
-    let marks = marked(alloc, table, store, ids)?;
+    let marks = marked(alloc, table, row)?;
     let found = by_text(alloc, table, &marks)?;
     'vertices: for one in found.iter() {
         spaces.list(alloc, known, table, steps, one.number)?;

@@ -1,68 +1,55 @@
-//! The steps of the entries that a store's last one comes from.
+//! The steps of the row of a store's last entry.
 
-ghost use Rattle.std.specs.Prelude.{◌≡◌, ◌<◌, [], ℕ, IfOk, length};
+ghost use Rattle.std.specs.Prelude.{◌≡◌, ◌<◌, [], IfOk, length};
 ghost use Rattle.incompatibilities.specs.Stores.{entries_view, entry};
 ghost use Rattle.model.specs.Derivation.{IsAccepted};
 ghost use Rattle.vertices.specs.Valid.{HasValidParts};
-ghost use Rattle.encoding.specs.KnownProblem.{problem};
-ghost use Rattle.encoding.specs.Numberings.{IsNumbering};
-ghost use Rattle.decoding.specs.Needs.{place_in};
-ghost use Rattle.decoding.specs.Steps.{AreStepsOf, IsNeeded};
-ghost use Rattle.searching.specs.Searching.{AreTouching};
-ghost use Rattle.refusing.specs.Refusing.{AreInstances, HasNoMore};
+ghost use Rattle.numbering.specs.KnownProblem.{problem};
+ghost use Rattle.numbering.specs.Numberings.{IsNumbering};
+ghost use Rattle.unrolling.specs.Flats.{AreFlat, LieSomewhere, flats_view};
+ghost use Rattle.decoding.specs.Steps.{AreGiven, AreStepsOf};
+ghost use Rattle.refusing.specs.Refusing.{HasNoMore};
 
 use crate::listing::list_by_text;
 use crate::spaces::Spaces;
 use crate::stepping::push_step;
 use catalogue::catalogues_are_well_formed;
-use decoding::{Kept, needed};
+use decoding::rows_are_accepted;
 use derivations::Derivation;
-use encoding::{KnownProblem, Table};
 use incompatibilities::{Id, Store};
+use numbering::{KnownProblem, Table};
 use std::alloc::{AllocError, Global};
+use unrolling::{Flat, unroll};
 use version_sets::States;
 
-/// The steps of needed entries, in their order.
+/// The steps of a row, in its order.
 fn steps_of<'a, S: States + Drop>(
     alloc: Global,
     known: &KnownProblem<'a>,
     table: &Table<'a>,
     store: &Store<S>,
-    kept: &Kept,
+    row: &[Flat<S>],
 ) -> Result<Derivation, AllocError>
     requires parts { HasValidParts (problem known.now) }
     requires numbering { IsNumbering (problem known.now) table.now }
-    requires axioms { AreInstances (problem known.now) table.now (entries_view S.tests store.now) }
-    requires touching { AreTouching (entries_view S.tests store.now) }
-    requires needed { (last : ℕ) × (last < length (entries_view S.tests store.now))
-        × IsNeeded (entries_view S.tests store.now) last kept.now.ids.items (place_in kept.now.places.items) }
-    ensures { IfOk result (λ d. AreStepsOf (problem known.now) table.now (entries_view S.tests store.now)
-        (place_in kept.now.places.items) kept.now.ids.items d) }
+    requires axioms { AreGiven (problem known.now) table.now (entries_view S.tests store.now) }
+    requires founded { AreFlat (entries_view S.tests store.now) (flats_view S.tests row.now) }
+    ensures { IfOk result (λ d. AreStepsOf (problem known.now) table.now (flats_view S.tests row.now) d) }
 {
     catalogues_are_well_formed(known.manifest, known.catalogue);
     let mut spaces = Spaces::new(alloc);
     let mut steps = Derivation::new(alloc);
-    let ids = kept.ids.as_slice();
-    list_by_text(alloc, known, table, store, ids, &mut spaces, &mut steps)?;
-    'entries: for id in kept.ids.iter() {
-        push_step(
-            alloc,
-            known,
-            table,
-            store,
-            &kept.places,
-            &mut spaces,
-            &mut steps,
-            *id,
-        )?;
+    list_by_text(alloc, known, table, row, &mut spaces, &mut steps)?;
+    'row: for flat in row {
+        push_step(alloc, known, table, flat, &mut spaces, &mut steps)?;
     }
     Ok(steps)
 }
 
-/// Why there is no selection: an accepted derivation, with one step for `last`, which has no terms, and for each entry
-/// that it comes from.
+/// Why there is no selection: an accepted derivation, with a step for each axiom that `last`, which has no terms, comes
+/// from, and for each combination on the way.
 ///
-/// It takes time and memory in proportion to the entry's place and to what those entries say.
+/// It takes time and memory in proportion to the entry's place and to what those say.
 pub fn refusal<'a, S: States + Drop>(
     alloc: Global,
     known: &KnownProblem<'a>,
@@ -72,14 +59,17 @@ pub fn refusal<'a, S: States + Drop>(
 ) -> Result<Derivation, AllocError>
     requires parts { HasValidParts (problem known.now) }
     requires numbering { IsNumbering (problem known.now) table.now }
-    requires axioms { AreInstances (problem known.now) table.now (entries_view S.tests store.now) }
-    requires touching { AreTouching (entries_view S.tests store.now) }
+    requires axioms { AreGiven (problem known.now) table.now (entries_view S.tests store.now) }
+    requires lies { LieSomewhere (entries_view S.tests store.now) }
     requires within { last < length (entries_view S.tests store.now) }
     requires none { (entry (entries_view S.tests store.now) last).terms ≡ [] }
     ensures accepted { IfOk result (λ d. IsAccepted (problem known.now) d) }
     ensures once { IfOk result (λ d. HasNoMore (entries_view S.tests store.now) d) }
 {
     catalogues_are_well_formed(known.manifest, known.catalogue);
-    let kept = needed(alloc, store, last)?;
-    steps_of(alloc, known, table, store, &kept)
+    rows_are_accepted();
+    let row = unroll(alloc, store, last)?;
+    let derivation = steps_of(alloc, known, table, store, &row)?;
+    let _long = derivation.len();
+    Ok(derivation)
 }

@@ -1,17 +1,19 @@
 //! The vertices that are spoken of, spelt once each, and their states, listed once each.
 
-ghost use Rattle.std.specs.Prelude.{◌≡◌, ◌<◌, ℕ, IfOk, None, OnOk, Some, length, slice_get, slice_index_or};
+ghost use Rattle.std.specs.Prelude.{◌≡◌, ◌<◌, ℕ, None, OnOk, Some, length, slice_get, slice_index_or, true};
+ghost use Rattle.std.specs.List.{All};
 ghost use Rattle.model.specs.Content.{Problem};
 ghost use Rattle.vertices.specs.RefViews.{vertex_ref_view};
 ghost use Rattle.vertices.specs.Texts.{IsReadVertex};
-ghost use Rattle.encoding.specs.KnownProblem.{problem};
-ghost use Rattle.encoding.specs.Numberings.{Numbering};
-ghost use Rattle.refusing.specs.Refusing.{AreListed, AreReadVertices, AreSpelt};
+ghost use Rattle.numbering.specs.KnownProblem.{problem};
+ghost use Rattle.numbering.specs.Numberings.{Numbering};
+ghost use Rattle.refusing.specs.Refusing.{AreKept, AreListed, AreReadVertices, AreSpelt, IsListed, IsNamed, is_listed};
 
 use derivations::{Derivation, Spelling};
-use encoding::{KnownProblem, Table, states_of};
+use numbering::{KnownProblem, Table, states_of};
 use std::alloc::{AllocError, Global};
 use terms::Term;
+use unrolling::Source;
 use version_sets::States;
 use vertices::{StateRef, VertexRef};
 
@@ -67,6 +69,8 @@ impl<'a> Spaces<'a> {
         ensures listed { AreListed (problem known.now) table.now self.new }
         ensures spelt { AreSpelt table.now self.new }
         ensures steps { steps.new ≡ steps.old }
+        ensures kept { AreKept self.old self.new }
+        ensures there { OnOk result (is_listed self.new number ≡ true) }
     {
         let spelling = steps.spell(alloc, vertex)?;
         let states = states_of(alloc, known, &vertex)?;
@@ -75,8 +79,10 @@ impl<'a> Spaces<'a> {
         Ok(())
     }
 
-    /// Whether a number is listed. Nothing follows from it: what is listed twice is the same.
-    fn has(&self, number: usize) -> bool {
+    /// Whether a vertex is listed for a number.
+    fn has(&self, number: usize) -> bool
+        ensures { result ≡ is_listed self.now number }
+    {
         match self.listed.get(number) {
             Some(space) => space.is_some(),
             None => false,
@@ -98,6 +104,8 @@ impl<'a> Spaces<'a> {
         ensures listed { AreListed (problem known.now) table.now self.new }
         ensures spelt { AreSpelt table.now self.new }
         ensures steps { steps.new ≡ steps.old }
+        ensures kept { AreKept self.old self.new }
+        ensures there { OnOk result (IsListed table.now self.new number) }
     {
         if self.has(number) {
             return Ok(());
@@ -123,6 +131,8 @@ impl<'a> Spaces<'a> {
         ensures listed { AreListed (problem known.now) table.now self.new }
         ensures spelt { AreSpelt table.now self.new }
         ensures steps { steps.new ≡ steps.old }
+        ensures kept { AreKept self.old self.new }
+        ensures there { OnOk result (All (λ t. IsListed table.now self.new t.vertex) terms.now) }
     {
         'terms: for term in terms.iter() {
             self.list(alloc, known, table, steps, term.vertex)?;
@@ -130,16 +140,37 @@ impl<'a> Spaces<'a> {
         Ok(())
     }
 
-    /// What is listed for a number. One that isn't listed counts as want of memory: no caller has one.
-    pub(crate) fn space(&self, number: usize) -> Result<&Space<'a>, AllocError>
-        ensures { IfOk result (λ s. slice_index_or self.now.listed.items number None ≡ Some s.now) }
+    /// Lists the vertex at which two are combined.
+    pub(crate) fn list_source(
+        &mut self,
+        alloc: Global,
+        known: &KnownProblem<'a>,
+        table: &Table<'a>,
+        steps: &mut Derivation,
+        source: Source,
+    ) -> Result<(), AllocError>
+        requires listed { AreListed (problem known.now) table.now self.old }
+        requires spelt { AreSpelt table.now self.old }
+        requires valid { AreReadVertices table.now }
+        ensures listed { AreListed (problem known.now) table.now self.new }
+        ensures spelt { AreSpelt table.now self.new }
+        ensures steps { steps.new ≡ steps.old }
+        ensures there { OnOk result (IsNamed table.now self.new source) }
     {
-        let Some(place) = self.listed.get(number) else {
-            return Err(AllocError);
-        };
-        match place {
-            Some(space) => Ok(space),
-            None => Err(AllocError),
+        match source {
+            Source::Axiom(_) => Ok(()),
+            Source::Combined { vertex, .. } => self.list(alloc, known, table, steps, vertex),
+        }
+    }
+
+    /// What is listed for a number.
+    pub(crate) fn space(&self, number: usize) -> &Space<'a>
+        requires { is_listed self.now number ≡ true }
+        ensures { slice_index_or self.now.listed.items number None ≡ Some result.now }
+    {
+        match &self.listed[number] {
+            Some(space) => space,
+            None => unreachable!(),
         }
     }
 }

@@ -1,19 +1,21 @@
 //! The terms of an incompatibility over numbers, as vertices with their states.
 
-ghost use Rattle.std.specs.Prelude.{◌≡◌, ◌++◌, [], IfOk, OnOk, Some, length, slice_get};
+ghost use Rattle.std.specs.List.{All};
+ghost use Rattle.std.specs.Prelude.{◌≡◌, ◌++◌, [], IfOk, OnOk, Some, length, slice_get, true};
 ghost use Rattle.terms.specs.Terms.{terms_view};
 ghost use Rattle.model.specs.Axioms.{at};
 ghost use Rattle.model.specs.Vertices.{space};
 ghost use Rattle.vertices.specs.RefViews.{vertex_ref_view};
 ghost use Rattle.derivations.specs.Named.{named_views};
-ghost use Rattle.encoding.specs.KnownProblem.{problem};
+ghost use Rattle.numbering.specs.KnownProblem.{problem};
 ghost use Rattle.decoding.specs.Decoding.{sizes, states_in, terms_of, with_term};
-ghost use Rattle.refusing.specs.Refusing.{AreListed, AreSized, AreSpelt, spoken_view, spoken_views};
+ghost use Rattle.refusing.specs.Refusing.{AreListed, AreSized, AreSpelt, IsListed, is_listed, spoken_view};
+ghost use Rattle.refusing.specs.Refusing.{spoken_views};
 
 use crate::spaces::Spaces;
 use decoding::chosen;
 use derivations::{NamedTerm, Spelling};
-use encoding::{KnownProblem, Table};
+use numbering::{KnownProblem, Table};
 use std::alloc::{AllocError, Global};
 use terms::Term;
 use version_sets::States;
@@ -39,11 +41,12 @@ fn speak<'p, 'a, S: States + Drop>(
     requires listed { AreListed (problem known.now) table.now spaces.now }
     requires spelt { AreSpelt table.now spaces.now }
     requires there { slice_get table.now number ≡ Some (vertex_ref_view vertex) }
+    requires named { is_listed spaces.now number ≡ true }
     requires sized { length (S.tests set.now) ≡ length (space (problem known.now) (vertex_ref_view vertex)) }
     ensures { IfOk result (λ t. spoken_view t ≡ at (vertex_ref_view vertex.entry)
         (states_in (space (problem known.now) (vertex_ref_view vertex.entry)) (S.tests set.now))) }
 {
-    let space = spaces.space(number)?;
+    let space = spaces.space(number);
     let states = chosen(alloc, &space.states, set)?;
     Ok(Spoken {
         vertex: &space.spelling,
@@ -62,6 +65,7 @@ fn push_spoken<'p, 'a, S: States + Drop>(
 ) -> Result<(), AllocError>
     requires listed { AreListed (problem known.now) table.now spaces.now }
     requires spelt { AreSpelt table.now spaces.now }
+    requires named { IsListed table.now spaces.now term.now.vertex }
     requires sized { length (S.tests term.now.states) ≡ sizes (problem known.now) table.now term.now.vertex }
     ensures { OnOk result (spoken_views made.new.items ≡ spoken_views made.old.items
         ++ with_term (problem known.now) (slice_get table.now term.now.vertex) (S.tests term.now.states) []) }
@@ -94,6 +98,7 @@ pub(crate) fn spoken_terms<'p, 'a, S: States + Drop>(
 ) -> Result<Vec<Spoken<'p, 'a>>, AllocError>
     requires listed { AreListed (problem known.now) table.now spaces.now }
     requires spelt { AreSpelt table.now spaces.now }
+    requires named { All (λ t. IsListed table.now spaces.now t.vertex) terms.now }
     requires sized { AreSized (problem known.now) table.now (terms_view S.tests terms.now) }
     ensures { IfOk result
         (λ v. spoken_views v.items ≡ terms_of (problem known.now) table.now (terms_view S.tests terms.now)) }

@@ -1,3 +1,4 @@
 pub mod Axioms
+pub mod Counted
 pub mod Followed
 pub mod Examples

@@ -5,7 +5,7 @@ use Rattle.model.specs.Derivation.{IsAccepted, Step}
 use Rattle.model.specs.Selection.{IsValidSelection}
 use Rattle.reaching.specs.Built.{HasBareRoot}
 use Rattle.reaching.specs.Followed.{IsBrought}
-use Rattle.walks.specs.Preferred.{IsPreferred}
+use Rattle.selection.specs.Preferred.{IsPreferred}
 use Rattle.solver.specs.declared.solving.Outcome.{Outcome}
 use Rattle.solver.specs.declared.solving.Outcome.TheVariants.{Selection, Unsolvable}
 

@@ -1,28 +1,29 @@
 //! How many axioms a search needed.
 
 ghost use Rattle.std.specs.Prelude.{◌≡◌};
+ghost use Rattle.incompatibilities.specs.Counts.{axioms, given_in};
 ghost use Rattle.incompatibilities.specs.Stores.{entries_view};
-ghost use Rattle.refusing.specs.Refusing.{axioms, is_given};
 
 use incompatibilities::{Id, Origin, Store};
 use version_sets::States;
 
 /// How many of a store's incompatibilities are axioms.
-pub(crate) fn axioms_in<S: States + Drop>(store: &Store<S>) -> usize
+pub(crate) fn axioms_in<S: States + Drop>(store: &Store<S>) -> u64
     ensures { result ≡ axioms (entries_view S.tests store.now) }
 {
     let mut count = 0;
     'entries: for place in 0..store.len() {
-        if is_axiom(store.origin(Id::new(place))) {
-            count += 1;
-        }
+        count += given_in(store.origin(Id::new(place)));
     }
     count
 }
 
-/// Whether it was given.
-fn is_axiom(origin: Origin) -> bool
-    ensures { result ≡ is_given origin }
+/// One for an axiom.
+fn given_in(origin: &Origin) -> u64
+    ensures { result ≡ given_in origin.now }
 {
-    matches!(origin, Origin::Axiom(_))
+    match origin {
+        Origin::Axiom(_) => 1,
+        Origin::Learned(_) => 0,
+    }
 }

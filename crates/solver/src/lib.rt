@@ -1,9 +1,9 @@
 //! A valid selection for a manifest and a loaded index, or why there is none.
 //!
-//! `solve` asks for the preferred walk first (`walks`). Where there is one, complete and valid, the search is told to
-//! follow it: it meets no conflict then, and the walk is the answer. Else the search goes its own way. Either way one
-//! search decides: what it selects is gathered (`gathering`), and where the walk was followed the walk itself is handed
-//! out; an entry without terms goes to `refusing`.
+//! `solve` asks for the preferred walk first (`selection`). Where there is one, complete and valid, the search is told
+//! to follow it: it meets no conflict then, and the walk is the answer. Else the search goes its own way. Either way
+//! one search decides: what it selects is gathered (`gathering`), and where the walk was followed the walk itself is
+//! handed out; an entry without terms goes to `refusing`.
 //!
 //! What is hard is that both answers are to be right with no condition on the inputs. The laws ask that versions rise
 //! and feature tables know their features, which every `Catalogue` has by its type (`laws`); and a derivation can name

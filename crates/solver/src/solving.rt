@@ -3,20 +3,20 @@
 ghost use Rattle.std.specs.Prelude.{◌≡◌, ◌≤◌, IfOk, IfSome, codes, is_some, true};
 ghost use Rattle.incompatibilities.specs.Stores.{entries_view};
 ghost use Rattle.catalogue.specs.Problems.{problem_in};
-ghost use Rattle.encoding.specs.KnownProblem.{problem};
+ghost use Rattle.numbering.specs.KnownProblem.{problem};
 ghost use Rattle.guiding.specs.Guides.{HasSearched, IsOfInstance};
-ghost use Rattle.encoding.specs.Numberings.{IsNumbering};
+ghost use Rattle.numbering.specs.Numberings.{IsNumbering};
 ghost use Rattle.propagation.specs.Trails.{trail_view};
 ghost use Rattle.refusing.specs.Refusing.{HasNoMore, axioms_of, combinations_of};
-ghost use Rattle.searching.specs.Searching.{AreTouching, IsRefutation};
+ghost use Rattle.searching.specs.Searching.{IsRefutation};
 ghost use Rattle.searching.specs.Following.{AreGiven};
 ghost use Rattle.solver.specs.Solving.{IsAnswer, IsFound, IsSolved, IsUnsolvable, derivation_of};
-ghost use Rattle.walks.specs.Preferred.{preferred_in};
+ghost use Rattle.selection.specs.Preferred.{preferred_in};
+ghost use Rattle.unrolling.specs.Flats.{LieSomewhere};
 
 use crate::counting::axioms_in;
 use catalogue::Catalogue;
 use derivations::Derivation;
-use encoding::{KnownProblem, Matched, Table};
 use features::{FeatureName, NameFault};
 use gathering::content;
 use guiding::{Encoded, Searched, search_over};
@@ -25,12 +25,13 @@ use laws::accepted_derivations_refute;
 use lockfile::LockContent;
 use manifest::Manifest;
 use model::walks_are_unique;
+use numbering::{KnownProblem, Matched, Table};
 use refusing::{instances_have_their_kinds, refusal};
 use searching::Answer;
+use selection::preferred;
 use std::alloc::{AllocError, Global};
 use valid_parts::are_valid;
 use version_sets::{States, WordStates};
-use walks::preferred;
 
 /// What solving comes to.
 #[derive(Drop)]
@@ -49,7 +50,7 @@ pub struct Solved {
     /// fewer than the combinations of a derivation.
     pub steps: u64,
     /// The instances of axioms that came into its store: no fewer than those of a derivation.
-    pub axioms: usize,
+    pub axioms: u64,
 }
 
 /// A valid selection for a manifest and a loaded index, where there is one: the preferred walk, where that is complete
@@ -156,7 +157,7 @@ fn why_unsolvable<'a, S: States + Drop>(
     last: Id,
 ) -> Result<Derivation, AllocError>
     requires numbering { IsNumbering (problem known.now) table.now }
-    requires touching { AreTouching (entries_view S.tests store.now) }
+    requires lies { LieSomewhere (entries_view S.tests store.now) }
     requires refutation { IsRefutation (entries_view S.tests store.now) last }
     requires given { AreGiven (IsOfInstance (problem known.now) table.now) (entries_view S.tests store.now) }
     ensures unsolvable { IfOk result (λ d. IsUnsolvable (problem known.now) d) }

@@ -4,7 +4,7 @@ use Rattle.model.proofs.Places.{map_at}
 use Rattle.features.specs.Views.{dependency_view, dependency_views}
 use Rattle.propagation.specs.Trails.{trail_view}
 use Rattle.vertices.specs.RefViews.{owner_ref_view}
-use Rattle.encoding.specs.KnownProblem.{problem}
+use Rattle.numbering.specs.KnownProblem.{problem}
 use Rattle.gathering.specs.Leads.{ends}
 use Rattle.gathering.proofs.Led.{one_led}
 use Rattle.gathering.proofs.leading.led_by.Goals as goal

@@ -1,7 +1,7 @@
 use Rattle.features.specs.Views.{dependency_views}
 use Rattle.propagation.specs.Trails.{trail_view}
 use Rattle.vertices.specs.RefViews.{owner_ref_view}
-use Rattle.encoding.specs.KnownProblem.{problem}
+use Rattle.numbering.specs.KnownProblem.{problem}
 use Rattle.gathering.specs.Leads.{ends}
 use Rattle.gathering.proofs.Led.{LedTo}
 use Rattle.gathering.proofs.leading.led_by.Given as goal

@@ -4,7 +4,7 @@ use Rattle.features.specs.Views.{dependency_view}
 use Rattle.classes.specs.Classes.{class_view}
 use Rattle.propagation.specs.Trails.{trail_view}
 use Rattle.vertices.specs.RefViews.{owner_ref_view}
-use Rattle.encoding.specs.KnownProblem.{problem}
+use Rattle.numbering.specs.KnownProblem.{problem}
 use Rattle.model.specs.Vertices.{dep, pkg}
 use Rattle.gathering.specs.Leads.{class_if, ends, version_if}
 use Rattle.gathering.proofs.Led.{found, no_class, no_version}

@@ -6,9 +6,9 @@ use Rattle.propagation.specs.Trails.{trail_view}
 use Rattle.model.specs.Search.{LeadsTo}
 use Rattle.model.specs.Summary.{Dependency}
 use Rattle.reaching.specs.Nodes.{AreLeads}
-use Rattle.encoding.specs.KnownProblem.{problem}
-use Rattle.contents.specs.Contents.{owners_of}
-use Rattle.contents.proofs.Nodes.{begun, one_more, all_met, owner_next}
+use Rattle.numbering.specs.KnownProblem.{problem}
+use Rattle.selection.specs.Contents.{owners_of}
+use Rattle.selection.proofs.MetNodes.{begun, one_more, all_met, owner_next}
 use Rattle.gathering.specs.Leads.{AreThere, ends}
 use Rattle.gathering.proofs.Led.{led_there, leads_of}
 use Rattle.gathering.proofs.meeting.meet.Goals as goal

@@ -2,9 +2,9 @@ use Rattle.std.proofs.Common.{◌-◌, ◌^◌, length}
 use Rattle.facts.specs.Graphs.{node_views}
 use Rattle.propagation.specs.Trails.{trail_view}
 use Rattle.model.specs.Search.{LeadsTo}
-use Rattle.encoding.specs.KnownProblem.{problem}
+use Rattle.numbering.specs.KnownProblem.{problem}
 use Rattle.gathering.specs.Leads.{ends}
-use Rattle.contents.proofs.Nodes.{SoFar}
+use Rattle.selection.proofs.MetNodes.{SoFar}
 use Rattle.gathering.proofs.meeting.meet.Given as goal
 
 -- each of those met so far is there once, and the first of them have their nodes

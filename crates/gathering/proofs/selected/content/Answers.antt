@@ -6,8 +6,8 @@ use Rattle.model.specs.Search.{LeadsTo}
 use Rattle.reaching.specs.Built.{IsBuilt}
 use Rattle.reaching.specs.Nodes.{AreFlags}
 use Rattle.reaching.proofs.Found.{stands}
-use Rattle.encoding.specs.KnownProblem.{problem}
-use Rattle.contents.specs.Contents.{owners_of}
+use Rattle.numbering.specs.KnownProblem.{problem}
+use Rattle.selection.specs.Contents.{owners_of}
 use Rattle.gathering.specs.Leads.{ends}
 use Rattle.gathering.proofs.Brought.{root_brings}
 use Rattle.gathering.proofs.Left.{agrees_with}

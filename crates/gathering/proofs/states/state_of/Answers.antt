@@ -1,8 +1,8 @@
 use Rattle.std.proofs.Common.{◌≡◌, IfOk, sym, ap, ◌∙◌, subst, arith}
 use Rattle.propagation.specs.Trails.{trail_view}
 use Rattle.vertices.specs.RefViews.{state_ref_view, vertex_ref_view}
-use Rattle.encoding.specs.Assignments.{state_at, state_if, state_of}
-use Rattle.encoding.specs.KnownProblem.{problem}
+use Rattle.numbering.specs.Assignments.{state_at, state_if, state_of}
+use Rattle.numbering.specs.KnownProblem.{problem}
 use Rattle.guiding.specs.Guides.{final_of, first_in}
 use Rattle.gathering.proofs.Ends.{number_within}
 use Rattle.gathering.proofs.states.state_of.Goals as goal

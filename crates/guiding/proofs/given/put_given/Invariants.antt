@@ -1,7 +1,7 @@
 use Rattle.std.proofs.Common.{◌≡◌}
 use Rattle.std.specs.Vec.Iter.{into_iter_items}
 use Rattle.incompatibilities.specs.Stores.{entries_view}
-use Rattle.encoding.specs.GivenViews.{given_views}
+use Rattle.numbering.specs.GivenViews.{given_views}
 use Rattle.guiding.specs.Guides.{with_given}
 use Rattle.guiding.proofs.given.put_given.Given as goal
 

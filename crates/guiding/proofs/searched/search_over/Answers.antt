@@ -2,7 +2,9 @@ use Rattle.std.proofs.Common.{◌<◌, ◌∙◌, List, sym, subst, arith}
 use Rattle.incompatibilities.specs.Stores.{EntryView, entries_view}
 use Rattle.propagation.specs.Promises.{LieIn}
 use Rattle.propagation.specs.Trails.{trail_view}
-use Rattle.encoding.specs.KnownProblem.{problem}
+use Rattle.numbering.specs.KnownProblem.{problem}
+use Rattle.incompatibilities.specs.Counts.{combinations}
+use Rattle.searching.specs.Counting.{HasCounted}
 use Rattle.guiding.proofs.Ended.{searched_of}
 use Rattle.guiding.proofs.searched.search_over.Goals as goal
 
@@ -27,9 +29,13 @@ returns-clause-searched g c =
     (trail_view tests c.begin.new.trail) (trail_view tests c.search.new.trail)
     (entries_view tests c.begin.new.store) (entries_view tests c.search.new.store) c.in_ok-found.found.answer
     c.in_ok-guide.ensures end.keeps c.is_kept.ensures.numbering c.is_kept.ensures.spaces end.spaces end.trail end.ended
-    end.given end.stored end.touching end.follows end.selects
+    end.given end.stored end.follows end.selects
 
 pub returns-clause-counted : goal.returns-clause-counted
 returns-clause-counted g c =
     let count = c.in_ok-found.ensures.counted in
-    record { combined = omega (arith, count.combined, c.in_ok-guide.ensures.uncombined); assigned = count.assigned }
+    record {
+      combined = subst (λ n. HasCounted (combinations (entries_view g.S.States.tests c.search.new.store)) n
+          c.in_ok-found.found.steps) c.in_ok-guide.ensures.uncombined count.combined;
+      assigned = count.assigned;
+    }

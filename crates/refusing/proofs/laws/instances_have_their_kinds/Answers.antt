@@ -1,5 +1,5 @@
-use Rattle.refusing.proofs.Numbered.{axioms_encoded}
+use Rattle.refusing.proofs.Numbered.{axioms_given}
 use Rattle.refusing.proofs.laws.instances_have_their_kinds.Goals as goal
 
 pub returns : goal.returns
-returns c = axioms_encoded
+returns c = axioms_given

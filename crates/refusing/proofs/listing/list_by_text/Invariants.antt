@@ -1,5 +1,5 @@
 use Rattle.std.proofs.Common.{◌≡◌}
-use Rattle.encoding.specs.KnownProblem.{problem}
+use Rattle.numbering.specs.KnownProblem.{problem}
 use Rattle.refusing.specs.Refusing.{AreListed, AreSpelt}
 use Rattle.refusing.proofs.listing.list_by_text.Given as goal
 

@@ -1,20 +1,22 @@
-use Rattle.std.proofs.Common.{◌≡◌, ◌≤◌, ◌++◌, ◌∷◌, [], ℕ, List, length, sym, subst, arith, ◌∙◌}
-use Rattle.incompatibilities.specs.Stores.{entries_view, entry}
+use Rattle.std.proofs.Common.{◌≡◌, ◌≤◌, ◌<◌, ◌++◌, ◌∷◌, [], length, sym, subst, arith, ◌∙◌}
+use Rattle.std.proofs.lemmas.List.{length-map}
+use Rattle.incompatibilities.specs.Stores.{entries_view}
+use Rattle.unrolling.specs.Flats.{flat_view, flats_view}
+use Rattle.unrolling.proofs.Rows.{flat_read}
 use Rattle.model.specs.Derivation.{Step}
-use Rattle.encoding.specs.KnownProblem.{problem}
-use Rattle.decoding.specs.Needs.{place_in}
+use Rattle.numbering.specs.KnownProblem.{problem}
 use Rattle.decoding.specs.Steps.{AreStepsOf, IsStepOf}
 use Rattle.refusing.specs.Refusing.{IsNext}
 use Rattle.refusing.proofs.NewTerms.{vertices_read}
-use Rattle.refusing.proofs.Places.{IsRead, all_at, more_at, next_at}
+use Rattle.refusing.proofs.Places.{all_at, more_at, next_at}
 use Rattle.refusing.proofs.refuting.steps_of.Goals as goal
 
-pub entries-init : goal.entries-init
-entries-init g c = (
+pub row-init : goal.row-init
+row-init g c = (
   c.list_by_text.ensures.listed,
   c.list_by_text.ensures.spelt,
-  subst (λ d. AreStepsOf (problem c.args.known.now) c.args.table.now (entries_view g.S.States.tests c.args.store.now)
-      (place_in c.args.kept.now.places.items) [] d) (sym (c.list_by_text.ensures.steps ∙ c.new-steps.ensures)) tt,
+  subst (λ d. AreStepsOf (problem c.args.known.now) c.args.table.now [] d)
+      (sym (c.list_by_text.ensures.steps ∙ c.new-steps.ensures)) tt,
 )
 
 pub list_by_text-requires-clause-listed : goal.list_by_text-requires-clause-listed
@@ -29,43 +31,43 @@ list_by_text-requires-clause-valid g c =
 
 pub push_step-requires-clause-next : goal.push_step-requires-clause-next
 push_step-requires-clause-next g c =
+    let tests = g.S.States.tests in
     let q = problem c.args.known.now in
-    let es = entries_view g.S.States.tests c.args.store.now in
-    let ids = c.args.kept.now.ids.items in
-    let read = subst (λ (l : List ℕ). IsRead l c.entries.id-index c.id-item.result) c.deref-id-items.ensures.value
-    (c.entries-test.true, c.id-item.is) in
-    subst (λ (ps : List ℕ). IsNext q c.args.table.now es (place_in ps) (length c.entries.steps) c.id-item.result)
-    (sym c.deref.ensures.value)
-    (next_at q c.args.table.now es (place_in c.args.kept.now.places.items) c.catalogues_are_well_formed.ensures
-    c.requires.numbering c.requires.axioms c.requires.touching
-    c.requires.needed.0 c.requires.needed.1 ids c.requires.needed.2 c.entries.id-index c.id-item.result c.entries.steps
-    read c.entries.invariant.2)
+    let vs = c.args.table.now in
+    let es = entries_view tests c.args.store.now in
+    let row = c.args.row.now in
+    let k = c.row.flat-index in
+    let lt : k < length (flats_view tests row) = omega (arith, c.row-test.true, length-map row (flat_view tests)) in
+    subst (λ f. IsNext q vs f (length c.row.steps)) (flat_read tests row k c.flat-item.result lt c.flat-item.is)
+    (next_at q vs c.catalogues_are_well_formed.ensures c.requires.numbering es c.requires.axioms
+    (flats_view tests row) c.requires.founded k c.row.steps lt c.row.invariant.2)
 
-pub entries-preserved : goal.entries-preserved
-entries-preserved g c =
+pub row-preserved : goal.row-preserved
+row-preserved g c =
+    let tests = g.S.States.tests in
     let q = problem c.args.known.now in
-    let es = entries_view g.S.States.tests c.args.store.now in
-    let read = subst (λ (l : List ℕ). IsRead l c.entries.id-index c.id-item.result) c.deref-id-items.ensures.value
-    (c.entries-test.true, c.id-item.is) in (
+    let vs = c.args.table.now in
+    let row = c.args.row.now in
+    let k = c.row.flat-index in
+    let lt : k < length (flats_view tests row) = omega (arith, c.row-test.true, length-map row (flat_view tests)) in (
       c.push_step.ensures.listed,
       c.push_step.ensures.spelt,
-      more_at q c.args.table.now es (place_in c.args.kept.now.places.items) c.args.kept.now.ids.items c.entries.id-index
-          c.id-item.result c.entries.steps c.push_step.new.steps read c.entries.invariant.2
-          (subst (λ (ps : List ℕ). (s : Step) × (c.push_step.new.steps ≡ c.entries.steps ++ s ∷ [])
-          × IsStepOf q c.args.table.now (place_in ps) (entry es c.id-item.result) s) c.deref.ensures.value
-          c.in_ok-push_step.ensures.step),
+      more_at q vs (flats_view tests row) k c.row.steps c.push_step.new.steps lt c.row.invariant.2
+          (subst (λ f. (s : Step) × (c.push_step.new.steps ≡ c.row.steps ++ s ∷ []) × IsStepOf q vs f s)
+          (sym (flat_read tests row k c.flat-item.result lt c.flat-item.is)) c.in_ok-push_step.ensures.step),
     )
 
 pub push_step-requires-clause-spelt : goal.push_step-requires-clause-spelt
-push_step-requires-clause-spelt g c = c.entries.invariant.1
+push_step-requires-clause-spelt g c = c.row.invariant.1
 
 pub push_step-requires-clause-listed : goal.push_step-requires-clause-listed
-push_step-requires-clause-listed g c = c.entries.invariant.0
+push_step-requires-clause-listed g c = c.row.invariant.0
 
 pub returns : goal.returns
 returns g c =
-    let long = subst (λ (l : List ℕ). length l ≤ c.entries.id-index) c.deref-id-items.ensures.value
-    (omega (arith, c.entries-test.false)) in
-    all_at (problem c.args.known.now) c.args.table.now (entries_view g.S.States.tests c.args.store.now)
-    (place_in c.args.kept.now.places.items) c.args.kept.now.ids.items c.entries.id-index c.entries.steps
-    long c.entries.invariant.2
+    let tests = g.S.States.tests in
+    let row = c.args.row.now in
+    let long : length (flats_view tests row) ≤ c.row.flat-index =
+    omega (arith, c.row-test.false, length-map row (flat_view tests)) in
+    all_at (problem c.args.known.now) c.args.table.now (flats_view tests row) c.row.flat-index c.row.steps long
+    c.row.invariant.2

@@ -2,7 +2,7 @@ use Rattle.std.proofs.Common.{◌≡◌, [], ◌∷◌, ◌++◌, append-nil, So
 use Rattle.std.specs.Prelude.{option_map}
 use Rattle.std.proofs.lemmas.List.{map-append}
 use Rattle.vertices.specs.RefViews.{vertex_ref_view}
-use Rattle.encoding.specs.KnownProblem.{problem}
+use Rattle.numbering.specs.KnownProblem.{problem}
 use Rattle.decoding.specs.Decoding.{size_of, with_term}
 use Rattle.refusing.specs.Refusing.{spoken_view, spoken_views}
 use Rattle.refusing.proofs.speaking.push_spoken.Goals as goal
@@ -10,6 +10,10 @@ use Rattle.refusing.proofs.speaking.push_spoken.Goals as goal
 pub speak-requires-clause-sized : goal.speak-requires-clause-sized
 speak-requires-clause-sized g c = c.requires.sized
     ∙ ap (size_of (problem c.args.known.now)) (sym c.vertex.ensures ∙ ap (option_map vertex_ref_view) c.in-Some.is)
+
+pub speak-requires-clause-named : goal.speak-requires-clause-named
+speak-requires-clause-named g c = c.requires.named (vertex_ref_view c.in-Some.vertex)
+    (sym c.vertex.ensures ∙ ap (option_map vertex_ref_view) c.in-Some.is)
 
 pub returns-in_ok-push-in-Some : goal.returns-in_ok-push-in-Some
 returns-in_ok-push-in-Some g c =

@@ -1,13 +1,17 @@
 use Rattle.std.proofs.Common.{arith}
-use Rattle.encoding.specs.KnownProblem.{problem}
-use Rattle.refusing.specs.Refusing.{spoken_views}
-use Rattle.refusing.proofs.Sized.{all_spoken, sized_at, spoken_more}
+use Rattle.numbering.specs.KnownProblem.{problem}
+use Rattle.refusing.specs.Refusing.{IsListed, spoken_views}
+use Rattle.refusing.proofs.Sized.{all_spoken, at_place, sized_at, spoken_more}
 use Rattle.refusing.proofs.speaking.spoken_terms.Goals as goal
 
 pub push_spoken-requires-clause-sized : goal.push_spoken-requires-clause-sized
 push_spoken-requires-clause-sized g c =
     sized_at g.S.States.tests (problem c.args.known.now) c.args.table.now c.args.terms.now c.terms.term-index
     c.term-item.result c.requires.sized c.terms-test.true c.term-item.is
+
+pub push_spoken-requires-clause-named : goal.push_spoken-requires-clause-named
+push_spoken-requires-clause-named g c = at_place (λ t. IsListed c.args.table.now c.args.spaces.now t.vertex)
+    c.args.terms.now c.terms.term-index c.term-item.result c.terms-test.true c.term-item.is c.requires.named
 
 pub terms-preserved : goal.terms-preserved
 terms-preserved g c =

@@ -1,5 +1,5 @@
 use Rattle.terms.specs.Terms.{terms_view}
-use Rattle.encoding.specs.KnownProblem.{problem}
+use Rattle.numbering.specs.KnownProblem.{problem}
 use Rattle.refusing.specs.Refusing.{spoken_views}
 use Rattle.refusing.proofs.Sized.{IsSpeaking}
 use Rattle.refusing.proofs.speaking.spoken_terms.Given as goal

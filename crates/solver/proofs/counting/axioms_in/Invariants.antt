@@ -1,6 +1,6 @@
 use Rattle.std.proofs.Common.{◌≡◌, take}
+use Rattle.incompatibilities.specs.Counts.{axioms}
 use Rattle.incompatibilities.specs.Stores.{entries_view}
-use Rattle.refusing.specs.Refusing.{axioms}
 use Rattle.solver.proofs.counting.axioms_in.Given as goal
 
 -- the axioms among the entries so far

@@ -1,13 +1,19 @@
 use Rattle.std.proofs.Common.{◌≡◌, arith, false, is_some, rules, subst, sym, true}
 use Rattle.std.proofs.lemmas.Result.{IfOk-weaker}
-use Rattle.encoding.specs.KnownProblem.{problem}
+use Rattle.numbering.specs.KnownProblem.{problem}
 use Rattle.guiding.specs.Guides.{HasSearched}
 use Rattle.incompatibilities.specs.Stores.{entries_view}
 use Rattle.propagation.specs.Trails.{trail_view}
 use Rattle.refusing.specs.Refusing.{HasNoMore}
 use Rattle.solver.specs.Solving.{IsAnswer, IsFound}
-use Rattle.solver.proofs.Followed.{followed-derives_nothing, found-answers}
+use Rattle.solver.proofs.Followed.{followed-answers, followed-derives_nothing, found-answers}
 use Rattle.solver.proofs.solving.outcome_of.Goals as goal
+
+pub returns-then-is_following-clause-answer : goal.returns-then-is_following-clause-answer
+returns-then-is_following-clause-answer g c =
+    let follows = c.args.searched.guide.follows in
+    let some : is_some follows ≡ true = search rules in
+    followed-answers c.args.searched.guide.problem follows c.followed.result some c.followed.ensures
 
 pub returns-then-is_following-clause-once : goal.returns-then-is_following-clause-once
 returns-then-is_following-clause-once g c =
@@ -15,7 +21,7 @@ returns-then-is_following-clause-once g c =
     let some : is_some follows ≡ true = search rules in
     subst (HasNoMore (entries_view g.S.States.tests c.args.searched.store))
     (sym (followed-derives_nothing follows c.followed.result some c.followed.ensures))
-    record { few_axioms = omega arith; few_combined = omega arith }
+    record { few_axioms = omega arith; few_combined = omega arith; short = omega arith }
 
 pub found-requires : goal.found-requires
 found-requires g c =

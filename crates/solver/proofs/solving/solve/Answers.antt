@@ -1,7 +1,8 @@
 use Rattle.std.proofs.Common.{subst, arith}
 use Rattle.catalogue.specs.Problems.{problem_in}
-use Rattle.walks.specs.Preferred.{preferred_in}
+use Rattle.selection.specs.Preferred.{preferred_in}
 use Rattle.solver.specs.Solving.{IsAnswer}
+use Rattle.solver.proofs.Counted.{combined_counted}
 use Rattle.solver.proofs.Followed.{can_follow, solved}
 use Rattle.solver.proofs.solving.solve.Goals as goal
 
@@ -23,7 +24,7 @@ returns-clause-solved c =
 
 pub returns-clause-steps : goal.returns-clause-steps
 returns-clause-steps c =
-    omega (arith, c.in_ok-outcome.ensures.once.few_combined, c.in_ok-searched.ensures.counted.combined)
+    combined_counted c.in_ok-outcome.ensures.once c.in_ok-searched.ensures.counted.combined
 
 pub returns-clause-axioms : goal.returns-clause-axioms
 returns-clause-axioms c = omega (arith, c.in_ok-outcome.ensures.once.few_axioms, c.axioms_in-axioms.ensures)

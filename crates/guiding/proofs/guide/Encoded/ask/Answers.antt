@@ -1,7 +1,7 @@
 use Rattle.std.proofs.Common.{◌≤◌, length, map, refl, sym, subst}
 use Rattle.std.proofs.lemmas.List.{length-map}
 use Rattle.incompatibilities.specs.Stores.{entries_view}
-use Rattle.encoding.specs.GivenViews.{given_views}
+use Rattle.numbering.specs.GivenViews.{given_views}
 use Rattle.propagation.specs.Trails.{trail_view}
 use Rattle.guiding.proofs.Asked.{asking_by, encoding_marked, encoding_of, ok_by, state_below}
 use Rattle.guiding.proofs.guide.Encoded.ask.Goals as goal

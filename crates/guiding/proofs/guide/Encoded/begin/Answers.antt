@@ -1,7 +1,7 @@
 use Rattle.std.proofs.Common.{◌≤◌, List, length, map, ap, sym, ◌∙◌, subst}
 use Rattle.std.proofs.lemmas.List.{length-map}
 use Rattle.incompatibilities.specs.Stores.{EntryView, entries_view}
-use Rattle.encoding.specs.GivenViews.{given_views}
+use Rattle.numbering.specs.GivenViews.{given_views}
 use Rattle.propagation.specs.Promises.{IsTrail}
 use Rattle.propagation.specs.Trails.{trail_view}
 use Rattle.guiding.specs.Guides.{IsCome, with_given}

@@ -3,7 +3,7 @@ use Rattle.std.proofs.lemmas.Bool.{false≢true}
 use Rattle.std.proofs.lemmas.Option.{none-some, same_Some}
 use Rattle.version_sets.specs.Sets.{has}
 use Rattle.vertices.specs.RefViews.{vertex_ref_view}
-use Rattle.encoding.specs.KnownProblem.{problem}
+use Rattle.numbering.specs.KnownProblem.{problem}
 use Rattle.guiding.specs.Guides.{EncodedView, IsFollowed}
 use Rattle.guiding.proofs.Following.{followed_at}
 use Rattle.guiding.proofs.guide.Encoded.followed_state.Goals as goal

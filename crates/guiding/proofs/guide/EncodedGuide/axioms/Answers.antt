@@ -2,7 +2,7 @@ use Rattle.std.proofs.Common.{map, length, true, false, Some, sym, subst}
 use Rattle.std.specs.Prelude.{IfSome}
 use Rattle.incompatibilities.specs.Stores.{entries_view}
 use Rattle.propagation.specs.Trails.{trail_view}
-use Rattle.encoding.specs.KnownProblem.{problem}
+use Rattle.numbering.specs.KnownProblem.{problem}
 use Rattle.searching.specs.Searching.{HasSpaces, IsSeen}
 use Rattle.searching.specs.Turning.{IsAdding}
 use Rattle.searching.specs.Following as following
