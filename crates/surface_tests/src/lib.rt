@@ -1,0 +1,18 @@
+//! Each public call once by its name, with what it answers: what a caller of the libraries writes. What runs show is
+//! shown by `worked_cases`.
+#![tactic(auto)]
+
+#[cfg(test)]
+mod encodings;
+#[cfg(test)]
+mod lines;
+#[cfg(test)]
+mod loading;
+#[cfg(test)]
+mod names;
+#[cfg(test)]
+mod problems;
+#[cfg(test)]
+mod sets;
+#[cfg(test)]
+mod trails;
