@@ -1,1 +1,3 @@
 mod Rows
+pub mod Shorter
+pub mod Sizes

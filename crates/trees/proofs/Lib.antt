@@ -8,4 +8,5 @@ pub mod TokenLemmas
 pub mod TreeLemmas
 pub mod RisingLemmas
 pub mod ScalarLemmas
+pub mod Sizes
 pub mod WordLemmas

@@ -1,7 +1,10 @@
 -- What is looked up in a tree is what the value that it stands for has there.
 use Rattle.std.proofs.Common.{◌≡◌, ℕ, zero, suc, List, [], ◌∷◌, Bool, true, false, cond, ◌&&◌, Option, Some, None}
 use Rattle.std.proofs.Common.{◌++◌, is_some, unwrap_or, option_map, option_and_then, Ordering, Less, Equal}
-use Rattle.std.proofs.Common.{Greater, bytes_eq, Bor, refl, sym, ap, ◌∙◌, true≢false, subst}
+use Rattle.std.proofs.Common.{Greater, bytes_eq, Bor, refl, sym, ap, ◌∙◌, true≢false, subst, append_assoc, append-nil}
+use Rattle.std.proofs.Common.{Global, String, map, string_bytes, string_cmp}
+use Rattle.std.specs.List.Sorted.{IsStrictlySortedBy}
+use Rattle.std.specs.Map.{keys_of}
 use Rattle.std.proofs.lemmas.Slice.Eq.{bytes_eq-Decides}
 use Rattle.std.specs.Option.{option_or}
 use Rattle.std.specs.BTreeMap.{insert_entry}
@@ -14,8 +17,11 @@ use Rattle.serde_json.specs.Data.{Num, Data, number, array, object, Items, no_it
 use Rattle.serde_json.specs.Find.{get, get_member, get_item, at, as_str, as_bool, as_array, as_object, as_number}
 use Rattle.serde_json.specs.Find.{as_u64}
 use Rattle.serde_json.specs.Read.{number_of, of_json, of_items, of_members}
-use Rattle.serde_json.proofs.Views.{get_member-put, get_member-put_other}
-use Rattle.trees.specs.Trees.{numbers_fit, items_fit, members_fit, data_of, items_of, members_of}
+use Rattle.serde_json.specs.View.{view, members_view}
+use Rattle.serde_json.specs.declared.value.Value.{Value}
+use Rattle.serde_json.proofs.Views.{get_member-put, get_member-put_other, put_last}
+use Rattle.trees.specs.Parts.{members_put}
+use Rattle.trees.specs.Trees.{numbers_fit, items_fit, members_fit, data_of, items_of, listed, members_of}
 use Rattle.trees.specs.Trees.{num_of, is_null, tokens_view, tree_view, trees_view, put_all, sorted_view}
 use Rattle.trees.specs.Tokens.{begins}
 use Rattle.trees.specs.declared.tree.Tree.{Tree}
@@ -201,15 +207,28 @@ pub put_all-push : (ms : List Listed) (m : Listed) (found : Members)
 put_all-push [] m found = refl
 put_all-push (n ∷ ms) m found = put_all-push ms m (put n.0.now (tree_view n.1) found)
 
--- ---- the items and the members that are left
+-- ---- the members that are left
 
-abbrev pub item_count : json.Items → ℕ
-item_count json.no_items = 0
-item_count (json.item j js) = suc (item_count js)
+pub put-listed : (ms : json.Members) (found : Members) → members_put (listed ms) found ≡ members_of ms found
+put-listed json.no_members found = refl
+put-listed (json.member k j ms) found = put-listed ms (put k (data_of j) found)
 
-abbrev pub count : json.Members → ℕ
-count json.no_members = 0
-count (json.member k j ms) = suc (count ms)
+abbrev Entry : Type 0
+Entry = String Global × Value
+
+entries_put : (done left : List Entry) → IsStrictlySortedBy string_cmp (keys_of (done ++ left))
+    → members_put (map (λ m. (string_bytes m.0, view m.1)) left) (members_view done) ≡ members_view (done ++ left)
+entries_put done [] sorted = ap members_view (sym (append-nil done))
+entries_put done (e ∷ left) sorted =
+    let all = append_assoc done (e ∷ []) left in
+    ap (members_put (map (λ m. (string_bytes m.0, view m.1)) left)) (put_last done e left sorted)
+    ∙ entries_put (done ++ e ∷ []) left (subst (λ es. IsStrictlySortedBy string_cmp (keys_of es)) (sym all) sorted)
+    ∙ ap members_view all
+
+-- the entries of a map are sorted, so that they stay when they are put in turn
+pub put-entries : (es : List Entry) → IsStrictlySortedBy string_cmp (keys_of es)
+    → members_put (map (λ m. (string_bytes m.0, view m.1)) es) no_members ≡ members_view es
+put-entries es sorted = entries_put [] es sorted
 
 -- ---- members by their keys
 

@@ -1,8 +1,9 @@
 -- What a value in a text of JSON stands for: the value that `serde_json` reads there, where of a key that comes twice
 -- the last stays.
 use Rattle.std.specs.Prelude.{◌≡◌, ℕ, Bool, true, false, ◌&&◌, negsuc, List, [], ◌∷◌, Option, Some, None, is_some}
-use Rattle.std.specs.Prelude.{unwrap_or}
+use Rattle.std.specs.Prelude.{unwrap_or, map, string_bytes}
 use Rattle.std.specs.Borrow.{Bor}
+use Rattle.std.specs.Slice.Iter.{iter_rest}
 use Rattle.std.specs.Ordering.{is_lt, nat_cmp}
 use Rattle.std.specs.Cmp.Lexicographic.{slice_cmp}
 use Rattle.json.specs.Json as json
@@ -10,13 +11,19 @@ use Rattle.json.specs.Token.{Token}
 use Rattle.serde_json.specs.Data.{Num, negative, Data, null, boolean, number, string, array, object, Items, no_items}
 use Rattle.serde_json.specs.Data.{item, Members, no_members, member, put}
 use Rattle.serde_json.specs.Read.{number_of, read}
+use Rattle.serde_json.specs.View.{view, items_view}
 use Rattle.model.specs.Optional.{of_utf8}
 use Rattle.trees.specs.Tokens.{json_from, items_from, members_from}
 use Rattle.trees.specs.declared.fault.TreeFault.{TreeFault}
 use Rattle.trees.specs.declared.fault.TreeFault.TheVariants.{OutOfMemory, NotJson}
+use Rattle.trees.specs.declared.reading.TextRead.{TextRead}
+use Rattle.trees.specs.declared.reading.TextRead.TheVariants.{Tape, Long}
 use Rattle.trees.specs.declared.tree.Tree.{Tree}
+use Rattle.trees.specs.declared.tree.Tree.TheVariants as tree
 use Rattle.trees.specs.declared.tree.Elements.{Elements}
+use Rattle.trees.specs.declared.tree.Elements.TheVariants as elements
 use Rattle.trees.specs.declared.tree.Entries.{Entries}
+use Rattle.trees.specs.declared.tree.Entries.TheVariants as entries
 
 abbrev pub wants_memory : TreeFault → Bool
 wants_memory OutOfMemory = true
@@ -78,24 +85,35 @@ is_null (object ms) = false
 abbrev pub tokens_view : List Token → Data
 tokens_view ts = data_of (json_from ts)
 
+abbrev pub text_view : TextRead → Data
+text_view (Tape tokens) = tokens_view tokens
+text_view (Long value) = view value.now
+
 abbrev pub tree_view : Tree → Data
-tree_view tree = tokens_view tree.element
+tree_view (tree.Tokens tokens) = tokens_view tokens.element
+tree_view (tree.Value value) = view value.now
 
 -- the items that are left, and the first of them with those behind it
-abbrev pub left_items : Elements → json.Items
-left_items elements = items_from elements.items
+abbrev pub left_items : Elements → Items
+left_items (elements.Tokens tokens) = items_of (items_from tokens.items)
+left_items (elements.Values values) = items_view (iter_rest values)
 
-abbrev pub IsNextItem : json.Items → Option Data → json.Items → Type 0
-IsNextItem old None new = old ≡ json.no_items
-IsNextItem old (Some d) new = (j : json.Json) × (old ≡ json.item j new) × (d ≡ data_of j)
+abbrev pub IsNextItem : Items → Option Data → Items → Type 0
+IsNextItem old None new = old ≡ no_items
+IsNextItem old (Some d) new = old ≡ item d new
 
 -- the members that are left, and the first of them with those behind it
-abbrev pub left : Entries → json.Members
-left entries = members_from entries.members
+abbrev pub listed : json.Members → List (List ℕ × Data)
+listed json.no_members = []
+listed (json.member k j ms) = (k, data_of j) ∷ listed ms
 
-abbrev pub IsNext : json.Members → Option (List ℕ × Data) → json.Members → Type 0
-IsNext old None new = old ≡ json.no_members
-IsNext old (Some m) new = (j : json.Json) × (old ≡ json.member m.0 j new) × (m.1 ≡ data_of j)
+abbrev pub left : Entries → List (List ℕ × Data)
+left (entries.Tokens tokens) = listed (members_from tokens.members)
+left (entries.Values values) = map (λ m. (string_bytes m.0, view m.1)) values
+
+abbrev pub IsNext : List (List ℕ × Data) → Option (List ℕ × Data) → List (List ℕ × Data) → Type 0
+IsNext old None new = old ≡ []
+IsNext old (Some m) new = old ≡ m ∷ new
 
 abbrev pub trees_view : List Tree → Items
 trees_view [] = no_items

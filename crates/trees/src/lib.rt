@@ -1,15 +1,16 @@
 //! JSON whose texts are borrowed, which stands for the values that `serde_json` reads.
 //!
 //! An index has many lines with many texts, and so has a long derivation. The definition of a line goes by the value
-//! that `serde_json` reads; to make that value would copy each text and sort each object's keys. So `read_tape` gives
+//! that `serde_json` reads; to make that value would copy each text and sort each object's keys. So `read_text` gives
 //! the tokens of a line in a row, by the crate `json`, whose texts are borrowed from the line; a `Tree` is a value
-//! among them, which is looked into where it lies, and members stand as in the text.
+//! among them, which is looked into where it lies, and members stand as in the text. A tape's places have 32 bits: a
+//! text of 4 GiB is read by `serde_json`, and a `Tree` is then a part of its value.
 //!
 //! What is hard is that both mean the same: how deep a text may nest, which numbers fit, and that of a key which comes
 //! twice the last one counts. That is proved here once (`tree_view`), and readers go on to speak of `serde_json`'s
 //! value alone.
 //!
-//! A layer above may rely on this: a tape stands for exactly that value, or there is none (`NotJson`) just where
+//! A layer above may rely on this: what is read stands for exactly that value, or there is none (`NotJson`) just where
 //! `serde_json` reads none; `member`, `item` and the like give what that value has there.
 #![tactic(auto)]
 
@@ -34,5 +35,5 @@ pub use parts::{
     objects_are_read_by_members, plain_texts_are_read_as_they_stand, rising_members_stay,
     words_are_read_as_they_stand,
 };
-pub use reading::{read_tape, read_tape_within, root};
-pub use tree::{Elements, Entries, Tree};
+pub use reading::{MAX_LEN, Scratch, TextRead, read_short, read_text, root};
+pub use tree::{Elements, Entries, ItemTokens, MemberTokens, Tree, TreeTokens};

@@ -3,17 +3,24 @@
 ghost use Rattle.std.specs.Prelude.{◌≡◌, option_map};
 ghost use Rattle.serde_json.specs.Data.{no_members};
 ghost use Rattle.serde_json.specs.Find.{as_array, as_object};
-ghost use Rattle.trees.specs.Trees.{IsNext, IsNextItem, items_of, left, left_items, members_of, tree_view};
+ghost use Rattle.trees.specs.Parts.{members_put};
+ghost use Rattle.trees.specs.Trees.{IsNext, IsNextItem, left, left_items, tree_view};
 
-use crate::tree::{Elements, Entries, Tree};
+use crate::tree::{Elements, Entries, ItemTokens, MemberTokens, Tree, TreeTokens};
 
 /// The items of a tree that is an array.
 pub fn elements<'t, 'a>(tree: &Tree<'t, 'a>) -> Option<Elements<'t, 'a>>
-    ensures { option_map (λ e. items_of (left_items e)) result ≡ as_array (tree_view tree.now) }
+    ensures { option_map left_items result ≡ as_array (tree_view tree.now) }
 {
-    match tree.element.items() {
-        Some(items) => Some(Elements { items }),
-        None => None,
+    match tree {
+        Tree::Tokens(tokens) => match tokens.element.items() {
+            Some(items) => Some(Elements::Tokens(ItemTokens { items })),
+            None => None,
+        },
+        Tree::Value(value) => match value.as_array() {
+            Some(items) => Some(Elements::Values(items.iter())),
+            None => None,
+        },
     }
 }
 
@@ -21,19 +28,31 @@ pub fn elements<'t, 'a>(tree: &Tree<'t, 'a>) -> Option<Elements<'t, 'a>>
 pub fn next_element<'t, 'a>(elements: &mut Elements<'t, 'a>) -> Option<Tree<'t, 'a>>
     ensures { IsNextItem (left_items elements.old) (option_map tree_view result) (left_items elements.new) }
 {
-    match elements.items.next() {
-        Some(element) => Some(Tree { element }),
-        None => None,
+    match elements {
+        Elements::Tokens(tokens) => match tokens.items.next() {
+            Some(element) => Some(Tree::Tokens(TreeTokens { element })),
+            None => None,
+        },
+        Elements::Values(items) => match items.next() {
+            Some(value) => Some(Tree::Value(value)),
+            None => None,
+        },
     }
 }
 
 /// The members of a tree that is an object.
 pub fn entries<'t, 'a>(tree: &Tree<'t, 'a>) -> Option<Entries<'t, 'a>>
-    ensures { option_map (λ e. members_of (left e) no_members) result ≡ as_object (tree_view tree.now) }
+    ensures { option_map (λ e. members_put (left e) no_members) result ≡ as_object (tree_view tree.now) }
 {
-    match tree.element.members() {
-        Some(members) => Some(Entries { members }),
-        None => None,
+    match tree {
+        Tree::Tokens(tokens) => match tokens.element.members() {
+            Some(members) => Some(Entries::Tokens(MemberTokens { members })),
+            None => None,
+        },
+        Tree::Value(value) => match value.as_object() {
+            Some(members) => Some(Entries::Values(members.iter())),
+            None => None,
+        },
     }
 }
 
@@ -41,8 +60,14 @@ pub fn entries<'t, 'a>(tree: &Tree<'t, 'a>) -> Option<Entries<'t, 'a>>
 pub fn next_entry<'t, 'a>(entries: &mut Entries<'t, 'a>) -> Option<(&'a str, Tree<'t, 'a>)>
     ensures { IsNext (left entries.old) (option_map (λ m. (m.0.now, tree_view m.1)) result) (left entries.new) }
 {
-    match entries.members.next() {
-        Some((key, element)) => Some((key, Tree { element })),
-        None => None,
+    match entries {
+        Entries::Tokens(tokens) => match tokens.members.next() {
+            Some((key, element)) => Some((key, Tree::Tokens(TreeTokens { element }))),
+            None => None,
+        },
+        Entries::Values(members) => match members.next() {
+            Some((key, value)) => Some((key.as_str(), Tree::Value(value))),
+            None => None,
+        },
     }
 }

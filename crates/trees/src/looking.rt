@@ -4,24 +4,30 @@ ghost use Rattle.std.specs.Prelude.{◌≡◌, [], IfOk, option_map, option_and_
 ghost use Rattle.std.specs.Cmp.Lexicographic.{slice_cmp};
 ghost use Rattle.std.specs.Ordering.{is_lt, nat_cmp};
 ghost use Rattle.serde_json.specs.Find.{get, at, as_str, as_bool, as_array, as_object, as_number, as_u64};
-ghost use Rattle.trees.specs.Trees.{is_null, tree_view, trees_view, entries_view, rise_after, sorted_view};
+ghost use Rattle.trees.specs.Trees.{is_null, num_of, tree_view, trees_view, entries_view, rise_after, sorted_view};
 
 use crate::listing::{elements, entries, next_element, next_entry};
 use crate::number::number_of;
-use crate::tree::Tree;
+use crate::tree::{Tree, TreeTokens};
 use std::alloc::{AllocError, Global};
 use std::collections::BTreeMap;
 
-/// The members of an object, as they stand in its text.
+/// The members of an object, in the order in which `entries` gives them.
 pub type Members<'t, 'a> = Vec<(&'a str, Tree<'t, 'a>)>;
 
 /// The value at a key, if the tree is an object that has one.
 pub fn member<'t, 'a>(tree: &Tree<'t, 'a>, key: &str) -> Option<Tree<'t, 'a>>
     ensures { option_map tree_view result ≡ get key.now (tree_view tree.now) }
 {
-    match tree.element.get(key) {
-        Some(element) => Some(Tree { element }),
-        None => None,
+    match tree {
+        Tree::Tokens(tokens) => match tokens.element.get(key) {
+            Some(element) => Some(Tree::Tokens(TreeTokens { element })),
+            None => None,
+        },
+        Tree::Value(value) => match value.get(key) {
+            Some(value) => Some(Tree::Value(value)),
+            None => None,
+        },
     }
 }
 
@@ -29,9 +35,15 @@ pub fn member<'t, 'a>(tree: &Tree<'t, 'a>, key: &str) -> Option<Tree<'t, 'a>>
 pub fn item<'t, 'a>(tree: &Tree<'t, 'a>, index: usize) -> Option<Tree<'t, 'a>>
     ensures { option_map tree_view result ≡ at index (tree_view tree.now) }
 {
-    match tree.element.at(index) {
-        Some(element) => Some(Tree { element }),
-        None => None,
+    match tree {
+        Tree::Tokens(tokens) => match tokens.element.at(index) {
+            Some(element) => Some(Tree::Tokens(TreeTokens { element })),
+            None => None,
+        },
+        Tree::Value(value) => match value.get(index) {
+            Some(value) => Some(Tree::Value(value)),
+            None => None,
+        },
     }
 }
 
@@ -39,32 +51,50 @@ pub fn item<'t, 'a>(tree: &Tree<'t, 'a>, index: usize) -> Option<Tree<'t, 'a>>
 pub fn is_null(tree: &Tree<'_, '_>) -> bool
     ensures { result ≡ is_null (tree_view tree.now) }
 {
-    tree.element.is_null()
+    match tree {
+        Tree::Tokens(tokens) => tokens.element.is_null(),
+        Tree::Value(value) => value.is_null(),
+    }
 }
 
 /// The text that a tree is, if it is one.
 pub fn as_text<'a>(tree: &Tree<'_, 'a>) -> Option<&'a str>
     ensures { option_map (λ s. s.now) result ≡ as_str (tree_view tree.now) }
 {
-    tree.element.as_str()
+    match tree {
+        Tree::Tokens(tokens) => tokens.element.as_str(),
+        Tree::Value(value) => value.as_str(),
+    }
 }
 
 /// The flag that a tree is, if it is one.
 pub fn as_flag(tree: &Tree<'_, '_>) -> Option<bool>
     ensures { result ≡ as_bool (tree_view tree.now) }
 {
-    tree.element.as_bool()
+    match tree {
+        Tree::Tokens(tokens) => tokens.element.as_bool(),
+        Tree::Value(value) => value.as_bool(),
+    }
 }
 
 /// The whole number that a tree is, if it is one.
 pub fn as_whole(tree: &Tree<'_, '_>) -> Option<u64>
     ensures { result ≡ option_and_then as_u64 (as_number (tree_view tree.now)) }
 {
-    match tree.element.as_number() {
-        Some(text) => match number_of(text) {
-            Some(number) => number.as_u64(),
+    match tree {
+        Tree::Tokens(tokens) => match tokens.element.as_number() {
+            Some(text) => whole_of(text),
             None => None,
         },
+        Tree::Value(value) => value.as_u64(),
+    }
+}
+
+fn whole_of(text: &str) -> Option<u64>
+    ensures { result ≡ as_u64 (num_of text.now) }
+{
+    match number_of(text) {
+        Some(number) => number.as_u64(),
         None => None,
     }
 }

@@ -1,10 +1,13 @@
-use Rattle.std.proofs.Common.{◌∙◌}
+use Rattle.std.proofs.Common.{sym, ap, ◌∙◌}
+use Rattle.serde_json.specs.Find.{as_bool}
 use Rattle.trees.specs.Tokens.{json_from}
+use Rattle.trees.specs.Trees.{tree_view}
 use Rattle.trees.proofs.TokenLemmas.{begun}
 use Rattle.trees.proofs.TreeLemmas.{as_bool-data_of}
 use Rattle.trees.proofs.looking.as_flag.Goals as goal
 
-pub returns : goal.returns
-returns c =
-    let ts = c.args.tree.now.element in
-    c.as_bool.ensures (json_from ts) (begun ts c.args.tree.now.begins) ∙ as_bool-data_of (json_from ts)
+pub returns-in-Tokens : goal.returns-in-Tokens
+returns-in-Tokens c =
+    let ts = c.in-Tokens.tokens.element in
+    c.as_bool.ensures (json_from ts) (begun ts c.in-Tokens.tokens.begins) ∙ as_bool-data_of (json_from ts)
+    ∙ ap (λ t. as_bool (tree_view t)) (sym c.in-Tokens.is)

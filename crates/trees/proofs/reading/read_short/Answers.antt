@@ -4,7 +4,7 @@ use Rattle.json.specs.Tape.{node_token}
 use Rattle.trees.specs.Parts.{read_within}
 use Rattle.trees.specs.Trees.{tokens_view}
 use Rattle.trees.proofs.ReadLemmas.{data-read, data-refused, read-invalid, read-none, read-whole}
-use Rattle.trees.proofs.reading.read_tape_within.Goals as goal
+use Rattle.trees.proofs.reading.read_short.Goals as goal
 
 pub returns-in_default : goal.returns-in_default
 returns-in_default c = data-refused c.args.depth c.args.bytes.now (λ text. absurd (c.in_default.ensures text))
