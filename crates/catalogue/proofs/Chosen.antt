@@ -2,6 +2,7 @@
 use Rattle.std.proofs.Common.{◌≡◌, ℕ, ◌<◌, Bool, true, false, cond, List, [], ◌∷◌, ◌++◌, filter, length, get_or, Option}
 use Rattle.std.proofs.Common.{Some, None, option_map, slice_get, refl, sym, ap, ap₂, ◌∙◌, subst, subst₂, arith}
 use Rattle.std.proofs.Common.{Ordering}
+use Rattle.std.proofs.Common.{All}
 use Rattle.std.specs.List.{AllPairs}
 use Rattle.std.specs.List.Sorted.{IsPermutation, IsSortedBy}
 use Rattle.std.specs.Ordering.{is_lt, is_gt, ordering_reverse}
@@ -25,17 +26,21 @@ use Rattle.model.proofs.Candidates.{oldest_first-permutes, oldest_first-rises, s
 use Rattle.model.proofs.Lists.{in_filter, to_filter, all_none, all_cons, all_first, all_rest}
 use Rattle.model.proofs.Permuted.{rising-same}
 use Rattle.model.proofs.Members.{all_in}
+use Rattle.features.specs.Valid.{BringsValid}
 use Rattle.index_reader.specs.Views.{record_view}
 use Rattle.index_reader.specs.declared.record.Record as reader
 use Rattle.catalogue.specs.Loads.{records_view, with_ranks}
 use Rattle.catalogue.specs.Runs.{as_record}
 use Rattle.catalogue.specs.Ranks.{Ranked, records, rank_of, rank_by, fits_given}
-use Rattle.catalogue.specs.Views.{ranked_of, ranked_view, AreRising, AreRead, KnowFeatures, AreKnown}
+use Rattle.catalogue.specs.Views.{ranked_of, ranked_view, AreRising, AreRead}
 use Rattle.catalogue.specs.declared.candidate.Candidate.{Candidate}
 
--- what holds of a record that knows its features
+-- what holds of a record that knows its features, and of one that brings valid parts
 abbrev pub Knows : Record → Type 0
 Knows r = KnowsFeatures (r.brings).features
+
+abbrev pub Brings : Record → Type 0
+Brings r = BringsValid r.brings
 
 -- ---- one more
 
@@ -85,12 +90,14 @@ module _ (locked : Parts → Bool) (rust : Option RustVersion) where
   chosen-rise all h = subst (AllPairs IsOlder) (sym (records-ranked (filter (may_be_locked locked) (records_view all))))
       (AllPairs-filter IsOlder (may_be_locked locked) (records_view all) h)
 
-  pub chosen-known : (all : List reader.Record) → KnowFeatures (records_view all) → AreKnown (chosen all)
-  chosen-known all h =
+  -- what holds of each record holds of those that are chosen
+  pub chosen-all : (P : Record → Type 0) (all : List reader.Record) → All P (records_view all)
+      → All P (records (chosen all))
+  chosen-all P all h =
       let kept : List Record = filter (may_be_locked locked) (records_view all) in
-      subst KnowFeatures (sym (records-ranked kept))
-      (all_in Knows kept
-      (λ r c. All-contains Knows (records_view all) r h (in_filter (may_be_locked locked) (records_view all) r c).0))
+      subst (All P) (sym (records-ranked kept))
+      (all_in P kept
+      (λ r c. All-contains P (records_view all) r h (in_filter (may_be_locked locked) (records_view all) r c).0))
 
 -- one more version that is read
 pub read-snoc : (vs : List Version) (v : Version) → AreRead vs → IsValid (parts_of v) → AreRead (vs ++ v ∷ [])
@@ -100,10 +107,10 @@ read-snoc (w ∷ ws) v h k = all_cons
     (λ (w : Version). IsValid (parts_of w)) w (ws ++ v ∷ []) (all_first (λ (w : Version). IsValid (parts_of w)) w ws h)
     (read-snoc ws v (all_rest (λ (w : Version). IsValid (parts_of w)) w ws h) k)
 
--- records that are moved still know their features
-pub moved-known : (rs ys : List Record) → IsPermutation rs ys → KnowFeatures rs → KnowFeatures ys
-moved-known rs ys moved h =
-    all_in Knows ys (λ r c. All-contains Knows rs r h (Contains-permutation ys rs r (IsPermutation-sym rs ys moved) c))
+-- and of records that are moved
+pub moved-all : (P : Record → Type 0) (rs ys : List Record) → IsPermutation rs ys → All P rs → All P ys
+moved-all P rs ys moved h =
+    all_in P ys (λ r c. All-contains P rs r h (Contains-permutation ys rs r (IsPermutation-sym rs ys moved) c))
 
 -- ---- sorted records
 

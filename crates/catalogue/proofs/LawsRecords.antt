@@ -1,5 +1,5 @@
 -- What holds of the records of a name: each version is there once, and each record knows its features.
-use Rattle.std.proofs.Common.{◌≡◌, List, [], ◌∷◌, Contains, Some, None, sym, ap, ◌∙◌, inl, inr}
+use Rattle.std.proofs.Common.{◌≡◌, List, [], ◌∷◌, Contains, Some, None, sym, ap, ◌∙◌, inl, inr, arith}
 use Rattle.std.specs.List.{All, AllPairs}
 use Rattle.std.proofs.lemmas.List.Elements.{All-map}
 use Rattle.model.specs.Summary.{KnowsFeatures}
@@ -7,8 +7,11 @@ use Rattle.model.specs.Candidates.{Record, IsApart}
 use Rattle.model.proofs.Contents.{precedence-equal}
 use Rattle.model.proofs.Lists.{in_none, in_cons, all_none, pairs_none, pairs_first, pairs_rest}
 use Rattle.model.proofs.Mapped.{pairs_map}
+use Rattle.features.specs.Valid.{BringsValid}
 use Rattle.index_reader.specs.Files.{records_of_file}
 use Rattle.index_reader.proofs.FileLaws.{file-kept}
+use Rattle.index_reader.proofs.ValidLemmas.{file-valid}
+use Rattle.catalogue.specs.Loads.{IsWithin}
 use Rattle.catalogue.specs.Runs.{Asked, as_record, records_of}
 
 -- what holds of the records of a name
@@ -24,6 +27,14 @@ records-sound (name, Some bytes) = record {
   known = All-map (λ r. KnowsFeatures (r.brings).features) as_record
       (records_of_file name bytes).records (file-kept name bytes).known;
 }
+
+-- each record of a file within the limits brings valid parts
+pub records-valid : (a : Asked) → IsWithin a.1 → All (λ r. BringsValid r.brings) (records_of a)
+records-valid (name, None) within = all_none (λ r. BringsValid r.brings)
+records-valid (name, Some bytes) within =
+    let short = within.0 in
+    All-map (λ r. BringsValid r.brings) as_record (records_of_file name bytes).records
+    (file-valid name bytes (omega (arith, short)))
 
 once-apart : (rs : List Record) (r e : Record) → AllPairs IsApart rs → Contains rs r → Contains rs e
     → r.version ≡ e.version → r ≡ e

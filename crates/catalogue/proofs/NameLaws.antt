@@ -7,13 +7,16 @@ use Rattle.std.specs.List.{AllByRecursion, IsDistinct, list_any, position}
 use Rattle.std.specs.Map.{lookup}
 use Rattle.std.specs.Slice.{IsItemAt}
 use Rattle.std.proofs.lemmas.List.{drop_more}
+use Rattle.std.proofs.lemmas.List.Elements.{All-append}
 use Rattle.std.proofs.lemmas.List.Sums.{fold-append}
 use Rattle.std.proofs.lemmas.List.Concat.{flat_map-cons}
 use Rattle.std.specs.Option.{option_or}
 use Rattle.std.proofs.lemmas.Bool.{or_parts}
 use Rattle.std.proofs.lemmas.List.Folds.{list_any-append, list_any_at}
 use Rattle.model.specs.Summary.{same_text}
+use Rattle.model.proofs.Lists.{all_none, all_cons}
 use Rattle.model.proofs.Same.{text-same, text-refl}
+use Rattle.features.specs.Valid.{IsPackageName}
 use Rattle.features.specs.Views.{dependency_views}
 use Rattle.features.specs.declared.dependency.DependencyParts.{DependencyParts}
 use Rattle.catalogue.specs.Runs.{meant_by}
@@ -91,19 +94,21 @@ distinct-snoc (n ∷ ns) name d h =
 
 module _ {S : Type 0} where
   pub no_places : (m : HashMap (List ℕ) ℕ S) → IsEmpty m → ArePlaces [] m
-  no_places m e = record { once = distinct-none; found = λ name. ap (lookup (same_text name)) e }
+  no_places m e = record { valid = all_none IsPackageName; once = distinct-none; found = λ name. ap (lookup (same_text name)) e }
 
   pub same_places : (names : List (List ℕ)) (m n : HashMap (List ℕ) ℕ S) → IsUnchanged m n
       → ArePlaces names m → ArePlaces names n
   same_places names m n e are =
-      record { once = are.once; found = λ name. ap (lookup (same_text name)) e ∙ are.found name }
+      record { valid = are.valid; once = are.once; found = λ name. ap (lookup (same_text name)) e ∙ are.found name }
 
   -- one more name goes last
   pub more_places : (names : List (List ℕ)) (name : List ℕ) (m n : HashMap (List ℕ) ℕ S) → ArePlaces names m
-      → list_any (same_text name) names ≡ false
+      → IsPackageName name → list_any (same_text name) names ≡ false
       → Updates same_text m n name (Some (length names)) → ArePlaces (names ++ name ∷ []) n
-  more_places names name m n are absent u =
+  more_places names name m n are valid absent u =
       record {
+        valid = All-append IsPackageName names (name ∷ []) are.valid
+            (all_cons IsPackageName name [] valid (all_none IsPackageName));
         once = distinct-snoc names name are.once absent;
         found =
             λ q. u.0 q ∙ by q (same_text name q) refl ∙ sym (position-snoc (same_text q) names name);

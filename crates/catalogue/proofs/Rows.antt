@@ -11,11 +11,18 @@ use Rattle.std.proofs.lemmas.List.{length-map}
 use Rattle.std.proofs.lemmas.List.Kept.{AllPairs-cons}
 use Rattle.index_reader.specs.Files.{SkipView}
 use Rattle.model.specs.Summary.{same_text}
-use Rattle.model.proofs.Lists.{all_none, all_cons, pairs_none}
+use Rattle.semver.specs.Grammar.{IsValid}
+use Rattle.semver.specs.Identifiers.{parts_of}
+use Rattle.semver.specs.declared.Version.{Version}
+use Rattle.model.specs.Candidates.{Record}
+use Rattle.model.proofs.Lists.{all_none, all_cons, all_first, all_rest, pairs_none}
+use Rattle.features.specs.Valid.{IsPackageName}
 use Rattle.model.proofs.Same.{text-refl}
-use Rattle.catalogue.specs.Views.{AreRising, AreKnown, most_candidates, ranked_of}
-use Rattle.catalogue.specs.Ranks.{Ranked}
+use Rattle.catalogue.specs.Views.{AreRead, AreRising, AreKnown, BringValid, most_candidates, ranked_of, ranked_view}
+use Rattle.catalogue.specs.Views.{record_of}
+use Rattle.catalogue.specs.Ranks.{Ranked, records}
 use Rattle.catalogue.specs.Stores.{CatalogueView, Row, row_at, ranked_at, rows_view, candidates_view, IsStore}
+use Rattle.catalogue.specs.declared.candidate.Candidate.{Candidate}
 use Rattle.catalogue.specs.declared.candidates.Candidates.{Candidates}
 
 -- what lies behind the reference that a look-up gives
@@ -112,14 +119,35 @@ few_candidates c =
     let few = c.few in
     omega (arith, wide, short, few)
 
+valid_names : (names : List (List ℕ)) (cs : List Candidates) → All IsPackageName names
+    → All (λ (row : Row). IsPackageName row.0) (rows_view names cs)
+valid_names [] cs h = all_none (λ (row : Row). IsPackageName row.0)
+valid_names (n ∷ ns) [] h = all_none (λ (row : Row). IsPackageName row.0)
+valid_names (n ∷ ns) (c ∷ cs) h =
+    all_cons (λ (row : Row). IsPackageName row.0) (n, candidates_view c) (rows_view ns cs)
+    (all_first IsPackageName n ns h) (valid_names ns cs (all_rest IsPackageName n ns h))
+
+valid_versions : (vs : List Version) (cs : List Candidate) → AreRead vs
+    → All (λ (r : Record). IsValid r.version) (records (ranked_view vs cs))
+valid_versions [] cs h = all_none (λ (r : Record). IsValid r.version)
+valid_versions (v ∷ vs) [] h = all_none (λ (r : Record). IsValid r.version)
+valid_versions (v ∷ vs) (c ∷ cs) h =
+    all_cons (λ (r : Record). IsValid r.version) (record_of v c) (records (ranked_view vs cs))
+    (all_first (λ (w : Version). IsValid (parts_of w)) v vs h)
+    (valid_versions vs cs (all_rest (λ (w : Version). IsValid (parts_of w)) v vs h))
+
 pub is_store : (names : List (List ℕ)) (cs : List Candidates) (skips : List SkipView) (source : List ℕ)
-    → IsDistinct same_text names
+    → IsDistinct same_text names → All IsPackageName names
     → IsStore (record { rows = rows_view names cs; skips = skips; source = source })
-is_store names cs skips source d = record {
+is_store names cs skips source d valid = record {
   names_distinct = distinct_names names cs d;
   versions_rise = all_rows AreRising names cs (λ c. c.rising);
   versions_few = all_rows (λ rs. length rs ≤ most_candidates) names cs few_candidates;
   features_known = all_rows AreKnown names cs (λ c. c.known);
+  names_valid = valid_names names cs valid;
+  versions_valid = all_rows (λ rs. All (λ r. IsValid r.version) (records rs)) names cs
+      (λ c. valid_versions c.versions.items c.candidates.items c.read);
+  brings_valid = all_rows (λ rs. BringValid (records rs)) names cs (λ c. c.valid);
 }
 
 -- the candidates of the row that a name leads to

@@ -2,14 +2,16 @@
 -- book, "Registry Index").
 use Rattle.std.specs.Prelude.{◌≢◌, ◌≤◌, ℕ, length, if◌then◌else◌, List, [], ◌∷◌, map, Option, Some, None, unwrap_or}
 use Rattle.std.specs.List.{All, AllPairs, zip}
+use Rattle.semver.specs.Grammar.{IsValid}
 use Rattle.semver.specs.Parse.{Parts}
 use Rattle.model.specs.Summary.{same_text}
 use Rattle.model.specs.Content as model
 use Rattle.model.specs.Content.{same_version}
 use Rattle.model.specs.Candidates.{Record, as_candidate}
+use Rattle.features.specs.Valid.{IsPackageName}
 use Rattle.index_reader.specs.Files.{SkipView}
 use Rattle.catalogue.specs.Ranks.{Ranked, records}
-use Rattle.catalogue.specs.Views.{ranked_view, AreRising, AreKnown, most_candidates}
+use Rattle.catalogue.specs.Views.{ranked_view, AreRising, AreKnown, BringValid, most_candidates}
 use Rattle.catalogue.specs.declared.candidates.Candidates.{Candidates}
 
 -- a name and its candidates
@@ -53,9 +55,12 @@ abbrev pub rows_view : List (List ℕ) → List Candidates → List Row
 rows_view names cs = map row_of (zip names cs)
 
 -- each name once, the versions of each rising by precedence, and not too many, each with a feature table that knows its
--- features
+-- features; and each name, version and summary is a valid one
 pub record IsStore (c : CatalogueView) : Type 0 where
   pub names_distinct : AllPairs (λ a b. a.0 ≢ b.0) c.rows
   pub versions_rise : All (λ row. AreRising row.1) c.rows
   pub versions_few : All (λ row. length row.1 ≤ most_candidates) c.rows
   pub features_known : All (λ row. AreKnown row.1) c.rows
+  pub names_valid : All (λ row. IsPackageName row.0) c.rows
+  pub versions_valid : All (λ row. All (λ r. IsValid r.version) (records row.1)) c.rows
+  pub brings_valid : All (λ row. BringValid (records row.1)) c.rows

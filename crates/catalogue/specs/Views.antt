@@ -7,6 +7,9 @@ use Rattle.semver.specs.declared.Version.{Version}
 use Rattle.model.specs.Candidates.{Record, RustVersion, IsOlder}
 use Rattle.model.specs.Summary as model
 use Rattle.model.specs.Summary.{KnowsFeatures}
+use Rattle.model.specs.Summary.{Entry, feature, dependency, dependency_feature, weak_feature}
+use Rattle.std.proofs.Props.{props}
+use Rattle.features.specs.Valid.{BringsValid, IsValidEntry}
 use Rattle.features.specs.Views.{summary_view}
 use Rattle.classes.specs.RustVersions.{rust_version_view}
 use Rattle.catalogue.specs.Ranks.{Ranked, records}
@@ -63,6 +66,19 @@ KnowFeatures rs = All (λ r. KnowsFeatures (r.brings).features) rs
 -- the same of candidates with their ranks
 abbrev pub AreKnown : List Ranked → Type 0
 AreKnown cs = KnowFeatures (records cs)
+
+-- each brings names that are names, and no more dependencies than there are numbers of 32 bits
+abbrev pub BringValid : List Record → Type 0
+BringValid rs = All (λ r. BringsValid r.brings) rs
+
+valid-entry-prop : (e : Entry) → IsProp (IsValidEntry e)
+valid-entry-prop (feature g) = Prim.hlevel props
+valid-entry-prop (dependency d) = Prim.hlevel props
+valid-entry-prop (dependency_feature d g) = Prim.hlevel props
+valid-entry-prop (weak_feature d g) = Prim.hlevel props
+
+pub bring-valid-prop : (rs : List Record) → IsProp (BringValid rs)
+bring-valid-prop rs = Prim.hlevel (props, valid-entry-prop)
 
 -- each version is what its text reads as
 abbrev pub AreRead : List Version → Type 0

@@ -7,7 +7,7 @@ ghost use Rattle.model.specs.Candidates.{IsApart, IsOlder, is_locked, may_be_loc
 ghost use Rattle.catalogue.specs.Loads.{packages_of_old, records_view, with_ranks, ranked_among};
 ghost use Rattle.catalogue.specs.Ranks.{rank_by, fits_given};
 ghost use Rattle.catalogue.specs.Stores.{candidates_view};
-ghost use Rattle.catalogue.specs.Views.{KnowFeatures, most_candidates};
+ghost use Rattle.catalogue.specs.Views.{BringValid, KnowFeatures, most_candidates};
 
 use crate::candidate::{Candidate, Rank};
 use crate::candidates::Candidates;
@@ -38,6 +38,7 @@ pub(crate) fn candidates_of(
 ) -> Result<Candidates, AllocError>
     requires apart { AllPairs IsApart (records_view records.items) }
     requires known { KnowFeatures (records_view records.items) }
+    requires valid { BringValid (records_view records.items) }
     requires few { length records.items ≤ most_candidates }
     ensures { IfOk result
         (λ c. candidates_view c ≡ ranked_among (is_locked (packages_of_old run.now.old) run.now.source.now name.now)
@@ -56,6 +57,7 @@ fn kept(
 ) -> Result<Candidates, AllocError>
     requires rising { AllPairs IsOlder (records_view records.items) }
     requires known { KnowFeatures (records_view records.items) }
+    requires valid { BringValid (records_view records.items) }
     requires few { length records.items ≤ most_candidates }
     ensures { IfOk result (λ c. candidates_view c ≡ with_ranks (is_locked (packages_of_old run.now.old)
         run.now.source.now name.now) (option_map rust_version_view run.now.rust_version) (filter (may_be_locked

@@ -8,8 +8,8 @@ use index_reader::{
     Folder, FolderFault, KnownDependencies, MAX_LINES, Record, Skip, index_path, lines,
     read_file_in,
 };
-use json::Scratch;
 use std::alloc::Global;
+use trees::Scratch;
 
 /// How many bytes a file has at most.
 const MAX_BYTES: usize = 16_777_216;

@@ -9,10 +9,15 @@
 //! Candidates stand oldest first, so a version or a class is found by search; how each is preferred is kept beside it
 //! as a rank, since the locked come first, and then, if that is asked for, those that the manifest's Rust version fits.
 //!
+//! At most 65,536 names are asked for. The fault comes when one more would be, before the folder is called, so that a
+//! run which needs just as many passes. Names lie in a list with a map of `std` and not in one of `indexmap`, since
+//! each crate above would read all that is stated of `indexmap`.
+//!
 //! A layer above may rely on this: each reader of a `Catalogue` is exact; names stand once, versions rise, at most
 //! 65,535 a name, and feature tables know their features, so that the laws of `model` hold with no premise
-//! (`catalogues_are_well_formed`). Over a fixed index a valid selection is one with itself as the old lock, and that
-//! run asks for no other names (`laws.rt`).
+//! (`catalogues_are_well_formed`); names and versions are valid ones, and dependencies have numbers of 32 bits, for no
+//! file that is read has room for more of them. Over a fixed index a valid selection is one with itself as the old lock,
+//! and that run asks for no other names (`laws.rt`).
 #![tactic(auto)]
 
 mod candidate;

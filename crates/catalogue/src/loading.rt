@@ -27,10 +27,10 @@ use crate::store::{Catalogue, Prefer};
 use classes::RustVersion;
 use features::{Dependency, PackageName};
 use index_reader::{Folder, KnownDependencies, Skip};
-use json::Scratch;
 use lockfile::{LockContent, Package};
 use manifest::Manifest;
 use std::alloc::{AllocError, Global};
+use trees::Scratch;
 
 /// How many names a run asks for at most.
 const MAX_NAMES: usize = 65_536;

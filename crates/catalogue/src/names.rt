@@ -1,7 +1,8 @@
 //! The names that a run asks for.
 
 ghost use Rattle.std.specs.Prelude.{◌≡◌, ◌++◌, ◌∷◌, [], false, length, OnOk};
-ghost use Rattle.std.specs.List.{IsDistinct, list_any, position};
+ghost use Rattle.std.specs.List.{All, IsDistinct, list_any, position};
+ghost use Rattle.features.specs.Valid.{IsPackageName};
 ghost use Rattle.model.specs.Summary.{same_text};
 
 use features::PackageName;
@@ -42,6 +43,7 @@ impl Names {
     pub(crate) fn len(&self) -> usize
         ensures len { result ≡ length self.now.keys }
         ensures unique { IsDistinct same_text self.now.keys }
+        ensures valid { All IsPackageName self.now.keys }
     {
         self.list.len()
     }
@@ -70,6 +72,7 @@ impl Names {
         requires { list_any (same_text name) self.old.keys ≡ false }
         ensures keys { OnOk result (self.new.keys ≡ self.old.keys ++ name ∷ []) }
     {
+        name.as_str();
         let key = name.clone()?;
         self.list.reserve(1)?;
         self.places.insert(key, self.list.len())?;

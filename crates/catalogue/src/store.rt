@@ -47,7 +47,8 @@ pub struct Catalogue {
 impl Model for Catalogue {
     ghost use Rattle.std.specs.Prelude.{◌≡◌, map, length, string_bytes};
     ghost use Rattle.index_reader.specs.Views.{skip_view};
-    ghost use Rattle.std.specs.List.{IsDistinct};
+    ghost use Rattle.std.specs.List.{All, IsDistinct};
+    ghost use Rattle.features.specs.Valid.{IsPackageName};
     ghost use Rattle.model.specs.Summary.{same_text};
     ghost use Rattle.catalogue.specs.Stores.{CatalogueView, rows_view, IsStore};
 
@@ -60,7 +61,8 @@ impl Model for Catalogue {
       source = string_bytes c.source;
     } };
 
-    ghost invariant = { λ c. (length c.names.keys ≡ length c.candidates.items) × IsDistinct same_text c.names.keys };
+    ghost invariant = { λ c. (length c.names.keys ≡ length c.candidates.items) × IsDistinct same_text c.names.keys
+        × All IsPackageName c.names.keys };
 }
 
 impl Catalogue {

@@ -25,10 +25,9 @@ use crate::step::{Origin, Step, Term};
 use crate::tables::Tables;
 use crate::texts::{read_state, read_vertex};
 use crate::values::{array, item, no_item, read_json, text, two, whole};
-use json::Scratch;
 use std::alloc::{AllocError, Global};
 use std::cmp::Ordering;
-use trees::{Tree, member, root};
+use trees::{Scratch, Tree, member, root};
 use vertices::{Kind, State, Vertex, state_order};
 
 /// A term and the text of its vertex.

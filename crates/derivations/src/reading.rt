@@ -13,9 +13,8 @@ use crate::fault::{DerivationFault, LineFault};
 use crate::line::read_step;
 use crate::step::Step;
 use crate::tables::Tables;
-use json::Scratch;
 use std::alloc::{AllocError, Global};
-use trees::is_blank;
+use trees::{Scratch, is_blank};
 
 /// How many steps are read.
 const MOST_STEPS: usize = 16_777_216;

@@ -2,27 +2,26 @@
 
 ghost use Rattle.std.specs.Prelude.{◌≡◌};
 ghost use Rattle.serde_json.specs.Find as json;
-ghost use Rattle.trees.specs.Trees.{tokens_view, tree_view, trees_view};
+ghost use Rattle.trees.specs.Trees.{text_view, tree_view, trees_view};
 ghost use Rattle.model.specs.Outcome.{Gives};
 ghost use Rattle.derivations.specs.Steps.{data_of_bytes, text_of, whole_of, item_at, none_at, two_of};
 ghost use Rattle.derivations.specs.Lines.{line_wants_memory, needed};
 ghost use Rattle.derivations.specs.StepViews.{two_view};
 
 use crate::fault::LineFault;
-use json::{Scratch, Tape};
 use std::alloc::Global;
-use trees::{Tree, TreeFault, as_list, as_text, as_whole, read_tape};
+use trees::{Scratch, TextRead, Tree, TreeFault, as_list, as_text, as_whole, read_text};
 
-/// The JSON value that the bytes are, as its tokens. The room is kept from line to line.
+/// The JSON value that the bytes are. The room is kept from line to line.
 pub(crate) fn read_json<'a>(
     alloc: Global,
     bytes: &'a [u8],
     scratch: &'a mut Scratch,
-) -> Result<Tape<'a>, LineFault>
-    ensures { Gives line_wants_memory tokens_view result (data_of_bytes bytes.entry.now) }
+) -> Result<TextRead<'a>, LineFault>
+    ensures { Gives line_wants_memory text_view result (data_of_bytes bytes.entry.now) }
 {
-    match read_tape(alloc, bytes, scratch) {
-        Ok(tape) => Ok(tape),
+    match read_text(alloc, bytes, scratch) {
+        Ok(text) => Ok(text),
         Err(TreeFault::OutOfMemory) => Err(LineFault::OutOfMemory),
         Err(TreeFault::NotJson) => Err(LineFault::NotALine),
     }

@@ -5,4 +5,5 @@ pub mod TextLemmas
 pub mod BuildLemmas
 pub mod DraftLemmas
 pub mod NameLemmas
+pub mod ValidLemmas
 pub mod TextMaps

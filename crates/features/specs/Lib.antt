@@ -10,4 +10,5 @@ pub mod Texts
 pub mod Drafts
 pub mod DraftViews
 pub mod Views
+pub mod Valid
 pub mod TextMaps

@@ -12,6 +12,8 @@
 //! times their room. Tables of neighbouring versions share the rows that both have, as a dependency's clone shares its
 //! parts.
 //!
+//! A package's name and a feature's are two types with the same traits, for they may have other bytes and lengths.
+//!
 //! A layer above may rely on this: `parse` takes exactly the texts that are names or entries. A table has exactly the
 //! features that are meant, in the order of their bytes, and each entry that names a feature names one of the same
 //! table, so a table knows its features.

@@ -1,4 +1,5 @@
 pub mod ReadLemmas
+pub mod ValidLemmas
 pub mod PartLemmas
 pub mod CutLemmas
 pub mod ByPartsLemmas

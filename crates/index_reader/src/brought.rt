@@ -23,9 +23,8 @@ use crate::split::LineParts;
 use crate::values::read_part;
 use crate::written::{features_alone, table};
 use features::{DepName, Dependency, FeatureTable, Summary};
-use json::Scratch;
 use std::alloc::{AllocError, Global};
-use trees::root;
+use trees::{Scratch, root};
 
 /// The dependencies of a line, and the bytes that they were read off.
 #[derive(Drop)]

@@ -17,8 +17,8 @@ use crate::record::Record;
 use crate::rest::{LineRest, rest_after};
 use crate::split::{LineParts, split};
 use features::PackageName;
-use json::Scratch;
 use std::alloc::Global;
+use trees::{MAX_LEN, Scratch};
 
 /// What the parts of the line before said, if it was read so.
 #[derive(Drop)]
@@ -36,7 +36,7 @@ impl<'a> PartsBefore<'a> {
     }
 }
 
-/// The record that a line is by its parts, whatever its checksum is.
+/// The record that a line is by its parts, whatever its checksum is. One that is too long for a tape isn't read so.
 ///
 /// # Errors
 /// `Skipped` where it can't be read so: then the reason says nothing of the line as a whole.
@@ -50,6 +50,7 @@ pub(crate) fn read_by_parts<'a>(
 ) -> Result<Record, LineFault>
     ensures { IfOk result (λ r. unchecked_of_line name.now line.entry.now ≡ Ok (record_view r)) }
 {
+    check(line.len() <= MAX_LEN, SkipReason::Shape)?;
     let parts = cut(name, line, before)?;
     read_parts(alloc, &parts, scratch, known, before)
 }

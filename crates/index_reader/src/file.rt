@@ -13,10 +13,9 @@ use crate::line::read_unchecked;
 use crate::made::LineBefore;
 use crate::record::{Record, Skip};
 use features::PackageName;
-use json::Scratch;
 use memchr::memchr;
 use std::alloc::{AllocError, Global};
-use trees::is_blank;
+use trees::{Scratch, is_blank};
 
 /// How many lines a file has at most that is read.
 pub const MAX_LINES: usize = 65_535;

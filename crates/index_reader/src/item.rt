@@ -17,9 +17,8 @@ use crate::shape::{DependencyShape, one_dependency};
 use crate::values::read_item;
 use crate::written::dep_name;
 use features::{DepName, Dependency};
-use json::Scratch;
 use std::alloc::{AllocError, Global};
-use trees::root;
+use trees::{Scratch, root};
 
 /// A dependency of a line, and the bytes that it was read off.
 #[derive(Drop)]

@@ -16,9 +16,9 @@ use crate::item::ItemRead;
 use crate::known::KnownDependencies;
 use crate::split::behind;
 use features::{DepName, Dependency};
-use json::Scratch;
 use memchr::memmem;
 use std::alloc::{AllocError, Global};
+use trees::Scratch;
 
 /// How many items of the line before may be the next one of a line: those between are in this line no more.
 const WINDOW: usize = 16;

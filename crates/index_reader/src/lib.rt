@@ -16,6 +16,12 @@
 //! stands on it is proved over every folder; `DiskFolder` is exact over anything that opens files (`Opens`), and of the
 //! system's call alone nothing is promised.
 //!
+//! Whether a shorter way is taken no contract says: who never finds a part of the line before reads each line by the
+//! longer way, to the same record (`bench/run --shares` shows which is taken). `read_line` knows one line and answers
+//! S11, where `read_file` looks for an earlier version first, since the lowest number is answered. Not found is what
+//! the system calls so: a folder in the place of a file is a failure of the folder, so that a disk that fails isn't
+//! taken for an empty index.
+//!
 //! A layer above may rely on this: `read_line` and `read_file` give what the definitions give for the bytes, unless
 //! memory was wanting. No two records of a file have equal precedence, and each feature table knows its features.
 #![tactic(auto)]
@@ -54,7 +60,7 @@ pub use fault::{LineFault, SkipReason};
 pub use file::{MAX_LINES, lines, read_file, read_file_in};
 pub use folder::{Folder, FolderFault, MemoryFolder};
 pub use known::KnownDependencies;
-pub use laws::{records_are_apart, records_know_their_features};
+pub use laws::{records_are_apart, records_bring_valid_parts, records_know_their_features};
 pub use line::read_line;
 pub use opened::{FileFault, Fronted, Opens, read_at};
 pub use path::index_path;

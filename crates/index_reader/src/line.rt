@@ -24,10 +24,9 @@ use crate::shape::{DependencyShape, LineShape, PartShape, read_shape};
 use crate::values::read_json;
 use crate::written::feature_name;
 use features::{Dependency, DependencyParts, FeatureName, PackageName, Requirement, Summary};
-use json::Scratch;
 use semver::{Version, VersionReq};
 use std::alloc::{AllocError, Global};
-use trees::root;
+use trees::{Scratch, root};
 
 /// A dependency that takes part, with its requirement.
 #[derive(Drop)]

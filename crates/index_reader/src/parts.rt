@@ -2,7 +2,8 @@
 
 ghost use Rattle.std.specs.Prelude.{◌≡◌, ℕ, List, Option, Some, option_map};
 ghost use Rattle.serde_json.specs.Data.{Data, no_members};
-ghost use Rattle.trees.specs.Trees.{left, members_of, tree_view};
+ghost use Rattle.trees.specs.Parts.{members_put};
+ghost use Rattle.trees.specs.Trees.{left, tree_view};
 ghost use Rattle.index_reader.specs.PartMembers.{value_put, values_in};
 ghost use Rattle.index_reader.specs.Shapes.{unless_null, values_by, values_of};
 ghost use Rattle.index_reader.specs.ShapeViews.{values_view};
@@ -67,7 +68,7 @@ impl<'t, 'a> Values<'t, 'a> {
     /// Puts the values of the members of an object, where there are none yet.
     fn put_all(&mut self, mut members: Entries<'t, 'a>)
         requires { values_view self.old ≡ values_in no_members }
-        ensures { values_view self.new ≡ values_in (members_of (left members.entry) no_members) }
+        ensures { values_view self.new ≡ values_in (members_put (left members.entry) no_members) }
     {
         'members: while let Some((key, value)) = next_entry(&mut members) {
             put(self, key, unless_null(value));

@@ -13,9 +13,8 @@ use crate::parts::unless_null;
 use crate::shape::rust_version;
 use crate::values::{flag, read_json, whole};
 use classes::RustVersion;
-use json::Scratch;
 use std::alloc::Global;
-use trees::{Tree, member, root};
+use trees::{Scratch, Tree, member, root};
 
 /// What a line says behind its features, and the bytes that this was read off.
 #[derive(Drop)]

@@ -15,9 +15,8 @@ use crate::split::{behind, plain_text};
 use crate::values::{read_item, texts};
 use crate::written::{entries, feature_name};
 use features::Row;
-use json::Scratch;
 use std::alloc::Global;
-use trees::root;
+use trees::{Scratch, root};
 
 /// A feature of a line, and the bytes that it was read off.
 #[derive(Drop)]

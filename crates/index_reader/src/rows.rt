@@ -16,9 +16,9 @@ use crate::row::RowRead;
 use crate::split::behind;
 use crate::written::comes_before;
 use features::Row;
-use json::Scratch;
 use memchr::memchr;
 use std::alloc::{AllocError, Global};
+use trees::Scratch;
 
 /// How many features of the line before may be the next one of a line: those between are in this line no more.
 const WINDOW: usize = 16;

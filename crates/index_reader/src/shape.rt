@@ -10,7 +10,7 @@ ghost use Rattle.index_reader.specs.Shapes.{features_or_none, rust_version_in, s
 ghost use Rattle.classes.specs.RustVersions.{rust_version_view};
 ghost use Rattle.index_reader.specs.ShapeViews.{feature_views, part_view, line_dependency_view, line_dependency_views};
 ghost use Rattle.index_reader.specs.ShapeViews.{shape_view, values_view};
-ghost use Rattle.trees.specs.Trees.{items_of, left_items, tree_view, entries_view, listed_view};
+ghost use Rattle.trees.specs.Trees.{left_items, tree_view, entries_view, listed_view};
 
 use crate::fault::{LineFault, SkipReason};
 use crate::parts::Values;
@@ -245,7 +245,7 @@ fn dependencies_in<'t, 'a>(
     mut items: Elements<'t, 'a>,
 ) -> Result<Vec<DependencyShape<'a>>, LineFault>
     ensures { Gives wants_memory
-        (λ v. line_dependency_views v.items) result (dependencies_in (items_of (left_items items.entry))) }
+        (λ v. line_dependency_views v.items) result (dependencies_in (left_items items.entry)) }
 {
     let mut found = Vec::new(alloc);
     let mut values = Values::none();

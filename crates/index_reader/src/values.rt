@@ -2,7 +2,6 @@
 
 ghost use Rattle.std.specs.Prelude.{◌≤◌, None, option_and_then, option_map};
 ghost use Rattle.std.specs.Option.{ok_or};
-ghost use Rattle.json.specs.Json.{max_depth};
 ghost use Rattle.serde_json.specs.Find.{as_bool, as_str};
 ghost use Rattle.model.specs.Outcome.{Gives};
 ghost use Rattle.index_reader.specs.Shapes.{wants_memory, as_whole, data_of_bytes, needed, text_of};
@@ -10,14 +9,13 @@ ghost use Rattle.index_reader.specs.Shapes.{optional, texts_in, texts_of, texts_
 ghost use Rattle.features.specs.Views.{text_views};
 ghost use Rattle.index_reader.specs.ByParts.{item_depth};
 ghost use Rattle.trees.specs.Parts.{data_within, part_depth};
-ghost use Rattle.trees.specs.Trees.{items_of, left_items, tokens_view, tree_view};
+ghost use Rattle.trees.specs.Trees.{left_items, text_view, tree_view};
 
 use crate::fault::{LineFault, SkipReason};
-use json::{Scratch, Tape};
 use std::alloc::Global;
 use trees::{
-    Elements, Tree, TreeFault, as_flag, as_text, as_whole, elements, next_element, read_tape,
-    read_tape_within,
+    Elements, Scratch, TextRead, Tree, TreeFault, as_flag, as_text, as_whole, elements,
+    next_element, read_short, read_text,
 };
 
 /// How deep arrays and objects nest at most in what a line has at a key: one level less than in the line.
@@ -26,16 +24,16 @@ const PART_DEPTH: usize = 126;
 /// How deep they nest at most in an item of a list there, or in a feature of an object: one level less again.
 const ITEM_DEPTH: usize = 125;
 
-/// The JSON value that the bytes are, as its tokens.
+/// The JSON value that the bytes are.
 pub(crate) fn read_json<'a>(
     alloc: Global,
     bytes: &'a [u8],
     scratch: &'a mut Scratch,
-) -> Result<Tape<'a>, LineFault>
-    ensures { Gives wants_memory tokens_view result (data_of_bytes bytes.entry.now) }
+) -> Result<TextRead<'a>, LineFault>
+    ensures { Gives wants_memory text_view result (data_of_bytes bytes.entry.now) }
 {
-    match read_tape(alloc, bytes, scratch) {
-        Ok(tape) => Ok(tape),
+    match read_text(alloc, bytes, scratch) {
+        Ok(text) => Ok(text),
         Err(TreeFault::OutOfMemory) => Err(LineFault::OutOfMemory),
         Err(TreeFault::NotJson) => Err(LineFault::Skipped(SkipReason::NotJson)),
     }
@@ -46,8 +44,8 @@ pub(crate) fn read_part<'a>(
     alloc: Global,
     bytes: &'a [u8],
     scratch: &'a mut Scratch,
-) -> Result<Tape<'a>, LineFault>
-    ensures { Gives wants_memory tokens_view result
+) -> Result<TextRead<'a>, LineFault>
+    ensures { Gives wants_memory text_view result
         (ok_or (data_within part_depth bytes.entry.now) (LineFault.Skipped SkipReason.NotJson)) }
 {
     read_within(alloc, bytes, scratch, PART_DEPTH)
@@ -58,8 +56,8 @@ pub(crate) fn read_item<'a>(
     alloc: Global,
     bytes: &'a [u8],
     scratch: &'a mut Scratch,
-) -> Result<Tape<'a>, LineFault>
-    ensures { Gives wants_memory tokens_view result
+) -> Result<TextRead<'a>, LineFault>
+    ensures { Gives wants_memory text_view result
         (ok_or (data_within item_depth bytes.entry.now) (LineFault.Skipped SkipReason.NotJson)) }
 {
     read_within(alloc, bytes, scratch, ITEM_DEPTH)
@@ -70,13 +68,13 @@ fn read_within<'a>(
     bytes: &'a [u8],
     scratch: &'a mut Scratch,
     depth: usize,
-) -> Result<Tape<'a>, LineFault>
-    requires { depth ≤ max_depth }
-    ensures { Gives wants_memory tokens_view result
+) -> Result<TextRead<'a>, LineFault>
+    requires { depth ≤ part_depth }
+    ensures { Gives wants_memory text_view result
         (ok_or (data_within depth bytes.entry.now) (LineFault.Skipped SkipReason.NotJson)) }
 {
-    match read_tape_within(alloc, bytes, scratch, depth) {
-        Ok(tape) => Ok(tape),
+    match read_short(alloc, bytes, scratch, depth) {
+        Ok(text) => Ok(text),
         Err(TreeFault::OutOfMemory) => Err(LineFault::OutOfMemory),
         Err(TreeFault::NotJson) => Err(LineFault::Skipped(SkipReason::NotJson)),
     }
@@ -139,7 +137,7 @@ pub(crate) fn whole(found: &Option<Tree<'_, '_>>, absent: u64) -> Result<u64, Li
 /// The texts of the items of a list.
 #[tactic(auto, unfolding(crate::specs::Shapes::texts_in))]
 fn texts_in<'a>(alloc: Global, mut items: Elements<'_, 'a>) -> Result<Vec<&'a str>, LineFault>
-    ensures { Gives wants_memory (λ v. text_views v.items) result (texts_in (items_of (left_items items.entry))) }
+    ensures { Gives wants_memory (λ v. text_views v.items) result (texts_in (left_items items.entry)) }
 {
     let mut found = Vec::new(alloc);
     'items: while let Some(item) = next_element(&mut items) {

@@ -5,6 +5,9 @@
 //! a valid selection breaks no instance of an axiom; an accepted derivation leaves no valid selection; what the root
 //! reaches in an assignment that breaks no instance is one, and there is one wherever an assignment breaks none.
 //!
+//! A derivation is a text too, so all that it can name has to read back: names, versions, and the numbers of
+//! dependencies, of which it has 4,294,967,296. No file that is read is long enough for more of them.
+//!
 //! A law is a function that does nothing: its contract is the statement.
 #![tactic(auto)]
 
@@ -17,10 +20,11 @@ ghost use Rattle.model.specs.Derivation.{IsAccepted, Step};
 ghost use Rattle.model.specs.Search.{AssignsReached, IsUnbroken, LeadsTo};
 ghost use Rattle.model.specs.Selection.{IsValidSelection};
 ghost use Rattle.model.specs.Vertices.{State, Vertex};
+ghost use Rattle.vertices.specs.Valid.{HasValidParts};
 ghost use Rattle.catalogue.specs.Problems.{problem_in};
 
 use catalogue::{Catalogue, catalogues_are_well_formed};
-use manifest::Manifest;
+use manifest::{Manifest, manifests_bring_valid_parts};
 
 /// A valid selection breaks no instance of an axiom.
 pub fn axioms_are_sound(manifest: &Manifest, catalogue: &Catalogue)
@@ -63,4 +67,12 @@ pub fn unbroken_assignments_have_selections(manifest: &Manifest, catalogue: &Cat
 {
     catalogues_are_well_formed(manifest, catalogue);
     model::unbroken_assignments_have_selections();
+}
+
+/// All names, versions and numbers of dependencies are ones that read back from the text of a derivation.
+pub fn parts_are_valid(manifest: &Manifest, catalogue: &Catalogue)
+    ensures { HasValidParts (problem_in manifest.now catalogue.now) }
+{
+    manifests_bring_valid_parts(manifest);
+    let _ = catalogue.names();
 }

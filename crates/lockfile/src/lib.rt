@@ -12,6 +12,10 @@
 //! content is spelled as says that content, and where TOML reads the spelling as this table, `read` gives the content
 //! back. TOML itself is beyond them; so who hands out a new lock reads it first.
 //!
+//! Of a lock's faults its size comes first, then TOML, then `version`, then every other rule as one fault, so that a
+//! lock of a format to come is told as that. A content's sources and checksums are any texts, so that a caller may
+//! build any content; the laws say which of them a lock can have (`IsWritable`).
+//!
 //! A layer above may rely on this: `read` gives what the bytes mean or the first fault, `write` the one spelling. A
 //! `LockContent` is always in package order, no two packages of it alike in name, version and source, and its lists
 //! rise and stay within it.

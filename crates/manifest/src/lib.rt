@@ -9,6 +9,10 @@
 //! The root differs from other packages. All its dependencies count, normal, dev and build ones and those of targets,
 //! and each is known by its number in this order. Since all count, its entry `d?/g` says what `d/g` does.
 //!
+//! The kind of a dependency decides its number and whether it may be optional; nothing reads it afterwards, so it isn't
+//! kept. A dependency's features are feature names: `a/b` and `dep:a` there have another shape, and an empty text is
+//! dropped there, but not in `[features]`.
+//!
 //! A layer above may rely on this: `Manifest::read` gives what the definition gives for the bytes, or says that memory
 //! was wanting. The names and the version in a `Manifest` are valid ones by its type. `unsupported_in` says of the
 //! table of a dependency alone which unsupported source it asks for.
@@ -29,4 +33,4 @@ mod workspace;
 
 pub use dependency::unsupported_in;
 pub use fault::{ManifestFault, Part, TableFault, Unsupported};
-pub use reader::Manifest;
+pub use reader::{Manifest, manifests_bring_valid_parts};

@@ -1,12 +1,13 @@
 //! Reading a manifest.
 
-ghost use Rattle.std.specs.Prelude.{◌≡◌, ◌≢◌, ◌⊎◌, Some, option_map};
+ghost use Rattle.std.specs.Prelude.{◌≡◌, ◌≢◌, ◌⊎◌, IfOk, Some, option_map};
 ghost use Rattle.semver.specs.Grammar.{IsValid};
 ghost use Rattle.semver.specs.Identifiers.{parts_of};
 ghost use Rattle.semver.specs.Parse.{memory_error, req_of};
 ghost use Rattle.toml.specs.View.{table_view};
 ghost use Rattle.model.specs.Outcome.{Gives, guard};
 ghost use Rattle.classes.specs.RustVersions.{rust_version_view};
+ghost use Rattle.features.specs.Valid.{BringsValid};
 ghost use Rattle.features.specs.Views.{dependency_view, dependency_views, summary_view};
 ghost use Rattle.manifest.specs.Faults.{wants_memory};
 ghost use Rattle.manifest.specs.Manifests.{uses, needs_workspace, sources_allowed, dependency_with, dependencies_of};
@@ -44,6 +45,7 @@ impl Model for Manifest {
     ghost use Rattle.semver.specs.Grammar.{IsValid};
     ghost use Rattle.semver.specs.Identifiers.{parts_of};
     ghost use Rattle.classes.specs.RustVersions.{rust_version_view};
+    ghost use Rattle.features.specs.Valid.{BringsValid};
     ghost use Rattle.features.specs.Views.{summary_view};
     ghost use Rattle.manifest.specs.Manifests.{ManifestView};
 
@@ -57,7 +59,7 @@ impl Model for Manifest {
       brings = summary_view m.brings;
     } };
 
-    ghost invariant = { λ m. IsValid (parts_of m.version) };
+    ghost invariant = { λ m. IsValid (parts_of m.version) × BringsValid (summary_view m.brings) };
 }
 
 impl Manifest {
@@ -118,9 +120,17 @@ impl Manifest {
     }
 }
 
+/// What a manifest brings is of names that are names, and it has no more dependencies than there are numbers of 32 bits.
+pub fn manifests_bring_valid_parts(manifest: &Manifest)
+    ensures { BringsValid manifest.now.brings }
+{
+    let _ = &manifest.brings;
+}
+
 /// What a table says as a manifest.
 #[tactic(auto, unfolding(crate::specs::Manifests::manifest_of))]
 fn manifest_in(alloc: Global, top: &Table) -> Result<Manifest, ManifestFault>
+    requires { IfOk (manifest_of (table_view top.now)) (λ m. BringsValid m.brings) }
     ensures { Gives wants_memory (λ m. m) result (manifest_of (table_view top.now)) }
 {
     let shape = read_shape(alloc, top)?;

@@ -5,10 +5,10 @@
 //! vertices and states become the vertices and states that they stand for, and the builder of `derivations` puts them
 //! into the written order.
 //!
-//! What is hard is what the builder asks for: that each vertex and state is what its own text reads as. Names are so by
-//! their types, versions because they were read; that the numbers of dependencies are so is what `valid_parts` finds
-//! out by counting them, and `refusal` is asked only after that. Each vertex that is spoken of is spelt once for all
-//! steps (`spaces.rt`), in the order of their texts (`listing.rt`), in which terms stand.
+//! What is hard is what the builder asks for: that each vertex and state is what its own text reads as. So it is for all
+//! names, versions and numbers of dependencies of a manifest and a loaded index (`parts_are_valid` of `laws`), which
+//! `refusal` asks for. Each vertex that is spoken of is spelt once for all steps (`spaces.rt`), in the order of their
+//! texts (`listing.rt`), in which terms stand.
 //!
 //! A layer above may rely on this: the derivation is accepted, by the same definition as the checker's, and has no more
 //! combinations and axioms than the store.

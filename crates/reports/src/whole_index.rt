@@ -4,9 +4,8 @@ use crate::wanted::name_in;
 use catalogue::{LoadFault, check_file};
 use features::PackageName;
 use index_reader::{Folder, FolderFault, KnownDependencies, Skip, index_path, read_file_in};
-use json::Scratch;
 use std::alloc::{AllocError, Global};
-use trees::{TreeFault, as_text, member, read_tape, root};
+use trees::{Scratch, TreeFault, as_text, member, read_text, root};
 
 /// The lines that were not used of the files at these paths, by the names of the files in order of their bytes. A file
 /// that isn't where the name of a package would be looked for is passed over.
@@ -106,7 +105,7 @@ fn name_said(
     line: &[u8],
     scratch: &mut Scratch,
 ) -> Result<Option<PackageName>, AllocError> {
-    let tape = match read_tape(alloc, line, scratch) {
+    let tape = match read_text(alloc, line, scratch) {
         Ok(tape) => tape,
         Err(TreeFault::OutOfMemory) => return Err(AllocError),
         Err(TreeFault::NotJson) => return Ok(None),

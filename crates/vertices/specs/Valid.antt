@@ -1,20 +1,13 @@
 -- Which vertices and states are of valid parts: names that are names, versions of SemVer 2.0.0, and numbers within
 -- their limits.
-use Rattle.std.specs.Prelude.{◌≡◌, ℕ, ◌<◌, ◌≤◌, ◌^◌, true, List, length}
+use Rattle.std.specs.Prelude.{ℕ, ◌<◌, ◌^◌}
 use Rattle.std.specs.List.{All}
 use Rattle.semver.specs.Grammar.{IsValid}
 use Rattle.model.specs.Content.{Candidate, Problem}
-use Rattle.model.specs.Summary.{Summary, Dependency, Entry, feature, dependency, dependency_feature, weak_feature}
 use Rattle.model.specs.Selection.{Class, patch, minor, major}
 use Rattle.model.specs.Vertices.{Owner, the_root, version_of, Vertex, root, pkg, dep, feat, ask, State, absent, present}
 use Rattle.model.specs.Vertices.{version, in_class}
-use Rattle.features.specs.Names.{is_package_name, is_feature_name}
-
-abbrev pub IsPackageName : List ℕ → Type 0
-IsPackageName n = is_package_name n ≡ true
-
-abbrev pub IsFeatureName : List ℕ → Type 0
-IsFeatureName f = is_feature_name f ≡ true
+use Rattle.features.specs.Valid.{IsPackageName, IsFeatureName, BringsValid}
 
 -- a number of 64 bits, and not 0 where a class with more zeros before it stands for 0
 abbrev pub IsValidClass : Class → Type 0
@@ -52,25 +45,6 @@ IsValidState v absent = Unit {0}
 IsValidState v s = IsValidValue v s
 
 -- ---- problems of valid parts
-
--- the feature that an entry asks for elsewhere
-abbrev pub IsValidEntry : Entry → Type 0
-IsValidEntry (feature g) = Unit {0}
-IsValidEntry (dependency d) = Unit {0}
-IsValidEntry (dependency_feature d g) = IsFeatureName g
-IsValidEntry (weak_feature d g) = IsFeatureName g
-
-abbrev pub IsValidRow : List ℕ × List Entry → Type 0
-IsValidRow row = IsFeatureName row.0 × All IsValidEntry row.1
-
-abbrev pub IsValidDependency : Dependency → Type 0
-IsValidDependency d = All IsFeatureName d.features
-
--- what the root or a candidate brings
-pub record BringsValid (o : Summary) : Type 0 where
-  pub few : length o.dependencies ≤ 4294967296
-  pub dependencies : All IsValidDependency o.dependencies
-  pub features : All IsValidRow o.features
 
 pub record IsValidRecord (c : Candidate) : Type 0 where
   pub version : IsValid c.version

@@ -9,7 +9,7 @@ use Rattle.index_reader.specs.Views.{record_view}
 use Rattle.catalogue.specs.Loads.{packages_of_old, with_ranks}
 use Rattle.catalogue.specs.Runs.{as_record}
 use Rattle.catalogue.specs.Stores.{candidates_view}
-use Rattle.catalogue.proofs.Chosen.{moved-known, sorted-rise, sorted-chosen, sorted-views}
+use Rattle.catalogue.proofs.Chosen.{Brings, Knows, moved-all, sorted-rise, sorted-chosen, sorted-views}
 use Rattle.catalogue.proofs.choosing.candidates_of.Goals as goal
 
 pub kept-requires-clause-rising : goal.kept-requires-clause-rising
@@ -20,8 +20,12 @@ kept-requires-clause-rising c =
     sorted-rise _ _ c.requires.apart moved (sorted-views _ sorted)
 
 pub kept-requires-clause-known : goal.kept-requires-clause-known
-kept-requires-clause-known c = moved-known _ _
+kept-requires-clause-known c = moved-all Knows _ _
     (IsPermutation-map (λ r. as_record (record_view r)) _ _ c.sort_by.ensures.permutation) c.requires.known
+
+pub kept-requires-clause-valid : goal.kept-requires-clause-valid
+kept-requires-clause-valid c = moved-all Brings _ _
+    (IsPermutation-map (λ r. as_record (record_view r)) _ _ c.sort_by.ensures.permutation) c.requires.valid
 
 pub returns : goal.returns
 returns c =

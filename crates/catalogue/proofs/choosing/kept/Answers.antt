@@ -7,8 +7,9 @@ use Rattle.index_reader.specs.Views.{record_view}
 use Rattle.catalogue.specs.Loads.{packages_of_old}
 use Rattle.catalogue.specs.Runs.{as_record}
 use Rattle.catalogue.specs.Ranks.{rank_of}
-use Rattle.catalogue.specs.Views.{AreRising, AreKnown}
-use Rattle.catalogue.proofs.Chosen.{chosen-yes, chosen-no, chosen-done, chosen-known, chosen-rise, read-snoc, rank-is}
+use Rattle.catalogue.specs.Ranks.{records}
+use Rattle.catalogue.specs.Views.{AreRising, AreKnown, BringValid}
+use Rattle.catalogue.proofs.Chosen.{Brings, Knows, chosen-yes, chosen-no, chosen-done, chosen-all, chosen-rise, read-snoc, rank-is}
 use Rattle.catalogue.proofs.Chosen.{none-left}
 use Rattle.catalogue.proofs.choosing.kept.Goals as goal
 
@@ -90,7 +91,10 @@ invariant_of-result c =
       rising = subst AreRising (sym all) (chosen-rise locked rust c.args.records.items c.requires.rising);
       read = c.records.invariant.read;
       few = omega (arith, few, most);
-      known = subst AreKnown (sym all) (chosen-known locked rust c.args.records.items c.requires.known);
+      known = subst AreKnown (sym all) (chosen-all locked rust Knows c.args.records.items c.requires.known);
+      valid =
+          subst (λ rs. BringValid (records rs)) (sym all)
+          (chosen-all locked rust Brings c.args.records.items c.requires.valid);
     }
 
 pub returns : goal.returns

@@ -5,9 +5,9 @@ use Rattle.classes.specs.RustVersions.{rust_version_view}
 use Rattle.model.specs.Candidates.{IsApart, is_locked}
 use Rattle.index_reader.specs.Views.{skip_view, contents_view}
 use Rattle.catalogue.specs.Loads.{packages_of_old, ranked_among}
-use Rattle.catalogue.specs.Views.{KnowFeatures}
+use Rattle.catalogue.specs.Views.{BringValid, KnowFeatures}
 use Rattle.catalogue.proofs.FileFacts.{file_few, views-same, records-are, skips-are}
-use Rattle.catalogue.proofs.LawsRecords.{records-sound}
+use Rattle.catalogue.proofs.LawsRecords.{records-sound, records-valid}
 use Rattle.catalogue.proofs.loading.ask.Goals as goal
 
 pub candidates_of-requires-clause-apart : goal.candidates_of-requires-clause-apart
@@ -22,6 +22,13 @@ candidates_of-requires-clause-known g c =
     let name = c.args.name.now in
     subst KnowFeatures (records-are name read.answer (contents_view (c.in_ok-records.records, c.in_ok-records.skipped))
     read.says ∙ views-same c.in_ok-records.records.items) (records-sound (name, read.answer)).known
+
+pub candidates_of-requires-clause-valid : goal.candidates_of-requires-clause-valid
+candidates_of-requires-clause-valid g c =
+    let read = c.in_ok-records.ensures in
+    let name = c.args.name.now in
+    subst BringValid (records-are name read.answer (contents_view (c.in_ok-records.records, c.in_ok-records.skipped))
+    read.says ∙ views-same c.in_ok-records.records.items) (records-valid (name, read.answer) read.within)
 
 pub candidates_of-requires-clause-few : goal.candidates_of-requires-clause-few
 candidates_of-requires-clause-few g c =

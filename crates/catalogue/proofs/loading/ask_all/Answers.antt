@@ -141,6 +141,7 @@ invariant_of-result g c =
           c.names.names.keys c.names.candidates.items
           (map skip_view c.names.skips.items) c.names.folder c.names.invariant (omega (arith, test, len, wide))).0,
       c.len-in-names.ensures.unique,
+      c.len-in-names.ensures.valid,
     )
 
 pub returns : goal.returns

@@ -1,6 +1,7 @@
 use Rattle.std.proofs.Common.{sym, ap, ◌∙◌}
 use Rattle.serde_json.specs.Data.{put}
-use Rattle.trees.specs.Trees.{left, members_of, tree_view}
+use Rattle.trees.specs.Parts.{members_put}
+use Rattle.trees.specs.Trees.{tree_view}
 use Rattle.serde_json.specs.Find.{get_member}
 use Rattle.index_reader.specs.Shapes.{unless_null, values_by}
 use Rattle.index_reader.specs.PartMembers.{value_put}
@@ -11,12 +12,9 @@ pub members-preserved : goal.members-preserved
 members-preserved c =
     let key = c.in-Some.key.now in
     let d = tree_view c.in-Some.value in
-    let so_far = c.members.invariant.0 in
-    let rest = left c.next_entry.new.entries in
-    let next = c.in-Some.ensures in (
+    let so_far = c.members.invariant.0 in (
       put key d so_far,
-      ap (λ e. members_of rest (put key e so_far)) next.2 ∙ ap (λ ms. members_of ms so_far) (sym next.1)
-          ∙ c.members.invariant.1,
+      ap (λ ms. members_put ms so_far) (sym c.in-Some.ensures) ∙ c.members.invariant.1,
       c.put.ensures (λ k. unless_null (get_member k so_far)) c.members.invariant.2
           ∙ ap (λ v. values_by (value_put key v (λ k. unless_null (get_member k so_far)))) c.unless_null.ensures
           ∙ values_in-put key d so_far,
