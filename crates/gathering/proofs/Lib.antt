@@ -3,3 +3,4 @@ pub mod Led
 pub mod Put
 pub mod Left
 pub mod Brought
+pub mod Assigned

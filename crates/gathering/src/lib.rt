@@ -11,6 +11,7 @@
 //!
 //! A layer above may rely on this: the content is a valid selection, of which the root alone brings all, and whose root
 //! has no checksum. If the states of a valid selection that the root alone brings are left at the end, it is that one.
+//! It has no more packages than the trail has places.
 #![tactic(auto)]
 
 mod leading;

@@ -1,6 +1,7 @@
 //! The content of what a search selected.
 
 ghost use Rattle.std.specs.Prelude.{◌≡◌, ◌≤◌, IfOk, length};
+ghost use Rattle.propagation.specs.Promises.{IsSound};
 ghost use Rattle.propagation.specs.Trails.{trail_view};
 ghost use Rattle.model.specs.Content.{Content};
 ghost use Rattle.model.specs.Search.{IsUnbroken};
@@ -27,7 +28,8 @@ use std::alloc::{AllocError, Global};
 use version_sets::States;
 
 /// The content that a search selected, in package order: what the root reaches in the states that it ended in, so the
-/// root alone brings all of it. Where a valid selection that it brings is left in the end, it is that one.
+/// root alone brings all of it. Where a valid selection that it brings is left in the end, it is that one. Each of its
+/// packages has a vertex that was assigned.
 ///
 /// The only error is want of memory.
 pub fn content<'a, S: States + Drop>(
@@ -36,12 +38,14 @@ pub fn content<'a, S: States + Drop>(
     table: &Table<'a>,
     trail: &Trail<S>,
 ) -> Result<LockContent, AllocError>
+    requires sound { IsSound (trail_view S.tests trail.now) }
     requires whole { length table.now ≤ length (trail_view S.tests trail.now).sets }
     requires unbroken { IsUnbroken (problem known.now)
         (state_of (problem known.now) table.now (final_of (trail_view S.tests trail.now))) }
     ensures selection { IfOk result (λ c. IsValidSelection (problem known.now) c) }
     ensures root { IfOk result (λ c. HasBareRoot (problem known.now) c) }
     ensures brought { IfOk result (λ c. IsBrought (problem known.now) c) }
+    ensures assigned { IfOk result (λ c. length c ≤ length (trail_view S.tests trail.now).steps) }
     ensures followed { IfOk result (λ c. (w : Content) → IsValidSelection (problem known.now) w
         → HasBareRoot (problem known.now) w → IsBrought (problem known.now) w
         → IsLeft (problem known.now) table.now w (trail_view S.tests trail.now) → c ≡ w) }

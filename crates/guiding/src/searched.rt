@@ -1,6 +1,6 @@
 //! A search over a manifest and a loaded index, for any set of states.
 
-ghost use Rattle.std.specs.Prelude.{◌≡◌, [], IfOk};
+ghost use Rattle.std.specs.Prelude.{◌≡◌, ◌≤◌, [], IfOk, length};
 ghost use Rattle.incompatibilities.specs.Stores.{entries_view};
 ghost use Rattle.propagation.specs.Trails.{trail_view};
 ghost use Rattle.numbering.specs.KnownProblem.{KnowsDefault, problem};
@@ -46,6 +46,8 @@ pub fn search_over<'a, S: States + Drop>(
     // There are at least as many steps as combinations.
     ensures counted { IfOk result
         (λ r. IsCount [] (entries_view S.tests r.store) (trail_view S.tests r.trail) r.found.steps) }
+    // And as assignments that stand.
+    ensures standing { IfOk result (λ r. length (trail_view S.tests r.trail).steps ≤ r.found.steps) }
 {
     let mut store = Store::new(alloc);
     let mut trail = Trail::new(alloc, &[])?;

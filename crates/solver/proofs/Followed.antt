@@ -17,33 +17,39 @@ module _ (q : Problem) (preferred : List (List ℕ × List Candidate)) where
 
   module _ (unique : (q : Problem) (preferred : List (List ℕ × List Candidate)) (a b : Content) → IsWalk q preferred a
       → IsWalk q preferred b → a ≡ b) where
-    pub solved : (walk : Option Content) (o : Outcome) → Answers q preferred walk
-        → IfSome walk (λ content. HasBareRoot q content) → IsAnswer q walk o → IsSolved q preferred o
-    solved None (Selection reached) answers bare found = record {
+    pub solved : (places : ℕ) (walk : Option Content) (o : Outcome) → Answers q preferred walk
+        → IfSome walk (λ content. HasBareRoot q content) → IsAnswer q places walk o → IsSolved q preferred o
+    solved places None (Selection reached) answers bare found = record {
       valid = found.0;
       bare_root = found.1;
       walk = λ w is. absurd (answers w is);
       needed = inl found.2;
     }
-    solved None (Unsolvable derivation) answers bare found = found
-    solved (Some content) o answers bare is = subst (IsSolved q preferred) (sym is) record {
+    solved places None (Unsolvable derivation) answers bare found = found
+    solved places (Some content) o answers bare is = subst (IsSolved q preferred) (sym is) record {
       valid = answers.valid;
       bare_root = bare;
       walk = λ w is. unique q preferred w content is.walk answers.walk;
       needed = inr answers;
     }
 
+-- an answer to what is the same
+pub same_answer : (p q : Problem) (places : ℕ) (f walk : Option Content) (o : Outcome) → p ≡ q → f ≡ walk
+    → IsAnswer p places f o → IsAnswer q places walk o
+same_answer p q places f walk o same is answer =
+    subst (λ f. IsAnswer q places f o) is (subst (λ p. IsAnswer p places f o) same answer)
+
 -- what is found where nothing is followed is the answer
-pub found-answers : (q : Problem) (followed : Option Content) (o : Outcome) → is_some followed ≡ false
-    → IsFound q o → IsAnswer q followed o
-found-answers q None o none found = found
-found-answers q (Some content) o none found = cc
+pub found-answers : (q : Problem) (places : ℕ) (followed : Option Content) (o : Outcome) → is_some followed ≡ false
+    → IsFound q places o → IsAnswer q places followed o
+found-answers q places None o none found = found
+found-answers q places (Some content) o none found = cc
 
 -- what is followed is the answer
-pub followed-answers : (q : Problem) (followed : Option Content) (o : Outcome) → is_some followed ≡ true
-    → IfSome followed (λ content. o ≡ Selection content) → IsAnswer q followed o
-followed-answers q None o some is = cc
-followed-answers q (Some content) o some is = is
+pub followed-answers : (q : Problem) (places : ℕ) (followed : Option Content) (o : Outcome) → is_some followed ≡ true
+    → IfSome followed (λ content. o ≡ Selection content) → IsAnswer q places followed o
+followed-answers q places None o some is = cc
+followed-answers q places (Some content) o some is = is
 
 -- and has no derivation
 pub followed-derives_nothing : (followed : Option Content) (o : Outcome) → is_some followed ≡ true

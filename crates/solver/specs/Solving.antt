@@ -1,5 +1,5 @@
 -- What a search over a manifest and a loaded index comes to.
-use Rattle.std.specs.Prelude.{◌≡◌, ◌⊎◌, ℕ, List, [], Option, Some, None}
+use Rattle.std.specs.Prelude.{◌≡◌, ◌≤◌, ◌⊎◌, ℕ, List, [], length, Option, Some, None}
 use Rattle.model.specs.Content.{Candidate, Content, Problem}
 use Rattle.model.specs.Derivation.{IsAccepted, Step}
 use Rattle.model.specs.Selection.{IsValidSelection}
@@ -33,14 +33,21 @@ abbrev pub derivation_of : Outcome → List Step
 derivation_of (Selection content) = []
 derivation_of (Unsolvable derivation) = derivation
 
+-- there are at least as many steps as packages, where the root alone brings all of these
+abbrev pub HasStepEach : Problem → Outcome → ℕ → Type 0
+HasStepEach q (Selection content) steps = IsBrought q content → length content ≤ steps
+HasStepEach q (Unsolvable derivation) steps = Unit {0}
+
 -- ---- on the way
 
--- a valid selection, whose root has no checksum and alone brings all of it; or why there is none
-abbrev pub IsFound : Problem → Outcome → Type 0
-IsFound q (Selection content) = IsValidSelection q content × HasBareRoot q content × IsBrought q content
-IsFound q (Unsolvable derivation) = IsUnsolvable q derivation
+-- a valid selection, whose root has no checksum and alone brings all of it, and with no more packages than places of
+-- the trail; or why there is none
+abbrev pub IsFound : Problem → ℕ → Outcome → Type 0
+IsFound q places (Selection content) =
+    IsValidSelection q content × HasBareRoot q content × IsBrought q content × (length content ≤ places)
+IsFound q places (Unsolvable derivation) = IsUnsolvable q derivation
 
 -- the content that was followed, if there is one, else what was found
-abbrev pub IsAnswer : Problem → Option Content → Outcome → Type 0
-IsAnswer q (Some followed) o = o ≡ Selection followed
-IsAnswer q None o = IsFound q o
+abbrev pub IsAnswer : Problem → ℕ → Option Content → Outcome → Type 0
+IsAnswer q places (Some followed) o = o ≡ Selection followed
+IsAnswer q places None o = IsFound q places o

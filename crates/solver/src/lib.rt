@@ -6,9 +6,12 @@
 //! handed out; an entry without terms goes to `refusing`.
 //!
 //! What is hard is that both answers are to be right with no condition on the inputs. The laws ask that versions rise
-//! and feature tables know their features, which every `Catalogue` has by its type (`laws`); and a derivation can name
-//! only so many dependencies of one owner, which `valid_parts` counts, so a refusal past that is given up as want of
-//! memory.
+//! and feature tables know their features, and that whatever a derivation names reads back from its text, which every
+//! `Manifest` and `Catalogue` has by its type (`laws`).
+//!
+//! The walk is handed out as it is, and not what the root reaches in the end: a walk that is valid may have packages
+//! that hold one another in a ring. Where the walk isn't valid, no clause prefers one selection to another: to say "as
+//! near the walk as can be" one has to choose what counts as near.
 //!
 //! A layer above may rely on this: of any manifest and any loaded index the outcome is a valid selection whose root has
 //! no checksum, the preferred walk wherever that is complete and valid, else one of which the root alone brings all; or

@@ -1,6 +1,6 @@
 //! Solving a manifest over a loaded index (Dart pub's `solver.md`).
 
-ghost use Rattle.std.specs.Prelude.{◌≡◌, ◌≤◌, IfOk, IfSome, codes, is_some, true};
+ghost use Rattle.std.specs.Prelude.{◌≡◌, ◌≤◌, IfOk, IfSome, codes, is_some, length, true};
 ghost use Rattle.incompatibilities.specs.Stores.{entries_view};
 ghost use Rattle.catalogue.specs.Problems.{problem_in};
 ghost use Rattle.numbering.specs.KnownProblem.{problem};
@@ -10,18 +10,18 @@ ghost use Rattle.propagation.specs.Trails.{trail_view};
 ghost use Rattle.refusing.specs.Refusing.{HasNoMore, axioms_of, combinations_of};
 ghost use Rattle.searching.specs.Searching.{IsRefutation};
 ghost use Rattle.searching.specs.Following.{AreGiven};
-ghost use Rattle.solver.specs.Solving.{IsAnswer, IsFound, IsSolved, IsUnsolvable, derivation_of};
+ghost use Rattle.solver.specs.Solving.{HasStepEach, IsAnswer, IsFound, IsSolved, IsUnsolvable, derivation_of};
 ghost use Rattle.selection.specs.Preferred.{preferred_in};
 ghost use Rattle.unrolling.specs.Flats.{LieSomewhere};
 
 use crate::counting::axioms_in;
-use catalogue::Catalogue;
+use catalogue::{Catalogue, catalogues_are_well_formed};
 use derivations::Derivation;
 use features::{FeatureName, NameFault};
 use gathering::content;
 use guiding::{Encoded, Searched, search_over};
 use incompatibilities::{Id, Store};
-use laws::accepted_derivations_refute;
+use laws::{accepted_derivations_refute, parts_are_valid};
 use lockfile::LockContent;
 use manifest::Manifest;
 use model::walks_are_unique;
@@ -30,7 +30,6 @@ use refusing::{instances_have_their_kinds, refusal};
 use searching::Answer;
 use selection::preferred;
 use std::alloc::{AllocError, Global};
-use valid_parts::are_valid;
 use version_sets::{States, WordStates};
 
 /// What solving comes to.
@@ -47,7 +46,9 @@ pub enum Outcome {
 pub struct Solved {
     pub outcome: Outcome,
     /// The assignments that there ever were, the conflicts that were resolved, and the combinations that these took: no
-    /// fewer than the combinations of a derivation.
+    /// fewer than the combinations of a derivation, and no fewer than the packages of a selection, where the root alone
+    /// brings all of these: each has a vertex that was assigned. (Of a walk that was followed the search may not reach
+    /// all: packages can hold one another in a ring.)
     pub steps: u64,
     /// The instances of axioms that came into its store: no fewer than those of a derivation.
     pub axioms: u64,
@@ -68,6 +69,7 @@ pub fn solve(
     ensures solved { IfOk result
         (λ s. IsSolved (problem_in manifest.now catalogue.now) (preferred_in catalogue.now) s.outcome) }
     ensures steps { IfOk result (λ s. combinations_of (derivation_of s.outcome) ≤ s.steps) }
+    ensures packages { IfOk result (λ s. HasStepEach (problem_in manifest.now catalogue.now) s.outcome s.steps) }
     ensures axioms { IfOk result (λ s. axioms_of (derivation_of s.outcome) ≤ s.axioms) }
 {
     let default = default_name(alloc)?;
@@ -78,6 +80,7 @@ pub fn solve(
         matched: Matched::new(alloc, manifest, catalogue),
     };
     walks_are_unique();
+    catalogues_are_well_formed(manifest, catalogue);
     // Where there is one, the search decides as it says, and has nothing to go back from.
     let walk = preferred(alloc, manifest, catalogue)?;
     let searched: Searched<'_, WordStates> = search_over(alloc, known, walk)?;
@@ -100,7 +103,8 @@ fn outcome_of<'a, S: States + Drop>(
 ) -> Result<Outcome, AllocError>
     requires { HasSearched searched.guide.problem searched.guide (trail_view S.tests searched.trail)
         (entries_view S.tests searched.store) searched.found.answer }
-    ensures answer { IfOk result (λ o. IsAnswer searched.entry.guide.problem searched.entry.guide.follows o) }
+    ensures answer { IfOk result (λ o. IsAnswer searched.entry.guide.problem
+        (length (trail_view S.tests searched.entry.trail).steps) searched.entry.guide.follows o) }
     ensures once { IfOk result (λ o. HasNoMore (entries_view S.tests searched.entry.store) (derivation_of o)) }
 {
     if searched.guide.is_following() {
@@ -129,7 +133,8 @@ fn found<'a, S: States + Drop>(
 ) -> Result<Outcome, AllocError>
     requires { HasSearched (problem known.now) searched.now.guide (trail_view S.tests searched.now.trail)
         (entries_view S.tests searched.now.store) searched.now.found.answer }
-    ensures found { IfOk result (λ o. IsFound (problem known.now) o) }
+    ensures found { IfOk result (λ o. IsFound (problem known.now)
+        (length (trail_view S.tests searched.now.trail).steps) o) }
     ensures once { IfOk result (λ o. HasNoMore (entries_view S.tests searched.now.store) (derivation_of o)) }
 {
     let table = searched.guide.table();
@@ -146,9 +151,6 @@ fn found<'a, S: States + Drop>(
 }
 
 /// Why there is no selection, from an entry without terms.
-///
-/// The text of a vertex has no number for a dependency past the first 2^32, so a derivation could not name it. No file
-/// that is read is so large that a run gets there, so this has no error of its own.
 fn why_unsolvable<'a, S: States + Drop>(
     alloc: Global,
     known: &KnownProblem<'a>,
@@ -163,9 +165,7 @@ fn why_unsolvable<'a, S: States + Drop>(
     ensures unsolvable { IfOk result (λ d. IsUnsolvable (problem known.now) d) }
     ensures once { IfOk result (λ d. HasNoMore (entries_view S.tests store.now) d) }
 {
-    if !are_valid(known.manifest, known.catalogue) {
-        return Err(AllocError);
-    }
+    parts_are_valid(known.manifest, known.catalogue);
     instances_have_their_kinds();
     accepted_derivations_refute(known.manifest, known.catalogue);
     refusal(alloc, known, table, store, last)

@@ -9,6 +9,7 @@ use Rattle.reaching.proofs.Found.{stands}
 use Rattle.numbering.specs.KnownProblem.{problem}
 use Rattle.selection.specs.Contents.{owners_of}
 use Rattle.gathering.specs.Leads.{ends}
+use Rattle.gathering.proofs.Assigned.{packages_assigned}
 use Rattle.gathering.proofs.Brought.{root_brings}
 use Rattle.gathering.proofs.Left.{agrees_with}
 use Rattle.gathering.proofs.selected.content.Given.{Over}
@@ -74,3 +75,14 @@ returns-clause-followed g c =
     (λ x built w valid bare brought left. c.built_contents_follow.ensures q (ends i vs t) _ _ _ _ x w refl
     c.requires.unbroken c.in_ok-versions.ensures.met (flags_of g c) built valid bare brought
     (agrees_with q vs w t c.requires.whole valid left)) (built_of g c)
+
+pub returns-clause-assigned : goal.returns-clause-assigned
+returns-clause-assigned g c =
+    let i = c.args.known.now in
+    let q = problem i in
+    let vs = c.args.table.now in
+    let t = trail_view g.S.States.tests c.args.trail.now in
+    IfOk-weaker c.content_of.result _ _
+    (λ x built. packages_assigned q vs t c.requires.sound c.catalogues_are_well_formed.ensures c.requires.unbroken x
+    (stands q (LeadsTo q (ends i vs t)) _ _ c.in_ok-versions.ensures.met refl _ _ (flags_of g c) x built))
+    (built_of g c)

@@ -1,4 +1,4 @@
-use Rattle.std.proofs.Common.{◌≡◌, arith, false, is_some, rules, subst, sym, true}
+use Rattle.std.proofs.Common.{◌≡◌, arith, false, is_some, length, rules, subst, sym, true}
 use Rattle.std.proofs.lemmas.Result.{IfOk-weaker}
 use Rattle.numbering.specs.KnownProblem.{problem}
 use Rattle.guiding.specs.Guides.{HasSearched}
@@ -13,7 +13,8 @@ pub returns-then-is_following-clause-answer : goal.returns-then-is_following-cla
 returns-then-is_following-clause-answer g c =
     let follows = c.args.searched.guide.follows in
     let some : is_some follows ≡ true = search rules in
-    followed-answers c.args.searched.guide.problem follows c.followed.result some c.followed.ensures
+    followed-answers c.args.searched.guide.problem (length (trail_view g.S.States.tests c.args.searched.trail).steps)
+    follows c.followed.result some c.followed.ensures
 
 pub returns-then-is_following-clause-once : goal.returns-then-is_following-clause-once
 returns-then-is_following-clause-once g c =
@@ -34,6 +35,8 @@ pub returns-else-is_following-clause-answer : goal.returns-else-is_following-cla
 returns-else-is_following-clause-answer g c =
     let follows = c.args.searched.guide.follows in
     let none : is_some follows ≡ false = search rules in
-    IfOk-weaker c.found.result (IsFound (problem c.known.result.now)) (IsAnswer c.args.searched.guide.problem follows)
-    (λ o found. found-answers c.args.searched.guide.problem follows o none
-    (subst (λ q. IsFound q o) c.known.ensures found)) c.found.ensures.found
+    let places = length (trail_view g.S.States.tests c.args.searched.trail).steps in
+    IfOk-weaker c.found.result (IsFound (problem c.known.result.now) places)
+    (IsAnswer c.args.searched.guide.problem places follows)
+    (λ o found. found-answers c.args.searched.guide.problem places follows o none
+    (subst (λ q. IsFound q places o) c.known.ensures found)) c.found.ensures.found

@@ -1,9 +1,9 @@
-use Rattle.std.proofs.Common.{subst, arith}
+use Rattle.std.proofs.Common.{arith}
 use Rattle.catalogue.specs.Problems.{problem_in}
 use Rattle.selection.specs.Preferred.{preferred_in}
-use Rattle.solver.specs.Solving.{IsAnswer}
 use Rattle.solver.proofs.Counted.{combined_counted}
-use Rattle.solver.proofs.Followed.{can_follow, solved}
+use Rattle.solver.proofs.Followed.{can_follow, same_answer, solved}
+use Rattle.solver.proofs.Stepped.{stepped}
 use Rattle.solver.proofs.solving.solve.Goals as goal
 
 pub search_over-requires-clause-follows : goal.search_over-requires-clause-follows
@@ -16,11 +16,24 @@ returns-clause-solved c =
     let q = problem_in c.args.manifest.now c.args.catalogue.now in
     let walk = c.in_ok-walk.walk in
     let outcome = c.in_ok-outcome.outcome in
-    solved q (preferred_in c.args.catalogue.now) c.walks_are_unique.ensures walk outcome c.in_ok-walk.ensures.answer
+    solved q (preferred_in c.args.catalogue.now) c.walks_are_unique.ensures _ walk outcome
+    c.in_ok-walk.ensures.answer
     c.in_ok-walk.ensures.root
-    (subst (λ f. IsAnswer q f outcome) c.in_ok-searched.ensures.follows
-    (subst (λ p. IsAnswer p c.in_ok-searched.searched.guide.follows outcome) c.in_ok-searched.ensures.problem
-    c.in_ok-outcome.ensures.answer))
+    (same_answer _ q _ _ walk outcome c.in_ok-searched.ensures.problem c.in_ok-searched.ensures.follows
+    c.in_ok-outcome.ensures.answer)
+
+pub returns-clause-packages : goal.returns-clause-packages
+returns-clause-packages c =
+    let q = problem_in c.args.manifest.now c.args.catalogue.now in
+    let walk = c.in_ok-walk.walk in
+    let outcome = c.in_ok-outcome.outcome in
+    let searched = c.in_ok-searched.searched in
+    stepped q searched.guide _ _ searched.found.answer c.catalogues_are_well_formed.ensures
+    c.in_ok-searched.ensures.searched c.in_ok-searched.ensures.problem searched.found.steps
+    c.in_ok-searched.ensures.standing walk outcome c.in_ok-searched.ensures.follows
+    (can_follow q (preferred_in c.args.catalogue.now) walk c.in_ok-walk.ensures.answer) c.in_ok-walk.ensures.root
+    (same_answer _ q _ _ walk outcome c.in_ok-searched.ensures.problem c.in_ok-searched.ensures.follows
+    c.in_ok-outcome.ensures.answer)
 
 pub returns-clause-steps : goal.returns-clause-steps
 returns-clause-steps c =
