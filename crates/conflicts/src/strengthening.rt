@@ -173,17 +173,19 @@ fn stand_in_of<S: States + Drop>(store: &Store<S>, id: Id) -> Id
     }
 }
 
-/// Notes what stands in for two entries.
+/// Notes what stands in for two entries, and hands it on.
 fn note_stand_ins<S: States + Drop>(
     store: &mut Store<S>,
     id: Id,
     current: Id,
     stand_in: Id,
-) -> Result<(), AllocError>
-    ensures { entries_view S.tests store.new ≡ entries_view S.tests store.old }
+) -> Result<Id, AllocError>
+    ensures handed { IfOk result (λ i. i ≡ stand_in) }
+    ensures same { entries_view S.tests store.new ≡ entries_view S.tests store.old }
 {
     store.note_stand_in(id, stand_in)?;
-    store.note_stand_in(current, stand_in)
+    store.note_stand_in(current, stand_in)?;
+    Ok(stand_in)
 }
 
 /// What stands in for an entry: one that has taken up all that is gone at level 0, which the store gains where it has
@@ -217,8 +219,7 @@ pub(crate) fn stand_in_for<S: States + Drop>(
         return Ok(current);
     }
     let made = keep(store, held.incompatibility, held.chain)?;
-    note_stand_ins(store, id, current, made)?;
-    Ok(made)
+    note_stand_ins(store, id, current, made)
 }
 
 /// Whether an incompatibility says of one vertex alone what is gone there.

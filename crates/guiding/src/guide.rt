@@ -206,10 +206,8 @@ impl<'a, S: States + Drop> Encoded<'a, S> {
         if let Some(state) = self.followed_state(&vertex, left)? {
             return Ok(state);
         }
-        match preferred_state(self.alloc, &self.known, &vertex, left)? {
-            Some(state) => Ok(state),
-            None => Ok(greatest(left)),
-        }
+        let preferred = preferred_state(self.alloc, &self.known, &vertex, left)?;
+        Ok(preferred.unwrap_or(greatest(left)))
     }
 
     /// The vertex that comes next in the order, and the state that it is decided for.

@@ -152,13 +152,6 @@ pub sat_to : (sets : List Members) (ts : List TermView) → IsRising ts → Sat 
     → AllHold (length ts) (relation_at sets ts)
 sat_to sets ts r sat i lt = holds_of sets ts i r lt (sat (term_at ts i).vertex)
 
--- where one is open, not all hold
-pub not_both : (n k : ℕ) (f : ℕ → Relation) → OneIsOpen n f k → AllHold n f → ⊥
-not_both n k f one all = both (f k) (all k one.within) one.here
-  where
-    both : (r : Relation) → r ≡ Satisfied → r ≡ Open → ⊥
-    both r a b = cc
-
 -- one term is open
 pub open_one : (sets : List Members) (ts : List TermView) (k : ℕ) → IsRising ts → OneIsOpen (length ts)
     (relation_at sets ts) k → IsOneOpen sets (states_at ts) (term_at ts k).vertex (term_at ts k).states

@@ -25,28 +25,6 @@ returns-in_err-made-clause-gained g c =
     gained_none (entries_view tests c.args.store.now) (trail_view tests c.args.trail.now)
     (entries_view tests c.keep.new.store) c.in_err-made.ensures.err
 
-pub returns-in_err-note_stand_ins-clause-gained : goal.returns-in_err-note_stand_ins-clause-gained
-returns-in_err-note_stand_ins-clause-gained g c =
-    let tests = g.S.States.tests in
-    let es = entries_view tests c.args.store.now in
-    let t = trail_view tests c.args.trail.now in
-    let new = entries_view tests c.keep.new.store in
-    let held = c.in_ok-held.held in
-    subst (λ (xs : List EntryView). (gained : List EntryView) × IsGained es t xs gained) (sym c.note_stand_ins.ensures)
-    (gained_is es t (terms_view tests held.incompatibility) held.chain new c.in_ok-made.made c.requires.trail
-    c.in_ok-held.ensures (λ quiet. c.if-not-is_lone.ensures) c.in_ok-made.ensures.kept)
-
-pub returns-in_err-note_stand_ins-clause-trail : goal.returns-in_err-note_stand_ins-clause-trail
-returns-in_err-note_stand_ins-clause-trail g c =
-    let tests = g.S.States.tests in
-    let es = entries_view tests c.args.store.now in
-    let t = trail_view tests c.args.trail.now in
-    let new = entries_view tests c.keep.new.store in
-    let held = c.in_ok-held.held in
-    subst (λ (xs : List EntryView). IsTrail xs t) (sym c.note_stand_ins.ensures)
-    (trail_new es t (terms_view tests held.incompatibility) held.chain new c.in_ok-made.made c.requires.trail
-    c.in_ok-held.ensures (λ quiet. c.if-not-is_lone.ensures) c.in_ok-made.ensures.kept)
-
 pub returns-clause-gained : goal.returns-clause-gained
 returns-clause-gained g c =
     let tests = g.S.States.tests in
@@ -54,7 +32,7 @@ returns-clause-gained g c =
     let t = trail_view tests c.args.trail.now in
     let new = entries_view tests c.keep.new.store in
     let held = c.in_ok-held.held in
-    subst (λ (xs : List EntryView). (gained : List EntryView) × IsGained es t xs gained) (sym c.note_stand_ins.ensures)
+    subst (λ (xs : List EntryView). (gained : List EntryView) × IsGained es t xs gained) (sym c.note_stand_ins.ensures.same)
     (gained_is es t (terms_view tests held.incompatibility) held.chain new c.in_ok-made.made c.requires.trail
     c.in_ok-held.ensures (λ quiet. c.if-not-is_lone.ensures) c.in_ok-made.ensures.kept)
 
@@ -65,6 +43,6 @@ returns-clause-trail g c =
     let t = trail_view tests c.args.trail.now in
     let new = entries_view tests c.keep.new.store in
     let held = c.in_ok-held.held in
-    subst (λ (xs : List EntryView). IsTrail xs t) (sym c.note_stand_ins.ensures)
+    subst (λ (xs : List EntryView). IsTrail xs t) (sym c.note_stand_ins.ensures.same)
     (trail_new es t (terms_view tests held.incompatibility) held.chain new c.in_ok-made.made c.requires.trail
     c.in_ok-held.ensures (λ quiet. c.if-not-is_lone.ensures) c.in_ok-made.ensures.kept)
